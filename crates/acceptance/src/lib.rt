@@ -1,0 +1,5 @@
+//! What the layers give on worked examples, run as tests. The crate holds tests alone.
+#![tactic(auto)]
+
+#[cfg(test)]
+mod numeric;
