@@ -2,4 +2,4 @@
 #![tactic(auto)]
 
 #[cfg(test)]
-mod numeric;
+mod numeric_tests;
