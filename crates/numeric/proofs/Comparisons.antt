@@ -1,5 +1,5 @@
 -- The lesser, the greater and the comparisons are those of whole numbers.
-use Rattle.std.proofs.Common.{◌≡◌, ◌≢◌, inl, inr, refl, sym, ap, ◌∙◌, arith, ℤ, pos, ◌≤ℤ◌, ◌<ℤ◌, int_lt, Bool, true, false, not}
+use Rattle.std.proofs.Common.{◌≡◌, ◌≢◌, inl, inr, refl, sym, arith, ℤ, pos, ◌≤ℤ◌, ◌<ℤ◌, int_lt, Bool, true, false, not}
 use Rattle.std.specs.Prelude.{IsTrue, ◌⊎◌, ◌<◌, zero, suc, negsuc, int_le, unsigned_abs, if◌then◌else◌}
 use Rattle.std.specs.Ordering.{int_eq}
 use Rattle.std.specs.Int.{int_max, int_min}
@@ -9,7 +9,7 @@ use borrow.Author.Differences.{true_is_lt, true_is_le}
 use Rattle.numeric.specs.declared.ty.Ty.{Ty}
 use Rattle.numeric.specs.declared.ty.Ty.TheVariants.{U8, U16, U32, I8, I16, I32}
 use Rattle.numeric.specs.Wrap.{IsOf}
-use Rattle.numeric.specs.Apply.{remainder, Divides}
+use Rattle.numeric.specs.Apply.{remainder}
 use Rattle.numeric.specs.Laws.{ExtremesAreOfNumbers, ExtremesAreExact, ComparisonsAreOfNumbers}
 use Rattle.numeric.proofs.Numbers.{signed}
 use Rattle.numeric.proofs.Quotients.{divides}
