@@ -1,0 +1,4 @@
+pub mod Fronts
+pub mod Decimals
+pub mod Spelled
+pub mod Lexemes

@@ -1,0 +1,4 @@
+pub mod Padding
+pub mod Cursor
+pub mod Spelling
+pub mod Lexical
