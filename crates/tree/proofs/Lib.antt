@@ -1,0 +1,5 @@
+pub mod Places
+pub mod Rows
+pub mod Substitution
+pub mod Typed
+pub mod Uses

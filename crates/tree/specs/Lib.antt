@@ -1,0 +1,10 @@
+pub mod Laws
+pub mod Meaning
+pub mod Names
+pub mod Place
+pub mod Substitution
+pub mod Term
+pub mod Tree
+pub mod Typing
+pub mod Uses
+pub mod Worked
