@@ -1,0 +1,9 @@
+pub mod Alone
+pub mod Back
+pub mod Calls
+pub mod Cases
+pub mod Counts
+pub mod Points
+pub mod Steps
+pub mod Typed
+pub mod Types

@@ -1,0 +1,12 @@
+pub mod Algorithm
+pub mod Cases
+pub mod Conditions
+pub mod Count
+pub mod Functions
+pub mod Names
+pub mod Picture
+pub mod Points
+pub mod Reduction
+pub mod Steps
+pub mod Value
+pub mod Worked

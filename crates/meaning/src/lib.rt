@@ -1,0 +1,5 @@
+//! What an algorithm, read without any schedule, says a pixel is.
+#![tactic(auto)]
+
+pub mod laws;
+pub mod worked;

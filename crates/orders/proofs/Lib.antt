@@ -1,0 +1,6 @@
+pub mod Steady
+pub mod Alone
+pub mod Claiming
+pub mod Marking
+pub mod Verdict
+pub mod Runs
