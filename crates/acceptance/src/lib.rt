@@ -3,3 +3,7 @@
 
 #[cfg(test)]
 mod numeric_tests;
+#[cfg(test)]
+mod pnm_tests;
+#[cfg(test)]
+mod token_tests;

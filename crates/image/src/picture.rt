@@ -1,12 +1,10 @@
 //! An image and its samples.
 
-ghost use Rattle.std.specs.Prelude.{◌≡◌, ◌↔◌, IsTrue, IfOk};
+ghost use Rattle.std.specs.Prelude.{◌≡◌, ◌↔◌, IsTrue};
 
 use crate::extents::place_of;
 use crate::shape::Shape;
 use numeric::Ty;
-use std::alloc::{AllocError, Global};
-
 /// An image with its samples in the order of a file's raster: rows from the top, in a row from the left,
 /// and the colours of a pixel side by side.
 #[derive(Debug, PartialEq, Eq, Drop)]
@@ -41,18 +39,5 @@ impl Image {
             Some(place) => i64::from(self.samples.get(place).copied().unwrap_or(0)),
             None => 0,
         }
-    }
-
-    /// The same image again.
-    pub fn copy(&self, alloc: Global) -> Result<Image, AllocError>
-        ensures { IfOk result (λ copy. image_of copy ≡ image_of self.now) }
-    {
-        let extents = self.extents.as_slice().to_vec(alloc)?;
-        let samples = self.samples.as_slice().to_vec(alloc)?;
-        Ok(Image {
-            ty: self.ty,
-            extents,
-            samples,
-        })
     }
 }

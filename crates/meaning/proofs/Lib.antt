@@ -4,6 +4,7 @@ pub mod Calls
 pub mod Cases
 pub mod Counts
 pub mod Points
+pub mod Props
 pub mod Steps
 pub mod Typed
 pub mod Types

@@ -6,6 +6,7 @@ pub mod Functions
 pub mod Names
 pub mod Picture
 pub mod Points
+pub mod Props
 pub mod Reduction
 pub mod Steps
 pub mod Value

@@ -4,6 +4,7 @@ ghost use Rattle.meaning.specs.Cases.{FollowsCases};
 ghost use Rattle.meaning.specs.Count.{CountFollowsCases, CountsStandBesideValues};
 ghost use Rattle.meaning.specs.Functions.{CallsGoBack, ValuesStandOnThoseBefore, ValuesAreOfTheirTypes};
 ghost use Rattle.meaning.specs.Points.{PointsAreTheDomain, PointsAreCounted};
+ghost use Rattle.meaning.specs.Props.{FormHasOneProof};
 ghost use Rattle.meaning.specs.Steps.{StepsAgree, StepsFollowCases};
 
 /// The value after some points of an update is given by three cases.
@@ -42,4 +43,9 @@ pub fn values_are_of_their_types()
 pub fn counts_stand_beside_values()
     ensures cases { CountFollowsCases }
     ensures beside { CountsStandBesideValues }
+{}
+
+/// That an algorithm is well formed is one fact: a type's invariant may hold it.
+pub fn form_has_one_proof()
+    ensures { FormHasOneProof }
 {}

@@ -45,37 +45,37 @@ both_true true true h = (refl, refl)
 both_true true false h = absurd (false≢true h)
 both_true false b h = absurd (false≢true h)
 
-is_of-true : (t : Ty) (n : ℤ) → IsTrue (is_of t n) → IsOf t n
+pub is_of-true : (t : Ty) (n : ℤ) → IsTrue (is_of t n) → IsOf t n
 is_of-true t n h = let b = both_true (int_le (least t) n) (int_le n (greatest t)) h in record { from = omega (arith, ints, b.0); to = omega (arith, ints, b.1) }
 
-record Answers (f : Option (Ty × ℕ)) (count : ℕ) : Type 0 where
-  takes : TakesCall f count
-  is : answer_type f count ≡ Some (called_type f)
+pub record Answers (f : Option (Ty × ℕ)) (count : ℕ) : Type 0 where
+  pub takes : TakesCall f count
+  pub is : answer_type f count ≡ Some (called_type f)
 
-some_answer : (f : Option (Ty × ℕ)) (count : ℕ) → IsSome (answer_type f count) → Answers f count
+pub some_answer : (f : Option (Ty × ℕ)) (count : ℕ) → IsSome (answer_type f count) → Answers f count
 some_answer None count h = absurd (false≢true h)
 some_answer (Some f) count h =
     let s = some_only_if (f.1 == count) (Some f.0) h in
     record { takes = eqb-true f.1 count s.0; is = s.1 }
 
-index-is : (o : Option Ty) → IsTrue (is_index o) → o ≡ Some I32
+pub index-is : (o : Option Ty) → IsTrue (is_index o) → o ≡ Some I32
 index-is (Some I32) h = refl
 index-is o h = absurd (false≢true h)
 
-some_of : (o p : Option Ty) → o ≡ p → IsSome o → IsSome p
+pub some_of : (o p : Option Ty) → o ≡ p → IsSome o → IsSome p
 some_of o p e h = subst (λ q. IsSome q) e h
 
-some_same : {t u : Ty} → Some t ≡ Some u → t ≡ u
+pub some_same : {t u : Ty} → Some t ≡ Some u → t ≡ u
 some_same e = cc
 
-same_shape : (o p : Option Ty) (t u : Ty) → o ≡ Some t → p ≡ Some u → o ≡ p → t ≡ u
+pub same_shape : (o p : Option Ty) (t u : Ty) → o ≡ Some t → p ≡ Some u → o ≡ p → t ≡ u
 same_shape o p t u e f g = cc
 
-some_operator : (op : Op) (o : Option Ty) → IsSome (operator_type op o) → IsSome o
+pub some_operator : (op : Op) (o : Option Ty) → IsSome (operator_type op o) → IsSome o
 some_operator op None h = absurd (false≢true h)
 some_operator op (Some t) h = refl
 
-abbrev FewIndices : List ℕ → Terms → Type 0
+abbrev pub FewIndices : List ℕ → Terms → Type 0
 FewIndices name at = index_count at ≤ 4
 
 module _ (vs : List ℕ → Bool) (fs : List ℕ → Option (Ty × ℕ)) where

@@ -1,0 +1,18 @@
+-- The laws of reading and writing, each of them the contract of a function.
+use Rattle.std.specs.Prelude.{◌≡◌, ℕ, List, Ok}
+use Rattle.image.specs.View.{Frame, Picture, IsShape, HasShape}
+use Rattle.pnm.specs.Grammar.{IsFile}
+use Rattle.pnm.specs.Reading.{reading, wanted_of}
+use Rattle.pnm.specs.Text.{text_of}
+
+-- what the grammar calls a file of an image is read as that image
+abbrev pub FilesAreRead : Type 0
+FilesAreRead = (f : Frame) (bytes samples : List ℕ) → IsShape f → IsFile (wanted_of f) bytes samples → reading (wanted_of f) bytes ≡ Ok samples
+
+-- the written form of an image is a file of it
+abbrev pub TextsAreFiles : Type 0
+TextsAreFiles = (f : Frame) (p : Picture) → IsShape f → HasShape f p → IsFile (wanted_of f) (text_of p) p.samples
+
+-- what was written is read as the image
+abbrev pub WrittenIsRead : Type 0
+WrittenIsRead = (f : Frame) (p : Picture) → IsShape f → HasShape f p → reading (wanted_of f) (text_of p) ≡ Ok p.samples

@@ -1,0 +1,16 @@
+//! Image files after Netpbm: PGM and PPM, raw and plain.
+#![tactic(auto)]
+
+pub mod error;
+mod header;
+pub mod laws;
+pub mod reader;
+pub mod state;
+mod stepping;
+pub mod watched;
+pub mod writer;
+
+pub use error::PnmError;
+pub use reader::{read, read_from};
+pub use watched::{Sink, Source, Watched};
+pub use writer::{write, write_to};
