@@ -1,0 +1,4 @@
+//! What a piece does, and its private run.
+#![tactic(auto)]
+
+pub mod worked;

@@ -1,0 +1,51 @@
+//! What a certificate says.
+
+use lin::{Region, Span1, Sym};
+
+/// The region that each piece of a group owns, in the grid's symbols.
+#[derive(Debug, Drop)]
+pub struct Own {
+    pub group: u32,
+    pub region: Region,
+}
+
+/// The pieces of another group that each piece of a group needs: a region of that group's grid.
+#[derive(Debug, Drop)]
+pub struct Need {
+    pub group: u32,
+    pub needed: u32,
+    pub region: Region,
+}
+
+/// After the statement that ends at a line of the plan, a buffer holds a definition of a function
+/// at every point of a region.
+#[derive(Debug, Drop)]
+pub struct Claim {
+    pub line: u32,
+    pub buffer: u32,
+    pub function: String,
+    /// 0 is the pure definition.
+    pub definition: u32,
+    pub region: Region,
+}
+
+/// A claim that lives on from turn to turn of a loop, in which its region moves on along one
+/// dimension.
+#[derive(Debug, Drop)]
+pub struct Window {
+    pub claim: u32,
+    pub symbol: Sym,
+    pub dimension: u32,
+    /// The fold factor of that dimension, 0 where it has none.
+    pub fold: u32,
+    pub span: Span1,
+}
+
+/// A certificate of a plan.
+#[derive(Debug, Drop)]
+pub struct Cert {
+    pub own: Vec<Own>,
+    pub needs: Vec<Need>,
+    pub claims: Vec<Claim>,
+    pub windows: Vec<Window>,
+}

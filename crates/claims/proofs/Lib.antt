@@ -1,0 +1,4 @@
+pub mod Learned
+pub mod Refines
+pub mod Sound
+pub mod Whole

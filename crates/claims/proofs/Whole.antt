@@ -1,0 +1,16 @@
+-- A private run from the beginning of a piece.
+use Rattle.std.proofs.Common.{refl, None}
+use Rattle.nest.specs.Symbols.{Symbols}
+use Rattle.actions.specs.Actions.{actions}
+use Rattle.actions.specs.Memory.{Memory, nothing}
+use Rattle.claims.specs.Origins.{Origin}
+use Rattle.claims.specs.Right.{PrivateRunsAreRight, at_start}
+use Rattle.claims.proofs.Refines.{steps}
+use Rattle.claims.proofs.Sound.{sound}
+
+pub whole : PrivateRunsAreRight
+whole around given body line s suits right h =
+    let t : Memory Origin = nothing in
+    let runs = sound given body line (at_start s) t h (record { has = λ b rs e. absurd (cc e); hold = tt }) in
+    steps around given suits (actions given.setting body s) nothing t runs.fine right
+    (record { rooms = λ b. refl; held = λ b q o e. absurd (cc e); placed = λ b q o e. absurd (cc e) })

@@ -1,0 +1,4 @@
+//! Why a sound plan computes right values.
+#![tactic(auto)]
+
+pub mod laws;

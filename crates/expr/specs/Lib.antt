@@ -1,0 +1,4 @@
+pub mod Parsing
+pub mod Brackets
+pub mod Grammar
+pub mod Text
