@@ -2,8 +2,16 @@
 #![tactic(auto)]
 
 #[cfg(test)]
+mod expr_tests;
+#[cfg(test)]
+mod lin_tests;
+#[cfg(test)]
 mod numeric_tests;
+#[cfg(test)]
+mod orders_tests;
 #[cfg(test)]
 mod pnm_tests;
 #[cfg(test)]
 mod token_tests;
+#[cfg(test)]
+mod tree_tests;
