@@ -41,13 +41,6 @@ fn show(alloc: Global, out: &mut String, expr: &Expr) -> Result<(), AllocError> 
             out.push_str(" ")?;
             out.push_str(name.as_str())
         }
-        Expr::Call { name, at, .. } => {
-            out.push_str(" ")?;
-            out.push_str(name.as_str())?;
-            out.push_str("[")?;
-            show_all(alloc, out, at)?;
-            out.push_str(" ]")
-        }
         Expr::Negate { value, .. } => {
             out.push_str(" (neg")?;
             show(alloc, out, value)?;
@@ -65,6 +58,26 @@ fn show(alloc: Global, out: &mut String, expr: &Expr) -> Result<(), AllocError> 
             show(alloc, out, right)?;
             out.push_str(")")
         }
+        Expr::Cast { ty, value, .. } => {
+            out.push_str(" (")?;
+            out.push_str(type_text(*ty))?;
+            show(alloc, out, value)?;
+            out.push_str(")")
+        }
+        _ => show_rest(alloc, out, expr),
+    }
+}
+
+#[cycle(show)]
+fn show_rest(alloc: Global, out: &mut String, expr: &Expr) -> Result<(), AllocError> {
+    match expr {
+        Expr::Call { name, at, .. } => {
+            out.push_str(" ")?;
+            out.push_str(name.as_str())?;
+            out.push_str("[")?;
+            show_all(alloc, out, at)?;
+            out.push_str(" ]")
+        }
         Expr::Clamp {
             value,
             low,
@@ -77,12 +90,6 @@ fn show(alloc: Global, out: &mut String, expr: &Expr) -> Result<(), AllocError> 
             show(alloc, out, high)?;
             out.push_str(")")
         }
-        Expr::Cast { ty, value, .. } => {
-            out.push_str(" (")?;
-            out.push_str(type_text(*ty))?;
-            show(alloc, out, value)?;
-            out.push_str(")")
-        }
         Expr::Select { cond, yes, no, .. } => {
             out.push_str(" (select")?;
             show_cond(alloc, out, cond)?;
@@ -90,6 +97,7 @@ fn show(alloc: Global, out: &mut String, expr: &Expr) -> Result<(), AllocError> 
             show(alloc, out, no)?;
             out.push_str(")")
         }
+        _ => Ok(()),
     }
 }
 

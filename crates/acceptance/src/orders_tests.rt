@@ -1,6 +1,6 @@
 //! The crew on small work, and faults of lists.
 
-ghost use Rattle.std.specs.Prelude.{◌<◌, ◌^◌, IsTrue, IfOk, All, ◌↔◌, nat_lt, length};
+ghost use Rattle.std.specs.Prelude.{◌<◌, ◌^◌, IsTrue, nat_lt, length};
 ghost use Rattle.std.specs.List.{list_all};
 
 use orders::{Job, ListFault, Piece, first_fault, replay};
@@ -21,12 +21,12 @@ impl Job for Copies {
     ghost use Rattle.orders.specs.Lists.{own_lists, fetched_lists, needs_lists};
 
     ghost work = { λ job. record {
-        pieces = length job.pieces.items;
-        cells = job.cells;
-        own = own_lists job.pieces.items;
-        fetched = fetched_lists job.pieces.items;
-        needs = needs_lists job.pieces.items;
-        private_run = λ piece looked. if nat_eq (length looked) 0 then option_map (λ v. v.items) (slice_get job.values.items piece) else Some looked;
+      pieces = length job.pieces.items;
+      cells = job.cells;
+      own = own_lists job.pieces.items;
+      fetched = fetched_lists job.pieces.items;
+      needs = needs_lists job.pieces.items;
+      private_run = λ piece looked. if nat_eq (length looked) 0 then option_map (λ v. v.items) (slice_get job.values.items piece) else Some looked;
     } };
 
     fn pieces(&self) -> u32 {
@@ -65,12 +65,7 @@ impl Job for Copies {
     }
 }
 
-fn piece(
-    alloc: Global,
-    own: &[u32],
-    fetched: &[u32],
-    needs: &[u32],
-) -> Result<Piece, AllocError> {
+fn piece(alloc: Global, own: &[u32], fetched: &[u32], needs: &[u32]) -> Result<Piece, AllocError> {
     Ok(Piece {
         own: own.to_vec(alloc)?,
         fetched: fetched.to_vec(alloc)?,
@@ -84,7 +79,12 @@ fn rows(alloc: Global) -> Result<Copies, AllocError> {
         cells: 20,
         pieces: vec![in alloc;
             piece(alloc, &[0, 1, 2, 3, 4, 5], &[], &[])?,
-            piece(alloc, &[6, 7, 8, 9, 10, 11, 12, 13, 14, 15, 16, 17, 18, 19], &[], &[])?,
+            piece(
+                alloc,
+                &[6, 7, 8, 9, 10, 11, 12, 13, 14, 15, 16, 17, 18, 19],
+                &[],
+                &[]
+            )?,
         ]?,
         values: vec![in alloc;
             vec![in alloc; 1i64, 2, 3, 4, 5, 6]?,
@@ -111,7 +111,10 @@ fn copying(alloc: Global) -> Result<Copies, AllocError> {
 fn hasty(alloc: Global) -> Result<Copies, AllocError> {
     Ok(Copies {
         cells: 2,
-        pieces: vec![in alloc; piece(alloc, &[0], &[1], &[])?, piece(alloc, &[1], &[], &[])?]?,
+        pieces: vec![in alloc;
+            piece(alloc, &[0], &[1], &[])?,
+            piece(alloc, &[1], &[], &[])?,
+        ]?,
         values: vec![in alloc; vec![in alloc; 5i64]?, vec![in alloc; 7i64]?]?,
     })
 }
@@ -167,8 +170,14 @@ fn copies_ask_and_look(rt: HostRuntime) -> Result<(), AllocError> {
     assert_eq!(rt; counts(alloc, &job, &[0; 19])?, (4, 4, 5));
     assert_eq!(rt; counts(alloc, &job, &[0; 18])?, (4, 3, 5));
     // worker 2 draws the third piece, and its asks change nothing until both others are finished
-    assert_eq!(rt; counts(alloc, &job, &[0, 1, 2, 2, 2, 2, 2, 2, 2, 2, 2])?, (3, 0, 0));
-    assert_eq!(rt; counts(alloc, &job, &[0, 1, 2, 0, 0, 2, 2, 2, 2, 2, 2, 2])?, (3, 1, 1));
+    assert_eq!(rt;
+        counts(alloc, &job, &[0, 1, 2, 2, 2, 2, 2, 2, 2, 2, 2])?,
+        (3, 0, 0)
+    );
+    assert_eq!(rt;
+        counts(alloc, &job, &[0, 1, 2, 0, 0, 2, 2, 2, 2, 2, 2, 2])?,
+        (3, 1, 1)
+    );
     let state = replay(alloc, &job, &[0, 1, 2, 0, 0, 1, 1, 2, 2, 2, 2, 2])?;
     assert_eq!(rt; (state.drawn(), state.finished(), state.set()), (3, 2, 3));
     assert_eq!(rt; state.cell(2), Some(8));
@@ -246,15 +255,30 @@ fn faults_of_lists(rt: HostRuntime) -> Result<(), AllocError> {
     assert_eq!(rt; fault(alloc, &[0], &[1], &[1, 0, 1])?, None);
     assert_eq!(rt; fault(alloc, &[1, 0], &[], &[0])?, None);
     // two pieces own one cell, or one piece twice, or one out of the table
-    assert_eq!(rt; fault(alloc, &[0], &[1, 0], &[0, 1])?, Some(ListFault::Own(1)));
-    assert_eq!(rt; fault(alloc, &[0, 0], &[1], &[0, 1])?, Some(ListFault::Own(0)));
-    assert_eq!(rt; fault(alloc, &[0, 1, 2], &[], &[0])?, Some(ListFault::Own(2)));
-    assert_eq!(rt; fault(alloc, &[0], &[1, 4], &[0, 1])?, Some(ListFault::Own(1)));
+    assert_eq!(rt;
+        fault(alloc, &[0], &[1, 0], &[0, 1])?,
+        Some(ListFault::Own(1))
+    );
+    assert_eq!(rt;
+        fault(alloc, &[0, 0], &[1], &[0, 1])?,
+        Some(ListFault::Own(0))
+    );
+    assert_eq!(rt;
+        fault(alloc, &[0, 1, 2], &[], &[0])?,
+        Some(ListFault::Own(2))
+    );
+    assert_eq!(rt;
+        fault(alloc, &[0], &[1, 4], &[0, 1])?,
+        Some(ListFault::Own(1))
+    );
     // a cell that nobody owns
     assert_eq!(rt; fault(alloc, &[], &[1], &[0, 1])?, Some(ListFault::Gap(0)));
     assert_eq!(rt; fault(alloc, &[0], &[], &[0, 1])?, Some(ListFault::Gap(1)));
     // a needed piece left out, or a later one
     assert_eq!(rt; fault(alloc, &[0], &[1], &[0])?, Some(ListFault::Needs(2)));
-    assert_eq!(rt; fault(alloc, &[0], &[1], &[0, 1, 2])?, Some(ListFault::Needs(2)));
+    assert_eq!(rt;
+        fault(alloc, &[0], &[1], &[0, 1, 2])?,
+        Some(ListFault::Needs(2))
+    );
     Ok(())
 }

@@ -207,6 +207,12 @@ fn headers(rt: HostRuntime) -> Result<(), Fail> {
     // A comment between digits ends the number: here width 1 and height 2, and then also the greatest sample 1.
     let cut = read_as(alloc, Ty::U8, &[1, 2], b"P5 1#\n2 255\n\x07\x08")?;
     assert_eq!(rt; cut.samples.as_slice(), [7, 8].as_slice());
+    Ok(())
+}
+
+#[test]
+fn refused_headers(rt: HostRuntime) -> Result<(), Fail> {
+    let alloc = rt.alloc();
     assert_eq!(rt;
         fault_of(alloc, Ty::U8, &[12, 1], b"P5 1#\n2 1 255\n"),
         Some(PnmError::OtherImage)
@@ -231,6 +237,12 @@ fn headers(rt: HostRuntime) -> Result<(), Fail> {
         fault_of(alloc, Ty::U8, &[1, 1], b"P5 # no end"),
         Some(PnmError::TooShort)
     );
+    Ok(())
+}
+
+#[test]
+fn large_numbers_in_headers(rt: HostRuntime) -> Result<(), Fail> {
+    let alloc = rt.alloc();
     assert_eq!(rt;
         fault_of(
             alloc,

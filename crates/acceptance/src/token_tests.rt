@@ -1,17 +1,22 @@
 //! Tokens of texts: what each piece is, and what is none.
 
-use token::{Literal, Span, Symbol, Token, TokenError, Word, tokens};
 use numeric::Ty;
 use std::test::*;
+use token::{Literal, Span, Symbol, Token, TokenError, Word, tokens};
+
+// The number as a token.
+fn number(value: u32, ty: Option<Ty>) -> Token {
+    Token::Number(Literal { value, ty })
+}
 
 #[test]
 fn single_tokens(rt: HostRuntime) -> Result<(), Fail> {
     let table = [
-        ("7u8", Token::Number(Literal { value: 7, ty: Some(Ty::U8) })),
-        ("255u8", Token::Number(Literal { value: 255, ty: Some(Ty::U8) })),
-        ("0", Token::Number(Literal { value: 0, ty: None })),
-        ("2147483647", Token::Number(Literal { value: 2_147_483_647, ty: None })),
-        ("4294967295u32", Token::Number(Literal { value: 4_294_967_295, ty: Some(Ty::U32) })),
+        ("7u8", number(7, Some(Ty::U8))),
+        ("255u8", number(255, Some(Ty::U8))),
+        ("0", number(0, None)),
+        ("2147483647", number(2_147_483_647, None)),
+        ("4294967295u32", number(4_294_967_295, Some(Ty::U32))),
         ("select", Token::Word(Word::Select)),
         ("i32", Token::Type(Ty::I32)),
         ("a_name_of_17_byte", Token::LongName),
@@ -23,7 +28,13 @@ fn single_tokens(rt: HostRuntime) -> Result<(), Fail> {
         let found = tokens(rt.alloc(), text).ok().ok_or("tokens")?;
         assert_eq!(rt; found.len(), 1);
         assert_eq!(rt; found[0].token, token);
-        assert_eq!(rt; found[0].span, Span { start: 0, end: text.len() });
+        assert_eq!(rt;
+            found[0].span,
+            Span {
+                start: 0,
+                end: text.len()
+            }
+        );
     }
     Ok(())
 }
@@ -75,7 +86,10 @@ fn comments_alone(rt: HostRuntime) -> Result<(), Fail> {
 fn length_of_a_text(rt: HostRuntime) -> Result<(), Fail> {
     let blanks = vec![in rt.alloc(); b' '; 65_537]?;
     let long = str::from_utf8(&blanks).ok().ok_or("text")?;
-    let want = Some(TokenError::TooLong(Span { start: 65_536, end: 65_537 }));
+    let want = Some(TokenError::TooLong(Span {
+        start: 65_536,
+        end: 65_537,
+    }));
     assert_eq!(rt; tokens(rt.alloc(), long).err(), want);
     let fits = str::from_utf8(&blanks[1..]).ok().ok_or("text")?;
     assert_eq!(rt; tokens(rt.alloc(), fits).err(), None);

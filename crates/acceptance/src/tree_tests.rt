@@ -31,7 +31,11 @@ impl Names for Row {
     }
 
     fn func(&self, name: &str) -> Option<(Ty, usize)> {
-        if name == "in" { Some((Ty::U8, 1)) } else { None }
+        if name == "in" {
+            Some((Ty::U8, 1))
+        } else {
+            None
+        }
     }
 }
 
@@ -198,8 +202,14 @@ fn quotients(rt: HostRuntime) -> Result<(), Fail> {
         (5, 0, 0, 0),
         (least, -1, least, 0),
     ] {
-        assert_eq!(rt; operated(&rt, rt.alloc(), Op::Div, Ty::I32, left, right)?, quotient);
-        assert_eq!(rt; operated(&rt, rt.alloc(), Op::Rem, Ty::I32, left, right)?, remainder);
+        assert_eq!(rt;
+            operated(&rt, rt.alloc(), Op::Div, Ty::I32, left, right)?,
+            quotient
+        );
+        assert_eq!(rt;
+            operated(&rt, rt.alloc(), Op::Rem, Ty::I32, left, right)?,
+            remainder
+        );
     }
     Ok(())
 }
@@ -208,7 +218,17 @@ fn quotients(rt: HostRuntime) -> Result<(), Fail> {
 fn wraps(rt: HostRuntime) -> Result<(), Fail> {
     assert_eq!(rt; operated(&rt, rt.alloc(), Op::Add, Ty::U8, 200, 100)?, 44);
     assert_eq!(rt; operated(&rt, rt.alloc(), Op::Sub, Ty::U16, 0, 1)?, 65_535);
-    assert_eq!(rt; operated(&rt, rt.alloc(), Op::Mul, Ty::U32, 4_294_967_295, 4_294_967_295)?, 1);
+    assert_eq!(rt;
+        operated(
+            &rt,
+            rt.alloc(),
+            Op::Mul,
+            Ty::U32,
+            4_294_967_295,
+            4_294_967_295
+        )?,
+        1
+    );
     assert_eq!(rt; operated(&rt, rt.alloc(), Op::Min, Ty::I8, -3, 2)?, -3);
     assert_eq!(rt; operated(&rt, rt.alloc(), Op::Max, Ty::I8, -3, 2)?, 2);
     let cast = cast(rt.alloc(), Ty::I8, number(Ty::U8, 200))?;
@@ -344,7 +364,13 @@ fn refusals(rt: HostRuntime) -> Result<(), Fail> {
         number_at(Ty::U16, 3, 13, 17),
         span(7, 17),
     )?;
-    let expr = binary_at(alloc, Op::Add, number_at(Ty::U8, 1, 0, 3), inner, span(0, 18))?;
+    let expr = binary_at(
+        alloc,
+        Op::Add,
+        number_at(Ty::U8, 1, 0, 3),
+        inner,
+        span(0, 18),
+    )?;
     assert_eq!(rt; ty_of(&expr, &ROW), refused(7, 17));
     // in[1u8]
     let expr = call_at(alloc, "in", number_at(Ty::U8, 1, 3, 6), span(0, 7))?;

@@ -1,4 +1,10 @@
+pub mod Calls
+pub mod Forms
 pub mod Learned
+pub mod Meant
 pub mod Refines
+pub mod Shown
 pub mod Sound
+pub mod Stored
+pub mod Turns
 pub mod Whole

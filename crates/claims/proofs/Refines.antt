@@ -107,13 +107,13 @@ module _ (around : Around) (given : Given) where
       at (Some q) e = h.held b q o e
 
   module _ (suits : Suits around given) where
-    source_looks : (m : Memory Value) (t : Memory Origin) (r : Reader) → Agrees m t → (from : Source) (p : List ℤ) → SourceMayRead given t r from p → look_at around m from p ≡ Some (source_answer given r from p)
-    source_looks m t r h Input p k = suits.samples p k
-    source_looks m t r h (ByClaim c) p k = ap (λ b. read m b p) (suits.buffers c) ∙ agrees_read m t (given.claim c).buffer p _ h k
-    source_looks m t r h Unknown p k = absurd k
+    source_looks : (m : Memory Value) (t : Memory Origin) (r : Reader) → Agrees m t → (from : Source) (name : List ℕ) (p : List ℤ) → given.outline.source name ≡ from → SourceMayRead given t r from p → look_at around m from p ≡ Some (source_answer given r from name p)
+    source_looks m t r h Input name p is k = suits.samples name p is k
+    source_looks m t r h (ByClaim c) name p is k = ap (λ b. read m b p) (suits.buffers c) ∙ agrees_read m t (given.outline.claim c).buffer p _ h k
+    source_looks m t r h Unknown name p is k = absurd k
 
     looks : (m : Memory Value) (t : Memory Origin) (r : Reader) → Agrees m t → (name : List ℕ) (p : List ℤ) → MayRead given t r name p → look around m name p ≡ Some (answer given r name p)
-    looks m t r h name p k = ap (λ from. look_at around m from p) (suits.sources name) ∙ source_looks m t r h (given.source name) p k
+    looks m t r h name p k = ap (λ from. look_at around m from p) (suits.sources name) ∙ source_looks m t r h (given.outline.source name) name p refl k
 
     same_pick : (b c : Bool) (v : Option Value) (w : Option Origin) (x : Value) (o p : Origin) → x ≡ given.value_at p → ((o : Origin) → w ≡ Some o → v ≡ Some (given.value_at o)) → (if b && c then Some p else w) ≡ Some o → (if b && c then Some x else v) ≡ Some (given.value_at o)
     same_pick true true v w x o p e h k = let f : p ≡ o = cc in ap Some (e ∙ ap given.value_at f)
@@ -277,7 +277,7 @@ module _ (around : Around) (given : Given) where
         (w.0, ap (λ o. with o (λ v. write m b p v)) v ∙ w.1, w.2)
     step (Change b f k names at over e) m t fine right h = changed m t b f k names at over e fine right h
     step (Give c p) m t fine right h =
-        (m, ap (λ b. with (read m b p) (λ v. Some m)) (suits.buffers c) ∙ ap (λ o. with o (λ v. Some m)) (agrees_read m t (given.claim c).buffer p _ h fine), h)
+        (m, ap (λ b. with (read m b p) (λ v. Some m)) (suits.buffers c) ∙ ap (λ o. with o (λ v. Some m)) (agrees_read m t (given.outline.claim c).buffer p _ h fine), h)
 
     -- all of them
     pub steps : (todo : List Action) (m : Memory Value) (t : Memory Origin) → AreFine given todo t → AreRight around given todo → Agrees m t → outcome around todo m ≡ Some (right_outcome given todo)
@@ -294,6 +294,6 @@ module _ (around : Around) (given : Given) where
         ap (λ o. with o (outcome around later)) first.1 ∙ steps later first.0 (learn given (Change b f k names at over e) t) fine.1 right.1 first.2
     steps (Give c p ∷ later) m t fine right h =
         let found : read m (around.claim_buffer c) p ≡ Some (given.value_at (origin_for given Plain c p)) =
-            ap (λ b. read m b p) (suits.buffers c) ∙ agrees_read m t (given.claim c).buffer p _ h fine.0 in
+        ap (λ b. read m b p) (suits.buffers c) ∙ agrees_read m t (given.outline.claim c).buffer p _ h fine.0 in
         ap (λ o. with o (λ v. with (outcome around later m) (λ vs. Some (v ∷ vs)))) found
         ∙ ap (λ o. with o (λ vs. Some (given.value_at (origin_for given Plain c p) ∷ vs))) (steps later m t fine.1 right.1 h)

@@ -17,11 +17,11 @@ use Rattle.claims.specs.Claims.{status_after, writes, block_writes, is_written, 
 use Rattle.claims.proofs.Refines.{same_refl, eq_true, name_true, and_parts}
 use Rattle.claims.proofs.Learned.{point_true, Spares, write_rooms, spares_append, IsSame, same_read, spared, IsKnown, tracked}
 
-or_left : (a b : Bool) → (a || b) ≡ false → a ≡ false
+pub or_left : (a b : Bool) → (a || b) ≡ false → a ≡ false
 or_left true b h = h
 or_left false b h = refl
 
-or_right : (a b : Bool) → (a || b) ≡ false → b ≡ false
+pub or_right : (a b : Bool) → (a || b) ≡ false → b ≡ false
 or_right true b h = absurd (cc h)
 or_right false b h = h
 
@@ -118,7 +118,7 @@ module _ (setting : Setting) where
     writing_block (Then a rest) s b f h =
         only_append b f (actions setting a s) (block_actions setting rest (after a s)) (writing a s b f (and_parts (writes setting a b f) (block_writes setting rest b f) h).0) (writing_block rest (after a s) b f (and_parts (writes setting a b f) (block_writes setting rest b f) h).1)
 
-or_cases : (a b : Bool) → (a || b) ≡ true → (a ≡ true) ⊎ (b ≡ true)
+pub or_cases : (a b : Bool) → (a || b) ≡ true → (a ≡ true) ⊎ (b ≡ true)
 or_cases true b h = inl refl
 or_cases false b h = inr h
 
@@ -172,10 +172,10 @@ module _ (given : Given) where
   known_some : (t : Memory Origin) (b : ℕ) (f : List ℕ) (p : List ℤ) (st : Option ℕ) (d : ℕ) → st ≡ Some d → IsKnown t b f p st → read t b p ≡ Some (origin f d p)
   known_some t b f p st d e k = let P : Option ℕ → Type 0 = λ o. IsKnown t b f p o in subst P e k
 
-  in_force : (t : Memory Origin) (hs : List Fact) (c : ℕ) (p : List ℤ) (d : ℕ) → AllHold t hs → InForce given hs c p d → read t (given.claim c).buffer p ≡ Some (origin (given.claim c).function d p)
+  in_force : (t : Memory Origin) (hs : List Fact) (c : ℕ) (p : List ℤ) (d : ℕ) → AllHold t hs → InForce given hs c p d → read t (given.outline.claim c).buffer p ≡ Some (origin (given.outline.claim c).function d p)
   in_force t [] c p d all m = absurd m
   in_force t (h ∷ hs) c p d all (inl e) =
-      subst (λ n. read t (given.claim n).buffer p ≡ Some (origin (given.claim n).function d p)) e.0 (known_some t _ _ p (h.done p) d e.2 (all.0 p e.1))
+      subst (λ n. read t (given.outline.claim n).buffer p ≡ Some (origin (given.outline.claim n).function d p)) e.0 (known_some t _ _ p (h.done p) d e.2 (all.0 p e.1))
   in_force t (h ∷ hs) c p d all (inr m) = in_force t hs c p d all.1 m
 
   earlier : (t : Memory Origin) (hs : List Fact) (b : ℕ) (f : List ℕ) (p : List ℤ) (d : ℕ) → AllHold t hs → Earlier given hs b f p d → read t b p ≡ Some (origin f d p)
@@ -217,39 +217,41 @@ module _ (given : Given) where
       stable_one (changes a (buffer_of given h)) t u h (stable given a hs) (same (buffer_of given h)) (stay_stable a t u hs same) all
 
   -- the claims of buffers that a statement fills or updates
-  advance_one : (a : Statement) (s : Symbols) (t : Memory Origin) (rooms : ℕ → Option (List Room)) (h : Fact) → ((b : ℕ) (rs : List Room) → rooms b ≡ Some rs → t.rooms b ≡ Some rs) → is_written given a h ≡ true → AreFine given (actions given.setting a s) t → FactHolds t h → FactHolds (learn_all given (actions given.setting a s) t) (advanced given (actions given.setting a s) rooms h)
+  advance_one : (a : Statement) (s : Symbols) (t : Memory Origin) (rooms : ℕ → Option (List Room)) (h : Fact) → ((b : ℕ) (rs : List Room) → rooms b ≡ Some rs → t.rooms b ≡ Some rs) → is_written given a h ≡ true → AreFine given (actions given.outline.setting a s) t → FactHolds t h → FactHolds (learn_all given (actions given.outline.setting a s) t) (advanced given (actions given.outline.setting a s) rooms h)
   advance_one a s t rooms h has only_writes fine fact = λ p m.
       point p (fact p m) (rooms (buffer_of given h)) (has (buffer_of given h))
     where
       b : ℕ
       b = buffer_of given h
+
       f : List ℕ
       f = function_of given h
+
       point : (p : List ℤ) → IsKnown t (buffer_of given h) (function_of given h) p (h.done p) → (o : Option (List Room)) → ((rs : List Room) → o ≡ Some rs → t.rooms (buffer_of given h) ≡ Some rs) →
-          IsKnown (learn_all given (actions given.setting a s) t) (buffer_of given h) (function_of given h) p (if is_clear o p (written (buffer_of given h) (actions given.setting a s)) then status_after given (buffer_of given h) p (actions given.setting a s) (h.done p) else None)
+          IsKnown (learn_all given (actions given.outline.setting a s) t) (buffer_of given h) (function_of given h) p (if is_clear o p (written (buffer_of given h) (actions given.outline.setting a s)) then status_after given (buffer_of given h) p (actions given.outline.setting a s) (h.done p) else None)
       point p known None r = tt
-      point p known (Some rs) r = choice (all_clear rs p (written (buffer_of given h) (actions given.setting a s))) refl
+      point p known (Some rs) r = choice (all_clear rs p (written (buffer_of given h) (actions given.outline.setting a s))) refl
         where
-          choice : (v : Bool) → all_clear rs p (written (buffer_of given h) (actions given.setting a s)) ≡ v → IsKnown (learn_all given (actions given.setting a s) t) (buffer_of given h) (function_of given h) p (if v then status_after given (buffer_of given h) p (actions given.setting a s) (h.done p) else None)
+          choice : (v : Bool) → all_clear rs p (written (buffer_of given h) (actions given.outline.setting a s)) ≡ v → IsKnown (learn_all given (actions given.outline.setting a s) t) (buffer_of given h) (function_of given h) p (if v then status_after given (buffer_of given h) p (actions given.outline.setting a s) (h.done p) else None)
           choice true e =
-              tracked given (actions given.setting a s) (buffer_of given h) (function_of given h) p t (h.done p) known fine
-                  (writing given.setting a s (buffer_of given h) (function_of given h) (and_parts (changes a (buffer_of given h)) (writes given.setting a (buffer_of given h) (function_of given h)) only_writes).1)
-                  (subst (λ o. ClearOf o p (written (buffer_of given h) (actions given.setting a s))) (sym (r rs refl)) (clear_means rs p _ e))
+              tracked given (actions given.outline.setting a s) (buffer_of given h) (function_of given h) p t (h.done p) known fine
+              (writing given.outline.setting a s (buffer_of given h) (function_of given h) (and_parts (changes a (buffer_of given h)) (writes given.outline.setting a (buffer_of given h) (function_of given h)) only_writes).1)
+              (subst (λ o. ClearOf o p (written (buffer_of given h) (actions given.outline.setting a s))) (sym (r rs refl)) (clear_means rs p _ e))
           choice false e = tt
 
   advance_choice : (v : Bool) (t : Memory Origin) (g : Fact → Fact) (h : Fact) (hs : List Fact) → (v ≡ true → FactHolds t (g h)) → AllHold t (map g hs) → AllHold t (map g (if v then h ∷ hs else hs))
   advance_choice true t g h hs p q = (p refl, q)
   advance_choice false t g h hs p q = q
 
-  advance : (a : Statement) (s : Symbols) (t : Memory Origin) (rooms : ℕ → Option (List Room)) (hs : List Fact) → ((b : ℕ) (rs : List Room) → rooms b ≡ Some rs → t.rooms b ≡ Some rs) → AreFine given (actions given.setting a s) t → AllHold t hs → AllHold (learn_all given (actions given.setting a s) t) (map (advanced given (actions given.setting a s) rooms) (choose_facts (is_written given a) hs))
+  advance : (a : Statement) (s : Symbols) (t : Memory Origin) (rooms : ℕ → Option (List Room)) (hs : List Fact) → ((b : ℕ) (rs : List Room) → rooms b ≡ Some rs → t.rooms b ≡ Some rs) → AreFine given (actions given.outline.setting a s) t → AllHold t hs → AllHold (learn_all given (actions given.outline.setting a s) t) (map (advanced given (actions given.outline.setting a s) rooms) (choose_facts (is_written given a) hs))
   advance a s t rooms [] has fine all = tt
   advance a s t rooms (h ∷ hs) has fine all =
-      advance_choice (is_written given a h) (learn_all given (actions given.setting a s) t) (advanced given (actions given.setting a s) rooms) h (choose_facts (is_written given a) hs) (λ k. advance_one a s t rooms h has k fine all.0) (advance a s t rooms hs has fine all.1)
+      advance_choice (is_written given a h) (learn_all given (actions given.outline.setting a s) t) (advanced given (actions given.outline.setting a s) rooms) h (choose_facts (is_written given a) hs) (λ k. advance_one a s t rooms h has k fine all.0) (advance a s t rooms hs has fine all.1)
 
-  kept : (a : Statement) (s : Symbols) (t : Memory Origin) (rooms : ℕ → Option (List Room)) (hs : List Fact) → ((b : ℕ) (rs : List Room) → rooms b ≡ Some rs → t.rooms b ≡ Some rs) → AreFine given (actions given.setting a s) t → AllHold t hs → AllHold (learn_all given (actions given.setting a s) t) (keep given a (actions given.setting a s) rooms hs)
+  kept : (a : Statement) (s : Symbols) (t : Memory Origin) (rooms : ℕ → Option (List Room)) (hs : List Fact) → ((b : ℕ) (rs : List Room) → rooms b ≡ Some rs → t.rooms b ≡ Some rs) → AreFine given (actions given.outline.setting a s) t → AllHold t hs → AllHold (learn_all given (actions given.outline.setting a s) t) (keep given a (actions given.outline.setting a s) rooms hs)
   kept a s t rooms hs has fine all =
-      hold_append (learn_all given (actions given.setting a s) t) (map (advanced given (actions given.setting a s) rooms) (choose_facts (is_written given a) hs)) (stable given a hs) (advance a s t rooms hs has fine all)
-          (stay_stable a t (learn_all given (actions given.setting a s) t) hs (λ b e. spared given b (actions given.setting a s) t (leaves given.setting a s b e)) (hold_choose _ t hs all))
+      hold_append (learn_all given (actions given.outline.setting a s) t) (map (advanced given (actions given.outline.setting a s) rooms) (choose_facts (is_written given a) hs)) (stable given a hs) (advance a s t rooms hs has fine all)
+      (stay_stable a t (learn_all given (actions given.outline.setting a s) t) hs (λ b e. spared given b (actions given.outline.setting a s) t (leaves given.outline.setting a s b e)) (hold_choose _ t hs all))
 
   inside : (rooms : ℕ → Option (List Room)) (t : Memory Origin) (b : ℕ) (p : List ℤ) → ((rs : List Room) → rooms b ≡ Some rs → t.rooms b ≡ Some rs) → IsSome (place_in (rooms b) p) → IsSome (place_in (t.rooms b) p)
   inside rooms t b p has = at (rooms b) refl
@@ -262,16 +264,16 @@ module _ (given : Given) where
   made : (c : ℕ) (todo : List Action) (sc : Scope) (t : Memory Origin) → Fits sc.rooms sc.facts t → AreFine given todo t → IsMade given c todo sc → FactHolds (learn_all given todo t) (new_fact given sc.symbols c)
   made c todo sc t fits fine h = λ p m.
       let k = h.covers p m in
-      known_now p (tracked given todo (given.claim c).buffer (given.claim c).function p t k.0 (before t sc.facts _ _ p k.0 fits.hold k.1) fine h.only (subst (λ r. ClearOf r p (written (given.claim c).buffer todo)) same (h.clear p m))) k.2
+      known_now p (tracked given todo (given.outline.claim c).buffer (given.outline.claim c).function p t k.0 (before t sc.facts _ _ p k.0 fits.hold k.1) fine h.only (subst (λ r. ClearOf r p (written (given.outline.claim c).buffer todo)) same (h.clear p m))) k.2
     where
-      at : (o : Option (List Room)) → sc.rooms (given.claim c).buffer ≡ o → IsSome o → sc.rooms (given.claim c).buffer ≡ t.rooms (given.claim c).buffer
+      at : (o : Option (List Room)) → sc.rooms (given.outline.claim c).buffer ≡ o → IsSome o → sc.rooms (given.outline.claim c).buffer ≡ t.rooms (given.outline.claim c).buffer
       at None e some = absurd (cc some)
-      at (Some rs) e some = e ∙ sym (fits.has (given.claim c).buffer rs e)
+      at (Some rs) e some = e ∙ sym (fits.has (given.outline.claim c).buffer rs e)
 
-      same : sc.rooms (given.claim c).buffer ≡ t.rooms (given.claim c).buffer
-      same = at (sc.rooms (given.claim c).buffer) refl h.has_room
+      same : sc.rooms (given.outline.claim c).buffer ≡ t.rooms (given.outline.claim c).buffer
+      same = at (sc.rooms (given.outline.claim c).buffer) refl h.has_room
 
-      known_now : (p : List ℤ) → {st : Option ℕ} → IsKnown (learn_all given todo t) (given.claim c).buffer (given.claim c).function p st → st ≡ Some (given.steps (given.claim c).function (given.claim c).definition) → read (learn_all given todo t) (given.claim c).buffer p ≡ Some (origin (given.claim c).function (given.steps (given.claim c).function (given.claim c).definition) p)
+      known_now : (p : List ℤ) → {st : Option ℕ} → IsKnown (learn_all given todo t) (given.outline.claim c).buffer (given.outline.claim c).function p st → st ≡ Some (given.steps (given.outline.claim c).function (given.outline.claim c).definition) → read (learn_all given todo t) (given.outline.claim c).buffer p ≡ Some (origin (given.outline.claim c).function (given.steps (given.outline.claim c).function (given.outline.claim c).definition) p)
       known_now p {st} k e = known_some (learn_all given todo t) _ _ p st _ e k
 
   all_made : (cs : List ℕ) (todo : List Action) (sc : Scope) (t : Memory Origin) → Fits sc.rooms sc.facts t → AreFine given todo t → AreMade given cs todo sc → AllHold (learn_all given todo t) (map (new_fact given sc.symbols) cs)
@@ -284,7 +286,7 @@ module _ (given : Given) where
   source_may_use t hs r all Unknown p h = h
 
   may_use : (t : Memory Origin) (hs : List Fact) (r : Reader) → AllHold t hs → (name : List ℕ) (p : List ℤ) → MayUse given hs r name p → MayRead given t r name p
-  may_use t hs r all name p h = source_may_use t hs r all (given.source name) p h
+  may_use t hs r all name p h = source_may_use t hs r all (given.outline.source name) p h
 
   module _ (variables : List ℕ → ℤ) (ans : List ℕ → List ℤ → Value) (P Q : List ℕ → List ℤ → Type 0) (h : (name : List ℕ) (p : List ℤ) → P name p → Q name p) where
     mutual
@@ -349,17 +351,17 @@ module _ (given : Given) where
 
   -- the turns of a loop
   loop : (body : Statement) (i : ℕ) (rooms : ℕ → Option (List Room)) (facts : List Fact) (of : ℤ → Symbols) (P : ℤ → List Fact → Type 0) (end : ℤ → List Fact → List Fact) →
-      ((z : ℤ) (carried : List Fact) (t : Memory Origin) → P z carried → Fits rooms (carried ++ stable given body facts) t → Runs rooms (end z carried) (actions given.setting body (of z)) t) →
+      ((z : ℤ) (carried : List Fact) (t : Memory Origin) → P z carried → Fits rooms (carried ++ stable given body facts) t → Runs rooms (end z carried) (actions given.outline.setting body (of z)) t) →
       (zs : List ℤ) (carried : List Fact) (t : Memory Origin) → EachTurn P (λ z c. handed_on given i body (end z c)) carried zs → AllHold t carried → AllHold t (stable given body facts) → ((b : ℕ) (rs : List Room) → rooms b ≡ Some rs → t.rooms b ≡ Some rs) →
-      Runs rooms [] (flat_map (λ z. actions given.setting body (of z)) zs) t
+      Runs rooms [] (flat_map (λ z. actions given.outline.setting body (of z)) zs) t
   loop body i rooms facts of P end turn [] carried t h now still has = record { fine = tt; has = has; hold = tt }
   loop body i rooms facts of P end turn (z ∷ zs) carried t h now still has =
       let first = turn z carried t h.0 (record { has = has; hold = hold_append t carried _ now still }) in
-      let u = learn_all given (actions given.setting body (of z)) t in
-      both rooms [] (actions given.setting body (of z)) _ t first.fine
+      let u = learn_all given (actions given.outline.setting body (of z)) t in
+      both rooms [] (actions given.outline.setting body (of z)) _ t first.fine
       (loop body i rooms facts of P end turn zs (handed_on given i body (end z carried)) u h.1
       (hold_choose _ u (end z carried) first.hold)
-      (stay_stable body t u facts (λ b e. spared given b (actions given.setting body (of z)) t (leaves given.setting body (of z) b e)) still)
+      (stay_stable body t u facts (λ b e. spared given b (actions given.outline.setting body (of z)) t (leaves given.outline.setting body (of z) b e)) still)
       first.has)
 
   chosen : (v : Bool) (rooms : ℕ → Option (List Room)) (xs ys : List Action) (t : Memory Origin) → (v ≡ true → Runs rooms [] xs t) → (v ≡ false → Runs rooms [] ys t) → Runs rooms [] (if v then xs else ys) t
@@ -394,7 +396,7 @@ module _ (given : Given) where
   grows _ line sc sound b rs e = e
 
   -- and those of a new scope are there
-  has_rooms : (a : Statement) (sc : Scope) (t : Memory Origin) → ((b : ℕ) (rs : List Room) → sc.rooms b ≡ Some rs → t.rooms b ≡ Some rs) → ((b : ℕ) (rs : List Room) → sc.rooms b ≡ Some rs → (learn_all given (actions given.setting a sc.symbols) t).rooms b ≡ Some rs) → (b : ℕ) (rs : List Room) → more_rooms given a sc b ≡ Some rs → (learn_all given (actions given.setting a sc.symbols) t).rooms b ≡ Some rs
+  has_rooms : (a : Statement) (sc : Scope) (t : Memory Origin) → ((b : ℕ) (rs : List Room) → sc.rooms b ≡ Some rs → t.rooms b ≡ Some rs) → ((b : ℕ) (rs : List Room) → sc.rooms b ≡ Some rs → (learn_all given (actions given.outline.setting a sc.symbols) t).rooms b ≡ Some rs) → (b : ℕ) (rs : List Room) → more_rooms given a sc b ≡ Some rs → (learn_all given (actions given.outline.setting a sc.symbols) t).rooms b ≡ Some rs
   has_rooms (Alloc c f places) sc t has runs b rs e = at (b == c) e
     where
       at : (v : Bool) → (if v then Some (map (room sc.symbols) places) else sc.rooms b) ≡ Some rs → (if v then Some (map (room sc.symbols) places) else t.rooms b) ≡ Some rs
@@ -403,11 +405,11 @@ module _ (given : Given) where
   has_rooms _ sc t has runs b rs e = runs b rs e
 
   -- a statement that is no block leaves what it keeps
-  keeping : (a : Statement) (sc : Scope) (t : Memory Origin) → Fits sc.rooms sc.facts t → Runs sc.rooms [] (actions given.setting a sc.symbols) t → Runs sc.rooms (keep given a (actions given.setting a sc.symbols) sc.rooms sc.facts) (actions given.setting a sc.symbols) t
+  keeping : (a : Statement) (sc : Scope) (t : Memory Origin) → Fits sc.rooms sc.facts t → Runs sc.rooms [] (actions given.outline.setting a sc.symbols) t → Runs sc.rooms (keep given a (actions given.outline.setting a sc.symbols) sc.rooms sc.facts) (actions given.outline.setting a sc.symbols) t
   keeping a sc t fits h = record { fine = h.fine; has = h.has; hold = kept a sc.symbols t sc.rooms sc.facts fits.has h.fine fits.hold }
 
   mutual
-    pub sound : (a : Statement) (line : ℕ) (sc : Scope) (t : Memory Origin) → IsSound given a line sc → Fits sc.rooms sc.facts t → Runs sc.rooms (left given a line sc) (actions given.setting a sc.symbols) t
+    pub sound : (a : Statement) (line : ℕ) (sc : Scope) (t : Memory Origin) → IsSound given a line sc → Fits sc.rooms sc.facts t → Runs sc.rooms (left given a line sc) (actions given.outline.setting a sc.symbols) t
     sound (Seq all) line sc t h fits = sound_block all line sc t h fits
     sound (For i x kind body) line sc t h fits =
         keeping (For i x kind body) sc t fits (loop body i sc.rooms sc.facts (turn_symbols given sc.symbols i (largest sc.symbols x.lower)) _ _
@@ -417,9 +419,9 @@ module _ (given : Given) where
     sound (Let i pick ls) line sc t h fits =
         keeping (Let i pick ls) sc t fits (nothing sc.rooms t sc.facts fits)
     sound (First i a c) line sc t h fits =
-        keeping (First i a c) sc t fits (chosen (sc.symbols.first i) sc.rooms (actions given.setting a sc.symbols) (actions given.setting c sc.symbols) t (λ e. forget sc.rooms _ _ t (sound a (line + 1) sc t (h.0 e) fits)) (λ e. forget sc.rooms _ _ t (sound c (line + 2 + lines a) sc t (h.1 e) fits)))
+        keeping (First i a c) sc t fits (chosen (sc.symbols.first i) sc.rooms (actions given.outline.setting a sc.symbols) (actions given.outline.setting c sc.symbols) t (λ e. forget sc.rooms _ _ t (sound a (line + 1) sc t (h.0 e) fits)) (λ e. forget sc.rooms _ _ t (sound c (line + 2 + lines a) sc t (h.1 e) fits)))
     sound (Guard low high body) line sc t h fits =
-        keeping (Guard low high body) sc t fits (chosen (int_le (form_value low sc.symbols) (form_value high sc.symbols)) sc.rooms (actions given.setting body sc.symbols) [] t (λ e. forget sc.rooms _ _ t (sound body (line + 1) sc t (h e) fits)) (λ e. nothing sc.rooms t sc.facts fits))
+        keeping (Guard low high body) sc t fits (chosen (int_le (form_value low sc.symbols) (form_value high sc.symbols)) sc.rooms (actions given.outline.setting body sc.symbols) [] t (λ e. forget sc.rooms _ _ t (sound body (line + 1) sc t (h e) fits)) (λ e. nothing sc.rooms t sc.facts fits))
     sound (Alloc c f places) line sc t h fits =
         keeping (Alloc c f places) sc t fits (record { fine = (tt, tt); has = λ b rs e. at b rs e (b == c) refl; hold = tt })
       where
@@ -429,38 +431,38 @@ module _ (given : Given) where
     sound (Fetch c g region) line sc t h fits =
         keeping (Fetch c g region) sc t fits (let ps = points sc.symbols region in
         record {
-          fine = fine_takes t c (given.setting.group_function g) ps (λ p m. inside sc.rooms t c p (fits.has c) (h p m));
-          has = λ b rs e. rooms_takes t b c (given.setting.group_function g) ps ∙ fits.has b rs e;
+          fine = fine_takes t c (given.outline.setting.group_function g) ps (λ p m. inside sc.rooms t c p (fits.has c) (h p m));
+          has = λ b rs e. rooms_takes t b c (given.outline.setting.group_function g) ps ∙ fits.has b rs e;
           hold = tt;
         })
     sound (Store c k at e) line sc t h fits =
         keeping (Store c k at e) sc t fits (record {
-          fine = sound_store _ c (given.setting.buffer_function c) k _ _ _ e sc t h fits;
-          has = λ b rs q. store_rooms _ b c (given.setting.buffer_function c) k _ _ _ e t ∙ fits.has b rs q;
+          fine = sound_store _ c (given.outline.setting.buffer_function c) k _ _ _ e sc t h fits;
+          has = λ b rs q. store_rooms _ b c (given.outline.setting.buffer_function c) k _ _ _ e t ∙ fits.has b rs q;
           hold = tt;
         })
     sound (Publish c) line sc t h fits =
-        keeping (Publish c) sc t fits (let ps = given.setting.own sc.symbols in
+        keeping (Publish c) sc t fits (let ps = given.outline.setting.own sc.symbols in
         record {
           fine = fine_gives t c ps (λ p m. in_force t sc.facts c p _ fits.hold (h p m));
           has = λ b rs e. rooms_gives t b c ps ∙ fits.has b rs e;
           hold = tt;
         })
 
-    pub sound_block : (row : Statements) → (line : ℕ) (sc : Scope) (t : Memory Origin) → IsSoundBlock given row line sc → Fits sc.rooms sc.facts t → Runs sc.rooms (block_left given row line sc) (block_actions given.setting row sc.symbols) t
+    pub sound_block : (row : Statements) → (line : ℕ) (sc : Scope) (t : Memory Origin) → IsSoundBlock given row line sc → Fits sc.rooms sc.facts t → Runs sc.rooms (block_left given row line sc) (block_actions given.outline.setting row sc.symbols) t
     sound_block Empty line sc t h fits = record { fine = tt; has = fits.has; hold = fits.hold }
     sound_block (Then a rest) line sc t h fits =
         let first = sound a line sc t h.0 fits in
-        let todo = actions given.setting a sc.symbols in
+        let todo = actions given.outline.setting a sc.symbols in
         let u = learn_all given todo t in
         let next : Fits (onward given a line sc).rooms (onward given a line sc).facts u = record {
           has = has_rooms a sc t fits.has first.has;
-          hold = hold_append u (map (new_fact given sc.symbols) (given.named (line + lines a - 1))) (keep given a todo sc.rooms sc.facts)
-              (all_made (given.named (line + lines a - 1)) todo sc t fits first.fine h.1)
+          hold = hold_append u (map (new_fact given sc.symbols) (given.outline.named (line + lines a - 1))) (keep given a todo sc.rooms sc.facts)
+              (all_made (given.outline.named (line + lines a - 1)) todo sc t fits first.fine h.1)
               (kept a sc.symbols t sc.rooms sc.facts fits.has first.fine fits.hold);
         } in
         let later = sound_block rest (line + lines a) (onward given a line sc) u h.2 next in
-        both sc.rooms _ todo (block_actions given.setting rest (after a sc.symbols)) t first.fine (record {
+        both sc.rooms _ todo (block_actions given.outline.setting rest (after a sc.symbols)) t first.fine (record {
           fine = later.fine;
           has = λ b rs e. later.has b rs (grows a line sc h.0 b rs e);
           hold = later.hold;

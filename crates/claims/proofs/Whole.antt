@@ -12,5 +12,5 @@ pub whole : PrivateRunsAreRight
 whole around given body line s suits right h =
     let t : Memory Origin = nothing in
     let runs = sound given body line (at_start s) t h (record { has = λ b rs e. absurd (cc e); hold = tt }) in
-    steps around given suits (actions given.setting body s) nothing t runs.fine right
+    steps around given suits (actions given.outline.setting body s) nothing t runs.fine right
     (record { rooms = λ b. refl; held = λ b q o e. absurd (cc e); placed = λ b q o e. absurd (cc e) })

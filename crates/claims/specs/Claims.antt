@@ -139,13 +139,13 @@ EachTurn P next carried (z ∷ zs) = P z carried × EachTurn P next (next z carr
 
 module _ (given : Given) where
   abbrev pub buffer_of : Fact → ℕ
-  buffer_of h = (given.claim h.claim).buffer
+  buffer_of h = (given.outline.claim h.claim).buffer
 
   abbrev pub function_of : Fact → List ℕ
-  function_of h = (given.claim h.claim).function
+  function_of h = (given.outline.claim h.claim).function
 
   abbrev pub InFactRegion : Fact → List ℤ → Type 0
-  InFactRegion h p = InRegion h.symbols (given.claim h.claim).region p
+  InFactRegion h p = InRegion h.symbols (given.outline.claim h.claim).region p
 
   -- the steps done of a point of a buffer after an action
   abbrev pub status_one : ℕ → List ℤ → Action → Option ℕ → Option ℕ
@@ -171,7 +171,7 @@ module _ (given : Given) where
   SourceMayUse facts r Unknown p = ⊥
 
   abbrev pub MayUse : List Fact → Reader → List ℕ → List ℤ → Type 0
-  MayUse facts r name p = SourceMayUse facts r (given.source name) p
+  MayUse facts r name p = SourceMayUse facts r (given.outline.source name) p
 
   -- nothing, or the steps that some claim in force says are done of a point of the buffer
   abbrev pub Earlier : List Fact → ℕ → List ℕ → List ℤ → ℕ → Type 0
@@ -188,11 +188,11 @@ module _ (given : Given) where
 
   -- a claim whose buffer the statement only updates
   abbrev pub is_updated : Statement → Fact → Bool
-  is_updated a h = changes a (buffer_of h) && updates given.setting a (buffer_of h) (function_of h)
+  is_updated a h = changes a (buffer_of h) && updates given.outline.setting a (buffer_of h) (function_of h)
 
   -- a claim whose buffer the statement only fills and updates
   abbrev pub is_written : Statement → Fact → Bool
-  is_written a h = changes a (buffer_of h) && writes given.setting a (buffer_of h) (function_of h)
+  is_written a h = changes a (buffer_of h) && writes given.outline.setting a (buffer_of h) (function_of h)
 
   -- the same claim with the steps that actions do, where nothing else is written over it
   abbrev pub advanced : List Action → (ℕ → Option (List Room)) → Fact → Fact
@@ -208,19 +208,19 @@ module _ (given : Given) where
 
   -- what the actions do, after what is known before them, gives the claim's definition at every point of its region
   pub record IsMade (c : ℕ) (todo : List Action) (sc : Scope) : Type 0 where
-    pub has_room : IsSome (sc.rooms (given.claim c).buffer)
-    pub only : WritesOnly (given.claim c).buffer (given.claim c).function todo
-    pub clear : (p : List ℤ) → InRegion sc.symbols (given.claim c).region p → ClearOf (sc.rooms (given.claim c).buffer) p (written (given.claim c).buffer todo)
-    pub covers : (p : List ℤ) → InRegion sc.symbols (given.claim c).region p →
-        (st : Option ℕ) × Before sc.facts (given.claim c).buffer (given.claim c).function p st
-        × (status_after (given.claim c).buffer p todo st ≡ Some (given.steps (given.claim c).function (given.claim c).definition))
+    pub has_room : IsSome (sc.rooms (given.outline.claim c).buffer)
+    pub only : WritesOnly (given.outline.claim c).buffer (given.outline.claim c).function todo
+    pub clear : (p : List ℤ) → InRegion sc.symbols (given.outline.claim c).region p → ClearOf (sc.rooms (given.outline.claim c).buffer) p (written (given.outline.claim c).buffer todo)
+    pub covers : (p : List ℤ) → InRegion sc.symbols (given.outline.claim c).region p →
+        (st : Option ℕ) × Before sc.facts (given.outline.claim c).buffer (given.outline.claim c).function p st
+        × (status_after (given.outline.claim c).buffer p todo st ≡ Some (given.steps (given.outline.claim c).function (given.outline.claim c).definition))
 
   abbrev pub AreMade : List ℕ → List Action → Scope → Type 0
   AreMade [] todo sc = Unit {0}
   AreMade (c ∷ cs) todo sc = IsMade c todo sc × AreMade cs todo sc
 
   abbrev pub new_fact : Symbols → ℕ → Fact
-  new_fact s c = record { claim = c; symbols = s; done = λ p. Some (given.steps (given.claim c).function (given.claim c).definition) }
+  new_fact s c = record { claim = c; symbols = s; done = λ p. Some (given.steps (given.outline.claim c).function (given.outline.claim c).definition) }
 
   abbrev pub more_rooms : Statement → Scope → ℕ → Option (List Room)
   more_rooms (Alloc b f places) sc = λ c. if c == b then Some (map (room sc.symbols) places) else sc.rooms c
@@ -231,7 +231,7 @@ module _ (given : Given) where
   onward a line sc = record {
     symbols = after a sc.symbols;
     rooms = more_rooms a sc;
-    facts = map (new_fact sc.symbols) (given.named (line + lines a - 1)) ++ keep a (actions given.setting a sc.symbols) sc.rooms sc.facts;
+    facts = map (new_fact sc.symbols) (given.outline.named (line + lines a - 1)) ++ keep a (actions given.outline.setting a sc.symbols) sc.rooms sc.facts;
   }
 
   -- what is known at the end of a block
@@ -242,7 +242,7 @@ module _ (given : Given) where
   -- the same of any statement: one that is no block leaves what it keeps
   abbrev pub left : Statement → ℕ → Scope → List Fact
   left (Seq all) line sc = block_left all line sc
-  left a line sc = keep a (actions given.setting a sc.symbols) sc.rooms sc.facts
+  left a line sc = keep a (actions given.outline.setting a sc.symbols) sc.rooms sc.facts
 
   -- the symbols in a turn of a loop
   abbrev pub turn_symbols : Symbols → ℕ → ℤ → ℤ → Symbols
@@ -254,7 +254,7 @@ module _ (given : Given) where
 
   -- what a turn hands on to the next: the claims of the loop's windows, and those that the loop updates
   abbrev pub handed_on : ℕ → Statement → List Fact → List Fact
-  handed_on i body hs = choose_facts (λ h. given.windowed i h.claim || is_updated body h) hs
+  handed_on i body hs = choose_facts (λ h. given.outline.windowed i h.claim || is_updated body h) hs
 
   -- a store lies in its buffer and reads what claims in force say; a step of an update is one of its domain and comes where
   -- its turn is
@@ -283,10 +283,10 @@ module _ (given : Given) where
     IsSound (Guard low high body) line sc = int_le (form_value low sc.symbols) (form_value high sc.symbols) ≡ true → IsSound body (line + 1) sc
     IsSound (Alloc b f places) line sc = sc.rooms b ≡ None
     IsSound (Fetch b g region) line sc = (p : List ℤ) → In p (points sc.symbols region) → IsSome (place_in (sc.rooms b) p)
-    IsSound (Store b k at e) line sc = IsSoundAction (stored given.setting b k at e sc.symbols) sc
-    IsSound (Publish c) line sc = (p : List ℤ) → In p (given.setting.own sc.symbols) → InForce sc.facts c p (given.all_steps (given.claim c).function)
+    IsSound (Store b k at e) line sc = IsSoundAction (stored given.outline.setting b k at e sc.symbols) sc
+    IsSound (Publish c) line sc = (p : List ℤ) → In p (given.outline.setting.own sc.symbols) → InForce sc.facts c p (given.all_steps (given.outline.claim c).function)
 
     pub IsSoundBlock : Statements → ℕ → Scope → Type 0
     IsSoundBlock Empty line sc = Unit {0}
     IsSoundBlock (Then a rest) line sc =
-        IsSound a line sc × AreMade (given.named (line + lines a - 1)) (actions given.setting a sc.symbols) sc × IsSoundBlock rest (line + lines a) (onward a line sc)
+        IsSound a line sc × AreMade (given.outline.named (line + lines a - 1)) (actions given.outline.setting a sc.symbols) sc × IsSoundBlock rest (line + lines a) (onward a line sc)

@@ -17,19 +17,22 @@ pub record Origin : Type 0 where
   pub done : ℕ
   pub point : List ℤ
 
--- what the algorithm, the plan and the certificate give
-pub record Given : Type 0 where
-  -- what a group's lines refer to
+-- what the plan and the certificate give
+pub record Outline : Type 0 where
+  -- what a group's lines refer to, and what a name in a stored expression means
   pub setting : Setting
-  -- what a name in a stored expression means
   pub source : List ℕ → Source
-  -- the input's extents and samples
-  pub in_input : List ℤ → Bool
-  pub sample : List ℤ → Value
   -- the claims by number, the claims of the statement that ends at a line, and whether a window names a loop and a claim
   pub claim : ℕ → Claim
   pub named : ℕ → List ℕ
   pub windowed : ℕ → ℕ → Bool
+
+-- what the plan, the certificate and the algorithm give
+pub record Given : Type 0 where
+  pub outline : Outline
+  -- the input's extents, and what calls of the input and of all functions answer
+  pub in_input : List ℤ → Bool
+  pub calls : List ℕ → List ℤ → Value
   -- the steps of a function's updates up to a definition, counted from 0, and up to its last definition
   pub steps : List ℕ → ℕ → ℕ
   pub all_steps : List ℕ → ℕ
@@ -82,29 +85,34 @@ module _ (given : Given) where
 
   -- the steps done of what is read by a claim: all, but for an update's calls of its own function
   abbrev pub done_for : Reader → ℕ → ℕ
-  done_for Plain c = given.all_steps (given.claim c).function
-  done_for (Within f n) c = if same_name (given.claim c).function f then n else given.all_steps (given.claim c).function
+  done_for Plain c = given.all_steps (given.outline.claim c).function
+  done_for (Within f n) c = if same_name (given.outline.claim c).function f then n else given.all_steps (given.outline.claim c).function
 
   abbrev pub origin_for : Reader → ℕ → List ℤ → Origin
-  origin_for r c p = origin (given.claim c).function (done_for r c) p
+  origin_for r c p = origin (given.outline.claim c).function (done_for r c) p
+
+  -- what a call by name answers, where a function's calls of itself in its update find the step before
+  abbrev pub called : Reader → List ℕ → List ℤ → Value
+  called Plain name p = given.calls name p
+  called (Within f n) name p = elim (same_name f name) [ true ↦ given.value_at (origin f n p) | false ↦ given.calls name p ]
 
   -- the answer that a read has to find
-  abbrev pub source_answer : Reader → Source → List ℤ → Value
-  source_answer r Input p = given.sample p
-  source_answer r (ByClaim c) p = given.value_at (origin_for r c p)
-  source_answer r Unknown p = given.sample p
+  abbrev pub source_answer : Reader → Source → List ℕ → List ℤ → Value
+  source_answer r Input name p = given.calls name p
+  source_answer r (ByClaim c) name p = given.value_at (origin_for r c p)
+  source_answer r Unknown name p = called r name p
 
   abbrev pub answer : Reader → List ℕ → List ℤ → Value
-  answer r name p = source_answer r (given.source name) p
+  answer r name p = source_answer r (given.outline.source name) name p
 
   -- the input is read within its extents, and a claim's buffer is known to hold what is read
   abbrev pub SourceMayRead : Memory Origin → Reader → Source → List ℤ → Type 0
   SourceMayRead t r Input p = IsTrue (given.in_input p)
-  SourceMayRead t r (ByClaim c) p = read t (given.claim c).buffer p ≡ Some (origin_for r c p)
+  SourceMayRead t r (ByClaim c) p = read t (given.outline.claim c).buffer p ≡ Some (origin_for r c p)
   SourceMayRead t r Unknown p = ⊥
 
   abbrev pub MayRead : Memory Origin → Reader → List ℕ → List ℤ → Type 0
-  MayRead t r name p = SourceMayRead t r (given.source name) p
+  MayRead t r name p = SourceMayRead t r (given.outline.source name) p
 
   -- the point of an update's left side
   abbrev pub target_point : (List ℕ → ℤ) → List Target → Reader → List ℤ

@@ -7,16 +7,16 @@ use Rattle.nest.specs.Plan.{Statement}
 use Rattle.nest.specs.Symbols.{Symbols}
 use Rattle.actions.specs.Actions.{Action, Allot, Take, Put, Change, Give, actions}
 use Rattle.actions.specs.Memory.{Memory, nothing}
-use Rattle.actions.specs.Run.{Around, outcome}
+use Rattle.actions.specs.Run.{Around, Input, outcome}
 use Rattle.claims.specs.Origins.{Given, Plain, Within, matches, origin, origin_for, answer, left_point, right_variables}
 use Rattle.claims.specs.Claims.{Scope, IsSound}
 
 module _ (around : Around) (given : Given) where
   -- what is around the piece is what the algorithm and the certificate say
   pub record Suits : Type 0 where
-    pub sources : (name : List ℕ) → around.source name ≡ given.source name
-    pub buffers : (c : ℕ) → around.claim_buffer c ≡ (given.claim c).buffer
-    pub samples : (p : List ℤ) → IsTrue (given.in_input p) → around.sample p ≡ Some (given.sample p)
+    pub sources : (name : List ℕ) → around.source name ≡ given.outline.source name
+    pub buffers : (c : ℕ) → around.claim_buffer c ≡ (given.outline.claim c).buffer
+    pub samples : (name : List ℕ) (p : List ℤ) → given.outline.source name ≡ Input → IsTrue (given.in_input p) → around.sample p ≡ Some (given.calls name p)
 
   -- a fetched cell has its value; a stored expression is its function's value at its point; a step of an update gives the
   -- point of its left side the right side's value, and leaves every other point with the known coordinates as it was
@@ -52,5 +52,5 @@ right_outcome given (_ ∷ later) = right_outcome given later
 abbrev pub PrivateRunsAreRight : Type 0
 PrivateRunsAreRight =
     (around : Around) (given : Given) (body : Statement) (line : ℕ) (s : Symbols) →
-    Suits around given → AreRight around given (actions given.setting body s) → IsSound given body line (at_start s) →
-    outcome around (actions given.setting body s) nothing ≡ Some (right_outcome given (actions given.setting body s))
+    Suits around given → AreRight around given (actions given.outline.setting body s) → IsSound given body line (at_start s) →
+    outcome around (actions given.outline.setting body s) nothing ≡ Some (right_outcome given (actions given.outline.setting body s))

@@ -1,10 +1,35 @@
 //! What is proved of plans that are sound.
 
 ghost use Rattle.claims.specs.Right.{PrivateRunsAreRight};
+ghost use Rattle.claims.specs.Shown.{MeantIsSound, ShownIsSound};
+ghost use Rattle.claims.specs.Stored.{DefinitionsAreRight, GivenIsOfAlgorithm};
 
 /// The private run of a sound piece makes no fault, and each cell that it gives has the value of its
 /// function.
 pub fn private_runs_are_right()
     ensures { PrivateRunsAreRight }
-{
-}
+{}
+
+/// A store of a pure definition whose expression, with each load read as a call of its claim's
+/// function, is the definition with the calls of unstored functions put in, gives the algorithm's
+/// value.
+pub fn definitions_are_right()
+    ensures { DefinitionsAreRight }
+{}
+
+/// A piece of pure definitions whose obligations all hold, whatever the symbols stand for, is sound
+/// at every point of the grid.
+pub fn meant_is_sound()
+    ensures { MeantIsSound }
+{}
+
+/// A piece of pure definitions whose obligations are all shown is sound at every point of the grid.
+pub fn shown_is_sound()
+    ensures { ShownIsSound }
+{}
+
+/// What an algorithm gives to a plan is the algorithm's: a call of a function answers its value after
+/// all steps of its updates.
+pub fn given_is_of_algorithm()
+    ensures { GivenIsOfAlgorithm }
+{}

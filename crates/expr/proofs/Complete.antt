@@ -1,5 +1,5 @@
 -- What the grammar allows is read, unless it is too large.
-use Rattle.std.proofs.Common.{◌≡◌, ℕ, zero, suc, ◌+◌, ◌-◌, ◌≤◌, ◌<◌, max, List, [], ◌∷◌, ◌++◌, length, Some, None, Result, Ok, Err, refl, sym, ap, subst, ◌∙◌, ◌⊎◌, inl, inr, append_assoc, arith}
+use Rattle.std.proofs.Common.{◌≡◌, ℕ, zero, suc, ◌+◌, ◌-◌, ◌≤◌, ◌<◌, List, [], ◌∷◌, ◌++◌, Some, None, Result, Ok, Err, refl, sym, ap, subst, ◌∙◌, ◌⊎◌, inl, inr, append_assoc, arith}
 use Rattle.numeric.specs.declared.ty.Ty.{Ty}
 use Rattle.numeric.specs.declared.op.Op.{Op}
 use Rattle.numeric.specs.declared.op.Comparison.{Comparison}
@@ -10,17 +10,17 @@ use Rattle.token.specs.declared.token.Literal.{Literal}
 use Rattle.token.specs.declared.token.Token.{Token}
 use Rattle.token.specs.declared.token.Token.TheVariants as token
 use Rattle.token.specs.Cursor.{after}
-use Rattle.tree.specs.Term.{Term, Name, Call, Minus, Binary, Clamp, Cast, Choice, Terms, End, More as MoreTerms, Test, Compares, Fails, Both, Either, indices as index_terms}
-use Rattle.tree.specs.Tree.{node_count, cond_count, depth, test_depth}
+use Rattle.tree.specs.Term.{Term, Name, Call, Minus, Binary, Clamp, Cast, Choice, More as MoreTerms, Test, Compares, Fails, indices as index_terms}
+use Rattle.tree.specs.Tree.{node_count, depth}
 use Rattle.expr.specs.declared.measured.Joint.{Joint}
 use Rattle.expr.specs.declared.measured.Joint.TheVariants as joint
 use Rattle.expr.specs.declared.parser.Level.{Level}
 use Rattle.expr.specs.declared.parser.Level.TheVariants as level
 use Rattle.expr.specs.declared.error.Refusal.{Refusal}
 use Rattle.expr.specs.declared.error.Refusal.TheVariants.{TooLarge}
-use Rattle.expr.specs.Parsing.{◌>>=◌, Parse, Reader, literal, made, cond_made, expect, operator_at, comparison_at, joint_test, joined, chained, cast as cast_at, pair, clamp as clamp_at, select as select_at, indices, indices_step, named, negation, closed, unary, product, sum, compared, denied, combined, condition, within, expression}
+use Rattle.expr.specs.Parsing.{◌>>=◌, Parse, literal, made, cond_made, expect, operator_at, comparison_at, joint_test, joined, chained, cast as cast_at, pair, clamp as clamp_at, select as select_at, indices, indices_step, named, negation, closed, unary, product, sum, compared, denied, combined, condition, within, expression}
 use Rattle.expr.specs.Grammar.{AddSign, plus, minus, MulSign, times, over, modulo, Extreme, least, greatest, Sums, term, add, Products, factor, multiply, Signed, unsigned, negated, Primary, number, variable, call, group, cast, extreme, clamp, select, More, no_more, next, Condition, compare, deny, all, any, sign, add_symbol, mul_symbol, comparison_symbol, extreme_word, sums_then, products_then, signed_then, primary_then, more_then, condition_then, add_op, mul_op, extreme_op, sums_term, products_term, signed_term, primary_term, more_terms, condition_test, Fits, CondFits, Ends}
-use Rattle.expr.proofs.Limits.{answer_is, deep, cond_deep, take, cond_take, fitting, too_large, cond_too_large, part_made, cond_part_made, made_is, cond_made_is, AllFit, ListFits, call_fits}
+use Rattle.expr.proofs.Limits.{answer_is, deep, cond_deep, take, cond_take, fitting, too_large, cond_too_large, part_made, cond_part_made, made_is, cond_made_is, ListFits, call_fits}
 
 -- ---- what may follow
 

@@ -1,5 +1,5 @@
 -- A run of opening brackets is read as the brackets one within another.
-use Rattle.std.proofs.Common.{◌≡◌, ℕ, zero, suc, ◌+◌, Bool, true, false, cond, List, [], ◌∷◌, length, drop, map, Result, Ok, Err, refl, sym, ap, ◌∙◌, arith}
+use Rattle.std.proofs.Common.{◌≡◌, ℕ, zero, suc, ◌+◌, cond, List, [], ◌∷◌, length, drop, Result, Ok, Err, refl, sym, ap, ◌∙◌, arith}
 use Rattle.std.specs.List.{prefix_len}
 use Rattle.token.specs.declared.token.Symbol.TheVariants as symbol
 use Rattle.token.specs.declared.token.Token.{Token}
@@ -10,7 +10,7 @@ use Rattle.tree.specs.Term.{Term}
 use Rattle.expr.specs.declared.error.Refusal.{Refusal}
 use Rattle.expr.specs.declared.error.Stop.{Stop}
 use Rattle.expr.specs.declared.error.Stop.TheVariants as stop
-use Rattle.expr.specs.Parsing.{◌>>=◌, Parse, Reader, Stops, bare, closed, unary}
+use Rattle.expr.specs.Parsing.{◌>>=◌, Reader, Stops, bare, closed, unary}
 use Rattle.expr.specs.Brackets.{is_opening, all_closed}
 
 bind_assoc : {A B C : Type 0} (r : Result A Refusal) (f : A → Result B Refusal) (g : B → Result C Refusal) → ((r >>= f) >>= g) ≡ (r >>= λ x. f x >>= g)

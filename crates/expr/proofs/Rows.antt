@@ -5,7 +5,7 @@ use Rattle.tree.specs.Term.{Term, term_of, terms_of, list_terms, indices, More, 
 use Rattle.tree.specs.Tree.{node_count, node_counts, depth, depths}
 use Rattle.tree.specs.declared.expr.Cond.TheViews.{Call}
 use Rattle.tree.specs.declared.expr.Cond.TheBlock.{hidden-the_row-Expr-0}
-use Rattle.tree.specs.declared.expr.Expr.{Expr, Row_of-Expr, end_of-Expr, more_of-Expr, items-the_row-Expr, items_hidden-the_row-Expr-0}
+use Rattle.tree.specs.declared.expr.Expr.{Row_of-Expr, end_of-Expr, more_of-Expr, items-the_row-Expr, items_hidden-the_row-Expr-0}
 
 terms_of-row : (n : _) (k : Row_of-Expr n) → terms_of k ≡ indices (list_terms (items-the_row-Expr n k))
 terms_of-row n end_of-Expr = refl

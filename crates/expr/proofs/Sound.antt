@@ -1,5 +1,5 @@
 -- What is read is in the grammar.
-use Rattle.std.proofs.Common.{◌≡◌, ℕ, zero, suc, ◌+◌, ◌≤◌, Bool, true, false, cond, List, [], ◌∷◌, ◌++◌, length, Option, Some, None, Result, Ok, Err, refl, sym, ap, subst, ◌∙◌, ◌⊎◌, inl, inr, append_assoc, rules as search_rules, arith}
+use Rattle.std.proofs.Common.{◌≡◌, ℕ, zero, suc, Bool, true, false, cond, List, [], ◌∷◌, ◌++◌, length, Option, Some, None, Result, Ok, Err, refl, sym, ap, subst, ◌∙◌, ◌⊎◌, inl, inr, append_assoc, rules as search_rules}
 use denote.Enum.Bare.{same_true}
 use Rattle.numeric.specs.declared.ty.Ty.{Ty}
 use Rattle.numeric.specs.declared.op.Op.{Op}
@@ -13,14 +13,13 @@ use Rattle.token.specs.declared.token.Word.TheVariants as word
 use Rattle.token.specs.declared.token.Token.{Token}
 use Rattle.token.specs.declared.token.Token.TheVariants as token
 use Rattle.token.specs.Cursor.{after, same_symbol}
-use Rattle.tree.specs.Term.{Term, Name, Call, Minus, Binary, Clamp, Cast, Choice, Terms, End, More as MoreTerms, Test, Compares, Fails, Both, Either, indices as index_terms}
+use Rattle.tree.specs.Term.{Term, Name, Call, Minus, Binary, Clamp, Cast, Choice, Terms, More as MoreTerms, Test, Compares, Fails, indices as index_terms}
 use Rattle.expr.specs.declared.measured.Joint.{Joint}
 use Rattle.expr.specs.declared.measured.Joint.TheVariants as joint
 use Rattle.expr.specs.declared.parser.Level.TheVariants as level
 use Rattle.expr.specs.declared.error.Refusal.{Refusal}
-use Rattle.expr.specs.declared.error.Refusal.TheVariants.{TooLarge}
 use Rattle.expr.specs.Parsing.{◌>>=◌, Parse, Reader, literal, made, cond_made, or_refuse, expect, operator_at, comparison_at, joint_test, join_step, if_joined, joined, chained, cast as cast_at, pair, clamp as clamp_at, select as select_at, indices, indices_step, named, named_step, negation, bare, closed, unary, product, sum, compared, denied, combined, condition, within, expression}
-use Rattle.expr.specs.Grammar.{AddSign, plus, minus, MulSign, times, over, modulo, Extreme, least, greatest, Sums, term, add, Products, factor, multiply, Signed, unsigned, negated, Primary, number, variable, call, group, cast, extreme, clamp, select, More, no_more, next, Condition, compare, deny, all, any, sign, add_symbol, mul_symbol, comparison_symbol, extreme_word, sums_then, products_then, signed_then, primary_then, more_then, condition_then, add_op, mul_op, extreme_op, sums_term, products_term, signed_term, primary_term, more_terms, condition_test, Fits, StandsFor}
+use Rattle.expr.specs.Grammar.{AddSign, plus, minus, MulSign, times, over, modulo, Extreme, least, greatest, Sums, term, add, Products, factor, multiply, Signed, unsigned, negated, number, variable, call, group, cast, extreme, clamp, select, More, no_more, next, Condition, compare, deny, all, any, sign, add_symbol, mul_symbol, comparison_symbol, extreme_word, sums_then, products_then, signed_then, more_then, condition_then, add_op, mul_op, extreme_op, sums_term, products_term, signed_term, more_terms, condition_test, Fits, StandsFor}
 use Rattle.expr.proofs.Limits.{answered, answer_is, made_is, cond_made_is, part_made_ok, cond_part_made_ok}
 
 -- ---- inversions

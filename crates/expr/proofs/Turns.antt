@@ -1,5 +1,5 @@
 -- The parser's loops, turn by turn.
-use Rattle.std.proofs.Common.{◌≡◌, ℕ, suc, ◌+◌, ◌-◌, ◌≤◌, ◌<◌, List, [], ◌∷◌, ◌++◌, length, Some, None, Result, Ok, Err, refl, sym, ◌∙◌, arith}
+use Rattle.std.proofs.Common.{◌≡◌, ℕ, suc, ◌+◌, ◌-◌, ◌≤◌, ◌<◌, List, [], ◌∷◌, ◌++◌, Some, None, Result, Ok, Err, refl, sym, ◌∙◌, arith}
 use Rattle.numeric.specs.declared.op.Op.{Op}
 use Rattle.token.specs.declared.token.Token.{Token}
 use Rattle.token.specs.declared.token.Symbol.TheVariants as symbol

@@ -1,6 +1,6 @@
 -- The grammar of expressions. A value of these types is a way to put an expression's text together by the
 -- grammar's rules; it has its tokens and the term that it stands for.
-use Rattle.std.specs.Prelude.{◌≡◌, ℕ, ◌≤◌, List, [], ◌∷◌, None}
+use Rattle.std.specs.Prelude.{◌≡◌, ℕ, ◌≤◌, List, ◌∷◌, None}
 use Rattle.numeric.specs.declared.ty.Ty.{Ty}
 use Rattle.numeric.specs.declared.op.Op.{Op}
 use Rattle.numeric.specs.declared.op.Op.TheVariants as op

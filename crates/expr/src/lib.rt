@@ -11,5 +11,7 @@ pub use error::{ExprError, Refusal, Stop};
 pub use measured::MAX_NODES;
 pub use parser::{MAX_LEVELS, expression, whole};
 pub use reader::read_expr;
-pub use token::{self, Lexeme, Literal, MAX_NAME, Name, Span, Symbol, Token, TokenError, Word};
-pub use tree::{self, Cond, Expr};
+pub use token::{
+    self, Lexeme, Literal, MAX_NAME, Name, Span, Symbol, Token, TokenError, Word, tokens,
+};
+pub use tree::{self, Cond, Env, Expr, Names, TypeError, Value, copy, eval, ty_of};

@@ -1,13 +1,16 @@
 //! Copies of plans and their parts.
 
-ghost use Rattle.std.specs.Prelude.{◌≡◌, IfOk, map};
+ghost use Rattle.std.specs.Prelude.{◌≡◌, IfOk, map, string_bytes};
+ghost use Rattle.tree.specs.Term.{term_of};
 ghost use Rattle.nest.specs.Lists.{list_groups, list_statements};
+ghost use Rattle.nest.specs.Plan.{Alloc, Fetch, First, For, Guard, Let, Store};
 ghost use Rattle.nest.specs.View.{coordinate_of, declaration_of, group_of, index_of, plan_of, statement_of};
 
 use crate::plan::{Declaration, Group, Plan};
-use crate::stmt::{Coordinate, Index, Places, Stmt};
-use lin::{Forms, Region, Span1};
+use crate::stmt::{Coordinate, Index, Kind, Pick, Places, Stmt};
+use lin::{Forms, Lin, Region, Span1, Sym};
 use std::alloc::{AllocError, Global};
+use tree::Expr;
 
 /// The same forms, in memory of their own.
 pub fn copy_forms(alloc: Global, forms: &Forms) -> Result<Forms, AllocError>
@@ -86,7 +89,97 @@ fn copy_coordinates(
     Ok(copied)
 }
 
-/// The same statement, in memory of its own.
+fn copy_for(
+    alloc: Global,
+    symbol: Sym,
+    span: &Span1,
+    kind: Kind,
+    body: Box<Stmt>,
+) -> Result<Stmt, AllocError>
+    ensures { IfOk result (λ copied. statement_of copied ≡ For symbol span.now kind (statement_of body.value)) }
+{
+    Ok(Stmt::For {
+        symbol,
+        span: copy_span(alloc, span)?,
+        kind,
+        body,
+    })
+}
+
+fn copy_let(alloc: Global, symbol: Sym, pick: Pick, forms: &Forms) -> Result<Stmt, AllocError>
+    ensures { IfOk result (λ copied. statement_of copied ≡ Let symbol pick forms.now) }
+{
+    Ok(Stmt::Let {
+        symbol,
+        pick,
+        forms: copy_forms(alloc, forms)?,
+    })
+}
+
+fn first_of(symbol: Sym, first: Box<Stmt>, later: Box<Stmt>) -> Stmt
+    ensures { statement_of result ≡ First symbol (statement_of first.value) (statement_of later.value) }
+{
+    Stmt::First {
+        symbol,
+        first,
+        later,
+    }
+}
+
+fn copy_guard(alloc: Global, low: &Lin, high: &Lin, body: Box<Stmt>) -> Result<Stmt, AllocError>
+    ensures { IfOk result (λ copied. statement_of copied ≡ Guard low.now high.now (statement_of body.value)) }
+{
+    let low = low.copy(alloc)?;
+    let high = high.copy(alloc)?;
+    Ok(Stmt::Guard { low, high, body })
+}
+
+fn copy_alloc(
+    alloc: Global,
+    buffer: u32,
+    function: &String,
+    places: &[Places],
+) -> Result<Stmt, AllocError>
+    ensures { IfOk result (λ copied. statement_of copied ≡ Alloc buffer (string_bytes function.now) places.now) }
+{
+    let function = function.clone()?;
+    let places = copy_all_places(alloc, places)?;
+    Ok(Stmt::Alloc {
+        buffer,
+        function,
+        places,
+    })
+}
+
+fn copy_fetch(alloc: Global, buffer: u32, group: u32, region: &Region) -> Result<Stmt, AllocError>
+    ensures { IfOk result (λ copied. statement_of copied ≡ Fetch buffer group region.now) }
+{
+    Ok(Stmt::Fetch {
+        buffer,
+        group,
+        region: copy_region(alloc, region)?,
+    })
+}
+
+fn copy_store(
+    alloc: Global,
+    buffer: u32,
+    definition: u32,
+    coordinates: &[Coordinate],
+    value: &Expr,
+) -> Result<Stmt, AllocError>
+    ensures { IfOk result (λ copied. statement_of copied ≡ Store buffer definition (map coordinate_of coordinates.now) (term_of value.now)) }
+{
+    let coordinates = copy_coordinates(alloc, coordinates)?;
+    let value = tree::copy(alloc, value)?;
+    Ok(Stmt::Store {
+        buffer,
+        definition,
+        coordinates,
+        value,
+    })
+}
+
 /// The same statement, in memory of its own.
 #[cycle(copying)]
 pub fn copy_stmt(alloc: Global, stmt: &Stmt) -> Result<Stmt, AllocError>
@@ -99,81 +192,37 @@ pub fn copy_stmt(alloc: Global, stmt: &Stmt) -> Result<Stmt, AllocError>
             span,
             kind,
             body,
-        } => {
-            let span = copy_span(alloc, span)?;
-            let body = copy_boxed(alloc, body)?;
-            Ok(Stmt::For {
-                symbol: *symbol,
-                span,
-                kind: *kind,
-                body,
-            })
-        }
+        } => copy_for(alloc, *symbol, span, *kind, copy_boxed(alloc, body)?),
         Stmt::Let {
             symbol,
             pick,
             forms,
-        } => Ok(Stmt::Let {
-            symbol: *symbol,
-            pick: *pick,
-            forms: copy_forms(alloc, forms)?,
-        }),
+        } => copy_let(alloc, *symbol, *pick, forms),
         Stmt::First {
             symbol,
             first,
             later,
         } => {
             let first = copy_boxed(alloc, first)?;
-            let later = copy_boxed(alloc, later)?;
-            Ok(Stmt::First {
-                symbol: *symbol,
-                first,
-                later,
-            })
+            Ok(first_of(*symbol, first, copy_boxed(alloc, later)?))
         }
-        Stmt::Guard { low, high, body } => {
-            let low = low.copy(alloc)?;
-            let high = high.copy(alloc)?;
-            let body = copy_boxed(alloc, body)?;
-            Ok(Stmt::Guard { low, high, body })
-        }
+        Stmt::Guard { low, high, body } => copy_guard(alloc, low, high, copy_boxed(alloc, body)?),
         Stmt::Alloc {
             buffer,
             function,
             places,
-        } => {
-            let function = function.clone()?;
-            let places = copy_all_places(alloc, places)?;
-            Ok(Stmt::Alloc {
-                buffer: *buffer,
-                function,
-                places,
-            })
-        }
+        } => copy_alloc(alloc, *buffer, function, places),
         Stmt::Fetch {
             buffer,
             group,
             region,
-        } => Ok(Stmt::Fetch {
-            buffer: *buffer,
-            group: *group,
-            region: copy_region(alloc, region)?,
-        }),
+        } => copy_fetch(alloc, *buffer, *group, region),
         Stmt::Store {
             buffer,
             definition,
             coordinates,
             value,
-        } => {
-            let coordinates = copy_coordinates(alloc, coordinates)?;
-            let value = tree::copy(alloc, value)?;
-            Ok(Stmt::Store {
-                buffer: *buffer,
-                definition: *definition,
-                coordinates,
-                value,
-            })
-        }
+        } => copy_store(alloc, *buffer, *definition, coordinates, value),
         Stmt::Publish { claim } => Ok(Stmt::Publish { claim: *claim }),
     }
 }

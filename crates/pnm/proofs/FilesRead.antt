@@ -17,30 +17,30 @@ use Rattle.pnm.specs.Reading.{step, onward, taken, closed, item, form_of, after_
 use Rattle.pnm.specs.Grammar.{Each, IsNumber, Items, none, space, comment, raw_bytes, UpTo, PlainRaster, last, more, IsRaster, second_byte, IsFile}
 
 -- a byte that passes one test fails another
-no_digit : (b : ℕ) → is_space b ≡ true → is_digit b ≡ false
+pub no_digit : (b : ℕ) → is_space b ≡ true → is_digit b ≡ false
 no_digit b h = grind (arith, nat_tests)
 
-no_space : (b : ℕ) → is_digit b ≡ true → is_space b ≡ false
+pub no_space : (b : ℕ) → is_digit b ≡ true → is_space b ≡ false
 no_space b h = grind (arith, nat_tests)
 
-digit_below : (b : ℕ) → is_digit b ≡ true → b - 48 < 10
+pub digit_below : (b : ℕ) → is_digit b ≡ true → b - 48 < 10
 digit_below b h = grind (arith, nat_tests)
 
 -- the walk from a state on
-abbrev onto : Wanted → State → List ℕ → List ℕ → Walk
+abbrev pub onto : Wanted → State → List ℕ → List ℕ → Walk
 onto w s samples bytes = fold (onward w) (Going s samples) bytes
 
 -- the state that a step leads to
-steps_on : (w : Wanted) (s t : State) (samples : List ℕ) (b : ℕ) (rest : List ℕ) → step w s b ≡ Next t → onto w s samples (b ∷ rest) ≡ onto w t samples rest
+pub steps_on : (w : Wanted) (s t : State) (samples : List ℕ) (b : ℕ) (rest : List ℕ) → step w s b ≡ Next t → onto w s samples (b ∷ rest) ≡ onto w t samples rest
 steps_on w s t samples b rest h = ap (λ r. fold (onward w) (taken r samples) rest) h
 
-gives_on : (w : Wanted) (s t : State) (samples : List ℕ) (n b : ℕ) (rest : List ℕ) → step w s b ≡ Sample n t → onto w s samples (b ∷ rest) ≡ onto w t (samples ++ n ∷ []) rest
+pub gives_on : (w : Wanted) (s t : State) (samples : List ℕ) (n b : ℕ) (rest : List ℕ) → step w s b ≡ Sample n t → onto w s samples (b ∷ rest) ≡ onto w t (samples ++ n ∷ []) rest
 gives_on w s t samples n b rest h = ap (λ r. fold (onward w) (taken r samples) rest) h
 
 item_of_space : (form : Form) (field : Field) (b : ℕ) → is_space b ≡ true → item form field b ≡ Next (Gap form field)
 item_of_space form field b h = rw h refl
 
-gap_item : (w : Wanted) (form : Form) (field : Field) (b : ℕ) → is_digit b ≡ false → step w (Gap form field) b ≡ item form field b
+pub gap_item : (w : Wanted) (form : Form) (field : Field) (b : ℕ) → is_digit b ≡ false → step w (Gap form field) b ≡ item form field b
 gap_item w form field b h = rw h refl
 
 -- the text of a comment, and the byte that ends it
@@ -83,10 +83,10 @@ gap_read w s form field samples first (comment text b tail h e r) some rest =
     ∙ (comment_item w form field samples text b tail rest h e ∙ items_read w form field samples r rest)
 
 -- numbers of a header are kept up to a bound
-abbrev kept : ℕ → ℕ
+abbrev pub kept : ℕ → ℕ
 kept n = min n (2 ^ 32 - 1)
 
-grown_kept : (n b : ℕ) → grown (kept n) b ≡ kept (n * 10 + (b - 48))
+pub grown_kept : (n b : ℕ) → grown (kept n) b ≡ kept (n * 10 + (b - 48))
 grown_kept n b = omega arith
 
 digits_read : (w : Wanted) (form : Form) (field : Field) (samples digits : List ℕ) (n : ℕ) (rest : List ℕ) → Each is_digit digits
@@ -222,10 +222,10 @@ letter_read true Plain = refl
 letter_read false Raw = refl
 letter_read false Plain = refl
 
-number_item : (w : Wanted) (form : Form) (n b : ℕ) → is_digit b ≡ false → step w (Number form Width n) b ≡ item form (Height n) b
+pub number_item : (w : Wanted) (form : Form) (n b : ℕ) → is_digit b ≡ false → step w (Number form Width n) b ≡ item form (Height n) b
 number_item w form n b h = rw h refl
 
-height_item : (w : Wanted) (form : Form) (width n b : ℕ) → is_digit b ≡ false → step w (Number form (Height width) n) b ≡ item form (Max width n) b
+pub height_item : (w : Wanted) (form : Form) (width n b : ℕ) → is_digit b ≡ false → step w (Number form (Height width) n) b ≡ item form (Max width n) b
 height_item w form width n b h = rw h refl
 
 max_end : (w : Wanted) (form : Form) (n b : ℕ) → is_space b ≡ true → 1 ≤ n → n ≤ 65535 → n ≤ w.max_sample → step w (Number form (Max w.width w.height) n) b ≡ Next (raster form n w.count)

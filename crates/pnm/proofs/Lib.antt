@@ -1,5 +1,7 @@
 pub mod ByteByByte
 pub mod Faults
+pub mod FilesFound
 pub mod FilesRead
+pub mod RastersFound
 pub mod Sending
 pub mod Written

@@ -19,11 +19,11 @@ use Rattle.pnm.specs.Text.{magic, numbers, sample_bytes, text_of}
 use Rattle.pnm.specs.Laws.{FilesAreRead, TextsAreFiles, WrittenIsRead}
 use Rattle.pnm.proofs.FilesRead.{file_read}
 
-Each-append : (p : ℕ → Bool) (xs ys : List ℕ) → Each p xs → Each p ys → Each p (xs ++ ys)
+pub Each-append : (p : ℕ → Bool) (xs ys : List ℕ) → Each p xs → Each p ys → Each p (xs ++ ys)
 Each-append p [] ys h g = g
 Each-append p (x ∷ xs) ys h g = (h.0, Each-append p xs ys h.1 g)
 
-length_one_more : (xs : List ℕ) (x : ℕ) → 0 < length (xs ++ x ∷ [])
+pub length_one_more : (xs : List ℕ) (x : ℕ) → 0 < length (xs ++ x ∷ [])
 length_one_more [] x = omega arith
 length_one_more (y ∷ xs) x = omega arith
 
@@ -89,7 +89,7 @@ pub record Bounds (extents : List ℕ) : Type 0 where
   pub width : width_of extents ≤ 8192
   pub height : height_of extents ≤ 8192
 
-bounds : (extents : List ℕ) → AreExtents extents → Bounds extents
+pub bounds : (extents : List ℕ) → AreExtents extents → Bounds extents
 bounds [] h = absurd h
 bounds (w ∷ []) h = record { count = omega (arith, h.0); width = h.1; height = omega arith }
 bounds (w ∷ v ∷ []) h = record { count = some_product w (v * 1) h.0.0 (some_product v 1 h.1.0 (omega arith)); width = h.0.1; height = h.1.1 }

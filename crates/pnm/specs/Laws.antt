@@ -1,7 +1,7 @@
 -- The laws of reading and writing, each of them the contract of a function.
-use Rattle.std.specs.Prelude.{◌≡◌, ℕ, List, Ok}
+use Rattle.std.specs.Prelude.{◌≡◌, ℕ, List, Ok, nat_lt}
 use Rattle.image.specs.View.{Frame, Picture, IsShape, HasShape}
-use Rattle.pnm.specs.Grammar.{IsFile}
+use Rattle.pnm.specs.Grammar.{Each, IsFile}
 use Rattle.pnm.specs.Reading.{reading, wanted_of}
 use Rattle.pnm.specs.Text.{text_of}
 
@@ -16,3 +16,7 @@ TextsAreFiles = (f : Frame) (p : Picture) → IsShape f → HasShape f p → IsF
 -- what was written is read as the image
 abbrev pub WrittenIsRead : Type 0
 WrittenIsRead = (f : Frame) (p : Picture) → IsShape f → HasShape f p → reading (wanted_of f) (text_of p) ≡ Ok p.samples
+
+-- what is read is a file of the grammar
+abbrev pub ReadFilesAreFiles : Type 0
+ReadFilesAreFiles = (f : Frame) (bytes samples : List ℕ) → IsShape f → Each (λ b. nat_lt b 256) bytes → reading (wanted_of f) bytes ≡ Ok samples → IsFile (wanted_of f) bytes samples

@@ -1,4 +1,3 @@
-use Rattle.std.proofs.Common.{refl}
 use Rattle.expr.proofs.Complete.{expression_reads}
 use Rattle.expr.proofs.laws.grammar_is_read.Goals as goal
 

@@ -1,9 +1,8 @@
-use Rattle.std.proofs.Common.{◌≡◌, ◌+◌, ◌-◌, ◌++◌, List, Err, ℕ, ◌∷◌, [], suc, length, length-append, refl, sym, ap, ◌∙◌, rules, arith}
-use Rattle.std.proofs.lemmas.Grind.{common_steps}
+use Rattle.std.proofs.Common.{◌≡◌, ◌+◌, ◌-◌, ◌++◌, List, Err, ◌∷◌, [], suc, length, length-append, refl, sym, ap, ◌∙◌, arith}
 use Rattle.std.proofs.lemmas.Result.{err_from_is_err_and}
 use Rattle.token.specs.Cursor.{kinds}
 use Rattle.tree.specs.Term.{term_of, list_terms}
-use Rattle.expr.specs.Parsing.{part, operand_level, within, chained, product, sum}
+use Rattle.expr.specs.Parsing.{part, operand_level, within, chained}
 use Rattle.expr.proofs.Turns.{join_ends, join_stops, join_too_large, join_goes_on, join_is_done, join_has_more, index_stops, bracket_stops, bracket_ends, index_goes_on, too_many, bracket_refused, bracket_closed, all_are_closed}
 use Rattle.expr.proofs.Openings.{unary_read, unary_stops}
 use Rattle.token.specs.declared.token.Token.{Token}

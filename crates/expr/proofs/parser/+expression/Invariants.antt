@@ -1,4 +1,4 @@
-use Rattle.std.proofs.Common.{◌≡◌, ◌-◌, ◌+◌, [], length}
+use Rattle.std.proofs.Common.{◌≡◌, ◌-◌, [], length}
 use Rattle.token.specs.Cursor.{kinds}
 use Rattle.tree.specs.Term.{term_of, list_terms}
 use Rattle.expr.specs.Parsing.{joined, part, operand_level, within, indices}

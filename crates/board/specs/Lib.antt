@@ -1,0 +1,6 @@
+pub mod Layout
+pub mod Words
+pub mod Views
+pub mod Rule
+pub mod Steps
+pub mod Seats

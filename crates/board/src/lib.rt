@@ -1,0 +1,18 @@
+//! Cells that the workers of one run share: which pieces are drawn, which are finished, and the value of each cell.
+//!
+//! The words of one table are a draw counter, a flag a piece and a word a cell. A worker has a seat, which carries what
+//! the worker knows. No call waits, and none but `open` takes memory.
+#![tactic(auto)]
+
+mod board;
+mod law;
+mod rows;
+mod seat;
+mod source;
+mod view;
+
+pub use board::{Board, SeatError, Unfinished};
+pub use law::{Law, Run};
+pub use seat::{BoardSeat, Ticket};
+pub use source::Source;
+pub use view::View;
