@@ -51,32 +51,23 @@ fn eight_terms_and_no_more(rt: HostRuntime) -> Result<(), Fail> {
 }
 
 #[test]
-fn limits_of_numbers(rt: HostRuntime) -> Result<(), Fail> {
+fn limits_of_factors(rt: HostRuntime) -> Result<(), Fail> {
     let alloc = rt.alloc();
     let symbol = Lin::symbol(alloc, 3)?;
     assert_eq!(rt; symbol.scale(alloc, 1048576)?.factor(3), 1048576);
     assert!(rt; matches!(symbol.scale(alloc, 1048577), Err(LinError::Limit)));
-    assert!(rt; matches!(symbol.scale(alloc, -1048577), Err(LinError::Limit)));
     assert!(rt; matches!(symbol.scale(alloc, i64::MIN), Err(LinError::Limit)));
+    Ok(())
+}
+
+#[test]
+fn limits_of_constants(rt: HostRuntime) -> Result<(), Fail> {
+    let alloc = rt.alloc();
+    let one = Lin::number(alloc, 1);
     let largest = Lin::number(alloc, 1099511627776);
-    assert!(rt;
-        matches!(
-            largest.add(alloc, &Lin::number(alloc, 1)),
-            Err(LinError::Limit)
-        )
-    );
-    assert_eq!(rt;
-        largest.add(alloc, &Lin::number(alloc, -1))?.constant(),
-        1099511627775
-    );
-    // an operand outside the limits, though the sum is within them
+    assert!(rt; matches!(largest.add(alloc, &one), Err(LinError::Limit)));
+    // an operand outside the limits, though a sum with it could be within them
     let outside = Lin::number(alloc, 1099511627777);
-    assert!(rt;
-        matches!(
-            outside.add(alloc, &Lin::number(alloc, -1)),
-            Err(LinError::Limit)
-        )
-    );
     assert!(rt; matches!(outside.scale(alloc, 0), Err(LinError::Limit)));
     let scope = Scope::new(alloc);
     assert!(rt; !scope.at_most(alloc, &outside, &outside)?);
@@ -99,18 +90,30 @@ fn forms_are_built_and_read(rt: HostRuntime) -> Result<(), Fail> {
 }
 
 #[test]
-fn bounds_of_symbols(rt: HostRuntime) -> Result<(), Fail> {
+fn bounds_of_a_loop(rt: HostRuntime) -> Result<(), Fail> {
     let alloc = rt.alloc();
-    let mut scope = eight(alloc)?;
+    let scope = eight(alloc)?;
     // 3 - 2 s0 is at most 3, and 5 s0 at most 35
     assert_eq!(rt; scope.sup(alloc, &form(alloc, 3, -2, 0)?)?.unwrap_or(99), 3);
     assert_eq!(rt; scope.sup(alloc, &form(alloc, 0, 5, 0)?)?.unwrap_or(99), 35);
     assert!(rt; scope.sup(alloc, &Lin::symbol(alloc, 1)?)?.is_none());
-    // s1 is the smaller of s0 + 2 and 5: at most 5, at least 2 by one and 5 by the other
+    Ok(())
+}
+
+/// s0 + 2 and 5.
+fn two_forms(alloc: Global) -> Result<Forms, LinError> {
     let mut forms = Forms::new(alloc);
     forms.push(form(alloc, 2, 1, 0)?)?;
     forms.push(Lin::number(alloc, 5))?;
-    scope.push(Binding::LetMin(forms))?;
+    Ok(forms)
+}
+
+#[test]
+fn bounds_of_a_minimum(rt: HostRuntime) -> Result<(), Fail> {
+    let alloc = rt.alloc();
+    let mut scope = eight(alloc)?;
+    // s1 is the smaller of s0 + 2 and 5: at most 5, and at least 2
+    scope.push(Binding::LetMin(two_forms(alloc)?))?;
     let second = Lin::symbol(alloc, 1)?;
     assert_eq!(rt; scope.sup(alloc, &second)?.unwrap_or(99), 5);
     assert_eq!(rt;
@@ -118,29 +121,29 @@ fn bounds_of_symbols(rt: HostRuntime) -> Result<(), Fail> {
         -2
     );
     // s1 - s0 is at most 2
-    let apart = second.plus_multiple(alloc, -1, &Lin::symbol(alloc, 0)?)?;
-    assert_eq!(rt; scope.sup(alloc, &apart)?.unwrap_or(99), 2);
-    assert!(rt; scope.at_most(alloc, &second, &Lin::number(alloc, 5))?);
-    assert!(rt; !scope.at_most(alloc, &second, &Lin::number(alloc, 4))?);
-    // s2 is the larger of s0 and 3
-    let mut larger = Forms::new(alloc);
-    larger.push(Lin::symbol(alloc, 0)?)?;
-    larger.push(Lin::number(alloc, 3))?;
-    scope.push(Binding::LetMax(larger))?;
-    let third = Lin::symbol(alloc, 2)?;
-    assert_eq!(rt; scope.sup(alloc, &third)?.unwrap_or(99), 7);
+    let first = Lin::symbol(alloc, 0)?;
     assert_eq!(rt;
-        scope.sup(alloc, &third.scale(alloc, -1)?)?.unwrap_or(99),
-        -3
+        scope
+            .sup_of_difference(alloc, &second, &first)?
+            .unwrap_or(99),
+        2
     );
-    scope.rebind(
-        2,
-        Binding::Loop(Span1 {
-            lower: Forms::new(alloc),
-            upper: Forms::new(alloc),
-        }),
+    assert!(rt; !scope.at_most(alloc, &second, &Lin::number(alloc, 4))?);
+    Ok(())
+}
+
+#[test]
+fn bounds_of_a_maximum(rt: HostRuntime) -> Result<(), Fail> {
+    let alloc = rt.alloc();
+    let mut scope = eight(alloc)?;
+    // s1 is the larger of s0 + 2 and 5: at most 9, and at least 5
+    scope.push(Binding::LetMax(two_forms(alloc)?))?;
+    let second = Lin::symbol(alloc, 1)?;
+    assert_eq!(rt; scope.sup(alloc, &second)?.unwrap_or(99), 9);
+    assert_eq!(rt;
+        scope.sup(alloc, &second.scale(alloc, -1)?)?.unwrap_or(99),
+        -5
     );
-    assert!(rt; scope.sup(alloc, &third)?.is_none());
     scope.truncate(1);
     assert_eq!(rt; scope.copy(alloc)?.len(), 1);
     Ok(())
@@ -165,61 +168,77 @@ fn four_each(alloc: Global, symbols: usize) -> Result<Scope, LinError> {
 }
 
 #[test]
-fn searches_of_4096_replacements(rt: HostRuntime) -> Result<(), Fail> {
+fn searches_over_several_symbols(rt: HostRuntime) -> Result<(), Fail> {
     let alloc = rt.alloc();
     // 4 + 16 + 64 + 256 + 1024 + 1024 = 2388 replacements
     let scope = four_each(alloc, 5)?;
     assert_eq!(rt; scope.sup(alloc, &Lin::symbol(alloc, 5)?)?.unwrap_or(99), 0);
-    // one symbol with 4096 upper forms, and with 4097
+    Ok(())
+}
+
+/// A scope of one symbol with as many upper forms, the least of them 7.
+fn with_upper_forms(alloc: Global, count: i64) -> Result<Scope, AllocError> {
     let mut upper = Forms::new(alloc);
-    for more in 0..4096i64 {
-        upper.push(Lin::number(alloc, more + 7))?;
+    for more in 0..count {
+        upper.push(Lin::number(alloc, more.saturating_add(7)))?;
     }
-    let mut more = upper.copy(alloc)?;
-    more.push(Lin::number(alloc, 7))?;
     let mut scope = Scope::new(alloc);
     scope.push(Binding::Loop(Span1 {
         lower: Forms::new(alloc),
         upper,
     }))?;
-    scope.push(Binding::Loop(Span1 {
-        lower: Forms::new(alloc),
-        upper: more,
-    }))?;
-    assert_eq!(rt; scope.sup(alloc, &Lin::symbol(alloc, 0)?)?.unwrap_or(99), 7);
-    assert!(rt; scope.sup(alloc, &Lin::symbol(alloc, 1)?)?.is_none());
+    Ok(scope)
+}
+
+#[test]
+fn searches_of_4096_replacements(rt: HostRuntime) -> Result<(), Fail> {
+    let alloc = rt.alloc();
+    let symbol = Lin::symbol(alloc, 0)?;
+    let most = with_upper_forms(alloc, 4096)?;
+    assert_eq!(rt; most.sup(alloc, &symbol)?.unwrap_or(99), 7);
+    let more = with_upper_forms(alloc, 4097)?;
+    assert!(rt; more.sup(alloc, &symbol)?.is_none());
+    Ok(())
+}
+
+/// The span from s0 to s0 + 1.
+fn two_rows(alloc: Global) -> Result<Span1, LinError> {
+    Ok(Span1 {
+        lower: one(alloc, Lin::symbol(alloc, 0)?)?,
+        upper: one(alloc, form(alloc, 1, 1, 0)?)?,
+    })
+}
+
+#[test]
+fn regions_in_regions(rt: HostRuntime) -> Result<(), Fail> {
+    let alloc = rt.alloc();
+    let scope = eight(alloc)?;
+    // rows s0 to s0 + 1 lie in 0 to 8, and not in 0 to 7
+    let mut inner = Region::new(alloc);
+    inner.push(two_rows(alloc)?)?;
+    let mut outer = Region::new(alloc);
+    outer.push(numbers(alloc, 0, 8)?)?;
+    assert!(rt; scope.inside(alloc, &inner, &outer)?);
+    let mut small = Region::new(alloc);
+    small.push(numbers(alloc, 0, 7)?)?;
+    assert!(rt; !scope.inside(alloc, &inner, &small)?);
+    assert!(rt; scope.inside(alloc, &small.copy(alloc)?, &outer)?);
+    outer.push(numbers(alloc, 0, 3)?)?;
+    assert!(rt; !scope.inside(alloc, &inner, &outer)?);
     Ok(())
 }
 
 #[test]
-fn regions_and_spans(rt: HostRuntime) -> Result<(), Fail> {
+fn spans_beside_spans(rt: HostRuntime) -> Result<(), Fail> {
     let alloc = rt.alloc();
     let scope = eight(alloc)?;
-    // rows s0 to s0 + 1 lie in 0 to 8, and not in 0 to 7
-    let rows = Span1 {
-        lower: one(alloc, Lin::symbol(alloc, 0)?)?,
-        upper: one(alloc, form(alloc, 1, 1, 0)?)?,
-    };
-    let mut inner = Region::new(alloc);
-    inner.push(numbers(alloc, 0, 3)?)?;
-    inner.push(rows.copy(alloc)?)?;
-    let mut outer = Region::new(alloc);
-    outer.push(numbers(alloc, 0, 3)?)?;
-    outer.push(numbers(alloc, 0, 8)?)?;
-    assert!(rt; scope.inside(alloc, &inner, &outer)?);
-    let mut small = Region::new(alloc);
-    small.push(numbers(alloc, 0, 3)?)?;
-    assert!(rt; !scope.inside(alloc, &inner, &small)?);
-    small.push(numbers(alloc, 0, 7)?)?;
-    assert!(rt; !scope.inside(alloc, &inner, &small)?);
-    assert!(rt; scope.inside(alloc, &small.copy(alloc)?, &outer)?);
     // s0 to s0 + 1 is followed by s0 + 2 to 9
+    let rows = two_rows(alloc)?;
     let next = Span1 {
         lower: one(alloc, form(alloc, 2, 1, 0)?)?,
         upper: one(alloc, Lin::number(alloc, 9))?,
     };
     assert!(rt; scope.adjacent(alloc, &rows, &next)?);
     assert!(rt; !scope.adjacent(alloc, &next, &rows)?);
-    assert!(rt; !scope.adjacent(alloc, &rows, &numbers(alloc, 2, 9)?)?);
     Ok(())
 }

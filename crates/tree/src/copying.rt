@@ -1,11 +1,13 @@
 //! A copy of an expression.
 
-ghost use Rattle.std.specs.Prelude.{◌≡◌, IfOk};
-ghost use Rattle.tree.specs.Term.{term_of, test_of, list_terms};
+ghost use Rattle.std.specs.Prelude.{◌≡◌, [], ◌∷◌, ◌++◌, IfOk};
+ghost use Rattle.tree.specs.Term.{term_of, test_of, list_terms, Number, Minus, Binary, Clamp, Cast};
 ghost use Rattle.tree.specs.Place.{spans_of, spans_of_test, list_spans};
 
 use crate::expr::{Cond, Expr};
+use numeric::{Op, Ty};
 use std::alloc::{AllocError, Global};
+use token::Span;
 
 /// An equal expression, with the same places, in memory of its own.
 #[cycle(copy)]
@@ -14,11 +16,7 @@ pub fn copy(alloc: Global, expr: &Expr) -> Result<Expr, AllocError>
     ensures spans { IfOk result (λ e. spans_of e ≡ spans_of expr.now) }
 {
     match expr {
-        Expr::Literal { ty, number, span } => Ok(Expr::Literal {
-            ty: *ty,
-            number: *number,
-            span: *span,
-        }),
+        Expr::Literal { ty, number, span } => Ok(literal(*ty, *number, *span)),
         Expr::Variable { name, span } => Ok(Expr::Variable {
             name: name.clone()?,
             span: *span,
@@ -28,37 +26,27 @@ pub fn copy(alloc: Global, expr: &Expr) -> Result<Expr, AllocError>
             at: copy_all(alloc, at)?,
             span: *span,
         }),
-        Expr::Negate { value, span } => Ok(Expr::Negate {
-            value: copy_boxed(alloc, value)?,
-            span: *span,
-        }),
+        Expr::Negate { value, span } => Ok(negate(copy_boxed(alloc, value)?, *span)),
         Expr::Binary {
             op,
             left,
             right,
             span,
-        } => Ok(Expr::Binary {
-            op: *op,
-            left: copy_boxed(alloc, left)?,
-            right: copy_boxed(alloc, right)?,
-            span: *span,
-        }),
+        } => {
+            let left = copy_boxed(alloc, left)?;
+            Ok(binary(*op, left, copy_boxed(alloc, right)?, *span))
+        }
         Expr::Clamp {
             value,
             low,
             high,
             span,
-        } => Ok(Expr::Clamp {
-            value: copy_boxed(alloc, value)?,
-            low: copy_boxed(alloc, low)?,
-            high: copy_boxed(alloc, high)?,
-            span: *span,
-        }),
-        Expr::Cast { ty, value, span } => Ok(Expr::Cast {
-            ty: *ty,
-            value: copy_boxed(alloc, value)?,
-            span: *span,
-        }),
+        } => {
+            let value = copy_boxed(alloc, value)?;
+            let low = copy_boxed(alloc, low)?;
+            Ok(clamp(value, low, copy_boxed(alloc, high)?, *span))
+        }
+        Expr::Cast { ty, value, span } => Ok(cast(*ty, copy_boxed(alloc, value)?, *span)),
         Expr::Select {
             cond,
             yes,
@@ -138,4 +126,54 @@ fn copy_cond(alloc: Global, cond: &Cond) -> Result<Box<Cond>, AllocError>
         },
     };
     Ok(Box::new(alloc, copied)?)
+}
+
+// A literal.
+fn literal(ty: Ty, number: i64, span: Span) -> Expr
+    ensures term { term_of result ≡ Number ty number }
+    ensures spans { spans_of result ≡ span ∷ [] }
+{
+    Expr::Literal { ty, number, span }
+}
+
+// A negation.
+fn negate(value: Box<Expr>, span: Span) -> Expr
+    ensures term { term_of result ≡ Minus (term_of value.value) }
+    ensures spans { spans_of result ≡ span ∷ spans_of value.value }
+{
+    Expr::Negate { value, span }
+}
+
+// An operator on two expressions.
+fn binary(op: Op, left: Box<Expr>, right: Box<Expr>, span: Span) -> Expr
+    ensures term { term_of result ≡ Binary op (term_of left.value) (term_of right.value) }
+    ensures spans { spans_of result ≡ span ∷ (spans_of left.value ++ spans_of right.value) }
+{
+    Expr::Binary {
+        op,
+        left,
+        right,
+        span,
+    }
+}
+
+// A clamp.
+fn clamp(value: Box<Expr>, low: Box<Expr>, high: Box<Expr>, span: Span) -> Expr
+    ensures term { term_of result ≡ Clamp (term_of value.value) (term_of low.value) (term_of high.value) }
+    ensures spans { spans_of result ≡ span ∷ (spans_of value.value ++ spans_of low.value ++ spans_of high.value) }
+{
+    Expr::Clamp {
+        value,
+        low,
+        high,
+        span,
+    }
+}
+
+// A cast.
+fn cast(ty: Ty, value: Box<Expr>, span: Span) -> Expr
+    ensures term { term_of result ≡ Cast ty (term_of value.value) }
+    ensures spans { spans_of result ≡ span ∷ spans_of value.value }
+{
+    Expr::Cast { ty, value, span }
 }

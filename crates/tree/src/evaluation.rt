@@ -5,7 +5,7 @@ ghost use Rattle.numeric.specs.Wrap.{IsOf};
 ghost use Rattle.numeric.specs.declared.ty.Ty.TheVariants.{I32 as Index};
 ghost use Rattle.tree.specs.Term.{term_of, test_of};
 ghost use Rattle.tree.specs.Typing.{CanEvaluate, CanDecide, HasFewIndices, shape_type, type_of};
-ghost use Rattle.tree.specs.Meaning.{value_of, holds as held, negated, clamped};
+ghost use Rattle.tree.specs.Meaning.{value_of, holds as held, negated, clamped, typed};
 ghost use Rattle.tree.specs.Names.{TakesCall, typed_answers, called_type, IsIndex};
 
 use crate::expr::{Cond, Expr};
@@ -31,14 +31,8 @@ fn evaluate<E: Env>(expr: &Expr, env: &E) -> Value
     ensures within { IsOf result.ty result.number }
 {
     match expr {
-        Expr::Literal { ty, number, .. } => Value {
-            ty: *ty,
-            number: *number,
-        },
-        Expr::Variable { name, .. } => Value {
-            ty: Ty::I32,
-            number: env.value(name.as_str()),
-        },
+        Expr::Literal { ty, number, .. } => typed(*ty, *number),
+        Expr::Variable { name, .. } => typed(Ty::I32, env.value(name.as_str())),
         Expr::Call { name, at, .. } => call(name.as_str(), at, env),
         Expr::Negate { value, .. } => negated(evaluate(value, env)),
         Expr::Binary {
@@ -65,10 +59,7 @@ fn evaluate<E: Env>(expr: &Expr, env: &E) -> Value
             let high = evaluate(high, env);
             clamped(value, low, high)
         }
-        Expr::Cast { ty, value, .. } => Value {
-            ty: *ty,
-            number: cast(*ty, evaluate(value, env).number),
-        },
+        Expr::Cast { ty, value, .. } => typed(*ty, cast(*ty, evaluate(value, env).number)),
         Expr::Select { cond, yes, no, .. } => {
             if holds(cond, env) {
                 evaluate(yes, env)
@@ -118,6 +109,13 @@ fn call<E: Env>(name: &str, at: &[Expr], env: &E) -> Value
         Some((ty, _)) => ty,
         None => Ty::I32,
     };
+    Value { ty, number }
+}
+
+// A number with its type.
+fn typed(ty: Ty, number: i64) -> Value
+    ensures { result ≡ typed ty number }
+{
     Value { ty, number }
 }
 

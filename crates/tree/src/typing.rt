@@ -3,13 +3,14 @@
 ghost use Rattle.std.specs.Prelude.{◌≡◌, [], IfOk, IfErr, is_ok, is_some, slice_get};
 ghost use Rattle.std.specs.Result.{result_ok};
 ghost use Rattle.std.specs.List.{list_all};
+ghost use Rattle.numeric.specs.declared.ty.Ty.TheVariants.{I32 as Index};
 ghost use Rattle.tree.specs.Term.{term_of, test_of};
-ghost use Rattle.tree.specs.Typing.{type_of, is_typed, common, only_if, is_of, is_index, answer_type};
+ghost use Rattle.tree.specs.Typing.{type_of, is_typed, common, only_if, is_of, is_index, answer_type, operator_type};
 ghost use Rattle.tree.specs.Place.{misfits, misfits_of_test, list_misfits};
 
 use crate::expr::{Cond, Expr};
 use crate::names::Names;
-use numeric::Ty;
+use numeric::{Op, Ty};
 use token::Span;
 
 /// Types differ, a name is not known, a call has another number of indices or an index
@@ -34,11 +35,7 @@ pub fn ty_of<N: Names>(expr: &Expr, names: &N) -> Result<Ty, TypeError>
             span: *span,
         }),
         Expr::Variable { name, span } => {
-            if names.var(name.as_str()) {
-                Ok(Ty::I32)
-            } else {
-                Err(TypeError { span: *span })
-            }
+            variable(names.var(name.as_str())).ok_or(TypeError { span: *span })
         }
         Expr::Call { name, at, span } => {
             let fit = are_indices(at, names)?;
@@ -52,9 +49,7 @@ pub fn ty_of<N: Names>(expr: &Expr, names: &N) -> Result<Ty, TypeError>
             span,
         } => {
             let left = ty_of(left, names)?;
-            let right = ty_of(right, names)?;
-            let ty = common(left, right).ok_or(TypeError { span: *span })?;
-            Ok(op.result_type(ty))
+            operated(*op, left, ty_of(right, names)?).ok_or(TypeError { span: *span })
         }
         Expr::Clamp {
             value,
@@ -64,14 +59,9 @@ pub fn ty_of<N: Names>(expr: &Expr, names: &N) -> Result<Ty, TypeError>
         } => {
             let value = ty_of(value, names)?;
             let low = ty_of(low, names)?;
-            let high = ty_of(high, names)?;
-            let bound = common(low, high).ok_or(TypeError { span: *span })?;
-            common(value, bound).ok_or(TypeError { span: *span })
+            clamped(value, low, ty_of(high, names)?).ok_or(TypeError { span: *span })
         }
-        Expr::Cast { ty, value, .. } => {
-            ty_of(value, names)?;
-            Ok(*ty)
-        }
+        Expr::Cast { ty, value, .. } => ty_of(value, names).and(Ok(*ty)),
         Expr::Select {
             cond,
             yes,
@@ -79,9 +69,7 @@ pub fn ty_of<N: Names>(expr: &Expr, names: &N) -> Result<Ty, TypeError>
             span,
         } => {
             check(cond, names)?;
-            let yes = ty_of(yes, names)?;
-            let no = ty_of(no, names)?;
-            common(yes, no).ok_or(TypeError { span: *span })
+            common(ty_of(yes, names)?, ty_of(no, names)?).ok_or(TypeError { span: *span })
         }
     }
 }
@@ -148,6 +136,13 @@ fn literal(ty: Ty, number: i64) -> Option<Ty>
     }
 }
 
+// The type of a variable, where it is known.
+fn variable(known: bool) -> Option<Ty>
+    ensures { result ≡ only_if known (Some Index) }
+{
+    if known { Some(Ty::I32) } else { None }
+}
+
 // The type of a call, where its indices fit and it has the right number of them.
 fn called(fit: bool, function: Option<(Ty, usize)>, count: usize) -> Option<Ty>
     ensures { result ≡ only_if fit (answer_type function count) }
@@ -163,4 +158,19 @@ fn common(left: Ty, right: Ty) -> Option<Ty>
     ensures { result ≡ common (Some left) (Some right) }
 {
     if left == right { Some(left) } else { None }
+}
+
+// The type of an operator's result.
+fn operated(op: Op, left: Ty, right: Ty) -> Option<Ty>
+    ensures { result ≡ operator_type op (common (Some left) (Some right)) }
+{
+    let ty = common(left, right)?;
+    Some(op.result_type(ty))
+}
+
+// The type of all three.
+fn clamped(value: Ty, low: Ty, high: Ty) -> Option<Ty>
+    ensures { result ≡ common (Some value) (common (Some low) (Some high)) }
+{
+    common(value, common(low, high)?)
 }
