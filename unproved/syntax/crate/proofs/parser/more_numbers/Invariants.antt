@@ -1,0 +1,10 @@
+use Rattle.std.proofs.Common.{◌≡◌, ◌-◌, length, map}
+use Rattle.token.specs.Cursor.{kinds}
+use Rattle.syntax.specs.View.{extent_text}
+use Rattle.syntax.specs.Reading.{more_of, number}
+use Rattle.syntax.proofs.parser.more_numbers.Given as goal
+
+abbrev pub invariant-loop : goal.invariant-loop
+invariant-loop l =
+    more_of number (length l.tokens - l.counter) (map extent_text l.found.items) (kinds l.rest)
+    ≡ more_of number (length l.tokens) (map extent_text l.initial.found.items) (kinds l.tokens)

@@ -1,0 +1,26 @@
+use Rattle.std.proofs.Common.{◌≡◌, ◌++◌, ◌∷◌, [], length, map, ap, ◌∙◌}
+use Rattle.std.proofs.lemmas.Result.{err_from_is_err_and}
+use Rattle.token.specs.Cursor.{kinds}
+use Rattle.syntax.specs.View.{statement_text}
+use Rattle.syntax.specs.Reading.{statement}
+use Rattle.syntax.proofs.Turns.{statements_end, statement_stops, statements_go_on, statements_are_done, map_pushed, seen_none, seen_some}
+use Rattle.syntax.proofs.parser.statements.Goals as goal
+
+pub returns-in_err-item : goal.returns-in_err-item
+returns-in_err-item c =
+    let p = err_from_is_err_and c.from_residual.result c.from_residual.ensures.1 in
+    rw (p.1, p.2) (statement_stops (length c.args.tokens.now) c.loop.counter (map statement_text c.loop.found.items) (kinds c.loop.rest.now) _ c.loop.invariant c.in_err-item.field-0.0 c.loop-test.true c.in_err-item.ensures)
+
+pub returns-in_default : goal.returns-in_default
+returns-in_default c =
+    let none = seen_none statement_text (statement (kinds c.loop.rest.now)) c.in_ok-item.item (kinds c.in_ok-item.left.now) c.in_ok-item.ensures c.in_default.is in
+    statements_end (length c.args.tokens.now) c.loop.counter (map statement_text c.loop.found.items) (kinds c.loop.rest.now) _ c.loop.invariant (kinds c.in_ok-item.left.now) c.loop-test.true none
+
+pub loop-preserved : goal.loop-preserved
+loop-preserved c =
+    let some = seen_some statement_text (statement (kinds c.loop.rest.now)) c.in_ok-item.item c.in-Some.next (kinds c.in_ok-item.left.now) c.in_ok-item.ensures c.in-Some.is in
+    let pushed : map statement_text c.push.new.self.items ≡ map statement_text c.loop.found.items ++ statement_text c.in-Some.next ∷ [] = ap (map statement_text) c.in_ok-push.ensures.items ∙ map_pushed statement_text c.loop.found.items c.in-Some.next in
+    rw pushed (statements_go_on (length c.args.tokens.now) c.loop.counter (map statement_text c.loop.found.items) (kinds c.loop.rest.now) _ c.loop.invariant (statement_text c.in-Some.next) (kinds c.in_ok-item.left.now) c.loop-test.true some)
+
+pub returns : goal.returns
+returns c = statements_are_done (length c.args.tokens.now) c.loop.counter (map statement_text c.loop.found.items) (kinds c.loop.rest.now) _ c.loop.invariant c.loop-test.false

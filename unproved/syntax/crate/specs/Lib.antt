@@ -1,0 +1,4 @@
+pub mod Text
+pub mod View
+pub mod Reading
+pub mod Places
