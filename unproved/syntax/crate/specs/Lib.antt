@@ -1,4 +1,0 @@
-pub mod Text
-pub mod View
-pub mod Reading
-pub mod Places
