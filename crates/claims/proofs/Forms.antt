@@ -1,6 +1,6 @@
 -- Forms, spans and regions where one symbol more is bound.
-use Rattle.std.proofs.Common.{◌≡◌, ℕ, zero, suc, ◌+◌, ◌-◌, Bool, true, false, List, [], ◌∷◌, ◌++◌, map, All, Option, Some, None, refl, sym, ap, ◌∙◌, subst, inl, inr, arith}
-use Rattle.std.specs.Prelude.{ℤ, pos, ◌+ℤ◌, ◌*ℤ◌, ◌≤ℤ◌, IsSome, IsTrue, ◌==◌, ◌||◌, ◌&&◌, not, if◌then◌else◌, ◌⊎◌, filter}
+use Rattle.std.proofs.Common.{◌≡◌, ℕ, Bool, true, false, List, [], ◌∷◌, ◌++◌, map, refl, sym, ap, ◌∙◌, subst, arith}
+use Rattle.std.specs.Prelude.{ℤ, ◌+ℤ◌, ◌*ℤ◌, ◌≤ℤ◌, IsTrue, ◌==◌, ◌||◌, not, if◌then◌else◌, filter}
 use Rattle.std.specs.List.{AllByRecursion, list_any}
 use Rattle.std.proofs.lemmas.Int.{ints, fold-int_max_bounds, fold-int_min_bounds}
 use Rattle.std.proofs.lemmas.List.Elements.{All-from_recursion, recursion_from_All}
@@ -11,10 +11,10 @@ use Rattle.lin.specs.declared.span.Span1.{Span1}
 use Rattle.nest.specs.declared.stmt.Places.{Places}
 use Rattle.nest.specs.declared.stmt.Places.TheVariants.{From, Folded}
 use Rattle.nest.specs.Symbols.{Symbols, bind, form_value, InRegion, turns, points, largest, smallest}
-use Rattle.nest.specs.Rooms.{Room, Straight, Wrapped, room}
+use Rattle.nest.specs.Rooms.{Straight, Wrapped, room}
 use Rattle.claims.specs.Claims.{In}
-use Rattle.claims.specs.Obligations.{Lies, LieIn, Binder, Ranged, Passed, Respects, Buffer, places_of, is_member, form_has, span_has, binder_has, places_have}
-use Rattle.claims.proofs.Refines.{eq_true, eq_refl, and_parts}
+use Rattle.claims.specs.Obligations.{Lies, LieIn, Binder, Ranged, Passed, Respects, is_member, form_has, span_has, binder_has, places_have}
+use Rattle.claims.proofs.Refines.{eq_true, eq_refl}
 use Rattle.claims.proofs.Sound.{or_left, or_right}
 use Rattle.claims.proofs.Turns.{point_parts, only_nil, turns_within}
 

@@ -8,7 +8,7 @@ use Rattle.nest.specs.Rooms.{Room, same_place}
 use Rattle.actions.specs.Actions.{Action, Allot, Take, Put, Change, Give, Target}
 use Rattle.actions.specs.Memory.{Memory, read, write, allot, place_in, held_at, set_at}
 use Rattle.claims.specs.Origins.{Origin, origin, Given, matches, stepped, learn, learn_all, or_same, AreFine}
-use Rattle.claims.specs.Claims.{written, WritesOnly, ClearOf, stepped_status, status_after, In}
+use Rattle.claims.specs.Claims.{written, WritesOnly, ClearOf, stepped_status, status_after}
 use Rattle.claims.proofs.Refines.{eq_refl, eq_true, same_refl, same_true, and_parts, number_refl, number_true, name_refl}
 
 -- no action is on the buffer

@@ -3,8 +3,10 @@ pub mod Forms
 pub mod Learned
 pub mod Meant
 pub mod Refines
+pub mod Renamed
 pub mod Shown
 pub mod Sound
 pub mod Stored
 pub mod Turns
+pub mod Updates
 pub mod Whole

@@ -1,7 +1,7 @@
 -- Where all that a piece's lines ask for is meant, the lines are sound.
 use Rattle.std.proofs.Common.{◌≡◌, ℕ, zero, suc, ◌+◌, ◌-◌, Bool, true, false, List, [], ◌∷◌, ◌++◌, map, Option, Some, None, refl, sym, ap, ◌∙◌, subst, inl, inr, arith, append_assoc, take, drop}
-use Rattle.std.specs.Prelude.{ℤ, pos, ◌+ℤ◌, ◌≤ℤ◌, IsSome, IsTrue, ◌==◌, ◌||◌, ◌&&◌, not, if◌then◌else◌, ◌⊎◌, int_le, flat_map, filter}
-use Rattle.std.specs.List.{AllByRecursion, list_any, list_all}
+use Rattle.std.specs.Prelude.{ℤ, ◌≤ℤ◌, IsSome, ◌==◌, ◌||◌, ◌&&◌, if◌then◌else◌, ◌⊎◌, int_le, flat_map, filter}
+use Rattle.std.specs.List.{list_any, list_all}
 use Rattle.std.proofs.lemmas.Int.{ints}
 use Rattle.std.proofs.lemmas.List.{take-append-drop}
 use Rattle.tree.specs.Term.{Term, Number, Name, Call, Minus, Binary, Clamp, Cast, Choice, Terms, End, More, Test, Compares, Fails, Both, Either}
@@ -11,16 +11,16 @@ use Rattle.lin.specs.Forms.{Form}
 use Rattle.lin.specs.declared.span.Span1.{Span1}
 use Rattle.nest.specs.declared.stmt.Places.{Places}
 use Rattle.nest.specs.Plan.{Index, At, Found, Coordinate, Statement, Seq, For, Let, First, Guard, Alloc, Fetch, Store, Publish, Statements, Empty, Then}
-use Rattle.nest.specs.Symbols.{Symbols, bind, form_value, largest, turns, points, InRegion}
+use Rattle.nest.specs.Symbols.{Symbols, bind, form_value, largest, turns, InRegion}
 use Rattle.nest.specs.Rooms.{Room, room}
 use Rattle.nest.specs.Lines.{lines}
-use Rattle.actions.specs.Actions.{Action, Target, Fixed, Open, fixed, are_fixed, index_target, target, action_for, store_action, actions, after}
+use Rattle.actions.specs.Actions.{Target, fixed, are_fixed, index_target, target, action_for, store_action, actions, after}
 use Rattle.actions.specs.Memory.{place_in}
 use Rattle.actions.specs.Found.{EachRead, EachTestRead, EachReadOfAll}
 use Rattle.actions.specs.Run.{Source, Input, ByClaim, Unknown}
 use Rattle.claims.specs.Origins.{Given, Plain, answer}
 use Rattle.claims.specs.Claims.{In, changes, updates, writes, written, ClearOf, Fact, Scope, buffer_of, status_after, InForce, SourceMayUse, MayUse, Earlier, Before, stable, keep, new_fact, more_rooms, onward, turn_symbols, in_turn, IsMade, AreMade, IsSoundAction, IsSound, IsSoundBlock}
-use Rattle.claims.specs.Obligations.{Lies, LieIn, exactly, Binder, Respects, Buffer, Known, Rules, NotMade, OutOfOrder, Named, Seated, Inside, Made, InTurn, Obligation, is_member, places_of, span_has, binder_has, places_have, is_free, is_next, region_of, has_symbol, obligation, is_left, follows, within, in_guard, in_block, in_loop, more_buffers, onwards, seated, is_usable, may_load, load_obligations, intervals, loads, loads_of_test, loads_of_all, variable_span, index_place, target_span, index_loads, coordinate_loads, store_obligations, goes_on, made, earlier_obligations, claim_obligations, obligations, block_obligations, begun, MeantAt, Meant, AllMeant, Suited, has_form, is_form, is_pure_line, is_pure, is_pure_block}
+use Rattle.claims.specs.Obligations.{Lies, LieIn, exactly, Respects, Buffer, Known, Rules, NotMade, OutOfOrder, Named, Inside, InTurn, Obligation, is_member, places_of, span_has, binder_has, places_have, is_free, is_next, region_of, has_symbol, obligation, is_left, follows, within, in_guard, in_block, in_loop, more_buffers, onwards, seated, is_usable, may_load, load_obligations, intervals, loads, loads_of_test, loads_of_all, variable_span, index_place, target_span, index_loads, coordinate_loads, store_obligations, made, earlier_obligations, claim_obligations, obligations, block_obligations, begun, MeantAt, Meant, AllMeant, Suited, has_form, is_form, is_pure_line, is_pure, is_pure_block}
 use Rattle.claims.proofs.Refines.{eq_true, eq_refl, name_true, and_parts}
 use Rattle.claims.proofs.Sound.{or_left, or_right, writing}
 use Rattle.claims.proofs.Turns.{each_turn}

@@ -1,7 +1,7 @@
 -- What is known of a run's memory is so: a run whose actions are fine by what is known makes no fault, and each place
 -- that is known to hold a function's value holds it.
-use Rattle.std.proofs.Common.{◌≡◌, ℕ, ◌+◌, Bool, true, false, List, [], ◌∷◌, ◌++◌, map, Option, Some, None, refl, sym, ap, ◌∙◌, subst, arith, inl, inr}
-use Rattle.std.specs.Prelude.{ℤ, IsSome, IsTrue, ◌==◌, ◌&&◌, if◌then◌else◌, ◌⊎◌, nat_eq, not}
+use Rattle.std.proofs.Common.{◌≡◌, ℕ, ◌+◌, Bool, true, false, List, [], ◌∷◌, Option, Some, None, refl, sym, ap, ◌∙◌, arith, inl, inr}
+use Rattle.std.specs.Prelude.{ℤ, IsSome, ◌==◌, ◌&&◌, if◌then◌else◌, ◌⊎◌, nat_eq}
 use Rattle.std.specs.Ordering.{int_eq}
 use Rattle.std.proofs.lemmas.Bool.Decides.{nat_tests}
 use Rattle.std.proofs.lemmas.Int.{ints}
@@ -10,11 +10,11 @@ use Rattle.tree.specs.Term.{Term, Number, Name, Call, Minus, Binary, Clamp, Cast
 use Rattle.tree.specs.Meaning.{value_of, numbers_of, holds}
 use Rattle.meaning.specs.Names.{same_name, bound}
 use Rattle.nest.specs.Rooms.{Room, same_place}
-use Rattle.actions.specs.Actions.{Action, Allot, Take, Put, Change, Give, Target, Fixed, Open, fixed}
+use Rattle.actions.specs.Actions.{Action, Allot, Take, Put, Change, Give, Target, Fixed, Open}
 use Rattle.actions.specs.Memory.{Memory, read, write, allot, place_in, held_at, set_at, set_place}
 use Rattle.actions.specs.Found.{with, found, test_found, all_found, EachRead, EachTestRead, EachReadOfAll}
 use Rattle.actions.specs.Run.{Source, Input, ByClaim, Unknown, Around, look_at, look, found_target, act, outcome}
-use Rattle.claims.specs.Origins.{Origin, origin, Given, Reader, Plain, Within, matches, stepped, learn, learn_all, or_same, source_answer, answer, SourceMayRead, MayRead, target_point, left_variables, left_point, right_variables, EachTargetRead, IsFine, AreFine, origin_for}
+use Rattle.claims.specs.Origins.{Origin, origin, Given, Reader, Plain, Within, matches, stepped, learn, or_same, source_answer, answer, SourceMayRead, MayRead, target_point, left_variables, left_point, right_variables, EachTargetRead, IsFine, AreFine, origin_for}
 use Rattle.claims.specs.Right.{Suits, IsRight, AreRight, right_outcome}
 
 -- an expression whose calls all find what they have to has its value

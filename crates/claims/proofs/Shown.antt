@@ -1,6 +1,6 @@
 -- What is shown is so, whatever the symbols stand for.
-use Rattle.std.proofs.Common.{◌≡◌, ℕ, zero, suc, ◌+◌, ◌-◌, ◌<◌, Bool, true, false, List, [], ◌∷◌, ◌++◌, map, Option, Some, None, refl, sym, ap, ◌∙◌, subst, inl, inr, arith}
-use Rattle.std.specs.Prelude.{ℤ, pos, negsuc, ◌+ℤ◌, ◌-ℤ◌, ◌≤ℤ◌, ◌<ℤ◌, IsSome, IsTrue, ◌&&◌, ◌||◌, nat_lt, ◌⊎◌}
+use Rattle.std.proofs.Common.{◌≡◌, ℕ, ◌<◌, true, List, [], ◌∷◌, map, refl, inl, inr, arith}
+use Rattle.std.specs.Prelude.{ℤ, pos, negsuc, ◌-ℤ◌, ◌≤ℤ◌, ◌<ℤ◌, IsSome, nat_lt, ◌⊎◌}
 use Rattle.std.specs.List.{AllByRecursion, list_any, list_all}
 use Rattle.std.specs.Int.{int_rem_euclid}
 use Rattle.std.proofs.lemmas.Int.{ints}
@@ -11,7 +11,7 @@ use Rattle.lin.specs.declared.span.Span1.{Span1}
 use Rattle.nest.specs.declared.stmt.Places.{Places}
 use Rattle.nest.specs.declared.stmt.Places.TheVariants.{From, Folded}
 use Rattle.nest.specs.Symbols.{Symbols, form_value}
-use Rattle.nest.specs.Rooms.{Room, room, seat, place, below}
+use Rattle.nest.specs.Rooms.{room, seat, place}
 use Rattle.claims.specs.Origins.{Given}
 use Rattle.claims.specs.Right.{at_start}
 use Rattle.claims.specs.Obligations.{Lies, LieIn, Binder, Respects, Rules, Wanted, Named, Seated, Inside, Made, InTurn, Obligation, MeantAt, Meant, AllMeant, Suited, obligations}

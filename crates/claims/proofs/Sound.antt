@@ -1,14 +1,14 @@
 -- A sound statement: where what its scope knows is so, its actions are fine, and what is known after it is so.
-use Rattle.std.proofs.Common.{◌≡◌, ℕ, zero, suc, ◌+◌, ◌-◌, Bool, true, false, List, [], ◌∷◌, ◌++◌, map, Option, Some, None, refl, sym, ap, ◌∙◌, subst, inl, inr}
-use Rattle.std.specs.Prelude.{◌⊎◌, ℤ, IsSome, ◌==◌, ◌||◌, ◌&&◌, if◌then◌else◌, int_le, flat_map, take, drop}
+use Rattle.std.proofs.Common.{◌≡◌, ℕ, ◌+◌, ◌-◌, Bool, true, false, List, [], ◌∷◌, ◌++◌, map, Option, Some, None, refl, sym, ap, ◌∙◌, subst, inl, inr}
+use Rattle.std.specs.Prelude.{◌⊎◌, ℤ, IsSome, ◌==◌, ◌||◌, if◌then◌else◌, int_le, flat_map}
 use Rattle.tree.specs.declared.value.Value.{Value}
 use Rattle.tree.specs.Term.{Term, Number, Name, Call, Minus, Binary, Clamp, Cast, Choice, Terms, End, More, Test, Compares, Fails, Both, Either}
-use Rattle.meaning.specs.Names.{same_name, same_point, bound}
-use Rattle.nest.specs.Plan.{Coordinate, Statement, Seq, For, Let, First, Guard, Alloc, Fetch, Store, Publish, Statements, Empty, Then}
+use Rattle.meaning.specs.Names.{same_name, same_point}
+use Rattle.nest.specs.Plan.{Statement, Seq, For, Let, First, Guard, Alloc, Fetch, Store, Publish, Statements, Empty, Then}
 use Rattle.nest.specs.Symbols.{Symbols, form_value, largest, turns, points}
 use Rattle.nest.specs.Rooms.{Room, room, place, same_place}
 use Rattle.nest.specs.Lines.{lines}
-use Rattle.actions.specs.Actions.{Setting, Action, Allot, Take, Put, Change, Give, Target, Fixed, Open, fixed, target, is_pure_store, action_for, stored, actions, block_actions, after}
+use Rattle.actions.specs.Actions.{Setting, Action, Allot, Take, Put, Change, Give, Target, Fixed, Open, action_for, actions, block_actions, after}
 use Rattle.actions.specs.Memory.{Memory, read, place_in}
 use Rattle.actions.specs.Found.{EachRead, EachTestRead, EachReadOfAll}
 use Rattle.actions.specs.Run.{Source, Input, ByClaim, Unknown}

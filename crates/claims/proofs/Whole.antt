@@ -1,6 +1,5 @@
 -- A private run from the beginning of a piece.
-use Rattle.std.proofs.Common.{refl, None}
-use Rattle.nest.specs.Symbols.{Symbols}
+use Rattle.std.proofs.Common.{refl}
 use Rattle.actions.specs.Actions.{actions}
 use Rattle.actions.specs.Memory.{Memory, nothing}
 use Rattle.claims.specs.Origins.{Origin}

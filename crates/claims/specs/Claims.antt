@@ -1,12 +1,11 @@
 -- Which claims are in force where, and what has to hold of a statement for them to be so.
 use Rattle.std.specs.Prelude.{◌≡◌, ℕ, zero, suc, ◌+◌, ◌-◌, ◌==◌, ◌||◌, ◌&&◌, Bool, true, false, if◌then◌else◌, List, [], ◌∷◌, ◌++◌, Option, Some, None, ℤ, IsTrue, IsSome, int_le, map, ◌⊎◌}
-use Rattle.tree.specs.declared.value.Value.{Value}
 use Rattle.meaning.specs.Names.{same_name, same_point, bound}
 use Rattle.nest.specs.Plan.{Statement, Seq, For, Let, First, Guard, Alloc, Fetch, Store, Publish, Statements, Empty, Then}
 use Rattle.nest.specs.Symbols.{Symbols, bind, form_value, largest, turns, points, InRegion}
 use Rattle.nest.specs.Rooms.{Room, room, place, same_place}
 use Rattle.nest.specs.Lines.{lines}
-use Rattle.actions.specs.Actions.{Setting, Action, Allot, Take, Put, Change, Give, Target, stored, actions, after}
+use Rattle.actions.specs.Actions.{Setting, Action, Allot, Take, Put, Change, Give, stored, actions, after}
 use Rattle.actions.specs.Memory.{place_in}
 use Rattle.actions.specs.Found.{EachRead}
 use Rattle.actions.specs.Run.{Source, Input, ByClaim, Unknown}

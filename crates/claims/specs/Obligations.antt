@@ -10,9 +10,8 @@ use Rattle.nest.specs.declared.stmt.Places.{Places}
 use Rattle.nest.specs.declared.stmt.Places.TheVariants.{From, Folded}
 use Rattle.nest.specs.Plan.{Index, At, Found, Coordinate, Statement, Seq, For, Let, First, Guard, Alloc, Fetch, Store, Publish, Statements, Empty, Then}
 use Rattle.nest.specs.Symbols.{Symbols, form_value, InRegion}
-use Rattle.nest.specs.Rooms.{Room, room, place}
+use Rattle.nest.specs.Rooms.{room, place}
 use Rattle.nest.specs.Lines.{lines}
-use Rattle.cert.specs.Certificate.{Claim}
 use Rattle.actions.specs.Actions.{Setting, Action, Change, Target, actions}
 use Rattle.actions.specs.Run.{Source, Input, ByClaim, Unknown}
 use Rattle.claims.specs.Origins.{Outline, Given, Reader, answer, matches}

@@ -2,7 +2,6 @@
 use Rattle.std.specs.Prelude.{◌≡◌, ℕ, ◌+◌, ◌==◌, ◌&&◌, Bool, true, false, if◌then◌else◌, List, [], ◌∷◌, ◌++◌, map, Option, Some, None, ℤ, IsSome, IsTrue}
 use Rattle.std.specs.Ordering.{int_eq}
 use Rattle.tree.specs.declared.value.Value.{Value}
-use Rattle.tree.specs.Term.{Term}
 use Rattle.tree.specs.Meaning.{value_of}
 use Rattle.meaning.specs.Names.{same_name, bound}
 use Rattle.cert.specs.Certificate.{Claim}

@@ -1,12 +1,12 @@
 -- What the algorithm, the fetched cells and the stored expressions have to be for a private run to give right values.
-use Rattle.std.specs.Prelude.{◌≡◌, ℕ, ◌+◌, Bool, true, List, [], ◌∷◌, ◌++◌, map, Option, Some, None, ℤ, IsTrue}
+use Rattle.std.specs.Prelude.{◌≡◌, ℕ, ◌+◌, true, List, [], ◌∷◌, Some, None, ℤ, IsTrue}
 use Rattle.tree.specs.declared.value.Value.{Value}
 use Rattle.tree.specs.Meaning.{value_of}
 use Rattle.meaning.specs.Names.{bound}
 use Rattle.nest.specs.Plan.{Statement}
 use Rattle.nest.specs.Symbols.{Symbols}
 use Rattle.actions.specs.Actions.{Action, Allot, Take, Put, Change, Give, actions}
-use Rattle.actions.specs.Memory.{Memory, nothing}
+use Rattle.actions.specs.Memory.{nothing}
 use Rattle.actions.specs.Run.{Around, Input, outcome}
 use Rattle.claims.specs.Origins.{Given, Plain, Within, matches, origin, origin_for, answer, left_point, right_variables}
 use Rattle.claims.specs.Claims.{Scope, IsSound}

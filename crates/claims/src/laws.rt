@@ -10,9 +10,10 @@ pub fn private_runs_are_right()
     ensures { PrivateRunsAreRight }
 {}
 
-/// A store of a pure definition whose expression, with each load read as a call of its claim's
-/// function, is the definition with the calls of unstored functions put in, gives the algorithm's
-/// value.
+/// A store whose expression, with each load read as a call of its claim's function, is the function's
+/// definition with the calls of unstored functions put in, does what the definition says: a pure one
+/// gives the algorithm's value, and an update's gives the place of its left side the right side's
+/// value and leaves every other.
 pub fn definitions_are_right()
     ensures { DefinitionsAreRight }
 {}
@@ -28,8 +29,8 @@ pub fn shown_is_sound()
     ensures { ShownIsSound }
 {}
 
-/// What an algorithm gives to a plan is the algorithm's: a call of a function answers its value after
-/// all steps of its updates.
+/// What a well-formed algorithm gives to a plan is the algorithm's: a call of a function answers its
+/// value after all steps of its updates, and steps are those of the updates' reduction points.
 pub fn given_is_of_algorithm()
     ensures { GivenIsOfAlgorithm }
 {}
