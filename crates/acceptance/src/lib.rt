@@ -4,6 +4,8 @@
 #[cfg(test)]
 mod expr_tests;
 #[cfg(test)]
+mod intervals_tests;
+#[cfg(test)]
 mod lin_tests;
 #[cfg(test)]
 mod numeric_tests;

@@ -1,0 +1,4 @@
+pub mod Contains
+pub mod CallsMade
+pub mod Indices
+pub mod Saturation

@@ -1,0 +1,4 @@
+pub mod Calls
+pub mod Interval
+pub mod Laws
+pub mod Worked
