@@ -1,9 +1,9 @@
--- The cells and pieces of a plan, and the points that a piece owns, fetches and needs.
+-- The cells and pieces of a plan, and the points that a piece owns and the pieces that it needs.
 use Rattle.std.specs.Prelude.{ℕ, zero, suc, ◌+◌, ◌*◌, ◌/◌, ◌%◌, ◌-◌, ◌==◌, nat_lt, Bool, true, false, ◌&&◌, List, [], ◌∷◌, ◌++◌, map, filter, flat_map, length, Option, Some, None, ℤ, pos, int_le, if◌then◌else◌, slice_get}
 use Rattle.std.specs.List.{list_all, range_with_len}
 use Rattle.lin.specs.Forms.{Form}
 use Rattle.lin.specs.declared.span.Span1.{Span1}
-use Rattle.nest.specs.Plan.{Statement, Seq, For, Let, First, Guard, Alloc, Fetch, Store, Publish, Statements, Empty, Then, Group, Plan}
+use Rattle.nest.specs.Plan.{Group, Plan}
 use Rattle.nest.specs.Symbols.{Symbols, form_value, points}
 use Rattle.cert.specs.declared.cert.Own.{Own}
 use Rattle.cert.specs.declared.cert.Need.{Need}
@@ -68,30 +68,13 @@ points_within g (Some xs) s = filter (is_in_region no_symbols g.region) (points 
 abbrev pub own_points : Group → Certificate → ℕ → Symbols → List (List ℤ)
 own_points g c number s = points_within g (own_region c.own number) s
 
--- the group's number and the point of each cell that a piece fetches: its fetch lines in the order of the text, and in each
--- the points with the first coordinate fastest
+-- a cell: the number of its group, and its point
 pub record Cell : Type 0 where
   pub group : ℕ
   pub point : List ℤ
 
 abbrev pub cell : ℕ → List ℤ → Cell
 cell g p = record { group = g; point = p }
-
-abbrev mutual
-  pub fetched : Statement → Symbols → List Cell
-  fetched (Seq all) s = block_fetched all s
-  fetched (For i x kind body) s = []
-  fetched (Let i pick forms) s = []
-  fetched (First i a b) s = []
-  fetched (Guard low high body) s = []
-  fetched (Alloc b f places) s = []
-  fetched (Fetch b g region) s = map (cell g) (points s region)
-  fetched (Store b k at e) s = []
-  fetched (Publish c) s = []
-
-  pub block_fetched : Statements → Symbols → List Cell
-  block_fetched Empty s = []
-  block_fetched (Then a rest) s = fetched a s ++ block_fetched rest s
 
 -- the pieces that a piece needs: the group and the grid point of each
 abbrev pub needed : Certificate → ℕ → Symbols → List Cell

@@ -1,0 +1,10 @@
+pub mod Lists
+pub mod Regions
+pub mod Places
+pub mod Types
+pub mod Takes
+pub mod Gives
+pub mod Runs
+pub mod Output
+pub mod Parts
+pub mod Apart
