@@ -1,0 +1,10 @@
+pub mod Answers
+pub mod Doubles
+pub mod Expressions
+pub mod Indices
+pub mod Kept
+pub mod Listed
+pub mod Refused
+pub mod Rows
+pub mod Sizes
+pub mod Standing
