@@ -1,0 +1,14 @@
+pub mod Block
+pub mod Inc
+pub mod Loads
+pub mod Made
+pub mod Members
+pub mod Misfits
+pub mod Once
+pub mod Points
+pub mod Puts
+pub mod Reach
+pub mod Samples
+pub mod Sound
+pub mod Whole
+pub mod Worked

@@ -1,0 +1,5 @@
+pub mod Keeps
+pub mod Marks
+pub mod Own
+pub mod Stays
+pub mod Typed
