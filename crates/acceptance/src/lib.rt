@@ -14,6 +14,8 @@ mod orders_tests;
 #[cfg(test)]
 mod pnm_tests;
 #[cfg(test)]
+mod syntax_tests;
+#[cfg(test)]
 mod token_tests;
 #[cfg(test)]
 mod tree_tests;

@@ -1,0 +1,9 @@
+pub mod Turns
+pub mod Ends
+pub mod Tails
+pub mod Standing
+pub mod Lengths
+pub mod Sound
+pub mod Complete
+pub mod Texts
+pub mod Wants

@@ -1,0 +1,33 @@
+use Rattle.std.proofs.Common.{subst, sym}
+use Rattle.std.proofs.lemmas.Result.{IfOk-weaker}
+use Rattle.token.specs.Cursor.{kinds}
+use Rattle.syntax.specs.Standing.{NamesStand}
+use Rattle.syntax.proofs.Wants.{behind_word}
+use Rattle.syntax.proofs.parser.file.Goals as goal
+
+pub returns-clause-stands : goal.returns-clause-stands
+returns-clause-stands c =
+    IfOk-weaker c.ended.result _ _ (λ f is text h.
+    let name = c.in_ok-name.ensures.stands text (c.in_ok-rest.ensures.kept text h) in
+    let input = c.in_ok-input.ensures.stands text (c.in_ok-rest-2.ensures.kept text name.0) in
+    let statements = c.in_ok-statements.ensures.stands text input.0 in
+    let output = c.in_ok-output.ensures.stands text statements.0 in
+    subst (NamesStand text) (sym is) (record { name = name.1; input = input.1; statements = statements.1; output = output.1 })) c.ended.ensures.found
+
+pub returns-in_err-name-clause-memory : goal.returns-in_err-name-clause-memory
+returns-in_err-name-clause-memory c = behind_word _ (kinds c.args.tokens.now) (kinds c.in_ok-rest.rest.now) c.in_ok-rest.ensures.read
+
+pub returns-in_err-rest-2-clause-memory : goal.returns-in_err-rest-2-clause-memory
+returns-in_err-rest-2-clause-memory c = behind_word _ (kinds c.args.tokens.now) (kinds c.in_ok-rest.rest.now) c.in_ok-rest.ensures.read
+
+pub returns-in_err-input-clause-memory : goal.returns-in_err-input-clause-memory
+returns-in_err-input-clause-memory c = behind_word _ (kinds c.args.tokens.now) (kinds c.in_ok-rest.rest.now) c.in_ok-rest.ensures.read
+
+pub returns-in_err-statements-clause-memory : goal.returns-in_err-statements-clause-memory
+returns-in_err-statements-clause-memory c = behind_word _ (kinds c.args.tokens.now) (kinds c.in_ok-rest.rest.now) c.in_ok-rest.ensures.read
+
+pub returns-in_err-output-clause-memory : goal.returns-in_err-output-clause-memory
+returns-in_err-output-clause-memory c = behind_word _ (kinds c.args.tokens.now) (kinds c.in_ok-rest.rest.now) c.in_ok-rest.ensures.read
+
+pub returns-clause-memory : goal.returns-clause-memory
+returns-clause-memory c = behind_word _ (kinds c.args.tokens.now) (kinds c.in_ok-rest.rest.now) c.in_ok-rest.ensures.read

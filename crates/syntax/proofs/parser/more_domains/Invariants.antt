@@ -1,0 +1,12 @@
+use Rattle.std.proofs.Common.{◌≡◌, ℕ, List, All, ◌-◌, length, map}
+use Rattle.token.specs.Cursor.{kinds}
+use Rattle.syntax.specs.View.{domain_text}
+use Rattle.syntax.specs.Standing.{AreOf, DomainStands}
+use Rattle.syntax.specs.Reading.{more_of, domain}
+use Rattle.syntax.proofs.parser.more_domains.Given as goal
+
+abbrev pub invariant-loop : goal.invariant-loop
+invariant-loop l = record {
+  read : more_of domain (length l.tokens - l.counter) (map domain_text l.found.items) (kinds l.rest) ≡ more_of domain (length l.tokens) (map domain_text l.initial.found.items) (kinds l.tokens);
+  stands : (text : List ℕ) → AreOf text l.tokens → All (DomainStands text) l.initial.found.items → AreOf text l.rest × All (DomainStands text) l.found.items;
+}

@@ -1,0 +1,28 @@
+use Rattle.std.proofs.Common.{◌≡◌, ◌++◌, ◌∷◌, [], length, map, ap, ◌∙◌}
+use Rattle.std.proofs.lemmas.Result.{err_from_is_err_and}
+use Rattle.token.specs.Cursor.{kinds}
+use Rattle.tree.specs.Term.{term_of}
+use Rattle.syntax.specs.Reading.{expression}
+use Rattle.syntax.proofs.Standing.{after_kept}
+use Rattle.syntax.proofs.Turns.{items_end, item_stops, items_go_on, items_are_done, map_pushed}
+use Rattle.syntax.proofs.parser.more_expressions.Goals as goal
+
+pub returns-in_default-clause-read : goal.returns-in_default-clause-read
+returns-in_default-clause-read c =
+    items_end expression (length c.args.tokens.now) c.loop.counter (map term_of c.loop.found.items) (kinds c.loop.rest.now) _ c.loop.invariant.read c.loop-test.true c.in_default.ensures.kinds
+
+pub returns-in_err-item-clause-read : goal.returns-in_err-item-clause-read
+returns-in_err-item-clause-read c =
+    let p = err_from_is_err_and c.from_residual.result c.from_residual.ensures.1 in
+    rw (p.1, p.2) (item_stops expression (length c.args.tokens.now) c.loop.counter (map term_of c.loop.found.items) (kinds c.loop.rest.now) _ c.loop.invariant.read c.in_err-item.field-0.0 (kinds c.in-Some.next.now) c.loop-test.true c.in-Some.ensures.kinds c.in_err-item.ensures.read)
+
+pub loop-preserved : goal.loop-preserved
+loop-preserved c =
+    let pushed : map term_of c.push.new.self.items ≡ map term_of c.loop.found.items ++ term_of c.in_ok-item.item ∷ [] = ap (map term_of) c.in_ok-push.ensures.items ∙ map_pushed term_of c.loop.found.items c.in_ok-item.item in
+    record {
+      read = rw pushed (items_go_on expression (length c.args.tokens.now) c.loop.counter (map term_of c.loop.found.items) (kinds c.loop.rest.now) _ c.loop.invariant.read (term_of c.in_ok-item.item) (kinds c.in-Some.next.now) (kinds c.in_ok-item.left.now) c.loop-test.true c.in-Some.ensures.kinds c.in_ok-item.ensures.read);
+      kept = λ text h. c.in_ok-item.ensures.kept text (after_kept text c.loop.rest.now c.in-Some.next.now c.in-Some.ensures.rest (c.loop.invariant.kept text h));
+    }
+
+pub returns-clause-read : goal.returns-clause-read
+returns-clause-read c = items_are_done expression (length c.args.tokens.now) c.loop.counter (map term_of c.loop.found.items) (kinds c.loop.rest.now) _ c.loop.invariant.read c.loop-test.false

@@ -1,0 +1,12 @@
+use Rattle.std.proofs.Common.{◌≡◌, ℕ, List, All, ◌-◌, length, map}
+use Rattle.token.specs.Cursor.{kinds}
+use Rattle.syntax.specs.View.{named_text}
+use Rattle.syntax.specs.Standing.{AreOf, StandsAt}
+use Rattle.syntax.specs.Reading.{more_of, name}
+use Rattle.syntax.proofs.parser.more_names.Given as goal
+
+abbrev pub invariant-loop : goal.invariant-loop
+invariant-loop l = record {
+  read : more_of name (length l.tokens - l.counter) (map named_text l.found.items) (kinds l.rest) ≡ more_of name (length l.tokens) (map named_text l.initial.found.items) (kinds l.tokens);
+  stands : (text : List ℕ) → AreOf text l.tokens → All (StandsAt text) l.initial.found.items → AreOf text l.rest × All (StandsAt text) l.found.items;
+}

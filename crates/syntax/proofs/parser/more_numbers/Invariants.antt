@@ -1,0 +1,12 @@
+use Rattle.std.proofs.Common.{◌≡◌, ℕ, List, ◌-◌, length, map}
+use Rattle.token.specs.Cursor.{kinds}
+use Rattle.syntax.specs.View.{extent_text}
+use Rattle.syntax.specs.Standing.{AreOf}
+use Rattle.syntax.specs.Reading.{more_of, number}
+use Rattle.syntax.proofs.parser.more_numbers.Given as goal
+
+abbrev pub invariant-loop : goal.invariant-loop
+invariant-loop l = record {
+  read : more_of number (length l.tokens - l.counter) (map extent_text l.found.items) (kinds l.rest) ≡ more_of number (length l.tokens) (map extent_text l.initial.found.items) (kinds l.tokens);
+  kept : (text : List ℕ) → AreOf text l.tokens → AreOf text l.rest;
+}

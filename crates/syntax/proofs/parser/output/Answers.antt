@@ -1,0 +1,6 @@
+use Rattle.syntax.proofs.parser.output.Goals as goal
+
+pub returns-clause-stands : goal.returns-clause-stands
+returns-clause-stands c text h =
+    let name = c.in_ok-name.ensures.stands text (c.in_ok-rest.ensures.kept text h) in
+    (c.in_ok-rest-2.ensures.kept text (c.in_ok-extents.ensures.kept text name.0), name.1)

@@ -1,0 +1,4 @@
+use Rattle.syntax.proofs.parser.right_side.Goals as goal
+
+pub returns-clause-kept : goal.returns-clause-kept
+returns-clause-kept c text h = c.in_ok-rest-2.ensures.kept text (c.in_ok-value.ensures.kept text (c.in_ok-rest.ensures.kept text h))
