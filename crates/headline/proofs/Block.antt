@@ -1,30 +1,27 @@
 -- The whole body of a row plan is sound at each piece, and stores the definition.
-use Rattle.std.proofs.Common.{◌≡◌, ℕ, zero, suc, ◌+◌, ◌-◌, ◌<◌, ◌≤◌, List, [], ◌∷◌, ◌++◌, map, length, Option, Some, None, IsSome, refl, sym, ap, ◌∙◌, subst, inl, inr, arith, Bool, true, false}
-use Rattle.std.specs.Prelude.{ℤ, ◌==◌, ◌⊎◌, if◌then◌else◌, filter, All, MatchOption, slice_get}
+use Rattle.std.proofs.Common.{◌≡◌, ℕ, zero, suc, ◌+◌, ◌-◌, ◌<◌, ◌≤◌, List, [], ◌∷◌, ◌++◌, map, Option, Some, None, IsSome, refl, sym, ap, ◌∙◌, subst, inl, inr, arith, Bool, true, false}
+use Rattle.std.specs.Prelude.{ℤ, ◌==◌, if◌then◌else◌, filter, MatchOption, slice_get}
 use Rattle.std.specs.List.{AllByRecursion}
 use Rattle.std.proofs.lemmas.List.Elements.{recursion_from_All}
 use Rattle.numeric.specs.declared.ty.Ty.{Ty}
 use Rattle.tree.specs.Term.{Term}
 use Rattle.tree.specs.Typing.{type_of}
 use Rattle.tree.proofs.Uses.{each_call-weaker}
-use Rattle.lin.specs.declared.span.Span1.{Span1}
 use Rattle.meaning.specs.Algorithm.{Function, Algorithm}
 use Rattle.meaning.specs.Names.{same_name, is_among}
 use Rattle.meaning.specs.Conditions.{IsAlgorithm, callable}
 use Rattle.meaning.specs.Conditions.{function_named as named_in}
 use Rattle.meaning.specs.Functions.{AreSamples}
 use Rattle.meaning.specs.Value.{steps_of}
-use Rattle.nest.specs.Plan.{Statement, Seq, For, Store, Publish, Empty, Then, Group, Plan}
+use Rattle.nest.specs.Plan.{Publish}
 use Rattle.nest.specs.Symbols.{Symbols, InRegion, points}
 use Rattle.nest.specs.Lines.{lines, body_line}
-use Rattle.cert.specs.Certificate.{Certificate}
 use Rattle.cert.specs.Cells.{no_symbols, is_in_region, own_region, points_within}
-use Rattle.actions.specs.Actions.{Setting, Action, Allot, Put, Give, actions, block_actions, after}
-use Rattle.actions.specs.Setting.{setting_of}
+use Rattle.actions.specs.Actions.{Action, Give, actions, after}
 use Rattle.actions.specs.Run.{Source, Input}
 use Rattle.claims.specs.Origins.{Given}
 use Rattle.claims.specs.Given.{outline_of, given_of, all_steps_in, function_named}
-use Rattle.claims.specs.Claims.{In, Fact, Scope, InForce, new_fact, onward, keep, AreMade, IsSound}
+use Rattle.claims.specs.Claims.{In, Scope, InForce, new_fact, onward, keep, AreMade, IsSound}
 use Rattle.claims.specs.Obligations.{LieIn}
 use Rattle.claims.specs.Right.{at_start}
 use Rattle.claims.specs.Stored.{source_name, meant_name, as_calls, IsDefinition, AreDefinitions}
@@ -34,13 +31,13 @@ use Rattle.claims.proofs.Forms.{point_lies, lies_region}
 use Rattle.intervals.specs.Laws.{CallsStayWithin}
 use Rattle.inlining.specs.PutIn.{put_in, put_in_where_possible}
 use Rattle.inlining.specs.Laws.{PutInWherePossible, PureDefinitions, CallsOfUpdates, MayPutIn, TakesNoUpdates}
-use Rattle.headline.specs.Row.{Ends, Owned, Loop, Row, spans_of, nest_of, alloc_of, store_of, loops_of, body_of, group_of, plan_of, certificate_of, own_lines, own_ends, last_line_of_loops}
+use Rattle.headline.specs.Row.{Owned, Loop, Row, spans_of, nest_of, alloc_of, store_of, loops_of, body_of, group_of, plan_of, certificate_of, own_lines, own_ends}
 use Rattle.headline.specs.Ranges.{at_piece, ends_at}
 use Rattle.headline.specs.Demands.{Demand, Holds, stored_in, output_function, call_source, NothingIsUpdated, BufferIsOfOutput, StoreHasItsVariables, StoreIsInBuffer, ValueIsDefinition, ClaimIsKnown, ClaimIsOfNest, OwnIsClaimed}
 use Rattle.headline.proofs.Members.{differs}
 use Rattle.headline.proofs.Points.{inside_all, region_in, in_region, rooms_of}
 use Rattle.headline.proofs.Loads.{calls_stay, type_stays, input_alone}
-use Rattle.headline.proofs.Sound.{P, C, S, put, put_in_nest, calls_mean, calls_are_input, sound_nest}
+use Rattle.headline.proofs.Sound.{S, put, put_in_nest, calls_mean, calls_are_input, sound_nest}
 use Rattle.headline.proofs.Made.{todo, steps_none, is_made}
 
 -- ---- lists
@@ -159,12 +156,16 @@ module _ (a : Algorithm) (r : Row) (holds : (d : Demand) → Holds a r d) where
         where
           given_out : (x : Action) (t : Symbols) → In x (map (Give r.published) ((S a r holds).own t)) → IsDefinition a placed G x
           given_out x t m = let k = in_map (Give r.published) x ((S a r holds).own t) m in subst (λ (y : Action). IsDefinition a placed G y) (sym k.2) tt
+
           third : (x : Action) (t : Symbols) → In x (map (Give r.published) ((S a r holds).own t) ++ []) → IsDefinition a placed G x
           third x t m = elim (in_append x (map (Give r.published) ((S a r holds).own t)) [] m) [ inl k ↦ given_out x t k | inr k ↦ absurd k ]
+
           stored_one : (x : Action) → In x (actions (S a r holds) (loops_of r) s) → IsDefinition a placed G x
           stored_one x m = let k = put_in_nest a r holds n less x m in subst (λ (y : Action). IsDefinition a placed G y) (sym k.2) (put_defined w law updates k.0)
+
           second : (x : Action) → In x (actions (S a r holds) (loops_of r) s ++ (map (Give r.published) ((S a r holds).own (after (loops_of r) s)) ++ [])) → IsDefinition a placed G x
           second x m = elim (in_append x (actions (S a r holds) (loops_of r) s) (map (Give r.published) ((S a r holds).own (after (loops_of r) s)) ++ []) m) [ inl k ↦ stored_one x k | inr k ↦ third x (after (loops_of r) s) k ]
+
           first : (x : Action) → In x (actions (S a r holds) (body_of r) s) → IsDefinition a placed G x
           first x (inl e) = subst (λ (y : Action). IsDefinition a placed G y) (sym e) tt
           first x (inr m) = second x m
@@ -181,7 +182,7 @@ module _ (a : Algorithm) (r : Row) (holds : (d : Demand) → Holds a r d) where
       own_inside : (p : List ℤ) → In p ((S a r holds).own s) → InRegion s (spans_of r.claim.region) p
       own_inside p m =
           lies_region s (spans_of r.claim.region) p (in_region s r.claim.region p
-              (inside_all (map (ends_at s) (own_ends r.own)) (map (ends_at s) r.claim.region) p (holds OwnIsClaimed n less) (region_in s (own_ends r.own) p (own_lies r.own p m))))
+          (inside_all (map (ends_at s) (own_ends r.own)) (map (ends_at s) r.claim.region) p (holds OwnIsClaimed n less) (region_in s (own_ends r.own) p (own_lies r.own p m))))
 
       -- ---- claims named at lines
       unnamed_at : (line : ℕ) → (r.claim.line ≡ line → ⊥) → (xs : List Action) (sc : Scope) → AreMade G (G.outline.named line) xs sc

@@ -1,7 +1,7 @@
 -- Every demand holds of the plan of pieces of three and seven rows.
-use Rattle.std.proofs.Common.{◌≡◌, ℕ, zero, suc, ◌+◌, ◌-◌, ◌<◌, ◌≤◌, List, [], ◌∷◌, length, map, Option, Some, None, refl, sym, ap, ◌∙◌, subst, inl, inr, arith, Bool, true, false}
-use Rattle.std.specs.Prelude.{ℤ, pos, negsuc, ◌==◌, ◌&&◌, ◌||◌, ◌⊎◌, nat_le, nat_lt, int_le, All, Contains, IsTrue, slice_index, slice_get}
-use Rattle.std.specs.List.{AllByRecursion, list_all, list_any, range_with_len}
+use Rattle.std.proofs.Common.{◌≡◌, ℕ, zero, suc, ◌+◌, ◌-◌, ◌<◌, ◌≤◌, List, [], ◌∷◌, length, map, refl, sym, ◌∙◌, inl, inr, arith, Bool, true, false}
+use Rattle.std.specs.Prelude.{ℤ, pos, negsuc, ◌==◌, ◌&&◌, nat_le, nat_lt, int_le, All, Contains, IsTrue, slice_index}
+use Rattle.std.specs.List.{AllByRecursion, list_all, list_any}
 use Rattle.std.proofs.lemmas.Int.{ints}
 use Rattle.std.proofs.lemmas.Bool.Decides.{nat_tests}
 use Rattle.std.proofs.lemmas.List.Elements.{All-from_recursion}
@@ -23,8 +23,7 @@ use Rattle.claims.proofs.Refines.{and_parts, eq_true}
 use Rattle.claims.proofs.Sound.{or_cases}
 use Rattle.headline.specs.Row.{Loop, spans_of, own_ends}
 use Rattle.headline.specs.Ranges.{at_piece, ends_at, seats_at, IsInside, AreInside, axis_ranges, variable_ranges}
-use Rattle.headline.specs.Demands.{Place, AtGroup, AtBuffer, AtLoop, AtStore, AtOwn, AtClaim, Demand, NameIsSame, InputIsSame, OutputIsSame, GroupIsOfOutput, SymbolsAreInScope, FormsAreWithinLimits, FormsAreShort, RegionHasItsDimensions, ExtentsAreSmall, CellsAreFew, PiecesAreFew, NothingIsUpdated, BufferIsOfFunction, BufferIsOfOutput, BufferHasItsDimensions, BufferIsSmall, SymbolIsNew, LoopIsOfGrid, EachCoordinateHasALoop, StoreIsInBuffer, StoreIsOfDefinition, StoreHasItsVariables, VariablesAreKnown, CallsAreKnown, LoadsAreOnInput, StoreHasAPlace, LoadsAreClaimed, ValueIsDefinition, ValueIsSmall, CoordinatesAreIndices, ClaimIsKnown, PublishedIsOfGroup, ClaimIsInForce, OwnIsClaimed, OwnIsGiven, OwnIsOfGroup, OwnHasItsDimensions, OwnAreApart, OwnStaysInside, OwnIsAll, OutputIsInside, ClaimIsOfBuffer, ClaimIsOfFunction, ClaimIsOfDefinition, ClaimHasItsDimensions, ClaimIsOfNest, NestIsPlain, ClaimIsStored, Holds, IsOver, IsDistinct, own_numbers, forms_at, symbols_at}
-use Rattle.headline.specs.Shown.{Shown}
+use Rattle.headline.specs.Demands.{AtGroup, AtBuffer, AtLoop, AtStore, AtOwn, AtClaim, Demand, NameIsSame, InputIsSame, OutputIsSame, GroupIsOfOutput, SymbolsAreInScope, FormsAreWithinLimits, FormsAreShort, RegionHasItsDimensions, ExtentsAreSmall, CellsAreFew, PiecesAreFew, NothingIsUpdated, BufferIsOfFunction, BufferIsOfOutput, BufferHasItsDimensions, BufferIsSmall, SymbolIsNew, LoopIsOfGrid, EachCoordinateHasALoop, StoreIsInBuffer, StoreIsOfDefinition, StoreHasItsVariables, VariablesAreKnown, CallsAreKnown, LoadsAreOnInput, StoreHasAPlace, LoadsAreClaimed, ValueIsDefinition, ValueIsSmall, CoordinatesAreIndices, ClaimIsKnown, PublishedIsOfGroup, ClaimIsInForce, OwnIsClaimed, OwnIsGiven, OwnIsOfGroup, OwnHasItsDimensions, OwnAreApart, OwnStaysInside, OwnIsAll, OutputIsInside, ClaimIsOfBuffer, ClaimIsOfFunction, ClaimIsOfDefinition, ClaimHasItsDimensions, ClaimIsOfNest, NestIsPlain, ClaimIsStored, Holds, IsOver, IsDistinct, own_numbers, forms_at, symbols_at}
 use Rattle.headline.specs.Worked.{inc, parted, IncIsShown}
 use Rattle.headline.proofs.Members.{in_of, contains_of, some_bool}
 

@@ -1,34 +1,32 @@
 -- The loads of a stored expression of the input alone: they are on its extents, and they are calls as they stand.
-use Rattle.std.proofs.Common.{◌≡◌, ◌≢◌, ℕ, zero, suc, List, [], ◌∷◌, map, length, Option, Some, None, IsSome, refl, sym, ap, ◌∙◌, subst, inl, inr, arith, Bool, true, false}
-use Rattle.std.specs.Prelude.{ℤ, pos, negsuc, ◌≤ℤ◌, ◌<ℤ◌, ◌&&◌, ◌⊎◌, if◌then◌else◌, is_some, nat_eq, nat_lt, All, IsTrue, IfSome, slice_get}
+use Rattle.std.proofs.Common.{◌≡◌, ℕ, suc, List, [], ◌∷◌, length, Option, Some, None, IsSome, refl, sym, ap, ◌∙◌, subst, arith, Bool, true, false}
+use Rattle.std.specs.Prelude.{ℤ, pos, negsuc, ◌&&◌, if◌then◌else◌, is_some, nat_eq, nat_lt, All, IfSome}
 use Rattle.std.specs.Cmp.Lexicographic.{pointwise}
 use Rattle.std.proofs.lemmas.Int.{ints}
 use Rattle.std.proofs.lemmas.Bool.Decides.{nat_tests}
 use Rattle.numeric.specs.declared.ty.Ty.{Ty}
-use Rattle.numeric.specs.Wrap.{IsOf}
 use Rattle.tree.specs.declared.value.Value.{Value}
 use Rattle.tree.specs.Term.{Term, Number, Name, Call, Minus, Binary, Clamp, Cast, Choice, Terms, End, More, Test, Compares, Fails, Both, Either}
 use Rattle.tree.specs.Meaning.{numbers_of}
 use Rattle.tree.specs.Names.{TakesCall, IsIndex, IsValueOf, AreAsTold, called_type}
 use Rattle.tree.specs.Substitution.{with_calls, test_with_calls, all_with_calls}
 use Rattle.tree.specs.Typing.{type_of, is_typed, are_indices, common, only_if, cast_type, operator_type, answer_type, index_count, is_index}
-use Rattle.tree.specs.Uses.{Asked, asked, calls_made, EachCall, EachCallOfTest, EachCallOfAll}
+use Rattle.tree.specs.Uses.{asked, EachCall, EachCallOfTest, EachCallOfAll}
 use Rattle.tree.proofs.Uses.{each_stands}
 use Rattle.image.specs.Raster.{is_within}
 use Rattle.meaning.specs.Algorithm.{Function, Algorithm}
 use Rattle.meaning.specs.Names.{same_name, is_among, bound}
 use Rattle.meaning.specs.Conditions.{IsAlgorithm, callable}
 use Rattle.meaning.specs.Functions.{IsPoint, AreSamples}
-use Rattle.meaning.specs.Value.{calls_of, calls_before, input_calls}
+use Rattle.meaning.specs.Value.{calls_of, input_calls}
 use Rattle.meaning.proofs.Calls.{NoneNamed, none_is_input, callable_miss, calls_miss}
-use Rattle.meaning.proofs.Cases.{name_same, name_differs, same_name_is}
-use Rattle.meaning.proofs.Types.{AnswersAre, bound_is}
+use Rattle.meaning.proofs.Cases.{name_differs, same_name_is}
+use Rattle.meaning.proofs.Types.{bound_is}
 use Rattle.meaning.proofs.Typed.{before_answers}
 use Rattle.intervals.specs.declared.range.Interval.{Interval}
 use Rattle.intervals.specs.Interval.{LiesIn, range_named}
 use Rattle.intervals.specs.Calls.{LiesOn, calls_within}
 use Rattle.intervals.specs.Laws.{InRanges, IsOnIfNamed, CallsStayWithin}
-use Rattle.headline.proofs.Members.{some_bool}
 
 -- two facts of each call give a third
 module _ (P Q R : List ℕ → Terms → Type 0) (f : (name : List ℕ) (at : Terms) → P name at → Q name at → R name at) where

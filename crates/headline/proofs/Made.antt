@@ -1,26 +1,26 @@
 -- The nest of a row plan makes its claim.
-use Rattle.std.proofs.Common.{◌≡◌, ℕ, zero, suc, ◌+◌, ◌-◌, ◌<◌, ◌≤◌, List, [], ◌∷◌, ◌++◌, map, length, take, Option, Some, None, IsSome, refl, sym, ap, ◌∙◌, subst, inl, inr, arith, Bool, true, false}
-use Rattle.std.specs.Prelude.{ℤ, pos, negsuc, ◌+ℤ◌, ◌*ℤ◌, ◌≤ℤ◌, ◌==◌, ◌⊎◌, if◌then◌else◌, All, Contains}
+use Rattle.std.proofs.Common.{◌≡◌, ℕ, ◌<◌, List, [], ◌∷◌, map, Option, Some, None, IsSome, refl, sym, ap, ◌∙◌, subst, inl, inr, arith}
+use Rattle.std.specs.Prelude.{ℤ, pos, Contains}
 use Rattle.std.specs.List.{AllByRecursion}
 use Rattle.std.proofs.lemmas.Int.{ints}
 use Rattle.lin.specs.Forms.{Form}
 use Rattle.meaning.specs.Algorithm.{Function, Algorithm}
 use Rattle.nest.specs.Symbols.{Symbols, form_value, InRegion}
 use Rattle.nest.specs.Rooms.{Room, place}
-use Rattle.actions.specs.Actions.{Action, Put, stored, actions}
+use Rattle.actions.specs.Actions.{Action, Put, actions}
 use Rattle.actions.specs.Memory.{place_in}
 use Rattle.claims.specs.Origins.{Given}
 use Rattle.claims.specs.Given.{outline_of, given_of, steps_in, function_named}
-use Rattle.claims.specs.Claims.{In, Scope, WritesOnly, ClearOf, written, status_after, Before, IsMade}
-use Rattle.claims.proofs.Forms.{region_lies, rec_map, rec_weaker}
+use Rattle.claims.specs.Claims.{In, Scope, WritesOnly, status_after, IsMade}
+use Rattle.claims.proofs.Forms.{region_lies, rec_map}
 use Rattle.claims.proofs.Turns.{in_map}
 use Rattle.intervals.specs.declared.range.Interval.{Interval}
-use Rattle.intervals.specs.Interval.{between, LiesIn}
-use Rattle.headline.specs.Row.{Ends, Loop, Axis, Row, spans_of, store_of, loops_of, coordinate_of, group_of, plan_of, certificate_of}
-use Rattle.headline.specs.Ranges.{at_piece, ends_at, symbol_range, form_range, axis_range, axis_ranges}
+use Rattle.intervals.specs.Interval.{LiesIn}
+use Rattle.headline.specs.Row.{Loop, Axis, Row, spans_of, store_of, loops_of, group_of, plan_of, certificate_of}
+use Rattle.headline.specs.Ranges.{at_piece, ends_at, symbol_range, form_range, axis_ranges}
 use Rattle.headline.specs.Demands.{Demand, Holds, alone, IsPlainNest, NestIsPlain, ClaimIsStored, ClaimIsOfBuffer, ClaimIsOfFunction, ClaimIsOfDefinition, StoreIsInBuffer}
 use Rattle.headline.proofs.Members.{in_of, all_in}
-use Rattle.headline.proofs.Reach.{Reached, has_nest, range_of_grid, reach_keeps}
+use Rattle.headline.proofs.Reach.{has_nest, range_of_grid, reach_keeps}
 use Rattle.headline.proofs.Points.{AllIn, inside_all, region_in, rooms_of, place_apart, value_for, value_lies, values_back, range_of_loop, Comes, comes}
 use Rattle.headline.proofs.Puts.{point_at, ArePuts, writes_only, done_once}
 use Rattle.headline.proofs.Sound.{S, symbols, fresh, over_grid, InScope, in_scope, symbols_apart, put, store_is, put_in_nest, has_place}
@@ -144,11 +144,13 @@ module _ (a : Algorithm) (r : Row) (holds : (d : Demand) → Holds a r d) (n : �
               (subst (λ f. WritesOnly r.stored f todo) (sym (holds ClaimIsOfFunction)) (writes_only r.stored r.buffer_function (map (λ x. x.variable) r.axes) r.value todo all_puts));
           clear = λ p inside x m same.
               place_apart (at_piece n) r.seats p x (place_there p (subst (λ (s : Symbols). InRegion s (spans_of r.claim.region) p) here inside))
-                  (subst (λ (o : Option (List Room)). place_in o p ≡ place_in o x) rooms same);
-          covers = λ p inside.
-              (None, tt,
-                subst (λ b. status_after given b p todo None ≡ Some 0) buffer_same
+              (subst (λ (o : Option (List Room)). place_in o p ≡ place_in o x) rooms same);
+          covers = λ p inside. (
+            None,
+            tt,
+            subst (λ b. status_after given b p todo None ≡ Some 0) buffer_same
                 (done_once r.stored r.buffer_function (map (λ x. x.variable) r.axes) r.value given p todo all_puts
                 (stored_there p (subst (λ (s : Symbols). InRegion s (spans_of r.claim.region) p) here inside)) None)
-                ∙ ap Some (sym (steps_none r.claim.function)));
+                ∙ ap Some (sym (steps_none r.claim.function)),
+          );
         }

@@ -1,6 +1,6 @@
 -- Members of lists, in two words for them.
-use Rattle.std.proofs.Common.{◌≡◌, ℕ, zero, suc, ◌<◌, List, [], ◌∷◌, ◌++◌, map, length, All, Option, Some, None, refl, sym, ap, ◌∙◌, subst, inl, inr, arith, Bool, true, false}
-use Rattle.std.specs.Prelude.{Contains, slice_index_or, slice_get, ◌==◌, ◌⊎◌, flat_map}
+use Rattle.std.proofs.Common.{◌≡◌, ℕ, zero, suc, ◌<◌, List, [], ◌∷◌, ◌++◌, map, length, All, refl, sym, ap, subst, inl, inr, arith, Bool, true, false}
+use Rattle.std.specs.Prelude.{Contains, slice_index_or, ◌==◌, ◌⊎◌, flat_map}
 use Rattle.std.proofs.lemmas.Bool.Decides.{nat_tests}
 use Rattle.std.proofs.lemmas.List.Elements.{All-head, All-tail}
 use Rattle.claims.specs.Claims.{In}

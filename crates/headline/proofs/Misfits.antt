@@ -1,13 +1,13 @@
 -- A row plan has no line that does not fit.
-use Rattle.std.proofs.Common.{◌≡◌, ℕ, ◌+◌, List, [], ◌∷◌, map, Option, Some, None, refl, sym, ap, ◌∙◌, subst, Bool, true, false}
+use Rattle.std.proofs.Common.{◌≡◌, ℕ, ◌+◌, List, [], ◌∷◌, map, Option, Some, None, refl, sym, ap, subst, Bool, true}
 use Rattle.std.specs.Prelude.{◌&&◌}
 use Rattle.std.specs.List.{list_all}
 use Rattle.nest.specs.Plan.{Plan}
-use Rattle.nest.specs.Lines.{lines, certificate_line}
+use Rattle.nest.specs.Lines.{certificate_line}
 use Rattle.cert.specs.Certificate.{Certificate}
 use Rattle.cert.specs.Lines.{own_line, claim_line}
-use Rattle.headline.specs.Row.{Ends, Seats, Axis, Loop, Owned, Row, Fits, span_of, spans_of, places_of, coordinate_of, nest_of, store_of, group_of, plan_of, certificate_of, own_lines}
-use Rattle.headline.specs.Misfit.{or_later, unless, has_ends, is_straight, has_form, nest_misfit, group_misfit, own_misfit, certificate_misfit, misfit}
+use Rattle.headline.specs.Row.{Ends, Seats, Axis, Loop, Owned, Row, spans_of, places_of, coordinate_of, nest_of, store_of, group_of, plan_of, certificate_of, own_lines}
+use Rattle.headline.specs.Misfit.{or_later, unless, has_ends, is_straight, has_form, nest_misfit, group_misfit, own_misfit, misfit}
 use Rattle.headline.specs.Shown.{FitsHasNoMisfit}
 
 all_ends : (es : List Ends) → list_all has_ends (spans_of es) ≡ true
@@ -32,7 +32,7 @@ nest_fits (l ∷ ls) r line = or_none (nest_misfit (nest_of ls (store_of r)) (li
 group_fits : (r : Row) → group_misfit (group_of r) ≡ None
 group_fits r =
     (λ i. or_later (unless (all_ends r.region i && true) 4)
-        (or_later (unless (all_straight r.seats i) 5) (or_later (nest_fits r.loops r 6 i) (or_later None None))))
+    (or_later (unless (all_straight r.seats i) 5) (or_later (nest_fits r.loops r 6 i) (or_later None None))))
 
 own_fits : (o : Option Owned) (line : ℕ) → own_misfit (own_lines o) line ≡ None
 own_fits None line = refl

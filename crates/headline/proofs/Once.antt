@@ -1,17 +1,16 @@
 -- The parts of a row plan are told by the plan and the certificate, so that a yes and a refusal never hold both.
 use Rattle.std.proofs.Common.{◌≡◌, ℕ, List, [], ◌∷◌, map, Option, Some, None, refl, sym, ap, ◌∙◌, subst, inl, inr}
-use Rattle.std.specs.Prelude.{ℤ, pos, ◌⊎◌}
+use Rattle.std.specs.Prelude.{pos}
 use Rattle.tree.specs.Term.{Term, Name}
 use Rattle.lin.specs.Forms.{Form, number}
 use Rattle.lin.specs.declared.span.Span1.{Span1}
 use Rattle.nest.specs.declared.stmt.Places.{Places}
 use Rattle.nest.specs.declared.stmt.Places.TheVariants.{From, Folded}
-use Rattle.nest.specs.Plan.{Index, At, Found, Coordinate, Statement, Seq, For, Let, First, Guard, Alloc, Fetch, Store, Publish, Statements, Empty, Then, Group, Plan}
+use Rattle.nest.specs.Plan.{Index, At, Found, Coordinate, Statement, Seq, For, Alloc, Store, Publish, Statements, Empty, Then, Group, Plan}
 use Rattle.cert.specs.declared.cert.Own.{Own}
 use Rattle.cert.specs.Certificate.{Claim, Certificate}
-use Rattle.headline.specs.Row.{Ends, Seats, Loop, Axis, Owned, Claimed, Row, Fits, span_of, spans_of, places_of, coordinate_of, nest_of, store_of, plan_of, certificate_of, own_lines}
-use Rattle.headline.specs.Misfit.{misfit}
-use Rattle.headline.specs.Shown.{Shown, Fails, FitsOnce, ShownNeverFails}
+use Rattle.headline.specs.Row.{Ends, Seats, Loop, Axis, Owned, Claimed, Row, Fits, spans_of, places_of, coordinate_of, nest_of, store_of, plan_of, certificate_of, own_lines}
+use Rattle.headline.specs.Shown.{FitsOnce, ShownNeverFails}
 use Rattle.headline.specs.Demands.{Holds}
 use Rattle.headline.proofs.Misfits.{fits_has_no_misfit}
 

@@ -1,22 +1,21 @@
 -- Points of intervals, and their places in a buffer.
-use Rattle.std.proofs.Common.{◌≡◌, ℕ, zero, suc, ◌+◌, List, [], ◌∷◌, ◌++◌, map, length, Option, Some, None, IsSome, refl, sym, ap, ◌∙◌, subst, inl, inr, arith, Bool, true, false}
-use Rattle.std.specs.Prelude.{ℤ, pos, negsuc, ◌+ℤ◌, ◌-ℤ◌, ◌*ℤ◌, ◌≤ℤ◌, ◌==◌, if◌then◌else◌, ◌⊎◌, slice_get, int_le}
+use Rattle.std.proofs.Common.{◌≡◌, ℕ, zero, suc, List, [], ◌∷◌, map, Option, Some, None, IsSome, refl, sym, ap, ◌∙◌, subst, inl, inr, arith, Bool, true, false}
+use Rattle.std.specs.Prelude.{ℤ, pos, ◌-ℤ◌, ◌≤ℤ◌, ◌==◌, if◌then◌else◌, slice_get, int_le}
 use Rattle.std.specs.List.{AllByRecursion}
 use Rattle.std.proofs.lemmas.Int.{ints}
-use Rattle.lin.specs.Forms.{Form}
-use Rattle.nest.specs.Symbols.{Symbols, bind, form_value, InRegion, turns}
-use Rattle.nest.specs.Rooms.{Room, Straight, room, below, seat, place, joined}
+use Rattle.nest.specs.Symbols.{Symbols, bind, form_value, turns}
+use Rattle.nest.specs.Rooms.{Room, room, below, place, joined}
 use Rattle.intervals.specs.declared.range.Interval.{Interval}
-use Rattle.intervals.specs.Interval.{LiesIn, between}
+use Rattle.intervals.specs.Interval.{LiesIn}
 use Rattle.claims.specs.Claims.{In}
-use Rattle.claims.specs.Obligations.{Lies, LieIn}
+use Rattle.claims.specs.Obligations.{LieIn}
 use Rattle.claims.proofs.Refines.{eq_refl, eq_true}
 use Rattle.claims.proofs.Turns.{turns_have, below_has, below_some, joined_some}
-use Rattle.headline.specs.Row.{Ends, Seats, Loop, Axis, span_of, spans_of, places_of}
-use Rattle.headline.specs.Ranges.{at_piece, ends_at, seats_at, IsInside, AreInside, symbol_range, form_range, axis_range}
-use Rattle.headline.specs.Demands.{alone, IsDistinct}
-use Rattle.headline.proofs.Members.{differs, some_bool, contains_of, in_of}
-use Rattle.headline.proofs.Reach.{Reached, Fresh, OverGrid, EndsOverGrid, reach_keeps, form_there, bound_here, bound_else}
+use Rattle.headline.specs.Row.{Ends, Seats, Loop, span_of, spans_of, places_of}
+use Rattle.headline.specs.Ranges.{at_piece, ends_at, seats_at, IsInside, AreInside, symbol_range}
+use Rattle.headline.specs.Demands.{IsDistinct}
+use Rattle.headline.proofs.Members.{differs, some_bool}
+use Rattle.headline.proofs.Reach.{Reached, Fresh, EndsOverGrid, reach_keeps, form_there, bound_here, bound_else}
 
 -- each coordinate of the point lies in its interval
 abbrev pub AllIn : List Interval → List ℤ → Type 0

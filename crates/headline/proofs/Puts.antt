@@ -1,11 +1,11 @@
 -- A store of forms as an action, and lists of actions that all store in one buffer.
-use Rattle.std.proofs.Common.{◌≡◌, ℕ, zero, suc, ◌+◌, List, [], ◌∷◌, ◌++◌, map, length, take, drop, Option, Some, None, refl, sym, ap, ◌∙◌, subst, inl, inr, arith, Bool, true, false}
-use Rattle.std.specs.Prelude.{ℤ, ◌==◌, ◌&&◌, if◌then◌else◌, ◌⊎◌}
+use Rattle.std.proofs.Common.{◌≡◌, ℕ, suc, List, [], ◌∷◌, map, length, take, drop, Option, Some, refl, sym, ap, ◌∙◌, subst, inl, inr, Bool, true, false}
+use Rattle.std.specs.Prelude.{ℤ, ◌==◌, ◌&&◌, if◌then◌else◌}
 use Rattle.tree.specs.Term.{Term}
 use Rattle.meaning.specs.Names.{same_point}
-use Rattle.nest.specs.Plan.{At, Coordinate}
+use Rattle.nest.specs.Plan.{Coordinate}
 use Rattle.nest.specs.Symbols.{Symbols, form_value}
-use Rattle.actions.specs.Actions.{Action, Put, Target, Fixed, fixed, are_fixed, target, is_pure_store, action_for, store_action}
+use Rattle.actions.specs.Actions.{Action, Put, fixed, are_fixed, target, action_for, store_action}
 use Rattle.claims.specs.Origins.{Given}
 use Rattle.claims.specs.Claims.{In, WritesOnly, status_after, status_one}
 use Rattle.claims.proofs.Refines.{eq_refl}

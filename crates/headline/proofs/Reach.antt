@@ -1,13 +1,13 @@
 -- The values of symbols that a nest of loops comes through, and what they lie in.
-use Rattle.std.proofs.Common.{◌≡◌, ℕ, zero, suc, List, [], ◌∷◌, ◌++◌, map, take, Option, Some, None, refl, sym, ap, ◌∙◌, subst, inl, inr, arith, Bool, true, false}
-use Rattle.std.specs.Prelude.{ℤ, pos, negsuc, ◌+ℤ◌, ◌*ℤ◌, ◌≤ℤ◌, int_le, ◌==◌, if◌then◌else◌, ◌⊎◌, slice_get}
+use Rattle.std.proofs.Common.{◌≡◌, ℕ, suc, List, [], ◌∷◌, ◌++◌, map, take, Some, refl, sym, ap, ◌∙◌, subst, inl, inr, arith, Bool, true, false}
+use Rattle.std.specs.Prelude.{ℤ, pos, negsuc, ◌+ℤ◌, ◌*ℤ◌, ◌≤ℤ◌, int_le, ◌==◌, if◌then◌else◌, slice_get}
 use Rattle.std.specs.List.{AllByRecursion}
 use Rattle.std.proofs.lemmas.Int.{ints}
 use Rattle.numeric.proofs.Ints.{multiply_order, multiply_order_negative}
 use Rattle.lin.specs.Forms.{Form, sum_of}
 use Rattle.lin.specs.declared.form.Multiple.{Multiple}
 use Rattle.nest.specs.Plan.{Statement}
-use Rattle.nest.specs.Symbols.{Symbols, bind, form_value, largest, turns}
+use Rattle.nest.specs.Symbols.{Symbols, bind, form_value, turns}
 use Rattle.actions.specs.Actions.{Setting, Action, actions}
 use Rattle.intervals.specs.declared.range.Interval.{Interval}
 use Rattle.intervals.specs.Interval.{between, LiesIn}
@@ -110,6 +110,7 @@ module _ (n : ℕ) where
     where
       b : Bool
       b = int_le r.0 (form_value l.ends.low s)
+
       other : In i (l.symbol ∷ map (λ l. l.symbol) ls) → (l.symbol == i) ≡ false → In i (map (λ l. l.symbol) ls)
       other (inl same) h = let yes : (l.symbol == l.symbol) ≡ true = eq_refl l.symbol in let not : (l.symbol == l.symbol) ≡ false = subst (λ j. (l.symbol == j) ≡ false) same h in absurd (cc (yes, not))
       other (inr later) h = later

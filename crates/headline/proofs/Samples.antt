@@ -1,6 +1,6 @@
 -- The samples of a picture of the input's shape are values of its type.
 use Rattle.std.proofs.Common.{ℕ, ◌≤◌, arith}
-use Rattle.std.specs.Prelude.{pos, All}
+use Rattle.std.specs.Prelude.{pos}
 use Rattle.std.proofs.lemmas.Int.{ints}
 use Rattle.std.proofs.lemmas.List.Elements.{All-weaker}
 use Rattle.numeric.specs.declared.ty.Ty.{Ty}

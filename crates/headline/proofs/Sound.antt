@@ -1,31 +1,27 @@
 -- The pieces of a row plan of which all demands hold are sound.
-use Rattle.std.proofs.Common.{◌≡◌, ℕ, zero, suc, ◌+◌, ◌-◌, ◌<◌, ◌≤◌, List, [], ◌∷◌, ◌++◌, map, length, take, Option, Some, None, IsSome, refl, sym, ap, ◌∙◌, subst, inl, inr, arith, Bool, true, false}
+use Rattle.std.proofs.Common.{◌≡◌, ℕ, suc, ◌+◌, ◌-◌, ◌<◌, ◌≤◌, List, [], ◌∷◌, map, length, take, Option, Some, None, IsSome, refl, sym, ap, ◌∙◌, subst, inl, inr, arith, Bool, true, false}
 use Rattle.std.specs.Prelude.{ℤ, pos, negsuc, ◌+ℤ◌, ◌*ℤ◌, ◌≤ℤ◌, ◌==◌, ◌&&◌, ◌⊎◌, if◌then◌else◌, int_le, All, Contains, MatchOption, IsTrue, slice_get}
 use Rattle.std.specs.List.{AllByRecursion}
 use Rattle.std.proofs.lemmas.Int.{ints}
-use Rattle.std.proofs.lemmas.List.Elements.{recursion_from_All, All-from_recursion, All-weaker}
-use Rattle.numeric.specs.declared.ty.Ty.{Ty}
+use Rattle.std.proofs.lemmas.List.Elements.{recursion_from_All, All-from_recursion}
 use Rattle.numeric.specs.declared.ty.Ty.TheVariants.{I32}
-use Rattle.numeric.specs.Wrap.{IsOf, least, greatest}
-use Rattle.tree.specs.Term.{Term}
+use Rattle.numeric.specs.Wrap.{IsOf}
 use Rattle.tree.specs.Typing.{type_of}
 use Rattle.tree.specs.Uses.{EachCall}
 use Rattle.tree.specs.Meaning.{numbers_of}
 use Rattle.tree.proofs.Uses.{each_call-weaker}
 use Rattle.lin.specs.Forms.{Form}
-use Rattle.lin.specs.declared.form.Multiple.{Multiple}
 use Rattle.image.specs.Raster.{is_within}
-use Rattle.meaning.specs.Algorithm.{Function, Algorithm}
+use Rattle.meaning.specs.Algorithm.{Algorithm}
 use Rattle.meaning.specs.Names.{same_name, is_among, bound}
-use Rattle.meaning.specs.Conditions.{IsAlgorithm, callable, function_named}
+use Rattle.meaning.specs.Conditions.{IsAlgorithm, callable}
 use Rattle.meaning.specs.Functions.{IsPoint, AreSamples}
 use Rattle.meaning.specs.Value.{calls_of}
-use Rattle.nest.specs.declared.stmt.Kind.TheVariants.{Serial}
-use Rattle.nest.specs.Plan.{Coordinate, Statement, Seq, For, Alloc, Store, Publish, Statements, Empty, Then, Group, Plan}
-use Rattle.nest.specs.Symbols.{Symbols, bind, form_value, InRegion, turns}
-use Rattle.nest.specs.Rooms.{Room, room, place}
-use Rattle.nest.specs.Lines.{lines, body_line}
-use Rattle.cert.specs.Certificate.{Claim, Certificate}
+use Rattle.nest.specs.Plan.{Coordinate, Statement, Seq, Publish, Empty, Then, Plan}
+use Rattle.nest.specs.Symbols.{Symbols, form_value, turns}
+use Rattle.nest.specs.Rooms.{Room, place}
+use Rattle.nest.specs.Lines.{lines}
+use Rattle.cert.specs.Certificate.{Certificate}
 use Rattle.actions.specs.Actions.{Setting, Action, Put, stored, store_action, target, fixed, actions}
 use Rattle.actions.specs.Memory.{place_in}
 use Rattle.actions.specs.Setting.{Buffer, setting_of, allocated, block_allocated, or_else, function_in, dimensions_in}
@@ -39,10 +35,10 @@ use Rattle.claims.specs.Given.{outline_of, given_of}
 use Rattle.claims.specs.Claims.{In, Fact, Scope, SourceMayUse, MayUse, IsSoundAction, IsSound, in_turn, turn_symbols, AreMade}
 use Rattle.claims.proofs.Refines.{eq_refl, eq_true, name_true}
 use Rattle.claims.proofs.Turns.{each_turn}
-use Rattle.claims.proofs.Forms.{map_rec, rec_map, rec_weaker}
-use Rattle.headline.specs.Row.{Ends, Seats, Loop, Axis, Row, span_of, spans_of, places_of, coordinate_of, nest_of, alloc_of, store_of, loops_of, body_of, group_of, plan_of, certificate_of, claim_of, last_line_of_loops}
-use Rattle.headline.specs.Ranges.{at_piece, ends_at, seats_at, IsInside, AreInside, symbol_range, form_range, axis_range, axis_ranges, variable_ranges}
-use Rattle.headline.specs.Demands.{Place, AtGroup, AtBuffer, AtLoop, AtStore, AtOwn, AtClaim, Demand, SymbolsAreInScope, SymbolIsNew, LoopIsOfGrid, StoreIsInBuffer, StoreIsOfDefinition, StoreHasAPlace, CoordinatesAreIndices, LoadsAreOnInput, LoadsAreClaimed, CallsAreKnown, InputIsSame, Holds, IsOver, loop_forms, call_source, IsKnownSource, IsLoadable}
+use Rattle.claims.proofs.Forms.{map_rec, rec_weaker}
+use Rattle.headline.specs.Row.{Loop, Axis, Row, span_of, places_of, coordinate_of, nest_of, store_of, loops_of, body_of, group_of, plan_of, certificate_of}
+use Rattle.headline.specs.Ranges.{at_piece, seats_at, IsInside, AreInside, symbol_range, axis_range, axis_ranges, variable_ranges}
+use Rattle.headline.specs.Demands.{AtStore, Demand, SymbolsAreInScope, SymbolIsNew, LoopIsOfGrid, StoreIsInBuffer, StoreIsOfDefinition, StoreHasAPlace, CoordinatesAreIndices, LoadsAreOnInput, LoadsAreClaimed, CallsAreKnown, InputIsSame, Holds, IsOver, loop_forms, call_source, IsKnownSource, IsLoadable}
 use Rattle.headline.proofs.Members.{in_of, contains_of, all_in, some_bool}
 use Rattle.headline.proofs.Reach.{Reached, in_nest, Fresh, fresh_from, reach_keeps, OverGrid, EndsOverGrid, reach_within, range_of_grid, form_lies}
 use Rattle.headline.proofs.Points.{AllIn, inside_all, rooms_of, seats_place}
@@ -99,8 +95,7 @@ module _ (a : Algorithm) (r : Row) (holds : (d : Demand) → Holds a r d) where
   pub fresh : Fresh (0 ∷ []) r.loops
   fresh = fresh_from r.loops (0 ∷ []) (λ k l e.
       let new : Contains (0 ∷ map (λ m. m.symbol) (take k r.loops)) l.symbol → ⊥ =
-      subst (λ (o : Option Loop). MatchOption o (Unit {0}) (λ m. Contains (0 ∷ map (λ m. m.symbol) (take k r.loops)) m.symbol → ⊥)) e (holds (SymbolIsNew k)) in
-      (
+      subst (λ (o : Option Loop). MatchOption o (Unit {0}) (λ m. Contains (0 ∷ map (λ m. m.symbol) (take k r.loops)) m.symbol → ⊥)) e (holds (SymbolIsNew k)) in (
         (λ m. new (contains_of (0 ∷ map (λ m. m.symbol) (take k r.loops)) l.symbol (elim m [ inl same ↦ inl same | inr n ↦ absurd n ]))),
         (λ m. new (contains_of (0 ∷ map (λ m. m.symbol) (take k r.loops)) l.symbol (inr m))),
       ))
@@ -170,7 +165,7 @@ module _ (a : Algorithm) (r : Row) (holds : (d : Demand) → Holds a r d) where
       let long : length (map places_of r.seats) ≡ length r.axes =
       mapped_length places_of r.seats ∙ sym (mapped_length (seats_at (at_piece n)) r.seats) ∙ sym lengths ∙ mapped_length (axis_range r.loops n) r.axes in
       ap (λ (o : Option Buffer). store_action r.stored (function_in o) r.definition (map (λ (c : Coordinate). c.variable) (map coordinate_of r.axes)) (map (target t) (take (dimensions_in o) (map coordinate_of r.axes)))
-          (map (λ c. fixed (target t c)) (Rattle.std.specs.Prelude.drop (dimensions_in o) (map coordinate_of r.axes))) r.value) buffer_is
+      (map (λ c. fixed (target t c)) (Rattle.std.specs.Prelude.drop (dimensions_in o) (map coordinate_of r.axes))) r.value) buffer_is
       ∙ plain_store t r.stored r.buffer_function r.definition r.axes (length (map places_of r.seats)) r.value long (holds StoreIsOfDefinition)
 
   pub put_in_nest : (n : ℕ) → n < r.count → (x : Action) → In x (actions S (loops_of r) (at_piece n)) → (t : Symbols) × Reached r.loops (at_piece n) t × (x ≡ put t)
@@ -259,8 +254,8 @@ module _ (a : Algorithm) (r : Row) (holds : (d : Demand) → Holds a r d) where
           (λ z carried. IsSound G body (line + 1) (in_turn G (turn_symbols G sc.symbols l.symbol (form_value l.ends.low sc.symbols) z) body sc carried))
           _ (turns sc.symbols (span_of l.ends)) _
           (λ z m carried.
-              let next = in_turn G (turn_symbols G sc.symbols l.symbol (form_value l.ends.low sc.symbols) z) body sc carried in (
-                sound_nest ls (line + 1) next (omega (arith, short)) room_is (λ t reached. back t (z, m, reached)),
-                unnamed (line + 1 + lines inner - 1) (omega (arith, short)) (actions G.outline.setting inner next.symbols) next,
-                tt,
-              ))
+          let next = in_turn G (turn_symbols G sc.symbols l.symbol (form_value l.ends.low sc.symbols) z) body sc carried in (
+            sound_nest ls (line + 1) next (omega (arith, short)) room_is (λ t reached. back t (z, m, reached)),
+            unnamed (line + 1 + lines inner - 1) (omega (arith, short)) (actions G.outline.setting inner next.symbols) next,
+            tt,
+          ))

@@ -1,18 +1,17 @@
 -- What is shown is right.
-use Rattle.std.proofs.Common.{◌≡◌, ℕ, zero, suc, ◌+◌, ◌*◌, ◌%◌, ◌/◌, ◌<◌, ◌≤◌, List, [], ◌∷◌, ◌++◌, map, length, Option, Some, None, refl, sym, ap, ◌∙◌, subst, inl, inr, arith, Bool, true, false}
-use Rattle.std.specs.Prelude.{ℤ, ◌||◌, ◌⊎◌, ◌↔◌, Contains, slice_get, slice_index}
-use Rattle.std.specs.List.{AllByRecursion, list_any}
+use Rattle.std.proofs.Common.{◌≡◌, ℕ, zero, suc, ◌+◌, ◌*◌, ◌%◌, ◌<◌, List, [], ◌∷◌, map, length, Option, Some, None, refl, sym, ap, ◌∙◌, subst, arith, Bool, true, false}
+use Rattle.std.specs.Prelude.{ℤ, ◌||◌, Contains, slice_get, slice_index}
+use Rattle.std.specs.List.{AllByRecursion}
 use Rattle.std.proofs.lemmas.Nat.{mod-mul-add}
-use Rattle.tree.specs.Term.{Term}
-use Rattle.image.specs.Raster.{is_within, place, sample_count, raster_point, HasRaster}
+use Rattle.image.specs.Raster.{is_within, place, raster_point, HasRaster}
 use Rattle.image.specs.View.{AreExtents}
 use Rattle.image.specs.Laws.{RasterIsOrder}
 use Rattle.lin.specs.declared.span.Span1.{Span1}
-use Rattle.meaning.specs.Algorithm.{Function, Algorithm}
+use Rattle.meaning.specs.Algorithm.{Algorithm}
 use Rattle.meaning.specs.Conditions.{IsAlgorithm}
 use Rattle.meaning.specs.Functions.{AreSamples}
 use Rattle.meaning.specs.Value.{output_value}
-use Rattle.nest.specs.Plan.{Statement, Publish, Group, Plan}
+use Rattle.nest.specs.Plan.{Group, Plan}
 use Rattle.nest.specs.Symbols.{Symbols, points}
 use Rattle.cert.specs.Certificate.{Certificate}
 use Rattle.cert.specs.Cells.{no_symbols, is_in_region, own_region, points_within, own_points, grid_symbols, grid_point, group_pieces, first_piece, cell, cells, Piece, pieces}
@@ -20,20 +19,20 @@ use Rattle.claims.specs.Claims.{In}
 use Rattle.claims.specs.Given.{claim_or_none}
 use Rattle.claims.specs.Stored.{KeepsValues}
 use Rattle.claims.proofs.Turns.{in_map}
-use Rattle.orders.specs.Work.{Work, HasSoundLists}
+use Rattle.orders.specs.Work.{Work}
 use Rattle.intervals.specs.Laws.{CallsStayWithin}
 use Rattle.inlining.specs.Laws.{PutInWherePossible, PureDefinitions, CallsOfUpdates}
 use Rattle.pieces.specs.Fetched.{fetched_cells, fetches}
-use Rattle.pieces.specs.Numbers.{point_rank, cell_number, is_cell, HasEnds, HaveEnds, GroupsHaveEnds, CellsAreNumbered}
-use Rattle.pieces.specs.Parts.{IsPart, IsOfGroup, PartsAreTheWork, NeedsAreOneList, NothingIsFetched}
+use Rattle.pieces.specs.Numbers.{point_rank, cell_number, is_cell, HaveEnds, GroupsHaveEnds, CellsAreNumbered}
+use Rattle.pieces.specs.Parts.{IsPart, PartsAreTheWork, NeedsAreOneList, NothingIsFetched}
 use Rattle.pieces.specs.Sound.{publishes, binds, IsPublished, IsRightPiece, IsRightPlan}
 use Rattle.pieces.specs.Theorem.{PlansAreRight, OutputIsThere, HasSoundCells, output_cell}
-use Rattle.pieces.specs.Work.{work_of, target, needs_this, needed_pieces}
-use Rattle.headline.specs.Row.{Ends, Loop, Row, span_of, spans_of, nest_of, store_of, body_of, group_of, plan_of, certificate_of, claim_of}
+use Rattle.pieces.specs.Work.{work_of, needs_this, needed_pieces}
+use Rattle.headline.specs.Row.{Ends, Loop, Row, spans_of, nest_of, store_of, body_of, group_of, plan_of, certificate_of, claim_of}
 use Rattle.headline.specs.Ranges.{at_piece}
 use Rattle.headline.specs.Demands.{Demand, Holds, own_numbers, stored_in, InputIsSame, GroupIsOfOutput, ClaimIsKnown, PublishedIsOfGroup, OwnAreApart, OwnIsAll, OutputIsInside}
-use Rattle.headline.specs.Shown.{Shown, HasCell, Headline, ShownIsRight}
-use Rattle.headline.proofs.Members.{in_of, contains_of}
+use Rattle.headline.specs.Shown.{HasCell, Headline, ShownIsRight}
+use Rattle.headline.proofs.Members.{in_of}
 use Rattle.headline.proofs.Block.{filter_in, named_same, placed, all_defined, sound_body}
 
 -- what lower crates have proved

@@ -1,10 +1,8 @@
 -- The worked row plans.
-use Rattle.std.proofs.Common.{◌≡◌, ℕ, zero, suc, ◌<◌, List, [], ◌∷◌, length, refl, sym, ap, ◌∙◌, subst, inl, inr, arith}
-use Rattle.std.specs.Prelude.{Contains, slice_index}
-use Rattle.std.specs.List.{range_with_len}
+use Rattle.std.proofs.Common.{ℕ, zero, suc, ◌<◌, refl, inl, inr, arith}
 use Rattle.claims.specs.Claims.{In}
 use Rattle.headline.specs.Demands.{own_numbers, OwnAreApart, OwnIsAll}
-use Rattle.headline.specs.Worked.{inc, parted, overlapping, gaping, IncFits, IncIsComputed, OverlapIsRefused, GapIsRefused}
+use Rattle.headline.specs.Worked.{overlapping, gaping, IncFits, IncIsComputed, OverlapIsRefused, GapIsRefused}
 use Rattle.headline.proofs.Members.{in_of}
 
 pub inc_fits : IncFits

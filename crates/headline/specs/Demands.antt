@@ -1,11 +1,9 @@
 -- What is asked of a row plan: each demand with the code and the line of its refusal.
-use Rattle.std.specs.Prelude.{◌≡◌, ◌≢◌, ℕ, ◌+◌, ◌≤◌, ◌<◌, ◌^◌, Bool, true, false, List, [], ◌∷◌, ◌++◌, map, take, length, min, All, Contains, Option, Some, None, IsSome, IsTrue, ℤ, pos, slice_get, MatchOption}
+use Rattle.std.specs.Prelude.{◌≡◌, ℕ, ◌≤◌, ◌<◌, ◌^◌, Bool, true, List, [], ◌∷◌, map, take, length, min, All, Contains, Option, Some, None, IsSome, IsTrue, ℤ, pos, slice_get, MatchOption}
 use Rattle.numeric.specs.declared.ty.Ty.TheVariants.{I32}
-use Rattle.tree.specs.Term.{Term}
 use Rattle.tree.specs.Tree.{node_count, depth}
 use Rattle.tree.specs.Uses.{variables_of, EachCall}
 use Rattle.lin.specs.Forms.{Form, is_within_limits}
-use Rattle.lin.specs.declared.form.Multiple.{Multiple}
 use Rattle.image.specs.Raster.{is_within}
 use Rattle.meaning.specs.Algorithm.{Function, Algorithm}
 use Rattle.meaning.specs.Names.{same_name, is_among}
@@ -18,8 +16,8 @@ use Rattle.intervals.specs.Calls.{calls_within}
 use Rattle.inlining.specs.PutIn.{put_in}
 use Rattle.orders.specs.Work.{OwnIsApart, OwnIsWhole}
 use Rattle.pieces.specs.Numbers.{point_rank}
-use Rattle.headline.specs.Row.{Ends, Seats, Loop, Axis, Owned, Claimed, Row, spans_of, group_of, plan_of, certificate_of, own_ends, line_of_group, line_of_buffer, line_of_loop, line_of_store, last_line_of_loops, line_of_publish, line_of_cert, line_of_own, line_of_claim}
-use Rattle.headline.specs.Ranges.{at_piece, ends_at, seats_at, product, extents_of, IsInside, AreInside, axis_range, axis_ranges, variable_ranges}
+use Rattle.headline.specs.Row.{Ends, Loop, Axis, Row, spans_of, group_of, plan_of, certificate_of, own_ends, line_of_group, line_of_buffer, line_of_loop, line_of_store, last_line_of_loops, line_of_publish, line_of_cert, line_of_own, line_of_claim}
+use Rattle.headline.specs.Ranges.{at_piece, ends_at, seats_at, product, extents_of, IsInside, AreInside, axis_ranges, variable_ranges}
 
 -- the lines of a row plan that have forms; loops are numbered from 0
 pub data Place : Type 0 where

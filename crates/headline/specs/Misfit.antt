@@ -1,17 +1,15 @@
 -- The first line of a plan with its certificate that is not as in a row plan.
-use Rattle.std.specs.Prelude.{ℕ, ◌+◌, List, [], ◌∷◌, Option, Some, None, is_some, if◌then◌else◌, Bool, true, false, ◌&&◌}
+use Rattle.std.specs.Prelude.{ℕ, ◌+◌, List, [], ◌∷◌, Option, Some, None, Bool, true, false, ◌&&◌}
 use Rattle.std.specs.List.{list_all}
 use Rattle.lin.specs.Forms.{Form}
 use Rattle.lin.specs.declared.span.Span1.{Span1}
 use Rattle.nest.specs.declared.stmt.Kind.{Kind}
-use Rattle.nest.specs.declared.stmt.Kind.TheVariants.{Serial, Unroll, Vector}
+use Rattle.nest.specs.declared.stmt.Kind.TheVariants.{Serial}
 use Rattle.nest.specs.declared.stmt.Places.{Places}
 use Rattle.nest.specs.declared.stmt.Places.TheVariants.{From, Folded}
-use Rattle.nest.specs.Plan.{Index, At, Found, Coordinate, Statement, Seq, For, Let, First, Guard, Alloc, Fetch, Store, Publish, Statements, Empty, Then, Group, Plan}
-use Rattle.nest.specs.Lines.{lines, group_line, body_line, certificate_line}
+use Rattle.nest.specs.Plan.{At, Found, Coordinate, Statement, Seq, For, Alloc, Store, Publish, Statements, Empty, Then, Group, Plan}
+use Rattle.nest.specs.Lines.{lines, group_line, certificate_line}
 use Rattle.cert.specs.declared.cert.Own.{Own}
-use Rattle.cert.specs.declared.cert.Need.{Need}
-use Rattle.cert.specs.declared.cert.Window.{Window}
 use Rattle.cert.specs.Certificate.{Claim, Certificate}
 use Rattle.cert.specs.Lines.{own_line, need_line, claim_line, window_line}
 

@@ -1,7 +1,7 @@
 -- What a yes of the checker means, what a refusal means, and what a yes promises.
-use Rattle.std.specs.Prelude.{◌≡◌, ℕ, ◌<◌, List, ◌⊎◌, Option, Some, None, ℤ, true, slice_get}
-use Rattle.image.specs.Raster.{is_within, sample_count, raster_point}
-use Rattle.image.specs.View.{HasShape, Frame, Picture}
+use Rattle.std.specs.Prelude.{◌≡◌, ℕ, ◌<◌, List, ◌⊎◌, Some, None, ℤ, true, slice_get}
+use Rattle.image.specs.Raster.{is_within}
+use Rattle.image.specs.View.{HasShape, Picture}
 use Rattle.meaning.specs.Algorithm.{Algorithm}
 use Rattle.meaning.specs.Conditions.{IsAlgorithm}
 use Rattle.meaning.specs.Functions.{AreSamples}
@@ -11,7 +11,7 @@ use Rattle.cert.specs.Certificate.{Certificate}
 use Rattle.cert.specs.Cells.{Cell, cells}
 use Rattle.actions.specs.Setting.{group_name}
 use Rattle.orders.specs.Outcome.{EveryOrderIsRight, OneWorkerFinishes}
-use Rattle.pieces.specs.Numbers.{cell_number, is_cell}
+use Rattle.pieces.specs.Numbers.{cell_number}
 use Rattle.pieces.specs.Work.{work_of, target}
 use Rattle.headline.specs.Row.{Row, Fits}
 use Rattle.headline.specs.Demands.{Demand, code_of, line_of, Holds}

@@ -1,6 +1,6 @@
 -- A row plan written out: one more than each pixel, in pieces of three and seven rows, and what is wrong where rows are owned
 -- twice or by nobody.
-use Rattle.std.specs.Prelude.{◌≡◌, ℕ, List, [], ◌∷◌, Some, ℤ, pos, codes, true}
+use Rattle.std.specs.Prelude.{◌≡◌, [], ◌∷◌, Some, pos, codes, true}
 use Rattle.std.specs.List.{range_with_len}
 use Rattle.numeric.specs.declared.ty.Ty.TheVariants.{U8}
 use Rattle.numeric.specs.declared.op.Op.TheVariants.{Add}

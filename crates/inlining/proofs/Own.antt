@@ -1,6 +1,6 @@
 -- A well-formed algorithm's expressions with calls put in.
 use Rattle.std.proofs.Common.{◌≡◌, ◌≢◌, ℕ, zero, suc, ◌+◌, ◌≤◌, ◌<◌, Bool, true, false, List, [], ◌∷◌, ◌++◌, length, take, Option, Some, None, IsSome, ℤ, refl, sym, ap, ◌∙◌, subst, arith, ◌⊎◌, inl, inr}
-use Rattle.std.specs.Prelude.{slice_get, fold, All, is_some, if◌then◌else◌, not, ◌&&◌, ◌||◌}
+use Rattle.std.specs.Prelude.{slice_get, fold, is_some, if◌then◌else◌, not, ◌&&◌, ◌||◌}
 use Rattle.std.proofs.lemmas.Bool.{false≢true}
 use Rattle.numeric.specs.declared.ty.Ty.{Ty}
 use Rattle.numeric.specs.declared.ty.Ty.TheVariants.{I32}
@@ -21,7 +21,7 @@ use Rattle.meaning.proofs.Cases.{name_same, name_differs, same_name_is}
 use Rattle.meaning.proofs.Calls.{NoneNamed, OwnNames, callable_hit, callable_miss, callable_none, callable_input, callable_found, own_names, none_is_input, called, input_called, of_function, agree_before, goes_back, from_take, take_one_more}
 use Rattle.meaning.proofs.Steps.{stepped_none}
 use Rattle.meaning.proofs.Back.{stands_alone, pure_goes_back, right_goes_back, update_is}
-use Rattle.inlining.specs.PutIn.{Replacement, with_definitions, put_in, calls_some, has_updates, with_updates, comes_to_updates, calls_updates, is_typed_anywhere, is_possible, put_in_where_possible}
+use Rattle.inlining.specs.PutIn.{with_definitions, put_in, calls_some, has_updates, with_updates, comes_to_updates, calls_updates, is_typed_anywhere, is_possible, put_in_where_possible}
 use Rattle.inlining.specs.Laws.{MayPutIn, HasType, TakesNoUpdates, KeepsItsValue, KeepsItsValueAnyhow, KeepsItsSide, KeepsItsSides, KeepsValues, StaysCalled}
 use Rattle.inlining.proofs.Typed.{some_is, some-is, some_bool, both_true, AnswersTyped, same_type_of, type_is, type_anywhere, both_calls}
 use Rattle.inlining.proofs.Keeps.{CanPutIn, right_with_all, keeps, IsOfItsType, HasCallsType, calls_have_types, type_with_all, keeps_type}

@@ -4,7 +4,7 @@ ghost use Rattle.std.specs.Prelude.{◌≡◌, map};
 ghost use Rattle.tree.specs.Term.{term_of};
 ghost use Rattle.tree.specs.Typing.{shape_type};
 ghost use Rattle.tree.specs.Names.{called_type};
-ghost use Rattle.intervals.specs.Interval.{range_named, literal_of, interval};
+ghost use Rattle.intervals.specs.Interval.{range_named, range_of, literal_of, interval};
 
 use crate::range::{Interval, clamped, combined, fitted, index_range, negation, range_of, union};
 use numeric::Ty;
@@ -66,6 +66,14 @@ fn typed(ty: Ty, range: Interval) -> TypedRange
     TypedRange { ty, range }
 }
 
+// All values of a type.
+fn any_of(ty: Ty) -> TypedRange
+    ensures ty { result.ty ≡ ty }
+    ensures range { result.range ≡ range_of ty }
+{
+    typed(ty, range_of(ty))
+}
+
 // Type and range of an expression.
 fn bounded<N: Names>(expr: &Expr, names: &N, vars: &[(&str, Interval)]) -> TypedRange
     ensures range { result.range ≡ interval (N.functions names.now) (map (λ r. (r.0.now, r.1)) vars.now) (term_of expr.now) }
@@ -76,10 +84,7 @@ fn bounded<N: Names>(expr: &Expr, names: &N, vars: &[(&str, Interval)]) -> Typed
         Expr::Variable { name, .. } => {
             typed(Ty::I32, index_range(range_named(vars, name.as_str())))
         }
-        Expr::Call { name, .. } => {
-            let ty = called_type(names, name.as_str());
-            typed(ty, range_of(ty))
-        }
+        Expr::Call { name, .. } => any_of(called_type(names, name.as_str())),
         Expr::Negate { value, .. } => {
             let a = bounded(value, names, vars);
             typed(a.ty, negation(a.ty, a.range))

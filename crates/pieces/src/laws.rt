@@ -7,6 +7,22 @@ ghost use Rattle.pieces.specs.Worked.{IncIsWork, SumsAreWork};
 
 use orders::every_order_is_right;
 
+/// A right plan with sound lists is right in every order, and one worker finishes it.
+pub fn plans_are_right()
+    ensures { PlansAreRight }
+{
+    every_order_is_right();
+}
+
+/// Of a right plan with sound lists, after any order that finishes all pieces, the cells of the output's
+/// points hold the algorithm's picture.
+pub fn pictures_come_out()
+    ensures { PicturesComeOut }
+{
+    plans_are_right();
+    output_is_there();
+}
+
 /// A cell's number is its place among the plan's cells.
 pub fn cells_are_numbered()
     ensures { CellsAreNumbered }
@@ -52,26 +68,10 @@ pub fn pieces_run_right()
     ensures { PiecesRunRight }
 {}
 
-/// A right plan with sound lists is right in every order, and one worker finishes it.
-pub fn plans_are_right()
-    ensures { PlansAreRight }
-{
-    every_order_is_right();
-}
-
 /// Each point of the output's extents has a cell, whose right value is the output's value there.
 pub fn output_is_there()
     ensures { OutputIsThere }
 {}
-
-/// Of a right plan with sound lists, after any order that finishes all pieces, the cells of the output's
-/// points hold the algorithm's picture.
-pub fn pictures_come_out()
-    ensures { PicturesComeOut }
-{
-    plans_are_right();
-    output_is_there();
-}
 
 /// The work of small plans: one group of two pieces; and two groups, the second of which fetches from the first.
 pub fn worked_examples()
