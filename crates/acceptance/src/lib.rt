@@ -2,6 +2,8 @@
 #![tactic(auto)]
 
 #[cfg(test)]
+mod algo_tests;
+#[cfg(test)]
 mod expr_tests;
 #[cfg(test)]
 mod intervals_tests;

@@ -1,0 +1,5 @@
+pub mod Answered
+pub mod Kept
+pub mod Lists
+pub mod Small
+pub mod Whole

@@ -1,0 +1,46 @@
+-- Which text is an algorithm, and why a text is refused.
+use Rattle.std.specs.Prelude.{◌≡◌, ◌⊎◌, ℕ, List}
+use Rattle.tree.specs.Term.{Term}
+use Rattle.meaning.specs.Algorithm.{Algorithm}
+use Rattle.syntax.specs.declared.error.FormError.{FormError}
+use Rattle.syntax.specs.declared.error.FormError.TheVariants as form
+use Rattle.syntax.specs.Text.{FileText}
+use Rattle.syntax.specs.Grammar.{IsTextOf}
+use Rattle.syntax.specs.Places.{IsRefused}
+use Rattle.algo.specs.declared.error.Code.TheVariants.{BadToken, BadForm, TooLarge}
+use Rattle.algo.specs.declared.error.AlgoError.{AlgoError}
+use Rattle.algo.specs.declared.error.AlgoError.TheVariants.{Memory, Refused}
+use Rattle.algo.specs.Saying.{says, IsWellFormed}
+use Rattle.algo.specs.Keeping.{FileBreaks}
+
+-- a fault of the form as one of an algorithm
+abbrev pub form_error : FormError → AlgoError
+form_error form.Memory = Memory
+form_error (form.BadToken span) = Refused BadToken span
+form_error (form.BadForm span) = Refused BadForm span
+form_error (form.TooLarge span) = Refused TooLarge span
+
+-- the text stands for one file and nothing else, and the file is well formed and says the algorithm
+pub record IsAlgorithmText (text : List ℕ) (a : Algorithm) : Type 0 where
+  pub file : FileText Term
+  pub found : IsTextOf text file
+  pub only : (other : FileText Term) → IsTextOf text other → other ≡ file
+  pub said : a ≡ says file
+  pub kept : IsWellFormed file
+
+-- the form of the text is refused
+pub record FormRefused (text : List ℕ) (e : AlgoError) : Type 0 where
+  pub fault : FormError
+  pub refused : IsRefused text fault
+  pub is : e ≡ form_error fault
+
+-- the text stands for one file and nothing else, and a statement of it does not keep the condition that the error names
+pub record StatementRefused (text : List ℕ) (e : AlgoError) : Type 0 where
+  pub file : FileText Term
+  pub found : IsTextOf text file
+  pub only : (other : FileText Term) → IsTextOf text other → other ≡ file
+  pub broken : FileBreaks file e
+
+-- why a text is no algorithm
+abbrev pub IsRefusedText : List ℕ → AlgoError → Type 0
+IsRefusedText text e = FormRefused text e ⊎ StatementRefused text e

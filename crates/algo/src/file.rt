@@ -1,0 +1,154 @@
+//! From a text to its algorithm.
+
+ghost use Rattle.std.specs.Prelude.{◌≡◌, ◌∷◌, map, All, IfOk, IfErr, IfSome, string_bytes, length};
+ghost use Rattle.std.specs.Option.{option_map};
+ghost use Rattle.image.specs.View.{AreExtents, IsSampleType, shape_of};
+ghost use Rattle.meaning.specs.Conditions.{AreDistinct, function_named};
+ghost use Rattle.syntax.specs.View.{file_text, input_text, output_text, statement_text};
+ghost use Rattle.algo.specs.declared.error.Code.{Code};
+ghost use Rattle.algo.specs.declared.error.AlgoError.TheVariants.{Memory};
+ghost use Rattle.algo.specs.Parts.{names_of, functions_of, output_type};
+ghost use Rattle.algo.specs.Context.{function_names, AreFunctions, only_input};
+ghost use Rattle.algo.specs.Saying.{says, IsWellFormed, names_declared, HasSmallExpressions};
+ghost use Rattle.algo.specs.Keeping.{Breaks, KeepsInput, KeepsOutput, FileBreaks};
+ghost use Rattle.algo.specs.View.{algorithm_of};
+
+use crate::algorithm::Algo;
+use crate::error::{AlgoError, Code};
+use crate::function::{Function, Port};
+use crate::limits::{extents_fault, is_sample_type, numbers};
+use crate::reading::read_functions;
+use crate::statement::refuse;
+use image::Shape;
+use indexmap::IndexMap;
+use numeric::Ty;
+use scoping::same_name;
+use std::alloc::{AllocError, Global};
+use syntax::{File, InputStatement, OutputStatement, Statement};
+
+// The input that a statement says.
+fn read_input(alloc: Global, statement: &InputStatement) -> Result<Port, AlgoError>
+    ensures name { IfOk result (λ p. string_bytes p.name ≡ (input_text statement.now).name) }
+    ensures ty { IfOk result (λ p. p.shape.ty ≡ statement.now.ty) }
+    ensures extents { IfOk result (λ p. p.shape.extents.items ≡ (input_text statement.now).extents) }
+    ensures kept { IfOk result (λ _. AreExtents (input_text statement.now).extents × IsSampleType statement.now.ty) }
+    ensures refused { IfErr result (Breaks (λ code. KeepsInput code (input_text statement.now))) }
+{
+    let fault = extents_fault(&statement.extents, statement.name.span);
+    refuse(fault, Code::Limit)?;
+    let fault = if is_sample_type(statement.ty) {
+        None
+    } else {
+        Some(statement.ty_span)
+    };
+    refuse(fault, Code::SampleType)?;
+    Ok(Port {
+        name: statement.name.name.clone()?,
+        shape: Shape {
+            ty: statement.ty,
+            extents: numbers(alloc, &statement.extents)?,
+        },
+    })
+}
+
+// The type and the number of variables of the function of this name.
+fn function_named(functions: &[(String, Function)], name: &str) -> Option<(Ty, usize)>
+    ensures { result ≡ option_map (λ f. (f.ty, length f.variables)) (function_named (functions_of functions.now) name.now) }
+{
+    for (known, function) in functions {
+        if same_name(known.as_str(), name) {
+            return Some((function.ty, function.variables.len()));
+        }
+    }
+    None
+}
+
+// The output that a statement says, over these functions.
+fn read_output(
+    alloc: Global,
+    functions: &[(String, Function)],
+    statement: &OutputStatement,
+) -> Result<Port, AlgoError>
+    ensures name { IfOk result (λ p. string_bytes p.name ≡ (output_text statement.now).name) }
+    ensures extents { IfOk result (λ p. p.shape.extents.items ≡ (output_text statement.now).extents) }
+    ensures ty { IfOk result (λ p. IfSome (function_named (functions_of functions.now) (output_text statement.now).name) (λ f. p.shape.ty ≡ f.ty)) }
+    ensures kept { IfOk result (λ _. (code : Code) → KeepsOutput (functions_of functions.now) code (output_text statement.now)) }
+    ensures refused { IfErr result (Breaks (λ code. KeepsOutput (functions_of functions.now) code (output_text statement.now))) }
+{
+    let name = &statement.name;
+    let Some((ty, count)) = function_named(functions, name.name.as_str()) else {
+        return Err(AlgoError::Refused {
+            code: Code::Name,
+            span: name.span,
+        });
+    };
+    if statement.extents.len() != count {
+        return Err(AlgoError::Refused {
+            code: Code::IndexCount,
+            span: name.span,
+        });
+    }
+    refuse(extents_fault(&statement.extents, name.span), Code::Limit)?;
+    if !is_sample_type(ty) {
+        return Err(AlgoError::Refused {
+            code: Code::SampleType,
+            span: name.span,
+        });
+    }
+    Ok(Port {
+        name: name.name.clone()?,
+        shape: Shape {
+            ty,
+            extents: numbers(alloc, &statement.extents)?,
+        },
+    })
+}
+
+// The names of the input and of all functions of the text.
+fn declared(alloc: Global, file: &File) -> Result<Vec<String>, AllocError>
+    ensures { IfOk result (λ names. names_of names.items ≡ names_declared (file_text file.now)) }
+{
+    let mut names = Vec::new(alloc);
+    names.push(file.input.name.name.clone()?)?;
+    for statement in &file.statements {
+        if let Statement::Function(statement) = statement {
+            names.push(statement.name.name.clone()?)?;
+        }
+    }
+    Ok(names)
+}
+
+// The functions by their names, in the same order.
+fn by_name(
+    alloc: Global,
+    functions: Vec<(String, Function)>,
+) -> Result<IndexMap<String, Function>, AlgoError>
+    requires { AreDistinct (function_names (functions_of functions.items)) }
+    ensures entries { IfOk result (λ map. map.entries ≡ functions.items) }
+    ensures memory { IfErr result (λ e. e ≡ Memory) }
+{
+    let mut map = IndexMap::new(alloc);
+    for (name, function) in functions {
+        map.insert(name, function)?;
+    }
+    Ok(map)
+}
+
+/// The algorithm that the statements of a text say.
+pub(crate) fn read_file(alloc: Global, file: &File) -> Result<Algo, AlgoError>
+    requires { All HasSmallExpressions (map statement_text file.now.statements.items) }
+    ensures said { IfOk result (λ a. algorithm_of a ≡ says (file_text file.now)) }
+    ensures kept { IfOk result (λ _. IsWellFormed (file_text file.now)) }
+    ensures refused { IfErr result (FileBreaks (file_text file.now)) }
+{
+    let input = read_input(alloc, &file.input)?;
+    let declared = declared(alloc, file)?;
+    let functions = read_functions(alloc, &input, &declared, &file.statements)?;
+    let output = read_output(alloc, &functions, &file.output)?;
+    Ok(Algo {
+        name: file.name.name.clone()?,
+        input,
+        functions: by_name(alloc, functions)?,
+        output,
+    })
+}
