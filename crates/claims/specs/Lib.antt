@@ -5,3 +5,4 @@ pub mod Origins
 pub mod Right
 pub mod Shown
 pub mod Stored
+pub mod Worked
