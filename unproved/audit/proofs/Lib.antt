@@ -1,0 +1,5 @@
+pub mod Values
+pub mod Rows
+pub mod Shared
+pub mod Parted
+pub mod Counted

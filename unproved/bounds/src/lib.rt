@@ -1,0 +1,13 @@
+//! Bounds of the values of operators, as lists of linear forms.
+#![tactic(auto)]
+
+mod ends;
+mod lists;
+mod spans;
+
+pub use ends::{Ends, constant_ends};
+pub use lists::{joined, sums, union};
+pub use spans::{
+    binary, choice, difference, exactly, fitted, kept_span, maximum, minimum, multiple, numbers,
+    product, quotient, range, remainder, sum,
+};

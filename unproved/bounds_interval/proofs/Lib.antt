@@ -1,0 +1,7 @@
+pub mod ListLemmas
+pub mod Sizes
+pub mod Saturation
+pub mod ListSound
+pub mod SpanSound
+pub mod Fitting
+pub mod IntervalSound

@@ -1,0 +1,5 @@
+pub mod Back
+pub mod Certificates
+pub mod Down
+pub mod Errors
+pub mod Groups
