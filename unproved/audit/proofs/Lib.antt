@@ -1,5 +1,0 @@
-pub mod Values
-pub mod Rows
-pub mod Shared
-pub mod Parted
-pub mod Counted

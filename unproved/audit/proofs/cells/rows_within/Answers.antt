@@ -1,6 +1,0 @@
-use Rattle.std.proofs.Common.{arith, ◌≡◌, ◌∙◌, ap, sym, ◌++◌, ◌+◌, ◌*◌, ◌∷◌, [], List, ℕ, flat_map}
-use Rattle.audit.proofs.Rows.{offset_is}
-use Rattle.audit.proofs.cells.rows_within.Goals as goal
-
-pub returns : goal.returns
-returns c = let e = offset_is c.args.part c.args.extent c.requires.extent c.requires.low c.requires.high in let h = c.rows_of.ensures in simp e at h

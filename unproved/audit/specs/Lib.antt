@@ -1,5 +1,0 @@
-pub mod Refusal
-pub mod Piece
-pub mod Boxes
-pub mod Walked
-pub mod Owned

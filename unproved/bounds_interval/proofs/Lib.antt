@@ -1,7 +1,0 @@
-pub mod ListLemmas
-pub mod Sizes
-pub mod Saturation
-pub mod ListSound
-pub mod SpanSound
-pub mod Fitting
-pub mod IntervalSound

@@ -1,4 +1,0 @@
-pub mod Lists
-pub mod Spans
-pub mod Interval
-pub mod Sound

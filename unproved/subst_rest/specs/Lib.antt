@@ -1,5 +1,0 @@
-pub mod Built
-pub mod Filled
-pub mod Limits
-pub mod PutIn
-pub mod Table
