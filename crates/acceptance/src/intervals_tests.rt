@@ -4,6 +4,7 @@ ghost use Rattle.std.specs.Prelude.{◌<◌, ◌||◌, nat_eq, codes, Some, None
 ghost use Rattle.std.specs.Cmp.Lexicographic.{pointwise};
 ghost use Rattle.numeric.specs.declared.ty.Ty.TheVariants.{U8 as Sample};
 
+use expr::read_expr;
 use intervals::{Interval, calls_within, interval};
 use numeric::{Comparison, Op, Ty, apply, compare, wrap};
 use std::alloc::{AllocError, Global};
@@ -118,92 +119,68 @@ const LEAST: i64 = -2_147_483_648;
 
 const GREATEST: i64 = 2_147_483_647;
 
-#[test]
-fn sums_and_products(rt: HostRuntime) -> Result<(), Fail> {
-    let alloc = rt.alloc();
-    let vars = [("x", between(-3, 5))];
-    let x = variable(alloc, "x")?;
-    assert_eq!(rt; interval(&x, &Scene, &vars), between(-3, 5));
-    let later = binary(alloc, Op::Add, x, number(7))?;
-    assert_eq!(rt; interval(&later, &Scene, &vars), between(4, 12));
-    let from = binary(alloc, Op::Sub, number(1), variable(alloc, "x")?)?;
-    assert_eq!(rt; interval(&from, &Scene, &vars), between(-4, 4));
-    let turned = negate(alloc, variable(alloc, "x")?)?;
-    assert_eq!(rt; interval(&turned, &Scene, &vars), between(-5, 3));
-    let twice_back = binary(alloc, Op::Mul, variable(alloc, "x")?, number(-2))?;
-    assert_eq!(rt; interval(&twice_back, &Scene, &vars), between(-10, 6));
-    let square = binary(alloc, Op::Mul, variable(alloc, "x")?, variable(alloc, "x")?)?;
-    assert_eq!(rt; interval(&square, &Scene, &vars), between(-15, 25));
-    let far = binary(alloc, Op::Add, variable(alloc, "x")?, number(GREATEST))?;
-    assert_eq!(rt; interval(&far, &Scene, &vars), between(LEAST, GREATEST));
-    Ok(())
-}
+// Where x is from -3 to 5, y from below i32 to 4 and z of no value: expressions, and the least and the greatest value of each.
+const RANGES: &[(&str, i64, i64)] = &[
+    ("x", -3, 5),
+    ("x + 7", 4, 12),
+    ("1 - x", -4, 4),
+    ("-x", -5, 3),
+    ("x * -2", -10, 6),
+    ("x * x", -15, 25),
+    ("x + 2147483647", LEAST, GREATEST),
+    ("x / 2", -2, 2),
+    ("x / -2", LEAST, GREATEST),
+    ("x % 4", 0, 3),
+    ("u8(x)", 0, 255),
+    ("i16(x)", -3, 5),
+    ("in[x]", 0, 255),
+    ("clamp(x, 0, 3)", 0, 3),
+    ("select(x < 0, x, 20)", -3, 20),
+    ("y", LEAST, 4),
+    ("z", 9, 8),
+    ("w", LEAST, GREATEST),
+];
 
 #[test]
-fn divisions_and_casts(rt: HostRuntime) -> Result<(), Fail> {
-    let alloc = rt.alloc();
-    let vars = [("x", between(-3, 5))];
-    let half = binary(alloc, Op::Div, variable(alloc, "x")?, number(2))?;
-    assert_eq!(rt; interval(&half, &Scene, &vars), between(-2, 2));
-    let back = binary(alloc, Op::Div, variable(alloc, "x")?, number(-2))?;
-    assert_eq!(rt; interval(&back, &Scene, &vars), between(LEAST, GREATEST));
-    let rest = binary(alloc, Op::Rem, variable(alloc, "x")?, number(4))?;
-    assert_eq!(rt; interval(&rest, &Scene, &vars), between(0, 3));
-    let byte = cast(alloc, Ty::U8, variable(alloc, "x")?)?;
-    assert_eq!(rt; interval(&byte, &Scene, &vars), between(0, 255));
-    let short = cast(alloc, Ty::I16, variable(alloc, "x")?)?;
-    assert_eq!(rt; interval(&short, &Scene, &vars), between(-3, 5));
-    let read = sample(alloc, variable(alloc, "x")?)?;
-    assert_eq!(rt; interval(&read, &Scene, &vars), between(0, 255));
-    Ok(())
-}
-
-#[test]
-fn choices_and_ranges(rt: HostRuntime) -> Result<(), Fail> {
-    let alloc = rt.alloc();
+fn ranges(rt: HostRuntime) -> Result<(), Fail> {
     let vars = [
         ("x", between(-3, 5)),
         ("y", between(LEAST - 1, 4)),
         ("z", between(9, 8)),
     ];
-    let kept = clamp(alloc, variable(alloc, "x")?, number(0), number(3))?;
-    assert_eq!(rt; interval(&kept, &Scene, &vars), between(0, 3));
-    let x = variable(alloc, "x")?;
-    let either = select(alloc, variable(alloc, "x")?, number(0), x, number(20))?;
-    assert_eq!(rt; interval(&either, &Scene, &vars), between(-3, 20));
-    assert_eq!(rt;
-        interval(&variable(alloc, "y")?, &Scene, &vars),
-        between(LEAST, 4)
-    );
-    assert_eq!(rt;
-        interval(&variable(alloc, "z")?, &Scene, &vars),
-        between(9, 8)
-    );
-    assert_eq!(rt;
-        interval(&variable(alloc, "w")?, &Scene, &vars),
-        between(LEAST, GREATEST)
-    );
+    for (text, low, high) in RANGES {
+        let expr = read_expr(rt.alloc(), text)?;
+        assert_eq!(rt;
+            interval(&expr, &Scene, &vars),
+            between(*low, *high),
+            "at {text}"
+        );
+    }
     Ok(())
 }
 
+// Where x is from 0 to 7: expressions, and whether each call of the name stays within the extents.
+const CALLS: &[(&str, &str, &[u32], bool)] = &[
+    ("in[x]", "in", &[8], true),
+    ("in[x]", "in", &[7], false),
+    ("in[x]", "in", &[8, 8], false),
+    ("in[x]", "f", &[7], true),
+    ("select(x < 1, in[0], in[x - 1])", "in", &[8], false),
+    ("in[clamp(i32(in[x]), 0, 3)]", "in", &[8], true),
+    ("in[clamp(i32(in[x]), 0, 3)]", "in", &[4], false),
+];
+
 #[test]
 fn calls_of_a_name(rt: HostRuntime) -> Result<(), Fail> {
-    let alloc = rt.alloc();
     let vars = [("x", between(0, 7))];
-    let read = sample(alloc, variable(alloc, "x")?)?;
-    assert!(rt; calls_within(&read, &Scene, &vars, "in", &[8]));
-    assert!(rt; !calls_within(&read, &Scene, &vars, "in", &[7]));
-    assert!(rt; !calls_within(&read, &Scene, &vars, "in", &[8, 8]));
-    assert!(rt; calls_within(&read, &Scene, &vars, "f", &[7]));
-    let before = binary(alloc, Op::Sub, variable(alloc, "x")?, number(1))?;
-    let behind = sample(alloc, before)?;
-    let x = variable(alloc, "x")?;
-    let arm = select(alloc, x, number(1), sample(alloc, number(0))?, behind)?;
-    assert!(rt; !calls_within(&arm, &Scene, &vars, "in", &[8]));
-    let inner = cast(alloc, Ty::I32, sample(alloc, variable(alloc, "x")?)?)?;
-    let nested = sample(alloc, clamp(alloc, inner, number(0), number(3))?)?;
-    assert!(rt; calls_within(&nested, &Scene, &vars, "in", &[8]));
-    assert!(rt; !calls_within(&nested, &Scene, &vars, "in", &[4]));
+    for (text, name, extents, within) in CALLS {
+        let expr = read_expr(rt.alloc(), text)?;
+        assert_eq!(rt;
+            calls_within(&expr, &Scene, &vars, name, extents),
+            *within,
+            "at {text}"
+        );
+    }
     Ok(())
 }
 

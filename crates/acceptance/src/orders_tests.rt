@@ -1,10 +1,10 @@
 //! The crew on small work, and faults of lists.
 
-ghost use Rattle.std.specs.Prelude.{◌<◌, ◌^◌, IsTrue, nat_lt, length};
-ghost use Rattle.std.specs.List.{list_all};
+ghost use Rattle.std.specs.Prelude.{◌<◌, ◌^◌, length};
 
 use orders::{Job, ListFault, Piece, first_fault, replay};
 use std::alloc::{AllocError, Global};
+use std::process::Abort;
 
 /// Work whose private runs give fixed values where nothing was looked at, and else what was looked at.
 #[derive(Drop)]
@@ -73,126 +73,181 @@ fn piece(alloc: Global, own: &[u32], fetched: &[u32], needs: &[u32]) -> Result<P
     })
 }
 
-/// Pieces of three and seven rows of two cells.
-fn rows(alloc: Global) -> Result<Copies, AllocError> {
+/// The cells that each piece owns and fetches, and the pieces that it needs.
+type Rows = &'static [(&'static [u32], &'static [u32], &'static [u32])];
+
+fn pieces(alloc: Global, rows: Rows) -> Result<Vec<Piece>, AllocError> {
+    let mut pieces = Vec::new(alloc);
+    for (own, fetched, needs) in rows {
+        pieces.push(piece(alloc, own, fetched, needs)?)?;
+    }
+    Ok(pieces)
+}
+
+fn lists(alloc: Global, rows: &[&[i64]]) -> Result<Vec<Vec<i64>>, AllocError> {
+    let mut lists = Vec::new(alloc);
+    for row in rows {
+        lists.push(row.to_vec(alloc)?)?;
+    }
+    Ok(lists)
+}
+
+fn job_of(
+    rt: &impl Abort,
+    alloc: Global,
+    cells: u32,
+    rows: Rows,
+    values: &[&[i64]],
+) -> Result<Copies, AllocError> {
+    let pieces = pieces(alloc, rows)?;
+    assert!(rt; pieces.len() < 100);
     Ok(Copies {
-        cells: 20,
-        pieces: vec![in alloc;
-            piece(alloc, &[0, 1, 2, 3, 4, 5], &[], &[])?,
-            piece(
-                alloc,
-                &[6, 7, 8, 9, 10, 11, 12, 13, 14, 15, 16, 17, 18, 19],
-                &[],
-                &[]
-            )?,
-        ]?,
-        values: vec![in alloc;
-            vec![in alloc; 1i64, 2, 3, 4, 5, 6]?,
-            vec![in alloc; 7i64, 8, 9, 10, 11, 12, 13, 14, 15, 16, 17, 18, 19, 20]?,
-        ]?,
+        cells,
+        pieces,
+        values: lists(alloc, values)?,
     })
 }
+
+/// Pieces of three and seven rows of two cells.
+const ROWS: Rows = &[
+    (&[0, 1, 2, 3, 4, 5], &[], &[]),
+    (
+        &[6, 7, 8, 9, 10, 11, 12, 13, 14, 15, 16, 17, 18, 19],
+        &[],
+        &[],
+    ),
+];
+
+const ROWS_VALUES: &[&[i64]] = &[
+    &[1, 2, 3, 4, 5, 6],
+    &[7, 8, 9, 10, 11, 12, 13, 14, 15, 16, 17, 18, 19, 20],
+];
 
 /// Two pieces of one cell each, one that copies both the other way round, and one that copies one of these.
-fn copying(alloc: Global) -> Result<Copies, AllocError> {
-    Ok(Copies {
-        cells: 5,
-        pieces: vec![in alloc;
-            piece(alloc, &[0], &[], &[])?,
-            piece(alloc, &[1], &[], &[])?,
-            piece(alloc, &[2, 3], &[1, 0], &[0, 1])?,
-            piece(alloc, &[4], &[2], &[2])?,
-        ]?,
-        values: vec![in alloc; vec![in alloc; 6i64]?, vec![in alloc; 8i64]?]?,
-    })
-}
+const COPYING: Rows = &[
+    (&[0], &[], &[]),
+    (&[1], &[], &[]),
+    (&[2, 3], &[1, 0], &[0, 1]),
+    (&[4], &[2], &[2]),
+];
+
+const COPYING_VALUES: &[&[i64]] = &[&[6], &[8]];
 
 /// A piece that looks at a cell of a later one, which it does not need.
-fn hasty(alloc: Global) -> Result<Copies, AllocError> {
-    Ok(Copies {
-        cells: 2,
-        pieces: vec![in alloc;
-            piece(alloc, &[0], &[1], &[])?,
-            piece(alloc, &[1], &[], &[])?,
-        ]?,
-        values: vec![in alloc; vec![in alloc; 5i64]?, vec![in alloc; 7i64]?]?,
-    })
-}
+const HASTY: Rows = &[(&[0], &[1], &[]), (&[1], &[], &[])];
+
+const HASTY_VALUES: &[&[i64]] = &[&[5], &[7]];
 
 /// The pieces drawn, the pieces finished and the cells set.
-fn counts(alloc: Global, job: &Copies, order: &[u8]) -> Result<(u32, usize, usize), AllocError>
-    requires { IsTrue (list_all (λ worker. nat_lt worker 64) order.now) }
-{
+fn counts(
+    rt: &impl Abort,
+    alloc: Global,
+    job: &Copies,
+    order: &[u8],
+) -> Result<(u32, usize, usize), AllocError> {
+    assert!(rt; order.iter().all(|worker| *worker < 64));
     let state = replay(alloc, job, order)?;
     Ok((state.drawn(), state.finished(), state.set()))
 }
 
 /// Two workers that step in turns, so many steps.
-const TURNS: [u8; 32] = [
+const TURNS: &[u8] = &[
     0, 1, 0, 1, 0, 1, 0, 1, 0, 1, 0, 1, 0, 1, 0, 1, 0, 1, 0, 1, 0, 1, 0, 1, 0, 1, 0, 1, 0, 1, 0, 1,
 ];
 
-#[test]
-fn rows_by_one_worker(rt: HostRuntime) -> Result<(), AllocError> {
-    let alloc = rt.alloc();
-    let job = rows(alloc)?;
-    // 2 + 6 and 2 + 14 steps
-    assert_eq!(rt; counts(alloc, &job, &[0; 24])?, (2, 2, 20));
-    assert_eq!(rt; counts(alloc, &job, &[63; 24])?, (2, 2, 20));
-    assert_eq!(rt; counts(alloc, &job, &[0; 23])?, (2, 1, 20));
-    assert_eq!(rt; counts(alloc, &job, &[])?, (0, 0, 0));
+/// Orders of steps, and after each the pieces drawn, the pieces finished and the cells set.
+type Orders = &'static [(&'static [u8], u32, usize, usize)];
+
+fn check(rt: &impl Abort, alloc: Global, job: &Copies, orders: Orders) -> Result<(), AllocError> {
+    for (order, drawn, finished, set) in orders {
+        let found = counts(rt, alloc, job, order)?;
+        assert_eq!(rt; found, (*drawn, *finished, *set), "after {order:?}");
+    }
     Ok(())
 }
 
+const ROWS_ORDERS: Orders = &[
+    // 2 + 6 and 2 + 14 steps
+    (&[0; 24], 2, 2, 20),
+    (&[63; 24], 2, 2, 20),
+    (&[0; 23], 2, 1, 20),
+    (&[], 0, 0, 0),
+    (TURNS, 2, 2, 20),
+    (
+        &[
+            0, 1, 0, 1, 0, 1, 0, 1, 0, 1, 0, 1, 0, 1, 0, 1, 0, 1, 0, 1, 0, 1, 0, 1, 0, 1, 0, 1, 0,
+            1, 0,
+        ],
+        2,
+        1,
+        20,
+    ),
+    (&[0, 0, 1], 2, 0, 1),
+];
+
 #[test]
-fn rows_by_two_workers(rt: HostRuntime) -> Result<(), AllocError> {
-    let alloc = rt.alloc();
-    let job = rows(alloc)?;
-    assert_eq!(rt; counts(alloc, &job, &TURNS)?, (2, 2, 20));
-    let but_one = [
-        0, 1, 0, 1, 0, 1, 0, 1, 0, 1, 0, 1, 0, 1, 0, 1, 0, 1, 0, 1, 0, 1, 0, 1, 0, 1, 0, 1, 0, 1, 0,
-    ];
-    assert_eq!(rt; counts(alloc, &job, &but_one)?, (2, 1, 20));
-    assert_eq!(rt; counts(alloc, &job, &[0, 0, 1])?, (2, 0, 1));
-    let state = replay(alloc, &job, &[0, 0, 1])?;
-    assert_eq!(rt; state.cell(0), Some(1));
-    assert_eq!(rt; state.cell(1), None);
-    assert_eq!(rt; state.cell(6), None);
-    assert_eq!(rt; state.cell(20), None);
-    Ok(())
+fn rows(rt: HostRuntime) -> Result<(), AllocError> {
+    let job = job_of(&rt, rt.alloc(), 20, ROWS, ROWS_VALUES)?;
+    check(&rt, rt.alloc(), &job, ROWS_ORDERS)
 }
+
+const COPYING_ORDERS: Orders = &[
+    // 3, 3, 2 + 2 + 2 + 2 and 2 + 1 + 1 + 1 steps
+    (&[0; 19], 4, 4, 5),
+    (&[0; 18], 4, 3, 5),
+    // worker 2 draws the third piece, and its asks change nothing until both others are finished
+    (&[0, 1, 2, 2, 2, 2, 2, 2, 2, 2, 2], 3, 0, 0),
+    (&[0, 1, 2, 0, 0, 2, 2, 2, 2, 2, 2, 2], 3, 1, 1),
+    (&[0, 1, 2, 0, 0, 1, 1, 2, 2, 2, 2, 2], 3, 2, 3),
+];
 
 #[test]
 fn copies_ask_and_look(rt: HostRuntime) -> Result<(), AllocError> {
-    let alloc = rt.alloc();
-    let job = copying(alloc)?;
-    // 3, 3, 2 + 2 + 2 + 2 and 2 + 1 + 1 + 1 steps
-    assert_eq!(rt; counts(alloc, &job, &[0; 19])?, (4, 4, 5));
-    assert_eq!(rt; counts(alloc, &job, &[0; 18])?, (4, 3, 5));
-    // worker 2 draws the third piece, and its asks change nothing until both others are finished
-    assert_eq!(rt;
-        counts(alloc, &job, &[0, 1, 2, 2, 2, 2, 2, 2, 2, 2, 2])?,
-        (3, 0, 0)
-    );
-    assert_eq!(rt;
-        counts(alloc, &job, &[0, 1, 2, 0, 0, 2, 2, 2, 2, 2, 2, 2])?,
-        (3, 1, 1)
-    );
-    let state = replay(alloc, &job, &[0, 1, 2, 0, 0, 1, 1, 2, 2, 2, 2, 2])?;
-    assert_eq!(rt; (state.drawn(), state.finished(), state.set()), (3, 2, 3));
-    assert_eq!(rt; state.cell(2), Some(8));
-    assert_eq!(rt; state.cell(3), None);
-    Ok(())
+    let job = job_of(&rt, rt.alloc(), 5, COPYING, COPYING_VALUES)?;
+    check(&rt, rt.alloc(), &job, COPYING_ORDERS)
 }
+
+const HASTY_ORDERS: Orders = &[
+    (&[0; 9], 1, 0, 0),
+    (&[0, 0, 1, 1, 1, 0, 0, 0], 2, 1, 1),
+    (&[0, 1, 1, 1, 0, 0, 0], 2, 2, 2),
+];
 
 #[test]
 fn a_look_at_an_unset_cell_is_a_fault(rt: HostRuntime) -> Result<(), AllocError> {
-    let alloc = rt.alloc();
-    let job = hasty(alloc)?;
-    assert_eq!(rt; counts(alloc, &job, &[0; 9])?, (1, 0, 0));
-    assert_eq!(rt; counts(alloc, &job, &[0, 0, 1, 1, 1, 0, 0, 0])?, (2, 1, 1));
-    assert_eq!(rt; counts(alloc, &job, &[0, 1, 1, 1, 0, 0, 0])?, (2, 2, 2));
+    let job = job_of(&rt, rt.alloc(), 2, HASTY, HASTY_VALUES)?;
+    check(&rt, rt.alloc(), &job, HASTY_ORDERS)
+}
+
+/// Cells and what they hold, if they are set.
+type Cells = &'static [(u32, Option<i64>)];
+
+fn check_cells(
+    rt: &impl Abort,
+    alloc: Global,
+    job: &Copies,
+    order: &[u8],
+    cells: Cells,
+) -> Result<(), AllocError> {
+    assert!(rt; order.iter().all(|worker| *worker < 64));
+    let state = replay(alloc, job, order)?;
+    for (cell, value) in cells {
+        assert_eq!(rt; state.cell(*cell), *value, "cell {cell}");
+    }
     Ok(())
+}
+
+const ROWS_CELLS: Cells = &[(0, Some(1)), (1, None), (6, None), (20, None)];
+
+const COPYING_CELLS: Cells = &[(2, Some(8)), (3, None)];
+
+#[test]
+fn cells(rt: HostRuntime) -> Result<(), AllocError> {
+    let rows = job_of(&rt, rt.alloc(), 20, ROWS, ROWS_VALUES)?;
+    check_cells(&rt, rt.alloc(), &rows, &[0, 0, 1], ROWS_CELLS)?;
+    let copying = job_of(&rt, rt.alloc(), 5, COPYING, COPYING_VALUES)?;
+    let order = &[0, 1, 2, 0, 0, 1, 1, 2, 2, 2, 2, 2];
+    check_cells(&rt, rt.alloc(), &copying, order, COPYING_CELLS)
 }
 
 /// The next number of a generator.
@@ -216,7 +271,7 @@ fn drawn_order(alloc: Global, seed: u64, workers: u8, steps: u64) -> Result<Vec<
 #[test]
 fn many_orders_give_the_same_values(rt: HostRuntime) -> Result<(), AllocError> {
     let alloc = rt.alloc();
-    let job = copying(alloc)?;
+    let job = job_of(&rt, alloc, 5, COPYING, COPYING_VALUES)?;
     let right = [6, 8, 8, 6, 8];
     let mut state = 2026;
     for round in 0..200u64 {
@@ -240,45 +295,36 @@ fn fault(
     second: &[u32],
     needs: &[u32],
 ) -> Result<Option<ListFault>, AllocError> {
-    let pieces = vec![in alloc;
-        piece(alloc, first, &[], &[])?,
-        piece(alloc, second, &[], &[])?,
-        piece(alloc, &[2, 3], &[0, 1], needs)?,
-    ]?;
+    let mut pieces = Vec::new(alloc);
+    pieces.push(piece(alloc, first, &[], &[])?)?;
+    pieces.push(piece(alloc, second, &[], &[])?)?;
+    pieces.push(piece(alloc, &[2, 3], &[0, 1], needs)?)?;
     first_fault(alloc, 4, pieces.as_slice())
 }
 
+/// What the first two of these pieces own, what the last needs, and the fault.
+const FAULTS: &[(&[u32], &[u32], &[u32], Option<ListFault>)] = &[
+    (&[0], &[1], &[0, 1], None),
+    (&[0], &[1], &[1, 0, 1], None),
+    (&[1, 0], &[], &[0], None),
+    // two pieces own one cell, or one piece twice, or one out of the table
+    (&[0], &[1, 0], &[0, 1], Some(ListFault::Own(1))),
+    (&[0, 0], &[1], &[0, 1], Some(ListFault::Own(0))),
+    (&[0, 1, 2], &[], &[0], Some(ListFault::Own(2))),
+    (&[0], &[1, 4], &[0, 1], Some(ListFault::Own(1))),
+    // a cell that nobody owns
+    (&[], &[1], &[0, 1], Some(ListFault::Gap(0))),
+    (&[0], &[], &[0, 1], Some(ListFault::Gap(1))),
+    // a needed piece left out, or a later one
+    (&[0], &[1], &[0], Some(ListFault::Needs(2))),
+    (&[0], &[1], &[0, 1, 2], Some(ListFault::Needs(2))),
+];
+
 #[test]
 fn faults_of_lists(rt: HostRuntime) -> Result<(), AllocError> {
-    let alloc = rt.alloc();
-    assert_eq!(rt; fault(alloc, &[0], &[1], &[0, 1])?, None);
-    assert_eq!(rt; fault(alloc, &[0], &[1], &[1, 0, 1])?, None);
-    assert_eq!(rt; fault(alloc, &[1, 0], &[], &[0])?, None);
-    // two pieces own one cell, or one piece twice, or one out of the table
-    assert_eq!(rt;
-        fault(alloc, &[0], &[1, 0], &[0, 1])?,
-        Some(ListFault::Own(1))
-    );
-    assert_eq!(rt;
-        fault(alloc, &[0, 0], &[1], &[0, 1])?,
-        Some(ListFault::Own(0))
-    );
-    assert_eq!(rt;
-        fault(alloc, &[0, 1, 2], &[], &[0])?,
-        Some(ListFault::Own(2))
-    );
-    assert_eq!(rt;
-        fault(alloc, &[0], &[1, 4], &[0, 1])?,
-        Some(ListFault::Own(1))
-    );
-    // a cell that nobody owns
-    assert_eq!(rt; fault(alloc, &[], &[1], &[0, 1])?, Some(ListFault::Gap(0)));
-    assert_eq!(rt; fault(alloc, &[0], &[], &[0, 1])?, Some(ListFault::Gap(1)));
-    // a needed piece left out, or a later one
-    assert_eq!(rt; fault(alloc, &[0], &[1], &[0])?, Some(ListFault::Needs(2)));
-    assert_eq!(rt;
-        fault(alloc, &[0], &[1], &[0, 1, 2])?,
-        Some(ListFault::Needs(2))
-    );
+    for (first, second, needs, want) in FAULTS {
+        let found = fault(rt.alloc(), first, second, needs)?;
+        assert_eq!(rt; found, *want, "{first:?}, {second:?}, {needs:?}");
+    }
     Ok(())
 }

@@ -22,7 +22,7 @@ use Rattle.algo.specs.Context.{AreFunctions, function_names}
 use Rattle.algo.specs.Keeping.{KeepsFunction, KeepsUpdate, KeepsUpdateOver, names_for, CallsKnown, CallsCounted, FunctionNames, FunctionLimits, UpdateNames, UpdateCalls, UpdateIndices, UpdatePlaces, UpdateTypes, UpdateLimits}
 
 -- the names of ranges are those of their domains
-names-said : (ds : List DomainText) → map (λ (d : Range). d.variable) (map range_said ds) ≡ domain_names ds
+pub names-said : (ds : List DomainText) → map (λ (d : Range). d.variable) (map range_said ds) ≡ domain_names ds
 names-said [] = refl
 names-said (d ∷ ds) = λ i. d.variable ∷ names-said ds i
 
@@ -194,8 +194,8 @@ module _ (a : Algorithm) (declared : List (List ℕ)) (before : List Function) w
   function_keeps s names calls counts types limits NoDomain = tt
   function_keeps s names calls counts types limits SampleType = tt
 
-  pub update_keeps : (f : Function) (fs : List Function) (s : UpdateText Term) → UpdateNames a declared before f fs s → UpdateCalls a declared before f fs s → UpdateIndices a declared before f fs s → UpdatePlaces a declared before f fs s
-      → 1 ≤ length s.domains → UpdateTypes a declared before f fs s → UpdateLimits a declared before f fs s → (code : Code) → KeepsUpdateOver a declared before f fs code s
+  pub update_keeps : (f : Function) (fs : List Function) (s : UpdateText Term) → UpdateNames declared f s → UpdateCalls (callable a fs) s → UpdateIndices (callable a fs) f s → UpdatePlaces f s
+      → 1 ≤ length s.domains → UpdateTypes (callable a before) (callable a fs) f s → UpdateLimits f s → (code : Code) → KeepsUpdateOver a declared before f fs code s
   update_keeps f fs s names calls counts places domain types limits Name = names
   update_keeps f fs s names calls counts places domain types limits LaterCall = calls
   update_keeps f fs s names calls counts places domain types limits IndexCount = counts

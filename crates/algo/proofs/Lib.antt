@@ -1,4 +1,6 @@
 pub mod Answered
+pub mod Converse
+pub mod Exclusion
 pub mod Kept
 pub mod Lists
 pub mod Small

@@ -31,7 +31,7 @@ stands_there [] x ys = refl
 stands_there (z ∷ xs) x ys = stands_there xs x ys
 
 -- the name behind others is none of them
-absent : (xs : List (List ℕ)) (x : List ℕ) (ys : List (List ℕ)) → AreDistinct (xs ++ x ∷ ys) → is_among xs x ≡ false
+pub absent : (xs : List (List ℕ)) (x : List ℕ) (ys : List (List ℕ)) → AreDistinct (xs ++ x ∷ ys) → is_among xs x ≡ false
 absent xs x ys h = by (is_among xs x) refl
   where
     by : (b : Bool) → is_among xs x ≡ b → is_among xs x ≡ false
@@ -105,7 +105,7 @@ module _ (a : said.Algorithm) (name : List ℕ) (fs : List said.Function) (out :
       ap pick (calls_at gs x)
 
   -- what can be called is the same
-  calls : (before : List said.Function) → callable a before ≡ callable whole before
+  pub calls : (before : List said.Function) → callable a before ≡ callable whole before
   calls before = λ i x. calls_at before x i
 
   update_whole : (before : List said.Function) (f : said.Function) (u : said.Change) → IsUpdate a before f u → IsUpdate whole before f u

@@ -52,6 +52,38 @@ OnLimit P _ = Unit {0}
 abbrev pub names_for : Function → UpdateText Term → List (List ℕ)
 names_for f s = f.variables ++ domain_names s.domains
 
+-- ---- what an update of f keeps, in a text whose input and functions have the names `declared`
+
+pub record UpdateNames (declared : List (List ℕ)) (f : Function) (s : UpdateText Term) : Type 0 where
+  pub named : f.name ≡ s.name
+  pub distinct : AreDistinct (names_for f s)
+  pub left : All (UsesNames (names_for f s) declared) s.at
+  pub value : UsesNames (names_for f s) declared s.value
+
+-- each call is of what can be called
+pub record UpdateCalls (calls : List ℕ → Option (Ty × ℕ)) (s : UpdateText Term) : Type 0 where
+  pub left : All (CallsKnown calls) s.at
+  pub value : CallsKnown calls s.value
+
+pub record UpdateIndices (calls : List ℕ → Option (Ty × ℕ)) (f : Function) (s : UpdateText Term) : Type 0 where
+  pub places : length s.at ≡ length f.variables
+  pub left : All (CallsCounted calls) s.at
+  pub value : CallsCounted calls s.value
+
+-- no left index calls the function, and each keeps its variable's place
+pub record UpdatePlaces (f : Function) (s : UpdateText Term) : Type 0 where
+  pub others : All (EachCall (λ name at. IsTrue (not (same_name f.name name)))) s.at
+  pub kept : KeepPlaces f.name f.variables s.value s.at
+
+-- the types of the left indices, over what could be called before the function, and of the right side
+pub record UpdateTypes (earlier calls : List ℕ → Option (Ty × ℕ)) (f : Function) (s : UpdateText Term) : Type 0 where
+  pub left : All (λ e. type_of (is_among (names_for f s)) earlier e ≡ Some I32) s.at
+  pub value : type_of (is_among (names_for f s)) calls s.value ≡ Some f.ty
+
+pub record UpdateLimits (f : Function) (s : UpdateText Term) : Type 0 where
+  pub domain : DomainLimits s.domains
+  pub room : length f.changes < 4
+
 -- over the input of a, after the functions `before`, in a text whose input and functions have the names `declared`
 module _ (a : Algorithm) (declared : List (List ℕ)) (before : List Function) where
   pub record FunctionNames (s : FunctionText Term) : Type 0 where
@@ -74,45 +106,14 @@ module _ (a : Algorithm) (declared : List (List ℕ)) (before : List Function) w
 
   -- an update of f, the function after those, whose right side may call the functions fs
   module _ (f : Function) (fs : List Function) where
-    abbrev pub own_calls : List ℕ → Option (Ty × ℕ)
-    own_calls = callable a fs
-
-    pub record UpdateNames (s : UpdateText Term) : Type 0 where
-      pub named : f.name ≡ s.name
-      pub distinct : AreDistinct (names_for f s)
-      pub left : All (UsesNames (names_for f s) declared) s.at
-      pub value : UsesNames (names_for f s) declared s.value
-
-    pub record UpdateCalls (s : UpdateText Term) : Type 0 where
-      pub left : All (CallsKnown own_calls) s.at
-      pub value : CallsKnown own_calls s.value
-
-    pub record UpdateIndices (s : UpdateText Term) : Type 0 where
-      pub places : length s.at ≡ length f.variables
-      pub left : All (CallsCounted own_calls) s.at
-      pub value : CallsCounted own_calls s.value
-
-    -- no left index calls the function, and each keeps its variable's place
-    pub record UpdatePlaces (s : UpdateText Term) : Type 0 where
-      pub others : All (EachCall (λ name at. IsTrue (not (same_name f.name name)))) s.at
-      pub kept : KeepPlaces f.name f.variables s.value s.at
-
-    pub record UpdateTypes (s : UpdateText Term) : Type 0 where
-      pub left : All (λ e. type_of (is_among (names_for f s)) (callable a before) e ≡ Some I32) s.at
-      pub value : type_of (is_among (names_for f s)) own_calls s.value ≡ Some f.ty
-
-    pub record UpdateLimits (s : UpdateText Term) : Type 0 where
-      pub domain : DomainLimits s.domains
-      pub room : length f.changes < 4
-
     abbrev pub KeepsUpdateOver : Code → UpdateText Term → Type 0
-    KeepsUpdateOver Name s = UpdateNames s
-    KeepsUpdateOver LaterCall s = UpdateCalls s
-    KeepsUpdateOver IndexCount s = UpdateIndices s
-    KeepsUpdateOver MovedVariable s = UpdatePlaces s
+    KeepsUpdateOver Name s = UpdateNames declared f s
+    KeepsUpdateOver LaterCall s = UpdateCalls (callable a fs) s
+    KeepsUpdateOver IndexCount s = UpdateIndices (callable a fs) f s
+    KeepsUpdateOver MovedVariable s = UpdatePlaces f s
     KeepsUpdateOver NoDomain s = 1 ≤ length s.domains
-    KeepsUpdateOver TypesDiffer s = UpdateTypes s
-    KeepsUpdateOver Limit s = UpdateLimits s
+    KeepsUpdateOver TypesDiffer s = UpdateTypes (callable a before) (callable a fs) f s
+    KeepsUpdateOver Limit s = UpdateLimits f s
     KeepsUpdateOver _ s = Unit {0}
 
   -- an update of the function after those may call the function itself

@@ -2,6 +2,7 @@ pub mod Context
 pub mod Definitions
 pub mod Frames
 pub mod Keeping
+pub mod Laws
 pub mod Parts
 pub mod Refusal
 pub mod Saying

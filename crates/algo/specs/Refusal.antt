@@ -1,5 +1,6 @@
 -- Which text is an algorithm, and why a text is refused.
-use Rattle.std.specs.Prelude.{◌≡◌, ◌⊎◌, ℕ, List}
+use Rattle.std.specs.Prelude.{◌≡◌, ◌≤◌, ◌⊎◌, ℕ, List, length}
+use Rattle.token.specs.Lexical.{max_text}
 use Rattle.tree.specs.Term.{Term}
 use Rattle.meaning.specs.Algorithm.{Algorithm}
 use Rattle.syntax.specs.declared.error.FormError.{FormError}
@@ -44,3 +45,7 @@ pub record StatementRefused (text : List ℕ) (e : AlgoError) : Type 0 where
 -- why a text is no algorithm
 abbrev pub IsRefusedText : List ℕ → AlgoError → Type 0
 IsRefusedText text e = FormRefused text e ⊎ StatementRefused text e
+
+-- the text is no algorithm, unless the error is want of memory; a text that is too long is not looked at
+abbrev pub IsNoAlgorithm : List ℕ → AlgoError → Type 0
+IsNoAlgorithm text e = length text ≤ max_text → (a : Algorithm) → IsAlgorithmText text a → e ≡ Memory

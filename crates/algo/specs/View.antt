@@ -2,10 +2,11 @@
 use Rattle.std.specs.Prelude.{ℕ, ◌≤◌, List, length, MatchOption, slice_get}
 use Rattle.image.specs.View.{Frame, image_of, HasShape, Picture}
 use Rattle.meaning.specs.Algorithm.{Algorithm}
+use Rattle.meaning.specs.Picture.{picture}
 use Rattle.algo.specs.declared.algorithm.Algo.{Algo}
 use Rattle.algo.specs.declared.inputs.Inputs.{Inputs}
 use Rattle.algo.specs.Frames.{own_frame}
-use Rattle.algo.specs.Parts.{algorithm_from, input_frame}
+use Rattle.algo.specs.Parts.{algorithm_from, input_frame, output_type}
 
 abbrev pub algorithm_of : Algo → Algorithm
 algorithm_of a = algorithm_from a.name a.input a.functions.entries a.output
@@ -28,3 +29,7 @@ frame_of i = own_frame (picture_of i)
 -- the image is one for the algorithm
 abbrev pub IsFor : Algo → Inputs → Type 0
 IsFor a i = HasShape (input_frame (algorithm_of a)) (picture_of i)
+
+-- the picture that an algorithm, read without any schedule, says of these samples of its input
+abbrev pub picture_said : Algorithm → List ℕ → Picture
+picture_said a samples = record { ty = output_type a; extents = a.output_extents; samples = picture a samples }

@@ -29,7 +29,7 @@ impl Algo {
     ghost use Rattle.algo.specs.Parts.{functions_of, input_frame, output_frame};
     ghost use Rattle.algo.specs.View.{algorithm_of, HasDefinition};
     ghost use Rattle.algo.specs.Definitions.{IsDefinition};
-    ghost use Rattle.algo.specs.Refusal.{IsAlgorithmText, IsRefusedText};
+    ghost use Rattle.algo.specs.Refusal.{IsAlgorithmText, IsRefusedText, IsNoAlgorithm};
 
     /// Reads an algorithm text.
     ///
@@ -42,6 +42,8 @@ impl Algo {
     pub fn read(alloc: Global, text: &str) -> Result<Algo, AlgoError>
         ensures said { IfOk result (λ a. IsAlgorithmText text.now (algorithm_of a)) }
         ensures refused { IfErr result (IsRefusedText text.now) }
+        // A text is refused only where it is no algorithm.
+        ensures only { IfErr result (IsNoAlgorithm text.now) }
     {
         let file = syntax::read(alloc, text)?;
         read_file(alloc, &file)

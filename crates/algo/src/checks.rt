@@ -1,20 +1,69 @@
-//! What the expressions of a statement keep, each condition with the place where it is broken.
+//! What the expressions of a statement may use and keep, each condition with the place where it is broken.
 
-ghost use Rattle.std.specs.Prelude.{not, All, IsTrue, MatchOption};
+ghost use Rattle.std.specs.Prelude.{◌≡◌, ◌≢◌, not, string_bytes, map, All, OnOk, IfErr, Some, IsOk, IsNone, IsTrue, MatchOption, MatchResult};
 ghost use Rattle.tree.specs.Term.{Term, term_of, list_terms};
-ghost use Rattle.tree.specs.Uses.{EachCall};
-ghost use Rattle.meaning.specs.Names.{is_among, same_name};
+ghost use Rattle.tree.specs.Typing.{type_of};
+ghost use Rattle.meaning.specs.Names.{is_among};
 ghost use Rattle.meaning.specs.Conditions.{callable};
 ghost use Rattle.scoping.specs.Expressions.{is_known, takes_count};
+ghost use Rattle.token.specs.declared.span.Span.{Span};
+ghost use Rattle.algo.specs.declared.error.AlgoError.TheVariants.{Refused};
 ghost use Rattle.algo.specs.Parts.{names_of, functions_of};
-ghost use Rattle.algo.specs.Context.{only_input};
+ghost use Rattle.algo.specs.Context.{only_input, HasType};
 ghost use Rattle.algo.specs.Keeping.{UsesNames, CallsKnown, CallsCounted};
 
+use crate::error::{AlgoError, Code};
 use crate::function::{Function, Port};
-use crate::scope::callable;
+use numeric::Ty;
 use scoping::{Among, CallTest, first_call, first_variable, is_among, same_name};
 use token::Span;
-use tree::Expr;
+use tree::{Expr, Names, ty_of};
+
+/// What stands before a statement: the input, the functions so far, and the names of all that the text declares.
+#[derive(Clone, Copy, Drop)]
+pub(crate) struct Context<'a> {
+    pub input: &'a Port,
+    pub declared: &'a [String],
+    pub functions: &'a [(String, Function)],
+}
+
+/// The variables that an expression may use, and what it may call: these functions and the input.
+#[derive(Clone, Copy, Drop)]
+pub(crate) struct Scope<'a> {
+    pub variables: &'a [String],
+    pub functions: &'a [(String, Function)],
+    pub input: &'a Port,
+}
+
+// The type and the number of indices of what can be called by the name.
+fn callable(input: &Port, functions: &[(String, Function)], name: &str) -> Option<(Ty, usize)>
+    ensures { result ≡ callable (only_input input.now) (functions_of functions.now) name.now }
+{
+    for (known, function) in functions {
+        if same_name(known.as_str(), name) {
+            return Some((function.ty, function.variables.len()));
+        }
+    }
+    if same_name(input.name.as_str(), name) {
+        Some((input.shape.ty, input.shape.extents.len()))
+    } else {
+        None
+    }
+}
+
+impl Names for Scope<'_> {
+    ghost variables = { λ s name. is_among (names_of s.variables.now) name };
+
+    ghost functions = { λ s name. callable (only_input s.input.now) (functions_of s.functions.now) name };
+
+    fn var(&self, name: &str) -> bool {
+        is_among(self.variables, name)
+    }
+
+    fn func(&self, name: &str) -> Option<(Ty, usize)> {
+        callable(self.input, self.functions, name)
+    }
+}
 
 /// What an expression may have to keep.
 pub(crate) trait Condition {
@@ -24,18 +73,6 @@ pub(crate) trait Condition {
     /// The place where the expression breaks it.
     fn fault(&self, expr: &Expr) -> Option<Span>
         ensures { MatchOption result (holds self.now (term_of expr.now)) (λ _. ¬ holds self.now (term_of expr.now)) };
-}
-
-/// The first fault of several expressions.
-pub(crate) fn first_fault<C: Condition>(at: &[Expr], condition: &C) -> Option<Span>
-    ensures { MatchOption result (All (C.holds condition.now) (list_terms at.now)) (λ _. ¬ All (C.holds condition.now) (list_terms at.now)) }
-{
-    for index in at {
-        if let Some(span) = condition.fault(index) {
-            return Some(span);
-        }
-    }
-    None
 }
 
 // The test that a call's name is declared in the text.
@@ -143,24 +180,26 @@ impl Condition for CountedCalls<'_> {
     }
 }
 
-/// No call is of the function of this name.
-#[derive(Clone, Copy, Drop)]
-pub(crate) struct OtherCalls<'a> {
-    pub name: &'a str,
-}
-
-impl CallTest for OtherCalls<'_> {
-    ghost accepted = { λ t name at. not (same_name t.name.now name) };
-
-    fn accepts(&self, name: &str, _at: &[Expr]) -> bool {
-        !same_name(self.name, name)
+/// Ok where the expression has this type. Else the place of the smallest expression whose parts disagree, and the
+/// expression's own where it has another type.
+pub(crate) fn typed(expr: &Expr, scope: &Scope<'_>, ty: Ty) -> Result<(), Span>
+    ensures { MatchResult result (λ _. HasType scope.now.variables.now scope.now.functions.now scope.now.input.now ty (term_of expr.now))
+        (λ _. ¬ HasType scope.now.variables.now scope.now.functions.now scope.now.input.now ty (term_of expr.now)) }
+{
+    match ty_of(expr, scope) {
+        Ok(found) if found == ty => Ok(()),
+        Ok(_) => Err(expr.span()),
+        Err(error) => Err(error.span),
     }
 }
 
-impl Condition for OtherCalls<'_> {
-    ghost holds = { λ c e. EachCall (λ name at. IsTrue (not (same_name c.name.now name))) e };
-
-    fn fault(&self, expr: &Expr) -> Option<Span> {
-        Some(first_call(expr, self)?.call)
+/// The refusal, where there is a fault.
+pub(crate) fn refuse(fault: Option<Span>, code: Code) -> Result<(), AlgoError>
+    ensures ok { IsOk result → IsNone fault }
+    ensures refused { IfErr result (λ e. (span : Span) × (fault ≡ Some span) × (e ≡ Refused code span)) }
+{
+    match fault {
+        Some(span) => Err(AlgoError::Refused { code, span }),
+        None => Ok(()),
     }
 }

@@ -1,10 +1,10 @@
 //! From a text to its algorithm.
 
-ghost use Rattle.std.specs.Prelude.{◌≡◌, ◌∷◌, map, All, IfOk, IfErr, IfSome, string_bytes, length};
+ghost use Rattle.std.specs.Prelude.{◌≡◌, ◌∷◌, ◌↔◌, map, All, IfOk, IfErr, IfSome, IsTrue, MatchOption, string_bytes, length};
 ghost use Rattle.std.specs.Option.{option_map};
-ghost use Rattle.image.specs.View.{AreExtents, IsSampleType, shape_of};
+ghost use Rattle.image.specs.View.{AreExtents, IsExtent, IsSampleType, shape_of};
 ghost use Rattle.meaning.specs.Conditions.{AreDistinct, function_named};
-ghost use Rattle.syntax.specs.View.{file_text, input_text, output_text, statement_text};
+ghost use Rattle.syntax.specs.View.{extent_text, file_text, input_text, output_text, statement_text};
 ghost use Rattle.algo.specs.declared.error.Code.{Code};
 ghost use Rattle.algo.specs.declared.error.AlgoError.TheVariants.{Memory};
 ghost use Rattle.algo.specs.Parts.{names_of, functions_of, output_type};
@@ -14,17 +14,59 @@ ghost use Rattle.algo.specs.Keeping.{Breaks, KeepsInput, KeepsOutput, FileBreaks
 ghost use Rattle.algo.specs.View.{algorithm_of};
 
 use crate::algorithm::Algo;
+use crate::checks::refuse;
 use crate::error::{AlgoError, Code};
 use crate::function::{Function, Port};
-use crate::limits::{extents_fault, is_sample_type, numbers};
-use crate::reading::read_functions;
-use crate::statement::refuse;
+use crate::statement::read_functions;
 use image::Shape;
 use indexmap::IndexMap;
 use numeric::Ty;
 use scoping::same_name;
 use std::alloc::{AllocError, Global};
-use syntax::{File, InputStatement, OutputStatement, Statement};
+use syntax::{Extent, File, InputStatement, OutputStatement, Statement};
+use token::Span;
+
+// Whether images have samples of this type.
+fn is_sample_type(ty: Ty) -> bool
+    ensures { IsTrue result ↔ IsSampleType ty }
+{
+    matches!(ty, Ty::U8 | Ty::U16)
+}
+
+// The place of a width or a height that no image has.
+fn misfit(extent: &Extent) -> Option<Span>
+    ensures { MatchOption result (IsExtent extent.now.number) (λ _. ¬ IsExtent extent.now.number) }
+{
+    if (1..=8192).contains(&extent.number) {
+        None
+    } else {
+        Some(extent.span)
+    }
+}
+
+// The place of the first extent that passes the limits, and `otherwise` where there is none at all.
+fn extents_fault(extents: &[Extent], otherwise: Span) -> Option<Span>
+    ensures { MatchOption result (AreExtents (map extent_text extents.now)) (λ _. ¬ AreExtents (map extent_text extents.now)) }
+{
+    match extents {
+        [width] => misfit(width),
+        [width, height] => misfit(width).or(misfit(height)),
+        [width, height, colours] => misfit(width).or(misfit(height)).or(if colours.number == 3 {
+            None
+        } else {
+            Some(colours.span)
+        }),
+        [_, _, _, fourth, ..] => Some(fourth.span),
+        [] => Some(otherwise),
+    }
+}
+
+// The numbers of extents.
+fn numbers(alloc: Global, extents: &[Extent]) -> Result<Vec<u32>, AllocError>
+    ensures { IfOk result (λ numbers. numbers.items ≡ map extent_text extents.now) }
+{
+    extents.iter().map(|extent| extent.number).collect(alloc)
+}
 
 // The input that a statement says.
 fn read_input(alloc: Global, statement: &InputStatement) -> Result<Port, AlgoError>

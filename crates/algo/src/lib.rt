@@ -7,12 +7,8 @@ pub mod error;
 mod file;
 pub mod function;
 pub mod inputs;
-mod limits;
-mod naming;
-mod reading;
-mod scope;
+pub mod laws;
 mod statement;
-mod types;
 mod update;
 
 pub use algorithm::Algo;

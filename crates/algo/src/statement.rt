@@ -1,36 +1,43 @@
-//! From a statement to the function or the update that it says.
+//! From the statements of a text to the functions that they say.
 
-ghost use Rattle.std.specs.Prelude.{◌≡◌, ◌++◌, ◌∷◌, [], map, IfOk, IfErr, IsOk, IsNone, Some, MatchOption, MatchResult};
+ghost use Rattle.std.specs.Prelude.{◌≡◌, ◌++◌, ◌∷◌, [], map, length, vec_len, string_bytes, All, IfOk, IfErr, OnOk, MatchOption, MatchResult};
 ghost use Rattle.tree.specs.Term.{term_of, list_terms};
-ghost use Rattle.syntax.specs.View.{named_text, function_text, update_text, domain_text};
-ghost use Rattle.syntax.specs.Text.{update};
-ghost use Rattle.token.specs.declared.span.Span.{Span};
-ghost use Rattle.algo.specs.declared.error.Code.{Code};
-ghost use Rattle.algo.specs.declared.error.AlgoError.TheVariants.{Refused};
-ghost use Rattle.algo.specs.Parts.{names_of, function_of, functions_of, change_of};
-ghost use Rattle.algo.specs.Context.{only_input, HasType};
+ghost use Rattle.meaning.specs.Names.{is_among};
 ghost use Rattle.meaning.specs.Conditions.{callable};
-ghost use Rattle.algo.specs.Saying.{function_said, change_said};
-ghost use Rattle.algo.specs.Keeping.{KeepsFunction, KeepsUpdate, KeepsStatement, Breaks, CallsKnown, CallsCounted, FunctionNames, FunctionLimits, UpdateNames, UpdateCalls, UpdateIndices, UpdatePlaces, UpdateTypes};
+ghost use Rattle.syntax.specs.View.{named_text, function_text, statement_text, update_text};
+ghost use Rattle.syntax.specs.Text.{update};
+ghost use Rattle.algo.specs.declared.error.Code.{Code};
+ghost use Rattle.algo.specs.declared.error.AlgoError.TheVariants.{Memory};
+ghost use Rattle.algo.specs.Parts.{names_of, function_of, functions_of, change_of};
+ghost use Rattle.algo.specs.Context.{only_input, function_names, AreFunctions, HasType};
+ghost use Rattle.algo.specs.Saying.{function_said, change_said, after_statement, functions_said, with_update, FollowsFunction, FollowFunctions, HasSmallExpressions};
+ghost use Rattle.algo.specs.Keeping.{KeepsFunction, KeepsStatement, StatementBreaks, Breaks, CallsKnown, CallsCounted, FunctionNames, FunctionLimits};
 
-use crate::checks::{Condition, CountedCalls, KnownCalls, KnownNames};
+use crate::checks::{
+    Condition, Context, CountedCalls, KnownCalls, KnownNames, Scope, refuse, typed,
+};
 use crate::error::{AlgoError, Code};
-use crate::function::{Function, Port};
-use crate::naming::names;
-use crate::scope::{Scope, is_taken};
-use crate::types::typed;
-use scoping::first_double;
-use std::alloc::Global;
-use syntax::{FunctionStatement, Named};
+use crate::function::{Function, Port, Update};
+use crate::update::read_update;
+use scoping::{first_double, same_name};
+use std::alloc::{AllocError, Global};
+use syntax::{FunctionStatement, Named, Statement, UpdateStatement};
 use token::Span;
 use tree::copy;
 
-/// What stands before a statement: the input, the functions so far, and the names of all that the text declares.
-#[derive(Clone, Copy, Drop)]
-pub(crate) struct Context<'a> {
-    pub input: &'a Port,
-    pub declared: &'a [String],
-    pub functions: &'a [(String, Function)],
+// Whether the name is the input's or that of one of the functions.
+fn is_taken(input: &Port, functions: &[(String, Function)], name: &str) -> bool
+    ensures { result ≡ is_among (string_bytes input.now.name ∷ function_names (functions_of functions.now)) name.now }
+{
+    if same_name(input.name.as_str(), name) {
+        return true;
+    }
+    for (known, _) in functions {
+        if same_name(known.as_str(), name) {
+            return true;
+        }
+    }
+    false
 }
 
 // Where a function's statement has a name that is unknown or doubled.
@@ -85,17 +92,6 @@ fn limits_fault(context: &Context<'_>, statement: &FunctionStatement) -> Option<
     }
 }
 
-/// The refusal, where there is a fault.
-pub(crate) fn refuse(fault: Option<Span>, code: Code) -> Result<(), AlgoError>
-    ensures ok { IsOk result → IsNone fault }
-    ensures refused { IfErr result (λ e. (span : Span) × (fault ≡ Some span) × (e ≡ Refused code span)) }
-{
-    match fault {
-        Some(span) => Err(AlgoError::Refused { code, span }),
-        None => Ok(()),
-    }
-}
-
 // Ok where a function's statement keeps each condition. Else the first that it breaks.
 fn check_function(
     context: &Context<'_>,
@@ -141,8 +137,8 @@ fn check_function(
     Ok(())
 }
 
-/// The function that a statement says, with its name, where the statement keeps each condition.
-pub(crate) fn read_function(
+// The function that a statement says, with its name, where the statement keeps each condition.
+fn read_function(
     alloc: Global,
     context: &Context<'_>,
     statement: &FunctionStatement,
@@ -160,4 +156,108 @@ pub(crate) fn read_function(
         updates: Vec::new(alloc),
     };
     Ok((statement.name.name.clone()?, function))
+}
+
+// The names without their places.
+fn names(alloc: Global, named: &[Named]) -> Result<Vec<String>, AllocError>
+    ensures names { IfOk result (λ names. names_of names.items ≡ map named_text named.now) }
+    ensures count { IfOk result (λ names. vec_len names ≡ length named.now) }
+{
+    let mut names = Vec::new(alloc);
+    for name in named {
+        names.push(name.name.clone()?)?;
+    }
+    Ok(names)
+}
+
+// The update that a statement says of the last function, where the statement keeps each condition.
+fn next_update(
+    alloc: Global,
+    context: &Context<'_>,
+    statement: &UpdateStatement,
+) -> Result<Update, AlgoError>
+    requires functions { AreFunctions (only_input context.now.input.now) (functions_of context.now.functions.now) }
+    requires small { HasSmallExpressions (update (update_text statement.now)) }
+    ensures said { IfOk result (λ u. change_of u ≡ change_said (update_text statement.now)) }
+    ensures functions { OnOk result (AreFunctions (only_input context.now.input.now) (with_update (functions_of context.now.functions.now) (change_said (update_text statement.now)))) }
+    ensures follows { OnOk result (FollowsFunction (functions_of context.now.functions.now) (update (update_text statement.now))) }
+    ensures refused { IfErr result (Breaks (λ code. KeepsStatement (only_input context.now.input.now) (names_of context.now.declared.now) (functions_of context.now.functions.now) code (update (update_text statement.now)))) }
+{
+    match context.functions.split_last() {
+        Some((own, before)) => match read_update(alloc, context, before, own, statement) {
+            Ok(update) => Ok(update),
+            Err(error) => Err(error),
+        },
+        None => Err(AlgoError::Refused {
+            code: Code::Name,
+            span: statement.name.span,
+        }),
+    }
+}
+
+// Gives the last function one more update.
+fn add_update(functions: &mut Vec<(String, Function)>, update: Update) -> Result<(), AlgoError>
+    ensures added { OnOk result (functions_of functions.new.items ≡ with_update (functions_of functions.old.items) (change_of update)) }
+    ensures memory { IfErr result (λ e. e ≡ Memory) }
+{
+    if let Some((name, mut function)) = functions.pop() {
+        function.updates.push(update)?;
+        functions.push((name, function))?;
+    }
+    Ok(())
+}
+
+// Adds what a statement says to the functions, where the statement keeps each condition.
+fn read_statement(
+    alloc: Global,
+    input: &Port,
+    declared: &[String],
+    functions: &mut Vec<(String, Function)>,
+    statement: &Statement,
+) -> Result<(), AlgoError>
+    requires functions { AreFunctions (only_input input.now) (functions_of functions.old.items) }
+    requires small { HasSmallExpressions (statement_text statement.now) }
+    ensures said { OnOk result (functions_of functions.new.items ≡ after_statement (functions_of functions.old.items) (statement_text statement.now)) }
+    ensures functions { OnOk result (AreFunctions (only_input input.now) (functions_of functions.new.items)) }
+    ensures follows { OnOk result (FollowsFunction (functions_of functions.old.items) (statement_text statement.now)) }
+    ensures refused { IfErr result (Breaks (λ code. KeepsStatement (only_input input.now) (names_of declared.now) (functions_of functions.old.items) code (statement_text statement.now))) }
+{
+    let context = Context {
+        input,
+        declared,
+        functions: functions.as_slice(),
+    };
+    match statement {
+        Statement::Function(statement) => {
+            let entry = read_function(alloc, &context, statement)?;
+            functions.push(entry)?;
+            Ok(())
+        }
+        Statement::Update(statement) => {
+            let update = next_update(alloc, &context, statement)?;
+            add_update(functions, update)
+        }
+    }
+}
+
+/// The functions that the statements say, where each statement keeps its conditions.
+pub(crate) fn read_functions(
+    alloc: Global,
+    input: &Port,
+    declared: &[String],
+    statements: &[Statement],
+) -> Result<Vec<(String, Function)>, AlgoError>
+    requires small { All HasSmallExpressions (map statement_text statements.now) }
+    ensures said { IfOk result (λ fs. functions_of fs.items ≡ functions_said (map statement_text statements.now)) }
+    ensures functions { IfOk result (λ fs. AreFunctions (only_input input.now) (functions_of fs.items)) }
+    ensures follow { OnOk result (FollowFunctions (map statement_text statements.now)) }
+    ensures refused { IfErr result (StatementBreaks (only_input input.now) (names_of declared.now) (map statement_text statements.now)) }
+{
+    let mut functions = Vec::new(alloc);
+    for statement in statements {
+        if let Err(error) = read_statement(alloc, input, declared, &mut functions, statement) {
+            return Err(error);
+        }
+    }
+    Ok(functions)
 }

@@ -1,40 +1,92 @@
 //! From an update's statement to the update.
 
-ghost use Rattle.std.specs.Prelude.{◌≡◌, ◌++◌, ◌∷◌, ◌≤◌, [], map, length, IfOk, IfErr, MatchOption, MatchResult};
-ghost use Rattle.tree.specs.Term.{list_terms};
-ghost use Rattle.syntax.specs.View.{update_text};
+ghost use Rattle.std.specs.Prelude.{◌≡◌, ◌++◌, ◌∷◌, ◌≤◌, ◌^◌, ◌+◌, ◌*◌, ◌↔◌, [], not, map, length, vec_len, All, Some, IfOk, IfErr, OnErr, IsTrue, MatchOption, MatchResult};
+ghost use Rattle.numeric.specs.declared.ty.Ty.TheVariants.{I32 as Index};
+ghost use Rattle.tree.specs.Term.{Term, term_of, list_terms};
+ghost use Rattle.tree.specs.Uses.{EachCall};
+ghost use Rattle.meaning.specs.Names.{same_name};
+ghost use Rattle.meaning.specs.Conditions.{callable, IsRange};
+ghost use Rattle.meaning.specs.Reduction.{size, width};
+ghost use Rattle.syntax.specs.View.{update_text, bound_text, domain_text};
+ghost use Rattle.syntax.specs.Text.{bound_value};
 ghost use Rattle.algo.specs.declared.error.Code.{Code};
-ghost use Rattle.algo.specs.Parts.{names_of, function_of, functions_of, change_of};
-ghost use Rattle.algo.specs.Context.{only_input};
-ghost use Rattle.algo.specs.Saying.{change_said};
-ghost use Rattle.algo.specs.Keeping.{KeepsUpdateOver, Breaks, UpdateNames, UpdateCalls, UpdateIndices, UpdatePlaces, UpdateTypes, names_for};
+ghost use Rattle.algo.specs.declared.error.Code.TheVariants.{Limit};
+ghost use Rattle.algo.specs.declared.error.AlgoError.TheVariants.{Refused};
+ghost use Rattle.algo.specs.Parts.{names_of, range_of, function_of, functions_of, change_of};
+ghost use Rattle.algo.specs.Context.{only_input, HasType};
+ghost use Rattle.algo.specs.Saying.{change_said, range_said, domain_names};
+ghost use Rattle.algo.specs.Keeping.{KeepsUpdateOver, Breaks, OnLimit, DomainLimits, UpdateNames, UpdateCalls, UpdateIndices, UpdatePlaces, UpdateTypes, names_for};
 
-use crate::checks::{Condition, CountedCalls, KnownCalls, KnownNames, OtherCalls, first_fault};
+use crate::checks::{
+    Condition, Context, CountedCalls, KnownCalls, KnownNames, Scope, refuse, typed,
+};
 use crate::error::{AlgoError, Code};
-use crate::function::{Function, Update};
-use crate::limits::read_ranges;
-use crate::naming::with_reductions;
-use crate::scope::Scope;
-use crate::statement::{Context, refuse};
-use crate::types::{indices, typed};
-use scoping::{first_double, first_misplaced, same_name};
+use crate::function::{Function, Range, Update};
+use numeric::Ty;
+use scoping::{CallTest, first_call, first_double, first_misplaced, same_name};
 use std::alloc::{AllocError, Global};
-use syntax::UpdateStatement;
+use syntax::{Bound, Domain, UpdateStatement};
 use token::Span;
 use tree::{Expr, copy};
+
+// No call is of the function of this name.
+#[derive(Clone, Copy, Drop)]
+struct OtherCalls<'a> {
+    pub name: &'a str,
+}
+
+impl CallTest for OtherCalls<'_> {
+    ghost accepted = { λ t name at. not (same_name t.name.now name) };
+
+    fn accepts(&self, name: &str, _at: &[Expr]) -> bool {
+        !same_name(self.name, name)
+    }
+}
+
+impl Condition for OtherCalls<'_> {
+    ghost holds = { λ c e. EachCall (λ name at. IsTrue (not (same_name c.name.now name))) e };
+
+    fn fault(&self, expr: &Expr) -> Option<Span> {
+        Some(first_call(expr, self)?.call)
+    }
+}
+
+// The first fault of several expressions.
+fn first_fault<C: Condition>(at: &[Expr], condition: &C) -> Option<Span>
+    ensures { MatchOption result (All (C.holds condition.now) (list_terms at.now)) (λ _. ¬ All (C.holds condition.now) (list_terms at.now)) }
+{
+    for index in at {
+        if let Some(span) = condition.fault(index) {
+            return Some(span);
+        }
+    }
+    None
+}
+
+// Ok where each of these is an index. Else the place in the first that is none.
+fn indices(at: &[Expr], scope: &Scope<'_>) -> Result<(), Span>
+    ensures { MatchResult result (λ _. All (HasType scope.now.variables.now scope.now.functions.now scope.now.input.now Index) (list_terms at.now))
+        (λ _. ¬ All (HasType scope.now.variables.now scope.now.functions.now scope.now.input.now Index) (list_terms at.now)) }
+{
+    for index in at {
+        if let Err(span) = typed(index, scope, Ty::I32) {
+            return Err(span);
+        }
+    }
+    Ok(())
+}
 
 // Where an update has a name that is unknown or doubled.
 fn names_fault(
     context: &Context<'_>,
-    before: &[(String, Function)],
     own: &(String, Function),
     variables: &[String],
     statement: &UpdateStatement,
 ) -> Option<Span>
     requires { names_of variables.now ≡ names_for (function_of own.now) (update_text statement.now) }
     ensures { MatchOption result
-        (UpdateNames (only_input context.now.input.now) (names_of context.now.declared.now) (functions_of before.now) (function_of own.now) (functions_of context.now.functions.now) (update_text statement.now))
-        (λ _. ¬ UpdateNames (only_input context.now.input.now) (names_of context.now.declared.now) (functions_of before.now) (function_of own.now) (functions_of context.now.functions.now) (update_text statement.now)) }
+        (UpdateNames (names_of context.now.declared.now) (function_of own.now) (update_text statement.now))
+        (λ _. ¬ UpdateNames (names_of context.now.declared.now) (function_of own.now) (update_text statement.now)) }
 {
     if !same_name(own.0.as_str(), statement.name.name.as_str()) {
         return Some(statement.name.span);
@@ -61,17 +113,10 @@ fn reduction_place(statement: &UpdateStatement, i: usize) -> Span {
 }
 
 // Where an update calls what is not declared before it.
-fn calls_fault(
-    context: &Context<'_>,
-    before: &[(String, Function)],
-    own: &(String, Function),
-    variables: &[String],
-    statement: &UpdateStatement,
-) -> Option<Span>
-    requires { names_of variables.now ≡ names_for (function_of own.now) (update_text statement.now) }
+fn calls_fault(context: &Context<'_>, statement: &UpdateStatement) -> Option<Span>
     ensures { MatchOption result
-        (UpdateCalls (only_input context.now.input.now) (names_of context.now.declared.now) (functions_of before.now) (function_of own.now) (functions_of context.now.functions.now) (update_text statement.now))
-        (λ _. ¬ UpdateCalls (only_input context.now.input.now) (names_of context.now.declared.now) (functions_of before.now) (function_of own.now) (functions_of context.now.functions.now) (update_text statement.now)) }
+        (UpdateCalls (callable (only_input context.now.input.now) (functions_of context.now.functions.now)) (update_text statement.now))
+        (λ _. ¬ UpdateCalls (callable (only_input context.now.input.now) (functions_of context.now.functions.now)) (update_text statement.now)) }
 {
     let known = KnownCalls {
         functions: context.functions,
@@ -86,15 +131,12 @@ fn calls_fault(
 // Where an update has a wrong number of indices.
 fn indices_fault(
     context: &Context<'_>,
-    before: &[(String, Function)],
     own: &(String, Function),
-    variables: &[String],
     statement: &UpdateStatement,
 ) -> Option<Span>
-    requires { names_of variables.now ≡ names_for (function_of own.now) (update_text statement.now) }
     ensures { MatchOption result
-        (UpdateIndices (only_input context.now.input.now) (names_of context.now.declared.now) (functions_of before.now) (function_of own.now) (functions_of context.now.functions.now) (update_text statement.now))
-        (λ _. ¬ UpdateIndices (only_input context.now.input.now) (names_of context.now.declared.now) (functions_of before.now) (function_of own.now) (functions_of context.now.functions.now) (update_text statement.now)) }
+        (UpdateIndices (callable (only_input context.now.input.now) (functions_of context.now.functions.now)) (function_of own.now) (update_text statement.now))
+        (λ _. ¬ UpdateIndices (callable (only_input context.now.input.now) (functions_of context.now.functions.now)) (function_of own.now) (update_text statement.now)) }
 {
     let counted = CountedCalls {
         functions: context.functions,
@@ -118,17 +160,10 @@ fn left_place(statement: &UpdateStatement) -> Span {
 }
 
 // Where a variable of the function stands out of its place.
-fn places_out(
-    context: &Context<'_>,
-    before: &[(String, Function)],
-    own: &(String, Function),
-    variables: &[String],
-    statement: &UpdateStatement,
-) -> Option<Span>
-    requires { names_of variables.now ≡ names_for (function_of own.now) (update_text statement.now) }
+fn places_out(own: &(String, Function), statement: &UpdateStatement) -> Option<Span>
     ensures { MatchOption result
-        (UpdatePlaces (only_input context.now.input.now) (names_of context.now.declared.now) (functions_of before.now) (function_of own.now) (functions_of context.now.functions.now) (update_text statement.now))
-        (λ _. ¬ UpdatePlaces (only_input context.now.input.now) (names_of context.now.declared.now) (functions_of before.now) (function_of own.now) (functions_of context.now.functions.now) (update_text statement.now)) }
+        (UpdatePlaces (function_of own.now) (update_text statement.now))
+        (λ _. ¬ UpdatePlaces (function_of own.now) (update_text statement.now)) }
 {
     let name = own.0.as_str();
     let variables = own.1.variables.as_slice();
@@ -148,8 +183,8 @@ fn types_fault(
 ) -> Option<Span>
     requires { names_of variables.now ≡ names_for (function_of own.now) (update_text statement.now) }
     ensures { MatchOption result
-        (UpdateTypes (only_input context.now.input.now) (names_of context.now.declared.now) (functions_of before.now) (function_of own.now) (functions_of context.now.functions.now) (update_text statement.now))
-        (λ _. ¬ UpdateTypes (only_input context.now.input.now) (names_of context.now.declared.now) (functions_of before.now) (function_of own.now) (functions_of context.now.functions.now) (update_text statement.now)) }
+        (UpdateTypes (callable (only_input context.now.input.now) (functions_of before.now)) (callable (only_input context.now.input.now) (functions_of context.now.functions.now)) (function_of own.now) (update_text statement.now))
+        (λ _. ¬ UpdateTypes (callable (only_input context.now.input.now) (functions_of before.now)) (callable (only_input context.now.input.now) (functions_of context.now.functions.now)) (function_of own.now) (update_text statement.now)) }
 {
     let left = Scope {
         variables,
@@ -180,30 +215,18 @@ fn check_update(
 ) -> Result<(), AlgoError>
     requires { names_of variables.now ≡ names_for (function_of own.now) (update_text statement.now) }
     ensures { MatchResult result
-        (λ _. UpdateNames (only_input context.now.input.now) (names_of context.now.declared.now) (functions_of before.now) (function_of own.now) (functions_of context.now.functions.now) (update_text statement.now)
-        × UpdateCalls (only_input context.now.input.now) (names_of context.now.declared.now) (functions_of before.now) (function_of own.now) (functions_of context.now.functions.now) (update_text statement.now)
-        × UpdateIndices (only_input context.now.input.now) (names_of context.now.declared.now) (functions_of before.now) (function_of own.now) (functions_of context.now.functions.now) (update_text statement.now)
-        × UpdatePlaces (only_input context.now.input.now) (names_of context.now.declared.now) (functions_of before.now) (function_of own.now) (functions_of context.now.functions.now) (update_text statement.now)
+        (λ _. UpdateNames (names_of context.now.declared.now) (function_of own.now) (update_text statement.now)
+        × UpdateCalls (callable (only_input context.now.input.now) (functions_of context.now.functions.now)) (update_text statement.now)
+        × UpdateIndices (callable (only_input context.now.input.now) (functions_of context.now.functions.now)) (function_of own.now) (update_text statement.now)
+        × UpdatePlaces (function_of own.now) (update_text statement.now)
         × (1 ≤ length statement.now.domains.items)
-        × UpdateTypes (only_input context.now.input.now) (names_of context.now.declared.now) (functions_of before.now) (function_of own.now) (functions_of context.now.functions.now) (update_text statement.now))
+        × UpdateTypes (callable (only_input context.now.input.now) (functions_of before.now)) (callable (only_input context.now.input.now) (functions_of context.now.functions.now)) (function_of own.now) (update_text statement.now))
         (Breaks (λ code. KeepsUpdateOver (only_input context.now.input.now) (names_of context.now.declared.now) (functions_of before.now) (function_of own.now) (functions_of context.now.functions.now) code (update_text statement.now))) }
 {
-    refuse(
-        names_fault(context, before, own, variables, statement),
-        Code::Name,
-    )?;
-    refuse(
-        calls_fault(context, before, own, variables, statement),
-        Code::LaterCall,
-    )?;
-    refuse(
-        indices_fault(context, before, own, variables, statement),
-        Code::IndexCount,
-    )?;
-    refuse(
-        places_out(context, before, own, variables, statement),
-        Code::MovedVariable,
-    )?;
+    refuse(names_fault(context, own, variables, statement), Code::Name)?;
+    refuse(calls_fault(context, statement), Code::LaterCall)?;
+    refuse(indices_fault(context, own, statement), Code::IndexCount)?;
+    refuse(places_out(own, statement), Code::MovedVariable)?;
     let domain = if statement.domains.is_empty() {
         Some(statement.word)
     } else {
@@ -257,4 +280,131 @@ fn copies(alloc: Global, at: &[Expr]) -> Result<Vec<Expr>, AllocError>
         copies.push(copy(alloc, index)?)?;
     }
     Ok(copies)
+}
+
+// These names, and then those of the reduction variables.
+fn with_reductions(
+    alloc: Global,
+    variables: &[String],
+    domains: &[Domain],
+) -> Result<Vec<String>, AllocError>
+    ensures names { IfOk result (λ names. names_of names.items ≡ names_of variables.now ++ domain_names (map domain_text domains.now)) }
+    ensures count { IfOk result (λ names. vec_len names ≡ length variables.now + length domains.now) }
+{
+    let mut names = name_copies(alloc, variables)?;
+    for domain in domains {
+        names.push(domain.variable.name.clone()?)?;
+    }
+    Ok(names)
+}
+
+// The same names in memory of their own.
+fn name_copies(alloc: Global, names: &[String]) -> Result<Vec<String>, AllocError>
+    ensures names { IfOk result (λ copies. names_of copies.items ≡ names_of names.now) }
+    ensures count { IfOk result (λ copies. vec_len copies ≡ length names.now) }
+{
+    let mut copies = Vec::new(alloc);
+    for name in names {
+        copies.push(name.clone()?)?;
+    }
+    Ok(copies)
+}
+
+// The number of a bound.
+fn end(bound: Bound) -> i64
+    ensures { result ≡ bound_value (bound_text bound) }
+{
+    let number = i64::from(bound.number);
+    if bound.negative { -number } else { number }
+}
+
+// The range of a reduction variable, or the place of what passes the limits: an end, or both where they are crossed.
+fn range(domain: &Domain) -> Result<Range, AlgoError>
+    ensures { MatchResult result
+        (λ range. (range_of range ≡ range_said (domain_text domain.now)) × IsRange (range_of range))
+        (Breaks (OnLimit (IsRange (range_said (domain_text domain.now))))) }
+{
+    let (low, high) = (end(domain.low), end(domain.high));
+    let ends = Span {
+        start: domain.low.span.start,
+        end: domain.high.span.end,
+    };
+    if low < -8192 || low > high {
+        Err(limit(ends))
+    } else if high > 8192 {
+        Err(limit(domain.high.span))
+    } else {
+        Ok(Range {
+            variable: domain.variable.name.clone()?,
+            low: low as i32,
+            high: high as i32,
+        })
+    }
+}
+
+// The refusal of what passes a limit.
+fn limit(span: Span) -> AlgoError
+    ensures { result ≡ Refused Limit span }
+{
+    AlgoError::Refused {
+        code: Code::Limit,
+        span,
+    }
+}
+
+// The ranges of the domains, each within its limits.
+fn ranges(alloc: Global, domains: &[Domain]) -> Result<Vec<Range>, AlgoError>
+    ensures said { IfOk result (λ ranges. map range_of ranges.items ≡ map range_said (map domain_text domains.now)) }
+    ensures within { IfOk result (λ ranges. All IsRange (map range_of ranges.items)) }
+    ensures refused { IfErr result (Breaks (OnLimit (All IsRange (map range_said (map domain_text domains.now))))) }
+{
+    let mut ranges = Vec::new(alloc);
+    for domain in domains {
+        match range(domain) {
+            Ok(range) => ranges.push(range)?,
+            Err(error) => return Err(error),
+        }
+    }
+    Ok(ranges)
+}
+
+// The ranges of a reduction domain that keeps its limits; `word` is where its update stands.
+fn read_ranges(alloc: Global, domains: &[Domain], word: Span) -> Result<Vec<Range>, AlgoError>
+    ensures said { IfOk result (λ ranges. map range_of ranges.items ≡ map range_said (map domain_text domains.now)) }
+    ensures within { IfOk result (λ _. DomainLimits (map domain_text domains.now)) }
+    ensures refused { IfErr result (Breaks (OnLimit (DomainLimits (map domain_text domains.now)))) }
+{
+    if let [_, _, _, fourth, ..] = domains {
+        return Err(limit(fourth.variable.span));
+    }
+    let ranges = match ranges(alloc, domains) {
+        Ok(ranges) => ranges,
+        Err(error) => return Err(error),
+    };
+    if has_few_points(&ranges) {
+        Ok(ranges)
+    } else {
+        Err(limit(word))
+    }
+}
+
+// Whether there are at most 2^24 points.
+fn has_few_points(ranges: &[Range]) -> bool
+    ensures { IsTrue result ↔ (size (map range_of ranges.now) ≤ 2 ^ 24) }
+{
+    let mut points: u64 = 1;
+    for range in ranges {
+        match points.checked_mul(width(range)) {
+            Some(more) => points = more,
+            None => return false,
+        }
+    }
+    points <= 1 << 24
+}
+
+// How many values a reduction variable takes.
+fn width(range: &Range) -> u64
+    ensures { result ≡ width (range_of range.now) }
+{
+    u64::from(range.high.abs_diff(range.low)) + 1
 }

@@ -33,7 +33,7 @@ use Rattle.inlining.specs.PutIn.{put_in, put_in_where_possible}
 use Rattle.inlining.specs.Laws.{PutInWherePossible, PureDefinitions, CallsOfUpdates, MayPutIn, TakesNoUpdates}
 use Rattle.headline.specs.Row.{Owned, Loop, Row, spans_of, nest_of, alloc_of, store_of, loops_of, body_of, group_of, plan_of, certificate_of, own_lines, own_ends}
 use Rattle.headline.specs.Ranges.{at_piece, ends_at}
-use Rattle.headline.specs.Demands.{Demand, Holds, stored_in, output_function, call_source, NothingIsUpdated, BufferIsOfOutput, StoreHasItsVariables, StoreIsInBuffer, ValueIsDefinition, ClaimIsKnown, ClaimIsOfNest, OwnIsClaimed}
+use Rattle.headline.specs.Demands.{Demand, Holds, stored_in, output_function, call_source, NothingIsUpdated, BufferIsOfOutput, StoreHasItsVariables, StoreIsInBuffer, ValueIsDefinition, ClaimIsKnown, ClaimIsOfNest, OwnIsClaimed, OwnIsGiven, SymbolsAreInScope, FormsAreWithinLimits, OwnHasItsDimensions, ClaimHasItsDimensions, AtOwn, AtClaim, RegionsStand}
 use Rattle.headline.proofs.Members.{differs}
 use Rattle.headline.proofs.Points.{inside_all, region_in, in_region, rooms_of}
 use Rattle.headline.proofs.Loads.{calls_stay, type_stays, input_alone}
@@ -93,6 +93,17 @@ some_lines [] r = omega arith
 some_lines (l ∷ ls) r = omega arith
 
 module _ (a : Algorithm) (r : Row) (holds : (d : Demand) → Holds a r d) where
+  regions_stand : RegionsStand a r
+  regions_stand = record {
+    given = holds OwnIsGiven;
+    own_scope = holds (SymbolsAreInScope AtOwn);
+    own_limits = holds (FormsAreWithinLimits AtOwn);
+    own_dimensions = holds OwnHasItsDimensions;
+    claim_scope = holds (SymbolsAreInScope AtClaim);
+    claim_limits = holds (FormsAreWithinLimits AtClaim);
+    claim_dimensions = holds ClaimHasItsDimensions;
+  }
+
   pub unchanged : AllByRecursion (λ f. f.changes ≡ []) a.functions
   unchanged = recursion_from_All (λ f. f.changes ≡ []) a.functions (holds NothingIsUpdated)
 
@@ -182,7 +193,7 @@ module _ (a : Algorithm) (r : Row) (holds : (d : Demand) → Holds a r d) where
       own_inside : (p : List ℤ) → In p ((S a r holds).own s) → InRegion s (spans_of r.claim.region) p
       own_inside p m =
           lies_region s (spans_of r.claim.region) p (in_region s r.claim.region p
-          (inside_all (map (ends_at s) (own_ends r.own)) (map (ends_at s) r.claim.region) p (holds OwnIsClaimed n less) (region_in s (own_ends r.own) p (own_lies r.own p m))))
+          (inside_all (map (ends_at s) (own_ends r.own)) (map (ends_at s) r.claim.region) p (holds OwnIsClaimed regions_stand n less) (region_in s (own_ends r.own) p (own_lies r.own p m))))
 
       -- ---- claims named at lines
       unnamed_at : (line : ℕ) → (r.claim.line ≡ line → ⊥) → (xs : List Action) (sc : Scope) → AreMade G (G.outline.named line) xs sc

@@ -1,5 +1,5 @@
 -- The parts of a row plan are told by the plan and the certificate, so that a yes and a refusal never hold both.
-use Rattle.std.proofs.Common.{◌≡◌, ℕ, List, [], ◌∷◌, map, Option, Some, None, refl, sym, ap, ◌∙◌, subst, inl, inr}
+use Rattle.std.proofs.Common.{◌≡◌, ℕ, List, [], ◌∷◌, map, Option, Some, None, refl, sym, ap, ◌∙◌, subst, inl, inr, arith}
 use Rattle.std.specs.Prelude.{pos}
 use Rattle.tree.specs.Term.{Term, Name}
 use Rattle.lin.specs.Forms.{Form, number}
@@ -9,9 +9,10 @@ use Rattle.nest.specs.declared.stmt.Places.TheVariants.{From, Folded}
 use Rattle.nest.specs.Plan.{Index, At, Found, Coordinate, Statement, Seq, For, Alloc, Store, Publish, Statements, Empty, Then, Group, Plan}
 use Rattle.cert.specs.declared.cert.Own.{Own}
 use Rattle.cert.specs.Certificate.{Claim, Certificate}
-use Rattle.headline.specs.Row.{Ends, Seats, Loop, Axis, Owned, Claimed, Row, Fits, spans_of, places_of, coordinate_of, nest_of, store_of, plan_of, certificate_of, own_lines}
-use Rattle.headline.specs.Shown.{FitsOnce, ShownNeverFails}
-use Rattle.headline.specs.Demands.{Holds}
+use Rattle.headline.specs.Row.{Ends, Seats, Loop, Axis, Owned, Claimed, Row, Fits, spans_of, places_of, coordinate_of, nest_of, store_of, group_of, plan_of, certificate_of, own_lines}
+use Rattle.meaning.specs.Algorithm.{Algorithm}
+use Rattle.headline.specs.Shown.{FailsHead, FitsOnce, ShownNeverFails}
+use Rattle.headline.specs.Demands.{Demand, Holds, NameIsSame, InputIsSame, OutputIsSame, GroupIsOfOutput}
 use Rattle.headline.proofs.Misfits.{fits_has_no_misfit}
 
 abbrev first_form : List Form → Form
@@ -200,6 +201,13 @@ told p c r fits = (λ i. row_from (fits.plan i) (fits.certificate i)) ∙ row_ba
 pub fits_once : FitsOnce
 fits_once p c r q f g = sym (told p c r f) ∙ told p c q g
 
+head_never : (a : Algorithm) (r : Row) (line : ℕ) → ((d : Demand) → Holds a r d) → FailsHead a (plan_of r) line → ⊥
+head_never a r line holds (inl name) = name.1 (holds NameIsSame)
+head_never a r line holds (inr (inl input)) = input.1 (holds InputIsSame)
+head_never a r line holds (inr (inr (at, inl output))) = output (holds OutputIsSame)
+head_never a r line holds (inr (inr (at, inr all))) = all 0 (group_of r) (omega arith) (holds GroupIsOfOutput)
+
 pub shown_never_fails : ShownNeverFails
-shown_never_fails a p c code line shown (inl fault) = let none = fits_has_no_misfit p c shown.row shown.fits in let e = fault.1 in absurd (cc (none, e))
-shown_never_fails a p c code line shown (inr fault) = fault.fails (subst (λ (r : Row). Holds a r fault.demand) (fits_once p c shown.row fault.row shown.fits fault.fits) (shown.holds fault.demand))
+shown_never_fails a p c code line shown (inl head) = head_never a shown.row line shown.holds (subst (λ (q : Plan). FailsHead a q line) shown.fits.plan head.1)
+shown_never_fails a p c code line shown (inr (inl fault)) = let none = fits_has_no_misfit p c shown.row shown.fits in let e = fault.1 in absurd (cc (none, e))
+shown_never_fails a p c code line shown (inr (inr fault)) = fault.fails (subst (λ (r : Row). Holds a r fault.demand) (fits_once p c shown.row fault.row shown.fits fault.fits) (shown.holds fault.demand))

@@ -8,6 +8,7 @@ use Rattle.image.specs.Raster.{is_within}
 use Rattle.meaning.specs.Algorithm.{Function, Algorithm}
 use Rattle.meaning.specs.Names.{same_name, is_among}
 use Rattle.meaning.specs.Conditions.{callable, function_named}
+use Rattle.nest.specs.Plan.{Declaration}
 use Rattle.nest.specs.Symbols.{points}
 use Rattle.cert.specs.Cells.{no_symbols, is_in_region, own_points, cells}
 use Rattle.actions.specs.Run.{Source, Input, ByClaim, Unknown, source_of}
@@ -282,21 +283,31 @@ IsLoadable Unknown = Unit {0}
 abbrev pub AtEachPiece : Row → (ℕ → Type 0) → Type 0
 AtEachPiece r P = (n : ℕ) → n < r.count → P n
 
-pub record SameInput (a : Algorithm) (r : Row) : Type 0 where
-  pub name : r.input.name ≡ a.input
-  pub ty : r.input.ty ≡ a.input_ty
-  pub extents : r.input.extents ≡ a.input_extents
+pub record SameInput (a : Algorithm) (d : Declaration) : Type 0 where
+  pub name : d.name ≡ a.input
+  pub ty : d.ty ≡ a.input_ty
+  pub extents : d.extents ≡ a.input_extents
 
-pub record SameOutput (a : Algorithm) (r : Row) : Type 0 where
-  pub name : r.output.name ≡ a.output
-  pub ty : MatchOption (output_function a) ⊥ (λ f. r.output.ty ≡ f.ty)
-  pub extents : r.output.extents ≡ a.output_extents
+pub record SameOutput (a : Algorithm) (d : Declaration) : Type 0 where
+  pub name : d.name ≡ a.output
+  pub ty : MatchOption (output_function a) ⊥ (λ f. d.ty ≡ f.ty)
+  pub extents : d.extents ≡ a.output_extents
+
+-- the own region and the claim's are given as their own lines ask for it, so that one can be compared with the other
+pub record RegionsStand (a : Algorithm) (r : Row) : Type 0 where
+  pub given : IsSome r.own
+  pub own_scope : All (IsOver (symbols_at r AtOwn)) (forms_at r AtOwn)
+  pub own_limits : All (λ f. IsTrue (is_within_limits f)) (forms_at r AtOwn)
+  pub own_dimensions : length (own_ends r.own) ≡ length a.output_extents
+  pub claim_scope : All (IsOver (symbols_at r AtClaim)) (forms_at r AtClaim)
+  pub claim_limits : All (λ f. IsTrue (is_within_limits f)) (forms_at r AtClaim)
+  pub claim_dimensions : length r.claim.region ≡ length a.output_extents
 
 module _ (a : Algorithm) (r : Row) where
   abbrev pub Holds : Demand → Type 0
   Holds NameIsSame = r.name ≡ a.name
-  Holds InputIsSame = SameInput a r
-  Holds OutputIsSame = SameOutput a r
+  Holds InputIsSame = SameInput a r.input
+  Holds OutputIsSame = SameOutput a r.output
   Holds GroupIsOfOutput = r.function ≡ a.output
   Holds (SymbolsAreInScope at) = All (IsOver (symbols_at r at)) (forms_at r at)
   Holds (FormsAreWithinLimits at) = All (λ f. IsTrue (is_within_limits f)) (forms_at r at)
@@ -327,7 +338,7 @@ module _ (a : Algorithm) (r : Row) where
   Holds ClaimIsKnown = r.published ≡ 0
   Holds PublishedIsOfGroup = r.claim.function ≡ r.function
   Holds ClaimIsInForce = r.claim.line ≡ last_line_of_loops r
-  Holds OwnIsClaimed = AtEachPiece r (λ n. AreInside (map (ends_at (at_piece n)) (own_ends r.own)) (map (ends_at (at_piece n)) r.claim.region))
+  Holds OwnIsClaimed = RegionsStand a r → AtEachPiece r (λ n. AreInside (map (ends_at (at_piece n)) (own_ends r.own)) (map (ends_at (at_piece n)) r.claim.region))
   Holds OwnIsGiven = IsSome r.own
   Holds OwnIsOfGroup = MatchOption r.own (Unit {0}) (λ o. o.group ≡ 0)
   Holds OwnHasItsDimensions = length (own_ends r.own) ≡ length a.output_extents

@@ -1,5 +1,5 @@
 -- What a yes of the checker means, what a refusal means, and what a yes promises.
-use Rattle.std.specs.Prelude.{◌≡◌, ℕ, ◌<◌, List, ◌⊎◌, Some, None, ℤ, true, slice_get}
+use Rattle.std.specs.Prelude.{◌≡◌, ℕ, ◌<◌, List, All, ◌⊎◌, Some, None, ℤ, true, slice_get}
 use Rattle.image.specs.Raster.{is_within}
 use Rattle.image.specs.View.{HasShape, Picture}
 use Rattle.meaning.specs.Algorithm.{Algorithm}
@@ -14,7 +14,7 @@ use Rattle.orders.specs.Outcome.{EveryOrderIsRight, OneWorkerFinishes}
 use Rattle.pieces.specs.Numbers.{cell_number}
 use Rattle.pieces.specs.Work.{work_of, target}
 use Rattle.headline.specs.Row.{Row, Fits}
-use Rattle.headline.specs.Demands.{Demand, code_of, line_of, Holds}
+use Rattle.headline.specs.Demands.{Demand, code_of, line_of, Holds, SameInput, SameOutput}
 use Rattle.headline.specs.Misfit.{misfit}
 
 -- a row plan of which every demand holds
@@ -32,9 +32,16 @@ pub record FailsDemand (a : Algorithm) (p : Plan) (c : Certificate) (code line :
   pub line_is : line_of row demand ≡ line
   pub fails : ¬ Holds a row demand
 
--- a refusal with this code and line is right: the line is the first that does not fit, or a demand does not hold there
+-- whatever plan it is: its name, its input or its output is not the algorithm's, or no group is the output's
+abbrev pub FailsHead : Algorithm → Plan → ℕ → Type 0
+FailsHead a p line =
+    ((line ≡ 1) × ¬ (p.name ≡ a.name))
+    ⊎ (((line ≡ 2) × ¬ SameInput a p.input) ⊎ ((line ≡ 3) × (¬ SameOutput a p.output ⊎ All (λ g. ¬ (g.function ≡ a.output)) p.groups)))
+
+-- a refusal with this code and line is right: the head is wrong there, the line is the first that does not fit, or a
+-- demand does not hold there
 abbrev pub Fails : Algorithm → Plan → Certificate → ℕ → ℕ → Type 0
-Fails a p c code line = ((code ≡ 14) × (misfit p c ≡ Some line)) ⊎ FailsDemand a p c code line
+Fails a p c code line = ((code ≡ 1) × FailsHead a p line) ⊎ (((code ≡ 14) × (misfit p c ≡ Some line)) ⊎ FailsDemand a p c code line)
 
 -- the demand comes before this line and code
 abbrev pub ComesBefore : Row → Demand → ℕ → ℕ → Type 0

@@ -8,8 +8,7 @@ use Rattle.tree.specs.Uses.{EachCall}
 use Rattle.meaning.specs.Names.{same_name}
 use Rattle.scoping.specs.Keeping.{KeepPlaces}
 use Rattle.syntax.specs.View.{update_text}
-use Rattle.algo.specs.Parts.{names_of, functions_of, function_of}
-use Rattle.algo.specs.Context.{only_input}
+use Rattle.algo.specs.Parts.{names_of, function_of}
 use Rattle.algo.specs.Keeping.{UpdatePlaces}
 use Rattle.algo.proofs.Answered.{match_none}
 use Rattle.algo.proofs.update.places_out.Goals as goal
@@ -38,7 +37,7 @@ returns c =
     let value = term_of c.args.statement.now.value in
     match_none c.first_misplaced.result
     (Kept c.as_str-name.result.now c.as_slice-variables.result.now value c.deref-2.result.now)
-    (UpdatePlaces (only_input c.args.context.now.input.now) (names_of c.args.context.now.declared.now) (functions_of c.args.before.now) (function_of c.args.own.now) (functions_of c.args.context.now.functions.now) (update_text c.args.statement.now))
+    (UpdatePlaces (function_of c.args.own.now) (update_text c.args.statement.now))
     c.first_misplaced.ensures.none
     (λ p. record { others = others _ _ _ _ name c.deref.ensures.value c.in_default.ensures; kept = kept _ _ _ _ value _ _ name vars at p })
     (λ q. kept _ _ _ _ value _ _ (sym name) (sym vars) (sym at) q.kept)

@@ -1,7 +1,19 @@
-use Rattle.std.proofs.Common.{map}
+use Rattle.std.proofs.Common.{map, IfErr, rules}
 use Rattle.syntax.specs.View.{statement_text}
+use Rattle.algo.specs.Refusal.{IsRefusedText}
+use Rattle.algo.proofs.Exclusion.{error_excludes}
 use Rattle.algo.proofs.Small.{all_small}
 use Rattle.algo.proofs.algorithm.Algo.read.Goals as goal
 
 pub read_file-requires : goal.read_file-requires
 read_file-requires c = all_small (map statement_text c.in_ok-file.file.statements.items) c.in_ok-file.ensures.small
+
+pub returns-in_err-file-clause-only : goal.returns-in_err-file-clause-only
+returns-in_err-file-clause-only c =
+    let refused : IfErr c.from_residual.result (IsRefusedText c.args.text.now) = search rules in
+    error_excludes c.args.text.now c.from_residual.result refused
+
+pub returns-clause-only : goal.returns-clause-only
+returns-clause-only c =
+    let refused : IfErr c.read_file.result (IsRefusedText c.args.text.now) = search rules in
+    error_excludes c.args.text.now c.read_file.result refused

@@ -1,7 +1,0 @@
-use Rattle.std.proofs.Common.{◌≡◌, map, take, vec_len}
-use Rattle.syntax.specs.View.{named_text}
-use Rattle.algo.specs.Parts.{names_of}
-use Rattle.algo.proofs.naming.names.Given as goal
-
-abbrev pub invariant-loop-name : goal.invariant-loop-name
-invariant-loop-name l = (names_of l.names.items ≡ map named_text (take l.name-index l.named)) × (vec_len l.names ≡ l.name-index)

@@ -1,0 +1,20 @@
+use Rattle.std.proofs.Common.{◌≡◌, map, All, subst, refl, ap, List, [], ◌∷◌}
+use Rattle.meaning.specs.Algorithm.{Range}
+use Rattle.meaning.specs.Conditions.{IsRange}
+use Rattle.syntax.specs.declared.statement.Domain.{Domain}
+use Rattle.syntax.specs.View.{domain_text}
+use Rattle.algo.specs.Saying.{range_said}
+use Rattle.algo.specs.Keeping.{OnLimit}
+use Rattle.algo.proofs.Lists.{All-at}
+use Rattle.algo.proofs.Answered.{breaks-weaker, on_limit}
+use Rattle.algo.proofs.update.ranges.Goals as goal
+
+at_once : (ds : List Domain) → map range_said (map domain_text ds) ≡ map (λ d. range_said (domain_text d)) ds
+at_once [] = refl
+at_once (d ∷ ds) = ap (λ l. range_said (domain_text d) ∷ l) (at_once ds)
+
+pub returns-in-Err-clause-refused : goal.returns-in-Err-clause-refused
+returns-in-Err-clause-refused c =
+    breaks-weaker (OnLimit (IsRange (range_said (domain_text c.domain-item.result)))) (OnLimit (All IsRange (map range_said (map domain_text c.args.domains.now)))) c.in-Err.error
+    (on_limit (IsRange (range_said (domain_text c.domain-item.result))) (All IsRange (map range_said (map domain_text c.args.domains.now)))
+    (λ h. All-at IsRange (λ d. range_said (domain_text d)) c.args.domains.now c.loop-domain.domain-index c.domain-item.result c.domain-item.is c.loop-domain-test.true (subst (λ (l : List Range). All IsRange l) (at_once c.args.domains.now) h))) c.in-Err.ensures

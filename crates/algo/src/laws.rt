@@ -1,0 +1,13 @@
+//! Laws, each the contract of a function that does nothing.
+
+ghost use Rattle.algo.specs.Laws.{WellFormedBreaksNothing, RefusedIsNoAlgorithm};
+
+/// A file that is refused for a condition on its statements is not well formed.
+pub fn refused_is_ill_formed()
+    ensures { WellFormedBreaksNothing }
+{}
+
+/// A text that is refused is no algorithm, where memory did not run out.
+pub fn refused_is_no_algorithm()
+    ensures { RefusedIsNoAlgorithm }
+{}

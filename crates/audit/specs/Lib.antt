@@ -1,0 +1,4 @@
+pub mod Refusal
+pub mod Asked
+pub mod Faults
+pub mod View

@@ -1,0 +1,171 @@
+//! Plans that the checker has accepted, and the checker.
+
+ghost use Rattle.std.specs.Prelude.{◌≡◌, ℕ, List, length, IfOk, IfErr};
+ghost use Rattle.algo.specs.View.{algorithm_of};
+ghost use Rattle.nest.specs.View.{plan_of};
+ghost use Rattle.cert.specs.Certificate.{certificate_of};
+ghost use Rattle.cert.specs.Cells.{cells as cells_of};
+ghost use Rattle.headline.specs.Shown.{Shown, Headline};
+ghost use Rattle.audit.specs.Faults.{HeadIsSame, IsRefusal, ListsAreOf};
+
+use crate::head::head_fault;
+use crate::refusal::{CheckError, K, refusal_of};
+use crate::row::first_unmet;
+use algo::Algo;
+use cert::Cert;
+use headline::laws::shown_is_right;
+use nest::Plan;
+use orders::Piece;
+use owned::demands::{cell_count_of, pieces_of};
+use rowplan::plan::row_plan;
+use std::alloc::Global;
+
+/// A plan with its certificate that the checker has accepted for an algorithm.
+///
+/// Beside these it holds the cells that each piece owns and fetches and the pieces that it needs: one number for each cell
+/// of the plan, and three lists for each piece.
+#[derive(Drop)]
+pub struct Checked<'a> {
+    pub(crate) algo: &'a Algo,
+    pub(crate) plan: Plan,
+    pub(crate) cert: Cert,
+    pub(crate) pieces: Vec<Piece>,
+    pub(crate) cells: u32,
+    pub ghost shown: { ∥ Shown (algorithm_of algo.now) (plan_of plan) (certificate_of cert) ∥₁ },
+    pub ghost lists: { ∥ ListsAreOf (algorithm_of algo.now) (plan_of plan) (certificate_of cert) pieces.items ∥₁ },
+    pub ghost counted: { cells ≡ length (cells_of (plan_of plan)) },
+}
+
+impl Checked<'_> {
+    ghost use Rattle.std.specs.Prelude.{◌<◌};
+    ghost use Rattle.pieces.specs.Work.{work_of};
+    ghost use Rattle.audit.specs.View.{algorithm_checked, plan_checked, certificate_checked};
+
+    /// The algorithm that the plan is right for.
+    pub fn algo(&self) -> &Algo
+        ensures { algorithm_of result.now ≡ algorithm_checked self.now }
+    {
+        self.algo
+    }
+
+    /// The plan.
+    pub fn plan(&self) -> &Plan
+        ensures { plan_of result.now ≡ plan_checked self.now }
+    {
+        &self.plan
+    }
+
+    /// The certificate.
+    pub fn cert(&self) -> &Cert
+        ensures { certificate_of result.now ≡ certificate_checked self.now }
+    {
+        &self.cert
+    }
+
+    /// How many pieces there are.
+    pub fn pieces(&self) -> usize
+        ensures count { result ≡ length self.now.pieces.items }
+        ensures work { (samples : List ℕ) → result ≡ (work_of (algorithm_checked self.now) (plan_checked self.now) (certificate_checked self.now) samples).pieces }
+    {
+        self.pieces.as_slice().len()
+    }
+
+    /// How many cells there are.
+    pub fn cells(&self) -> u32
+        ensures { (samples : List ℕ) → result ≡ (work_of (algorithm_checked self.now) (plan_checked self.now) (certificate_checked self.now) samples).cells }
+    {
+        self.cells
+    }
+
+    /// The numbers of the cells that a piece owns, in the order in which it puts them.
+    pub fn own(&self, piece: usize) -> &[u32]
+        requires { piece < length self.now.pieces.items }
+        ensures { (samples : List ℕ) → result.now ≡ (work_of (algorithm_checked self.now) (plan_checked self.now) (certificate_checked self.now) samples).own piece }
+    {
+        self.pieces[piece].own.as_slice()
+    }
+
+    /// The numbers of the cells that a piece fetches, in the order in which it looks at them.
+    pub fn fetched(&self, piece: usize) -> &[u32]
+        requires { piece < length self.now.pieces.items }
+        ensures { (samples : List ℕ) → result.now ≡ (work_of (algorithm_checked self.now) (plan_checked self.now) (certificate_checked self.now) samples).fetched piece }
+    {
+        self.pieces[piece].fetched.as_slice()
+    }
+
+    /// The numbers of the pieces that must be finished before this one, rising.
+    pub fn needs(&self, piece: usize) -> &[u32]
+        requires { piece < length self.now.pieces.items }
+        ensures { (samples : List ℕ) → result.now ≡ (work_of (algorithm_checked self.now) (plan_checked self.now) (certificate_checked self.now) samples).needs piece }
+    {
+        self.pieces[piece].needs.as_slice()
+    }
+}
+
+/// The lists of a row plan's pieces and the number of its cells.
+#[derive(Drop)]
+struct Lists {
+    pieces: Vec<Piece>,
+    cells: u32,
+}
+
+/// The lists of the pieces of a plan of which the head is the algorithm's, where all else that is asked of it is met.
+fn lists_of(alloc: Global, algo: &Algo, plan: &Plan, cert: &Cert) -> Result<Lists, CheckError>
+    requires head { HeadIsSame (algorithm_of algo.now) (plan_of plan.now) }
+    ensures shown { IfOk result (λ lists. Shown (algorithm_of algo.now) (plan_of plan.now) (certificate_of cert.now)) }
+    ensures lists { IfOk result (λ lists. ListsAreOf (algorithm_of algo.now) (plan_of plan.now) (certificate_of cert.now) lists.pieces.items) }
+    ensures counted { IfOk result (λ lists. lists.cells ≡ length (cells_of (plan_of plan.now))) }
+    ensures refused { IfErr result (IsRefusal (algorithm_of algo.now) (plan_of plan.now) (certificate_of cert.now)) }
+{
+    let row = match row_plan(alloc, plan, cert) {
+        Ok(row) => row,
+        Err(error) => return Err(refusal_of(error)),
+    };
+    match first_unmet(alloc, algo, &row)? {
+        Some(demand) => Err(demand.refusal(&row)),
+        None => {
+            let cells = cell_count_of(alloc, &row)?;
+            let pieces = pieces_of(alloc, &row)?;
+            Ok(Lists { pieces, cells })
+        }
+    }
+}
+
+/// Whether a plan with its certificate is right for an algorithm, by what its author wrote alone.
+///
+/// A yes promises: on every input of the algorithm and in every order of the steps of any workers, no step is a fault (no
+/// access leaves its buffer or the input, nothing is read before it is written or written twice), what is set is right, and
+/// some order finishes; and each point of the output has a cell whose right value is what the algorithm, read without any
+/// schedule, says.
+///
+/// The time is linear in the plan's cells and pieces.
+///
+/// # Errors
+/// `Refused` with the code and the line of the first fault: first what is wrong with the plan's head, then the first line
+/// that is not as in a row plan (`K14`), then line by line what is not met, at one line the lowest code. `Memory` where
+/// memory runs out.
+pub fn check<'a>(
+    alloc: Global,
+    algo: &'a Algo,
+    plan: Plan,
+    cert: Cert,
+) -> Result<Checked<'a>, CheckError>
+    ensures headline { IfOk result (λ checked. Headline (algorithm_of algo.now) (plan_of plan) (certificate_of cert)) }
+    ensures holds { IfOk result (λ checked. (checked.algo.now ≡ algo.now) × (checked.plan ≡ plan) × (checked.cert ≡ cert)) }
+    ensures shown { IfOk result (λ checked. Shown (algorithm_of algo.now) (plan_of plan) (certificate_of cert)) }
+    ensures refused { IfErr result (IsRefusal (algorithm_of algo.now) (plan_of plan) (certificate_of cert)) }
+{
+    shown_is_right();
+    algo.is_well_formed();
+    if let Some(line) = head_fault(algo, &plan) {
+        return Err(CheckError::Refused(K::K1, line));
+    }
+    let lists = lists_of(alloc, algo, &plan, &cert)?;
+    Ok(Checked {
+        algo,
+        plan,
+        cert,
+        pieces: lists.pieces,
+        cells: lists.cells,
+    })
+}

@@ -1,0 +1,67 @@
+//! Whether the first three lines of a plan are the algorithm's.
+
+ghost use Rattle.std.specs.Prelude.{◌≡◌, MatchOption};
+ghost use Rattle.algo.specs.View.{algorithm_of};
+ghost use Rattle.nest.specs.View.{plan_of};
+ghost use Rattle.headline.specs.Demands.{output_function};
+ghost use Rattle.headline.specs.Shown.{FailsHead};
+ghost use Rattle.audit.specs.Faults.{HeadIsSame};
+
+use crate::given::{output_extents, output_name};
+use algo::Algo;
+use nest::Plan;
+use numeric::Ty;
+use rowplan::names::{input_is_same, name_is_same, output_is_same, some_group_is_of};
+
+/// The name of the input.
+fn input_name(algo: &Algo) -> &str
+    ensures { result.now ≡ (algorithm_of algo.now).input }
+{
+    algo.input().name.as_str()
+}
+
+/// The type of the input's samples.
+fn input_type(algo: &Algo) -> Ty
+    ensures { result ≡ (algorithm_of algo.now).input_ty }
+{
+    algo.input().shape.ty
+}
+
+/// The extents of the input.
+fn input_extents(algo: &Algo) -> &[u32]
+    ensures { result.now ≡ (algorithm_of algo.now).input_extents }
+{
+    algo.input().shape.extents.as_slice()
+}
+
+/// The type of the output, which is that of its function.
+fn output_type(algo: &Algo) -> Ty
+    ensures { MatchOption (output_function (algorithm_of algo.now)) ⊥ (λ f. f.ty ≡ result) }
+{
+    algo.is_well_formed();
+    algo.output().shape.ty
+}
+
+/// The line at which the plan's name, its input or its output is not the algorithm's, or no group is the output's.
+pub(crate) fn head_fault(algo: &Algo, plan: &Plan) -> Option<u32>
+    ensures { MatchOption result (HeadIsSame (algorithm_of algo.now) (plan_of plan.now)) (FailsHead (algorithm_of algo.now) (plan_of plan.now)) }
+{
+    let output = output_name(algo);
+    let extents = output_extents(algo);
+    if !name_is_same(plan, algo.name()) {
+        Some(1)
+    } else if !input_is_same(
+        &plan.input,
+        input_name(algo),
+        input_type(algo),
+        input_extents(algo),
+    ) {
+        Some(2)
+    } else if !output_is_same(&plan.output, output, output_type(algo), extents) {
+        Some(3)
+    } else if !some_group_is_of(plan, output) {
+        Some(3)
+    } else {
+        None
+    }
+}

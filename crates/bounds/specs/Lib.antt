@@ -1,0 +1,4 @@
+pub mod Lists
+pub mod Spans
+pub mod Interval
+pub mod Sound

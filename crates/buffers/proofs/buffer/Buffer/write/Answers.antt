@@ -1,0 +1,17 @@
+use Rattle.std.proofs.Common.{List, Some, map, subst, set}
+use Rattle.nest.specs.Rooms.{Room}
+use Rattle.buffers.specs.Rooms.{room_of}
+use Rattle.buffers.specs.declared.room.Room.{Room as CodeRoom}
+use Rattle.buffers.specs.Raster.{LiesAt}
+use Rattle.buffers.specs.Blocks.{Block, IsSetAt}
+use Rattle.buffers.proofs.Blocks.{set_at_number}
+use Rattle.buffers.proofs.buffer.Buffer.write.Goals as goal
+
+pub returns-in-Some-clause-set : goal.returns-in-Some-clause-set
+returns-in-Some-clause-set c =
+    let number = c.self.inside.number in
+    let rooms : List Room = map room_of c.self.inside.rooms.items in
+    let places = c.self.inside.places.items in
+    let P : List CodeRoom → Type 0 = λ code. LiesAt (map room_of code) c.args.at.now c.in-Some.number in
+    let Q : Block → Type 0 = λ old. IsSetAt old (record { number = number; rooms = rooms; places = set places c.in-Some.number (Some c.args.value) }) c.args.at.now c.args.value in
+    subst Q c.self.view_is (set_at_number number rooms places c.args.at.now c.in-Some.number c.args.value c.self.invariant.0 (subst P c.deref.ensures.value c.in-Some.ensures))

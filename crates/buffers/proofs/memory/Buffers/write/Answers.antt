@@ -1,0 +1,40 @@
+use Rattle.std.proofs.Common.{List, Option, Some, ℕ, position, set, sym, ap, refl, ◌∙◌}
+use Rattle.std.specs.Prelude.{◌==◌}
+use Rattle.std.proofs.lemmas.Bool.{OnTrue_from, OnTrue_at}
+use Rattle.std.proofs.lemmas.List.{set-get_or}
+use Rattle.actions.specs.Memory.{write}
+use Rattle.buffers.specs.Blocks.{Block, memory_of, IsSetAt}
+use Rattle.buffers.proofs.Blocks.{found_block, number_found, no_block, placed_at, memory_written, memory_outside, memory_unwritten}
+use Rattle.buffers.proofs.memory.Buffers.write.Goals as goal
+
+pub returns-in-Some-clause-set : goal.returns-in-Some-clause-set
+returns-in-Some-clause-set c =
+    let blocks : List Block = c.self.inside.buffers.items in
+    let old : Block = c.index_mut.result.now in
+    let new : Block = c.write.new.self in
+    let at : List Block → Option ℕ = λ bs. position (λ block. c.args.buffer == block.number) bs in
+    let found = sym (ap at c.deref.ensures.value) ∙ sym c.position.ensures ∙ c.in-Some.is in
+    let here = found_block blocks c.args.buffer c.in-Some.found old found ∙ ap Some (sym c.index_mut.ensures.value) in
+    let number = ap (λ block. Block.number block) c.index_mut.ensures.value ∙ number_found blocks c.args.buffer c.in-Some.found old found in
+    OnTrue_from c.write.result _ (λ e.
+    let is_set : IsSetAt old new c.args.at.now c.args.value = OnTrue_at e c.write.ensures.set in
+    ap (λ bs. write (memory_of bs) c.args.buffer c.args.at.now c.args.value) (sym c.self.view_is)
+    ∙ memory_written blocks _ c.args.buffer old new c.args.at.now c.args.value is_set here (placed_at blocks c.args.buffer c.in-Some.found old new found (is_set.number ∙ number)))
+
+pub returns-in-Some-clause-outside : goal.returns-in-Some-clause-outside
+returns-in-Some-clause-outside c h =
+    let blocks : List Block = c.self.inside.buffers.items in
+    let old : Block = c.index_mut.result.now in
+    let at : List Block → Option ℕ = λ bs. position (λ block. c.args.buffer == block.number) bs in
+    let found = sym (ap at c.deref.ensures.value) ∙ sym c.position.ensures ∙ c.in-Some.is in
+    let here = found_block blocks c.args.buffer c.in-Some.found old found ∙ ap Some (sym c.index_mut.ensures.value) in
+    let same = c.write.ensures.outside h in (
+      ap (λ bs. write (memory_of bs) c.args.buffer c.args.at.now c.args.value) (sym c.self.view_is) ∙ memory_outside blocks c.args.buffer old c.args.at.now c.args.value here same.0,
+      ap (set blocks c.in-Some.found) (same.1 ∙ c.index_mut.ensures.value) ∙ set-get_or blocks c.in-Some.found old ∙ c.self.view_is,
+    )
+
+pub returns-in-None-clause-outside : goal.returns-in-None-clause-outside
+returns-in-None-clause-outside c h =
+    let at : List Block → Option ℕ = λ blocks. position (λ block. c.args.buffer == block.number) blocks in
+    let none = sym (ap at (c.deref.ensures.value ∙ c.self.view_is)) ∙ sym c.position.ensures ∙ c.in-None.is in
+    (memory_unwritten c.args.self.now c.args.buffer c.args.at.now c.args.value (no_block c.args.self.now c.args.buffer none), refl)

@@ -1,0 +1,51 @@
+//! The places of one coordinate.
+
+ghost use Rattle.std.specs.Prelude.{◌≡◌};
+ghost use Rattle.nest.specs.Rooms.{below};
+
+/// The places that a buffer has for one coordinate.
+#[derive(Clone, Copy, Debug, PartialEq, Eq, Drop)]
+pub enum Room {
+    /// So many places, the first for the coordinate `origin`.
+    Straight { origin: i64, count: u32 },
+    /// So many places, where a coordinate has the place of its remainder by `count`.
+    Wrapped { count: u32 },
+}
+
+// The number, where it is one below the count.
+fn below(count: u32, number: i64) -> Option<usize>
+    ensures { result ≡ below count number }
+{
+    if 0 <= number && number < i64::from(count) {
+        Some(number as usize)
+    } else {
+        None
+    }
+}
+
+impl Room {
+    ghost use Rattle.nest.specs.Rooms.{seat};
+    ghost use Rattle.buffers.specs.Rooms.{room_of};
+    ghost use Rattle.buffers.specs.Raster.{room_count};
+
+    /// How many places there are.
+    pub(crate) fn count(&self) -> u32
+        ensures { result ≡ room_count (room_of self.now) }
+    {
+        match self {
+            Room::Straight { count, .. } => *count,
+            Room::Wrapped { count } => *count,
+        }
+    }
+
+    /// The place of a coordinate, counted from 0; nothing where it has none.
+    pub(crate) fn seat(&self, coordinate: i64) -> Option<usize>
+        ensures { result ≡ seat (room_of self.now) coordinate }
+    {
+        match self {
+            Room::Straight { origin, count } => below(*count, coordinate.checked_sub(*origin)?),
+            Room::Wrapped { count: 0 } => None,
+            Room::Wrapped { count } => below(*count, coordinate.rem_euclid(i64::from(*count))),
+        }
+    }
+}

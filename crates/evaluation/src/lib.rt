@@ -1,0 +1,11 @@
+//! The value of an expression where a call may find nothing.
+#![tactic(auto)]
+
+mod evaluation;
+mod operators;
+mod reader;
+mod stop;
+
+pub use evaluation::evaluate;
+pub use reader::Reader;
+pub use stop::Stop;

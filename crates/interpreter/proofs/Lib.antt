@@ -1,0 +1,12 @@
+pub mod Bindings
+pub mod Counting
+pub mod Ending
+pub mod Giving
+pub mod Noted
+pub mod Numerals
+pub mod Pointwise
+pub mod Running
+pub mod Shorts
+pub mod Steps
+pub mod Storing
+pub mod Summing

@@ -1,0 +1,63 @@
+-- Actions one after another.
+use Rattle.std.proofs.Common.{◌≡◌, List, [], ◌∷◌, ◌++◌, map, Option, Some, None, ℤ, refl, sym, ap, ◌∙◌, append_assoc}
+use Rattle.std.proofs.lemmas.List.{append-nil}
+use Rattle.tree.specs.declared.value.Value.{Value}
+use Rattle.actions.specs.Actions.{Action, Allot, Take, Put, Change, Give}
+use Rattle.actions.specs.Found.{with}
+use Rattle.actions.specs.Memory.{Memory, read, allot}
+use Rattle.actions.specs.Run.{Around, act, outcome}
+use Rattle.pieces.specs.Work.{numbers}
+use Rattle.interpreter.specs.Steps.{Progress, step, steps}
+
+-- first some actions, then others
+pub steps-append : (around : Around) (xs ys : List Action) (x : Progress) → steps around (xs ++ ys) x ≡ with (steps around xs x) (steps around ys)
+steps-append around [] ys x = refl
+steps-append around (a ∷ xs) ys x = by (step around a x) (steps-append around xs ys)
+  where
+    by : (o : Option Progress) → ((y : Progress) → steps around (xs ++ ys) y ≡ with (steps around xs y) (steps around ys)) →
+        with o (steps around (xs ++ ys)) ≡ with (with o (steps around xs)) (steps around ys)
+    by None h = refl
+    by (Some y) h = h y
+
+-- the numbers of what a run comes to
+abbrev pub given_of : Option Progress → Option (List ℤ)
+given_of None = None
+given_of (Some x) = Some x.given
+
+abbrev after : List ℤ → Option (List ℤ) → Option (List ℤ)
+after ns None = None
+after ns (Some zs) = Some (ns ++ zs)
+
+one_more : (ns : List ℤ) (v : Value) (o : Option (List Value)) → after (ns ++ v.number ∷ []) (numbers o) ≡ after ns (numbers (with o (λ vs. Some (v ∷ vs))))
+one_more ns v None = refl
+one_more ns v (Some vs) = ap (λ (zs : List ℤ). Some zs) (append_assoc ns (v.number ∷ []) (map (λ (w : Value). w.number) vs))
+
+-- the numbers of some actions are those of their outcome, behind earlier ones
+abbrev Agrees : Around → List Action → Memory Value → List ℤ → Type 0
+Agrees around xs m ns = given_of (steps around xs (record { memory = m; given = ns })) ≡ after ns (numbers (outcome around xs m))
+
+acted : (around : Around) (later : List Action) (ns : List ℤ) (o : Option (Memory Value)) → ((m : Memory Value) → Agrees around later m ns) →
+    given_of (with (with o (λ n. Some (record { memory = n; given = ns }))) (steps around later)) ≡ after ns (numbers (with o (outcome around later)))
+acted around later ns None h = refl
+acted around later ns (Some m) h = h m
+
+gave : (around : Around) (later : List Action) (m : Memory Value) (ns : List ℤ) (o : Option Value) → ((ks : List ℤ) → Agrees around later m ks) →
+    given_of (with (with o (λ v. Some (record { memory = m; given = ns ++ v.number ∷ [] }))) (steps around later)) ≡ after ns (numbers (with o (λ v. with (outcome around later m) (λ vs. Some (v ∷ vs)))))
+gave around later m ns None h = refl
+gave around later m ns (Some v) h = h (ns ++ v.number ∷ []) ∙ one_more ns v (outcome around later m)
+
+given_is : (around : Around) (xs : List Action) (m : Memory Value) (ns : List ℤ) → Agrees around xs m ns
+given_is around [] m ns = ap (λ (zs : List ℤ). Some zs) (sym (append-nil ns))
+given_is around (Allot b rooms ∷ later) m ns = given_is around later (allot m b rooms) ns
+given_is around (Take b f p ∷ later) m ns = acted around later ns (act around (Take b f p) m) (λ n. given_is around later n ns)
+given_is around (Put b f names p e ∷ later) m ns = acted around later ns (act around (Put b f names p e) m) (λ n. given_is around later n ns)
+given_is around (Change b f k names at over e ∷ later) m ns = acted around later ns (act around (Change b f k names at over e) m) (λ n. given_is around later n ns)
+given_is around (Give c p ∷ later) m ns = gave around later m ns (read m (around.claim_buffer c) p) (λ ks. given_is around later m ks)
+
+none_before : (o : Option (List ℤ)) → after [] o ≡ o
+none_before None = refl
+none_before (Some zs) = refl
+
+-- what actions give from no number on
+pub given_in_all : (around : Around) (xs : List Action) (m : Memory Value) → given_of (steps around xs (record { memory = m; given = [] })) ≡ numbers (outcome around xs m)
+given_in_all around xs m = given_is around xs m [] ∙ none_before (numbers (outcome around xs m))

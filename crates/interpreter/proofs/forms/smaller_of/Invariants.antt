@@ -1,0 +1,8 @@
+use Rattle.std.proofs.Common.{◌≡◌, take, map, fold}
+use Rattle.std.specs.Int.{int_min}
+use Rattle.nest.specs.Symbols.{form_value}
+use Rattle.interpreter.specs.Bindings.{symbols_of}
+use Rattle.interpreter.proofs.forms.smaller_of.Given as goal
+
+abbrev pub invariant-loop-form : goal.invariant-loop-form
+invariant-loop-form l = l.found ≡ fold int_min l.first (map (λ m. form_value m (symbols_of l.symbols)) (take l.form-index l.forms))

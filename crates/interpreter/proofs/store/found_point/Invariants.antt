@@ -1,0 +1,18 @@
+use Rattle.std.proofs.Common.{◌≡◌, drop, map}
+use Rattle.std.specs.Prelude.{string_bytes}
+use Rattle.meaning.specs.Names.{bound}
+use Rattle.actions.specs.Run.{found_target}
+use Rattle.buffers.specs.Blocks.{memory_of}
+use Rattle.interpreter.specs.Bindings.{symbols_of}
+use Rattle.interpreter.specs.Pieces.{around, no_cells}
+use Rattle.interpreter.specs.Targets.{target_of}
+use Rattle.interpreter.proofs.Storing.{points_on}
+use Rattle.interpreter.proofs.store.found_point.Given as goal
+
+abbrev pub invariant-loop-coordinate : goal.invariant-loop-coordinate
+invariant-loop-coordinate l =
+    let A = around l.reading.piece.now no_cells in
+    let names = bound (map (λ c. string_bytes c.variable) l.reading.coordinates.now) l.reading.numbers.now in
+    let m = memory_of l.reading.memory.now in
+    found_target A names (map (target_of (symbols_of l.symbols)) l.coordinates) m
+    ≡ points_on A names (map (target_of (symbols_of l.symbols)) (drop l.coordinate-index l.coordinates)) m l.point.items

@@ -1,0 +1,7 @@
+use Rattle.std.proofs.Common.{◌≡◌, take, map}
+use Rattle.interpreter.specs.Bindings.{symbols_of}
+use Rattle.interpreter.specs.Targets.{known_number}
+use Rattle.interpreter.proofs.store.known_numbers.Given as goal
+
+abbrev pub invariant-loop-coordinate : goal.invariant-loop-coordinate
+invariant-loop-coordinate l = l.numbers.items ≡ map (known_number (symbols_of l.symbols)) (take l.coordinate-index l.coordinates)

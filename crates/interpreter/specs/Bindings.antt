@@ -1,0 +1,36 @@
+-- Values of symbols, kept as those of a grid point and what was bound since.
+use Rattle.std.specs.Prelude.{◌≡◌, ℕ, List, [], ◌∷◌, ◌++◌, ℤ}
+use Rattle.lin.specs.Forms.{Form}
+use Rattle.nest.specs.declared.stmt.Pick.{Pick}
+use Rattle.nest.specs.declared.stmt.Pick.TheVariants.{Min, Max}
+use Rattle.nest.specs.Symbols.{Symbols, bind, largest, smallest}
+use Rattle.cert.specs.Cells.{grid_symbols}
+use Rattle.interpreter.specs.declared.symbols.Binding.{Binding}
+
+-- a grid point and what was bound since, the newest last
+pub record Bindings : Type 0 where
+  pub grid : List ℕ
+  pub bound : List Binding
+
+abbrev pub bind_all : Symbols → List Binding → Symbols
+bind_all s [] = s
+bind_all s (b ∷ bs) = bind_all (bind s b.symbol b.value b.first) bs
+
+-- the values that the symbols have
+abbrev pub symbols_of : Bindings → Symbols
+symbols_of x = bind_all (grid_symbols x.grid) x.bound
+
+-- one more symbol bound
+abbrev pub also : Bindings → Binding → Bindings
+also x b = record { grid = x.grid; bound = x.bound ++ b ∷ [] }
+
+-- more symbols are bound behind the others
+pub record Extends (old new : Bindings) : Type 0 where
+  pub grid : new.grid ≡ old.grid
+  pub more : List Binding
+  pub bound : new.bound ≡ old.bound ++ more
+
+-- the number that a `let` line names
+abbrev pub named_value : Pick → Symbols → List Form → ℤ
+named_value Min s ls = smallest s ls
+named_value Max s ls = largest s ls

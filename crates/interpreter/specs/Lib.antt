@@ -1,0 +1,11 @@
+pub mod Bindings
+pub mod Claims
+pub mod Narrow
+pub mod Outcome
+pub mod Pieces
+pub mod Raster
+pub mod Sizes
+pub mod States
+pub mod Steps
+pub mod Targets
+pub mod Visits

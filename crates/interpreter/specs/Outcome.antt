@@ -1,0 +1,21 @@
+-- What the piece of a group at a grid point gives, told by the group's number.
+use Rattle.std.specs.Prelude.{◌≡◌, ℕ, List, Option, Some, None, ℤ, slice_get}
+use Rattle.tree.specs.declared.value.Value.{Value}
+use Rattle.image.specs.View.{Picture, AreExtents}
+use Rattle.nest.specs.Plan.{Group, Plan}
+use Rattle.cert.specs.Certificate.{Certificate}
+use Rattle.actions.specs.Setting.{piece_run}
+use Rattle.pieces.specs.Work.{numbers}
+
+-- the numbers that the piece gives for its own cells, none where there is no such group
+abbrev pub group_gives : Plan → Certificate → List ℕ → (List ℕ → List ℤ → Value) → ℕ → List ℕ → Option Group → Option (List ℤ)
+group_gives p c samples cell number at None = None
+group_gives p c samples cell number at (Some g) = numbers (piece_run p c samples cell number g at)
+
+abbrev pub piece_gives : Plan → Certificate → List ℕ → (List ℕ → List ℤ → Value) → ℕ → List ℕ → Option (List ℤ)
+piece_gives p c samples cell number at = group_gives p c samples cell number at (slice_get p.groups number)
+
+-- the picture is one that the plan can read: it has the extents of the plan's input
+pub record IsInput (p : Plan) (x : Picture) : Type 0 where
+  pub extents : x.extents ≡ p.input.extents
+  pub raster : AreExtents x.extents

@@ -1,0 +1,44 @@
+-- What a piece finds around it, and what its lines refer to.
+use Rattle.std.specs.Prelude.{ℕ, List, ℤ, pos, Option, [], ◌≡◌}
+use Rattle.numeric.specs.declared.ty.Ty.TheVariants.{U8}
+use Rattle.tree.specs.declared.value.Value.{Value}
+use Rattle.image.specs.View.{image_of}
+use Rattle.nest.specs.View.{plan_of, group_of, statement_of}
+use Rattle.nest.specs.Symbols.{Symbols}
+use Rattle.nest.specs.Plan.{Statement, Let}
+use Rattle.cert.specs.Certificate.{certificate_of}
+use Rattle.actions.specs.Actions.{Setting}
+use Rattle.actions.specs.Run.{Around, look}
+use Rattle.actions.specs.Setting.{allocated, dimensions_in, setting_of, around_of}
+use Rattle.buffers.specs.Blocks.{Block, memory_of}
+use Rattle.interpreter.specs.Narrow.{OwnIsNarrow, FormsAreNarrow}
+use Rattle.interpreter.specs.Sizes.{size_in}
+use Rattle.interpreter.specs.declared.piece.Piece.{Piece}
+
+abbrev pub around : Piece → (List ℕ → List ℤ → Value) → Around
+around x cell = around_of (plan_of x.plan.now) (certificate_of x.cert.now) (image_of x.image.now).samples cell
+
+abbrev pub setting : Piece → Setting
+setting x = setting_of (plan_of x.plan.now) (certificate_of x.cert.now) x.number (group_of x.group.now)
+
+-- the piece knows how many coordinates each of its buffers has, and no symbol is bound among its constants
+pub record IsReady (x : Piece) : Type 0 where
+  pub sizes : (b : ℕ) → size_in x.sizes.now b ≡ dimensions_in (allocated (statement_of x.group.now.body) b)
+  pub constants : x.constants.now ≡ record { grid = []; bound = [] }
+
+-- where lines publish, the own region and the group's are narrow
+abbrev pub OwnIsSmall : Piece → Symbols → Type 0
+OwnIsSmall x s = OwnIsNarrow (certificate_of x.cert.now) x.number (group_of x.group.now) s
+
+-- no cell is known
+abbrev pub no_cells : List ℕ → List ℤ → Value
+no_cells f p = record { ty = U8; number = pos 0 }
+
+-- what a name finds at a point, where memory holds this
+abbrev pub found_in : Piece → List Block → List ℕ → List ℤ → Option Value
+found_in x m = look (around x no_cells) (memory_of m)
+
+-- the forms of a `let` line are narrow
+abbrev pub NamesAreNarrow : Statement → Symbols → Type 0
+NamesAreNarrow (Let i pick forms) s = FormsAreNarrow s forms
+NamesAreNarrow a s = Unit {0}

@@ -1,0 +1,25 @@
+-- Numbers of the coordinates of a store.
+use Rattle.std.specs.Prelude.{ℕ, List, ℤ, Option, Some}
+use Rattle.tree.specs.declared.value.Value.{Value}
+use Rattle.nest.specs.declared.stmt.Coordinate.{Coordinate}
+use Rattle.nest.specs.View.{coordinate_of}
+use Rattle.nest.specs.Symbols.{Symbols}
+use Rattle.actions.specs.Actions.{Target, Fixed, Open, target, fixed}
+use Rattle.actions.specs.Found.{with, found}
+use Rattle.interpreter.specs.Narrow.{IndexIsNarrow}
+
+abbrev pub target_of : Symbols → Coordinate → Target
+target_of s c = target s (coordinate_of c)
+
+-- a coordinate as far as it is known, 0 where it is found by an expression
+abbrev pub known_number : Symbols → Coordinate → ℤ
+known_number s c = fixed (target_of s c)
+
+-- the number of a coordinate, which an expression may have to find
+abbrev pub target_number : (List ℕ → ℤ) → (List ℕ → List ℤ → Option Value) → Target → Option ℤ
+target_number variables look (Fixed z) = Some z
+target_number variables look (Open e) = with (found variables look e) (λ v. Some v.number)
+
+-- the form of the coordinate, if it has one, is narrow
+abbrev pub CoordinateIsNarrow : Symbols → Coordinate → Type 0
+CoordinateIsNarrow s c = IndexIsNarrow s (coordinate_of c).index

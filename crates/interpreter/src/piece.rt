@@ -1,0 +1,27 @@
+//! What a piece goes by.
+
+ghost use Rattle.std.specs.Prelude.{◌≡◌};
+ghost use Rattle.image.specs.View.{AreExtents};
+ghost use Rattle.interpreter.specs.Raster.{AreExtents-prop};
+
+use crate::sizes::Size;
+use crate::symbols::Symbols;
+use cert::Cert;
+use image::Image;
+use nest::{Group, Plan};
+
+/// What a piece goes by: its plan and certificate, the input, its group with that group's number, and how many
+/// coordinates the group's buffers have.
+#[derive(Clone, Copy, Drop)]
+pub(crate) struct Piece<'a> {
+    pub plan: &'a Plan,
+    pub cert: &'a Cert,
+    pub image: &'a Image,
+    pub group: &'a Group,
+    pub number: usize,
+    pub sizes: &'a [Size],
+    /// No symbol at all, for forms that are constants.
+    pub constants: &'a Symbols,
+    pub ghost same: { image.now.extents.items ≡ plan.now.input.extents.items },
+    pub ghost raster: { AreExtents image.now.extents.items } by { AreExtents-prop image.now.extents.items },
+}

@@ -1,0 +1,111 @@
+//! What a store's expressions are evaluated over.
+
+ghost use Rattle.std.specs.Prelude.{◌≡◌, map, string_bytes};
+ghost use Rattle.image.specs.Raster.{is_within};
+ghost use Rattle.meaning.specs.Names.{bound, same_name};
+ghost use Rattle.interpreter.specs.Pieces.{found_in};
+
+use crate::loads::claim_of;
+use crate::piece::Piece;
+use buffers::Buffers;
+use evaluation::Reader;
+use nest::Coordinate;
+use tree::Value;
+
+/// A store's coordinates and their numbers, over what a piece finds around it and its buffers hold.
+#[derive(Clone, Copy, Drop)]
+pub(crate) struct Reading<'a, 'm> {
+    pub piece: &'a Piece<'a>,
+    pub coordinates: &'a [Coordinate],
+    pub memory: &'m Buffers,
+    pub numbers: &'m [i64],
+}
+
+/// Whether the names are the same.
+fn same_name(left: &str, right: &str) -> bool
+    ensures { result ≡ same_name left.now right.now }
+{
+    left == right
+}
+
+/// The number of the first coordinate of a variable's name, 0 where there is none.
+fn number_bound(coordinates: &[Coordinate], numbers: &[i64], name: &str) -> i64
+    ensures { result ≡ bound (map (λ c. string_bytes c.variable) coordinates.now) numbers.now name.now }
+{
+    match (coordinates, numbers) {
+        ([coordinate, coordinates @ ..], [number, numbers @ ..]) => {
+            if same_name(coordinate.variable.as_str(), name) {
+                *number
+            } else {
+                number_bound(coordinates, numbers, name)
+            }
+        }
+        _ => 0,
+    }
+}
+
+/// Whether a point lies on the extents.
+fn is_within(extents: &[u32], at: &[i64]) -> bool
+    ensures { result ≡ is_within extents.now at.now }
+{
+    match (extents, at) {
+        ([], []) => true,
+        ([extent, extents @ ..], [coordinate, at @ ..]) => {
+            0 <= *coordinate && *coordinate < i64::from(*extent) && is_within(extents, at)
+        }
+        _ => false,
+    }
+}
+
+impl Reading<'_, '_> {
+    ghost use Rattle.std.specs.Prelude.{length};
+    ghost use Rattle.image.specs.View.{image_of};
+    ghost use Rattle.nest.specs.View.{plan_of};
+    ghost use Rattle.cert.specs.Certificate.{certificate_of};
+    ghost use Rattle.actions.specs.Memory.{read};
+    ghost use Rattle.actions.specs.Run.{claim_source, look_at};
+    ghost use Rattle.nest.specs.Claimed.{claim_of as claim_meant};
+    ghost use Rattle.buffers.specs.Blocks.{memory_of};
+    ghost use Rattle.interpreter.specs.Pieces.{around, no_cells};
+
+    /// The input's sample at a point; nothing where the point is off the extents.
+    fn sample(&self, at: &[i64]) -> Option<Value>
+        ensures { result ≡ (around self.now.piece.now no_cells).sample at.now }
+    {
+        let input = &self.piece.plan.input;
+        if is_within(&input.extents, at) {
+            Some(Value {
+                ty: input.ty,
+                number: self.piece.image.sample(at),
+            })
+        } else {
+            None
+        }
+    }
+
+    /// What the claim of which a name speaks finds at a point.
+    fn load(&self, name: &str, at: &[i64]) -> Option<Value>
+        ensures { result ≡ look_at (around self.now.piece.now no_cells) (memory_of self.now.memory.now) (claim_source (length self.now.piece.now.cert.now.claims.items) (claim_meant name.now)) at.now }
+    {
+        let claim = self.piece.cert.claims.get(claim_of(name)?)?;
+        self.memory.read(claim.buffer, at)
+    }
+}
+
+impl Reader for Reading<'_, '_> {
+    ghost variables = { λ r. bound (map (λ c. string_bytes c.variable) r.coordinates.now) r.numbers.now };
+
+    ghost look = { λ r. found_in r.piece.now r.memory.now };
+
+    fn variable(&self, name: &str) -> i64 {
+        number_bound(self.coordinates, self.numbers, name)
+    }
+
+    fn look(&self, name: &str, at: &[i64]) -> Option<Value> {
+        if same_name(name, self.piece.plan.input.name.as_str()) {
+            self.sample(at)
+        } else {
+            self.load(name, at)
+        }
+    }
+}

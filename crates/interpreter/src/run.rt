@@ -1,0 +1,350 @@
+//! The private run of a piece.
+
+ghost use Rattle.std.specs.Prelude.{◌≡◌, [], ℕ, ℤ, None, Some, map, Contains, flat_map, int_le, MatchOption, OnOk, slice_get};
+ghost use Rattle.image.specs.View.{image_of};
+ghost use Rattle.nest.specs.Lists.{list_statements};
+ghost use Rattle.nest.specs.Plan.{Fetch, Publish, block};
+ghost use Rattle.nest.specs.Symbols.{bind, largest, smallest};
+ghost use Rattle.nest.specs.View.{group_of, plan_of, statement_of};
+ghost use Rattle.cert.specs.Certificate.{certificate_of};
+ghost use Rattle.actions.specs.Actions.{actions, after, block_actions};
+ghost use Rattle.actions.specs.Setting.{group_name};
+ghost use Rattle.cert.specs.Cells.{own_region};
+ghost use Rattle.evaluation.specs.Outcome.{Ends};
+ghost use Rattle.interpreter.specs.Bindings.{symbols_of, named_value, Extends};
+ghost use Rattle.interpreter.specs.Narrow.{BlockIsNarrow, FormsAreNarrow, PieceIsNarrow, RegionIsNarrow, SpanIsNarrow, StatementIsNarrow};
+ghost use Rattle.interpreter.specs.Outcome.{IsInput, piece_gives};
+ghost use Rattle.interpreter.specs.Pieces.{NamesAreNarrow, around, setting, IsReady, OwnIsSmall};
+ghost use Rattle.interpreter.specs.States.{progress_of};
+ghost use Rattle.interpreter.specs.Steps.{steps};
+ghost use Rattle.interpreter.specs.Visits.{between};
+
+use crate::cells::Cells;
+use crate::forms::{largest, smallest, value_of};
+use crate::piece::Piece;
+use crate::sizes::sizes_of;
+use crate::state::State;
+use crate::store::{allot, store};
+use crate::symbols::{Binding, Symbols};
+use crate::visits::{Visit, Walk, visit_region};
+use buffers::Buffers;
+use cert::{Cert, Own};
+use evaluation::Stop;
+use image::Image;
+use lin::{Forms, Region, Span1, Sym};
+use nest::{Group, Pick, Plan, Stmt};
+use std::alloc::{AllocError, Global};
+
+/// The name of a group's function, empty where there is no such group.
+fn group_name(groups: &[Group], group: u32) -> &str
+    ensures { result.now ≡ group_name (slice_get (map group_of groups.now) group) }
+{
+    match groups.get(group as usize) {
+        Some(group) => group.function.as_str(),
+        None => "",
+    }
+}
+
+/// Sets the cells of a region of another group in a buffer.
+fn fetch<'a, C: Cells>(
+    alloc: Global,
+    piece: &'a Piece<'a>,
+    cells: &C,
+    buffer: u32,
+    group: u32,
+    region: &Region,
+    symbols: &Symbols,
+    state: &mut State,
+) -> Result<(), Stop>
+    requires { RegionIsNarrow (symbols_of symbols.now) region.now }
+    ensures { Ends (λ _. progress_of state.new) result (steps (around piece.now (C.cell cells.now)) (actions (setting piece.now) (Fetch buffer group region.now) (symbols_of symbols.now)) (progress_of state.old)) }
+{
+    let walk = Walk {
+        piece,
+        visit: Visit::Fetch {
+            buffer,
+            function: group_name(&piece.plan.groups, group),
+        },
+        symbols,
+    };
+    visit_region(alloc, &walk, cells, region.as_slice(), &[], state)
+}
+
+/// The region that the pieces of a group own, if the certificate says it.
+fn own_region(all: &[Own], group: usize) -> Option<&Region>
+    ensures { MatchOption result (own_region all.now group ≡ None) (λ r. own_region all.now group ≡ Some r.now) }
+{
+    for own in all {
+        if own.group as usize == group {
+            return Some(&own.region);
+        }
+    }
+    None
+}
+
+/// Gives the values of the piece's own cells.
+fn publish<'a, C: Cells>(
+    alloc: Global,
+    piece: &'a Piece<'a>,
+    cells: &C,
+    claim: u32,
+    symbols: &Symbols,
+    state: &mut State,
+) -> Result<(), Stop>
+    requires ready { IsReady piece.now }
+    requires narrow { OwnIsSmall piece.now (symbols_of symbols.now) }
+    ensures { Ends (λ _. progress_of state.new) result (steps (around piece.now (C.cell cells.now)) (actions (setting piece.now) (Publish claim) (symbols_of symbols.now)) (progress_of state.old)) }
+{
+    let Some(region) = own_region(&piece.cert.own, piece.number) else {
+        return Ok(());
+    };
+    let walk = Walk {
+        piece,
+        visit: Visit::Publish { claim },
+        symbols,
+    };
+    visit_region(alloc, &walk, cells, region.as_slice(), &[], state)
+}
+
+/// The smallest or the largest of some forms.
+fn named_value(pick: Pick, forms: &Forms, symbols: &Symbols) -> i64
+    requires { FormsAreNarrow (symbols_of symbols.now) forms.now }
+    ensures { result ≡ named_value pick (symbols_of symbols.now) forms.now }
+{
+    match pick {
+        Pick::Min => smallest(forms, symbols),
+        Pick::Max => largest(forms, symbols),
+    }
+}
+
+/// Binds the name of a `let` line, which holds to the end of the block. Other lines bind nothing there.
+fn name_from(stmt: &Stmt, symbols: &mut Symbols) -> Result<(), AllocError>
+    requires { NamesAreNarrow (statement_of stmt.now) (symbols_of symbols.old) }
+    ensures value { OnOk result (symbols_of symbols.new ≡ after (statement_of stmt.now) (symbols_of symbols.old)) }
+    ensures extends { OnOk result (Extends symbols.old symbols.new) }
+{
+    let Stmt::Let {
+        symbol,
+        pick,
+        forms,
+    } = stmt
+    else {
+        return Ok(());
+    };
+    let value = named_value(*pick, forms, symbols);
+    symbols.bind(Binding {
+        symbol: *symbol,
+        value,
+        first: true,
+    })
+}
+
+/// A loop's symbol, and the numbers from which to which it goes.
+#[derive(Clone, Copy, Drop)]
+struct Turns {
+    symbol: Sym,
+    low: i64,
+    high: i64,
+}
+
+/// The turns of a loop over a span.
+fn turns_of(symbol: Sym, span: &Span1, symbols: &Symbols) -> Turns
+    requires { SpanIsNarrow (symbols_of symbols.now) span.now }
+    ensures { result ≡ record { symbol = symbol; low = largest (symbols_of symbols.now) span.now.lower; high = smallest (symbols_of symbols.now) span.now.upper } }
+{
+    Turns {
+        symbol,
+        low: largest(&span.lower, symbols),
+        high: smallest(&span.upper, symbols),
+    }
+}
+
+/// What the loop's symbol is in a turn.
+fn turn(turns: Turns, value: i64) -> Binding
+    ensures { result ≡ record { symbol = turns.symbol; value = value; first = int_le value turns.low } }
+{
+    Binding {
+        symbol: turns.symbol,
+        value,
+        first: value <= turns.low,
+    }
+}
+
+/// The turns of a loop.
+#[cycle(run)]
+fn run_turns<'a, C: Cells>(
+    alloc: Global,
+    piece: &'a Piece<'a>,
+    cells: &C,
+    turns: Turns,
+    body: &'a Stmt,
+    symbols: &mut Symbols,
+    state: &mut State,
+) -> Result<(), Stop>
+    requires ready { IsReady piece.now }
+    requires narrow { (z : ℤ) → Contains (between turns.low turns.high) z → StatementIsNarrow (OwnIsSmall piece.now) (statement_of body.now) (bind (symbols_of symbols.old) turns.symbol z (int_le z turns.low)) }
+    ensures run { Ends (λ _. progress_of state.new) result (steps (around piece.now (C.cell cells.now)) (flat_map (λ z. actions (setting piece.now) (statement_of body.now) (bind (symbols_of symbols.old) turns.symbol z (int_le z turns.low))) (between turns.low turns.high)) (progress_of state.old)) }
+    ensures symbols { OnOk result (symbols.new ≡ symbols.old) }
+{
+    let mark = symbols.bound_count();
+    for value in turns.low..=turns.high {
+        symbols.bind(turn(turns, value))?;
+        run(alloc, piece, cells, body, symbols, state)?;
+        symbols.forget(mark);
+    }
+    Ok(())
+}
+
+/// The statements of a block, one after another.
+#[cycle(run)]
+fn run_block<'a, C: Cells>(
+    alloc: Global,
+    piece: &'a Piece<'a>,
+    cells: &C,
+    all: &'a [Stmt],
+    symbols: &mut Symbols,
+    state: &mut State,
+) -> Result<(), Stop>
+    requires ready { IsReady piece.now }
+    requires narrow { BlockIsNarrow (OwnIsSmall piece.now) (block (list_statements all.now)) (symbols_of symbols.old) }
+    ensures run { Ends (λ _. progress_of state.new) result (steps (around piece.now (C.cell cells.now)) (block_actions (setting piece.now) (block (list_statements all.now)) (symbols_of symbols.old)) (progress_of state.old)) }
+    ensures symbols { OnOk result (symbols.new ≡ symbols.old) }
+{
+    let mark = symbols.bound_count();
+    for stmt in all {
+        run(alloc, piece, cells, stmt, symbols, state)?;
+        name_from(stmt, symbols)?;
+    }
+    symbols.forget(mark);
+    Ok(())
+}
+
+/// The actions of a statement.
+#[cycle(run)]
+fn run<'a, C: Cells>(
+    alloc: Global,
+    piece: &'a Piece<'a>,
+    cells: &C,
+    stmt: &'a Stmt,
+    symbols: &mut Symbols,
+    state: &mut State,
+) -> Result<(), Stop>
+    requires ready { IsReady piece.now }
+    requires narrow { StatementIsNarrow (OwnIsSmall piece.now) (statement_of stmt.now) (symbols_of symbols.old) }
+    ensures run { Ends (λ _. progress_of state.new) result (steps (around piece.now (C.cell cells.now)) (actions (setting piece.now) (statement_of stmt.now) (symbols_of symbols.old)) (progress_of state.old)) }
+    ensures symbols { OnOk result (symbols.new ≡ symbols.old) }
+{
+    match stmt {
+        Stmt::Seq(all) => run_block(alloc, piece, cells, all, symbols, state),
+        Stmt::For {
+            symbol,
+            span,
+            body,
+            ..
+        } => {
+            let turns = turns_of(*symbol, span, symbols);
+            run_turns(alloc, piece, cells, turns, body, symbols, state)
+        }
+        Stmt::Let { .. } => Ok(()),
+        Stmt::First {
+            symbol,
+            first,
+            later,
+        } => {
+            if symbols.is_first(*symbol) {
+                run(alloc, piece, cells, first, symbols, state)
+            } else {
+                run(alloc, piece, cells, later, symbols, state)
+            }
+        }
+        Stmt::Guard { low, high, body } => {
+            if value_of(low, symbols) <= value_of(high, symbols) {
+                run(alloc, piece, cells, body, symbols, state)
+            } else {
+                Ok(())
+            }
+        }
+        Stmt::Alloc { buffer, places, .. } => allot(alloc, *buffer, places, symbols, state),
+        Stmt::Fetch {
+            buffer,
+            group,
+            region,
+        } => fetch(alloc, piece, cells, *buffer, *group, region, symbols, state),
+        Stmt::Store {
+            buffer,
+            coordinates,
+            value,
+            ..
+        } => store(alloc, piece, *buffer, coordinates, value, symbols, state),
+        Stmt::Publish { claim } => publish(alloc, piece, cells, *claim, symbols, state),
+    }
+}
+
+/// The group of a number, if there is one.
+fn group_at(groups: &[Group], number: usize) -> Option<&Group>
+    ensures { MatchOption result (slice_get (map group_of groups.now) number ≡ None) (λ g. slice_get (map group_of groups.now) number ≡ Some (group_of g.now)) }
+{
+    groups.get(number)
+}
+
+/// The numbers that the piece of the group of a number gives at a grid point.
+fn run_group<'a, C: Cells>(
+    alloc: Global,
+    plan: &'a Plan,
+    cert: &'a Cert,
+    image: &'a Image,
+    cells: &C,
+    number: usize,
+    at: &[u32],
+) -> Result<Vec<i64>, Stop>
+    requires input { IsInput (plan_of plan.now) (image_of image.now) }
+    requires narrow { MatchOption (slice_get (plan_of plan.now).groups number) ⊥ (λ g. PieceIsNarrow (certificate_of cert.now) number g at.now) }
+    ensures { Ends (λ v. v.items) result (piece_gives (plan_of plan.now) (certificate_of cert.now) (image_of image.now).samples (C.cell cells.now) number at.now) }
+{
+    let Some(group) = group_at(&plan.groups, number) else {
+        return Err(Stop::Fault);
+    };
+    let body = &group.body;
+    let sizes = sizes_of(alloc, body)?;
+    let constants = Symbols::new(alloc, &[])?;
+    let piece = Piece {
+        plan: &*plan,
+        cert: &*cert,
+        image: &*image,
+        group: &*group,
+        number,
+        sizes: &sizes,
+        constants: &constants,
+    };
+    let mut symbols = Symbols::new(alloc, at)?;
+    let mut state = State {
+        memory: Buffers::new(alloc),
+        given: Vec::new(alloc),
+    };
+    run(alloc, &piece, cells, body, &mut symbols, &mut state)?;
+    Ok(state.given)
+}
+
+/// The numbers that the piece of a group at a grid point gives for its own cells, in their order.
+///
+/// `group` is the group's number and `at` the grid point. The memory is that of the group's buffers, 24 bytes a
+/// place, and 8 bytes for each own cell.
+///
+/// # Errors
+/// `Fault` where the run has a fault: something is read that is not there, or a place is written that a buffer does
+/// not have. `Memory` where memory runs out.
+pub fn run_piece<C: Cells>(
+    alloc: Global,
+    plan: &Plan,
+    cert: &Cert,
+    image: &Image,
+    cells: &C,
+    group: usize,
+    at: &[u32],
+) -> Result<Vec<i64>, Stop>
+    requires input { IsInput (plan_of plan.now) (image_of image.now) }
+    requires narrow { MatchOption (slice_get (plan_of plan.now).groups group) ⊥ (λ g. PieceIsNarrow (certificate_of cert.now) group g at.now) }
+    ensures { Ends (λ v. v.items) result (piece_gives (plan_of plan.now) (certificate_of cert.now) (image_of image.now).samples (C.cell cells.now) group at.now) }
+{
+    run_group(alloc, &*plan, &*cert, &*image, cells, group, at)
+}

@@ -1,0 +1,186 @@
+//! Stores and allocations.
+
+ghost use Rattle.std.specs.Prelude.{◌≡◌, ◌∷◌, [], ℕ, ℤ, List, All, IfOk, map, take, drop, string_bytes};
+ghost use Rattle.tree.specs.declared.value.Value.{Value as ValueFound};
+ghost use Rattle.tree.specs.Term.{term_of};
+ghost use Rattle.meaning.specs.Names.{bound};
+ghost use Rattle.nest.specs.Rooms.{room};
+ghost use Rattle.nest.specs.View.{coordinate_of};
+ghost use Rattle.actions.specs.Actions.{stored, Allot};
+ghost use Rattle.actions.specs.Run.{Around, found_target};
+ghost use Rattle.buffers.specs.Rooms.{room_of};
+ghost use Rattle.buffers.specs.Blocks.{memory_of};
+ghost use Rattle.evaluation.specs.Outcome.{Ends};
+ghost use Rattle.interpreter.specs.Bindings.{symbols_of};
+ghost use Rattle.interpreter.specs.Narrow.{PlacesAreNarrow};
+ghost use Rattle.interpreter.specs.Pieces.{around, setting, found_in, no_cells, IsReady};
+ghost use Rattle.interpreter.specs.States.{progress_of};
+ghost use Rattle.interpreter.specs.Steps.{steps};
+ghost use Rattle.interpreter.specs.Targets.{target_of, known_number, target_number, CoordinateIsNarrow};
+
+use crate::forms::value_of;
+use crate::piece::Piece;
+use crate::reading::Reading;
+use crate::sizes::size_in;
+use crate::state::State;
+use crate::symbols::Symbols;
+use crate::visits::{Point, set};
+use buffers::Room;
+use evaluation::{Stop, evaluate};
+use nest::{Coordinate, Index, Places};
+use smallvec::SmallVec;
+use std::alloc::{AllocError, Global};
+use tree::Expr;
+
+/// The places of one coordinate.
+fn room(places: &Places, symbols: &Symbols) -> Room
+    requires { PlacesAreNarrow (symbols_of symbols.now) places.now }
+    ensures { room_of result ≡ room (symbols_of symbols.now) places.now }
+{
+    match places {
+        Places::From { origin, count } => Room::Straight {
+            origin: value_of(origin, symbols),
+            count: *count,
+        },
+        Places::Folded { count } => Room::Wrapped { count: *count },
+    }
+}
+
+/// The places of all coordinates.
+fn rooms(alloc: Global, places: &[Places], symbols: &Symbols) -> Result<Vec<Room>, AllocError>
+    requires { All (PlacesAreNarrow (symbols_of symbols.now)) places.now }
+    ensures { IfOk result (λ rooms. map room_of rooms.items ≡ map (room (symbols_of symbols.now)) places.now) }
+{
+    let mut rooms = Vec::new(alloc);
+    for one in places {
+        rooms.push(room(one, symbols))?;
+    }
+    Ok(rooms)
+}
+
+/// Makes a buffer.
+pub(crate) fn allot(
+    alloc: Global,
+    buffer: u32,
+    places: &[Places],
+    symbols: &Symbols,
+    state: &mut State,
+) -> Result<(), Stop>
+    requires { All (PlacesAreNarrow (symbols_of symbols.now)) places.now }
+    ensures { (surroundings : Around) → Ends (λ _. progress_of state.new) result (steps surroundings (Allot buffer (map (room (symbols_of symbols.now)) places.now) ∷ []) (progress_of state.old)) }
+{
+    let rooms = rooms(alloc, places, symbols)?;
+    state.memory.allot(alloc, buffer, &rooms)?;
+    Ok(())
+}
+
+/// The number of a coordinate, 0 where an expression finds it.
+fn known_number(coordinate: &Coordinate, symbols: &Symbols) -> i64
+    requires { CoordinateIsNarrow (symbols_of symbols.now) coordinate.now }
+    ensures { result ≡ known_number (symbols_of symbols.now) coordinate.now }
+{
+    match &coordinate.index {
+        Index::Form(form) => value_of(form, symbols),
+        Index::Found(_) => 0,
+    }
+}
+
+/// The numbers of all coordinates, 0 where an expression finds one.
+fn known_numbers(
+    alloc: Global,
+    coordinates: &[Coordinate],
+    symbols: &Symbols,
+) -> Result<Point, AllocError>
+    requires { All (CoordinateIsNarrow (symbols_of symbols.now)) coordinates.now }
+    ensures { IfOk result (λ numbers. numbers.items ≡ map (known_number (symbols_of symbols.now)) coordinates.now) }
+{
+    let mut numbers = SmallVec::new(alloc);
+    for coordinate in coordinates {
+        numbers.push(known_number(coordinate, symbols))?;
+    }
+    Ok(numbers)
+}
+
+/// The number of a coordinate, which an expression may have to find.
+fn found_number(
+    alloc: Global,
+    coordinate: &Coordinate,
+    symbols: &Symbols,
+    reading: &Reading<'_, '_>,
+) -> Result<i64, Stop>
+    requires { CoordinateIsNarrow (symbols_of symbols.now) coordinate.now }
+    ensures { Ends (λ z. z) result (target_number (bound (map (λ c. string_bytes c.variable) reading.now.coordinates.now) reading.now.numbers.now) (found_in reading.now.piece.now reading.now.memory.now) (target_of (symbols_of symbols.now) coordinate.now)) }
+{
+    match &coordinate.index {
+        Index::Form(form) => Ok(value_of(form, symbols)),
+        Index::Found(expr) => Ok(evaluate(alloc, expr, reading)?.number),
+    }
+}
+
+/// The point where a store writes.
+fn found_point(
+    alloc: Global,
+    coordinates: &[Coordinate],
+    symbols: &Symbols,
+    reading: &Reading<'_, '_>,
+) -> Result<Point, Stop>
+    requires { All (CoordinateIsNarrow (symbols_of symbols.now)) coordinates.now }
+    ensures { Ends (λ p. p.items) result (found_target (around reading.now.piece.now no_cells) (bound (map (λ c. string_bytes c.variable) reading.now.coordinates.now) reading.now.numbers.now) (map (target_of (symbols_of symbols.now)) coordinates.now) (memory_of reading.now.memory.now)) }
+{
+    let mut point = SmallVec::new(alloc);
+    for coordinate in coordinates {
+        let number = found_number(alloc, coordinate, symbols, reading)?;
+        point.push(number).map_err(AllocError::from)?;
+    }
+    Ok(point)
+}
+
+/// The coordinates that are the function's, the first so many.
+fn of_function(coordinates: &[Coordinate], count: usize) -> &[Coordinate]
+    ensures { result.now ≡ take count coordinates.now }
+{
+    &coordinates[..count.min(coordinates.len())]
+}
+
+/// The numbers of the other coordinates, which are reduction variables.
+fn of_reduction(numbers: &[i64], count: usize) -> &[i64]
+    ensures { result.now ≡ drop count numbers.now }
+{
+    &numbers[count.min(numbers.len())..]
+}
+
+/// Stores the value of a definition at a point. A pure definition's point is known, an update's may have to be found.
+pub(crate) fn store<'a>(
+    alloc: Global,
+    piece: &'a Piece<'a>,
+    buffer: u32,
+    coordinates: &'a [Coordinate],
+    value: &Expr,
+    symbols: &Symbols,
+    state: &mut State,
+) -> Result<(), Stop>
+    requires ready { IsReady piece.now }
+    requires narrow { All (CoordinateIsNarrow (symbols_of symbols.now)) coordinates.now }
+    ensures { (definition : ℕ) (cell : List ℕ → List ℤ → ValueFound) → Ends (λ _. progress_of state.new) result (steps (around piece.now cell) (stored (setting piece.now) buffer definition (map coordinate_of coordinates.now) (term_of value.now) (symbols_of symbols.now) ∷ []) (progress_of state.old)) }
+{
+    let count = size_in(piece.sizes, buffer);
+    let numbers = known_numbers(alloc, coordinates, symbols)?;
+    let left = Reading {
+        piece,
+        coordinates,
+        memory: &state.memory,
+        numbers: &numbers,
+    };
+    let place = of_function(coordinates, count);
+    let point = found_point(alloc, place, symbols, &left)?;
+    let mut all: Point = SmallVec::from_slice(alloc, &point)?;
+    all.extend_from_slice(of_reduction(&numbers, count))?;
+    let right = Reading {
+        piece,
+        coordinates,
+        memory: &state.memory,
+        numbers: &all,
+    };
+    let found = evaluate(alloc, value, &right)?;
+    set(state, buffer, &point, found)
+}

@@ -1,0 +1,109 @@
+//! Values of symbols.
+
+ghost use Rattle.std.specs.Prelude.{◌≡◌, [], take, length, slice_get, IfOk, OnOk};
+ghost use Rattle.cert.specs.Cells.{grid_value};
+ghost use Rattle.interpreter.specs.Bindings.{symbols_of, also};
+
+use lin::Sym;
+use std::alloc::{AllocError, Global};
+use std::marker::Model;
+
+/// A symbol's value, and whether it is the first turn of the symbol's loop.
+#[derive(Clone, Copy, Debug, Drop)]
+pub(crate) struct Binding {
+    pub symbol: Sym,
+    pub value: i64,
+    pub first: bool,
+}
+
+/// The values of symbols: those of a grid point, and what was bound since. A symbol that has none is 0.
+#[derive(Drop)]
+pub(crate) struct Symbols {
+    grid: Vec<u32>,
+    bound: Vec<Binding>,
+}
+
+impl Model for Symbols {
+    ghost use Rattle.interpreter.specs.Bindings.{Bindings};
+
+    ghost Value = { Bindings };
+
+    ghost view = { λ s. record { grid = s.grid.items; bound = s.bound.items } };
+}
+
+/// A coordinate of a grid point, if it has so many.
+fn coordinate(at: &[u32], symbol: Sym) -> Option<u32>
+    ensures { result ≡ slice_get at.now symbol }
+{
+    at.get(symbol).copied()
+}
+
+/// The value of one of the grid's symbols, 0 where the grid has not so many.
+fn grid_value(at: &[u32], symbol: Sym) -> i64
+    ensures { result ≡ grid_value at.now symbol }
+{
+    match coordinate(at, symbol) {
+        Some(number) => i64::from(number),
+        None => 0,
+    }
+}
+
+impl Symbols {
+    /// The symbols of a grid point: those of the grid alone.
+    pub(crate) fn new(alloc: Global, at: &[u32]) -> Result<Symbols, AllocError>
+        ensures { IfOk result (λ s. s ≡ record { grid = at.now; bound = [] }) }
+    {
+        Ok(Symbols {
+            grid: at.to_vec(alloc)?,
+            bound: Vec::new(alloc),
+        })
+    }
+
+    /// A symbol's value, 0 where it has none.
+    pub(crate) fn value(&self, symbol: Sym) -> i64
+        ensures { result ≡ (symbols_of self.now).value symbol }
+    {
+        let mut value = grid_value(&self.grid, symbol);
+        for binding in &self.bound {
+            if symbol == binding.symbol {
+                value = binding.value;
+            }
+        }
+        value
+    }
+
+    /// Whether it is the first turn of the symbol's loop.
+    pub(crate) fn is_first(&self, symbol: Sym) -> bool
+        ensures { result ≡ (symbols_of self.now).first symbol }
+    {
+        let mut first = false;
+        for binding in &self.bound {
+            if symbol == binding.symbol {
+                first = binding.first;
+            }
+        }
+        first
+    }
+
+    /// Binds a symbol, whatever it was before.
+    pub(crate) fn bind(&mut self, binding: Binding) -> Result<(), AllocError>
+        ensures { OnOk result (self.new ≡ also self.old binding) }
+    {
+        self.bound.push(binding)?;
+        Ok(())
+    }
+
+    /// How many symbols were bound since the grid's.
+    pub(crate) fn bound_count(&self) -> usize
+        ensures { result ≡ length self.now.bound }
+    {
+        self.bound.len()
+    }
+
+    /// Forgets all but the first so many bound symbols.
+    pub(crate) fn forget(&mut self, kept: usize)
+        ensures { self.new ≡ record { grid = self.old.grid; bound = take kept self.old.bound } }
+    {
+        self.bound.truncate(kept);
+    }
+}

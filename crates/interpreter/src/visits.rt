@@ -1,0 +1,221 @@
+//! What is done at each point of a region.
+
+ghost use Rattle.std.specs.Prelude.{◌≡◌, ◌∷◌, [], flat_map, ℕ, ℤ, List, IfOk, map, slice_get, int_le};
+ghost use Rattle.tree.specs.declared.value.Value.{Value as ValueFound};
+ghost use Rattle.nest.specs.Symbols.{form_value};
+ghost use Rattle.cert.specs.Cells.{is_in_span, is_in_region};
+ghost use Rattle.cert.specs.Certificate.{claim_of};
+ghost use Rattle.actions.specs.Actions.{Give, Take};
+ghost use Rattle.actions.specs.Setting.{buffer_in};
+ghost use Rattle.std.specs.List.{list_all};
+ghost use Rattle.evaluation.specs.Outcome.{Ends};
+ghost use Rattle.interpreter.specs.Bindings.{symbols_of};
+ghost use Rattle.interpreter.specs.Narrow.{FormsAreNarrow, SpanIsNarrow, RegionIsNarrow};
+ghost use Rattle.interpreter.specs.Pieces.{around};
+ghost use Rattle.interpreter.specs.States.{progress_of, SetsOrFaults};
+ghost use Rattle.interpreter.specs.Steps.{steps};
+ghost use Rattle.interpreter.specs.Visits.{at_point, between, extended, VisitIsNarrow};
+
+use crate::cells::Cells;
+use crate::forms::{largest, smallest, value_of};
+use crate::piece::Piece;
+use crate::state::State;
+use crate::symbols::Symbols;
+use cert::Claim;
+use evaluation::Stop;
+use lin::{Lin, Span1};
+use smallvec::SmallVec;
+use std::alloc::{AllocError, Global};
+use tree::Value;
+
+/// The coordinates of a point. Up to four take no memory of the heap.
+pub(crate) type Point = SmallVec<i64, 4>;
+
+/// What is done at each point.
+#[derive(Clone, Copy, Drop)]
+pub(crate) enum Visit<'a> {
+    /// The cell of a function is set in a buffer.
+    Fetch { buffer: u32, function: &'a str },
+    /// What a claim's buffer holds is given, where the point is a cell of the group.
+    Publish { claim: u32 },
+}
+
+/// A visit to the points of a region of this piece, where the symbols have these values.
+#[derive(Clone, Copy, Drop)]
+pub(crate) struct Walk<'a, 's> {
+    pub piece: &'a Piece<'a>,
+    pub visit: Visit<'a>,
+    pub symbols: &'s Symbols,
+}
+
+/// Whether each of some forms is at most a number.
+fn are_at_most(forms: &[Lin], number: i64, symbols: &Symbols) -> bool
+    requires { FormsAreNarrow (symbols_of symbols.now) forms.now }
+    ensures { result ≡ list_all (λ l. int_le (form_value l (symbols_of symbols.now)) number) forms.now }
+{
+    for form in forms {
+        if value_of(form, symbols) > number {
+            return false;
+        }
+    }
+    true
+}
+
+/// Whether a number is at most each of some forms.
+fn is_at_most(number: i64, forms: &[Lin], symbols: &Symbols) -> bool
+    requires { FormsAreNarrow (symbols_of symbols.now) forms.now }
+    ensures { result ≡ list_all (λ u. int_le number (form_value u (symbols_of symbols.now))) forms.now }
+{
+    for form in forms {
+        if number > value_of(form, symbols) {
+            return false;
+        }
+    }
+    true
+}
+
+/// Whether a number lies in a span.
+fn is_in_span(span: &Span1, number: i64, symbols: &Symbols) -> bool
+    requires { SpanIsNarrow (symbols_of symbols.now) span.now }
+    ensures { result ≡ is_in_span (symbols_of symbols.now) span.now number }
+{
+    are_at_most(span.lower.as_slice(), number, symbols)
+        && is_at_most(number, span.upper.as_slice(), symbols)
+}
+
+/// Whether a point lies in a region.
+fn is_in_region(region: &[Span1], point: &[i64], symbols: &Symbols) -> bool
+    requires { RegionIsNarrow (symbols_of symbols.now) region.now }
+    ensures { result ≡ is_in_region (symbols_of symbols.now) region.now point.now }
+{
+    match (region, point) {
+        ([], []) => true,
+        ([span, region @ ..], [number, point @ ..]) => {
+            is_in_span(span, *number, symbols) && is_in_region(region, point, symbols)
+        }
+        _ => false,
+    }
+}
+
+/// The buffer of which a claim speaks, 0 where there is no such claim.
+fn claim_buffer(claims: &[Claim], claim: u32) -> u32
+    ensures { result ≡ buffer_in (slice_get (map claim_of claims.now) claim) }
+{
+    match claims.get(claim as usize) {
+        Some(claim) => claim.buffer,
+        None => 0,
+    }
+}
+
+/// Sets the place of a point in a buffer.
+pub(crate) fn set(state: &mut State, buffer: u32, point: &[i64], value: Value) -> Result<(), Stop>
+    ensures { SetsOrFaults result state.old state.new buffer point.now value }
+{
+    if state.memory.write(buffer, point, value) {
+        Ok(())
+    } else {
+        Err(Stop::Fault)
+    }
+}
+
+/// Gives the number that a claim's buffer holds at a point.
+fn give(piece: &Piece<'_>, claim: u32, point: &[i64], state: &mut State) -> Result<(), Stop>
+    ensures { (cell : List ℕ → List ℤ → ValueFound) → Ends (λ _. progress_of state.new) result (steps (around piece.now cell) (Give claim point.now ∷ []) (progress_of state.old)) }
+{
+    let buffer = claim_buffer(&piece.cert.claims, claim);
+    let Some(value) = state.memory.read(buffer, point) else {
+        return Err(Stop::Fault);
+    };
+    state.given.push(value.number).map_err(AllocError::from)?;
+    Ok(())
+}
+
+/// Does at a point what the visit says.
+fn visit_point<C: Cells>(
+    walk: &Walk<'_, '_>,
+    cells: &C,
+    point: &[i64],
+    state: &mut State,
+) -> Result<(), Stop>
+    requires { VisitIsNarrow walk.now.piece.now walk.now.visit }
+    ensures { Ends (λ _. progress_of state.new) result (steps (around walk.now.piece.now (C.cell cells.now)) (at_point walk.now.piece.now walk.now.visit point.now) (progress_of state.old)) }
+{
+    match walk.visit {
+        Visit::Fetch { buffer, function } => {
+            set(state, buffer, point, cells.cell(function, point))
+        }
+        Visit::Publish { claim } => {
+            let region = walk.piece.group.region.as_slice();
+            if is_in_region(region, point, walk.piece.constants) {
+                give(walk.piece, claim, point, state)
+            } else {
+                Ok(())
+            }
+        }
+    }
+}
+
+/// A point with one more coordinate in front.
+fn in_front(alloc: Global, coordinate: i64, point: &[i64]) -> Result<Point, AllocError>
+    ensures { IfOk result (λ longer. longer.items ≡ coordinate ∷ point.now) }
+{
+    let mut longer = SmallVec::new(alloc);
+    longer.push(coordinate)?;
+    longer.extend_from_slice(point)?;
+    Ok(longer)
+}
+
+/// The numbers of a span.
+#[derive(Clone, Copy, Drop)]
+struct Numbers {
+    low: i64,
+    high: i64,
+}
+
+/// Visits the points of a region, each followed by each of some numbers and by these coordinates.
+#[cycle(visiting)]
+fn visit_numbers<C: Cells>(
+    alloc: Global,
+    walk: &Walk<'_, '_>,
+    cells: &C,
+    region: &[Span1],
+    numbers: Numbers,
+    point: &[i64],
+    state: &mut State,
+) -> Result<(), Stop>
+    requires region { RegionIsNarrow (symbols_of walk.now.symbols.now) region.now }
+    requires visit { VisitIsNarrow walk.now.piece.now walk.now.visit }
+    ensures { Ends (λ _. progress_of state.new) result (steps (around walk.now.piece.now (C.cell cells.now)) (flat_map (λ z. flat_map (at_point walk.now.piece.now walk.now.visit) (extended (symbols_of walk.now.symbols.now) region.now (z ∷ point.now))) (between numbers.low numbers.high)) (progress_of state.old)) }
+{
+    for number in numbers.low..=numbers.high {
+        let longer = in_front(alloc, number, point)?;
+        visit_region(alloc, walk, cells, region, &longer, state)?;
+    }
+    Ok(())
+}
+
+/// Visits the points of a region, each followed by these coordinates, the first coordinate fastest.
+#[cycle(visiting)]
+pub(crate) fn visit_region<C: Cells>(
+    alloc: Global,
+    walk: &Walk<'_, '_>,
+    cells: &C,
+    region: &[Span1],
+    point: &[i64],
+    state: &mut State,
+) -> Result<(), Stop>
+    requires region { RegionIsNarrow (symbols_of walk.now.symbols.now) region.now }
+    requires visit { VisitIsNarrow walk.now.piece.now walk.now.visit }
+    ensures { Ends (λ _. progress_of state.new) result (steps (around walk.now.piece.now (C.cell cells.now)) (flat_map (at_point walk.now.piece.now walk.now.visit) (extended (symbols_of walk.now.symbols.now) region.now point.now)) (progress_of state.old)) }
+{
+    match region {
+        [] => visit_point(walk, cells, point, state),
+        [region @ .., span] => {
+            let numbers = Numbers {
+                low: largest(&span.lower, walk.symbols),
+                high: smallest(&span.upper, walk.symbols),
+            };
+            visit_numbers(alloc, walk, cells, region, numbers, point, state)
+        }
+    }
+}

@@ -1,0 +1,3 @@
+mod Plans
+mod Samples
+mod Ways

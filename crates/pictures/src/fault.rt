@@ -1,0 +1,89 @@
+//! Refusals as the program tells them.
+
+ghost use Rattle.std.specs.Prelude.{◌≡◌};
+ghost use Rattle.pictures.specs.declared.fault.Fault.TheVariants.{Memory as OutOfMemory};
+ghost use Rattle.pictures.specs.Faults.{image_fault, plan_fault, rows_fault, text_fault};
+
+use algo::{AlgoError, Code};
+use audit::{CheckError, K};
+use pnm::PnmError;
+use rows::RowsError;
+use std::alloc::AllocError;
+use thiserror::Error;
+use token::Span;
+
+/// A refusal: its code and where it stands. It prints as the program tells it, behind its own name.
+#[derive(Debug, Drop, Error)]
+pub enum Fault {
+    /// M0: memory ran out.
+    #[error("M0")]
+    Memory,
+    /// A text is no algorithm: the code of what it breaks, and the bytes at which.
+    #[error("{code} bytes {}..{}", .span.start, .span.end)]
+    Algo { code: Code, span: Span },
+    /// L10: the function of this name would have to be put in, and has updates.
+    #[error("L10 {function}")]
+    Updates { function: String },
+    /// L11: with all calls put in, the definition of the function of this name is too large.
+    #[error("L11 {function}")]
+    TooLarge { function: String },
+    /// A plan is refused: the code, and the line of its text at which.
+    #[error("K{} line {line}", .code.number())]
+    Plan { code: K, line: u32 },
+    /// A file is no image of the input's shape, or could not be read or written.
+    #[error("{0}")]
+    Image(PnmError),
+}
+
+impl From<AllocError> for Fault {
+    ghost from_gives = { λ _ f. f ≡ OutOfMemory };
+
+    fn from(_: AllocError) -> Fault {
+        Fault::Memory
+    }
+}
+
+impl From<AlgoError> for Fault {
+    ghost from_gives = { λ e f. f ≡ text_fault e };
+
+    fn from(e: AlgoError) -> Fault {
+        match e {
+            AlgoError::Memory => Fault::Memory,
+            AlgoError::Refused { code, span } => Fault::Algo { code, span },
+        }
+    }
+}
+
+impl From<RowsError> for Fault {
+    ghost from_gives = { λ e f. f ≡ rows_fault e };
+
+    fn from(e: RowsError) -> Fault {
+        match e {
+            RowsError::Memory => Fault::Memory,
+            RowsError::Updates(function) => Fault::Updates { function },
+            RowsError::TooLarge(function) => Fault::TooLarge { function },
+        }
+    }
+}
+
+impl From<CheckError> for Fault {
+    ghost from_gives = { λ e f. f ≡ plan_fault e };
+
+    fn from(e: CheckError) -> Fault {
+        match e {
+            CheckError::Memory => Fault::Memory,
+            CheckError::Refused(code, line) => Fault::Plan { code, line },
+        }
+    }
+}
+
+impl From<PnmError> for Fault {
+    ghost from_gives = { λ e f. f ≡ image_fault e };
+
+    fn from(e: PnmError) -> Fault {
+        match e {
+            PnmError::Memory => Fault::Memory,
+            _ => Fault::Image(e),
+        }
+    }
+}

@@ -1,0 +1,10 @@
+pub mod Answering
+pub mod Callables
+pub mod Following
+pub mod Known
+pub mod Machine
+pub mod Standing
+pub mod Points
+pub mod Scoped
+pub mod Loop
+pub mod Stepped

@@ -1,0 +1,7 @@
+pub mod Count
+pub mod Goals
+pub mod Scopes
+pub mod Seen
+pub mod Sites
+pub mod Stages
+pub mod Works

@@ -1,0 +1,5 @@
+pub mod Values
+pub mod Same
+pub mod Lists
+pub mod Sums
+pub mod Dimensions

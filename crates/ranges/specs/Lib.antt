@@ -1,0 +1,4 @@
+pub mod Wide
+pub mod Ranged
+pub mod Limits
+pub mod Cut

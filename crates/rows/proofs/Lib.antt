@@ -1,0 +1,6 @@
+mod Firsts
+mod Own
+mod Parts
+mod Shapes
+mod Stand
+mod Values

@@ -1,0 +1,82 @@
+//! The program over the real files and streams. Without words it runs one algorithm from standard input to standard output.
+#![tactic(auto)]
+
+use pictures::Fault;
+use std::alloc::Global;
+use std::io::{BufReader, BufWriter, Error, ErrorKind, Read};
+use std::process::ExitCode;
+use std::{env, fs, io};
+use tool::{FileError, Files, status, tool};
+
+// The status of a command line fault.
+const MISUSED: u8 = 2;
+
+/// The files of the system.
+#[derive(Drop)]
+struct SystemFiles<'a> {
+    rt: &'a HostRuntime,
+}
+
+fn file_error(error: &Error) -> FileError {
+    match error.kind() {
+        ErrorKind::OutOfMemory => FileError::Memory,
+        _ => FileError::Device,
+    }
+}
+
+impl Files for SystemFiles<'_> {
+    fn get(&mut self, alloc: Global, name: &str) -> Result<Vec<u8>, FileError> {
+        let mut bytes = Vec::new(alloc);
+        let read = match fs::open(self.rt, name) {
+            Ok(mut file) => file.read_to_end(&mut bytes),
+            Err(error) => Err(error),
+        };
+        match read {
+            Ok(_) => Ok(bytes),
+            Err(error) => Err(file_error(&error)),
+        }
+    }
+
+    fn put(&mut self, name: &str, bytes: &[u8]) -> Result<(), FileError> {
+        match fs::write(self.rt, name, bytes) {
+            Ok(()) => Ok(()),
+            Err(error) => Err(file_error(&error)),
+        }
+    }
+}
+
+/// Runs the program on the words after its name.
+fn run(rt: &HostRuntime) -> io::Result<u8> {
+    let alloc = rt.alloc();
+    let given: Vec<String> = env::args(rt)?.skip(1).collect(alloc)?;
+    let words: Vec<&str> = given.iter().map(|word| word.as_str()).collect(alloc)?;
+    let mut input = BufReader::new(alloc, rt.reader())?;
+    let mut out = BufWriter::new(alloc, rt.stdout())?;
+    let mut files = SystemFiles { rt };
+    Ok(tool(
+        alloc,
+        words.as_slice(),
+        &mut files,
+        &mut input,
+        &mut out,
+        &mut rt.stderr(),
+    ))
+}
+
+/// The status where the words can't be read: a fault of the command line, or want of memory.
+fn answer(rt: &HostRuntime, error: &Error) -> u8 {
+    if error.kind() == ErrorKind::OutOfMemory {
+        let fault = Fault::Memory;
+        let _ = eprintln!(rt; "stencil: {fault}");
+        return status(&fault);
+    }
+    let _ = eprintln!(rt; "error: {error}");
+    MISUSED
+}
+
+fn main(rt: HostRuntime) -> ExitCode {
+    match run(&rt) {
+        Ok(status) => ExitCode::from(status),
+        Err(error) => ExitCode::from(answer(&rt, &error)),
+    }
+}

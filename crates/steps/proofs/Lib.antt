@@ -1,0 +1,6 @@
+pub mod Walks
+pub mod Small
+pub mod Accepted
+pub mod Runs
+pub mod Outputs
+pub mod Repeated

@@ -1,0 +1,12 @@
+//! The steps of a checked plan's workers, replayed in any order, and the picture that they compute.
+#![tactic(auto)]
+
+mod alone;
+mod fetched;
+mod job;
+mod place;
+mod replaying;
+mod samples;
+
+pub use orders::State;
+pub use replaying::{picture, replay};

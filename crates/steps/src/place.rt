@@ -1,0 +1,57 @@
+//! The group and the grid point of a piece.
+
+ghost use Rattle.std.specs.Prelude.{◌≡◌, ◌<◌, ◌-◌, ◌^◌, min, length, IfOk};
+ghost use Rattle.cert.specs.Cells.{grid_point, piece_count, pieces};
+ghost use Rattle.nest.specs.View.{plan_of};
+ghost use Rattle.steps.specs.Places.{IsPlaceOf};
+
+use nest::Plan;
+use std::alloc::{AllocError, Global};
+
+/// Where a piece stands: the number of its group, and how many pieces of that group come before it.
+#[derive(Drop)]
+pub(crate) struct Place {
+    pub(crate) group: usize,
+    pub(crate) rank: u32,
+}
+
+/// How many points a grid has. More than a `u64` holds count as the greatest `u64`.
+fn point_count(grid: &[u32]) -> u64
+    ensures { result ≡ min (piece_count grid.now) (2 ^ 64 - 1) }
+{
+    let mut count: u64 = 1;
+    for extent in grid {
+        count = count.saturating_mul(u64::from(*extent));
+    }
+    count
+}
+
+/// Where the piece of a number stands, in time linear in the groups.
+pub(crate) fn place_of(plan: &Plan, piece: u32) -> Place
+    requires { piece < length (pieces (plan_of plan.now)) }
+    ensures { IsPlaceOf (plan_of plan.now).groups piece result.group result.rank }
+{
+    let mut rank = piece;
+    for (group, of) in plan.groups.iter().enumerate() {
+        let count = point_count(of.grid.as_slice());
+        if u64::from(rank) < count {
+            return Place { group, rank };
+        }
+        rank -= count as u32;
+    }
+    unreachable!()
+}
+
+/// The grid point of the piece of a group that so many come before. The first symbol runs fastest.
+pub(crate) fn grid_point(alloc: Global, grid: &[u32], rank: u32) -> Result<Vec<u32>, AllocError>
+    requires { rank < piece_count grid.now }
+    ensures { IfOk result (λ at. at.items ≡ grid_point grid.now rank) }
+{
+    let mut at = Vec::new(alloc);
+    let mut rest = rank;
+    for extent in grid {
+        at.push(rest % *extent)?;
+        rest /= *extent;
+    }
+    Ok(at)
+}

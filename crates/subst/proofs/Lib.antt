@@ -1,0 +1,10 @@
+pub mod Calls
+pub mod Fills
+pub mod Indices
+pub mod Lists
+pub mod Outputs
+pub mod Parts
+pub mod Sizes
+pub mod Steps
+pub mod Tables
+pub mod Whole

@@ -1,0 +1,44 @@
+-- What the words name, and what comes of words that name no command.
+use Rattle.std.proofs.Common.{◌≡◌, ◌≢◌, ◌⊎◌, ◌∙◌, sym, refl, ℕ, List, Option, None, Some, option_map, true, codes, inl, inr, arith}
+use Rattle.clap.specs.declared.error.Error.{Error}
+use Rattle.clap.specs.declared.error.kind.ErrorKind.{ErrorKind}
+use Rattle.clap.specs.declared.error.kind.ErrorKind.TheVariants.{DisplayHelp, OutOfMemory}
+use Rattle.clap.specs.declared.parser.matches.Found.{Found}
+use Rattle.clap.specs.Words.{IsAmong, Text, fault_of, first_value, is_simple, is_simple_and_free, kind_of, rows_of}
+use Rattle.clap.proofs.OnLiterals.{clap_on_literals}
+use Rattle.clap.proofs.WalkLemmas.{first_value-rows}
+use Rattle.tool.specs.Answer.{WordsAnswer}
+use Rattle.tool.specs.Line.{FailsFor, all_three, line, names_in}
+
+pub names_as : (f : Found) → names_in (rows_of f) ≡ all_three (first_value f (codes "ALG")) (first_value f (codes "IN")) (first_value f (codes "OUT"))
+names_as f = rw (first_value-rows f (codes "ALG"), first_value-rows f (codes "IN"), first_value-rows f (codes "OUT")) refl
+
+-- a pair is there where its two parts are
+pub both : {A B : Type 0} (o : Option (A × B)) (a : A) (b : B) → Some a ≡ option_map (λ p. p.0) o → Some b ≡ option_map (λ p. p.1) o → o ≡ Some (a, b)
+both None a b e f = absurd (cc e)
+both (Some p) a b e f = grind (arith, e, f)
+
+pub line_is_free : is_simple_and_free line ≡ true
+unfolding clap_on_literals
+line_is_free = refl
+
+pub line_is_simple : is_simple line ≡ true
+unfolding clap_on_literals
+line_is_simple = refl
+
+-- a kind among those of the words' fault
+among_answer : (words : List Text) (k : ErrorKind) (status : ℕ) → (k ≡ OutOfMemory → status ≡ 4)
+    → (k ≡ DisplayHelp → (status ≡ 0) ⊎ (status ≡ 5)) → (k ≢ OutOfMemory → k ≢ DisplayHelp → status ≡ 2)
+    → IsAmong k (fault_of line words) → WordsAnswer words status
+among_answer words OutOfMemory status memory help misuse among = inr (inr (memory refl))
+among_answer words DisplayHelp status memory help misuse among = inl (help refl, among)
+among_answer words k status memory help misuse among =
+    inr (inl (misuse (λ e. cc e) (λ e. cc e), inl (k, (λ e. cc e), among)))
+
+pub answer_of : (words : List Text) (e : Error) (status : ℕ) → (kind_of e ≡ OutOfMemory → status ≡ 4)
+    → (kind_of e ≡ DisplayHelp → (status ≡ 0) ⊎ (status ≡ 5)) → (kind_of e ≢ OutOfMemory → kind_of e ≢ DisplayHelp → status ≡ 2)
+    → FailsFor words e → WordsAnswer words status
+answer_of words e status memory help misuse (inl (inl none)) = inr (inr (memory none))
+answer_of words e status memory help misuse (inl (inr among)) = among_answer words (kind_of e) status memory help misuse among
+answer_of words e status memory help misuse (inr (missing, nothing)) =
+    inr (inl (misuse (λ h. cc (sym h ∙ missing)) (λ h. cc (sym h ∙ missing)), inr nothing))

@@ -1,0 +1,16 @@
+use Rattle.std.proofs.Common.{refl, inl}
+use Rattle.clap.specs.declared.error.kind.ErrorKind.TheVariants.{MissingRequiredArgument, UnknownArgument}
+use Rattle.clap.proofs.OnLiterals.{clap_on_literals}
+use Rattle.tool.proofs.laws.words_are_read.Goals as goal
+
+pub returns-clause-rows : goal.returns-clause-rows
+unfolding clap_on_literals
+returns-clause-rows c = (refl, refl)
+
+pub returns-clause-help : goal.returns-clause-help
+unfolding clap_on_literals
+returns-clause-help c = (inl refl, inl refl, inl refl)
+
+pub returns-clause-misuse : goal.returns-clause-misuse
+unfolding clap_on_literals
+returns-clause-misuse c = (inl (UnknownArgument, (λ e. cc e), inl refl), inl (MissingRequiredArgument, (λ e. cc e), inl refl), inl (UnknownArgument, (λ e. cc e), inl refl))

@@ -1,0 +1,17 @@
+use Rattle.std.proofs.Common.{inl, inr}
+use Rattle.tool.proofs.Kept.{ends_of, same_refl}
+use Rattle.tool.proofs.Named.{answer_of}
+use Rattle.tool.specs.Asked.{names_asked}
+use Rattle.tool.proofs.program.tool.Goals as goal
+
+pub returns-in-Ok-clause-command : goal.returns-in-Ok-clause-command
+returns-in-Ok-clause-command g c = λ some. inl (record {
+  names = names_asked c.in-Ok.rows;
+  outcome = c.rows_command-outcome.result;
+  asked = c.in-Ok.ensures;
+  ends = ends_of _ _ c.rows_command-outcome.result c.rows_command-outcome.ensures.done c.rows_command-outcome.ensures.refused;
+  answer = c.answer-in-Ok.ensures;
+})
+
+pub returns-in-Err-clause-command : goal.returns-in-Err-clause-command
+returns-in-Err-clause-command g c = λ some. inr (same_refl _, answer_of _ c.in-Err.error _ c.answer_words.ensures.memory c.answer_words.ensures.help c.answer_words.ensures.misuse c.in-Err.ensures)

@@ -1,0 +1,41 @@
+-- What the program does on its words, and the status that it answers.
+use Rattle.std.specs.Prelude.{◌≡◌, ◌⊎◌, ℕ, List, Option, Result, Ok, Err, MatchResult}
+use Rattle.clap.specs.Words.{Text}
+use Rattle.pictures.specs.declared.fault.Fault.{Fault}
+use Rattle.pictures.specs.Rows as streams
+use Rattle.tool.specs.Files.{Contents, SameFiles}
+use Rattle.tool.specs.Line.{AsksHelp, AsksRows, IsMisuse, Names}
+use Rattle.tool.specs.Rows.{IsDone, IsRefused}
+use Rattle.tool.specs.Status.{status_of}
+
+-- 0 where a command is done, else the refusal's
+abbrev pub status_after : Result (Unit {0}) Fault → ℕ
+status_after (Ok _) = 0
+status_after (Err fault) = status_of fault
+
+-- without words, from the input to the output: all is done; or it is, but the output could not hand it on; or there is a refusal
+abbrev pub StreamsAnswer : List ℕ → Option (List ℕ) → Option (List ℕ) → Option (List ℕ) → Option (List ℕ) → ℕ → Type 0
+StreamsAnswer text read left held holds status =
+    (((status ≡ 0) ⊎ (status ≡ 5)) × streams.IsDone text read left held holds)
+    ⊎ ((fault : Fault) × (status ≡ status_of fault) × streams.IsRefused text read left held holds fault)
+
+-- what came of `rows` with these names
+abbrev pub RowsEnds : Contents → Contents → Names → Result (Unit {0}) Fault → Type 0
+RowsEnds old new names outcome = MatchResult outcome (λ _. IsDone old new names.0 names.1 names.2) (IsRefused old new names.0 names.1 names.2)
+
+-- the words ask for `rows`, and the status is that of what came of it
+pub record RowsAnswers (words : List Text) (old new : Contents) (status : ℕ) : Type 0 where
+  pub names : Names
+  pub outcome : Result (Unit {0}) Fault
+  pub asked : AsksRows words names
+  pub ends : RowsEnds old new names outcome
+  pub answer : status ≡ status_after outcome
+
+-- no command is run: the words ask for help, which may fail to be written, or are a fault, or there is no memory to read them
+abbrev pub WordsAnswer : List Text → ℕ → Type 0
+WordsAnswer words status =
+    (((status ≡ 0) ⊎ (status ≡ 5)) × AsksHelp words) ⊎ (((status ≡ 2) × IsMisuse words) ⊎ (status ≡ 4))
+
+-- what the program does to the files, and its status, on words of which there is one or more
+abbrev pub CommandAnswers : List Text → Contents → Contents → ℕ → Type 0
+CommandAnswers words old new status = RowsAnswers words old new status ⊎ (SameFiles old new × WordsAnswer words status)

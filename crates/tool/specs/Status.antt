@@ -1,0 +1,28 @@
+-- Exit statuses.
+use Rattle.std.specs.Prelude.{ℕ}
+use Rattle.pnm.specs.declared.error.PnmError.{PnmError}
+use Rattle.pnm.specs.declared.error.PnmError.TheVariants as image
+use Rattle.pictures.specs.declared.fault.Fault.{Fault}
+use Rattle.pictures.specs.declared.fault.Fault.TheVariants.{Memory, Algo, Updates, TooLarge, Plan, Image}
+use Rattle.tool.specs.declared.device.FileError.{FileError}
+use Rattle.tool.specs.declared.device.FileError.TheVariants as file
+
+-- a fault of an image file, of the device or of memory
+abbrev pub image_status : PnmError → ℕ
+image_status image.Memory = 4
+image_status image.Device = 5
+image_status _ = 3
+
+-- the exit status after a refusal
+abbrev pub status_of : Fault → ℕ
+status_of Memory = 4
+status_of (Algo code span) = 3
+status_of (Updates function) = 3
+status_of (TooLarge function) = 3
+status_of (Plan code line) = 1
+status_of (Image e) = image_status e
+
+-- a file's error as a refusal
+abbrev pub fault_of : FileError → Fault
+fault_of file.Device = Image image.Device
+fault_of file.Memory = Memory

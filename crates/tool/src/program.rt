@@ -1,0 +1,112 @@
+//! The program, but for its real files and streams.
+
+ghost use Rattle.std.specs.Prelude.{◌≡◌, ◌≢◌, ◌⊎◌, [], map, IfErr, OnOk, IsErrOf};
+ghost use Rattle.std.specs.Io.KnownBytes.{Keeps};
+ghost use Rattle.clap.specs.Words.{kind_of};
+ghost use Rattle.pictures.specs.Rows.{IsDone, IsRefused};
+ghost use Rattle.pictures.specs.declared.fault.Fault.{Fault};
+ghost use Rattle.pnm.specs.declared.error.PnmError.{PnmError};
+ghost use Rattle.tool.specs.Answer.{CommandAnswers, StreamsAnswer, status_after};
+
+use crate::by_rows::rows_command;
+use crate::device::Files;
+use crate::exit::status;
+use crate::words::read_words;
+use clap::Error;
+use clap::error::ErrorKind;
+use pictures::{Fault, rows_over};
+use pnm::PnmError;
+use std::alloc::Global;
+use std::io::{Read, Write};
+
+// What runs where no words are given: each pixel of 2 columns and 10 rows is one more.
+const INCREMENT: &str =
+    "pipeline inc; input in u8 [2, 10]; func out u8 (x, y) = in[x, y] + 1u8; output out [2, 10];";
+
+// The status of a command line fault.
+const MISUSED: u8 = 2;
+
+/// Hands on what a writer holds back.
+fn flush<W: Write>(out: &mut W) -> Result<(), Fault>
+    ensures bytes { Keeps (W.contents out.old) (W.contents out.new) }
+    ensures device { IfErr result (λ fault. fault ≡ Fault.Image PnmError.Device) }
+{
+    match out.flush() {
+        Ok(()) => Ok(()),
+        Err(_) => Err(Fault::Image(PnmError::Device)),
+    }
+}
+
+fn increment<R: Read, W: Write>(alloc: Global, input: &mut R, out: &mut W) -> Result<(), Fault>
+    ensures done { OnOk result (IsDone INCREMENT.now (R.remaining input.old) (R.remaining input.new) (W.contents out.old) (W.contents out.new)) }
+    ensures refused { IfErr result (λ fault. IsRefused INCREMENT.now (R.remaining input.old) (R.remaining input.new) (W.contents out.old) (W.contents out.new) fault
+        ⊎ ((fault ≡ Fault.Image PnmError.Device) × IsDone INCREMENT.now (R.remaining input.old) (R.remaining input.new) (W.contents out.old) (W.contents out.new))) }
+{
+    rows_over(alloc, INCREMENT, input, out)?;
+    flush(out)
+}
+
+fn print_help<W: Write>(help: &Error, out: &mut W) -> Result<(), Fault>
+    ensures { IfErr result (λ fault. fault ≡ Fault.Image PnmError.Device) }
+{
+    match write!(out, "{help}") {
+        Ok(()) => flush(out),
+        Err(_) => Err(Fault::Image(PnmError::Device)),
+    }
+}
+
+/// The status of what came of a command. A refusal is told in one line; where that can't be written the status stays.
+fn answer<E: Write>(outcome: Result<(), Fault>, err: &mut E) -> u8
+    ensures { result ≡ status_after outcome }
+{
+    match outcome {
+        Ok(()) => 0,
+        Err(fault) => {
+            let _ = writeln!(err, "stencil: {fault}");
+            status(&fault)
+        }
+    }
+}
+
+/// The status of words that ask for no command: help is printed, and a fault told.
+fn answer_words<W: Write, E: Write>(error: &Error, out: &mut W, err: &mut E) -> u8
+    ensures memory { kind_of error.now ≡ ErrorKind.OutOfMemory → result ≡ 4 }
+    ensures help { kind_of error.now ≡ ErrorKind.DisplayHelp → (result ≡ 0) ⊎ (result ≡ 5) }
+    ensures misuse { kind_of error.now ≢ ErrorKind.OutOfMemory → kind_of error.now ≢ ErrorKind.DisplayHelp → result ≡ 2 }
+{
+    match error.kind() {
+        ErrorKind::OutOfMemory => answer(Err(Fault::Memory), err),
+        ErrorKind::DisplayHelp => answer(print_help(error, out), err),
+        _ => {
+            let _ = write!(err, "{error}");
+            MISUSED
+        }
+    }
+}
+
+/// Runs the program on the words after its name, and answers its exit status.
+pub fn tool<F: Files, R: Read, W: Write, E: Write>(
+    alloc: Global,
+    words: &[&str],
+    files: &mut F,
+    input: &mut R,
+    out: &mut W,
+    err: &mut E,
+) -> u8
+    // Without words: the increment of the image on the input.
+    ensures streams { words.now ≡ [] → StreamsAnswer INCREMENT.now (R.remaining input.old) (R.remaining input.new) (W.contents out.old) (W.contents out.new) result }
+    ensures kept { words.now ≡ [] → files.new ≡ files.old }
+    ensures unread { words.now ≢ [] → input.new ≡ input.old }
+    ensures command { words.now ≢ [] → CommandAnswers (map (λ word. word.now) words.now) (F.contents files.old) (F.contents files.new) result }
+{
+    if words.is_empty() {
+        return answer(increment(alloc, input, out), err);
+    }
+    match read_words(alloc, words) {
+        Ok(rows) => {
+            let outcome = rows_command(alloc, files, rows.algorithm, rows.input, rows.output);
+            answer(outcome, err)
+        }
+        Err(error) => answer_words(&error, out, err),
+    }
+}
