@@ -1,6 +1,7 @@
 -- Forms, spans and regions where one symbol more is bound.
 use Rattle.std.proofs.Common.{◌≡◌, ℕ, Bool, true, false, List, [], ◌∷◌, ◌++◌, map, refl, sym, ap, ◌∙◌, subst, arith}
-use Rattle.std.specs.Prelude.{ℤ, ◌+ℤ◌, ◌*ℤ◌, ◌≤ℤ◌, IsTrue, ◌==◌, ◌||◌, not, if◌then◌else◌, filter}
+use Rattle.std.specs.Prelude.{ℤ, ◌+ℤ◌, ◌*ℤ◌, ◌≤ℤ◌, IsTrue, ◌==◌, ◌||◌, not, if◌then◌else◌, filter, fold}
+use Rattle.std.specs.Int.{int_max, int_min}
 use Rattle.std.specs.List.{AllByRecursion, list_any}
 use Rattle.std.proofs.lemmas.Int.{ints, fold-int_max_bounds, fold-int_min_bounds}
 use Rattle.std.proofs.lemmas.List.Elements.{All-from_recursion, recursion_from_All}
@@ -10,10 +11,12 @@ use Rattle.lin.specs.declared.form.Multiple.{Multiple}
 use Rattle.lin.specs.declared.span.Span1.{Span1}
 use Rattle.nest.specs.declared.stmt.Places.{Places}
 use Rattle.nest.specs.declared.stmt.Places.TheVariants.{From, Folded}
+use Rattle.nest.specs.declared.stmt.Pick.{Pick}
+use Rattle.nest.specs.declared.stmt.Pick.TheVariants.{Min, Max}
 use Rattle.nest.specs.Symbols.{Symbols, bind, form_value, InRegion, turns, points, largest, smallest}
 use Rattle.nest.specs.Rooms.{Straight, Wrapped, room}
 use Rattle.claims.specs.Claims.{In}
-use Rattle.claims.specs.Obligations.{Lies, LieIn, Binder, Ranged, Passed, Respects, is_member, form_has, span_has, binder_has, places_have}
+use Rattle.claims.specs.Obligations.{Lies, LieIn, Binder, Ranged, Picked, Passed, picked, Respects, is_member, form_has, span_has, binder_has, places_have}
 use Rattle.claims.proofs.Refines.{eq_true, eq_refl}
 use Rattle.claims.proofs.Sound.{or_left, or_right}
 use Rattle.claims.proofs.Turns.{point_parts, only_nil, turns_within}
@@ -143,12 +146,33 @@ module _ (s : Symbols) (i : ℕ) (z : ℤ) (b : Bool) where
   lie_in_back (x ∷ xs) (y ∷ ys) h k =
       (lies_back x y (or_left (span_has i x) (list_any (span_has i) xs) h) k.0, lie_in_back xs ys (or_right (span_has i x) (list_any (span_has i) xs) h) k.1)
 
+  values_same : (ls : List Form) → list_any (form_has i) ls ≡ false → map (λ m. form_value m (bind s i z b)) ls ≡ map (λ m. form_value m s) ls
+  values_same [] h = refl
+  values_same (l ∷ ls) h =
+      ap (λ v. v ∷ map (λ m. form_value m (bind s i z b)) ls) (value_same l (or_left (form_has i l) (list_any (form_has i) ls) h))
+      ∙ ap (λ vs. form_value l s ∷ vs) (values_same ls (or_right (form_has i l) (list_any (form_has i) ls) h))
+
+  pub picked_same : (pick : Pick) (ls : List Form) → list_any (form_has i) ls ≡ false → picked pick ls (bind s i z b) ≡ picked pick ls s
+  picked_same Min [] h = refl
+  picked_same Max [] h = refl
+  picked_same Min (l ∷ ls) h =
+      ap (λ v. fold int_min v (map (λ m. form_value m (bind s i z b)) ls)) (value_same l (or_left (form_has i l) (list_any (form_has i) ls) h))
+      ∙ ap (fold int_min (form_value l s)) (values_same ls (or_right (form_has i l) (list_any (form_has i) ls) h))
+  picked_same Max (l ∷ ls) h =
+      ap (λ v. fold int_max v (map (λ m. form_value m (bind s i z b)) ls)) (value_same l (or_left (form_has i l) (list_any (form_has i) ls) h))
+      ∙ ap (fold int_max (form_value l s)) (values_same ls (or_right (form_has i l) (list_any (form_has i) ls) h))
+
   pub respects_on : (bs : List Binder) → list_any (binder_has i) bs ≡ false → Respects bs s → Respects bs (bind s i z b)
   respects_on [] h r = tt
   respects_on (Ranged j x ∷ bs) h r =
       let here = or_left ((j == i) || span_has i x) (list_any (binder_has i) bs) h in
       let own = lies_on x (s.value j) (or_right (j == i) (span_has i x) here) r.0 in
       (subst (Lies (bind s i z b) x) (sym (other_value j (or_left (j == i) (span_has i x) here))) own, respects_on bs (or_right ((j == i) || span_has i x) (list_any (binder_has i) bs) h) r.1)
+  respects_on (Picked j pick ls ∷ bs) h r =
+      let here = or_left ((j == i) || list_any (form_has i) ls) (list_any (binder_has i) bs) h in (
+        other_value j (or_left (j == i) (list_any (form_has i) ls) here) ∙ r.0 ∙ sym (picked_same pick ls (or_right (j == i) (list_any (form_has i) ls) here)),
+        respects_on bs (or_right ((j == i) || list_any (form_has i) ls) (list_any (binder_has i) bs) h) r.1,
+      )
   respects_on (Passed low high ∷ bs) h r =
       let here = or_left (form_has i low || form_has i high) (list_any (binder_has i) bs) h in
       let a = value_same low (or_left (form_has i low) (form_has i high) here) in

@@ -4,11 +4,13 @@ pub mod Forms
 pub mod Hist
 pub mod Learned
 pub mod Meant
+pub mod Ongoing
 pub mod Refines
 pub mod Renamed
 pub mod Rows
 pub mod Runs
 pub mod Scan
+pub mod ScanMeant
 pub mod Shown
 pub mod Slide
 pub mod Sound

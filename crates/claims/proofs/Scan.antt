@@ -44,7 +44,7 @@ at_region P h (z ∷ []) i = let k = region_lies s region (z ∷ []) i in h z k.
 at_region P h (z ∷ w ∷ ws) i = absurd i.1
 
 -- one of four numbers
-four : (P : ℤ → Type 0) → P (pos 0) → P (pos 1) → P (pos 2) → P (pos 3) → (z : ℤ) → pos 0 ≤ℤ z → z ≤ℤ pos 3 → P z
+pub four : (P : ℤ → Type 0) → P (pos 0) → P (pos 1) → P (pos 2) → P (pos 3) → (z : ℤ) → pos 0 ≤ℤ z → z ≤ℤ pos 3 → P z
 four P a b c d (pos zero) l h = a
 four P a b c d (pos (suc zero)) l h = b
 four P a b c d (pos (suc (suc zero))) l h = c

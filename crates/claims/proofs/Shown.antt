@@ -110,7 +110,7 @@ module _ (given : Given) (rules : Rules) (nests : Nests) (suited : Suited given 
 pub meant_is_sound : MeantIsSound
 meant_is_sound given rules body line grid s suited pure h r =
     sound_where given rules suited body line (start grid) (at_start s) pure
-    (record { respects = r; rooms = λ b places e. absurd (cc e); free = λ b e. refl; claims = λ c n. absurd (cc n); own = λ c n. absurd (cc n) }) h
+    (record { respects = r; rooms = λ b places e. absurd (cc e); free = λ b e. refl; claims = λ c n. absurd (cc n); own = λ c n. absurd (cc n) }) (λ u m. absurd m) h
 
 pub shown_is_meant : ShownIsMeant
 shown_is_meant given rules nests os suited right h = all_shown_meant given rules nests suited right os h

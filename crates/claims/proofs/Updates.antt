@@ -138,7 +138,7 @@ module _ (a : Algorithm) (put_in : Term → Term) (given : Given) where
         let later = left_same vs ds ts qs b.1 o.1 h.2 m in
         λ i. is i ∷ later i
 
-target_matches : (given : Given) (variables : List ℕ → ℤ) (ts : List Target) (r : Reader) → matches ts (target_point given variables ts r) ≡ true
+pub target_matches : (given : Given) (variables : List ℕ → ℤ) (ts : List Target) (r : Reader) → matches ts (target_point given variables ts r) ≡ true
 target_matches given variables [] r = refl
 target_matches given variables (Fixed z ∷ ts) r = rw (number_refl z) (target_matches given variables ts r)
 target_matches given variables (Open x ∷ ts) r = target_matches given variables ts r

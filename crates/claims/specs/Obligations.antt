@@ -9,12 +9,14 @@ use Rattle.lin.specs.declared.span.Span1.{Span1}
 use Rattle.nest.specs.declared.stmt.Places.{Places}
 use Rattle.nest.specs.declared.stmt.Places.TheVariants.{From, Folded}
 use Rattle.nest.specs.Plan.{Index, At, Found, Coordinate, Statement, Seq, For, Let, First, Guard, Alloc, Fetch, Store, Publish, Statements, Empty, Then}
-use Rattle.nest.specs.Symbols.{Symbols, form_value, InRegion}
+use Rattle.nest.specs.declared.stmt.Pick.{Pick}
+use Rattle.nest.specs.declared.stmt.Pick.TheVariants.{Min, Max}
+use Rattle.nest.specs.Symbols.{Symbols, form_value, largest, smallest, InRegion}
 use Rattle.nest.specs.Rooms.{room, place}
 use Rattle.nest.specs.Lines.{lines}
 use Rattle.actions.specs.Actions.{Setting, Action, Change, Target, actions}
 use Rattle.actions.specs.Run.{Source, Input, ByClaim, Unknown}
-use Rattle.claims.specs.Origins.{Outline, Given, Reader, answer, matches}
+use Rattle.claims.specs.Origins.{Outline, Given, Reader, answer, matches, or_same}
 use Rattle.claims.specs.Claims.{In, changes, updates, writes, written, ClearOf, status_after}
 
 -- ---- spans, and what is around a line
@@ -29,18 +31,32 @@ LieIn s [] (z ∷ zs) = ⊥
 LieIn s (x ∷ xs) [] = ⊥
 LieIn s (x ∷ xs) (z ∷ zs) = Lies s x z × LieIn s xs zs
 
+-- the span of all numbers
+abbrev pub anything : Span1
+anything = record { lower = []; upper = [] }
+
+-- the span of the numbers from each form on
+abbrev pub from_each : List Form → Span1
+from_each ls = record { lower = ls; upper = [] }
+
 -- the span of one number
 abbrev pub exactly : Form → Span1
 exactly f = record { lower = f ∷ []; upper = f ∷ [] }
 
--- a loop or a symbol of the grid with its span, or a guard that was passed
+-- a loop or a symbol of the grid with its span, a symbol for the smallest or largest of forms, or a guard that was passed
 pub data Binder : Type 0 where
   Ranged : (symbol : ℕ) (span : Span1) → Binder
+  Picked : (symbol : ℕ) (pick : Pick) (forms : List Form) → Binder
   Passed : (low high : Form) → Binder
+
+abbrev pub picked : Pick → List Form → Symbols → ℤ
+picked Min ls s = smallest s ls
+picked Max ls s = largest s ls
 
 abbrev pub Respects : List Binder → Symbols → Type 0
 Respects [] s = Unit {0}
 Respects (Ranged i x ∷ bs) s = Lies s x (s.value i) × Respects bs s
+Respects (Picked i pick ls ∷ bs) s = (s.value i ≡ picked pick ls s) × Respects bs s
 Respects (Passed low high ∷ bs) s = (form_value low s ≤ℤ form_value high s) × Respects bs s
 
 -- a buffer in scope
@@ -48,14 +64,19 @@ pub record Buffer : Type 0 where
   pub name : ℕ
   pub places : List Places
 
--- the binders, the buffers in scope, the claims in force, those of them that came into force in this very block, and those
--- whose buffer the next definition's nest is changing
+-- an update's nest that is under way: the claim of the definition before, and the claim that the nest makes
+pub record Updating : Type 0 where
+  pub before : ℕ
+  pub next : ℕ
+
+-- the binders, the buffers in scope, the claims in force, those of them that came into force in this very block, and the
+-- updates' nests around the line
 pub record Known : Type 0 where
   pub binders : List Binder
   pub buffers : List Buffer
   pub claims : List ℕ
   pub own : List ℕ
-  pub updating : List ℕ
+  pub updating : List Updating
 
 -- what else obligations refer to: the algorithm, the own region, and the bounds of forms and of expressions
 pub record Rules : Type 0 where
@@ -116,6 +137,7 @@ span_has i x = list_any (form_has i) x.lower || list_any (form_has i) x.upper
 
 abbrev pub binder_has : ℕ → Binder → Bool
 binder_has i (Ranged j x) = (j == i) || span_has i x
+binder_has i (Picked j pick ls) = (j == i) || list_any (form_has i) ls
 binder_has i (Passed low high) = form_has i low || form_has i high
 
 abbrev pub places_have : ℕ → Places → Bool
@@ -125,6 +147,10 @@ places_have i (Folded n) = false
 abbrev pub is_free : Option (List Places) → Bool
 is_free None = true
 is_free (Some places) = false
+
+abbrev pub or_same_line : Option ℕ → Option ℕ → Option ℕ
+or_same_line None o = o
+or_same_line (Some line) o = Some line
 
 abbrev pub is_next : ℕ → ℕ → Bool
 is_next k zero = false
@@ -140,7 +166,7 @@ module _ (outline : Outline) (rules : Rules) where
       || (list_any (binder_has i) known.binders
       || (list_any (λ b. list_any (places_have i) b.places) known.buffers
       || (list_any (λ c. list_any (span_has i) (region_of c)) known.claims
-      || list_any (λ c. list_any (span_has i) (region_of c)) known.updating)))
+      || list_any (λ u. list_any (span_has i) (region_of u.before) || list_any (span_has i) (region_of u.next)) known.updating)))
 
   abbrev pub obligation : Code → ℕ → Known → Wanted → Obligation
   obligation code line known wanted = record { code = code; line = line; binders = known.binders; wanted = wanted }
@@ -157,14 +183,21 @@ module _ (outline : Outline) (rules : Rules) where
       ((outline.claim c).buffer == (outline.claim d).buffer) && same_name (outline.claim c).function (outline.claim d).function
       && is_next (outline.claim c).definition (outline.claim d).definition
 
+  -- the nests that a statement begins: for each claim that it makes by updates alone, each claim of the definition before
+  -- that came into force in its block
+  abbrev pub nests_of : Statement → List ℕ → List ℕ → List Updating
+  nests_of a next own =
+      flat_map (λ c. map (λ d. record { before = d; next = c }) (filter (λ d. follows d c) own))
+      (filter (λ c. updates outline.setting a (outline.claim c).buffer (outline.claim c).function) next)
+
   -- in a statement that next definitions' claims name: the claims of the definitions before stay for that statement's stores
-  abbrev pub within : List ℕ → Known → Known
-  within next known = record {
+  abbrev pub within : Statement → List ℕ → Known → Known
+  within a next known = record {
     binders = known.binders;
     buffers = known.buffers;
     claims = known.claims;
     own = known.own;
-    updating = filter (λ c. list_any (follows c) next) known.own ++ known.updating;
+    updating = nests_of a next known.own ++ known.updating;
   }
 
   abbrev pub in_guard : Form → Form → Known → Known
@@ -187,13 +220,22 @@ module _ (outline : Outline) (rules : Rules) where
   more_buffers (Alloc b f places) bs = record { name = b; places = places } ∷ bs
   more_buffers _ bs = bs
 
+  abbrev pub more_binders : Statement → List Binder → List Binder
+  more_binders (Let i pick ls) bs = Picked i pick ls ∷ bs
+  more_binders _ bs = bs
+
+  -- a line that gives a symbol its number makes no claim
+  abbrev pub makes : Statement → List ℕ → List ℕ
+  makes (Let i pick ls) next = []
+  makes _ next = next
+
   -- after a statement: the claims that its last line names, and those whose buffer it leaves alone
   abbrev pub onwards : Statement → List ℕ → Known → Known
   onwards a next known = record {
-    binders = known.binders;
+    binders = more_binders a known.binders;
     buffers = more_buffers a known.buffers;
-    claims = next ++ filter (is_left a) known.claims;
-    own = next ++ filter (is_left a) known.own;
+    claims = makes a next ++ filter (is_left a) known.claims;
+    own = makes a next ++ filter (is_left a) known.own;
     updating = known.updating;
   }
 
@@ -207,19 +249,34 @@ module _ (outline : Outline) (rules : Rules) where
   abbrev pub is_usable : Known → ℕ → Bool
   is_usable known c = is_member c known.claims && ((outline.claim c).definition == rules.last (outline.claim c).function)
 
+  -- the nest does the steps of this definition in this buffer
+  abbrev pub serves : ℕ → List ℕ → ℕ → Updating → Bool
+  serves b f k u = ((outline.claim u.next).buffer == b) && (same_name (outline.claim u.next).function f && ((outline.claim u.next).definition == k))
+
   -- the same, but for a call that an update makes of its own function: that is by the claim of the definition before
   abbrev pub may_load : Known → ℕ → List ℕ → ℕ → ℕ → Bool
   may_load known b f zero c = is_usable known c
   may_load known b f (suc k) c =
-      if same_name (outline.claim c).function f then is_member c known.updating && ((outline.claim c).buffer == b) && ((outline.claim c).definition == k)
+      if same_name (outline.claim c).function f then list_any (λ u. (u.before == c) && serves b f (suc k) u) known.updating
       else is_usable known c
 
-  abbrev pub load_obligations : ℕ → Known → (ℕ → Bool) → Source → List Span1 → List Obligation
-  load_obligations line known may Input xs = obligation OutOfBuffer line known (Inside xs rules.extents) ∷ []
-  load_obligations line known may (ByClaim c) xs =
+  -- the points that a left side may be, as far as forms tell
+  abbrev pub index_met : Index → Span1
+  index_met (At l) = exactly l
+  index_met (Found e) = anything
+
+  -- an update's calls of its own function are of points that the same step meets
+  abbrev pub met : List ℕ → ℕ → List Coordinate → ℕ → List (List Span1)
+  met f zero at c = []
+  met f (suc k) at c = if same_name (outline.claim c).function f then map (λ x. index_met x.index) at ∷ [] else []
+
+  abbrev pub load_obligations : ℕ → Known → (ℕ → Bool) → (ℕ → List (List Span1)) → Source → List Span1 → List Obligation
+  load_obligations line known may meets Input xs = obligation OutOfBuffer line known (Inside xs rules.extents) ∷ []
+  load_obligations line known may meets (ByClaim c) xs =
       obligation OutOfBuffer line known (seated (places_of known.buffers (outline.claim c).buffer) xs)
-      ∷ obligation NotClaimed line known (Named (may c)) ∷ obligation NotClaimed line known (Inside xs (region_of c)) ∷ []
-  load_obligations line known may Unknown xs = obligation Undefined line known (Named false) ∷ []
+      ∷ obligation NotClaimed line known (Named (may c)) ∷ obligation NotClaimed line known (Inside xs (region_of c))
+      ∷ map (λ ys. obligation NotClaimed line known (Inside xs ys)) (meets c)
+  load_obligations line known may meets Unknown xs = obligation Undefined line known (Named false) ∷ []
 
   -- the bounds of indices
   abbrev pub intervals : List Binder → List (List ℕ) → List Span1 → Terms → List Span1
@@ -227,12 +284,12 @@ module _ (outline : Outline) (rules : Rules) where
   intervals bs names vars (More a rest) = rules.interval bs names vars a ∷ intervals bs names vars rest
 
   -- each load of an expression, where the variables have these names and spans
-  module _ (line : ℕ) (known : Known) (may : ℕ → Bool) (names : List (List ℕ)) (vars : List Span1) where
+  module _ (line : ℕ) (known : Known) (may : ℕ → Bool) (meets : ℕ → List (List Span1)) (names : List (List ℕ)) (vars : List Span1) where
     abbrev mutual
       pub loads : Term → List Obligation
       loads (Number t n) = []
       loads (Name name) = []
-      loads (Call name at) = loads_of_all at ++ load_obligations line known may (outline.source name) (intervals known.binders names vars at)
+      loads (Call name at) = loads_of_all at ++ load_obligations line known may meets (outline.source name) (intervals known.binders names vars at)
       loads (Minus a) = loads a
       loads (Binary op a b) = loads a ++ loads b
       loads (Clamp a l h) = loads a ++ (loads l ++ loads h)
@@ -264,17 +321,22 @@ module _ (outline : Outline) (rules : Rules) where
   abbrev pub target_span : Known → List (List ℕ) → List Span1 → Coordinate → Span1
   target_span known names vars c = index_place known names vars c.index
 
-  abbrev pub index_loads : ℕ → Known → (ℕ → Bool) → List (List ℕ) → List Span1 → Index → List Obligation
-  index_loads line known may names vars (At l) = []
-  index_loads line known may names vars (Found e) = loads line known may names vars e
+  abbrev pub index_loads : ℕ → Known → (ℕ → Bool) → (ℕ → List (List Span1)) → List (List ℕ) → List Span1 → Index → List Obligation
+  index_loads line known may meets names vars (At l) = []
+  index_loads line known may meets names vars (Found e) = loads line known may meets names vars e
 
-  abbrev pub coordinate_loads : ℕ → Known → (ℕ → Bool) → List (List ℕ) → List Span1 → Coordinate → List Obligation
-  coordinate_loads line known may names vars c = index_loads line known may names vars c.index
+  abbrev pub coordinate_loads : ℕ → Known → (ℕ → Bool) → (ℕ → List (List Span1)) → List (List ℕ) → List Span1 → Coordinate → List Obligation
+  coordinate_loads line known may meets names vars c = index_loads line known may meets names vars c.index
 
-  -- an update changes what the definition before has made
+  -- an update stands in the nest of its claim
   abbrev pub is_begun : Known → ℕ → List ℕ → ℕ → Bool
   is_begun known b f zero = true
-  is_begun known b f (suc k) = list_any (λ c. ((outline.claim c).buffer == b) && same_name (outline.claim c).function f && ((outline.claim c).definition == k)) known.updating
+  is_begun known b f (suc k) = list_any (serves b f (suc k)) known.updating
+
+  -- and stores in the claim's region
+  abbrev pub claimed : ℕ → Known → ℕ → List ℕ → ℕ → List Span1 → List Obligation
+  claimed line known b f zero places = []
+  claimed line known b f (suc k) places = map (λ u. obligation NotClaimed line known (Inside places (region_of u.next))) (filter (serves b f (suc k)) known.updating)
 
   -- the spans of the variables of a store's expression, where its left side has these: an index that is found has the
   -- expression's span
@@ -283,10 +345,13 @@ module _ (outline : Outline) (rules : Rules) where
       let names = map (λ c. c.variable) (at ++ over) in
       let left = map variable_span (at ++ over) in
       let places = map (target_span known names left) at in
+      let may = may_load known b f k in
+      let meets = met f k at in
       obligation OutOfBuffer line known (seated (places_of known.buffers b) places)
       ∷ obligation NotClaimed line known (Named (is_begun known b f k))
-      ∷ (flat_map (coordinate_loads line known (may_load known b f k) names left) at
-      ++ loads line known (may_load known b f k) names (places ++ map variable_span over) e)
+      ∷ (claimed line known b f k places
+      ++ (flat_map (coordinate_loads line known may meets names left) at
+      ++ loads line known may meets names (places ++ map variable_span over) e))
 
   -- the statement only updates the claim's buffer: the claim goes on from that of the definition before
   abbrev pub goes_on : Statement → ℕ → Option ℕ
@@ -296,19 +361,36 @@ module _ (outline : Outline) (rules : Rules) where
   made None c a = Named false
   made (Some places) c a = Made c (goes_on a c) places a
 
-  -- the claims of the definition before that a claim goes on from, and that its region lies in
-  abbrev pub earlier_obligations : ℕ → Known → Statement → ℕ → List Obligation
-  earlier_obligations line known a c =
+  -- the line of the statement's first store in the buffer, where the statement begins at the line
+  abbrev mutual
+    pub store_line : Statement → ℕ → ℕ → Option ℕ
+    store_line (Seq all) line b = block_store_line all line b
+    store_line (For i x kind body) line b = store_line body (line + 1) b
+    store_line (Let i pick ls) line b = None
+    store_line (First i a c) line b = or_same_line (store_line a (line + 1) b) (store_line c (line + 2 + lines a) b)
+    store_line (Guard low high body) line b = store_line body (line + 1) b
+    store_line (Alloc c f places) line b = None
+    store_line (Fetch c g region) line b = None
+    store_line (Store c k at e) line b = if c == b then Some line else None
+    store_line (Publish c) line b = None
+
+    pub block_store_line : Statements → ℕ → ℕ → Option ℕ
+    block_store_line Empty line b = None
+    block_store_line (Then a rest) line b = or_same_line (store_line a line b) (block_store_line rest (line + lines a) b)
+
+  -- the claims of the definition before that a claim goes on from, and that its region lies in; the nest begins at the line
+  abbrev pub earlier_obligations : ℕ → ℕ → Known → Statement → ℕ → List Obligation
+  earlier_obligations begin line known a c =
       if updates outline.setting a (outline.claim c).buffer (outline.claim c).function then
       obligation NotMade line known (Named (list_any (λ d. follows d c) known.own))
-      ∷ obligation OutOfOrder line known (InTurn c a)
+      ∷ obligation OutOfOrder (or_same (store_line a begin (outline.claim c).buffer) line) known (InTurn c a)
       ∷ map (λ d. obligation NotMade line known (Inside (region_of c) (region_of d))) (filter (λ d. follows d c) known.own)
       else []
 
-  abbrev pub claim_obligations : ℕ → Known → Statement → ℕ → List Obligation
-  claim_obligations line known a c =
+  abbrev pub claim_obligations : ℕ → ℕ → Known → Statement → ℕ → List Obligation
+  claim_obligations begin line known a c =
       obligation NotMade line known (Named (writes outline.setting a (outline.claim c).buffer (outline.claim c).function))
-      ∷ obligation NotMade line known (made (places_of known.buffers (outline.claim c).buffer) c a) ∷ earlier_obligations line known a c
+      ∷ obligation NotMade line known (made (places_of known.buffers (outline.claim c).buffer) c a) ∷ earlier_obligations begin line known a c
 
   abbrev mutual
     -- what a statement that begins at the line asks for
@@ -316,7 +398,7 @@ module _ (outline : Outline) (rules : Rules) where
     obligations (Seq all) line known = block_obligations all line (in_block known)
     obligations (For i x kind body) line known =
         obligation Undefined line known (Named (not (has_symbol i x known))) ∷ obligations body (line + 1) (in_loop i x body known)
-    obligations (Let i pick ls) line known = obligation Undefined line known (Named false) ∷ []
+    obligations (Let i pick ls) line known = obligation Undefined line known (Named (not (has_symbol i (from_each ls) known))) ∷ []
     obligations (First i a b) line known = obligations a (line + 1) (in_block known) ++ obligations b (line + 2 + lines a) (in_block known)
     obligations (Guard low high body) line known = obligations body (line + 1) (in_guard low high known)
     obligations (Alloc b f places) line known = obligation Undefined line known (Named (is_free (places_of known.buffers b))) ∷ []
@@ -330,16 +412,17 @@ module _ (outline : Outline) (rules : Rules) where
     block_obligations Empty line known = []
     block_obligations (Then a rest) line known =
         let last = line + lines a - 1 in
-        obligations a line (within (outline.named last) known)
-        ++ (flat_map (claim_obligations last known a) (outline.named last) ++ block_obligations rest (line + lines a) (onwards a (outline.named last) known))
+        obligations a line (within a (outline.named last) known)
+        ++ (flat_map (claim_obligations line last known a) (outline.named last) ++ block_obligations rest (line + lines a) (onwards a (outline.named last) known))
 
 -- ---- what an obligation means
 
--- each step of the definition comes where the one before it has been done at all points that it meets
-abbrev pub AreInTurn : Given → ℕ → List ℕ → ℕ → List Action → (List ℤ → Type 0) → Type 0
-AreInTurn given b f k todo Region =
-    (xs ys : List Action) (names : List (List ℕ)) (at : List Target) (over : List ℤ) (e : Term) (p : List ℤ) → todo ≡ xs ++ Change b f k names at over e ∷ ys → Region p → matches at p ≡ true →
-    status_after given b p xs (Some (given.steps f (k - 1))) ≡ Some (given.step_at f k over)
+-- where the actions begin with so many steps done of each point: each step of the definition is for a point of its domain, and
+-- comes where as many steps are done as are before it, at every point that it meets
+abbrev pub AreInTurn : Given → ℕ → List ℕ → ℕ → (List ℤ → Option ℕ) → List Action → Type 0
+AreInTurn given b f k done todo =
+    (xs ys : List Action) (names : List (List ℕ)) (at : List Target) (over : List ℤ) (e : Term) → todo ≡ xs ++ Change b f k names at over e ∷ ys →
+    IsTrue (given.in_domain f k over) × ((p : List ℤ) → matches at p ≡ true → status_after given b p xs (done p) ≡ Some (given.step_at f k over))
 
 abbrev pub begun : Given → List ℕ → Option ℕ → Option ℕ
 begun given f None = None
@@ -357,7 +440,7 @@ module _ (given : Given) where
       × ClearOf (Some (map (room s) places)) p (written made.buffer (actions given.outline.setting a s))
   MeantAt (InTurn c a) s =
       let made = given.outline.claim c in
-      AreInTurn given made.buffer made.function made.definition (actions given.outline.setting a s) (InRegion s made.region)
+      AreInTurn given made.buffer made.function made.definition (λ p. begun given made.function (Some (made.definition - 1))) (actions given.outline.setting a s)
 
   -- whatever the symbols stand for
   abbrev pub Meant : Obligation → Type 0
@@ -375,7 +458,7 @@ pub record Suited (given : Given) (rules : Rules) : Type 0 where
       Lies s (rules.interval bs names vars e) (value_of (bound names p) (answer given r) e).number
   pub ordered : (bs : List Binder) (a b : Form) (s : Symbols) → rules.at_most bs a b ≡ true → Respects bs s → form_value a s ≤ℤ form_value b s
 
--- plans of pure definitions without `let`: what the theorem on obligations covers so far
+-- plans whose pure stores have forms alone, as those of a definition have: what the theorem on obligations covers
 abbrev pub has_form : Index → Bool
 has_form (At l) = true
 has_form (Found e) = false
@@ -383,24 +466,24 @@ has_form (Found e) = false
 abbrev pub is_form : Coordinate → Bool
 is_form c = has_form c.index
 
-abbrev pub is_pure_line : ℕ → List Coordinate → List Coordinate → Bool
-is_pure_line zero at [] = list_all is_form at
-is_pure_line zero at (c ∷ cs) = false
-is_pure_line (suc k) at over = false
+abbrev pub is_covered_line : ℕ → List Coordinate → List Coordinate → Bool
+is_covered_line zero at [] = list_all is_form at
+is_covered_line zero at (c ∷ cs) = false
+is_covered_line (suc k) at over = true
 
 module _ (setting : Setting) where
   abbrev mutual
-    pub is_pure : Statement → Bool
-    is_pure (Seq all) = is_pure_block all
-    is_pure (For i x kind body) = is_pure body
-    is_pure (Let i pick ls) = false
-    is_pure (First i a b) = is_pure a && is_pure b
-    is_pure (Guard low high body) = is_pure body
-    is_pure (Alloc b f places) = true
-    is_pure (Fetch b g region) = true
-    is_pure (Store b k at e) = is_pure_line k (take (setting.dimensions b) at) (drop (setting.dimensions b) at)
-    is_pure (Publish c) = true
+    pub is_covered : Statement → Bool
+    is_covered (Seq all) = is_covered_block all
+    is_covered (For i x kind body) = is_covered body
+    is_covered (Let i pick ls) = true
+    is_covered (First i a b) = is_covered a && is_covered b
+    is_covered (Guard low high body) = is_covered body
+    is_covered (Alloc b f places) = true
+    is_covered (Fetch b g region) = true
+    is_covered (Store b k at e) = is_covered_line k (take (setting.dimensions b) at) (drop (setting.dimensions b) at)
+    is_covered (Publish c) = true
 
-    pub is_pure_block : Statements → Bool
-    is_pure_block Empty = true
-    is_pure_block (Then a rest) = is_pure a && is_pure_block rest
+    pub is_covered_block : Statements → Bool
+    is_covered_block Empty = true
+    is_covered_block (Then a rest) = is_covered a && is_covered_block rest

@@ -10,7 +10,7 @@ use Rattle.nest.specs.Symbols.{Symbols}
 use Rattle.claims.specs.Origins.{Given}
 use Rattle.claims.specs.Claims.{IsSound}
 use Rattle.claims.specs.Right.{at_start}
-use Rattle.claims.specs.Obligations.{Binder, Respects, Known, Rules, Wanted, Named, Seated, Inside, Made, InTurn, Obligation, MeantAt, AllMeant, Suited, obligations, is_pure}
+use Rattle.claims.specs.Obligations.{Binder, Respects, Known, Rules, Wanted, Named, Seated, Inside, Made, InTurn, Obligation, MeantAt, AllMeant, Suited, obligations, is_covered}
 
 abbrev pub raised : Form → ℤ → Form
 raised f z = record { constant = f.constant +ℤ z; terms = f.terms }
@@ -73,7 +73,7 @@ start grid = record { binders = grid; buffers = []; claims = []; own = []; updat
 abbrev pub MeantIsSound : Type 0
 MeantIsSound =
     (given : Given) (rules : Rules) (body : Statement) (line : ℕ) (grid : List Binder) (s : Symbols) →
-    Suited given rules → is_pure given.outline.setting body ≡ true → AllMeant given (obligations given.outline rules body line (start grid)) →
+    Suited given rules → is_covered given.outline.setting body ≡ true → AllMeant given (obligations given.outline rules body line (start grid)) →
     Respects grid s → IsSound given body line (at_start s)
 
 -- what is shown is meant
@@ -86,5 +86,5 @@ ShownIsMeant =
 abbrev pub ShownIsSound : Type 0
 ShownIsSound =
     (given : Given) (rules : Rules) (nests : Nests) (body : Statement) (line : ℕ) (grid : List Binder) (s : Symbols) →
-    Suited given rules → AreRightNests given nests → is_pure given.outline.setting body ≡ true → all_shown rules nests (obligations given.outline rules body line (start grid)) ≡ true →
+    Suited given rules → AreRightNests given nests → is_covered given.outline.setting body ≡ true → all_shown rules nests (obligations given.outline rules body line (start grid)) ≡ true →
     Respects grid s → IsSound given body line (at_start s)

@@ -1,22 +1,26 @@
 -- Plans written out, with their algorithms, whose pieces are sound.
-use Rattle.std.specs.Prelude.{◌≡◌, ℕ, suc, ◌≤◌, ◌<◌, List, [], ◌∷◌, map, Some, ℤ, pos, ◌≤ℤ◌, codes}
+use Rattle.std.specs.Prelude.{◌≡◌, ℕ, suc, ◌≤◌, ◌<◌, List, [], ◌∷◌, map, Some, ℤ, pos, negsuc, ◌≤ℤ◌, codes}
 use Rattle.numeric.specs.declared.ty.Ty.TheVariants.{U8, U16, I32}
 use Rattle.numeric.specs.declared.op.Op.TheVariants.{Add, Sub, Div}
 use Rattle.tree.specs.Term.{Term, Number, Name, Call, Binary, Clamp, Cast, End, More}
 use Rattle.meaning.specs.Algorithm.{Algorithm}
 use Rattle.image.specs.Raster.{sample}
 use Rattle.lin.specs.Forms.{number}
+use Rattle.lin.specs.declared.span.Span1.{Span1}
 use Rattle.nest.specs.declared.stmt.Places.TheVariants.{From}
 use Rattle.meaning.specs.Value.{calls_of}
 use Rattle.nest.specs.Plan.{Statement, Seq, Alloc, Store, Publish, block, Group, Plan}
+use Rattle.nest.specs.Symbols.{Symbols}
 use Rattle.nest.specs.Lines.{body_line}
 use Rattle.cert.specs.Certificate.{Certificate}
 use Rattle.cert.specs.Cells.{own_points, grid_symbols}
-use Rattle.actions.specs.Worked.{piece, symbol, constants, is, finds, loop, load, slide_group, slide_plan, slide_certificate, clamped_row, scan_group, scan_plan, scan_certificate}
+use Rattle.actions.specs.Worked.{piece, plus, symbol, constants, is, finds, loop, load, slide_group, slide_plan, slide_certificate, clamped_row, scan_group, scan_plan, scan_certificate}
 use Rattle.claims.specs.Given.{outline_of, given_of}
 use Rattle.claims.specs.Claims.{IsSound}
 use Rattle.claims.specs.Origins.{Given}
 use Rattle.claims.specs.Right.{at_start}
+use Rattle.claims.specs.Obligations.{Lies, exactly, Binder, Ranged, Respects, Rules, AllMeant, Suited, obligations}
+use Rattle.claims.specs.Shown.{start}
 
 -- the piece of a group at a grid point is sound
 abbrev pub IsPieceSound : Algorithm → List ℕ → Plan → Certificate → ℕ → Group → List ℕ → Type 0
@@ -47,6 +51,42 @@ scan_algorithm = record {
 
 abbrev pub ScanIsSound : Type 0
 ScanIsSound = (samples : List ℕ) → IsPieceSound scan_algorithm samples scan_plan scan_certificate 0 scan_group (0 ∷ [])
+
+-- the piece's lines, with the update over r from some number on
+abbrev pub scan_body : ℤ → Statement
+scan_body low = Seq (block (
+    Alloc 0 (codes "s") (From (number (pos 0)) 4 ∷ [])
+    ∷ loop 1 (constants (pos 0) (pos 3)) (Store 0 0 (is (codes "x") (symbol 1) ∷ [])
+    (Call (codes "in") (More (Clamp (Name (codes "x")) (Number I32 (pos 0)) (Number I32 (pos 3))) End)) ∷ [])
+    ∷ loop 2 (constants low (pos 3)) (Store 0 1 (finds (codes "x") (Name (codes "r")) ∷ is (codes "r") (symbol 2) ∷ [])
+    (Binary Add (load 0 (Name (codes "r") ∷ [])) (load 0 (Binary Sub (Name (codes "r")) (Number I32 (pos 1)) ∷ []))) ∷ [])
+    ∷ Publish 1 ∷ []))
+
+abbrev pub scan_given : List ℕ → Given
+scan_given samples = given_of scan_algorithm samples (outline_of scan_plan scan_certificate 0 scan_group)
+
+-- a piece's grid has one point
+abbrev pub scan_grid : List Binder
+scan_grid = Ranged 0 (constants (pos 0) (pos 0)) ∷ []
+
+-- what the rules say of the running sum's indices
+pub record BoundScan (rules : Rules) : Type 0 where
+  pub extents : rules.extents ≡ constants (pos 0) (pos 3) ∷ []
+  pub own : rules.own ≡ constants (pos 0) (pos 3) ∷ []
+  pub last : rules.last (codes "s") ≡ 1
+  -- the clamped column lies in the input; the update's place r, and r - 1
+  pub column : (s : Symbols) (z : ℤ) → Respects (Ranged 1 (constants (pos 0) (pos 3)) ∷ scan_grid) s →
+      Lies s (rules.interval (Ranged 1 (constants (pos 0) (pos 3)) ∷ scan_grid) (codes "x" ∷ []) (exactly (symbol 1) ∷ []) (Clamp (Name (codes "x")) (Number I32 (pos 0)) (Number I32 (pos 3)))) z →
+      (pos 0 ≤ℤ z) × (z ≤ℤ pos 3)
+  pub place : (x : Span1) → rules.interval (Ranged 2 (constants (pos 1) (pos 3)) ∷ scan_grid) (codes "x" ∷ codes "r" ∷ []) (x ∷ exactly (symbol 2) ∷ []) (Name (codes "r")) ≡ exactly (symbol 2)
+  pub before : (x : Span1) → rules.interval (Ranged 2 (constants (pos 1) (pos 3)) ∷ scan_grid) (codes "x" ∷ codes "r" ∷ []) (x ∷ exactly (symbol 2) ∷ []) (Binary Sub (Name (codes "r")) (Number I32 (pos 1))) ≡ exactly (plus (negsuc 0) (pos 1) 2)
+
+-- all that the running sum's lines ask for holds; with the first point of the reduction left out it does not
+pub record ScanIsMeant : Type 0 where
+  pub all : (samples : List ℕ) (rules : Rules) → BoundScan rules → AllMeant (scan_given samples) (obligations (scan_given samples).outline rules (scan_body (pos 1)) (body_line scan_plan 0) (start scan_grid))
+  pub one_left_out : (samples : List ℕ) (rules : Rules) → AllMeant (scan_given samples) (obligations (scan_given samples).outline rules (scan_body (pos 2)) (body_line scan_plan 0) (start scan_grid)) → ⊥
+  -- so it is sound, by the law
+  pub sound : (samples : List ℕ) (rules : Rules) → Suited (scan_given samples) rules → BoundScan rules → IsPieceSound scan_algorithm samples scan_plan scan_certificate 0 scan_group (0 ∷ [])
 
 -- ---- a sliding window: f(x, y) = in[x, y] + 1, and out the mean of f in three rows, those beyond the ends moved to them
 

@@ -18,13 +18,13 @@ pub fn definitions_are_right()
     ensures { DefinitionsAreRight }
 {}
 
-/// A piece of pure definitions whose obligations all hold, whatever the symbols stand for, is sound
-/// at every point of the grid.
+/// A piece whose obligations all hold, whatever the symbols stand for, is sound at every point of the
+/// grid. Updates' left sides may be found by expressions, those of pure definitions are forms.
 pub fn meant_is_sound()
     ensures { MeantIsSound }
 {}
 
-/// A piece of pure definitions whose obligations are all shown is sound at every point of the grid.
+/// A piece whose obligations are all shown is sound at every point of the grid.
 pub fn shown_is_sound()
     ensures { ShownIsSound }
 {}

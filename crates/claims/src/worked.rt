@@ -1,10 +1,16 @@
 //! Plans written out whose pieces are sound, or are not.
 
-ghost use Rattle.claims.specs.Worked.{HistIsSound, ScanIsSound, SlideIsSound, SlideRunsRight};
+ghost use Rattle.claims.specs.Worked.{HistIsSound, ScanIsMeant, ScanIsSound, SlideIsSound, SlideRunsRight};
 
 /// The piece of a running sum is sound: each step of the update reads what the step before left.
 pub fn scan_is_sound()
     ensures { ScanIsSound }
+{}
+
+/// All obligations of the running sum hold, so it is sound; with a reduction point left out one does
+/// not hold.
+pub fn scan_is_meant()
+    ensures { ScanIsMeant }
 {}
 
 /// Each piece of a sliding window over three rows or more is sound. Over two rows no piece is: a
