@@ -9,6 +9,7 @@ use nest::{Coordinate, Declaration, Group, Index, Kind, Places, Plan, Stmt};
 use numeric::Ty;
 use std::alloc::{AllocError, Global};
 use std::test::Fail;
+use std::thread::Threads;
 
 // A form: a constant, and a symbol with its factor, 0 where it is not there.
 type Form = (i64, Sym, i64);
@@ -245,11 +246,16 @@ const TEXT: &str =
     "pipeline inc; input in u8 [2, 10]; func out u8 (x, y) = in[x, y] + 1u8; output out [2, 10];";
 
 // What the checker answers: the pieces and cells of a plan that it accepts, else the code and the line.
-fn answer(alloc: Global, text: &str, inc: &Inc) -> Result<String, Fail> {
+fn answer(
+    rt: &(impl Threads + Sync),
+    alloc: Global,
+    text: &str,
+    inc: &Inc,
+) -> Result<String, Fail> {
     let algo = Algo::read(alloc, text)?;
     let plan = plan(alloc, inc)?;
     let cert = cert(alloc, inc)?;
-    match check(alloc, &algo, plan, cert) {
+    match check(rt, alloc, &algo, plan, cert) {
         Ok(checked) => {
             let pieces = checked.pieces();
             let cells = checked.cells();
@@ -283,7 +289,7 @@ fn each_cell_is_of_one_piece(rt: HostRuntime) -> Result<(), Fail> {
             claim_rows: rows,
             ..INC
         };
-        assert_eq!(rt; answer(rt.alloc(), TEXT, &changed)?.as_str(), *wanted);
+        assert_eq!(rt; answer(&rt, rt.alloc(), TEXT, &changed)?.as_str(), *wanted);
     }
     Ok(())
 }
@@ -563,12 +569,13 @@ const TWO: &[(&str, Inc, &str)] = &[
 
 // The first of the plans that is answered otherwise, with its answers, and nothing where all are as they should be.
 fn first_wrong(
+    rt: &(impl Threads + Sync),
     alloc: Global,
     text: &str,
     rows: &[(&'static str, Inc, &'static str)],
 ) -> Result<String, Fail> {
     for (fault, inc, wanted) in rows {
-        let found = answer(alloc, text, inc)?;
+        let found = answer(rt, alloc, text, inc)?;
         if found.as_str() != *wanted {
             return Ok(format!(in alloc; "{fault}: {found}, not {wanted}")?);
         }
@@ -578,37 +585,37 @@ fn first_wrong(
 
 #[test]
 fn heads(rt: HostRuntime) -> Result<(), Fail> {
-    assert_eq!(rt; first_wrong(rt.alloc(), TEXT, HEADS)?.as_str(), "");
+    assert_eq!(rt; first_wrong(&rt, rt.alloc(), TEXT, HEADS)?.as_str(), "");
     Ok(())
 }
 
 #[test]
 fn limits(rt: HostRuntime) -> Result<(), Fail> {
-    assert_eq!(rt; first_wrong(rt.alloc(), TEXT, LIMITS)?.as_str(), "");
+    assert_eq!(rt; first_wrong(&rt, rt.alloc(), TEXT, LIMITS)?.as_str(), "");
     Ok(())
 }
 
 #[test]
 fn names(rt: HostRuntime) -> Result<(), Fail> {
-    assert_eq!(rt; first_wrong(rt.alloc(), TEXT, NAMES)?.as_str(), "");
+    assert_eq!(rt; first_wrong(&rt, rt.alloc(), TEXT, NAMES)?.as_str(), "");
     Ok(())
 }
 
 #[test]
 fn stores(rt: HostRuntime) -> Result<(), Fail> {
-    assert_eq!(rt; first_wrong(rt.alloc(), TEXT, STORES)?.as_str(), "");
+    assert_eq!(rt; first_wrong(&rt, rt.alloc(), TEXT, STORES)?.as_str(), "");
     Ok(())
 }
 
 #[test]
 fn claims(rt: HostRuntime) -> Result<(), Fail> {
-    assert_eq!(rt; first_wrong(rt.alloc(), TEXT, CLAIMS)?.as_str(), "");
+    assert_eq!(rt; first_wrong(&rt, rt.alloc(), TEXT, CLAIMS)?.as_str(), "");
     Ok(())
 }
 
 #[test]
 fn two_faults(rt: HostRuntime) -> Result<(), Fail> {
-    assert_eq!(rt; first_wrong(rt.alloc(), TEXT, TWO)?.as_str(), "");
+    assert_eq!(rt; first_wrong(&rt, rt.alloc(), TEXT, TWO)?.as_str(), "");
     Ok(())
 }
 
@@ -643,7 +650,11 @@ const OTHERS: &[(&str, Inc, &str)] = &[
 #[test]
 fn others(rt: HostRuntime) -> Result<(), Fail> {
     for (text, inc, wanted) in OTHERS {
-        assert_eq!(rt; answer(rt.alloc(), text, inc)?.as_str(), *wanted, "{text}");
+        assert_eq!(rt;
+            answer(&rt, rt.alloc(), text, inc)?.as_str(),
+            *wanted,
+            "{text}"
+        );
     }
     Ok(())
 }

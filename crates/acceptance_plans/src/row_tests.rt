@@ -5,6 +5,7 @@ use audit::{Checked, check};
 use rows::rows;
 use std::alloc::Global;
 use std::test::Fail;
+use std::thread::Threads;
 
 // Each sample and 1.
 const INC: &str =
@@ -19,9 +20,13 @@ const TWO: &str =
     "pipeline two; input in u8 [2]; func f u8 (x) = in[x] + 1u8; func out u8 (x) = f[x] * 2u8 + f[1 - x]; output out [2];";
 
 // The algorithm's row plan, checked.
-fn checked_rows(alloc: Global, algo: &Algo) -> Result<Checked<'_>, Fail> {
+fn checked_rows<'a>(
+    rt: &(impl Threads + Sync),
+    alloc: Global,
+    algo: &'a Algo,
+) -> Result<Checked<'a>, Fail> {
     let (plan, cert) = rows(alloc, algo)?;
-    Ok(check(alloc, algo, plan, cert)?)
+    Ok(check(rt, alloc, algo, plan, cert)?)
 }
 
 // Algorithms with the pieces and cells of their row plans.
@@ -31,7 +36,7 @@ const ACCEPTED: &[(&str, usize, u32)] = &[(INC, 10, 20), (MEAN, 1, 4), (TWO, 1, 
 fn row_plans_are_accepted(rt: HostRuntime) -> Result<(), Fail> {
     for (text, pieces, cells) in ACCEPTED {
         let algo = Algo::read(rt.alloc(), text)?;
-        let checked = checked_rows(rt.alloc(), &algo)?;
+        let checked = checked_rows(&rt, rt.alloc(), &algo)?;
         assert_eq!(rt;
             (checked.pieces(), checked.cells()),
             (*pieces, *cells),
@@ -61,7 +66,7 @@ fn lists_of<'a>(
 #[test]
 fn a_piece_owns_its_row(rt: HostRuntime) -> Result<(), Fail> {
     let algo = Algo::read(rt.alloc(), INC)?;
-    let checked = checked_rows(rt.alloc(), &algo)?;
+    let checked = checked_rows(&rt, rt.alloc(), &algo)?;
     let (own, fetched, needs) = lists_of(&checked, 3).ok_or("piece 3")?;
     assert_eq!(rt; own, [6, 7].as_slice());
     assert!(rt; fetched.is_empty() && needs.is_empty());

@@ -19,6 +19,7 @@ use orders::Piece;
 use owned::demands::{cell_count_of, pieces_of};
 use rowplan::plan::row_plan;
 use std::alloc::Global;
+use std::thread::Threads;
 
 /// A plan with its certificate that the checker has accepted for an algorithm.
 ///
@@ -110,7 +111,13 @@ struct Lists {
 }
 
 /// The lists of the pieces of a plan of which the head is the algorithm's, where all else that is asked of it is met.
-fn lists_of(alloc: Global, algo: &Algo, plan: &Plan, cert: &Cert) -> Result<Lists, CheckError>
+fn lists_of(
+    rt: &(impl Threads + Sync),
+    alloc: Global,
+    algo: &Algo,
+    plan: &Plan,
+    cert: &Cert,
+) -> Result<Lists, CheckError>
     requires head { HeadIsSame (algorithm_of algo.now) (plan_of plan.now) }
     ensures shown { IfOk result (λ lists. Shown (algorithm_of algo.now) (plan_of plan.now) (certificate_of cert.now)) }
     ensures lists { IfOk result (λ lists. ListsAreOf (algorithm_of algo.now) (plan_of plan.now) (certificate_of cert.now) lists.pieces.items) }
@@ -121,7 +128,7 @@ fn lists_of(alloc: Global, algo: &Algo, plan: &Plan, cert: &Cert) -> Result<List
         Ok(row) => row,
         Err(error) => return Err(refusal_of(error)),
     };
-    match first_unmet(alloc, algo, &row)? {
+    match first_unmet(rt, alloc, algo, &row)? {
         Some(demand) => Err(demand.refusal(&row)),
         None => {
             let cells = cell_count_of(alloc, &row)?;
@@ -138,13 +145,15 @@ fn lists_of(alloc: Global, algo: &Algo, plan: &Plan, cert: &Cert) -> Result<List
 /// some order finishes; and each point of the output has a cell whose right value is what the algorithm, read without any
 /// schedule, says.
 ///
-/// The time is linear in the plan's cells and pieces.
+/// What is asked at each piece is looked at by as many threads as there are processors; the answer is the one that a single
+/// thread would come to first. The time is linear in the plan's cells and pieces.
 ///
 /// # Errors
 /// `Refused` with the code and the line of the first fault: first what is wrong with the plan's head, then the first line
 /// that is not as in a row plan (`K14`), then line by line what is not met, at one line the lowest code. `Memory` where
 /// memory runs out.
 pub fn check<'a>(
+    rt: &(impl Threads + Sync),
     alloc: Global,
     algo: &'a Algo,
     plan: Plan,
@@ -160,7 +169,7 @@ pub fn check<'a>(
     if let Some(line) = head_fault(algo, &plan) {
         return Err(CheckError::Refused(K::K1, line));
     }
-    let lists = lists_of(alloc, algo, &plan, &cert)?;
+    let lists = lists_of(rt, alloc, algo, &plan, &cert)?;
     Ok(Checked {
         algo,
         plan,

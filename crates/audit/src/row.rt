@@ -45,6 +45,7 @@ use rowplan::parts::{
 use rowplan::row::RowPlan;
 use scoping::same_name;
 use std::alloc::{AllocError, Global};
+use std::thread::Threads;
 use subst::is_output_put_in;
 
 /// The variables of the function of this name.
@@ -193,14 +194,14 @@ fn names_unmet(algo: &Algo, row: &RowPlan<'_>) -> Option<Demand>
 }
 
 /// What of the store's places and loads is not as asked, and whether its expression is within the limits.
-fn places_unmet(row: &RowPlan<'_>) -> Option<Demand>
+fn places_unmet(rt: &(impl Threads + Sync), row: &RowPlan<'_>) -> Option<Demand>
     requires pieces { row.now.count ≤ 2 ^ 20 }
     requires buffer { IsLimitedAt (row_of row.now) AtBuffer }
     requires loops { AreLoopsLimited (row_of row.now) }
     requires store { IsLimitedAt (row_of row.now) AtStore }
     ensures { (a : Algorithm) → Tells a (row_of row.now) place_demands result }
 {
-    if !store_has_a_place(row) {
+    if !store_has_a_place(rt, row) {
         Some(Demand::StoreHasAPlace)
     } else if !loads_are_claimed(row) {
         Some(Demand::LoadsAreClaimed)
@@ -212,7 +213,7 @@ fn places_unmet(row: &RowPlan<'_>) -> Option<Demand>
 }
 
 /// What of the store is past a limit of today.
-fn sizes_unmet(row: &RowPlan<'_>) -> Option<Demand>
+fn sizes_unmet(rt: &(impl Threads + Sync), row: &RowPlan<'_>) -> Option<Demand>
     requires pieces { row.now.count ≤ 2 ^ 20 }
     requires loops { AreLoopsLimited (row_of row.now) }
     requires store { IsLimitedAt (row_of row.now) AtStore }
@@ -220,7 +221,7 @@ fn sizes_unmet(row: &RowPlan<'_>) -> Option<Demand>
 {
     if !forms_are_short(row, FormLine::Store) {
         Some(Demand::FormsAreShort(FormLine::Store))
-    } else if !coordinates_are_indices(row) {
+    } else if !coordinates_are_indices(rt, row) {
         Some(Demand::CoordinatesAreIndices)
     } else if !each_coordinate_has_a_loop(row) {
         Some(Demand::EachCoordinateHasALoop)
@@ -230,13 +231,18 @@ fn sizes_unmet(row: &RowPlan<'_>) -> Option<Demand>
 }
 
 /// Whether each load stays on the input.
-fn loads_unmet(alloc: Global, algo: &Algo, row: &RowPlan<'_>) -> Result<Option<Demand>, AllocError>
+fn loads_unmet(
+    rt: &(impl Threads + Sync),
+    alloc: Global,
+    algo: &Algo,
+    row: &RowPlan<'_>,
+) -> Result<Option<Demand>, AllocError>
     requires pieces { row.now.count ≤ 2 ^ 20 }
     requires loops { AreLoopsLimited (row_of row.now) }
     requires store { IsLimitedAt (row_of row.now) AtStore }
     ensures { IfOk result (Tells (algorithm_of algo.now) (row_of row.now) (LoadsAreOnInput ∷ [])) }
 {
-    let on_input = loads_are_on_input(alloc, row, algo)?;
+    let on_input = loads_are_on_input(rt, alloc, row, algo)?;
     Ok(if on_input {
         None
     } else {
@@ -262,7 +268,12 @@ fn value_unmet(alloc: Global, algo: &Algo, row: &RowPlan<'_>) -> Result<Option<D
 /// with the definition.
 ///
 /// The time is linear in the pieces.
-fn store_unmet(alloc: Global, algo: &Algo, row: &RowPlan<'_>) -> Result<Option<Demand>, AllocError>
+fn store_unmet(
+    rt: &(impl Threads + Sync),
+    alloc: Global,
+    algo: &Algo,
+    row: &RowPlan<'_>,
+) -> Result<Option<Demand>, AllocError>
     requires pieces { row.now.count ≤ 2 ^ 20 }
     requires pure { Holds (algorithm_of algo.now) (row_of row.now) NothingIsUpdated }
     requires buffer { IsLimitedAt (row_of row.now) AtBuffer }
@@ -273,11 +284,11 @@ fn store_unmet(alloc: Global, algo: &Algo, row: &RowPlan<'_>) -> Result<Option<D
     if names.is_some() {
         return Ok(names);
     }
-    let loads = loads_unmet(alloc, algo, row)?;
+    let loads = loads_unmet(rt, alloc, algo, row)?;
     if loads.is_some() {
         return Ok(loads);
     }
-    let places = places_unmet(row);
+    let places = places_unmet(rt, row);
     if places.is_some() {
         return Ok(places);
     }
@@ -285,7 +296,7 @@ fn store_unmet(alloc: Global, algo: &Algo, row: &RowPlan<'_>) -> Result<Option<D
     if value.is_some() {
         return Ok(value);
     }
-    Ok(sizes_unmet(row))
+    Ok(sizes_unmet(rt, row))
 }
 
 /// What of the line that publishes is not as asked, but that the own region lie in the claim's.
@@ -327,14 +338,14 @@ fn regions_stand(row: &RowPlan<'_>, extents: &[u32]) -> bool
 }
 
 /// Whether the own region lies in the claim's, where both stand.
-fn own_region_unmet(algo: &Algo, row: &RowPlan<'_>) -> Option<Demand>
+fn own_region_unmet(rt: &(impl Threads + Sync), algo: &Algo, row: &RowPlan<'_>) -> Option<Demand>
     requires pieces { row.now.count ≤ 2 ^ 20 }
     ensures { Tells (algorithm_of algo.now) (row_of row.now) (OwnIsClaimed ∷ []) result }
 {
     let extents = output_extents(algo);
     if !regions_stand(row, extents) {
         None
-    } else if !own_is_claimed(row) {
+    } else if !own_is_claimed(rt, row) {
         Some(Demand::OwnIsClaimed)
     } else {
         None
@@ -342,7 +353,7 @@ fn own_region_unmet(algo: &Algo, row: &RowPlan<'_>) -> Option<Demand>
 }
 
 /// What of the line that publishes is not as asked.
-fn published_unmet(algo: &Algo, row: &RowPlan<'_>) -> Option<Demand>
+fn published_unmet(rt: &(impl Threads + Sync), algo: &Algo, row: &RowPlan<'_>) -> Option<Demand>
     requires pieces { row.now.count ≤ 2 ^ 20 }
     ensures { EachTells (algorithm_of algo.now) (row_of row.now) published_demands result }
 {
@@ -350,7 +361,7 @@ fn published_unmet(algo: &Algo, row: &RowPlan<'_>) -> Option<Demand>
     if unmet.is_some() {
         return unmet;
     }
-    own_region_unmet(algo, row)
+    own_region_unmet(rt, algo, row)
 }
 
 /// What of the names and forms of the own region is not as asked.
@@ -468,7 +479,7 @@ fn claim_names_unmet(algo: &Algo, row: &RowPlan<'_>) -> Option<Demand>
 }
 
 /// Whether the nest makes the claim, and whether the claim's forms are within the limits of today.
-fn stored_unmet(row: &RowPlan<'_>) -> Option<Demand>
+fn stored_unmet(rt: &(impl Threads + Sync), row: &RowPlan<'_>) -> Option<Demand>
     requires pieces { row.now.count ≤ 2 ^ 20 }
     requires loops { AreLoopsLimited (row_of row.now) }
     requires store { IsLimitedAt (row_of row.now) AtStore }
@@ -479,7 +490,7 @@ fn stored_unmet(row: &RowPlan<'_>) -> Option<Demand>
         Some(Demand::ClaimIsOfNest)
     } else if !nest_is_plain(row) {
         Some(Demand::NestIsPlain)
-    } else if !claim_is_stored(row) {
+    } else if !claim_is_stored(rt, row) {
         Some(Demand::ClaimIsStored)
     } else if !forms_are_short(row, FormLine::Claim) {
         Some(Demand::FormsAreShort(FormLine::Claim))
@@ -491,7 +502,7 @@ fn stored_unmet(row: &RowPlan<'_>) -> Option<Demand>
 /// What of the claim is not as asked.
 ///
 /// The time is linear in the pieces.
-fn claim_unmet(algo: &Algo, row: &RowPlan<'_>) -> Option<Demand>
+fn claim_unmet(rt: &(impl Threads + Sync), algo: &Algo, row: &RowPlan<'_>) -> Option<Demand>
     requires pieces { row.now.count ≤ 2 ^ 20 }
     requires loops { AreLoopsLimited (row_of row.now) }
     requires store { IsLimitedAt (row_of row.now) AtStore }
@@ -501,13 +512,14 @@ fn claim_unmet(algo: &Algo, row: &RowPlan<'_>) -> Option<Demand>
     if names.is_some() {
         return names;
     }
-    stored_unmet(row)
+    stored_unmet(rt, row)
 }
 
 /// The first demand, line by line behind the head, that is not met.
 ///
 /// The time is linear in the cells and the pieces.
 pub(crate) fn first_unmet(
+    rt: &(impl Threads + Sync),
     alloc: Global,
     algo: &Algo,
     row: &RowPlan<'_>,
@@ -526,11 +538,11 @@ pub(crate) fn first_unmet(
     if loops.is_some() {
         return Ok(loops);
     }
-    let store = store_unmet(alloc, algo, row)?;
+    let store = store_unmet(rt, alloc, algo, row)?;
     if store.is_some() {
         return Ok(store);
     }
-    let published = published_unmet(algo, row);
+    let published = published_unmet(rt, algo, row);
     if published.is_some() {
         return Ok(published);
     }
@@ -538,5 +550,5 @@ pub(crate) fn first_unmet(
     if own.is_some() {
         return Ok(own);
     }
-    Ok(claim_unmet(algo, row))
+    Ok(claim_unmet(rt, algo, row))
 }

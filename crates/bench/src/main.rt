@@ -28,7 +28,7 @@ fn main(rt: HostRuntime) -> io::Result<()> {
         return println!(rt; "no row plan");
     };
     let start = Instant::now(&rt)?;
-    let answer = check(rt.alloc(), &algo, plan, cert);
+    let answer = check(&rt, rt.alloc(), &algo, plan, cert);
     let spent = start.elapsed(&rt)?;
     eprintln!(rt; "checked in {} ms", spent.as_millis())?;
     match answer {

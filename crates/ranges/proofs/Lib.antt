@@ -3,3 +3,4 @@ pub mod Same
 pub mod Lists
 pub mod Sums
 pub mod Dimensions
+pub mod Walks

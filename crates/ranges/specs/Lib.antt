@@ -2,3 +2,4 @@ pub mod Wide
 pub mod Ranged
 pub mod Limits
 pub mod Cut
+pub mod Loads

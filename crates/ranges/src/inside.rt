@@ -13,7 +13,9 @@ ghost use Rattle.ranges.specs.Limits.{IsLimitedAt, AreLoopsLimited, OwnIsInClaim
 use crate::wide::{Wide, axis_range, ends_at, seats_at};
 use lin::Span1;
 use nest::{Coordinate, Places};
+use rayon::prelude::*;
 use rowplan::row::{RowLoop, RowPlan};
+use std::thread::Threads;
 
 // A range for each coordinate, whose ends may depend on the piece.
 #[derive(Clone, Copy, Drop)]
@@ -78,25 +80,31 @@ fn are_inside(inner: Ranges<'_>, outer: Ranges<'_>, piece: u32) -> bool
     true
 }
 
-// The same at each of so many pieces.
-fn are_always_inside(inner: Ranges<'_>, outer: Ranges<'_>, count: u32) -> bool
+// The same at each of so many pieces, in as many threads as there are processors.
+fn are_always_inside(
+    rt: &(impl Threads + Sync),
+    inner: Ranges<'_>,
+    outer: Ranges<'_>,
+    count: u32,
+) -> bool
     requires inner { AreLimited inner }
     requires outer { AreLimited outer }
     requires count { count ≤ 2 ^ 20 }
     ensures { IsTrue result ↔ IsAlwaysInside inner.entry outer.entry count }
 {
-    for piece in 0..count {
-        if !are_inside(inner, outer, piece) {
-            return false;
-        }
-    }
-    true
+    (0..count).into_par_iter().all(
+        rt,
+        |piece: u32| -> bool
+            requires { AreLimited inner × AreLimited outer × (piece ≤ 2 ^ 20) }
+            ensures { IsTrue result ↔ AreInside (ranges_of inner.entry piece) (ranges_of outer.entry piece) }
+        { are_inside(inner, outer, piece) },
+    )
 }
 
 /// Whether at each piece the buffer has a place for all that the store's coordinates come to.
 ///
-/// The time is linear in the pieces, times the terms of the store's forms and the loops.
-pub fn store_has_a_place(row: &RowPlan<'_>) -> bool
+/// The pieces are looked at by as many threads as there are processors. The time is linear in the pieces, times the terms of the store's forms and the loops.
+pub fn store_has_a_place(rt: &(impl Threads + Sync), row: &RowPlan<'_>) -> bool
     requires pieces { row.now.count ≤ 2 ^ 20 }
     requires buffer { IsLimitedAt (row_of row.now) AtBuffer }
     requires loops { AreLoopsLimited (row_of row.now) }
@@ -104,6 +112,7 @@ pub fn store_has_a_place(row: &RowPlan<'_>) -> bool
     ensures { (a : Algorithm) → (IsTrue result ↔ Holds a (row_of row.now) StoreHasAPlace) }
 {
     are_always_inside(
+        rt,
         Ranges::Axes(&row.loops, row.coordinates),
         Ranges::Seats(row.places),
         row.count,
@@ -112,14 +121,15 @@ pub fn store_has_a_place(row: &RowPlan<'_>) -> bool
 
 /// Whether at each piece all that the store's coordinates come to are values of an index.
 ///
-/// The time is linear in the pieces, times the terms of the store's forms and the loops.
-pub fn coordinates_are_indices(row: &RowPlan<'_>) -> bool
+/// The pieces are looked at by as many threads as there are processors. The time is linear in the pieces, times the terms of the store's forms and the loops.
+pub fn coordinates_are_indices(rt: &(impl Threads + Sync), row: &RowPlan<'_>) -> bool
     requires pieces { row.now.count ≤ 2 ^ 20 }
     requires loops { AreLoopsLimited (row_of row.now) }
     requires store { IsLimitedAt (row_of row.now) AtStore }
     ensures { (a : Algorithm) → (IsTrue result ↔ Holds a (row_of row.now) CoordinatesAreIndices) }
 {
     are_always_inside(
+        rt,
         Ranges::Axes(&row.loops, row.coordinates),
         Ranges::Indices(row.coordinates.len()),
         row.count,
@@ -128,8 +138,8 @@ pub fn coordinates_are_indices(row: &RowPlan<'_>) -> bool
 
 /// Whether at each piece the claim's region lies inside what the store's coordinates come to.
 ///
-/// The time is linear in the pieces, times the terms of the store's forms and the loops.
-pub fn claim_is_stored(row: &RowPlan<'_>) -> bool
+/// The pieces are looked at by as many threads as there are processors. The time is linear in the pieces, times the terms of the store's forms and the loops.
+pub fn claim_is_stored(rt: &(impl Threads + Sync), row: &RowPlan<'_>) -> bool
     requires pieces { row.now.count ≤ 2 ^ 20 }
     requires loops { AreLoopsLimited (row_of row.now) }
     requires store { IsLimitedAt (row_of row.now) AtStore }
@@ -138,7 +148,7 @@ pub fn claim_is_stored(row: &RowPlan<'_>) -> bool
 {
     let claim = Ranges::Ends(row.claim.region.as_slice());
     let stored = Ranges::Axes(&row.loops, row.coordinates);
-    are_always_inside(claim, stored, row.count)
+    are_always_inside(rt, claim, stored, row.count)
 }
 
 // The coordinates of the own region, none where no own region is given.
@@ -154,8 +164,8 @@ fn own_spans<'a>(row: &RowPlan<'a>) -> &'a [Span1]
 /// Whether at each piece the own region lies inside the claim's, which decides what is asked where both are given as
 /// their own lines ask for it.
 ///
-/// The time is linear in the pieces and coordinates.
-pub fn own_is_claimed(row: &RowPlan<'_>) -> bool
+/// The pieces are looked at by as many threads as there are processors. The time is linear in the pieces and coordinates.
+pub fn own_is_claimed(rt: &(impl Threads + Sync), row: &RowPlan<'_>) -> bool
     requires pieces { row.now.count ≤ 2 ^ 20 }
     requires own { IsLimitedAt (row_of row.now) AtOwn }
     requires claim { IsLimitedAt (row_of row.now) AtClaim }
@@ -164,5 +174,5 @@ pub fn own_is_claimed(row: &RowPlan<'_>) -> bool
 {
     let own = Ranges::Ends(own_spans(row));
     let claim = Ranges::Ends(row.claim.region.as_slice());
-    are_always_inside(own, claim, row.count)
+    are_always_inside(rt, own, claim, row.count)
 }

@@ -1,28 +1,29 @@
 //! Whether a row plan's loads stay on the input.
 
-ghost use Rattle.std.specs.Prelude.{◌≡◌, ◌↔◌, ◌≤◌, ◌^◌, IsTrue, IfOk, All, Some, map, false, []};
+ghost use Rattle.std.specs.Prelude.{◌≡◌, ◌↔◌, ◌<◌, ◌≤◌, ◌^◌, ℕ, IsTrue, IfOk, MatchResult, All, Some, map, true, false, []};
 ghost use Rattle.lin.specs.Forms.{is_within_limits};
-ghost use Rattle.tree.specs.Term.{term_of};
 ghost use Rattle.meaning.specs.Conditions.{callable};
 ghost use Rattle.algo.specs.View.{algorithm_of};
 ghost use Rattle.intervals.specs.Interval.{nearest_index, index_range};
-ghost use Rattle.intervals.specs.Calls.{calls_within};
-ghost use Rattle.headline.specs.Ranges.{variable_ranges};
 ghost use Rattle.headline.specs.Demands.{Holds, LoadsAreOnInput, AtStore};
 ghost use Rattle.rowplan.specs.View.{row_of, loop_of, axis_of};
 ghost use Rattle.ranges.specs.Wide.{interval_of, LoopsAreLimited};
 ghost use Rattle.ranges.specs.Limits.{IsLimitedAt, AreLoopsLimited};
 ghost use Rattle.ranges.specs.Cut.{cut_variable};
+ghost use Rattle.ranges.specs.Loads.{loads_within};
+ghost use Rattle.ranges.specs.declared.loads.Stop.TheVariants.{OffInput};
 
 use crate::wide::{Wide, axis_range};
 use algo::Algo;
 use intervals::{Interval, calls_within};
 use nest::Coordinate;
 use numeric::Ty;
+use rayon::prelude::*;
 use rowplan::row::{RowLoop, RowPlan};
 use scoping::same_name;
 use std::alloc::{AllocError, Global};
-use tree::Names;
+use std::thread::Threads;
+use tree::{Expr, Names};
 
 // Names of which the input's alone can be called, and none is a variable.
 #[derive(Clone, Copy, Drop)]
@@ -86,23 +87,48 @@ fn variable_ranges<'a>(
     Ok(ranges)
 }
 
+// What decides where the loads of a stored expression are at each piece.
+#[derive(Clone, Copy, Drop)]
+struct Loads<'a> {
+    loops: &'a [RowLoop<'a>],
+    coordinates: &'a [Coordinate],
+    value: &'a Expr,
+    algo: &'a Algo,
+}
+
+// Why a walk over the pieces stops.
+#[derive(Clone, Copy, Drop)]
+enum Stop {
+    // A load may leave the input.
+    OffInput,
+    // Memory ran out.
+    Memory,
+}
+
+impl Stop {
+    // What is known of all pieces where the walk stops so.
+    fn answer(self) -> Result<bool, AllocError>
+        ensures { IfOk result (λ yes. (yes ≡ false) × (self ≡ OffInput)) }
+    {
+        match self {
+            Stop::OffInput => Ok(false),
+            Stop::Memory => Err(AllocError),
+        }
+    }
+}
+
 // Whether the loads stay on the input at a piece.
-fn loads_are_on_input_at(
-    alloc: Global,
-    row: &RowPlan<'_>,
-    algo: &Algo,
-    piece: u32,
-) -> Result<bool, AllocError>
-    requires loops { AreLoopsLimited (row_of row.now) }
-    requires store { IsLimitedAt (row_of row.now) AtStore }
+fn are_on_input(alloc: Global, loads: Loads<'_>, piece: u32) -> Result<bool, AllocError>
+    requires loops { LoopsAreLimited (map loop_of loads.loops.now) }
+    requires store { All (λ f. IsTrue (is_within_limits f)) (map (λ x. x.form) (map axis_of loads.coordinates.now)) }
     requires piece { piece ≤ 2 ^ 20 }
-    ensures { IfOk result (λ yes. yes ≡ calls_within (callable (algorithm_of algo.now) []) (variable_ranges (row_of row.now) piece) (algorithm_of algo.now).input (algorithm_of algo.now).input_extents (row_of row.now).value) }
+    ensures { IfOk result (λ yes. yes ≡ loads_within loads.entry piece) }
 {
-    let ranges = variable_ranges(alloc, &row.loops, row.coordinates, piece)?;
-    let input = algo.input();
-    let names = InputAlone { algo };
+    let ranges = variable_ranges(alloc, loads.loops, loads.coordinates, piece)?;
+    let input = loads.algo.input();
+    let names = InputAlone { algo: loads.algo };
     Ok(calls_within(
-        row.value,
+        loads.value,
         &names,
         &ranges,
         input.name.as_str(),
@@ -110,23 +136,68 @@ fn loads_are_on_input_at(
     ))
 }
 
+// Goes on where the loads stay on the input at a piece.
+fn stay_on_input(alloc: Global, loads: Loads<'_>, piece: u32) -> Result<(), Stop>
+    requires loops { LoopsAreLimited (map loop_of loads.loops.now) }
+    requires store { All (λ f. IsTrue (is_within_limits f)) (map (λ x. x.form) (map axis_of loads.coordinates.now)) }
+    requires piece { piece ≤ 2 ^ 20 }
+    ensures { MatchResult result (λ _. loads_within loads.entry piece ≡ true) (λ stop. stop ≡ OffInput → loads_within loads.entry piece ≡ false) }
+{
+    match are_on_input(alloc, loads, piece) {
+        Ok(true) => Ok(()),
+        Ok(false) => Err(Stop::OffInput),
+        Err(_) => Err(Stop::Memory),
+    }
+}
+
+// Whether the loads stay on the input at each of so many pieces, in as many threads as there are processors.
+fn are_always_on_input(
+    rt: &(impl Threads + Sync),
+    alloc: Global,
+    loads: Loads<'_>,
+    count: u32,
+) -> Result<bool, AllocError>
+    requires loops { LoopsAreLimited (map loop_of loads.loops.now) }
+    requires store { All (λ f. IsTrue (is_within_limits f)) (map (λ x. x.form) (map axis_of loads.coordinates.now)) }
+    requires count { count ≤ 2 ^ 20 }
+    ensures { IfOk result (λ yes. IsTrue yes ↔ ((n : ℕ) → n < count → loads_within loads.entry n ≡ true)) }
+{
+    let walked = (0..count).into_par_iter().try_for_each(
+        rt,
+        |piece: u32| -> Result<(), Stop>
+            requires { LoopsAreLimited (map loop_of loads.loops.now) × All (λ f. IsTrue (is_within_limits f)) (map (λ x. x.form) (map axis_of loads.coordinates.now)) × (piece ≤ 2 ^ 20) }
+            ensures { MatchResult result (λ _. loads_within loads.entry piece ≡ true) (λ stop. stop ≡ OffInput → loads_within loads.entry piece ≡ false) }
+        { stay_on_input(alloc, loads, piece) },
+    );
+    match walked {
+        Ok(()) => Ok(true),
+        Err(stop) => stop.answer(),
+    }
+}
+
 /// Whether at each piece all loads of the stored expression stay on the input.
 ///
-/// The time is linear in the pieces, times the nodes of the expression, the terms of the store's forms and the loops.
+/// The pieces are looked at by as many threads as there are processors. The time is linear in the pieces, times the nodes
+/// of the expression, the terms of the store's forms and the loops.
 ///
 /// # Errors
 /// `AllocError` where memory runs out.
-pub fn loads_are_on_input(alloc: Global, row: &RowPlan<'_>, algo: &Algo) -> Result<bool, AllocError>
+pub fn loads_are_on_input(
+    rt: &(impl Threads + Sync),
+    alloc: Global,
+    row: &RowPlan<'_>,
+    algo: &Algo,
+) -> Result<bool, AllocError>
     requires pieces { row.now.count ≤ 2 ^ 20 }
     requires loops { AreLoopsLimited (row_of row.now) }
     requires store { IsLimitedAt (row_of row.now) AtStore }
     ensures { IfOk result (λ yes. IsTrue yes ↔ Holds (algorithm_of algo.now) (row_of row.now) LoadsAreOnInput) }
 {
-    for piece in 0..row.count {
-        let on_input = loads_are_on_input_at(alloc, row, algo, piece)?;
-        if !on_input {
-            return Ok(false);
-        }
-    }
-    Ok(true)
+    let loads = Loads {
+        loops: &row.loops,
+        coordinates: row.coordinates,
+        value: row.value,
+        algo,
+    };
+    are_always_on_input(rt, alloc, loads, row.count)
 }

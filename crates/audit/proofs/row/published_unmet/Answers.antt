@@ -9,7 +9,7 @@ use Rattle.audit.proofs.Combined.{passed, failed, concluded}
 use Rattle.audit.proofs.row.published_unmet.Goals as goal
 
 pub returns-then-is_some : goal.returns-then-is_some
-returns-then-is_some c = failed (algorithm_of c.args.algo.now) (row_of c.args.row.now) (AllHold (algorithm_of c.args.algo.now) (row_of c.args.row.now) L.publish_demands) (EachHolds (algorithm_of c.args.algo.now) (row_of c.args.row.now) L.published_demands) c.publish_unmet-unmet.result c.is_some.result c.is_some.ensures c.if-is_some.true (c.publish_unmet-unmet.ensures (algorithm_of c.args.algo.now))
+returns-then-is_some g c = failed (algorithm_of c.args.algo.now) (row_of c.args.row.now) (AllHold (algorithm_of c.args.algo.now) (row_of c.args.row.now) L.publish_demands) (EachHolds (algorithm_of c.args.algo.now) (row_of c.args.row.now) L.published_demands) c.publish_unmet-unmet.result c.is_some.result c.is_some.ensures c.if-is_some.true (c.publish_unmet-unmet.ensures (algorithm_of c.args.algo.now))
 
 pub returns : goal.returns
-returns c = concluded (algorithm_of c.args.algo.now) (row_of c.args.row.now) (AllHold (algorithm_of c.args.algo.now) (row_of c.args.row.now) (D.OwnIsClaimed ∷ [])) (EachHolds (algorithm_of c.args.algo.now) (row_of c.args.row.now) L.published_demands) c.own_region_unmet.result (λ h. (passed (algorithm_of c.args.algo.now) (row_of c.args.row.now) (AllHold (algorithm_of c.args.algo.now) (row_of c.args.row.now) L.publish_demands) c.publish_unmet-unmet.result c.is_some.result c.is_some.ensures c.if-is_some.false (c.publish_unmet-unmet.ensures (algorithm_of c.args.algo.now)), (h, tt))) c.own_region_unmet.ensures
+returns g c = concluded (algorithm_of c.args.algo.now) (row_of c.args.row.now) (AllHold (algorithm_of c.args.algo.now) (row_of c.args.row.now) (D.OwnIsClaimed ∷ [])) (EachHolds (algorithm_of c.args.algo.now) (row_of c.args.row.now) L.published_demands) c.own_region_unmet.result (λ h. (passed (algorithm_of c.args.algo.now) (row_of c.args.row.now) (AllHold (algorithm_of c.args.algo.now) (row_of c.args.row.now) L.publish_demands) c.publish_unmet-unmet.result c.is_some.result c.is_some.ensures c.if-is_some.false (c.publish_unmet-unmet.ensures (algorithm_of c.args.algo.now)), (h, tt))) c.own_region_unmet.ensures

@@ -8,7 +8,7 @@ use Rattle.ranges.proofs.Lists.{indices_from, indices_to}
 use Rattle.ranges.proofs.inside.coordinates_are_indices.Goals as goal
 
 pub returns : goal.returns
-returns c =
+returns g c =
     let row = c.args.row.now in let cs = row.coordinates.now in
     λ a. (
       λ yes n below. indices_from (map loop_of row.loops.items) n cs
