@@ -8,3 +8,6 @@ pub mod Points
 pub mod Scoped
 pub mod Loop
 pub mod Stepped
+pub mod Joining
+pub mod Outputs
+pub mod Rasters

@@ -1,5 +1,6 @@
 pub mod Count
 pub mod Goals
+pub mod Picture
 pub mod Scopes
 pub mod Seen
 pub mod Sites

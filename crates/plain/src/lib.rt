@@ -6,6 +6,8 @@ mod error;
 mod evaluation;
 mod frame;
 mod opening;
+mod output;
+mod picture;
 mod reduction;
 mod scope;
 mod sites;
@@ -13,3 +15,4 @@ mod stepping;
 
 pub use error::PlainError;
 pub use evaluation::value;
+pub use picture::image;

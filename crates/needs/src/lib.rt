@@ -1,0 +1,10 @@
+//! The regions that functions need of one another: the points at which definitions call.
+#![tactic(auto)]
+
+mod callees;
+mod calls;
+mod definitions;
+mod regions;
+
+pub use bounds::BoundsError;
+pub use definitions::needed;
