@@ -1,3 +1,4 @@
 mod Plans
+mod PlainWays
 mod Samples
 mod Ways

@@ -5,10 +5,14 @@ use Rattle.rows.specs.declared.error.RowsError.{RowsError}
 use Rattle.rows.specs.declared.error.RowsError.TheVariants as rows
 use Rattle.audit.specs.declared.refusal.CheckError.{CheckError}
 use Rattle.audit.specs.declared.refusal.CheckError.TheVariants as plan
+use Rattle.crew.specs.declared.running.RunError.{RunError}
+use Rattle.crew.specs.declared.running.RunError.TheVariants as crew
+use Rattle.plain.specs.declared.error.PlainError.{PlainError}
+use Rattle.plain.specs.declared.error.PlainError.TheVariants as plain
 use Rattle.pnm.specs.declared.error.PnmError.{PnmError}
 use Rattle.pnm.specs.declared.error.PnmError.TheVariants as image
 use Rattle.pictures.specs.declared.fault.Fault.{Fault}
-use Rattle.pictures.specs.declared.fault.Fault.TheVariants.{Memory, Algo, Updates, TooLarge, Plan, Image}
+use Rattle.pictures.specs.declared.fault.Fault.TheVariants.{Memory, Algo, Updates, TooLarge, Plan, Image, Unfinished, Budget}
 
 abbrev pub text_fault : AlgoError → Fault
 text_fault text.Memory = Memory
@@ -26,3 +30,11 @@ plan_fault (plan.Refused code line) = Plan code line
 abbrev pub image_fault : PnmError → Fault
 image_fault image.Memory = Memory
 image_fault e = Image e
+
+abbrev pub crew_fault : RunError → Fault
+crew_fault crew.Memory = Memory
+crew_fault (crew.Unfinished piece) = Unfinished piece
+
+abbrev pub plain_fault : PlainError → Fault
+plain_fault plain.Memory = Memory
+plain_fault plain.Budget = Budget

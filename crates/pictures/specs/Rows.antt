@@ -1,12 +1,14 @@
 -- From a text and an image file to the picture by rows: what is done, and why something is refused.
-use Rattle.std.specs.Prelude.{◌≡◌, ◌≢◌, ◌⊎◌, ℕ, List, Option, Some, MatchOption, ⊤, Err}
+use Rattle.std.specs.Prelude.{◌≡◌, ◌≢◌, ◌⊎◌, ℕ, ◌<◌, List, length, Option, Some, MatchOption, ⊤, Err}
 use Rattle.std.specs.Io.KnownBytes.{Keeps, Appends}
 use Rattle.image.specs.View.{Frame}
 use Rattle.meaning.specs.Algorithm.{Algorithm, Function}
 use Rattle.nest.specs.declared.plan.Plan.{Plan as PlanMade}
+use Rattle.nest.specs.Plan.{Plan as PlanMeant}
 use Rattle.nest.specs.View.{plan_of}
 use Rattle.cert.specs.declared.cert.Cert.{Cert}
 use Rattle.cert.specs.Certificate.{certificate_of}
+use Rattle.cert.specs.Cells.{pieces}
 use Rattle.algo.specs.Parts.{input_frame}
 use Rattle.algo.specs.View.{picture_said}
 use Rattle.algo.specs.Refusal.{IsAlgorithmText, IsRefusedText, IsNoAlgorithm}
@@ -26,7 +28,7 @@ use Rattle.pnm.specs.Reading.{wanted_of}
 use Rattle.pnm.specs.Source.{ReadsFile, Refuses, Sends, StopsSomewhere}
 use Rattle.pnm.specs.Text.{text_of}
 use Rattle.pictures.specs.declared.fault.Fault.{Fault}
-use Rattle.pictures.specs.declared.fault.Fault.TheVariants.{Memory, Algo, Updates, TooLarge, Plan, Image}
+use Rattle.pictures.specs.declared.fault.Fault.TheVariants.{Memory, Algo, Updates, TooLarge, Plan, Image, Unfinished, Budget}
 
 -- ---- the algorithm's text
 
@@ -80,6 +82,14 @@ IsImageRefused f old new Memory = StopsSomewhere old new
 IsImageRefused f old new (Image e) = (e ≢ image.Memory) × Refuses (wanted_of f) old new e
 IsImageRefused f old new _ = ⊥
 
+-- ---- the pieces
+
+-- this piece of the plan was left unfinished; want of memory says nothing
+abbrev pub IsCrewRefused : PlanMeant → Fault → Type 0
+IsCrewRefused plan Memory = ⊤
+IsCrewRefused plan (Unfinished piece) = piece < length (pieces plan)
+IsCrewRefused plan _ = ⊥
+
 -- ---- from the text and the image file to the picture
 
 -- the text is an algorithm that has a row plan, the reader gave the file of an image, and the writer took the file of the
@@ -109,6 +119,17 @@ pub record ImageRefused (text : List ℕ) (read left : Option (List ℕ)) (fault
   pub planned : HasRows algorithm
   pub refused : IsImageRefused (input_frame algorithm) read left fault
 
+-- the text, its row plan and the image are accepted, but a piece was left unfinished
+pub record PieceLeft (text : List ℕ) (read left : Option (List ℕ)) (fault : Fault) : Type 0 where
+  pub algorithm : Algorithm
+  pub samples : List ℕ
+  pub plan : PlanMade
+  pub cert : Cert
+  pub is_text : IsAlgorithmText text algorithm
+  pub accepted : IsAccepted algorithm plan cert
+  pub reads : ReadsFile (wanted_of (input_frame algorithm)) read left samples
+  pub refused : IsCrewRefused (plan_of plan) fault
+
 -- all is as where the picture is written, but the writer failed and took a beginning of the file
 pub record WriterFailed (text : List ℕ) (read left held holds : Option (List ℕ)) : Type 0 where
   pub algorithm : Algorithm
@@ -130,3 +151,5 @@ IsRefused text read left held holds (Updates function) = PlanRefused text (Updat
 IsRefused text read left held holds (TooLarge function) = PlanRefused text (TooLarge function) × IsUntouched read left held holds
 IsRefused text read left held holds (Plan code line) = PlanRefused text (Plan code line) × IsUntouched read left held holds
 IsRefused text read left held holds (Image e) = StreamsFail text read left held holds e
+IsRefused text read left held holds (Unfinished piece) = PieceLeft text read left (Unfinished piece) × Keeps held holds
+IsRefused text read left held holds Budget = ⊥

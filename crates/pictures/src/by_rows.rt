@@ -3,24 +3,29 @@
 ghost use Rattle.std.specs.Prelude.{◌≡◌, ◌⊎◌, ◌↔◌, true, false, IfErr, IfOk, IsErrOf, OnOk};
 ghost use Rattle.algo.specs.Parts.{input_frame};
 ghost use Rattle.algo.specs.Refusal.{IsAlgorithmText};
-ghost use Rattle.algo.specs.View.{algorithm_of, samples_of, IsFor};
+ghost use Rattle.algo.specs.View.{algorithm_of, picture_said, samples_of, IsFor};
+ghost use Rattle.audit.specs.View.{algorithm_checked, plan_checked};
+ghost use Rattle.image.specs.View.{image_of};
 ghost use Rattle.pnm.specs.declared.error.PnmError.TheVariants.{Device};
 ghost use Rattle.pnm.specs.Reading.{wanted_of};
 ghost use Rattle.pnm.specs.Source.{IsEndless, ReadsFile};
 ghost use Rattle.pictures.specs.declared.fault.Fault.{Fault as FaultOf};
-ghost use Rattle.pictures.specs.Rows.{IsAccepted, IsDone, IsImageRefused, IsPlanRefused, IsRefused, IsTextRefused};
+ghost use Rattle.pictures.specs.Rows.{IsAccepted, IsCrewRefused, IsDone, IsImageRefused, IsPlanRefused, IsRefused, IsTextRefused};
 
 use crate::fault::Fault;
 use crate::laws::read_images_fit;
 use algo::{Algo, Inputs};
 use audit::{Checked, check};
+use crew::run;
 use headline::laws::shown_never_fails;
+use image::Image;
 use pnm::{Sink, Source, Watched, read_from, write_to};
 use rows::laws::rows_stand;
 use rows::rows;
 use std::alloc::Global;
 use std::io::{Read, Write};
-use steps::picture;
+use std::sync::Wait;
+use std::thread::Threads;
 
 /// Reads an algorithm's text.
 ///
@@ -39,7 +44,11 @@ pub fn read_algorithm(alloc: Global, text: &str) -> Result<Algo, Fault>
 /// # Errors
 /// `Updates` and `TooLarge` where there is no such plan. `Plan` with K4 where an index of a load may leave the input, and
 /// with K14 where a limit is passed. `Memory` where memory runs out.
-pub fn check_rows<'a>(alloc: Global, algo: &'a Algo) -> Result<Checked<'a>, Fault>
+pub fn check_rows<'a, T: Threads + Sync>(
+    rt: &T,
+    alloc: Global,
+    algo: &'a Algo,
+) -> Result<Checked<'a>, Fault>
     ensures checked { IfOk result (λ checked. checked.algo.now ≡ algo.now) }
     ensures accepted { IfOk result (λ checked. IsAccepted (algorithm_of algo.now) checked.plan checked.cert) }
     ensures refused { IfErr result (IsPlanRefused (algorithm_of algo.now)) }
@@ -48,11 +57,15 @@ pub fn check_rows<'a>(alloc: Global, algo: &'a Algo) -> Result<Checked<'a>, Faul
     shown_never_fails();
     algo.is_well_formed();
     let (plan, cert) = rows(alloc, algo)?;
-    Ok(check(alloc, algo, plan, cert)?)
+    Ok(check(rt, alloc, algo, plan, cert)?)
 }
 
 /// Reads an image from a source as the input of an algorithm.
-fn inputs_from<S: Source>(alloc: Global, algo: &Algo, source: &mut S) -> Result<Inputs, Fault>
+pub(crate) fn inputs_from<S: Source>(
+    alloc: Global,
+    algo: &Algo,
+    source: &mut S,
+) -> Result<Inputs, Fault>
     requires { S.has_failed source.old ≡ false }
     ensures fits { IfOk result (λ inputs. IsFor algo.now inputs) }
     ensures file { IfOk result (λ inputs. ReadsFile (wanted_of (input_frame (algorithm_of algo.now))) (S.remaining source.old) (S.remaining source.new) (samples_of inputs)) }
@@ -89,8 +102,28 @@ pub fn read_inputs<R: Read>(alloc: Global, algo: &Algo, input: &mut R) -> Result
     result
 }
 
+/// The picture that the algorithm says of an input, computed by the pieces of a checked plan in the caller's thread and
+/// one more.
+///
+/// # Errors
+/// `Memory` where memory runs out, also in the middle of a piece. `Unfinished` with the lowest piece that is not finished,
+/// where memory was enough.
+pub fn rows_picture<T: Threads + Wait + Sync>(
+    rt: &T,
+    alloc: Global,
+    checked: &Checked<'_>,
+    inputs: &Inputs,
+) -> Result<Image, Fault>
+    requires { IsFor checked.now.algo.now inputs.now }
+    ensures picture { IfOk result (λ image. image_of image ≡ picture_said (algorithm_checked checked.now) (samples_of inputs.now)) }
+    ensures refused { IfErr result (IsCrewRefused (plan_checked checked.now)) }
+{
+    Ok(run(rt, alloc, checked, inputs)?)
+}
+
 /// The way from a text and an image to the picture, between a source and a sink that remember whether they have failed.
-fn rows_between<S: Source, K: Sink>(
+fn rows_between<T: Threads + Wait + Sync, S: Source, K: Sink>(
+    rt: &T,
     alloc: Global,
     text: &str,
     source: &mut S,
@@ -106,19 +139,20 @@ fn rows_between<S: Source, K: Sink>(
     ensures same_sink { K.identity sink.new ≡ K.identity sink.old }
 {
     let algo = read_algorithm(alloc, text)?;
-    let checked = check_rows(alloc, &algo)?;
+    let checked = check_rows(rt, alloc, &algo)?;
     let inputs = inputs_from(alloc, &algo, source)?;
-    let image = picture(alloc, &checked, &inputs)?;
+    let image = rows_picture(rt, alloc, &checked, &inputs)?;
     Ok(write_to(sink, &image)?)
 }
 
-/// Reads the algorithm, makes its row plan and has it checked, reads the image, computes the pieces in order in one
-/// thread, and writes the picture.
+/// Reads the algorithm, makes its row plan and has it checked, reads the image, computes the pieces in the caller's thread
+/// and one more, and writes the picture.
 ///
 /// # Errors
-/// The first refusal in this order: of the text, of the plan, of the image, and of the writer. Nothing is written before all
-/// else has succeeded, and writing takes no memory.
-pub fn rows_over<R: Read, W: Write>(
+/// The first refusal in this order: of the text, of the plan, of the image, of the pieces, and of the writer. Nothing is
+/// written before all else has succeeded, and writing takes no memory.
+pub fn rows_over<T: Threads + Wait + Sync, R: Read, W: Write>(
+    rt: &T,
     alloc: Global,
     text: &str,
     input: &mut R,
@@ -135,7 +169,7 @@ pub fn rows_over<R: Read, W: Write>(
         device: output,
         failed: false,
     };
-    let result = rows_between(alloc, text, &mut source, &mut sink);
+    let result = rows_between(rt, alloc, text, &mut source, &mut sink);
     let Watched {
         device: reader,
         failed: _,

@@ -2,10 +2,12 @@
 
 ghost use Rattle.std.specs.Prelude.{◌≡◌};
 ghost use Rattle.pictures.specs.declared.fault.Fault.TheVariants.{Memory as OutOfMemory};
-ghost use Rattle.pictures.specs.Faults.{image_fault, plan_fault, rows_fault, text_fault};
+ghost use Rattle.pictures.specs.Faults.{crew_fault, image_fault, plain_fault, plan_fault, rows_fault, text_fault};
 
 use algo::{AlgoError, Code};
 use audit::{CheckError, K};
+use crew::RunError;
+use plain::PlainError;
 use pnm::PnmError;
 use rows::RowsError;
 use std::alloc::AllocError;
@@ -33,6 +35,12 @@ pub enum Fault {
     /// A file is no image of the input's shape, or could not be read or written.
     #[error("{0}")]
     Image(PnmError),
+    /// U1: the piece of this number, the lowest, was left unfinished.
+    #[error("U1 piece {piece}")]
+    Unfinished { piece: u32 },
+    /// P1: a pixel takes more evaluations than the budget allows.
+    #[error("P1")]
+    Budget,
 }
 
 impl From<AllocError> for Fault {
@@ -84,6 +92,28 @@ impl From<PnmError> for Fault {
         match e {
             PnmError::Memory => Fault::Memory,
             _ => Fault::Image(e),
+        }
+    }
+}
+
+impl From<RunError> for Fault {
+    ghost from_gives = { λ e f. f ≡ crew_fault e };
+
+    fn from(e: RunError) -> Fault {
+        match e {
+            RunError::Memory => Fault::Memory,
+            RunError::Unfinished(piece) => Fault::Unfinished { piece },
+        }
+    }
+}
+
+impl From<PlainError> for Fault {
+    ghost from_gives = { λ e f. f ≡ plain_fault e };
+
+    fn from(e: PlainError) -> Fault {
+        match e {
+            PlainError::Memory => Fault::Memory,
+            PlainError::Budget => Fault::Budget,
         }
     }
 }

@@ -1,9 +1,12 @@
-//! From an algorithm's text and an image file to the picture, one piece a row: what the program's commands are made of.
+//! From an algorithm's text and an image file to the picture, by pieces of one row each or without any plan: what the
+//! program's commands are made of.
 #![tactic(auto)]
 
 mod by_rows;
 mod fault;
 mod laws;
+mod without_plan;
 
-pub use by_rows::{check_rows, read_algorithm, read_inputs, rows_over};
+pub use by_rows::{check_rows, read_algorithm, read_inputs, rows_over, rows_picture};
 pub use fault::Fault;
+pub use without_plan::{plain_over, plain_picture};

@@ -5,6 +5,8 @@ use pictures::Fault;
 use std::alloc::Global;
 use std::io::{BufReader, BufWriter, Error, ErrorKind, Read};
 use std::process::ExitCode;
+use std::sync::Wait;
+use std::thread::Threads;
 use std::{env, fs, io};
 use tool::{FileError, Files, status, tool};
 
@@ -45,8 +47,9 @@ impl Files for SystemFiles<'_> {
     }
 }
 
-/// Runs the program on the words after its name.
-fn run(rt: &HostRuntime) -> io::Result<u8> {
+/// Runs the program on the words after its name. The second handle is the same one, as the right to start threads and to
+/// wait for them.
+fn run<T: Threads + Wait + Sync>(rt: &HostRuntime, threads: &T) -> io::Result<u8> {
     let alloc = rt.alloc();
     let given: Vec<String> = env::args(rt)?.skip(1).collect(alloc)?;
     let words: Vec<&str> = given.iter().map(|word| word.as_str()).collect(alloc)?;
@@ -54,6 +57,7 @@ fn run(rt: &HostRuntime) -> io::Result<u8> {
     let mut out = BufWriter::new(alloc, rt.stdout())?;
     let mut files = SystemFiles { rt };
     Ok(tool(
+        threads,
         alloc,
         words.as_slice(),
         &mut files,
@@ -75,7 +79,7 @@ fn answer(rt: &HostRuntime, error: &Error) -> u8 {
 }
 
 fn main(rt: HostRuntime) -> ExitCode {
-    match run(&rt) {
+    match run(&rt, &rt) {
         Ok(status) => ExitCode::from(status),
         Err(error) => ExitCode::from(answer(&rt, &error)),
     }

@@ -7,7 +7,7 @@ use Rattle.pictures.specs.Rows.{IsDone}
 use Rattle.tool.specs.declared.device.FileError.{FileError}
 use Rattle.tool.specs.declared.device.FileError.TheVariants.{Device, Memory}
 use Rattle.tool.specs.Files.{Contents, Holds, SameFiles, SameOthers}
-use Rattle.tool.specs.Rows.{IsOfDevice}
+use Rattle.tool.specs.Pictures.{IsOfDevice}
 use Rattle.tool.specs.Status.{fault_of}
 
 pub same_refl : (a : Contents) → SameFiles a a
@@ -41,6 +41,11 @@ of_device Memory fault is = inl is
 pub ends_of : {E : Type 0} (P : Type 0) (Q : E → Type 0) (r : Result (Unit {0}) E) → OnOk r P → IfErr r Q → MatchResult r (λ _. P) Q
 ends_of P Q (Ok u) done refused = done
 ends_of P Q (Err e) done refused = refused
+
+-- what holds in any case holds where all went well
+pub on_ok : {A E : Type 0} (P : Type 0) (r : Result A E) → P → OnOk r P
+on_ok P (Ok a) h = h
+on_ok P (Err e) h = tt
 
 appends_then : (a b c : Option (List ℕ)) (bytes : List ℕ) → Appends a b bytes → Keeps b c → Appends a c bytes
 appends_then None b c bytes h k = tt

@@ -8,10 +8,11 @@ use Rattle.clap.specs.Words.{IsAmong, Text, fault_of, first_value, is_simple, is
 use Rattle.clap.proofs.OnLiterals.{clap_on_literals}
 use Rattle.clap.proofs.WalkLemmas.{first_value-rows}
 use Rattle.tool.specs.Answer.{WordsAnswer}
-use Rattle.tool.specs.Line.{FailsFor, all_three, line, names_in}
+use Rattle.tool.specs.Line.{FailsFor, all_three, asked_in, line}
+use Rattle.tool.specs.declared.request.Way.{Way}
 
-pub names_as : (f : Found) → names_in (rows_of f) ≡ all_three (first_value f (codes "ALG")) (first_value f (codes "IN")) (first_value f (codes "OUT"))
-names_as f = rw (first_value-rows f (codes "ALG"), first_value-rows f (codes "IN"), first_value-rows f (codes "OUT")) refl
+pub asked_as : (way : Way) (f : Found) → asked_in way (rows_of f) ≡ all_three way (first_value f (codes "ALG")) (first_value f (codes "IN")) (first_value f (codes "OUT"))
+asked_as way f = rw (first_value-rows f (codes "ALG"), first_value-rows f (codes "IN"), first_value-rows f (codes "OUT")) refl
 
 -- a pair is there where its two parts are
 pub both : {A B : Type 0} (o : Option (A × B)) (a : A) (b : B) → Some a ≡ option_map (λ p. p.0) o → Some b ≡ option_map (λ p. p.1) o → o ≡ Some (a, b)

@@ -3,9 +3,10 @@ use Rattle.std.specs.Prelude.{◌≡◌, ◌⊎◌, ℕ, List, Option, Result, O
 use Rattle.clap.specs.Words.{Text}
 use Rattle.pictures.specs.declared.fault.Fault.{Fault}
 use Rattle.pictures.specs.Rows as streams
+use Rattle.tool.specs.Asked.{Asked}
 use Rattle.tool.specs.Files.{Contents, SameFiles}
-use Rattle.tool.specs.Line.{AsksHelp, AsksRows, IsMisuse, Names}
-use Rattle.tool.specs.Rows.{IsDone, IsRefused}
+use Rattle.tool.specs.Line.{AsksFor, AsksHelp, IsMisuse}
+use Rattle.tool.specs.Pictures.{IsDone, IsRefused}
 use Rattle.tool.specs.Status.{status_of}
 
 -- 0 where a command is done, else the refusal's
@@ -19,16 +20,16 @@ StreamsAnswer text read left held holds status =
     (((status ≡ 0) ⊎ (status ≡ 5)) × streams.IsDone text read left held holds)
     ⊎ ((fault : Fault) × (status ≡ status_of fault) × streams.IsRefused text read left held holds fault)
 
--- what came of `rows` with these names
-abbrev pub RowsEnds : Contents → Contents → Names → Result (Unit {0}) Fault → Type 0
-RowsEnds old new names outcome = MatchResult outcome (λ _. IsDone old new names.0 names.1 names.2) (IsRefused old new names.0 names.1 names.2)
+-- what came of this command
+abbrev pub PictureEnds : Contents → Contents → Asked → Result (Unit {0}) Fault → Type 0
+PictureEnds old new a outcome = MatchResult outcome (λ _. IsDone old new a) (IsRefused old new a)
 
--- the words ask for `rows`, and the status is that of what came of it
-pub record RowsAnswers (words : List Text) (old new : Contents) (status : ℕ) : Type 0 where
-  pub names : Names
+-- the words ask for a picture, and the status is that of what came of it
+pub record PictureAnswers (words : List Text) (old new : Contents) (status : ℕ) : Type 0 where
+  pub asked : Asked
   pub outcome : Result (Unit {0}) Fault
-  pub asked : AsksRows words names
-  pub ends : RowsEnds old new names outcome
+  pub asks : AsksFor words asked
+  pub ends : PictureEnds old new asked outcome
   pub answer : status ≡ status_after outcome
 
 -- no command is run: the words ask for help, which may fail to be written, or are a fault, or there is no memory to read them
@@ -38,4 +39,4 @@ WordsAnswer words status =
 
 -- what the program does to the files, and its status, on words of which there is one or more
 abbrev pub CommandAnswers : List Text → Contents → Contents → ℕ → Type 0
-CommandAnswers words old new status = RowsAnswers words old new status ⊎ (SameFiles old new × WordsAnswer words status)
+CommandAnswers words old new status = PictureAnswers words old new status ⊎ (SameFiles old new × WordsAnswer words status)

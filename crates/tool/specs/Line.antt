@@ -5,45 +5,48 @@ use Rattle.clap.specs.declared.error.kind.ErrorKind.{ErrorKind}
 use Rattle.clap.specs.declared.error.kind.ErrorKind.TheVariants.{DisplayHelp, MissingSubcommand}
 use Rattle.clap.specs.declared.error.Error.{Error}
 use Rattle.clap.specs.Words.{App, HasKind, IsAmong, Row, Rule, Text, fault_of, first_of, kind_of, new_app, new_rule, subcommand_of, with_rule, with_subcommand}
+use Rattle.tool.specs.Asked.{Asked}
+use Rattle.tool.specs.declared.request.Way.{Way}
+use Rattle.tool.specs.declared.request.Way.TheVariants.{Rows, Plain}
 
 -- a word that has to be there, under a name
 abbrev pub needed : Text → Rule
 needed name = record (new_rule name) { required = true }
 
--- rows ALG IN OUT
-abbrev pub rows_line : App
-rows_line = with_rule (with_rule (with_rule (new_app (codes "rows")) (needed (codes "ALG"))) (needed (codes "IN"))) (needed (codes "OUT"))
+-- NAME ALG IN OUT
+abbrev pub picture_line : Text → App
+picture_line name = with_rule (with_rule (with_rule (new_app name) (needed (codes "ALG"))) (needed (codes "IN"))) (needed (codes "OUT"))
 
 -- stencil COMMAND, where the words begin with the command
 abbrev pub program : App
 program = record (new_app (codes "stencil")) { top = record ((new_app (codes "stencil")).top) { no_binary_name = true; subcommand_required = true } }
 
 abbrev pub line : App
-line = with_subcommand program rows_line.top
+line = with_subcommand (with_subcommand program (picture_line (codes "rows")).top) (picture_line (codes "plain")).top
 
--- three words
-abbrev pub Names : Type 0
-Names = Text × Text × Text
-
--- all three, where all three are there
-abbrev pub all_three : Option Text → Option Text → Option Text → Option Names
-all_three (Some algorithm) (Some input) (Some output) = Some (algorithm, input, output)
-all_three _ _ _ = None
+-- all three names, where all three are there
+abbrev pub all_three : Way → Option Text → Option Text → Option Text → Option Asked
+all_three way (Some algorithm) (Some input) (Some output) = Some (record { way = way; algorithm = algorithm; input = input; output = output })
+all_three way _ _ _ = None
 
 -- the words for the algorithm, the image and the picture
-abbrev pub names_in : List Row → Option Names
-names_in rows = all_three (first_of (codes "ALG") rows) (first_of (codes "IN") rows) (first_of (codes "OUT") rows)
+abbrev pub asked_in : Way → List Row → Option Asked
+asked_in way rows = all_three way (first_of (codes "ALG") rows) (first_of (codes "IN") rows) (first_of (codes "OUT") rows)
 
-abbrev pub names_of_rows : Text × List Row → Option Names
-names_of_rows command = if bytes_eq command.0 (codes "rows") then names_in command.1 else None
+-- how the command of this name computes a picture
+abbrev pub way_meant : Text → Option Way
+way_meant name = if bytes_eq name (codes "rows") then Some Rows else if bytes_eq name (codes "plain") then Some Plain else None
 
--- the names that the words give the command `rows`
-abbrev pub rows_names : List Text → Option Names
-rows_names words = option_and_then names_of_rows (subcommand_of line words)
+abbrev pub asked_of_command : Text × List Row → Option Asked
+asked_of_command command = option_and_then (λ way. asked_in way command.1) (way_meant command.0)
 
--- nothing is wrong with the words, and they ask for `rows` with these names
-abbrev pub AsksRows : List Text → Names → Type 0
-AsksRows words names = (fault_of line words ≡ []) × (rows_names words ≡ Some names)
+-- the picture that the words ask for
+abbrev pub asked : List Text → Option Asked
+asked words = option_and_then asked_of_command (subcommand_of line words)
+
+-- nothing is wrong with the words, and they ask for this
+abbrev pub AsksFor : List Text → Asked → Type 0
+AsksFor words a = (fault_of line words ≡ []) × (asked words ≡ Some a)
 
 -- the words ask for help
 abbrev pub AsksHelp : List Text → Type 0
@@ -51,8 +54,8 @@ AsksHelp words = IsAmong DisplayHelp (fault_of line words)
 
 -- something is wrong with the words, or they name no command
 abbrev pub IsMisuse : List Text → Type 0
-IsMisuse words = ((kind : ErrorKind) × (kind ≢ DisplayHelp) × IsAmong kind (fault_of line words)) ⊎ (rows_names words ≡ None)
+IsMisuse words = ((kind : ErrorKind) × (kind ≢ DisplayHelp) × IsAmong kind (fault_of line words)) ⊎ (asked words ≡ None)
 
 -- why the words ask for no command: memory ran out, they ask for help or are a fault, or they name no command
 abbrev pub FailsFor : List Text → Error → Type 0
-FailsFor words e = HasKind (fault_of line words) e ⊎ ((kind_of e ≡ MissingSubcommand) × (rows_names words ≡ None))
+FailsFor words e = HasKind (fault_of line words) e ⊎ ((kind_of e ≡ MissingSubcommand) × (asked words ≡ None))

@@ -1,14 +1,18 @@
 //! The command line of `stencil`, over files and streams that the caller hands in.
 #![tactic(auto)]
 
-mod by_rows;
 mod device;
 mod exit;
 pub mod laws;
+mod picture;
 mod program;
+mod request;
 mod words;
 
-pub use by_rows::rows_command;
 pub use device::{FileError, Files};
 pub use exit::status;
+/// What `status` tells the exit status of.
+pub use picture::picture_command;
+pub use pictures::Fault;
 pub use program::tool;
+pub use request::{Request, Way};

@@ -8,9 +8,9 @@ ghost use Rattle.pictures.specs.declared.fault.Fault.{Fault};
 ghost use Rattle.pnm.specs.declared.error.PnmError.{PnmError};
 ghost use Rattle.tool.specs.Answer.{CommandAnswers, StreamsAnswer, status_after};
 
-use crate::by_rows::rows_command;
 use crate::device::Files;
 use crate::exit::status;
+use crate::picture::picture_command;
 use crate::words::read_words;
 use clap::Error;
 use clap::error::ErrorKind;
@@ -18,6 +18,8 @@ use pictures::{Fault, rows_over};
 use pnm::PnmError;
 use std::alloc::Global;
 use std::io::{Read, Write};
+use std::sync::Wait;
+use std::thread::Threads;
 
 // What runs where no words are given: each pixel of 2 columns and 10 rows is one more.
 const INCREMENT: &str =
@@ -37,12 +39,17 @@ fn flush<W: Write>(out: &mut W) -> Result<(), Fault>
     }
 }
 
-fn increment<R: Read, W: Write>(alloc: Global, input: &mut R, out: &mut W) -> Result<(), Fault>
+fn increment<T: Threads + Wait + Sync, R: Read, W: Write>(
+    rt: &T,
+    alloc: Global,
+    input: &mut R,
+    out: &mut W,
+) -> Result<(), Fault>
     ensures done { OnOk result (IsDone INCREMENT.now (R.remaining input.old) (R.remaining input.new) (W.contents out.old) (W.contents out.new)) }
     ensures refused { IfErr result (λ fault. IsRefused INCREMENT.now (R.remaining input.old) (R.remaining input.new) (W.contents out.old) (W.contents out.new) fault
         ⊎ ((fault ≡ Fault.Image PnmError.Device) × IsDone INCREMENT.now (R.remaining input.old) (R.remaining input.new) (W.contents out.old) (W.contents out.new))) }
 {
-    rows_over(alloc, INCREMENT, input, out)?;
+    rows_over(rt, alloc, INCREMENT, input, out)?;
     flush(out)
 }
 
@@ -84,8 +91,10 @@ fn answer_words<W: Write, E: Write>(error: &Error, out: &mut W, err: &mut E) -> 
     }
 }
 
-/// Runs the program on the words after its name, and answers its exit status.
-pub fn tool<F: Files, R: Read, W: Write, E: Write>(
+/// Runs the program on the words after its name, and answers its exit status. Pieces and pixels are computed in the caller's
+/// thread and in threads that are started through `rt`; where none can be started the caller computes all.
+pub fn tool<T: Threads + Wait + Sync, F: Files, R: Read, W: Write, E: Write>(
+    rt: &T,
     alloc: Global,
     words: &[&str],
     files: &mut F,
@@ -100,13 +109,10 @@ pub fn tool<F: Files, R: Read, W: Write, E: Write>(
     ensures command { words.now ≢ [] → CommandAnswers (map (λ word. word.now) words.now) (F.contents files.old) (F.contents files.new) result }
 {
     if words.is_empty() {
-        return answer(increment(alloc, input, out), err);
+        return answer(increment(rt, alloc, input, out), err);
     }
     match read_words(alloc, words) {
-        Ok(rows) => {
-            let outcome = rows_command(alloc, files, rows.algorithm, rows.input, rows.output);
-            answer(outcome, err)
-        }
+        Ok(request) => answer(picture_command(rt, alloc, files, &request), err),
         Err(error) => answer_words(&error, out, err),
     }
 }

@@ -7,7 +7,7 @@ use Rattle.pictures.proofs.Ways.{told}
 use Rattle.pictures.proofs.by_rows.check_rows.Goals as goal
 
 pub returns-in_err-check-clause-refused : goal.returns-in_err-check-clause-refused
-returns-in_err-check-clause-refused c =
+returns-in_err-check-clause-refused g c =
     let a = algorithm_of c.args.algo.now in
     let e = c.in_err-check.field-0.0 in
     let p = err_from_is_err_and c.from_residual-in_err-check.result c.from_residual-in_err-check.ensures.1 in

@@ -3,10 +3,9 @@ use Rattle.std.proofs.lemmas.Result.{err_from_is_err_and}
 use Rattle.image.specs.View.{image_of}
 use Rattle.algo.specs.declared.algorithm.Algo.{Algo}
 use Rattle.algo.specs.View.{algorithm_of, picture_said, samples_of}
-use Rattle.pictures.specs.declared.fault.Fault.TheVariants.{Memory}
 use Rattle.pictures.specs.Faults.{image_fault}
 use Rattle.pictures.specs.Rows.{HasRows, IsRefused}
-use Rattle.pictures.proofs.Ways.{image_refused, memory_refused, picture_done, plan_refused, text_refused, told, writer_failed}
+use Rattle.pictures.proofs.Ways.{crew_refused, image_refused, picture_done, plan_refused, text_refused, told, writer_failed}
 use Rattle.pictures.proofs.by_rows.rows_between.Goals as goal
 
 pub returns-in_err-algo-clause-refused : goal.returns-in_err-algo-clause-refused
@@ -49,9 +48,10 @@ returns-in_err-image-clause-refused g c =
     let read = g.S.Source.remaining c.args.source.now in
     let left = g.S.Source.remaining c.inputs_from.new.source in
     let held = g.K.Sink.contents c.args.sink.now in
+    let e = c.in_err-image.field-0.0 in
     let p = err_from_is_err_and c.from_residual-in_err-image.result c.from_residual-in_err-image.ensures.1 in
-    told (IsRefused text read left held held) c.from_residual-in_err-image.result p.0 Memory p.1 p.2
-    (memory_refused text a c.in_ok-algo.ensures.said rows read left held (samples_of c.in_ok-inputs.inputs) c.in_ok-inputs.ensures.file)
+    told (IsRefused text read left held held) c.from_residual-in_err-image.result p.0 e p.1 p.2
+    (crew_refused text a c.in_ok-algo.ensures.said rows read left held (samples_of c.in_ok-inputs.inputs) c.in_ok-inputs.ensures.file e c.in_err-image.ensures.refused)
 
 pub returns-in_err-write_to-clause-refused : goal.returns-in_err-write_to-clause-refused
 returns-in_err-write_to-clause-refused g c =
@@ -63,7 +63,7 @@ returns-in_err-write_to-clause-refused g c =
     let held = g.K.Sink.contents c.args.sink.now in
     let holds = g.K.Sink.contents c.write_to.new.sink in
     let samples = samples_of c.in_ok-inputs.inputs in
-    let whole = c.in_ok-image.ensures ∙ ap (λ (x : Algo). picture_said (algorithm_of x) samples) c.in_ok-checked.ensures.checked in
+    let whole = c.in_ok-image.ensures.picture ∙ ap (λ (x : Algo). picture_said (algorithm_of x) samples) c.in_ok-checked.ensures.checked in
     let e = c.in_err-write_to.field-0.0 in
     let p = err_from_is_err_and c.from_residual-in_err-write_to.result c.from_residual-in_err-write_to.ensures.1 in
     told (IsRefused text read left held holds) c.from_residual-in_err-write_to.result p.0 (image_fault e) p.1 p.2
@@ -79,5 +79,5 @@ returns-clause-done g c =
     let held = g.K.Sink.contents c.args.sink.now in
     let holds = g.K.Sink.contents c.write_to.new.sink in
     let samples = samples_of c.in_ok-inputs.inputs in
-    let whole = c.in_ok-image.ensures ∙ ap (λ (x : Algo). picture_said (algorithm_of x) samples) c.in_ok-checked.ensures.checked in
+    let whole = c.in_ok-image.ensures.picture ∙ ap (λ (x : Algo). picture_said (algorithm_of x) samples) c.in_ok-checked.ensures.checked in
     picture_done text a c.in_ok-algo.ensures.said rows read left held samples c.in_ok-inputs.ensures.file holds (image_of c.in_ok-image.image) whole c.in_ok-write_to.ensures.bytes

@@ -7,6 +7,10 @@ pub returns-clause-rows : goal.returns-clause-rows
 unfolding clap_on_literals
 returns-clause-rows c = (refl, refl)
 
+pub returns-clause-plain : goal.returns-clause-plain
+unfolding clap_on_literals
+returns-clause-plain c = (refl, refl)
+
 pub returns-clause-help : goal.returns-clause-help
 unfolding clap_on_literals
 returns-clause-help c = (inl refl, inl refl, inl refl)

@@ -1,15 +1,15 @@
 use Rattle.std.proofs.Common.{inl, inr}
 use Rattle.tool.proofs.Kept.{ends_of, same_refl}
 use Rattle.tool.proofs.Named.{answer_of}
-use Rattle.tool.specs.Asked.{names_asked}
+use Rattle.tool.specs.Asked.{asked_by}
 use Rattle.tool.proofs.program.tool.Goals as goal
 
 pub returns-in-Ok-clause-command : goal.returns-in-Ok-clause-command
 returns-in-Ok-clause-command g c = λ some. inl (record {
-  names = names_asked c.in-Ok.rows;
-  outcome = c.rows_command-outcome.result;
-  asked = c.in-Ok.ensures;
-  ends = ends_of _ _ c.rows_command-outcome.result c.rows_command-outcome.ensures.done c.rows_command-outcome.ensures.refused;
+  asked = asked_by c.in-Ok.request;
+  outcome = c.picture_command.result;
+  asks = c.in-Ok.ensures;
+  ends = ends_of _ _ c.picture_command.result c.picture_command.ensures.done c.picture_command.ensures.refused;
   answer = c.answer-in-Ok.ensures;
 })
 

@@ -2,7 +2,7 @@ use Rattle.std.proofs.Common.{◌∙◌, ap, sym, subst, List, map, option_and_t
 use Rattle.std.proofs.lemmas.Result.{err_from_is_err_and}
 use Rattle.clap.specs.Words.{App, HasKind, Text, fault_of, is_simple, is_simple_and_free, subcommand_of}
 use Rattle.tool.proofs.Named.{line_is_free, line_is_simple}
-use Rattle.tool.specs.Line.{names_of_rows}
+use Rattle.tool.specs.Line.{asked_of_command}
 use Rattle.tool.proofs.words.read_words.Goals as goal
 
 pub returns-in_err-matches : goal.returns-in_err-matches
@@ -17,7 +17,7 @@ pub returns-in-Some : goal.returns-in-Some
 returns-in-Some c =
     let words : List Text = map (λ word. word.now) c.args.words.now in
     let fault_at : App → _ = λ app. fault_of app words in
-    let found_at : App → _ = λ app. option_and_then names_of_rows (subcommand_of app words) in
+    let found_at : App → _ = λ app. option_and_then asked_of_command (subcommand_of app words) in
     let none = c.in_ok-matches.ensures.kinds (ap is_simple_and_free c.in_ok-command.ensures ∙ line_is_free) in
     let found = (c.in_ok-matches.ensures.ok.2 (ap is_simple c.in_ok-command.ensures ∙ line_is_simple)).1 in
-    (sym (ap fault_at c.in_ok-command.ensures) ∙ none, sym (ap found_at c.in_ok-command.ensures) ∙ sym (ap (option_and_then names_of_rows) found) ∙ sym c.in-Some.ensures)
+    (sym (ap fault_at c.in_ok-command.ensures) ∙ none, sym (ap found_at c.in_ok-command.ensures) ∙ sym (ap (option_and_then asked_of_command) found) ∙ sym c.in-Some.ensures)

@@ -1,0 +1,4 @@
+pub mod Rows
+pub mod Works
+pub mod Layouts
+pub mod Samples

@@ -1,0 +1,6 @@
+pub mod Quiet
+pub mod Filling
+pub mod Alone
+pub mod Private
+pub mod Left
+mod Shared

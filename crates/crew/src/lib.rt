@@ -1,0 +1,8 @@
+//! Workers that compute a checked plan on an input of its algorithm, in threads that share one board.
+#![tactic(auto)]
+
+mod running;
+mod values;
+mod worker;
+
+pub use running::{RunError, run};

@@ -1,0 +1,120 @@
+-- What the commands that write a picture do to the files.
+use Rattle.std.specs.Prelude.{◌≡◌, ◌⊎◌, ℕ, List, Option, Some, Ok, ⊤}
+use Rattle.image.specs.View.{Frame}
+use Rattle.meaning.specs.Algorithm.{Algorithm}
+use Rattle.algo.specs.Parts.{input_frame}
+use Rattle.algo.specs.View.{picture_said}
+use Rattle.algo.specs.Refusal.{IsAlgorithmText}
+use Rattle.audit.specs.declared.checked.Checked.{Checked}
+use Rattle.audit.specs.View.{plan_checked}
+use Rattle.pnm.specs.declared.error.PnmError.TheVariants.{Device}
+use Rattle.pnm.specs.Reading.{reading, wanted_of}
+use Rattle.pnm.specs.Text.{text_of}
+use Rattle.pictures.specs.declared.fault.Fault.{Fault}
+use Rattle.pictures.specs.declared.fault.Fault.TheVariants.{Memory, Image}
+use Rattle.pictures.specs.Rows.{HasRows, IsAccepted, IsCrewRefused, IsImageRefused, IsPlanRefused, IsTextRefused}
+use Rattle.pictures.specs.WithoutPlan.{IsBudgetSpent}
+use Rattle.tool.specs.Asked.{Asked}
+use Rattle.tool.specs.Files.{Contents, Holds, Puts, SameFiles, SameOthers}
+use Rattle.tool.specs.declared.request.Way.{Way}
+use Rattle.tool.specs.declared.request.Way.TheVariants.{Rows, Plain}
+
+-- ---- the two ways
+
+-- an algorithm's picture can be computed this way: by rows where it has a row plan that the checker accepts
+abbrev pub IsReady : Way → Algorithm → Type 0
+IsReady Rows a = HasRows a
+IsReady Plain a = ⊤
+
+-- why it can't
+abbrev pub IsUnready : Way → Algorithm → Fault → Type 0
+IsUnready Rows a fault = IsPlanRefused a fault
+IsUnready Plain a fault = ⊥
+
+-- why it was not computed: a piece of the row plan was left unfinished, or some pixel takes too many evaluations
+abbrev pub IsStopped : Way → Algorithm → List ℕ → Fault → Type 0
+IsStopped Rows a samples fault = (x : Checked) × IsAccepted a x.plan x.cert × IsCrewRefused (plan_checked x) fault
+IsStopped Plain a samples fault = IsBudgetSpent a samples fault
+
+-- ---- what is done
+
+-- the bytes are the image file of the picture that the algorithm of one file says of the image of another
+pub record IsPicture (files : Contents) (a : Asked) (bytes : List ℕ) : Type 0 where
+  pub text : List ℕ
+  pub algorithm : Algorithm
+  pub image : List ℕ
+  pub samples : List ℕ
+  pub holds_text : Holds files a.algorithm text
+  pub is_text : IsAlgorithmText text algorithm
+  pub ready : IsReady a.way algorithm
+  pub holds_image : Holds files a.input image
+  pub is_image : reading (wanted_of (input_frame algorithm)) image ≡ Ok samples
+  pub whole : bytes ≡ text_of (picture_said algorithm samples)
+
+-- the picture was put, and nothing else
+abbrev pub IsDone : Contents → Contents → Asked → Type 0
+IsDone old new a = (bytes : List ℕ) × IsPicture old a bytes × Puts old new a.output bytes
+
+-- ---- why something is refused
+
+-- memory ran out, or a file can't be read or written
+abbrev pub IsOfDevice : Fault → Type 0
+IsOfDevice fault = (fault ≡ Memory) ⊎ (fault ≡ Image Device)
+
+-- the bytes are no text, or a text that is refused
+abbrev pub IsTextFault : List ℕ → Fault → Type 0
+IsTextFault bytes fault = IsOfDevice fault ⊎ IsTextRefused bytes fault
+
+-- the bytes are no image file of this type and these extents
+abbrev pub IsImageFault : Frame → List ℕ → Fault → Type 0
+IsImageFault frame bytes fault = (rest : Option (List ℕ)) × IsImageRefused frame (Some bytes) rest fault
+
+-- the algorithm's text is refused
+pub record TextRefused (files : Contents) (a : Asked) (fault : Fault) : Type 0 where
+  pub text : List ℕ
+  pub holds_text : Holds files a.algorithm text
+  pub refused : IsTextFault text fault
+
+-- the algorithm's picture can't be computed this way
+pub record PlanRefused (files : Contents) (a : Asked) (fault : Fault) : Type 0 where
+  pub text : List ℕ
+  pub algorithm : Algorithm
+  pub holds_text : Holds files a.algorithm text
+  pub is_text : IsAlgorithmText text algorithm
+  pub refused : IsUnready a.way algorithm fault
+
+-- it can, and the image is refused
+pub record ImageRefused (files : Contents) (a : Asked) (fault : Fault) : Type 0 where
+  pub text : List ℕ
+  pub algorithm : Algorithm
+  pub image : List ℕ
+  pub holds_text : Holds files a.algorithm text
+  pub is_text : IsAlgorithmText text algorithm
+  pub ready : IsReady a.way algorithm
+  pub holds_image : Holds files a.input image
+  pub refused : IsImageFault (input_frame algorithm) image fault
+
+-- the text and the image are accepted, and the picture was not computed
+pub record PictureRefused (files : Contents) (a : Asked) (fault : Fault) : Type 0 where
+  pub text : List ℕ
+  pub algorithm : Algorithm
+  pub image : List ℕ
+  pub samples : List ℕ
+  pub holds_text : Holds files a.algorithm text
+  pub is_text : IsAlgorithmText text algorithm
+  pub holds_image : Holds files a.input image
+  pub is_image : reading (wanted_of (input_frame algorithm)) image ≡ Ok samples
+  pub refused : IsStopped a.way algorithm samples fault
+
+-- why nothing was put
+abbrev pub IsReason : Contents → Asked → Fault → Type 0
+IsReason files a fault =
+    IsOfDevice fault ⊎ (TextRefused files a fault ⊎ (PlanRefused files a fault ⊎ (ImageRefused files a fault ⊎ PictureRefused files a fault)))
+
+-- the picture was computed, and it could not be put
+abbrev pub IsNotPut : Contents → Contents → Asked → Fault → Type 0
+IsNotPut old new a fault = IsOfDevice fault × SameOthers old new a.output × ((bytes : List ℕ) × IsPicture old a bytes)
+
+-- nothing was put, for a reason; or all else had succeeded, and all files but the output are as before
+abbrev pub IsRefused : Contents → Contents → Asked → Fault → Type 0
+IsRefused old new a fault = (SameFiles old new × IsReason old a fault) ⊎ IsNotPut old new a fault

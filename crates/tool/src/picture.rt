@@ -1,0 +1,136 @@
+//! The commands that write a picture: by the row plan of an algorithm, and by its definitions alone.
+
+ghost use Rattle.std.specs.Prelude.{◌≡◌, Some, IfOk, IfErr, OnOk};
+ghost use Rattle.algo.specs.Parts.{input_frame};
+ghost use Rattle.algo.specs.Refusal.{IsAlgorithmText};
+ghost use Rattle.algo.specs.View.{algorithm_of, picture_said, samples_of, IsFor};
+ghost use Rattle.image.specs.View.{image_of};
+ghost use Rattle.pnm.specs.Reading.{reading, wanted_of};
+ghost use Rattle.pnm.specs.Text.{text_of};
+ghost use Rattle.tool.specs.Asked.{asked_by};
+ghost use Rattle.tool.specs.Means.{AreMeans, IsHalted, algo_meant};
+ghost use Rattle.tool.specs.Pictures.{IsDone, IsImageFault, IsRefused, IsTextFault, IsUnready};
+
+use crate::device::Files;
+use crate::request::{Request, Way};
+use algo::{Algo, Inputs};
+use audit::Checked;
+use image::Image;
+use pictures::{Fault, check_rows, plain_picture, read_algorithm, read_inputs, rows_picture};
+use pnm::PnmError;
+use std::alloc::Global;
+use std::str;
+use std::sync::Wait;
+use std::thread::Threads;
+
+/// What a picture is computed by.
+#[derive(Drop)]
+enum Means<'a> {
+    /// The algorithm's row plan, which the checker has accepted.
+    Plan(Checked<'a>),
+    /// The algorithm's definitions.
+    Definitions(&'a Algo),
+}
+
+/// Reads the text of an algorithm file.
+fn algorithm_in(alloc: Global, bytes: &[u8]) -> Result<Algo, Fault>
+    ensures said { IfOk result (λ algo. IsAlgorithmText bytes.now (algorithm_of algo)) }
+    ensures refused { IfErr result (IsTextFault bytes.now) }
+{
+    match str::from_utf8(bytes) {
+        Ok(text) => read_algorithm(alloc, text),
+        Err(_) => Err(Fault::Image(PnmError::Device)),
+    }
+}
+
+/// What an algorithm's picture is computed by.
+fn means_of<'a, T: Threads + Sync>(
+    rt: &T,
+    alloc: Global,
+    way: Way,
+    algo: &'a Algo,
+) -> Result<Means<'a>, Fault>
+    ensures algo { IfOk result (λ means. algo_meant means ≡ algo.now) }
+    ensures means { IfOk result (AreMeans way (algorithm_of algo.now)) }
+    ensures refused { IfErr result (IsUnready way (algorithm_of algo.now)) }
+{
+    match way {
+        Way::Rows => Ok(Means::Plan(check_rows(rt, alloc, algo)?)),
+        Way::Plain => Ok(Means::Definitions(algo)),
+    }
+}
+
+/// Reads an image file as the input of an algorithm.
+fn image_in(alloc: Global, algo: &Algo, bytes: &[u8]) -> Result<Inputs, Fault>
+    ensures fits { IfOk result (λ inputs. IsFor algo.now inputs) }
+    ensures read { IfOk result (λ inputs. reading (wanted_of (input_frame (algorithm_of algo.now))) bytes.now ≡ Ok (samples_of inputs)) }
+    ensures refused { IfErr result (IsImageFault (input_frame (algorithm_of algo.now)) bytes.now) }
+{
+    let mut rest = bytes;
+    read_inputs(alloc, algo, &mut rest)
+}
+
+/// The picture.
+fn computed<T: Threads + Wait + Sync>(
+    rt: &T,
+    alloc: Global,
+    means: &Means<'_>,
+    inputs: &Inputs,
+) -> Result<Image, Fault>
+    requires { IsFor (algo_meant means.now) inputs.now }
+    ensures picture { IfOk result (λ image. image_of image ≡ picture_said (algorithm_of (algo_meant means.now)) (samples_of inputs.now)) }
+    ensures refused { IfErr result (IsHalted means.now (samples_of inputs.now)) }
+{
+    match means {
+        Means::Plan(checked) => rows_picture(rt, alloc, checked, inputs),
+        Means::Definitions(algo) => plain_picture(rt, alloc, algo, inputs),
+    }
+}
+
+/// The image file of the picture.
+fn picture_file<T: Threads + Wait + Sync>(
+    rt: &T,
+    alloc: Global,
+    means: &Means<'_>,
+    inputs: &Inputs,
+) -> Result<Vec<u8>, Fault>
+    requires { IsFor (algo_meant means.now) inputs.now }
+    ensures written { IfOk result (λ file. file.items ≡ text_of (picture_said (algorithm_of (algo_meant means.now)) (samples_of inputs.now))) }
+    ensures refused { IfErr result (IsHalted means.now (samples_of inputs.now)) }
+{
+    let image = computed(rt, alloc, means, inputs)?;
+    let mut file = Vec::new(alloc);
+    match pnm::write(&mut file, &image) {
+        Ok(()) => Ok(file),
+        // A vector takes all bytes while there is memory.
+        Err(_) => Err(Fault::Memory),
+    }
+}
+
+/// Writes the picture that an algorithm says of an image: by its row plan, which is made, checked and computed in the
+/// caller's thread and one more, or by its definitions alone, in as many threads as serve.
+///
+/// The algorithm's file is read, its text and its plan are checked, the image is read, and the picture is written last,
+/// after everything else has succeeded.
+///
+/// # Errors
+/// The first refusal in this order; a text that is not UTF-8 is one of the device.
+pub fn picture_command<T: Threads + Wait + Sync, F: Files>(
+    rt: &T,
+    alloc: Global,
+    files: &mut F,
+    request: &Request<'_>,
+) -> Result<(), Fault>
+    ensures done { OnOk result (IsDone (F.contents files.old) (F.contents files.new) (asked_by request.now)) }
+    ensures refused { IfErr result (IsRefused (F.contents files.old) (F.contents files.new) (asked_by request.now)) }
+{
+    let text = files.get(alloc, request.algorithm)?;
+    let algo = algorithm_in(alloc, text.as_slice())?;
+    let means = means_of(rt, alloc, request.way, &algo)?;
+    let bytes = files.get(alloc, request.input)?;
+    let inputs = image_in(alloc, &algo, bytes.as_slice())?;
+    drop(bytes);
+    let file = picture_file(rt, alloc, &means, &inputs)?;
+    files.put(request.output, file.as_slice())?;
+    Ok(())
+}
