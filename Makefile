@@ -11,7 +11,8 @@ test:
 	rt ci
 
 # How long the checker takes for a row plan of 4096 by 4096 (4096 pieces and 2^24 cells), and how long and how much memory
-# the command `rows` takes for an increment and a 3x3 blur of 1024 by 1024 and 4096 by 4096.
+# the command `rows` takes for an increment and a 3x3 blur of 1024 by 1024 and 4096 by 4096, and `plain` for the blur of
+# 1024 by 1024.
 bench:
 	cd crates/bench && rt run -- 4096
 	cd crates/stencil && rt run -- --help > /dev/null
