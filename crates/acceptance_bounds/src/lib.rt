@@ -6,4 +6,6 @@ mod generated_tests;
 #[cfg(test)]
 mod interval_tests;
 #[cfg(test)]
+mod projection_tests;
+#[cfg(test)]
 mod scene_tests;

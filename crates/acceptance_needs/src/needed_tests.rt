@@ -2,8 +2,8 @@
 
 use algo::Algo;
 use bounds::numbers;
-use lin::{Binding, Forms, Lin, Region, Scope, Span1};
-use needs::needed;
+use lin::{Binding, Forms, Lin, LinError, Region, Scope, Span1};
+use needs::{BoundsError, needed, needed_outside};
 use std::alloc::{AllocError, Global};
 use std::process::Abort;
 use std::test::Fail;
@@ -117,5 +117,92 @@ fn update_over_a_domain(rt: HostRuntime) -> Result<(), Fail> {
     assert!(rt; is_between(&own, 0, 255, 0));
     let called = needed(alloc, &eight(alloc)?, &algo, 1, "h", &points)?;
     assert!(rt; is_between(&called, 0, 15, 0));
+    Ok(())
+}
+
+/// The span of one value.
+fn exactly(alloc: Global, value: Lin) -> Result<Span1, AllocError> {
+    Ok(Span1 {
+        lower: one(alloc, value.copy(alloc)?)?,
+        upper: one(alloc, value)?,
+    })
+}
+
+/// The region of the one point at a symbol and a number more.
+fn at_sum(alloc: Global, symbol: usize, constant: i64) -> Result<Region, LinError> {
+    let sum = Lin::symbol(alloc, symbol)?.add(alloc, &Lin::number(alloc, constant))?;
+    let mut region = Region::new(alloc);
+    region.push(exactly(alloc, sum)?)?;
+    Ok(region)
+}
+
+const MIRROR: &str =
+    "pipeline p; input in u8 [2]; func f u8 (x) = in[x] / 2u8 + in[1 - x] / 2u8; output f [2];";
+
+#[test]
+fn freed_before_the_union(rt: HostRuntime) -> Result<(), Fail> {
+    let alloc = rt.alloc();
+    let algo = Algo::read(alloc, MIRROR)?;
+    assert!(rt; 0 < algo.funcs().len());
+    let mut scope = Scope::new(alloc);
+    scope.push(Binding::Loop(numbers(alloc, 0, 1)?))?;
+    let point = at_symbol(alloc)?;
+    let region = needed_outside(alloc, &scope, &[0], &algo, 0, "in", &point)?;
+    assert!(rt; is_between(&region, 0, 1, 0));
+    // the union of x and 1 - x as they are: from x - 1 or -x to x + 1 or 2 - x
+    let unfreed = needed(alloc, &scope, &algo, 0, "in", &point)?;
+    let outside_none = needed_outside(alloc, &scope, &[], &algo, 0, "in", &point)?;
+    for found in [unfreed, outside_none] {
+        let spans = found.as_slice();
+        assert_eq!(rt; spans.len(), 1);
+        assert_eq!(rt; spans[0].lower.as_slice().len(), 2);
+        assert_eq!(rt; spans[0].upper.as_slice().len(), 2);
+    }
+    Ok(())
+}
+
+const PAIR: &str =
+    "pipeline p; input in u8 [16]; func f u8 (x) = in[x - 1] / 2u8 + in[x] / 2u8; output f [16];";
+
+#[test]
+fn let_over_an_inner_loop(rt: HostRuntime) -> Result<(), Fail> {
+    let alloc = rt.alloc();
+    let algo = Algo::read(alloc, PAIR)?;
+    assert!(rt; 0 < algo.funcs().len());
+    // s1 from s0 to s0 + 3, and s2, which is s1 + 1
+    let mut scope = eight(alloc)?;
+    scope.push(Binding::Loop(Span1 {
+        lower: one(alloc, Lin::symbol(alloc, 0)?)?,
+        upper: one(
+            alloc,
+            Lin::symbol(alloc, 0)?.add(alloc, &Lin::number(alloc, 3))?,
+        )?,
+    }))?;
+    let next = Lin::symbol(alloc, 1)?.add(alloc, &Lin::number(alloc, 1))?;
+    scope.push(Binding::LetMin(one(alloc, next)?))?;
+    let point = at_sum(alloc, 2, 0)?;
+    let tile = needed_outside(alloc, &scope, &[1, 2], &algo, 0, "in", &point)?;
+    assert!(rt; is_between(&tile, 0, 4, 1));
+    let root = needed_outside(alloc, &scope, &[0, 1, 2], &algo, 0, "in", &point)?;
+    assert!(rt; is_between(&root, 0, 11, 0));
+    Ok(())
+}
+
+const COPY: &str = "pipeline p; input in u8 [16]; func f u8 (x) = in[x]; output f [16];";
+
+#[test]
+fn projection_outside_the_limits(rt: HostRuntime) -> Result<(), Fail> {
+    let alloc = rt.alloc();
+    let algo = Algo::read(alloc, COPY)?;
+    assert!(rt; 0 < algo.funcs().len());
+    let mut scope = Scope::new(alloc);
+    scope.push(Binding::Loop(numbers(alloc, 0, 1 << 40)?))?;
+    let fits = needed_outside(alloc, &scope, &[0], &algo, 0, "in", &at_symbol(alloc)?)?;
+    assert!(rt; is_between(&fits, 0, 1 << 40, 0));
+    let point = at_sum(alloc, 0, 1)?;
+    let unfreed = needed(alloc, &scope, &algo, 0, "in", &point)?;
+    assert!(rt; is_between(&unfreed, 1, 1, 1));
+    let found = needed_outside(alloc, &scope, &[0], &algo, 0, "in", &point);
+    assert!(rt; matches!(found, Err(BoundsError::Limit)));
     Ok(())
 }

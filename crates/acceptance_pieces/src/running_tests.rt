@@ -144,7 +144,7 @@ fn unless_fault(ended: Result<Vec<i64>, Stop>) -> Result<Option<Vec<i64>>, Alloc
 pub(crate) fn run(alloc: Global, case: &Case, at: &[u32]) -> Result<Option<Vec<i64>>, Fail> {
     let Case { plan, cert, image } = case;
     if is_input(plan, image) && has_small_piece(plan, cert, at) {
-        Ok(unless_fault(run_piece(alloc, plan, cert, image, &NoCells, 0, at))?)
+        Ok(unless_fault(run_piece(alloc, plan, cert, image, &NoCells, 0, at, 1024))?)
     } else {
         Err("the plan is not of small forms for this input".into())
     }

@@ -8,6 +8,8 @@ mod device_tests;
 #[cfg(test)]
 mod picture_tests;
 #[cfg(test)]
+mod plan_tests;
+#[cfg(test)]
 mod refusal_tests;
 #[cfg(test)]
 mod word_tests;

@@ -1,7 +1,9 @@
 pub mod Answered
+pub mod Broken
 pub mod Converse
 pub mod Exclusion
 pub mod Kept
 pub mod Lists
+pub mod Placed
 pub mod Small
 pub mod Whole

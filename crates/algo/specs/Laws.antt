@@ -1,16 +1,23 @@
 -- Laws of refusals.
 use Rattle.std.specs.Prelude.{◌≡◌, ℕ, List}
 use Rattle.tree.specs.Term.{Term}
+use Rattle.syntax.specs.declared.statement.File.{File}
 use Rattle.syntax.specs.Text.{FileText}
+use Rattle.syntax.specs.View.{file_text}
 use Rattle.algo.specs.declared.error.AlgoError.{AlgoError}
 use Rattle.algo.specs.declared.error.AlgoError.TheVariants.{Memory}
 use Rattle.algo.specs.Saying.{IsWellFormed}
 use Rattle.algo.specs.Keeping.{FileBreaks}
+use Rattle.algo.specs.Faults.{TellsOfFile}
 use Rattle.algo.specs.Refusal.{IsRefusedText, IsNoAlgorithm}
 
 -- a well-formed file keeps each condition that a refusal can name
 abbrev pub WellFormedBreaksNothing : Type 0
 WellFormedBreaksNothing = (file : FileText Term) (e : AlgoError) → FileBreaks file e → IsWellFormed file → e ≡ Memory
+
+-- a fault that is told at its place is one of the condition that its code stands for
+abbrev pub ToldBreaks : Type 0
+ToldBreaks = (file : File) (e : AlgoError) → TellsOfFile file e → FileBreaks (file_text file) e
 
 -- what is refused is no algorithm
 abbrev pub RefusedIsNoAlgorithm : Type 0

@@ -1,5 +1,6 @@
 pub mod Context
 pub mod Definitions
+pub mod Faults
 pub mod Frames
 pub mod Keeping
 pub mod Laws

@@ -1,6 +1,7 @@
 -- Which text is an algorithm, and why a text is refused.
-use Rattle.std.specs.Prelude.{◌≡◌, ◌≤◌, ◌⊎◌, ℕ, List, length}
+use Rattle.std.specs.Prelude.{◌≡◌, ◌≤◌, ◌⊎◌, ℕ, List, length, Option, Some, None}
 use Rattle.token.specs.Lexical.{max_text}
+use Rattle.token.specs.declared.span.Span.{Span}
 use Rattle.tree.specs.Term.{Term}
 use Rattle.meaning.specs.Algorithm.{Algorithm}
 use Rattle.syntax.specs.declared.error.FormError.{FormError}
@@ -8,11 +9,26 @@ use Rattle.syntax.specs.declared.error.FormError.TheVariants as form
 use Rattle.syntax.specs.Text.{FileText}
 use Rattle.syntax.specs.Grammar.{IsTextOf}
 use Rattle.syntax.specs.Places.{IsRefused}
+use Rattle.syntax.specs.Standing.{NamesStand}
+use Rattle.syntax.specs.Marks.{PartsStand}
+use Rattle.syntax.specs.View.{file_text}
+use Rattle.syntax.specs.declared.statement.File.{File}
+use Rattle.algo.specs.declared.error.Code.{Code}
 use Rattle.algo.specs.declared.error.Code.TheVariants.{BadToken, BadForm, TooLarge}
 use Rattle.algo.specs.declared.error.AlgoError.{AlgoError}
 use Rattle.algo.specs.declared.error.AlgoError.TheVariants.{Memory, Refused}
 use Rattle.algo.specs.Saying.{says, IsWellFormed}
 use Rattle.algo.specs.Keeping.{FileBreaks}
+use Rattle.algo.specs.Faults.{TellsOfFile}
+
+-- the code of a refusal, and its place
+abbrev pub code_of : AlgoError → Option Code
+code_of Memory = None
+code_of (Refused code span) = Some code
+
+abbrev pub place_of : AlgoError → Option Span
+place_of Memory = None
+place_of (Refused code span) = Some span
 
 -- a fault of the form as one of an algorithm
 abbrev pub form_error : FormError → AlgoError
@@ -41,6 +57,20 @@ pub record StatementRefused (text : List ℕ) (e : AlgoError) : Type 0 where
   pub found : IsTextOf text file
   pub only : (other : FileText Term) → IsTextOf text other → other ≡ file
   pub broken : FileBreaks file e
+
+-- the text stands for this file and nothing else, whose names, numbers and types stand in the text where the file says, and
+-- the error tells a fault of the file and its place
+pub record PlaceRefused (text : List ℕ) (e : AlgoError) : Type 0 where
+  pub file : File
+  pub found : IsTextOf text (file_text file)
+  pub only : (other : FileText Term) → IsTextOf text other → other ≡ file_text file
+  pub stands : NamesStand text file
+  pub placed : PartsStand text file
+  pub fault : TellsOfFile file e
+
+-- the form of the text is refused at this place, or a statement of it breaks the condition of the code there
+abbrev pub IsRefusedPlace : List ℕ → AlgoError → Type 0
+IsRefusedPlace text e = FormRefused text e ⊎ PlaceRefused text e
 
 -- why a text is no algorithm
 abbrev pub IsRefusedText : List ℕ → AlgoError → Type 0

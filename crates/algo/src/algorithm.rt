@@ -29,7 +29,7 @@ impl Algo {
     ghost use Rattle.algo.specs.Parts.{functions_of, input_frame, output_frame};
     ghost use Rattle.algo.specs.View.{algorithm_of, HasDefinition};
     ghost use Rattle.algo.specs.Definitions.{IsDefinition};
-    ghost use Rattle.algo.specs.Refusal.{IsAlgorithmText, IsRefusedText, IsNoAlgorithm};
+    ghost use Rattle.algo.specs.Refusal.{IsAlgorithmText, IsRefusedText, IsRefusedPlace, IsNoAlgorithm};
 
     /// Reads an algorithm text.
     ///
@@ -38,10 +38,14 @@ impl Algo {
     /// while the tokens are read, `BadForm` and `TooLarge` for a name or an expression. Then what a statement does not
     /// keep: the input, then the functions and updates in their order, then the output. Of one statement, in this order:
     /// `Name`, `LaterCall`, `IndexCount`, `MovedVariable`, `NoDomain`, `TypesDiffer`, `Limit` and `SampleType`.
+    /// The span is that of what is at fault: the name, the call (of `LaterCall` its name), the left index, the word
+    /// `update`, the expression, the number, the range or the type.
     /// `Memory` where memory runs out.
     pub fn read(alloc: Global, text: &str) -> Result<Algo, AlgoError>
         ensures said { IfOk result (λ a. IsAlgorithmText text.now (algorithm_of a)) }
         ensures refused { IfErr result (IsRefusedText text.now) }
+        // What the code says is broken is broken at the place.
+        ensures place { IfErr result (IsRefusedPlace text.now) }
         // A text is refused only where it is no algorithm.
         ensures only { IfErr result (IsNoAlgorithm text.now) }
     {

@@ -1,6 +1,7 @@
 //! What the expressions of a statement may use and keep, each condition with the place where it is broken.
 
-ghost use Rattle.std.specs.Prelude.{◌≡◌, ◌≢◌, not, string_bytes, map, All, OnOk, IfErr, Some, IsOk, IsNone, IsTrue, MatchOption, MatchResult};
+ghost use Rattle.std.specs.Prelude.{◌≡◌, ◌≢◌, not, string_bytes, map, All, OnOk, IfErr, IfSome, Some, if◌then◌else◌, nat_lt, IsOk, IsNone, IsTrue, MatchOption, MatchResult};
+ghost use Rattle.tree.specs.declared.expr.Expr.{Expr};
 ghost use Rattle.tree.specs.Term.{Term, term_of, list_terms};
 ghost use Rattle.tree.specs.Typing.{type_of};
 ghost use Rattle.meaning.specs.Names.{is_among};
@@ -11,6 +12,7 @@ ghost use Rattle.algo.specs.declared.error.AlgoError.TheVariants.{Refused};
 ghost use Rattle.algo.specs.Parts.{names_of, functions_of};
 ghost use Rattle.algo.specs.Context.{only_input, HasType};
 ghost use Rattle.algo.specs.Keeping.{UsesNames, CallsKnown, CallsCounted};
+ghost use Rattle.algo.specs.Faults.{BadTypeAt, CallAt, CalledAt, UnknownAt};
 
 use crate::error::{AlgoError, Code};
 use crate::function::{Function, Port};
@@ -70,9 +72,13 @@ pub(crate) trait Condition {
     /// Whether the expression keeps it.
     ghost holds: { Self → Term → Type 0 };
 
+    /// Whether the expression breaks it at this place.
+    ghost broken_at: { Self → Expr → Span → Type 0 };
+
     /// The place where the expression breaks it.
     fn fault(&self, expr: &Expr) -> Option<Span>
-        ensures { MatchOption result (holds self.now (term_of expr.now)) (λ _. ¬ holds self.now (term_of expr.now)) };
+        ensures holds { MatchOption result (holds self.now (term_of expr.now)) (λ _. ¬ holds self.now (term_of expr.now)) }
+        ensures place { IfSome result (broken_at self.now expr.now) };
 }
 
 // The test that a call's name is declared in the text.
@@ -99,6 +105,8 @@ pub(crate) struct KnownNames<'a> {
 impl Condition for KnownNames<'_> {
     ghost holds = { λ c e. UsesNames (names_of c.variables.now) (names_of c.declared.now) e };
 
+    ghost broken_at = { λ c e at. UnknownAt (names_of c.variables.now) (names_of c.declared.now) e at };
+
     fn fault(&self, expr: &Expr) -> Option<Span> {
         let variable = first_variable(
             expr,
@@ -122,7 +130,9 @@ impl Condition for KnownNames<'_> {
 }
 
 // The place that begins first.
-fn earlier(left: Span, right: Span) -> Span {
+fn earlier(left: Span, right: Span) -> Span
+    ensures { result ≡ (if nat_lt left.start right.start then left else right) }
+{
     if left.start < right.start {
         left
     } else {
@@ -147,6 +157,8 @@ impl CallTest for KnownCalls<'_> {
 
 impl Condition for KnownCalls<'_> {
     ghost holds = { λ c e. CallsKnown (callable (only_input c.input.now) (functions_of c.functions.now)) e };
+
+    ghost broken_at = { λ c e at. CalledAt (is_known (callable (only_input c.input.now) (functions_of c.functions.now))) e at };
 
     fn fault(&self, expr: &Expr) -> Option<Span> {
         Some(first_call(expr, self)?.name)
@@ -175,6 +187,8 @@ impl CallTest for CountedCalls<'_> {
 impl Condition for CountedCalls<'_> {
     ghost holds = { λ c e. CallsCounted (callable (only_input c.input.now) (functions_of c.functions.now)) e };
 
+    ghost broken_at = { λ c e at. CallAt (takes_count (callable (only_input c.input.now) (functions_of c.functions.now))) e at };
+
     fn fault(&self, expr: &Expr) -> Option<Span> {
         Some(first_call(expr, self)?.call)
     }
@@ -183,8 +197,9 @@ impl Condition for CountedCalls<'_> {
 /// Ok where the expression has this type. Else the place of the smallest expression whose parts disagree, and the
 /// expression's own where it has another type.
 pub(crate) fn typed(expr: &Expr, scope: &Scope<'_>, ty: Ty) -> Result<(), Span>
-    ensures { MatchResult result (λ _. HasType scope.now.variables.now scope.now.functions.now scope.now.input.now ty (term_of expr.now))
+    ensures typed { MatchResult result (λ _. HasType scope.now.variables.now scope.now.functions.now scope.now.input.now ty (term_of expr.now))
         (λ _. ¬ HasType scope.now.variables.now scope.now.functions.now scope.now.input.now ty (term_of expr.now)) }
+    ensures place { IfErr result (BadTypeAt (is_among (names_of scope.now.variables.now)) (callable (only_input scope.now.input.now) (functions_of scope.now.functions.now)) ty expr.now) }
 {
     match ty_of(expr, scope) {
         Ok(found) if found == ty => Ok(()),

@@ -2,7 +2,7 @@
 
 ghost use Rattle.std.specs.Prelude.{◌≡◌};
 ghost use Rattle.algo.specs.declared.error.AlgoError.TheVariants.{Memory};
-ghost use Rattle.algo.specs.Refusal.{form_error};
+ghost use Rattle.algo.specs.Refusal.{code_of, form_error, place_of};
 
 use std::alloc::{AllocError, AllocFailed};
 use std::fmt::{self, Display, Formatter};
@@ -99,7 +99,9 @@ impl From<FormError> for AlgoError {
 
 impl AlgoError {
     /// What the text breaks, if it is refused.
-    pub fn code(&self) -> Option<Code> {
+    pub fn code(&self) -> Option<Code>
+        ensures { result ≡ code_of self.now }
+    {
         match self {
             AlgoError::Memory => None,
             AlgoError::Refused { code, .. } => Some(*code),
@@ -107,7 +109,9 @@ impl AlgoError {
     }
 
     /// Where it breaks it, if it is refused.
-    pub fn span(&self) -> Option<Span> {
+    pub fn span(&self) -> Option<Span>
+        ensures { result ≡ place_of self.now }
+    {
         match self {
             AlgoError::Memory => None,
             AlgoError::Refused { span, .. } => Some(*span),

@@ -11,6 +11,7 @@ ghost use Rattle.algo.specs.Parts.{names_of, functions_of, output_type};
 ghost use Rattle.algo.specs.Context.{function_names, AreFunctions, only_input};
 ghost use Rattle.algo.specs.Saying.{says, IsWellFormed, names_declared, HasSmallExpressions};
 ghost use Rattle.algo.specs.Keeping.{Breaks, KeepsInput, KeepsOutput, FileBreaks};
+ghost use Rattle.algo.specs.Faults.{BadSizeAt, InputFaultAt, Tells, TellsOfFile, OutputFaultAt};
 ghost use Rattle.algo.specs.View.{algorithm_of};
 
 use crate::algorithm::Algo;
@@ -23,7 +24,7 @@ use indexmap::IndexMap;
 use numeric::Ty;
 use scoping::same_name;
 use std::alloc::{AllocError, Global};
-use syntax::{Extent, File, InputStatement, OutputStatement, Statement};
+use syntax::{Extent, File, InputStatement, Named, OutputStatement, Statement};
 use token::Span;
 
 // Whether images have samples of this type.
@@ -35,7 +36,8 @@ fn is_sample_type(ty: Ty) -> bool
 
 // The place of a width or a height that no image has.
 fn misfit(extent: &Extent) -> Option<Span>
-    ensures { MatchOption result (IsExtent extent.now.number) (λ _. ¬ IsExtent extent.now.number) }
+    ensures fits { MatchOption result (IsExtent extent.now.number) (λ _. ¬ IsExtent extent.now.number) }
+    ensures place { IfSome result (λ at. at ≡ extent.now.span) }
 {
     if (1..=8192).contains(&extent.number) {
         None
@@ -44,9 +46,10 @@ fn misfit(extent: &Extent) -> Option<Span>
     }
 }
 
-// The place of the first extent that passes the limits, and `otherwise` where there is none at all.
-fn extents_fault(extents: &[Extent], otherwise: Span) -> Option<Span>
-    ensures { MatchOption result (AreExtents (map extent_text extents.now)) (λ _. ¬ AreExtents (map extent_text extents.now)) }
+// The place of the first extent that passes the limits, and the name's where there is none at all.
+fn extents_fault(extents: &[Extent], name: &Named) -> Option<Span>
+    ensures fit { MatchOption result (AreExtents (map extent_text extents.now)) (λ _. ¬ AreExtents (map extent_text extents.now)) }
+    ensures place { IfSome result (BadSizeAt name.now extents.now) }
 {
     match extents {
         [width] => misfit(width),
@@ -57,7 +60,7 @@ fn extents_fault(extents: &[Extent], otherwise: Span) -> Option<Span>
             Some(colours.span)
         }),
         [_, _, _, fourth, ..] => Some(fourth.span),
-        [] => Some(otherwise),
+        [] => Some(name.span),
     }
 }
 
@@ -75,8 +78,9 @@ fn read_input(alloc: Global, statement: &InputStatement) -> Result<Port, AlgoErr
     ensures extents { IfOk result (λ p. p.shape.extents.items ≡ (input_text statement.now).extents) }
     ensures kept { IfOk result (λ _. AreExtents (input_text statement.now).extents × IsSampleType statement.now.ty) }
     ensures refused { IfErr result (Breaks (λ code. KeepsInput code (input_text statement.now))) }
+    ensures place { IfErr result (Tells (InputFaultAt statement.now)) }
 {
-    let fault = extents_fault(&statement.extents, statement.name.span);
+    let fault = extents_fault(&statement.extents, &statement.name);
     refuse(fault, Code::Limit)?;
     let fault = if is_sample_type(statement.ty) {
         None
@@ -116,6 +120,7 @@ fn read_output(
     ensures ty { IfOk result (λ p. IfSome (function_named (functions_of functions.now) (output_text statement.now).name) (λ f. p.shape.ty ≡ f.ty)) }
     ensures kept { IfOk result (λ _. (code : Code) → KeepsOutput (functions_of functions.now) code (output_text statement.now)) }
     ensures refused { IfErr result (Breaks (λ code. KeepsOutput (functions_of functions.now) code (output_text statement.now))) }
+    ensures place { IfErr result (Tells (OutputFaultAt (functions_of functions.now) statement.now)) }
 {
     let name = &statement.name;
     let Some((ty, count)) = function_named(functions, name.name.as_str()) else {
@@ -130,7 +135,7 @@ fn read_output(
             span: name.span,
         });
     }
-    refuse(extents_fault(&statement.extents, name.span), Code::Limit)?;
+    refuse(extents_fault(&statement.extents, name), Code::Limit)?;
     if !is_sample_type(ty) {
         return Err(AlgoError::Refused {
             code: Code::SampleType,
@@ -182,6 +187,7 @@ pub(crate) fn read_file(alloc: Global, file: &File) -> Result<Algo, AlgoError>
     ensures said { IfOk result (λ a. algorithm_of a ≡ says (file_text file.now)) }
     ensures kept { IfOk result (λ _. IsWellFormed (file_text file.now)) }
     ensures refused { IfErr result (FileBreaks (file_text file.now)) }
+    ensures place { IfErr result (TellsOfFile file.now) }
 {
     let input = read_input(alloc, &file.input)?;
     let declared = declared(alloc, file)?;

@@ -1,6 +1,11 @@
 //! Laws, each the contract of a function that does nothing.
 
-ghost use Rattle.algo.specs.Laws.{WellFormedBreaksNothing, RefusedIsNoAlgorithm};
+ghost use Rattle.algo.specs.Laws.{ToldBreaks, WellFormedBreaksNothing, RefusedIsNoAlgorithm};
+
+/// A fault that is told at its place breaks the condition of its code.
+pub fn told_faults_break_conditions()
+    ensures { ToldBreaks }
+{}
 
 /// A file that is refused for a condition on its statements is not well formed.
 pub fn refused_is_ill_formed()

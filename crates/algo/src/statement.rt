@@ -1,6 +1,6 @@
 //! From the statements of a text to the functions that they say.
 
-ghost use Rattle.std.specs.Prelude.{◌≡◌, ◌++◌, ◌∷◌, [], map, length, vec_len, string_bytes, All, IfOk, IfErr, OnOk, MatchOption, MatchResult};
+ghost use Rattle.std.specs.Prelude.{◌≡◌, ◌++◌, ◌∷◌, [], map, length, vec_len, string_bytes, All, IfOk, IfErr, IfSome, OnOk, slice_get, MatchOption, MatchResult};
 ghost use Rattle.tree.specs.Term.{term_of, list_terms};
 ghost use Rattle.meaning.specs.Names.{is_among};
 ghost use Rattle.meaning.specs.Conditions.{callable};
@@ -12,6 +12,7 @@ ghost use Rattle.algo.specs.Parts.{names_of, function_of, functions_of, change_o
 ghost use Rattle.algo.specs.Context.{only_input, function_names, AreFunctions, HasType};
 ghost use Rattle.algo.specs.Saying.{function_said, change_said, after_statement, functions_said, with_update, FollowsFunction, FollowFunctions, HasSmallExpressions};
 ghost use Rattle.algo.specs.Keeping.{KeepsFunction, KeepsStatement, StatementBreaks, Breaks, CallsKnown, CallsCounted, FunctionNames, FunctionLimits};
+ghost use Rattle.algo.specs.Faults.{FunctionFaultAt, FunctionLimitAt, FunctionNameAt, Tells, TellsOfStatement, StatementFaultAt, FirstUpdateAt, LastUpdateAt, UpdateStatementFaultAt};
 
 use crate::checks::{
     Condition, Context, CountedCalls, KnownCalls, KnownNames, Scope, refuse, typed,
@@ -47,9 +48,10 @@ fn names_fault(
     statement: &FunctionStatement,
 ) -> Option<Span>
     requires { names_of variables.now ≡ map named_text statement.now.variables.items }
-    ensures { MatchOption result
+    ensures kept { MatchOption result
         (FunctionNames (only_input context.now.input.now) (names_of context.now.declared.now) (functions_of context.now.functions.now) (function_text statement.now))
         (λ _. ¬ FunctionNames (only_input context.now.input.now) (names_of context.now.declared.now) (functions_of context.now.functions.now) (function_text statement.now)) }
+    ensures place { IfSome result (FunctionNameAt (only_input context.now.input.now) (names_of context.now.declared.now) (functions_of context.now.functions.now) statement.now) }
 {
     if is_taken(
         context.input,
@@ -69,7 +71,9 @@ fn names_fault(
 }
 
 // The place of one of the names.
-fn place_of(names: &[Named], i: usize, otherwise: Span) -> Span {
+fn place_of(names: &[Named], i: usize, otherwise: Span) -> Span
+    ensures { MatchOption (slice_get names.now i) (result ≡ otherwise) (λ name. result ≡ name.span) }
+{
     match names.get(i) {
         Some(name) => name.span,
         None => otherwise,
@@ -78,9 +82,10 @@ fn place_of(names: &[Named], i: usize, otherwise: Span) -> Span {
 
 // Where a function's statement passes a limit.
 fn limits_fault(context: &Context<'_>, statement: &FunctionStatement) -> Option<Span>
-    ensures { MatchOption result
+    ensures kept { MatchOption result
         (FunctionLimits (only_input context.now.input.now) (names_of context.now.declared.now) (functions_of context.now.functions.now) (function_text statement.now))
         (λ _. ¬ FunctionLimits (only_input context.now.input.now) (names_of context.now.declared.now) (functions_of context.now.functions.now) (function_text statement.now)) }
+    ensures place { IfSome result (FunctionLimitAt (only_input context.now.input.now) (names_of context.now.declared.now) (functions_of context.now.functions.now) statement.now) }
 {
     if context.functions.len() >= 64 {
         return Some(statement.name.span);
@@ -99,13 +104,14 @@ fn check_function(
     statement: &FunctionStatement,
 ) -> Result<(), AlgoError>
     requires { names_of variables.now ≡ map named_text statement.now.variables.items }
-    ensures { MatchResult result
+    ensures kept { MatchResult result
         (λ _. FunctionNames (only_input context.now.input.now) (names_of context.now.declared.now) (functions_of context.now.functions.now) (function_text statement.now)
         × CallsKnown (callable (only_input context.now.input.now) (functions_of context.now.functions.now)) (term_of statement.now.value)
         × CallsCounted (callable (only_input context.now.input.now) (functions_of context.now.functions.now)) (term_of statement.now.value)
         × HasType variables.now context.now.functions.now context.now.input.now statement.now.ty (term_of statement.now.value)
         × FunctionLimits (only_input context.now.input.now) (names_of context.now.declared.now) (functions_of context.now.functions.now) (function_text statement.now))
         (Breaks (λ code. KeepsFunction (only_input context.now.input.now) (names_of context.now.declared.now) (functions_of context.now.functions.now) code (function_text statement.now))) }
+    ensures place { IfErr result (Tells (FunctionFaultAt (only_input context.now.input.now) (names_of context.now.declared.now) (functions_of context.now.functions.now) statement.now)) }
 {
     let Context {
         input,
@@ -146,6 +152,7 @@ fn read_function(
     ensures said { IfOk result (λ e. function_of e ≡ function_said (function_text statement.now)) }
     ensures kept { IfOk result (λ _. (code : Code) → KeepsFunction (only_input context.now.input.now) (names_of context.now.declared.now) (functions_of context.now.functions.now) code (function_text statement.now)) }
     ensures refused { IfErr result (Breaks (λ code. KeepsFunction (only_input context.now.input.now) (names_of context.now.declared.now) (functions_of context.now.functions.now) code (function_text statement.now))) }
+    ensures place { IfErr result (Tells (FunctionFaultAt (only_input context.now.input.now) (names_of context.now.declared.now) (functions_of context.now.functions.now) statement.now)) }
 {
     let variables = names(alloc, &statement.variables)?;
     check_function(context, &variables, statement)?;
@@ -182,6 +189,7 @@ fn next_update(
     ensures functions { OnOk result (AreFunctions (only_input context.now.input.now) (with_update (functions_of context.now.functions.now) (change_said (update_text statement.now)))) }
     ensures follows { OnOk result (FollowsFunction (functions_of context.now.functions.now) (update (update_text statement.now))) }
     ensures refused { IfErr result (Breaks (λ code. KeepsStatement (only_input context.now.input.now) (names_of context.now.declared.now) (functions_of context.now.functions.now) code (update (update_text statement.now)))) }
+    ensures place { IfErr result (Tells (UpdateStatementFaultAt (only_input context.now.input.now) (names_of context.now.declared.now) (functions_of context.now.functions.now) statement.now)) }
 {
     match context.functions.split_last() {
         Some((own, before)) => match read_update(alloc, context, before, own, statement) {
@@ -221,6 +229,7 @@ fn read_statement(
     ensures functions { OnOk result (AreFunctions (only_input input.now) (functions_of functions.new.items)) }
     ensures follows { OnOk result (FollowsFunction (functions_of functions.old.items) (statement_text statement.now)) }
     ensures refused { IfErr result (Breaks (λ code. KeepsStatement (only_input input.now) (names_of declared.now) (functions_of functions.old.items) code (statement_text statement.now))) }
+    ensures place { IfErr result (Tells (StatementFaultAt (only_input input.now) (names_of declared.now) (functions_of functions.old.items) statement.now)) }
 {
     let context = Context {
         input,
@@ -252,6 +261,7 @@ pub(crate) fn read_functions(
     ensures functions { IfOk result (λ fs. AreFunctions (only_input input.now) (functions_of fs.items)) }
     ensures follow { OnOk result (FollowFunctions (map statement_text statements.now)) }
     ensures refused { IfErr result (StatementBreaks (only_input input.now) (names_of declared.now) (map statement_text statements.now)) }
+    ensures place { IfErr result (TellsOfStatement (only_input input.now) (names_of declared.now) statements.now) }
 {
     let mut functions = Vec::new(alloc);
     for statement in statements {

@@ -1,11 +1,12 @@
 //! From an update's statement to the update.
 
-ghost use Rattle.std.specs.Prelude.{◌≡◌, ◌++◌, ◌∷◌, ◌≤◌, ◌^◌, ◌+◌, ◌*◌, ◌↔◌, [], not, map, length, vec_len, All, Some, IfOk, IfErr, OnErr, IsTrue, MatchOption, MatchResult};
+ghost use Rattle.std.specs.Prelude.{◌≡◌, ◌++◌, ◌∷◌, ◌≤◌, ◌^◌, ◌+◌, ◌*◌, ◌↔◌, [], not, map, length, vec_len, All, Some, IfOk, IfErr, IfSome, OnErr, slice_get, IsTrue, MatchOption, MatchResult};
 ghost use Rattle.numeric.specs.declared.ty.Ty.TheVariants.{I32 as Index};
 ghost use Rattle.tree.specs.Term.{Term, term_of, list_terms};
 ghost use Rattle.tree.specs.Uses.{EachCall};
-ghost use Rattle.meaning.specs.Names.{same_name};
-ghost use Rattle.meaning.specs.Conditions.{callable, IsRange};
+ghost use Rattle.meaning.specs.Names.{same_name, is_among};
+ghost use Rattle.scoping.specs.Expressions.{is_known};
+ghost use Rattle.meaning.specs.Conditions.{callable, AreDistinct, IsRange};
 ghost use Rattle.meaning.specs.Reduction.{size, width};
 ghost use Rattle.syntax.specs.View.{update_text, bound_text, domain_text};
 ghost use Rattle.syntax.specs.Text.{bound_value};
@@ -16,6 +17,7 @@ ghost use Rattle.algo.specs.Parts.{names_of, range_of, function_of, functions_of
 ghost use Rattle.algo.specs.Context.{only_input, HasType};
 ghost use Rattle.algo.specs.Saying.{change_said, range_said, domain_names};
 ghost use Rattle.algo.specs.Keeping.{KeepsUpdateOver, Breaks, OnLimit, DomainLimits, UpdateNames, UpdateCalls, UpdateIndices, UpdatePlaces, UpdateTypes, names_for};
+ghost use Rattle.algo.specs.Faults.{BadRangeAt, BadTypeAt, CallAt, CalledAt, DomainLimitAt, InOneAt, InUpdateAt, IsLeftPlace, Tells, OneRangeAt, OnlyLimit, UpdateCountAt, UpdateFaultAt, UpdateNameAt, UpdatePlaceAt, UpdateTypeAt};
 
 use crate::checks::{
     Condition, Context, CountedCalls, KnownCalls, KnownNames, Scope, refuse, typed,
@@ -46,6 +48,8 @@ impl CallTest for OtherCalls<'_> {
 impl Condition for OtherCalls<'_> {
     ghost holds = { λ c e. EachCall (λ name at. IsTrue (not (same_name c.name.now name))) e };
 
+    ghost broken_at = { λ c e at. CallAt (λ name indices. not (same_name c.name.now name)) e at };
+
     fn fault(&self, expr: &Expr) -> Option<Span> {
         Some(first_call(expr, self)?.call)
     }
@@ -53,7 +57,8 @@ impl Condition for OtherCalls<'_> {
 
 // The first fault of several expressions.
 fn first_fault<C: Condition>(at: &[Expr], condition: &C) -> Option<Span>
-    ensures { MatchOption result (All (C.holds condition.now) (list_terms at.now)) (λ _. ¬ All (C.holds condition.now) (list_terms at.now)) }
+    ensures holds { MatchOption result (All (C.holds condition.now) (list_terms at.now)) (λ _. ¬ All (C.holds condition.now) (list_terms at.now)) }
+    ensures place { IfSome result (InOneAt (C.broken_at condition.now) at.now) }
 {
     for index in at {
         if let Some(span) = condition.fault(index) {
@@ -65,8 +70,9 @@ fn first_fault<C: Condition>(at: &[Expr], condition: &C) -> Option<Span>
 
 // Ok where each of these is an index. Else the place in the first that is none.
 fn indices(at: &[Expr], scope: &Scope<'_>) -> Result<(), Span>
-    ensures { MatchResult result (λ _. All (HasType scope.now.variables.now scope.now.functions.now scope.now.input.now Index) (list_terms at.now))
+    ensures typed { MatchResult result (λ _. All (HasType scope.now.variables.now scope.now.functions.now scope.now.input.now Index) (list_terms at.now))
         (λ _. ¬ All (HasType scope.now.variables.now scope.now.functions.now scope.now.input.now Index) (list_terms at.now)) }
+    ensures place { IfErr result (InOneAt (BadTypeAt (is_among (names_of scope.now.variables.now)) (callable (only_input scope.now.input.now) (functions_of scope.now.functions.now)) Index) at.now) }
 {
     for index in at {
         if let Err(span) = typed(index, scope, Ty::I32) {
@@ -83,10 +89,12 @@ fn names_fault(
     variables: &[String],
     statement: &UpdateStatement,
 ) -> Option<Span>
-    requires { names_of variables.now ≡ names_for (function_of own.now) (update_text statement.now) }
-    ensures { MatchOption result
+    requires names { names_of variables.now ≡ names_for (function_of own.now) (update_text statement.now) }
+    requires distinct { AreDistinct (names_of own.now.1.variables.items) }
+    ensures kept { MatchOption result
         (UpdateNames (names_of context.now.declared.now) (function_of own.now) (update_text statement.now))
         (λ _. ¬ UpdateNames (names_of context.now.declared.now) (function_of own.now) (update_text statement.now)) }
+    ensures place { IfSome result (UpdateNameAt (names_of context.now.declared.now) (function_of own.now) statement.now) }
 {
     if !same_name(own.0.as_str(), statement.name.name.as_str()) {
         return Some(statement.name.span);
@@ -105,7 +113,9 @@ fn names_fault(
 }
 
 // The place of a reduction variable, and of the function's name where there is none.
-fn reduction_place(statement: &UpdateStatement, i: usize) -> Span {
+fn reduction_place(statement: &UpdateStatement, i: usize) -> Span
+    ensures { MatchOption (slice_get statement.now.domains.items i) (result ≡ statement.now.name.span) (λ domain. result ≡ domain.variable.span) }
+{
     match statement.domains.get(i) {
         Some(domain) => domain.variable.span,
         None => statement.name.span,
@@ -114,9 +124,10 @@ fn reduction_place(statement: &UpdateStatement, i: usize) -> Span {
 
 // Where an update calls what is not declared before it.
 fn calls_fault(context: &Context<'_>, statement: &UpdateStatement) -> Option<Span>
-    ensures { MatchOption result
+    ensures kept { MatchOption result
         (UpdateCalls (callable (only_input context.now.input.now) (functions_of context.now.functions.now)) (update_text statement.now))
         (λ _. ¬ UpdateCalls (callable (only_input context.now.input.now) (functions_of context.now.functions.now)) (update_text statement.now)) }
+    ensures place { IfSome result (InUpdateAt (CalledAt (is_known (callable (only_input context.now.input.now) (functions_of context.now.functions.now)))) statement.now) }
 {
     let known = KnownCalls {
         functions: context.functions,
@@ -134,9 +145,10 @@ fn indices_fault(
     own: &(String, Function),
     statement: &UpdateStatement,
 ) -> Option<Span>
-    ensures { MatchOption result
+    ensures kept { MatchOption result
         (UpdateIndices (callable (only_input context.now.input.now) (functions_of context.now.functions.now)) (function_of own.now) (update_text statement.now))
         (λ _. ¬ UpdateIndices (callable (only_input context.now.input.now) (functions_of context.now.functions.now)) (function_of own.now) (update_text statement.now)) }
+    ensures place { IfSome result (UpdateCountAt (callable (only_input context.now.input.now) (functions_of context.now.functions.now)) (function_of own.now) statement.now) }
 {
     let counted = CountedCalls {
         functions: context.functions,
@@ -152,7 +164,9 @@ fn indices_fault(
 }
 
 // The place of the left side.
-fn left_place(statement: &UpdateStatement) -> Span {
+fn left_place(statement: &UpdateStatement) -> Span
+    ensures { IsLeftPlace statement.now result }
+{
     match statement.at.as_slice() {
         [] => statement.name.span,
         [first, ..] => first.span(),
@@ -161,9 +175,10 @@ fn left_place(statement: &UpdateStatement) -> Span {
 
 // Where a variable of the function stands out of its place.
 fn places_out(own: &(String, Function), statement: &UpdateStatement) -> Option<Span>
-    ensures { MatchOption result
+    ensures kept { MatchOption result
         (UpdatePlaces (function_of own.now) (update_text statement.now))
         (λ _. ¬ UpdatePlaces (function_of own.now) (update_text statement.now)) }
+    ensures place { IfSome result (UpdatePlaceAt (function_of own.now) statement.now) }
 {
     let name = own.0.as_str();
     let variables = own.1.variables.as_slice();
@@ -182,9 +197,10 @@ fn types_fault(
     statement: &UpdateStatement,
 ) -> Option<Span>
     requires { names_of variables.now ≡ names_for (function_of own.now) (update_text statement.now) }
-    ensures { MatchOption result
+    ensures kept { MatchOption result
         (UpdateTypes (callable (only_input context.now.input.now) (functions_of before.now)) (callable (only_input context.now.input.now) (functions_of context.now.functions.now)) (function_of own.now) (update_text statement.now))
         (λ _. ¬ UpdateTypes (callable (only_input context.now.input.now) (functions_of before.now)) (callable (only_input context.now.input.now) (functions_of context.now.functions.now)) (function_of own.now) (update_text statement.now)) }
+    ensures place { IfSome result (UpdateTypeAt (callable (only_input context.now.input.now) (functions_of before.now)) (callable (only_input context.now.input.now) (functions_of context.now.functions.now)) (function_of own.now) statement.now) }
 {
     let left = Scope {
         variables,
@@ -213,8 +229,9 @@ fn check_update(
     variables: &[String],
     statement: &UpdateStatement,
 ) -> Result<(), AlgoError>
-    requires { names_of variables.now ≡ names_for (function_of own.now) (update_text statement.now) }
-    ensures { MatchResult result
+    requires names { names_of variables.now ≡ names_for (function_of own.now) (update_text statement.now) }
+    requires distinct { AreDistinct (names_of own.now.1.variables.items) }
+    ensures kept { MatchResult result
         (λ _. UpdateNames (names_of context.now.declared.now) (function_of own.now) (update_text statement.now)
         × UpdateCalls (callable (only_input context.now.input.now) (functions_of context.now.functions.now)) (update_text statement.now)
         × UpdateIndices (callable (only_input context.now.input.now) (functions_of context.now.functions.now)) (function_of own.now) (update_text statement.now)
@@ -222,6 +239,7 @@ fn check_update(
         × (1 ≤ length statement.now.domains.items)
         × UpdateTypes (callable (only_input context.now.input.now) (functions_of before.now)) (callable (only_input context.now.input.now) (functions_of context.now.functions.now)) (function_of own.now) (update_text statement.now))
         (Breaks (λ code. KeepsUpdateOver (only_input context.now.input.now) (names_of context.now.declared.now) (functions_of before.now) (function_of own.now) (functions_of context.now.functions.now) code (update_text statement.now))) }
+    ensures place { IfErr result (Tells (UpdateFaultAt (only_input context.now.input.now) (names_of context.now.declared.now) (functions_of before.now) (function_of own.now) (functions_of context.now.functions.now) statement.now)) }
 {
     refuse(names_fault(context, own, variables, statement), Code::Name)?;
     refuse(calls_fault(context, statement), Code::LaterCall)?;
@@ -248,9 +266,11 @@ pub(crate) fn read_update(
     own: &(String, Function),
     statement: &UpdateStatement,
 ) -> Result<Update, AlgoError>
+    requires { AreDistinct (names_of own.now.1.variables.items) }
     ensures said { IfOk result (λ u. change_of u ≡ change_said (update_text statement.now)) }
     ensures kept { IfOk result (λ _. (code : Code) → KeepsUpdateOver (only_input context.now.input.now) (names_of context.now.declared.now) (functions_of before.now) (function_of own.now) (functions_of context.now.functions.now) code (update_text statement.now)) }
     ensures refused { IfErr result (Breaks (λ code. KeepsUpdateOver (only_input context.now.input.now) (names_of context.now.declared.now) (functions_of before.now) (function_of own.now) (functions_of context.now.functions.now) code (update_text statement.now))) }
+    ensures place { IfErr result (Tells (UpdateFaultAt (only_input context.now.input.now) (names_of context.now.declared.now) (functions_of before.now) (function_of own.now) (functions_of context.now.functions.now) statement.now)) }
 {
     let variables = with_reductions(alloc, &own.1.variables, &statement.domains)?;
     check_update(context, before, own, &variables, statement)?;
@@ -320,9 +340,10 @@ fn end(bound: Bound) -> i64
 
 // The range of a reduction variable, or the place of what passes the limits: an end, or both where they are crossed.
 fn range(domain: &Domain) -> Result<Range, AlgoError>
-    ensures { MatchResult result
+    ensures said { MatchResult result
         (λ range. (range_of range ≡ range_said (domain_text domain.now)) × IsRange (range_of range))
         (Breaks (OnLimit (IsRange (range_said (domain_text domain.now))))) }
+    ensures place { IfErr result (Tells (OnlyLimit (BadRangeAt domain.now))) }
 {
     let (low, high) = (end(domain.low), end(domain.high));
     let ends = Span {
@@ -357,6 +378,7 @@ fn ranges(alloc: Global, domains: &[Domain]) -> Result<Vec<Range>, AlgoError>
     ensures said { IfOk result (λ ranges. map range_of ranges.items ≡ map range_said (map domain_text domains.now)) }
     ensures within { IfOk result (λ ranges. All IsRange (map range_of ranges.items)) }
     ensures refused { IfErr result (Breaks (OnLimit (All IsRange (map range_said (map domain_text domains.now))))) }
+    ensures place { IfErr result (Tells (OnlyLimit (OneRangeAt domains.now))) }
 {
     let mut ranges = Vec::new(alloc);
     for domain in domains {
@@ -373,6 +395,7 @@ fn read_ranges(alloc: Global, domains: &[Domain], word: Span) -> Result<Vec<Rang
     ensures said { IfOk result (λ ranges. map range_of ranges.items ≡ map range_said (map domain_text domains.now)) }
     ensures within { IfOk result (λ _. DomainLimits (map domain_text domains.now)) }
     ensures refused { IfErr result (Breaks (OnLimit (DomainLimits (map domain_text domains.now)))) }
+    ensures place { IfErr result (Tells (OnlyLimit (DomainLimitAt domains.now word))) }
 {
     if let [_, _, _, fourth, ..] = domains {
         return Err(limit(fourth.variable.span));

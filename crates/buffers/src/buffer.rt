@@ -1,58 +1,99 @@
 //! One buffer.
 
-ghost use Rattle.std.specs.Prelude.{◌≡◌, ℕ, ◌<◌, ◌^◌, IfOk, IsFalse, None, map, replicate};
+ghost use Rattle.std.specs.Prelude.{◌≡◌, ℕ, ◌<◌, ◌≤◌, ◌^◌, ◌==◌, ◌&&◌, false, true, IfOk, IsFalse, None, map, replicate};
 ghost use Rattle.std.specs.Bool.{OnTrue};
 ghost use Rattle.nest.specs.Rooms.{place};
 ghost use Rattle.actions.specs.Memory.{held_at};
 ghost use Rattle.buffers.specs.Rooms.{room_of};
 ghost use Rattle.buffers.specs.Raster.{place_count};
-ghost use Rattle.buffers.specs.Blocks.{held_in, IsSetAt};
+ghost use Rattle.buffers.specs.Blocks.{held_in, unused, IsSetAt};
 
+use crate::limit::Limit;
 use crate::raster::{place_count, place_number};
-use crate::room::Room;
+use crate::room::{Room, Rooms};
+use smallvec::SmallVec;
 use std::alloc::{AllocError, Global};
 use std::marker::Model;
 use tree::Value;
 
-/// A buffer: its number, the places of each coordinate, and what all places hold in raster order.
+/// A buffer: its number, for how many places there is memory, whether it is in use, the places of each coordinate, and
+/// what all places hold in raster order.
 #[derive(Drop)]
 pub struct Buffer {
     number: u32,
-    rooms: Vec<Room>,
+    limit: usize,
+    is_used: bool,
+    rooms: Rooms,
     places: Vec<Option<Value>>,
 }
 
 impl Model for Buffer {
-    ghost use Rattle.std.specs.Prelude.{◌≡◌, ◌<◌, ◌^◌, map, length};
+    ghost use Rattle.std.specs.Prelude.{◌≡◌, ◌<◌, ◌≤◌, ◌^◌, map, length, vec_capacity};
     ghost use Rattle.buffers.specs.Blocks.{Block};
     ghost use Rattle.buffers.specs.Rooms.{room_of};
     ghost use Rattle.buffers.specs.Raster.{place_count};
 
     ghost Value = { Block };
 
-    ghost view = { λ b. record { number = b.number; rooms = map room_of b.rooms.items; places = b.places.items } };
+    ghost view = { λ b. record { number = b.number; limit = b.limit; used = b.is_used; rooms = map room_of b.rooms.items; places = b.places.items } };
 
-    ghost invariant = { λ b. (length b.places.items ≡ place_count (map room_of b.rooms.items)) × (place_count (map room_of b.rooms.items) < 2 ^ 64) };
+    ghost invariant = { λ b. (length b.places.items ≡ place_count (map room_of b.rooms.items)) × (place_count (map room_of b.rooms.items) < 2 ^ 64) × (b.limit ≤ vec_capacity b.places) × (b.limit < 2 ^ 64) };
 }
 
 impl Buffer {
-    /// A buffer of unset places. Each takes 24 bytes.
-    pub(crate) fn new(alloc: Global, number: u32, rooms: &[Room]) -> Result<Buffer, AllocError>
-        ensures { IfOk result (λ b. b ≡ record { number = number; rooms = map room_of rooms.now; places = replicate (place_count (map room_of rooms.now)) None }) }
+    /// A buffer that is not in use. It takes memory for its places, 24 bytes each.
+    pub(crate) fn new(alloc: Global, limit: Limit) -> Result<Buffer, AllocError>
+        ensures number { IfOk result (λ b. b.number ≡ limit.buffer) }
+        ensures limit { IfOk result (λ b. b.limit ≡ limit.places) }
+        ensures unused { IfOk result (λ b. b.used ≡ false) }
     {
-        let count = place_count(rooms).ok_or(AllocError)?;
+        let mut places = Vec::with_capacity(alloc, limit.places)?;
+        // Without coordinates there is one place.
+        places.push(None)?;
         Ok(Buffer {
-            number,
-            rooms: rooms.to_vec(alloc)?,
-            places: vec![in alloc; None; count]?,
+            number: limit.buffer,
+            limit: limit.places,
+            is_used: false,
+            rooms: SmallVec::new(alloc),
+            places,
         })
     }
 
-    /// The buffer's number.
-    pub(crate) fn number(&self) -> u32
-        ensures { result ≡ self.now.number }
+    /// Whether the buffer has this number.
+    pub(crate) fn is_numbered(&self, number: u32) -> bool
+        ensures { result ≡ (number == self.now.number) }
     {
-        self.number
+        number == self.number
+    }
+
+    /// Whether the buffer has this number and is in use.
+    pub(crate) fn is_used_as(&self, number: u32) -> bool
+        ensures { result ≡ (self.now.used && (number == self.now.number)) }
+    {
+        self.is_used && number == self.number
+    }
+
+    /// Takes the buffer into use, with unset places.
+    pub(crate) fn begin(&mut self, rooms: Rooms)
+        requires { place_count (map room_of rooms.items) ≤ self.old.limit }
+        ensures { self.new ≡ record { number = self.old.number; limit = self.old.limit; used = true; rooms = map room_of rooms.items; places = replicate (place_count (map room_of rooms.items)) None } }
+    {
+        self.places.clear();
+        let Some(count) = place_count(&rooms) else {
+            unreachable!()
+        };
+        let Ok(()) = self.places.resize(count, None) else {
+            unreachable!()
+        };
+        self.rooms = rooms;
+        self.is_used = true;
+    }
+
+    /// Takes the buffer out of use.
+    pub(crate) fn end(&mut self)
+        ensures { self.new ≡ unused self.old }
+    {
+        self.is_used = false;
     }
 
     /// What is held at a point.

@@ -5,9 +5,11 @@
 #![tactic(auto)]
 
 mod buffer;
+mod limit;
 mod memory;
 mod raster;
 mod room;
 
+pub use limit::Limit;
 pub use memory::Buffers;
-pub use room::Room;
+pub use room::{Room, Rooms};

@@ -2,6 +2,12 @@
 
 ghost use Rattle.std.specs.Prelude.{◌≡◌};
 ghost use Rattle.nest.specs.Rooms.{below};
+ghost use Rattle.buffers.specs.declared.room.Room.TheVariants.{Wrapped};
+
+use smallvec::SmallVec;
+
+/// The places of all coordinates. Up to four take no memory of the heap.
+pub type Rooms = SmallVec<Room, 4>;
 
 /// The places that a buffer has for one coordinate.
 #[derive(Clone, Copy, Debug, PartialEq, Eq, Drop)]
@@ -10,6 +16,15 @@ pub enum Room {
     Straight { origin: i64, count: u32 },
     /// So many places, where a coordinate has the place of its remainder by `count`.
     Wrapped { count: u32 },
+}
+
+/// No place.
+impl Default for Room {
+    ghost is_default = { λ r. r ≡ Wrapped 0 };
+
+    fn default() -> Room {
+        Room::Wrapped { count: 0 }
+    }
 }
 
 // The number, where it is one below the count.

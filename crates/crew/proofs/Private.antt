@@ -1,11 +1,12 @@
 -- What the private runs of an accepted plan's pieces give.
-use Rattle.std.proofs.Common.{◌≡◌, ◌<◌, List, ℤ, map, sym, ◌∙◌, subst}
+use Rattle.std.proofs.Common.{◌≡◌, ℕ, ◌<◌, List, ℤ, map, Some, sym, ◌∙◌, subst}
 use Rattle.image.specs.View.{Picture}
 use Rattle.algo.specs.declared.inputs.Inputs.{Inputs}
 use Rattle.algo.specs.View.{IsFor, picture_of, samples_of}
 use Rattle.audit.specs.declared.checked.Checked.{Checked}
 use Rattle.audit.specs.View.{algorithm_checked, plan_checked, certificate_checked}
-use Rattle.nest.specs.Plan.{Plan}
+use Rattle.std.specs.Prelude.{slice_get}
+use Rattle.nest.specs.Plan.{Group, Plan}
 use Rattle.cert.specs.Certificate.{Certificate}
 use Rattle.pieces.specs.Parts.{NothingIsFetched, PartsAreTheWork}
 use Rattle.board.specs.Layout.{Layout, own_of, value_at}
@@ -13,7 +14,7 @@ use Rattle.boards.specs.Laws.{OwnIsOfWork, RunsGiveValues, target_checked}
 use Rattle.boards.specs.Layouts.{layout_of, values_of}
 use Rattle.narrow.specs.Law.{ShownIsNarrow}
 use Rattle.steps.proofs.Accepted.{same_extents}
-use Rattle.crew.specs.Private.{GivesValues}
+use Rattle.crew.specs.Private.{AreReady, GivesValues, IsMostOwn}
 use Rattle.crew.proofs.Alone.{gives_alone, narrow_alone}
 
 -- what lower crates have proved
@@ -46,3 +47,12 @@ moved l m v w p q c d i el ev ep ec h =
     let P : Plan → Type 0 = λ x. GivesValues l v x d i in
     let C : Certificate → Type 0 = λ x. GivesValues l v p x i in
     subst L (sym el) (subst V (sym ev) (subst P (sym ep) (subst C (sym ec) h)))
+
+-- the pieces of an accepted plan, as they are handed to the workers
+pub pieces_give : Laws → (x : Checked) (i : Inputs) (m : Layout) (w : List ℤ) (q : Plan) (d : Certificate) (g : Group) (most : ℕ) → IsFor x.algo.now i → m ≡ layout_of x → w ≡ values_of x i → q ≡ plan_checked x → d ≡ certificate_checked x
+    → slice_get q.groups 0 ≡ Some g → IsMostOwn (layout_of x) most → AreReady m w q d (picture_of i) g most
+pieces_give laws x i m w q d g most fits em ew eq ed group own = (
+  moved (layout_of x) m (values_of x i) w (plan_checked x) q (certificate_checked x) d (picture_of i) em ew eq ed (gives_values laws x i fits),
+  group,
+  subst (λ l. IsMostOwn l most) (sym em) own,
+)

@@ -51,7 +51,7 @@ stmt_field_sync = search (
   statement.crosses,
 ) depth 20 fits 100000
 
-group_sync : IsSync Group.the_row
+pub group_sync : IsSync Group.the_row
 group_sync = search (sendable, crosses, region.the_sync, stmt_field_sync) depth 20 fits 100000
 
 pub plan_sync : IsSync Plan.the_row

@@ -1,13 +1,14 @@
 //! A worker at the board.
 
-ghost use Rattle.std.specs.Prelude.{◌≡◌, true, length, map, OnOk};
+ghost use Rattle.std.specs.Prelude.{◌≡◌, true, length, map};
 ghost use Rattle.board.specs.Layout.{own_of, value_at};
 ghost use Rattle.board.specs.Seats.{seeing, IsTicketOf};
 ghost use Rattle.board.specs.Views.{completed, IsIdle};
 
 use crate::values::PrivateRuns;
 use board::{Board, BoardSeat, Run, Ticket};
-use std::alloc::{AllocError, Global};
+use interpreter::Scratch;
+use std::alloc::Global;
 
 /// Puts the values of all own cells of the ticket's piece, and finishes it.
 fn complete<J: Run>(board: &Board<J>, seat: &mut BoardSeat, mut ticket: Ticket, values: &[i64])
@@ -23,31 +24,25 @@ fn complete<J: Run>(board: &Board<J>, seat: &mut BoardSeat, mut ticket: Ticket, 
     board.finish(seat, ticket);
 }
 
-/// Draws pieces until all are drawn, and computes each of them, puts its own cells and finishes it.
-///
-/// # Errors
-/// `AllocError` where memory runs out for the piece drawn last, which is then abandoned.
+/// Draws pieces until all are drawn, and computes each of them in the scratch, puts its own cells and finishes it. It takes
+/// no memory.
 pub(crate) fn work<J: Run, P: PrivateRuns<J>>(
     alloc: Global,
     board: &Board<J>,
     seat: &mut BoardSeat,
     runs: &P,
-) -> Result<(), AllocError>
+    scratch: &mut Scratch,
+)
     requires runs { P.gives runs.now }
+    requires scratch { P.suffices runs.now scratch.old }
     requires board { seat.old.board ≡ board.now }
     requires idle { IsIdle seat.old.view }
     ensures board { seat.new.board ≡ seat.old.board }
-    ensures idle { OnOk result (IsIdle seat.new.view) }
-    ensures all_drawn { OnOk result (seat.new.view.none_left ≡ true) }
+    ensures idle { IsIdle seat.new.view }
+    ensures all_drawn { seat.new.view.none_left ≡ true }
 {
     while let Some(ticket) = board.draw(seat) {
-        match runs.own_values(alloc, ticket.piece()) {
-            Ok(values) => complete(board, seat, ticket, values.as_slice()),
-            Err(error) => {
-                board.abandon(seat, ticket);
-                return Err(error);
-            }
-        }
+        runs.run(alloc, scratch, ticket.piece());
+        complete(board, seat, ticket, scratch.given());
     }
-    Ok(())
 }

@@ -1,5 +1,5 @@
 -- What is found of the indices of a call, read at a list.
-use Rattle.std.proofs.Common.{◌≡◌, ℕ, suc, ◌+◌, ◌<◌, List, [], ◌∷◌, ◌++◌, length, length-append, take, drop, get_or, drop-cons, refl, sym, ap, ◌∙◌, ℤ, Option, Some, None, Err}
+use Rattle.std.proofs.Common.{◌≡◌, ℕ, suc, ◌+◌, ◌<◌, List, [], ◌∷◌, ◌++◌, length, length-append, take, drop, get_or, drop-cons, refl, sym, ap, ◌∙◌, ℤ, Option, Some, None}
 use Rattle.std.specs.Prelude.{string_bytes}
 use Rattle.std.proofs.lemmas.List.{take_more, take-append-drop}
 use Rattle.actions.specs.Found.{found, all_found, with}
@@ -9,9 +9,6 @@ use Rattle.tree.specs.declared.value.Value.{Value}
 use Rattle.tree.specs.declared.expr.Expr.{Expr}
 use Rattle.tree.specs.declared.expr.Cond.TheViews.{Call}
 use Rattle.tree.proofs.Rows.{term_of-call}
-use Rattle.evaluation.specs.declared.stop.Stop.{Stop}
-use Rattle.evaluation.specs.declared.stop.Stop.TheVariants.{Fault, Memory}
-use Rattle.evaluation.specs.Outcome.{Ends}
 
 -- one index and the others
 abbrev joined : Option Value → Option (List ℤ) → Option (List ℤ)
@@ -51,15 +48,13 @@ module _ (variables : List ℕ → ℤ) (look : List ℕ → List ℤ → Option
   found-append [] ys = none_before (FoundOf ys)
   found-append (x ∷ xs) ys = ap (joined (found variables look (term_of x))) (found-append xs ys) ∙ joined-both (found variables look (term_of x)) (FoundOf xs) (FoundOf ys)
 
-  -- an index that ends with no value
-  pub missing : {A : Type 0} → (says : A → List ℤ) (at : List Expr) (i : ℕ) (e : Expr) (stop : Stop) → i < length at → e ≡ get_or at i e
-      → Ends (λ (v : Value). v) (Err stop) (found variables look (term_of e)) → Ends says (Err stop) (FoundOf at)
-  missing says at i e Fault lt is h =
+  -- an index that has no value
+  pub missing : (at : List Expr) (i : ℕ) (e : Expr) → i < length at → e ≡ get_or at i e → found variables look (term_of e) ≡ None → FoundOf at ≡ None
+  missing at i e lt is h =
       let before = take i at in
       let after = drop (suc i) at in
       ap FoundOf (sym (take-append-drop i at) ∙ ap (λ l. before ++ l) (drop-cons at i e lt) ∙ ap (λ x. before ++ x ∷ after) (sym is))
       ∙ found-append before (e ∷ after) ∙ ap (λ o. both (FoundOf before) (joined o (FoundOf after))) h ∙ both-none (FoundOf before)
-  missing says at i e Memory lt is h = tt
 
   -- one more index that has a value
   pub one_more : (at : List Expr) (i : ℕ) (e : Expr) (zs made : List ℤ) (v : Value) (n : ℤ) → i < length at → e ≡ get_or at i e → FoundOf (take i at) ≡ Some zs

@@ -4,8 +4,10 @@
 mod evaluation;
 mod operators;
 mod reader;
+mod short;
 mod stop;
 
 pub use evaluation::evaluate;
 pub use reader::Reader;
+pub use short::is_short;
 pub use stop::Stop;

@@ -1,6 +1,6 @@
 -- What a whole run gives.
-use Rattle.std.proofs.Common.{◌≡◌, ℕ, List, [], ◌∷◌, map, Option, Some, None, refl, sym, ap, ◌∙◌, ℤ, slice_get}
-use Rattle.std.specs.Prelude.{flat_map, if◌then◌else◌}
+use Rattle.std.proofs.Common.{◌≡◌, ℕ, List, [], ◌∷◌, map, Option, Some, None, refl, sym, ap, subst, ◌∙◌, ◌<◌, length, Ok, Err, ℤ, slice_get}
+use Rattle.std.specs.Prelude.{Result, MatchOption, ⊤, flat_map, if◌then◌else◌}
 use Rattle.lin.specs.declared.span.Span1.{Span1}
 use Rattle.nest.specs.Plan.{Group, Plan}
 use Rattle.nest.specs.Symbols.{Symbols}
@@ -14,6 +14,10 @@ use Rattle.actions.specs.Run.{Around, outcome}
 use Rattle.actions.specs.Setting.{setting_of, around_of}
 use Rattle.pieces.specs.Work.{numbers}
 use Rattle.interpreter.specs.Outcome.{group_gives, piece_gives}
+use Rattle.evaluation.specs.declared.stop.Stop.{Stop}
+use Rattle.evaluation.specs.declared.stop.Stop.TheVariants.{Fault, Memory as OutOfMemory}
+use Rattle.interpreter.specs.Scratches.{GivesIn}
+use Rattle.interpreter.specs.States.{EndsIn, Overflows}
 use Rattle.interpreter.specs.Steps.{Progress, steps}
 use Rattle.interpreter.specs.Visits.{extended}
 use Rattle.interpreter.proofs.Pointwise.{published}
@@ -42,3 +46,13 @@ gives_none g s c o is = ap (λ (r : Option (List Span1)). map (Give c) (points_w
 pub given_with : (o : Option Progress) → given_of o ≡ with o (λ x. Some x.given)
 given_with None = refl
 given_with (Some x) = refl
+
+-- what a run that ends so gives
+pub ends_gives : (room : ℕ) (r : Result (Unit {0}) Stop) (x : Progress) (o : Option Progress) (whole : Option (List ℤ)) → whole ≡ given_of o → EndsIn room (λ (_ : Unit {0}). x) r o → GivesIn room r x.given whole
+ends_gives room (Ok a) x o whole is h = is ∙ ap given_of h
+ends_gives room (Err Fault) x o whole is h = is ∙ ap given_of h
+ends_gives room (Err OutOfMemory) x o whole is h = subst (λ (w : Option (List ℤ)). GivesIn {A = Unit {0}} room (Err OutOfMemory) x.given w) (sym is) (of o h)
+  where
+    of : (p : Option Progress) → Overflows room p → MatchOption (given_of p) ⊤ (λ v. room < length v)
+    of None h = tt
+    of (Some y) h = h

@@ -1,6 +1,7 @@
 pub mod Bindings
 pub mod Counting
 pub mod Ending
+pub mod Fitting
 pub mod Giving
 pub mod Noted
 pub mod Numerals

@@ -1,8 +1,10 @@
 -- Runs of blocks and loops, one part after another.
-use Rattle.std.proofs.Common.{◌≡◌, ℕ, suc, ◌+◌, ◌<◌, List, ◌∷◌, drop, length, get_or, drop-cons, add-one, Option, Some, sym, ap, ◌∙◌, subst, ℤ, pos, ◌+ℤ◌, ◌≤ℤ◌, ◌<ℤ◌}
+use Rattle.std.proofs.Common.{◌≡◌, ℕ, suc, ◌+◌, ◌<◌, ◌≤◌, List, ◌∷◌, drop, length, get_or, drop-cons, add-one, Option, Some, sym, ap, ◌∙◌, subst, ℤ, pos, ◌+ℤ◌, ◌≤ℤ◌, ◌<ℤ◌}
 use Rattle.std.specs.Prelude.{flat_map}
 use Rattle.nest.specs.declared.stmt.Stmt.{Stmt}
 use Rattle.nest.specs.Plan.{Statements, Then, block}
+use Rattle.buffers.specs.declared.limit.Limit.{Limit}
+use Rattle.interpreter.specs.Needs.{name_count, BlockFits, StatementFits}
 use Rattle.nest.specs.Lists.{list_statements}
 use Rattle.nest.specs.View.{statement_of}
 use Rattle.nest.specs.Symbols.{Symbols}
@@ -48,3 +50,9 @@ block_next A setting all i a s x whole lt is h =
 pub block_narrow : (Own : Symbols → Type 0) (all : List Stmt) (i : ℕ) (a : Stmt) (s : Symbols) → i < length all → a ≡ get_or all i a → BlockIsNarrow Own (from all i) s
     → StatementIsNarrow Own (statement_of a) s × BlockIsNarrow Own (from all (i + 1)) (after (statement_of a) s)
 block_narrow Own all i a s lt is h = subst (λ (b : Statements). BlockIsNarrow Own b s) (from_more all i a lt is) h
+
+-- ---- what parts need
+
+pub block_fits : (limits : List Limit) (room : ℕ) (all : List Stmt) (i : ℕ) (a : Stmt) (n : ℕ) → i < length all → a ≡ get_or all i a → BlockFits limits room (from all i) n
+    → StatementFits limits room (statement_of a) n × (n + name_count (statement_of a) ≤ room) × BlockFits limits room (from all (i + 1)) (n + name_count (statement_of a))
+block_fits limits room all i a n lt is h = subst (λ (b : Statements). BlockFits limits room b n) (from_more all i a lt is) h

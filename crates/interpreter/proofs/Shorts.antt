@@ -35,3 +35,10 @@ each_unmapped P f (x ∷ xs) h = (h.0, each_unmapped P f xs h.1)
 -- what holds of each element's image
 pub all_unmapped : {X Y : Type 0} (P : Y → Type 0) (f : X → Y) (xs : List X) → All P (map f xs) → All (λ x. P (f x)) xs
 all_unmapped P f xs h = All-from_recursion (λ x. P (f x)) xs (each_unmapped P f xs (recursion_from_All P (map f xs) h))
+
+each_mapped : {X Y : Type 0} (P : Y → Type 0) (f : X → Y) (xs : List X) → AllByRecursion (λ x. P (f x)) xs → AllByRecursion P (map f xs)
+each_mapped P f [] h = tt
+each_mapped P f (x ∷ xs) h = (h.0, each_mapped P f xs h.1)
+
+pub all_mapped : {X Y : Type 0} (P : Y → Type 0) (f : X → Y) (xs : List X) → All (λ x. P (f x)) xs → All P (map f xs)
+all_mapped P f xs h = All-from_recursion P (map f xs) (each_mapped P f xs (recursion_from_All (λ x. P (f x)) xs h))

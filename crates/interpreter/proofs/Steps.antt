@@ -1,5 +1,5 @@
 -- Actions one after another.
-use Rattle.std.proofs.Common.{◌≡◌, List, [], ◌∷◌, ◌++◌, map, Option, Some, None, ℤ, refl, sym, ap, ◌∙◌, append_assoc}
+use Rattle.std.proofs.Common.{◌≡◌, ℕ, ◌<◌, List, [], ◌∷◌, ◌++◌, length, length-append, map, Option, Some, None, Err, ℤ, refl, sym, ap, subst, ◌∙◌, append_assoc, arith}
 use Rattle.std.proofs.lemmas.List.{append-nil}
 use Rattle.tree.specs.declared.value.Value.{Value}
 use Rattle.actions.specs.Actions.{Action, Allot, Take, Put, Change, Give}
@@ -7,6 +7,9 @@ use Rattle.actions.specs.Found.{with}
 use Rattle.actions.specs.Memory.{Memory, read, allot}
 use Rattle.actions.specs.Run.{Around, act, outcome}
 use Rattle.pieces.specs.Work.{numbers}
+use Rattle.evaluation.specs.declared.stop.Stop.{Stop}
+use Rattle.evaluation.specs.declared.stop.Stop.TheVariants.{Fault, Memory as OutOfMemory}
+use Rattle.interpreter.specs.States.{EndsIn, Overflows}
 use Rattle.interpreter.specs.Steps.{Progress, step, steps}
 
 -- first some actions, then others
@@ -61,3 +64,37 @@ none_before (Some zs) = refl
 -- what actions give from no number on
 pub given_in_all : (around : Around) (xs : List Action) (m : Memory Value) → given_of (steps around xs (record { memory = m; given = [] })) ≡ numbers (outcome around xs m)
 given_in_all around xs m = given_is around xs m [] ∙ none_before (numbers (outcome around xs m))
+
+-- ---- room for numbers
+
+-- numbers are only added
+acted_on : (around : Around) (room : ℕ) (later : List Action) (ns : List ℤ) (o : Option (Memory Value)) → ((m : Memory Value) → Overflows room (steps around later (record { memory = m; given = ns }))) →
+    Overflows room (with (with o (λ n. Some (record { memory = n; given = ns }))) (steps around later))
+acted_on around room later ns None h = tt
+acted_on around room later ns (Some m) h = h m
+
+gave_on : (around : Around) (room : ℕ) (later : List Action) (m : Memory Value) (ns : List ℤ) (o : Option Value) → ((k : ℤ) → Overflows room (steps around later (record { memory = m; given = ns ++ k ∷ [] }))) →
+    Overflows room (with (with o (λ v. Some (record { memory = m; given = ns ++ v.number ∷ [] }))) (steps around later))
+gave_on around room later m ns None h = tt
+gave_on around room later m ns (Some v) h = h v.number
+
+pub overflows_on : (around : Around) (room : ℕ) (xs : List Action) (m : Memory Value) (ns : List ℤ) → room < length ns → Overflows room (steps around xs (record { memory = m; given = ns }))
+overflows_on around room [] m ns h = h
+overflows_on around room (Allot b rooms ∷ later) m ns h = overflows_on around room later (allot m b rooms) ns h
+overflows_on around room (Take b f p ∷ later) m ns h = acted_on around room later ns (act around (Take b f p) m) (λ n. overflows_on around room later n ns h)
+overflows_on around room (Put b f names p e ∷ later) m ns h = acted_on around room later ns (act around (Put b f names p e) m) (λ n. overflows_on around room later n ns h)
+overflows_on around room (Change b f k names at over e ∷ later) m ns h = acted_on around room later ns (act around (Change b f k names at over e) m) (λ n. overflows_on around room later n ns h)
+overflows_on around room (Give c p ∷ later) m ns h = gave_on around room later m ns (read m (around.claim_buffer c) p) (λ k. overflows_on around room later m (ns ++ k ∷ []) (longer k))
+  where
+    longer : (k : ℤ) → room < length (ns ++ k ∷ [])
+    longer k = omega (arith, h, length-append ns (k ∷ []))
+
+pub overflows_after : (around : Around) (room : ℕ) (xs : List Action) (o : Option Progress) → Overflows room o → Overflows room (with o (steps around xs))
+overflows_after around room xs None h = tt
+overflows_after around room xs (Some x) h = overflows_on around room xs x.memory x.given h
+
+-- the whole stops where its first part does
+pub stops_in : (around : Around) (room : ℕ) (x y : Progress) (e : Stop) (o : Option Progress) (xs : List Action) (t : Option Progress) → t ≡ with o (steps around xs)
+    → EndsIn room (λ (_ : Unit {0}). x) (Err e) o → EndsIn room (λ (_ : Unit {0}). y) (Err e) t
+stops_in around room x y Fault o xs t is h = is ∙ ap (λ p. with p (steps around xs)) h
+stops_in around room x y OutOfMemory o xs t is h = subst (Overflows room) (sym is) (overflows_after around room xs o h)

@@ -7,10 +7,11 @@ use Rattle.nest.specs.Symbols.{Symbols, bind, largest, smallest}
 use Rattle.cert.specs.Cells.{grid_symbols}
 use Rattle.interpreter.specs.declared.symbols.Binding.{Binding}
 
--- a grid point and what was bound since, the newest last
+-- a grid point, what was bound since, the newest last, and how many can be bound
 pub record Bindings : Type 0 where
   pub grid : List ℕ
   pub bound : List Binding
+  pub room : ℕ
 
 abbrev pub bind_all : Symbols → List Binding → Symbols
 bind_all s [] = s
@@ -22,13 +23,14 @@ symbols_of x = bind_all (grid_symbols x.grid) x.bound
 
 -- one more symbol bound
 abbrev pub also : Bindings → Binding → Bindings
-also x b = record { grid = x.grid; bound = x.bound ++ b ∷ [] }
+also x b = record { grid = x.grid; bound = x.bound ++ b ∷ []; room = x.room }
 
 -- more symbols are bound behind the others
 pub record Extends (old new : Bindings) : Type 0 where
   pub grid : new.grid ≡ old.grid
   pub more : List Binding
   pub bound : new.bound ≡ old.bound ++ more
+  pub room : new.room ≡ old.room
 
 -- the number that a `let` line names
 abbrev pub named_value : Pick → Symbols → List Form → ℤ

@@ -1,9 +1,11 @@
 pub mod Bindings
 pub mod Claims
 pub mod Narrow
+pub mod Needs
 pub mod Outcome
 pub mod Pieces
 pub mod Raster
+pub mod Scratches
 pub mod Sizes
 pub mod States
 pub mod Steps

@@ -6,12 +6,15 @@ use Rattle.image.specs.View.{image_of}
 use Rattle.nest.specs.View.{plan_of, group_of, statement_of}
 use Rattle.nest.specs.Symbols.{Symbols}
 use Rattle.nest.specs.Plan.{Statement, Let}
+use Rattle.cert.specs.Cells.{no_symbols}
 use Rattle.cert.specs.Certificate.{certificate_of}
 use Rattle.actions.specs.Actions.{Setting}
 use Rattle.actions.specs.Run.{Around, look}
 use Rattle.actions.specs.Setting.{allocated, dimensions_in, setting_of, around_of}
 use Rattle.buffers.specs.Blocks.{Block, memory_of}
 use Rattle.interpreter.specs.Narrow.{OwnIsNarrow, FormsAreNarrow}
+use Rattle.interpreter.specs.Bindings.{symbols_of}
+use Rattle.interpreter.specs.Needs.{OwnIsShort}
 use Rattle.interpreter.specs.Sizes.{size_in}
 use Rattle.interpreter.specs.declared.piece.Piece.{Piece}
 
@@ -21,10 +24,12 @@ around x cell = around_of (plan_of x.plan.now) (certificate_of x.cert.now) (imag
 abbrev pub setting : Piece → Setting
 setting x = setting_of (plan_of x.plan.now) (certificate_of x.cert.now) x.number (group_of x.group.now)
 
--- the piece knows how many coordinates each of its buffers has, and no symbol is bound among its constants
+-- the piece knows how many coordinates each of its buffers has, no symbol is bound among its constants, and the points of
+-- its own region have few coordinates
 pub record IsReady (x : Piece) : Type 0 where
   pub sizes : (b : ℕ) → size_in x.sizes.now b ≡ dimensions_in (allocated (statement_of x.group.now.body) b)
-  pub constants : x.constants.now ≡ record { grid = []; bound = [] }
+  pub constants : symbols_of x.constants.now ≡ no_symbols
+  pub own : OwnIsShort (certificate_of x.cert.now) x.number
 
 -- where lines publish, the own region and the group's are narrow
 abbrev pub OwnIsSmall : Piece → Symbols → Type 0

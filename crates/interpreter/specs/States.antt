@@ -1,17 +1,34 @@
 -- What a run in memory has come to.
-use Rattle.std.specs.Prelude.{ℕ, List, ℤ, Result, Some}
+use Rattle.std.specs.Prelude.{◌≡◌, ℕ, ◌<◌, List, length, ℤ, Result, Ok, Err, Option, Some, None, ⊤}
 use Rattle.tree.specs.declared.value.Value.{Value}
 use Rattle.actions.specs.Found.{with}
 use Rattle.actions.specs.Memory.{write}
-use Rattle.evaluation.specs.Outcome.{Ends}
+use Rattle.evaluation.specs.declared.stop.Stop.TheVariants.{Fault, Memory}
 use Rattle.evaluation.specs.declared.stop.Stop.{Stop}
-use Rattle.buffers.specs.Blocks.{memory_of}
+use Rattle.buffers.specs.Blocks.{limits_of, memory_of}
 use Rattle.interpreter.specs.Steps.{Progress}
 use Rattle.interpreter.specs.declared.state.State.{State}
 
 abbrev pub progress_of : State → Progress
 progress_of x = record { memory = memory_of x.memory; given = x.given.items }
 
+-- the run gives more numbers than there is room for
+abbrev pub Overflows : ℕ → Option Progress → Type 0
+Overflows room None = ⊤
+Overflows room (Some x) = room < length x.given
+
+-- An answer says this progress, a fault that there is none. Where there is room for so many numbers, memory runs out only in
+-- a run that gives more.
+abbrev pub EndsIn : {A : Type 0} → ℕ → (A → Progress) → Result A Stop → Option Progress → Type 0
+EndsIn room says (Ok a) whole = whole ≡ Some (says a)
+EndsIn room says (Err Fault) whole = whole ≡ None
+EndsIn room says (Err Memory) whole = Overflows room whole
+
+-- the memory is for the same buffers and as many numbers
+pub record IsAsLarge (old new : State) : Type 0 where
+  pub limits : limits_of new.memory ≡ limits_of old.memory
+  pub given : new.given.capacity ≡ old.given.capacity
+
 -- the place of a point is set, and nothing else; a fault where it has none
 abbrev pub SetsOrFaults : {A : Type 0} → Result A Stop → State → State → ℕ → List ℤ → Value → Type 0
-SetsOrFaults r old new b p v = Ends (λ _. progress_of new) r (with (write (memory_of old.memory) b p v) (λ m. Some (record { memory = m; given = old.given.items })))
+SetsOrFaults r old new b p v = EndsIn old.given.capacity (λ _. progress_of new) r (with (write (memory_of old.memory) b p v) (λ m. Some (record { memory = m; given = old.given.items })))

@@ -7,6 +7,7 @@ use Rattle.nest.specs.Symbols.{Symbols}
 use Rattle.actions.specs.Actions.{Target, Fixed, Open, target, fixed}
 use Rattle.actions.specs.Found.{with, found}
 use Rattle.interpreter.specs.Narrow.{IndexIsNarrow}
+use Rattle.interpreter.specs.Needs.{IndexIsShort}
 
 abbrev pub target_of : Symbols → Coordinate → Target
 target_of s c = target s (coordinate_of c)
@@ -23,3 +24,7 @@ target_number variables look (Open e) = with (found variables look e) (λ v. Som
 -- the form of the coordinate, if it has one, is narrow
 abbrev pub CoordinateIsNarrow : Symbols → Coordinate → Type 0
 CoordinateIsNarrow s c = IndexIsNarrow s (coordinate_of c).index
+
+-- the expression of the coordinate, if it has one, is short
+abbrev pub CoordinateIsShort : Coordinate → Type 0
+CoordinateIsShort c = IndexIsShort (coordinate_of c).index

@@ -4,9 +4,11 @@
 mod cells;
 mod forms;
 mod loads;
+mod needs;
 mod piece;
 mod reading;
 mod run;
+mod scratch;
 mod sizes;
 mod state;
 mod store;
@@ -14,4 +16,5 @@ mod symbols;
 mod visits;
 
 pub use cells::Cells;
-pub use run::run_piece;
+pub use run::{Fault, run_piece, run_piece_in};
+pub use scratch::Scratch;

@@ -1,6 +1,6 @@
 //! The private run of a piece.
 
-ghost use Rattle.std.specs.Prelude.{◌≡◌, [], ℕ, ℤ, None, Some, map, Contains, flat_map, int_le, MatchOption, OnOk, slice_get};
+ghost use Rattle.std.specs.Prelude.{◌≡◌, ◌+◌, ◌≤◌, ◌<◌, [], ℕ, ℤ, None, Some, length, map, Contains, flat_map, int_le, MatchOption, MatchResult, OnOk, slice_get};
 ghost use Rattle.image.specs.View.{image_of};
 ghost use Rattle.nest.specs.Lists.{list_statements};
 ghost use Rattle.nest.specs.Plan.{Fetch, Publish, block};
@@ -10,30 +10,33 @@ ghost use Rattle.cert.specs.Certificate.{certificate_of};
 ghost use Rattle.actions.specs.Actions.{actions, after, block_actions};
 ghost use Rattle.actions.specs.Setting.{group_name};
 ghost use Rattle.cert.specs.Cells.{own_region};
+ghost use Rattle.buffers.specs.Blocks.{limits_of};
 ghost use Rattle.evaluation.specs.Outcome.{Ends};
 ghost use Rattle.interpreter.specs.Bindings.{symbols_of, named_value, Extends};
 ghost use Rattle.interpreter.specs.Narrow.{BlockIsNarrow, FormsAreNarrow, PieceIsNarrow, RegionIsNarrow, SpanIsNarrow, StatementIsNarrow};
 ghost use Rattle.interpreter.specs.Outcome.{IsInput, piece_gives};
 ghost use Rattle.interpreter.specs.Pieces.{NamesAreNarrow, around, setting, IsReady, OwnIsSmall};
-ghost use Rattle.interpreter.specs.States.{progress_of};
+ghost use Rattle.interpreter.specs.Needs.{name_count, BlockFits, IsLine, StatementFits};
+ghost use Rattle.interpreter.specs.Scratches.{room_of, GivesIn, IsAgain, IsScratchFor, Suffices};
+ghost use Rattle.interpreter.specs.States.{progress_of, EndsIn, IsAsLarge};
 ghost use Rattle.interpreter.specs.Steps.{steps};
 ghost use Rattle.interpreter.specs.Visits.{between};
 
 use crate::cells::Cells;
 use crate::forms::{largest, smallest, value_of};
 use crate::piece::Piece;
-use crate::sizes::sizes_of;
+use crate::scratch::Scratch;
+use crate::sizes::Size;
 use crate::state::State;
 use crate::store::{allot, store};
 use crate::symbols::{Binding, Symbols};
 use crate::visits::{Visit, Walk, visit_region};
-use buffers::Buffers;
 use cert::{Cert, Own};
 use evaluation::Stop;
 use image::Image;
 use lin::{Forms, Region, Span1, Sym};
 use nest::{Group, Pick, Plan, Stmt};
-use std::alloc::{AllocError, Global};
+use std::alloc::Global;
 
 /// The name of a group's function, empty where there is no such group.
 fn group_name(groups: &[Group], group: u32) -> &str
@@ -56,8 +59,10 @@ fn fetch<'a, C: Cells>(
     symbols: &Symbols,
     state: &mut State,
 ) -> Result<(), Stop>
-    requires { RegionIsNarrow (symbols_of symbols.now) region.now }
-    ensures { Ends (λ _. progress_of state.new) result (steps (around piece.now (C.cell cells.now)) (actions (setting piece.now) (Fetch buffer group region.now) (symbols_of symbols.now)) (progress_of state.old)) }
+    requires narrow { RegionIsNarrow (symbols_of symbols.now) region.now }
+    requires short { length region.now ≤ 4 }
+    ensures large { OnOk result (IsAsLarge state.old state.new) }
+    ensures run { EndsIn state.old.given.capacity (λ _. progress_of state.new) result (steps (around piece.now (C.cell cells.now)) (actions (setting piece.now) (Fetch buffer group region.now) (symbols_of symbols.now)) (progress_of state.old)) }
 {
     let walk = Walk {
         piece,
@@ -71,7 +76,7 @@ fn fetch<'a, C: Cells>(
 }
 
 /// The region that the pieces of a group own, if the certificate says it.
-fn own_region(all: &[Own], group: usize) -> Option<&Region>
+pub(crate) fn own_region(all: &[Own], group: usize) -> Option<&Region>
     ensures { MatchOption result (own_region all.now group ≡ None) (λ r. own_region all.now group ≡ Some r.now) }
 {
     for own in all {
@@ -93,7 +98,8 @@ fn publish<'a, C: Cells>(
 ) -> Result<(), Stop>
     requires ready { IsReady piece.now }
     requires narrow { OwnIsSmall piece.now (symbols_of symbols.now) }
-    ensures { Ends (λ _. progress_of state.new) result (steps (around piece.now (C.cell cells.now)) (actions (setting piece.now) (Publish claim) (symbols_of symbols.now)) (progress_of state.old)) }
+    ensures large { OnOk result (IsAsLarge state.old state.new) }
+    ensures run { EndsIn state.old.given.capacity (λ _. progress_of state.new) result (steps (around piece.now (C.cell cells.now)) (actions (setting piece.now) (Publish claim) (symbols_of symbols.now)) (progress_of state.old)) }
 {
     let Some(region) = own_region(&piece.cert.own, piece.number) else {
         return Ok(());
@@ -118,10 +124,12 @@ fn named_value(pick: Pick, forms: &Forms, symbols: &Symbols) -> i64
 }
 
 /// Binds the name of a `let` line, which holds to the end of the block. Other lines bind nothing there.
-fn name_from(stmt: &Stmt, symbols: &mut Symbols) -> Result<(), AllocError>
-    requires { NamesAreNarrow (statement_of stmt.now) (symbols_of symbols.old) }
-    ensures value { OnOk result (symbols_of symbols.new ≡ after (statement_of stmt.now) (symbols_of symbols.old)) }
-    ensures extends { OnOk result (Extends symbols.old symbols.new) }
+fn name_from(stmt: &Stmt, symbols: &mut Symbols)
+    requires narrow { NamesAreNarrow (statement_of stmt.now) (symbols_of symbols.old) }
+    requires room { length symbols.old.bound + name_count (statement_of stmt.now) ≤ symbols.old.room }
+    ensures value { symbols_of symbols.new ≡ after (statement_of stmt.now) (symbols_of symbols.old) }
+    ensures extends { Extends symbols.old symbols.new }
+    ensures count { length symbols.new.bound ≡ length symbols.old.bound + name_count (statement_of stmt.now) }
 {
     let Stmt::Let {
         symbol,
@@ -129,14 +137,14 @@ fn name_from(stmt: &Stmt, symbols: &mut Symbols) -> Result<(), AllocError>
         forms,
     } = stmt
     else {
-        return Ok(());
+        return;
     };
     let value = named_value(*pick, forms, symbols);
     symbols.bind(Binding {
         symbol: *symbol,
         value,
         first: true,
-    })
+    });
 }
 
 /// A loop's symbol, and the numbers from which to which it goes.
@@ -183,12 +191,15 @@ fn run_turns<'a, C: Cells>(
 ) -> Result<(), Stop>
     requires ready { IsReady piece.now }
     requires narrow { (z : ℤ) → Contains (between turns.low turns.high) z → StatementIsNarrow (OwnIsSmall piece.now) (statement_of body.now) (bind (symbols_of symbols.old) turns.symbol z (int_le z turns.low)) }
-    ensures run { Ends (λ _. progress_of state.new) result (steps (around piece.now (C.cell cells.now)) (flat_map (λ z. actions (setting piece.now) (statement_of body.now) (bind (symbols_of symbols.old) turns.symbol z (int_le z turns.low))) (between turns.low turns.high)) (progress_of state.old)) }
+    requires room { length symbols.old.bound < symbols.old.room }
+    requires fits { StatementFits (limits_of state.old.memory) symbols.old.room (statement_of body.now) (length symbols.old.bound + 1) }
+    ensures run { EndsIn state.old.given.capacity (λ _. progress_of state.new) result (steps (around piece.now (C.cell cells.now)) (flat_map (λ z. actions (setting piece.now) (statement_of body.now) (bind (symbols_of symbols.old) turns.symbol z (int_le z turns.low))) (between turns.low turns.high)) (progress_of state.old)) }
     ensures symbols { OnOk result (symbols.new ≡ symbols.old) }
+    ensures large { OnOk result (IsAsLarge state.old state.new) }
 {
     let mark = symbols.bound_count();
     for value in turns.low..=turns.high {
-        symbols.bind(turn(turns, value))?;
+        symbols.bind(turn(turns, value));
         run(alloc, piece, cells, body, symbols, state)?;
         symbols.forget(mark);
     }
@@ -207,16 +218,57 @@ fn run_block<'a, C: Cells>(
 ) -> Result<(), Stop>
     requires ready { IsReady piece.now }
     requires narrow { BlockIsNarrow (OwnIsSmall piece.now) (block (list_statements all.now)) (symbols_of symbols.old) }
-    ensures run { Ends (λ _. progress_of state.new) result (steps (around piece.now (C.cell cells.now)) (block_actions (setting piece.now) (block (list_statements all.now)) (symbols_of symbols.old)) (progress_of state.old)) }
+    requires fits { BlockFits (limits_of state.old.memory) symbols.old.room (block (list_statements all.now)) (length symbols.old.bound) }
+    ensures run { EndsIn state.old.given.capacity (λ _. progress_of state.new) result (steps (around piece.now (C.cell cells.now)) (block_actions (setting piece.now) (block (list_statements all.now)) (symbols_of symbols.old)) (progress_of state.old)) }
     ensures symbols { OnOk result (symbols.new ≡ symbols.old) }
+    ensures large { OnOk result (IsAsLarge state.old state.new) }
 {
     let mark = symbols.bound_count();
     for stmt in all {
         run(alloc, piece, cells, stmt, symbols, state)?;
-        name_from(stmt, symbols)?;
+        name_from(stmt, symbols);
     }
     symbols.forget(mark);
     Ok(())
+}
+
+/// The actions of a statement that has no statements in it.
+fn run_line<'a, C: Cells>(
+    alloc: Global,
+    piece: &'a Piece<'a>,
+    cells: &C,
+    stmt: &'a Stmt,
+    symbols: &mut Symbols,
+    state: &mut State,
+) -> Result<(), Stop>
+    requires ready { IsReady piece.now }
+    requires narrow { StatementIsNarrow (OwnIsSmall piece.now) (statement_of stmt.now) (symbols_of symbols.old) }
+    requires fits { StatementFits (limits_of state.old.memory) symbols.old.room (statement_of stmt.now) (length symbols.old.bound) }
+    requires line { IsLine (statement_of stmt.now) }
+    ensures run { EndsIn state.old.given.capacity (λ _. progress_of state.new) result (steps (around piece.now (C.cell cells.now)) (actions (setting piece.now) (statement_of stmt.now) (symbols_of symbols.old)) (progress_of state.old)) }
+    ensures symbols { OnOk result (symbols.new ≡ symbols.old) }
+    ensures large { OnOk result (IsAsLarge state.old state.new) }
+{
+    match stmt {
+        Stmt::Let { .. } => Ok(()),
+        Stmt::Alloc { buffer, places, .. } => {
+            allot(alloc, *buffer, places, symbols, state);
+            Ok(())
+        }
+        Stmt::Fetch {
+            buffer,
+            group,
+            region,
+        } => fetch(alloc, piece, cells, *buffer, *group, region, symbols, state),
+        Stmt::Store {
+            buffer,
+            coordinates,
+            value,
+            ..
+        } => store(alloc, piece, *buffer, coordinates, value, symbols, state),
+        Stmt::Publish { claim } => publish(alloc, piece, cells, *claim, symbols, state),
+        Stmt::Seq(_) | Stmt::For { .. } | Stmt::First { .. } | Stmt::Guard { .. } => unreachable!(),
+    }
 }
 
 /// The actions of a statement.
@@ -231,8 +283,10 @@ fn run<'a, C: Cells>(
 ) -> Result<(), Stop>
     requires ready { IsReady piece.now }
     requires narrow { StatementIsNarrow (OwnIsSmall piece.now) (statement_of stmt.now) (symbols_of symbols.old) }
-    ensures run { Ends (λ _. progress_of state.new) result (steps (around piece.now (C.cell cells.now)) (actions (setting piece.now) (statement_of stmt.now) (symbols_of symbols.old)) (progress_of state.old)) }
+    requires fits { StatementFits (limits_of state.old.memory) symbols.old.room (statement_of stmt.now) (length symbols.old.bound) }
+    ensures run { EndsIn state.old.given.capacity (λ _. progress_of state.new) result (steps (around piece.now (C.cell cells.now)) (actions (setting piece.now) (statement_of stmt.now) (symbols_of symbols.old)) (progress_of state.old)) }
     ensures symbols { OnOk result (symbols.new ≡ symbols.old) }
+    ensures large { OnOk result (IsAsLarge state.old state.new) }
 {
     match stmt {
         Stmt::Seq(all) => run_block(alloc, piece, cells, all, symbols, state),
@@ -245,7 +299,6 @@ fn run<'a, C: Cells>(
             let turns = turns_of(*symbol, span, symbols);
             run_turns(alloc, piece, cells, turns, body, symbols, state)
         }
-        Stmt::Let { .. } => Ok(()),
         Stmt::First {
             symbol,
             first,
@@ -264,19 +317,7 @@ fn run<'a, C: Cells>(
                 Ok(())
             }
         }
-        Stmt::Alloc { buffer, places, .. } => allot(alloc, *buffer, places, symbols, state),
-        Stmt::Fetch {
-            buffer,
-            group,
-            region,
-        } => fetch(alloc, piece, cells, *buffer, *group, region, symbols, state),
-        Stmt::Store {
-            buffer,
-            coordinates,
-            value,
-            ..
-        } => store(alloc, piece, *buffer, coordinates, value, symbols, state),
-        Stmt::Publish { claim } => publish(alloc, piece, cells, *claim, symbols, state),
+        _ => run_line(alloc, piece, cells, stmt, symbols, state),
     }
 }
 
@@ -287,52 +328,103 @@ fn group_at(groups: &[Group], number: usize) -> Option<&Group>
     groups.get(number)
 }
 
-/// The numbers that the piece of the group of a number gives at a grid point.
+/// The run of the piece of the group of a number at a grid point, in this memory.
 fn run_group<'a, C: Cells>(
     alloc: Global,
+    sizes: &'a [Size],
+    constants: &'a Symbols,
+    symbols: &mut Symbols,
+    state: &mut State,
     plan: &'a Plan,
     cert: &'a Cert,
     image: &'a Image,
     cells: &C,
     number: usize,
     at: &[u32],
-) -> Result<Vec<i64>, Stop>
+) -> Result<(), Stop>
     requires input { IsInput (plan_of plan.now) (image_of image.now) }
     requires narrow { MatchOption (slice_get (plan_of plan.now).groups number) ⊥ (λ g. PieceIsNarrow (certificate_of cert.now) number g at.now) }
-    ensures { Ends (λ v. v.items) result (piece_gives (plan_of plan.now) (certificate_of cert.now) (image_of image.now).samples (C.cell cells.now) number at.now) }
+    requires memory { MatchOption (slice_get (plan_of plan.now).groups number) ⊥ (Suffices sizes.now constants.now symbols.old.room (limits_of state.old.memory) (certificate_of cert.now) number) }
+    requires few { length at.now ≤ 4 }
+    ensures gives { GivesIn state.old.given.capacity result state.new.given.items (piece_gives (plan_of plan.now) (certificate_of cert.now) (image_of image.now).samples (C.cell cells.now) number at.now) }
+    ensures symbols { OnOk result (symbols.new.room ≡ symbols.old.room) }
+    ensures large { OnOk result (IsAsLarge state.old state.new) }
 {
     let Some(group) = group_at(&plan.groups, number) else {
         return Err(Stop::Fault);
     };
-    let body = &group.body;
-    let sizes = sizes_of(alloc, body)?;
-    let constants = Symbols::new(alloc, &[])?;
+    symbols.begin(at);
+    state.memory.clear();
+    state.given.clear();
     let piece = Piece {
         plan: &*plan,
         cert: &*cert,
         image: &*image,
         group: &*group,
         number,
-        sizes: &sizes,
-        constants: &constants,
+        sizes: &*sizes,
+        constants: &*constants,
     };
-    let mut symbols = Symbols::new(alloc, at)?;
-    let mut state = State {
-        memory: Buffers::new(alloc),
-        given: Vec::new(alloc),
-    };
-    run(alloc, &piece, cells, body, &mut symbols, &mut state)?;
-    Ok(state.given)
+    run(alloc, &piece, cells, &group.body, symbols, state)
 }
 
-/// The numbers that the piece of a group at a grid point gives for its own cells, in their order.
+/// A run has a fault: something is read that is not there, or a place is written that a buffer does not have.
+#[derive(Clone, Copy, Debug, PartialEq, Eq, Drop)]
+pub struct Fault;
+
+/// The private run of the piece of a group at a grid point, in memory that was taken before. The numbers for its own
+/// cells, in their order, are then those that the scratch gives.
 ///
-/// `group` is the group's number and `at` the grid point. The memory is that of the group's buffers, 24 bytes a
-/// place, and 8 bytes for each own cell.
+/// `group` is the group's number and `at` the grid point. It takes no memory: a point has at most four coordinates, and
+/// lies in place.
+///
+/// # Errors
+/// `Fault` where the run has a fault.
+pub fn run_piece_in<C: Cells>(
+    alloc: Global,
+    scratch: &mut Scratch,
+    plan: &Plan,
+    cert: &Cert,
+    image: &Image,
+    cells: &C,
+    group: usize,
+    at: &[u32],
+) -> Result<(), Fault>
+    requires input { IsInput (plan_of plan.now) (image_of image.now) }
+    requires narrow { MatchOption (slice_get (plan_of plan.now).groups group) ⊥ (λ g. PieceIsNarrow (certificate_of cert.now) group g at.now) }
+    requires memory { MatchOption (slice_get (plan_of plan.now).groups group) ⊥ (IsScratchFor scratch.old (certificate_of cert.now) group) }
+    requires few { length at.now ≤ 4 }
+    requires room { MatchOption (piece_gives (plan_of plan.now) (certificate_of cert.now) (image_of image.now).samples (C.cell cells.now) group at.now) (Unit {0}) (λ given. length given ≤ room_of scratch.old) }
+    ensures gives { MatchResult result (λ _. piece_gives (plan_of plan.now) (certificate_of cert.now) (image_of image.now).samples (C.cell cells.now) group at.now ≡ Some scratch.new.state.given.items) (λ _. piece_gives (plan_of plan.now) (certificate_of cert.now) (image_of image.now).samples (C.cell cells.now) group at.now ≡ None) }
+    ensures memory { OnOk result (IsAgain scratch.old scratch.new) }
+{
+    match run_group(
+        alloc,
+        &scratch.sizes,
+        &scratch.constants,
+        &mut scratch.symbols,
+        &mut scratch.state,
+        &*plan,
+        &*cert,
+        &*image,
+        cells,
+        group,
+        at,
+    ) {
+        Ok(()) => Ok(()),
+        // A piece that gives numbers gives no more than there is room for.
+        Err(_) => Err(Fault),
+    }
+}
+
+/// The numbers that the piece of a group at a grid point gives for its own cells, in their order, of which there are at
+/// most `most`.
+///
+/// `group` is the group's number and `at` the grid point. The memory is that of a scratch for the group.
 ///
 /// # Errors
 /// `Fault` where the run has a fault: something is read that is not there, or a place is written that a buffer does
-/// not have. `Memory` where memory runs out.
+/// not have. `Memory` where memory runs out, or a scratch has no room.
 pub fn run_piece<C: Cells>(
     alloc: Global,
     plan: &Plan,
@@ -341,10 +433,37 @@ pub fn run_piece<C: Cells>(
     cells: &C,
     group: usize,
     at: &[u32],
+    most: usize,
 ) -> Result<Vec<i64>, Stop>
     requires input { IsInput (plan_of plan.now) (image_of image.now) }
     requires narrow { MatchOption (slice_get (plan_of plan.now).groups group) ⊥ (λ g. PieceIsNarrow (certificate_of cert.now) group g at.now) }
     ensures { Ends (λ v. v.items) result (piece_gives (plan_of plan.now) (certificate_of cert.now) (image_of image.now).samples (C.cell cells.now) group at.now) }
 {
-    run_group(alloc, &*plan, &*cert, &*image, cells, group, at)
+    let Some(described) = group_at(&plan.groups, group) else {
+        return Err(Stop::Fault);
+    };
+    if at.len() > 4 {
+        return Err(Stop::Memory);
+    }
+    let scratch = Scratch::new(alloc, described, cert, group, most)?;
+    let Scratch {
+        sizes,
+        constants,
+        mut symbols,
+        mut state,
+    } = scratch;
+    run_group(
+        alloc,
+        &sizes,
+        &constants,
+        &mut symbols,
+        &mut state,
+        &*plan,
+        &*cert,
+        &*image,
+        cells,
+        group,
+        at,
+    )?;
+    Ok(state.given.as_slice().to_vec(alloc)?)
 }

@@ -1,6 +1,6 @@
 //! Stores and allocations.
 
-ghost use Rattle.std.specs.Prelude.{◌≡◌, ◌∷◌, [], ℕ, ℤ, List, All, IfOk, map, take, drop, string_bytes};
+ghost use Rattle.std.specs.Prelude.{◌≡◌, ◌∷◌, ◌++◌, ◌+◌, ◌≤◌, [], ℕ, ℤ, List, Some, All, IfSome, OnOk, length, map, option_map, take, drop, string_bytes};
 ghost use Rattle.tree.specs.declared.value.Value.{Value as ValueFound};
 ghost use Rattle.tree.specs.Term.{term_of};
 ghost use Rattle.meaning.specs.Names.{bound};
@@ -9,14 +9,15 @@ ghost use Rattle.nest.specs.View.{coordinate_of};
 ghost use Rattle.actions.specs.Actions.{stored, Allot};
 ghost use Rattle.actions.specs.Run.{Around, found_target};
 ghost use Rattle.buffers.specs.Rooms.{room_of};
-ghost use Rattle.buffers.specs.Blocks.{memory_of};
-ghost use Rattle.evaluation.specs.Outcome.{Ends};
+ghost use Rattle.buffers.specs.Blocks.{limits_of, memory_of, HasMemoryFor};
+ghost use Rattle.evaluation.specs.Short.{IsShort};
 ghost use Rattle.interpreter.specs.Bindings.{symbols_of};
 ghost use Rattle.interpreter.specs.Narrow.{PlacesAreNarrow};
+ghost use Rattle.interpreter.specs.Needs.{places_in};
 ghost use Rattle.interpreter.specs.Pieces.{around, setting, found_in, no_cells, IsReady};
-ghost use Rattle.interpreter.specs.States.{progress_of};
+ghost use Rattle.interpreter.specs.States.{progress_of, EndsIn, IsAsLarge};
 ghost use Rattle.interpreter.specs.Steps.{steps};
-ghost use Rattle.interpreter.specs.Targets.{target_of, known_number, target_number, CoordinateIsNarrow};
+ghost use Rattle.interpreter.specs.Targets.{target_of, known_number, target_number, CoordinateIsNarrow, CoordinateIsShort};
 
 use crate::forms::value_of;
 use crate::piece::Piece;
@@ -25,11 +26,11 @@ use crate::sizes::size_in;
 use crate::state::State;
 use crate::symbols::Symbols;
 use crate::visits::{Point, set};
-use buffers::Room;
+use buffers::{Room, Rooms};
 use evaluation::{Stop, evaluate};
 use nest::{Coordinate, Index, Places};
 use smallvec::SmallVec;
-use std::alloc::{AllocError, Global};
+use std::alloc::Global;
 use tree::Expr;
 
 /// The places of one coordinate.
@@ -47,15 +48,16 @@ fn room(places: &Places, symbols: &Symbols) -> Room
 }
 
 /// The places of all coordinates.
-fn rooms(alloc: Global, places: &[Places], symbols: &Symbols) -> Result<Vec<Room>, AllocError>
-    requires { All (PlacesAreNarrow (symbols_of symbols.now)) places.now }
-    ensures { IfOk result (λ rooms. map room_of rooms.items ≡ map (room (symbols_of symbols.now)) places.now) }
+fn rooms(alloc: Global, places: &[Places], symbols: &Symbols) -> Rooms
+    requires narrow { All (PlacesAreNarrow (symbols_of symbols.now)) places.now }
+    requires short { length places.now ≤ 4 }
+    ensures { map room_of result.items ≡ map (room (symbols_of symbols.now)) places.now }
 {
-    let mut rooms = Vec::new(alloc);
+    let mut rooms = SmallVec::new(alloc);
     for one in places {
-        rooms.push(room(one, symbols))?;
+        rooms.push_reserved(room(one, symbols));
     }
-    Ok(rooms)
+    rooms
 }
 
 /// Makes a buffer.
@@ -65,13 +67,15 @@ pub(crate) fn allot(
     places: &[Places],
     symbols: &Symbols,
     state: &mut State,
-) -> Result<(), Stop>
-    requires { All (PlacesAreNarrow (symbols_of symbols.now)) places.now }
-    ensures { (surroundings : Around) → Ends (λ _. progress_of state.new) result (steps surroundings (Allot buffer (map (room (symbols_of symbols.now)) places.now) ∷ []) (progress_of state.old)) }
+)
+    requires narrow { All (PlacesAreNarrow (symbols_of symbols.now)) places.now }
+    requires short { length places.now ≤ 4 }
+    requires memory { HasMemoryFor (limits_of state.old.memory) buffer (places_in places.now) }
+    ensures large { IsAsLarge state.old state.new }
+    ensures allot { (surroundings : Around) → Some (progress_of state.new) ≡ steps surroundings (Allot buffer (map (room (symbols_of symbols.now)) places.now) ∷ []) (progress_of state.old) }
 {
-    let rooms = rooms(alloc, places, symbols)?;
-    state.memory.allot(alloc, buffer, &rooms)?;
-    Ok(())
+    let rooms = rooms(alloc, places, symbols);
+    state.memory.allot(buffer, rooms);
 }
 
 /// The number of a coordinate, 0 where an expression finds it.
@@ -86,19 +90,16 @@ fn known_number(coordinate: &Coordinate, symbols: &Symbols) -> i64
 }
 
 /// The numbers of all coordinates, 0 where an expression finds one.
-fn known_numbers(
-    alloc: Global,
-    coordinates: &[Coordinate],
-    symbols: &Symbols,
-) -> Result<Point, AllocError>
-    requires { All (CoordinateIsNarrow (symbols_of symbols.now)) coordinates.now }
-    ensures { IfOk result (λ numbers. numbers.items ≡ map (known_number (symbols_of symbols.now)) coordinates.now) }
+fn known_numbers(alloc: Global, coordinates: &[Coordinate], symbols: &Symbols) -> Point
+    requires narrow { All (CoordinateIsNarrow (symbols_of symbols.now)) coordinates.now }
+    requires short { length coordinates.now ≤ 4 }
+    ensures { result.items ≡ map (known_number (symbols_of symbols.now)) coordinates.now }
 {
     let mut numbers = SmallVec::new(alloc);
     for coordinate in coordinates {
-        numbers.push(known_number(coordinate, symbols))?;
+        numbers.push_reserved(known_number(coordinate, symbols));
     }
-    Ok(numbers)
+    numbers
 }
 
 /// The number of a coordinate, which an expression may have to find.
@@ -107,13 +108,14 @@ fn found_number(
     coordinate: &Coordinate,
     symbols: &Symbols,
     reading: &Reading<'_, '_>,
-) -> Result<i64, Stop>
-    requires { CoordinateIsNarrow (symbols_of symbols.now) coordinate.now }
-    ensures { Ends (λ z. z) result (target_number (bound (map (λ c. string_bytes c.variable) reading.now.coordinates.now) reading.now.numbers.now) (found_in reading.now.piece.now reading.now.memory.now) (target_of (symbols_of symbols.now) coordinate.now)) }
+) -> Option<i64>
+    requires narrow { CoordinateIsNarrow (symbols_of symbols.now) coordinate.now }
+    requires short { CoordinateIsShort coordinate.now }
+    ensures { result ≡ (target_number (bound (map (λ c. string_bytes c.variable) reading.now.coordinates.now) reading.now.numbers.now) (found_in reading.now.piece.now reading.now.memory.now) (target_of (symbols_of symbols.now) coordinate.now)) }
 {
     match &coordinate.index {
-        Index::Form(form) => Ok(value_of(form, symbols)),
-        Index::Found(expr) => Ok(evaluate(alloc, expr, reading)?.number),
+        Index::Form(form) => Some(value_of(form, symbols)),
+        Index::Found(expr) => Some(evaluate(alloc, expr, reading)?.number),
     }
 }
 
@@ -123,16 +125,19 @@ fn found_point(
     coordinates: &[Coordinate],
     symbols: &Symbols,
     reading: &Reading<'_, '_>,
-) -> Result<Point, Stop>
-    requires { All (CoordinateIsNarrow (symbols_of symbols.now)) coordinates.now }
-    ensures { Ends (λ p. p.items) result (found_target (around reading.now.piece.now no_cells) (bound (map (λ c. string_bytes c.variable) reading.now.coordinates.now) reading.now.numbers.now) (map (target_of (symbols_of symbols.now)) coordinates.now) (memory_of reading.now.memory.now)) }
+) -> Option<Point>
+    requires narrow { All (CoordinateIsNarrow (symbols_of symbols.now)) coordinates.now }
+    requires few { length coordinates.now ≤ 4 }
+    requires short { All CoordinateIsShort coordinates.now }
+    ensures count { IfSome result (λ p. length p.items ≡ length coordinates.now) }
+    ensures point { option_map (λ p. p.items) result ≡ (found_target (around reading.now.piece.now no_cells) (bound (map (λ c. string_bytes c.variable) reading.now.coordinates.now) reading.now.numbers.now) (map (target_of (symbols_of symbols.now)) coordinates.now) (memory_of reading.now.memory.now)) }
 {
     let mut point = SmallVec::new(alloc);
     for coordinate in coordinates {
         let number = found_number(alloc, coordinate, symbols, reading)?;
-        point.push(number).map_err(AllocError::from)?;
+        point.push_reserved(number);
     }
-    Ok(point)
+    Some(point)
 }
 
 /// The coordinates that are the function's, the first so many.
@@ -149,6 +154,21 @@ fn of_reduction(numbers: &[i64], count: usize) -> &[i64]
     &numbers[count.min(numbers.len())..]
 }
 
+/// The numbers of two parts, one behind the other.
+fn joined(alloc: Global, front: &[i64], back: &[i64]) -> Point
+    requires { length front.now + length back.now ≤ 4 }
+    ensures { result.items ≡ front.now ++ back.now }
+{
+    let mut all: Point = SmallVec::new(alloc);
+    let Ok(()) = all.extend_from_slice(front) else {
+        unreachable!()
+    };
+    let Ok(()) = all.extend_from_slice(back) else {
+        unreachable!()
+    };
+    all
+}
+
 /// Stores the value of a definition at a point. A pure definition's point is known, an update's may have to be found.
 pub(crate) fn store<'a>(
     alloc: Global,
@@ -161,10 +181,14 @@ pub(crate) fn store<'a>(
 ) -> Result<(), Stop>
     requires ready { IsReady piece.now }
     requires narrow { All (CoordinateIsNarrow (symbols_of symbols.now)) coordinates.now }
-    ensures { (definition : ℕ) (cell : List ℕ → List ℤ → ValueFound) → Ends (λ _. progress_of state.new) result (steps (around piece.now cell) (stored (setting piece.now) buffer definition (map coordinate_of coordinates.now) (term_of value.now) (symbols_of symbols.now) ∷ []) (progress_of state.old)) }
+    requires few { length coordinates.now ≤ 4 }
+    requires short { All CoordinateIsShort coordinates.now }
+    requires value { IsShort (term_of value.now) }
+    ensures large { OnOk result (IsAsLarge state.old state.new) }
+    ensures store { (definition : ℕ) (cell : List ℕ → List ℤ → ValueFound) → EndsIn state.old.given.capacity (λ _. progress_of state.new) result (steps (around piece.now cell) (stored (setting piece.now) buffer definition (map coordinate_of coordinates.now) (term_of value.now) (symbols_of symbols.now) ∷ []) (progress_of state.old)) }
 {
     let count = size_in(piece.sizes, buffer);
-    let numbers = known_numbers(alloc, coordinates, symbols)?;
+    let numbers = known_numbers(alloc, coordinates, symbols);
     let left = Reading {
         piece,
         coordinates,
@@ -172,15 +196,18 @@ pub(crate) fn store<'a>(
         numbers: &numbers,
     };
     let place = of_function(coordinates, count);
-    let point = found_point(alloc, place, symbols, &left)?;
-    let mut all: Point = SmallVec::from_slice(alloc, &point)?;
-    all.extend_from_slice(of_reduction(&numbers, count))?;
+    let Some(point) = found_point(alloc, place, symbols, &left) else {
+        return Err(Stop::Fault);
+    };
+    let all = joined(alloc, &point, of_reduction(&numbers, count));
     let right = Reading {
         piece,
         coordinates,
         memory: &state.memory,
         numbers: &all,
     };
-    let found = evaluate(alloc, value, &right)?;
+    let Some(found) = evaluate(alloc, value, &right) else {
+        return Err(Stop::Fault);
+    };
     set(state, buffer, &point, found)
 }

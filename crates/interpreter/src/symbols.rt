@@ -1,10 +1,11 @@
 //! Values of symbols.
 
-ghost use Rattle.std.specs.Prelude.{◌≡◌, [], take, length, slice_get, IfOk, OnOk};
+ghost use Rattle.std.specs.Prelude.{◌≡◌, ◌≤◌, ◌<◌, [], take, length, slice_get, IfOk};
 ghost use Rattle.cert.specs.Cells.{grid_value};
 ghost use Rattle.interpreter.specs.Bindings.{symbols_of, also};
 
 use lin::Sym;
+use smallvec::SmallVec;
 use std::alloc::{AllocError, Global};
 use std::marker::Model;
 
@@ -16,19 +17,27 @@ pub(crate) struct Binding {
     pub first: bool,
 }
 
-/// The values of symbols: those of a grid point, and what was bound since. A symbol that has none is 0.
+/// The coordinates of a grid point. Up to four take no memory of the heap.
+type Grid = SmallVec<u32, 4>;
+
+/// The values of symbols: those of a grid point, and what was bound since, for which there is so much room. A symbol that
+/// has none is 0.
 #[derive(Drop)]
 pub(crate) struct Symbols {
-    grid: Vec<u32>,
+    grid: Grid,
     bound: Vec<Binding>,
+    room: usize,
 }
 
 impl Model for Symbols {
+    ghost use Rattle.std.specs.Prelude.{◌≤◌, vec_capacity};
     ghost use Rattle.interpreter.specs.Bindings.{Bindings};
 
     ghost Value = { Bindings };
 
-    ghost view = { λ s. record { grid = s.grid.items; bound = s.bound.items } };
+    ghost view = { λ s. record { grid = s.grid.items; bound = s.bound.items; room = s.room } };
+
+    ghost invariant = { λ s. s.room ≤ vec_capacity s.bound };
 }
 
 /// A coordinate of a grid point, if it has so many.
@@ -49,14 +58,28 @@ fn grid_value(at: &[u32], symbol: Sym) -> i64
 }
 
 impl Symbols {
-    /// The symbols of a grid point: those of the grid alone.
-    pub(crate) fn new(alloc: Global, at: &[u32]) -> Result<Symbols, AllocError>
-        ensures { IfOk result (λ s. s ≡ record { grid = at.now; bound = [] }) }
+    /// No symbol at all, and room to bind so many.
+    pub(crate) fn new(alloc: Global, room: usize) -> Result<Symbols, AllocError>
+        ensures none { IfOk result (λ s. (s.grid ≡ []) × (s.bound ≡ [])) }
+        ensures room { IfOk result (λ s. room ≤ s.room) }
     {
         Ok(Symbols {
-            grid: at.to_vec(alloc)?,
-            bound: Vec::new(alloc),
+            grid: SmallVec::new(alloc),
+            bound: Vec::with_capacity(alloc, room)?,
+            room,
         })
+    }
+
+    /// Takes the symbols of a grid point, those of the grid alone.
+    pub(crate) fn begin(&mut self, at: &[u32])
+        requires { length at.now ≤ 4 }
+        ensures { self.new ≡ record { grid = at.now; bound = []; room = self.old.room } }
+    {
+        let Ok(grid) = SmallVec::from_slice(*self.grid.allocator(), at) else {
+            unreachable!()
+        };
+        self.grid = grid;
+        self.bound.clear();
     }
 
     /// A symbol's value, 0 where it has none.
@@ -86,11 +109,13 @@ impl Symbols {
     }
 
     /// Binds a symbol, whatever it was before.
-    pub(crate) fn bind(&mut self, binding: Binding) -> Result<(), AllocError>
-        ensures { OnOk result (self.new ≡ also self.old binding) }
+    pub(crate) fn bind(&mut self, binding: Binding)
+        requires { length self.old.bound < self.old.room }
+        ensures { self.new ≡ also self.old binding }
     {
-        self.bound.push(binding)?;
-        Ok(())
+        let Ok(()) = self.bound.push(binding) else {
+            unreachable!()
+        };
     }
 
     /// How many symbols were bound since the grid's.
@@ -102,7 +127,7 @@ impl Symbols {
 
     /// Forgets all but the first so many bound symbols.
     pub(crate) fn forget(&mut self, kept: usize)
-        ensures { self.new ≡ record { grid = self.old.grid; bound = take kept self.old.bound } }
+        ensures { self.new ≡ record { grid = self.old.grid; bound = take kept self.old.bound; room = self.old.room } }
     {
         self.bound.truncate(kept);
     }

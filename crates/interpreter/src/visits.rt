@@ -1,6 +1,6 @@
 //! What is done at each point of a region.
 
-ghost use Rattle.std.specs.Prelude.{◌≡◌, ◌∷◌, [], flat_map, ℕ, ℤ, List, IfOk, map, slice_get, int_le};
+ghost use Rattle.std.specs.Prelude.{◌≡◌, ◌∷◌, ◌+◌, ◌≤◌, ◌<◌, [], flat_map, length, ℕ, ℤ, List, OnOk, map, slice_get, int_le};
 ghost use Rattle.tree.specs.declared.value.Value.{Value as ValueFound};
 ghost use Rattle.nest.specs.Symbols.{form_value};
 ghost use Rattle.cert.specs.Cells.{is_in_span, is_in_region};
@@ -8,11 +8,10 @@ ghost use Rattle.cert.specs.Certificate.{claim_of};
 ghost use Rattle.actions.specs.Actions.{Give, Take};
 ghost use Rattle.actions.specs.Setting.{buffer_in};
 ghost use Rattle.std.specs.List.{list_all};
-ghost use Rattle.evaluation.specs.Outcome.{Ends};
 ghost use Rattle.interpreter.specs.Bindings.{symbols_of};
 ghost use Rattle.interpreter.specs.Narrow.{FormsAreNarrow, SpanIsNarrow, RegionIsNarrow};
 ghost use Rattle.interpreter.specs.Pieces.{around};
-ghost use Rattle.interpreter.specs.States.{progress_of, SetsOrFaults};
+ghost use Rattle.interpreter.specs.States.{progress_of, EndsIn, IsAsLarge, SetsOrFaults};
 ghost use Rattle.interpreter.specs.Steps.{steps};
 ghost use Rattle.interpreter.specs.Visits.{at_point, between, extended, VisitIsNarrow};
 
@@ -25,10 +24,10 @@ use cert::Claim;
 use evaluation::Stop;
 use lin::{Lin, Span1};
 use smallvec::SmallVec;
-use std::alloc::{AllocError, Global};
+use std::alloc::Global;
 use tree::Value;
 
-/// The coordinates of a point. Up to four take no memory of the heap.
+/// The coordinates of a point, at most four.
 pub(crate) type Point = SmallVec<i64, 4>;
 
 /// What is done at each point.
@@ -109,7 +108,8 @@ fn claim_buffer(claims: &[Claim], claim: u32) -> u32
 
 /// Sets the place of a point in a buffer.
 pub(crate) fn set(state: &mut State, buffer: u32, point: &[i64], value: Value) -> Result<(), Stop>
-    ensures { SetsOrFaults result state.old state.new buffer point.now value }
+    ensures set { SetsOrFaults result state.old state.new buffer point.now value }
+    ensures large { IsAsLarge state.old state.new }
 {
     if state.memory.write(buffer, point, value) {
         Ok(())
@@ -120,13 +120,17 @@ pub(crate) fn set(state: &mut State, buffer: u32, point: &[i64], value: Value) -
 
 /// Gives the number that a claim's buffer holds at a point.
 fn give(piece: &Piece<'_>, claim: u32, point: &[i64], state: &mut State) -> Result<(), Stop>
-    ensures { (cell : List ℕ → List ℤ → ValueFound) → Ends (λ _. progress_of state.new) result (steps (around piece.now cell) (Give claim point.now ∷ []) (progress_of state.old)) }
+    ensures large { OnOk result (IsAsLarge state.old state.new) }
+    ensures give { (cell : List ℕ → List ℤ → ValueFound) → EndsIn state.old.given.capacity (λ _. progress_of state.new) result (steps (around piece.now cell) (Give claim point.now ∷ []) (progress_of state.old)) }
 {
     let buffer = claim_buffer(&piece.cert.claims, claim);
     let Some(value) = state.memory.read(buffer, point) else {
         return Err(Stop::Fault);
     };
-    state.given.push(value.number).map_err(AllocError::from)?;
+    if state.given.len() == state.given.capacity() {
+        return Err(Stop::Memory);
+    }
+    state.given.push_reserved(value.number);
     Ok(())
 }
 
@@ -138,7 +142,8 @@ fn visit_point<C: Cells>(
     state: &mut State,
 ) -> Result<(), Stop>
     requires { VisitIsNarrow walk.now.piece.now walk.now.visit }
-    ensures { Ends (λ _. progress_of state.new) result (steps (around walk.now.piece.now (C.cell cells.now)) (at_point walk.now.piece.now walk.now.visit point.now) (progress_of state.old)) }
+    ensures large { OnOk result (IsAsLarge state.old state.new) }
+    ensures run { EndsIn state.old.given.capacity (λ _. progress_of state.new) result (steps (around walk.now.piece.now (C.cell cells.now)) (at_point walk.now.piece.now walk.now.visit point.now) (progress_of state.old)) }
 {
     match walk.visit {
         Visit::Fetch { buffer, function } => {
@@ -156,13 +161,16 @@ fn visit_point<C: Cells>(
 }
 
 /// A point with one more coordinate in front.
-fn in_front(alloc: Global, coordinate: i64, point: &[i64]) -> Result<Point, AllocError>
-    ensures { IfOk result (λ longer. longer.items ≡ coordinate ∷ point.now) }
+fn in_front(alloc: Global, coordinate: i64, point: &[i64]) -> Point
+    requires { length point.now < 4 }
+    ensures { result.items ≡ coordinate ∷ point.now }
 {
     let mut longer = SmallVec::new(alloc);
-    longer.push(coordinate)?;
-    longer.extend_from_slice(point)?;
-    Ok(longer)
+    longer.push_reserved(coordinate);
+    for number in point {
+        longer.push_reserved(*number);
+    }
+    longer
 }
 
 /// The numbers of a span.
@@ -185,10 +193,12 @@ fn visit_numbers<C: Cells>(
 ) -> Result<(), Stop>
     requires region { RegionIsNarrow (symbols_of walk.now.symbols.now) region.now }
     requires visit { VisitIsNarrow walk.now.piece.now walk.now.visit }
-    ensures { Ends (λ _. progress_of state.new) result (steps (around walk.now.piece.now (C.cell cells.now)) (flat_map (λ z. flat_map (at_point walk.now.piece.now walk.now.visit) (extended (symbols_of walk.now.symbols.now) region.now (z ∷ point.now))) (between numbers.low numbers.high)) (progress_of state.old)) }
+    requires short { length region.now + length point.now < 4 }
+    ensures large { OnOk result (IsAsLarge state.old state.new) }
+    ensures run { EndsIn state.old.given.capacity (λ _. progress_of state.new) result (steps (around walk.now.piece.now (C.cell cells.now)) (flat_map (λ z. flat_map (at_point walk.now.piece.now walk.now.visit) (extended (symbols_of walk.now.symbols.now) region.now (z ∷ point.now))) (between numbers.low numbers.high)) (progress_of state.old)) }
 {
     for number in numbers.low..=numbers.high {
-        let longer = in_front(alloc, number, point)?;
+        let longer = in_front(alloc, number, point);
         visit_region(alloc, walk, cells, region, &longer, state)?;
     }
     Ok(())
@@ -206,7 +216,9 @@ pub(crate) fn visit_region<C: Cells>(
 ) -> Result<(), Stop>
     requires region { RegionIsNarrow (symbols_of walk.now.symbols.now) region.now }
     requires visit { VisitIsNarrow walk.now.piece.now walk.now.visit }
-    ensures { Ends (λ _. progress_of state.new) result (steps (around walk.now.piece.now (C.cell cells.now)) (flat_map (at_point walk.now.piece.now walk.now.visit) (extended (symbols_of walk.now.symbols.now) region.now point.now)) (progress_of state.old)) }
+    requires short { length region.now + length point.now ≤ 4 }
+    ensures large { OnOk result (IsAsLarge state.old state.new) }
+    ensures run { EndsIn state.old.given.capacity (λ _. progress_of state.new) result (steps (around walk.now.piece.now (C.cell cells.now)) (flat_map (at_point walk.now.piece.now walk.now.visit) (extended (symbols_of walk.now.symbols.now) region.now point.now)) (progress_of state.old)) }
 {
     match region {
         [] => visit_point(walk, cells, point, state),

@@ -12,31 +12,33 @@ use std::alloc::{AllocError, Global};
 /// The most replacements that a search makes.
 const MOST_REPLACEMENTS: usize = 4096;
 
-/// The forms that may stand in the place of a symbol with this factor, not 0.
-fn candidates(binding: &Binding, factor: i64) -> &[Lin]
-    ensures { result.now ≡ candidates binding.now factor }
-{
-    match binding {
-        Binding::Loop(span) => {
-            if factor >= 0 {
-                span.upper.as_slice()
-            } else {
-                span.lower.as_slice()
+impl Binding {
+    /// The forms that may stand in the place of the symbol where its factor is this one, not 0.
+    pub fn candidates(&self, factor: i64) -> &[Lin]
+        ensures { result.now ≡ candidates self.now factor }
+    {
+        match self {
+            Binding::Loop(span) => {
+                if factor >= 0 {
+                    span.upper.as_slice()
+                } else {
+                    span.lower.as_slice()
+                }
             }
+            Binding::LetMin(forms) => forms.as_slice(),
+            Binding::LetMax(forms) => forms.as_slice(),
         }
-        Binding::LetMin(forms) => forms.as_slice(),
-        Binding::LetMax(forms) => forms.as_slice(),
     }
-}
 
-/// Whether any of the candidates may be the value, so that the largest result counts.
-fn any_may_be(binding: &Binding, factor: i64) -> bool
-    ensures { result ≡ any_may_be binding.now factor }
-{
-    match binding {
-        Binding::Loop(_) => false,
-        Binding::LetMin(_) => factor < 0,
-        Binding::LetMax(_) => factor >= 0,
+    /// Whether any of the candidates may be the value, so that the largest result counts.
+    pub fn any_may_be(&self, factor: i64) -> bool
+        ensures { result ≡ any_may_be self.now factor }
+    {
+        match self {
+            Binding::Loop(_) => false,
+            Binding::LetMin(_) => factor < 0,
+            Binding::LetMax(_) => factor >= 0,
+        }
     }
 }
 
@@ -102,8 +104,8 @@ fn search(
         symbol,
         &rest,
         factor,
-        candidates(binding, factor),
-        any_may_be(binding, factor),
+        binding.candidates(factor),
+        binding.any_may_be(factor),
         budget,
     )
 }

@@ -25,9 +25,10 @@ use Rattle.lin.specs.declared.span.Span1.{Span1}
 use Rattle.bounds.specs.Interval.{interval}
 use Rattle.bounds.proofs.Fitting.{both_typed, all_typed}
 use Rattle.bounds.proofs.IntervalSound.{contains}
-use Rattle.needs.specs.Regions.{spans_at, regions_of}
+use Rattle.needs.specs.Regions.{spans_at, freed, regions_of}
 use Rattle.needs.specs.Sound.{IsInIfNamed}
-use Rattle.needs.proofs.UnionHolds.{HoldsIf, HasLength, AreIndices, Reaches, holds_some, length_some, in_front-holds, in_front-length}
+use Rattle.projection.proofs.UnionHolds.{HoldsIf, HasLength, AreIndices, Reaches, holds_some, length_some, in_front-holds, in_front-length}
+use Rattle.needs.proofs.Freed.{freed-length, freed-holds}
 
 -- ---- the calls of an expression that has a type
 module _ (known : List ℕ → Bool) (functions : List ℕ → Option (Ty × ℕ)) where
@@ -76,7 +77,7 @@ module _ (known : List ℕ → Bool) (functions : List ℕ → Option (Ty × ℕ
 abbrev pub HasCount : (List ℕ → Option (Ty × ℕ)) → List ℕ → ℕ → Type 0
 HasCount functions callee n = (m : ℕ) → TakesCall (functions callee) m → m ≡ n
 
-module _ (scope : List Binding) (known : List ℕ → Bool) (functions : List ℕ → Option (Ty × ℕ)) (names : List (List ℕ)) (region : List Span1) where
+module _ (scope : List Binding) (known : List ℕ → Bool) (functions : List ℕ → Option (Ty × ℕ)) (names : List (List ℕ)) (region : List Span1) (inner : List ℕ) where
   spans-length : (at : Terms) → HasLength (index_count at) (spans_at scope functions names region at)
   spans-length End = length_some [] 0 refl
   spans-length (More a rest) = in_front-length (interval scope functions names region a) (spans_at scope functions names region rest) (index_count rest) (index_count (More a rest)) (omega arith) (spans-length rest)
@@ -85,18 +86,18 @@ module _ (scope : List Binding) (known : List ℕ → Bool) (functions : List �
     call_count : (c : Written) → same_name c.name callee ≡ true → OfCall (IsGood known functions) c → index_count c.at ≡ n
     call_count c e g = let P : List ℕ → Type 0 = λ x. TakesCall (functions x) (index_count c.at) in count (index_count c.at) (subst P (same_name_is c.name callee e) g.1)
 
-    regions-length : (cs : List Written) → All (OfCall (IsGood known functions)) cs → AllByRecursion (HasLength n) (regions_of scope functions names region callee cs)
+    regions-length : (cs : List Written) → All (OfCall (IsGood known functions)) cs → AllByRecursion (HasLength n) (regions_of scope functions names region inner callee cs)
     regions-length [] g = tt
     regions-length (c ∷ cs) g = by (same_name c.name callee) refl (regions-length cs (All-tail (OfCall (IsGood known functions)) c cs g))
       where
-        by : (b : Bool) → same_name c.name callee ≡ b → AllByRecursion (HasLength n) (regions_of scope functions names region callee cs)
-            → AllByRecursion (HasLength n) (map (λ d. spans_at scope functions names region d.at) (cond b (c ∷ filter (λ d. same_name d.name callee) cs) (filter (λ d. same_name d.name callee) cs)))
+        by : (b : Bool) → same_name c.name callee ≡ b → AllByRecursion (HasLength n) (regions_of scope functions names region inner callee cs)
+            → AllByRecursion (HasLength n) (map (λ d. freed scope inner (spans_at scope functions names region d.at)) (cond b (c ∷ filter (λ d. same_name d.name callee) cs) (filter (λ d. same_name d.name callee) cs)))
         by true e rest =
-            let P : ℕ → Type 0 = λ m. HasLength m (spans_at scope functions names region c.at) in
-            (subst P (call_count c e (All-head (OfCall (IsGood known functions)) c cs g)) (spans-length c.at), rest)
+            let P : ℕ → Type 0 = λ m. HasLength m (freed scope inner (spans_at scope functions names region c.at)) in
+            (subst P (call_count c e (All-head (OfCall (IsGood known functions)) c cs g)) (freed-length scope inner (index_count c.at) (spans_at scope functions names region c.at) (spans-length c.at)), rest)
         by false e rest = rest
 
-    pub lengths : (a : Term) → IsSome (type_of known functions a) → AllByRecursion (HasLength n) (regions_of scope functions names region callee (calls_of a))
+    pub lengths : (a : Term) → IsSome (type_of known functions a) → AllByRecursion (HasLength n) (regions_of scope functions names region inner callee (calls_of a))
     lengths a h = regions-length (calls_of a) (all_listed (IsGood known functions) a (good known functions a h))
 
     module _ (v : ℕ → ℤ) (r : HoldsIn scope v) (found : Option (List Span1)) (values : List ℕ → ℤ) (answers : List ℕ → List ℤ → Value)
@@ -120,7 +121,7 @@ module _ (scope : List Binding) (known : List ℕ → Bool) (functions : List �
       abbrev InFound : List ℕ → Terms → Type 0
       InFound name at = name ≡ callee → HoldsIf v (numbers_of values answers at) found
 
-      reached : (cs : List Written) → All (OfCall (IsGood known functions)) cs → AllByRecursion (Reaches scope v r n found) (regions_of scope functions names region callee cs) → All (OfCall InFound) cs
+      reached : (cs : List Written) → All (OfCall (IsGood known functions)) cs → AllByRecursion (Reaches scope v r n found) (regions_of scope functions names region inner callee cs) → All (OfCall InFound) cs
       reached [] g a = All-nil (OfCall InFound)
       reached (c ∷ cs) g a = by (same_name c.name callee) refl a (reached cs (All-tail (OfCall (IsGood known functions)) c cs g))
         where
@@ -128,17 +129,17 @@ module _ (scope : List Binding) (known : List ℕ → Bool) (functions : List �
           here = All-head (OfCall (IsGood known functions)) c cs g
 
           by : (b : Bool) → same_name c.name callee ≡ b
-              → AllByRecursion (Reaches scope v r n found) (map (λ d. spans_at scope functions names region d.at) (cond b (c ∷ filter (λ d. same_name d.name callee) cs) (filter (λ d. same_name d.name callee) cs)))
-              → (AllByRecursion (Reaches scope v r n found) (regions_of scope functions names region callee cs) → All (OfCall InFound) cs)
+              → AllByRecursion (Reaches scope v r n found) (map (λ d. freed scope inner (spans_at scope functions names region d.at)) (cond b (c ∷ filter (λ d. same_name d.name callee) cs) (filter (λ d. same_name d.name callee) cs)))
+              → (AllByRecursion (Reaches scope v r n found) (regions_of scope functions names region inner callee cs) → All (OfCall InFound) cs)
               → All (OfCall InFound) (c ∷ cs)
           by true e h rest =
               All-cons (OfCall InFound) c cs
-              (λ same. h.0 (numbers_of values answers c.at) (numbers-indices c.at here.0) (numbers-length c.at ∙ call_count c e here) (spans-hold c.at here.0))
+              (λ same. h.0 (numbers_of values answers c.at) (numbers-indices c.at here.0) (numbers-length c.at ∙ call_count c e here) (freed-holds scope v r inner (numbers_of values answers c.at) (spans_at scope functions names region c.at) (spans-hold c.at here.0)))
               (rest h.1)
           by false e h rest = All-cons (OfCall InFound) c cs (λ same. absurd (false≢true (sym e ∙ name_same c.name callee same))) (rest h)
 
       pub calls-reached : (a : Term) (region' : List Span1) → found ≡ Some region' → IsSome (type_of known functions a)
-          → AllByRecursion (Reaches scope v r n found) (regions_of scope functions names region callee (calls_of a))
+          → AllByRecursion (Reaches scope v r n found) (regions_of scope functions names region inner callee (calls_of a))
           → All (IsInIfNamed callee v region') (calls_made values answers a)
       calls-reached a region' is h reaches =
           let goods = all_listed (IsGood known functions) a (good known functions a h) in

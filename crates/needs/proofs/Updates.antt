@@ -10,22 +10,23 @@ use Rattle.algo.specs.declared.function.Update.{Update}
 use Rattle.algo.specs.Parts.{change_of}
 use Rattle.lin.specs.declared.scope.Binding.{Binding}
 use Rattle.lin.specs.declared.span.Span1.{Span1}
-use Rattle.needs.specs.Regions.{regions_of, with_region, united}
+use Rattle.projection.specs.Unions.{with_region, united}
+use Rattle.needs.specs.Regions.{regions_of}
 use Rattle.needs.specs.Needed.{callable_before, with_domain, names_beside, left_regions, right_regions, update_regions, pure_regions}
 
-module _ (scope : List Binding) (a : Algorithm) (k : ℕ) (callee : List ℕ) (region : List Span1) where
+module _ (scope : List Binding) (inner : List ℕ) (a : Algorithm) (k : ℕ) (callee : List ℕ) (region : List Span1) where
   pub pure_fold : (variables names : List (List ℕ)) (value : Term) (new : List Span1) → new ≡ [] → names ≡ variables
-      → fold (with_region scope) (Some new) (regions_of scope (callable_before a k) names region callee (calls_of value)) ≡ united scope (pure_regions scope a k callee region variables value)
-  pure_fold variables names value new none same = λ i. fold (with_region scope) (Some (none i)) (regions_of scope (callable_before a k) (same i) region callee (calls_of value))
+      → fold (with_region scope) (Some new) (regions_of scope (callable_before a k) names region inner callee (calls_of value)) ≡ united scope (pure_regions scope inner a k callee region variables value)
+  pure_fold variables names value new none same = λ i. fold (with_region scope) (Some (none i)) (regions_of scope (callable_before a k) (same i) region inner callee (calls_of value))
 
   pub update_fold : (variables names others : List (List ℕ)) (u : Change) (at : List Term) (count : ℕ) (spans : List Span1) (known here : Option (List Span1))
       → names ≡ names_beside variables u.ranges → others ≡ names_beside variables u.ranges → at ≡ u.at → count ≡ suc k → spans ≡ with_domain region u.ranges
-      → here ≡ fold (with_region scope) known (flat_map (λ e. regions_of scope (callable_before a k) names spans callee (calls_of e)) at)
-      → fold (with_region scope) here (regions_of scope (callable a (take count a.functions)) others spans callee (calls_of u.value)) ≡ fold (with_region scope) known (update_regions scope a k callee region variables u)
+      → here ≡ fold (with_region scope) known (flat_map (λ e. regions_of scope (callable_before a k) names spans inner callee (calls_of e)) at)
+      → fold (with_region scope) here (regions_of scope (callable a (take count a.functions)) others spans inner callee (calls_of u.value)) ≡ fold (with_region scope) known (update_regions scope inner a k callee region variables u)
   update_fold variables names others u at count spans known here same other left next span is =
-      (λ i. fold (with_region scope) (is i) (regions_of scope (callable a (take (next i) a.functions)) (other i) (span i) callee (calls_of u.value)))
-      ∙ (λ i. fold (with_region scope) (fold (with_region scope) known (flat_map (λ e. regions_of scope (callable_before a k) (same i) (span i) callee (calls_of e)) (left i))) (right_regions scope a k callee region variables u.ranges u.value))
-      ∙ sym (fold-append (with_region scope) known (left_regions scope a k callee region variables u.ranges u.at) (right_regions scope a k callee region variables u.ranges u.value))
+      (λ i. fold (with_region scope) (is i) (regions_of scope (callable a (take (next i) a.functions)) (other i) (span i) inner callee (calls_of u.value)))
+      ∙ (λ i. fold (with_region scope) (fold (with_region scope) known (flat_map (λ e. regions_of scope (callable_before a k) (same i) (span i) inner callee (calls_of e)) (left i))) (right_regions scope inner a k callee region variables u.ranges u.value))
+      ∙ sym (fold-append (with_region scope) known (left_regions scope inner a k callee region variables u.ranges u.at) (right_regions scope inner a k callee region variables u.ranges u.value))
 
 module _ (scope : List Binding) (regions : Change → List (Option (List Span1))) where
   abbrev Rest : Option (List Span1) → List Update → Option (List Span1)

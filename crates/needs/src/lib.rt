@@ -4,7 +4,6 @@
 mod callees;
 mod calls;
 mod definitions;
-mod regions;
 
 pub use bounds::BoundsError;
-pub use definitions::needed;
+pub use definitions::{needed, needed_outside};

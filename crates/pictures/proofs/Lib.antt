@@ -1,4 +1,5 @@
 mod Plans
 mod PlainWays
+mod PlanWays
 mod Samples
 mod Ways

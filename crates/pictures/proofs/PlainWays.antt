@@ -15,7 +15,7 @@ use Rattle.pnm.specs.Reading.{wanted_of}
 use Rattle.pnm.specs.Source.{ReadsFile, Sends}
 use Rattle.pnm.specs.Text.{text_of}
 use Rattle.pictures.specs.declared.fault.Fault.{Fault}
-use Rattle.pictures.specs.declared.fault.Fault.TheVariants.{Memory, Algo, Updates, TooLarge, Plan, Image, Unfinished, Budget}
+use Rattle.pictures.specs.declared.fault.Fault.TheVariants.{Memory, Algo, Updates, TooLarge, Plan, Image, Form, Limit, Order, Unfinished, Budget}
 use Rattle.pictures.specs.Faults.{image_fault, plain_fault}
 use Rattle.pictures.specs.Rows.{IsImageRefused, IsTextRefused}
 use Rattle.pictures.specs.WithoutPlan.{IsBudgetSpent, IsPlainDone, IsPlainRefused}
@@ -33,6 +33,9 @@ text_refused text read held (Updates function) h = absurd h
 text_refused text read held (TooLarge function) h = absurd h
 text_refused text read held (Plan code line) h = absurd h
 text_refused text read held (Image e) h = absurd h
+text_refused text read held (Form line) h = absurd h
+text_refused text read held (Limit line) h = absurd h
+text_refused text read held Order h = absurd h
 text_refused text read held (Unfinished piece) h = absurd h
 text_refused text read held Budget h = absurd h
 
@@ -45,6 +48,9 @@ module _ (text : List ℕ) (a : Algorithm) (said : IsAlgorithmText text a) (read
   image_refused (TooLarge function) h = absurd h
   image_refused (Plan code line) h = absurd h
   image_refused (Image e) h = inl (record { algorithm = a; is_text = said; refused = h }, Keeps-refl held)
+  image_refused (Form line) h = absurd h
+  image_refused (Limit line) h = absurd h
+  image_refused Order h = absurd h
   image_refused (Unfinished piece) h = absurd h
   image_refused Budget h = absurd h
 
@@ -57,6 +63,9 @@ module _ (text : List ℕ) (a : Algorithm) (said : IsAlgorithmText text a) (read
     pixel_refused (TooLarge function) h = absurd h
     pixel_refused (Plan code line) h = absurd h
     pixel_refused (Image e) h = absurd h
+    pixel_refused (Form line) h = absurd h
+    pixel_refused (Limit line) h = absurd h
+    pixel_refused Order h = absurd h
     pixel_refused (Unfinished piece) h = absurd h
     pixel_refused Budget h = (record { algorithm = a; samples = samples; is_text = said; reads = reads; refused = h }, Keeps-refl held)
 

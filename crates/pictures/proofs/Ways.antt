@@ -15,7 +15,7 @@ use Rattle.pnm.specs.Reading.{wanted_of}
 use Rattle.pnm.specs.Source.{ReadsFile, Refuses, Sends}
 use Rattle.pnm.specs.Text.{text_of}
 use Rattle.pictures.specs.declared.fault.Fault.{Fault}
-use Rattle.pictures.specs.declared.fault.Fault.TheVariants.{Memory, Algo, Updates, TooLarge, Plan, Image, Unfinished, Budget}
+use Rattle.pictures.specs.declared.fault.Fault.TheVariants.{Memory, Algo, Updates, TooLarge, Plan, Image, Form, Limit, Order, Unfinished, Budget}
 use Rattle.algo.specs.declared.inputs.Inputs.{Inputs}
 use Rattle.audit.specs.declared.checked.Checked.{Checked}
 use Rattle.audit.specs.View.{plan_checked}
@@ -43,6 +43,9 @@ module _ (text : List ℕ) (read held : Option (List ℕ)) where
   text_refused (TooLarge function) h = absurd h
   text_refused (Plan code line) h = absurd h
   text_refused (Image e) h = absurd h
+  text_refused (Form line) h = absurd h
+  text_refused (Limit line) h = absurd h
+  text_refused Order h = absurd h
   text_refused (Unfinished piece) h = absurd h
   text_refused Budget h = absurd h
 
@@ -53,6 +56,9 @@ module _ (text : List ℕ) (read held : Option (List ℕ)) where
   plan_refused a (TooLarge function) said h = (record { algorithm = a; is_text = said; refused = h }, (Keeps-refl read, Keeps-refl held))
   plan_refused a (Plan code line) said h = (record { algorithm = a; is_text = said; refused = h }, (Keeps-refl read, Keeps-refl held))
   plan_refused a (Image e) said h = absurd h
+  plan_refused a (Form line) said h = absurd h
+  plan_refused a (Limit line) said h = absurd h
+  plan_refused a Order said h = absurd h
   plan_refused a (Unfinished piece) said h = absurd h
   plan_refused a Budget said h = absurd h
 
@@ -81,6 +87,9 @@ module _ (text : List ℕ) (a : Algorithm) (said : IsAlgorithmText text a) (rows
   image_refused (TooLarge function) h = absurd h
   image_refused (Plan code line) h = absurd h
   image_refused (Image e) h = inl (record { algorithm = a; is_text = said; planned = rows; refused = h }, Keeps-refl held)
+  image_refused (Form line) h = absurd h
+  image_refused (Limit line) h = absurd h
+  image_refused Order h = absurd h
   image_refused (Unfinished piece) h = absurd h
   image_refused Budget h = absurd h
 
@@ -92,6 +101,9 @@ module _ (text : List ℕ) (a : Algorithm) (said : IsAlgorithmText text a) (rows
   crew_refused samples reads (TooLarge function) h = absurd h
   crew_refused samples reads (Plan code line) h = absurd h
   crew_refused samples reads (Image e) h = absurd h
+  crew_refused samples reads (Form line) h = absurd h
+  crew_refused samples reads (Limit line) h = absurd h
+  crew_refused samples reads Order h = absurd h
   crew_refused samples reads (Unfinished piece) h =
       (record { algorithm = a; samples = samples; plan = rows.0; cert = rows.1; is_text = said; accepted = rows.2; reads = reads; refused = h }, Keeps-refl held)
   crew_refused samples reads Budget h = absurd h

@@ -28,7 +28,7 @@ use Rattle.pnm.specs.Reading.{wanted_of}
 use Rattle.pnm.specs.Source.{ReadsFile, Refuses, Sends, StopsSomewhere}
 use Rattle.pnm.specs.Text.{text_of}
 use Rattle.pictures.specs.declared.fault.Fault.{Fault}
-use Rattle.pictures.specs.declared.fault.Fault.TheVariants.{Memory, Algo, Updates, TooLarge, Plan, Image, Unfinished, Budget}
+use Rattle.pictures.specs.declared.fault.Fault.TheVariants.{Memory, Algo, Updates, TooLarge, Plan, Image, Unfinished}
 
 -- ---- the algorithm's text
 
@@ -152,4 +152,4 @@ IsRefused text read left held holds (TooLarge function) = PlanRefused text (TooL
 IsRefused text read left held holds (Plan code line) = PlanRefused text (Plan code line) × IsUntouched read left held holds
 IsRefused text read left held holds (Image e) = StreamsFail text read left held holds e
 IsRefused text read left held holds (Unfinished piece) = PieceLeft text read left (Unfinished piece) × Keeps held holds
-IsRefused text read left held holds Budget = ⊥
+IsRefused text read left held holds _ = ⊥

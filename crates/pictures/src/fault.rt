@@ -2,12 +2,13 @@
 
 ghost use Rattle.std.specs.Prelude.{◌≡◌};
 ghost use Rattle.pictures.specs.declared.fault.Fault.TheVariants.{Memory as OutOfMemory};
-ghost use Rattle.pictures.specs.Faults.{crew_fault, image_fault, plain_fault, plan_fault, rows_fault, text_fault};
+ghost use Rattle.pictures.specs.Faults.{crew_fault, image_fault, plain_fault, plan_fault, read_fault, rows_fault, text_fault};
 
 use algo::{AlgoError, Code};
 use audit::{CheckError, K};
 use crew::RunError;
 use plain::PlainError;
+use plan_lines::TextError;
 use pnm::PnmError;
 use rows::RowsError;
 use std::alloc::AllocError;
@@ -32,6 +33,15 @@ pub enum Fault {
     /// A plan is refused: the code, and the line of its text at which.
     #[error("K{} line {line}", .code.number())]
     Plan { code: K, line: u32 },
+    /// N1: a line of a plan file is not as it is written for any plan, or the file ends before the line is whole.
+    #[error("N1 line {line}")]
+    Form { line: usize },
+    /// N2: a line of a plan file passes a limit.
+    #[error("N2 line {line}")]
+    Limit { line: usize },
+    /// O1: a text is no order of workers' steps.
+    #[error("O1")]
+    Order,
     /// A file is no image of the input's shape, or could not be read or written.
     #[error("{0}")]
     Image(PnmError),
@@ -70,6 +80,18 @@ impl From<RowsError> for Fault {
             RowsError::Memory => Fault::Memory,
             RowsError::Updates(function) => Fault::Updates { function },
             RowsError::TooLarge(function) => Fault::TooLarge { function },
+        }
+    }
+}
+
+impl From<TextError> for Fault {
+    ghost from_gives = { λ e f. f ≡ read_fault e };
+
+    fn from(e: TextError) -> Fault {
+        match e {
+            TextError::Memory => Fault::Memory,
+            TextError::Form(line) => Fault::Form { line },
+            TextError::Limit(line) => Fault::Limit { line },
         }
     }
 }

@@ -64,7 +64,17 @@ impl Job for PlanJob<'_> {
         };
         let cert = self.checked.cert();
         let image = self.inputs.image();
-        match run_piece(alloc, plan, cert, image, &cells, place.group, at.as_slice()) {
+        let most = self.checked.own(piece as usize).len();
+        match run_piece(
+            alloc,
+            plan,
+            cert,
+            image,
+            &cells,
+            place.group,
+            at.as_slice(),
+            most,
+        ) {
             Ok(values) => Ok(Some(values)),
             Err(Stop::Fault) => Ok(None),
             Err(Stop::Memory) => Err(AllocError),

@@ -2,6 +2,7 @@ pub mod Turns
 pub mod Ends
 pub mod Tails
 pub mod Standing
+pub mod Marked
 pub mod Lengths
 pub mod Sound
 pub mod Complete

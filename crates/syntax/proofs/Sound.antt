@@ -49,7 +49,7 @@ after_symbol s t ts us true is h =
     ap (λ (x : Symbol). sign x ∷ ts) same ∙ ap (λ (x : List Token). sign s ∷ x) rest
 after_symbol s t ts us false is h = absurd cc
 
-after_is : (s : Symbol) (ts us : List Token) → after s ts ≡ Some us → ts ≡ sign s ∷ us
+pub after_is : (s : Symbol) (ts us : List Token) → after s ts ≡ Some us → ts ≡ sign s ∷ us
 after_is s [] us h = absurd cc
 after_is s (token.Symbol t ∷ ts) us h = after_symbol s t ts us (same_symbol t s) refl h
 after_is s (_ ∷ ts) us h = absurd cc
@@ -61,7 +61,7 @@ after_this_word s t ts us true is h =
     ap (λ (x : Word). token.Word x ∷ ts) same ∙ ap (λ (x : List Token). token.Word s ∷ x) rest
 after_this_word s t ts us false is h = absurd cc
 
-after_word_is : (s : Word) (ts us : List Token) → after_word s ts ≡ Some us → ts ≡ token.Word s ∷ us
+pub after_word_is : (s : Word) (ts us : List Token) → after_word s ts ≡ Some us → ts ≡ token.Word s ∷ us
 after_word_is s [] us h = absurd cc
 after_word_is s (token.Word t ∷ ts) us h = after_this_word s t ts us (same_word t s) refl h
 after_word_is s (_ ∷ ts) us h = absurd cc
@@ -80,12 +80,12 @@ expect_word_is w ts us h = after_word_is w ts us (or_refuse_is (after_word w ts)
 
 -- ---- single tokens
 
-name_is : (ts us : List Token) (x : List ℕ) → name ts ≡ Ok (x, us) → ts ≡ name_then x us
+pub name_is : (ts us : List Token) (x : List ℕ) → name ts ≡ Ok (x, us) → ts ≡ name_then x us
 name_is [] us x h = absurd cc
 name_is (token.Name y ∷ ts) us x h = let p = answer_is y x ts us h in ap (λ (z : List ℕ). name_then z ts) p.0 ∙ ap (name_then x) p.1
 name_is (_ ∷ ts) us x h = absurd cc
 
-type_is : (ts us : List Token) (t : Ty) → type_name ts ≡ Ok (t, us) → ts ≡ token.Type t ∷ us
+pub type_is : (ts us : List Token) (t : Ty) → type_name ts ≡ Ok (t, us) → ts ≡ token.Type t ∷ us
 type_is [] us t h = absurd cc
 type_is (token.Type y ∷ ts) us t h = let p = answer_is y t ts us h in ap (λ (z : Ty). token.Type z ∷ ts) p.0 ∙ ap (λ (v : List Token). token.Type t ∷ v) p.1
 type_is (_ ∷ ts) us t h = absurd cc
@@ -96,7 +96,7 @@ untyped_is n None ts us left m none h =
     ap (λ (o : Option Ty). token.Number (record { value = n.value; ty = o }) ∷ ts) none ∙ ap (λ (v : ℕ). number_then v ts) p.0 ∙ ap (number_then m) p.1
 untyped_is n (Some t) ts us left m some h = absurd cc
 
-number_is : (ts us : List Token) (n : ℕ) → number ts ≡ Ok (n, us) → ts ≡ number_then n us
+pub number_is : (ts us : List Token) (n : ℕ) → number ts ≡ Ok (n, us) → ts ≡ number_then n us
 number_is [] us n h = absurd cc
 number_is (token.Number m ∷ ts) us n h = untyped_is m m.ty ts us (length (token.Number m ∷ ts)) n refl h
 number_is (_ ∷ ts) us n h = absurd cc

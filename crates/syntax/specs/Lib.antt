@@ -4,3 +4,4 @@ pub mod Reading
 pub mod Grammar
 pub mod Places
 pub mod Standing
+pub mod Marks

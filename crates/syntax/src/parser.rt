@@ -1,14 +1,17 @@
 //! From tokens to statements, by one function a rule of the grammar.
 
-ghost use Rattle.std.specs.Prelude.{◌≡◌, ℕ, List, All, ◌++◌, ◌∷◌, [], length, map, Ok, Err, Some, None, IfOk, IfErr, MatchOption, IfSome, option_map};
+ghost use Rattle.std.specs.Prelude.{◌≡◌, ℕ, List, All, ◌++◌, ◌∷◌, [], length, map, Ok, Err, Some, None, IfOk, IfErr, MatchOption, IfSome, option_map, drop};
 ghost use Rattle.tree.specs.Term.{term_of};
-ghost use Rattle.token.specs.Cursor.{kinds};
+ghost use Rattle.std.specs.List.{flat_map};
+ghost use Rattle.token.specs.Cursor.{kinds, place as first_place};
+ghost use Rattle.token.specs.declared.token.Lexeme.{Lexeme};
 ghost use Rattle.syntax.specs.declared.error.Stop.TheVariants.{Refused};
 ghost use Rattle.syntax.specs.declared.error.Refusal.TheVariants.{BadForm};
 ghost use Rattle.syntax.specs.View as view;
 ghost use Rattle.syntax.specs.Reading as spec;
 ghost use Rattle.syntax.specs.Reading.{Gives};
 ghost use Rattle.syntax.specs.Standing.{AreOf, StandsAt, DomainStands, StatementStands, NamesStand};
+ghost use Rattle.syntax.specs.Marks.{AreMarked, StandIn, bound_marks, domain_marks, extent_marks, file_marks, found_marks, function_marks, input_marks, named_marks, output_marks, statement_marks, type_marks, update_marks};
 
 use crate::error::{Refusal, Stop};
 use crate::statement::{
@@ -26,6 +29,7 @@ use tree::Expr;
 fn expect(symbol: Symbol, tokens: &[Lexeme]) -> Result<&[Lexeme], Stop>
     ensures read { Gives (λ rest. kinds rest.now) result (spec.expect symbol (kinds tokens.now)) }
     ensures kept { IfOk result (λ rest. (text : List ℕ) → AreOf text tokens.now → AreOf text rest.now) }
+    ensures placed { IfOk result (λ rest. StandIn [] tokens.now rest.now) }
 {
     match after(symbol, tokens) {
         Some(rest) => Ok(rest),
@@ -39,6 +43,7 @@ fn expect_word(word: Word, tokens: &[Lexeme]) -> Result<&[Lexeme], Stop>
     ensures read { Gives (λ rest. kinds rest.now) result (spec.expect_word word (kinds tokens.now)) }
     ensures kept { IfOk result (λ rest. (text : List ℕ) → AreOf text tokens.now → AreOf text rest.now) }
     ensures refused { IfErr result (λ s. s ≡ Refused (BadForm (length tokens.now))) }
+    ensures placed { IfOk result (λ rest. StandIn [] tokens.now rest.now) }
 {
     match after_word(word, tokens) {
         Some(rest) => Ok(rest),
@@ -49,6 +54,8 @@ fn expect_word(word: Word, tokens: &[Lexeme]) -> Result<&[Lexeme], Stop>
 fn name(alloc: Global, tokens: &[Lexeme]) -> Result<(Named, &[Lexeme]), Stop>
     ensures read { Gives (λ r. (view.named_text r.0, kinds r.1.now)) result (spec.name (kinds tokens.now)) }
     ensures stands { IfOk result (λ r. (text : List ℕ) → AreOf text tokens.now → AreOf text r.1.now × StandsAt text r.0) }
+    ensures at { IfOk result (λ r. r.0.span ≡ first_place tokens.now 0) }
+    ensures rest { IfOk result (λ r. r.1.now ≡ drop 1 tokens.now) }
 {
     match tokens {
         [
@@ -76,6 +83,8 @@ fn name(alloc: Global, tokens: &[Lexeme]) -> Result<(Named, &[Lexeme]), Stop>
 fn type_name(tokens: &[Lexeme]) -> Result<((Ty, Span), &[Lexeme]), Stop>
     ensures read { Gives (λ r. (r.0.0, kinds r.1.now)) result (spec.type_name (kinds tokens.now)) }
     ensures kept { IfOk result (λ r. (text : List ℕ) → AreOf text tokens.now → AreOf text r.1.now) }
+    ensures at { IfOk result (λ r. r.0.1 ≡ first_place tokens.now 0) }
+    ensures rest { IfOk result (λ r. r.1.now ≡ drop 1 tokens.now) }
 {
     match tokens {
         [
@@ -93,6 +102,8 @@ fn type_name(tokens: &[Lexeme]) -> Result<((Ty, Span), &[Lexeme]), Stop>
 fn number(tokens: &[Lexeme]) -> Result<(Extent, &[Lexeme]), Stop>
     ensures read { Gives (λ r. (view.extent_text r.0, kinds r.1.now)) result (spec.number (kinds tokens.now)) }
     ensures kept { IfOk result (λ r. (text : List ℕ) → AreOf text tokens.now → AreOf text r.1.now) }
+    ensures at { IfOk result (λ r. r.0.span ≡ first_place tokens.now 0) }
+    ensures rest { IfOk result (λ r. r.1.now ≡ drop 1 tokens.now) }
 {
     match tokens {
         [
@@ -120,6 +131,7 @@ fn number(tokens: &[Lexeme]) -> Result<(Extent, &[Lexeme]), Stop>
 fn expression<'a>(alloc: Global, tokens: &'a [Lexeme]) -> Result<(Expr, &'a [Lexeme]), Stop>
     ensures read { Gives (λ r. (term_of r.0, kinds r.1.now)) result (spec.expression (kinds tokens.now)) }
     ensures kept { IfOk result (λ r. (text : List ℕ) → AreOf text tokens.now → AreOf text r.1.now) }
+    ensures placed { IfOk result (λ r. StandIn [] tokens.now r.1.now) }
 {
     match expr::expression(alloc, tokens) {
         Ok((found, rest)) => {
@@ -147,6 +159,7 @@ fn more_names<'a>(
 ) -> Result<(Vec<Named>, &'a [Lexeme]), Stop>
     ensures read { Gives (λ r. (map view.named_text r.0.items, kinds r.1.now)) result (spec.more_of spec.name (length tokens.now) (map view.named_text found.items) (kinds tokens.now)) }
     ensures stands { IfOk result (λ r. (text : List ℕ) → AreOf text tokens.now → All (StandsAt text) found.items → AreOf text r.1.now × All (StandsAt text) r.0.items) }
+    ensures placed { IfOk result (λ r. (before : List Lexeme) → StandIn (flat_map named_marks found.items) before tokens.now → StandIn (flat_map named_marks r.0.items) before r.1.now) }
 {
     let mut rest = tokens;
     for _ in 0..tokens.len() {
@@ -165,6 +178,7 @@ fn more_names<'a>(
 fn names(alloc: Global, tokens: &[Lexeme]) -> Result<(Vec<Named>, &[Lexeme]), Stop>
     ensures read { Gives (λ r. (map view.named_text r.0.items, kinds r.1.now)) result (spec.names (kinds tokens.now)) }
     ensures stands { IfOk result (λ r. (text : List ℕ) → AreOf text tokens.now → AreOf text r.1.now × All (StandsAt text) r.0.items) }
+    ensures placed { IfOk result (λ r. StandIn (flat_map named_marks r.0.items) tokens.now r.1.now) }
 {
     let (first, rest) = name(alloc, tokens)?;
     let mut found = Vec::new(alloc);
@@ -176,6 +190,7 @@ fn names(alloc: Global, tokens: &[Lexeme]) -> Result<(Vec<Named>, &[Lexeme]), St
 fn more_numbers(mut found: Vec<Extent>, tokens: &[Lexeme]) -> Result<(Vec<Extent>, &[Lexeme]), Stop>
     ensures read { Gives (λ r. (map view.extent_text r.0.items, kinds r.1.now)) result (spec.more_of spec.number (length tokens.now) (map view.extent_text found.items) (kinds tokens.now)) }
     ensures kept { IfOk result (λ r. (text : List ℕ) → AreOf text tokens.now → AreOf text r.1.now) }
+    ensures placed { IfOk result (λ r. (before : List Lexeme) → StandIn (flat_map extent_marks found.items) before tokens.now → StandIn (flat_map extent_marks r.0.items) before r.1.now) }
 {
     let mut rest = tokens;
     for _ in 0..tokens.len() {
@@ -194,6 +209,7 @@ fn more_numbers(mut found: Vec<Extent>, tokens: &[Lexeme]) -> Result<(Vec<Extent
 fn numbers(alloc: Global, tokens: &[Lexeme]) -> Result<(Vec<Extent>, &[Lexeme]), Stop>
     ensures read { Gives (λ r. (map view.extent_text r.0.items, kinds r.1.now)) result (spec.numbers (kinds tokens.now)) }
     ensures kept { IfOk result (λ r. (text : List ℕ) → AreOf text tokens.now → AreOf text r.1.now) }
+    ensures placed { IfOk result (λ r. StandIn (flat_map extent_marks r.0.items) tokens.now r.1.now) }
 {
     let (first, rest) = number(tokens)?;
     let mut found = Vec::new(alloc);
@@ -209,6 +225,7 @@ fn more_expressions<'a>(
 ) -> Result<(Vec<Expr>, &'a [Lexeme]), Stop>
     ensures read { Gives (λ r. (map term_of r.0.items, kinds r.1.now)) result (spec.more_of spec.expression (length tokens.now) (map term_of found.items) (kinds tokens.now)) }
     ensures kept { IfOk result (λ r. (text : List ℕ) → AreOf text tokens.now → AreOf text r.1.now) }
+    ensures placed { IfOk result (λ r. StandIn [] tokens.now r.1.now) }
 {
     let mut rest = tokens;
     for _ in 0..tokens.len() {
@@ -227,6 +244,7 @@ fn more_expressions<'a>(
 fn expressions(alloc: Global, tokens: &[Lexeme]) -> Result<(Vec<Expr>, &[Lexeme]), Stop>
     ensures read { Gives (λ r. (map term_of r.0.items, kinds r.1.now)) result (spec.expressions (kinds tokens.now)) }
     ensures kept { IfOk result (λ r. (text : List ℕ) → AreOf text tokens.now → AreOf text r.1.now) }
+    ensures placed { IfOk result (λ r. StandIn [] tokens.now r.1.now) }
 {
     let (first, rest) = expression(alloc, tokens)?;
     let mut found = Vec::new(alloc);
@@ -239,6 +257,7 @@ fn expressions(alloc: Global, tokens: &[Lexeme]) -> Result<(Vec<Expr>, &[Lexeme]
 fn bound(tokens: &[Lexeme]) -> Result<(Bound, &[Lexeme]), Stop>
     ensures read { Gives (λ r. (view.bound_text r.0, kinds r.1.now)) result (spec.bound (kinds tokens.now)) }
     ensures kept { IfOk result (λ r. (text : List ℕ) → AreOf text tokens.now → AreOf text r.1.now) }
+    ensures placed { IfOk result (λ r. StandIn (bound_marks r.0) tokens.now r.1.now) }
 {
     match after(Symbol::Minus, tokens) {
         None => {
@@ -270,6 +289,7 @@ fn bound(tokens: &[Lexeme]) -> Result<(Bound, &[Lexeme]), Stop>
 fn domain(alloc: Global, tokens: &[Lexeme]) -> Result<(Domain, &[Lexeme]), Stop>
     ensures read { Gives (λ r. (view.domain_text r.0, kinds r.1.now)) result (spec.domain (kinds tokens.now)) }
     ensures stands { IfOk result (λ r. (text : List ℕ) → AreOf text tokens.now → AreOf text r.1.now × DomainStands text r.0) }
+    ensures placed { IfOk result (λ r. StandIn (domain_marks r.0) tokens.now r.1.now) }
 {
     let (variable, rest) = name(alloc, tokens)?;
     let (low, rest) = bound(rest)?;
@@ -293,6 +313,7 @@ fn more_domains<'a>(
 ) -> Result<(Vec<Domain>, &'a [Lexeme]), Stop>
     ensures read { Gives (λ r. (map view.domain_text r.0.items, kinds r.1.now)) result (spec.more_of spec.domain (length tokens.now) (map view.domain_text found.items) (kinds tokens.now)) }
     ensures stands { IfOk result (λ r. (text : List ℕ) → AreOf text tokens.now → All (DomainStands text) found.items → AreOf text r.1.now × All (DomainStands text) r.0.items) }
+    ensures placed { IfOk result (λ r. (before : List Lexeme) → StandIn (flat_map domain_marks found.items) before tokens.now → StandIn (flat_map domain_marks r.0.items) before r.1.now) }
 {
     let mut rest = tokens;
     for _ in 0..tokens.len() {
@@ -311,6 +332,7 @@ fn more_domains<'a>(
 fn domains(alloc: Global, tokens: &[Lexeme]) -> Result<(Vec<Domain>, &[Lexeme]), Stop>
     ensures read { Gives (λ r. (map view.domain_text r.0.items, kinds r.1.now)) result (spec.domains (kinds tokens.now)) }
     ensures stands { IfOk result (λ r. (text : List ℕ) → AreOf text tokens.now → AreOf text r.1.now × All (DomainStands text) r.0.items) }
+    ensures placed { IfOk result (λ r. StandIn (flat_map domain_marks r.0.items) tokens.now r.1.now) }
 {
     let (first, rest) = domain(alloc, tokens)?;
     let mut found = Vec::new(alloc);
@@ -323,6 +345,7 @@ fn domains(alloc: Global, tokens: &[Lexeme]) -> Result<(Vec<Domain>, &[Lexeme]),
 fn size(alloc: Global, tokens: &[Lexeme]) -> Result<(Vec<Extent>, &[Lexeme]), Stop>
     ensures read { Gives (λ r. (map view.extent_text r.0.items, kinds r.1.now)) result (spec.size (kinds tokens.now)) }
     ensures kept { IfOk result (λ r. (text : List ℕ) → AreOf text tokens.now → AreOf text r.1.now) }
+    ensures placed { IfOk result (λ r. StandIn (flat_map extent_marks r.0.items) tokens.now r.1.now) }
 {
     let rest = expect(Symbol::LeftBracket, tokens)?;
     let (found, rest) = numbers(alloc, rest)?;
@@ -335,6 +358,7 @@ fn size(alloc: Global, tokens: &[Lexeme]) -> Result<(Vec<Extent>, &[Lexeme]), St
 fn over(alloc: Global, tokens: &[Lexeme]) -> Result<(Vec<Domain>, &[Lexeme]), Stop>
     ensures read { Gives (λ r. (map view.domain_text r.0.items, kinds r.1.now)) result (spec.over (kinds tokens.now)) }
     ensures stands { IfOk result (λ r. (text : List ℕ) → AreOf text tokens.now → AreOf text r.1.now × All (DomainStands text) r.0.items) }
+    ensures placed { IfOk result (λ r. StandIn (flat_map domain_marks r.0.items) tokens.now r.1.now) }
 {
     match after_word(Word::Over, tokens) {
         None => Ok((Vec::new(alloc), tokens)),
@@ -352,6 +376,7 @@ fn over(alloc: Global, tokens: &[Lexeme]) -> Result<(Vec<Domain>, &[Lexeme]), St
 fn right_side(alloc: Global, tokens: &[Lexeme]) -> Result<(Expr, &[Lexeme]), Stop>
     ensures read { Gives (λ r. (term_of r.0, kinds r.1.now)) result (spec.right_side (kinds tokens.now)) }
     ensures kept { IfOk result (λ r. (text : List ℕ) → AreOf text tokens.now → AreOf text r.1.now) }
+    ensures placed { IfOk result (λ r. StandIn [] tokens.now r.1.now) }
 {
     let rest = expect(Symbol::Equals, tokens)?;
     let (value, rest) = expression(alloc, rest)?;
@@ -363,6 +388,7 @@ fn right_side(alloc: Global, tokens: &[Lexeme]) -> Result<(Expr, &[Lexeme]), Sto
 fn input(alloc: Global, tokens: &[Lexeme]) -> Result<(InputStatement, &[Lexeme]), Stop>
     ensures read { Gives (λ r. (view.input_text r.0, kinds r.1.now)) result (spec.input (kinds tokens.now)) }
     ensures stands { IfOk result (λ r. (text : List ℕ) → AreOf text tokens.now → AreOf text r.1.now × StandsAt text r.0.name) }
+    ensures placed { IfOk result (λ r. StandIn (input_marks r.0) tokens.now r.1.now) }
 {
     let rest = expect_word(Word::Input, tokens)?;
     let (name, rest) = name(alloc, rest)?;
@@ -385,6 +411,7 @@ fn input(alloc: Global, tokens: &[Lexeme]) -> Result<(InputStatement, &[Lexeme])
 fn function(alloc: Global, tokens: &[Lexeme]) -> Result<(FunctionStatement, &[Lexeme]), Stop>
     ensures read { Gives (λ r. (view.function_text r.0, kinds r.1.now)) result (spec.function (kinds tokens.now)) }
     ensures stands { IfOk result (λ r. (text : List ℕ) → AreOf text tokens.now → AreOf text r.1.now × (StandsAt text r.0.name × All (StandsAt text) r.0.variables.items)) }
+    ensures placed { IfOk result (λ r. StandIn (function_marks r.0) tokens.now r.1.now) }
 {
     let (name, rest) = name(alloc, tokens)?;
     let ((ty, ty_span), rest) = type_name(rest)?;
@@ -413,6 +440,8 @@ fn update(
 ) -> Result<(UpdateStatement, &[Lexeme]), Stop>
     ensures read { Gives (λ r. (view.update_text r.0, kinds r.1.now)) result (spec.update (kinds tokens.now)) }
     ensures stands { IfOk result (λ r. (text : List ℕ) → AreOf text tokens.now → AreOf text r.1.now × (StandsAt text r.0.name × All (DomainStands text) r.0.domains.items)) }
+    ensures word { IfOk result (λ r. r.0.word ≡ word) }
+    ensures placed { IfOk result (λ r. StandIn (update_marks r.0) tokens.now r.1.now) }
 {
     let (name, rest) = name(alloc, tokens)?;
     let (domains, rest) = over(alloc, rest)?;
@@ -436,6 +465,7 @@ fn update(
 fn output(alloc: Global, tokens: &[Lexeme]) -> Result<(OutputStatement, &[Lexeme]), Stop>
     ensures read { Gives (λ r. (view.output_text r.0, kinds r.1.now)) result (spec.output (kinds tokens.now)) }
     ensures stands { IfOk result (λ r. (text : List ℕ) → AreOf text tokens.now → AreOf text r.1.now × StandsAt text r.0.name) }
+    ensures placed { IfOk result (λ r. StandIn (output_marks r.0) tokens.now r.1.now) }
 {
     let rest = expect_word(Word::Output, tokens)?;
     let (name, rest) = name(alloc, rest)?;
@@ -449,6 +479,7 @@ fn output(alloc: Global, tokens: &[Lexeme]) -> Result<(OutputStatement, &[Lexeme
 fn statement(alloc: Global, tokens: &[Lexeme]) -> Result<(Option<Statement>, &[Lexeme]), Stop>
     ensures read { Gives (λ r. (option_map view.statement_text r.0, kinds r.1.now)) result (spec.statement (kinds tokens.now)) }
     ensures stands { IfOk result (λ r. (text : List ℕ) → AreOf text tokens.now → AreOf text r.1.now × IfSome r.0 (StatementStands text)) }
+    ensures placed { IfOk result (λ r. StandIn (found_marks r.0) tokens.now r.1.now) }
 {
     if let Some(rest) = after_word(Word::Func, tokens) {
         let (found, rest) = function(alloc, rest)?;
@@ -465,6 +496,7 @@ fn statement(alloc: Global, tokens: &[Lexeme]) -> Result<(Option<Statement>, &[L
 fn statements(alloc: Global, tokens: &[Lexeme]) -> Result<(Vec<Statement>, &[Lexeme]), Stop>
     ensures read { Gives (λ r. (map view.statement_text r.0.items, kinds r.1.now)) result (spec.statements (length tokens.now) [] (kinds tokens.now)) }
     ensures stands { IfOk result (λ r. (text : List ℕ) → AreOf text tokens.now → AreOf text r.1.now × All (StatementStands text) r.0.items) }
+    ensures placed { IfOk result (λ r. StandIn (flat_map statement_marks r.0.items) tokens.now r.1.now) }
 {
     let mut found = Vec::new(alloc);
     let mut rest = tokens;
@@ -501,6 +533,7 @@ pub fn file(alloc: Global, tokens: &[Lexeme]) -> Result<File, Stop>
     ensures read { Gives (λ f. view.file_text f) result (spec.file (kinds tokens.now)) }
     ensures stands { IfOk result (λ f. (text : List ℕ) → AreOf text tokens.now → NamesStand text f) }
     ensures memory { IfErr result (λ s. spec.WantsMemory (kinds tokens.now) s) }
+    ensures placed { IfOk result (λ f. AreMarked (file_marks f) tokens.now) }
 {
     let rest = expect_word(Word::Pipeline, tokens)?;
     let (name, rest) = name(alloc, rest)?;

@@ -7,6 +7,7 @@ ghost use Rattle.syntax.specs.View as view;
 ghost use Rattle.syntax.specs.Grammar.{IsTextOf, IsSmall};
 ghost use Rattle.syntax.specs.Places as spec;
 ghost use Rattle.syntax.specs.Standing.{NamesStand};
+ghost use Rattle.syntax.specs.Marks.{PartsStand};
 
 use crate::error::{FormError, Refusal, Stop};
 use crate::parser::file;
@@ -92,6 +93,8 @@ pub fn read(alloc: Global, text: &str) -> Result<File, FormError>
     ensures small { IfOk result (λ f. IsSmall (view.file_text f)) }
     // Each name outside of the expressions is what the text has at the name's span.
     ensures stands { IfOk result (λ f. NamesStand text.now f) }
+    // Each name, number and type outside of the expressions, and each word `update`, is a token at its span, in the file's order.
+    ensures placed { IfOk result (λ f. PartsStand text.now f) }
     ensures refused { IfErr result (λ e. spec.IsRefused text.now e) }
 {
     let lexemes = tokens(alloc, text)?;

@@ -1,5 +1,5 @@
 -- What the words name, and what comes of words that name no command.
-use Rattle.std.proofs.Common.{◌≡◌, ◌≢◌, ◌⊎◌, ◌∙◌, sym, refl, ℕ, List, Option, None, Some, option_map, true, codes, inl, inr, arith}
+use Rattle.std.proofs.Common.{◌≡◌, ◌≢◌, ◌⊎◌, ◌∙◌, sym, refl, ℕ, List, Option, None, Some, option_and_then, option_map, true, codes, inl, inr, arith}
 use Rattle.clap.specs.declared.error.Error.{Error}
 use Rattle.clap.specs.declared.error.kind.ErrorKind.{ErrorKind}
 use Rattle.clap.specs.declared.error.kind.ErrorKind.TheVariants.{DisplayHelp, OutOfMemory}
@@ -8,11 +8,20 @@ use Rattle.clap.specs.Words.{IsAmong, Text, fault_of, first_value, is_simple, is
 use Rattle.clap.proofs.OnLiterals.{clap_on_literals}
 use Rattle.clap.proofs.WalkLemmas.{first_value-rows}
 use Rattle.tool.specs.Answer.{WordsAnswer}
-use Rattle.tool.specs.Line.{FailsFor, all_three, asked_in, line}
-use Rattle.tool.specs.declared.request.Way.{Way}
+use Rattle.tool.specs.Asked.{AskedWay, File}
+use Rattle.tool.specs.Line.{FailsFor, all_three, both as both_words, check_in, line, picture_in, replay_in, run_in, with_order}
 
-pub asked_as : (way : Way) (f : Found) → asked_in way (rows_of f) ≡ all_three way (first_value f (codes "ALG")) (first_value f (codes "IN")) (first_value f (codes "OUT"))
-asked_as way f = rw (first_value-rows f (codes "ALG"), first_value-rows f (codes "IN"), first_value-rows f (codes "OUT")) refl
+pub picture_as : (way : AskedWay) (f : Found) → picture_in way (rows_of f) ≡ all_three way (first_value f (codes "ALG")) (first_value f (codes "IN")) (first_value f (codes "OUT"))
+picture_as way f = rw (first_value-rows f (codes "ALG"), first_value-rows f (codes "IN"), first_value-rows f (codes "OUT")) refl
+
+pub run_as : (f : Found) → run_in (rows_of f) ≡ option_and_then (λ plan. picture_in (File plan) (rows_of f)) (first_value f (codes "PLAN"))
+run_as f = rw (first_value-rows f (codes "PLAN")) refl
+
+pub check_as : (f : Found) → check_in (rows_of f) ≡ both_words (first_value f (codes "ALG")) (first_value f (codes "PLAN"))
+check_as f = rw (first_value-rows f (codes "ALG"), first_value-rows f (codes "PLAN")) refl
+
+pub replay_as : (f : Found) → replay_in (rows_of f) ≡ option_and_then (λ check. with_order check (first_value f (codes "IN")) (first_value f (codes "ORDER"))) (check_in (rows_of f))
+replay_as f = rw (first_value-rows f (codes "IN"), first_value-rows f (codes "ORDER")) refl
 
 -- a pair is there where its two parts are
 pub both : {A B : Type 0} (o : Option (A × B)) (a : A) (b : B) → Some a ≡ option_map (λ p. p.0) o → Some b ≡ option_map (λ p. p.1) o → o ≡ Some (a, b)

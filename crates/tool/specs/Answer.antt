@@ -2,8 +2,10 @@
 use Rattle.std.specs.Prelude.{◌≡◌, ◌⊎◌, ℕ, List, Option, Result, Ok, Err, MatchResult}
 use Rattle.clap.specs.Words.{Text}
 use Rattle.pictures.specs.declared.fault.Fault.{Fault}
-use Rattle.pictures.specs.Rows as streams
-use Rattle.tool.specs.Asked.{Asked}
+use Rattle.pictures.specs.ByPlan as streams
+use Rattle.tool.specs.Asked.{Asked, Picture, Check, Replay}
+use Rattle.tool.specs.Checks.{IsChecked, IsCheckRefused}
+use Rattle.tool.specs.Replays.{IsReplayed, IsReplayRefused}
 use Rattle.tool.specs.Files.{Contents, SameFiles}
 use Rattle.tool.specs.Line.{AsksFor, AsksHelp, IsMisuse}
 use Rattle.tool.specs.Pictures.{IsDone, IsRefused}
@@ -15,21 +17,23 @@ status_after (Ok _) = 0
 status_after (Err fault) = status_of fault
 
 -- without words, from the input to the output: all is done; or it is, but the output could not hand it on; or there is a refusal
-abbrev pub StreamsAnswer : List ℕ → Option (List ℕ) → Option (List ℕ) → Option (List ℕ) → Option (List ℕ) → ℕ → Type 0
-StreamsAnswer text read left held holds status =
-    (((status ≡ 0) ⊎ (status ≡ 5)) × streams.IsDone text read left held holds)
-    ⊎ ((fault : Fault) × (status ≡ status_of fault) × streams.IsRefused text read left held holds fault)
+abbrev pub StreamsAnswer : List ℕ → List ℕ → Option (List ℕ) → Option (List ℕ) → Option (List ℕ) → Option (List ℕ) → ℕ → Type 0
+StreamsAnswer text file read left held holds status =
+    (((status ≡ 0) ⊎ (status ≡ 5)) × streams.IsRun text file read left held holds)
+    ⊎ ((fault : Fault) × (status ≡ status_of fault) × streams.IsRunRefused text file read left held holds fault)
 
 -- what came of this command
-abbrev pub PictureEnds : Contents → Contents → Asked → Result (Unit {0}) Fault → Type 0
-PictureEnds old new a outcome = MatchResult outcome (λ _. IsDone old new a) (IsRefused old new a)
+abbrev pub Ends : Contents → Contents → Asked → Result (Unit {0}) Fault → Type 0
+Ends old new (Picture a) outcome = MatchResult outcome (λ _. IsDone old new a) (IsRefused old new a)
+Ends old new (Check a) outcome = SameFiles old new × MatchResult outcome (λ _. IsChecked old a) (IsCheckRefused old a)
+Ends old new (Replay a) outcome = SameFiles old new × MatchResult outcome (λ _. IsReplayed old a) (IsReplayRefused old a)
 
--- the words ask for a picture, and the status is that of what came of it
-pub record PictureAnswers (words : List Text) (old new : Contents) (status : ℕ) : Type 0 where
+-- the words ask for something, and the status is that of what came of it
+pub record CommandEnds (words : List Text) (old new : Contents) (status : ℕ) : Type 0 where
   pub asked : Asked
   pub outcome : Result (Unit {0}) Fault
   pub asks : AsksFor words asked
-  pub ends : PictureEnds old new asked outcome
+  pub ends : Ends old new asked outcome
   pub answer : status ≡ status_after outcome
 
 -- no command is run: the words ask for help, which may fail to be written, or are a fault, or there is no memory to read them
@@ -39,4 +43,4 @@ WordsAnswer words status =
 
 -- what the program does to the files, and its status, on words of which there is one or more
 abbrev pub CommandAnswers : List Text → Contents → Contents → ℕ → Type 0
-CommandAnswers words old new status = PictureAnswers words old new status ⊎ (SameFiles old new × WordsAnswer words status)
+CommandAnswers words old new status = CommandEnds words old new status ⊎ (SameFiles old new × WordsAnswer words status)

@@ -1,14 +1,57 @@
--- A picture that is asked for.
+-- What is asked for.
 use Rattle.clap.specs.Words.{Text}
-use Rattle.tool.specs.declared.request.Request.{Request}
 use Rattle.tool.specs.declared.request.Way.{Way}
+use Rattle.tool.specs.declared.request.Way.TheVariants as way
+use Rattle.tool.specs.declared.request.PictureRequest.{PictureRequest}
+use Rattle.tool.specs.declared.request.CheckRequest.{CheckRequest}
+use Rattle.tool.specs.declared.request.ReplayRequest.{ReplayRequest}
+use Rattle.tool.specs.declared.request.Request.{Request}
+use Rattle.tool.specs.declared.request.Request.TheVariants as request
 
--- how it is computed, and the names of three files
-pub record Asked : Type 0 where
-  pub way : Way
+-- how a picture is computed: by rows, by the definitions alone, or by the plan of a file
+pub data AskedWay : Type 0 where
+  Rows : AskedWay
+  Plain : AskedWay
+  File : (plan : Text) → AskedWay
+
+-- how a picture is computed, and the names of three files
+pub record AskedPicture : Type 0 where
+  pub way : AskedWay
   pub algorithm : Text
   pub input : Text
   pub output : Text
 
+-- a plan to be checked, by the names of two files
+pub record AskedCheck : Type 0 where
+  pub algorithm : Text
+  pub plan : Text
+
+-- an order to be replayed
+pub record AskedReplay : Type 0 where
+  pub check : AskedCheck
+  pub input : Text
+  pub order : Text
+
+pub data Asked : Type 0 where
+  Picture : AskedPicture → Asked
+  Check : AskedCheck → Asked
+  Replay : AskedReplay → Asked
+
+abbrev pub way_asked : Way → AskedWay
+way_asked way.Rows = Rows
+way_asked way.Plain = Plain
+way_asked (way.File plan) = File plan.now
+
+abbrev pub picture_asked : PictureRequest → AskedPicture
+picture_asked r = record { way = way_asked r.way; algorithm = r.algorithm.now; input = r.input.now; output = r.output.now }
+
+abbrev pub check_asked : CheckRequest → AskedCheck
+check_asked r = record { algorithm = r.algorithm.now; plan = r.plan.now }
+
+abbrev pub replay_asked : ReplayRequest → AskedReplay
+replay_asked r = record { check = check_asked r.check; input = r.input.now; order = r.order.now }
+
 abbrev pub asked_by : Request → Asked
-asked_by r = record { way = r.way; algorithm = r.algorithm.now; input = r.input.now; output = r.output.now }
+asked_by (request.Picture r) = Picture (picture_asked r)
+asked_by (request.Check r) = Check (check_asked r)
+asked_by (request.Replay r) = Replay (replay_asked r)

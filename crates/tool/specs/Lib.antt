@@ -4,5 +4,7 @@ pub mod Files
 pub mod Line
 pub mod Means
 pub mod Pictures
+pub mod Checks
+pub mod Replays
 pub mod Status
 pub mod Worked

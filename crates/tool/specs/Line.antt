@@ -1,13 +1,11 @@
 -- The command line: the words that it takes, and what they ask for.
-use Rattle.std.specs.Prelude.{◌≡◌, ◌≢◌, ◌⊎◌, List, [], Option, None, Some, true, codes, option_and_then, if◌then◌else◌}
+use Rattle.std.specs.Prelude.{◌≡◌, ◌≢◌, ◌⊎◌, List, [], Option, None, Some, true, codes, option_and_then, option_map, if◌then◌else◌}
 use Rattle.std.specs.Str.{bytes_eq}
 use Rattle.clap.specs.declared.error.kind.ErrorKind.{ErrorKind}
 use Rattle.clap.specs.declared.error.kind.ErrorKind.TheVariants.{DisplayHelp, MissingSubcommand}
 use Rattle.clap.specs.declared.error.Error.{Error}
 use Rattle.clap.specs.Words.{App, HasKind, IsAmong, Row, Rule, Text, fault_of, first_of, kind_of, new_app, new_rule, subcommand_of, with_rule, with_subcommand}
-use Rattle.tool.specs.Asked.{Asked}
-use Rattle.tool.specs.declared.request.Way.{Way}
-use Rattle.tool.specs.declared.request.Way.TheVariants.{Rows, Plain}
+use Rattle.tool.specs.Asked.{AskedWay, Rows, Plain, File, AskedCheck, Asked, Picture, Check, Replay}
 
 -- a word that has to be there, under a name
 abbrev pub needed : Text → Rule
@@ -21,26 +19,60 @@ picture_line name = with_rule (with_rule (with_rule (new_app name) (needed (code
 abbrev pub program : App
 program = record (new_app (codes "stencil")) { top = record ((new_app (codes "stencil")).top) { no_binary_name = true; subcommand_required = true } }
 
-abbrev pub line : App
-line = with_subcommand (with_subcommand program (picture_line (codes "rows")).top) (picture_line (codes "plain")).top
+-- the words of the commands that take a plan file
+abbrev pub check_line : App
+check_line = with_rule (with_rule (new_app (codes "check")) (needed (codes "ALG"))) (needed (codes "PLAN"))
 
--- all three names, where all three are there
-abbrev pub all_three : Way → Option Text → Option Text → Option Text → Option Asked
-all_three way (Some algorithm) (Some input) (Some output) = Some (record { way = way; algorithm = algorithm; input = input; output = output })
+abbrev pub run_line : App
+run_line = with_rule (with_rule (with_rule (with_rule (new_app (codes "run")) (needed (codes "ALG"))) (needed (codes "PLAN"))) (needed (codes "IN"))) (needed (codes "OUT"))
+
+abbrev pub replay_line : App
+replay_line = with_rule (with_rule (with_rule (with_rule (new_app (codes "replay")) (needed (codes "ALG"))) (needed (codes "PLAN"))) (needed (codes "IN"))) (needed (codes "ORDER"))
+
+-- the commands by rows and without a plan, and with those that take a plan file
+abbrev pub planless : App
+planless = with_subcommand (with_subcommand program (picture_line (codes "rows")).top) (picture_line (codes "plain")).top
+
+abbrev pub line : App
+line = with_subcommand (with_subcommand (with_subcommand planless check_line.top) run_line.top) replay_line.top
+
+-- a picture, where all three names are there
+abbrev pub all_three : AskedWay → Option Text → Option Text → Option Text → Option Asked
+all_three way (Some algorithm) (Some input) (Some output) = Some (Picture (record { way = way; algorithm = algorithm; input = input; output = output }))
 all_three way _ _ _ = None
 
 -- the words for the algorithm, the image and the picture
-abbrev pub asked_in : Way → List Row → Option Asked
-asked_in way rows = all_three way (first_of (codes "ALG") rows) (first_of (codes "IN") rows) (first_of (codes "OUT") rows)
+abbrev pub picture_in : AskedWay → List Row → Option Asked
+picture_in way rows = all_three way (first_of (codes "ALG") rows) (first_of (codes "IN") rows) (first_of (codes "OUT") rows)
 
--- how the command of this name computes a picture
-abbrev pub way_meant : Text → Option Way
-way_meant name = if bytes_eq name (codes "rows") then Some Rows else if bytes_eq name (codes "plain") then Some Plain else None
+abbrev pub run_in : List Row → Option Asked
+run_in rows = option_and_then (λ plan. picture_in (File plan) rows) (first_of (codes "PLAN") rows)
 
+abbrev pub both : Option Text → Option Text → Option AskedCheck
+both (Some algorithm) (Some plan) = Some (record { algorithm = algorithm; plan = plan })
+both _ _ = None
+
+-- the words for the algorithm and the plan
+abbrev pub check_in : List Row → Option AskedCheck
+check_in rows = both (first_of (codes "ALG") rows) (first_of (codes "PLAN") rows)
+
+abbrev pub with_order : AskedCheck → Option Text → Option Text → Option Asked
+with_order check (Some input) (Some order) = Some (Replay (record { check = check; input = input; order = order }))
+with_order check _ _ = None
+
+abbrev pub replay_in : List Row → Option Asked
+replay_in rows = option_and_then (λ check. with_order check (first_of (codes "IN") rows) (first_of (codes "ORDER") rows)) (check_in rows)
+
+-- what a command of this name asks for
 abbrev pub asked_of_command : Text × List Row → Option Asked
-asked_of_command command = option_and_then (λ way. asked_in way command.1) (way_meant command.0)
+asked_of_command command =
+    if bytes_eq command.0 (codes "rows") then picture_in Rows command.1
+    else (if bytes_eq command.0 (codes "plain") then picture_in Plain command.1
+    else (if bytes_eq command.0 (codes "run") then run_in command.1
+    else (if bytes_eq command.0 (codes "check") then option_map Check (check_in command.1)
+    else (if bytes_eq command.0 (codes "replay") then replay_in command.1 else None))))
 
--- the picture that the words ask for
+-- what the words ask for
 abbrev pub asked : List Text → Option Asked
 asked words = option_and_then asked_of_command (subcommand_of line words)
 

@@ -7,59 +7,75 @@ use Rattle.algo.specs.View.{picture_said}
 use Rattle.algo.specs.Refusal.{IsAlgorithmText}
 use Rattle.audit.specs.declared.checked.Checked.{Checked}
 use Rattle.audit.specs.View.{plan_checked}
+use Rattle.clap.specs.Words.{Text}
 use Rattle.pnm.specs.declared.error.PnmError.TheVariants.{Device}
 use Rattle.pnm.specs.Reading.{reading, wanted_of}
 use Rattle.pnm.specs.Text.{text_of}
 use Rattle.pictures.specs.declared.fault.Fault.{Fault}
 use Rattle.pictures.specs.declared.fault.Fault.TheVariants.{Memory, Image}
 use Rattle.pictures.specs.Rows.{HasRows, IsAccepted, IsCrewRefused, IsImageRefused, IsPlanRefused, IsTextRefused}
+use Rattle.pictures.specs.ByPlan.{HasPlan, IsFileRefused}
 use Rattle.pictures.specs.WithoutPlan.{IsBudgetSpent}
-use Rattle.tool.specs.Asked.{Asked}
+use Rattle.tool.specs.Asked.{AskedWay, Rows, Plain, File, AskedPicture}
 use Rattle.tool.specs.Files.{Contents, Holds, Puts, SameFiles, SameOthers}
-use Rattle.tool.specs.declared.request.Way.{Way}
-use Rattle.tool.specs.declared.request.Way.TheVariants.{Rows, Plain}
 
--- ---- the two ways
+-- ---- the ways
+
+-- memory ran out, or a file can't be read or written
+abbrev pub IsOfDevice : Fault → Type 0
+IsOfDevice fault = (fault ≡ Memory) ⊎ (fault ≡ Image Device)
+
+-- the bytes are no text, or the text of a plan file that is refused
+abbrev pub IsFileFault : Algorithm → List ℕ → Fault → Type 0
+IsFileFault a bytes fault = IsOfDevice fault ⊎ IsFileRefused a bytes fault
+
+-- there is a file of that name, and it is the file of a plan of the algorithm that the checker accepts
+abbrev pub HasPlanFile : Contents → Text → Algorithm → Type 0
+HasPlanFile files name a = (bytes : List ℕ) × Holds files name bytes × HasPlan a bytes
+
+-- why it is none
+abbrev pub IsPlanFault : Contents → Text → Algorithm → Fault → Type 0
+IsPlanFault files name a fault = IsOfDevice fault ⊎ ((bytes : List ℕ) × Holds files name bytes × IsFileFault a bytes fault)
 
 -- an algorithm's picture can be computed this way: by rows where it has a row plan that the checker accepts
-abbrev pub IsReady : Way → Algorithm → Type 0
-IsReady Rows a = HasRows a
-IsReady Plain a = ⊤
+abbrev pub IsReady : Contents → AskedWay → Algorithm → Type 0
+IsReady files Rows a = HasRows a
+IsReady files Plain a = ⊤
+IsReady files (File name) a = HasPlanFile files name a
 
 -- why it can't
-abbrev pub IsUnready : Way → Algorithm → Fault → Type 0
-IsUnready Rows a fault = IsPlanRefused a fault
-IsUnready Plain a fault = ⊥
+abbrev pub IsUnready : Contents → AskedWay → Algorithm → Fault → Type 0
+IsUnready files Rows a fault = IsPlanRefused a fault
+IsUnready files Plain a fault = ⊥
+IsUnready files (File name) a fault = IsPlanFault files name a fault
 
--- why it was not computed: a piece of the row plan was left unfinished, or some pixel takes too many evaluations
-abbrev pub IsStopped : Way → Algorithm → List ℕ → Fault → Type 0
+-- why it was not computed: a piece of the row plan was left unfinished, or some pixel takes too many evaluations; by the plan of
+-- a file there is no reason but want of memory
+abbrev pub IsStopped : AskedWay → Algorithm → List ℕ → Fault → Type 0
 IsStopped Rows a samples fault = (x : Checked) × IsAccepted a x.plan x.cert × IsCrewRefused (plan_checked x) fault
 IsStopped Plain a samples fault = IsBudgetSpent a samples fault
+IsStopped (File name) a samples fault = fault ≡ Memory
 
 -- ---- what is done
 
 -- the bytes are the image file of the picture that the algorithm of one file says of the image of another
-pub record IsPicture (files : Contents) (a : Asked) (bytes : List ℕ) : Type 0 where
+pub record IsPicture (files : Contents) (a : AskedPicture) (bytes : List ℕ) : Type 0 where
   pub text : List ℕ
   pub algorithm : Algorithm
   pub image : List ℕ
   pub samples : List ℕ
   pub holds_text : Holds files a.algorithm text
   pub is_text : IsAlgorithmText text algorithm
-  pub ready : IsReady a.way algorithm
+  pub ready : IsReady files a.way algorithm
   pub holds_image : Holds files a.input image
   pub is_image : reading (wanted_of (input_frame algorithm)) image ≡ Ok samples
   pub whole : bytes ≡ text_of (picture_said algorithm samples)
 
 -- the picture was put, and nothing else
-abbrev pub IsDone : Contents → Contents → Asked → Type 0
+abbrev pub IsDone : Contents → Contents → AskedPicture → Type 0
 IsDone old new a = (bytes : List ℕ) × IsPicture old a bytes × Puts old new a.output bytes
 
 -- ---- why something is refused
-
--- memory ran out, or a file can't be read or written
-abbrev pub IsOfDevice : Fault → Type 0
-IsOfDevice fault = (fault ≡ Memory) ⊎ (fault ≡ Image Device)
 
 -- the bytes are no text, or a text that is refused
 abbrev pub IsTextFault : List ℕ → Fault → Type 0
@@ -70,32 +86,32 @@ abbrev pub IsImageFault : Frame → List ℕ → Fault → Type 0
 IsImageFault frame bytes fault = (rest : Option (List ℕ)) × IsImageRefused frame (Some bytes) rest fault
 
 -- the algorithm's text is refused
-pub record TextRefused (files : Contents) (a : Asked) (fault : Fault) : Type 0 where
+pub record TextRefused (files : Contents) (a : AskedPicture) (fault : Fault) : Type 0 where
   pub text : List ℕ
   pub holds_text : Holds files a.algorithm text
   pub refused : IsTextFault text fault
 
 -- the algorithm's picture can't be computed this way
-pub record PlanRefused (files : Contents) (a : Asked) (fault : Fault) : Type 0 where
+pub record PlanRefused (files : Contents) (a : AskedPicture) (fault : Fault) : Type 0 where
   pub text : List ℕ
   pub algorithm : Algorithm
   pub holds_text : Holds files a.algorithm text
   pub is_text : IsAlgorithmText text algorithm
-  pub refused : IsUnready a.way algorithm fault
+  pub refused : IsUnready files a.way algorithm fault
 
 -- it can, and the image is refused
-pub record ImageRefused (files : Contents) (a : Asked) (fault : Fault) : Type 0 where
+pub record ImageRefused (files : Contents) (a : AskedPicture) (fault : Fault) : Type 0 where
   pub text : List ℕ
   pub algorithm : Algorithm
   pub image : List ℕ
   pub holds_text : Holds files a.algorithm text
   pub is_text : IsAlgorithmText text algorithm
-  pub ready : IsReady a.way algorithm
+  pub ready : IsReady files a.way algorithm
   pub holds_image : Holds files a.input image
   pub refused : IsImageFault (input_frame algorithm) image fault
 
 -- the text and the image are accepted, and the picture was not computed
-pub record PictureRefused (files : Contents) (a : Asked) (fault : Fault) : Type 0 where
+pub record PictureRefused (files : Contents) (a : AskedPicture) (fault : Fault) : Type 0 where
   pub text : List ℕ
   pub algorithm : Algorithm
   pub image : List ℕ
@@ -107,14 +123,14 @@ pub record PictureRefused (files : Contents) (a : Asked) (fault : Fault) : Type 
   pub refused : IsStopped a.way algorithm samples fault
 
 -- why nothing was put
-abbrev pub IsReason : Contents → Asked → Fault → Type 0
+abbrev pub IsReason : Contents → AskedPicture → Fault → Type 0
 IsReason files a fault =
     IsOfDevice fault ⊎ (TextRefused files a fault ⊎ (PlanRefused files a fault ⊎ (ImageRefused files a fault ⊎ PictureRefused files a fault)))
 
 -- the picture was computed, and it could not be put
-abbrev pub IsNotPut : Contents → Contents → Asked → Fault → Type 0
+abbrev pub IsNotPut : Contents → Contents → AskedPicture → Fault → Type 0
 IsNotPut old new a fault = IsOfDevice fault × SameOthers old new a.output × ((bytes : List ℕ) × IsPicture old a bytes)
 
 -- nothing was put, for a reason; or all else had succeeded, and all files but the output are as before
-abbrev pub IsRefused : Contents → Contents → Asked → Fault → Type 0
+abbrev pub IsRefused : Contents → Contents → AskedPicture → Fault → Type 0
 IsRefused old new a fault = (SameFiles old new × IsReason old a fault) ⊎ IsNotPut old new a fault

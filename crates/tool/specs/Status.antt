@@ -3,7 +3,7 @@ use Rattle.std.specs.Prelude.{ℕ}
 use Rattle.pnm.specs.declared.error.PnmError.{PnmError}
 use Rattle.pnm.specs.declared.error.PnmError.TheVariants as image
 use Rattle.pictures.specs.declared.fault.Fault.{Fault}
-use Rattle.pictures.specs.declared.fault.Fault.TheVariants.{Memory, Algo, Updates, TooLarge, Plan, Image, Unfinished, Budget}
+use Rattle.pictures.specs.declared.fault.Fault.TheVariants.{Memory, Algo, Updates, TooLarge, Plan, Form, Limit, Order, Image, Unfinished, Budget}
 use Rattle.tool.specs.declared.device.FileError.{FileError}
 use Rattle.tool.specs.declared.device.FileError.TheVariants as file
 
@@ -22,6 +22,9 @@ status_of (TooLarge function) = 3
 status_of (Plan code line) = 1
 status_of (Image e) = image_status e
 status_of (Unfinished piece) = 6
+status_of (Form line) = 3
+status_of (Limit line) = 3
+status_of Order = 3
 status_of Budget = 3
 
 -- a file's error as a refusal

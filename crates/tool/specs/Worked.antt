@@ -1,14 +1,28 @@
 -- Words written out, and what they ask for.
 use Rattle.std.specs.Prelude.{[], ◌∷◌, codes}
+use Rattle.tool.specs.Asked.{Rows, Plain, File, Picture, Check, Replay}
 use Rattle.tool.specs.Line.{AsksFor, AsksHelp, IsMisuse}
-use Rattle.tool.specs.declared.request.Way.TheVariants.{Rows, Plain}
 
 -- three names behind `rows`, and behind `plain`
 abbrev pub RowsWithNames : Type 0
-RowsWithNames = AsksFor (codes "rows" ∷ codes "a.alg" ∷ codes "b.pgm" ∷ codes "c.pgm" ∷ []) (record { way = Rows; algorithm = codes "a.alg"; input = codes "b.pgm"; output = codes "c.pgm" })
+RowsWithNames = AsksFor (codes "rows" ∷ codes "a.alg" ∷ codes "b.pgm" ∷ codes "c.pgm" ∷ []) (Picture (record { way = Rows; algorithm = codes "a.alg"; input = codes "b.pgm"; output = codes "c.pgm" }))
 
 abbrev pub PlainWithNames : Type 0
-PlainWithNames = AsksFor (codes "plain" ∷ codes "a.alg" ∷ codes "b.pgm" ∷ codes "c.pgm" ∷ []) (record { way = Plain; algorithm = codes "a.alg"; input = codes "b.pgm"; output = codes "c.pgm" })
+PlainWithNames = AsksFor (codes "plain" ∷ codes "a.alg" ∷ codes "b.pgm" ∷ codes "c.pgm" ∷ []) (Picture (record { way = Plain; algorithm = codes "a.alg"; input = codes "b.pgm"; output = codes "c.pgm" }))
+
+-- four behind `run`, two behind `check`, and four behind `replay`
+abbrev pub RunWithNames : Type 0
+RunWithNames =
+    AsksFor (codes "run" ∷ codes "a.alg" ∷ codes "p.plan" ∷ codes "b.pgm" ∷ codes "c.pgm" ∷ [])
+    (Picture (record { way = File (codes "p.plan"); algorithm = codes "a.alg"; input = codes "b.pgm"; output = codes "c.pgm" }))
+
+abbrev pub CheckWithNames : Type 0
+CheckWithNames = AsksFor (codes "check" ∷ codes "a.alg" ∷ codes "p.plan" ∷ []) (Check (record { algorithm = codes "a.alg"; plan = codes "p.plan" }))
+
+abbrev pub ReplayWithNames : Type 0
+ReplayWithNames =
+    AsksFor (codes "replay" ∷ codes "a.alg" ∷ codes "p.plan" ∷ codes "b.pgm" ∷ codes "o.txt" ∷ [])
+    (Replay (record { check = record { algorithm = codes "a.alg"; plan = codes "p.plan" }; input = codes "b.pgm"; order = codes "o.txt" }))
 
 abbrev pub HelpWords : Type 0
 HelpWords = AsksHelp (codes "--help" ∷ []) × AsksHelp (codes "help" ∷ []) × AsksHelp (codes "rows" ∷ codes "--help" ∷ [])

@@ -15,6 +15,7 @@ pub fn status(fault: &Fault) -> u8
     match fault {
         Fault::Plan { .. } => 1,
         Fault::Algo { .. } | Fault::Updates { .. } | Fault::TooLarge { .. } | Fault::Budget => 3,
+        Fault::Form { .. } | Fault::Limit { .. } | Fault::Order => 3,
         Fault::Memory | Fault::Image(PnmError::Memory) => 4,
         Fault::Image(PnmError::Device) => 5,
         Fault::Image(_) => 3,

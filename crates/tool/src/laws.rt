@@ -1,11 +1,14 @@
 //! Laws of the command line, each the contract of a function that does nothing.
 
-ghost use Rattle.tool.specs.Worked.{HelpWords, MisusedWords, PlainWithNames, RowsWithNames};
+ghost use Rattle.tool.specs.Worked.{CheckWithNames, HelpWords, MisusedWords, PlainWithNames, ReplayWithNames, RowsWithNames, RunWithNames};
 
 /// What words that are written out ask for.
 pub fn words_are_read()
     ensures rows { RowsWithNames }
     ensures plain { PlainWithNames }
+    ensures run { RunWithNames }
+    ensures check { CheckWithNames }
+    ensures replay { ReplayWithNames }
     ensures help { HelpWords }
     ensures misuse { MisusedWords }
 {}

@@ -5,7 +5,9 @@ mod device;
 mod exit;
 pub mod laws;
 mod picture;
+mod plan;
 mod program;
+mod replay;
 mod request;
 mod words;
 
@@ -15,4 +17,4 @@ pub use exit::status;
 pub use picture::picture_command;
 pub use pictures::Fault;
 pub use program::tool;
-pub use request::{Request, Way};
+pub use request::{PictureRequest, Way};

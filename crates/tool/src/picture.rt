@@ -1,4 +1,4 @@
-//! The commands that write a picture: by the row plan of an algorithm, and by its definitions alone.
+//! The commands that write a picture: by the row plan of an algorithm, by its definitions alone, and by the plan of a file.
 
 ghost use Rattle.std.specs.Prelude.{◌≡◌, Some, IfOk, IfErr, OnOk};
 ghost use Rattle.algo.specs.Parts.{input_frame};
@@ -7,16 +7,18 @@ ghost use Rattle.algo.specs.View.{algorithm_of, picture_said, samples_of, IsFor}
 ghost use Rattle.image.specs.View.{image_of};
 ghost use Rattle.pnm.specs.Reading.{reading, wanted_of};
 ghost use Rattle.pnm.specs.Text.{text_of};
-ghost use Rattle.tool.specs.Asked.{asked_by};
+ghost use Rattle.tool.specs.Asked.{picture_asked, way_asked};
+ghost use Rattle.tool.specs.Files.{SameFiles};
 ghost use Rattle.tool.specs.Means.{AreMeans, IsHalted, algo_meant};
 ghost use Rattle.tool.specs.Pictures.{IsDone, IsImageFault, IsRefused, IsTextFault, IsUnready};
 
 use crate::device::Files;
-use crate::request::{Request, Way};
+use crate::plan::plan_in;
+use crate::request::{PictureRequest, Way};
 use algo::{Algo, Inputs};
 use audit::Checked;
 use image::Image;
-use pictures::{Fault, check_rows, plain_picture, read_algorithm, read_inputs, rows_picture};
+use pictures::{Fault, check_rows, plain_picture, plan_picture, read_algorithm, read_inputs, rows_picture};
 use pnm::PnmError;
 use std::alloc::Global;
 use std::str;
@@ -27,13 +29,15 @@ use std::thread::Threads;
 #[derive(Drop)]
 enum Means<'a> {
     /// The algorithm's row plan, which the checker has accepted.
-    Plan(Checked<'a>),
+    Rows(Checked<'a>),
     /// The algorithm's definitions.
     Definitions(&'a Algo),
+    /// The plan of a file, which the checker has accepted.
+    File(Checked<'a>),
 }
 
 /// Reads the text of an algorithm file.
-fn algorithm_in(alloc: Global, bytes: &[u8]) -> Result<Algo, Fault>
+pub(crate) fn algorithm_in(alloc: Global, bytes: &[u8]) -> Result<Algo, Fault>
     ensures said { IfOk result (λ algo. IsAlgorithmText bytes.now (algorithm_of algo)) }
     ensures refused { IfErr result (IsTextFault bytes.now) }
 {
@@ -44,24 +48,27 @@ fn algorithm_in(alloc: Global, bytes: &[u8]) -> Result<Algo, Fault>
 }
 
 /// What an algorithm's picture is computed by.
-fn means_of<'a, T: Threads + Sync>(
+fn means_of<'a, T: Threads + Sync, F: Files>(
     rt: &T,
     alloc: Global,
-    way: Way,
+    files: &mut F,
+    way: Way<'_>,
     algo: &'a Algo,
 ) -> Result<Means<'a>, Fault>
+    ensures same { SameFiles (F.contents files.old) (F.contents files.new) }
     ensures algo { IfOk result (λ means. algo_meant means ≡ algo.now) }
-    ensures means { IfOk result (AreMeans way (algorithm_of algo.now)) }
-    ensures refused { IfErr result (IsUnready way (algorithm_of algo.now)) }
+    ensures means { IfOk result (AreMeans (F.contents files.old) (way_asked way.entry) (algorithm_of algo.now)) }
+    ensures refused { IfErr result (IsUnready (F.contents files.old) (way_asked way.entry) (algorithm_of algo.now)) }
 {
     match way {
-        Way::Rows => Ok(Means::Plan(check_rows(rt, alloc, algo)?)),
+        Way::Rows => Ok(Means::Rows(check_rows(rt, alloc, algo)?)),
         Way::Plain => Ok(Means::Definitions(algo)),
+        Way::File(name) => Ok(Means::File(plan_in(rt, alloc, files, algo, name)?)),
     }
 }
 
 /// Reads an image file as the input of an algorithm.
-fn image_in(alloc: Global, algo: &Algo, bytes: &[u8]) -> Result<Inputs, Fault>
+pub(crate) fn image_in(alloc: Global, algo: &Algo, bytes: &[u8]) -> Result<Inputs, Fault>
     ensures fits { IfOk result (λ inputs. IsFor algo.now inputs) }
     ensures read { IfOk result (λ inputs. reading (wanted_of (input_frame (algorithm_of algo.now))) bytes.now ≡ Ok (samples_of inputs)) }
     ensures refused { IfErr result (IsImageFault (input_frame (algorithm_of algo.now)) bytes.now) }
@@ -82,8 +89,9 @@ fn computed<T: Threads + Wait + Sync>(
     ensures refused { IfErr result (IsHalted means.now (samples_of inputs.now)) }
 {
     match means {
-        Means::Plan(checked) => rows_picture(rt, alloc, checked, inputs),
+        Means::Rows(checked) => rows_picture(rt, alloc, checked, inputs),
         Means::Definitions(algo) => plain_picture(rt, alloc, algo, inputs),
+        Means::File(checked) => plan_picture(alloc, checked, inputs),
     }
 }
 
@@ -108,7 +116,8 @@ fn picture_file<T: Threads + Wait + Sync>(
 }
 
 /// Writes the picture that an algorithm says of an image: by its row plan, which is made, checked and computed in the
-/// caller's thread and one more, or by its definitions alone, in as many threads as serve.
+/// caller's thread and one more; by its definitions alone, in as many threads as serve; or by the plan of a file, which is
+/// checked and computed by one worker.
 ///
 /// The algorithm's file is read, its text and its plan are checked, the image is read, and the picture is written last,
 /// after everything else has succeeded.
@@ -119,14 +128,14 @@ pub fn picture_command<T: Threads + Wait + Sync, F: Files>(
     rt: &T,
     alloc: Global,
     files: &mut F,
-    request: &Request<'_>,
+    request: &PictureRequest<'_>,
 ) -> Result<(), Fault>
-    ensures done { OnOk result (IsDone (F.contents files.old) (F.contents files.new) (asked_by request.now)) }
-    ensures refused { IfErr result (IsRefused (F.contents files.old) (F.contents files.new) (asked_by request.now)) }
+    ensures done { OnOk result (IsDone (F.contents files.old) (F.contents files.new) (picture_asked request.now)) }
+    ensures refused { IfErr result (IsRefused (F.contents files.old) (F.contents files.new) (picture_asked request.now)) }
 {
     let text = files.get(alloc, request.algorithm)?;
     let algo = algorithm_in(alloc, text.as_slice())?;
-    let means = means_of(rt, alloc, request.way, &algo)?;
+    let means = means_of(rt, alloc, files, request.way, &algo)?;
     let bytes = files.get(alloc, request.input)?;
     let inputs = image_in(alloc, &algo, bytes.as_slice())?;
     drop(bytes);

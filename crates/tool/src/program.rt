@@ -3,18 +3,22 @@
 ghost use Rattle.std.specs.Prelude.{◌≡◌, ◌≢◌, ◌⊎◌, [], map, IfErr, OnOk, IsErrOf};
 ghost use Rattle.std.specs.Io.KnownBytes.{Keeps};
 ghost use Rattle.clap.specs.Words.{kind_of};
-ghost use Rattle.pictures.specs.Rows.{IsDone, IsRefused};
+ghost use Rattle.pictures.specs.ByPlan.{IsRun, IsRunRefused};
 ghost use Rattle.pictures.specs.declared.fault.Fault.{Fault};
 ghost use Rattle.pnm.specs.declared.error.PnmError.{PnmError};
-ghost use Rattle.tool.specs.Answer.{CommandAnswers, StreamsAnswer, status_after};
+ghost use Rattle.tool.specs.Asked.{asked_by};
+ghost use Rattle.tool.specs.Answer.{CommandAnswers, Ends, StreamsAnswer, status_after};
 
 use crate::device::Files;
 use crate::exit::status;
 use crate::picture::picture_command;
+use crate::plan::check_command;
+use crate::replay::replay_command;
+use crate::request::Request;
 use crate::words::read_words;
 use clap::Error;
 use clap::error::ErrorKind;
-use pictures::{Fault, rows_over};
+use pictures::{Fault, run_over};
 use pnm::PnmError;
 use std::alloc::Global;
 use std::io::{Read, Write};
@@ -25,11 +29,29 @@ use std::thread::Threads;
 const INCREMENT: &str =
     "pipeline inc; input in u8 [2, 10]; func out u8 (x, y) = in[x, y] + 1u8; output out [2, 10];";
 
+// Its plan of two pieces: the rows 0 to 2, and the rows 3 to 9.
+const INCREMENT_PLAN: &str = "plan 1 inc
+input in u8 [2,10]
+output out u8 [2,10]
+group 0 out [0:1;0:9] grid 2
+alloc b0 out [0#2;0+3*s0#7]
+for s1 0+3*s0:2+7*s0 serial
+for s2 0:1 serial
+store b0 0 x=0+1*s2 y=0+1*s1 (in[x,y]+1u8)
+end
+end
+publish @0
+cert
+own 0 [0:1;0+3*s0:2+7*s0]
+claim 0 10 b0 out 0 [0:1;0+3*s0:2+7*s0]
+end
+";
+
 // The status of a command line fault.
 const MISUSED: u8 = 2;
 
 /// Hands on what a writer holds back.
-fn flush<W: Write>(out: &mut W) -> Result<(), Fault>
+pub(crate) fn flush<W: Write>(out: &mut W) -> Result<(), Fault>
     ensures bytes { Keeps (W.contents out.old) (W.contents out.new) }
     ensures device { IfErr result (λ fault. fault ≡ Fault.Image PnmError.Device) }
 {
@@ -39,17 +61,18 @@ fn flush<W: Write>(out: &mut W) -> Result<(), Fault>
     }
 }
 
-fn increment<T: Threads + Wait + Sync, R: Read, W: Write>(
+/// The increment of an image, by its plan of two pieces.
+fn increment<T: Threads + Sync, R: Read, W: Write>(
     rt: &T,
     alloc: Global,
     input: &mut R,
     out: &mut W,
 ) -> Result<(), Fault>
-    ensures done { OnOk result (IsDone INCREMENT.now (R.remaining input.old) (R.remaining input.new) (W.contents out.old) (W.contents out.new)) }
-    ensures refused { IfErr result (λ fault. IsRefused INCREMENT.now (R.remaining input.old) (R.remaining input.new) (W.contents out.old) (W.contents out.new) fault
-        ⊎ ((fault ≡ Fault.Image PnmError.Device) × IsDone INCREMENT.now (R.remaining input.old) (R.remaining input.new) (W.contents out.old) (W.contents out.new))) }
+    ensures done { OnOk result (IsRun INCREMENT.now INCREMENT_PLAN.now (R.remaining input.old) (R.remaining input.new) (W.contents out.old) (W.contents out.new)) }
+    ensures refused { IfErr result (λ fault. IsRunRefused INCREMENT.now INCREMENT_PLAN.now (R.remaining input.old) (R.remaining input.new) (W.contents out.old) (W.contents out.new) fault
+        ⊎ ((fault ≡ Fault.Image PnmError.Device) × IsRun INCREMENT.now INCREMENT_PLAN.now (R.remaining input.old) (R.remaining input.new) (W.contents out.old) (W.contents out.new))) }
 {
-    rows_over(rt, alloc, INCREMENT, input, out)?;
+    run_over(rt, alloc, INCREMENT, INCREMENT_PLAN, input, out)?;
     flush(out)
 }
 
@@ -91,6 +114,23 @@ fn answer_words<W: Write, E: Write>(error: &Error, out: &mut W, err: &mut E) -> 
     }
 }
 
+/// Does what is asked for.
+fn command<T: Threads + Wait + Sync, F: Files, W: Write>(
+    rt: &T,
+    alloc: Global,
+    files: &mut F,
+    out: &mut W,
+    request: &Request<'_>,
+) -> Result<(), Fault>
+    ensures { Ends (F.contents files.old) (F.contents files.new) (asked_by request.now) result }
+{
+    match request {
+        Request::Picture(asked) => picture_command(rt, alloc, files, asked),
+        Request::Check(asked) => check_command(rt, alloc, files, out, asked),
+        Request::Replay(asked) => replay_command(rt, alloc, files, out, asked),
+    }
+}
+
 /// Runs the program on the words after its name, and answers its exit status. Pieces and pixels are computed in the caller's
 /// thread and in threads that are started through `rt`; where none can be started the caller computes all.
 pub fn tool<T: Threads + Wait + Sync, F: Files, R: Read, W: Write, E: Write>(
@@ -102,8 +142,8 @@ pub fn tool<T: Threads + Wait + Sync, F: Files, R: Read, W: Write, E: Write>(
     out: &mut W,
     err: &mut E,
 ) -> u8
-    // Without words: the increment of the image on the input.
-    ensures streams { words.now ≡ [] → StreamsAnswer INCREMENT.now (R.remaining input.old) (R.remaining input.new) (W.contents out.old) (W.contents out.new) result }
+    // Without words: the increment of the image on the input, by its plan of two pieces.
+    ensures streams { words.now ≡ [] → StreamsAnswer INCREMENT.now INCREMENT_PLAN.now (R.remaining input.old) (R.remaining input.new) (W.contents out.old) (W.contents out.new) result }
     ensures kept { words.now ≡ [] → files.new ≡ files.old }
     ensures unread { words.now ≢ [] → input.new ≡ input.old }
     ensures command { words.now ≢ [] → CommandAnswers (map (λ word. word.now) words.now) (F.contents files.old) (F.contents files.new) result }
@@ -112,7 +152,7 @@ pub fn tool<T: Threads + Wait + Sync, F: Files, R: Read, W: Write, E: Write>(
         return answer(increment(rt, alloc, input, out), err);
     }
     match read_words(alloc, words) {
-        Ok(request) => answer(picture_command(rt, alloc, files, &request), err),
+        Ok(request) => answer(command(rt, alloc, files, out, &request), err),
         Err(error) => answer_words(&error, out, err),
     }
 }

@@ -1,23 +1,56 @@
 //! What the program is asked for.
 
 /// How a picture is computed.
-#[derive(Clone, Copy, Debug, PartialEq, Eq, Drop)]
-pub enum Way {
+#[derive(Clone, Copy, Debug, Drop)]
+pub enum Way<'a> {
     /// By the algorithm's row plan.
     Rows,
     /// By the algorithm's definitions alone, each pixel within a budget.
     Plain,
+    /// By the plan of the file of this name.
+    File(&'a str),
 }
 
 /// A picture that is asked for: how it is computed, and the names of three files.
 #[derive(Clone, Copy, Debug, Drop)]
-pub struct Request<'a> {
+pub struct PictureRequest<'a> {
     /// How the picture is computed.
-    pub way: Way,
+    pub way: Way<'a>,
     /// The algorithm's text.
     pub algorithm: &'a str,
     /// The image.
     pub input: &'a str,
     /// Where the picture is written.
     pub output: &'a str,
+}
+
+/// A plan that is to be checked: the names of two files.
+#[derive(Clone, Copy, Debug, Drop)]
+pub struct CheckRequest<'a> {
+    /// The algorithm's text.
+    pub algorithm: &'a str,
+    /// The plan file.
+    pub plan: &'a str,
+}
+
+/// A plan whose steps are to be replayed: the names of four files.
+#[derive(Clone, Copy, Debug, Drop)]
+pub struct ReplayRequest<'a> {
+    /// The plan that is checked first.
+    pub check: CheckRequest<'a>,
+    /// The image.
+    pub input: &'a str,
+    /// The order of the workers' steps.
+    pub order: &'a str,
+}
+
+/// What the words ask for.
+#[derive(Clone, Copy, Debug, Drop)]
+pub enum Request<'a> {
+    /// A picture.
+    Picture(PictureRequest<'a>),
+    /// What the checker says of a plan.
+    Check(CheckRequest<'a>),
+    /// What comes of an order of steps.
+    Replay(ReplayRequest<'a>),
 }

@@ -3,10 +3,10 @@
 ghost use Rattle.std.specs.Prelude.{◌≡◌, false, map, option_and_then, option_map, IfOk, MatchResult};
 ghost use Rattle.clap.specs.Words.{app_of, found_of, rows_of, rule_of, subcommand_rows_of};
 ghost use Rattle.clap.specs.declared.builder.command.Command.TheViews.{out-Command};
-ghost use Rattle.tool.specs.Asked.{asked_by};
-ghost use Rattle.tool.specs.Line.{AsksFor, FailsFor, asked_in, asked_of_command, line, needed, picture_line, way_meant};
+ghost use Rattle.tool.specs.Asked.{asked_by, check_asked, way_asked};
+ghost use Rattle.tool.specs.Line.{AsksFor, FailsFor, asked_of_command, check_in, check_line, line, needed, picture_in, picture_line, planless, replay_in, replay_line, run_in, run_line};
 
-use crate::request::{Request, Way};
+use crate::request::{CheckRequest, PictureRequest, ReplayRequest, Request, Way};
 use clap::error::ErrorKind;
 use clap::{Arg, ArgMatches, Command, Error};
 use std::alloc::{AllocError, Global};
@@ -15,11 +15,21 @@ const ROWS: &str = "rows";
 
 const PLAIN: &str = "plain";
 
+const CHECK: &str = "check";
+
+const RUN: &str = "run";
+
+const REPLAY: &str = "replay";
+
 const ALGORITHM: &str = "ALG";
+
+const PLAN: &str = "PLAN";
 
 const INPUT: &str = "IN";
 
 const OUTPUT: &str = "OUT";
+
+const ORDER: &str = "ORDER";
 
 /// A word that has to be there.
 fn word<'a>(alloc: Global, name: &'a str, help: &'a str) -> Arg<'a>
@@ -45,8 +55,48 @@ fn picture_described<'a>(
         .arg(word(alloc, OUTPUT, "Where the picture is written"))
 }
 
-fn described<'a>(alloc: Global) -> Result<Command<'a>, AllocError>
-    ensures { IfOk result (λ command. app_of command ≡ line) }
+fn check_described<'a>(alloc: Global) -> Result<Command<'a>, AllocError>
+    ensures line { IfOk result (λ command. app_of command ≡ check_line) }
+    ensures local { IfOk result (λ command. (out-Command command).has_globals ≡ false) }
+{
+    Command::new(alloc, CHECK)
+        .about("Check a plan file")
+        .arg(word(alloc, ALGORITHM, "The algorithm's text"))?
+        .arg(word(alloc, PLAN, "The plan file"))
+}
+
+fn run_described<'a>(alloc: Global) -> Result<Command<'a>, AllocError>
+    ensures line { IfOk result (λ command. app_of command ≡ run_line) }
+    ensures local { IfOk result (λ command. (out-Command command).has_globals ≡ false) }
+{
+    Command::new(alloc, RUN)
+        .about("Check a plan file and write the picture, computed by the plan")
+        .arg(word(alloc, ALGORITHM, "The algorithm's text"))?
+        .arg(word(alloc, PLAN, "The plan file"))?
+        .arg(word(alloc, INPUT, "The image, a PGM or PPM file"))?
+        .arg(word(alloc, OUTPUT, "Where the picture is written"))
+}
+
+fn replay_described<'a>(alloc: Global) -> Result<Command<'a>, AllocError>
+    ensures line { IfOk result (λ command. app_of command ≡ replay_line) }
+    ensures local { IfOk result (λ command. (out-Command command).has_globals ≡ false) }
+{
+    Command::new(alloc, REPLAY)
+        .about("Check a plan file and replay an order of workers' steps")
+        .arg(word(alloc, ALGORITHM, "The algorithm's text"))?
+        .arg(word(alloc, PLAN, "The plan file"))?
+        .arg(word(alloc, INPUT, "The image, a PGM or PPM file"))?
+        .arg(word(
+            alloc,
+            ORDER,
+            "The order: a worker's number from 0 to 63 for each step",
+        ))
+}
+
+/// The program's line with the commands that take no plan file.
+fn planless_described<'a>(alloc: Global) -> Result<Command<'a>, AllocError>
+    ensures line { IfOk result (λ command. app_of command ≡ planless) }
+    ensures local { IfOk result (λ command. (out-Command command).has_globals ≡ false) }
 {
     let rows = picture_described(alloc, ROWS, "Write the picture, computed row by row")?;
     let plain = picture_described(
@@ -62,39 +112,85 @@ fn described<'a>(alloc: Global) -> Result<Command<'a>, AllocError>
         .subcommand(plain)
 }
 
-/// How the command of this name computes a picture.
-fn way_named(name: &str) -> Option<Way>
-    ensures { result ≡ way_meant name.now }
+fn described<'a>(alloc: Global) -> Result<Command<'a>, AllocError>
+    ensures { IfOk result (λ command. app_of command ≡ line) }
 {
-    if name == ROWS {
-        Some(Way::Rows)
-    } else if name == PLAIN {
-        Some(Way::Plain)
-    } else {
-        None
-    }
+    let check = check_described(alloc)?;
+    let run = run_described(alloc)?;
+    let replay = replay_described(alloc)?;
+    planless_described(alloc)?
+        .subcommand(check)?
+        .subcommand(run)?
+        .subcommand(replay)
 }
 
-/// The request that a command's words make.
-fn request_in<'a>(way: Way, matches: &ArgMatches<'a>) -> Option<Request<'a>>
-    ensures { option_map asked_by result ≡ asked_in way (rows_of (found_of matches.now)) }
+/// The picture that a command's words ask for.
+fn picture_found<'a>(way: Way<'a>, matches: &ArgMatches<'a>) -> Option<Request<'a>>
+    ensures { option_map asked_by result ≡ picture_in (way_asked way.entry) (rows_of (found_of matches.now)) }
 {
     let algorithm = matches.get_str(ALGORITHM)?;
     let input = matches.get_str(INPUT)?;
     let output = matches.get_str(OUTPUT)?;
-    Some(Request {
+    Some(Request::Picture(PictureRequest {
         way,
         algorithm,
         input,
         output,
-    })
+    }))
+}
+
+fn run_found<'a>(matches: &ArgMatches<'a>) -> Option<Request<'a>>
+    ensures { option_map asked_by result ≡ run_in (rows_of (found_of matches.now)) }
+{
+    let plan = matches.get_str(PLAN)?;
+    picture_found(Way::File(plan), matches)
+}
+
+fn check_found<'a>(matches: &ArgMatches<'a>) -> Option<CheckRequest<'a>>
+    ensures { option_map check_asked result ≡ check_in (rows_of (found_of matches.now)) }
+{
+    let algorithm = matches.get_str(ALGORITHM)?;
+    let plan = matches.get_str(PLAN)?;
+    Some(CheckRequest { algorithm, plan })
+}
+
+fn replay_found<'a>(matches: &ArgMatches<'a>) -> Option<Request<'a>>
+    ensures { option_map asked_by result ≡ replay_in (rows_of (found_of matches.now)) }
+{
+    let check = check_found(matches)?;
+    let input = matches.get_str(INPUT)?;
+    let order = matches.get_str(ORDER)?;
+    Some(Request::Replay(ReplayRequest {
+        check,
+        input,
+        order,
+    }))
+}
+
+/// What the command of this name asks for with its words.
+fn request_named<'a>(name: &str, matches: &ArgMatches<'a>) -> Option<Request<'a>>
+    ensures { option_map asked_by result ≡ asked_of_command (name.now, rows_of (found_of matches.now)) }
+{
+    if name == ROWS {
+        picture_found(Way::Rows, matches)
+    } else if name == PLAIN {
+        picture_found(Way::Plain, matches)
+    } else if name == RUN {
+        run_found(matches)
+    } else if name == CHECK {
+        Some(Request::Check(check_found(matches)?))
+    } else if name == REPLAY {
+        replay_found(matches)
+    } else {
+        None
+    }
 }
 
 fn request_found<'a>(matches: &ArgMatches<'a>) -> Option<Request<'a>>
     ensures { option_map asked_by result ≡ option_and_then asked_of_command (subcommand_rows_of matches.now) }
 {
     let (name, found) = matches.subcommand()?;
-    request_in(way_named(name)?, found)
+    request_named(name, found)
 }
 
 /// What the words ask for. The words are those after the program's name.

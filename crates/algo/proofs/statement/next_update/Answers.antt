@@ -16,6 +16,14 @@ is_last [] f name e = e
 is_last (g ∷ []) f name e = e
 is_last (g ∷ h ∷ fs) f name e = is_last (h ∷ fs) f name e
 
+pub read_update-requires : goal.read_update-requires
+read_update-requires c =
+    let a = only_input c.args.context.now.input.now in
+    let before = functions_of c.in-Some.before.now in
+    let f = function_of c.in-Some.own.now in
+    let whole : functions_of c.args.context.now.functions.now ≡ before ++ f ∷ [] = ap functions_of c.in-Some.ensures.cases.0 ∙ map-append function_of c.in-Some.before.now (c.in-Some.own.now ∷ []) in
+    (last_is a before f (subst (AreFunctions a) whole c.requires.functions)).names
+
 pub returns-in-Ok-clause-functions : goal.returns-in-Ok-clause-functions
 returns-in-Ok-clause-functions c =
     let a = only_input c.args.context.now.input.now in

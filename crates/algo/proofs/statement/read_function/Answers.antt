@@ -13,7 +13,7 @@ returns-clause-kept c =
     let a = only_input c.args.context.now.input.now in
     let before = functions_of c.args.context.now.functions.now in
     let s = function_text c.args.statement.now in
-    let e = c.in_ok-check_function.ensures in
+    let e = c.in_ok-check_function.ensures.kept in
     let n : names_of c.deref-2.result.now ≡ s.variables = ap names_of c.deref-2.ensures.value ∙ c.in_ok-variables.ensures.names ∙ ap (map named_text) c.deref.ensures.value in
     function_keeps a (names_of c.args.context.now.declared.now) before s e.0 e.1 e.2
     (subst (λ (vs : List (List ℕ)). type_of (is_among vs) (callable a before) s.value ≡ Some s.ty) n e.3) e.4

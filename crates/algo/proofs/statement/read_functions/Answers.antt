@@ -7,7 +7,9 @@ use Rattle.algo.specs.Parts.{names_of}
 use Rattle.algo.specs.Context.{only_input}
 use Rattle.algo.specs.Saying.{functions_said, after_statement, FollowsFunction, HasSmallExpressions}
 use Rattle.algo.specs.Keeping.{Breaks, KeepsStatement}
+use Rattle.algo.specs.Faults.{Tells, StatementFaultAt}
 use Rattle.algo.proofs.Lists.{All-at}
+use Rattle.algo.proofs.Placed.{item_at}
 use Rattle.algo.proofs.Answered.{functions_said-more, follow_more}
 use Rattle.algo.proofs.statement.read_functions.Goals as goal
 
@@ -25,6 +27,17 @@ returns-in-Err-clause-refused c =
       stands = slice_get-map statement_text xs i ∙ ap (λ o. option_map statement_text o) (slice_get-get_or xs i c.statement-item.result c.loop-statement-test.true ∙ ap Some (sym c.statement-item.is));
       broken = subst (λ fs. Breaks (λ code. KeepsStatement (only_input c.args.input.now) (names_of c.args.declared.now) fs code s) c.in-Err.error)
           (c.loop-statement.invariant.said ∙ ap functions_said (sym (take-map statement_text i xs))) c.in-Err.ensures.refused;
+    }
+
+pub returns-in-Err-clause-place : goal.returns-in-Err-clause-place
+returns-in-Err-clause-place c =
+    let i = c.loop-statement.statement-index in
+    let s = c.statement-item.result in
+    record {
+      k = i;
+      statement = s;
+      stands = item_at c.args.statements.now i s c.statement-item.is c.loop-statement-test.true;
+      fault = subst (λ fs. Tells (StatementFaultAt (only_input c.args.input.now) (names_of c.args.declared.now) fs s) c.in-Err.error) c.loop-statement.invariant.said c.in-Err.ensures.place;
     }
 
 pub loop-statement-preserved : goal.loop-statement-preserved

@@ -26,11 +26,11 @@ Kept own vs value at = KeepPlaces own (names_of vs) value (list_terms at)
 kept : (own other : List ℕ) (vs ws : List (String Global)) (value : Term) (at al : List Expr) → own ≡ other → vs ≡ ws → at ≡ al → Kept own vs value at → Kept other ws value al
 kept own other vs ws value at al e f g h = subst (Kept other ws value) g (subst (λ l. Kept other l value at) f (subst (λ n. Kept n vs value at) e h))
 
-pub returns-in-Some : goal.returns-in-Some
-returns-in-Some c = λ h. c.in-Some.ensures (others _ _ _ _ (sym c.as_str-name.ensures.value) (sym c.deref.ensures.value) h.others)
+pub returns-in-Some-clause-kept : goal.returns-in-Some-clause-kept
+returns-in-Some-clause-kept c = λ h. c.in-Some.ensures.holds (others _ _ _ _ (sym c.as_str-name.ensures.value) (sym c.deref.ensures.value) h.others)
 
-pub returns : goal.returns
-returns c =
+pub returns-clause-kept : goal.returns-clause-kept
+returns-clause-kept c =
     let name = c.as_str-name.ensures.value in
     let vars = c.as_slice-variables.ensures.value in
     let at = c.deref-2.ensures.value in
@@ -39,5 +39,5 @@ returns c =
     (Kept c.as_str-name.result.now c.as_slice-variables.result.now value c.deref-2.result.now)
     (UpdatePlaces (function_of c.args.own.now) (update_text c.args.statement.now))
     c.first_misplaced.ensures.none
-    (λ p. record { others = others _ _ _ _ name c.deref.ensures.value c.in_default.ensures; kept = kept _ _ _ _ value _ _ name vars at p })
+    (λ p. record { others = others _ _ _ _ name c.deref.ensures.value c.in_default.ensures.holds; kept = kept _ _ _ _ value _ _ name vars at p })
     (λ q. kept _ _ _ _ value _ _ (sym name) (sym vars) (sym at) q.kept)

@@ -7,6 +7,7 @@ abbrev pub invariant-loop-ticket : goal.invariant-loop-ticket
 invariant-loop-ticket g l = record {
   board : l.seat.board ≡ l.initial.seat.board;
   idle : IsIdle l.seat.view;
+  scratch : g.P.PrivateRuns.suffices l.runs l.scratch;
 }
 
 abbrev pub decreases-loop-ticket : goal.decreases-loop-ticket

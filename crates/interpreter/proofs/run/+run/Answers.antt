@@ -1,4 +1,4 @@
-use Rattle.std.proofs.Common.{◌≡◌, List, ℤ, ℕ, ◌≤ℤ◌, [], ◌∷◌, ◌+◌, ◌<◌, length, get_or, sym, ap, ◌∙◌, subst, take, rules, arith, pos, ◌+ℤ◌, w64, to_z, Option, Some, map}
+use Rattle.std.proofs.Common.{◌≡◌, List, ℤ, ℕ, Err, ◌≤ℤ◌, [], ◌∷◌, ◌+◌, ◌<◌, length, length-append, get_or, sym, ap, ◌∙◌, subst, take, rules, arith, pos, ◌+ℤ◌, w64, to_z, Option, Some, map}
 use Rattle.std.specs.Prelude.{Contains, flat_map, int_le}
 use Rattle.std.proofs.lemmas.Int.{ints, to_z-of_z}
 use Rattle.std.proofs.lemmas.Result.{err_from_is_err_and}
@@ -14,19 +14,21 @@ use Rattle.nest.specs.View.{statement_of, coordinate_of}
 use Rattle.nest.proofs.Rows.{statement_of-seq}
 use Rattle.actions.specs.Actions.{Action, Allot, actions, after, block_actions}
 use Rattle.actions.specs.Found.{with}
-use Rattle.evaluation.specs.Outcome.{Ends}
 use Rattle.interpreter.specs.declared.run.Turns.{Turns}
 use Rattle.interpreter.specs.Bindings.{Bindings, symbols_of, also, Extends}
+use Rattle.buffers.specs.Blocks.{limits_of, HasMemoryFor}
+use Rattle.interpreter.specs.Needs.{name_count, places_in, BlockFits, IndexIsShort, StatementFits}
 use Rattle.interpreter.specs.Narrow.{StatementIsNarrow, BlockIsNarrow, IndexIsNarrow}
 use Rattle.interpreter.specs.Pieces.{around, setting, OwnIsSmall}
-use Rattle.interpreter.specs.States.{progress_of}
+use Rattle.interpreter.specs.States.{progress_of, EndsIn, IsAsLarge}
 use Rattle.interpreter.specs.Steps.{Progress, steps}
-use Rattle.interpreter.specs.Targets.{CoordinateIsNarrow}
+use Rattle.interpreter.specs.Targets.{CoordinateIsNarrow, CoordinateIsShort}
 use Rattle.interpreter.specs.Visits.{between}
 use Rattle.interpreter.proofs.Bindings.{bound_now, forgotten, extends_both}
 use Rattle.interpreter.proofs.Counting.{between_has, between_none}
-use Rattle.interpreter.proofs.Ending.{stops, goes_on}
-use Rattle.interpreter.proofs.Running.{from, turns_next, block_next, block_narrow}
+use Rattle.interpreter.proofs.Ending.{goes_on}
+use Rattle.interpreter.proofs.Steps.{stops_in}
+use Rattle.interpreter.proofs.Running.{from, turns_next, block_next, block_narrow, block_fits}
 use Rattle.interpreter.proofs.Shorts.{all_unmapped}
 use Rattle.interpreter.proofs.run.+run.Goals as goal
 
@@ -37,21 +39,8 @@ run-run_block-requires g t c κs within =
     let e : statement_of c.args.stmt.now ≡ Seq (block (list_statements c.deref.result.now)) =
     ap statement_of c.in-Seq.is ∙ statement_of-seq c.in-Seq.all ∙ ap (λ (l : List Stmt). Seq (block (list_statements l))) (sym c.deref.ensures.value) in
     let narrow : BlockIsNarrow Own (block (list_statements c.deref.result.now)) s = subst (λ (a : Statement). StatementIsNarrow Own a s) e c.requires.narrow in
-    (search (rules, the_lemmas), (search rules, (c.requires.ready, narrow)))
-
-pub run-fetch-requires : goal.run-fetch-requires
-run-fetch-requires g t c =
-    let s = symbols_of c.args.symbols.now in
-    let Own : Symbols → Type 0 = OwnIsSmall c.args.piece.now in
-    subst (λ (a : Stmt). StatementIsNarrow Own (statement_of a) s) c.in-Fetch.is c.requires.narrow
-
-pub run-store-requires-clause-narrow : goal.run-store-requires-clause-narrow
-run-store-requires-clause-narrow g t c =
-    let s = symbols_of c.args.symbols.now in
-    let Own : Symbols → Type 0 = OwnIsSmall c.args.piece.now in
-    let P : Coordinate → Type 0 = λ x. IndexIsNarrow s x.index in
-    let Q : List CodeCoordinate → Type 0 = λ cs. (k : ℕ) (d : CodeCoordinate) → k < length cs → CoordinateIsNarrow s (get_or cs k d) in
-    subst Q (sym c.deref-in-Store.ensures.value) (all_unmapped P coordinate_of c.in-Store.coordinates.items (subst (λ (a : Stmt). StatementIsNarrow Own (statement_of a) s) c.in-Store.is c.requires.narrow))
+    let fits = subst (λ (a : Statement). StatementFits (limits_of c.args.state.now.memory) c.args.symbols.now.room a (length c.args.symbols.now.bound)) e c.requires.fits in
+    (search (rules, the_lemmas), (search rules, (c.requires.ready, (narrow, fits))))
 
 pub run-returns-in-Seq-clause-run : goal.run-returns-in-Seq-clause-run
 run-returns-in-Seq-clause-run g t c =
@@ -60,17 +49,7 @@ run-returns-in-Seq-clause-run g t c =
     let s = symbols_of c.args.symbols.now in
     let e : statement_of c.args.stmt.now ≡ Seq (block (list_statements c.deref.result.now)) =
     ap statement_of c.in-Seq.is ∙ statement_of-seq c.in-Seq.all ∙ ap (λ (l : List Stmt). Seq (block (list_statements l))) (sym c.deref.ensures.value) in
-    subst (λ (a : Statement). Ends (λ _. progress_of c.run_block.new.state) c.run_block.result (steps A (actions (setting x) a s) (progress_of c.args.state.now))) (sym e) c.run_block.ensures.run
-
-pub run-returns-in-Alloc-clause-run : goal.run-returns-in-Alloc-clause-run
-run-returns-in-Alloc-clause-run g t c =
-    let x = c.args.piece.now in
-    let cell = g.C.Cells.cell c.args.cells.now in
-    let A = around x cell in
-    let s = symbols_of c.args.symbols.now in
-    let p = progress_of c.args.state.now in
-    subst (λ (a : Stmt). Ends (λ _. progress_of c.allot.new.state) c.allot.result (steps A (actions (setting x) (statement_of a) s) p)) (sym c.in-Alloc.is)
-    (subst (λ (l : List Places). Ends (λ _. progress_of c.allot.new.state) c.allot.result (steps A (Allot c.in-Alloc.buffer (map (room s) l) ∷ []) p)) c.deref-in-Alloc.ensures.value (c.allot.ensures A))
+    subst (λ (a : Statement). EndsIn c.args.state.now.given.capacity (λ _. progress_of c.run_block.new.state) c.run_block.result (steps A (actions (setting x) a s) (progress_of c.args.state.now))) (sym e) c.run_block.ensures.run
 
 pub run_block-returns-in_err-run-clause-run : goal.run_block-returns-in_err-run-clause-run
 run_block-returns-in_err-run-clause-run g t c =
@@ -84,8 +63,12 @@ run_block-returns-in_err-run-clause-run g t c =
     let all = c.args.all.now in
     let whole : Option Progress = steps A (block_actions S (block (list_statements all)) (symbols_of c.args.symbols.now)) (progress_of c.args.state.now) in
     let e = err_from_is_err_and c.from_residual.result c.from_residual.ensures.1 in
-    rw (e.1, e.2) (stops (λ (_ : Unit {0}). progress_of c.run.new.state) (λ (_ : Unit {0}). progress_of c.run.new.state) c.in_err-run.field-0.0 (steps A (actions S (statement_of a) s) (progress_of l.state)) (steps A (block_actions S (from all (i + 1)) (after (statement_of a) s))) whole
-    (block_next A S all i a s (progress_of l.state) whole c.loop-stmt-test.true c.stmt-item.is l.invariant.run) c.in_err-run.ensures.run)
+    let o : Option Progress = steps A (actions S (statement_of a) s) (progress_of l.state) in
+    let new : Progress = progress_of c.run.new.state in
+    let ended : EndsIn c.args.state.now.given.capacity (λ (_ : Unit {0}). new) (Err c.in_err-run.field-0.0) o =
+    subst (λ (n : ℕ). EndsIn n (λ (_ : Unit {0}). new) (Err c.in_err-run.field-0.0) o) l.invariant.large.given c.in_err-run.ensures.run in
+    rw (e.1, e.2) (stops_in A c.args.state.now.given.capacity new new c.in_err-run.field-0.0 o (block_actions S (from all (i + 1)) (after (statement_of a) s)) whole
+    (block_next A S all i a s (progress_of l.state) whole c.loop-stmt-test.true c.stmt-item.is l.invariant.run) ended)
 
 pub run_block-loop-stmt-preserved : goal.run_block-loop-stmt-preserved
 run_block-loop-stmt-preserved g t c =
@@ -101,10 +84,13 @@ run_block-loop-stmt-preserved g t c =
     let new = c.name_from.new.symbols in
     let whole : Option Progress = steps A (block_actions S (block (list_statements all)) (symbols_of c.args.symbols.now)) (progress_of c.args.state.now) in
     let kept : c.run.new.symbols ≡ l.symbols = c.in_ok-run.ensures.symbols in
-    let now : symbols_of new ≡ after (statement_of a) s = c.in_ok-name_from.ensures.value ∙ ap (λ (b : Bindings). after (statement_of a) (symbols_of b)) kept in
+    let now : symbols_of new ≡ after (statement_of a) s = c.name_from.ensures.value ∙ ap (λ (b : Bindings). after (statement_of a) (symbols_of b)) kept in
     let go : Progress → Option Progress = steps A (block_actions S (from all (i + 1)) (after (statement_of a) s)) in
     record {
-      extends = extends_both c.args.symbols.now l.symbols new l.invariant.extends (subst (λ (b : Bindings). Extends b new) kept c.in_ok-name_from.ensures.extends);
+      large = record { limits = c.in_ok-run.ensures.large.limits ∙ l.invariant.large.limits; given = c.in_ok-run.ensures.large.given ∙ l.invariant.large.given };
+      fits = subst (λ (n : ℕ). BlockFits (limits_of c.args.state.now.memory) c.args.symbols.now.room (from all (i + 1)) n) (sym (c.name_from.ensures.count ∙ ap (λ (b : Bindings). length b.bound + name_count (statement_of a)) kept))
+          (block_fits (limits_of c.args.state.now.memory) c.args.symbols.now.room all i a (length l.symbols.bound) c.loop-stmt-test.true c.stmt-item.is l.invariant.fits).2;
+      extends = extends_both c.args.symbols.now l.symbols new l.invariant.extends (subst (λ (b : Bindings). Extends b new) kept c.name_from.ensures.extends);
       narrow = subst (λ (y : Symbols). BlockIsNarrow Own (from all (i + 1)) y) (sym now) (block_narrow Own all i a s c.loop-stmt-test.true c.stmt-item.is l.invariant.narrow).1;
       run = goes_on (steps A (actions S (statement_of a) s) (progress_of l.state)) (progress_of c.run.new.state) go whole (block_next A S all i a s (progress_of l.state) whole c.loop-stmt-test.true c.stmt-item.is l.invariant.run) c.in_ok-run.ensures.run
           ∙ ap (λ (y : Symbols). steps A (block_actions S (from all (i + 1)) y) (progress_of c.run.new.state)) (sym now);
@@ -125,13 +111,20 @@ run_turns-run-requires g t c κs within =
     let whole : Option Progress = steps A (flat_map f (between turns.low turns.high)) (progress_of c.args.state.now) in
     let from_low : turns.low ≤ℤ z = l.invariant.low in
     let to_high : z ≤ℤ turns.high = first_of (omega (arith, ints), grind (arith, ints)) in
-    let made : c.bind.new.self ≡ also l.symbols c.turn.result = search rules in
+    let made : c.bind.new.self ≡ also l.symbols c.turn.result = c.bind.ensures in
     let is : c.turn.result ≡ record { symbol = turns.symbol; value = z; first = int_le z turns.low } = first_of (search rules, search (rules, to_z-of_z)) in
     let now : symbols_of c.bind.new.self ≡ bind (symbols_of old) turns.symbol z (int_le z turns.low) =
     bound_now l.symbols c.bind.new.self c.turn.result turns.symbol z (int_le z turns.low) made is ∙ ap (λ (b : Bindings). bind (symbols_of b) turns.symbol z (int_le z turns.low)) l.invariant.symbols in
     let Own : Symbols → Type 0 = OwnIsSmall x in
     let narrow : StatementIsNarrow Own body (symbols_of c.bind.new.self) = subst (λ (y : Symbols). StatementIsNarrow Own body y) (sym now) (c.requires.narrow z (between_has turns.low turns.high z from_low to_high)) in
-    (first_of (search (rules, the_lemmas), omega arith), (search rules, (c.requires.ready, narrow)))
+    let limits = limits_of c.args.state.now.memory in
+    let more : c.bind.new.self ≡ also old c.turn.result = made ∙ ap (λ (b : Bindings). also b c.turn.result) l.invariant.symbols in
+    let one : length old.bound + 1 ≡ length c.bind.new.self.bound = sym (ap (λ (b : Bindings). length b.bound) more ∙ length-append old.bound (c.turn.result ∷ [])) in
+    let fits : StatementFits (limits_of l.state.memory) c.bind.new.self.room body (length c.bind.new.self.bound) =
+    subst (λ ls. StatementFits ls c.bind.new.self.room body (length c.bind.new.self.bound)) (sym l.invariant.large.limits)
+    (subst (λ (m : ℕ). StatementFits limits m body (length c.bind.new.self.bound)) (sym (ap (λ (b : Bindings). b.room) more))
+    (subst (λ (m : ℕ). StatementFits limits old.room body m) one c.requires.fits)) in
+    (first_of (search (rules, the_lemmas), omega arith), (search rules, (c.requires.ready, (narrow, fits))))
 
 pub run_turns-returns-in_err-run-clause-run : goal.run_turns-returns-in_err-run-clause-run
 run_turns-returns-in_err-run-clause-run g t c =
@@ -148,15 +141,19 @@ run_turns-returns-in_err-run-clause-run g t c =
     let whole : Option Progress = steps A (flat_map f (between turns.low turns.high)) (progress_of c.args.state.now) in
     let from_low : turns.low ≤ℤ z = l.invariant.low in
     let to_high : z ≤ℤ turns.high = first_of (omega (arith, ints), grind (arith, ints)) in
-    let made : c.bind.new.self ≡ also l.symbols c.turn.result = search rules in
+    let made : c.bind.new.self ≡ also l.symbols c.turn.result = c.bind.ensures in
     let is : c.turn.result ≡ record { symbol = turns.symbol; value = z; first = int_le z turns.low } = first_of (search rules, search (rules, to_z-of_z)) in
     let now : symbols_of c.bind.new.self ≡ bind (symbols_of old) turns.symbol z (int_le z turns.low) =
     bound_now l.symbols c.bind.new.self c.turn.result turns.symbol z (int_le z turns.low) made is ∙ ap (λ (b : Bindings). bind (symbols_of b) turns.symbol z (int_le z turns.low)) l.invariant.symbols in
     let go : Progress → Option Progress = steps A (flat_map f (between (z +ℤ pos 1) turns.high)) in
     let next = turns_next A f z turns.high p whole to_high l.invariant.run in
-    let e = err_from_is_err_and c.from_residual-in_err-run.result c.from_residual-in_err-run.ensures.1 in
-    rw (e.1, e.2) (stops (λ (_ : Unit {0}). progress_of c.run.new.state) (λ (_ : Unit {0}). progress_of c.run.new.state) c.in_err-run.field-0.0 (steps A (actions S body (symbols_of c.bind.new.self)) p) go whole
-    (next ∙ ap (λ (y : Symbols). with (steps A (actions S body y) p) go) (sym now)) c.in_err-run.ensures.run)
+    let e = err_from_is_err_and c.from_residual.result c.from_residual.ensures.1 in
+    let o : Option Progress = steps A (actions S body (symbols_of c.bind.new.self)) p in
+    let new : Progress = progress_of c.run.new.state in
+    let ended : EndsIn c.args.state.now.given.capacity (λ (_ : Unit {0}). new) (Err c.in_err-run.field-0.0) o =
+    subst (λ (n : ℕ). EndsIn n (λ (_ : Unit {0}). new) (Err c.in_err-run.field-0.0) o) l.invariant.large.given c.in_err-run.ensures.run in
+    rw (e.1, e.2) (stops_in A c.args.state.now.given.capacity new new c.in_err-run.field-0.0 o (flat_map f (between (z +ℤ pos 1) turns.high)) whole
+    (next ∙ ap (λ (y : Symbols). with (steps A (actions S body y) p) go) (sym now)) ended)
 
 pub run_turns-loop-value-preserved : goal.run_turns-loop-value-preserved
 run_turns-loop-value-preserved g t c =
@@ -173,7 +170,7 @@ run_turns-loop-value-preserved g t c =
     let whole : Option Progress = steps A (flat_map f (between turns.low turns.high)) (progress_of c.args.state.now) in
     let from_low : turns.low ≤ℤ z = l.invariant.low in
     let to_high : z ≤ℤ turns.high = first_of (omega (arith, ints), grind (arith, ints)) in
-    let made : c.bind.new.self ≡ also l.symbols c.turn.result = search rules in
+    let made : c.bind.new.self ≡ also l.symbols c.turn.result = c.bind.ensures in
     let is : c.turn.result ≡ record { symbol = turns.symbol; value = z; first = int_le z turns.low } = first_of (search rules, search (rules, to_z-of_z)) in
     let now : symbols_of c.bind.new.self ≡ bind (symbols_of old) turns.symbol z (int_le z turns.low) =
     bound_now l.symbols c.bind.new.self c.turn.result turns.symbol z (int_le z turns.low) made is ∙ ap (λ (b : Bindings). bind (symbols_of b) turns.symbol z (int_le z turns.low)) l.invariant.symbols in
@@ -184,7 +181,8 @@ run_turns-loop-value-preserved g t c =
     let kept : c.run.new.symbols ≡ c.bind.new.self = c.in_ok-run.ensures.symbols in
     let count : c.bound_count-mark.result ≡ length l.symbols.bound = c.bound_count-mark.ensures ∙ ap (λ (b : Bindings). length b.bound) (sym l.invariant.symbols) in
     record {
-      symbols = c.forget.ensures ∙ (λ j. record { grid = (kept j).grid; bound = take c.bound_count-mark.result (kept j).bound }) ∙ forgotten l.symbols c.bind.new.self c.turn.result c.bound_count-mark.result made count ∙ l.invariant.symbols;
+      large = record { limits = c.in_ok-run.ensures.large.limits ∙ l.invariant.large.limits; given = c.in_ok-run.ensures.large.given ∙ l.invariant.large.given };
+      symbols = c.forget.ensures ∙ (λ j. record { grid = (kept j).grid; bound = take c.bound_count-mark.result (kept j).bound; room = (kept j).room }) ∙ forgotten l.symbols c.bind.new.self c.turn.result c.bound_count-mark.result made count ∙ l.invariant.symbols;
       low = omega (arith, ints, l.invariant.low);
       run = later ∙ ap (λ (y : ℤ). steps A (flat_map f (between y turns.high)) (progress_of c.run.new.state)) (omega (arith, ints));
     }
@@ -204,7 +202,7 @@ run_turns-returns-in_ok-run-clause-run g t c =
     let whole : Option Progress = steps A (flat_map f (between turns.low turns.high)) (progress_of c.args.state.now) in
     let from_low : turns.low ≤ℤ z = l.invariant.low in
     let to_high : z ≤ℤ turns.high = first_of (omega (arith, ints), grind (arith, ints)) in
-    let made : c.bind.new.self ≡ also l.symbols c.turn.result = search rules in
+    let made : c.bind.new.self ≡ also l.symbols c.turn.result = c.bind.ensures in
     let is : c.turn.result ≡ record { symbol = turns.symbol; value = z; first = int_le z turns.low } = first_of (search rules, search (rules, to_z-of_z)) in
     let now : symbols_of c.bind.new.self ≡ bind (symbols_of old) turns.symbol z (int_le z turns.low) =
     bound_now l.symbols c.bind.new.self c.turn.result turns.symbol z (int_le z turns.low) made is ∙ ap (λ (b : Bindings). bind (symbols_of b) turns.symbol z (int_le z turns.low)) l.invariant.symbols in
@@ -229,7 +227,11 @@ run-run_turns-requires g t c κs within =
     let P : Turns → Type 0 = λ r. (z : ℤ) → Contains (between r.low r.high) z → StatementIsNarrow Own body (bind s r.symbol z (int_le z r.low)) in
     let Q : Stmt → Type 0 = λ b. (z : ℤ) → Contains (between (largest s c.in-For.span.lower) (smallest s c.in-For.span.upper)) z → StatementIsNarrow Own (statement_of b) (bind s c.in-For.symbol z (int_le z (largest s c.in-For.span.lower))) in
     let narrow : P c.turns_of-turns.result = subst P (sym c.turns_of-turns.ensures) (subst Q (sym same) (subst (λ (a : Stmt). StatementIsNarrow Own (statement_of a) s) c.in-For.is c.requires.narrow).1) in
-    (search (rules, the_lemmas), (search rules, (c.requires.ready, narrow)))
+    let limits = limits_of c.args.state.now.memory in
+    let n = length c.args.symbols.now.bound in
+    let R : Stmt → Type 0 = λ b. (n < c.args.symbols.now.room) × StatementFits limits c.args.symbols.now.room (statement_of b) (n + 1) in
+    let needs : R c.deref-in-For.result.now = subst R (sym same) (subst (λ (a : Stmt). StatementFits limits c.args.symbols.now.room (statement_of a) n) c.in-For.is c.requires.fits) in
+    (search (rules, the_lemmas), (search rules, (c.requires.ready, (narrow, needs))))
 
 pub run-returns-in-For-clause-run : goal.run-returns-in-For-clause-run
 run-returns-in-For-clause-run g t c =
@@ -239,8 +241,23 @@ run-returns-in-For-clause-run g t c =
     let p = progress_of c.args.state.now in
     let same : c.deref-in-For.result.now ≡ c.in-For.body.value = search rules in
     let body = statement_of c.deref-in-For.result.now in
-    let P : Option Progress → Type 0 = λ o. Ends (λ (_ : Unit {0}). progress_of c.run_turns.new.state) c.run_turns.result o in
+    let P : Option Progress → Type 0 = λ o. EndsIn c.args.state.now.given.capacity (λ (_ : Unit {0}). progress_of c.run_turns.new.state) c.run_turns.result o in
     let turned : Turns → Option Progress = λ r. steps A (flat_map (λ z. actions (setting x) body (bind s r.symbol z (int_le z r.low))) (between r.low r.high)) p in
     let low = largest s c.in-For.span.lower in
     let Q : Stmt → Type 0 = λ b. P (steps A (flat_map (λ z. actions (setting x) (statement_of b) (bind s c.in-For.symbol z (int_le z low))) (between low (smallest s c.in-For.span.upper))) p) in
     subst (λ (a : Stmt). P (steps A (actions (setting x) (statement_of a) s) p)) (sym c.in-For.is) (subst Q same (subst (λ (r : Turns). P (turned r)) c.turns_of-turns.ensures c.run_turns.ensures.run))
+
+pub run_block-run-requires : goal.run_block-run-requires
+run_block-run-requires g t c κs within =
+    let x = c.args.piece.now in
+    let Own : Symbols → Type 0 = OwnIsSmall x in
+    let l = c.loop-stmt in
+    let i = l.stmt-index in
+    let a = c.stmt-item.result in
+    let all = c.args.all.now in
+    let n = length l.symbols.bound in
+    let narrow = (block_narrow Own all i a (symbols_of l.symbols) c.loop-stmt-test.true c.stmt-item.is l.invariant.narrow).0 in
+    let here = (block_fits (limits_of c.args.state.now.memory) c.args.symbols.now.room all i a n c.loop-stmt-test.true c.stmt-item.is l.invariant.fits).0 in
+    let fits = subst (λ ls. StatementFits ls l.symbols.room (statement_of a) n) (sym l.invariant.large.limits)
+    (subst (λ (m : ℕ). StatementFits (limits_of c.args.state.now.memory) m (statement_of a) n) (sym l.invariant.extends.room) here) in
+    (first_of (search (rules, the_lemmas), omega arith), (search rules, (c.requires.ready, (narrow, fits))))

@@ -6,17 +6,16 @@ use Rattle.nest.specs.Symbols.{points}
 use Rattle.nest.specs.View.{group_of}
 use Rattle.actions.specs.Actions.{Action, Take}
 use Rattle.actions.specs.Setting.{group_name}
-use Rattle.evaluation.specs.Outcome.{Ends}
 use Rattle.interpreter.specs.Bindings.{symbols_of}
 use Rattle.interpreter.specs.Pieces.{around}
-use Rattle.interpreter.specs.States.{progress_of}
+use Rattle.interpreter.specs.States.{progress_of, EndsIn}
 use Rattle.interpreter.specs.Steps.{steps}
 use Rattle.interpreter.specs.Visits.{extended}
 use Rattle.interpreter.proofs.Pointwise.{fetched}
 use Rattle.interpreter.proofs.run.fetch.Goals as goal
 
-pub returns : goal.returns
-returns g c =
+pub returns-clause-run : goal.returns-clause-run
+returns-clause-run g c =
     let x = c.args.piece.now in
     let s = symbols_of c.args.symbols.now in
     let b = c.args.buffer in
@@ -26,4 +25,4 @@ returns g c =
     let e : flat_map (λ p. Take b c.group_name.result.now p ∷ []) (extended s c.as_slice.result.now []) ≡ map (Take b (group_name (slice_get (map group_of x.plan.now.groups.items) c.args.group))) (points s c.args.region.now) =
     sym (fetched s b c.group_name.result.now c.as_slice.result.now) ∙ ap (λ (xs : List Span1). map (Take b c.group_name.result.now) (points s xs)) c.as_slice.ensures
     ∙ ap (λ (f : List ℕ). map (Take b f) (points s c.args.region.now)) name in
-    subst (λ (l : List Action). Ends (λ _. progress_of c.visit_region.new.state) c.visit_region.result (steps (around x cell) l (progress_of c.args.state.now))) e c.visit_region.ensures
+    subst (λ (l : List Action). EndsIn c.args.state.now.given.capacity (λ _. progress_of c.visit_region.new.state) c.visit_region.result (steps (around x cell) l (progress_of c.args.state.now))) e c.visit_region.ensures.run

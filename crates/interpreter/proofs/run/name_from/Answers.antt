@@ -4,7 +4,7 @@ use Rattle.nest.specs.declared.stmt.Stmt.{Stmt}
 use Rattle.nest.specs.View.{statement_of}
 use Rattle.actions.specs.Actions.{after}
 use Rattle.interpreter.specs.Bindings.{symbols_of}
-use Rattle.interpreter.proofs.Bindings.{named_after, on_ok}
+use Rattle.interpreter.proofs.Bindings.{named_after}
 use Rattle.interpreter.proofs.run.name_from.Goals as goal
 
 pub returns-clause-value : goal.returns-clause-value
@@ -12,7 +12,5 @@ returns-clause-value c =
     let old = c.args.symbols.now in
     let v = c.named_value-value.result in
     let fits : SFits w64 v = search rules in
-    on_ok c.bind.result _ _
-    (λ e. named_after old c.bind.new.self _ c.in-Let.symbol c.in-Let.pick c.in-Let.forms e refl (to_z-of_z w64 v fits ∙ c.named_value-value.ensures) refl
-    ∙ ap (λ (a : Stmt). after (statement_of a) (symbols_of old)) (sym c.in-Let.is))
-    c.bind.ensures
+    named_after old c.bind.new.self _ c.in-Let.symbol c.in-Let.pick c.in-Let.forms c.bind.ensures refl (to_z-of_z w64 v fits ∙ c.named_value-value.ensures) refl
+    ∙ ap (λ (a : Stmt). after (statement_of a) (symbols_of old)) (sym c.in-Let.is)

@@ -1,15 +1,15 @@
 use Rattle.std.proofs.Common.{◌≡◌, List, [], ◌∷◌, sym, ap, ◌∙◌, subst, map, Option, Some, MatchOption}
 use Rattle.std.specs.Prelude.{flat_map, if◌then◌else◌}
 use Rattle.lin.specs.declared.span.Span1.{Span1}
+use Rattle.nest.specs.Symbols.{Symbols}
 use Rattle.nest.specs.View.{group_of}
 use Rattle.cert.specs.declared.cert.Own.{Own}
 use Rattle.cert.specs.Cells.{is_in_region, no_symbols, own_region, points_within}
 use Rattle.actions.specs.Actions.{Action, Give}
-use Rattle.evaluation.specs.Outcome.{Ends}
-use Rattle.interpreter.specs.Bindings.{Bindings, symbols_of}
+use Rattle.interpreter.specs.Bindings.{symbols_of}
 use Rattle.interpreter.specs.Narrow.{RegionIsNarrow}
 use Rattle.interpreter.specs.Pieces.{around}
-use Rattle.interpreter.specs.States.{progress_of}
+use Rattle.interpreter.specs.States.{progress_of, EndsIn}
 use Rattle.interpreter.specs.Steps.{steps}
 use Rattle.interpreter.specs.Visits.{extended}
 use Rattle.interpreter.proofs.Giving.{gives_own}
@@ -25,10 +25,10 @@ visit_region-requires-clause-region g c =
 pub visit_region-requires-clause-visit : goal.visit_region-requires-clause-visit
 visit_region-requires-clause-visit g c =
     let x = c.args.piece.now in
-    subst (λ (b : Bindings). RegionIsNarrow (symbols_of b) x.group.now.region) (sym c.requires.ready.constants) c.requires.narrow.group
+    subst (λ (b : Symbols). RegionIsNarrow b x.group.now.region) (sym c.requires.ready.constants) c.requires.narrow.group
 
-pub returns : goal.returns
-returns g c =
+pub returns-clause-run : goal.returns-clause-run
+returns-clause-run g c =
     let x = c.args.piece.now in
     let s = symbols_of c.args.symbols.now in
     let k = c.args.claim in
@@ -36,7 +36,7 @@ returns g c =
     let cell = g.C.Cells.cell c.args.cells.now in
     let found : own_region x.cert.now.own.items x.number ≡ Some c.in-Some.region.now = ap (λ (os : List Own). own_region os x.number) (sym c.deref.ensures.value) ∙ c.in-Some.ensures in
     let e : flat_map (λ p. if is_in_region (symbols_of x.constants.now) region p then Give k p ∷ [] else []) (extended s c.as_slice.result.now []) ≡ map (Give k) (points_within (group_of x.group.now) (own_region x.cert.now.own.items x.number) s) =
-    ap (λ (b : Bindings). flat_map (λ p. if is_in_region (symbols_of b) region p then Give k p ∷ [] else []) (extended s c.as_slice.result.now [])) c.requires.ready.constants
+    ap (λ (b : Symbols). flat_map (λ p. if is_in_region b region p then Give k p ∷ [] else []) (extended s c.as_slice.result.now [])) c.requires.ready.constants
     ∙ ap (λ (xs : List Span1). flat_map (λ p. if is_in_region no_symbols region p then Give k p ∷ [] else []) (extended s xs [])) c.as_slice.ensures
     ∙ sym (gives_own (group_of x.group.now) s k (own_region x.cert.now.own.items x.number) c.in-Some.region.now found) in
-    subst (λ (l : List Action). Ends (λ _. progress_of c.visit_region.new.state) c.visit_region.result (steps (around x cell) l (progress_of c.args.state.now))) e c.visit_region.ensures
+    subst (λ (l : List Action). EndsIn c.args.state.now.given.capacity (λ _. progress_of c.visit_region.new.state) c.visit_region.result (steps (around x cell) l (progress_of c.args.state.now))) e c.visit_region.ensures.run

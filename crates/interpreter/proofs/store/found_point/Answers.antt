@@ -1,4 +1,4 @@
-use Rattle.std.proofs.Common.{◌≡◌, ℤ, List, ◌∷◌, [], ◌++◌, ap, sym, ◌∙◌, rules, w64, SFits, to_z, of_z, map, drop, ◌+◌}
+use Rattle.std.proofs.Common.{◌≡◌, ℤ, List, ◌∷◌, [], ◌++◌, ap, sym, ◌∙◌, rules, w64, SFits, to_z, of_z, map, drop, length, length-append, arith, ◌+◌}
 use Rattle.std.specs.Prelude.{string_bytes}
 use Rattle.std.proofs.lemmas.Int.{to_z-of_z}
 use Rattle.meaning.specs.Names.{bound}
@@ -22,7 +22,11 @@ loop-coordinate-preserved c =
     let l = c.loop-coordinate in
     let z : ℤ = c.in_ok-number.number in
     let fits : SFits w64 z = search rules in
-    let pushed : c.push.new.self.items ≡ l.point.items ++ to_z w64 (of_z w64 z) ∷ [] = search rules in
-    let next = coordinates_next A names s cs l.coordinate-index c.coordinate-item.result m l.point.items (found_target A names (map (target_of s) cs) m) c.loop-coordinate-test.true c.coordinate-item.is l.invariant in
-    goes_on (target_number names (look A m) (target_of s c.coordinate-item.result)) z (λ (y : ℤ). points_on A names (map (target_of s) (drop (l.coordinate-index + 1) cs)) m (l.point.items ++ y ∷ [])) _ next c.in_ok-number.ensures
-    ∙ ap (λ (zs : List ℤ). points_on A names (map (target_of s) (drop (l.coordinate-index + 1) cs)) m zs) (ap (λ (y : ℤ). l.point.items ++ y ∷ []) (sym (to_z-of_z w64 z fits)) ∙ sym pushed)
+    let pushed : c.push_reserved.new.self.items ≡ l.point.items ++ to_z w64 (of_z w64 z) ∷ [] = c.push_reserved.ensures.items in
+    let next = coordinates_next A names s cs l.coordinate-index c.coordinate-item.result m l.point.items (found_target A names (map (target_of s) cs) m) c.loop-coordinate-test.true c.coordinate-item.is l.invariant.point in
+    record {
+      room = omega (arith, l.invariant.room, c.push_reserved.ensures.capacity);
+      count = ap length pushed ∙ length-append l.point.items (to_z w64 (of_z w64 z) ∷ []) ∙ ap (λ k. k + 1) l.invariant.count;
+      point = goes_on (target_number names (look A m) (target_of s c.coordinate-item.result)) z (λ (y : ℤ). points_on A names (map (target_of s) (drop (l.coordinate-index + 1) cs)) m (l.point.items ++ y ∷ [])) _ next (sym c.found_number.ensures ∙ c.in_ok-number.was)
+          ∙ ap (λ (zs : List ℤ). points_on A names (map (target_of s) (drop (l.coordinate-index + 1) cs)) m zs) (ap (λ (y : ℤ). l.point.items ++ y ∷ []) (sym (to_z-of_z w64 z fits)) ∙ sym pushed);
+    }

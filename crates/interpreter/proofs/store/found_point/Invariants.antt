@@ -1,4 +1,4 @@
-use Rattle.std.proofs.Common.{◌≡◌, drop, map}
+use Rattle.std.proofs.Common.{◌≡◌, ◌≤◌, length, drop, map}
 use Rattle.std.specs.Prelude.{string_bytes}
 use Rattle.meaning.specs.Names.{bound}
 use Rattle.actions.specs.Run.{found_target}
@@ -14,5 +14,9 @@ invariant-loop-coordinate l =
     let A = around l.reading.piece.now no_cells in
     let names = bound (map (λ c. string_bytes c.variable) l.reading.coordinates.now) l.reading.numbers.now in
     let m = memory_of l.reading.memory.now in
-    found_target A names (map (target_of (symbols_of l.symbols)) l.coordinates) m
-    ≡ points_on A names (map (target_of (symbols_of l.symbols)) (drop l.coordinate-index l.coordinates)) m l.point.items
+    record {
+      room : length l.coordinates ≤ l.point.capacity;
+      count : length l.point.items ≡ l.coordinate-index;
+      point : found_target A names (map (target_of (symbols_of l.symbols)) l.coordinates) m
+          ≡ points_on A names (map (target_of (symbols_of l.symbols)) (drop l.coordinate-index l.coordinates)) m l.point.items;
+    }

@@ -1,7 +1,11 @@
-use Rattle.std.proofs.Common.{◌≡◌, take, map}
+use Rattle.std.proofs.Common.{◌≡◌, ◌≤◌, length, take, map}
 use Rattle.interpreter.specs.Bindings.{symbols_of}
 use Rattle.interpreter.specs.Targets.{known_number}
 use Rattle.interpreter.proofs.store.known_numbers.Given as goal
 
 abbrev pub invariant-loop-coordinate : goal.invariant-loop-coordinate
-invariant-loop-coordinate l = l.numbers.items ≡ map (known_number (symbols_of l.symbols)) (take l.coordinate-index l.coordinates)
+invariant-loop-coordinate l = record {
+  room : length l.coordinates ≤ l.numbers.capacity;
+  count : length l.numbers.items ≡ l.coordinate-index;
+  numbers : l.numbers.items ≡ map (known_number (symbols_of l.symbols)) (take l.coordinate-index l.coordinates);
+}

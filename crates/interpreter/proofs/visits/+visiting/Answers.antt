@@ -1,4 +1,4 @@
-use Rattle.std.proofs.Common.{◌≡◌, List, ℤ, [], ◌∷◌, ◌++◌, length, ◌≤◌, ◌+◌, ◌-◌, take, sym, ap, ◌∙◌, subst, rules, arith, w64, SFits, to_z, of_z, pos, ◌+ℤ◌, ◌≤ℤ◌, Option, Some}
+use Rattle.std.proofs.Common.{◌≡◌, List, ℤ, [], ◌∷◌, ◌++◌, length, ◌≤◌, ◌+◌, ◌-◌, take, sym, ap, ◌∙◌, subst, rules, arith, w64, SFits, to_z, of_z, pos, ℕ, Err, ◌+ℤ◌, ◌≤ℤ◌, Option, Some}
 use Rattle.std.specs.Prelude.{flat_map}
 use Rattle.std.proofs.lemmas.Int.{ints, to_z-of_z}
 use Rattle.std.proofs.lemmas.Bool.{ltb-false}
@@ -9,16 +9,16 @@ use Rattle.lin.specs.declared.span.Span1.{Span1}
 use Rattle.nest.specs.Symbols.{largest, smallest}
 use Rattle.actions.specs.Actions.{Action}
 use Rattle.actions.specs.Found.{with}
-use Rattle.evaluation.specs.Outcome.{Ends}
 use Rattle.interpreter.specs.Bindings.{symbols_of}
 use Rattle.interpreter.specs.Pieces.{around}
-use Rattle.interpreter.specs.States.{progress_of}
+use Rattle.interpreter.specs.States.{progress_of, EndsIn, IsAsLarge}
 use Rattle.interpreter.specs.Steps.{Progress, steps}
 use Rattle.interpreter.specs.Visits.{at_point, between, extended}
 use Rattle.interpreter.specs.Narrow.{SpanIsNarrow}
 use Rattle.interpreter.proofs.Pointwise.{actions-last}
 use Rattle.interpreter.proofs.Shorts.{by_last}
-use Rattle.interpreter.proofs.Ending.{stops, goes_on}
+use Rattle.interpreter.proofs.Ending.{goes_on}
+use Rattle.interpreter.proofs.Steps.{stops_in}
 use Rattle.interpreter.proofs.Running.{turns_next}
 use Rattle.interpreter.proofs.Counting.{between_none}
 use Rattle.interpreter.proofs.visits.+visiting.Goals as goal
@@ -40,13 +40,16 @@ visit_numbers-loop-number-preserved g t c =
     let to_high : z ≤ℤ high = first_of (omega (arith, ints), grind (arith, ints)) in
     let longer : c.deref.result.now ≡ z ∷ c.args.point.now = first_of (search rules, search (rules, to_z-of_z)) in
     let go : Progress → Option Progress = steps A (flat_map f (between (z +ℤ pos 1) high)) in
-    let next = turns_next A f z high p whole to_high l.invariant in
-    let done : steps A (f z) p ≡ Some (progress_of c.visit_region.new.state) = ap (λ (q : List ℤ). steps A (flat_map act (extended s region q)) p) (sym longer) ∙ c.in_ok-visit_region.ensures in
+    let next = turns_next A f z high p whole to_high l.invariant.run in
+    let done : steps A (f z) p ≡ Some (progress_of c.visit_region.new.state) = ap (λ (q : List ℤ). steps A (flat_map act (extended s region q)) p) (sym longer) ∙ c.in_ok-visit_region.ensures.run in
     let later : whole ≡ steps A (flat_map f (between (z +ℤ pos 1) high)) (progress_of c.visit_region.new.state) = goes_on (steps A (f z) p) (progress_of c.visit_region.new.state) go whole next done in
-    later ∙ ap (λ (y : ℤ). steps A (flat_map f (between y high)) (progress_of c.visit_region.new.state)) (omega (arith, ints))
+    record {
+      large = record { limits = c.in_ok-visit_region.ensures.large.limits ∙ l.invariant.large.limits; given = c.in_ok-visit_region.ensures.large.given ∙ l.invariant.large.given };
+      run = later ∙ ap (λ (y : ℤ). steps A (flat_map f (between y high)) (progress_of c.visit_region.new.state)) (omega (arith, ints));
+    }
 
-pub visit_numbers-returns-in_err-visit_region : goal.visit_numbers-returns-in_err-visit_region
-visit_numbers-returns-in_err-visit_region g t c =
+pub visit_numbers-returns-in_err-visit_region-clause-run : goal.visit_numbers-returns-in_err-visit_region-clause-run
+visit_numbers-returns-in_err-visit_region-clause-run g t c =
     let w = c.args.walk.now in
     let x = w.piece.now in
     let A = around x (g.C.Cells.cell c.args.cells.now) in
@@ -62,13 +65,18 @@ visit_numbers-returns-in_err-visit_region g t c =
     let to_high : z ≤ℤ high = first_of (omega (arith, ints), grind (arith, ints)) in
     let longer : c.deref.result.now ≡ z ∷ c.args.point.now = first_of (search rules, search (rules, to_z-of_z)) in
     let go : Progress → Option Progress = steps A (flat_map f (between (z +ℤ pos 1) high)) in
-    let next = turns_next A f z high p whole to_high l.invariant in
-    let e = err_from_is_err_and c.from_residual-in_err-visit_region.result c.from_residual-in_err-visit_region.ensures.1 in
-    rw (e.1, e.2) (stops (λ (_ : Unit {0}). progress_of c.visit_region.new.state) (λ (_ : Unit {0}). progress_of c.visit_region.new.state) c.in_err-visit_region.field-0.0 (steps A (flat_map act (extended s region c.deref.result.now)) p) go whole
-    (next ∙ ap (λ (q : List ℤ). with (steps A (flat_map act (extended s region q)) p) go) (sym longer)) c.in_err-visit_region.ensures)
+    let next = turns_next A f z high p whole to_high l.invariant.run in
+    let e = err_from_is_err_and c.from_residual.result c.from_residual.ensures.1 in
+    let later : List Action = flat_map f (between (z +ℤ pos 1) high) in
+    let o : Option Progress = steps A (flat_map act (extended s region c.deref.result.now)) p in
+    let new : Progress = progress_of c.visit_region.new.state in
+    let ended : EndsIn c.args.state.now.given.capacity (λ (_ : Unit {0}). new) (Err c.in_err-visit_region.field-0.0) o =
+    subst (λ (n : ℕ). EndsIn n (λ (_ : Unit {0}). new) (Err c.in_err-visit_region.field-0.0) o) l.invariant.large.given c.in_err-visit_region.ensures.run in
+    rw (e.1, e.2) (stops_in A c.args.state.now.given.capacity new new c.in_err-visit_region.field-0.0 o later whole
+    (next ∙ ap (λ (q : List ℤ). with (steps A (flat_map act (extended s region q)) p) go) (sym longer)) ended)
 
-pub visit_numbers-returns-in_ok-visit_region : goal.visit_numbers-returns-in_ok-visit_region
-visit_numbers-returns-in_ok-visit_region g t c =
+pub visit_numbers-returns-in_ok-visit_region-clause-run : goal.visit_numbers-returns-in_ok-visit_region-clause-run
+visit_numbers-returns-in_ok-visit_region-clause-run g t c =
     let w = c.args.walk.now in
     let x = w.piece.now in
     let A = around x (g.C.Cells.cell c.args.cells.now) in
@@ -84,8 +92,8 @@ visit_numbers-returns-in_ok-visit_region g t c =
     let to_high : z ≤ℤ high = first_of (omega (arith, ints), grind (arith, ints)) in
     let longer : c.deref.result.now ≡ z ∷ c.args.point.now = first_of (search rules, search (rules, to_z-of_z)) in
     let go : Progress → Option Progress = steps A (flat_map f (between (z +ℤ pos 1) high)) in
-    let next = turns_next A f z high p whole to_high l.invariant in
-    let done : steps A (f z) p ≡ Some (progress_of c.visit_region.new.state) = ap (λ (q : List ℤ). steps A (flat_map act (extended s region q)) p) (sym longer) ∙ c.in_ok-visit_region.ensures in
+    let next = turns_next A f z high p whole to_high l.invariant.run in
+    let done : steps A (f z) p ≡ Some (progress_of c.visit_region.new.state) = ap (λ (q : List ℤ). steps A (flat_map act (extended s region q)) p) (sym longer) ∙ c.in_ok-visit_region.ensures.run in
     let later : whole ≡ steps A (flat_map f (between (z +ℤ pos 1) high)) (progress_of c.visit_region.new.state) = goes_on (steps A (f z) p) (progress_of c.visit_region.new.state) go whole next done in
     later ∙ ap (λ (ys : List ℤ). steps A (flat_map f ys) (progress_of c.visit_region.new.state)) (between_none (z +ℤ pos 1) high (omega (arith, ints)))
 
@@ -95,10 +103,10 @@ visit_region-visit_numbers-requires g t c κs within =
     let long : 1 ≤ length r = omega (arith, ltb-false) in
     let short : length (take (length r - 1) r) + 1 ≡ length r = grind (arith, common_steps) in
     let P : Span1 → Type 0 = SpanIsNarrow (symbols_of c.args.walk.now.symbols.now) in
-    (first_of (search rules, omega arith, grind (arith, common_steps)), (search rules, (All-take P (length r - 1) r c.requires.region, c.requires.visit)))
+    (first_of (search rules, omega arith, grind (arith, common_steps)), (search rules, (All-take P (length r - 1) r c.requires.region, (c.requires.visit, omega (arith, c.requires.short)))))
 
-pub visit_region-returns-in-len1-up : goal.visit_region-returns-in-len1-up
-visit_region-returns-in-len1-up g t c =
+pub visit_region-returns-in-len1-up-clause-run : goal.visit_region-returns-in-len1-up-clause-run
+visit_region-returns-in-len1-up-clause-run g t c =
     let w = c.args.walk.now in
     let x = w.piece.now in
     let A = around x (g.C.Cells.cell c.args.cells.now) in
@@ -117,4 +125,4 @@ visit_region-returns-in-len1-up g t c =
     let high : to_z w64 (of_z w64 c.smallest.result) ≡ smallest s span.upper = to_z-of_z w64 c.smallest.result high_fits ∙ c.smallest.ensures in
     let e : flat_map f (between (to_z w64 (of_z w64 c.largest.result)) (to_z w64 (of_z w64 c.smallest.result))) ≡ flat_map act (extended s r point) =
     (λ i. flat_map f (between (low i) (high i))) ∙ sym (actions-last s act outer span point) ∙ ap (λ (xs : List Span1). flat_map act (extended s xs point)) (sym parts) in
-    subst (λ (xs : List Action). Ends (λ _. progress_of c.visit_numbers.new.state) c.visit_numbers.result (steps A xs (progress_of c.args.state.now))) e c.visit_numbers.ensures
+    subst (λ (xs : List Action). EndsIn c.args.state.now.given.capacity (λ _. progress_of c.visit_numbers.new.state) c.visit_numbers.result (steps A xs (progress_of c.args.state.now))) e c.visit_numbers.ensures.run

@@ -2,7 +2,7 @@ use Rattle.std.proofs.Common.{length, ℤ, List, ◌+◌, ◌*◌, ◌∷◌, fl
 use Rattle.actions.specs.Actions.{Action}
 use Rattle.interpreter.specs.Bindings.{symbols_of}
 use Rattle.interpreter.specs.Pieces.{around}
-use Rattle.interpreter.specs.States.{progress_of}
+use Rattle.interpreter.specs.States.{progress_of, IsAsLarge}
 use Rattle.interpreter.specs.Steps.{steps}
 use Rattle.interpreter.specs.Visits.{at_point, between, extended}
 use Rattle.interpreter.proofs.Running.{Comes}
@@ -19,4 +19,7 @@ invariant-visit_numbers-loop-number g l =
     let A = around l.walk.piece.now (g.C.Cells.cell l.cells) in
     let act : List ℤ → List Action = at_point l.walk.piece.now l.walk.visit in
     let f : ℤ → List Action = λ z. flat_map act (extended (symbols_of l.walk.symbols.now) l.region (z ∷ l.point)) in
-    Comes A (steps A (flat_map f (between l.fn.numbers.low l.fn.numbers.high)) (progress_of l.initial.state)) (flat_map f (between l.number l.fn.numbers.high)) (progress_of l.state)
+    record {
+      large : IsAsLarge l.initial.state l.state;
+      run : Comes A (steps A (flat_map f (between l.fn.numbers.low l.fn.numbers.high)) (progress_of l.initial.state)) (flat_map f (between l.number l.fn.numbers.high)) (progress_of l.state);
+    }

@@ -3,12 +3,11 @@ use Rattle.std.specs.Prelude.{if◌then◌else◌}
 use Rattle.lin.specs.declared.span.Span1.{Span1}
 use Rattle.cert.specs.Cells.{is_in_region}
 use Rattle.actions.specs.Actions.{Action, Give}
-use Rattle.evaluation.specs.Outcome.{Ends}
 use Rattle.interpreter.specs.declared.visits.Visit.{Visit}
 use Rattle.interpreter.specs.Bindings.{symbols_of}
 use Rattle.interpreter.specs.Narrow.{RegionIsNarrow}
 use Rattle.interpreter.specs.Pieces.{around}
-use Rattle.interpreter.specs.States.{progress_of}
+use Rattle.interpreter.specs.States.{progress_of, EndsIn}
 use Rattle.interpreter.specs.Steps.{steps}
 use Rattle.interpreter.specs.Visits.{at_point, VisitIsNarrow}
 use Rattle.interpreter.proofs.visits.visit_point.Goals as goal
@@ -18,8 +17,8 @@ is_in_region-requires g c =
     let x = c.args.walk.now.piece.now in
     subst (λ (r : List Span1). RegionIsNarrow (symbols_of x.constants.now) r) (sym c.as_slice-region.ensures) (subst (λ (v : Visit). VisitIsNarrow x v) c.in-Publish.is c.requires)
 
-pub returns-then-is_in_region : goal.returns-then-is_in_region
-returns-then-is_in_region g c =
+pub returns-then-is_in_region-clause-run : goal.returns-then-is_in_region-clause-run
+returns-then-is_in_region-clause-run g c =
     let x = c.args.walk.now.piece.now in
     let p = c.args.point.now in
     let cell = g.C.Cells.cell c.args.cells.now in
@@ -27,4 +26,4 @@ returns-then-is_in_region g c =
     ap (λ (r : List Span1). is_in_region (symbols_of x.constants.now) r p) (sym c.as_slice-region.ensures) ∙ sym c.is_in_region.ensures ∙ c.if-is_in_region.true in
     let e : at_point x c.args.walk.now.visit p ≡ Give c.in-Publish.claim p ∷ [] =
     ap (λ (v : Visit). at_point x v p) c.in-Publish.is ∙ ap (λ (b : Bool). if b then Give c.in-Publish.claim p ∷ [] else []) inside in
-    subst (λ (l : List Action). Ends (λ _. progress_of c.give.new.state) c.give.result (steps (around x cell) l (progress_of c.args.state.now))) (sym e) (c.give.ensures cell)
+    subst (λ (l : List Action). EndsIn c.args.state.now.given.capacity (λ _. progress_of c.give.new.state) c.give.result (steps (around x cell) l (progress_of c.args.state.now))) (sym e) (c.give.ensures.give cell)

@@ -3,7 +3,8 @@ use Rattle.std.specs.Prelude.{fold}
 use Rattle.tree.specs.Term.{term_of}
 use Rattle.scoping.specs.Standing.{calls_of}
 use Rattle.lin.specs.declared.span.Span1.{Span1}
-use Rattle.needs.specs.Regions.{regions_of, with_region}
+use Rattle.projection.specs.Unions.{with_region}
+use Rattle.needs.specs.Regions.{regions_of}
 use Rattle.needs.proofs.Unions.{fold_of_call}
 use Rattle.needs.proofs.calls.+calls.Goals as goal
 
@@ -11,8 +12,8 @@ pub with_calls-returns-in_ok-here-in-Call : goal.with_calls-returns-in_ok-here-i
 with_calls-returns-in_ok-here-in-Call g t c =
     let fs = g.N.Names.functions c.args.names.now in
     let vars = map (λ x. x.now) c.args.vars.now in
-    let is = fold_of_call c.args.scope.now fs vars c.args.region.now c.args.callee.now c.args.known c.in_ok-here-in-Call.here c.in-Call.name c.in-Call.at c.in-Call.span c.as_str.result.now c.deref.result.now c.deref-in-Call.result.now
+    let is = fold_of_call c.args.sought.now.scope.now fs vars c.args.region.now c.args.sought.now.inner.now c.args.sought.now.callee.now c.args.known c.in_ok-here-in-Call.here c.in-Call.name c.in-Call.at c.in-Call.span c.as_str.result.now c.deref.result.now c.deref-in-Call.result.now
     c.as_str.ensures.value c.deref.ensures.value c.deref-in-Call.ensures.value c.in_ok-here-in-Call.ensures
-    ∙ ap (λ e. fold (with_region c.args.scope.now) c.args.known (regions_of c.args.scope.now fs vars c.args.region.now c.args.callee.now (calls_of (term_of e)))) (sym c.in-Call.is) in
+    ∙ ap (λ e. fold (with_region c.args.sought.now.scope.now) c.args.known (regions_of c.args.sought.now.scope.now fs vars c.args.region.now c.args.sought.now.inner.now c.args.sought.now.callee.now (calls_of (term_of e)))) (sym c.in-Call.is) in
     let P : Option (List Span1) → Type 0 = λ x. IfOk c.with_calls_of_all.result (λ found. found ≡ x) in
     subst P is c.with_calls_of_all.ensures

@@ -1,7 +1,7 @@
 use Rattle.std.proofs.Common.{◌≡◌, drop, map}
 use Rattle.tree.specs.Term.{list_terms, indices}
 use Rattle.needs.specs.Regions.{spans_at}
-use Rattle.needs.proofs.Unions.{behind}
+use Rattle.projection.proofs.RegionLemmas.{behind}
 use Rattle.needs.proofs.calls.spans_at.Given as goal
 
 -- what was made before what is left is the whole

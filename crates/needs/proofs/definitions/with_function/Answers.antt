@@ -8,7 +8,7 @@ use Rattle.needs.proofs.definitions.with_function.Goals as goal
 pub loop-update-preserved : goal.loop-update-preserved
 loop-update-preserved c =
     let defined = c.function_at.result.1.now in
-    one_update c.args.scope.now (update_regions c.args.scope.now (algorithm_of c.args.algo.now) c.args.function c.args.callee.now c.args.region.now (names_of defined.variables.items))
+    one_update c.args.sought.now.scope.now (update_regions c.args.sought.now.scope.now c.args.sought.now.inner.now (algorithm_of c.args.algo.now) c.args.function c.args.sought.now.callee.now c.args.region.now (names_of defined.variables.items))
     defined.updates.items c.deref-update-items.result.now c.loop-update.update-index c.update-item.result c.loop-update.found c.in_ok-found-2.found
     c.deref-update-items.ensures.value c.loop-update-test.true c.update-item.is c.in_ok-found-2.ensures
     ∙ c.loop-update.invariant

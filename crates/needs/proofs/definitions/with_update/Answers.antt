@@ -15,6 +15,6 @@ returns c =
     let right = ap (map (λ x. x.now)) c.deref-8.ensures.value ∙ named in
     let spans = c.in_ok-spans.ensures ∙ ap (λ rs. with_domain c.args.region.now (map range_of rs)) c.deref-3.ensures.value in
     let next : c.args.function + 1 ≡ suc c.args.function = omega arith in
-    subst P (update_fold c.args.scope.now (algorithm_of c.args.algo.now) c.args.function c.args.callee.now c.args.region.now (names_of c.args.defined.now.variables.items)
+    subst P (update_fold c.args.sought.now.scope.now c.args.sought.now.inner.now (algorithm_of c.args.algo.now) c.args.function c.args.sought.now.callee.now c.args.region.now (names_of c.args.defined.now.variables.items)
     (map (λ x. x.now) c.deref-5.result.now) (map (λ x. x.now) c.deref-8.result.now) (change_of c.args.update.now) (list_terms c.deref-6.result.now) (c.args.function + 1) c.in_ok-spans.spans c.args.known c.in_ok-found.found
     left right (ap list_terms c.deref-6.ensures.value) next spans c.in_ok-found.ensures) c.with_calls.ensures

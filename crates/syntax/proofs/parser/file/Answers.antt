@@ -3,6 +3,8 @@ use Rattle.std.proofs.lemmas.Result.{IfOk-weaker}
 use Rattle.token.specs.Cursor.{kinds}
 use Rattle.syntax.specs.Standing.{NamesStand}
 use Rattle.syntax.proofs.Wants.{behind_word}
+use Rattle.syntax.specs.Marks.{AreMarked, file_marks}
+use Rattle.syntax.proofs.Marked.{close, in_all, join, name_placed, skip}
 use Rattle.syntax.proofs.parser.file.Goals as goal
 
 pub returns-clause-stands : goal.returns-clause-stands
@@ -31,3 +33,11 @@ returns-in_err-output-clause-memory c = behind_word _ (kinds c.args.tokens.now) 
 
 pub returns-clause-memory : goal.returns-clause-memory
 returns-clause-memory c = behind_word _ (kinds c.args.tokens.now) (kinds c.in_ok-rest.rest.now) c.in_ok-rest.ensures.read
+
+pub returns-clause-placed : goal.returns-clause-placed
+returns-clause-placed c =
+    IfOk-weaker c.ended.result _ _ (λ f is.
+    let n = c.in_ok-name.ensures in
+    let name = skip c.in_ok-rest.ensures.placed (name_placed c.in_ok-rest.rest.now c.in_ok-name.rest.now c.in_ok-name.name n.read n.at n.rest) in
+    let placed = join (join (join (close name c.in_ok-rest-2.ensures.placed) c.in_ok-input.ensures.placed) c.in_ok-statements.ensures.placed) c.in_ok-output.ensures.placed in
+    subst (λ g. AreMarked (file_marks g) c.args.tokens.now) (sym is) (in_all _ c.args.tokens.now _ placed)) c.ended.ensures.found

@@ -4,6 +4,7 @@ use Rattle.token.specs.Cursor.{kinds}
 use Rattle.tree.specs.Term.{term_of}
 use Rattle.syntax.specs.Reading.{expression}
 use Rattle.syntax.proofs.Standing.{after_kept}
+use Rattle.syntax.proofs.Marked.{after_part, left_out}
 use Rattle.syntax.proofs.Turns.{items_end, item_stops, items_go_on, items_are_done, map_pushed}
 use Rattle.syntax.proofs.parser.more_expressions.Goals as goal
 
@@ -22,6 +23,8 @@ loop-preserved c =
     record {
       read = rw pushed (items_go_on expression (length c.args.tokens.now) c.loop.counter (map term_of c.loop.found.items) (kinds c.loop.rest.now) _ c.loop.invariant.read (term_of c.in_ok-item.item) (kinds c.in-Some.next.now) (kinds c.in_ok-item.left.now) c.loop-test.true c.in-Some.ensures.kinds c.in_ok-item.ensures.read);
       kept = λ text h. c.in_ok-item.ensures.kept text (after_kept text c.loop.rest.now c.in-Some.next.now c.in-Some.ensures.rest (c.loop.invariant.kept text h));
+      placed = after_part [] [] c.args.tokens.now c.loop.rest.now c.in_ok-item.left.now c.loop.invariant.placed
+          (after_part [] [] c.loop.rest.now c.in-Some.next.now c.in_ok-item.left.now (left_out 1 c.loop.rest.now c.in-Some.next.now c.in-Some.ensures.rest) c.in_ok-item.ensures.placed);
     }
 
 pub returns-clause-read : goal.returns-clause-read

@@ -1,7 +1,8 @@
-use Rattle.std.proofs.Common.{◌≡◌, ℕ, List, ◌-◌, length, map}
+use Rattle.std.proofs.Common.{◌≡◌, ℕ, List, [], ◌-◌, length, map}
 use Rattle.token.specs.Cursor.{kinds}
 use Rattle.tree.specs.Term.{term_of}
 use Rattle.syntax.specs.Standing.{AreOf}
+use Rattle.syntax.specs.Marks.{StandIn}
 use Rattle.syntax.specs.Reading.{more_of, expression}
 use Rattle.syntax.proofs.parser.more_expressions.Given as goal
 
@@ -9,4 +10,5 @@ abbrev pub invariant-loop : goal.invariant-loop
 invariant-loop l = record {
   read : more_of expression (length l.tokens - l.counter) (map term_of l.found.items) (kinds l.rest) ≡ more_of expression (length l.tokens) (map term_of l.initial.found.items) (kinds l.tokens);
   kept : (text : List ℕ) → AreOf text l.tokens → AreOf text l.rest;
+  placed : StandIn [] l.tokens l.rest;
 }

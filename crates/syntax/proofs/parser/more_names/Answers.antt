@@ -1,11 +1,14 @@
 use Rattle.std.proofs.Common.{◌≡◌, ◌++◌, ◌∷◌, [], length, map, ap, ◌∙◌, All, subst, sym}
 use Rattle.std.proofs.lemmas.Result.{err_from_is_err_and}
 use Rattle.std.proofs.lemmas.List.Elements.{All-push}
+use Rattle.std.specs.List.{flat_map}
 use Rattle.token.specs.Cursor.{kinds}
 use Rattle.syntax.specs.View.{named_text}
 use Rattle.syntax.specs.Reading.{name}
 use Rattle.syntax.specs.Standing.{StandsAt}
 use Rattle.syntax.proofs.Standing.{after_kept}
+use Rattle.syntax.specs.Marks.{StandIn, named_marks}
+use Rattle.syntax.proofs.Marked.{after_part, left_out, marks_pushed, name_placed}
 use Rattle.syntax.proofs.Turns.{items_end, item_stops, items_go_on, items_are_done, map_pushed}
 use Rattle.syntax.proofs.parser.more_names.Goals as goal
 
@@ -27,6 +30,11 @@ loop-preserved c =
           let before = c.loop.invariant.stands text h k in
           let now = c.in_ok-item.ensures.stands text (after_kept text c.loop.rest.now c.in-Some.next.now c.in-Some.ensures.rest before.0) in
           (now.0, subst (All (StandsAt text)) (sym c.in_ok-push.ensures.items) (All-push (StandsAt text) c.loop.found.items c.in_ok-item.item before.1 now.1));
+      placed = λ before h.
+          let own = name_placed c.in-Some.next.now c.in_ok-item.left.now c.in_ok-item.item c.in_ok-item.ensures.read c.in_ok-item.ensures.at c.in_ok-item.ensures.rest in
+          let item = after_part [] (named_marks c.in_ok-item.item) c.loop.rest.now c.in-Some.next.now c.in_ok-item.left.now (left_out 1 c.loop.rest.now c.in-Some.next.now c.in-Some.ensures.rest) own in
+          subst (λ ms. StandIn ms before c.in_ok-item.left.now) (sym (marks_pushed named_marks c.loop.found.items c.push.new.self.items c.in_ok-item.item c.in_ok-push.ensures.items))
+          (after_part (flat_map named_marks c.loop.found.items) (named_marks c.in_ok-item.item) before c.loop.rest.now c.in_ok-item.left.now (c.loop.invariant.placed before h) item);
     }
 
 pub returns-clause-read : goal.returns-clause-read

@@ -1,7 +1,10 @@
 use Rattle.std.proofs.Common.{◌≡◌, ℕ, List, ◌-◌, length, map}
+use Rattle.std.specs.List.{flat_map}
+use Rattle.token.specs.declared.token.Lexeme.{Lexeme}
 use Rattle.token.specs.Cursor.{kinds}
 use Rattle.syntax.specs.View.{extent_text}
 use Rattle.syntax.specs.Standing.{AreOf}
+use Rattle.syntax.specs.Marks.{StandIn, extent_marks}
 use Rattle.syntax.specs.Reading.{more_of, number}
 use Rattle.syntax.proofs.parser.more_numbers.Given as goal
 
@@ -9,4 +12,5 @@ abbrev pub invariant-loop : goal.invariant-loop
 invariant-loop l = record {
   read : more_of number (length l.tokens - l.counter) (map extent_text l.found.items) (kinds l.rest) ≡ more_of number (length l.tokens) (map extent_text l.initial.found.items) (kinds l.tokens);
   kept : (text : List ℕ) → AreOf text l.tokens → AreOf text l.rest;
+  placed : (before : List Lexeme) → StandIn (flat_map extent_marks l.initial.found.items) before l.tokens → StandIn (flat_map extent_marks l.found.items) before l.rest;
 }

@@ -1,11 +1,14 @@
 use Rattle.std.proofs.Common.{◌≡◌, ◌++◌, ◌∷◌, [], length, map, ap, ◌∙◌, All, Option, IfSome, subst, sym}
 use Rattle.std.proofs.lemmas.Result.{err_from_is_err_and}
 use Rattle.std.proofs.lemmas.List.Elements.{All-push}
+use Rattle.std.specs.List.{flat_map}
 use Rattle.token.specs.Cursor.{kinds}
 use Rattle.syntax.specs.declared.statement.Statement.{Statement}
 use Rattle.syntax.specs.View.{statement_text}
 use Rattle.syntax.specs.Reading.{statement}
 use Rattle.syntax.specs.Standing.{StatementStands}
+use Rattle.syntax.specs.Marks.{StandIn, found_marks, statement_marks}
+use Rattle.syntax.proofs.Marked.{after_part, marks_pushed, passed}
 use Rattle.syntax.proofs.Turns.{statements_end, statement_stops, statements_go_on, statements_are_done, map_pushed, seen_none, seen_some}
 use Rattle.syntax.proofs.parser.statements.Goals as goal
 
@@ -30,6 +33,10 @@ loop-preserved c =
           let now = c.in_ok-item.ensures.stands text before.0 in
           let this = subst (λ (o : Option Statement). IfSome o (StatementStands text)) c.in-Some.is now.1 in
           (now.0, subst (All (StatementStands text)) (sym c.in_ok-push.ensures.items) (All-push (StatementStands text) c.loop.found.items c.in-Some.next before.1 this));
+      placed =
+          let this = subst (λ (o : Option Statement). StandIn (found_marks o) c.loop.rest.now c.in_ok-item.left.now) c.in-Some.is c.in_ok-item.ensures.placed in
+          subst (λ ms. StandIn ms c.args.tokens.now c.in_ok-item.left.now) (sym (marks_pushed statement_marks c.loop.found.items c.push.new.self.items c.in-Some.next c.in_ok-push.ensures.items))
+          (after_part (flat_map statement_marks c.loop.found.items) (statement_marks c.in-Some.next) c.args.tokens.now c.loop.rest.now c.in_ok-item.left.now c.loop.invariant.placed this);
     }
 
 pub returns-clause-read : goal.returns-clause-read
@@ -40,3 +47,8 @@ returns-in_default-clause-stands c text h =
     let before = c.loop.invariant.stands text h in
     let now = c.in_ok-item.ensures.stands text before.0 in
     (now.0, before.1)
+
+pub returns-in_default-clause-placed : goal.returns-in_default-clause-placed
+returns-in_default-clause-placed c =
+    let none = subst (λ (o : Option Statement). StandIn (found_marks o) c.loop.rest.now c.in_ok-item.left.now) c.in_default.is c.in_ok-item.ensures.placed in
+    passed (flat_map statement_marks c.loop.found.items) c.args.tokens.now c.loop.rest.now c.in_ok-item.left.now c.loop.invariant.placed none

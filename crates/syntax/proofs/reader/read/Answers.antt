@@ -6,6 +6,7 @@ use Rattle.syntax.specs.View.{file_text}
 use Rattle.syntax.specs.Reading.{file}
 use Rattle.syntax.specs.Places.{fault, IsRefused}
 use Rattle.syntax.specs.Standing.{AreOf}
+use Rattle.syntax.specs.Marks.{AreMarked, file_marks}
 use Rattle.syntax.proofs.Sound.{file_sound}
 use Rattle.syntax.proofs.Wants.{token_stands}
 use Rattle.syntax.proofs.Texts.{nothing_else, refused_as}
@@ -30,6 +31,14 @@ pub returns-in-Ok-clause-stands : goal.returns-in-Ok-clause-stands
 returns-in-Ok-clause-stands c =
     let text = c.args.text.now in
     c.in-Ok.ensures.stands text (subst (AreOf text) (sym c.deref.ensures.value) (record { slices = c.in_ok-lexemes.ensures.slices }))
+
+pub returns-in-Ok-clause-placed : goal.returns-in-Ok-clause-placed
+returns-in-Ok-clause-placed c =
+    record {
+      lexemes = c.in_ok-lexemes.lexemes.items;
+      tokens = c.in_ok-lexemes.ensures.found;
+      marked = subst (AreMarked (file_marks c.in-Ok.found)) c.deref.ensures.value c.in-Ok.ensures.placed;
+    }
 
 pub returns-clause-refused : goal.returns-clause-refused
 returns-clause-refused c =

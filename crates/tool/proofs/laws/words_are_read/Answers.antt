@@ -11,6 +11,18 @@ pub returns-clause-plain : goal.returns-clause-plain
 unfolding clap_on_literals
 returns-clause-plain c = (refl, refl)
 
+pub returns-clause-run : goal.returns-clause-run
+unfolding clap_on_literals
+returns-clause-run c = (refl, refl)
+
+pub returns-clause-check : goal.returns-clause-check
+unfolding clap_on_literals
+returns-clause-check c = (refl, refl)
+
+pub returns-clause-replay : goal.returns-clause-replay
+unfolding clap_on_literals
+returns-clause-replay c = (refl, refl)
+
 pub returns-clause-help : goal.returns-clause-help
 unfolding clap_on_literals
 returns-clause-help c = (inl refl, inl refl, inl refl)

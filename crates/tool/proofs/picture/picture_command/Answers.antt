@@ -9,21 +9,41 @@ use Rattle.algo.specs.View.{algorithm_of, picture_said, samples_of}
 use Rattle.pnm.specs.Reading.{reading, wanted_of}
 use Rattle.pnm.specs.Text.{text_of}
 use Rattle.tool.proofs.Kept.{held_before, of_device, others_then, same_then}
-use Rattle.tool.proofs.Prepared.{ready_by, stopped_by}
+use Rattle.tool.proofs.Prepared.{ready_before, ready_by, stopped_by, unready_before}
 use Rattle.tool.specs.Means.{IsHalted}
-use Rattle.tool.specs.Pictures.{IsImageFault}
+use Rattle.tool.specs.Pictures.{IsImageFault, IsUnready}
 use Rattle.tool.proofs.picture.picture_command.Goals as goal
+
+pub returns-in_err-means-clause-refused : goal.returns-in_err-means-clause-refused
+returns-in_err-means-clause-refused g c =
+    let p = err_from_is_err_and c.from_residual-in_err-means.result c.from_residual-in_err-means.ensures.1 in
+    let before = same_then _ _ _ c.get.ensures.same c.means_of.ensures.same in
+    let a : Algorithm = algorithm_of c.in_ok-algo.algo in
+    let IsText : List ℕ → Type 0 = λ bytes. IsAlgorithmText bytes a in
+    let refused : IsUnready (g.F.Files.contents c.get.new.self) _ a p.0 = rw p.2 c.in_err-means.ensures.refused in
+    rw p.1 (inl (
+      before,
+      inr (inr (inl (record {
+        text = c.in_ok-text.text.items;
+        algorithm = a;
+        holds_text = c.in_ok-text.ensures.bytes;
+        is_text = subst IsText c.as_slice.ensures.value c.in_ok-algo.ensures.said;
+        refused = unready_before _ _ _ a _ c.get.ensures.same refused;
+      }))),
+    ))
 
 pub returns-in_err-bytes-clause-refused : goal.returns-in_err-bytes-clause-refused
 returns-in_err-bytes-clause-refused g c =
     let p = err_from_is_err_and c.from_residual-in_err-bytes.result c.from_residual-in_err-bytes.ensures.1 in
-    let same = same_then _ _ _ c.get.ensures.same c.get-2.ensures.same in
+    let before = same_then _ _ _ c.get.ensures.same c.means_of.ensures.same in
+    let same = same_then _ _ _ before c.get-2.ensures.same in
     rw p.1 (inl (same, inl (of_device _ _ p.2)))
 
 pub returns-in_err-inputs-clause-refused : goal.returns-in_err-inputs-clause-refused
 returns-in_err-inputs-clause-refused g c =
     let p = err_from_is_err_and c.from_residual-in_err-inputs.result c.from_residual-in_err-inputs.ensures.1 in
-    let same = same_then _ _ _ c.get.ensures.same c.get-2.ensures.same in
+    let before = same_then _ _ _ c.get.ensures.same c.means_of.ensures.same in
+    let same = same_then _ _ _ before c.get-2.ensures.same in
     let a : Algorithm = algorithm_of c.in_ok-algo.algo in
     let IsText : List ℕ → Type 0 = λ bytes. IsAlgorithmText bytes a in
     let IsFault : List ℕ → Type 0 = λ bytes. IsImageFault (input_frame a) bytes p.0 in
@@ -36,8 +56,8 @@ returns-in_err-inputs-clause-refused g c =
         image = c.in_ok-bytes.bytes.items;
         holds_text = c.in_ok-text.ensures.bytes;
         is_text = subst IsText c.as_slice.ensures.value c.in_ok-algo.ensures.said;
-        ready = ready_by _ a _ c.in_ok-means.ensures.means;
-        holds_image = held_before _ _ _ _ c.get.ensures.same c.in_ok-bytes.ensures.bytes;
+        ready = ready_before _ _ _ a c.get.ensures.same (ready_by _ _ a _ c.in_ok-means.ensures.means);
+        holds_image = held_before _ _ _ _ before c.in_ok-bytes.ensures.bytes;
         refused = subst IsFault c.as_slice-2.ensures.value refused;
       })))),
     ))
@@ -45,7 +65,8 @@ returns-in_err-inputs-clause-refused g c =
 pub returns-in_err-file-clause-refused : goal.returns-in_err-file-clause-refused
 returns-in_err-file-clause-refused g c =
     let p = err_from_is_err_and c.from_residual-in_err-file.result c.from_residual-in_err-file.ensures.1 in
-    let same = same_then _ _ _ c.get.ensures.same c.get-2.ensures.same in
+    let before = same_then _ _ _ c.get.ensures.same c.means_of.ensures.same in
+    let same = same_then _ _ _ before c.get-2.ensures.same in
     let a : Algorithm = algorithm_of c.in_ok-algo.algo in
     let samples : List ℕ = samples_of c.in_ok-inputs.inputs in
     let IsText : List ℕ → Type 0 = λ bytes. IsAlgorithmText bytes a in
@@ -60,16 +81,17 @@ returns-in_err-file-clause-refused g c =
         samples = samples;
         holds_text = c.in_ok-text.ensures.bytes;
         is_text = subst IsText c.as_slice.ensures.value c.in_ok-algo.ensures.said;
-        holds_image = held_before _ _ _ _ c.get.ensures.same c.in_ok-bytes.ensures.bytes;
+        holds_image = held_before _ _ _ _ before c.in_ok-bytes.ensures.bytes;
         is_image = subst IsImage c.as_slice-2.ensures.value c.in_ok-inputs.ensures.read;
-        refused = stopped_by _ a _ samples _ (ap algorithm_of c.in_ok-means.ensures.algo) c.in_ok-means.ensures.means halted;
+        refused = stopped_by _ _ a _ samples _ (ap algorithm_of c.in_ok-means.ensures.algo) c.in_ok-means.ensures.means halted;
       })))),
     ))
 
 pub returns-in_err-put-clause-refused : goal.returns-in_err-put-clause-refused
 returns-in_err-put-clause-refused g c =
     let p = err_from_is_err_and c.from_residual-in_err-put.result c.from_residual-in_err-put.ensures.1 in
-    let same = same_then _ _ _ c.get.ensures.same c.get-2.ensures.same in
+    let before = same_then _ _ _ c.get.ensures.same c.means_of.ensures.same in
+    let same = same_then _ _ _ before c.get-2.ensures.same in
     let a : Algorithm = algorithm_of c.in_ok-algo.algo in
     let samples : List ℕ = samples_of c.in_ok-inputs.inputs in
     let IsText : List ℕ → Type 0 = λ bytes. IsAlgorithmText bytes a in
@@ -87,8 +109,8 @@ returns-in_err-put-clause-refused g c =
           samples = samples;
           holds_text = c.in_ok-text.ensures.bytes;
           is_text = subst IsText c.as_slice.ensures.value c.in_ok-algo.ensures.said;
-          ready = ready_by _ a _ c.in_ok-means.ensures.means;
-          holds_image = held_before _ _ _ _ c.get.ensures.same c.in_ok-bytes.ensures.bytes;
+          ready = ready_before _ _ _ a c.get.ensures.same (ready_by _ _ a _ c.in_ok-means.ensures.means);
+          holds_image = held_before _ _ _ _ before c.in_ok-bytes.ensures.bytes;
           is_image = subst IsImage c.as_slice-2.ensures.value c.in_ok-inputs.ensures.read;
           whole = c.in_ok-file.ensures.written ∙ ap file_of c.in_ok-means.ensures.algo;
         },
@@ -97,7 +119,8 @@ returns-in_err-put-clause-refused g c =
 
 pub returns-clause-done : goal.returns-clause-done
 returns-clause-done g c =
-    let same = same_then _ _ _ c.get.ensures.same c.get-2.ensures.same in
+    let before = same_then _ _ _ c.get.ensures.same c.means_of.ensures.same in
+    let same = same_then _ _ _ before c.get-2.ensures.same in
     let a : Algorithm = algorithm_of c.in_ok-algo.algo in
     let samples : List ℕ = samples_of c.in_ok-inputs.inputs in
     let IsText : List ℕ → Type 0 = λ bytes. IsAlgorithmText bytes a in
@@ -111,8 +134,8 @@ returns-clause-done g c =
         samples = samples;
         holds_text = c.in_ok-text.ensures.bytes;
         is_text = subst IsText c.as_slice.ensures.value c.in_ok-algo.ensures.said;
-        ready = ready_by _ a _ c.in_ok-means.ensures.means;
-        holds_image = held_before _ _ _ _ c.get.ensures.same c.in_ok-bytes.ensures.bytes;
+        ready = ready_before _ _ _ a c.get.ensures.same (ready_by _ _ a _ c.in_ok-means.ensures.means);
+        holds_image = held_before _ _ _ _ before c.in_ok-bytes.ensures.bytes;
         is_image = subst IsImage c.as_slice-2.ensures.value c.in_ok-inputs.ensures.read;
         whole = c.as_slice-3.ensures.value ∙ c.in_ok-file.ensures.written ∙ ap file_of c.in_ok-means.ensures.algo;
       },

@@ -7,9 +7,9 @@ use Rattle.tool.proofs.program.tool.Goals as goal
 pub returns-in-Ok-clause-command : goal.returns-in-Ok-clause-command
 returns-in-Ok-clause-command g c = λ some. inl (record {
   asked = asked_by c.in-Ok.request;
-  outcome = c.picture_command.result;
+  outcome = c.command.result;
   asks = c.in-Ok.ensures;
-  ends = ends_of _ _ c.picture_command.result c.picture_command.ensures.done c.picture_command.ensures.refused;
+  ends = c.command.ensures;
   answer = c.answer-in-Ok.ensures;
 })
 

@@ -1,4 +1,4 @@
-use Rattle.std.proofs.Common.{◌∙◌, ap, sym, subst, List, map, option_and_then, inl}
+use Rattle.std.proofs.Common.{◌∙◌, ap, sym, subst, List, map, option_and_then, inl, inr}
 use Rattle.std.proofs.lemmas.Result.{err_from_is_err_and}
 use Rattle.clap.specs.Words.{App, HasKind, Text, fault_of, is_simple, is_simple_and_free, subcommand_of}
 use Rattle.tool.proofs.Named.{line_is_free, line_is_simple}
@@ -21,3 +21,10 @@ returns-in-Some c =
     let none = c.in_ok-matches.ensures.kinds (ap is_simple_and_free c.in_ok-command.ensures ∙ line_is_free) in
     let found = (c.in_ok-matches.ensures.ok.2 (ap is_simple c.in_ok-command.ensures ∙ line_is_simple)).1 in
     (sym (ap fault_at c.in_ok-command.ensures) ∙ none, sym (ap found_at c.in_ok-command.ensures) ∙ sym (ap (option_and_then asked_of_command) found) ∙ sym c.in-Some.ensures)
+
+pub returns : goal.returns
+returns c =
+    let words : List Text = map (λ word. word.now) c.args.words.now in
+    let found_at : App → _ = λ app. option_and_then asked_of_command (subcommand_of app words) in
+    let found = (c.in_ok-matches.ensures.ok.2 (ap is_simple c.in_ok-command.ensures ∙ line_is_simple)).1 in
+    inr (c.in_ok-error-in-None.ensures.kind, sym (ap found_at c.in_ok-command.ensures) ∙ sym (ap (option_and_then asked_of_command) found) ∙ sym c.in-None.ensures)

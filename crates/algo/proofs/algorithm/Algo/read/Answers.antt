@@ -1,6 +1,8 @@
-use Rattle.std.proofs.Common.{map, IfErr, rules}
+use Rattle.std.proofs.Common.{map, inr, IfErr, rules}
+use Rattle.std.proofs.lemmas.Result.{IfErr-weaker}
 use Rattle.syntax.specs.View.{statement_text}
-use Rattle.algo.specs.Refusal.{IsRefusedText}
+use Rattle.algo.specs.Refusal.{IsRefusedPlace, IsRefusedText}
+use Rattle.algo.specs.Faults.{TellsOfFile}
 use Rattle.algo.proofs.Exclusion.{error_excludes}
 use Rattle.algo.proofs.Small.{all_small}
 use Rattle.algo.proofs.algorithm.Algo.read.Goals as goal
@@ -17,3 +19,9 @@ pub returns-clause-only : goal.returns-clause-only
 returns-clause-only c =
     let refused : IfErr c.read_file.result (IsRefusedText c.args.text.now) = search rules in
     error_excludes c.args.text.now c.read_file.result refused
+
+pub returns-clause-place : goal.returns-clause-place
+returns-clause-place c =
+    let file = c.in_ok-file.file in
+    let read = c.in_ok-file.ensures in
+    IfErr-weaker c.read_file.result (TellsOfFile file) (IsRefusedPlace c.args.text.now) (λ e h. inr (record { file = file; found = read.found; only = read.only; stands = read.stands; placed = read.placed; fault = h })) c.read_file.ensures.place

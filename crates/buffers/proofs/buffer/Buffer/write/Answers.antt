@@ -13,5 +13,5 @@ returns-in-Some-clause-set c =
     let rooms : List Room = map room_of c.self.inside.rooms.items in
     let places = c.self.inside.places.items in
     let P : List CodeRoom → Type 0 = λ code. LiesAt (map room_of code) c.args.at.now c.in-Some.number in
-    let Q : Block → Type 0 = λ old. IsSetAt old (record { number = number; rooms = rooms; places = set places c.in-Some.number (Some c.args.value) }) c.args.at.now c.args.value in
-    subst Q c.self.view_is (set_at_number number rooms places c.args.at.now c.in-Some.number c.args.value c.self.invariant.0 (subst P c.deref.ensures.value c.in-Some.ensures))
+    let Q : Block → Type 0 = λ old. IsSetAt old (record { number = number; limit = c.self.inside.limit; used = c.self.inside.is_used; rooms = rooms; places = set places c.in-Some.number (Some c.args.value) }) c.args.at.now c.args.value in
+    subst Q c.self.view_is (set_at_number number c.self.inside.limit c.self.inside.is_used rooms places c.args.at.now c.in-Some.number c.args.value c.self.invariant.0 (subst P c.deref.ensures c.in-Some.ensures))

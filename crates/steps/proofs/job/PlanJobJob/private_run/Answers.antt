@@ -9,7 +9,7 @@ use Rattle.audit.specs.View.{algorithm_checked, plan_checked, certificate_checke
 use Rattle.pieces.specs.Work.{work_of}
 use Rattle.headline.specs.Shown.{Shown}
 use Rattle.interpreter.specs.Outcome.{piece_gives}
-use Rattle.steps.proofs.Accepted.{same_extents}
+use Rattle.steps.proofs.Accepted.{listed, same_extents}
 use Rattle.steps.proofs.Runs.{answers, moved, narrow_here, run_here}
 use Rattle.steps.proofs.Walks.{group_is}
 use Rattle.steps.proofs.job.PlanJobJob.private_run.Goals as goal
@@ -79,3 +79,6 @@ returns-in-Err-Fault c =
     let here = run ∙ (λ j. (work_of (ea j) (ep j) (ec j) (es j)).private_run c.args.piece c.args._looked.now) in
     let none : piece_gives p cert samples (answers a) c.place_of-place.result.group c.as_slice.result.now ≡ None = rw c.in-Err-Fault.field-0-is at c.in-Err-Fault.ensures in
     sym none ∙ here
+
+pub own-most-requires : goal.own-most-requires
+own-most-requires c = listed c.args.self.now.checked.now c.args.self.now.inputs.now c.args.piece c.requires

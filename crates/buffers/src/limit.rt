@@ -1,0 +1,8 @@
+//! How many places a buffer may come to have.
+
+/// The number of a buffer, and for how many places there is memory.
+#[derive(Clone, Copy, Debug, PartialEq, Eq, Drop)]
+pub struct Limit {
+    pub buffer: u32,
+    pub places: usize,
+}

@@ -1,0 +1,5 @@
+pub mod Lines
+pub mod Spelling
+pub mod Order
+pub mod Reading
+pub mod Notation

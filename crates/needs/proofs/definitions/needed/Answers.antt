@@ -1,9 +1,0 @@
-use Rattle.std.proofs.Common.{sym, ◌∙◌}
-use Rattle.algo.specs.View.{algorithm_of}
-use Rattle.needs.proofs.NeededSound.{contains-needed}
-use Rattle.needs.proofs.definitions.needed.Goals as goal
-
-pub returns-in-Some-clause-sound : goal.returns-in-Some-clause-sound
-returns-in-Some-clause-sound c =
-    contains-needed (algorithm_of c.args.algo.now) c.args.algo.now.well_formed c.args.function c.args.scope.now c.args.callee.now c.args.region.now c.in-Some.found c.requires
-    (sym c.in_ok-found.ensures ∙ c.in-Some.is)

@@ -1,0 +1,13 @@
+mod Accepted
+mod Computed
+mod Coordinates
+mod Counted
+mod Fetched
+mod Filled
+mod Near
+mod Ordered
+mod Right
+mod Same
+mod Steps
+mod Touched
+mod Visits

@@ -1,0 +1,97 @@
+-- What is done, and what stands after a refusal, step by step of the way from a text and a plan file to a picture.
+use Rattle.std.proofs.Common.{◌≡◌, inl, inr, ℕ, List, [], Option, Err, refl, sym, subst}
+use Rattle.std.specs.Io.KnownBytes.{Appends}
+use Rattle.std.proofs.KnownBytes.{Consumes-nil, Keeps-refl}
+use Rattle.image.specs.View.{Picture}
+use Rattle.meaning.specs.Algorithm.{Algorithm}
+use Rattle.nest.specs.View.{plan_of}
+use Rattle.nest.specs.declared.plan.Plan.{Plan as PlanMade}
+use Rattle.cert.specs.declared.cert.Cert.{Cert}
+use Rattle.cert.specs.Certificate.{certificate_of}
+use Rattle.algo.specs.Parts.{input_frame}
+use Rattle.algo.specs.Refusal.{IsAlgorithmText}
+use Rattle.algo.specs.View.{picture_said}
+use Rattle.audit.specs.declared.refusal.CheckError.{CheckError}
+use Rattle.audit.specs.declared.refusal.CheckError.TheVariants as check
+use Rattle.audit.specs.Faults.{IsRefusal}
+use Rattle.plan_lines.specs.declared.error.TextError.{TextError}
+use Rattle.plan_lines.specs.declared.error.TextError.TheVariants as error
+use Rattle.plan_file.specs.File.{IsFileOf, IsRefusedFile}
+use Rattle.pnm.specs.declared.error.PnmError.{PnmError}
+use Rattle.pnm.specs.Reading.{wanted_of}
+use Rattle.pnm.specs.Source.{ReadsFile, Sends}
+use Rattle.pnm.specs.Text.{text_of}
+use Rattle.pictures.specs.declared.fault.Fault.{Fault}
+use Rattle.pictures.specs.declared.fault.Fault.TheVariants.{Memory, Algo, Updates, TooLarge, Plan, Form, Limit, Order, Image, Unfinished, Budget}
+use Rattle.pictures.specs.Faults.{image_fault, plan_fault, read_fault}
+use Rattle.pictures.specs.Rows.{IsImageRefused, IsTextRefused}
+use Rattle.pictures.specs.ByPlan.{HasPlan, IsFileRefused, IsRun, IsRunRefused}
+
+-- what the reader of plan files and the checker answer as refusals of the program
+pub refuses_file : (a : Algorithm) (file : List ℕ) (e : TextError) → IsRefusedFile file e → IsFileRefused a file (read_fault e)
+refuses_file a file error.Memory h = tt
+refuses_file a file (error.Form line) h = h
+refuses_file a file (error.Limit line) h = h
+
+pub refuses_plan : (a : Algorithm) (file : List ℕ) (plan : PlanMade) (cert : Cert) (e : CheckError) → IsFileOf file (plan_of plan) (certificate_of cert)
+    → IsRefusal a (plan_of plan) (certificate_of cert) e → IsFileRefused a file (plan_fault e)
+refuses_plan a file plan cert check.Memory said h = tt
+refuses_plan a file plan cert (check.Refused code line) said h = record { plan = plan; cert = cert; file = said; refused = h }
+
+module _ (text file : List ℕ) (read held : Option (List ℕ)) where
+  -- nothing is read or written before the text and the plan file are accepted
+  pub text_refused : (fault : Fault) → IsTextRefused text fault → IsRunRefused text file read read held held fault
+  text_refused Memory h = (([], Consumes-nil read), Keeps-refl held)
+  text_refused (Algo code span) h = (h, (Keeps-refl read, Keeps-refl held))
+  text_refused (Updates function) h = absurd h
+  text_refused (TooLarge function) h = absurd h
+  text_refused (Plan code line) h = absurd h
+  text_refused (Form line) h = absurd h
+  text_refused (Limit line) h = absurd h
+  text_refused Order h = absurd h
+  text_refused (Image e) h = absurd h
+  text_refused (Unfinished piece) h = absurd h
+  text_refused Budget h = absurd h
+
+  pub file_refused : (a : Algorithm) (fault : Fault) → IsAlgorithmText text a → IsFileRefused a file fault → IsRunRefused text file read read held held fault
+  file_refused a Memory said h = (([], Consumes-nil read), Keeps-refl held)
+  file_refused a (Algo code span) said h = absurd h
+  file_refused a (Updates function) said h = absurd h
+  file_refused a (TooLarge function) said h = absurd h
+  file_refused a (Plan code line) said h = (record { algorithm = a; is_text = said; refused = h }, (Keeps-refl read, Keeps-refl held))
+  file_refused a (Form line) said h = (record { algorithm = a; is_text = said; refused = h }, (Keeps-refl read, Keeps-refl held))
+  file_refused a (Limit line) said h = (record { algorithm = a; is_text = said; refused = h }, (Keeps-refl read, Keeps-refl held))
+  file_refused a Order said h = absurd h
+  file_refused a (Image e) said h = absurd h
+  file_refused a (Unfinished piece) said h = absurd h
+  file_refused a Budget said h = absurd h
+
+module _ (text file : List ℕ) (a : Algorithm) (said : IsAlgorithmText text a) (plan : HasPlan a file) (read left held : Option (List ℕ)) where
+  -- nothing is written before the image is read whole
+  pub image_refused : (fault : Fault) → IsImageRefused (input_frame a) read left fault → IsRunRefused text file read left held held fault
+  image_refused Memory h = (h, Keeps-refl held)
+  image_refused (Algo code span) h = absurd h
+  image_refused (Updates function) h = absurd h
+  image_refused (TooLarge function) h = absurd h
+  image_refused (Plan code line) h = absurd h
+  image_refused (Form line) h = absurd h
+  image_refused (Limit line) h = absurd h
+  image_refused Order h = absurd h
+  image_refused (Image e) h = inl (record { algorithm = a; is_text = said; planned = plan; refused = h }, Keeps-refl held)
+  image_refused (Unfinished piece) h = absurd h
+  image_refused Budget h = absurd h
+
+  module _ (samples : List ℕ) (reads : ReadsFile (wanted_of (input_frame a)) read left samples) where
+    -- nothing is written where the picture is not computed
+    pub no_memory : (fault : Fault) → fault ≡ Memory → IsRunRefused text file read left held held fault
+    no_memory fault is = subst (IsRunRefused text file read left held held) (sym is) ((reads.bytes, reads.takes), Keeps-refl held)
+
+    module _ (holds : Option (List ℕ)) (p : Picture) (whole : p ≡ picture_said a samples) where
+      pub writer_failed : (e : PnmError) → Sends held holds (text_of p) (Err e) → IsRunRefused text file read left held holds (image_fault e)
+      writer_failed e h =
+          let sends = subst (λ (q : Picture). Sends held holds (text_of q) (Err e)) whole h in
+          subst (λ (x : PnmError). IsRunRefused text file read left held holds (image_fault x)) (sym h.0)
+          (inr (refl, record { algorithm = a; samples = samples; is_text = said; planned = plan; reads = reads; writes = subst (λ (x : PnmError). Sends held holds (text_of (picture_said a samples)) (Err x)) h.0 sends }))
+
+      pub picture_done : Appends held holds (text_of p) → IsRun text file read left held holds
+      picture_done h = record { algorithm = a; samples = samples; is_text = said; planned = plan; reads = reads; writes = subst (λ (q : Picture). Appends held holds (text_of q)) whole h }

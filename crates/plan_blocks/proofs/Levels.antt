@@ -1,0 +1,26 @@
+-- Open blocks, the last opened first.
+use Rattle.std.proofs.Common.{◌≡◌, ℕ, List, [], ◌∷◌, ◌++◌, map, reverse, length, arith, refl, sym, ap, ◌∙◌}
+use Rattle.std.proofs.lemmas.List.{reverse-append, map-append, append-nil}
+use Rattle.nest.specs.declared.stmt.Stmt.{Stmt}
+use Rattle.nest.specs.declared.plan.Group.{Group}
+use Rattle.nest.specs.Plan.{Statement}
+use Rattle.nest.specs.View.{statement_of, group_of}
+use Rattle.nest.specs.Lists.{list_statements, list_groups}
+use Rattle.plan_blocks.specs.declared.blocks.Level.{Level}
+use Rattle.plan_blocks.specs.Drafts.{level_of, levels_of}
+
+pub levels_push : (ls : List Level) (l : Level) → levels_of (ls ++ l ∷ []) ≡ level_of l ∷ levels_of ls
+levels_push ls l = ap (map level_of) (reverse-append ls (l ∷ []))
+
+pub statements_push : (xs : List Stmt) (x : Stmt) → list_statements (xs ++ x ∷ []) ≡ list_statements xs ++ statement_of x ∷ []
+statements_push xs x = map-append statement_of xs (x ∷ [])
+
+pub groups_push : (xs : List Group) (x : Group) → list_groups (xs ++ x ∷ []) ≡ list_groups xs ++ group_of x ∷ []
+groups_push xs x = map-append group_of xs (x ∷ [])
+
+pub levels_none : (ls : List Level) → ls ≡ [] → levels_of ls ≡ []
+levels_none ls e = ap levels_of e
+
+pub groups_count : (xs : List Group) → length (list_groups xs) ≡ length xs
+groups_count [] = refl
+groups_count (x ∷ xs) = omega (arith, groups_count xs)

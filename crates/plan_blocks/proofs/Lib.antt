@@ -1,0 +1,5 @@
+pub mod Levels
+pub mod Counted
+pub mod Written
+pub mod Again
+pub mod Completed

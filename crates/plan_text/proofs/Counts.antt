@@ -1,0 +1,14 @@
+-- The lines of a plan's text, counted.
+use Rattle.std.proofs.Common.{◌≡◌, ℕ, suc, ◌+◌, List, [], ◌∷◌, length, map, refl, ap, ◌∙◌, arith}
+use Rattle.nest.specs.Plan.{Plan}
+use Rattle.plan_blocks.specs.Flat.{plan_lines}
+use Rattle.plan_blocks.proofs.Counted.{plan_count}
+use Rattle.plan_text.specs.Spelling.{line_text}
+use Rattle.plan_text.specs.Notation.{LinesAreCounted}
+
+mapped_count : {X Y : Type 0} (f : X → Y) (xs : List X) → length (map f xs) ≡ length xs
+mapped_count f [] = refl
+mapped_count f (x ∷ xs) = ap suc (mapped_count f xs)
+
+pub lines_counted : LinesAreCounted
+lines_counted p = ap (λ n. n + 1) (mapped_count line_text (plan_lines p)) ∙ plan_count p

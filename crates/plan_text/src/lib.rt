@@ -1,0 +1,12 @@
+//! Plans as text: each plan has one text, and only that text is read as the plan.
+#![tactic(auto)]
+
+mod fitting;
+pub mod laws;
+mod plan;
+mod reading;
+mod text;
+mod writing;
+
+pub use plan::write;
+pub use text::read;

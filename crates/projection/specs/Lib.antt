@@ -1,0 +1,5 @@
+pub mod Elimination
+pub mod Lets
+pub mod Unions
+pub mod Projection
+pub mod Sound

@@ -1,0 +1,9 @@
+use Rattle.std.proofs.Common.{refl}
+use Rattle.tool.proofs.Named.{run_as}
+use Rattle.tool.proofs.words.run_found.Goals as goal
+
+pub returns-in_err-plan : goal.returns-in_err-plan
+returns-in_err-plan c = rw (c.from_residual.ensures, run_as _, ← c.in_err-plan.ensures) refl
+
+pub returns : goal.returns
+returns c = rw (run_as _, ← c.in_ok-plan.ensures) c.picture_found.ensures
