@@ -2,7 +2,7 @@
 
 use algo::Algo;
 use bounds::numbers;
-use lin::{Binding, Forms, Lin, LinError, Region, Scope, Span1};
+use lin::{Binding, Forms, Lin, LinError, Region, Scope, Span1, Sym};
 use needs::{BoundsError, needed, needed_outside};
 use std::alloc::{AllocError, Global};
 use std::process::Abort;
@@ -31,11 +31,16 @@ fn between(alloc: Global, low: i64, high: i64) -> Result<Region, AllocError> {
     Ok(region)
 }
 
+/// A scope of one loop from 0.
+fn loop_to(alloc: Global, last: i64) -> Result<Scope, AllocError> {
+    let mut scope = Scope::new(alloc);
+    scope.push(Binding::Loop(numbers(alloc, 0, last)?))?;
+    Ok(scope)
+}
+
 /// A scope of one loop from 0 to 7.
 fn eight(alloc: Global) -> Result<Scope, AllocError> {
-    let mut scope = Scope::new(alloc);
-    scope.push(Binding::Loop(numbers(alloc, 0, 7)?))?;
-    Ok(scope)
+    loop_to(alloc, 7)
 }
 
 /// Whether the forms are one alone, with this constant and this multiple of the first symbol.
@@ -136,29 +141,57 @@ fn at_sum(alloc: Global, symbol: usize, constant: i64) -> Result<Region, LinErro
     Ok(region)
 }
 
+/// The region that the first function of a pipeline needs of its input, outside the inner symbols.
+fn of_input(
+    alloc: Global,
+    text: &str,
+    scope: &Scope,
+    inner: &[Sym],
+    point: &Region,
+) -> Result<Region, Fail> {
+    let algo = Algo::read(alloc, text)?;
+    if algo.funcs().is_empty() {
+        return Err(Fail::new("no function"));
+    }
+    Ok(needed_outside(alloc, scope, inner, &algo, 0, "in", point)?)
+}
+
 const MIRROR: &str =
     "pipeline p; input in u8 [2]; func f u8 (x) = in[x] / 2u8 + in[1 - x] / 2u8; output f [2];";
 
 #[test]
 fn freed_before_the_union(rt: HostRuntime) -> Result<(), Fail> {
     let alloc = rt.alloc();
-    let algo = Algo::read(alloc, MIRROR)?;
-    assert!(rt; 0 < algo.funcs().len());
-    let mut scope = Scope::new(alloc);
-    scope.push(Binding::Loop(numbers(alloc, 0, 1)?))?;
-    let point = at_symbol(alloc)?;
-    let region = needed_outside(alloc, &scope, &[0], &algo, 0, "in", &point)?;
+    let scope = loop_to(alloc, 1)?;
+    let region = of_input(alloc, MIRROR, &scope, &[0], &at_symbol(alloc)?)?;
     assert!(rt; is_between(&region, 0, 1, 0));
-    // the union of x and 1 - x as they are: from x - 1 or -x to x + 1 or 2 - x
-    let unfreed = needed(alloc, &scope, &algo, 0, "in", &point)?;
-    let outside_none = needed_outside(alloc, &scope, &[], &algo, 0, "in", &point)?;
-    for found in [unfreed, outside_none] {
-        let spans = found.as_slice();
-        assert_eq!(rt; spans.len(), 1);
-        assert_eq!(rt; spans[0].lower.as_slice().len(), 2);
-        assert_eq!(rt; spans[0].upper.as_slice().len(), 2);
-    }
     Ok(())
+}
+
+#[test]
+fn nothing_to_free(rt: HostRuntime) -> Result<(), Fail> {
+    let alloc = rt.alloc();
+    let scope = loop_to(alloc, 1)?;
+    let region = of_input(alloc, MIRROR, &scope, &[], &at_symbol(alloc)?)?;
+    let spans = region.as_slice();
+    // from x - 1 or -x to x + 1 or 2 - x
+    assert_eq!(rt; spans.len(), 1);
+    assert_eq!(rt; spans[0].lower.as_slice().len(), 2);
+    assert_eq!(rt; spans[0].upper.as_slice().len(), 2);
+    Ok(())
+}
+
+/// A loop from 0 to 7, one from its symbol to 3 above it, and a let of 1 more than the symbol of this one.
+fn tiles(alloc: Global) -> Result<Scope, LinError> {
+    let mut scope = eight(alloc)?;
+    let last = Lin::symbol(alloc, 0)?.add(alloc, &Lin::number(alloc, 3))?;
+    scope.push(Binding::Loop(Span1 {
+        lower: one(alloc, Lin::symbol(alloc, 0)?)?,
+        upper: one(alloc, last)?,
+    }))?;
+    let next = Lin::symbol(alloc, 1)?.add(alloc, &Lin::number(alloc, 1))?;
+    scope.push(Binding::LetMin(one(alloc, next)?))?;
+    Ok(scope)
 }
 
 const PAIR: &str =
@@ -167,23 +200,11 @@ const PAIR: &str =
 #[test]
 fn let_over_an_inner_loop(rt: HostRuntime) -> Result<(), Fail> {
     let alloc = rt.alloc();
-    let algo = Algo::read(alloc, PAIR)?;
-    assert!(rt; 0 < algo.funcs().len());
-    // s1 from s0 to s0 + 3, and s2, which is s1 + 1
-    let mut scope = eight(alloc)?;
-    scope.push(Binding::Loop(Span1 {
-        lower: one(alloc, Lin::symbol(alloc, 0)?)?,
-        upper: one(
-            alloc,
-            Lin::symbol(alloc, 0)?.add(alloc, &Lin::number(alloc, 3))?,
-        )?,
-    }))?;
-    let next = Lin::symbol(alloc, 1)?.add(alloc, &Lin::number(alloc, 1))?;
-    scope.push(Binding::LetMin(one(alloc, next)?))?;
+    let scope = tiles(alloc)?;
     let point = at_sum(alloc, 2, 0)?;
-    let tile = needed_outside(alloc, &scope, &[1, 2], &algo, 0, "in", &point)?;
+    let tile = of_input(alloc, PAIR, &scope, &[1, 2], &point)?;
     assert!(rt; is_between(&tile, 0, 4, 1));
-    let root = needed_outside(alloc, &scope, &[0, 1, 2], &algo, 0, "in", &point)?;
+    let root = of_input(alloc, PAIR, &scope, &[0, 1, 2], &point)?;
     assert!(rt; is_between(&root, 0, 11, 0));
     Ok(())
 }
@@ -195,10 +216,7 @@ fn projection_outside_the_limits(rt: HostRuntime) -> Result<(), Fail> {
     let alloc = rt.alloc();
     let algo = Algo::read(alloc, COPY)?;
     assert!(rt; 0 < algo.funcs().len());
-    let mut scope = Scope::new(alloc);
-    scope.push(Binding::Loop(numbers(alloc, 0, 1 << 40)?))?;
-    let fits = needed_outside(alloc, &scope, &[0], &algo, 0, "in", &at_symbol(alloc)?)?;
-    assert!(rt; is_between(&fits, 0, 1 << 40, 0));
+    let scope = loop_to(alloc, 1 << 40)?;
     let point = at_sum(alloc, 0, 1)?;
     let unfreed = needed(alloc, &scope, &algo, 0, "in", &point)?;
     assert!(rt; is_between(&unfreed, 1, 1, 1));

@@ -1,13 +1,13 @@
 -- The lines of a plan are put together as that plan.
-use Rattle.std.proofs.Common.{◌≡◌, ℕ, suc, ◌+◌, ◌==◌, Bool, true, false, ◌&&◌, List, [], ◌∷◌, ◌++◌, length, Option, Some, None, refl, sym, ap, ◌∙◌, arith, append_assoc, length-append, eq-eqb}
-use Rattle.std.specs.Prelude.{option_map, option_and_then}
+use Rattle.std.proofs.Common.{◌≡◌, ℕ, ◌+◌, Bool, true, false, ◌&&◌, List, [], ◌∷◌, ◌++◌, length, Option, Some, refl, sym, ap, ◌∙◌, arith, append_assoc, length-append, eq-eqb}
+use Rattle.std.specs.Prelude.{option_map}
 use Rattle.std.specs.List.{list_all}
 use Rattle.std.proofs.lemmas.List.{append-nil}
 use Rattle.nest.specs.Plan.{Statement, Seq, For, Let, First, Guard, Alloc, Fetch, Store, Publish, Statements, Empty, Then, Declaration, Group, Plan, block}
-use Rattle.plan_blocks.specs.Line.{Line, PlanLine, InputLine, OutputLine, GroupLine, ForLine, LetLine, FirstLine, ElseLine, GuardLine, EndLine, AllocLine, FetchLine, StoreLine, PublishLine}
+use Rattle.plan_blocks.specs.Line.{Line, GroupLine, ElseLine, EndLine}
 use Rattle.plan_blocks.specs.Flat.{statement_lines, block_lines, group_lines, groups_lines, plan_lines}
 use Rattle.plan_blocks.specs.Shape.{is_block, is_single, are_single, has_block, is_canonical}
-use Rattle.plan_blocks.specs.Nesting.{Open, OpenGroup, OpenFor, OpenFirst, OpenElse, OpenGuard, Level, level, body, put, opened, turned, second_arm, ended, closed, with_group, whole_groups, Blocks, with_levels, numbered_group, next_group, next_blocks, Draft, Nothing, Named, Fed, Headed, next, finished, drafted}
+use Rattle.plan_blocks.specs.Nesting.{OpenGroup, OpenFor, OpenFirst, OpenElse, OpenGuard, Level, level, body, whole_groups, Draft, Nothing, Headed, finished, drafted}
 
 pub both : (a b : Bool) → (a && b) ≡ true → (a ≡ true) × (b ≡ true)
 both true b h = (refl, h)

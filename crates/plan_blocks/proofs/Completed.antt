@@ -1,13 +1,12 @@
 -- Drafts keep the shape of plans, and the blocks that are open can be closed.
-use Rattle.std.proofs.Common.{◌≡◌, ℕ, ◌+◌, ◌==◌, Bool, true, false, ◌&&◌, List, [], ◌∷◌, ◌++◌, length, Option, Some, None, refl, sym, ap, ◌∙◌, arith, append_assoc}
+use Rattle.std.proofs.Common.{◌≡◌, ℕ, ◌==◌, Bool, true, false, ◌&&◌, List, [], ◌∷◌, ◌++◌, length, Option, Some, None, refl, sym, ap, ◌∙◌}
 use Rattle.std.specs.Prelude.{option_map, option_and_then, if◌then◌else◌}
 use Rattle.std.specs.List.{list_all}
-use Rattle.std.proofs.lemmas.List.{append-nil}
 use Rattle.lin.specs.declared.span.Span1.{Span1}
-use Rattle.nest.specs.Plan.{Statement, Seq, For, Let, First, Guard, Alloc, Fetch, Store, Publish, Statements, Empty, Then, Declaration, Group, Plan, block}
+use Rattle.nest.specs.Plan.{Statement, For, Let, First, Guard, Alloc, Fetch, Store, Publish, Declaration, Group, Plan, block}
 use Rattle.plan_blocks.specs.Line.{Line, PlanLine, InputLine, OutputLine, GroupLine, ForLine, LetLine, FirstLine, ElseLine, GuardLine, EndLine, AllocLine, FetchLine, StoreLine, PublishLine}
-use Rattle.plan_blocks.specs.Shape.{is_block, is_single, are_single, has_block, is_canonical}
-use Rattle.plan_blocks.specs.Nesting.{Open, OpenGroup, OpenFor, OpenFirst, OpenElse, OpenGuard, Level, level, body, put, opened, turned, second_arm, ended, closed, with_group, whole_groups, Blocks, with_levels, numbered_group, next_group, next_blocks, Draft, Nothing, Named, Fed, Headed, next, finished, drafted}
+use Rattle.plan_blocks.specs.Shape.{is_single, are_single, has_block, is_canonical}
+use Rattle.plan_blocks.specs.Nesting.{Open, OpenGroup, OpenFor, OpenFirst, OpenElse, OpenGuard, Level, level, body, put, opened, turned, second_arm, ended, closed, with_group, whole_groups, Blocks, with_levels, numbered_group, next_blocks, Draft, Nothing, Named, Fed, Headed, next, finished, drafted}
 use Rattle.plan_blocks.proofs.Again.{both, Head, within}
 
 some_is : {X : Type 0} (x y : X) → Some x ≡ Some y → x ≡ y

@@ -1,8 +1,8 @@
 -- A plan's lines are as many as its statements are said to take.
-use Rattle.std.proofs.Common.{◌≡◌, ℕ, suc, ◌+◌, List, [], ◌∷◌, ◌++◌, length, refl, sym, ap, ◌∙◌, arith, length-append}
+use Rattle.std.proofs.Common.{◌≡◌, ℕ, ◌+◌, List, [], ◌∷◌, ◌++◌, length, refl, arith, length-append}
 use Rattle.nest.specs.Plan.{Statement, Seq, For, Let, First, Guard, Alloc, Fetch, Store, Publish, Statements, Empty, Then, Group, Plan}
 use Rattle.nest.specs.Lines as nest
-use Rattle.plan_blocks.specs.Line.{Line, ElseLine, EndLine}
+use Rattle.plan_blocks.specs.Line.{ElseLine, EndLine}
 use Rattle.plan_blocks.specs.Flat.{statement_lines, block_lines, group_lines, groups_lines, plan_lines}
 
 mutual

@@ -1,9 +1,8 @@
 -- Open blocks, the last opened first.
-use Rattle.std.proofs.Common.{◌≡◌, ℕ, List, [], ◌∷◌, ◌++◌, map, reverse, length, arith, refl, sym, ap, ◌∙◌}
-use Rattle.std.proofs.lemmas.List.{reverse-append, map-append, append-nil}
+use Rattle.std.proofs.Common.{◌≡◌, List, [], ◌∷◌, ◌++◌, map, length, arith, refl, ap}
+use Rattle.std.proofs.lemmas.List.{reverse-append, map-append}
 use Rattle.nest.specs.declared.stmt.Stmt.{Stmt}
 use Rattle.nest.specs.declared.plan.Group.{Group}
-use Rattle.nest.specs.Plan.{Statement}
 use Rattle.nest.specs.View.{statement_of, group_of}
 use Rattle.nest.specs.Lists.{list_statements, list_groups}
 use Rattle.plan_blocks.specs.declared.blocks.Level.{Level}

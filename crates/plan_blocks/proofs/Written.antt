@@ -1,11 +1,11 @@
 -- Lines that are put together are those of what was made of them.
-use Rattle.std.proofs.Common.{◌≡◌, ℕ, suc, ◌+◌, ◌==◌, Bool, true, false, List, [], ◌∷◌, ◌++◌, length, Option, Some, None, refl, sym, ap, ◌∙◌, arith, append_assoc, length-append}
+use Rattle.std.proofs.Common.{◌≡◌, ℕ, ◌+◌, ◌==◌, Bool, true, false, List, [], ◌∷◌, ◌++◌, length, Option, Some, None, refl, sym, ap, ◌∙◌, arith, append_assoc}
 use Rattle.std.specs.Prelude.{option_map, option_and_then}
 use Rattle.std.proofs.lemmas.List.{append-nil}
 use Rattle.std.specs.Prelude.{if◌then◌else◌}
 use Rattle.std.proofs.lemmas.Bool.{eqb-true}
 use Rattle.lin.specs.declared.span.Span1.{Span1}
-use Rattle.nest.specs.Plan.{Statement, Seq, For, Let, First, Guard, Alloc, Fetch, Store, Publish, Statements, Empty, Then, Declaration, Group, Plan, block}
+use Rattle.nest.specs.Plan.{Statement, Let, Alloc, Fetch, Store, Publish, Declaration, Group, Plan, block}
 use Rattle.plan_blocks.specs.Line.{Line, PlanLine, InputLine, OutputLine, GroupLine, ForLine, LetLine, FirstLine, ElseLine, GuardLine, EndLine, AllocLine, FetchLine, StoreLine, PublishLine}
 use Rattle.plan_blocks.specs.Flat.{statement_lines, block_lines, group_lines, groups_lines, plan_lines}
 use Rattle.plan_blocks.specs.Nesting.{Open, OpenGroup, OpenFor, OpenFirst, OpenElse, OpenGuard, Level, level, body, put, opened, turned, second_arm, ended, closed, with_group, whole_groups, Blocks, with_levels, numbered_group, next_blocks, Draft, Nothing, Named, Fed, Headed, next, finished, drafted}

@@ -1,5 +1,5 @@
 -- Plans put together line by line: the groups that are whole, and the blocks that are open, the innermost first.
-use Rattle.std.specs.Prelude.{ℕ, ◌+◌, ◌==◌, Bool, if◌then◌else◌, List, [], ◌∷◌, ◌++◌, length, Option, Some, None, option_map, option_and_then}
+use Rattle.std.specs.Prelude.{ℕ, ◌==◌, if◌then◌else◌, List, [], ◌∷◌, ◌++◌, length, Option, Some, None, option_map, option_and_then}
 use Rattle.lin.specs.Forms.{Form}
 use Rattle.lin.specs.declared.span.Span1.{Span1}
 use Rattle.nest.specs.declared.stmt.Kind.{Kind}
@@ -81,21 +81,30 @@ numbered_group n groups o = if n == length groups then Some (record { groups = g
 abbrev pub next_group : ℕ → Open → List Group → List Level → Option Blocks
 next_group n o groups levels = option_and_then (λ whole. numbered_group n whole o) (whole_groups groups levels)
 
+-- the statement that a line about a buffer is
+abbrev pub buffer_statement : Line → Option Statement
+buffer_statement (AllocLine n f places) = Some (Alloc n f places)
+buffer_statement (FetchLine n g region) = Some (Fetch n g region)
+buffer_statement (StoreLine n k at e) = Some (Store n k at e)
+buffer_statement _ = None
+
+abbrev pub with_buffer_statement : Line → List Level → Option (List Level)
+with_buffer_statement l levels = option_and_then (λ s. put s levels) (buffer_statement l)
+
+-- the open blocks after a line inside a group
+abbrev pub next_levels : Line → List Level → Option (List Level)
+next_levels (ForLine i x kind) levels = opened (OpenFor i x kind) levels
+next_levels (LetLine i pick forms) levels = put (Let i pick forms) levels
+next_levels (FirstLine i) levels = opened (OpenFirst i) levels
+next_levels ElseLine levels = second_arm levels
+next_levels (GuardLine low high) levels = opened (OpenGuard low high) levels
+next_levels EndLine levels = closed levels
+next_levels (PublishLine c) levels = put (Publish c) levels
+next_levels l levels = with_buffer_statement l levels
+
 abbrev pub next_blocks : Line → Blocks → Option Blocks
-next_blocks (PlanLine name) b = None
-next_blocks (InputLine d) b = None
-next_blocks (OutputLine d) b = None
 next_blocks (GroupLine n f region grid) b = next_group n (OpenGroup f region grid) b.groups b.levels
-next_blocks (ForLine i x kind) b = with_levels b.groups (opened (OpenFor i x kind) b.levels)
-next_blocks (LetLine i pick forms) b = with_levels b.groups (put (Let i pick forms) b.levels)
-next_blocks (FirstLine i) b = with_levels b.groups (opened (OpenFirst i) b.levels)
-next_blocks ElseLine b = with_levels b.groups (second_arm b.levels)
-next_blocks (GuardLine low high) b = with_levels b.groups (opened (OpenGuard low high) b.levels)
-next_blocks EndLine b = with_levels b.groups (closed b.levels)
-next_blocks (AllocLine n f places) b = with_levels b.groups (put (Alloc n f places) b.levels)
-next_blocks (FetchLine n g region) b = with_levels b.groups (put (Fetch n g region) b.levels)
-next_blocks (StoreLine n k at e) b = with_levels b.groups (put (Store n k at e) b.levels)
-next_blocks (PublishLine c) b = with_levels b.groups (put (Publish c) b.levels)
+next_blocks l b = with_levels b.groups (next_levels l b.levels)
 
 -- the head's lines come first, in order
 pub data Draft : Type 0 where

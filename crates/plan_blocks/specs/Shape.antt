@@ -1,7 +1,7 @@
 -- Plans that a text can tell apart: each body is a block, and no block stands directly in another.
 use Rattle.std.specs.Prelude.{Bool, true, false, ◌&&◌}
 use Rattle.std.specs.List.{list_all}
-use Rattle.nest.specs.Plan.{Statement, Seq, For, Let, First, Guard, Alloc, Fetch, Store, Publish, Statements, Empty, Then, Group, Plan}
+use Rattle.nest.specs.Plan.{Statement, Seq, For, First, Guard, Statements, Empty, Then, Group, Plan}
 
 abbrev mutual
   pub is_block : Statement → Bool

@@ -1,5 +1,5 @@
 -- What a line in memory says.
-use Rattle.std.specs.Prelude.{List, map, string_bytes}
+use Rattle.std.specs.Prelude.{map, string_bytes}
 use Rattle.tree.specs.Term.{term_of}
 use Rattle.nest.specs.View.{coordinate_of, declaration_of}
 use Rattle.plan_blocks.specs.declared.line.Line.{Line as CodeLine}

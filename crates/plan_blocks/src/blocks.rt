@@ -246,6 +246,87 @@ fn with_levels(groups: Vec<Group>, levels: Option<Vec<Level>>) -> Option<Blocks>
     }
 }
 
+/// The statement that a line about a buffer is. None for other lines.
+fn buffer_statement(line: Line) -> Option<Stmt>
+    ensures { MatchOption result (spec.buffer_statement (line_of line) ≡ None) (λ s. spec.buffer_statement (line_of line) ≡ Some (statement_of s)) }
+{
+    match line {
+        Line::Alloc {
+            buffer,
+            function,
+            places,
+        } => Some(Stmt::Alloc {
+            buffer,
+            function,
+            places,
+        }),
+        Line::Fetch {
+            buffer,
+            group,
+            region,
+        } => Some(Stmt::Fetch {
+            buffer,
+            group,
+            region,
+        }),
+        Line::Store {
+            buffer,
+            definition,
+            coordinates,
+            value,
+        } => Some(Stmt::Store {
+            buffer,
+            definition,
+            coordinates,
+            value,
+        }),
+        _other => None,
+    }
+}
+
+/// The open blocks after a line about a buffer. None where it is none, or no block is open.
+fn with_buffer_statement(levels: Vec<Level>, line: Line) -> Result<Option<Vec<Level>>, AllocError>
+    ensures { IfOk result (λ r. MatchOption r (spec.with_buffer_statement (line_of line) (levels_of levels.items) ≡ None) (λ v. spec.with_buffer_statement (line_of line) (levels_of levels.items) ≡ Some (levels_of v.items))) }
+{
+    let Some(stmt) = buffer_statement(line) else {
+        return Ok(None);
+    };
+    put(levels, stmt)
+}
+
+/// The open blocks after a line that is none of the head's and begins no group. None where it cannot stand there.
+fn next_levels(
+    alloc: Global,
+    levels: Vec<Level>,
+    line: Line,
+) -> Result<Option<Vec<Level>>, AllocError>
+    ensures { IfOk result (λ r. MatchOption r (spec.next_levels (line_of line) (levels_of levels.items) ≡ None) (λ v. spec.next_levels (line_of line) (levels_of levels.items) ≡ Some (levels_of v.items))) }
+{
+    match line {
+        Line::For { symbol, span, kind } => {
+            opened(alloc, levels, Open::For { symbol, span, kind })
+        }
+        Line::First { symbol } => opened(alloc, levels, Open::First { symbol }),
+        Line::Guard { low, high } => opened(alloc, levels, Open::Guard { low, high }),
+        Line::Else => second_arm(alloc, levels),
+        Line::End => closed(alloc, levels),
+        Line::Let {
+            symbol,
+            pick,
+            forms,
+        } => {
+            let stmt = Stmt::Let {
+                symbol,
+                pick,
+                forms,
+            };
+            put(levels, stmt)
+        }
+        Line::Publish { claim } => put(levels, Stmt::Publish { claim }),
+        other => with_buffer_statement(levels, other),
+    }
+}
+
 /// The blocks after a line that is none of the head's. None where it cannot stand there.
 pub(crate) fn next_blocks(
     alloc: Global,
@@ -256,9 +337,6 @@ pub(crate) fn next_blocks(
 {
     let Blocks { groups, levels } = blocks;
     match line {
-        Line::Plan { name: _name } => Ok(None),
-        Line::Input(_input) => Ok(None),
-        Line::Output(_output) => Ok(None),
         Line::Group {
             number,
             function,
@@ -272,84 +350,8 @@ pub(crate) fn next_blocks(
             };
             next_group(alloc, groups, levels, number, first)
         }
-        Line::For { symbol, span, kind } => {
-            let levels = opened(alloc, levels, Open::For { symbol, span, kind })?;
-            Ok(with_levels(groups, levels))
-        }
-        Line::First { symbol } => {
-            let levels = opened(alloc, levels, Open::First { symbol })?;
-            Ok(with_levels(groups, levels))
-        }
-        Line::Guard { low, high } => {
-            let levels = opened(alloc, levels, Open::Guard { low, high })?;
-            Ok(with_levels(groups, levels))
-        }
-        Line::Else => Ok(with_levels(groups, second_arm(alloc, levels)?)),
-        Line::End => Ok(with_levels(groups, closed(alloc, levels)?)),
-        Line::Let {
-            symbol,
-            pick,
-            forms,
-        } => {
-            let levels = put(
-                levels,
-                Stmt::Let {
-                    symbol,
-                    pick,
-                    forms,
-                },
-            )?;
-            Ok(with_levels(groups, levels))
-        }
-        Line::Alloc {
-            buffer,
-            function,
-            places,
-        } => {
-            let levels = put(
-                levels,
-                Stmt::Alloc {
-                    buffer,
-                    function,
-                    places,
-                },
-            )?;
-            Ok(with_levels(groups, levels))
-        }
-        Line::Fetch {
-            buffer,
-            group,
-            region,
-        } => {
-            let levels = put(
-                levels,
-                Stmt::Fetch {
-                    buffer,
-                    group,
-                    region,
-                },
-            )?;
-            Ok(with_levels(groups, levels))
-        }
-        Line::Store {
-            buffer,
-            definition,
-            coordinates,
-            value,
-        } => {
-            let levels = put(
-                levels,
-                Stmt::Store {
-                    buffer,
-                    definition,
-                    coordinates,
-                    value,
-                },
-            )?;
-            Ok(with_levels(groups, levels))
-        }
-        Line::Publish { claim } => {
-            let levels = put(levels, Stmt::Publish { claim })?;
+        inner => {
+            let levels = next_levels(alloc, levels, inner)?;
             Ok(with_levels(groups, levels))
         }
     }

@@ -1,7 +1,7 @@
 -- What is written for a line is read as that line.
-use Rattle.std.proofs.Common.{◌≡◌, ℕ, zero, suc, ◌+◌, ◌^◌, ◌≤◌, ◌<◌, Bool, true, false, ltb, leb, not, ◌&&◌, ◌||◌, List, [], ◌∷◌, ◌++◌, length, drop, refl, sym, ap, ◌∙◌, append_assoc, arith, length-append}
+use Rattle.std.proofs.Common.{◌≡◌, ℕ, zero, suc, ◌≤◌, ◌<◌, Bool, true, false, ◌&&◌, ◌||◌, List, [], ◌∷◌, ◌++◌, length, refl, sym, ap, ◌∙◌, append_assoc, arith, length-append}
 use Rattle.std.specs.Prelude.{slice_index, codes, ◌==◌, nat_lt}
-use Rattle.std.specs.List.{flat_map, list_all, list_any}
+use Rattle.std.specs.List.{flat_map, list_all}
 use Rattle.std.proofs.lemmas.List.{append-nil}
 use Rattle.std.proofs.lemmas.Bool.Decides.{nat_tests}
 use Rattle.tree.specs.Term.{Term}
@@ -15,9 +15,9 @@ use Rattle.nest.specs.declared.stmt.Places.{Places}
 use Rattle.nest.specs.declared.stmt.Places.TheVariants as places
 use Rattle.nest.specs.Plan.{Declaration, Index, At, Found, Coordinate}
 use Rattle.token.specs.Spelling.{type_text, is_digit, is_word_byte}
-use Rattle.plan_words.specs.Spelling.{count_text, symbol_text, separated_text, bracketed_text, form_text, forms_text, span_text, region_text, counts_text}
+use Rattle.plan_words.specs.Spelling.{count_text, symbol_text, separated_text, form_text, forms_text, span_text, region_text, counts_text}
 use Rattle.plan_words.specs.Fitting.{fits_count, fits_symbol, fits_form, fits_forms, fits_span, fits_region, fits_counts, is_name}
-use Rattle.plan_words.specs.Reading.{Stops, begins, is_form_byte, is_forms_byte, no_byte, count_from, symbol_from, form_from, forms_from, span_from, region_from, counts_from, name_from, type_from, separated_from, bracketed_from}
+use Rattle.plan_words.specs.Reading.{Stops, begins, is_form_byte, is_forms_byte, no_byte, count_from, symbol_from, form_from, forms_from, region_from, counts_from, name_from, separated_from, bracketed_from}
 use Rattle.plan_words.specs.Laws.{ReadsAgain}
 use Rattle.plan_words.proofs.Again.{count_again, symbol_again, form_again, forms_again, span_again, region_again, counts_again, name_again, type_again, separated_again, separated_many, form_first, count_first}
 use Rattle.plan_terms.specs.Spelling as terms
@@ -27,7 +27,7 @@ use Rattle.plan_terms.specs.Laws.{TermIsReadAgain, TermIsPlain, is_plain}
 use Rattle.plan_blocks.specs.Line.{Line, PlanLine, InputLine, OutputLine, GroupLine, ForLine, LetLine, FirstLine, ElseLine, GuardLine, EndLine, AllocLine, FetchLine, StoreLine, PublishLine}
 use Rattle.plan_text.specs.Spelling.{kind_text, pick_text, declaration_text, place_text, places_text, index_text, coordinate_text, spaced_coordinate, input_text, output_text, group_text, for_text, let_text, guard_text, alloc_text, fetch_text, store_text, line_text}
 use Rattle.plan_text.specs.Fitting.{fits_declaration, fits_place, fits_index, fits_coordinate, fits_line}
-use Rattle.plan_text.specs.Reading.{kind_of, pick_of, declaration_from, place_from, places_from, index_from, coordinate_from, has_blank, coordinates_from, group_from, for_from, let_from, guard_from, alloc_from, fetch_from, store_from, line_from}
+use Rattle.plan_text.specs.Reading.{kind_of, declaration_from, place_from, places_from, index_from, coordinate_from, has_blank, coordinates_from, group_from, for_from, let_from, guard_from, alloc_from, fetch_from, store_from, line_from}
 
 both : (a b : Bool) → (a && b) ≡ true → (a ≡ true) × (b ≡ true)
 both true b h = (refl, h)

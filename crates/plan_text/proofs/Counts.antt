@@ -1,6 +1,5 @@
 -- The lines of a plan's text, counted.
-use Rattle.std.proofs.Common.{◌≡◌, ℕ, suc, ◌+◌, List, [], ◌∷◌, length, map, refl, ap, ◌∙◌, arith}
-use Rattle.nest.specs.Plan.{Plan}
+use Rattle.std.proofs.Common.{◌≡◌, suc, ◌+◌, List, [], ◌∷◌, length, map, refl, ap, ◌∙◌}
 use Rattle.plan_blocks.specs.Flat.{plan_lines}
 use Rattle.plan_blocks.proofs.Counted.{plan_count}
 use Rattle.plan_text.specs.Spelling.{line_text}

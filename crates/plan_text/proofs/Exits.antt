@@ -1,18 +1,17 @@
 -- The loop that reads a plan's lines.
-use Rattle.std.proofs.Common.{◌≡◌, ℕ, suc, ◌+◌, ◌≤◌, ◌<◌, ◌^◌, Bool, true, false, not, ◌&&◌, ◌||◌, List, [], ◌∷◌, ◌++◌, length, Option, Some, None, refl, sym, ap, ◌∙◌, subst, arith, length-append}
+use Rattle.std.proofs.Common.{◌≡◌, ℕ, ◌+◌, ◌≤◌, Bool, true, false, not, ◌||◌, List, [], ◌∷◌, ◌++◌, length, Some, None, refl, sym, ap, ◌∙◌, subst, arith, length-append}
 use Rattle.std.specs.Prelude.{if◌then◌else◌, ◌==◌}
 use Rattle.std.proofs.lemmas.Bool.{eqb-true}
 use Rattle.std.proofs.lemmas.List.{append-nil}
 use Rattle.nest.specs.Plan.{Plan}
 use Rattle.plan_lines.specs.Lines.{is_line, lines_text, is_within}
-use Rattle.plan_lines.specs.Texts.{Notation, IsTextOf, Begins, IsRefused}
-use Rattle.plan_lines.specs.declared.error.TextError.{TextError}
+use Rattle.plan_lines.specs.Texts.{IsTextOf, IsRefused}
 use Rattle.plan_lines.specs.declared.error.TextError.TheVariants as error
 use Rattle.plan_lines.proofs.Texts.{lines_more, ends_early, wrong_form, past_limit}
 use Rattle.plan_terms.specs.Laws.{TermIsReadAgain, TermIsPlain}
-use Rattle.plan_blocks.specs.Numbers.{Count, start}
+use Rattle.plan_blocks.specs.Numbers.{start}
 use Rattle.plan_blocks.specs.Nesting.{finished}
-use Rattle.plan_text.specs.Notation.{fits_plan, counted, is_large_at, plan_notation}
+use Rattle.plan_text.specs.Notation.{counted, is_large_at, plan_notation}
 use Rattle.plan_text.specs.Reader.{State, initial, next_state, refusal}
 use Rattle.plan_text.proofs.Steps.{IsRead, read_none, read_more, begins, is_plan, count_is, refused, unfinished, lawful, follows_within}
 

@@ -1,10 +1,8 @@
 -- No line that fits has a line feed in its text.
-use Rattle.std.proofs.Common.{◌≡◌, ℕ, Bool, true, false, not, ◌&&◌, List, [], ◌∷◌, ◌++◌, refl, sym, ap, ◌∙◌, arith}
+use Rattle.std.proofs.Common.{◌≡◌, ℕ, Bool, true, false, not, ◌&&◌, List, [], ◌∷◌, ◌++◌, refl, arith}
 use Rattle.std.specs.Prelude.{◌==◌, codes, nat_lt, length}
 use Rattle.std.specs.List.{flat_map, list_all}
 use Rattle.std.proofs.lemmas.Bool.Decides.{nat_tests}
-use Rattle.tree.specs.Term.{Term}
-use Rattle.lin.specs.Forms.{Form}
 use Rattle.nest.specs.declared.stmt.Kind.{Kind}
 use Rattle.nest.specs.declared.stmt.Kind.TheVariants as kind
 use Rattle.nest.specs.declared.stmt.Pick.{Pick}
@@ -13,7 +11,7 @@ use Rattle.nest.specs.declared.stmt.Places.{Places}
 use Rattle.nest.specs.declared.stmt.Places.TheVariants as places
 use Rattle.nest.specs.Plan.{Declaration, Index, At, Found, Coordinate}
 use Rattle.token.specs.Spelling.{type_text}
-use Rattle.plan_words.specs.Spelling.{count_text, symbol_text, separated_text, bracketed_text, form_text, forms_text, span_text, region_text, counts_text}
+use Rattle.plan_words.specs.Spelling.{count_text, symbol_text, separated_text, form_text, forms_text, span_text, region_text, counts_text}
 use Rattle.plan_words.specs.Fitting.{fits_count, fits_symbol, fits_form, fits_forms, fits_span, fits_region, fits_counts, is_name}
 use Rattle.plan_words.specs.Laws.{is_feedless, IsFeedless}
 use Rattle.plan_words.proofs.Feeds.{joined, count_feedless, symbol_feedless, form_feedless, forms_feedless, span_feedless, region_feedless, counts_feedless, name_feedless, type_feedless}

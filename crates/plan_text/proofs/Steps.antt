@@ -1,16 +1,16 @@
 -- Lines that were read begin a plan's text, and a line that is refused goes on with none.
-use Rattle.std.proofs.Common.{◌≡◌, ℕ, suc, ◌+◌, ◌≤◌, Bool, true, false, not, ◌&&◌, ◌||◌, List, [], ◌∷◌, ◌++◌, length, map, Option, Some, None, refl, sym, ap, ◌∙◌, subst, append_assoc, arith, length-append}
-use Rattle.std.specs.Prelude.{◌==◌, if◌then◌else◌, option_map, option_and_then, nat_lt, nat_le}
+use Rattle.std.proofs.Common.{◌≡◌, ℕ, ◌+◌, ◌≤◌, Bool, true, false, ◌&&◌, List, [], ◌∷◌, ◌++◌, length, map, Option, Some, None, refl, sym, ap, ◌∙◌, append_assoc, arith}
+use Rattle.std.specs.Prelude.{if◌then◌else◌, option_map, option_and_then, nat_le}
 use Rattle.std.specs.List.{list_all}
 use Rattle.std.specs.Str.{bytes_eq}
 use Rattle.std.proofs.lemmas.Slice.Eq.{bytes_eq-Decides}
 use Rattle.std.proofs.lemmas.Bool.Decides.{nat_tests}
-use Rattle.std.proofs.lemmas.List.{append-nil, map-append}
+use Rattle.std.proofs.lemmas.List.{map-append}
 use Rattle.numeric.specs.declared.ty.Ty.TheVariants as ty
 use Rattle.nest.specs.Plan.{Declaration, Plan}
 use Rattle.plan_lines.specs.Lines.{is_line, lines_text, is_within, are_within}
-use Rattle.plan_lines.specs.Texts.{Notation, IsTextOf, Begins}
-use Rattle.plan_lines.proofs.Texts.{IsLawful, within_more, within_last, within_front}
+use Rattle.plan_lines.specs.Texts.{IsTextOf, Begins}
+use Rattle.plan_lines.proofs.Texts.{IsLawful, within_more, within_last}
 use Rattle.plan_terms.specs.Laws.{TermIsReadAgain, TermIsPlain}
 use Rattle.plan_blocks.specs.Line.{Line, PlanLine, InputLine, OutputLine, GroupLine, ForLine, LetLine, FirstLine, ElseLine, GuardLine, EndLine, AllocLine, FetchLine, StoreLine, PublishLine}
 use Rattle.plan_blocks.specs.Flat.{plan_lines}

@@ -1,5 +1,5 @@
 -- The loop that reads coordinates, turn by turn.
-use Rattle.std.proofs.Common.{◌≡◌, ℕ, suc, ◌+◌, ◌-◌, ◌≤◌, ◌<◌, true, false, List, [], ◌∷◌, ◌++◌, drop, refl, sym, ap, ◌∙◌, arith}
+use Rattle.std.proofs.Common.{◌≡◌, ℕ, suc, ◌+◌, ◌-◌, ◌≤◌, ◌<◌, true, false, List, [], ◌∷◌, ◌++◌, drop, refl, sym, ◌∙◌, arith}
 use Rattle.nest.specs.Plan.{Coordinate}
 use Rattle.plan_text.specs.Reading.{has_blank, coordinate_from, coordinates_from}
 

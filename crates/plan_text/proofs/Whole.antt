@@ -1,7 +1,6 @@
 -- What is written of a plan is its lines.
 use Rattle.std.proofs.Common.{◌≡◌, ℕ, zero, suc, ◌+◌, ◌<◌, List, [], ◌∷◌, ◌++◌, length, map, take, get_or, refl, sym, ap, ◌∙◌, append_assoc, arith}
 use Rattle.std.specs.Prelude.{codes}
-use Rattle.std.specs.List.{flat_map}
 use Rattle.std.proofs.lemmas.List.{append-nil, map-append, take_more}
 use Rattle.nest.specs.declared.stmt.Stmt.{Stmt}
 use Rattle.nest.specs.declared.plan.Group.{Group as CodeGroup}
@@ -11,8 +10,7 @@ use Rattle.nest.specs.Plan.{Statement, Seq, For, Let, First, Guard, Alloc, Fetch
 use Rattle.plan_lines.specs.Lines.{whole_line, lines_text}
 use Rattle.plan_blocks.specs.Line.{Line, ElseLine, EndLine}
 use Rattle.plan_blocks.specs.Flat.{statement_lines, block_lines, group_lines, groups_lines, plan_lines}
-use Rattle.plan_words.specs.Spelling.{count_text, symbol_text}
-use Rattle.plan_text.specs.Spelling.{line_text, input_text, output_text, group_text, for_text, let_text, guard_text, alloc_text, fetch_text, store_text}
+use Rattle.plan_text.specs.Spelling.{line_text, input_text, output_text, group_text, for_text, let_text, first_text, guard_text, alloc_text, fetch_text, store_text, publish_text}
 use Rattle.plan_text.specs.Writing as w
 
 abbrev written : List Line → List ℕ
@@ -34,8 +32,8 @@ mutual
       ∙ ap (λ (t : List ℕ). for_text i x kind ++ (codes "\n" ++ t)) (written_join (statement_lines b) (EndLine ∷ []) ∙ ap (λ (t : List ℕ). t ++ codes "end\n") (statement_written b))
   statement_written (Let i pick forms) = append-nil (let_text i pick forms ++ codes "\n")
   statement_written (First i a b) =
-      ap (λ (h : List ℕ). h ++ written (statement_lines a ++ (ElseLine ∷ (statement_lines b ++ EndLine ∷ [])))) (append_assoc (codes "first ") (symbol_text i) (codes "\n"))
-      ∙ ap (λ (t : List ℕ). w.first_text i ++ t)
+      line_first (first_text i) (written (statement_lines a ++ (ElseLine ∷ (statement_lines b ++ EndLine ∷ []))))
+      ∙ ap (λ (t : List ℕ). first_text i ++ (codes "\n" ++ t))
       (written_join (statement_lines a) (ElseLine ∷ (statement_lines b ++ EndLine ∷ []))
       ∙ ap (λ (t : List ℕ). t ++ (codes "else\n" ++ written (statement_lines b ++ EndLine ∷ []))) (statement_written a)
       ∙ ap (λ (t : List ℕ). w.statement_text a ++ (codes "else\n" ++ t)) (written_join (statement_lines b) (EndLine ∷ []) ∙ ap (λ (t : List ℕ). t ++ codes "end\n") (statement_written b)))
@@ -45,7 +43,7 @@ mutual
   statement_written (Alloc b f places) = append-nil (alloc_text b f places ++ codes "\n")
   statement_written (Fetch b g region) = append-nil (fetch_text b g region ++ codes "\n")
   statement_written (Store b k at e) = append-nil (store_text b k at e ++ codes "\n")
-  statement_written (Publish c) = append-nil ((codes "publish @" ++ count_text c) ++ codes "\n") ∙ append_assoc (codes "publish @") (count_text c) (codes "\n")
+  statement_written (Publish c) = append-nil (publish_text c ++ codes "\n")
 
   pub block_written : (all : Statements) → written (block_lines all) ≡ w.block_text all
   block_written Empty = refl

@@ -1,5 +1,5 @@
 -- Which lines have a text that is read as that line.
-use Rattle.std.specs.Prelude.{ℕ, Bool, true, ◌&&◌, nat_lt, length}
+use Rattle.std.specs.Prelude.{Bool, true, ◌&&◌, nat_lt, length}
 use Rattle.std.specs.List.{list_all}
 use Rattle.nest.specs.declared.stmt.Places.{Places}
 use Rattle.nest.specs.declared.stmt.Places.TheVariants as places

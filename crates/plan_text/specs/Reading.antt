@@ -1,6 +1,6 @@
 -- Reading a line without a look at what stands between its parts: each text gives some line, and the text of a line that
 -- fits gives that line.
-use Rattle.std.specs.Prelude.{ℕ, zero, suc, Bool, ◌==◌, if◌then◌else◌, List, [], ◌∷◌, ◌++◌, length, drop, slice_index}
+use Rattle.std.specs.Prelude.{ℕ, zero, suc, Bool, ◌==◌, if◌then◌else◌, List, [], ◌∷◌, ◌++◌, length, drop}
 use Rattle.std.specs.List.{list_any}
 use Rattle.nest.specs.declared.stmt.Kind.{Kind}
 use Rattle.nest.specs.declared.stmt.Kind.TheVariants as kind

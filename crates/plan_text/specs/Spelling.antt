@@ -66,6 +66,9 @@ for_text i span k = codes "for " ++ (symbol_text i ++ (32 ∷ (span_text span ++
 unfoldable pub let_text : ℕ → Pick → List Form → List ℕ
 let_text i p forms = codes "let " ++ (symbol_text i ++ (32 ∷ (pick_text p ++ (32 ∷ forms_text forms))))
 
+abbrev pub first_text : ℕ → List ℕ
+first_text i = codes "first " ++ symbol_text i
+
 unfoldable pub guard_text : Form → Form → List ℕ
 guard_text low high = codes "guard " ++ (form_text low ++ (codes "<=" ++ form_text high))
 
@@ -78,6 +81,9 @@ fetch_text b g region = codes "fetch b" ++ (count_text b ++ (32 ∷ (count_text 
 unfoldable pub store_text : ℕ → ℕ → List Coordinate → Term → List ℕ
 store_text b k at e = codes "store b" ++ (count_text b ++ (32 ∷ (count_text k ++ (32 ∷ (flat_map spaced_coordinate at ++ terms.term_text e)))))
 
+abbrev pub publish_text : ℕ → List ℕ
+publish_text c = codes "publish @" ++ count_text c
+
 -- a line, without its line feed
 abbrev pub line_text : Line → List ℕ
 line_text (PlanLine name) = codes "plan 1 " ++ name
@@ -86,11 +92,11 @@ line_text (OutputLine d) = output_text d
 line_text (GroupLine n f region grid) = group_text n f region grid
 line_text (ForLine i span k) = for_text i span k
 line_text (LetLine i p forms) = let_text i p forms
-line_text (FirstLine i) = codes "first " ++ symbol_text i
+line_text (FirstLine i) = first_text i
 line_text ElseLine = codes "else"
 line_text (GuardLine low high) = guard_text low high
 line_text EndLine = codes "end"
 line_text (AllocLine b f all) = alloc_text b f all
 line_text (FetchLine b g region) = fetch_text b g region
 line_text (StoreLine b k at e) = store_text b k at e
-line_text (PublishLine c) = codes "publish @" ++ count_text c
+line_text (PublishLine c) = publish_text c

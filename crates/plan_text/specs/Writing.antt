@@ -1,23 +1,28 @@
 -- How statements, groups and plans are written: their lines, each with its line feed.
 use Rattle.std.specs.Prelude.{ℕ, ◌+◌, List, [], ◌∷◌, ◌++◌, codes}
 use Rattle.nest.specs.Plan.{Statement, Seq, For, Let, First, Guard, Alloc, Fetch, Store, Publish, Statements, Empty, Then, Group, Plan}
-use Rattle.plan_words.specs.Spelling.{count_text, symbol_text}
-use Rattle.plan_text.specs.Spelling.{input_text, output_text, group_text, for_text, let_text, guard_text, alloc_text, fetch_text, store_text}
+use Rattle.plan_text.specs.Spelling.{input_text, output_text, group_text, for_text, let_text, first_text, guard_text, alloc_text, fetch_text, store_text, publish_text}
 
-abbrev pub first_text : ℕ → List ℕ
-first_text i = codes "first " ++ (symbol_text i ++ codes "\n")
+-- the line of a statement that has no body, without its line feed
+abbrev pub simple_text : Statement → List ℕ
+simple_text (Let i pick forms) = let_text i pick forms
+simple_text (Alloc b f places) = alloc_text b f places
+simple_text (Fetch b g region) = fetch_text b g region
+simple_text (Store b k at e) = store_text b k at e
+simple_text (Publish c) = publish_text c
+simple_text _ = []
 
 abbrev mutual
   pub statement_text : Statement → List ℕ
   statement_text (Seq all) = block_text all
   statement_text (For i x kind body) = for_text i x kind ++ (codes "\n" ++ (statement_text body ++ codes "end\n"))
   statement_text (Let i pick forms) = let_text i pick forms ++ codes "\n"
-  statement_text (First i a b) = first_text i ++ (statement_text a ++ (codes "else\n" ++ (statement_text b ++ codes "end\n")))
+  statement_text (First i a b) = first_text i ++ (codes "\n" ++ (statement_text a ++ (codes "else\n" ++ (statement_text b ++ codes "end\n"))))
   statement_text (Guard low high body) = guard_text low high ++ (codes "\n" ++ (statement_text body ++ codes "end\n"))
   statement_text (Alloc b f places) = alloc_text b f places ++ codes "\n"
   statement_text (Fetch b g region) = fetch_text b g region ++ codes "\n"
   statement_text (Store b k at e) = store_text b k at e ++ codes "\n"
-  statement_text (Publish c) = codes "publish @" ++ (count_text c ++ codes "\n")
+  statement_text (Publish c) = publish_text c ++ codes "\n"
 
   pub block_text : Statements → List ℕ
   block_text Empty = []

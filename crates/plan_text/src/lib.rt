@@ -3,10 +3,9 @@
 
 mod fitting;
 pub mod laws;
-mod plan;
 mod reading;
 mod text;
 mod writing;
 
-pub use plan::write;
 pub use text::read;
+pub use writing::write;

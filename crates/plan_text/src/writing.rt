@@ -1,23 +1,28 @@
-//! The text of each line.
+//! The text of each line, and of whole plans.
 
-ghost use Rattle.std.specs.Prelude.{◌≡◌, ◌++◌, ◌∷◌, [], OnOk, map, string_bytes};
+ghost use Rattle.std.specs.Prelude.{◌≡◌, ◌++◌, ◌∷◌, [], IfOk, OnOk, codes, map, string_bytes};
 ghost use Rattle.std.specs.List.{flat_map};
 ghost use Rattle.tree.specs.Term.{term_of};
-ghost use Rattle.nest.specs.View.{coordinate_of, declaration_of, index_of};
+ghost use Rattle.nest.specs.Lists.{list_groups, list_statements};
+ghost use Rattle.nest.specs.Plan.{block};
+ghost use Rattle.nest.specs.View.{coordinate_of, declaration_of, group_of, index_of, plan_of, statement_of};
+ghost use Rattle.plan_lines.specs.Lines.{lines_text};
 ghost use Rattle.plan_words.specs.Spelling as words;
 ghost use Rattle.plan_blocks.specs.View.{line_of};
+ghost use Rattle.plan_text.specs.Notation.{plan_notation};
 ghost use Rattle.plan_text.specs.Spelling as spec;
+ghost use Rattle.plan_text.specs.Writing as whole;
 
 use itoa::Buffer;
 use lin::{Forms, Lin, Region, Span1, Sym};
-use nest::{Coordinate, Declaration, Index, Kind, Pick, Places};
+use nest::{Coordinate, Declaration, Group, Index, Kind, Pick, Places, Plan, Stmt};
 use plan_blocks::Line;
 use plan_terms::put_term;
 use plan_words::{
     put_count, put_counts, put_form, put_forms, put_name, put_region, put_span, put_symbol,
     put_type,
 };
-use std::alloc::AllocError;
+use std::alloc::{AllocError, Global};
 use tree::Expr;
 
 fn kind_text(kind: Kind) -> &'static str
@@ -140,7 +145,7 @@ fn put_grid(text: &mut String, grid: &[u32]) -> Result<(), AllocError>
 }
 
 #[tactic(auto, unfolding(crate::specs::Spelling::input_text))]
-pub(crate) fn put_input(text: &mut String, input: &Declaration) -> Result<(), AllocError>
+fn put_input(text: &mut String, input: &Declaration) -> Result<(), AllocError>
     ensures { OnOk result (string_bytes text.new ≡ string_bytes text.old ++ spec.input_text (declaration_of input.now)) }
 {
     text.push_str("input ")?;
@@ -148,7 +153,7 @@ pub(crate) fn put_input(text: &mut String, input: &Declaration) -> Result<(), Al
 }
 
 #[tactic(auto, unfolding(crate::specs::Spelling::output_text))]
-pub(crate) fn put_output(text: &mut String, output: &Declaration) -> Result<(), AllocError>
+fn put_output(text: &mut String, output: &Declaration) -> Result<(), AllocError>
     ensures { OnOk result (string_bytes text.new ≡ string_bytes text.old ++ spec.output_text (declaration_of output.now)) }
 {
     text.push_str("output ")?;
@@ -163,7 +168,7 @@ fn put_group_number(text: &mut String, number: usize) -> Result<(), AllocError>
 }
 
 #[tactic(auto, unfolding(crate::specs::Spelling::group_text))]
-pub(crate) fn put_group(
+fn put_group(
     text: &mut String,
     number: usize,
     function: &str,
@@ -183,12 +188,7 @@ pub(crate) fn put_group(
 }
 
 #[tactic(auto, unfolding(crate::specs::Spelling::for_text))]
-pub(crate) fn put_for(
-    text: &mut String,
-    symbol: Sym,
-    span: &Span1,
-    kind: Kind,
-) -> Result<(), AllocError>
+fn put_for(text: &mut String, symbol: Sym, span: &Span1, kind: Kind) -> Result<(), AllocError>
     ensures { OnOk result (string_bytes text.new ≡ string_bytes text.old ++ spec.for_text symbol span.now kind) }
 {
     text.push_str("for ")?;
@@ -200,12 +200,7 @@ pub(crate) fn put_for(
 }
 
 #[tactic(auto, unfolding(crate::specs::Spelling::let_text))]
-pub(crate) fn put_let(
-    text: &mut String,
-    symbol: Sym,
-    pick: Pick,
-    forms: &Forms,
-) -> Result<(), AllocError>
+fn put_let(text: &mut String, symbol: Sym, pick: Pick, forms: &Forms) -> Result<(), AllocError>
     ensures { OnOk result (string_bytes text.new ≡ string_bytes text.old ++ spec.let_text symbol pick forms.now) }
 {
     text.push_str("let ")?;
@@ -217,7 +212,7 @@ pub(crate) fn put_let(
 }
 
 #[tactic(auto, unfolding(crate::specs::Spelling::guard_text))]
-pub(crate) fn put_guard(text: &mut String, low: &Lin, high: &Lin) -> Result<(), AllocError>
+fn put_guard(text: &mut String, low: &Lin, high: &Lin) -> Result<(), AllocError>
     ensures { OnOk result (string_bytes text.new ≡ string_bytes text.old ++ spec.guard_text low.now high.now) }
 {
     text.push_str("guard ")?;
@@ -227,7 +222,7 @@ pub(crate) fn put_guard(text: &mut String, low: &Lin, high: &Lin) -> Result<(), 
 }
 
 #[tactic(auto, unfolding(crate::specs::Spelling::alloc_text))]
-pub(crate) fn put_alloc(
+fn put_alloc(
     text: &mut String,
     buffer: u32,
     function: &str,
@@ -244,12 +239,7 @@ pub(crate) fn put_alloc(
 }
 
 #[tactic(auto, unfolding(crate::specs::Spelling::fetch_text))]
-pub(crate) fn put_fetch(
-    text: &mut String,
-    buffer: u32,
-    group: u32,
-    region: &Region,
-) -> Result<(), AllocError>
+fn put_fetch(text: &mut String, buffer: u32, group: u32, region: &Region) -> Result<(), AllocError>
     ensures { OnOk result (string_bytes text.new ≡ string_bytes text.old ++ spec.fetch_text buffer group region.now) }
 {
     text.push_str("fetch b")?;
@@ -261,7 +251,7 @@ pub(crate) fn put_fetch(
 }
 
 #[tactic(auto, unfolding(crate::specs::Spelling::store_text))]
-pub(crate) fn put_store(
+fn put_store(
     text: &mut String,
     buffer: u32,
     definition: u32,
@@ -279,15 +269,33 @@ pub(crate) fn put_store(
     put_term(text, value)
 }
 
+fn put_plan_name(text: &mut String, name: &str) -> Result<(), AllocError>
+    ensures { OnOk result (string_bytes text.new ≡ string_bytes text.old ++ (codes "plan 1 " ++ name.now)) }
+{
+    text.push_str("plan 1 ")?;
+    put_name(text, name)
+}
+
+fn put_first(text: &mut String, symbol: Sym) -> Result<(), AllocError>
+    ensures { OnOk result (string_bytes text.new ≡ string_bytes text.old ++ spec.first_text symbol) }
+{
+    text.push_str("first ")?;
+    put_symbol(text, symbol)
+}
+
+fn put_publish(text: &mut String, claim: u32) -> Result<(), AllocError>
+    ensures { OnOk result (string_bytes text.new ≡ string_bytes text.old ++ spec.publish_text claim) }
+{
+    text.push_str("publish @")?;
+    put_count(text, claim)
+}
+
 /// Writes a line at the end of the text, without its line feed.
 pub(crate) fn put_line(text: &mut String, line: &Line) -> Result<(), AllocError>
     ensures { OnOk result (string_bytes text.new ≡ string_bytes text.old ++ spec.line_text (line_of line.now)) }
 {
     match line {
-        Line::Plan { name } => {
-            text.push_str("plan 1 ")?;
-            put_name(text, name)
-        }
+        Line::Plan { name } => put_plan_name(text, name),
         Line::Input(input) => put_input(text, input),
         Line::Output(output) => put_output(text, output),
         Line::Group {
@@ -302,10 +310,7 @@ pub(crate) fn put_line(text: &mut String, line: &Line) -> Result<(), AllocError>
             pick,
             forms,
         } => put_let(text, *symbol, *pick, forms),
-        Line::First { symbol } => {
-            text.push_str("first ")?;
-            put_symbol(text, *symbol)
-        }
+        Line::First { symbol } => put_first(text, *symbol),
         Line::Else => text.push_str("else"),
         Line::Guard { low, high } => put_guard(text, low, high),
         Line::End => text.push_str("end"),
@@ -325,9 +330,132 @@ pub(crate) fn put_line(text: &mut String, line: &Line) -> Result<(), AllocError>
             coordinates,
             value,
         } => put_store(text, *buffer, *definition, coordinates, value),
-        Line::Publish { claim } => {
-            text.push_str("publish @")?;
-            put_count(text, *claim)
+        Line::Publish { claim } => put_publish(text, *claim),
+    }
+}
+
+/// Writes the line of a simple statement, without its line feed, and nothing for one that has a body.
+fn put_simple(text: &mut String, stmt: &Stmt) -> Result<(), AllocError>
+    ensures { OnOk result (string_bytes text.new ≡ string_bytes text.old ++ whole.simple_text (statement_of stmt.now)) }
+{
+    match stmt {
+        Stmt::Let {
+            symbol,
+            pick,
+            forms,
+        } => put_let(text, *symbol, *pick, forms),
+        Stmt::Alloc {
+            buffer,
+            function,
+            places,
+        } => put_alloc(text, *buffer, function, places),
+        Stmt::Fetch {
+            buffer,
+            group,
+            region,
+        } => put_fetch(text, *buffer, *group, region),
+        Stmt::Store {
+            buffer,
+            definition,
+            coordinates,
+            value,
+        } => put_store(text, *buffer, *definition, coordinates, value),
+        Stmt::Publish { claim } => put_publish(text, *claim),
+        Stmt::Seq(_) | Stmt::For { .. } | Stmt::First { .. } | Stmt::Guard { .. } => Ok(()),
+    }
+}
+
+/// Writes a statement's lines at the end of the text.
+#[cycle(put_stmt)]
+fn put_stmt(text: &mut String, stmt: &Stmt) -> Result<(), AllocError>
+    ensures { OnOk result (string_bytes text.new ≡ string_bytes text.old ++ whole.statement_text (statement_of stmt.now)) }
+{
+    match stmt {
+        Stmt::Seq(all) => put_block(text, all),
+        Stmt::For {
+            symbol,
+            span,
+            kind,
+            body,
+        } => {
+            put_for(text, *symbol, span, *kind)?;
+            text.push_str("\n")?;
+            put_stmt(text, body)?;
+            text.push_str("end\n")
+        }
+        Stmt::First {
+            symbol,
+            first,
+            later,
+        } => {
+            put_first(text, *symbol)?;
+            text.push_str("\n")?;
+            put_stmt(text, first)?;
+            text.push_str("else\n")?;
+            put_stmt(text, later)?;
+            text.push_str("end\n")
+        }
+        Stmt::Guard { low, high, body } => {
+            put_guard(text, low, high)?;
+            text.push_str("\n")?;
+            put_stmt(text, body)?;
+            text.push_str("end\n")
+        }
+        simple => {
+            put_simple(text, simple)?;
+            text.push_str("\n")
         }
     }
+}
+
+/// Writes the lines of statements.
+#[cycle(put_stmt)]
+fn put_block(text: &mut String, all: &[Stmt]) -> Result<(), AllocError>
+    ensures { OnOk result (string_bytes text.new ≡ string_bytes text.old ++ whole.block_text (block (list_statements all.now))) }
+{
+    for stmt in all {
+        put_stmt(text, stmt)?;
+    }
+    Ok(())
+}
+
+/// Writes the lines of groups, of which the first has that number.
+fn put_groups(text: &mut String, groups: &[Group]) -> Result<(), AllocError>
+    ensures { OnOk result (string_bytes text.new ≡ string_bytes text.old ++ whole.groups_text 0 (list_groups groups.now)) }
+{
+    for (number, group) in groups.iter().enumerate() {
+        put_whole_group(text, number, group)?;
+    }
+    Ok(())
+}
+
+/// Writes the lines of a group.
+fn put_whole_group(text: &mut String, number: usize, group: &Group) -> Result<(), AllocError>
+    ensures { OnOk result (string_bytes text.new ≡ string_bytes text.old ++ whole.whole_group_text number (group_of group.now)) }
+{
+    put_group(text, number, &group.function, &group.region, &group.grid)?;
+    text.push_str("\n")?;
+    put_stmt(text, &group.body)
+}
+
+/// Writes the lines before the groups.
+fn put_head(text: &mut String, plan: &Plan) -> Result<(), AllocError>
+    ensures { OnOk result (string_bytes text.new ≡ string_bytes text.old ++ whole.head_text (plan_of plan.now)) }
+{
+    put_plan_name(text, &plan.name)?;
+    text.push_str("\n")?;
+    put_input(text, &plan.input)?;
+    text.push_str("\n")?;
+    put_output(text, &plan.output)?;
+    text.push_str("\n")
+}
+
+/// The plan's text: its lines up to the line `cert`, each with its line feed.
+pub fn write(alloc: Global, plan: &Plan) -> Result<String, AllocError>
+    ensures { IfOk result (λ text. string_bytes text ≡ lines_text (plan_notation.lines (plan_of plan.now))) }
+{
+    let mut text = String::new(alloc);
+    put_head(&mut text, plan)?;
+    put_groups(&mut text, &plan.groups)?;
+    Ok(text)
 }

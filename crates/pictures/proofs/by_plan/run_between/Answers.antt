@@ -1,11 +1,13 @@
-use Rattle.std.proofs.Common.{ap, ◌∙◌}
+use Rattle.std.proofs.Common.{Err, Ok, ap, refl, ◌∙◌}
 use Rattle.std.proofs.lemmas.Result.{err_from_is_err_and}
 use Rattle.image.specs.View.{image_of}
 use Rattle.algo.specs.declared.algorithm.Algo.{Algo}
 use Rattle.algo.specs.View.{algorithm_of, picture_said, samples_of}
+use Rattle.pnm.specs.declared.error.PnmError.TheVariants.{Device}
+use Rattle.pictures.specs.declared.fault.Fault.TheVariants.{Image}
 use Rattle.pictures.specs.Faults.{image_fault}
 use Rattle.pictures.specs.ByPlan.{HasPlan, IsRunRefused}
-use Rattle.pictures.proofs.PlanWays.{file_refused, image_refused, no_memory, picture_done, text_refused, writer_failed}
+use Rattle.pictures.proofs.PlanWays.{file_refused, first_alone, handed_on, image_refused, no_memory, none_failed, picture_done, text_refused, writer_failed}
 use Rattle.pictures.proofs.Ways.{told}
 use Rattle.pictures.proofs.by_plan.run_between.Goals as goal
 
@@ -88,3 +90,13 @@ returns-clause-done g c =
     let samples = samples_of c.in_ok-inputs.inputs in
     let whole = c.in_ok-image.ensures.picture ∙ ap (λ (x : Algo). picture_said (algorithm_of x) samples) c.in_ok-checked.ensures.checked in
     picture_done text file a c.in_ok-algo.ensures.said plan read left held samples c.in_ok-inputs.ensures.file holds (image_of c.in_ok-image.image) whole c.in_ok-write_to.ensures.bytes
+
+pub returns-in_err-inputs-clause-failed : goal.returns-in_err-inputs-clause-failed
+returns-in_err-inputs-clause-failed g c = λ h.
+    let p = err_from_is_err_and c.from_residual-in_err-inputs.result c.from_residual-in_err-inputs.ensures.1 in
+    let source = first_alone _ (g.K.Sink.has_failed c.args.sink.now) c.requires.sink h in
+    handed_on (Err c.in_err-inputs.field-0.0) c.from_residual-in_err-inputs.result c.in_err-inputs.field-0.0 p.0 (Image Device) refl p.1 p.2 (c.in_err-inputs.ensures.failed source)
+
+pub returns-clause-failed : goal.returns-clause-failed
+returns-clause-failed g c = λ h.
+    none_failed _ _ _ (g.K.Sink.has_failed c.args.sink.now) (Ok c.in_ok-inputs.inputs) c.in_ok-inputs.inputs (Image Device) refl c.in_ok-inputs.ensures.failed c.in_ok-write_to.ensures.failure c.requires.sink h

@@ -1,4 +1,4 @@
-use Rattle.std.proofs.Common.{◌≡◌, true, false, [], ◌∷◌, ap, map, ◌∙◌}
+use Rattle.std.proofs.Common.{◌≡◌, true, false, [], ◌∷◌, ap, map}
 use Rattle.std.proofs.lemmas.List.{map-append}
 use Rattle.nest.specs.View.{coordinate_of}
 use Rattle.plan_text.specs.Reading.{has_blank}

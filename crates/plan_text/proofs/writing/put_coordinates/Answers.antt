@@ -1,4 +1,4 @@
-use Rattle.std.proofs.Common.{◌≡◌, ◌++◌, length, take, take_all, sym, ap, ◌∙◌}
+use Rattle.std.proofs.Common.{◌++◌, take_all, sym, ap, ◌∙◌}
 use Rattle.std.specs.Prelude.{string_bytes}
 use Rattle.std.specs.List.{flat_map}
 use Rattle.nest.specs.View.{coordinate_of}

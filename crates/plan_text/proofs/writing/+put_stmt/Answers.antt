@@ -6,7 +6,7 @@ use Rattle.nest.specs.Lists.{list_statements}
 use Rattle.nest.proofs.Rows.{statement_of-seq}
 use Rattle.plan_text.specs.Writing.{statement_text, block_text}
 use Rattle.plan_text.proofs.Whole.{more_statements}
-use Rattle.plan_text.proofs.plan.+put_stmt.Goals as goal
+use Rattle.plan_text.proofs.writing.+put_stmt.Goals as goal
 
 pub put_block-loop-stmt-preserved : goal.put_block-loop-stmt-preserved
 put_block-loop-stmt-preserved t c =

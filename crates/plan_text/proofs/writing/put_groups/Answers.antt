@@ -1,10 +1,10 @@
-use Rattle.std.proofs.Common.{◌≡◌, ◌++◌, ap, sym, ◌∙◌, append_assoc, take}
+use Rattle.std.proofs.Common.{◌++◌, ap, sym, ◌∙◌, append_assoc, take}
 use Rattle.std.specs.Prelude.{string_bytes}
 use Rattle.nest.specs.View.{group_of}
 use Rattle.nest.specs.Lists.{list_groups}
 use Rattle.plan_text.specs.Writing.{groups_text, whole_group_text}
 use Rattle.plan_text.proofs.Whole.{more_groups}
-use Rattle.plan_text.proofs.plan.put_groups.Goals as goal
+use Rattle.plan_text.proofs.writing.put_groups.Goals as goal
 
 pub loop-number-preserved : goal.loop-number-preserved
 loop-number-preserved c =

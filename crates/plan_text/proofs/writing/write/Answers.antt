@@ -1,9 +1,9 @@
-use Rattle.std.proofs.Common.{◌≡◌, ◌++◌, ap, sym, ◌∙◌}
+use Rattle.std.proofs.Common.{◌++◌, ap, sym, ◌∙◌}
 use Rattle.nest.specs.View.{plan_of}
 use Rattle.nest.specs.Lists.{list_groups}
 use Rattle.plan_text.specs.Writing.{groups_text, head_text}
 use Rattle.plan_text.proofs.Whole.{plan_written}
-use Rattle.plan_text.proofs.plan.write.Goals as goal
+use Rattle.plan_text.proofs.writing.write.Goals as goal
 
 pub returns : goal.returns
 returns c =
