@@ -55,7 +55,13 @@ fn spellings(rt: HostRuntime) -> Result<(), Fail> {
 }
 
 // So many of the first, the leaf, so many of the last.
-fn nested(alloc: Global, count: usize, first: &[u8], leaf: &[u8], last: &[u8]) -> Result<Vec<u8>, Fail> {
+fn nested(
+    alloc: Global,
+    count: usize,
+    first: &[u8],
+    leaf: &[u8],
+    last: &[u8],
+) -> Result<Vec<u8>, Fail> {
     let mut text = Vec::new(alloc);
     for _ in 0..count {
         text.extend_from_slice(first)?;
@@ -72,7 +78,13 @@ fn are_bounded(alloc: Global, most: usize, first: &[u8], last: &[u8]) -> Result<
     let fits = nested(alloc, most, first, b"x", last)?;
     let passes = nested(alloc, most + 1, first, b"x", last)?;
     let deep = nested(alloc, 4000, first, b"x", last)?;
-    Ok(is_spelling(alloc, fits.as_slice())? && !has_deep_brackets(fits.as_slice()) && !is_spelling(alloc, passes.as_slice())? && has_deep_brackets(passes.as_slice()) && !is_spelling(alloc, deep.as_slice())?)
+    Ok(
+        is_spelling(alloc, fits.as_slice())?
+            && !has_deep_brackets(fits.as_slice())
+            && !is_spelling(alloc, passes.as_slice())?
+            && has_deep_brackets(passes.as_slice())
+            && !is_spelling(alloc, deep.as_slice())?,
+    )
 }
 
 #[test]

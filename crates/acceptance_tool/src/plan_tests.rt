@@ -38,9 +38,11 @@ claim 0 10 b0 out 0 [0:1;0+3*s0:2+7*s0]
 end
 ";
 
-const IMAGE: &[u8] = b"P5\n2 10\n255\n\x00\x01\x02\x03\x04\x05\x06\x07\x08\x09\x0a\x0b\x0c\x0d\x0e\x0f\x10\x11\x12\x13";
+const IMAGE: &[u8] =
+    b"P5\n2 10\n255\n\x00\x01\x02\x03\x04\x05\x06\x07\x08\x09\x0a\x0b\x0c\x0d\x0e\x0f\x10\x11\x12\x13";
 
-const PICTURE: &[u8] = b"P5\n2 10\n255\n\x01\x02\x03\x04\x05\x06\x07\x08\x09\x0a\x0b\x0c\x0d\x0e\x0f\x10\x11\x12\x13\x14";
+const PICTURE: &[u8] =
+    b"P5\n2 10\n255\n\x01\x02\x03\x04\x05\x06\x07\x08\x09\x0a\x0b\x0c\x0d\x0e\x0f\x10\x11\x12\x13\x14";
 
 // What came of the words over the algorithm, a plan, the image and an order: the status, and the line that is told.
 fn assert_told<T: Abort + Threads + Wait + Sync>(
@@ -93,10 +95,20 @@ const CHANGES: &[(&str, &str, u8, &str)] = &[
     ("[0#2", "[00#2", 3, "stencil: N1 line 5\n"),
     ("for s2 0:1", "for s2 0+0*s0:1", 3, "stencil: N1 line 7\n"),
     ("for s2", " for s2", 3, "stencil: N1 line 7\n"),
-    ("serial\nfor s2", "serial\r\nfor s2", 3, "stencil: N1 line 6\n"),
+    (
+        "serial\nfor s2",
+        "serial\r\nfor s2",
+        3,
+        "stencil: N1 line 6\n",
+    ),
     ("(in[x,y]+1u8)", "in[x,y]+1u8", 3, "stencil: N1 line 8\n"),
     ("(in[x,y]+1u8)", "(in[x,y]+2u8)", 1, "stencil: K12 line 8\n"),
-    ("publish @0\n", "publish @0\nend\n", 3, "stencil: N1 line 12\n"),
+    (
+        "publish @0\n",
+        "publish @0\nend\n",
+        3,
+        "stencil: N1 line 12\n",
+    ),
     ("claim 0 10", "claim 1 10", 3, "stencil: N1 line 14\n"),
     ("claim 0 10", "claim 0 9", 1, "stencil: K5 line 11\n"),
     ("s0]\nend\n", "s0]\n", 3, "stencil: N1 line 15\n"),
@@ -120,11 +132,25 @@ fn rows_of_two_pieces_and_of_none(rt: HostRuntime) -> Result<(), Fail> {
     let twice = INC_PLAN
         .replace(alloc, "0+3*s0:2+7*s0", "0+4*s0:4+5*s0")?
         .replace(alloc, "0+3*s0#7", "0+4*s0#7")?;
-    assert_told(&rt, alloc, CHECK, twice.as_str(), "", (1, "stencil: K9 line 13\n"));
+    assert_told(
+        &rt,
+        alloc,
+        CHECK,
+        twice.as_str(),
+        "",
+        (1, "stencil: K9 line 13\n"),
+    );
     let never = INC_PLAN
         .replace(alloc, "0+3*s0:2+7*s0", "0+5*s0:3+6*s0")?
         .replace(alloc, "0+3*s0#7", "0+5*s0#7")?;
-    assert_told(&rt, alloc, CHECK, never.as_str(), "", (1, "stencil: K10 line 13\n"));
+    assert_told(
+        &rt,
+        alloc,
+        CHECK,
+        never.as_str(),
+        "",
+        (1, "stencil: K10 line 13\n"),
+    );
     Ok(())
 }
 
@@ -163,8 +189,16 @@ fn a_plan_is_run(rt: HostRuntime) {
 
 // Orders, and how far they come.
 const ORDERS: &[(&str, u8, &str)] = &[
-    ("", 0, "entries 0\ndrawn 0 of 2\nfinished 0 of 2\ncells 0 of 20\n"),
-    (" \t\r\n", 0, "entries 0\ndrawn 0 of 2\nfinished 0 of 2\ncells 0 of 20\n"),
+    (
+        "",
+        0,
+        "entries 0\ndrawn 0 of 2\nfinished 0 of 2\ncells 0 of 20\n",
+    ),
+    (
+        " \t\r\n",
+        0,
+        "entries 0\ndrawn 0 of 2\nfinished 0 of 2\ncells 0 of 20\n",
+    ),
     (
         "0 0 0 0 0 0 0 0 0 0 0 0 0 0 0 0 0 0 0 0 0 0 0 0",
         0,
@@ -180,8 +214,16 @@ const ORDERS: &[(&str, u8, &str)] = &[
         0,
         "entries 31\ndrawn 2 of 2\nfinished 1 of 2\ncells 20 of 20\n",
     ),
-    ("0 0 1", 0, "entries 3\ndrawn 2 of 2\nfinished 0 of 2\ncells 1 of 20\n"),
-    ("63\n63", 0, "entries 2\ndrawn 1 of 2\nfinished 0 of 2\ncells 1 of 20\n"),
+    (
+        "0 0 1",
+        0,
+        "entries 3\ndrawn 2 of 2\nfinished 0 of 2\ncells 1 of 20\n",
+    ),
+    (
+        "63\n63",
+        0,
+        "entries 2\ndrawn 1 of 2\nfinished 0 of 2\ncells 1 of 20\n",
+    ),
     ("0 64", 3, "stencil: O1\n"),
     ("0,1", 3, "stencil: O1\n"),
     ("-1", 3, "stencil: O1\n"),

@@ -44,11 +44,7 @@ pub fn check_plan<'a, T: Threads + Sync>(
 ///
 /// # Errors
 /// `Memory` where memory runs out.
-pub fn plan_picture(
-    alloc: Global,
-    checked: &Checked<'_>,
-    inputs: &Inputs,
-) -> Result<Image, Fault>
+pub fn plan_picture(alloc: Global, checked: &Checked<'_>, inputs: &Inputs) -> Result<Image, Fault>
     requires { IsFor checked.now.algo.now inputs.now }
     ensures picture { IfOk result (λ image. image_of image ≡ picture_said (algorithm_checked checked.now) (samples_of inputs.now)) }
     ensures refused { IfErr result (λ fault. fault ≡ Memory) }

@@ -18,7 +18,9 @@ use crate::request::{PictureRequest, Way};
 use algo::{Algo, Inputs};
 use audit::Checked;
 use image::Image;
-use pictures::{Fault, check_rows, plain_picture, plan_picture, read_algorithm, read_inputs, rows_picture};
+use pictures::{
+    Fault, check_rows, plain_picture, plan_picture, read_algorithm, read_inputs, rows_picture,
+};
 use pnm::PnmError;
 use std::alloc::Global;
 use std::str;

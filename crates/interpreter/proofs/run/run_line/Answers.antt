@@ -69,4 +69,3 @@ returns-in-Alloc-clause-run g c =
     let q = progress_of c.allot.new.state in
     subst (λ (a : Stmt). steps A (actions (setting x) (statement_of a) s) p ≡ Some q) (sym c.in-Alloc.is)
     (subst (λ (l : List Places). steps A (Allot c.in-Alloc.buffer (map (room s) l) ∷ []) p ≡ Some q) c.deref.ensures.value (sym (c.allot.ensures.allot A)))
-
