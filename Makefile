@@ -6,9 +6,10 @@ run:
 	cd crates/stencil && rt run -- rows $(CURDIR)/examples/blur3.alg $(CURDIR)/examples/shapes.pgm $(CURDIR)/out/blur3.pgm
 	@echo "the picture is in out/blur3.pgm"
 
-# The gate: proves every crate from nothing, tries every must-fail edit, runs every test.
+# The gate: proves every crate from nothing, tries every must-fail edit, runs every test. As many checks run side by side as
+# there are processors: a check takes far less memory than `rt ci` plans for.
 test:
-	rt ci
+	RT_JOBS=$$(nproc) rt ci
 
 # How long the checker takes for a row plan of 4096 by 4096 (4096 pieces and 2^24 cells), and how long and how much memory
 # the command `rows` takes for an increment and a 3x3 blur of 1024 by 1024 and 4096 by 4096, and `plain` for the blur of
