@@ -76,7 +76,7 @@ fn nested(
 // Texts of 256 brackets, one more, and many more.
 fn are_bounded(alloc: Global, most: usize, first: &[u8], last: &[u8]) -> Result<bool, Fail> {
     let fits = nested(alloc, most, first, b"x", last)?;
-    let passes = nested(alloc, most + 1, first, b"x", last)?;
+    let passes = nested(alloc, most.saturating_add(1), first, b"x", last)?;
     let deep = nested(alloc, 4000, first, b"x", last)?;
     Ok(
         is_spelling(alloc, fits.as_slice())?
