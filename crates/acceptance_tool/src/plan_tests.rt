@@ -278,13 +278,14 @@ fn plain_is_the_picture(rt: HostRuntime) {
 // The plan without the line of that number, with that line twice, or with it behind the next one.
 fn with_line(alloc: Global, at: usize, change: usize) -> Result<String, Fail> {
     let mut made = String::new(alloc);
+    let next = at.saturating_add(1);
     let lines: Vec<&str> = INC_PLAN.lines().collect(alloc)?;
     for (number, line) in lines.iter().enumerate() {
         let shown = match change {
             0 => [if number == at { None } else { Some(*line) }, None],
             1 => [Some(*line), if number == at { Some(*line) } else { None }],
-            _ if number == at => [lines.get(at + 1).copied(), Some(*line)],
-            _ => [if number == at + 1 { None } else { Some(*line) }, None],
+            _ if number == at => [lines.get(next).copied(), Some(*line)],
+            _ => [if number == next { None } else { Some(*line) }, None],
         };
         for line in shown.iter().flatten() {
             made.push_str(line)?;
