@@ -1,3 +1,4 @@
 mod Kept
 mod Named
 mod Prepared
+mod Streams

@@ -1,12 +1,12 @@
 use Rattle.std.proofs.Common.{◌≡◌, subst, List, ℕ, inl, inr, Ok}
-use Rattle.std.proofs.lemmas.Result.{err_from_is_err_and}
+use Rattle.std.proofs.lemmas.Result.{err_from_is_err_and, IfErr-weaker}
 use Rattle.meaning.specs.Algorithm.{Algorithm}
 use Rattle.algo.specs.Parts.{input_frame}
 use Rattle.algo.specs.Refusal.{IsAlgorithmText}
 use Rattle.algo.specs.View.{algorithm_of, samples_of}
 use Rattle.pnm.specs.Reading.{reading, wanted_of}
 use Rattle.worker_order.specs.Order.{IsOrder}
-use Rattle.tool.proofs.Kept.{held_before, on_ok, same_then}
+use Rattle.tool.proofs.Kept.{held_before, of_device, on_ok, same_then}
 use Rattle.tool.proofs.Prepared.{fault_before, plan_before}
 use Rattle.tool.specs.Asked.{check_asked, replay_asked}
 use Rattle.tool.specs.Checks.{IsChecked}
@@ -129,3 +129,16 @@ returns-clause-done g c =
       holds_order = held_before _ _ _ _ second c.in_ok-order_text.ensures.bytes;
       is_order = subst IsText-3 c.as_slice-3.ensures.value c.in_ok-order.ensures.order;
     })
+
+pub returns-in_err-bytes-clause-refused : goal.returns-in_err-bytes-clause-refused
+returns-in_err-bytes-clause-refused g c =
+    let p = err_from_is_err_and c.from_residual-in_err-bytes.result c.from_residual-in_err-bytes.ensures.1 in
+    rw p.1 (inl (of_device _ _ p.2))
+
+pub returns-in_err-order_text-clause-refused : goal.returns-in_err-order_text-clause-refused
+returns-in_err-order_text-clause-refused g c =
+    let p = err_from_is_err_and c.from_residual-in_err-order_text.result c.from_residual-in_err-order_text.ensures.1 in
+    rw p.1 (inl (of_device _ _ p.2))
+
+pub returns-clause-refused : goal.returns-clause-refused
+returns-clause-refused g c = IfErr-weaker c.tell.result _ _ (λ fault h. inl h) c.tell.ensures
