@@ -11,6 +11,7 @@ const WHOLE: &[&str] = &[
     INC,
     "cert\nend\n",
     "cert\nown 0 []\nown 2 [0,1:5,7,9,0+1*s1]\nneed 2 0 [0:1]\nneed 2 0 [0:1]\nneed 0 0 []\nclaim 0 10 b3 f 1 [0:9223372036854775807]\nclaim 1 4294967295 b0 g_1 0 []\nwindow 1 s9 1 3 -1+1*s0:2\nwindow 0 s0 0 0 0:0\nend\n",
+    "cert\nown 4294967296 []\nneed 9223372036854775807 4294967296 []\nclaim 0 9223372036854775807 b4294967295 f 4294967296 []\nwindow 0 s0 4294967296 9223372036854775807 0:0\nend\n",
 ];
 
 /// Texts that are none, the code of each and its line.
@@ -58,7 +59,12 @@ const WRONG: &[(&str, &str)] = &[
     ("cert\nclaim 4096 1 b0 f 0 []\nend\n", "N2 line 13"),
     ("cert\nown 0 [0,1,2,3,4:5]\nend\n", "N2 line 13"),
     ("cert\nwindow 0 s0 0 0 0:1,2,3,4,5\nend\n", "N2 line 13"),
-    ("cert\nown 4294967296 []\nend\n", "N1 line 13"),
+    ("cert\nclaim 0 1 b4294967296 f 0 []\nend\n", "N1 line 13"),
+    ("cert\nown 9223372036854775808 []\nend\n", "N2 line 13"),
+    (
+        "cert\nclaim 0 9223372036854775808 b0 f 0 []\nend\n",
+        "N2 line 13",
+    ),
 ];
 
 fn answer(alloc: Global, text: &str) -> Result<String, AllocError> {

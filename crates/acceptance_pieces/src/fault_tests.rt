@@ -38,7 +38,7 @@ enum Around {
 
 #[derive(Clone, Copy, Drop)]
 struct Row {
-    pub places: u32,
+    pub places: u64,
     pub columns: Ends,
     pub value: Stored,
     pub around: Around,
@@ -104,7 +104,7 @@ fn value_of(alloc: Global, value: Stored) -> Made<Expr> {
     }
 }
 
-fn out_room(alloc: Global, count: u32) -> Made<Stmt> {
+fn out_room(alloc: Global, count: u64) -> Made<Stmt> {
     let places = one(alloc, places(alloc, (0, 0, 0), count));
     room(alloc, 0, "out", places)
 }

@@ -83,11 +83,26 @@ fn are_extents(extents: &[u32]) -> bool
     }
 }
 
+// Whether the extents of a plan's input are those of an image.
+fn are_lengths(extents: &[u64], lengths: &[u32]) -> bool
+    ensures { IsTrue result → lengths.now ≡ extents.now }
+{
+    if extents.len() != lengths.len() {
+        return false;
+    }
+    for (index, extent) in extents.iter().enumerate() {
+        if *extent != u64::from(lengths[index]) {
+            return false;
+        }
+    }
+    true
+}
+
 // Whether the image is one that the plan can read.
 fn is_input(plan: &Plan, image: &Image) -> bool
     ensures { IsTrue result → IsInput (plan_of plan.now) (image_of image.now) }
 {
-    image.extents == plan.input.extents && are_extents(&image.extents)
+    are_lengths(&plan.input.extents, &image.extents) && are_extents(&image.extents)
 }
 
 // Whether the regions that pieces own are small.

@@ -127,7 +127,7 @@ fn columns_of(alloc: Global, buffer: u32, function: &str, rows: Made<Places>) ->
 }
 
 // The plan over a fold, where the turns of this symbol's loop are asked for.
-fn slide(alloc: Global, fold: u32, asked: Sym) -> Made<Case> {
+fn slide(alloc: Global, fold: u64, asked: Sym) -> Made<Case> {
     let out = columns_of(alloc, 0, "out", places(alloc, (0, 0, 4), 4));
     let f = columns_of(alloc, 1, "f", Ok(Places::Folded { count: fold }));
     let turn = then(one(alloc, f_turn(alloc, asked)), out_row(alloc));

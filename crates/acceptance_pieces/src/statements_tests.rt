@@ -74,7 +74,7 @@ pub(crate) fn finds(alloc: Global, variable: &str, value: Made<Expr>) -> Made<Co
 // The store of a definition's value.
 pub(crate) fn store(
     buffer: u32,
-    definition: u32,
+    definition: u64,
     coordinates: Made<Vec<Coordinate>>,
     value: Made<Expr>,
 ) -> Made<Stmt> {
@@ -88,7 +88,7 @@ pub(crate) fn store(
 }
 
 // So many places from a form on.
-pub(crate) fn places(alloc: Global, origin: Form, count: u32) -> Made<Places> {
+pub(crate) fn places(alloc: Global, origin: Form, count: u64) -> Made<Places> {
     Ok(Places::From {
         origin: lin(alloc, origin)?,
         count,
@@ -125,14 +125,18 @@ pub(crate) struct Frame {
     pub extents: &'static [u32],
     pub region: &'static [Ends],
     pub own: &'static [Ends],
-    pub pieces: u32,
+    pub pieces: u64,
 }
 
-fn declaration(alloc: Global, name: &str, ty: Ty, extents: &[u32]) -> Made<Declaration> {
+fn declaration(alloc: Global, name: &str, ty: Ty, lengths: &[u32]) -> Made<Declaration> {
+    let mut extents = Vec::new(alloc);
+    for length in lengths {
+        extents.push(u64::from(*length))?;
+    }
     Ok(Declaration {
         name: String::from_str(alloc, name)?,
         ty,
-        extents: extents.to_vec(alloc)?,
+        extents,
     })
 }
 
@@ -160,10 +164,10 @@ pub(crate) fn plan(alloc: Global, frame: Frame, body: Made<Vec<Stmt>>) -> Made<P
 // A claim of a region.
 #[derive(Clone, Copy, Drop)]
 pub(crate) struct Held {
-    pub line: u32,
+    pub line: u64,
     pub buffer: u32,
     pub function: &'static str,
-    pub definition: u32,
+    pub definition: u64,
     pub region: &'static [Ends],
 }
 

@@ -21,24 +21,24 @@ type Ends = (Form, Form);
 #[derive(Clone, Copy, Drop)]
 struct Inc {
     pub name: &'static str,
-    pub input_rows: u32,
+    pub input_rows: u64,
     pub output_type: Ty,
     pub function: &'static str,
     pub group_rows: Ends,
-    pub pieces: u32,
+    pub pieces: u64,
     pub groups: u32,
     pub origin: Form,
-    pub room: u32,
+    pub room: u64,
     pub loop_rows: Ends,
     pub guarded: bool,
     pub stored: u32,
-    pub definition: u32,
+    pub definition: u64,
     pub value: &'static str,
     pub published: u32,
     pub owned: bool,
     pub own_columns: Ends,
     pub own_rows: Ends,
-    pub line: u32,
+    pub line: u64,
     pub claim_columns: Ends,
     pub claim_rows: Ends,
 }
@@ -101,7 +101,7 @@ fn region(alloc: Global, columns: Ends, rows: Ends) -> Result<Region, AllocError
     Ok(made)
 }
 
-fn declaration(alloc: Global, name: &str, ty: Ty, rows: u32) -> Result<Declaration, AllocError> {
+fn declaration(alloc: Global, name: &str, ty: Ty, rows: u64) -> Result<Declaration, AllocError> {
     Ok(Declaration {
         name: String::from_str(alloc, name)?,
         ty,
@@ -306,6 +306,14 @@ const HEADS: &[(&str, Inc, &str)] = &[
         "K1 line 2",
     ),
     (
+        "long input",
+        Inc {
+            input_rows: 4_294_967_306,
+            ..INC
+        },
+        "K1 line 2",
+    ),
+    (
         "type",
         Inc {
             output_type: Ty::U16,
@@ -334,6 +342,22 @@ const LIMITS: &[(&str, Inc, &str)] = &[
             ..INC
         },
         "K14 line 4",
+    ),
+    (
+        "many pieces",
+        Inc {
+            pieces: 4_294_967_298,
+            ..INC
+        },
+        "K14 line 4",
+    ),
+    (
+        "many places",
+        Inc {
+            room: 9_223_372_036_854_775_807,
+            ..INC
+        },
+        "K14 line 5",
     ),
     (
         "extent",
@@ -391,6 +415,14 @@ const NAMES: &[(&str, Inc, &str)] = &[
         "definition",
         Inc {
             definition: 1,
+            ..INC
+        },
+        "K2 line 8",
+    ),
+    (
+        "late definition",
+        Inc {
+            definition: 4_294_967_296,
             ..INC
         },
         "K2 line 8",
@@ -459,6 +491,14 @@ const STORES: &[(&str, Inc, &str)] = &[
 
 const CLAIMS: &[(&str, Inc, &str)] = &[
     ("line", Inc { line: 9, ..INC }, "K5 line 11"),
+    (
+        "late line",
+        Inc {
+            line: 4_294_967_306,
+            ..INC
+        },
+        "K5 line 11",
+    ),
     (
         "wide own",
         Inc {

@@ -1,6 +1,8 @@
 //! Plan files through `check`, `run` and `replay`: the increment in two pieces.
 
 use crate::desk_tests::{ALGORITHM, INPUT, OUTPUT, Shelf, answer};
+use std::alloc::{AllocError, Global};
+use std::test::Fail;
 
 const PLAN: &str = "p.plan";
 
@@ -79,4 +81,121 @@ fn an_order_is_replayed(rt: HostRuntime) {
         b"entries 3\ndrawn 2 of 2\nfinished 0 of 2\ncells 1 of 20\n".as_slice()
     );
     assert_eq!(rt; (answer.status, shelf.calls), (0, 4));
+}
+
+// Numbers of a plan file that may pass 32 bits: the rows of the input, the pieces, the places for the rows, the
+// stored definition, the group that owns and the claim's line.
+#[derive(Clone, Copy, Drop)]
+struct Sizes {
+    pub rows: &'static str,
+    pub pieces: &'static str,
+    pub places: &'static str,
+    pub definition: &'static str,
+    pub owner: &'static str,
+    pub line: &'static str,
+}
+
+const SIZES: Sizes = Sizes {
+    rows: "10",
+    pieces: "2",
+    places: "7",
+    definition: "0",
+    owner: "0",
+    line: "10",
+};
+
+fn sized(alloc: Global, sizes: &Sizes) -> Result<String, AllocError> {
+    let Sizes {
+        rows,
+        pieces,
+        places,
+        definition,
+        owner,
+        line,
+    } = *sizes;
+    format!(in alloc;
+        "plan 1 inc\ninput in u8 [2,{rows}]\noutput out u8 [2,10]\ngroup 0 out [0:1;0:9] grid {pieces}\nalloc b0 out [0#2;0+3*s0#{places}]\nfor s1 0+3*s0:2+7*s0 serial\nfor s2 0:1 serial\nstore b0 {definition} x=0+1*s2 y=0+1*s1 (in[x,y]+1u8)\nend\nend\npublish @0\ncert\nown {owner} [0:1;0+3*s0:2+7*s0]\nclaim 0 {line} b0 out 0 [0:1;0+3*s0:2+7*s0]\nend\n"
+    )
+}
+
+// Plan files of which one number is large, the status and the line.
+const LARGE: &[(Sizes, u8, &str)] = &[
+    (
+        Sizes {
+            rows: "4294967306",
+            ..SIZES
+        },
+        1,
+        "stencil: K1 line 2\n",
+    ),
+    (
+        Sizes {
+            pieces: "4294967298",
+            ..SIZES
+        },
+        1,
+        "stencil: K14 line 4\n",
+    ),
+    (
+        Sizes {
+            places: "9223372036854775807",
+            ..SIZES
+        },
+        1,
+        "stencil: K14 line 5\n",
+    ),
+    (
+        Sizes {
+            definition: "4294967296",
+            ..SIZES
+        },
+        1,
+        "stencil: K2 line 8\n",
+    ),
+    (
+        Sizes {
+            owner: "4294967296",
+            ..SIZES
+        },
+        1,
+        "stencil: K2 line 13\n",
+    ),
+    (
+        Sizes {
+            line: "4294967306",
+            ..SIZES
+        },
+        1,
+        "stencil: K5 line 11\n",
+    ),
+    (
+        Sizes {
+            pieces: "9223372036854775808",
+            ..SIZES
+        },
+        3,
+        "stencil: N2 line 4\n",
+    ),
+    (
+        Sizes {
+            line: "9223372036854775808",
+            ..SIZES
+        },
+        3,
+        "stencil: N2 line 14\n",
+    ),
+];
+
+#[test]
+fn large_numbers_are_told(rt: HostRuntime) -> Result<(), Fail> {
+    let alloc = rt.alloc();
+    for (sizes, status, line) in LARGE {
+        let text = sized(alloc, sizes)?;
+        let files = [(ALGORITHM, INC), (PLAN, text.as_bytes())];
+        let mut shelf = Shelf::new(alloc, &files);
+        let answer = answer(&rt, alloc, CHECK, &mut shelf);
+        assert_eq!(rt; answer.err.as_slice(), line.as_bytes());
+        assert_eq!(rt; answer.status, *status, "{line}");
+    }
+    Ok(())
 }

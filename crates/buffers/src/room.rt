@@ -13,9 +13,9 @@ pub type Rooms = SmallVec<Room, 4>;
 #[derive(Clone, Copy, Debug, PartialEq, Eq, Drop)]
 pub enum Room {
     /// So many places, the first for the coordinate `origin`.
-    Straight { origin: i64, count: u32 },
+    Straight { origin: i64, count: u64 },
     /// So many places, where a coordinate has the place of its remainder by `count`.
-    Wrapped { count: u32 },
+    Wrapped { count: u64 },
 }
 
 /// No place.
@@ -28,10 +28,10 @@ impl Default for Room {
 }
 
 // The number, where it is one below the count.
-fn below(count: u32, number: i64) -> Option<usize>
+fn below(count: u64, number: i128) -> Option<usize>
     ensures { result ≡ below count number }
 {
-    if 0 <= number && number < i64::from(count) {
+    if 0 <= number && number < i128::from(count) {
         Some(number as usize)
     } else {
         None
@@ -44,7 +44,7 @@ impl Room {
     ghost use Rattle.buffers.specs.Raster.{room_count};
 
     /// How many places there are.
-    pub(crate) fn count(&self) -> u32
+    pub(crate) fn count(&self) -> u64
         ensures { result ≡ room_count (room_of self.now) }
     {
         match self {
@@ -58,9 +58,16 @@ impl Room {
         ensures { result ≡ seat (room_of self.now) coordinate }
     {
         match self {
-            Room::Straight { origin, count } => below(*count, coordinate.checked_sub(*origin)?),
+            Room::Straight { origin, count } => {
+                below(*count, i128::from(coordinate) - i128::from(*origin))
+            }
             Room::Wrapped { count: 0 } => None,
-            Room::Wrapped { count } => below(*count, coordinate.rem_euclid(i64::from(*count))),
+            Room::Wrapped { count } => {
+                below(
+                    *count,
+                    i128::from(coordinate).rem_euclid(i128::from(*count)),
+                )
+            }
         }
     }
 }

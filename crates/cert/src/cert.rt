@@ -5,15 +5,15 @@ use lin::{Region, Span1, Sym};
 /// The region that each piece of a group owns, in the grid's symbols.
 #[derive(Debug, Drop)]
 pub struct Own {
-    pub group: u32,
+    pub group: u64,
     pub region: Region,
 }
 
 /// The pieces of another group that each piece of a group needs: a region of that group's grid.
 #[derive(Debug, Drop)]
 pub struct Need {
-    pub group: u32,
-    pub needed: u32,
+    pub group: u64,
+    pub needed: u64,
     pub region: Region,
 }
 
@@ -21,11 +21,11 @@ pub struct Need {
 /// at every point of a region.
 #[derive(Debug, Drop)]
 pub struct Claim {
-    pub line: u32,
+    pub line: u64,
     pub buffer: u32,
     pub function: String,
     /// 0 is the pure definition.
-    pub definition: u32,
+    pub definition: u64,
     pub region: Region,
 }
 
@@ -35,9 +35,9 @@ pub struct Claim {
 pub struct Window {
     pub claim: u32,
     pub symbol: Sym,
-    pub dimension: u32,
+    pub dimension: u64,
     /// The fold factor of that dimension, 0 where it has none.
-    pub fold: u32,
+    pub fold: u64,
     pub span: Span1,
 }
 

@@ -5,6 +5,7 @@ use Rattle.std.specs.List.{list_all}
 use Rattle.plan_words.specs.Spelling.{count_text, symbol_text, span_text, region_text}
 use Rattle.plan_words.specs.Laws.{is_feedless}
 use Rattle.plan_words.proofs.Feeds.{joined, count_feedless, symbol_feedless, span_feedless, region_feedless, name_feedless}
+use Rattle.plan_sizes.proofs.Sizes.{size_feedless}
 use Rattle.plan_lines.specs.Lines.{is_line}
 use Rattle.cert_text.specs.Lines.{Line, Head, OwnLine, NeedLine, ClaimLine, WindowLine, End}
 use Rattle.cert_text.specs.Spelling.{words, own_text, need_text, claim_text, window_text, line_text}
@@ -24,17 +25,17 @@ unfolding own_text need_text claim_text window_text
 line_feedless Head fits = refl
 line_feedless (OwnLine o) fits =
     let f = own_fits o fits in
-    words_feedless (codes "own" ∷ count_text o.group ∷ region_text o.region ∷ []) (rw (count_feedless o.group f.group, region_feedless o.region f.region) refl)
+    words_feedless (codes "own" ∷ count_text o.group ∷ region_text o.region ∷ []) (rw (size_feedless o.group f.group, region_feedless o.region f.region) refl)
 line_feedless (NeedLine n) fits =
     let f = need_fits n fits in
     words_feedless (codes "need" ∷ count_text n.group ∷ count_text n.needed ∷ region_text n.region ∷ [])
-    (rw (count_feedless n.group f.group, count_feedless n.needed f.needed, region_feedless n.region f.region) refl)
+    (rw (size_feedless n.group f.group, size_feedless n.needed f.needed, region_feedless n.region f.region) refl)
 line_feedless (ClaimLine k c) fits =
     let f = claim_fits k c fits in
     words_feedless (codes "claim" ∷ count_text k ∷ count_text c.line ∷ (98 ∷ count_text c.buffer) ∷ c.function ∷ count_text c.definition ∷ region_text c.region ∷ [])
-    (rw (count_feedless k f.number, count_feedless c.line f.line, count_feedless c.buffer f.buffer, name_feedless c.function f.function, count_feedless c.definition f.definition, region_feedless c.region f.region) refl)
+    (rw (count_feedless k f.number, size_feedless c.line f.line, count_feedless c.buffer f.buffer, name_feedless c.function f.function, size_feedless c.definition f.definition, region_feedless c.region f.region) refl)
 line_feedless (WindowLine w) fits =
     let f = window_fits w fits in
     words_feedless (codes "window" ∷ count_text w.claim ∷ symbol_text w.symbol ∷ count_text w.dimension ∷ count_text w.fold ∷ span_text w.span ∷ [])
-    (rw (count_feedless w.claim f.claim, symbol_feedless w.symbol f.symbol, count_feedless w.dimension f.dimension, count_feedless w.fold f.fold, span_feedless w.span f.span) refl)
+    (rw (count_feedless w.claim f.claim, symbol_feedless w.symbol f.symbol, size_feedless w.dimension f.dimension, size_feedless w.fold f.fold, span_feedless w.span f.span) refl)
 line_feedless End fits = refl

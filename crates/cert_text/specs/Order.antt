@@ -2,6 +2,7 @@
 use Rattle.std.specs.Prelude.{◌≡◌, ℕ, ◌+◌, Bool, true, false, ◌&&◌, ◌==◌, nat_lt, List, [], ◌∷◌}
 use Rattle.std.specs.Str.{bytes_eq}
 use Rattle.plan_words.specs.Fitting.{fits_count, fits_symbol, fits_span, fits_region, is_name}
+use Rattle.plan_sizes.specs.Sizes.{fits_size}
 use Rattle.cert_text.specs.declared.line.Mark.{Mark}
 use Rattle.cert_text.specs.declared.line.Mark.TheVariants as mark
 use Rattle.cert_text.specs.Lines.{Line, Head, OwnLine, NeedLine, ClaimLine, WindowLine, End, mark_of}
@@ -10,10 +11,10 @@ use Rattle.cert_text.specs.Spelling.{line_text}
 -- The parts of the line have a text, and there are at most 4096 claims.
 abbrev pub fits_line : Line → Bool
 fits_line Head = true
-fits_line (OwnLine o) = fits_count o.group && fits_region o.region
-fits_line (NeedLine n) = fits_count n.group && fits_count n.needed && fits_region n.region
-fits_line (ClaimLine k c) = nat_lt k 4096 && fits_count c.line && fits_count c.buffer && is_name c.function && fits_count c.definition && fits_region c.region
-fits_line (WindowLine w) = fits_count w.claim && fits_symbol w.symbol && fits_count w.dimension && fits_count w.fold && fits_span w.span
+fits_line (OwnLine o) = fits_size o.group && fits_region o.region
+fits_line (NeedLine n) = fits_size n.group && fits_size n.needed && fits_region n.region
+fits_line (ClaimLine k c) = nat_lt k 4096 && fits_size c.line && fits_count c.buffer && is_name c.function && fits_size c.definition && fits_region c.region
+fits_line (WindowLine w) = fits_count w.claim && fits_symbol w.symbol && fits_size w.dimension && fits_size w.fold && fits_span w.span
 fits_line End = true
 
 -- the line `cert` comes first

@@ -2,6 +2,7 @@
 -- fits gives that line.
 use Rattle.std.specs.Prelude.{ℕ, if◌then◌else◌, List, drop}
 use Rattle.plan_words.specs.Reading.{count_from, symbol_from, name_from, span_from, region_from, begins}
+use Rattle.plan_sizes.specs.Sizes.{size_from}
 use Rattle.cert.specs.declared.cert.Own.{Own}
 use Rattle.cert.specs.declared.cert.Need.{Need}
 use Rattle.cert.specs.declared.cert.Window.{Window}
@@ -10,14 +11,14 @@ use Rattle.cert_text.specs.Lines.{Line, Head, OwnLine, NeedLine, ClaimLine, Wind
 
 unfoldable pub own_from : List ℕ → Own
 own_from text =
-    let group = count_from (drop 4 text) in
+    let group = size_from (drop 4 text) in
     let region = region_from (drop 1 group.1) in
     record { group = group.0; region = region.0 }
 
 unfoldable pub need_from : List ℕ → Need
 need_from text =
-    let group = count_from (drop 5 text) in
-    let needed = count_from (drop 1 group.1) in
+    let group = size_from (drop 5 text) in
+    let needed = size_from (drop 1 group.1) in
     let region = region_from (drop 1 needed.1) in
     record { group = group.0; needed = needed.0; region = region.0 }
 
@@ -28,10 +29,10 @@ number_from text = count_from (drop 6 text)
 -- a claim without its number
 unfoldable pub claim_from : List ℕ → Claim
 claim_from text =
-    let line = count_from (drop 1 text) in
+    let line = size_from (drop 1 text) in
     let buffer = count_from (drop 2 line.1) in
     let function = name_from (drop 1 buffer.1) in
-    let definition = count_from (drop 1 function.1) in
+    let definition = size_from (drop 1 function.1) in
     let region = region_from (drop 1 definition.1) in
     record { line = line.0; buffer = buffer.0; function = function.0; definition = definition.0; region = region.0 }
 
@@ -39,8 +40,8 @@ unfoldable pub window_from : List ℕ → Window
 window_from text =
     let claim = count_from (drop 7 text) in
     let symbol = symbol_from (drop 1 claim.1) in
-    let dimension = count_from (drop 1 symbol.1) in
-    let fold = count_from (drop 1 dimension.1) in
+    let dimension = size_from (drop 1 symbol.1) in
+    let fold = size_from (drop 1 dimension.1) in
     let span = span_from (drop 1 fold.1) in
     record { claim = claim.0; symbol = symbol.0; dimension = dimension.0; fold = fold.0; span = span.0 }
 

@@ -25,7 +25,7 @@ pub(crate) enum Mark {
     Start,
     Head,
     /// An own region, by its group.
-    Own(u32),
+    Own(u64),
     Need,
     /// A claim, by its number.
     Claim(u32),
@@ -60,7 +60,7 @@ fn may_precede_need(last: Mark) -> bool
 }
 
 /// Whether a line behind this one may be that of the own region of the group.
-fn may_precede_own(last: Mark, group: u32) -> bool
+fn may_precede_own(last: Mark, group: u64) -> bool
     ensures { result ≡ order.may_precede_own last group }
 {
     match last {

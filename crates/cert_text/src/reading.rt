@@ -21,6 +21,7 @@ use crate::writing::put_line;
 use cert::{Cert, Claim, Need, Own, Window};
 use lin::{Region, Span1};
 use plan_lines::{TextError, is_within, split_line};
+use plan_sizes::fits_size;
 use plan_words::{
     fits_region, fits_span, fits_symbol, has_large_number, is_name, number_from, skip,
 };
@@ -34,29 +35,34 @@ const MOST_BOUNDS: usize = 4;
 fn fits_own(own: &Own) -> bool
     ensures { result ≡ order.fits_line (spec.OwnLine own.now) }
 {
-    prove!(own.group <= u32::MAX);
-    fits_region(&own.region)
+    fits_size(own.group) && fits_region(&own.region)
 }
 
 fn fits_need(need: &Need) -> bool
     ensures { result ≡ order.fits_line (spec.NeedLine need.now) }
 {
-    prove!(need.group <= u32::MAX && need.needed <= u32::MAX);
-    fits_region(&need.region)
+    fits_size(need.group) && fits_size(need.needed) && fits_region(&need.region)
 }
 
 fn fits_claim(number: u32, claim: &Claim) -> bool
     ensures { result ≡ order.fits_line (spec.ClaimLine number (claim_of claim.now)) }
 {
-    prove!(claim.line <= u32::MAX && claim.buffer <= u32::MAX && claim.definition <= u32::MAX);
-    number < MOST_CLAIMS && is_name(claim.function.as_bytes()) && fits_region(&claim.region)
+    prove!(claim.buffer <= u32::MAX);
+    number < MOST_CLAIMS
+        && fits_size(claim.line)
+        && is_name(claim.function.as_bytes())
+        && fits_size(claim.definition)
+        && fits_region(&claim.region)
 }
 
 fn fits_window(window: &Window) -> bool
     ensures { result ≡ order.fits_line (spec.WindowLine window.now) }
 {
-    prove!(window.claim <= u32::MAX && window.dimension <= u32::MAX && window.fold <= u32::MAX);
-    fits_symbol(window.symbol) && fits_span(&window.span)
+    prove!(window.claim <= u32::MAX);
+    fits_symbol(window.symbol)
+        && fits_size(window.dimension)
+        && fits_size(window.fold)
+        && fits_span(&window.span)
 }
 
 /// Whether the parts of the line have a text.

@@ -7,6 +7,7 @@ ghost use Rattle.cert_text.specs.Reading as spec;
 
 use crate::line::Line;
 use cert::{Claim, Need, Own, Window};
+use plan_sizes::size_from;
 use plan_words::{begins, count_from, name_from, region_from, skip, span_from, symbol_from};
 use std::alloc::{AllocError, Global};
 
@@ -14,7 +15,7 @@ use std::alloc::{AllocError, Global};
 fn own_from(alloc: Global, text: &[u8]) -> Result<Own, AllocError>
     ensures { IfOk result (λ own. own ≡ spec.own_from text.now) }
 {
-    let (group, rest) = count_from(skip(4, text));
+    let (group, rest) = size_from(skip(4, text));
     let (region, _) = region_from(alloc, skip(1, rest))?;
     Ok(Own { group, region })
 }
@@ -23,8 +24,8 @@ fn own_from(alloc: Global, text: &[u8]) -> Result<Own, AllocError>
 fn need_from(alloc: Global, text: &[u8]) -> Result<Need, AllocError>
     ensures { IfOk result (λ need. need ≡ spec.need_from text.now) }
 {
-    let (group, rest) = count_from(skip(5, text));
-    let (needed, rest) = count_from(skip(1, rest));
+    let (group, rest) = size_from(skip(5, text));
+    let (needed, rest) = size_from(skip(1, rest));
     let (region, _) = region_from(alloc, skip(1, rest))?;
     Ok(Need {
         group,
@@ -38,10 +39,10 @@ fn need_from(alloc: Global, text: &[u8]) -> Result<Need, AllocError>
 fn claim_from(alloc: Global, text: &[u8]) -> Result<Claim, AllocError>
     ensures { IfOk result (λ claim. claim_of claim ≡ spec.claim_from text.now) }
 {
-    let (line, rest) = count_from(skip(1, text));
+    let (line, rest) = size_from(skip(1, text));
     let (buffer, rest) = count_from(skip(2, rest));
     let (function, rest) = name_from(alloc, skip(1, rest))?;
-    let (definition, rest) = count_from(skip(1, rest));
+    let (definition, rest) = size_from(skip(1, rest));
     let (region, _) = region_from(alloc, skip(1, rest))?;
     Ok(Claim {
         line,
@@ -58,8 +59,8 @@ fn window_from(alloc: Global, text: &[u8]) -> Result<Window, AllocError>
 {
     let (claim, rest) = count_from(skip(7, text));
     let (symbol, rest) = symbol_from(skip(1, rest));
-    let (dimension, rest) = count_from(skip(1, rest));
-    let (fold, rest) = count_from(skip(1, rest));
+    let (dimension, rest) = size_from(skip(1, rest));
+    let (fold, rest) = size_from(skip(1, rest));
     let (span, _) = span_from(alloc, skip(1, rest))?;
     Ok(Window {
         claim,

@@ -12,6 +12,7 @@ use crate::line::Line;
 use cert::{Cert, Claim, Need, Own, Window};
 use itoa::Buffer;
 use lin::{Region, Span1, Sym};
+use plan_sizes::put_size;
 use plan_words::{put_count, put_region, put_span, put_symbol};
 use std::alloc::{AllocError, Global};
 
@@ -29,6 +30,14 @@ fn put_count_word(text: &mut String, count: u32) -> Result<(), AllocError>
 {
     text.push_str(" ")?;
     put_count(text, count)
+}
+
+/// Writes a blank and a size.
+fn put_size_word(text: &mut String, size: u64) -> Result<(), AllocError>
+    ensures { OnOk result (string_bytes text.new ≡ string_bytes text.old ++ (32 ∷ count_text size)) }
+{
+    text.push_str(" ")?;
+    put_size(text, size)
 }
 
 /// Writes a blank and a buffer's number.
@@ -69,7 +78,7 @@ fn put_own(text: &mut String, own: &Own) -> Result<(), AllocError>
     ensures { OnOk result (string_bytes text.new ≡ string_bytes text.old ++ spec.own_text own.now) }
 {
     text.push_str("own")?;
-    put_count_word(text, own.group)?;
+    put_size_word(text, own.group)?;
     put_region_word(text, &own.region)
 }
 
@@ -79,8 +88,8 @@ fn put_need(text: &mut String, need: &Need) -> Result<(), AllocError>
     ensures { OnOk result (string_bytes text.new ≡ string_bytes text.old ++ spec.need_text need.now) }
 {
     text.push_str("need")?;
-    put_count_word(text, need.group)?;
-    put_count_word(text, need.needed)?;
+    put_size_word(text, need.group)?;
+    put_size_word(text, need.needed)?;
     put_region_word(text, &need.region)
 }
 
@@ -91,10 +100,10 @@ fn put_claim(text: &mut String, number: usize, claim: &Claim) -> Result<(), Allo
 {
     text.push_str("claim")?;
     put_word(text, Buffer::new().format(number))?;
-    put_count_word(text, claim.line)?;
+    put_size_word(text, claim.line)?;
     put_buffer_word(text, claim.buffer)?;
     put_word(text, &claim.function)?;
-    put_count_word(text, claim.definition)?;
+    put_size_word(text, claim.definition)?;
     put_region_word(text, &claim.region)
 }
 
@@ -106,8 +115,8 @@ fn put_window(text: &mut String, window: &Window) -> Result<(), AllocError>
     text.push_str("window")?;
     put_count_word(text, window.claim)?;
     put_symbol_word(text, window.symbol)?;
-    put_count_word(text, window.dimension)?;
-    put_count_word(text, window.fold)?;
+    put_size_word(text, window.dimension)?;
+    put_size_word(text, window.fold)?;
     put_span_word(text, &window.span)
 }
 

@@ -442,15 +442,15 @@ module _ (given : Given) (rules : Rules) where
   covers_at : (first last : ℕ) (known : Known) (sc : Scope) (a : Statement) (c : ℕ) (p : List ℤ) → Stands known sc → InRegion sc.symbols (spans c) p → (v : Bool) →
       status_after given (given.outline.claim c).buffer p (actions given.outline.setting a sc.symbols) (begun given (given.outline.claim c).function (if v then Some ((given.outline.claim c).definition - 1) else None)) ≡ Some (given.steps (given.outline.claim c).function (given.outline.claim c).definition) →
       AllMeant given (if v then
-      obligation given.outline rules NotMade last known (Named (list_any (λ d. follows given.outline rules d c) known.own))
+      obligation given.outline rules NotMade (rules.claim_line c) known (Named (list_any (λ d. follows given.outline rules d c) known.own))
       ∷ obligation given.outline rules OutOfOrder (or_same (store_line given.outline rules a first (given.outline.claim c).buffer) last) known (InTurn c a)
-      ∷ map (λ d. obligation given.outline rules NotMade last known (Inside (region_of given.outline rules c) (region_of given.outline rules d))) (filter (λ d. follows given.outline rules d c) known.own)
+      ∷ map (λ d. obligation given.outline rules NotMade (rules.claim_line c) known (Inside (region_of given.outline rules c) (region_of given.outline rules d))) (filter (λ d. follows given.outline rules d c) known.own)
       else []) →
       (st : Option ℕ) × Before given sc.facts (given.outline.claim c).buffer (given.outline.claim c).function p st
       × (status_after given (given.outline.claim c).buffer p (actions given.outline.setting a sc.symbols) st ≡ Some (given.steps (given.outline.claim c).function (given.outline.claim c).definition))
   covers_at first last known sc a c p st r false m h = (None, tt, m)
   covers_at first last known sc a c p st r true m h =
-      let k = pick_one (Meant given) (λ d. obligation given.outline rules NotMade last known (Inside (region_of given.outline rules c) (region_of given.outline rules d))) (λ d. follows given.outline rules d c) known.own
+      let k = pick_one (Meant given) (λ d. obligation given.outline rules NotMade (rules.claim_line c) known (Inside (region_of given.outline rules c) (region_of given.outline rules d))) (λ d. follows given.outline rules d c) known.own
       (h.0 sc.symbols st.respects) h.1.1 in
       let d : ℕ = k.0 in
       let names = and_parts (((given.outline.claim d).buffer == (given.outline.claim c).buffer) && same_name (given.outline.claim d).function (given.outline.claim c).function) (is_next (given.outline.claim d).definition (given.outline.claim c).definition) k.2 in
@@ -725,12 +725,12 @@ module _ (given : Given) (rules : Rules) where
   -- the obligations of a claim that goes on from the definition before
   earlier_meant : (first last : ℕ) (known : Known) (a : Statement) (c : ℕ) → (v : Bool) → v ≡ true →
       AllMeant given (if v then
-      obligation given.outline rules NotMade last known (Named (list_any (λ d. follows given.outline rules d c) known.own))
+      obligation given.outline rules NotMade (rules.claim_line c) known (Named (list_any (λ d. follows given.outline rules d c) known.own))
       ∷ obligation given.outline rules OutOfOrder (or_same (store_line given.outline rules a first (given.outline.claim c).buffer) last) known (InTurn c a)
-      ∷ map (λ d. obligation given.outline rules NotMade last known (Inside (region_of given.outline rules c) (region_of given.outline rules d))) (filter (λ d. follows given.outline rules d c) known.own)
+      ∷ map (λ d. obligation given.outline rules NotMade (rules.claim_line c) known (Inside (region_of given.outline rules c) (region_of given.outline rules d))) (filter (λ d. follows given.outline rules d c) known.own)
       else []) →
       Meant given (obligation given.outline rules OutOfOrder (or_same (store_line given.outline rules a first (given.outline.claim c).buffer) last) known (InTurn c a))
-      × AllMeant given (map (λ d. obligation given.outline rules NotMade last known (Inside (region_of given.outline rules c) (region_of given.outline rules d))) (filter (λ d. follows given.outline rules d c) known.own))
+      × AllMeant given (map (λ d. obligation given.outline rules NotMade (rules.claim_line c) known (Inside (region_of given.outline rules c) (region_of given.outline rules d))) (filter (λ d. follows given.outline rules d c) known.own))
   earlier_meant first last known a c true e h = (h.1.0, h.1.1)
   earlier_meant first last known a c false e h = absurd (cc e)
 
@@ -759,7 +759,7 @@ module _ (given : Given) (rules : Rules) where
           ap (λ f. given.steps f (given.outline.claim d).definition) ef ∙ ap (given.steps (given.outline.claim c).function) (sym en) in
           let own = meant_flat (claim_obligations given.outline rules first last known a) c next mc.0 h in
           let earlier = earlier_meant first last known a c (updates given.outline.setting a (given.outline.claim c).buffer (given.outline.claim c).function) mc.1 own.1.1 in
-          let inside = meant_map (λ d. obligation given.outline rules NotMade last known (Inside (region_of given.outline rules c) (region_of given.outline rules d))) d (filter (λ d. follows given.outline rules d c) known.own) chosen earlier.1 in (
+          let inside = meant_map (λ d. obligation given.outline rules NotMade (rules.claim_line c) known (Inside (region_of given.outline rules c) (region_of given.outline rules d))) d (filter (λ d. follows given.outline rules d c) known.own) chosen earlier.1 in (
             mc.1,
             record {
               buffer = eb;

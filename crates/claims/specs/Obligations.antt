@@ -78,9 +78,10 @@ pub record Known : Type 0 where
   pub own : List ℕ
   pub updating : List Updating
 
--- what else obligations refer to: the algorithm, the own region, and the bounds of forms and of expressions
+-- what else obligations refer to: the algorithm, the own region, the claims' lines, and the bounds of forms and of expressions
 pub record Rules : Type 0 where
-  -- the last definition of a function, the input's extents as spans, and the region that the pieces own
+  -- the line of a claim, the last definition of a function, the input's extents as spans, and the region that the pieces own
+  pub claim_line : ℕ → ℕ
   pub last : List ℕ → ℕ
   pub extents : List Span1
   pub own : List Span1
@@ -382,15 +383,15 @@ module _ (outline : Outline) (rules : Rules) where
   abbrev pub earlier_obligations : ℕ → ℕ → Known → Statement → ℕ → List Obligation
   earlier_obligations begin line known a c =
       if updates outline.setting a (outline.claim c).buffer (outline.claim c).function then
-      obligation NotMade line known (Named (list_any (λ d. follows d c) known.own))
+      obligation NotMade (rules.claim_line c) known (Named (list_any (λ d. follows d c) known.own))
       ∷ obligation OutOfOrder (or_same (store_line a begin (outline.claim c).buffer) line) known (InTurn c a)
-      ∷ map (λ d. obligation NotMade line known (Inside (region_of c) (region_of d))) (filter (λ d. follows d c) known.own)
+      ∷ map (λ d. obligation NotMade (rules.claim_line c) known (Inside (region_of c) (region_of d))) (filter (λ d. follows d c) known.own)
       else []
 
   abbrev pub claim_obligations : ℕ → ℕ → Known → Statement → ℕ → List Obligation
   claim_obligations begin line known a c =
-      obligation NotMade line known (Named (writes outline.setting a (outline.claim c).buffer (outline.claim c).function))
-      ∷ obligation NotMade line known (made (places_of known.buffers (outline.claim c).buffer) c a) ∷ earlier_obligations begin line known a c
+      obligation NotMade (rules.claim_line c) known (Named (writes outline.setting a (outline.claim c).buffer (outline.claim c).function))
+      ∷ obligation NotMade (rules.claim_line c) known (made (places_of known.buffers (outline.claim c).buffer) c a) ∷ earlier_obligations begin line known a c
 
   abbrev mutual
     -- what a statement that begins at the line asks for

@@ -1,5 +1,5 @@
 -- The line at which the loops end.
-use Rattle.std.proofs.Common.{◌≡◌, ℕ, ◌+◌, ◌-◌, ◌*◌, ◌^◌, ◌<◌, min, List, [], ◌∷◌, length, arith, IsTrue, eqb}
+use Rattle.std.proofs.Common.{◌≡◌, ℕ, ◌+◌, ◌*◌, List, [], ◌∷◌, length, arith, IsTrue, eqb}
 use Rattle.std.specs.Prelude.{◌↔◌}
 use Rattle.std.proofs.lemmas.Bool.Decides.{nat_tests}
 use Rattle.nest.specs.Plan.{Statement}
@@ -17,9 +17,8 @@ line_of_claim r = omega (arith, nest_lines r.loops (store_of r))
 test_is : (m n : ℕ) → (IsTrue (eqb m n) ↔ (m ≡ n))
 test_is m n = (λ h. grind (arith, nat_tests, h), λ h. grind (arith, nat_tests, h))
 
--- a line of the machine's numbers is compared with a sum that stops at the greatest
-pub line_test : (r : Row) (line len twice sum : ℕ) → length r.loops ≡ len → twice ≡ min (len * 2) (2 ^ 64 - 1) → sum ≡ min (twice + 6) (2 ^ 64 - 1) → line < 2 ^ 32
-    → (IsTrue (eqb line sum) ↔ (line ≡ last_line_of_loops r))
-line_test r line len twice sum n a b l =
+-- a line is compared with twice the number of loops and 6
+pub line_test : (r : Row) (line len : ℕ) → length r.loops ≡ len → (IsTrue (eqb line (2 * len + 6)) ↔ (line ≡ last_line_of_loops r))
+line_test r line len n =
     let last = line_of_claim r in
-    (λ h. let q = (test_is line sum).0 h in omega (arith, last, q, n, a, b, l), λ h. (test_is line sum).1 (omega (arith, last, h, n, a, b, l)))
+    (λ h. let q = (test_is line (2 * len + 6)).0 h in omega (arith, last, q, n), λ h. (test_is line (2 * len + 6)).1 (omega (arith, last, h, n)))

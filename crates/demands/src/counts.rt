@@ -20,7 +20,7 @@ const MOST_CELLS: u64 = 1 << 24;
 const LONGEST: u64 = 8192;
 
 /// How many places there are for one coordinate.
-fn place_count(places: &Places) -> u32
+fn place_count(places: &Places) -> u64
     ensures { result ≡ (seats_of places.now).count }
 {
     match places {
@@ -34,7 +34,7 @@ fn place_product(places: &[Places]) -> u64
 {
     let mut total: u64 = 1;
     for one in places {
-        total = total.saturating_mul(u64::from(place_count(one)));
+        total = total.saturating_mul(place_count(one));
     }
     total
 }

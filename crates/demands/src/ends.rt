@@ -14,7 +14,7 @@ fn ends_the_loops(row: &RowPlan<'_>) -> bool
     ensures { IsTrue result ↔ ((row_of row.now).claim.line ≡ last_line_of_loops (row_of row.now)) }
 {
     let loops: &[RowLoop<'_>] = &row.loops;
-    row.claim.line as usize == loops.len().saturating_mul(2).saturating_add(6)
+    u128::from(row.claim.line) == 2 * (loops.len() as u128) + 6
 }
 
 /// Whether the claim is in force where the piece publishes, which is the line behind the loops.

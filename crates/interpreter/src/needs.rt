@@ -21,7 +21,7 @@ pub(crate) struct Needs {
 }
 
 /// How many places one coordinate has.
-fn count_in(places: &Places) -> u32
+fn count_in(places: &Places) -> u64
     ensures { result ≡ count_in places.now }
 {
     match places {

@@ -45,13 +45,15 @@ fn number_bound(coordinates: &[Coordinate], numbers: &[i64], name: &str) -> i64
 }
 
 /// Whether a point lies on the extents.
-fn is_within(extents: &[u32], at: &[i64]) -> bool
+fn is_within(extents: &[u64], at: &[i64]) -> bool
     ensures { result ≡ is_within extents.now at.now }
 {
     match (extents, at) {
         ([], []) => true,
         ([extent, extents @ ..], [coordinate, at @ ..]) => {
-            0 <= *coordinate && *coordinate < i64::from(*extent) && is_within(extents, at)
+            0 <= *coordinate
+                && i128::from(*coordinate) < i128::from(*extent)
+                && is_within(extents, at)
         }
         _ => false,
     }

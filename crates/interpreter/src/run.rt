@@ -39,7 +39,7 @@ use nest::{Group, Pick, Plan, Stmt};
 use std::alloc::Global;
 
 /// The name of a group's function, empty where there is no such group.
-fn group_name(groups: &[Group], group: u32) -> &str
+fn group_name(groups: &[Group], group: u64) -> &str
     ensures { result.now ≡ group_name (slice_get (map group_of groups.now) group) }
 {
     match groups.get(group as usize) {
@@ -54,7 +54,7 @@ fn fetch<'a, C: Cells>(
     piece: &'a Piece<'a>,
     cells: &C,
     buffer: u32,
-    group: u32,
+    group: u64,
     region: &Region,
     symbols: &Symbols,
     state: &mut State,

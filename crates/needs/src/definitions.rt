@@ -18,6 +18,7 @@ use crate::calls::{Sought, with_calls};
 use algo::{Algo, Function, Range, Update};
 use bounds::{BoundsError, numbers};
 use lin::{Region, Scope, Sym};
+use num_traits::AsPrimitive;
 use std::alloc::{AllocError, Global};
 use tree::Expr;
 
@@ -133,7 +134,7 @@ fn with_domain(alloc: Global, region: &Region, ranges: &[Range]) -> Result<Regio
 {
     let mut made = region.copy(alloc)?;
     for range in ranges {
-        made.push(numbers(alloc, i64::from(range.low), i64::from(range.high))?)?;
+        made.push(numbers(alloc, range.low.as_(), range.high.as_())?)?;
     }
     Ok(made)
 }

@@ -151,7 +151,7 @@ fn copy_alloc(
     })
 }
 
-fn copy_fetch(alloc: Global, buffer: u32, group: u32, region: &Region) -> Result<Stmt, AllocError>
+fn copy_fetch(alloc: Global, buffer: u32, group: u64, region: &Region) -> Result<Stmt, AllocError>
     ensures { IfOk result (λ copied. statement_of copied ≡ Fetch buffer group region.now) }
 {
     Ok(Stmt::Fetch {
@@ -164,7 +164,7 @@ fn copy_fetch(alloc: Global, buffer: u32, group: u32, region: &Region) -> Result
 fn copy_store(
     alloc: Global,
     buffer: u32,
-    definition: u32,
+    definition: u64,
     coordinates: &[Coordinate],
     value: &Expr,
 ) -> Result<Stmt, AllocError>

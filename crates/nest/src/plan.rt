@@ -9,7 +9,7 @@ use numeric::Ty;
 pub struct Declaration {
     pub name: String,
     pub ty: Ty,
-    pub extents: Vec<u32>,
+    pub extents: Vec<u64>,
 }
 
 /// The pieces of one root function: one for each point of the grid.
@@ -19,7 +19,7 @@ pub struct Group {
     /// The function's region, in constants.
     pub region: Region,
     /// How many values the grid's symbols take, each from 0 on. They are the first symbols.
-    pub grid: Vec<u32>,
+    pub grid: Vec<u64>,
     /// What a piece does.
     pub body: Stmt,
 }

@@ -27,9 +27,9 @@ pub enum Pick {
 #[derive(Debug, Drop)]
 pub enum Places {
     /// So many places, the first for the coordinate `origin`.
-    From { origin: Lin, count: u32 },
+    From { origin: Lin, count: u64 },
     /// So many places, where coordinate x has the place of its remainder by `count`.
-    Folded { count: u32 },
+    Folded { count: u64 },
 }
 
 /// Where a store writes at one place, or for which value of a reduction variable.
@@ -87,7 +87,7 @@ pub enum Stmt {
     /// All cells of a region of another group are set in the buffer.
     Fetch {
         buffer: u32,
-        group: u32,
+        group: u64,
         region: Region,
     },
     /// One place gets the value of a definition of the buffer's function, 0 the pure one. The
@@ -95,7 +95,7 @@ pub enum Stmt {
     /// by claim C is a call of the name `@C`.
     Store {
         buffer: u32,
-        definition: u32,
+        definition: u64,
         coordinates: Vec<Coordinate>,
         value: Expr,
     },

@@ -40,7 +40,7 @@ pub fn own_fault_of(alloc: Global, row: &RowPlan<'_>) -> Result<Option<OwnFault>
     requires { HasOwnCells (row_of row.now) }
     ensures { (a : Algorithm) → IfOk result (IsFaultOf a (row_of row.now)) }
 {
-    own_fault(alloc, row.region, own_spans(row), row.count)
+    own_fault(alloc, row.region, own_spans(row), row.count as u32)
 }
 
 /// Whether the own regions of a row plan's pieces lie in the group's region.
@@ -50,7 +50,7 @@ pub fn own_stays_inside(alloc: Global, row: &RowPlan<'_>) -> Result<bool, AllocE
     requires { HasOwnCells (row_of row.now) }
     ensures { (a : Algorithm) → IfOk result (λ yes. IsTrue yes ↔ Holds a (row_of row.now) OwnStaysInside) }
 {
-    all_stay_inside(alloc, row.region, own_spans(row), row.count)
+    all_stay_inside(alloc, row.region, own_spans(row), row.count as u32)
 }
 
 /// Whether a span whose forms are numbers has each number from 0 up to an extent.
@@ -87,7 +87,7 @@ pub fn pieces_of(alloc: Global, row: &RowPlan<'_>) -> Result<Vec<Piece>, AllocEr
     ensures own { IfOk result (λ pieces. map (λ x. x.own.items) pieces.items ≡ map (own_numbers (row_of row.now)) (range_with_len 0 row.now.count)) }
     ensures lists { (a : Algorithm) (samples : List ℕ) (p : Plan) (c : Certificate) → Fits p c (row_of row.now) → IfOk result (λ pieces. AreListsOf (work_of a p c samples) pieces.items) }
 {
-    own_lists(alloc, row.region, own_spans(row), row.count)
+    own_lists(alloc, row.region, own_spans(row), row.count as u32)
 }
 
 /// How many cells the group of a row plan has.

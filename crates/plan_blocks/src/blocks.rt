@@ -18,7 +18,7 @@ pub enum Open {
     Group {
         function: String,
         region: Region,
-        grid: Vec<u32>,
+        grid: Vec<u64>,
     },
     For {
         symbol: Sym,

@@ -18,7 +18,7 @@ pub enum Line {
         number: u32,
         function: String,
         region: Region,
-        grid: Vec<u32>,
+        grid: Vec<u64>,
     },
     /// The first line of a loop.
     For {
@@ -51,12 +51,12 @@ pub enum Line {
     },
     Fetch {
         buffer: u32,
-        group: u32,
+        group: u64,
         region: Region,
     },
     Store {
         buffer: u32,
-        definition: u32,
+        definition: u64,
         coordinates: Vec<Coordinate>,
         value: Expr,
     },

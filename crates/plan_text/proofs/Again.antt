@@ -16,10 +16,12 @@ use Rattle.nest.specs.declared.stmt.Places.TheVariants as places
 use Rattle.nest.specs.Plan.{Declaration, Index, At, Found, Coordinate}
 use Rattle.token.specs.Spelling.{type_text, is_digit, is_word_byte}
 use Rattle.plan_words.specs.Spelling.{count_text, symbol_text, separated_text, form_text, forms_text, span_text, region_text, counts_text}
-use Rattle.plan_words.specs.Fitting.{fits_count, fits_symbol, fits_form, fits_forms, fits_span, fits_region, fits_counts, is_name}
-use Rattle.plan_words.specs.Reading.{Stops, begins, is_form_byte, is_forms_byte, no_byte, count_from, symbol_from, form_from, forms_from, region_from, counts_from, name_from, separated_from, bracketed_from}
+use Rattle.plan_words.specs.Fitting.{fits_count, fits_symbol, fits_form, fits_forms, fits_span, fits_region, is_name}
+use Rattle.plan_sizes.specs.Sizes.{fits_size, fits_sizes, size_from, sizes_from}
+use Rattle.plan_sizes.proofs.Sizes.{size_again, sizes_again, size_first}
+use Rattle.plan_words.specs.Reading.{Stops, begins, is_form_byte, is_forms_byte, no_byte, count_from, symbol_from, form_from, forms_from, region_from, name_from, separated_from, bracketed_from}
 use Rattle.plan_words.specs.Laws.{ReadsAgain}
-use Rattle.plan_words.proofs.Again.{count_again, symbol_again, form_again, forms_again, span_again, region_again, counts_again, name_again, type_again, separated_again, separated_many, form_first, count_first}
+use Rattle.plan_words.proofs.Again.{count_again, symbol_again, form_again, forms_again, span_again, region_again, name_again, type_again, separated_again, separated_many, form_first}
 use Rattle.plan_terms.specs.Spelling as terms
 use Rattle.plan_terms.specs.Fitting as terms_fit
 use Rattle.plan_terms.specs.Reading as terms_read
@@ -53,8 +55,8 @@ name_rest f rest h stop = ap (λ r. r.1) (name_again f rest h stop)
 declaration_again : (d : Declaration) → fits_declaration d ≡ true → declaration_from (declaration_text d) ≡ d
 unfolding declaration_from declaration_text
 declaration_again d fits =
-    let parts = both (is_name d.name) (fits_counts d.extents) fits in
-    let extents = at_end fits_counts no_byte counts_text counts_from counts_again refl d.extents parts.1 in
+    let parts = both (is_name d.name) (fits_sizes d.extents) fits in
+    let extents = at_end fits_sizes no_byte counts_text sizes_from sizes_again refl d.extents parts.1 in
     let after_name = 32 ∷ (type_text d.ty ++ (32 ∷ counts_text d.extents)) in
     rw (name_word d.name after_name parts.0 refl, name_rest d.name after_name parts.0 refl, type_again d.ty (32 ∷ counts_text d.extents) refl refl, extents) refl
 
@@ -82,16 +84,16 @@ place_cut origin count rest = append_assoc (form_text origin) (35 ∷ count_text
 place_again : ReadsAgain fits_place is_digit place_text place_from
 unfolding place_from place_text
 place_again (places.From origin count) rest fits stops =
-    let parts = both (fits_form origin) (fits_count count) fits in
+    let parts = both (fits_form origin) (fits_size count) fits in
     let tail = 35 ∷ (count_text count ++ rest) in
     let straight : begins 37 (form_text origin ++ tail) ≡ false = form_byte_no_percent (slice_index (form_text origin ++ tail) 0) (form_first origin tail parts.0) in
-    rw (place_cut origin count rest, straight, form_again origin tail parts.0 refl, count_again count rest parts.1 stops) refl
-place_again (places.Folded count) rest fits stops = rw (count_again count rest fits stops) refl
+    rw (place_cut origin count rest, straight, form_again origin tail parts.0 refl, size_again count rest parts.1 stops) refl
+place_again (places.Folded count) rest fits stops = rw (size_again count rest fits stops) refl
 
 place_first : (p : Places) (rest : List ℕ) → fits_place p ≡ true → starts_place (slice_index (place_text p ++ rest) 0) ≡ true
 unfolding place_text
 place_first (places.From origin count) rest fits =
-    let parts = both (fits_form origin) (fits_count count) fits in
+    let parts = both (fits_form origin) (fits_size count) fits in
     let tail = 35 ∷ (count_text count ++ rest) in
     rw (place_cut origin count rest) (form_byte_starts (slice_index (form_text origin ++ tail) 0) (form_first origin tail parts.0))
 place_first (places.Folded count) rest fits = refl
@@ -139,14 +141,14 @@ places_again (x ∷ xs) rest h stop =
 
 -- ---- a grid
 
-grid_at_end : (x : ℕ) (xs : List ℕ) → list_all fits_count (x ∷ xs) ≡ true → (separated_from 32 count_from (length (separated_text 32 count_text (x ∷ xs))) [] (separated_text 32 count_text (x ∷ xs))).0 ≡ x ∷ xs
+grid_at_end : (x : ℕ) (xs : List ℕ) → list_all fits_size (x ∷ xs) ≡ true → (separated_from 32 size_from (length (separated_text 32 count_text (x ∷ xs))) [] (separated_text 32 count_text (x ∷ xs))).0 ≡ x ∷ xs
 grid_at_end x xs fits =
     let text = separated_text 32 count_text (x ∷ xs) in
-    let room = separated_many 32 fits_count is_digit count_text count_from count_again refl count_first (x ∷ xs) fits in
-    let read = separated_again 32 fits_count is_digit count_text count_from count_again refl count_first (length text) [] x xs [] room fits refl refl in
-    ap (λ t. (separated_from 32 count_from (length text) [] t).0) (sym (append-nil text)) ∙ ap (λ r. r.0) read
+    let room = separated_many 32 fits_size is_digit count_text size_from size_again refl size_first (x ∷ xs) fits in
+    let read = separated_again 32 fits_size is_digit count_text size_from size_again refl size_first (length text) [] x xs [] room fits refl refl in
+    ap (λ t. (separated_from 32 size_from (length text) [] t).0) (sym (append-nil text)) ∙ ap (λ r. r.0) read
 
-grid_again : (grid : List ℕ) → nat_lt 0 (length grid) ≡ true → list_all fits_count grid ≡ true → (separated_from 32 count_from (length (separated_text 32 count_text grid)) [] (separated_text 32 count_text grid)).0 ≡ grid
+grid_again : (grid : List ℕ) → nat_lt 0 (length grid) ≡ true → list_all fits_size grid ≡ true → (separated_from 32 size_from (length (separated_text 32 count_text grid)) [] (separated_text 32 count_text grid)).0 ≡ grid
 grid_again [] some fits = absurd cc
 grid_again (x ∷ xs) some fits = grid_at_end x xs fits
 
@@ -155,7 +157,7 @@ grid_again (x ∷ xs) some fits = grid_at_end x xs fits
 group_again : (n : ℕ) (f : List ℕ) (region : List Span1) (grid : List ℕ) → fits_line (GroupLine n f region grid) ≡ true → group_from (count_text n ++ (32 ∷ (f ++ (32 ∷ (region_text region ++ (codes " grid " ++ separated_text 32 count_text grid)))))) ≡ GroupLine n f region grid
 unfolding group_from
 group_again n f region grid fits =
-    let four = both (fits_count n && is_name f && fits_region region && nat_lt 0 (length grid)) (fits_counts grid) fits in
+    let four = both (fits_count n && is_name f && fits_region region && nat_lt 0 (length grid)) (fits_sizes grid) fits in
     let three = both (fits_count n && is_name f && fits_region region) (nat_lt 0 (length grid)) four.0 in
     let two = both (fits_count n && is_name f) (fits_region region) three.0 in
     let one = both (fits_count n) (is_name f) two.0 in
@@ -194,9 +196,9 @@ alloc_again b f all fits =
 fetch_again : (b g : ℕ) (region : List Span1) → fits_line (FetchLine b g region) ≡ true → fetch_from (count_text b ++ (32 ∷ (count_text g ++ (32 ∷ region_text region)))) ≡ FetchLine b g region
 unfolding fetch_from
 fetch_again b g region fits =
-    let two = both (fits_count b && fits_count g) (fits_region region) fits in
-    let one = both (fits_count b) (fits_count g) two.0 in
-    rw (count_again b (32 ∷ (count_text g ++ (32 ∷ region_text region))) one.0 refl, count_again g (32 ∷ region_text region) one.1 refl, at_end fits_region no_byte region_text region_from region_again refl region two.1) refl
+    let two = both (fits_count b && fits_size g) (fits_region region) fits in
+    let one = both (fits_count b) (fits_size g) two.0 in
+    rw (count_again b (32 ∷ (count_text g ++ (32 ∷ region_text region))) one.0 refl, size_again g (32 ∷ region_text region) one.1 refl, at_end fits_region no_byte region_text region_from region_again refl region two.1) refl
 
 -- ---- stores
 
@@ -257,13 +259,13 @@ module _ (term_again : TermIsReadAgain) (term_plain : TermIsPlain) where
   store_again : (b k : ℕ) (at : List Coordinate) (e : Term) → fits_line (StoreLine b k at e) ≡ true → store_from (count_text b ++ (32 ∷ (count_text k ++ (32 ∷ (flat_map spaced_coordinate at ++ terms.term_text e))))) ≡ StoreLine b k at e
   unfolding store_from
   store_again b k at e fits =
-      let three = both (fits_count b && fits_count k && list_all fits_coordinate at) (terms_fit.fits_term e) fits in
-      let two = both (fits_count b && fits_count k) (list_all fits_coordinate at) three.0 in
-      let one = both (fits_count b) (fits_count k) two.0 in
+      let three = both (fits_count b && fits_size k && list_all fits_coordinate at) (terms_fit.fits_term e) fits in
+      let two = both (fits_count b && fits_size k) (list_all fits_coordinate at) three.0 in
+      let one = both (fits_count b) (fits_size k) two.0 in
       let tail = flat_map spaced_coordinate at ++ terms.term_text e in
       let room : length at ≤ length (32 ∷ tail) = omega (arith, coordinates_many at, length-append (flat_map spaced_coordinate at) (terms.term_text e)) in
       let last : terms_read.term_from (terms.term_text e) ≡ (e, []) = ap terms_read.term_from (sym (append-nil (terms.term_text e))) ∙ term_again e [] three.1 refl in
-      rw (count_again b (32 ∷ (count_text k ++ (32 ∷ tail))) one.0 refl, count_again k (32 ∷ tail) one.1 refl, coordinates_again (length (32 ∷ tail)) [] at e room two.1 three.1, last) refl
+      rw (count_again b (32 ∷ (count_text k ++ (32 ∷ tail))) one.0 refl, size_again k (32 ∷ tail) one.1 refl, coordinates_again (length (32 ∷ tail)) [] at e room two.1 three.1, last) refl
 
   -- what is written for a line is read as that line
   pub line_again : (l : Line) → fits_line l ≡ true → line_from (line_text l) ≡ l

@@ -12,9 +12,11 @@ use Rattle.nest.specs.declared.stmt.Places.TheVariants as places
 use Rattle.nest.specs.Plan.{Declaration, Index, At, Found, Coordinate}
 use Rattle.token.specs.Spelling.{type_text}
 use Rattle.plan_words.specs.Spelling.{count_text, symbol_text, separated_text, form_text, forms_text, span_text, region_text, counts_text}
-use Rattle.plan_words.specs.Fitting.{fits_count, fits_symbol, fits_form, fits_forms, fits_span, fits_region, fits_counts, is_name}
+use Rattle.plan_words.specs.Fitting.{fits_count, fits_symbol, fits_form, fits_forms, fits_span, fits_region, is_name}
+use Rattle.plan_sizes.specs.Sizes.{fits_size, fits_sizes}
+use Rattle.plan_sizes.proofs.Sizes.{size_feedless, sizes_feedless}
 use Rattle.plan_words.specs.Laws.{is_feedless, IsFeedless}
-use Rattle.plan_words.proofs.Feeds.{joined, count_feedless, symbol_feedless, form_feedless, forms_feedless, span_feedless, region_feedless, counts_feedless, name_feedless, type_feedless}
+use Rattle.plan_words.proofs.Feeds.{joined, count_feedless, symbol_feedless, form_feedless, forms_feedless, span_feedless, region_feedless, name_feedless, type_feedless}
 use Rattle.plan_terms.specs.Spelling as terms
 use Rattle.plan_terms.specs.Fitting as terms_fit
 use Rattle.plan_terms.specs.Laws.{TermIsPlain, is_plain}
@@ -46,9 +48,9 @@ separated_feedless separator fits text other part (x ∷ y ∷ ys) h =
 place_feedless : IsFeedless fits_place place_text
 unfolding place_text
 place_feedless (places.From origin count) fits =
-    let p = both (fits_form origin) (fits_count count) fits in
-    joined (form_text origin) (35 ∷ count_text count) (form_feedless origin p.0) (count_feedless count p.1)
-place_feedless (places.Folded count) fits = count_feedless count fits
+    let p = both (fits_form origin) (fits_size count) fits in
+    joined (form_text origin) (35 ∷ count_text count) (form_feedless origin p.0) (size_feedless count p.1)
+place_feedless (places.Folded count) fits = size_feedless count fits
 
 places_feedless : (all : List Places) → list_all fits_place all ≡ true → is_feedless (places_text all) ≡ true
 unfolding places_text
@@ -66,8 +68,8 @@ pick_feedless pick.Max = refl
 declaration_feedless : (d : Declaration) → fits_declaration d ≡ true → is_feedless (declaration_text d) ≡ true
 unfolding declaration_text
 declaration_feedless d fits =
-    let p = both (is_name d.name) (fits_counts d.extents) fits in
-    joined d.name (32 ∷ (type_text d.ty ++ (32 ∷ counts_text d.extents))) (name_feedless d.name p.0) (joined (type_text d.ty) (32 ∷ counts_text d.extents) (type_feedless d.ty refl) (counts_feedless d.extents p.1))
+    let p = both (is_name d.name) (fits_sizes d.extents) fits in
+    joined d.name (32 ∷ (type_text d.ty ++ (32 ∷ counts_text d.extents))) (name_feedless d.name p.0) (joined (type_text d.ty) (32 ∷ counts_text d.extents) (type_feedless d.ty refl) (sizes_feedless d.extents p.1))
 
 module _ (term_plain : TermIsPlain) where
   index_feedless : (i : Index) → fits_index i ≡ true → is_feedless (index_text i) ≡ true
@@ -94,12 +96,12 @@ module _ (term_plain : TermIsPlain) where
   line_feedless (InputLine d) fits = declaration_feedless d fits
   line_feedless (OutputLine d) fits = declaration_feedless d fits
   line_feedless (GroupLine n f region grid) fits =
-      let four = both (fits_count n && is_name f && fits_region region && nat_lt 0 (length grid)) (fits_counts grid) fits in
+      let four = both (fits_count n && is_name f && fits_region region && nat_lt 0 (length grid)) (fits_sizes grid) fits in
       let three = both (fits_count n && is_name f && fits_region region) (nat_lt 0 (length grid)) four.0 in
       let two = both (fits_count n && is_name f) (fits_region region) three.0 in
       let one = both (fits_count n) (is_name f) two.0 in
       let after_grid = codes " grid " ++ separated_text 32 count_text grid in
-      let last : is_feedless after_grid ≡ true = separated_feedless 32 fits_count count_text refl count_feedless grid four.1 in
+      let last : is_feedless after_grid ≡ true = separated_feedless 32 fits_size count_text refl size_feedless grid four.1 in
       joined (count_text n) (32 ∷ (f ++ (32 ∷ (region_text region ++ after_grid)))) (count_feedless n one.0)
       (joined f (32 ∷ (region_text region ++ after_grid)) (name_feedless f one.1) (joined (region_text region) after_grid (region_feedless region two.1) last))
   line_feedless (ForLine i span k) fits =
@@ -119,14 +121,14 @@ module _ (term_plain : TermIsPlain) where
       let one = both (fits_count b) (is_name f) two.0 in
       joined (count_text b) (32 ∷ (f ++ (32 ∷ places_text all))) (count_feedless b one.0) (joined f (32 ∷ places_text all) (name_feedless f one.1) (places_feedless all two.1))
   line_feedless (FetchLine b g region) fits =
-      let two = both (fits_count b && fits_count g) (fits_region region) fits in
-      let one = both (fits_count b) (fits_count g) two.0 in
-      joined (count_text b) (32 ∷ (count_text g ++ (32 ∷ region_text region))) (count_feedless b one.0) (joined (count_text g) (32 ∷ region_text region) (count_feedless g one.1) (region_feedless region two.1))
+      let two = both (fits_count b && fits_size g) (fits_region region) fits in
+      let one = both (fits_count b) (fits_size g) two.0 in
+      joined (count_text b) (32 ∷ (count_text g ++ (32 ∷ region_text region))) (count_feedless b one.0) (joined (count_text g) (32 ∷ region_text region) (size_feedless g one.1) (region_feedless region two.1))
   line_feedless (StoreLine b k at e) fits =
-      let three = both (fits_count b && fits_count k && list_all fits_coordinate at) (terms_fit.fits_term e) fits in
-      let two = both (fits_count b && fits_count k) (list_all fits_coordinate at) three.0 in
-      let one = both (fits_count b) (fits_count k) two.0 in
+      let three = both (fits_count b && fits_size k && list_all fits_coordinate at) (terms_fit.fits_term e) fits in
+      let two = both (fits_count b && fits_size k) (list_all fits_coordinate at) three.0 in
+      let one = both (fits_count b) (fits_size k) two.0 in
       let tail = flat_map spaced_coordinate at ++ terms.term_text e in
       joined (count_text b) (32 ∷ (count_text k ++ (32 ∷ tail))) (count_feedless b one.0)
-      (joined (count_text k) (32 ∷ tail) (count_feedless k one.1) (joined (flat_map spaced_coordinate at) (terms.term_text e) (coordinates_feedless at two.1) (plain_feedless (terms.term_text e) (term_plain e three.1))))
+      (joined (count_text k) (32 ∷ tail) (size_feedless k one.1) (joined (flat_map spaced_coordinate at) (terms.term_text e) (coordinates_feedless at two.1) (plain_feedless (terms.term_text e) (term_plain e three.1))))
   line_feedless (PublishLine c) fits = count_feedless c fits

@@ -9,7 +9,8 @@ use Rattle.nest.specs.declared.stmt.Pick.TheVariants as pick
 use Rattle.nest.specs.declared.stmt.Places.{Places}
 use Rattle.nest.specs.declared.stmt.Places.TheVariants as places
 use Rattle.nest.specs.Plan.{Declaration, Index, At, Found, Coordinate}
-use Rattle.plan_words.specs.Reading.{begins, count_from, symbol_from, form_from, forms_from, span_from, region_from, counts_from, name_from, type_from, separated_from, bracketed_from}
+use Rattle.plan_words.specs.Reading.{begins, count_from, symbol_from, form_from, forms_from, span_from, region_from, name_from, type_from, separated_from, bracketed_from}
+use Rattle.plan_sizes.specs.Sizes.{size_from, sizes_from}
 use Rattle.plan_terms.specs.Reading as terms
 use Rattle.plan_blocks.specs.Line.{Line, PlanLine, InputLine, OutputLine, GroupLine, ForLine, LetLine, FirstLine, ElseLine, GuardLine, EndLine, AllocLine, FetchLine, StoreLine, PublishLine}
 
@@ -25,14 +26,14 @@ unfoldable pub declaration_from : List ℕ → Declaration
 declaration_from text =
     let name = name_from text in
     let ty = type_from (drop 1 name.1) in
-    record { name = name.0; ty = ty.0; extents = (counts_from (drop 1 ty.1)).0 }
+    record { name = name.0; ty = ty.0; extents = (sizes_from (drop 1 ty.1)).0 }
 
 unfoldable pub place_from : List ℕ → Places × List ℕ
 place_from text =
     if begins 37 text
-    then (let count = count_from (drop 1 text) in (places.Folded count.0, count.1))
+    then (let count = size_from (drop 1 text) in (places.Folded count.0, count.1))
     else (let origin = form_from text in
-    let count = count_from (drop 1 origin.1) in
+    let count = size_from (drop 1 origin.1) in
     (places.From origin.0 count.0, count.1))
 
 unfoldable pub places_from : List ℕ → List Places × List ℕ
@@ -66,7 +67,7 @@ group_from text =
     let f = name_from (drop 1 n.1) in
     let region = region_from (drop 1 f.1) in
     let grid = drop 6 region.1 in
-    GroupLine n.0 f.0 region.0 (separated_from 32 count_from (length grid) [] grid).0
+    GroupLine n.0 f.0 region.0 (separated_from 32 size_from (length grid) [] grid).0
 
 unfoldable pub for_from : List ℕ → Line
 for_from text =
@@ -93,13 +94,13 @@ alloc_from text =
 unfoldable pub fetch_from : List ℕ → Line
 fetch_from text =
     let b = count_from text in
-    let g = count_from (drop 1 b.1) in
+    let g = size_from (drop 1 b.1) in
     FetchLine b.0 g.0 (region_from (drop 1 g.1)).0
 
 unfoldable pub store_from : List ℕ → Line
 store_from text =
     let b = count_from text in
-    let k = count_from (drop 1 b.1) in
+    let k = size_from (drop 1 b.1) in
     let at = coordinates_from (length k.1) [] (drop 1 k.1) in
     StoreLine b.0 k.0 at.0 (terms.term_from at.1).0
 

@@ -9,6 +9,7 @@ ghost use Rattle.plan_text.specs.Fitting as spec;
 
 use nest::{Coordinate, Declaration, Index, Places};
 use plan_blocks::Line;
+use plan_sizes::{fits_size, fits_sizes};
 use plan_terms::fits_term;
 use plan_words::{fits_form, fits_forms, fits_region, fits_span, fits_symbol, is_name};
 
@@ -20,24 +21,18 @@ fn fits_count(count: u32) -> bool
     true
 }
 
-fn fits_counts(counts: &[u32]) -> bool
-    ensures { result ≡ words.fits_counts counts.now }
-{
-    counts.iter().all(|count| fits_count(*count))
-}
-
 fn fits_declaration(declaration: &Declaration) -> bool
     ensures { result ≡ spec.fits_declaration (declaration_of declaration.now) }
 {
-    is_name(declaration.name.as_bytes()) && fits_counts(&declaration.extents)
+    is_name(declaration.name.as_bytes()) && fits_sizes(&declaration.extents)
 }
 
 fn fits_place(place: &Places) -> bool
     ensures { result ≡ spec.fits_place place.now }
 {
     match place {
-        Places::From { origin, count } => fits_form(origin) && fits_count(*count),
-        Places::Folded { count } => fits_count(*count),
+        Places::From { origin, count } => fits_form(origin) && fits_size(*count),
+        Places::Folded { count } => fits_size(*count),
     }
 }
 
@@ -91,7 +86,7 @@ pub(crate) fn fits_line(line: &Line) -> bool
                 && is_name(function.as_bytes())
                 && fits_region(region)
                 && !grid.is_empty()
-                && fits_counts(grid)
+                && fits_sizes(grid)
         }
         Line::For { symbol, span, .. } => fits_symbol(*symbol) && fits_span(span),
         Line::Let { symbol, forms, .. } => fits_symbol(*symbol) && fits_forms(forms),
@@ -107,7 +102,7 @@ pub(crate) fn fits_line(line: &Line) -> bool
             buffer,
             group,
             region,
-        } => fits_count(*buffer) && fits_count(*group) && fits_region(region),
+        } => fits_count(*buffer) && fits_size(*group) && fits_region(region),
         Line::Store {
             buffer,
             definition,
@@ -115,7 +110,7 @@ pub(crate) fn fits_line(line: &Line) -> bool
             value,
         } => {
             fits_count(*buffer)
-                && fits_count(*definition)
+                && fits_size(*definition)
                 && fits_coordinates(coordinates)
                 && fits_term(value)
         }

@@ -4,15 +4,17 @@
 ghost use Rattle.std.specs.Prelude.{◌≡◌, [], length, drop, map, IfOk};
 ghost use Rattle.nest.specs.View.{coordinate_of, declaration_of, index_of};
 ghost use Rattle.plan_words.specs.Reading as words;
+ghost use Rattle.plan_sizes.specs.Sizes.{size_from};
 ghost use Rattle.plan_blocks.specs.View.{line_of};
 ghost use Rattle.plan_text.specs.Reading as spec;
 
 use nest::{Coordinate, Declaration, Index, Kind, Pick, Places};
 use plan_blocks::Line;
+use plan_sizes::{size_from, sizes_from};
 use plan_terms::term_from;
 use plan_words::{
-    begins, count_from, counts_from, form_from, forms_from, name_from, region_from, skip,
-    span_from, symbol_from, type_from,
+    begins, count_from, form_from, forms_from, name_from, region_from, skip, span_from,
+    symbol_from, type_from,
 };
 use std::alloc::{AllocError, Global};
 
@@ -44,7 +46,7 @@ fn declaration_from(alloc: Global, text: &[u8]) -> Result<Declaration, AllocErro
 {
     let (name, rest) = name_from(alloc, text)?;
     let (ty, rest) = type_from(skip(1, rest));
-    let (extents, _) = counts_from(alloc, skip(1, rest))?;
+    let (extents, _) = sizes_from(alloc, skip(1, rest))?;
     Ok(Declaration { name, ty, extents })
 }
 
@@ -54,11 +56,11 @@ fn place_from(alloc: Global, text: &[u8]) -> Result<(Places, &[u8]), AllocError>
     ensures rest { IfOk result (λ r. r.1.now ≡ (spec.place_from text.now).1) }
 {
     if begins(b'%', text) {
-        let (count, rest) = count_from(skip(1, text));
+        let (count, rest) = size_from(skip(1, text));
         return Ok((Places::Folded { count }, rest));
     }
     let (origin, rest) = form_from(alloc, text)?;
-    let (count, rest) = count_from(skip(1, rest));
+    let (count, rest) = size_from(skip(1, rest));
     Ok((Places::From { origin, count }, rest))
 }
 
@@ -139,14 +141,14 @@ fn coordinates_from(
     Ok((found, rest))
 }
 
-/// The counts of a grid, with blanks between them.
-fn grid_from(alloc: Global, text: &[u8]) -> Result<Vec<u32>, AllocError>
-    ensures { IfOk result (λ r. r.items ≡ (words.separated_from 32 words.count_from (length text.now) [] text.now).0) }
+/// The sizes of a grid, with blanks between them.
+fn grid_from(alloc: Global, text: &[u8]) -> Result<Vec<u64>, AllocError>
+    ensures { IfOk result (λ r. r.items ≡ (words.separated_from 32 size_from (length text.now) [] text.now).0) }
 {
     let mut found = Vec::new(alloc);
     let mut rest = text;
     for _ in 0..text.len() {
-        let (count, next) = count_from(rest);
+        let (count, next) = size_from(rest);
         found.push(count)?;
         if !begins(b' ', next) {
             return Ok(found);
@@ -224,7 +226,7 @@ fn fetch_from(alloc: Global, text: &[u8]) -> Result<Line, AllocError>
     ensures { IfOk result (λ line. line_of line ≡ spec.fetch_from text.now) }
 {
     let (buffer, rest) = count_from(text);
-    let (group, rest) = count_from(skip(1, rest));
+    let (group, rest) = size_from(skip(1, rest));
     let (region, _) = region_from(alloc, skip(1, rest))?;
     Ok(Line::Fetch {
         buffer,
@@ -238,7 +240,7 @@ fn store_from(alloc: Global, text: &[u8]) -> Result<Line, AllocError>
     ensures { IfOk result (λ line. line_of line ≡ spec.store_from text.now) }
 {
     let (buffer, rest) = count_from(text);
-    let (definition, rest) = count_from(skip(1, rest));
+    let (definition, rest) = size_from(skip(1, rest));
     let (coordinates, rest) = coordinates_from(alloc, rest.len(), skip(1, rest))?;
     let (value, _) = term_from(alloc, rest)?;
     Ok(Line::Store {

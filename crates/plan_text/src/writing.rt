@@ -17,10 +17,10 @@ use itoa::Buffer;
 use lin::{Forms, Lin, Region, Span1, Sym};
 use nest::{Coordinate, Declaration, Group, Index, Kind, Pick, Places, Plan, Stmt};
 use plan_blocks::Line;
+use plan_sizes::{put_size, put_sizes};
 use plan_terms::put_term;
 use plan_words::{
-    put_count, put_counts, put_form, put_forms, put_name, put_region, put_span, put_symbol,
-    put_type,
+    put_count, put_form, put_forms, put_name, put_region, put_span, put_symbol, put_type,
 };
 use std::alloc::{AllocError, Global};
 use tree::Expr;
@@ -52,7 +52,7 @@ fn put_declaration(text: &mut String, declaration: &Declaration) -> Result<(), A
     text.push_str(" ")?;
     put_type(text, declaration.ty)?;
     text.push_str(" ")?;
-    put_counts(text, &declaration.extents)
+    put_sizes(text, &declaration.extents)
 }
 
 #[tactic(auto, unfolding(crate::specs::Spelling::place_text))]
@@ -63,11 +63,11 @@ fn put_place(text: &mut String, place: &Places) -> Result<(), AllocError>
         Places::From { origin, count } => {
             put_form(text, origin)?;
             text.push_str("#")?;
-            put_count(text, *count)
+            put_size(text, *count)
         }
         Places::Folded { count } => {
             text.push_str("%")?;
-            put_count(text, *count)
+            put_size(text, *count)
         }
     }
 }
@@ -129,15 +129,15 @@ fn put_coordinates(text: &mut String, all: &[Coordinate]) -> Result<(), AllocErr
     Ok(())
 }
 
-/// Counts with blanks between them.
-fn put_grid(text: &mut String, grid: &[u32]) -> Result<(), AllocError>
+/// Sizes with blanks between them.
+fn put_grid(text: &mut String, grid: &[u64]) -> Result<(), AllocError>
     ensures { OnOk result (string_bytes text.new ≡ string_bytes text.old ++ words.separated_text 32 words.count_text grid.now) }
 {
     match grid {
         [] => Ok(()),
-        [only] => put_count(text, *only),
+        [only] => put_size(text, *only),
         [first, rest @ ..] => {
-            put_count(text, *first)?;
+            put_size(text, *first)?;
             text.push_str(" ")?;
             put_grid(text, rest)
         }
@@ -173,7 +173,7 @@ fn put_group(
     number: usize,
     function: &str,
     region: &Region,
-    grid: &[u32],
+    grid: &[u64],
 ) -> Result<(), AllocError>
     ensures { OnOk result (string_bytes text.new ≡ string_bytes text.old ++ spec.group_text number function.now region.now grid.now) }
 {
@@ -239,13 +239,13 @@ fn put_alloc(
 }
 
 #[tactic(auto, unfolding(crate::specs::Spelling::fetch_text))]
-fn put_fetch(text: &mut String, buffer: u32, group: u32, region: &Region) -> Result<(), AllocError>
+fn put_fetch(text: &mut String, buffer: u32, group: u64, region: &Region) -> Result<(), AllocError>
     ensures { OnOk result (string_bytes text.new ≡ string_bytes text.old ++ spec.fetch_text buffer group region.now) }
 {
     text.push_str("fetch b")?;
     put_count(text, buffer)?;
     text.push_str(" ")?;
-    put_count(text, group)?;
+    put_size(text, group)?;
     text.push_str(" ")?;
     put_region(text, region)
 }
@@ -254,7 +254,7 @@ fn put_fetch(text: &mut String, buffer: u32, group: u32, region: &Region) -> Res
 fn put_store(
     text: &mut String,
     buffer: u32,
-    definition: u32,
+    definition: u64,
     coordinates: &[Coordinate],
     value: &Expr,
 ) -> Result<(), AllocError>
@@ -263,7 +263,7 @@ fn put_store(
     text.push_str("store b")?;
     put_count(text, buffer)?;
     text.push_str(" ")?;
-    put_count(text, definition)?;
+    put_size(text, definition)?;
     text.push_str(" ")?;
     put_coordinates(text, coordinates)?;
     put_term(text, value)

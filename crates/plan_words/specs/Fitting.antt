@@ -10,7 +10,7 @@ use Rattle.token.specs.Lexical.{types, words}
 
 -- ---- numbers
 
--- numbers of 32 bits: extents, and numbers of lines, groups, buffers, claims and definitions
+-- numbers of 32 bits: those of buffers and claims, and of groups at their own lines
 abbrev pub fits_count : ℕ → Bool
 fits_count n = nat_lt n (2 ^ 32)
 

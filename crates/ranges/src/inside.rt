@@ -115,7 +115,7 @@ pub fn store_has_a_place(rt: &(impl Threads + Sync), row: &RowPlan<'_>) -> bool
         rt,
         Ranges::Axes(&row.loops, row.coordinates),
         Ranges::Seats(row.places),
-        row.count,
+        row.count as u32,
     )
 }
 
@@ -132,7 +132,7 @@ pub fn coordinates_are_indices(rt: &(impl Threads + Sync), row: &RowPlan<'_>) ->
         rt,
         Ranges::Axes(&row.loops, row.coordinates),
         Ranges::Indices(row.coordinates.len()),
-        row.count,
+        row.count as u32,
     )
 }
 
@@ -148,7 +148,7 @@ pub fn claim_is_stored(rt: &(impl Threads + Sync), row: &RowPlan<'_>) -> bool
 {
     let claim = Ranges::Ends(row.claim.region.as_slice());
     let stored = Ranges::Axes(&row.loops, row.coordinates);
-    are_always_inside(rt, claim, stored, row.count)
+    are_always_inside(rt, claim, stored, row.count as u32)
 }
 
 // The coordinates of the own region, none where no own region is given.
@@ -174,5 +174,5 @@ pub fn own_is_claimed(rt: &(impl Threads + Sync), row: &RowPlan<'_>) -> bool
 {
     let own = Ranges::Ends(own_spans(row));
     let claim = Ranges::Ends(row.claim.region.as_slice());
-    are_always_inside(rt, own, claim, row.count)
+    are_always_inside(rt, own, claim, row.count as u32)
 }

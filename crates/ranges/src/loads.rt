@@ -199,5 +199,5 @@ pub fn loads_are_on_input(
         value: row.value,
         algo,
     };
-    are_always_on_input(rt, alloc, loads, row.count)
+    are_always_on_input(rt, alloc, loads, row.count as u32)
 }

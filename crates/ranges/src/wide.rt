@@ -70,7 +70,7 @@ pub(crate) fn ends_at(span: &Span1, piece: u32) -> Wide
 }
 
 // The coordinates of so many places from a number on.
-fn seats_from(origin: i64, count: u32) -> Wide
+fn seats_from(origin: i64, count: u64) -> Wide
     ensures { interval_of result ≡ between origin (origin +ℤ pos count -ℤ pos 1) }
 {
     Wide {

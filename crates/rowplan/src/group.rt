@@ -19,12 +19,12 @@ use std::alloc::Global;
 pub struct Grouped<'a> {
     pub function: &'a str,
     pub region: &'a [Span1],
-    pub count: u32,
+    pub count: u64,
     pub body: Body<'a>,
 }
 
 /// How many pieces a grid has, where it has one count.
-fn one_count(grid: &[u32]) -> Option<u32>
+fn one_count(grid: &[u64]) -> Option<u64>
     ensures { MatchOption result (is_one_count grid.now ≡ false) (λ count. grid.now ≡ count ∷ []) }
 {
     match grid {

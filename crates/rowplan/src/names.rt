@@ -20,13 +20,28 @@ pub fn name_is_same(plan: &Plan, name: &str) -> bool
     plan.name.as_str() == name
 }
 
+/// Whether the extents of a plan are the lengths that an algorithm gives.
+fn are_lengths(extents: &[u64], lengths: &[u32]) -> bool
+    ensures { IsTrue result ↔ (extents.now ≡ lengths.now) }
+{
+    if extents.len() != lengths.len() {
+        return false;
+    }
+    for (index, extent) in extents.iter().enumerate() {
+        if *extent != u64::from(lengths[index]) {
+            return false;
+        }
+    }
+    true
+}
+
 /// Whether a declaration is that of the algorithm's input.
 pub fn input_is_same(declaration: &Declaration, input: &str, ty: Ty, extents: &[u32]) -> bool
     ensures { (a : Algorithm) → a.input ≡ input.now → a.input_ty ≡ ty → a.input_extents ≡ extents.now → (IsTrue result ↔ SameInput a (declaration_of declaration.now)) }
 {
     declaration.name.as_str() == input
         && declaration.ty == ty
-        && declaration.extents.as_slice() == extents
+        && are_lengths(declaration.extents.as_slice(), extents)
 }
 
 /// Whether a declaration is that of the algorithm's output, where the output function has this type.
@@ -35,7 +50,7 @@ pub fn output_is_same(declaration: &Declaration, output: &str, ty: Ty, extents: 
 {
     declaration.name.as_str() == output
         && declaration.ty == ty
-        && declaration.extents.as_slice() == extents
+        && are_lengths(declaration.extents.as_slice(), extents)
 }
 
 /// Whether one of these groups is that of a function.

@@ -8,7 +8,7 @@ ghost use Rattle.rowplan.specs.View.{row_of};
 use crate::row::RowPlan;
 
 /// The most pieces of a group.
-const MOST_PIECES: u32 = 1 << 20;
+const MOST_PIECES: u64 = 1 << 20;
 
 /// Whether the grid has at most 2^20 pieces.
 pub fn pieces_are_few(row: &RowPlan<'_>) -> bool

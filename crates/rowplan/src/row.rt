@@ -22,7 +22,7 @@ pub struct RowPlan<'a> {
     /// The group's function and region, and how many pieces its grid has.
     pub function: &'a str,
     pub region: &'a [Span1],
-    pub count: u32,
+    pub count: u64,
     /// The line `alloc`: the buffer's number, its function and its places.
     pub buffer: u32,
     pub buffer_function: &'a str,
@@ -31,7 +31,7 @@ pub struct RowPlan<'a> {
     pub loops: Vec<RowLoop<'a>>,
     /// The store: its buffer's number, its definition, its coordinates and its expression.
     pub stored: u32,
-    pub definition: u32,
+    pub definition: u64,
     pub coordinates: &'a [Coordinate],
     pub value: &'a Expr,
     /// The number of the claim that is published by.

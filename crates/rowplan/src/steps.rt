@@ -33,7 +33,7 @@ pub struct Inner<'a> {
 #[derive(Clone, Copy, Drop)]
 pub struct Stored<'a> {
     pub buffer: u32,
-    pub definition: u32,
+    pub definition: u64,
     pub coordinates: &'a [Coordinate],
     pub value: &'a Expr,
 }

@@ -73,7 +73,7 @@ fn row_places(alloc: Global, extents: &[u32], coordinate: usize) -> Result<Place
     } else {
         Ok(Places::From {
             origin: Lin::number(alloc, 0),
-            count: extents[coordinate],
+            count: u64::from(extents[coordinate]),
         })
     }
 }
@@ -172,12 +172,23 @@ fn row_nest(alloc: Global, extents: &[u32], store: Stmt) -> Result<Stmt, AllocEr
 
 // ---- the algorithm's parts
 
+/// Extents as a plan has them.
+fn plan_extents(alloc: Global, extents: &[u32]) -> Result<Vec<u64>, AllocError>
+    ensures { IfOk result (λ copied. copied.items ≡ extents.now) }
+{
+    let mut copied = Vec::new(alloc);
+    for extent in extents {
+        copied.push(u64::from(*extent))?;
+    }
+    Ok(copied)
+}
+
 /// The declaration of an input or output.
-fn declaration(port: &Port) -> Result<Declaration, AllocError>
+fn declaration(alloc: Global, port: &Port) -> Result<Declaration, AllocError>
     ensures { IfOk result (λ d. declaration_of d ≡ declared (string_bytes port.now.name) port.now.shape.ty port.now.shape.extents.items) }
 {
     let name = port.name.clone()?;
-    let extents = port.shape.extents.clone()?;
+    let extents = plan_extents(alloc, &port.shape.extents)?;
     Ok(Declaration {
         name,
         ty: port.shape.ty,
@@ -268,7 +279,7 @@ fn group(alloc: Global, algo: &Algo, value: Expr) -> Result<Group, AllocError>
     let function = output.name.clone()?;
     let region = whole_region(alloc, extents)?;
     let mut grid = Vec::new(alloc);
-    grid.push(piece_count(extents))?;
+    grid.push(u64::from(piece_count(extents)))?;
     let body = piece_body(alloc, algo, value)?;
     Ok(Group {
         function,
@@ -279,7 +290,7 @@ fn group(alloc: Global, algo: &Algo, value: Expr) -> Result<Group, AllocError>
 }
 
 /// The line at which the loops end: two lines a loop behind those of the head, the group and the buffer, and the store's.
-fn last_line(extents: &[u32]) -> u32
+fn last_line(extents: &[u32]) -> u64
     requires { AreExtents extents.now }
     ensures { result ≡ 2 * length extents.now + 6 }
 {
@@ -337,8 +348,8 @@ fn plan(alloc: Global, algo: &Algo, value: Expr) -> Result<Plan, AllocError>
     ensures { IfOk result (λ made. MatchOption (output_function (algorithm_of algo.now)) ⊥ (λ f. plan_meant made ≡ plan_of (row_with (algorithm_of algo.now) f (term_of value)))) }
 {
     let name = String::from_str(alloc, algo.name())?;
-    let input = declaration(algo.input())?;
-    let output = declaration(algo.output())?;
+    let input = declaration(alloc, algo.input())?;
+    let output = declaration(alloc, algo.output())?;
     let mut groups = Vec::new(alloc);
     groups.push(group(alloc, algo, value)?)?;
     Ok(Plan {

@@ -2,7 +2,7 @@
 use Rattle.std.proofs.Common.{◌≡◌, ℕ, zero, suc, ◌+◌, ◌-◌, ◌*◌, ◌/◌, ◌%◌, ◌^◌, min, ◌<◌, ◌≤◌, List, [], ◌∷◌, ◌++◌, map, take, drop, length, get_or, Some, refl, sym, ap, ◌∙◌, subst, arith, append_assoc}
 use Rattle.std.specs.Prelude.{slice_get}
 use Rattle.std.specs.List.{range_with_len}
-use Rattle.std.proofs.Math.Nat.{div-lt_iff_lt-mul}
+use Rattle.std.proofs.Math.Nat.{div-lt_iff_lt-mul, div-le_self, mod-le}
 use Rattle.std.proofs.lemmas.List.{take_more, length-append, length-map, drop_more}
 use Rattle.std.proofs.lemmas.Option.{same_Some, slice_get-map, slice_get-get_or, slice_get_within}
 use Rattle.std.specs.Option.{option_map}
@@ -79,6 +79,13 @@ group_is gs i x g at is =
     same_Some (group_of x) g (sym (group_at gs gs i x refl l is) ∙ at)
 
 -- ---- grid points
+
+-- parts of a number are no larger than it
+pub remainder_small : (n w : ℕ) → n < 2 ^ 32 → n % w < 2 ^ 32
+remainder_small n w h = let le = mod-le n w in omega (arith, le, h)
+
+pub quotient_small : (n w : ℕ) → n < 2 ^ 32 → n / w < 2 ^ 32
+quotient_small n w h = let le = div-le_self n w in omega (arith, le, h)
 
 pub quotient_below : (n w m : ℕ) → 0 < w → n < w * m → n / w < m
 quotient_below n w m some h = (div-lt_iff_lt-mul {k = w} {x = n} {y = m} some).1 (omega arith)

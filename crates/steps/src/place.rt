@@ -1,6 +1,6 @@
 //! The group and the grid point of a piece.
 
-ghost use Rattle.std.specs.Prelude.{◌≡◌, ◌<◌, ◌-◌, ◌^◌, min, length, IfOk};
+ghost use Rattle.std.specs.Prelude.{◌≡◌, ◌<◌, ◌-◌, ◌^◌, ◌%◌, ◌/◌, min, length, IfOk};
 ghost use Rattle.cert.specs.Cells.{grid_point, piece_count, pieces};
 ghost use Rattle.nest.specs.View.{plan_of};
 ghost use Rattle.steps.specs.Places.{IsPlaceOf};
@@ -16,12 +16,12 @@ pub(crate) struct Place {
 }
 
 /// How many points a grid has. More than a `u64` holds count as the greatest `u64`.
-fn point_count(grid: &[u32]) -> u64
+fn point_count(grid: &[u64]) -> u64
     ensures { result ≡ min (piece_count grid.now) (2 ^ 64 - 1) }
 {
     let mut count: u64 = 1;
     for extent in grid {
-        count = count.saturating_mul(u64::from(*extent));
+        count = count.saturating_mul(*extent);
     }
     count
 }
@@ -42,16 +42,28 @@ pub(crate) fn place_of(plan: &Plan, piece: u32) -> Place
     unreachable!()
 }
 
+/// The remainder and the quotient of a number by another.
+#[tactic(auto, using(crate::proofs::Walks::remainder_small, crate::proofs::Walks::quotient_small))]
+fn divided(number: u32, by: u64) -> (u32, u32)
+    requires { 0 < by }
+    ensures remainder { result.0 ≡ number % by }
+    ensures quotient { result.1 ≡ number / by }
+{
+    let number = u64::from(number);
+    ((number % by) as u32, (number / by) as u32)
+}
+
 /// The grid point of the piece of a group that so many come before. The first symbol runs fastest.
-pub(crate) fn grid_point(alloc: Global, grid: &[u32], rank: u32) -> Result<Vec<u32>, AllocError>
+pub(crate) fn grid_point(alloc: Global, grid: &[u64], rank: u32) -> Result<Vec<u32>, AllocError>
     requires { rank < piece_count grid.now }
     ensures { IfOk result (λ at. at.items ≡ grid_point grid.now rank) }
 {
     let mut at = Vec::new(alloc);
     let mut rest = rank;
     for extent in grid {
-        at.push(rest % *extent)?;
-        rest /= *extent;
+        let (coordinate, quotient) = divided(rest, *extent);
+        at.push(coordinate)?;
+        rest = quotient;
     }
     Ok(at)
 }

@@ -10,7 +10,7 @@ loop-one-preserved c =
     let f : Places → ℕ = λ x. (seats_of x).count in
     let most : ℕ = 2 ^ 64 - 1 in
     let before : ℕ = product (map f (take c.loop-one.one-index c.args.places.now)) in
-    let factor : c.from.result ≡ f c.one-item.result = c.from.ensures ∙ c.place_count.ensures in
+    let factor : c.place_count.result ≡ f c.one-item.result = c.place_count.ensures in
     let reached : c.loop-one.total ≡ min before most = c.loop-one.invariant in
     c.saturating_mul-total.ensures
     ∙ (λ j. min (reached j * factor j) most)

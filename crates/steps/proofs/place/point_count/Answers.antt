@@ -10,9 +10,8 @@ loop-extent-preserved c =
     let grid = c.args.grid.now in
     let i = c.loop-extent.extent-index in
     let before : ℕ = piece_count (take i grid) in
-    let factor : c.from.result ≡ get_or grid i 0 = c.from.ensures in
     let reached : c.loop-extent.count ≡ min before most = c.loop-extent.invariant in
     c.saturating_mul-count.ensures
-    ∙ (λ j. min (reached j * factor j) most)
+    ∙ (λ j. min (reached j * get_or grid i 0) most)
     ∙ saturated before (get_or grid i 0) most
     ∙ ap (λ (n : ℕ). min n most) (sym (count_next grid i 0 (omega (arith, c.loop-extent-test.true))))

@@ -1,0 +1,7 @@
+mod Binders
+mod Calls
+mod Intervals
+mod Limits
+mod Named
+mod Scopes
+mod Suited

@@ -1,0 +1,7 @@
+pub mod Called
+pub mod Held
+pub mod Laws
+pub mod Rules
+pub mod Scopes
+pub mod Seats
+pub mod View

@@ -1,0 +1,6 @@
+pub mod Lines
+pub mod Placing
+pub mod Ways
+pub mod Certificate
+pub mod View
+pub mod Clear

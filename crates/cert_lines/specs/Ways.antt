@@ -1,0 +1,38 @@
+-- Where a line lies, seen from a statement or from a group.
+use Rattle.std.specs.Prelude.{◌≡◌, ℕ, ◌+◌, ◌<◌, List, ◌++◌, Option, Some, None}
+use Rattle.nest.specs.Plan.{Statement, Statements, Group}
+use Rattle.nest.specs.Lines.{lines, block_lines, group_lines}
+use Rattle.cert_lines.specs.Placing.{loops_at, first_at, later_at, block_loops_at, symbols_at}
+use Rattle.cert_lines.specs.declared.placing.Way.{Way}
+use Rattle.cert_lines.specs.declared.placing.Way.TheVariants.{Ends, Within, Past}
+use Rattle.cert_lines.specs.declared.placing.Seen.{Seen}
+use Rattle.cert_lines.specs.declared.placing.Seen.TheVariants.{Here, Behind}
+
+-- symbols behind others
+abbrev pub behind : List ℕ → Option (List ℕ) → Option (List ℕ)
+behind old None = None
+behind old (Some symbols) = Some (old ++ symbols)
+
+-- Of so many lines, of which one, counted from 0, has these symbols or none: a statement ends there, and its symbols are
+-- noted; or none does; or the line lies so many lines behind the last one.
+abbrev pub IsWay : ℕ → Option (List ℕ) → ℕ → List ℕ → List ℕ → Way → Type 0
+IsWay count symbols k old new Ends = (k < count) × (behind old symbols ≡ Some new)
+IsWay count symbols k old new Within = (k < count) × (symbols ≡ None) × (new ≡ old)
+IsWay count symbols k old new (Past n) = (count + n ≡ k) × (new ≡ old)
+
+abbrev pub IsWayIn : Statement → ℕ → List ℕ → List ℕ → Way → Type 0
+IsWayIn a k old new way = IsWay (lines a) (loops_at a k) k old new way
+
+abbrev pub IsWayInFirst : Statement → ℕ → List ℕ → List ℕ → Way → Type 0
+IsWayInFirst a k old new way = IsWay (lines a + 1) (first_at (loops_at a) k) k old new way
+
+abbrev pub IsWayInLater : Statement → ℕ → List ℕ → List ℕ → Way → Type 0
+IsWayInLater b k old new way = IsWay (lines b + 2) (later_at (lines b) (loops_at b) k) k old new way
+
+abbrev pub IsWayInBlock : Statements → ℕ → List ℕ → List ℕ → Way → Type 0
+IsWayInBlock all k old new way = IsWay (block_lines all) (block_loops_at all k) k old new way
+
+-- the line is one of the group's, with these symbols, or lies behind them
+abbrev pub IsSeen : Group → ℕ → Seen → Type 0
+IsSeen g k (Here symbols) = (k < group_lines g) × (symbols.items ≡ symbols_at g k)
+IsSeen g k (Behind n) = group_lines g + n ≡ k

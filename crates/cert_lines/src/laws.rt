@@ -1,0 +1,22 @@
+//! What the answer that there is no flaw means, and where lines lie.
+
+ghost use Rattle.std.specs.Prelude.{◌≡◌, ◌+◌, ◌<◌, ℕ, None, Some, slice_get};
+ghost use Rattle.meaning.specs.Algorithm.{Algorithm};
+ghost use Rattle.nest.specs.Lines.{group_line, group_lines};
+ghost use Rattle.nest.specs.Plan.{Group, Plan};
+ghost use Rattle.cert.specs.Certificate.{Certificate};
+ghost use Rattle.outlines.specs.Flaws.{first_of};
+ghost use Rattle.cert_lines.specs.Certificate.{flaws_of_certificate};
+ghost use Rattle.cert_lines.specs.Clear.{IsClear};
+ghost use Rattle.cert_lines.specs.Placing.{place_at, symbols_at};
+
+/// Where a certificate's lines have no flaw, each group has one own region, own and needed regions are regions of their
+/// groups, claims are of what is known, and there are no windows.
+pub fn no_flaw_is_clear()
+    ensures { (a : Algorithm) (p : Plan) (c : Certificate) → None ≡ first_of (flaws_of_certificate a p c) → IsClear a p c }
+{}
+
+/// A line so many lines behind a group's line `group`, and before the next group, lies in that group.
+pub fn lines_lie_in_their_groups()
+    ensures { (p : Plan) (n k : ℕ) (g : Group) → slice_get p.groups n ≡ Some g → k < group_lines g → place_at p.groups (group_line p n + k) ≡ Some (record { group = g; symbols = symbols_at g k }) }
+{}

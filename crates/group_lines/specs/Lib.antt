@@ -1,0 +1,5 @@
+pub mod Sizes
+pub mod Free
+pub mod Lines
+pub mod Here
+pub mod Laws

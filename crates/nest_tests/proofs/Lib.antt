@@ -1,0 +1,5 @@
+pub mod Blocks
+pub mod Chains
+pub mod Ends
+pub mod Functions
+pub mod Stores

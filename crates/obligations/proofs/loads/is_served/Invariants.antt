@@ -1,0 +1,10 @@
+use Rattle.std.proofs.Common.{◌≡◌, false, take}
+use Rattle.std.specs.Prelude.{◌==◌, ◌&&◌}
+use Rattle.std.specs.List.{list_any}
+use Rattle.claims.specs.Obligations.{serves}
+use Rattle.outlines.specs.View.{outline_in}
+use Rattle.around.specs.Around.{nest_of}
+use Rattle.obligations.proofs.loads.is_served.Given as goal
+
+abbrev pub invariant-loop-nest : goal.invariant-loop-nest
+invariant-loop-nest g l = list_any (λ u. (u.before == l.claim) && serves (outline_in l.judge.outlined.now) (g.B.Bounds.rules l.judge.bounds.now) l.reads.buffer l.reads.function.now l.reads.definition (nest_of u)) (take l.nest-index l.reads.updating.now) ≡ false

@@ -1,0 +1,16 @@
+use Rattle.std.proofs.Common.{◌≡◌, ◌+◌, ◌^◌, ◌<◌}
+use Rattle.nest.specs.Lines.{block_lines}
+use Rattle.nest.specs.Lists.{list_statements}
+use Rattle.nest.specs.Plan.{block}
+use Rattle.claims.specs.Obligations.{block_obligations}
+use Rattle.outlines.specs.View.{outline_in}
+use Rattle.obligations.specs.Asked.{first_unmet}
+use Rattle.around.specs.Around.{known_of}
+use Rattle.around.proofs.Blocks.{from}
+use Rattle.obligations.proofs.walk.+walking.Given as goal
+
+abbrev pub invariant-unmet_in_block-loop-stmt : goal.invariant-unmet_in_block-loop-stmt
+invariant-unmet_in_block-loop-stmt g l = record {
+  found : first_unmet (g.B.Bounds.rules l.judge.bounds.now) (g.T.NestTests.nests l.judge.tests.now) l.judge.part (block_obligations (outline_in l.judge.outlined.now) (g.B.Bounds.rules l.judge.bounds.now) (block (list_statements l.all)) l.line (known_of l.fn.known l.updating)) ≡ first_unmet (g.B.Bounds.rules l.judge.bounds.now) (g.T.NestTests.nests l.judge.tests.now) l.judge.part (block_obligations (outline_in l.judge.outlined.now) (g.B.Bounds.rules l.judge.bounds.now) (from l.all l.stmt-index) l.begin (known_of l.known l.updating));
+  fits : l.begin + block_lines (from l.all l.stmt-index) < 2 ^ 32;
+}

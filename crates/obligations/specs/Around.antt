@@ -1,0 +1,38 @@
+-- The symbols of a grid, statements that are one line, and what a claim asks of the statement that makes it.
+use Rattle.std.specs.Prelude.{ℕ, ◌+◌, filter, List, [], ◌∷◌, ◌++◌, map}
+use Rattle.std.specs.List.{list_any}
+use Rattle.nest.specs.Plan.{Statement, Seq, For, First, Guard}
+use Rattle.claims.specs.Origins.{Outline, or_same}
+use Rattle.claims.specs.Obligations.{Binder, Ranged, Rules, region_of, NotMade, OutOfOrder, Inside, Named, InTurn, store_line, Obligation, obligation, follows}
+use Rattle.binders.specs.View.{grid_span}
+use Rattle.around.specs.declared.known.Known.{Known as KnownHeld}
+use Rattle.around.specs.Around.{known_of}
+
+-- the symbols of a grid from number i on, of which each takes so many values from 0 on, the last first
+abbrev pub grid_from : ℕ → List ℕ → List Binder
+grid_from i [] = []
+grid_from i (n ∷ ns) = grid_from (i + 1) ns ++ Ranged i (grid_span n) ∷ []
+
+-- the symbols of a grid
+abbrev pub grid_binders : List ℕ → List Binder
+grid_binders ns = grid_from 0 ns
+
+-- a statement that is one line
+abbrev pub IsLine : Statement → Type 0
+IsLine (Seq all) = ⊥
+IsLine (For i x kind body) = ⊥
+IsLine (First i a b) = ⊥
+IsLine (Guard low high body) = ⊥
+IsLine _ = Unit {0}
+
+-- what a claim asks for of the claims of the definition before among these: that its region lies in theirs
+abbrev pub asked_by_claims : Outline → Rules → KnownHeld → ℕ → List ℕ → List Obligation
+asked_by_claims outline rules k c ds =
+    map (λ d. obligation outline rules NotMade (rules.claim_line c) (known_of k []) (Inside (region_of outline rules c) (region_of outline rules d))) (filter (λ d. follows outline rules d c) ds)
+
+-- what a claim asks of a nest of updates: that it stands in the block of a claim of the definition before, that it is in turn,
+-- and that those claims' regions hold the claim's
+abbrev pub asked_of_updates : Outline → Rules → ℕ → ℕ → KnownHeld → Statement → ℕ → List Obligation
+asked_of_updates outline rules begin last k a c =
+    obligation outline rules NotMade (rules.claim_line c) (known_of k []) (Named (list_any (λ d. follows outline rules d c) k.own.items))
+    ∷ obligation outline rules OutOfOrder (or_same (store_line outline rules a begin (outline.claim c).buffer) last) (known_of k []) (InTurn c a) ∷ asked_by_claims outline rules k c k.own.items

@@ -1,0 +1,47 @@
+-- Which obligations are asked after, and how the first that is not shown is told.
+use Rattle.std.specs.Prelude.{ℕ, ◌-◌, ◌^◌, min, Bool, true, false, not, if◌then◌else◌, List, filter, Option, Some, None}
+use Rattle.refusals.specs.declared.code.K.{K}
+use Rattle.refusals.specs.declared.code.K.TheVariants.{K2, K4, K5, K6, K7}
+use Rattle.refusals.specs.declared.code.Flaw.{Flaw}
+use Rattle.claims.specs.Obligations.{Rules, Code, Undefined, OutOfBuffer, NotClaimed, NotMade, OutOfOrder, Obligation}
+use Rattle.claims.specs.Shown.{Nests, first_fault}
+use Rattle.around.specs.declared.judge.Part.{Part}
+use Rattle.around.specs.declared.judge.Part.TheVariants.{Lines, Claims}
+
+-- why a plan is refused, as it is told
+abbrev pub code_of : Code → K
+code_of Undefined = K2
+code_of OutOfBuffer = K4
+code_of NotClaimed = K5
+code_of NotMade = K6
+code_of OutOfOrder = K7
+
+-- the code of a statement that does not make its claim
+abbrev pub is_of_claims : K → Bool
+is_of_claims K6 = true
+is_of_claims _ = false
+
+-- whether obligations of a code are asked after
+abbrev pub is_asked : Part → K → Bool
+is_asked Lines k = not (is_of_claims k)
+is_asked Claims k = is_of_claims k
+
+-- the obligations that are asked after
+abbrev pub of_part : Part → List Obligation → List Obligation
+of_part part os = filter (λ o. is_asked part (code_of o.code)) os
+
+-- an obligation as it is told: lines past the greatest number of 32 bits are told as that
+abbrev pub flaw_of : Obligation → Flaw
+flaw_of o = record { code = code_of o.code; line = min o.line (2 ^ 32 - 1) }
+
+abbrev pub told : Option Obligation → Option Flaw
+told None = None
+told (Some o) = Some (flaw_of o)
+
+-- the first obligation that is asked after and not shown
+unfoldable pub first_unmet : Rules → Nests → Part → List Obligation → Option Flaw
+first_unmet rules nests part os = told (first_fault rules nests (of_part part os))
+
+-- what is told of an obligation alone
+unfoldable pub unless : Part → K → ℕ → Bool → Option Flaw
+unless part k line shown = if is_asked part k then (if shown then None else Some (record { code = k; line = line })) else None

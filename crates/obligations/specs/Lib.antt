@@ -1,0 +1,4 @@
+pub mod Asked
+pub mod Around
+pub mod Loads
+pub mod Laws

@@ -1,0 +1,238 @@
+//! What a statement that makes claims asks for.
+
+ghost use Rattle.std.specs.Prelude.{◌≡◌, ◌+◌, ◌<◌, ◌^◌, ◌∷◌, ◌++◌, [], IfOk, map, filter, flat_map};
+ghost use Rattle.std.specs.List.{list_any};
+ghost use Rattle.nest.specs.Lines.{lines, block_lines};
+ghost use Rattle.nest.specs.Lists.{list_statements};
+ghost use Rattle.nest.specs.Plan.{block};
+ghost use Rattle.nest.specs.View.{statement_of};
+ghost use Rattle.claims.specs.Obligations.{claim_obligations, earlier_obligations, follows, made, obligation, places_of, region_of, store_line, block_store_line, Inside, NotMade};
+ghost use Rattle.claims.specs.Shown.{shows};
+ghost use Rattle.binders.specs.View.{binders_of};
+ghost use Rattle.outlines.specs.View.{outline_in};
+ghost use Rattle.around.specs.Around.{buffers_of, known_of};
+ghost use Rattle.obligations.specs.Around.{asked_by_claims, asked_of_updates};
+ghost use Rattle.obligations.specs.Asked.{first_unmet};
+
+use crate::asked::{told, unless};
+use around::{Facts, Judge, Known, are_within, follows, only_updates, only_writes, said_by};
+use binders::NestTests;
+use nest::Stmt;
+use refusals::{Flaw, K};
+use std::alloc::AllocError;
+
+/// The line of a statement's first store in a buffer, where the statement begins at the line.
+#[cycle(storing)]
+fn store_line<B: Facts, T: NestTests>(
+    judge: &Judge<'_, B, T>,
+    stmt: &Stmt,
+    line: u32,
+    buffer: u32,
+) -> Option<u32>
+    requires { line + lines (statement_of stmt.now) < 2 ^ 32 }
+    ensures { result ≡ store_line (outline_in judge.now.outlined.now) (B.rules judge.now.bounds.now) (statement_of stmt.now) line buffer }
+{
+    match stmt {
+        Stmt::Seq(all) => store_line_in(judge, all, line, buffer),
+        Stmt::For { body, .. } | Stmt::Guard { body, .. } => {
+            store_line(judge, body, line + 1, buffer)
+        }
+        Stmt::First { first, later, .. } => {
+            if let Some(found) = store_line(judge, first, line + 1, buffer) {
+                return Some(found);
+            }
+            store_line(judge, later, line + 2 + first.line_count(), buffer)
+        }
+        Stmt::Store { buffer: other, .. } => { if *other == buffer { Some(line) } else { None } }
+        Stmt::Let { .. } | Stmt::Alloc { .. } | Stmt::Fetch { .. } | Stmt::Publish { .. } => None,
+    }
+}
+
+/// The same of a block.
+#[cycle(storing)]
+fn store_line_in<B: Facts, T: NestTests>(
+    judge: &Judge<'_, B, T>,
+    all: &[Stmt],
+    line: u32,
+    buffer: u32,
+) -> Option<u32>
+    requires { line + block_lines (block (list_statements all.now)) < 2 ^ 32 }
+    ensures { result ≡ block_store_line (outline_in judge.now.outlined.now) (B.rules judge.now.bounds.now) (block (list_statements all.now)) line buffer }
+{
+    let mut begin = line;
+    for stmt in all {
+        if let Some(found) = store_line(judge, stmt, begin, buffer) {
+            return Some(found);
+        }
+        begin += stmt.line_count();
+    }
+    None
+}
+
+/// Whether a statement is shown to make a claim.
+fn is_made<B: Facts, T: NestTests>(
+    judge: &Judge<'_, B, T>,
+    stmt: &Stmt,
+    known: &Known<'_>,
+    claim: u32,
+) -> Result<bool, AllocError>
+    ensures { IfOk result (λ yes. yes ≡ shows (B.rules judge.now.bounds.now) (T.nests judge.now.tests.now) (binders_of known.now.binders.items) (made (outline_in judge.now.outlined.now) (B.rules judge.now.bounds.now) (places_of (buffers_of known.now.buffers.items) ((outline_in judge.now.outlined.now).claim claim).buffer) claim (statement_of stmt.now))) }
+{
+    let said = said_by(judge.outlined, claim);
+    let Some(places) = known.places_of(said.buffer) else {
+        return Ok(false);
+    };
+    let from = if only_updates(judge.outlined, stmt, said.buffer, said.function) {
+        Some(said.definition.saturating_sub(1))
+    } else {
+        None
+    };
+    judge
+        .tests
+        .is_made(judge.alloc, &known.binders, claim, from, places, stmt)
+}
+
+/// Whether a claim of this block is of the definition before.
+fn has_earlier<B: Facts, T: NestTests>(judge: &Judge<'_, B, T>, own: &[u32], claim: u32) -> bool
+    ensures { result ≡ list_any (λ d. follows (outline_in judge.now.outlined.now) (B.rules judge.now.bounds.now) d claim) own.now }
+{
+    for before in own {
+        if follows(judge, *before, claim) {
+            return true;
+        }
+    }
+    false
+}
+
+/// A claim of the definition before whose region does not hold that of the claim, if the one is that.
+#[tactic(auto, using(crate::proofs::Unmet::one, crate::proofs::Unmet::alone, crate::proofs::Unmet::nothing, crate::proofs::Unmet::append, crate::proofs::Unmet::stops, crate::proofs::Unmet::goes))]
+fn unmet_region<B: Facts, T: NestTests>(
+    judge: &Judge<'_, B, T>,
+    known: &Known<'_>,
+    claim: u32,
+    before: u32,
+) -> Result<Option<Flaw>, AllocError>
+    ensures { IfOk result (λ flaw. flaw ≡ first_unmet (B.rules judge.now.bounds.now) (T.nests judge.now.tests.now) judge.now.part (asked_by_claims (outline_in judge.now.outlined.now) (B.rules judge.now.bounds.now) known.now claim (before ∷ []))) }
+{
+    if !follows(judge, before, claim) {
+        return Ok(None);
+    }
+    let inner = said_by(judge.outlined, claim).region;
+    let outer = said_by(judge.outlined, before).region;
+    let shown = are_within(judge, &known.binders, inner, outer)?;
+    let line = judge.bounds.claim_line(claim);
+    Ok(unless(judge.part, K::K6, line, shown))
+}
+
+/// A claim of the definition before whose region does not hold that of the claim.
+fn unmet_regions<B: Facts, T: NestTests>(
+    judge: &Judge<'_, B, T>,
+    known: &Known<'_>,
+    own: &[u32],
+    claim: u32,
+) -> Result<Option<Flaw>, AllocError>
+    ensures { IfOk result (λ flaw. flaw ≡ first_unmet (B.rules judge.now.bounds.now) (T.nests judge.now.tests.now) judge.now.part (asked_by_claims (outline_in judge.now.outlined.now) (B.rules judge.now.bounds.now) known.now claim own.now)) }
+{
+    for before in own {
+        if let Some(flaw) = unmet_region(judge, known, claim, *before)? {
+            return Ok(Some(flaw));
+        }
+    }
+    Ok(None)
+}
+
+/// What a claim asks of a nest of updates: that it is in turn, and goes on from claims of the definition before. The nest stands
+/// from the one line to the other.
+#[tactic(auto, using(crate::proofs::Unmet::one, crate::proofs::Unmet::alone, crate::proofs::Unmet::nothing, crate::proofs::Unmet::append, crate::proofs::Unmet::stops, crate::proofs::Unmet::goes, crate::proofs::Unmet::or_same_is))]
+fn unmet_update<B: Facts, T: NestTests>(
+    judge: &Judge<'_, B, T>,
+    stmt: &Stmt,
+    begin: u32,
+    last: u32,
+    known: &Known<'_>,
+    claim: u32,
+) -> Result<Option<Flaw>, AllocError>
+    requires { begin + lines (statement_of stmt.now) < 2 ^ 32 }
+    ensures { IfOk result (λ flaw. flaw ≡ first_unmet (B.rules judge.now.bounds.now) (T.nests judge.now.tests.now) judge.now.part (asked_of_updates (outline_in judge.now.outlined.now) (B.rules judge.now.bounds.now) begin last known.now (statement_of stmt.now) claim)) }
+{
+    let has = has_earlier(judge, &known.own, claim);
+    if let Some(flaw) = unless(judge.part, K::K6, judge.bounds.claim_line(claim), has) {
+        return Ok(Some(flaw));
+    }
+    let buffer = said_by(judge.outlined, claim).buffer;
+    let line = store_line(judge, stmt, begin, buffer).unwrap_or(last);
+    let shown = judge
+        .tests
+        .is_in_turn(judge.alloc, &known.binders, claim, stmt)?;
+    if let Some(flaw) = told(judge.part, K::K7, line, shown) {
+        return Ok(Some(flaw));
+    }
+    unmet_regions(judge, known, &known.own, claim)
+}
+
+/// What a claim that goes on from the definition before asks for. The statement stands from the one line to the other.
+#[tactic(auto, using(crate::proofs::Unmet::one, crate::proofs::Unmet::alone, crate::proofs::Unmet::nothing, crate::proofs::Unmet::append, crate::proofs::Unmet::stops, crate::proofs::Unmet::goes))]
+fn unmet_earlier<B: Facts, T: NestTests>(
+    judge: &Judge<'_, B, T>,
+    stmt: &Stmt,
+    begin: u32,
+    last: u32,
+    known: &Known<'_>,
+    claim: u32,
+) -> Result<Option<Flaw>, AllocError>
+    requires { begin + lines (statement_of stmt.now) < 2 ^ 32 }
+    ensures { IfOk result (λ flaw. flaw ≡ first_unmet (B.rules judge.now.bounds.now) (T.nests judge.now.tests.now) judge.now.part (earlier_obligations (outline_in judge.now.outlined.now) (B.rules judge.now.bounds.now) begin last (known_of known.now []) (statement_of stmt.now) claim)) }
+{
+    let said = said_by(judge.outlined, claim);
+    if only_updates(judge.outlined, stmt, said.buffer, said.function) {
+        unmet_update(judge, stmt, begin, last, known, claim)
+    } else {
+        Ok(None)
+    }
+}
+
+/// What a claim asks of the statement that makes it, which stands from the one line to the other.
+#[tactic(auto, using(crate::proofs::Unmet::one, crate::proofs::Unmet::alone, crate::proofs::Unmet::nothing, crate::proofs::Unmet::append, crate::proofs::Unmet::stops, crate::proofs::Unmet::goes))]
+fn unmet_claim<B: Facts, T: NestTests>(
+    judge: &Judge<'_, B, T>,
+    stmt: &Stmt,
+    begin: u32,
+    last: u32,
+    known: &Known<'_>,
+    claim: u32,
+) -> Result<Option<Flaw>, AllocError>
+    requires { begin + lines (statement_of stmt.now) < 2 ^ 32 }
+    ensures { IfOk result (λ flaw. flaw ≡ first_unmet (B.rules judge.now.bounds.now) (T.nests judge.now.tests.now) judge.now.part (claim_obligations (outline_in judge.now.outlined.now) (B.rules judge.now.bounds.now) begin last (known_of known.now []) (statement_of stmt.now) claim)) }
+{
+    let said = said_by(judge.outlined, claim);
+    let line = judge.bounds.claim_line(claim);
+    let alone = only_writes(judge.outlined, stmt, said.buffer, said.function);
+    if let Some(flaw) = unless(judge.part, K::K6, line, alone) {
+        return Ok(Some(flaw));
+    }
+    let shown = is_made(judge, stmt, known, claim)?;
+    if let Some(flaw) = unless(judge.part, K::K6, line, shown) {
+        return Ok(Some(flaw));
+    }
+    unmet_earlier(judge, stmt, begin, last, known, claim)
+}
+
+/// What claims ask of the statement that makes them, which stands from the one line to the other.
+pub(crate) fn unmet_claims<B: Facts, T: NestTests>(
+    judge: &Judge<'_, B, T>,
+    stmt: &Stmt,
+    begin: u32,
+    last: u32,
+    known: &Known<'_>,
+    next: &[u32],
+) -> Result<Option<Flaw>, AllocError>
+    requires { begin + lines (statement_of stmt.now) < 2 ^ 32 }
+    ensures { IfOk result (λ flaw. flaw ≡ first_unmet (B.rules judge.now.bounds.now) (T.nests judge.now.tests.now) judge.now.part (flat_map (claim_obligations (outline_in judge.now.outlined.now) (B.rules judge.now.bounds.now) begin last (known_of known.now []) (statement_of stmt.now)) next.now)) }
+{
+    for claim in next {
+        if let Some(flaw) = unmet_claim(judge, stmt, begin, last, known, *claim)? {
+            return Ok(Some(flaw));
+        }
+    }
+    Ok(None)
+}

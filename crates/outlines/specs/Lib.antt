@@ -1,0 +1,5 @@
+pub mod View
+pub mod Rooms
+pub mod Claims
+pub mod Forms
+pub mod Flaws

@@ -1,0 +1,12 @@
+//! What a name in a stored expression means.
+
+/// What a name in a stored expression means.
+#[derive(Clone, Copy, Debug, PartialEq, Eq, Drop)]
+pub enum Source {
+    /// The input.
+    Input,
+    /// What is loaded by the claim of this number.
+    ByClaim(u32),
+    /// Nothing.
+    Unknown,
+}

@@ -1,0 +1,4 @@
+//! What the crates that run a checked plan rest on, whatever form the plan has.
+#![tactic(auto)]
+
+pub mod laws;

@@ -1,0 +1,21 @@
+-- The numbers of codes.
+use Rattle.std.specs.Prelude.{ℕ}
+use Rattle.refusals.specs.declared.code.K.{K}
+use Rattle.refusals.specs.declared.code.K.TheVariants.{K1, K2, K3, K4, K5, K6, K7, K8, K9, K10, K11, K12, K13, K14}
+
+-- 1 for K1, and so on
+abbrev pub number_of : K → ℕ
+number_of K1 = 1
+number_of K2 = 2
+number_of K3 = 3
+number_of K4 = 4
+number_of K5 = 5
+number_of K6 = 6
+number_of K7 = 7
+number_of K8 = 8
+number_of K9 = 9
+number_of K10 = 10
+number_of K11 = 11
+number_of K12 = 12
+number_of K13 = 13
+number_of K14 = 14

@@ -1,0 +1,13 @@
+pub mod Values
+pub mod Summing
+pub mod Rows
+pub mod Shared
+pub mod Grids
+pub mod Groups
+pub mod Known
+pub mod Seated
+pub mod Apart
+pub mod Fetching
+pub mod Needing
+pub mod Told
+pub mod Lines

@@ -1,0 +1,70 @@
+-- What forms come to at a grid point.
+use Rattle.std.proofs.Common.{◌≡◌, ℕ, zero, suc, ◌*◌, ◌≤◌, ◌^◌, List, [], ◌∷◌, length, arith, refl, Some, None}
+use Rattle.std.specs.Prelude.{ℤ, pos, negsuc, ◌*ℤ◌, ◌≤ℤ◌, IsTrue, slice_get}
+use Rattle.std.specs.List.{AllByRecursion}
+use Rattle.std.specs.Int.{int_max, int_min}
+use Rattle.std.proofs.lemmas.Int.{ints, clamps}
+use Rattle.std.proofs.lemmas.List.Elements.{recursion_from_All}
+use Rattle.lin.specs.Forms.{Form, sum_of, AreWithin, IsWithin, is_within_limits}
+use Rattle.lin.specs.declared.form.Multiple.{Multiple}
+use Rattle.lin.proofs.Limits.{within_limits-terms, within_limits-constant, within_limits-few}
+use Rattle.lin.proofs.Machine.{product_within, sum_within}
+use Rattle.nest.specs.Symbols.{clipped, form_value}
+use Rattle.cert.specs.Cells.{grid_value, grid_symbols}
+use Rattle.shares.specs.Boxes.{IsSmall}
+use lib.IntN.{nat_abs}
+use mir.Val.{to_z}
+use mir.Syntax.{w64}
+
+pub clipped_abs : (z : ℤ) → pos 0 ≤ℤ z → nat_abs z ≡ clipped z
+clipped_abs (pos n) h = refl
+clipped_abs (negsuc n) h = absurd (omega (arith, ints))
+
+pub clipped_none : (z : ℤ) → z ≤ℤ pos 0 → 0 ≡ clipped z
+clipped_none (pos n) h = omega (arith, ints)
+clipped_none (negsuc n) h = refl
+
+-- ---- symbols
+
+symbol_small : (at : List ℕ) (i : ℕ) → AllByRecursion (λ x. x ≤ 2 ^ 20) at → IsWithin (2 ^ 20) (grid_value at i)
+symbol_small [] i h = omega arith
+symbol_small (x ∷ xs) zero h = h.0
+symbol_small (x ∷ xs) (suc i) h = symbol_small xs i h.1
+
+pub value_small : (at : List ℕ) (i : ℕ) → IsSmall at → IsWithin (2 ^ 20) (grid_value at i)
+value_small at i h = symbol_small at i (recursion_from_All (λ x. x ≤ 2 ^ 20) at h)
+
+pub grid_value_some : (at : List ℕ) (i x : ℕ) → slice_get at i ≡ Some x → grid_value at i ≡ pos x
+grid_value_some [] i x e = absurd (cc e)
+grid_value_some (y ∷ ys) zero x e = cc e
+grid_value_some (y ∷ ys) (suc i) x e = grid_value_some ys i x e
+
+pub grid_value_none : (at : List ℕ) (i : ℕ) → slice_get at i ≡ None → grid_value at i ≡ pos 0
+grid_value_none [] i e = refl
+grid_value_none (y ∷ ys) zero e = absurd (cc e)
+grid_value_none (y ∷ ys) (suc i) e = grid_value_none ys i e
+
+-- ---- forms
+
+sum_small : (ts : List Multiple) (v : ℕ → ℤ) → AreWithin (2 ^ 20) ts → ((i : ℕ) → IsWithin (2 ^ 20) (v i)) → IsWithin (length ts * 2 ^ 40) (sum_of ts v)
+sum_small [] v h k = omega arith
+sum_small (t ∷ ts) v h k =
+    let product : IsWithin (2 ^ 40) (t.factor *ℤ v t.symbol) = product_within (2 ^ 20) (2 ^ 20) t.factor (v t.symbol) h.0 (k t.symbol) in
+    let whole = sum_within (2 ^ 40) (length ts * 2 ^ 40) (t.factor *ℤ v t.symbol) (sum_of ts v) product (sum_small ts v h.1 k) in
+    omega (arith, whole)
+
+pub form_small : (f : Form) (at : List ℕ) → IsTrue (is_within_limits f) → IsSmall at → IsWithin (2 ^ 44) (form_value f (grid_symbols at))
+form_small f at h k =
+    let sum = sum_small f.terms (grid_value at) (within_limits-terms f h) (λ i. value_small at i k) in
+    let few = within_limits-few f h in
+    let whole = sum_within (2 ^ 40) (length f.terms * 2 ^ 40) f.constant (sum_of f.terms (grid_value at)) (within_limits-constant f h) sum in
+    omega (arith, whole, few)
+
+pub larger_small : (a b : ℤ) → IsWithin (2 ^ 44) a → IsWithin (2 ^ 44) b → IsWithin (2 ^ 44) (int_max a b)
+larger_small a b h k = omega (arith, ints, clamps)
+
+pub smaller_small : (a b : ℤ) → IsWithin (2 ^ 44) a → IsWithin (2 ^ 44) b → IsWithin (2 ^ 44) (int_min a b)
+smaller_small a b h k = omega (arith, ints, clamps)
+
+pub number_is : (n : ℕ) → IsWithin (2 ^ 20) (pos n) → to_z w64 n ≡ pos n
+number_is n h = omega (arith, ints)

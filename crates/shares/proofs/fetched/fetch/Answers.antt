@@ -1,0 +1,92 @@
+use Rattle.std.proofs.Common.{◌∙◌, ◌++◌, ℕ, List, sym, ap, arith, length, map}
+use Rattle.std.specs.Prelude.{IsTrue, slice_get, ℤ}
+use Rattle.std.proofs.lemmas.List.{length-map}
+use Rattle.nest.specs.Symbols.{points}
+use Rattle.nest.specs.View.{plan_of}
+use Rattle.cert.specs.Cells.{grid_symbols, cell}
+use Rattle.shares.specs.Boxes.{is_in_box}
+use Rattle.shares.specs.Shared.{IsLike}
+use Rattle.shares.specs.Spaces.{numbers_in}
+use Rattle.shares.proofs.Seated.{named_group, ground_within, ground_at, cells_at, all_at}
+use Rattle.std.proofs.lemmas.Bool.{false≢true}
+use Rattle.std.proofs.lemmas.List.Elements.{recursion_from_All}
+use Rattle.pieces.specs.Numbers.{cell_number}
+use Rattle.shares.proofs.Shared.{all_filtered}
+use Rattle.shares.proofs.fetched.fetch.Goals as goal
+
+pub index-ground-requires : goal.index-ground-requires
+index-ground-requires c =
+    let x = c.args.layout.now in
+    let k = named_group (slice_get (plan_of x.plan.now).groups c.args.group) (λ g. IsLike c.args.region.now (length g.region)) c.requires.line in
+    let less = ground_within x c.requires.layout c.args.group k.0 k.1 in
+    omega (arith, less, x.grounds.ok.0)
+
+pub found_in-requires-clause-space : goal.found_in-requires-clause-space
+found_in-requires-clause-space c =
+    let x = c.args.layout.now in
+    let k = named_group (slice_get (plan_of x.plan.now).groups c.args.group) (λ g. IsLike c.args.region.now (length g.region)) c.requires.line in
+    (ground_at x c.requires.layout c.args.group k.0 k.1 c.index-ground.result.now c.index-ground.ensures).cells
+
+pub found_in-requires-clause-limits : goal.found_in-requires-clause-limits
+found_in-requires-clause-limits c =
+    let x = c.args.layout.now in
+    let k = named_group (slice_get (plan_of x.plan.now).groups c.args.group) (λ g. IsLike c.args.region.now (length g.region)) c.requires.line in
+    k.2.0
+
+pub found_in-requires-clause-dimensions : goal.found_in-requires-clause-dimensions
+found_in-requires-clause-dimensions c =
+    let x = c.args.layout.now in
+    let k = named_group (slice_get (plan_of x.plan.now).groups c.args.group) (λ g. IsLike c.args.region.now (length g.region)) c.requires.line in
+    let known = ground_at x c.requires.layout c.args.group k.0 k.1 c.index-ground.result.now c.index-ground.ensures in
+    k.2.1 ∙ sym (length-map k.0.region _) ∙ ap length (sym known.cell_sides)
+
+pub returns-then-not-found-clause-unserved : goal.returns-then-not-found-clause-unserved
+returns-then-not-found-clause-unserved c _ all =
+    let x = c.args.layout.now in
+    let h = c.args.group in
+    let y = c.index-ground.result.now in
+    let k = named_group (slice_get (plan_of x.plan.now).groups h) (λ g. IsLike c.args.region.now (length g.region)) c.requires.line in
+    let qs = points (grid_symbols c.args.at.now) c.args.region.now in
+    let both = all_at x c.requires.layout h k.0 k.1 y c.index-ground.ensures qs in
+    false≢true (sym c.if-not-found.true ∙ c.in_ok-found.ensures.whole.1 (both.1 all))
+
+pub returns-then-as_slice-room-clause-large : goal.returns-then-as_slice-room-clause-large
+returns-then-as_slice-room-clause-large c _ =
+    let x = c.args.layout.now in
+    let h = c.args.group in
+    let y = c.index-ground.result.now in
+    let k = named_group (slice_get (plan_of x.plan.now).groups h) (λ g. IsLike c.args.region.now (length g.region)) c.requires.line in
+    let qs = points (grid_symbols c.args.at.now) c.args.region.now in
+    let both = all_at x c.requires.layout h k.0 k.1 y c.index-ground.ensures qs in
+    let whole = c.in_ok-found.ensures.whole.0 c.if-not-found.false in
+    let R = y.cells.sides.items in
+    let kept = c.in_ok-found.ensures.numbers ∙ ap (numbers_in y.cells) (all_filtered (is_in_box R) qs (recursion_from_All (λ (q : List ℤ). IsTrue (is_in_box R q)) qs whole)) in
+    let long = ap length (kept ∙ cells_at x c.requires.layout h k.0 k.1 y c.index-ground.ensures qs) in
+    let cells = length-map (map (cell h) qs) (cell_number (plan_of x.plan.now)) in
+    let one = ap length c.as_slice.ensures.value in
+    let two = ap length c.as_slice-2.ensures.value in
+    let room = c.requires.room in
+    omega (arith, c.if-as_slice-room.true, long, cells, one, two, room)
+
+pub returns-clause-cells : goal.returns-clause-cells
+returns-clause-cells c =
+    let x = c.args.layout.now in
+    let h = c.args.group in
+    let y = c.index-ground.result.now in
+    let k = named_group (slice_get (plan_of x.plan.now).groups h) (λ g. IsLike c.args.region.now (length g.region)) c.requires.line in
+    let qs = points (grid_symbols c.args.at.now) c.args.region.now in
+    let both = all_at x c.requires.layout h k.0 k.1 y c.index-ground.ensures qs in
+    let whole = c.in_ok-found.ensures.whole.0 c.if-not-found.false in
+    let R = y.cells.sides.items in
+    let kept = c.in_ok-found.ensures.numbers ∙ ap (numbers_in y.cells) (all_filtered (is_in_box R) qs (recursion_from_All (λ (q : List ℤ). IsTrue (is_in_box R q)) qs whole)) in
+    c.in_ok-push_all.ensures ∙ ap (λ (ns : List ℕ). c.args.fetched.now.items ++ ns) (c.deref.ensures.value ∙ kept ∙ cells_at x c.requires.layout h k.0 k.1 y c.index-ground.ensures qs)
+
+pub returns-clause-known : goal.returns-clause-known
+returns-clause-known c =
+    let x = c.args.layout.now in
+    let h = c.args.group in
+    let y = c.index-ground.result.now in
+    let k = named_group (slice_get (plan_of x.plan.now).groups h) (λ g. IsLike c.args.region.now (length g.region)) c.requires.line in
+    let qs = points (grid_symbols c.args.at.now) c.args.region.now in
+    let both = all_at x c.requires.layout h k.0 k.1 y c.index-ground.ensures qs in
+    both.0 (c.in_ok-found.ensures.whole.0 c.if-not-found.false)

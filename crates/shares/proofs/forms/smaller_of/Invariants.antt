@@ -1,0 +1,12 @@
+use Rattle.std.proofs.Common.{◌≡◌, take, map, fold, ◌^◌}
+use Rattle.std.specs.Int.{int_min}
+use Rattle.lin.specs.Forms.{IsWithin}
+use Rattle.nest.specs.Symbols.{form_value}
+use Rattle.cert.specs.Cells.{grid_symbols}
+use Rattle.shares.proofs.forms.smaller_of.Given as goal
+
+abbrev pub invariant-loop-form : goal.invariant-loop-form
+invariant-loop-form l = record {
+  value : l.found ≡ fold int_min l.first (map (λ m. form_value m (grid_symbols l.at)) (take l.form-index l.forms));
+  small : IsWithin (2 ^ 44) l.found;
+}

@@ -1,0 +1,8 @@
+use Rattle.std.proofs.Common.{◌≡◌, subst, List, Some}
+use Rattle.std.specs.Prelude.{slice_get}
+use Rattle.shares.specs.declared.grounds.Ground.{Ground}
+use Rattle.shares.proofs.layout.layout_of.Goals as goal
+
+pub seats_of-requires-clause-grids : goal.seats_of-requires-clause-grids
+seats_of-requires-clause-grids c n g x at this =
+    (c.in_ok-grounds.ensures.each n g x at (subst (λ (xs : List Ground). slice_get xs n ≡ Some x) c.deref.ensures.value this)).piece_sides

@@ -1,0 +1,11 @@
+use Rattle.std.proofs.Common.{◌≡◌, length}
+use Rattle.nest.specs.View.{plan_of}
+use Rattle.cert.specs.Certificate.{certificate_of}
+use Rattle.shares.specs.Made.{AreMade}
+use Rattle.shares.proofs.lists.lists_of.Given as goal
+
+abbrev pub invariant-loop-piece : goal.invariant-loop-piece
+invariant-loop-piece l = record {
+  count : length l.lists.items ≡ l.piece;
+  made : AreMade (plan_of l.layout.plan.now) (certificate_of l.layout.cert.now) l.lists.items;
+}

@@ -1,0 +1,9 @@
+use Rattle.std.proofs.Common.{◌≡◌, length}
+use Rattle.nest.specs.View.{plan_of}
+use Rattle.cert.specs.Certificate.{certificate_of}
+use Rattle.orders.specs.Claimed.{IsClaimed}
+use Rattle.shares.specs.Layout.{own_list}
+use Rattle.shares.proofs.owners.owners_of.Given as goal
+
+abbrev pub invariant-loop-piece : goal.invariant-loop-piece
+invariant-loop-piece l = IsClaimed (own_list (plan_of l.layout.plan.now) (certificate_of l.layout.cert.now)) l.owners.items l.piece 0 × (length l.owners.items ≡ l.count)

@@ -1,0 +1,10 @@
+pub mod Boxes
+pub mod Walked
+pub mod Spaces
+pub mod Seats
+pub mod Shared
+pub mod Grounds
+pub mod Layout
+pub mod Faults
+pub mod Needed
+pub mod Made

@@ -1,0 +1,81 @@
+-- The lists of pieces as they are made.
+use Rattle.std.specs.Prelude.{suc, ◌+◌, ◌-◌, ◌≤◌, ◌^◌, ◌==◌, if◌then◌else◌, [], ◌∷◌, min, MatchOption, ◌≡◌, ℕ, ◌<◌, List, length, Some, Contains, slice_get, ◌⊎◌}
+use Rattle.nest.specs.Plan.{Plan}
+use Rattle.cert.specs.Certificate.{Certificate}
+use Rattle.nest.specs.Lines.{certificate_line}
+use Rattle.cert.specs.declared.cert.Own.{Own}
+use Rattle.cert.specs.Lines.{own_line}
+use Rattle.cert.specs.Cells.{first_cell, pieces}
+use Rattle.orders.specs.Work.{Work}
+use Rattle.orders.specs.declared.lists.Piece.{Piece}
+use Rattle.orders.specs.Lists.{own_lists, fetched_lists, needs_lists}
+use Rattle.refusals.specs.declared.code.K.{K}
+use Rattle.refusals.specs.declared.code.K.TheVariants.{K9, K10, K11, K14}
+use Rattle.shares.specs.declared.answer.SharesError.{SharesError}
+use Rattle.shares.specs.declared.answer.SharesError.TheVariants.{Flaw, Memory}
+use Rattle.shares.specs.declared.lists.Trouble.{Trouble}
+use Rattle.shares.specs.declared.lists.Trouble.TheVariants.{Unserved, Large, Memory as Want}
+use Rattle.shares.specs.Layout.{own_list, fetched_list, needs_list, FetchesCells, OwnIsInside}
+use Rattle.shares.specs.Faults.{IsApart}
+
+-- the lists of a piece are the plan's
+pub record IsMade (p : Plan) (c : Certificate) (n : ℕ) (x : Piece) : Type 0 where
+  pub own : x.own.items ≡ own_list p c n
+  pub fetched : x.fetched.items ≡ fetched_list p n
+  pub needs : x.needs.items ≡ needs_list p c n
+  pub known : FetchesCells p n
+
+abbrev pub AreMade : Plan → Certificate → List Piece → Type 0
+AreMade p c xs = (n : ℕ) (x : Piece) → slice_get xs n ≡ Some x → IsMade p c n x
+
+-- the lists of the pieces are those of the work
+pub record AreListsOf (work : Work) (made : List Piece) : Type 0 where
+  pub count : length made ≡ work.pieces
+  pub own : (n : ℕ) → own_lists made n ≡ work.own n
+  pub fetched : (n : ℕ) → fetched_lists made n ≡ work.fetched n
+  pub needs : (n : ℕ) → needs_lists made n ≡ work.needs n
+
+-- the place of a group's own line among the own lines
+abbrev pub own_place : List Own → ℕ → ℕ
+own_place [] g = 0
+own_place (o ∷ os) g = if o.group == g then 0 else suc (own_place os g)
+
+-- the piece is the group's
+abbrev pub IsPieceOf : Plan → ℕ → ℕ → Type 0
+IsPieceOf p n piece = MatchOption (slice_get (pieces p) piece) ⊥ (λ j. j.group ≡ n)
+
+-- some own cell of a piece of the group stands in another place or in another piece's list
+abbrev pub Overlaps : Plan → Certificate → ℕ → Type 0
+Overlaps p c n = (piece : ℕ) × IsPieceOf p n piece × ¬ IsApart p c piece
+
+-- the own region of a piece of the group leaves the group's region
+abbrev pub Leaves : Plan → Certificate → ℕ → Type 0
+Leaves p c n = (piece : ℕ) × IsPieceOf p n piece × ¬ OwnIsInside p c piece
+
+-- a cell of the group is owned by none
+abbrev pub HasGap : Plan → Certificate → ℕ → Type 0
+HasGap p c n = (x : ℕ) × (first_cell p.groups n ≤ x) × (x < first_cell p.groups (n + 1)) × ((k : ℕ) → k < length (pieces p) → ¬ Contains (own_list p c k) x)
+
+-- what a code says of a group; of K11 and K14 nothing is said yet, and no other code is told
+abbrev pub CodeMeans : Plan → Certificate → ℕ → K → Type 0
+CodeMeans p c n K9 = Overlaps p c n
+CodeMeans p c n K10 = Leaves p c n ⊎ HasGap p c n
+CodeMeans p c n K11 = Unit {0}
+CodeMeans p c n K14 = Unit {0}
+CodeMeans p c n k = ⊥
+
+-- K9 and K10 stand at the group's own line
+abbrev pub StandsAt : Plan → Certificate → ℕ → K → ℕ → Type 0
+StandsAt p c n K9 line = line ≡ min (own_line (certificate_line p) (own_place c.own n)) (2 ^ 32 - 1)
+StandsAt p c n K10 line = line ≡ min (own_line (certificate_line p) (own_place c.own n)) (2 ^ 32 - 1)
+StandsAt p c n k line = Unit {0}
+
+abbrev pub ErrorMeans : Plan → Certificate → SharesError → Type 0
+ErrorMeans p c (Flaw f) = (n : ℕ) × CodeMeans p c n f.code × StandsAt p c n f.code f.line
+ErrorMeans p c Memory = Unit {0}
+
+-- the piece of which trouble tells is one of so many
+abbrev pub IsTroubleBelow : ℕ → Trouble → Type 0
+IsTroubleBelow count (Unserved piece) = piece < count
+IsTroubleBelow count (Large piece) = piece < count
+IsTroubleBelow count Want = Unit {0}

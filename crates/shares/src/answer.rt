@@ -1,0 +1,204 @@
+//! The shares of a plan's pieces.
+
+ghost use Rattle.std.specs.Prelude.{◌≡◌, ℕ, ◌<◌, ◌≤◌, ◌+◌, List, IfOk, IfErr, MatchOption, length};
+ghost use Rattle.meaning.specs.Algorithm.{Algorithm};
+ghost use Rattle.nest.specs.View.{plan_of};
+ghost use Rattle.cert.specs.Certificate.{certificate_of};
+ghost use Rattle.cert.specs.Cells.{cells, first_cell};
+ghost use Rattle.orders.specs.Lists.{AreSound};
+ghost use Rattle.pieces.specs.Work.{work_of};
+ghost use Rattle.shares.specs.Shared.{AreShared};
+ghost use Rattle.shares.specs.Layout.{IsLayout, FetchesCells, OwnIsInside};
+ghost use Rattle.shares.specs.Made.{AreListsOf, CodeMeans, ErrorMeans, IsPieceOf, own_place};
+
+use crate::boxes::most_points;
+use crate::layout::{Layout, layout_of, own_of};
+use crate::lists::{Trouble, lists_of};
+use crate::owners::owners_of;
+use cert::{Cert, Own};
+use nest::Plan;
+use orders::{Piece, first_gap, first_unserved};
+use refusals::{Flaw, K};
+use std::alloc::{AllocError, Global};
+
+/// The lists of a plan's pieces, and how many cells it has.
+#[derive(Drop)]
+pub struct Shares {
+    pub pieces: Vec<Piece>,
+    pub cells: u32,
+}
+
+/// Why a plan has no shares.
+#[derive(Debug, Drop)]
+pub enum SharesError {
+    /// K9, K10, K11 or K14 at a line of the certificate.
+    Flaw(Flaw),
+    /// Want of memory.
+    Memory,
+}
+
+impl From<AllocError> for SharesError {
+    ghost use Rattle.shares.specs.declared.answer.SharesError.{SharesError};
+
+    ghost from_gives = { λ _ e. e ≡ SharesError.Memory };
+
+    fn from(_: AllocError) -> Self {
+        SharesError::Memory
+    }
+}
+
+/// How many cells a plan has.
+fn cell_count(layout: &Layout<'_>) -> u32
+    requires { IsLayout layout.now }
+    ensures { result ≡ length (cells (plan_of layout.now.plan.now)) }
+{
+    let groups = layout.grounds.as_slice().len();
+    if groups == 0 {
+        return 0;
+    }
+    let ground = &layout.grounds[groups - 1];
+    ground.cells.first + most_points(&ground.cells.sides) as u32
+}
+
+/// The first piece whose own region leaves its group's region.
+fn first_leaving(alloc: Global, layout: &Layout<'_>) -> Result<Option<u32>, AllocError>
+    requires { IsLayout layout.now }
+    ensures { IfOk result (λ found. MatchOption found ((n : ℕ) → n < length layout.now.seats.items → OwnIsInside (plan_of layout.now.plan.now) (certificate_of layout.now.cert.now) n) (λ n. (n < length layout.now.seats.items) × ¬ OwnIsInside (plan_of layout.now.plan.now) (certificate_of layout.now.cert.now) n)) }
+{
+    for piece in 0..layout.seats.len() as u32 {
+        let own = own_of(alloc, layout, piece)?;
+        if !own.whole {
+            return Ok(Some(piece));
+        }
+    }
+    Ok(None)
+}
+
+/// The group of a piece.
+fn group_of(layout: &Layout<'_>, piece: u32) -> usize
+    requires layout { IsLayout layout.now }
+    requires piece { piece < length layout.now.seats.items }
+    ensures { IsPieceOf (plan_of layout.now.plan.now) result piece }
+{
+    layout.seats[piece as usize].group
+}
+
+/// The group that has a cell.
+fn group_with(layout: &Layout<'_>, cell: u32) -> usize
+    requires layout { IsLayout layout.now }
+    requires cell { cell < length (cells (plan_of layout.now.plan.now)) }
+    ensures from { first_cell (plan_of layout.now.plan.now).groups result ≤ cell }
+    ensures to { cell < first_cell (plan_of layout.now.plan.now).groups (result + 1) }
+{
+    for group in 0..layout.grounds.as_slice().len() {
+        let space = &layout.grounds[group].cells;
+        if u64::from(cell) < u64::from(space.first) + u64::from(most_points(&space.sides) as u32) {
+            return group;
+        }
+    }
+    0
+}
+
+/// The place of a group's own line among the own lines.
+fn own_place(all: &[Own], group: usize) -> usize
+    ensures { result ≡ own_place all.now group }
+{
+    let mut place: usize = 0;
+    for own in all {
+        if own.group as usize == group {
+            return place;
+        }
+        place += 1;
+    }
+    place
+}
+
+/// The place of a group's first need line among the need lines.
+fn need_place(cert: &Cert, group: usize) -> Option<usize> {
+    cert.needs
+        .iter()
+        .position(|need| need.group as usize == group)
+}
+
+/// K9 or K10 of a group, at its own line.
+fn own_flaw(layout: &Layout<'_>, code: K, group: usize) -> SharesError
+    ensures { CodeMeans (plan_of layout.now.plan.now) (certificate_of layout.now.cert.now) group code → ErrorMeans (plan_of layout.now.plan.now) (certificate_of layout.now.cert.now) result }
+{
+    let place = own_place(&layout.cert.own, group);
+    let line = layout.cert.own_line(layout.plan.certificate_line(), place);
+    SharesError::Flaw(Flaw { code, line })
+}
+
+/// K11 or K14 of a group, at its first need line, or its own line where it has none.
+fn need_flaw(layout: &Layout<'_>, large: bool, group: usize) -> SharesError
+    ensures { ErrorMeans (plan_of layout.now.plan.now) (certificate_of layout.now.cert.now) result }
+{
+    let certificate = layout.plan.certificate_line();
+    let line = match need_place(layout.cert, group) {
+        Some(place) => layout.cert.need_line(certificate, place),
+        None => layout
+            .cert
+            .own_line(certificate, own_place(&layout.cert.own, group)),
+    };
+    let code = if large { K::K14 } else { K::K11 };
+    SharesError::Flaw(Flaw { code, line })
+}
+
+/// Which cells each piece of a plan owns and fetches, and which pieces it needs, where the pieces part the cells among
+/// them and look only at what they need.
+///
+/// K9: a cell is in the own regions of two pieces. K10: an own region leaves its group's region, or a cell is in no own
+/// region. K11: a piece fetches a point that no piece that it needs owns, or needs a grid point that is no earlier piece.
+/// K14: more than 2^26 cells are fetched or 2^24 pieces needed in all. K9 and K10 stand at the own line of the group, the
+/// others at its first need line, or its own line if there is none.
+///
+/// The time is about linear in the cells, the fetched cells and the needed pieces.
+pub fn shares_of(alloc: Global, plan: &Plan, cert: &Cert) -> Result<Shares, SharesError>
+    requires { AreShared (plan_of plan.now) (certificate_of cert.now) }
+    ensures lists { (a : Algorithm) (samples : List ℕ) → IfOk result (λ made. AreListsOf (work_of a (plan_of plan.now) (certificate_of cert.now) samples) made.pieces.items) }
+    ensures cells { IfOk result (λ made. made.cells ≡ length (cells (plan_of plan.now))) }
+    ensures sound { IfOk result (λ made. AreSound made.cells made.pieces.items) }
+    ensures known { IfOk result (λ _. (n : ℕ) → FetchesCells (plan_of plan.now) n) }
+    ensures inside { IfOk result (λ _. (n : ℕ) → OwnIsInside (plan_of plan.now) (certificate_of cert.now) n) }
+    ensures flaw { IfErr result (ErrorMeans (plan_of plan.now) (certificate_of cert.now)) }
+{
+    let layout = layout_of(alloc, plan, cert)?;
+    made_of(alloc, &layout)
+}
+
+/// The shares of the pieces of a layout.
+fn made_of(alloc: Global, layout: &Layout<'_>) -> Result<Shares, SharesError>
+    requires { IsLayout layout.now }
+    ensures lists { (a : Algorithm) (samples : List ℕ) → IfOk result (λ made. AreListsOf (work_of a (plan_of layout.now.plan.now) (certificate_of layout.now.cert.now) samples) made.pieces.items) }
+    ensures cells { IfOk result (λ made. made.cells ≡ length (cells (plan_of layout.now.plan.now))) }
+    ensures sound { IfOk result (λ made. AreSound made.cells made.pieces.items) }
+    ensures known { IfOk result (λ _. (n : ℕ) → FetchesCells (plan_of layout.now.plan.now) n) }
+    ensures inside { IfOk result (λ _. (n : ℕ) → OwnIsInside (plan_of layout.now.plan.now) (certificate_of layout.now.cert.now) n) }
+    ensures flaw { IfErr result (ErrorMeans (plan_of layout.now.plan.now) (certificate_of layout.now.cert.now)) }
+{
+    let cells = cell_count(layout);
+    let owners = match owners_of(alloc, layout, cells)? {
+        Ok(owners) => owners,
+        Err(piece) => return Err(own_flaw(layout, K::K9, group_of(layout, piece))),
+    };
+    if let Some(piece) = first_leaving(alloc, layout)? {
+        return Err(own_flaw(layout, K::K10, group_of(layout, piece)));
+    }
+    if let Some(cell) = first_gap(&owners) {
+        return Err(own_flaw(layout, K::K10, group_with(layout, cell as u32)));
+    }
+    let pieces = match lists_of(alloc, layout) {
+        Ok(pieces) => pieces,
+        Err(Trouble::Memory) => return Err(SharesError::Memory),
+        Err(Trouble::Unserved(piece)) => {
+            return Err(need_flaw(layout, false, group_of(layout, piece)));
+        }
+        Err(Trouble::Large(piece)) => {
+            return Err(need_flaw(layout, true, group_of(layout, piece)));
+        }
+    };
+    if let Some(piece) = first_unserved(alloc, &owners, &pieces)? {
+        return Err(need_flaw(layout, false, group_of(layout, piece)));
+    }
+    Ok(Shares { pieces, cells })
+}

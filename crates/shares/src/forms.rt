@@ -1,0 +1,109 @@
+//! Numbers that forms come to at a grid point.
+
+ghost use Rattle.std.specs.Prelude.{◌≡◌, ◌^◌, pos, fold, map, slice_get, IsTrue};
+ghost use Rattle.std.specs.Int.{int_max, int_min, int_wrap, w64};
+ghost use Rattle.lin.specs.Forms.{sum_of, is_within_limits, IsWithin};
+ghost use Rattle.nest.specs.Symbols.{form_value, largest, smallest};
+ghost use Rattle.cert.specs.Cells.{grid_value, grid_symbols};
+ghost use Rattle.shares.specs.Boxes.{AreLimited, IsSmall};
+
+use lin::{Forms, Lin, Multiple, Sym};
+
+/// A coordinate of a grid point, if it has so many.
+fn coordinate(at: &[u64], symbol: Sym) -> Option<u64>
+    ensures { result ≡ slice_get at.now symbol }
+{
+    at.get(symbol).copied()
+}
+
+/// The value of one of the grid's symbols, 0 where the grid has not so many.
+fn grid_value(at: &[u64], symbol: Sym) -> i64
+    requires { IsSmall at.now }
+    ensures value { result ≡ grid_value at.now symbol }
+    ensures small { IsWithin (2 ^ 20) result }
+{
+    match coordinate(at, symbol) {
+        Some(number) => number as i64,
+        None => 0,
+    }
+}
+
+/// What multiples of symbols come to, modulo 2^64.
+fn sum_of(terms: &[Multiple], at: &[u64]) -> i64
+    requires { IsSmall at.now }
+    ensures { result ≡ int_wrap w64 (sum_of terms.now (grid_value at.now)) }
+{
+    match terms {
+        [] => 0,
+        [term, rest @ ..] => term
+            .factor
+            .wrapping_mul(grid_value(at, term.symbol))
+            .wrapping_add(sum_of(rest, at)),
+    }
+}
+
+/// The value of a form.
+fn value_of(form: &Lin, at: &[u64]) -> i64
+    requires limits { IsTrue (is_within_limits form.now) }
+    requires at { IsSmall at.now }
+    ensures value { result ≡ form_value form.now (grid_symbols at.now) }
+    ensures small { IsWithin (2 ^ 44) result }
+{
+    form.constant().wrapping_add(sum_of(form.terms(), at))
+}
+
+/// The largest of a number and some forms.
+fn larger_of(first: i64, forms: &[Lin], at: &[u64]) -> i64
+    requires limits { AreLimited forms.now }
+    requires at { IsSmall at.now }
+    requires small { IsWithin (2 ^ 44) first }
+    ensures value { result ≡ fold int_max first (map (λ m. form_value m (grid_symbols at.now)) forms.now) }
+    ensures small { IsWithin (2 ^ 44) result }
+{
+    let mut found = first;
+    for form in forms {
+        found = found.max(value_of(form, at));
+    }
+    found
+}
+
+/// The smallest of a number and some forms.
+fn smaller_of(first: i64, forms: &[Lin], at: &[u64]) -> i64
+    requires limits { AreLimited forms.now }
+    requires at { IsSmall at.now }
+    requires small { IsWithin (2 ^ 44) first }
+    ensures value { result ≡ fold int_min first (map (λ m. form_value m (grid_symbols at.now)) forms.now) }
+    ensures small { IsWithin (2 ^ 44) result }
+{
+    let mut found = first;
+    for form in forms {
+        found = found.min(value_of(form, at));
+    }
+    found
+}
+
+/// The largest of some forms at a grid point, 0 of none.
+pub(crate) fn largest(forms: &Forms, at: &[u64]) -> i64
+    requires limits { AreLimited forms.now }
+    requires at { IsSmall at.now }
+    ensures value { result ≡ largest (grid_symbols at.now) forms.now }
+    ensures small { IsWithin (2 ^ 44) result }
+{
+    match forms.as_slice() {
+        [] => 0,
+        [first, rest @ ..] => larger_of(value_of(first, at), rest, at),
+    }
+}
+
+/// The smallest of some forms at a grid point, 0 of none.
+pub(crate) fn smallest(forms: &Forms, at: &[u64]) -> i64
+    requires limits { AreLimited forms.now }
+    requires at { IsSmall at.now }
+    ensures value { result ≡ smallest (grid_symbols at.now) forms.now }
+    ensures small { IsWithin (2 ^ 44) result }
+{
+    match forms.as_slice() {
+        [] => 0,
+        [first, rest @ ..] => smaller_of(value_of(first, at), rest, at),
+    }
+}

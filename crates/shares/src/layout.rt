@@ -1,0 +1,59 @@
+//! A plan with its certificate, and the pieces and groups that it has.
+
+ghost use Rattle.std.specs.Prelude.{◌≡◌, ◌<◌, ◌↔◌, IsTrue, IfOk, All, length};
+ghost use Rattle.nest.specs.View.{plan_of};
+ghost use Rattle.cert.specs.Certificate.{certificate_of};
+ghost use Rattle.cert.specs.Cells.{cells};
+ghost use Rattle.shares.specs.Shared.{AreShared};
+ghost use Rattle.shares.specs.Layout.{IsLayout, OwnIsInside, own_list};
+
+use crate::grounds::{Ground, grounds_of};
+use crate::seats::{Seat, seats_of};
+use crate::spaces::{Found, found_in};
+use cert::Cert;
+use nest::Plan;
+use std::alloc::{AllocError, Global};
+
+/// A plan and its certificate, with what is known of its groups, and its pieces.
+#[derive(Drop)]
+pub struct Layout<'a> {
+    pub plan: &'a Plan,
+    pub cert: &'a Cert,
+    pub grounds: Vec<Ground<'a>>,
+    pub seats: Vec<Seat>,
+}
+
+/// The groups and pieces of a plan.
+pub(crate) fn layout_of<'a>(
+    alloc: Global,
+    plan: &'a Plan,
+    cert: &'a Cert,
+) -> Result<Layout<'a>, AllocError>
+    requires { AreShared (plan_of plan.now) (certificate_of cert.now) }
+    ensures layout { IfOk result (λ x. IsLayout x) }
+    ensures plan { IfOk result (λ x. (x.plan.now ≡ plan.now) × (x.cert.now ≡ cert.now)) }
+{
+    let grounds = grounds_of(alloc, plan, cert)?;
+    let seats = seats_of(alloc, plan, &grounds)?;
+    Ok(Layout {
+        plan,
+        cert,
+        grounds,
+        seats,
+    })
+}
+
+/// The own cells of a piece, by their numbers, and whether its own region stays inside its group's.
+///
+/// The time is linear in these cells.
+pub(crate) fn own_of(alloc: Global, layout: &Layout<'_>, piece: u32) -> Result<Found, AllocError>
+    requires layout { IsLayout layout.now }
+    requires piece { piece < length layout.now.seats.items }
+    ensures numbers { IfOk result (λ found. found.numbers.items ≡ own_list (plan_of layout.now.plan.now) (certificate_of layout.now.cert.now) piece) }
+    ensures within { IfOk result (λ found. All (λ n. n < length (cells (plan_of layout.now.plan.now))) found.numbers.items) }
+    ensures whole { IfOk result (λ found. IsTrue found.whole ↔ OwnIsInside (plan_of layout.now.plan.now) (certificate_of layout.now.cert.now) piece) }
+{
+    let seat = &layout.seats[piece as usize];
+    let ground = &layout.grounds[seat.group];
+    found_in(alloc, &ground.cells, ground.own, &seat.at)
+}

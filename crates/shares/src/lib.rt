@@ -1,0 +1,21 @@
+//! Shares: which cells each piece of a plan owns and fetches, and which pieces it needs.
+//!
+//! `shares_of` lists them for any plan of several groups, where the pieces part the cells among them and look only at
+//! what they need, or tells what is wrong and at which line.
+#![tactic(auto)]
+
+mod answer;
+mod boxes;
+mod fetched;
+mod forms;
+mod grounds;
+mod layout;
+mod lists;
+mod needed;
+mod owners;
+mod seats;
+mod spaces;
+mod stop;
+mod walked;
+
+pub use answer::{Shares, SharesError};

@@ -1,0 +1,105 @@
+//! The lists of all pieces.
+
+ghost use Rattle.std.specs.Prelude.{◌≡◌, ℕ, ◌<◌, ◌≤◌, ◌++◌, [], ◌∷◌, IfOk, IfErr, OnOk, length};
+ghost use Rattle.nest.specs.View.{plan_of};
+ghost use Rattle.cert.specs.Certificate.{certificate_of};
+ghost use Rattle.shares.specs.Layout.{IsLayout};
+ghost use Rattle.shares.specs.Made.{IsMade, AreMade, IsTroubleBelow};
+
+use crate::fetched::fetched_of;
+use crate::layout::{Layout, own_of};
+use crate::needed::needs_of;
+use crate::stop::Stop;
+use orders::Piece;
+use std::alloc::{AllocError, Global};
+
+/// The most cells that the pieces of a plan fetch.
+const MOST_FETCHED: u64 = 1 << 26;
+/// The most pieces that the pieces of a plan need.
+const MOST_NEEDED: u64 = 1 << 24;
+
+/// Why the lists were not made.
+#[derive(Debug, Drop)]
+pub(crate) enum Trouble {
+    /// A point that this piece fetches is no cell, or a grid point that it needs is no piece.
+    Unserved(u32),
+    /// With this piece more is fetched or needed than there is room for.
+    Large(u32),
+    /// Want of memory.
+    Memory,
+}
+
+/// The trouble of a piece whose lists were not made.
+fn trouble_of(piece: u32, stop: Stop) -> Trouble
+    ensures { (count : ℕ) → piece < count → IsTroubleBelow count result }
+{
+    match stop {
+        Stop::Unserved => Trouble::Unserved(piece),
+        Stop::Large => Trouble::Large(piece),
+        Stop::Memory => Trouble::Memory,
+    }
+}
+
+/// The lists of a piece, where there is room for so many cells and pieces.
+fn lists_at(
+    alloc: Global,
+    layout: &Layout<'_>,
+    piece: u32,
+    cells: u64,
+    pieces: u64,
+) -> Result<Piece, Stop>
+    requires layout { IsLayout layout.now }
+    requires piece { piece < length layout.now.seats.items }
+    ensures made { IfOk result (λ made. IsMade (plan_of layout.now.plan.now) (certificate_of layout.now.cert.now) piece made) }
+    ensures cells { IfOk result (λ made. length made.fetched.items ≤ cells) }
+    ensures pieces { IfOk result (λ made. length made.needs.items ≤ pieces) }
+{
+    let own = own_of(alloc, layout, piece)?;
+    let fetched = fetched_of(alloc, layout, piece, cells)?;
+    let needs = needs_of(alloc, layout, piece, pieces)?;
+    Ok(Piece {
+        own: own.numbers,
+        fetched,
+        needs,
+    })
+}
+
+/// Adds the lists of a piece.
+fn push_lists(lists: &mut Vec<Piece>, made: Piece) -> Result<(), AllocError>
+    ensures { OnOk result (lists.new.items ≡ lists.old.items ++ made ∷ []) }
+{
+    lists.push(made)?;
+    Ok(())
+}
+
+/// The lists of all pieces, where all that is fetched or needed is a cell or piece and there is room.
+pub(crate) fn lists_of(alloc: Global, layout: &Layout<'_>) -> Result<Vec<Piece>, Trouble>
+    requires { IsLayout layout.now }
+    ensures count { IfOk result (λ made. length made.items ≡ length layout.now.seats.items) }
+    ensures piece { IfErr result (IsTroubleBelow (length layout.now.seats.items)) }
+    ensures made { IfOk result (λ made. AreMade (plan_of layout.now.plan.now) (certificate_of layout.now.cert.now) made.items) }
+{
+    let mut lists = Vec::new(alloc);
+    let mut cells = MOST_FETCHED;
+    let mut pieces = MOST_NEEDED;
+    for piece in 0..layout.seats.len() as u32 {
+        let made = match lists_at(alloc, layout, piece, cells, pieces) {
+            Ok(made) => made,
+            Err(stop) => return Err(trouble_of(piece, stop)),
+        };
+        cells -= made.fetched.as_slice().len() as u64;
+        pieces -= made.needs.as_slice().len() as u64;
+        push_lists(&mut lists, made)?;
+    }
+    Ok(lists)
+}
+
+impl From<AllocError> for Trouble {
+    ghost use Rattle.shares.specs.declared.lists.Trouble.{Trouble};
+
+    ghost from_gives = { λ _ e. e ≡ Trouble.Memory };
+
+    fn from(_: AllocError) -> Self {
+        Trouble::Memory
+    }
+}

@@ -1,0 +1,51 @@
+//! Whose own each cell is.
+
+ghost use Rattle.std.specs.Prelude.{◌≡◌, ℕ, ◌<◌, ◌≤◌, ◌+◌, ◌^◌, List, IsTrue, IsFalse, IfOk, IfErr, None, length};
+ghost use Rattle.nest.specs.View.{plan_of};
+ghost use Rattle.cert.specs.Certificate.{certificate_of};
+ghost use Rattle.cert.specs.Cells.{cells};
+ghost use Rattle.orders.specs.Claimed.{IsClaimed, IsClaimedBy};
+ghost use Rattle.orders.specs.Work.{OwnIsParted};
+ghost use Rattle.shares.specs.Layout.{IsLayout, own_list};
+ghost use Rattle.shares.specs.Faults.{IsApart};
+
+use crate::layout::{Layout, own_of};
+use orders::claim_cell;
+use std::alloc::{AllocError, Global};
+
+/// Makes a piece the owner of these cells, where all are in the table and without an owner.
+fn claim_cells(owners: &mut [Option<u32>], cells: &[u32], piece: u32) -> bool
+    ensures claimed { (own : ℕ → List ℕ) → own piece ≡ cells.now → IsClaimed own owners.old piece 0 → IsTrue result → IsClaimed own owners.new (piece + 1) 0 }
+    ensures fault { (own : ℕ → List ℕ) → own piece ≡ cells.now → IsClaimed own owners.old piece 0 → IsFalse result → OwnIsParted (piece + 1) (length owners.old) own → ⊥ }
+{
+    for (place, cell) in cells.iter().enumerate() {
+        if !claim_cell(owners, *cell, piece) {
+            return false;
+        }
+    }
+    true
+}
+
+/// The owner of each cell, or the first piece with an own cell that an earlier one owns.
+///
+/// The time is linear in the cells and the pieces.
+pub(crate) fn owners_of(
+    alloc: Global,
+    layout: &Layout<'_>,
+    count: u32,
+) -> Result<Result<Vec<Option<u32>>, u32>, AllocError>
+    requires layout { IsLayout layout.now }
+    requires count { count ≡ length (cells (plan_of layout.now.plan.now)) }
+    ensures claimed { IfOk result (λ answer. IfOk answer (λ owners. IsClaimedBy (own_list (plan_of layout.now.plan.now) (certificate_of layout.now.cert.now)) owners.items (length layout.now.seats.items))) }
+    ensures cells { IfOk result (λ answer. IfOk answer (λ owners. length owners.items ≡ count)) }
+    ensures overlap { IfOk result (λ answer. IfErr answer (λ piece. (piece < length layout.now.seats.items) × ¬ IsApart (plan_of layout.now.plan.now) (certificate_of layout.now.cert.now) piece)) }
+{
+    let mut owners: Vec<Option<u32>> = vec![in alloc; None; count as usize]?;
+    for piece in 0..layout.seats.len() as u32 {
+        let own = own_of(alloc, layout, piece)?;
+        if !claim_cells(owners.as_mut_slice(), &own.numbers, piece) {
+            return Ok(Err(piece));
+        }
+    }
+    Ok(Ok(owners))
+}

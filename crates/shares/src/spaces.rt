@@ -1,0 +1,63 @@
+//! Points that are numbered.
+
+ghost use Rattle.std.specs.Prelude.{◌≡◌, ◌≤◌, ◌<◌, ◌+◌, ◌^◌, ◌↔◌, IsTrue, IfOk, All, length, map, filter};
+ghost use Rattle.nest.specs.Symbols.{points};
+ghost use Rattle.cert.specs.Cells.{grid_symbols};
+ghost use Rattle.shares.specs.Boxes.{IsLimited, IsSmall, is_in_box, point_count};
+ghost use Rattle.shares.specs.Spaces.{IsSpace, HasAll, numbers_in};
+
+use crate::boxes::{Side, box_at, most_points};
+use crate::walked::shared_cells;
+use lin::Span1;
+use std::alloc::{AllocError, Global};
+
+/// The points of a box, numbered from `first` on, the first coordinate fastest.
+#[derive(Drop)]
+pub struct Space {
+    pub first: u32,
+    pub sides: Vec<Side>,
+}
+
+/// The numbers of those points of a region that a space has, and whether it has all.
+#[derive(Drop)]
+pub struct Found {
+    pub numbers: Vec<u32>,
+    pub whole: bool,
+}
+
+/// Each number raised by `first`.
+fn raised(alloc: Global, first: u32, numbers: &[u32]) -> Result<Vec<u32>, AllocError>
+    requires { All (λ n. first + n < 2 ^ 32) numbers.now }
+    ensures { IfOk result (λ made. made.items ≡ map (λ n. first + n) numbers.now) }
+{
+    let mut made = Vec::new(alloc);
+    for number in numbers {
+        made.push(first + *number)?;
+    }
+    Ok(made)
+}
+
+/// The numbers of those points of a region at a grid point that a space has, in the region's order, the first
+/// coordinate fastest.
+///
+/// The time is linear in these points.
+pub(crate) fn found_in(
+    alloc: Global,
+    space: &Space,
+    region: &[Span1],
+    at: &[u64],
+) -> Result<Found, AllocError>
+    requires space { IsSpace space.now }
+    requires limits { IsLimited region.now }
+    requires at { IsSmall at.now }
+    requires dimensions { length region.now ≡ length space.now.sides.items }
+    ensures numbers { IfOk result (λ found. found.numbers.items ≡ numbers_in space.now (filter (is_in_box space.now.sides.items) (points (grid_symbols at.now) region.now))) }
+    ensures within { IfOk result (λ found. All (λ n. n < space.now.first + point_count space.now.sides.items) found.numbers.items) }
+    ensures whole { IfOk result (λ found. IsTrue found.whole ↔ HasAll space.now (points (grid_symbols at.now) region.now)) }
+{
+    let own = box_at(alloc, region, at)?;
+    let shared = shared_cells(alloc, &own, &space.sides)?;
+    let whole = shared.as_slice().len() as u64 == most_points(&own);
+    let numbers = raised(alloc, space.first, &shared)?;
+    Ok(Found { numbers, whole })
+}

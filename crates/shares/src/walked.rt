@@ -1,0 +1,114 @@
+//! The cells of a piece by their numbers.
+
+ghost use Rattle.std.specs.Prelude.{◌≡◌, ◌≤◌, ◌<◌, ◌*◌, ◌+◌, ◌^◌, ◌++◌, IfOk, OnOk, All, flat_map, length, drop, pos, ◌+ℤ◌, ◌-ℤ◌, ◌≤ℤ◌};
+ghost use Rattle.std.specs.List.{range_with_len};
+ghost use Rattle.nest.specs.Symbols.{clipped};
+ghost use Rattle.shares.specs.Boxes.{point_count};
+ghost use Rattle.shares.specs.Walked.{common, IsNear, IsExtent, shared_cells};
+
+use crate::boxes::Side;
+use std::alloc::{AllocError, Global};
+
+/// The numbers that two sides share.
+fn common(own: Side, extent: Side) -> Side
+    requires own { IsNear own }
+    requires extent { IsExtent extent }
+    ensures { result ≡ common own extent }
+{
+    let low = own.low.max(extent.low);
+    let own_end = own.low + own.count as i64;
+    let end = own_end.min(extent.low + extent.count as i64);
+    let count = if low < end { (end - low) as u64 } else { 0 };
+    Side { low, count }
+}
+
+/// Adds so many numbers from `first` on.
+fn push_row(cells: &mut Vec<u32>, first: u32, count: u32) -> Result<(), AllocError>
+    requires { first + count < 2 ^ 32 }
+    ensures { OnOk result (cells.new.items ≡ cells.old.items ++ range_with_len first count) }
+{
+    for place in 0..count {
+        cells.push(first + place)?;
+    }
+    Ok(())
+}
+
+/// For each of some numbers the row of so many numbers that begins at `offset` and so many times the extent.
+fn rows_of(
+    alloc: Global,
+    rows: &[u32],
+    offset: u32,
+    count: u32,
+    extent: u32,
+) -> Result<Vec<u32>, AllocError>
+    requires { All (λ m. offset + count + extent * m < 2 ^ 32) rows.now }
+    ensures { IfOk result (λ cells. cells.items ≡ flat_map (λ m. range_with_len (offset + extent * m) count) rows.now) }
+{
+    let mut cells = Vec::new(alloc);
+    for row in rows {
+        push_row(&mut cells, offset + extent * *row, count)?;
+    }
+    Ok(cells)
+}
+
+/// The numbers of a box that part of its first side and some numbers of its other coordinates make.
+fn rows_within(
+    alloc: Global,
+    rows: &[u32],
+    part: Side,
+    extent: Side,
+) -> Result<Vec<u32>, AllocError>
+    requires extent { IsExtent extent }
+    requires low { extent.low ≤ℤ part.low }
+    requires high { (part.low +ℤ pos part.count) ≤ℤ (extent.low +ℤ pos extent.count) }
+    requires rows { All (λ m. extent.count * (m + 1) ≤ 2 ^ 24) rows.now }
+    ensures { IfOk result (λ cells. cells.items ≡ flat_map (λ m. range_with_len (clipped (part.low -ℤ extent.low) + extent.count * m) part.count) rows.now) }
+{
+    let offset = (part.low - extent.low) as u32;
+    rows_of(alloc, rows, offset, part.count as u32, extent.count as u32)
+}
+
+/// The numbers in a box of the points that another box shares with it, over the coordinates from this one on.
+fn shared_from(
+    alloc: Global,
+    own: &[Side],
+    extents: &[Side],
+    place: usize,
+) -> Result<Vec<u32>, AllocError>
+    requires own { All IsNear own.now }
+    requires extents { All IsExtent extents.now }
+    requires dimensions { length own.now ≡ length extents.now }
+    requires place { place ≤ length own.now }
+    requires count { point_count (drop place extents.now) ≤ 2 ^ 24 }
+    ensures cells { IfOk result (λ cells. cells.items ≡ shared_cells (drop place own.now) (drop place extents.now)) }
+    ensures within { IfOk result (λ cells. All (λ n. n < point_count (drop place extents.now)) cells.items) }
+{
+    if place == own.len() {
+        return Ok(vec![in alloc; 0]?);
+    }
+    let extent = extents[place];
+    let both = common(own[place], extent);
+    if both.count == 0 {
+        return Ok(Vec::new(alloc));
+    }
+    let rows = shared_from(alloc, own, extents, place + 1)?;
+    rows_within(alloc, &rows, both, extent)
+}
+
+/// The numbers in a box of the points that another box shares with it, the first coordinate fastest.
+///
+/// The time is linear in these points.
+pub(crate) fn shared_cells(
+    alloc: Global,
+    own: &[Side],
+    extents: &[Side],
+) -> Result<Vec<u32>, AllocError>
+    requires own { All IsNear own.now }
+    requires extents { All IsExtent extents.now }
+    requires dimensions { length own.now ≡ length extents.now }
+    requires count { point_count extents.now ≤ 2 ^ 24 }
+    ensures cells { IfOk result (λ cells. cells.items ≡ shared_cells own.now extents.now) }
+    ensures within { IfOk result (λ cells. All (λ n. n < point_count extents.now) cells.items) }
+{
+    shared_from(alloc, own, extents, 0)
+}

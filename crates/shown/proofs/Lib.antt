@@ -1,0 +1,11 @@
+pub mod Bools
+pub mod Free
+pub mod Grid
+pub mod Loads
+pub mod Nest
+pub mod Parts
+pub mod Plain
+pub mod Right
+pub mod Scan
+pub mod Stores
+pub mod Two

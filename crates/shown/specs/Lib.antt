@@ -1,0 +1,3 @@
+pub mod Wide
+pub mod Plain
+pub mod Worked

@@ -1,0 +1,4 @@
+pub mod Sizes
+pub mod Definitions
+pub mod Alike
+pub mod Stored
