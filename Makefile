@@ -1,4 +1,4 @@
-.PHONY: run test bench
+.PHONY: run test bench wrong-bodies
 
 # Runs the program's main job on a shipped example: the 3x3 blur of a small image.
 run:
@@ -18,3 +18,10 @@ bench:
 	cd crates/bench && rt run -- 4096
 	cd crates/stencil && rt run -- --help > /dev/null
 	python3 bench/rows.py crates/stencil/out/stencil
+
+# Tries also the wrong bodies that the gate does not try, those named NAME.md in a folder must-fail, in a copy of what is
+# committed. It takes some hours.
+wrong-bodies:
+	set -e; room=$$(mktemp -d); git archive HEAD | tar x -C $$room; cd $$room; \
+	for it in crates/*/must-fail/*.md; do mv $$it $${it%.md}.edit; done; \
+	rt must-fail; rm -rf $$room

@@ -6,7 +6,7 @@ use std::process::Abort;
 use std::sync::Wait;
 use std::test::Fail;
 use std::thread::Threads;
-use tool::{Fault, status};
+use crate::{Fault, status};
 
 // What is refused: the text, the image, the calls of files up to then, the status and the line.
 #[derive(Clone, Copy, Drop)]

@@ -5,7 +5,7 @@ use std::io;
 use std::io::{ErrorKind, Read, Write};
 use std::sync::Wait;
 use std::thread::Threads;
-use tool::{FileError, Files, tool};
+use crate::{FileError, Files, tool};
 
 // A file that was put.
 #[derive(Drop)]

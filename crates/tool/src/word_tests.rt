@@ -1,7 +1,7 @@
 //! Words that run no command: the status, and where something is told. No file is asked for.
 
 use crate::desk_tests::{Given, ROOM, Shelf, Taken, answer};
-use tool::tool;
+use crate::tool;
 
 // Unknown commands, and too few words and too many.
 const MISUSED: &[&[&str]] = &[

@@ -5,7 +5,7 @@ use std::alloc::Global;
 use std::process::Abort;
 use std::sync::Wait;
 use std::thread::Threads;
-use tool::{FileError, tool};
+use crate::{FileError, tool};
 
 const TEXT: &[u8] = b"pipeline p; input in u8 [2]; func out u8 (x) = in[x]; output out [2];";
 
