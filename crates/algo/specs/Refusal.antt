@@ -58,8 +58,8 @@ pub record StatementRefused (text : List ℕ) (e : AlgoError) : Type 0 where
   pub only : (other : FileText Term) → IsTextOf text other → other ≡ file
   pub broken : FileBreaks file e
 
--- the text stands for this file and nothing else, whose names, numbers and types stand in the text where the file says, and
--- the error tells a fault of the file and its place
+-- the text stands for this file and nothing else, whose names, numbers, types and expressions, with all their parts, stand in
+-- the text where the file says, and the error tells a fault of the file and its place
 pub record PlaceRefused (text : List ℕ) (e : AlgoError) : Type 0 where
   pub file : File
   pub found : IsTextOf text (file_text file)

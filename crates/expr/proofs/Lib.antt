@@ -6,3 +6,4 @@ pub mod Limits
 pub mod Complete
 pub mod Sound
 pub mod Texts
+pub mod Fronts

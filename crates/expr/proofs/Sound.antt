@@ -45,7 +45,7 @@ after_symbol s t ts us true is h =
     ap (λ (x : Symbol). sign x ∷ ts) same ∙ ap (λ (x : List Token). sign s ∷ x) rest
 after_symbol s t ts us false is h = absurd cc
 
-after_is : (s : Symbol) (ts us : List Token) → after s ts ≡ Some us → ts ≡ sign s ∷ us
+pub after_is : (s : Symbol) (ts us : List Token) → after s ts ≡ Some us → ts ≡ sign s ∷ us
 after_is s [] us h = absurd cc
 after_is s (token.Symbol t ∷ ts) us h = after_symbol s t ts us (same_symbol t s) refl h
 after_is s (_ ∷ ts) us h = absurd cc

@@ -2,3 +2,4 @@ pub mod Parsing
 pub mod Brackets
 pub mod Grammar
 pub mod Text
+pub mod Places

@@ -1,11 +1,15 @@
 //! Nodes of a tree, each made only where it is within the limits.
 
-ghost use Rattle.std.specs.Prelude.{◌≡◌, ◌≤◌, ◌<◌, ℕ, ◌+◌, ◌*◌, ◌++◌, ◌∷◌, [], length, IfOk, string_bytes};
+ghost use Rattle.std.specs.Prelude.{◌≡◌, ◌≤◌, ◌<◌, ℕ, ◌+◌, ◌*◌, ◌++◌, ◌∷◌, [], List, length, IfOk, ◌⊎◌, string_bytes};
 ghost use Rattle.tree.specs.Term as term;
 ghost use Rattle.tree.specs.Term.{term_of, test_of, list_terms, indices};
 ghost use Rattle.tree.specs.Tree.{node_count, cond_count, node_counts, depth as levels_of, test_depth, depths};
 ghost use Rattle.expr.specs.Parsing as spec;
 ghost use Rattle.expr.specs.Parsing.{Gives};
+ghost use Rattle.token.specs.declared.token.Lexeme.{Lexeme};
+ghost use Rattle.token.specs.declared.token.Token.TheVariants as token;
+ghost use Rattle.token.specs.declared.token.Word.TheVariants as word;
+ghost use Rattle.expr.specs.Places.{Covers, One, NumberOf, ExtremeOf, Part, Stands, TestStands, AllStand, signed, operated, compared, called, of_one, of_two, of_three, joint_word};
 
 use crate::error::{Refusal, Stop};
 use numeric::{Comparison, Op, Ty};
@@ -59,7 +63,8 @@ pub(crate) struct Indices {
 fn fitted(expr: Expr, extent: Span, nodes: u32, depth: u32, below: u8) -> Result<Measured, Stop>
     requires counted { nodes ≡ node_count (term_of expr) }
     requires sounded { depth ≡ levels_of (term_of expr) }
-    ensures { Gives (λ m. term_of m.expr) result (spec.fitted 512 below (term_of expr)) }
+    ensures read { Gives (λ m. term_of m.expr) result (spec.fitted 512 below (term_of expr)) }
+    ensures kept { IfOk result (λ m. (m.expr ≡ expr) × (m.extent ≡ extent)) }
 {
     if nodes > MAX_NODES || depth > u32::from(below) + 1 {
         return Err(Stop::Refused(Refusal::TooLarge));
@@ -77,7 +82,8 @@ fn fitted(expr: Expr, extent: Span, nodes: u32, depth: u32, below: u8) -> Result
 fn cond_fitted(cond: Cond, nodes: u32, depth: u32, below: u8) -> Result<MeasuredCond, Stop>
     requires counted { nodes ≡ cond_count (test_of cond) }
     requires sounded { depth ≡ test_depth (test_of cond) }
-    ensures { Gives (λ m. test_of m.cond) result (spec.cond_fitted 512 below (test_of cond)) }
+    ensures read { Gives (λ m. test_of m.cond) result (spec.cond_fitted 512 below (test_of cond)) }
+    ensures kept { IfOk result (λ m. m.cond ≡ cond) }
 {
     if nodes > MAX_NODES || depth > u32::from(below) + 1 {
         return Err(Stop::Refused(Refusal::TooLarge));
@@ -86,7 +92,9 @@ fn cond_fitted(cond: Cond, nodes: u32, depth: u32, below: u8) -> Result<Measured
 }
 
 pub(crate) fn number(literal: Literal, span: Span, below: u8) -> Result<Measured, Stop>
-    ensures { Gives (λ m. term_of m.expr) result (spec.fitted 512 below (spec.literal literal)) }
+    ensures read { Gives (λ m. term_of m.expr) result (spec.fitted 512 below (spec.literal literal)) }
+    ensures at { IfOk result (λ m. m.extent ≡ span) }
+    ensures stands { IfOk result (λ m. (ls : List Lexeme) → Covers ls span → One (token.Number literal) ls → Stands m.expr ls) }
 {
     let expr = Expr::Literal {
         ty: literal.ty.unwrap_or(Ty::I32),
@@ -97,7 +105,9 @@ pub(crate) fn number(literal: Literal, span: Span, below: u8) -> Result<Measured
 }
 
 pub(crate) fn variable(alloc: Global, name: Name, span: Span, below: u8) -> Result<Measured, Stop>
-    ensures { Gives (λ m. term_of m.expr) result (spec.fitted 512 below (term.Name name)) }
+    ensures read { Gives (λ m. term_of m.expr) result (spec.fitted 512 below (term.Name name)) }
+    ensures at { IfOk result (λ m. m.extent ≡ span) }
+    ensures stands { IfOk result (λ m. (ls : List Lexeme) → Covers ls span → One (token.Name name) ls → Stands m.expr ls) }
 {
     let name = String::from_str(alloc, name.as_str())?;
     fitted(Expr::Variable { name, span }, span, 1, 1, below)
@@ -111,7 +121,9 @@ pub(crate) fn call(
     below: u8,
 ) -> Result<Measured, Stop>
     requires { length at.items.items ≤ 512 }
-    ensures { Gives (λ m. term_of m.expr) result (spec.fitted 512 below (term.Call name (indices (list_terms at.items.items)))) }
+    ensures read { Gives (λ m. term_of m.expr) result (spec.fitted 512 below (term.Call name (indices (list_terms at.items.items)))) }
+    ensures at { IfOk result (λ m. m.extent ≡ span) }
+    ensures stands { IfOk result (λ m. (ls : List Lexeme) → Covers ls span → called name (AllStand at.items.items) ls → Stands m.expr ls) }
 {
     let nodes = 1 + at.nodes;
     let depth = 1 + at.depth;
@@ -130,7 +142,9 @@ pub(crate) fn negate(
     span: Span,
     below: u8,
 ) -> Result<Measured, Stop>
-    ensures { Gives (λ m. term_of m.expr) result (spec.fitted 512 below (term.Minus (term_of value.expr))) }
+    ensures read { Gives (λ m. term_of m.expr) result (spec.fitted 512 below (term.Minus (term_of value.expr))) }
+    ensures at { IfOk result (λ m. m.extent ≡ span) }
+    ensures stands { IfOk result (λ m. (ls : List Lexeme) → Covers ls span → signed (Stands value.expr) ls → Stands m.expr ls) }
 {
     let nodes = 1 + value.nodes;
     let depth = 1 + value.depth;
@@ -149,7 +163,9 @@ pub(crate) fn binary(
     span: Span,
     below: u8,
 ) -> Result<Measured, Stop>
-    ensures { Gives (λ m. term_of m.expr) result (spec.fitted 512 below (term.Binary op (term_of left.expr) (term_of right.expr))) }
+    ensures read { Gives (λ m. term_of m.expr) result (spec.fitted 512 below (term.Binary op (term_of left.expr) (term_of right.expr))) }
+    ensures at { IfOk result (λ m. m.extent ≡ span) }
+    ensures stands { IfOk result (λ m. (ls : List Lexeme) → Covers ls span → operated op (Stands left.expr) (Stands right.expr) ls ⊎ of_two (ExtremeOf op) (Part (Stands left.expr)) (Part (Stands right.expr)) ls → Stands m.expr ls) }
 {
     let nodes = 1 + left.nodes + right.nodes;
     let depth = 1 + left.depth.max(right.depth);
@@ -170,7 +186,9 @@ pub(crate) fn clamp(
     span: Span,
     below: u8,
 ) -> Result<Measured, Stop>
-    ensures { Gives (λ m. term_of m.expr) result (spec.fitted 512 below (term.Clamp (term_of value.expr) (term_of low.expr) (term_of high.expr))) }
+    ensures read { Gives (λ m. term_of m.expr) result (spec.fitted 512 below (term.Clamp (term_of value.expr) (term_of low.expr) (term_of high.expr))) }
+    ensures at { IfOk result (λ m. m.extent ≡ span) }
+    ensures stands { IfOk result (λ m. (ls : List Lexeme) → Covers ls span → of_three (One (token.Word word.Clamp)) (Part (Stands value.expr)) (Part (Stands low.expr)) (Part (Stands high.expr)) ls → Stands m.expr ls) }
 {
     let nodes = 1 + value.nodes + low.nodes + high.nodes;
     let depth = 1 + value.depth.max(low.depth.max(high.depth));
@@ -190,7 +208,9 @@ pub(crate) fn cast(
     span: Span,
     below: u8,
 ) -> Result<Measured, Stop>
-    ensures { Gives (λ m. term_of m.expr) result (spec.fitted 512 below (term.Cast ty (term_of value.expr))) }
+    ensures read { Gives (λ m. term_of m.expr) result (spec.fitted 512 below (term.Cast ty (term_of value.expr))) }
+    ensures at { IfOk result (λ m. m.extent ≡ span) }
+    ensures stands { IfOk result (λ m. (ls : List Lexeme) → Covers ls span → of_one (One (token.Type ty)) (Part (Stands value.expr)) ls → Stands m.expr ls) }
 {
     let nodes = 1 + value.nodes;
     let depth = 1 + value.depth;
@@ -210,7 +230,9 @@ pub(crate) fn select(
     span: Span,
     below: u8,
 ) -> Result<Measured, Stop>
-    ensures { Gives (λ m. term_of m.expr) result (spec.fitted 512 below (term.Choice (test_of cond.cond) (term_of yes.expr) (term_of no.expr))) }
+    ensures read { Gives (λ m. term_of m.expr) result (spec.fitted 512 below (term.Choice (test_of cond.cond) (term_of yes.expr) (term_of no.expr))) }
+    ensures at { IfOk result (λ m. m.extent ≡ span) }
+    ensures stands { IfOk result (λ m. (ls : List Lexeme) → Covers ls span → of_three (One (token.Word word.Select)) (TestStands cond.cond) (Part (Stands yes.expr)) (Part (Stands no.expr)) ls → Stands m.expr ls) }
 {
     let nodes = 1 + cond.nodes + yes.nodes + no.nodes;
     let depth = 1 + cond.depth.max(yes.depth.max(no.depth));
@@ -229,7 +251,8 @@ pub(crate) fn compare(
     right: Measured,
     below: u8,
 ) -> Result<MeasuredCond, Stop>
-    ensures { Gives (λ m. test_of m.cond) result (spec.cond_fitted 512 below (term.Compares by (term_of left.expr) (term_of right.expr))) }
+    ensures read { Gives (λ m. test_of m.cond) result (spec.cond_fitted 512 below (term.Compares by (term_of left.expr) (term_of right.expr))) }
+    ensures stands { IfOk result (λ m. (ls : List Lexeme) → Covers ls (record { start = left.extent.start; end = right.extent.end }) → compared by (Stands left.expr) (Stands right.expr) ls → TestStands m.cond ls) }
 {
     let span = Span {
         start: left.extent.start,
@@ -252,7 +275,8 @@ pub(crate) fn deny(
     span: Span,
     below: u8,
 ) -> Result<MeasuredCond, Stop>
-    ensures { Gives (λ m. test_of m.cond) result (spec.cond_fitted 512 below (term.Fails (test_of cond.cond))) }
+    ensures read { Gives (λ m. test_of m.cond) result (spec.cond_fitted 512 below (term.Fails (test_of cond.cond))) }
+    ensures stands { IfOk result (λ m. (ls : List Lexeme) → Covers ls span → of_one (One (token.Word word.Not)) (TestStands cond.cond) ls → TestStands m.cond ls) }
 {
     let nodes = 1 + cond.nodes;
     let depth = 1 + cond.depth;
@@ -278,7 +302,8 @@ pub(crate) fn combine(
     span: Span,
     below: u8,
 ) -> Result<MeasuredCond, Stop>
-    ensures { Gives (λ m. test_of m.cond) result (spec.cond_fitted 512 below (spec.joint_test joint (test_of first.cond) (test_of second.cond))) }
+    ensures read { Gives (λ m. test_of m.cond) result (spec.cond_fitted 512 below (spec.joint_test joint (test_of first.cond) (test_of second.cond))) }
+    ensures stands { IfOk result (λ m. (ls : List Lexeme) → Covers ls span → of_two (One (joint_word joint)) (TestStands first.cond) (TestStands second.cond) ls → TestStands m.cond ls) }
 {
     let nodes = 1 + first.nodes + second.nodes;
     let depth = 1 + first.depth.max(second.depth);
@@ -301,7 +326,8 @@ pub(crate) fn combine(
 
 impl Indices {
     pub(crate) fn new(alloc: Global) -> Indices
-        ensures { list_terms result.items.items ≡ [] }
+        ensures read { list_terms result.items.items ≡ [] }
+        ensures items { result.items.items ≡ [] }
     {
         Indices {
             items: Vec::new(alloc),
@@ -312,7 +338,8 @@ impl Indices {
 
     pub(crate) fn with(self, index: Measured) -> Result<Indices, AllocError>
         requires { length self.items.items < 512 }
-        ensures { IfOk result (λ more. list_terms more.items.items ≡ list_terms self.items.items ++ term_of index.expr ∷ []) }
+        ensures read { IfOk result (λ more. list_terms more.items.items ≡ list_terms self.items.items ++ term_of index.expr ∷ []) }
+        ensures items { IfOk result (λ more. more.items.items ≡ self.items.items ++ index.expr ∷ []) }
     {
         let nodes = self.nodes + index.nodes;
         let depth = self.depth.max(index.depth);

@@ -1,18 +1,25 @@
 //! From tokens to an expression, by one function a rule of the grammar.
 
-ghost use Rattle.std.specs.Prelude.{◌≡◌, ◌≤◌, ◌<◌, ℕ, suc, ◌+◌, ◌*◌, ◌++◌, ◌∷◌, [], length, Ok, Err, Some, None, MatchOption, IfOk};
+ghost use Rattle.std.specs.Prelude.{List, IfSome, take, ◌≡◌, ◌≤◌, ◌<◌, ℕ, suc, ◌+◌, ◌*◌, ◌++◌, ◌∷◌, [], length, Ok, Err, Some, None, MatchOption, IfOk};
 ghost use Rattle.std.specs.List.{prefix_len};
 ghost use Rattle.tree.specs.Term.{term_of, test_of, list_terms};
 ghost use Rattle.token.specs.Cursor.{kinds};
 ghost use Rattle.expr.specs.Parsing as spec;
 ghost use Rattle.expr.specs.Parsing.{Gives};
 ghost use Rattle.expr.specs.Brackets.{is_opening, all_closed};
+ghost use Rattle.token.specs.declared.token.Lexeme.{Lexeme as AnyLexeme};
+ghost use Rattle.token.specs.declared.token.Token.TheVariants as token;
+ghost use Rattle.token.specs.declared.token.Symbol.TheVariants as symbol;
+ghost use Rattle.token.specs.declared.token.Word.TheVariants as word;
+ghost use Rattle.token.specs.Cursor.{place as first_place};
+ghost use Rattle.expr.specs.Grammar.{sign};
+ghost use Rattle.expr.specs.Places.{One, OperatorOf, ComparisonOf, ExtremeOf, Part, Stands, TestStands, AllStand, AreOpening, Front, FrontAt, joint_word};
 
 use crate::error::{Refusal, Stop};
 use crate::measured::{self, Indices, Joint, Measured, MeasuredCond};
 use numeric::{Comparison, Op, Ty};
 use std::alloc::Global;
-use token::{Lexeme, Name, Span, Symbol, Token, Word, after};
+use token::{Lexeme, Name, Span, Symbol, Token, Word, after, place};
 use tree::Expr;
 
 /// How many levels an expression has at most.
@@ -39,17 +46,12 @@ fn operand_level(level: Level) -> Level
 // The symbol's place and the tokens after it, which must come first.
 #[tactic(auto, unfolding(crate::specs::Parsing::expect))]
 fn expect(symbol: Symbol, tokens: &[Lexeme]) -> Result<(Span, &[Lexeme]), Stop>
-    ensures { Gives (λ r. kinds r.1.now) result (spec.expect symbol (kinds tokens.now)) }
+    ensures read { Gives (λ r. kinds r.1.now) result (spec.expect symbol (kinds tokens.now)) }
+    ensures placed { IfOk result (λ r. FrontAt (One (sign symbol)) r.0 tokens.now r.1.now) }
 {
-    match tokens {
-        [
-            Lexeme {
-                token: Token::Symbol(first),
-                span,
-            },
-            rest @ ..,
-        ] if *first == symbol => Ok((*span, rest)),
-        _ => Err(Stop::Refused(Refusal::BadForm(tokens.len()))),
+    match after(symbol, tokens) {
+        Some(rest) => Ok((place(tokens, 0), rest)),
+        None => Err(Stop::Refused(Refusal::BadForm(tokens.len()))),
     }
 }
 
@@ -68,17 +70,15 @@ fn operator(level: Level, symbol: Symbol) -> Option<Op>
 
 // An operator of the level, and the tokens after it.
 fn operator_at(level: Level, tokens: &[Lexeme]) -> Option<(Op, &[Lexeme])>
-    ensures { MatchOption result (spec.operator_at level (kinds tokens.now) ≡ None) (λ p. spec.operator_at level (kinds tokens.now) ≡ Some (p.0, kinds p.1.now)) }
+    ensures read { MatchOption result (spec.operator_at level (kinds tokens.now) ≡ None) (λ p. spec.operator_at level (kinds tokens.now) ≡ Some (p.0, kinds p.1.now)) }
+    ensures placed { IfSome result (λ p. FrontAt (OperatorOf p.0) (first_place tokens.now 0) tokens.now p.1.now) }
 {
-    match tokens {
-        [
-            Lexeme {
-                token: Token::Symbol(first),
-                ..
-            },
-            rest @ ..,
-        ] => {
-            let op = operator(level, *first)?;
+    let [first, rest @ ..] = tokens else {
+        return None;
+    };
+    match first.token {
+        Token::Symbol(symbol) => {
+            let op = operator(level, symbol)?;
             Some((op, rest))
         }
         _ => None,
@@ -101,16 +101,14 @@ fn comparison(symbol: Symbol) -> Option<Comparison>
 
 // A comparison, which must come first, and the tokens after it.
 fn comparison_at(tokens: &[Lexeme]) -> Result<(Comparison, &[Lexeme]), Stop>
-    ensures { Gives (λ r. (r.0, kinds r.1.now)) result (spec.comparison_at (kinds tokens.now)) }
+    ensures read { Gives (λ r. (r.0, kinds r.1.now)) result (spec.comparison_at (kinds tokens.now)) }
+    ensures placed { IfOk result (λ r. FrontAt (ComparisonOf r.0) (first_place tokens.now 0) tokens.now r.1.now) }
 {
-    match tokens {
-        [
-            Lexeme {
-                token: Token::Symbol(first),
-                ..
-            },
-            rest @ ..,
-        ] => match comparison(*first) {
+    let [first, rest @ ..] = tokens else {
+        return Err(Stop::Refused(Refusal::BadForm(0)));
+    };
+    match first.token {
+        Token::Symbol(symbol) => match comparison(symbol) {
             Some(by) => Ok((by, rest)),
             None => Err(Stop::Refused(Refusal::BadForm(tokens.len()))),
         },
@@ -138,7 +136,9 @@ fn opening(tokens: &[Lexeme]) -> usize
 }
 
 // From the first of the one place to the last of the other.
-fn through(first: Span, last: Span) -> Span {
+fn through(first: Span, last: Span) -> Span
+    ensures { result ≡ record { start = first.start; end = last.end } }
+{
     Span {
         start: first.start,
         end: last.end,
@@ -153,7 +153,8 @@ fn part<'a>(
     levels: u8,
     tokens: &'a [Lexeme],
 ) -> Result<(Measured, &'a [Lexeme]), Stop>
-    ensures { Gives (λ r. (term_of r.0.expr, kinds r.1.now)) result (spec.part level (spec.within 512 levels) (kinds tokens.now)) }
+    ensures read { Gives (λ r. (term_of r.0.expr, kinds r.1.now)) result (spec.part level (spec.within 512 levels) (kinds tokens.now)) }
+    ensures placed { IfOk result (λ r. FrontAt (Part (Stands r.0.expr)) r.0.extent tokens.now r.1.now) }
 {
     if levels == 0 {
         return Err(Stop::Refused(Refusal::TooLarge));
@@ -172,7 +173,8 @@ fn condition<'a>(
     levels: u8,
     tokens: &'a [Lexeme],
 ) -> Result<(MeasuredCond, &'a [Lexeme]), Stop>
-    ensures { Gives (λ r. (test_of r.0.cond, kinds r.1.now)) result ((spec.within 512 levels).condition (kinds tokens.now)) }
+    ensures read { Gives (λ r. (test_of r.0.cond, kinds r.1.now)) result ((spec.within 512 levels).condition (kinds tokens.now)) }
+    ensures placed { IfOk result (λ r. Front (TestStands r.0.cond) tokens.now r.1.now) }
 {
     if levels == 0 {
         return Err(Stop::Refused(Refusal::TooLarge));
@@ -183,7 +185,8 @@ fn condition<'a>(
 #[cycle(expression)]
 #[tactic(auto, unfolding(crate::specs::Parsing::sum))]
 fn sum<'a>(alloc: Global, below: u8, tokens: &'a [Lexeme]) -> Result<(Measured, &'a [Lexeme]), Stop>
-    ensures { Gives (λ r. (term_of r.0.expr, kinds r.1.now)) result (spec.sum 512 below (spec.within 512 below) (kinds tokens.now)) }
+    ensures read { Gives (λ r. (term_of r.0.expr, kinds r.1.now)) result (spec.sum 512 below (spec.within 512 below) (kinds tokens.now)) }
+    ensures placed { IfOk result (λ r. FrontAt (Part (Stands r.0.expr)) r.0.extent tokens.now r.1.now) }
 {
     let (first, rest) = product(alloc, below, tokens)?;
     join(alloc, Level::Sum, below, first, rest)
@@ -196,7 +199,8 @@ fn product<'a>(
     below: u8,
     tokens: &'a [Lexeme],
 ) -> Result<(Measured, &'a [Lexeme]), Stop>
-    ensures { Gives (λ r. (term_of r.0.expr, kinds r.1.now)) result (spec.product 512 below (spec.within 512 below) (kinds tokens.now)) }
+    ensures read { Gives (λ r. (term_of r.0.expr, kinds r.1.now)) result (spec.product 512 below (spec.within 512 below) (kinds tokens.now)) }
+    ensures placed { IfOk result (λ r. FrontAt (Part (Stands r.0.expr)) r.0.extent tokens.now r.1.now) }
 {
     let (first, rest) = unary(alloc, below, tokens)?;
     join(alloc, Level::Product, below, first, rest)
@@ -211,7 +215,8 @@ fn join<'a>(
     first: Measured,
     tokens: &'a [Lexeme],
 ) -> Result<(Measured, &'a [Lexeme]), Stop>
-    ensures { Gives (λ r. (term_of r.0.expr, kinds r.1.now)) result (spec.chained 512 below (spec.within 512 below) level (term_of first.expr) (kinds tokens.now)) }
+    ensures read { Gives (λ r. (term_of r.0.expr, kinds r.1.now)) result (spec.chained 512 below (spec.within 512 below) level (term_of first.expr) (kinds tokens.now)) }
+    ensures placed { IfOk result (λ r. (ls : List AnyLexeme) → FrontAt (Part (Stands first.expr)) first.extent ls tokens.now → FrontAt (Part (Stands r.0.expr)) r.0.extent ls r.1.now) }
 {
     let mut left = first;
     let mut rest = tokens;
@@ -238,7 +243,8 @@ fn unary<'a>(
     below: u8,
     tokens: &'a [Lexeme],
 ) -> Result<(Measured, &'a [Lexeme]), Stop>
-    ensures { Gives (λ r. (term_of r.0.expr, kinds r.1.now)) result (spec.unary 512 below (spec.within 512 below) (kinds tokens.now)) }
+    ensures read { Gives (λ r. (term_of r.0.expr, kinds r.1.now)) result (spec.unary 512 below (spec.within 512 below) (kinds tokens.now)) }
+    ensures placed { IfOk result (λ r. FrontAt (Part (Stands r.0.expr)) r.0.extent tokens.now r.1.now) }
 {
     let (brackets, rest) = tokens.split_at(opening(tokens));
     let (first, rest) = bare(alloc, below, rest)?;
@@ -254,7 +260,8 @@ fn close<'a>(
     first: Measured,
     tokens: &'a [Lexeme],
 ) -> Result<(Measured, &'a [Lexeme]), Stop>
-    ensures { Gives (λ r. (term_of r.0.expr, kinds r.1.now)) result (all_closed 512 below (spec.within 512 below) (length brackets.now) (term_of first.expr) (kinds tokens.now)) }
+    ensures read { Gives (λ r. (term_of r.0.expr, kinds r.1.now)) result (all_closed 512 below (spec.within 512 below) (length brackets.now) (term_of first.expr) (kinds tokens.now)) }
+    ensures placed { IfOk result (λ r. (ls : List AnyLexeme) → AreOpening brackets.now → FrontAt (Part (Stands first.expr)) first.extent ls tokens.now → FrontAt (Part (Stands r.0.expr)) r.0.extent (brackets.now ++ ls) r.1.now) }
 {
     let mut value = first;
     let mut rest = tokens;
@@ -277,7 +284,8 @@ fn enclosed<'a>(
     first: Measured,
     tokens: &'a [Lexeme],
 ) -> Result<(Measured, &'a [Lexeme]), Stop>
-    ensures { Gives (λ r. (term_of r.0.expr, kinds r.1.now)) result (spec.closed 512 below (spec.within 512 below) (term_of first.expr) (kinds tokens.now)) }
+    ensures read { Gives (λ r. (term_of r.0.expr, kinds r.1.now)) result (spec.closed 512 below (spec.within 512 below) (term_of first.expr) (kinds tokens.now)) }
+    ensures placed { IfOk result (λ r. (ls vs : List AnyLexeme) → FrontAt (One (sign symbol.LeftParen)) start vs ls → FrontAt (Part (Stands first.expr)) first.extent ls tokens.now → FrontAt (Part (Stands r.0.expr)) r.0.extent vs r.1.now) }
 {
     let (product, rest) = join(alloc, Level::Product, below, first, tokens)?;
     let (sum, rest) = join(alloc, Level::Sum, below, product, rest)?;
@@ -295,7 +303,8 @@ fn bare<'a>(
     below: u8,
     tokens: &'a [Lexeme],
 ) -> Result<(Measured, &'a [Lexeme]), Stop>
-    ensures { Gives (λ r. (term_of r.0.expr, kinds r.1.now)) result (spec.bare 512 below (spec.within 512 below) (kinds tokens.now)) }
+    ensures read { Gives (λ r. (term_of r.0.expr, kinds r.1.now)) result (spec.bare 512 below (spec.within 512 below) (kinds tokens.now)) }
+    ensures placed { IfOk result (λ r. FrontAt (Part (Stands r.0.expr)) r.0.extent tokens.now r.1.now) }
 {
     let [first, rest @ ..] = tokens else {
         return Err(Stop::Refused(Refusal::BadForm(0)));
@@ -323,7 +332,8 @@ fn negation<'a>(
     start: Span,
     tokens: &'a [Lexeme],
 ) -> Result<(Measured, &'a [Lexeme]), Stop>
-    ensures { Gives (λ r. (term_of r.0.expr, kinds r.1.now)) result (spec.negation 512 below (spec.within 512 below) (kinds tokens.now)) }
+    ensures read { Gives (λ r. (term_of r.0.expr, kinds r.1.now)) result (spec.negation 512 below (spec.within 512 below) (kinds tokens.now)) }
+    ensures placed { IfOk result (λ r. (ls : List AnyLexeme) → FrontAt (One (sign symbol.Minus)) start ls tokens.now → FrontAt (Part (Stands r.0.expr)) r.0.extent ls r.1.now) }
 {
     let (value, rest) = part(alloc, Level::Unary, below, tokens)?;
     let span = through(start, value.extent);
@@ -339,7 +349,8 @@ fn named<'a>(
     name: Name,
     tokens: &'a [Lexeme],
 ) -> Result<(Measured, &'a [Lexeme]), Stop>
-    ensures { Gives (λ r. (term_of r.0.expr, kinds r.1.now)) result (spec.named 512 below (spec.within 512 below) name (kinds tokens.now)) }
+    ensures read { Gives (λ r. (term_of r.0.expr, kinds r.1.now)) result (spec.named 512 below (spec.within 512 below) name (kinds tokens.now)) }
+    ensures placed { IfOk result (λ r. (ls : List AnyLexeme) → FrontAt (One (token.Name name)) start ls tokens.now → FrontAt (Part (Stands r.0.expr)) r.0.extent ls r.1.now) }
 {
     match after(Symbol::LeftBracket, tokens) {
         None => Ok((measured::variable(alloc, name, start, below)?, tokens)),
@@ -360,6 +371,7 @@ fn indices<'a>(
 ) -> Result<(Indices, Span, &'a [Lexeme]), Stop>
     ensures read { Gives (λ r. (list_terms r.0.items.items, kinds r.2.now)) result (spec.indices (spec.within 512 below).sum 512 [] (kinds tokens.now)) }
     ensures few { IfOk result (λ r. length r.0.items.items ≤ 512) }
+    ensures placed { IfOk result (λ r. FrontAt (AllStand r.0.items.items) (record { start = (first_place tokens.now 0).start; end = r.1.end }) tokens.now r.2.now) }
 {
     let mut found = Indices::new(alloc);
     let mut rest = tokens;
@@ -384,7 +396,8 @@ fn cast<'a>(
     ty: Ty,
     tokens: &'a [Lexeme],
 ) -> Result<(Measured, &'a [Lexeme]), Stop>
-    ensures { Gives (λ r. (term_of r.0.expr, kinds r.1.now)) result (spec.cast 512 below (spec.within 512 below) ty (kinds tokens.now)) }
+    ensures read { Gives (λ r. (term_of r.0.expr, kinds r.1.now)) result (spec.cast 512 below (spec.within 512 below) ty (kinds tokens.now)) }
+    ensures placed { IfOk result (λ r. (ls : List AnyLexeme) → FrontAt (One (token.Type ty)) start ls tokens.now → FrontAt (Part (Stands r.0.expr)) r.0.extent ls r.1.now) }
 {
     let (_, rest) = expect(Symbol::LeftParen, tokens)?;
     let (value, rest) = part(alloc, Level::Sum, below, rest)?;
@@ -403,7 +416,8 @@ fn pair<'a>(
     op: Op,
     tokens: &'a [Lexeme],
 ) -> Result<(Measured, &'a [Lexeme]), Stop>
-    ensures { Gives (λ r. (term_of r.0.expr, kinds r.1.now)) result (spec.pair 512 below (spec.within 512 below) op (kinds tokens.now)) }
+    ensures read { Gives (λ r. (term_of r.0.expr, kinds r.1.now)) result (spec.pair 512 below (spec.within 512 below) op (kinds tokens.now)) }
+    ensures placed { IfOk result (λ r. (ls : List AnyLexeme) → FrontAt (ExtremeOf op) start ls tokens.now → FrontAt (Part (Stands r.0.expr)) r.0.extent ls r.1.now) }
 {
     let (_, rest) = expect(Symbol::LeftParen, tokens)?;
     let (left, rest) = part(alloc, Level::Sum, below, rest)?;
@@ -422,7 +436,8 @@ fn clamp<'a>(
     start: Span,
     tokens: &'a [Lexeme],
 ) -> Result<(Measured, &'a [Lexeme]), Stop>
-    ensures { Gives (λ r. (term_of r.0.expr, kinds r.1.now)) result (spec.clamp 512 below (spec.within 512 below) (kinds tokens.now)) }
+    ensures read { Gives (λ r. (term_of r.0.expr, kinds r.1.now)) result (spec.clamp 512 below (spec.within 512 below) (kinds tokens.now)) }
+    ensures placed { IfOk result (λ r. (ls : List AnyLexeme) → FrontAt (One (token.Word word.Clamp)) start ls tokens.now → FrontAt (Part (Stands r.0.expr)) r.0.extent ls r.1.now) }
 {
     let (_, rest) = expect(Symbol::LeftParen, tokens)?;
     let (value, rest) = part(alloc, Level::Sum, below, rest)?;
@@ -443,7 +458,8 @@ fn select<'a>(
     start: Span,
     tokens: &'a [Lexeme],
 ) -> Result<(Measured, &'a [Lexeme]), Stop>
-    ensures { Gives (λ r. (term_of r.0.expr, kinds r.1.now)) result (spec.select 512 below (spec.within 512 below) (kinds tokens.now)) }
+    ensures read { Gives (λ r. (term_of r.0.expr, kinds r.1.now)) result (spec.select 512 below (spec.within 512 below) (kinds tokens.now)) }
+    ensures placed { IfOk result (λ r. (ls : List AnyLexeme) → FrontAt (One (token.Word word.Select)) start ls tokens.now → FrontAt (Part (Stands r.0.expr)) r.0.extent ls r.1.now) }
 {
     let (_, rest) = expect(Symbol::LeftParen, tokens)?;
     let (cond, rest) = condition(alloc, below, rest)?;
@@ -462,30 +478,17 @@ fn test<'a>(
     below: u8,
     tokens: &'a [Lexeme],
 ) -> Result<(MeasuredCond, &'a [Lexeme]), Stop>
-    ensures { Gives (λ r. (test_of r.0.cond, kinds r.1.now)) result (spec.condition 512 below (spec.within 512 below) (kinds tokens.now)) }
+    ensures read { Gives (λ r. (test_of r.0.cond, kinds r.1.now)) result (spec.condition 512 below (spec.within 512 below) (kinds tokens.now)) }
+    ensures placed { IfOk result (λ r. Front (TestStands r.0.cond) tokens.now r.1.now) }
 {
-    match tokens {
-        [
-            Lexeme {
-                token: Token::Word(Word::Not),
-                span,
-            },
-            rest @ ..,
-        ] => denied(alloc, below, *span, rest),
-        [
-            Lexeme {
-                token: Token::Word(Word::All),
-                span,
-            },
-            rest @ ..,
-        ] => combined(alloc, below, *span, Joint::All, rest),
-        [
-            Lexeme {
-                token: Token::Word(Word::Any),
-                span,
-            },
-            rest @ ..,
-        ] => combined(alloc, below, *span, Joint::Any, rest),
+    let [first, rest @ ..] = tokens else {
+        return compared(alloc, below, tokens);
+    };
+    let start = first.span;
+    match first.token {
+        Token::Word(Word::Not) => denied(alloc, below, start, rest),
+        Token::Word(Word::All) => combined(alloc, below, start, Joint::All, rest),
+        Token::Word(Word::Any) => combined(alloc, below, start, Joint::Any, rest),
         _ => compared(alloc, below, tokens),
     }
 }
@@ -497,7 +500,8 @@ fn compared<'a>(
     below: u8,
     tokens: &'a [Lexeme],
 ) -> Result<(MeasuredCond, &'a [Lexeme]), Stop>
-    ensures { Gives (λ r. (test_of r.0.cond, kinds r.1.now)) result (spec.compared 512 below (spec.within 512 below) (kinds tokens.now)) }
+    ensures read { Gives (λ r. (test_of r.0.cond, kinds r.1.now)) result (spec.compared 512 below (spec.within 512 below) (kinds tokens.now)) }
+    ensures placed { IfOk result (λ r. Front (TestStands r.0.cond) tokens.now r.1.now) }
 {
     let (left, rest) = part(alloc, Level::Sum, below, tokens)?;
     let (by, rest) = comparison_at(rest)?;
@@ -513,7 +517,8 @@ fn denied<'a>(
     start: Span,
     tokens: &'a [Lexeme],
 ) -> Result<(MeasuredCond, &'a [Lexeme]), Stop>
-    ensures { Gives (λ r. (test_of r.0.cond, kinds r.1.now)) result (spec.denied 512 below (spec.within 512 below) (kinds tokens.now)) }
+    ensures read { Gives (λ r. (test_of r.0.cond, kinds r.1.now)) result (spec.denied 512 below (spec.within 512 below) (kinds tokens.now)) }
+    ensures placed { IfOk result (λ r. (ls : List AnyLexeme) → FrontAt (One (token.Word word.Not)) start ls tokens.now → Front (TestStands r.0.cond) ls r.1.now) }
 {
     let (_, rest) = expect(Symbol::LeftParen, tokens)?;
     let (cond, rest) = condition(alloc, below, rest)?;
@@ -531,7 +536,8 @@ fn combined<'a>(
     joint: Joint,
     tokens: &'a [Lexeme],
 ) -> Result<(MeasuredCond, &'a [Lexeme]), Stop>
-    ensures { Gives (λ r. (test_of r.0.cond, kinds r.1.now)) result (spec.combined 512 below (spec.within 512 below) joint (kinds tokens.now)) }
+    ensures read { Gives (λ r. (test_of r.0.cond, kinds r.1.now)) result (spec.combined 512 below (spec.within 512 below) joint (kinds tokens.now)) }
+    ensures placed { IfOk result (λ r. (ls : List AnyLexeme) → FrontAt (One (joint_word joint)) start ls tokens.now → Front (TestStands r.0.cond) ls r.1.now) }
 {
     let (_, rest) = expect(Symbol::LeftParen, tokens)?;
     let (first, rest) = condition(alloc, below, rest)?;
@@ -549,7 +555,8 @@ fn combined<'a>(
 /// 16 bytes, `Refused(TooLarge)` where the expression has more than 512 nodes or 64 levels, whichever is met first;
 /// `Memory`.
 pub fn expression<'a>(alloc: Global, tokens: &'a [Lexeme]) -> Result<(Expr, &'a [Lexeme]), Stop>
-    ensures { Gives (λ r. (term_of r.0, kinds r.1.now)) result (spec.expression (kinds tokens.now)) }
+    ensures read { Gives (λ r. (term_of r.0, kinds r.1.now)) result (spec.expression (kinds tokens.now)) }
+    ensures placed { IfOk result (λ r. Front (Part (Stands r.0)) tokens.now r.1.now) }
 {
     let (found, rest) = part(alloc, Level::Sum, MAX_LEVELS, tokens)?;
     Ok((found.expr, rest))
@@ -561,7 +568,8 @@ pub fn expression<'a>(alloc: Global, tokens: &'a [Lexeme]) -> Result<(Expr, &'a 
 /// Those of [`expression`], and `Refused(BadForm)` at the first token after the expression.
 #[tactic(auto, unfolding(crate::specs::Parsing::whole))]
 pub fn whole(alloc: Global, tokens: &[Lexeme]) -> Result<Expr, Stop>
-    ensures { Gives (λ e. term_of e) result (spec.whole (kinds tokens.now)) }
+    ensures read { Gives (λ e. term_of e) result (spec.whole (kinds tokens.now)) }
+    ensures placed { IfOk result (λ e. Part (Stands e) tokens.now) }
 {
     let (found, rest) = expression(alloc, tokens)?;
     if !rest.is_empty() {

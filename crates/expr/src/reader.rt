@@ -3,6 +3,7 @@
 ghost use Rattle.std.specs.Prelude.{◌≡◌, ◌≤◌, ◌<◌, IfOk, IfErr, length};
 ghost use Rattle.tree.specs.Term.{term_of};
 ghost use Rattle.expr.specs.Text as spec;
+ghost use Rattle.expr.specs.Places.{StandsIn};
 
 use crate::error::{ExprError, Refusal, Stop};
 use crate::parser::whole;
@@ -49,6 +50,8 @@ fn extent(lexemes: &[Lexeme], end: usize) -> Span
 pub fn read_expr(alloc: Global, text: &str) -> Result<Expr, ExprError>
     ensures found { IfOk result (λ e. spec.IsTextOf text.now (term_of e)) }
     ensures small { IfOk result (λ e. spec.IsSmall (term_of e)) }
+    // Each part of the expression has the place of its tokens.
+    ensures placed { IfOk result (λ e. StandsIn text.now e) }
     ensures refused { IfErr result (λ error. spec.IsRefused text.now error) }
 {
     let lexemes = tokens(alloc, text)?;

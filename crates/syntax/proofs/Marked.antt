@@ -1,8 +1,9 @@
 -- Parts stand among the tokens that they are read from.
-use Rattle.std.proofs.Common.{◌≡◌, ℕ, inl, inr, List, [], ◌∷◌, ◌++◌, take, drop, Some, Ok, refl, ap, sym, subst, ◌∙◌, append_assoc, append-nil}
+use Rattle.std.proofs.Common.{◌≡◌, ℕ, List, [], ◌∷◌, ◌++◌, length, take, drop, Some, Ok, refl, ap, sym, subst, ◌∙◌, append_assoc, append-nil}
 use Rattle.std.specs.List.{flat_map}
 use Rattle.std.proofs.lemmas.Grind.{flat_map-append}
 use Rattle.std.proofs.lemmas.List.{take-append-drop}
+use Rattle.std.proofs.Math.Seq.{drop-append_seam}
 use Rattle.numeric.specs.declared.ty.Ty.{Ty}
 use Rattle.token.specs.declared.span.Span.{Span}
 use Rattle.token.specs.declared.token.Symbol.{Symbol}
@@ -11,27 +12,44 @@ use Rattle.token.specs.declared.token.Token.{Token}
 use Rattle.token.specs.declared.token.Token.TheVariants as token
 use Rattle.token.specs.declared.token.Lexeme.{Lexeme}
 use Rattle.token.specs.Cursor.{after, after_word, kinds, place}
+use Rattle.tree.specs.declared.expr.Expr.{Expr}
 use Rattle.expr.specs.Grammar.{sign}
-use Rattle.syntax.specs.Marks.{Mark, Marks, AreMarked, StandIn, begins, ends, stands, named_marks, number_token, extent_marks, type_marks}
+use Rattle.expr.specs.Text.{last_end}
+use Rattle.expr.specs.Places.{Covers, One, Part, Stands, Front, FrontAt}
+use Rattle.expr.proofs.Fronts.{first_at}
+use Rattle.syntax.specs.Marks.{Mark, Marks, AreMarked, StandIn, begins, ends, stands, spells, named_marks, number_token, extent_marks, type_marks, expression_marks}
 use Rattle.syntax.specs.declared.statement.Named.{Named}
 use Rattle.syntax.specs.declared.statement.Extent.{Extent}
 use Rattle.syntax.specs.View.{named_text, extent_text}
 use Rattle.syntax.specs.Reading.{name, number, type_name}
+use Rattle.syntax.specs.Standing.{AreOf}
+use Rattle.syntax.proofs.Standing.{dropped}
 use Rattle.syntax.proofs.Sound.{after_is, after_word_is, name_is, number_is, type_is}
 
-one_more : (ms : List Mark) (l : Lexeme) (ls : List Lexeme) → AreMarked ms ls → AreMarked ms (l ∷ ls)
-one_more [] l ls h = tt
-one_more (m ∷ ms) l ls h = inr h
+one_marked : (m : Mark) (xs : List Lexeme) → Marks m xs → AreMarked (m ∷ []) xs
+one_marked m xs h = record { before = []; here = xs; behind = []; is = sym (append-nil xs); this = h; that = tt }
 
 behind : (xs : List Lexeme) (ns : List Mark) (ys : List Lexeme) → AreMarked ns ys → AreMarked ns (xs ++ ys)
-behind [] ns ys h = h
-behind (x ∷ xs) ns ys h = one_more ns x (xs ++ ys) (behind xs ns ys h)
+behind xs [] ys h = tt
+behind xs (n ∷ ns) ys h = record {
+  before = xs ++ h.before;
+  here = h.here;
+  behind = h.behind;
+  is = ap (λ zs. xs ++ zs) h.is ∙ sym (append_assoc xs h.before (h.here ++ h.behind));
+  this = h.this;
+  that = h.that;
+}
 
 both : (ms : List Mark) (xs : List Lexeme) (ns : List Mark) (ys : List Lexeme) → AreMarked ms xs → AreMarked ns ys → AreMarked (ms ++ ns) (xs ++ ys)
 both [] xs ns ys h k = behind xs ns ys k
-both (m ∷ ms) [] ns ys h k = absurd h
-both (m ∷ ms) (x ∷ xs) ns ys (inl h) k = inl (h.0, both ms xs ns ys h.1 k)
-both (m ∷ ms) (x ∷ xs) ns ys (inr h) k = inr (both (m ∷ ms) xs ns ys h k)
+both (m ∷ ms) xs ns ys h k = record {
+  before = h.before;
+  here = h.here;
+  behind = h.behind ++ ys;
+  is = ap (λ zs. zs ++ ys) h.is ∙ append_assoc h.before (h.here ++ h.behind) ys ∙ ap (λ zs. h.before ++ zs) (append_assoc h.here h.behind ys);
+  this = h.this;
+  that = both ms h.behind ns ys h.that k;
+}
 
 -- one part after another
 pub after_part : (ms ns : List Mark) (ls us vs : List Lexeme) → StandIn ms ls us → StandIn ns us vs → StandIn (ms ++ ns) ls vs
@@ -61,10 +79,6 @@ left_out n ls us is = record { taken = take n ls; front = sym (ap (λ rest. take
 pub nothing : (ls : List Lexeme) → StandIn [] ls ls
 nothing ls = record { taken = []; front = refl; marked = tt }
 
--- the token at the front
-pub first_stands : (m : Mark) (l : Lexeme) (rest : List Lexeme) → Marks m l → StandIn (m ∷ []) (l ∷ rest) rest
-first_stands m l rest h = record { taken = l ∷ []; front = refl; marked = inl (h, tt) }
-
 widened : (ms : List Mark) (xs ys : List Lexeme) → AreMarked ms xs → AreMarked ms (xs ++ ys)
 widened ms xs ys h = subst (λ ns. AreMarked ns (xs ++ ys)) (append-nil ms) (both ms xs [] ys h tt)
 
@@ -84,10 +98,15 @@ marks_one marks xs ys x none is = marks_pushed marks xs ys x is ∙ ap (λ zs. f
 head_is : {A : Type 0} {x y : A} {xs ys : List A} → x ∷ xs ≡ y ∷ ys → x ≡ y
 head_is e = cc
 
+one_is : (t : Token) (l : Lexeme) → l.token ≡ t → One t (l ∷ [])
+one_is t l h = record { span = l.span; is = ap (λ (u : Token). record { token = u; span = l.span } ∷ []) h }
+
+token_marked : (t : Token) (s : Span) (ls us : List Lexeme) → FrontAt (One t) s ls us → StandIn (stands t s ∷ []) ls us
+token_marked t s ls us h = record { taken = h.taken; front = h.front; marked = one_marked (stands t s) h.taken (h.form, h.covers) }
+
 -- the first token is this one
 front_stands : (t : Token) (ls us : List Lexeme) (vs : List Token) (s : Span) → kinds ls ≡ t ∷ vs → s ≡ place ls 0 → us ≡ drop 1 ls → StandIn (stands t s ∷ []) ls us
-front_stands t [] us vs s e at is = cc
-front_stands t (l ∷ ls) us vs s e at is = record { taken = l ∷ []; front = ap (λ rest. l ∷ rest) (sym is); marked = inl ((head_is e, sym at), tt) }
+front_stands t ls us vs s e at is = subst (λ (p : Span). StandIn (stands t p ∷ []) ls us) (sym at) (token_marked t (place ls 0) ls us (first_at t ls us vs e is))
 
 pub name_placed : (ls us : List Lexeme) (n : Named) → name (kinds ls) ≡ Ok (named_text n, kinds us) → n.span ≡ place ls 0 → us ≡ drop 1 ls → StandIn (named_marks n) ls us
 name_placed ls us n read at is = front_stands (token.Name (named_text n)) ls us (kinds us) n.span (name_is (kinds ls) (kinds us) (named_text n) read) at is
@@ -102,17 +121,31 @@ type_placed ls us t s read at is = front_stands (token.Type t) ls us (kinds us) 
 
 pub sign_begins : (s : Symbol) (ls us : List Lexeme) (vs : List Token) → after s (kinds ls) ≡ Some vs → us ≡ drop 1 ls → StandIn (begins (sign s) (place ls 0).start ∷ []) ls us
 sign_begins s [] us vs h is = cc
-sign_begins s (l ∷ ls) us vs h is = record { taken = l ∷ []; front = ap (λ rest. l ∷ rest) (sym is); marked = inl ((head_is (after_is s (kinds (l ∷ ls)) vs h), refl), tt) }
+sign_begins s (l ∷ ls) us vs h is = record {
+  taken = l ∷ [];
+  front = ap (λ rest. l ∷ rest) (sym is);
+  marked = one_marked (begins (sign s) l.span.start) (l ∷ []) (one_is (sign s) l (head_is (after_is s (kinds (l ∷ ls)) vs h)), refl);
+}
 
 pub word_stands : (w : Word) (ls us : List Lexeme) (vs : List Token) → after_word w (kinds ls) ≡ Some vs → us ≡ drop 1 ls → StandIn (stands (token.Word w) (place ls 0) ∷ []) ls us
-word_stands w [] us vs h is = cc
-word_stands w (l ∷ ls) us vs h is = record { taken = l ∷ []; front = ap (λ rest. l ∷ rest) (sym is); marked = inl ((head_is (after_word_is w (kinds (l ∷ ls)) vs h), refl), tt) }
+word_stands w ls us vs h is = front_stands (token.Word w) ls us vs (place ls 0) (after_word_is w (kinds ls) vs h) refl is
+
+last_covered : (s : Span) (xs : List Lexeme) → Covers xs s → last_end xs 0 ≡ s.end
+last_covered s [] h = absurd h
+last_covered s (x ∷ xs) h = sym (ap (λ (p : Span). p.end) h)
 
 ends_there : (t : Token) (s : Span) (xs : List Lexeme) → AreMarked (stands t s ∷ []) xs → AreMarked (ends t s.end ∷ []) xs
-ends_there t s [] h = absurd h
-ends_there t s (x ∷ xs) (inl h) = inl ((h.0.0, ap (λ p. p.end) h.0.1), tt)
-ends_there t s (x ∷ xs) (inr h) = inr (ends_there t s xs h)
+ends_there t s xs h = record { before = h.before; here = h.here; behind = h.behind; is = h.is; this = (h.this.0, last_covered s h.here h.this.1); that = tt }
 
 -- what stands at a place ends with it
 pub ends_with : (t : Token) (s : Span) (ls us : List Lexeme) → StandIn (stands t s ∷ []) ls us → StandIn (ends t s.end ∷ []) ls us
 ends_with t s ls us h = record { taken = h.taken; front = h.front; marked = ends_there t s h.taken h.marked }
+
+-- ---- expressions
+
+pub expression_placed : (e : Expr) (ls us : List Lexeme) → Front (Part (Stands e)) ls us → StandIn (expression_marks e) ls us
+expression_placed e ls us h = record { taken = h.taken; front = h.front; marked = one_marked (spells e) h.taken h.form }
+
+-- the tokens behind an expression
+pub expression_kept : (text : List ℕ) (e : Expr) (ls us : List Lexeme) → Front (Part (Stands e)) ls us → AreOf text ls → AreOf text us
+expression_kept text e ls us h = dropped text (length h.taken) ls us (sym (ap (λ zs. drop (length h.taken) zs) h.front ∙ drop-append_seam h.taken us))

@@ -1,15 +1,7 @@
 -- What is spelled by the grammar of expressions ends in what follows it.
-use Rattle.std.proofs.Common.{◌≡◌, ℕ, suc, ◌-◌, ◌≤◌, List, [], ◌∷◌, ◌++◌, length, drop, Result, Ok, refl, sym, ap, subst, ◌∙◌, append_assoc, length-append, arith}
-use Rattle.std.proofs.lemmas.List.{length-map, drop-map}
+use Rattle.std.proofs.Common.{◌≡◌, ◌≤◌, List, [], ◌∷◌, ◌++◌, length, refl, sym, ap, ◌∙◌, append_assoc, length-append, arith}
 use Rattle.token.specs.declared.token.Token.{Token}
-use Rattle.token.specs.declared.token.Lexeme.{Lexeme}
-use Rattle.token.specs.Cursor.{kinds}
-use Rattle.tree.specs.Term.{Term}
-use Rattle.expr.specs.Parsing.{expression as expression_at}
 use Rattle.expr.specs.Grammar.{Sums, term, add, Products, factor, multiply, Signed, unsigned, negated, Primary, number, variable, call, group, cast, extreme, clamp, select, More, no_more, next, Condition, compare, deny, all, any, sums_then, products_then, signed_then, primary_then, more_then, condition_then}
-use Rattle.expr.proofs.Sound.{expression_sound}
-use Rattle.syntax.specs.declared.error.Refusal.{Refusal}
-use Rattle.syntax.specs.Reading.{from_here, expression}
 
 -- us are the last of the tokens ts
 pub record IsTail (us ts : List Token) : Type 0 where
@@ -60,33 +52,3 @@ mutual
   condition_tail (deny c) rest = ahead _ (ahead _ (through (ahead _ same) (condition_tail c _)))
   condition_tail (all c d) rest = ahead _ (ahead _ (through (ahead _ (through (ahead _ same) (condition_tail d _))) (condition_tail c _)))
   condition_tail (any c d) rest = ahead _ (ahead _ (through (ahead _ (through (ahead _ same) (condition_tail d _))) (condition_tail c _)))
-
--- ---- the tokens after an expression, counted from the end
-
-tail_counted : (front us : List Token) → drop (length (front ++ us) - length us) (front ++ us) ≡ us
-tail_counted [] us = let none : length us - length us ≡ 0 = omega arith in rw none refl
-tail_counted (t ∷ front) us =
-    let one : length (t ∷ (front ++ us)) - length us ≡ suc (length (front ++ us) - length us) = omega (arith, length-append front us) in
-    ap (λ (n : ℕ). drop n (t ∷ (front ++ us))) one ∙ tail_counted front us
-
-counted : (ts us : List Token) (x : Term) → expression_at ts ≡ Ok (x, us) → drop (length ts - length us) ts ≡ us
-counted ts us x h =
-    let f = expression_sound ts us x h in
-    let t = sums_tail f.0.rules us in
-    let is : t.front ++ us ≡ ts = sym (f.0.spelled ∙ t.is) in
-    subst (λ (vs : List Token). drop (length vs - length us) vs ≡ us) is (tail_counted t.front us)
-
-counted_kinds : (ls us : List Lexeme) (x : Term) → expression_at (kinds ls) ≡ Ok (x, kinds us) → kinds (drop (length ls - length us) ls) ≡ kinds us
-counted_kinds ls us x h =
-    let token_of : Lexeme → Token = λ l. l.token in
-    let many : length (kinds ls) - length (kinds us) ≡ length ls - length us = ap (λ (n : ℕ). n - length (kinds us)) (length-map ls token_of) ∙ ap (λ (n : ℕ). length ls - n) (length-map us token_of) in
-    sym (drop-map token_of (length ls - length us) ls) ∙ ap (λ (n : ℕ). drop n (kinds ls)) (sym many) ∙ counted (kinds ls) (kinds us) x h
-
-abbrev answered : Term → List Token → Result (Term × List Token) Refusal
-answered x ts = Ok (x, ts)
-
-pub expression_read : (ls us vs : List Lexeme) (x : Term) (n : ℕ) → vs ≡ drop n ls → n ≡ length ls - length us → expression_at (kinds ls) ≡ Ok (x, kinds us) → expression (kinds ls) ≡ Ok (x, kinds vs)
-unfolding expression
-expression_read ls us vs x n is count h =
-    let same : kinds us ≡ kinds vs = sym (ap kinds is ∙ ap (λ (m : ℕ). kinds (drop m ls)) count ∙ counted_kinds ls us x h) in
-    ap (from_here (length (kinds ls))) h ∙ ap (answered x) same

@@ -1,5 +1,5 @@
--- Where the parts of a file stand among the tokens of its text. Expressions are passed over.
-use Rattle.std.specs.Prelude.{◌≡◌, ◌⊎◌, ℕ, Bool, true, false, List, [], ◌∷◌, ◌++◌, Option, Some, None}
+-- Where the parts of a file stand among the tokens of its text.
+use Rattle.std.specs.Prelude.{◌≡◌, ℕ, Bool, true, false, List, [], ◌∷◌, ◌++◌, Option, Some, None}
 use Rattle.std.specs.List.{flat_map}
 use Rattle.numeric.specs.declared.ty.Ty.{Ty}
 use Rattle.token.specs.declared.span.Span.{Span}
@@ -9,7 +9,11 @@ use Rattle.token.specs.declared.token.Token.{Token}
 use Rattle.token.specs.declared.token.Token.TheVariants as token
 use Rattle.token.specs.declared.token.Lexeme.{Lexeme}
 use Rattle.token.specs.Lexical.{AreLexemes}
+use Rattle.token.specs.Cursor.{place}
+use Rattle.tree.specs.declared.expr.Expr.{Expr}
 use Rattle.expr.specs.Grammar.{sign}
+use Rattle.expr.specs.Text.{last_end}
+use Rattle.expr.specs.Places.{Form, Covers, One, Part, Stands}
 use Rattle.syntax.specs.declared.statement.Named.{Named}
 use Rattle.syntax.specs.declared.statement.Extent.{Extent}
 use Rattle.syntax.specs.declared.statement.Bound.{Bound}
@@ -23,22 +27,33 @@ use Rattle.syntax.specs.declared.statement.OutputStatement.{OutputStatement}
 use Rattle.syntax.specs.declared.statement.File.{File}
 use Rattle.syntax.specs.View.{named_text}
 
--- what a token is, and where it stands, or begins, or ends
+-- what a token is, and where it stands, or begins, or ends; or an expression
 pub data Mark : Type 0 where
   stands : Token → Span → Mark
   begins : Token → ℕ → Mark
   ends : Token → ℕ → Mark
+  spells : Expr → Mark
 
-abbrev pub Marks : Mark → Lexeme → Type 0
-Marks (stands t s) l = (l.token ≡ t) × (l.span ≡ s)
-Marks (begins t n) l = (l.token ≡ t) × (l.span.start ≡ n)
-Marks (ends t n) l = (l.token ≡ t) × (l.span.end ≡ n)
+-- the tokens are the one token; or they are the expression, with the brackets round it, and each of its parts has the place of its tokens
+abbrev pub Marks : Mark → Form
+Marks (stands t s) ls = One t ls × Covers ls s
+Marks (begins t n) ls = One t ls × ((place ls 0).start ≡ n)
+Marks (ends t n) ls = One t ls × (last_end ls 0 ≡ n)
+Marks (spells e) ls = Part (Stands e) ls
+
+-- some of the tokens are the one, and some behind them the other
+pub record Among (P Q : Form) (ls : List Lexeme) : Type 0 where
+  pub before : List Lexeme
+  pub here : List Lexeme
+  pub behind : List Lexeme
+  pub is : ls ≡ before ++ (here ++ behind)
+  pub this : P here
+  pub that : Q behind
 
 -- some of the tokens have the marks, in their order
-abbrev pub AreMarked : List Mark → List Lexeme → Type 0
+abbrev pub AreMarked : List Mark → Form
 AreMarked [] ls = Unit {0}
-AreMarked (m ∷ ms) [] = ⊥
-AreMarked (m ∷ ms) (l ∷ ls) = (Marks m l × AreMarked ms ls) ⊎ AreMarked (m ∷ ms) ls
+AreMarked (m ∷ ms) ls = Among (Marks m) (AreMarked ms) ls
 
 -- the same of the tokens before the rest
 pub record StandIn (ms : List Mark) (ls rest : List Lexeme) : Type 0 where
@@ -74,12 +89,15 @@ type_marks t s = stands (token.Type t) s ∷ []
 abbrev pub input_marks : InputStatement → List Mark
 input_marks s = named_marks s.name ++ type_marks s.ty s.ty_span ++ flat_map extent_marks s.extents.items
 
+abbrev pub expression_marks : Expr → List Mark
+expression_marks e = spells e ∷ []
+
 abbrev pub function_marks : FunctionStatement → List Mark
-function_marks s = named_marks s.name ++ type_marks s.ty s.ty_span ++ flat_map named_marks s.variables.items
+function_marks s = named_marks s.name ++ type_marks s.ty s.ty_span ++ flat_map named_marks s.variables.items ++ expression_marks s.value
 
 -- behind the word
 abbrev pub update_marks : UpdateStatement → List Mark
-update_marks s = named_marks s.name ++ flat_map domain_marks s.domains.items
+update_marks s = named_marks s.name ++ flat_map domain_marks s.domains.items ++ flat_map expression_marks s.at.items ++ expression_marks s.value
 
 abbrev pub statement_marks : Statement → List Mark
 statement_marks (Function s) = function_marks s
@@ -96,7 +114,8 @@ abbrev pub file_marks : File → List Mark
 file_marks f = named_marks f.name ++ input_marks f.input ++ flat_map statement_marks f.statements.items ++ output_marks f.output
 
 -- each name, number and type of the file outside of its expressions, and each word of an update, is a token of the text
--- at the place that the file gives it, and these come in the file's order
+-- at the place that the file gives it; each expression is tokens of the text, and each of its parts has the place of its
+-- tokens; and these come in the file's order
 pub record PartsStand (text : List ℕ) (f : File) : Type 0 where
   pub lexemes : List Lexeme
   pub tokens : AreLexemes text lexemes

@@ -11,7 +11,7 @@ ghost use Rattle.syntax.specs.View as view;
 ghost use Rattle.syntax.specs.Reading as spec;
 ghost use Rattle.syntax.specs.Reading.{Gives};
 ghost use Rattle.syntax.specs.Standing.{AreOf, StandsAt, DomainStands, StatementStands, NamesStand};
-ghost use Rattle.syntax.specs.Marks.{AreMarked, StandIn, bound_marks, domain_marks, extent_marks, file_marks, found_marks, function_marks, input_marks, named_marks, output_marks, statement_marks, type_marks, update_marks};
+ghost use Rattle.syntax.specs.Marks.{AreMarked, StandIn, bound_marks, domain_marks, expression_marks, extent_marks, file_marks, found_marks, function_marks, input_marks, named_marks, output_marks, statement_marks, type_marks, update_marks};
 
 use crate::error::{Refusal, Stop};
 use crate::statement::{
@@ -126,18 +126,15 @@ fn number(tokens: &[Lexeme]) -> Result<(Extent, &[Lexeme]), Stop>
     }
 }
 
-// A too large expression stands where it begins. The tokens after the expression are counted from the end.
+// A too large expression stands where it begins.
 #[tactic(auto, unfolding(crate::specs::Reading::expression))]
-fn expression<'a>(alloc: Global, tokens: &'a [Lexeme]) -> Result<(Expr, &'a [Lexeme]), Stop>
+fn expression(alloc: Global, tokens: &[Lexeme]) -> Result<(Expr, &[Lexeme]), Stop>
     ensures read { Gives (λ r. (term_of r.0, kinds r.1.now)) result (spec.expression (kinds tokens.now)) }
     ensures kept { IfOk result (λ r. (text : List ℕ) → AreOf text tokens.now → AreOf text r.1.now) }
-    ensures placed { IfOk result (λ r. StandIn [] tokens.now r.1.now) }
+    ensures placed { IfOk result (λ r. StandIn (expression_marks r.0) tokens.now r.1.now) }
 {
     match expr::expression(alloc, tokens) {
-        Ok((found, rest)) => {
-            let (_, rest) = tokens.split_at(tokens.len().saturating_sub(rest.len()));
-            Ok((found, rest))
-        }
+        Ok((found, rest)) => Ok((found, rest)),
         Err(ExprStop::Memory) => Err(Stop::Memory),
         Err(ExprStop::Refused(ExprRefusal::BadForm(at))) => {
             Err(Stop::Refused(Refusal::BadForm(at)))
@@ -225,7 +222,7 @@ fn more_expressions<'a>(
 ) -> Result<(Vec<Expr>, &'a [Lexeme]), Stop>
     ensures read { Gives (λ r. (map term_of r.0.items, kinds r.1.now)) result (spec.more_of spec.expression (length tokens.now) (map term_of found.items) (kinds tokens.now)) }
     ensures kept { IfOk result (λ r. (text : List ℕ) → AreOf text tokens.now → AreOf text r.1.now) }
-    ensures placed { IfOk result (λ r. StandIn [] tokens.now r.1.now) }
+    ensures placed { IfOk result (λ r. (before : List Lexeme) → StandIn (flat_map expression_marks found.items) before tokens.now → StandIn (flat_map expression_marks r.0.items) before r.1.now) }
 {
     let mut rest = tokens;
     for _ in 0..tokens.len() {
@@ -244,7 +241,7 @@ fn more_expressions<'a>(
 fn expressions(alloc: Global, tokens: &[Lexeme]) -> Result<(Vec<Expr>, &[Lexeme]), Stop>
     ensures read { Gives (λ r. (map term_of r.0.items, kinds r.1.now)) result (spec.expressions (kinds tokens.now)) }
     ensures kept { IfOk result (λ r. (text : List ℕ) → AreOf text tokens.now → AreOf text r.1.now) }
-    ensures placed { IfOk result (λ r. StandIn [] tokens.now r.1.now) }
+    ensures placed { IfOk result (λ r. StandIn (flat_map expression_marks r.0.items) tokens.now r.1.now) }
 {
     let (first, rest) = expression(alloc, tokens)?;
     let mut found = Vec::new(alloc);
@@ -376,7 +373,7 @@ fn over(alloc: Global, tokens: &[Lexeme]) -> Result<(Vec<Domain>, &[Lexeme]), St
 fn right_side(alloc: Global, tokens: &[Lexeme]) -> Result<(Expr, &[Lexeme]), Stop>
     ensures read { Gives (λ r. (term_of r.0, kinds r.1.now)) result (spec.right_side (kinds tokens.now)) }
     ensures kept { IfOk result (λ r. (text : List ℕ) → AreOf text tokens.now → AreOf text r.1.now) }
-    ensures placed { IfOk result (λ r. StandIn [] tokens.now r.1.now) }
+    ensures placed { IfOk result (λ r. StandIn (expression_marks r.0) tokens.now r.1.now) }
 {
     let rest = expect(Symbol::Equals, tokens)?;
     let (value, rest) = expression(alloc, rest)?;

@@ -93,7 +93,8 @@ pub fn read(alloc: Global, text: &str) -> Result<File, FormError>
     ensures small { IfOk result (λ f. IsSmall (view.file_text f)) }
     // Each name outside of the expressions is what the text has at the name's span.
     ensures stands { IfOk result (λ f. NamesStand text.now f) }
-    // Each name, number and type outside of the expressions, and each word `update`, is a token at its span, in the file's order.
+    // Each name, number and type outside of the expressions, and each word `update`, is a token at its span; each
+    // expression is tokens, and each of its parts has the span of its own; and these come in the file's order.
     ensures placed { IfOk result (λ f. PartsStand text.now f) }
     ensures refused { IfErr result (λ e. spec.IsRefused text.now e) }
 {

@@ -1,8 +1,10 @@
-use Rattle.std.proofs.Common.{◌≡◌, ◌-◌, [], length}
+use Rattle.std.proofs.Common.{◌≡◌, ◌-◌, ◌++◌, List, [], length, drop}
+use Rattle.token.specs.declared.token.Lexeme.{Lexeme}
 use Rattle.token.specs.Cursor.{kinds}
 use Rattle.tree.specs.Term.{term_of, list_terms}
 use Rattle.expr.specs.Parsing.{joined, part, operand_level, within, indices}
 use Rattle.expr.specs.Brackets.{all_closed}
+use Rattle.expr.specs.Places.{Part, Stands, AllStand, AreOpening, Front, FrontAt}
 use Rattle.expr.proofs.Ranks.{rank}
 use Rattle.expr.proofs.parser.+expression.Given as goal
 
@@ -70,14 +72,22 @@ abbrev pub invariant-indices-loop : goal.invariant-indices-loop
 invariant-indices-loop l = record {
   count : length l.found.items.items ≡ l.counter;
   read : indices (within 512 l.below).sum (512 - l.counter) (list_terms l.found.items.items) (kinds l.rest) ≡ indices (within 512 l.below).sum 512 [] (kinds l.tokens);
+  placed : Front (AllStand l.found.items.items) l.tokens l.rest;
 }
 
 abbrev pub invariant-join-loop : goal.invariant-join-loop
-invariant-join-loop l =
-    joined 512 l.below l.level (part (operand_level l.level) (within 512 l.below)) (l.below - l.counter) (term_of l.left.expr) (kinds l.rest)
-    ≡ joined 512 l.below l.level (part (operand_level l.level) (within 512 l.below)) l.below (term_of l.initial.left.expr) (kinds l.initial.rest)
+invariant-join-loop l = record {
+  read :
+      joined 512 l.below l.level (part (operand_level l.level) (within 512 l.below)) (l.below - l.counter) (term_of l.left.expr) (kinds l.rest)
+      ≡ joined 512 l.below l.level (part (operand_level l.level) (within 512 l.below)) l.below (term_of l.initial.left.expr) (kinds l.initial.rest);
+  placed : (ls : List Lexeme) → FrontAt (Part (Stands l.initial.left.expr)) l.initial.left.extent ls l.initial.rest → FrontAt (Part (Stands l.left.expr)) l.left.extent ls l.rest;
+}
 
 abbrev pub invariant-close-loop-i : goal.invariant-close-loop-i
-invariant-close-loop-i l =
-    all_closed 512 l.below (within 512 l.below) (length l.brackets - l.i) (term_of l.value.expr) (kinds l.rest)
-    ≡ all_closed 512 l.below (within 512 l.below) (length l.brackets) (term_of l.initial.value.expr) (kinds l.initial.rest)
+invariant-close-loop-i l = record {
+  read :
+      all_closed 512 l.below (within 512 l.below) (length l.brackets - l.i) (term_of l.value.expr) (kinds l.rest)
+      ≡ all_closed 512 l.below (within 512 l.below) (length l.brackets) (term_of l.initial.value.expr) (kinds l.initial.rest);
+  placed : (ls : List Lexeme) → AreOpening l.brackets → FrontAt (Part (Stands l.initial.value.expr)) l.initial.value.extent ls l.initial.rest
+      → FrontAt (Part (Stands l.value.expr)) l.value.extent (drop (length l.brackets - l.i) l.brackets ++ ls) l.rest;
+}

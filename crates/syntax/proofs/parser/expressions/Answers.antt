@@ -1,6 +1,7 @@
+use Rattle.std.proofs.Common.{subst, sym}
 use Rattle.std.proofs.lemmas.Result.{IfOk-weaker}
-use Rattle.std.proofs.Common.{[]}
-use Rattle.syntax.proofs.Marked.{after_part}
+use Rattle.syntax.specs.Marks.{StandIn, expression_marks}
+use Rattle.syntax.proofs.Marked.{marks_one}
 use Rattle.syntax.proofs.parser.expressions.Goals as goal
 
 pub returns-clause-kept : goal.returns-clause-kept
@@ -8,4 +9,6 @@ returns-clause-kept c = IfOk-weaker c.more_expressions.result _ _ (λ r more tex
 
 pub returns-clause-placed : goal.returns-clause-placed
 returns-clause-placed c =
-    IfOk-weaker c.more_expressions.result _ _ (λ r more. after_part [] [] c.args.tokens.now c.in_ok-first.rest.now r.1.now c.in_ok-first.ensures.placed more) c.more_expressions.ensures.placed
+    let one = marks_one expression_marks c.new-found.result.items c.push.new.self.items c.in_ok-first.first c.new-found.ensures.items c.in_ok-push.ensures.items in
+    let first = subst (λ ms. StandIn ms c.args.tokens.now c.in_ok-first.rest.now) (sym one) c.in_ok-first.ensures.placed in
+    IfOk-weaker c.more_expressions.result _ _ (λ r more. more c.args.tokens.now first) c.more_expressions.ensures.placed

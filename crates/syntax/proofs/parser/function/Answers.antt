@@ -14,4 +14,4 @@ returns-clause-placed c =
     let name = name_placed c.args.tokens.now c.in_ok-name.rest.now c.in_ok-name.name n.read n.at n.rest in
     let ty = type_placed c.in_ok-name.rest.now c.in_ok-ty.rest.now c.in_ok-ty.ty c.in_ok-ty.ty_span t.read t.at t.rest in
     let named = close (join name ty) c.in_ok-rest.ensures.placed in
-    close (close (join named c.in_ok-variables.ensures.placed) c.in_ok-rest-2.ensures.placed) c.in_ok-value.ensures.placed
+    join (close (join named c.in_ok-variables.ensures.placed) c.in_ok-rest-2.ensures.placed) c.in_ok-value.ensures.placed

@@ -1,10 +1,12 @@
-use Rattle.std.proofs.Common.{◌≡◌, ◌++◌, ◌∷◌, [], length, map, ap, ◌∙◌}
+use Rattle.std.proofs.Common.{◌≡◌, ◌++◌, ◌∷◌, [], length, map, ap, ◌∙◌, subst, sym}
 use Rattle.std.proofs.lemmas.Result.{err_from_is_err_and}
+use Rattle.std.specs.List.{flat_map}
 use Rattle.token.specs.Cursor.{kinds}
 use Rattle.tree.specs.Term.{term_of}
 use Rattle.syntax.specs.Reading.{expression}
 use Rattle.syntax.proofs.Standing.{after_kept}
-use Rattle.syntax.proofs.Marked.{after_part, left_out}
+use Rattle.syntax.specs.Marks.{StandIn, expression_marks}
+use Rattle.syntax.proofs.Marked.{after_part, left_out, marks_pushed}
 use Rattle.syntax.proofs.Turns.{items_end, item_stops, items_go_on, items_are_done, map_pushed}
 use Rattle.syntax.proofs.parser.more_expressions.Goals as goal
 
@@ -23,8 +25,10 @@ loop-preserved c =
     record {
       read = rw pushed (items_go_on expression (length c.args.tokens.now) c.loop.counter (map term_of c.loop.found.items) (kinds c.loop.rest.now) _ c.loop.invariant.read (term_of c.in_ok-item.item) (kinds c.in-Some.next.now) (kinds c.in_ok-item.left.now) c.loop-test.true c.in-Some.ensures.kinds c.in_ok-item.ensures.read);
       kept = λ text h. c.in_ok-item.ensures.kept text (after_kept text c.loop.rest.now c.in-Some.next.now c.in-Some.ensures.rest (c.loop.invariant.kept text h));
-      placed = after_part [] [] c.args.tokens.now c.loop.rest.now c.in_ok-item.left.now c.loop.invariant.placed
-          (after_part [] [] c.loop.rest.now c.in-Some.next.now c.in_ok-item.left.now (left_out 1 c.loop.rest.now c.in-Some.next.now c.in-Some.ensures.rest) c.in_ok-item.ensures.placed);
+      placed = λ before h.
+          let item = after_part [] (expression_marks c.in_ok-item.item) c.loop.rest.now c.in-Some.next.now c.in_ok-item.left.now (left_out 1 c.loop.rest.now c.in-Some.next.now c.in-Some.ensures.rest) c.in_ok-item.ensures.placed in
+          subst (λ ms. StandIn ms before c.in_ok-item.left.now) (sym (marks_pushed expression_marks c.loop.found.items c.push.new.self.items c.in_ok-item.item c.in_ok-push.ensures.items))
+          (after_part (flat_map expression_marks c.loop.found.items) (expression_marks c.in_ok-item.item) before c.loop.rest.now c.in_ok-item.left.now (c.loop.invariant.placed before h) item);
     }
 
 pub returns-clause-read : goal.returns-clause-read

@@ -1,8 +1,10 @@
-use Rattle.std.proofs.Common.{◌≡◌, ℕ, List, [], ◌-◌, length, map}
+use Rattle.std.proofs.Common.{◌≡◌, ℕ, List, ◌-◌, length, map}
+use Rattle.std.specs.List.{flat_map}
+use Rattle.token.specs.declared.token.Lexeme.{Lexeme}
 use Rattle.token.specs.Cursor.{kinds}
 use Rattle.tree.specs.Term.{term_of}
 use Rattle.syntax.specs.Standing.{AreOf}
-use Rattle.syntax.specs.Marks.{StandIn}
+use Rattle.syntax.specs.Marks.{StandIn, expression_marks}
 use Rattle.syntax.specs.Reading.{more_of, expression}
 use Rattle.syntax.proofs.parser.more_expressions.Given as goal
 
@@ -10,5 +12,5 @@ abbrev pub invariant-loop : goal.invariant-loop
 invariant-loop l = record {
   read : more_of expression (length l.tokens - l.counter) (map term_of l.found.items) (kinds l.rest) ≡ more_of expression (length l.tokens) (map term_of l.initial.found.items) (kinds l.tokens);
   kept : (text : List ℕ) → AreOf text l.tokens → AreOf text l.rest;
-  placed : StandIn [] l.tokens l.rest;
+  placed : (before : List Lexeme) → StandIn (flat_map expression_marks l.initial.found.items) before l.tokens → StandIn (flat_map expression_marks l.found.items) before l.rest;
 }

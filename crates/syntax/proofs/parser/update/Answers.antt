@@ -10,7 +10,7 @@ returns-clause-stands c text h =
 
 pub returns-clause-placed : goal.returns-clause-placed
 returns-clause-placed c =
-    let indices = skip c.in_ok-rest.ensures.placed (skip c.in_ok-at.ensures.placed c.in_ok-rest-2.ensures.placed) in
+    let indices = close (skip c.in_ok-rest.ensures.placed c.in_ok-at.ensures.placed) c.in_ok-rest-2.ensures.placed in
     let n = c.in_ok-name.ensures in
     let name = name_placed c.args.tokens.now c.in_ok-name.rest.now c.in_ok-name.name n.read n.at n.rest in
-    close (join name c.in_ok-domains.ensures.placed) (skip indices c.in_ok-value.ensures.placed)
+    join (join (join name c.in_ok-domains.ensures.placed) indices) c.in_ok-value.ensures.placed
