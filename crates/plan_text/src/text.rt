@@ -79,10 +79,13 @@ fn advanced(
 ) -> Result<Option<Reader>, AllocError>
     ensures { IfOk result (λ r. MatchOption r (spec.next_state number bytes.now (state_of reader) ≡ None) (λ after. spec.next_state number bytes.now (state_of reader) ≡ Some (state_of after))) }
 {
+    if !is_within(number, bytes) {
+        return Ok(None);
+    }
     let line = line_from(alloc, bytes)?;
     let spelled = is_spelled(alloc, bytes, &line)?;
     let numbered = is_numbered(&reader.count, &line);
-    if is_within(number, bytes) && spelled && numbered {
+    if spelled && numbered {
         with_line(alloc, reader, line)
     } else {
         Ok(None)
@@ -148,9 +151,11 @@ fn refusal(
 ) -> Result<TextError, AllocError>
     ensures { IfOk result (λ e. e ≡ spec.refusal (count_of count) number bytes.now) }
 {
+    if !is_within(number, bytes) {
+        return Ok(TextError::Limit(number));
+    }
     let past = is_past(alloc, count, bytes)?;
-    let large = has_large_number(bytes) || has_deep_brackets(bytes) || past;
-    if !is_within(number, bytes) || large {
+    if has_large_number(bytes) || has_deep_brackets(bytes) || past {
         Ok(TextError::Limit(number))
     } else {
         Ok(TextError::Form(number))
