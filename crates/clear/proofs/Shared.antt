@@ -20,16 +20,17 @@ use Rattle.pieces.specs.Fetched.{fetches, block_fetches}
 use Rattle.outlines.specs.Forms.{spans_are_within_limits}
 use Rattle.shares.specs.declared.boxes.Side.{Side}
 use Rattle.shares.specs.Boxes.{IsSingle, IsPlainSpan, side, sides}
-use Rattle.shares.specs.Shared.{IsLike, LineIsShared, LinesAreShared, BodyIsShared, NeedIsShared}
+use Rattle.shares.specs.Shared.{IsLike, LineIsShared, LinesAreShared, NeedIsShared}
 use Rattle.cert_lines.specs.Clear.{IsRegion}
 use Rattle.group_lines.specs.Sizes.{is_single, is_extent, extent_of}
 use Rattle.stored_lines.specs.Definitions.{Parts, parts_named, has_variables}
 use Rattle.group_lines.specs.Lines.{Here, before, after, in_loop, is_empty, may_precede, flaws, block_flaws, flaws_of_groups, start}
 use Rattle.group_lines.proofs.Flawless.{none_in, group_fine, body_fine}
-use Rattle.clear.specs.Laws.{InnerBlocksAreStill, BodyIsFlat, PlansAreShared}
+use Rattle.clear.specs.Laws.{PlansAreShared}
 use Rattle.clear.proofs.Lists.{lt_true, spans_limited, looked_up}
 use Rattle.clear.proofs.Small.{one, extent, count_is, line_fine, plans_small}
 use Rattle.clear.proofs.Near.{fetch_fine}
+use Rattle.clear.proofs.Apart.{grids_small}
 
 -- ---- regions
 
@@ -124,37 +125,26 @@ module _ (a : Algorithm) (p : Plan) (c : Certificate) (none : flaws_of_groups a 
   split : (s : Statement) (rest : Statements) (here : Here) → block_flaws a p c g o (Then s rest) here ≡ [] → (flaws a p c g o s (before (is_empty rest) here) ≡ []) × (block_flaws a p c g o rest (after s here) ≡ [])
   split s rest here h = none_in (flaws a p c g o s (before (is_empty rest) here)) (block_flaws a p c g o rest (after s here)) h
 
-  block_shared : (all : Statements) (here : Here) → InnerBlocksAreStill all → block_flaws a p c g o all here ≡ [] → LinesAreShared p all
-  block_shared Empty here flat h = tt
-  block_shared (Then (Seq all) rest) here flat h = (flat.0, block_shared rest (after (Seq all) here) flat.1 (split (Seq all) rest here h).1)
-  block_shared (Then (For i x kind body) rest) here flat h =
-      let k = split (For i x kind body) rest here h in
-      (no_fetch a p c g o body (in_loop i (before (is_empty rest) here)) refl (none_in _ _ k.0).1, block_shared rest (after (For i x kind body) here) flat.1 k.1)
-  block_shared (Then (Let i pick ls) rest) here flat h = absurd (some_flaw (split (Let i pick ls) rest here h).0)
-  block_shared (Then (First i s r) rest) here flat h = absurd (some_flaw (split (First i s r) rest here h).0)
-  block_shared (Then (Guard low high body) rest) here flat h = absurd (some_flaw (split (Guard low high body) rest here h).0)
-  block_shared (Then (Alloc b f places) rest) here flat h = (refl, block_shared rest (after (Alloc b f places) here) flat.1 (split (Alloc b f places) rest here h).1)
-  block_shared (Then (Fetch b k region) rest) here flat h =
-      let j = split (Fetch b k region) rest here h in
-      (fetch_shared b k region (before (is_empty rest) here) j.0, block_shared rest (after (Fetch b k region) here) flat.1 j.1)
-  block_shared (Then (Store b k at e) rest) here flat h = (refl, block_shared rest (after (Store b k at e) here) flat.1 (split (Store b k at e) rest here h).1)
-  block_shared (Then (Publish k) rest) here flat h = (refl, block_shared rest (after (Publish k) here) flat.1 (split (Publish k) rest here h).1)
+  mutual
+    pub line_shared : (s : Statement) (here : Here) → flaws a p c g o s here ≡ [] → LineIsShared p s
+    line_shared (Seq all) here h = block_shared all here h
+    line_shared (For i x kind body) here h = no_fetch a p c g o body (in_loop i here) refl (none_in _ _ h).1
+    line_shared (Let i pick ls) here h = absurd (some_flaw h)
+    line_shared (First i s r) here h = absurd (some_flaw h)
+    line_shared (Guard low high body) here h = absurd (some_flaw h)
+    line_shared (Alloc b f places) here h = refl
+    line_shared (Fetch b k region) here h = fetch_shared b k region here h
+    line_shared (Store b k at e) here h = refl
+    line_shared (Publish k) here h = refl
 
-  body_shared : (s : Statement) (here : Here) → BodyIsFlat s → flaws a p c g o s here ≡ [] → BodyIsShared p s
-  body_shared (Seq all) here flat h = block_shared all here flat h
-  body_shared (For i x kind body) here flat h = no_fetch a p c g o body (in_loop i here) refl (none_in _ _ h).1
-  body_shared (Let i pick ls) here flat h = absurd (some_flaw h)
-  body_shared (First i s r) here flat h = absurd (some_flaw h)
-  body_shared (Guard low high body) here flat h = absurd (some_flaw h)
-  body_shared (Alloc b f places) here flat h = refl
-  body_shared (Fetch b k region) here flat h = fetch_shared b k region here h
-  body_shared (Store b k at e) here flat h = refl
-  body_shared (Publish k) here flat h = refl
+    block_shared : (all : Statements) (here : Here) → block_flaws a p c g o all here ≡ [] → LinesAreShared p all
+    block_shared Empty here h = tt
+    block_shared (Then s rest) here h = let k = split s rest here h in (line_shared s (before (is_empty rest) here) k.0, block_shared rest (after s here) k.1)
 
 -- ---- plans
 
 pub plans_shared : PlansAreShared
-plans_shared a p c none clear flat =
+plans_shared a p c none clear =
     let small = plans_small a p c none in
     record {
       groups = λ n g at.
@@ -164,9 +154,9 @@ plans_shared a p c none clear flat =
             plain = All-from_recursion IsPlainSpan g.region (plain g.region l.extents);
             limits = spans_limited g.region l.limits;
             extents = All-from_recursion (λ (x : Side). x.count ≤ 8192) (sides no_symbols g.region) (few_sides g.region l.extents);
-            grid = (flat n g at).grid;
+            grid = grids_small a p c none n g at;
             own = own_like (length g.region) (length g.grid) (own_region c.own n) (clear.own n g at);
-            body = body_shared a p c none n g g.body (start f.line g) (flat n g at).body (body_fine a p c n g f);
+            body = line_shared a p c none n g g.body (start f.line g) (body_fine a p c n g f);
           };
       needs = All-from_recursion (NeedIsShared p) c.needs (looked_up (NeedIsShared p) c.needs (λ i m at. need_like m (slice_get p.groups m.group) (slice_get p.groups m.needed) (clear.needs i m at)));
       cells = small.cells;

@@ -1,14 +1,13 @@
 -- What follows where no line of a plan, and none of its certificate, has a flaw.
-use Rattle.std.specs.Prelude.{◌≡◌, ℕ, ◌^◌, ◌≤◌, false, [], length, All, Some, slice_get}
+use Rattle.std.specs.Prelude.{◌≡◌, ℕ, ◌^◌, ◌≤◌, [], length, All, Some, slice_get}
 use Rattle.std.specs.List.{AllByRecursion}
 use Rattle.meaning.specs.Algorithm.{Algorithm}
-use Rattle.nest.specs.Plan.{Statement, Seq, Statements, Empty, Then, Group, Plan}
+use Rattle.nest.specs.Plan.{Group, Plan}
 use Rattle.nest.specs.Lines.{body_line}
 use Rattle.cert.specs.Certificate.{Certificate}
 use Rattle.cert.specs.Cells.{cells, pieces}
 use Rattle.actions.specs.Setting.{setting_of}
 use Rattle.claims.specs.Obligations.{Rules}
-use Rattle.pieces.specs.Fetched.{fetches}
 use Rattle.pieces.specs.Numbers.{GroupsHaveEnds}
 use Rattle.pieces.specs.Parts.{FunctionsAreDistinct}
 use Rattle.widths.specs.Widths.{wide_lines}
@@ -24,31 +23,9 @@ abbrev pub GroupsAreFree : Type 0
 GroupsAreFree =
     (a : Algorithm) (p : Plan) (c : Certificate) → flaws_of_groups a p c ≡ [] → (n : ℕ) (g : Group) → slice_get p.groups n ≡ Some g → IsFree a (stored_in a p) (setting_of p c n g) g.body
 
--- a block inside of a block fetches nothing
-abbrev pub InnerBlockIsStill : Statement → Type 0
-InnerBlockIsStill (Seq all) = fetches (Seq all) ≡ false
-InnerBlockIsStill _ = Unit {0}
-
-abbrev pub InnerBlocksAreStill : Statements → Type 0
-InnerBlocksAreStill Empty = Unit {0}
-InnerBlocksAreStill (Then a rest) = InnerBlockIsStill a × InnerBlocksAreStill rest
-
--- and so the blocks inside of a body's block
-abbrev pub BodyIsFlat : Statement → Type 0
-BodyIsFlat (Seq all) = InnerBlocksAreStill all
-BodyIsFlat _ = Unit {0}
-
--- what the tests of lines leave open: counts of a grid that has no points, and blocks inside of blocks
-pub record GroupIsFlat (g : Group) : Type 0 where
-  pub grid : All (λ m. m ≤ 2 ^ 20) g.grid
-  pub body : BodyIsFlat g.body
-
-abbrev pub PlanIsFlat : Plan → Type 0
-PlanIsFlat p = (n : ℕ) (g : Group) → slice_get p.groups n ≡ Some g → GroupIsFlat g
-
 -- what the shares of pieces rest on
 abbrev pub PlansAreShared : Type 0
-PlansAreShared = (a : Algorithm) (p : Plan) (c : Certificate) → flaws_of_groups a p c ≡ [] → IsClear a p c → PlanIsFlat p → AreShared p c
+PlansAreShared = (a : Algorithm) (p : Plan) (c : Certificate) → flaws_of_groups a p c ≡ [] → IsClear a p c → AreShared p c
 
 -- forms stand, by rules that find no line wide
 abbrev pub GroupsAreNear : Type 0

@@ -7,7 +7,7 @@ pub fn groups_are_free()
     ensures { GroupsAreFree }
 {}
 
-/// The shares of the pieces can be told, where grids' counts are small and no block inside a body's block fetches.
+/// What the shares of the pieces rest on holds, so that they can be told.
 pub fn plans_are_shared()
     ensures { PlansAreShared }
 {}

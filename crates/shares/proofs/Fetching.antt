@@ -1,7 +1,10 @@
 -- The cells that lines fetch.
-use Rattle.std.proofs.Common.{◌≡◌, ℕ, ◌+◌, ◌<◌, List, [], ◌∷◌, ◌++◌, length, arith, ap, refl, sym, ◌∙◌, subst, Ok, Err, get_or, drop, drop-cons, suc}
-use Rattle.std.specs.Prelude.{Result}
-use Rattle.lin.specs.declared.span.Region.{Region}
+use Rattle.std.proofs.Common.{◌≡◌, ℕ, ◌+◌, ◌<◌, ◌≤◌, List, [], ◌∷◌, ◌++◌, length, length-append, map, arith, ap, refl, sym, ◌∙◌, subst, Ok, Err, get_or, drop, drop-cons, suc, Bool, true, false}
+use Rattle.std.specs.Prelude.{Result, IsTrue}
+use Rattle.std.specs.List.{AllByRecursion}
+use Rattle.std.proofs.lemmas.Bool.{false≢true}
+use Rattle.std.proofs.lemmas.List.{append-nil, length-map}
+use Rattle.std.proofs.lemmas.List.Elements.{recursion_from_All, All-from_recursion}
 use Rattle.nest.specs.declared.stmt.Stmt.{Stmt, Seq' as Block, For' as Loop, Let as Naming, First' as AtFirst, Guard' as Where, Alloc as Allocation, Fetch as Fetching, Store as Storing, Publish as Publishing}
 use Rattle.nest.specs.Plan.{Statement, Seq, For, Let, First, Guard, Alloc, Fetch, Store, Publish, Plan, block}
 use Rattle.nest.specs.Lists.{list_statements}
@@ -10,6 +13,7 @@ use Rattle.nest.specs.View.{statement_of}
 use Rattle.actions.specs.Actions.{after}
 use Rattle.cert.specs.Cells.{Cell}
 use Rattle.pieces.specs.Fetched.{fetched_cells, block_fetched_cells}
+use Rattle.pieces.specs.Numbers.{cell_number, is_cell}
 use Rattle.pieces.proofs.Parts.{none_fetched}
 use Rattle.shares.specs.Shared.{LineIsShared, LinesAreShared}
 use Rattle.shares.specs.Layout.{AllCells}
@@ -20,27 +24,57 @@ ok_err e = cc e
 pub none_cells : (p : Plan) (xs : List Cell) → xs ≡ [] → AllCells p xs
 none_cells p xs e = subst (AllCells p) (sym e) (λ k d less. absurd (omega (arith, less)))
 
-spec_none : (p : Plan) (a : Statement) (s : Symbols) → LineIsShared p a → ((b g : ℕ) (r : _) → a ≡ Fetch b g r → ⊥) → fetched_cells a s ≡ []
-spec_none p (Seq all) s h not = none_fetched (Seq all) s h
-spec_none p (For i x kind body) s h not = none_fetched (For i x kind body) s h
-spec_none p (Let i pick forms) s h not = absurd h
-spec_none p (First i a b) s h not = none_fetched (First i a b) s h
-spec_none p (Guard low high body) s h not = none_fetched (Guard low high body) s h
-spec_none p (Alloc b f places) s h not = refl
-spec_none p (Fetch b g r) s h not = absurd (not b g r refl)
-spec_none p (Store b k at e) s h not = refl
-spec_none p (Publish c) s h not = refl
+-- neither a block nor a line that fetches
+abbrev pub is_still : Stmt → Bool
+is_still (Block shape all) = false
+is_still (Loop i x kind q body) = true
+is_still (Naming i pick forms) = true
+is_still (AtFirst i q a r b) = true
+is_still (Where low high q body) = true
+is_still (Allocation b f places) = true
+is_still (Fetching b g r) = false
+is_still (Storing b k at e) = true
+is_still (Publishing c) = true
 
-pub line_none : (p : Plan) (a : Stmt) (s : Symbols) → LineIsShared p (statement_of a) → ((x : ℕ) (y : ℕ) (r : Region) → a ≡ Fetching x y r → ⊥) → fetched_cells (statement_of a) s ≡ []
-line_none p (Block shape all) s h not = none_fetched (statement_of (Block shape all)) s h
-line_none p (Loop i x kind q body) s h not = none_fetched (statement_of (Loop i x kind q body)) s h
-line_none p (Naming i pick forms) s h not = absurd h
-line_none p (AtFirst i q a r b) s h not = none_fetched (statement_of (AtFirst i q a r b)) s h
-line_none p (Where low high q body) s h not = none_fetched (statement_of (Where low high q body)) s h
-line_none p (Allocation b f places) s h not = refl
-line_none p (Fetching b g r) s h not = absurd (not b g r refl)
-line_none p (Storing b k at e) s h not = refl
-line_none p (Publishing c) s h not = refl
+pub line_none : (p : Plan) (a : Stmt) (s : Symbols) → LineIsShared p (statement_of a) → is_still a ≡ true → fetched_cells (statement_of a) s ≡ []
+line_none p (Block shape all) s h still = absurd (false≢true still)
+line_none p (Loop i x kind q body) s h still = none_fetched (statement_of (Loop i x kind q body)) s h
+line_none p (Naming i pick forms) s h still = absurd h
+line_none p (AtFirst i q a r b) s h still = none_fetched (statement_of (AtFirst i q a r b)) s h
+line_none p (Where low high q body) s h still = none_fetched (statement_of (Where low high q body)) s h
+line_none p (Allocation b f places) s h still = refl
+line_none p (Fetching b g r) s h still = absurd (false≢true still)
+line_none p (Storing b k at e) s h still = refl
+line_none p (Publishing c) s h still = refl
+
+-- what such a line leaves
+pub still_line : (p : Plan) (a : Stmt) (s : Symbols) (old : List ℕ) → LineIsShared p (statement_of a) → is_still a ≡ true → (old ≡ old ++ map (cell_number p) (fetched_cells (statement_of a) s)) × AllCells p (fetched_cells (statement_of a) s)
+still_line p a s old h still =
+    let none = line_none p a s h still in
+    (sym (ap (λ (xs : List Cell). old ++ map (cell_number p) xs) none ∙ append-nil old), none_cells p (fetched_cells (statement_of a) s) none)
+
+-- ---- parts of lists of cells
+
+all_left : (p : Plan) (xs ys : List Cell) → AllByRecursion (λ x. IsTrue (is_cell p x)) (xs ++ ys) → AllByRecursion (λ x. IsTrue (is_cell p x)) xs × AllByRecursion (λ x. IsTrue (is_cell p x)) ys
+all_left p [] ys h = (tt, h)
+all_left p (x ∷ xs) ys h = let k = all_left p xs ys h.1 in ((h.0, k.0), k.1)
+
+pub both_parts : (p : Plan) (xs ys : List Cell) → AllCells p (xs ++ ys) → AllCells p xs × AllCells p ys
+both_parts p xs ys h =
+    let P : Cell → Type 0 = λ x. IsTrue (is_cell p x) in
+    let k = all_left p xs ys (recursion_from_All P (xs ++ ys) h) in
+    (All-from_recursion P xs k.0, All-from_recursion P ys k.1)
+
+pub parts_counted : (p : Plan) (old now : List ℕ) (line later whole : List Cell) → now ++ map (cell_number p) (line ++ later) ≡ old ++ map (cell_number p) whole → length now + length line ≤ length old + length whole
+parts_counted p old now line later whole e =
+    let f = cell_number p in
+    let a = length-append now (map f (line ++ later)) in
+    let b = length-append old (map f whole) in
+    let k = length-map (line ++ later) f in
+    let l = length-map whole f in
+    let m = length-append line later in
+    let n = ap length e in
+    omega (arith, a, b, k, l, m, n)
 
 -- a line names nothing for the lines after it
 stays : (p : Plan) (a : Statement) (s : Symbols) → LineIsShared p a → after a s ≡ s

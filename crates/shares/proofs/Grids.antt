@@ -7,6 +7,7 @@ use Rattle.std.specs.List.{AllByRecursion}
 use Rattle.std.proofs.lemmas.List.Elements.{recursion_from_All, All-from_recursion}
 use Rattle.shares.specs.Walked.{IsExtent}
 use Rattle.cert.specs.Cells.{grid_point, piece_count}
+use Rattle.shares.specs.declared.boxes.Side.{Side}
 use Rattle.shares.specs.Boxes.{grid_sides, point_count}
 
 pub point_more : (grid : List ℕ) (i d rest : ℕ) → i < length grid → grid_point (drop i grid) rest ≡ (rest % get_or grid i d) ∷ grid_point (drop (i + 1) grid) (rest / get_or grid i d)
@@ -38,3 +39,10 @@ extents_each (m ∷ ms) h = ((omega arith, h.0), extents_each ms h.1)
 
 pub grid_extents : (grid : List ℕ) → All (λ m. m ≤ 2 ^ 20) grid → All IsExtent (grid_sides grid)
 grid_extents grid h = All-from_recursion IsExtent (grid_sides grid) (extents_each grid (recursion_from_All (λ m. m ≤ 2 ^ 20) grid h))
+
+some_each : (grid : List ℕ) → AllByRecursion (λ s. 1 ≤ s.count) (grid_sides grid) → AllByRecursion (λ m. 1 ≤ m) grid
+some_each [] h = tt
+some_each (m ∷ ms) h = (h.0, some_each ms h.1)
+
+pub grid_some : (grid : List ℕ) → All (λ (s : Side). 1 ≤ s.count) (grid_sides grid) → All (λ m. 1 ≤ m) grid
+grid_some grid h = All-from_recursion (λ (m : ℕ). 1 ≤ m) grid (some_each grid (recursion_from_All (λ (s : Side). 1 ≤ s.count) (grid_sides grid) h))

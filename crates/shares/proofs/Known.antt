@@ -14,7 +14,7 @@ use Rattle.shares.specs.Shared.{AreShared, GroupIsShared, IsLike}
 use Rattle.shares.specs.declared.grounds.Ground.{Ground}
 use Rattle.shares.specs.Grounds.{IsGroundOf, AreGrounds, HaveGrids}
 use Rattle.shares.proofs.Shared.{points_counted}
-use Rattle.shares.proofs.Grids.{grid_count, grid_extents}
+use Rattle.shares.proofs.Grids.{grid_count, grid_extents, grid_some}
 use Rattle.shares.proofs.Groups.{cells_most, pieces_most, get_within, push_each}
 
 pub like_some : (o : Option (List Span1)) (P : List Span1 → Type 0) → MatchOption o ⊥ P → (xs : List Span1) × (o ≡ Some xs) × P xs
@@ -34,7 +34,7 @@ module _ (p : Plan) (c : Certificate) (shared : AreShared p c) (n : ℕ) (g : Gr
       let same = ap point_count is in
       let all = shared.cells in
       record {
-        sides = λ k d less. ((near k d less).0, (let few = small k d less in omega (arith, few)));
+        sides = λ some k d less. ((near k d less).0, (let few = small k d less in omega (arith, few)));
         few = omega (arith, first, most, counted, same, all);
       }
 
@@ -45,7 +45,7 @@ module _ (p : Plan) (c : Certificate) (shared : AreShared p c) (n : ℕ) (g : Gr
       let same = ap point_count is in
       let all = shared.pieces in
       record {
-        sides = subst (All IsExtent) (sym is) (grid_extents g.grid known.grid);
+        sides = λ some. subst (All IsExtent) (sym is) (grid_extents g.grid (known.grid (grid_some g.grid (subst (All (λ (s : Side). 1 ≤ s.count)) is some))));
         few = omega (arith, first, most, counted, same, all);
       }
 

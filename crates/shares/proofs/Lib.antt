@@ -11,3 +11,8 @@ pub mod Fetching
 pub mod Needing
 pub mod Told
 pub mod Lines
+pub mod Empty
+pub mod Grouped
+pub mod Counting
+pub mod Having
+pub mod Filing

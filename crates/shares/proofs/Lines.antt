@@ -1,15 +1,14 @@
--- The place of a group's own line.
-use Rattle.std.proofs.Common.{◌≡◌, ℕ, zero, suc, ◌+◌, ◌-◌, ◌^◌, ◌<◌, min, List, [], ◌∷◌, length, get_or, drop, drop-cons, arith, ap, refl, sym, ◌∙◌, true, false}
-use Rattle.std.specs.Prelude.{◌==◌}
+-- The places of a group's own line and of its first need line.
+use Rattle.std.proofs.Common.{◌≡◌, ℕ, suc, ◌+◌, ◌-◌, ◌^◌, ◌<◌, min, List, [], ◌∷◌, length, get_or, drop, drop-cons, arith, ap, refl, sym, ◌∙◌, subst, true, false, Option, Some, None, inl, inr}
+use Rattle.std.specs.Prelude.{◌==◌, ◌⊎◌}
 use Rattle.std.proofs.lemmas.Bool.Decides.{nat_tests}
 use Rattle.cert.specs.declared.cert.Own.{Own}
 use Rattle.nest.specs.Plan.{Plan}
-use Rattle.nest.specs.Lines.{certificate_line}
 use Rattle.cert.specs.Certificate.{Certificate}
-use Rattle.cert.specs.Lines.{own_line}
+use Rattle.cert.specs.declared.cert.Need.{Need}
 use Rattle.refusals.specs.declared.code.K.{K}
-use Rattle.refusals.specs.declared.code.K.TheVariants.{K1, K2, K3, K4, K5, K6, K7, K8, K9, K10, K11, K12, K13, K14}
-use Rattle.shares.specs.Made.{own_place, StandsAt}
+use Rattle.refusals.specs.declared.code.K.TheVariants.{K9, K10, K11, K14}
+use Rattle.shares.specs.Made.{own_place, need_place, next_place, owns_line, needs_line, StandsAt}
 
 head_here : (o : Own) (os : List Own) (g : ℕ) → o.group ≡ g → own_place (o ∷ os) g ≡ 0
 head_here o os g e = let t : (o.group == g) ≡ true = grind (arith, nat_tests) in rw t refl
@@ -29,19 +28,56 @@ pub no_place : (xs : List Own) (k g : ℕ) → length xs ≡ k → own_place (dr
 no_place [] k g e = rw (sym e) refl
 no_place (x ∷ xs) k g e = rw (sym e) (no_place xs (length xs) g refl)
 
--- only K9 and K10 are told to stand at the own line
-pub stands_at : (p : Plan) (c : Certificate) (n : ℕ) (k : K) (line : ℕ) → line ≡ min (own_line (certificate_line p) (own_place c.own n)) (2 ^ 32 - 1) → StandsAt p c n k line
-stands_at p c n K1 line h = tt
-stands_at p c n K2 line h = tt
-stands_at p c n K3 line h = tt
-stands_at p c n K4 line h = tt
-stands_at p c n K5 line h = tt
-stands_at p c n K6 line h = tt
-stands_at p c n K7 line h = tt
-stands_at p c n K8 line h = tt
-stands_at p c n K9 line h = h
-stands_at p c n K10 line h = h
-stands_at p c n K11 line h = tt
-stands_at p c n K12 line h = tt
-stands_at p c n K13 line h = tt
-stands_at p c n K14 line h = tt
+-- ---- need lines
+
+-- a place so many lines further on
+abbrev pub further : ℕ → Option ℕ → Option ℕ
+further k None = None
+further k (Some i) = Some (k + i)
+
+pub further_none : (o : Option ℕ) → further 0 o ≡ o
+further_none None = refl
+further_none (Some i) = let e : 0 + i ≡ i = omega arith in ap (λ (n : ℕ). Some n) e
+
+further_next : (k : ℕ) (o : Option ℕ) → further k (next_place o) ≡ further (k + 1) o
+further_next k None = refl
+further_next k (Some i) = let e : k + suc i ≡ k + 1 + i = omega arith in ap (λ (n : ℕ). Some n) e
+
+need_here : (n : Need) (ns : List Need) (g : ℕ) → n.group ≡ g → need_place (n ∷ ns) g ≡ Some 0
+need_here n ns g e = let t : (n.group == g) ≡ true = grind (arith, nat_tests) in rw t refl
+
+need_later : (n : Need) (ns : List Need) (g : ℕ) → (n.group ≡ g → ⊥) → need_place (n ∷ ns) g ≡ next_place (need_place ns g)
+need_later n ns g e = let t : (n.group == g) ≡ false = grind (arith, nat_tests) in rw t refl
+
+pub found_here : (xs : List Need) (k : ℕ) (d : Need) (g : ℕ) → k < length xs → (get_or xs k d).group ≡ g → further k (need_place (drop k xs) g) ≡ Some k
+found_here xs k d g less e =
+    let same : k + 0 ≡ k = omega arith in
+    ap (λ (ys : List Need). further k (need_place ys g)) (drop-cons xs k d less) ∙ ap (further k) (need_here (get_or xs k d) (drop (suc k) xs) g e) ∙ ap (λ (n : ℕ). Some n) same
+
+pub found_later : (xs : List Need) (k : ℕ) (d : Need) (g : ℕ) → k < length xs → ((get_or xs k d).group ≡ g → ⊥) → further k (need_place (drop k xs) g) ≡ further (k + 1) (need_place (drop (k + 1) xs) g)
+found_later xs k d g less e =
+    let one : suc k ≡ k + 1 = omega arith in
+    ap (λ (ys : List Need). further k (need_place ys g)) (drop-cons xs k d less)
+    ∙ ap (further k) (need_later (get_or xs k d) (drop (suc k) xs) g e ∙ ap (λ (n : ℕ). next_place (need_place (drop n xs) g)) one)
+    ∙ further_next k (need_place (drop (k + 1) xs) g)
+
+pub found_none : (xs : List Need) (k g : ℕ) → length xs ≡ k → further k (need_place (drop k xs) g) ≡ None
+found_none xs k g e = ap (λ (ys : List Need). further k (need_place ys g)) (none xs k e)
+  where
+    none : (xs : List Need) (k : ℕ) → length xs ≡ k → drop k xs ≡ []
+    none [] k e = rw (sym e) refl
+    none (x ∷ xs) k e = rw (sym e) (none xs (length xs) refl)
+
+-- ---- where codes stand
+
+pub own_stands : (p : Plan) (c : Certificate) (n : ℕ) (k : K) (line : ℕ) → (k ≡ K9) ⊎ (k ≡ K10) → line ≡ min (owns_line p c n) (2 ^ 32 - 1) → StandsAt p c n k line
+own_stands p c n k line which h = elim which [
+  | inl is ↦ subst (λ (code : K). StandsAt p c n code line) (sym is) h
+  | inr is ↦ subst (λ (code : K). StandsAt p c n code line) (sym is) h
+]
+
+pub need_stands : (p : Plan) (c : Certificate) (n : ℕ) (k : K) (line : ℕ) → (k ≡ K11) ⊎ (k ≡ K14) → line ≡ min (needs_line p c n) (2 ^ 32 - 1) → StandsAt p c n k line
+need_stands p c n k line which h = elim which [
+  | inl is ↦ subst (λ (code : K). StandsAt p c n code line) (sym is) h
+  | inr is ↦ subst (λ (code : K). StandsAt p c n code line) (sym is) h
+]

@@ -1,11 +1,11 @@
 -- The pieces that a piece needs are those that its need lines name.
-use Rattle.std.proofs.Common.{◌≡◌, ℕ, zero, suc, ◌+◌, ◌*◌, ◌/◌, ◌%◌, ◌<◌, ◌≤◌, List, [], ◌∷◌, ◌++◌, length, map, arith, ap, refl, sym, ◌∙◌, subst, Option, Some, None, get_or, Bool, true, false, inl, inr, drop, drop-cons}
+use Rattle.std.proofs.Common.{◌≡◌, ℕ, zero, suc, ◌+◌, ◌*◌, ◌/◌, ◌%◌, ◌<◌, ◌≤◌, List, [], ◌∷◌, ◌++◌, length, map, arith, ap, refl, sym, ◌∙◌, subst, Option, Some, None, get_or, Bool, true, false, inl, inr, drop, drop-cons, Bor}
 use Rattle.std.specs.Prelude.{ℤ, pos, negsuc, ◌-ℤ◌, ◌+ℤ◌, ◌==◌, ◌&&◌, ◌||◌, int_le, flat_map, All, IsTrue, ◌↔◌, ◌⊎◌, Contains, MatchOption, slice_get, if◌then◌else◌}
 use Rattle.std.specs.List.{AllByRecursion, list_any}
 use Rattle.std.proofs.lemmas.Bool.{false≢true}
 use Rattle.std.proofs.lemmas.Bool.Decides.{nat_tests}
 use Rattle.std.proofs.lemmas.Int.{ints}
-use Rattle.std.proofs.lemmas.List.Elements.{recursion_from_All, All-cons, Contains-append_left, Contains-append_right, Contains-append_cases}
+use Rattle.std.proofs.lemmas.List.Elements.{recursion_from_All, All-from_recursion, All-cons, Contains-append_left, Contains-append_right, Contains-append_cases}
 use Rattle.std.proofs.Math.Nat.{mul-le-mul_left, mul-add, mul-one, mul_comm, mod-eq_of_lt, add-mul-mod_self_left}
 use Rattle.std.proofs.lemmas.Nat.{div-mul-add}
 use Rattle.nest.specs.Plan.{Group, Plan}
@@ -260,3 +260,15 @@ next_inside p j ns k d less here later =
 pub no_needs : (ns : List Need) (k : ℕ) → length ns ≡ k → drop k ns ≡ []
 no_needs [] k e = rw (sym e) refl
 no_needs (x ∷ xs) k e = rw (sym e) (no_needs xs (length xs) refl)
+
+pub inside_split : (p : Plan) (j : Piece) (ns : List Need) (k : ℕ) (d : Need) → k < length ns → NeedsAreInside p j (drop k ns) → NeedIsInside p j (get_or ns k d) × NeedsAreInside p j (drop (k + 1) ns)
+inside_split p j ns k d less all =
+    let one : suc k ≡ k + 1 = omega arith in
+    let both = recursion_from_All (NeedIsInside p j) (get_or ns k d ∷ drop (suc k) ns) (subst (NeedsAreInside p j) (drop-cons ns k d less) all) in
+    (both.0, subst (λ (m : ℕ). NeedsAreInside p j (drop m ns)) one (All-from_recursion (NeedIsInside p j) (drop (suc k) ns) both.1))
+
+-- the line at a place of a list of lines that are lent
+pub lent_at : (xs : List (Bor Need)) (k : ℕ) (d : Bor Need) → get_or (map (λ n. n.now) xs) k d.now ≡ (get_or xs k d).now
+lent_at [] k d = refl
+lent_at (x ∷ xs) zero d = refl
+lent_at (x ∷ xs) (suc k) d = lent_at xs k d

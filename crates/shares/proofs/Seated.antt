@@ -1,5 +1,5 @@
 -- What is known of a piece of a plan whose shares can be told.
-use Rattle.std.proofs.Common.{◌≡◌, ℕ, ◌+◌, ◌<◌, ◌≤◌, List, [], ◌∷◌, length, map, arith, ap, refl, sym, ◌∙◌, subst, Option, Some, None, get_or, Bool, cond}
+use Rattle.std.proofs.Common.{◌≡◌, ℕ, ◌+◌, ◌<◌, ◌≤◌, List, [], ◌∷◌, length, map, arith, ap, refl, sym, ◌∙◌, subst, Option, Some, None, get_or, Bool, cond, Vec, Bor, Global}
 use Rattle.std.specs.Prelude.{All, IsTrue, ◌↔◌, slice_get, filter, ℤ, MatchOption}
 use Rattle.std.specs.List.{AllByRecursion}
 use Rattle.std.proofs.lemmas.List.{length-map}
@@ -21,6 +21,9 @@ use Rattle.shares.specs.Seats.{piece_of}
 use Rattle.shares.specs.Spaces.{numbers_in, HasAll}
 use Rattle.shares.specs.Grounds.{IsGroundOf}
 use Rattle.shares.specs.Layout.{IsLayout, own_list, OwnIsInside, PieceIsInside, region_points, AllCells}
+use Rattle.cert.specs.declared.cert.Need.{Need}
+use Rattle.shares.specs.Filed.{needs_in}
+use Rattle.shares.proofs.Filing.{row}
 use Rattle.shares.proofs.Groups.{get_mapped, get_some, get_within, cells_most}
 use Rattle.shares.proofs.Shared.{box_is, rank_is, points_counted}
 
@@ -157,3 +160,17 @@ module _ (x : Layout) (ready : IsLayout x) (h : ℕ) (g : Group) (at : slice_get
           (λ k. All-from_recursion R (map (cell h) qs) (mapped_to p h qs (recursion_from_All Q qs (both.0 k)))),
           (λ k. both.1 (All-from_recursion Q qs (mapped_from p h qs (recursion_from_All R (map (cell h) qs) k)))),
         )
+
+-- ---- the need lines of a group
+
+module _ (x : Layout) (ready : IsLayout x) (g : ℕ) (listed : g < length x.plan.now.groups.items) where
+  pub lines_within : g < length x.needs.items
+  lines_within =
+      let all = ready.needs.count in
+      let long = length-map x.needs.items row in
+      omega (arith, listed, all, long)
+
+  pub lines_at : (v : Vec (Bor Need) Global) → v ≡ get_or x.needs.items g v → (now : List (Bor Need)) → now ≡ v.items → map (λ (n : Bor Need). n.now) now ≡ needs_in x.cert.now.needs.items g
+  lines_at v this now is =
+      let at = get_mapped row x.needs.items g v lines_within ∙ ap (λ (u : Vec (Bor Need) Global). Some (row u)) (sym this) in
+      ap (map (λ (n : Bor Need). n.now)) is ∙ ready.needs.each g (row v) at

@@ -1,20 +1,25 @@
 -- The lists that were made are those of the plan's work.
 use Rattle.std.proofs.Common.{◌≡◌, ℕ, ◌<◌, List, [], length, map, arith, ap, refl, sym, ◌∙◌, subst, Option, Some, None, inl, inr}
-use Rattle.std.specs.Prelude.{slice_get}
+use Rattle.std.specs.Prelude.{◌+◌, slice_get, Contains, MatchOption}
 use Rattle.std.proofs.lemmas.Bool.{cases_lt}
 use Rattle.std.proofs.lemmas.Option.{slice_get_past}
 use Rattle.meaning.specs.Algorithm.{Algorithm}
 use Rattle.nest.specs.Plan.{Plan}
 use Rattle.cert.specs.Certificate.{Certificate}
-use Rattle.cert.specs.Cells.{pieces}
+use Rattle.cert.specs.Cells.{pieces, cells}
 use Rattle.cert.specs.Cells.{Piece as PlanPiece}
 use Rattle.orders.specs.Claimed.{IsClaimed, IsClaimedBy}
 use Rattle.orders.specs.declared.lists.Piece.{Piece}
-use Rattle.orders.specs.Lists.{own_of, fetched_of, needs_of, own_lists}
+use Rattle.orders.specs.Faults.{IsFirstUnserved}
+use Rattle.orders.specs.Work.{HasSoundLists, NeedsIsEarlier, FetchedIsNeeded}
+use Rattle.orders.specs.Lists.{AreSound, own_of, fetched_of, needs_of, own_lists, fetched_lists, needs_lists}
 use Rattle.pieces.proofs.Lists.{at_below}
 use Rattle.pieces.specs.Numbers.{cell_number}
+use Rattle.pieces.specs.Theorem.{HasSoundCells}
 use Rattle.pieces.specs.Work.{of_piece, own_cells, cells_fetched, needed_pieces, work_of}
 use Rattle.shares.specs.Layout.{own_list, fetched_list, needs_list, FetchesCells, PieceFetchesCells, OwnIsInside, PieceIsInside}
+use Rattle.shares.specs.Needed.{NeedsAreInside}
+use Rattle.shares.specs.Has.{NeedsPieces, IsServed}
 use Rattle.shares.specs.Made.{AreMade, AreListsOf}
 
 none_some : {A : Type 0} {x : A} → ◌≡◌ {A = Option A} None (Some x) → ⊥
@@ -67,3 +72,53 @@ module _ (p : Plan) (c : Certificate) (xs : List Piece) (count : length xs ≡ l
   claimed_lists owners h =
       let same : own_list p c ≡ own_lists xs = λ i n. sym (own_same n) i in
       subst (λ (n : ℕ). IsClaimed (own_lists xs) owners n 0) (sym count) (subst (λ (own : ℕ → List ℕ). IsClaimed own owners (length (pieces p)) 0) same h)
+
+  pub fetched_same : (n : ℕ) → fetched_lists xs n ≡ fetched_list p n
+  fetched_same n = fetched_at n (slice_get xs n) refl
+
+  pub needs_same : (n : ℕ) → needs_lists xs n ≡ needs_list p c n
+  needs_same n = needs_at n (slice_get xs n) refl
+
+  pieces_at : (n : ℕ) (o : Option Piece) → slice_get xs n ≡ o → NeedsPieces p c n
+  pieces_at n None e = subst (λ (k : Option PlanPiece). MatchOption k (Unit {0}) (λ j. NeedsAreInside p j c.needs)) (sym (past n e)) tt
+  pieces_at n (Some x) e = (made n x e).pieces
+
+  pub pieces_all : (n : ℕ) → NeedsPieces p c n
+  pieces_all n = pieces_at n (slice_get xs n) refl
+
+  -- sound lists are those of the plan's work
+  pub cells_sound : (many : ℕ) → many ≡ length (cells p) → AreSound many xs → (a : Algorithm) (samples : List ℕ) → HasSoundCells (work_of a p c samples)
+  cells_sound many e sound a samples =
+      let own : own_lists xs ≡ own_list p c = λ i n. own_same n i in
+      let fetched : fetched_lists xs ≡ fetched_list p = λ i n. fetched_same n i in
+      let needs : needs_lists xs ≡ needs_list p c = λ i n. needs_same n i in
+      subst (λ (n : ℕ). HasSoundLists n (length (cells p)) (own_list p c) (fetched_list p) (needs_list p c)) count
+      (subst (λ (n : ℕ). HasSoundLists (length xs) n (own_list p c) (fetched_list p) (needs_list p c)) e
+      (subst (λ (of : ℕ → List ℕ). HasSoundLists (length xs) many of (fetched_list p) (needs_list p c)) own
+      (subst (λ (of : ℕ → List ℕ). HasSoundLists (length xs) many (own_lists xs) of (needs_list p c)) fetched
+      (subst (λ (of : ℕ → List ℕ). HasSoundLists (length xs) many (own_lists xs) (fetched_lists xs) of) needs sound))))
+
+  -- the first piece that is not served by its lists is not served
+  pub not_served : (piece : ℕ) → IsFirstUnserved (length xs) (own_lists xs) (fetched_lists xs) (needs_lists xs) (Some piece) → ¬ IsServed p c piece
+  not_served piece first served =
+      let before = first.1 in
+      let earlier : NeedsIsEarlier (piece + 1) (needs_lists xs) = λ q k less m. elim (cases_lt q piece) [
+        | inl lower ↦ before.0 q k lower m
+        | inr from ↦
+            let same : q ≡ piece = omega (arith, less, from) in
+            let here = subst (λ (ns : List ℕ). Contains ns k) (ap (needs_lists xs) same ∙ needs_same piece) m in
+            let below = served.earlier k here in
+            omega (arith, below, same)
+      ] in
+      let needed : FetchedIsNeeded (piece + 1) (own_lists xs) (fetched_lists xs) (needs_lists xs) = λ q x less m. elim (cases_lt q piece) [
+        | inl lower ↦ before.1 q x lower m
+        | inr from ↦
+            let same : q ≡ piece = omega (arith, less, from) in
+            let here = subst (λ (ns : List ℕ). Contains ns x) (ap (fetched_lists xs) same ∙ fetched_same piece) m in
+            let found = served.owned x here in (
+              found.0,
+              subst (λ (ns : List ℕ). Contains ns found.0) (sym (ap (needs_lists xs) same ∙ needs_same piece)) found.1,
+              subst (λ (ns : List ℕ). Contains ns x) (sym (own_same found.0)) found.2,
+            )
+      ] in
+      first.2 (earlier, needed)

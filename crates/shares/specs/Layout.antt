@@ -12,6 +12,7 @@ use Rattle.shares.specs.declared.layout.Layout.{Layout}
 use Rattle.shares.specs.Seats.{pieces_of, AreSmall}
 use Rattle.shares.specs.Shared.{AreShared}
 use Rattle.shares.specs.Grounds.{AreGrounds}
+use Rattle.shares.specs.Filed.{AreFiled}
 
 -- the numbers of the cells that a piece owns, of those that it fetches, and of the pieces that it needs
 abbrev pub own_list : Plan → Certificate → ℕ → List ℕ
@@ -36,12 +37,13 @@ PieceIsInside p c (Some j) = All (λ q. IsTrue (has_point (slice_get p.groups j.
 abbrev pub OwnIsInside : Plan → Certificate → ℕ → Type 0
 OwnIsInside p c n = PieceIsInside p c (slice_get (pieces p) n)
 
--- the groups and pieces are the plan's
+-- the groups, pieces and need lines are those of the plan and its certificate
 pub record IsLayout (x : Layout) : Type 0 where
   pub shared : AreShared (plan_of x.plan.now) (certificate_of x.cert.now)
   pub grounds : AreGrounds (plan_of x.plan.now) (certificate_of x.cert.now) (length x.plan.now.groups.items) x.grounds.items
   pub seats : pieces_of x.seats.items ≡ pieces (plan_of x.plan.now)
   pub small : AreSmall x.seats.items
+  pub needs : AreFiled x.cert.now.needs.items (length x.plan.now.groups.items) (map (λ xs. map (λ n. n.now) xs.items) x.needs.items)
 
 -- all of these are cells
 abbrev pub AllCells : Plan → List Cell → Type 0

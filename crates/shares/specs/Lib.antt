@@ -7,4 +7,8 @@ pub mod Grounds
 pub mod Layout
 pub mod Faults
 pub mod Needed
+pub mod Filed
+pub mod Has
+pub mod Stops
 pub mod Made
+pub mod Laws

@@ -1,10 +1,11 @@
 -- The lists of pieces as they are made.
-use Rattle.std.specs.Prelude.{suc, ◌+◌, ◌-◌, ◌≤◌, ◌^◌, ◌==◌, if◌then◌else◌, [], ◌∷◌, min, MatchOption, ◌≡◌, ℕ, ◌<◌, List, length, Some, Contains, slice_get, ◌⊎◌}
+use Rattle.std.specs.Prelude.{Option, None, suc, ◌+◌, ◌-◌, ◌≤◌, ◌^◌, ◌==◌, if◌then◌else◌, [], ◌∷◌, min, MatchOption, ◌≡◌, ℕ, ◌<◌, List, length, Some, Contains, slice_get, ◌⊎◌}
 use Rattle.nest.specs.Plan.{Plan}
 use Rattle.cert.specs.Certificate.{Certificate}
 use Rattle.nest.specs.Lines.{certificate_line}
 use Rattle.cert.specs.declared.cert.Own.{Own}
-use Rattle.cert.specs.Lines.{own_line}
+use Rattle.cert.specs.declared.cert.Need.{Need}
+use Rattle.cert.specs.Lines.{own_line, need_line}
 use Rattle.cert.specs.Cells.{first_cell, pieces}
 use Rattle.orders.specs.Work.{Work}
 use Rattle.orders.specs.declared.lists.Piece.{Piece}
@@ -15,8 +16,11 @@ use Rattle.shares.specs.declared.answer.SharesError.{SharesError}
 use Rattle.shares.specs.declared.answer.SharesError.TheVariants.{Flaw, Memory}
 use Rattle.shares.specs.declared.lists.Trouble.{Trouble}
 use Rattle.shares.specs.declared.lists.Trouble.TheVariants.{Unserved, Large, Memory as Want}
+use Rattle.shares.specs.declared.stop.Stop.{Stop}
+use Rattle.shares.specs.declared.stop.Stop.TheVariants.{Unserved as StopUnserved, Large as StopLarge, Memory as StopWant}
 use Rattle.shares.specs.Layout.{own_list, fetched_list, needs_list, FetchesCells, OwnIsInside}
 use Rattle.shares.specs.Faults.{IsApart}
+use Rattle.shares.specs.Has.{AreFew, NeedsPieces, IsServed}
 
 -- the lists of a piece are the plan's
 pub record IsMade (p : Plan) (c : Certificate) (n : ℕ) (x : Piece) : Type 0 where
@@ -24,6 +28,7 @@ pub record IsMade (p : Plan) (c : Certificate) (n : ℕ) (x : Piece) : Type 0 wh
   pub fetched : x.fetched.items ≡ fetched_list p n
   pub needs : x.needs.items ≡ needs_list p c n
   pub known : FetchesCells p n
+  pub pieces : NeedsPieces p c n
 
 abbrev pub AreMade : Plan → Certificate → List Piece → Type 0
 AreMade p c xs = (n : ℕ) (x : Piece) → slice_get xs n ≡ Some x → IsMade p c n x
@@ -39,6 +44,15 @@ pub record AreListsOf (work : Work) (made : List Piece) : Type 0 where
 abbrev pub own_place : List Own → ℕ → ℕ
 own_place [] g = 0
 own_place (o ∷ os) g = if o.group == g then 0 else suc (own_place os g)
+
+abbrev pub next_place : Option ℕ → Option ℕ
+next_place None = None
+next_place (Some i) = Some (suc i)
+
+-- the place of a group's first need line among the need lines, if it has one
+abbrev pub need_place : List Need → ℕ → Option ℕ
+need_place [] g = None
+need_place (n ∷ ns) g = if n.group == g then Some 0 else next_place (need_place ns g)
 
 -- the piece is the group's
 abbrev pub IsPieceOf : Plan → ℕ → ℕ → Type 0
@@ -56,26 +70,49 @@ Leaves p c n = (piece : ℕ) × IsPieceOf p n piece × ¬ OwnIsInside p c piece
 abbrev pub HasGap : Plan → Certificate → ℕ → Type 0
 HasGap p c n = (x : ℕ) × (first_cell p.groups n ≤ x) × (x < first_cell p.groups (n + 1)) × ((k : ℕ) → k < length (pieces p) → ¬ Contains (own_list p c k) x)
 
--- what a code says of a group; of K11 and K14 nothing is said yet, and no other code is told
+-- a piece of the group is not served
+abbrev pub IsUnserved : Plan → Certificate → ℕ → Type 0
+IsUnserved p c n = (piece : ℕ) × IsPieceOf p n piece × ¬ IsServed p c piece
+
+-- what a code says of a group; no other code is told
 abbrev pub CodeMeans : Plan → Certificate → ℕ → K → Type 0
 CodeMeans p c n K9 = Overlaps p c n
 CodeMeans p c n K10 = Leaves p c n ⊎ HasGap p c n
-CodeMeans p c n K11 = Unit {0}
-CodeMeans p c n K14 = Unit {0}
+CodeMeans p c n K11 = IsUnserved p c n
+CodeMeans p c n K14 = ¬ AreFew p c
 CodeMeans p c n k = ⊥
 
--- K9 and K10 stand at the group's own line
+-- a group's own line
+abbrev pub owns_line : Plan → Certificate → ℕ → ℕ
+owns_line p c n = own_line (certificate_line p) (own_place c.own n)
+
+-- a group's first need line, or its own line where it has none
+abbrev pub line_at : Plan → Certificate → ℕ → Option ℕ → ℕ
+line_at p c n None = owns_line p c n
+line_at p c n (Some i) = need_line c (certificate_line p) i
+
+abbrev pub needs_line : Plan → Certificate → ℕ → ℕ
+needs_line p c n = line_at p c n (need_place c.needs n)
+
+-- K9 and K10 stand at the group's own line, K11 and K14 at its first need line, or its own line where it has none; lines past
+-- the greatest `u32` count as that
 abbrev pub StandsAt : Plan → Certificate → ℕ → K → ℕ → Type 0
-StandsAt p c n K9 line = line ≡ min (own_line (certificate_line p) (own_place c.own n)) (2 ^ 32 - 1)
-StandsAt p c n K10 line = line ≡ min (own_line (certificate_line p) (own_place c.own n)) (2 ^ 32 - 1)
-StandsAt p c n k line = Unit {0}
+StandsAt p c n K11 line = line ≡ min (needs_line p c n) (2 ^ 32 - 1)
+StandsAt p c n K14 line = line ≡ min (needs_line p c n) (2 ^ 32 - 1)
+StandsAt p c n k line = line ≡ min (owns_line p c n) (2 ^ 32 - 1)
 
 abbrev pub ErrorMeans : Plan → Certificate → SharesError → Type 0
 ErrorMeans p c (Flaw f) = (n : ℕ) × CodeMeans p c n f.code × StandsAt p c n f.code f.line
 ErrorMeans p c Memory = Unit {0}
 
--- the piece of which trouble tells is one of so many
-abbrev pub IsTroubleBelow : ℕ → Trouble → Type 0
-IsTroubleBelow count (Unserved piece) = piece < count
-IsTroubleBelow count (Large piece) = piece < count
-IsTroubleBelow count Want = Unit {0}
+-- what trouble tells of a piece, which is one of so many: it is not served, or with it more is fetched or needed than may be
+abbrev pub TroubleMeans : Plan → Certificate → ℕ → Trouble → Type 0
+TroubleMeans p c count (Unserved piece) = (piece < count) × ¬ IsServed p c piece
+TroubleMeans p c count (Large piece) = (piece < count) × ¬ AreFew p c
+TroubleMeans p c count Want = Unit {0}
+
+-- the trouble of a piece at which it stopped
+abbrev pub trouble_of : ℕ → Stop → Trouble
+trouble_of piece StopUnserved = Unserved piece
+trouble_of piece StopLarge = Large piece
+trouble_of piece StopWant = Want

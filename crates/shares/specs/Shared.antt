@@ -12,20 +12,18 @@ use Rattle.shares.specs.Boxes.{IsLimited, ArePlain, sides}
 abbrev pub IsLike : List Span1 → ℕ → Type 0
 IsLike xs n = IsLimited xs × (length xs ≡ n)
 
--- a line of the top block: it fetches from a known group, or neither fetches nor names a number
-abbrev pub LineIsShared : Plan → Statement → Type 0
-LineIsShared p (Fetch b h region) = MatchOption (slice_get p.groups h) ⊥ (λ g. IsLike region (length g.region))
-LineIsShared p (Let i pick forms) = ⊥
-LineIsShared p a = fetches a ≡ false
+-- a statement of a group's body that no loop, choice or guard stands around: a block of such statements, or a line that fetches
+-- from a known group, or one that neither fetches nor names a number
+abbrev mutual
+  pub LineIsShared : Plan → Statement → Type 0
+  LineIsShared p (Seq all) = LinesAreShared p all
+  LineIsShared p (Fetch b h region) = MatchOption (slice_get p.groups h) ⊥ (λ g. IsLike region (length g.region))
+  LineIsShared p (Let i pick forms) = ⊥
+  LineIsShared p a = fetches a ≡ false
 
-abbrev pub LinesAreShared : Plan → Statements → Type 0
-LinesAreShared p Empty = Unit {0}
-LinesAreShared p (Then a rest) = LineIsShared p a × LinesAreShared p rest
-
--- fetch lines stand in the top block only
-abbrev pub BodyIsShared : Plan → Statement → Type 0
-BodyIsShared p (Seq all) = LinesAreShared p all
-BodyIsShared p a = LineIsShared p a
+  pub LinesAreShared : Plan → Statements → Type 0
+  LinesAreShared p Empty = Unit {0}
+  LinesAreShared p (Then a rest) = LineIsShared p a × LinesAreShared p rest
 
 -- a needed region of a known group's grid
 abbrev pub NeedIsShared : Plan → Need → Type 0
@@ -37,10 +35,11 @@ pub record GroupIsShared (p : Plan) (c : Certificate) (n : ℕ) (g : Group) : Ty
   pub plain : ArePlain g.region
   pub limits : IsLimited g.region
   pub extents : All (λ x. x.count ≤ 8192) (sides no_symbols g.region)
-  pub grid : All (λ m. m ≤ 2 ^ 20) g.grid
+  -- its grid's counts are small where the grid has a point
+  pub grid : All (λ m. 1 ≤ m) g.grid → All (λ m. m ≤ 2 ^ 20) g.grid
   -- its own region is given
   pub own : MatchOption (own_region c.own n) ⊥ (λ xs. IsLike xs (length g.region))
-  pub body : BodyIsShared p g.body
+  pub body : LineIsShared p g.body
 
 -- of a plan and its certificate: the shares of the pieces can be told
 pub record AreShared (p : Plan) (c : Certificate) : Type 0 where

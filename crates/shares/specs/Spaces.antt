@@ -4,9 +4,9 @@ use Rattle.shares.specs.declared.spaces.Space.{Space}
 use Rattle.shares.specs.Boxes.{is_in_box, rank, point_count}
 use Rattle.shares.specs.Walked.{IsExtent}
 
--- its sides are small, and its numbers are
+-- its sides are small where it has a point, and its numbers are
 pub record IsSpace (x : Space) : Type 0 where
-  pub sides : All IsExtent x.sides.items
+  pub sides : All (λ s. 1 ≤ s.count) x.sides.items → All IsExtent x.sides.items
   pub few : x.first + point_count x.sides.items ≤ 2 ^ 24
 
 -- the numbers of points

@@ -1,6 +1,6 @@
 //! The shares of a plan's pieces.
 
-ghost use Rattle.std.specs.Prelude.{◌≡◌, ℕ, ◌<◌, ◌≤◌, ◌+◌, List, IfOk, IfErr, MatchOption, length};
+ghost use Rattle.std.specs.Prelude.{◌≡◌, ℕ, ◌<◌, ◌≤◌, ◌+◌, ◌-◌, ◌^◌, ◌⊎◌, min, List, IfOk, IfErr, MatchOption, length};
 ghost use Rattle.meaning.specs.Algorithm.{Algorithm};
 ghost use Rattle.nest.specs.View.{plan_of};
 ghost use Rattle.cert.specs.Certificate.{certificate_of};
@@ -9,13 +9,15 @@ ghost use Rattle.orders.specs.Lists.{AreSound};
 ghost use Rattle.pieces.specs.Work.{work_of};
 ghost use Rattle.shares.specs.Shared.{AreShared};
 ghost use Rattle.shares.specs.Layout.{IsLayout, FetchesCells, OwnIsInside};
-ghost use Rattle.shares.specs.Made.{AreListsOf, CodeMeans, ErrorMeans, IsPieceOf, own_place};
+ghost use Rattle.refusals.specs.declared.code.K.TheVariants.{K9, K10, K11, K14};
+ghost use Rattle.shares.specs.Has.{HasShares};
+ghost use Rattle.shares.specs.Made.{AreListsOf, CodeMeans, ErrorMeans, IsPieceOf, TroubleMeans, need_place, needs_line, own_place, owns_line};
 
 use crate::boxes::most_points;
 use crate::layout::{Layout, layout_of, own_of};
 use crate::lists::{Trouble, lists_of};
 use crate::owners::owners_of;
-use cert::{Cert, Own};
+use cert::{Cert, Need, Own};
 use nest::Plan;
 use orders::{Piece, first_gap, first_unserved};
 use refusals::{Flaw, K};
@@ -113,35 +115,67 @@ fn own_place(all: &[Own], group: usize) -> usize
     place
 }
 
-/// The place of a group's first need line among the need lines.
-fn need_place(cert: &Cert, group: usize) -> Option<usize> {
-    cert.needs
-        .iter()
-        .position(|need| need.group as usize == group)
+/// The place of a group's first need line among the need lines, if it has one.
+fn need_place(all: &[Need], group: usize) -> Option<usize>
+    ensures { result ≡ need_place all.now group }
+{
+    let mut place: usize = 0;
+    for need in all {
+        if need.group as usize == group {
+            return Some(place);
+        }
+        place += 1;
+    }
+    None
+}
+
+/// The line of a group's own region.
+fn own_line(layout: &Layout<'_>, group: usize) -> u32
+    ensures { result ≡ min (owns_line (plan_of layout.now.plan.now) (certificate_of layout.now.cert.now) group) (2 ^ 32 - 1) }
+{
+    let place = own_place(&layout.cert.own, group);
+    layout.cert.own_line(layout.plan.certificate_line(), place)
+}
+
+/// The line of a group's first need line, or of its own region where it has none.
+fn needs_line(layout: &Layout<'_>, group: usize) -> u32
+    ensures { result ≡ min (needs_line (plan_of layout.now.plan.now) (certificate_of layout.now.cert.now) group) (2 ^ 32 - 1) }
+{
+    match need_place(&layout.cert.needs, group) {
+        Some(place) => layout.cert.need_line(layout.plan.certificate_line(), place),
+        None => own_line(layout, group),
+    }
 }
 
 /// K9 or K10 of a group, at its own line.
 fn own_flaw(layout: &Layout<'_>, code: K, group: usize) -> SharesError
+    requires { (code ≡ K9) ⊎ (code ≡ K10) }
     ensures { CodeMeans (plan_of layout.now.plan.now) (certificate_of layout.now.cert.now) group code → ErrorMeans (plan_of layout.now.plan.now) (certificate_of layout.now.cert.now) result }
 {
-    let place = own_place(&layout.cert.own, group);
-    let line = layout.cert.own_line(layout.plan.certificate_line(), place);
+    let line = own_line(layout, group);
     SharesError::Flaw(Flaw { code, line })
 }
 
 /// K11 or K14 of a group, at its first need line, or its own line where it has none.
-fn need_flaw(layout: &Layout<'_>, large: bool, group: usize) -> SharesError
+fn need_flaw(layout: &Layout<'_>, code: K, group: usize) -> SharesError
+    requires { (code ≡ K11) ⊎ (code ≡ K14) }
+    ensures { CodeMeans (plan_of layout.now.plan.now) (certificate_of layout.now.cert.now) group code → ErrorMeans (plan_of layout.now.plan.now) (certificate_of layout.now.cert.now) result }
+{
+    let line = needs_line(layout, group);
+    SharesError::Flaw(Flaw { code, line })
+}
+
+/// What is wrong where the lists of the pieces are not made.
+fn error_of(layout: &Layout<'_>, trouble: Trouble) -> SharesError
+    requires layout { IsLayout layout.now }
+    requires trouble { TroubleMeans (plan_of layout.now.plan.now) (certificate_of layout.now.cert.now) (length layout.now.seats.items) trouble }
     ensures { ErrorMeans (plan_of layout.now.plan.now) (certificate_of layout.now.cert.now) result }
 {
-    let certificate = layout.plan.certificate_line();
-    let line = match need_place(layout.cert, group) {
-        Some(place) => layout.cert.need_line(certificate, place),
-        None => layout
-            .cert
-            .own_line(certificate, own_place(&layout.cert.own, group)),
-    };
-    let code = if large { K::K14 } else { K::K11 };
-    SharesError::Flaw(Flaw { code, line })
+    match trouble {
+        Trouble::Unserved(piece) => need_flaw(layout, K::K11, group_of(layout, piece)),
+        Trouble::Large(piece) => need_flaw(layout, K::K14, group_of(layout, piece)),
+        Trouble::Memory => SharesError::Memory,
+    }
 }
 
 /// Which cells each piece of a plan owns and fetches, and which pieces it needs, where the pieces part the cells among
@@ -152,7 +186,8 @@ fn need_flaw(layout: &Layout<'_>, large: bool, group: usize) -> SharesError
 /// K14: more than 2^26 cells are fetched or 2^24 pieces needed in all. K9 and K10 stand at the own line of the group, the
 /// others at its first need line, or its own line if there is none.
 ///
-/// The time is about linear in the cells, the fetched cells and the needed pieces.
+/// The time is about linear in the pieces, the cells, the fetched cells, the need lines, and the points that the need lines
+/// of each piece's group name for it.
 pub fn shares_of(alloc: Global, plan: &Plan, cert: &Cert) -> Result<Shares, SharesError>
     requires { AreShared (plan_of plan.now) (certificate_of cert.now) }
     ensures lists { (a : Algorithm) (samples : List ℕ) → IfOk result (λ made. AreListsOf (work_of a (plan_of plan.now) (certificate_of cert.now) samples) made.pieces.items) }
@@ -160,6 +195,7 @@ pub fn shares_of(alloc: Global, plan: &Plan, cert: &Cert) -> Result<Shares, Shar
     ensures sound { IfOk result (λ made. AreSound made.cells made.pieces.items) }
     ensures known { IfOk result (λ _. (n : ℕ) → FetchesCells (plan_of plan.now) n) }
     ensures inside { IfOk result (λ _. (n : ℕ) → OwnIsInside (plan_of plan.now) (certificate_of cert.now) n) }
+    ensures shares { IfOk result (λ _. HasShares (plan_of plan.now) (certificate_of cert.now)) }
     ensures flaw { IfErr result (ErrorMeans (plan_of plan.now) (certificate_of cert.now)) }
 {
     let layout = layout_of(alloc, plan, cert)?;
@@ -174,6 +210,7 @@ fn made_of(alloc: Global, layout: &Layout<'_>) -> Result<Shares, SharesError>
     ensures sound { IfOk result (λ made. AreSound made.cells made.pieces.items) }
     ensures known { IfOk result (λ _. (n : ℕ) → FetchesCells (plan_of layout.now.plan.now) n) }
     ensures inside { IfOk result (λ _. (n : ℕ) → OwnIsInside (plan_of layout.now.plan.now) (certificate_of layout.now.cert.now) n) }
+    ensures shares { IfOk result (λ _. HasShares (plan_of layout.now.plan.now) (certificate_of layout.now.cert.now)) }
     ensures flaw { IfErr result (ErrorMeans (plan_of layout.now.plan.now) (certificate_of layout.now.cert.now)) }
 {
     let cells = cell_count(layout);
@@ -189,16 +226,10 @@ fn made_of(alloc: Global, layout: &Layout<'_>) -> Result<Shares, SharesError>
     }
     let pieces = match lists_of(alloc, layout) {
         Ok(pieces) => pieces,
-        Err(Trouble::Memory) => return Err(SharesError::Memory),
-        Err(Trouble::Unserved(piece)) => {
-            return Err(need_flaw(layout, false, group_of(layout, piece)));
-        }
-        Err(Trouble::Large(piece)) => {
-            return Err(need_flaw(layout, true, group_of(layout, piece)));
-        }
+        Err(trouble) => return Err(error_of(layout, trouble)),
     };
     if let Some(piece) = first_unserved(alloc, &owners, &pieces)? {
-        return Err(need_flaw(layout, false, group_of(layout, piece)));
+        return Err(need_flaw(layout, K::K11, group_of(layout, piece)));
     }
     Ok(Shares { pieces, cells })
 }

@@ -1,6 +1,6 @@
 //! The cells that pieces fetch.
 
-ghost use Rattle.std.specs.Prelude.{◌≡◌, ℕ, ◌<◌, ◌≤◌, ◌+◌, ◌++◌, ◌↔◌, List, IfOk, OnOk, All, Err, MatchOption, map, length, slice_get};
+ghost use Rattle.std.specs.Prelude.{◌≡◌, ℕ, ◌<◌, ◌≤◌, ◌+◌, ◌++◌, ◌↔◌, List, IfOk, IfErr, OnOk, All, Err, MatchOption, map, length, slice_get};
 ghost use Rattle.nest.specs.Plan.{block};
 ghost use Rattle.nest.specs.Lists.{list_statements};
 ghost use Rattle.nest.specs.Symbols.{points};
@@ -10,8 +10,9 @@ ghost use Rattle.pieces.specs.Fetched.{fetched_cells, block_fetched_cells};
 ghost use Rattle.pieces.specs.Numbers.{cell_number};
 ghost use Rattle.shares.specs.declared.stop.Stop.TheVariants.{Unserved, Large};
 ghost use Rattle.shares.specs.Boxes.{IsSmall};
-ghost use Rattle.shares.specs.Shared.{BodyIsShared, IsLike, LineIsShared, LinesAreShared};
+ghost use Rattle.shares.specs.Shared.{IsLike, LineIsShared, LinesAreShared};
 ghost use Rattle.shares.specs.Layout.{IsLayout, AllCells, FetchesCells, fetched_list};
+ghost use Rattle.shares.specs.Stops.{FetchStops};
 
 use crate::layout::Layout;
 use crate::spaces::found_in;
@@ -62,7 +63,8 @@ fn fetch(
     Ok(())
 }
 
-/// Adds the cells that a line of a top block fetches.
+/// Adds the cells that a line fetches, or a block that no loop, choice or guard stands around.
+#[cycle(fetching)]
 fn fetch_line(
     alloc: Global,
     layout: &Layout<'_>,
@@ -82,6 +84,7 @@ fn fetch_line(
     ensures large { result ≡ Err Large → room < length fetched.old.items + length (fetched_cells (statement_of stmt.now) (grid_symbols at.now)) }
 {
     match stmt {
+        Stmt::Seq(all) => fetch_lines(alloc, layout, all, at, room, fetched),
         Stmt::Fetch { group, region, .. } => fetch(
             alloc,
             layout,
@@ -91,11 +94,15 @@ fn fetch_line(
             room,
             fetched,
         ),
-        _ => Ok(()),
+        Stmt::For { .. } => Ok(()),
+        Stmt::First { .. } => Ok(()),
+        Stmt::Guard { .. } => Ok(()),
+        Stmt::Let { .. } | Stmt::Alloc { .. } | Stmt::Store { .. } | Stmt::Publish { .. } => Ok(()),
     }
 }
 
-/// Adds the cells that the lines of a top block fetch.
+/// Adds the cells that the lines of a block fetch.
+#[cycle(fetching)]
 fn fetch_lines(
     alloc: Global,
     layout: &Layout<'_>,
@@ -111,34 +118,13 @@ fn fetch_lines(
     ensures cells { OnOk result (fetched.new.items ≡ fetched.old.items ++ map (cell_number (plan_of layout.now.plan.now)) (block_fetched_cells (block (list_statements all.now)) (grid_symbols at.now))) }
     ensures known { OnOk result (AllCells (plan_of layout.now.plan.now) (block_fetched_cells (block (list_statements all.now)) (grid_symbols at.now))) }
     ensures few { OnOk result (length fetched.new.items ≤ room) }
+    ensures unserved { result ≡ Err Unserved → ¬ AllCells (plan_of layout.now.plan.now) (block_fetched_cells (block (list_statements all.now)) (grid_symbols at.now)) }
+    ensures large { result ≡ Err Large → room < length fetched.old.items + length (block_fetched_cells (block (list_statements all.now)) (grid_symbols at.now)) }
 {
     for stmt in all {
         fetch_line(alloc, layout, stmt, at, room, fetched)?;
     }
     Ok(())
-}
-
-/// Adds the cells that a group's body fetches.
-fn fetch_body(
-    alloc: Global,
-    layout: &Layout<'_>,
-    body: &Stmt,
-    at: &[u64],
-    room: u64,
-    fetched: &mut Vec<u32>,
-) -> Result<(), Stop>
-    requires layout { IsLayout layout.now }
-    requires body { BodyIsShared (plan_of layout.now.plan.now) (statement_of body.now) }
-    requires at { IsSmall at.now }
-    requires room { length fetched.old.items ≤ room }
-    ensures cells { OnOk result (fetched.new.items ≡ fetched.old.items ++ map (cell_number (plan_of layout.now.plan.now)) (fetched_cells (statement_of body.now) (grid_symbols at.now))) }
-    ensures known { OnOk result (AllCells (plan_of layout.now.plan.now) (fetched_cells (statement_of body.now) (grid_symbols at.now))) }
-    ensures few { OnOk result (length fetched.new.items ≤ room) }
-{
-    match body {
-        Stmt::Seq(all) => fetch_lines(alloc, layout, all, at, room, fetched),
-        _ => fetch_line(alloc, layout, body, at, room, fetched),
-    }
 }
 
 /// The cells that a piece fetches, by their numbers, where all fetched points are cells and there is room for them.
@@ -155,10 +141,13 @@ pub(crate) fn fetched_of(
     ensures list { IfOk result (λ fetched. fetched.items ≡ fetched_list (plan_of layout.now.plan.now) piece) }
     ensures known { IfOk result (λ _. FetchesCells (plan_of layout.now.plan.now) piece) }
     ensures few { IfOk result (λ fetched. length fetched.items ≤ room) }
+    ensures stop { IfErr result (FetchStops (plan_of layout.now.plan.now) piece room) }
 {
     let seat = &layout.seats[piece as usize];
     let group = &layout.plan.groups[seat.group];
     let mut fetched = Vec::new(alloc);
-    fetch_body(alloc, layout, &group.body, &seat.at, room, &mut fetched)?;
-    Ok(fetched)
+    match fetch_line(alloc, layout, &group.body, &seat.at, room, &mut fetched) {
+        Ok(()) => Ok(fetched),
+        Err(stop) => Err(stop),
+    }
 }

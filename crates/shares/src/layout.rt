@@ -7,10 +7,11 @@ ghost use Rattle.cert.specs.Cells.{cells};
 ghost use Rattle.shares.specs.Shared.{AreShared};
 ghost use Rattle.shares.specs.Layout.{IsLayout, OwnIsInside, own_list};
 
+use crate::filed::filed_needs;
 use crate::grounds::{Ground, grounds_of};
 use crate::seats::{Seat, seats_of};
 use crate::spaces::{Found, found_in};
-use cert::Cert;
+use cert::{Cert, Need};
 use nest::Plan;
 use std::alloc::{AllocError, Global};
 
@@ -21,6 +22,8 @@ pub struct Layout<'a> {
     pub cert: &'a Cert,
     pub grounds: Vec<Ground<'a>>,
     pub seats: Vec<Seat>,
+    /// The need lines of each group.
+    pub needs: Vec<Vec<&'a Need>>,
 }
 
 /// The groups and pieces of a plan.
@@ -35,11 +38,13 @@ pub(crate) fn layout_of<'a>(
 {
     let grounds = grounds_of(alloc, plan, cert)?;
     let seats = seats_of(alloc, plan, &grounds)?;
+    let needs = filed_needs(alloc, plan.groups.len(), &cert.needs)?;
     Ok(Layout {
         plan,
         cert,
         grounds,
         seats,
+        needs,
     })
 }
 

@@ -7,8 +7,10 @@
 mod answer;
 mod boxes;
 mod fetched;
+mod filed;
 mod forms;
 mod grounds;
+pub mod laws;
 mod layout;
 mod lists;
 mod needed;
@@ -18,4 +20,4 @@ mod spaces;
 mod stop;
 mod walked;
 
-pub use answer::{Shares, SharesError};
+pub use answer::{Shares, SharesError, shares_of};

@@ -4,7 +4,9 @@ ghost use Rattle.std.specs.Prelude.{◌≡◌, ℕ, ◌<◌, ◌≤◌, ◌++◌
 ghost use Rattle.nest.specs.View.{plan_of};
 ghost use Rattle.cert.specs.Certificate.{certificate_of};
 ghost use Rattle.shares.specs.Layout.{IsLayout};
-ghost use Rattle.shares.specs.Made.{IsMade, AreMade, IsTroubleBelow};
+ghost use Rattle.shares.specs.Has.{AreFew};
+ghost use Rattle.shares.specs.Stops.{StopMeans};
+ghost use Rattle.shares.specs.Made.{IsMade, AreMade, TroubleMeans, trouble_of};
 
 use crate::fetched::fetched_of;
 use crate::layout::{Layout, own_of};
@@ -31,7 +33,7 @@ pub(crate) enum Trouble {
 
 /// The trouble of a piece whose lists were not made.
 fn trouble_of(piece: u32, stop: Stop) -> Trouble
-    ensures { (count : ℕ) → piece < count → IsTroubleBelow count result }
+    ensures { result ≡ trouble_of piece stop }
 {
     match stop {
         Stop::Unserved => Trouble::Unserved(piece),
@@ -53,10 +55,17 @@ fn lists_at(
     ensures made { IfOk result (λ made. IsMade (plan_of layout.now.plan.now) (certificate_of layout.now.cert.now) piece made) }
     ensures cells { IfOk result (λ made. length made.fetched.items ≤ cells) }
     ensures pieces { IfOk result (λ made. length made.needs.items ≤ pieces) }
+    ensures stop { IfErr result (StopMeans (plan_of layout.now.plan.now) (certificate_of layout.now.cert.now) piece cells pieces) }
 {
     let own = own_of(alloc, layout, piece)?;
-    let fetched = fetched_of(alloc, layout, piece, cells)?;
-    let needs = needs_of(alloc, layout, piece, pieces)?;
+    let fetched = match fetched_of(alloc, layout, piece, cells) {
+        Ok(fetched) => fetched,
+        Err(stop) => return Err(stop),
+    };
+    let needs = match needs_of(alloc, layout, piece, pieces) {
+        Ok(needs) => needs,
+        Err(stop) => return Err(stop),
+    };
     Ok(Piece {
         own: own.numbers,
         fetched,
@@ -76,7 +85,8 @@ fn push_lists(lists: &mut Vec<Piece>, made: Piece) -> Result<(), AllocError>
 pub(crate) fn lists_of(alloc: Global, layout: &Layout<'_>) -> Result<Vec<Piece>, Trouble>
     requires { IsLayout layout.now }
     ensures count { IfOk result (λ made. length made.items ≡ length layout.now.seats.items) }
-    ensures piece { IfErr result (IsTroubleBelow (length layout.now.seats.items)) }
+    ensures trouble { IfErr result (TroubleMeans (plan_of layout.now.plan.now) (certificate_of layout.now.cert.now) (length layout.now.seats.items)) }
+    ensures few { IfOk result (λ _. AreFew (plan_of layout.now.plan.now) (certificate_of layout.now.cert.now)) }
     ensures made { IfOk result (λ made. AreMade (plan_of layout.now.plan.now) (certificate_of layout.now.cert.now) made.items) }
 {
     let mut lists = Vec::new(alloc);

@@ -1,14 +1,18 @@
 //! The pieces that pieces need.
 
-ghost use Rattle.std.specs.Prelude.{◌≡◌, ℕ, ◌<◌, ◌≤◌, ◌++◌, ◌↔◌, ◌⊎◌, IfOk, OnOk, Contains, length};
+ghost use Rattle.std.specs.Prelude.{◌≡◌, ℕ, ◌<◌, ◌≤◌, ◌++◌, ◌↔◌, IfOk, IfErr, OnOk, Contains, Err, length, map};
 ghost use Rattle.std.specs.List.Sorted.{IsStrictlyIncreasing};
 ghost use Rattle.nest.specs.View.{plan_of};
 ghost use Rattle.cert.specs.Certificate.{certificate_of};
+ghost use Rattle.shares.specs.declared.stop.Stop.TheVariants.{Unserved, Large};
 ghost use Rattle.shares.specs.Boxes.{IsSmall};
 ghost use Rattle.shares.specs.Seats.{piece_of};
 ghost use Rattle.shares.specs.Shared.{NeedIsShared};
 ghost use Rattle.shares.specs.Layout.{IsLayout, needs_list};
-ghost use Rattle.shares.specs.Needed.{NeedIsInside, need_numbers};
+ghost use Rattle.shares.specs.Needed.{NeedIsInside, NeedsAreInside, need_numbers, all_numbers};
+ghost use Rattle.shares.specs.Filed.{AreLinesOf};
+ghost use Rattle.shares.specs.Has.{NeedsPieces};
+ghost use Rattle.shares.specs.Stops.{NeedStops};
 
 use crate::fetched::push_all;
 use crate::layout::Layout;
@@ -18,15 +22,26 @@ use crate::stop::Stop;
 use cert::Need;
 use std::alloc::{AllocError, Global};
 
-/// Adds numbers, and leaves all rising and each once.
-fn merge(needed: &mut Vec<u32>, more: &[u32]) -> Result<(), AllocError>
-    ensures rises { OnOk result (IsStrictlyIncreasing needed.new.items) }
-    ensures members { OnOk result ((i : ℕ) → Contains needed.new.items i ↔ Contains (needed.old.items ++ more.now) i) }
+/// Leaves numbers rising and each once.
+fn settle(numbers: &mut Vec<u32>) -> Result<(), AllocError>
+    ensures rises { OnOk result (IsStrictlyIncreasing numbers.new.items) }
+    ensures members { OnOk result ((i : ℕ) → Contains numbers.new.items i ↔ Contains numbers.old.items i) }
 {
-    push_all(needed, more)?;
-    needed.sort()?;
-    needed.dedup();
+    numbers.sort()?;
+    numbers.dedup();
     Ok(())
+}
+
+/// Leaves each number once where there are more than twice as many as when this was done last, and says how many there
+/// were when it was.
+fn settle_doubled(numbers: &mut Vec<u32>, settled: usize) -> Result<usize, AllocError>
+    ensures { OnOk result ((i : ℕ) → Contains numbers.new.items i ↔ Contains numbers.old.items i) }
+{
+    if numbers.as_slice().len() / 2 <= settled {
+        return Ok(settled);
+    }
+    settle(numbers)?;
+    Ok(numbers.as_slice().len())
 }
 
 /// Adds the pieces that a need line names at a piece of its group, where all are pieces.
@@ -39,25 +54,50 @@ fn need_line(
 ) -> Result<(), Stop>
     requires layout { IsLayout layout.now }
     requires need { NeedIsShared (plan_of layout.now.plan.now) need.now }
+    requires group { need.now.group ≡ seat.now.group }
     requires at { IsSmall seat.now.at.items }
-    requires rises { IsStrictlyIncreasing needed.old.items }
-    ensures rises { OnOk result (IsStrictlyIncreasing needed.new.items) }
-    ensures members { OnOk result ((i : ℕ) → Contains needed.new.items i ↔ Contains (needed.old.items ++ need_numbers (plan_of layout.now.plan.now) (piece_of seat.now) need.now) i) }
+    ensures numbers { OnOk result (needed.new.items ≡ needed.old.items ++ need_numbers (plan_of layout.now.plan.now) (piece_of seat.now) need.now) }
     ensures known { OnOk result (NeedIsInside (plan_of layout.now.plan.now) (piece_of seat.now) need.now) }
+    ensures unserved { result ≡ Err Unserved → ¬ NeedIsInside (plan_of layout.now.plan.now) (piece_of seat.now) need.now }
+    ensures room { ¬ (result ≡ Err Large) }
 {
-    if need.group as usize != seat.group {
-        return Ok(());
-    }
     let ground = &layout.grounds[need.needed as usize];
     let found = found_in(alloc, &ground.pieces, need.region.as_slice(), &seat.at)?;
     if !found.whole {
         return Err(Stop::Unserved);
     }
-    merge(needed, &found.numbers)?;
+    push_all(needed, &found.numbers)?;
     Ok(())
 }
 
+/// The numbers of the pieces that the need lines of a piece's group name, where all are pieces; a number that several lines
+/// name may stand there several times.
+fn named_by(
+    alloc: Global,
+    layout: &Layout<'_>,
+    seat: &Seat,
+    lines: &[&Need],
+) -> Result<Vec<u32>, Stop>
+    requires layout { IsLayout layout.now }
+    requires lines { AreLinesOf (plan_of layout.now.plan.now) seat.now.group (map (λ n. n.now) lines.now) }
+    requires at { IsSmall seat.now.at.items }
+    ensures members { IfOk result (λ needed. (i : ℕ) → Contains needed.items i ↔ Contains (all_numbers (plan_of layout.now.plan.now) (piece_of seat.now) (map (λ n. n.now) lines.now)) i) }
+    ensures known { IfOk result (λ _. NeedsAreInside (plan_of layout.now.plan.now) (piece_of seat.now) (map (λ n. n.now) lines.now)) }
+    ensures unserved { result ≡ Err Unserved → ¬ NeedsAreInside (plan_of layout.now.plan.now) (piece_of seat.now) (map (λ n. n.now) lines.now) }
+    ensures room { ¬ (result ≡ Err Large) }
+{
+    let mut needed = Vec::new(alloc);
+    let mut settled = 0;
+    for need in lines {
+        need_line(alloc, layout, seat, need, &mut needed)?;
+        settled = settle_doubled(&mut needed, settled)?;
+    }
+    Ok(needed)
+}
+
 /// The pieces that a piece needs, rising and each once, where its need lines name only pieces and there is room for them.
+///
+/// The time is about linear in the lines of the piece's group and the points that they name.
 pub(crate) fn needs_of(
     alloc: Global,
     layout: &Layout<'_>,
@@ -67,13 +107,17 @@ pub(crate) fn needs_of(
     requires layout { IsLayout layout.now }
     requires piece { piece < length layout.now.seats.items }
     ensures list { IfOk result (λ needed. needed.items ≡ needs_list (plan_of layout.now.plan.now) (certificate_of layout.now.cert.now) piece) }
+    ensures known { IfOk result (λ _. NeedsPieces (plan_of layout.now.plan.now) (certificate_of layout.now.cert.now) piece) }
     ensures few { IfOk result (λ needed. length needed.items ≤ room) }
+    ensures stop { IfErr result (NeedStops (plan_of layout.now.plan.now) (certificate_of layout.now.cert.now) piece room) }
 {
     let seat = &layout.seats[piece as usize];
-    let mut needed = Vec::new(alloc);
-    for need in &layout.cert.needs {
-        need_line(alloc, layout, seat, need, &mut needed)?;
-    }
+    let lines = &layout.needs[seat.group];
+    let mut needed = match named_by(alloc, layout, seat, lines) {
+        Ok(needed) => needed,
+        Err(stop) => return Err(stop),
+    };
+    settle(&mut needed)?;
     if needed.as_slice().len() as u64 > room {
         return Err(Stop::Large);
     }

@@ -1,9 +1,10 @@
 //! Points that are numbered.
 
-ghost use Rattle.std.specs.Prelude.{◌≡◌, ◌≤◌, ◌<◌, ◌+◌, ◌^◌, ◌↔◌, IsTrue, IfOk, All, length, map, filter};
+ghost use Rattle.std.specs.Prelude.{◌≡◌, ◌≤◌, ◌<◌, ◌+◌, ◌^◌, ◌↔◌, IsTrue, IfOk, [], All, length, map, filter};
 ghost use Rattle.nest.specs.Symbols.{points};
 ghost use Rattle.cert.specs.Cells.{grid_symbols};
 ghost use Rattle.shares.specs.Boxes.{IsLimited, IsSmall, is_in_box, point_count};
+ghost use Rattle.shares.specs.Walked.{IsExtent};
 ghost use Rattle.shares.specs.Spaces.{IsSpace, HasAll, numbers_in};
 
 use crate::boxes::{Side, box_at, most_points};
@@ -37,6 +38,44 @@ fn raised(alloc: Global, first: u32, numbers: &[u32]) -> Result<Vec<u32>, AllocE
     Ok(made)
 }
 
+/// What is found of a region in a space that has no point.
+fn none_found(alloc: Global, region: &[Span1], at: &[u64]) -> Result<Found, AllocError>
+    requires limits { IsLimited region.now }
+    requires at { IsSmall at.now }
+    ensures numbers { IfOk result (λ found. found.numbers.items ≡ []) }
+    ensures whole { IfOk result (λ found. IsTrue found.whole ↔ (length (points (grid_symbols at.now) region.now) ≡ 0)) }
+{
+    let own = box_at(alloc, region, at)?;
+    let whole = most_points(&own) == 0;
+    Ok(Found {
+        numbers: Vec::new(alloc),
+        whole,
+    })
+}
+
+/// What is found of a region in a space whose sides are small.
+fn some_found(
+    alloc: Global,
+    space: &Space,
+    region: &[Span1],
+    at: &[u64],
+) -> Result<Found, AllocError>
+    requires space { IsSpace space.now }
+    requires sides { All IsExtent space.now.sides.items }
+    requires limits { IsLimited region.now }
+    requires at { IsSmall at.now }
+    requires dimensions { length region.now ≡ length space.now.sides.items }
+    ensures numbers { IfOk result (λ found. found.numbers.items ≡ numbers_in space.now (filter (is_in_box space.now.sides.items) (points (grid_symbols at.now) region.now))) }
+    ensures within { IfOk result (λ found. All (λ n. n < space.now.first + point_count space.now.sides.items) found.numbers.items) }
+    ensures whole { IfOk result (λ found. IsTrue found.whole ↔ HasAll space.now (points (grid_symbols at.now) region.now)) }
+{
+    let own = box_at(alloc, region, at)?;
+    let shared = shared_cells(alloc, &own, &space.sides)?;
+    let whole = shared.as_slice().len() as u64 == most_points(&own);
+    let numbers = raised(alloc, space.first, &shared)?;
+    Ok(Found { numbers, whole })
+}
+
 /// The numbers of those points of a region at a grid point that a space has, in the region's order, the first
 /// coordinate fastest.
 ///
@@ -55,9 +94,9 @@ pub(crate) fn found_in(
     ensures within { IfOk result (λ found. All (λ n. n < space.now.first + point_count space.now.sides.items) found.numbers.items) }
     ensures whole { IfOk result (λ found. IsTrue found.whole ↔ HasAll space.now (points (grid_symbols at.now) region.now)) }
 {
-    let own = box_at(alloc, region, at)?;
-    let shared = shared_cells(alloc, &own, &space.sides)?;
-    let whole = shared.as_slice().len() as u64 == most_points(&own);
-    let numbers = raised(alloc, space.first, &shared)?;
-    Ok(Found { numbers, whole })
+    let count = most_points(&space.sides);
+    if count == 0 {
+        return none_found(alloc, region, at);
+    }
+    some_found(alloc, space, region, at)
 }

@@ -1,6 +1,6 @@
-use Rattle.std.proofs.Common.{◌≡◌, ◌∙◌, ◌+◌, ◌-◌, ◌<◌, ◌≤◌, ◌^◌, ℕ, List, sym, ap, length, arith, Some}
+use Rattle.std.proofs.Common.{◌≡◌, ◌∙◌, ◌<◌, ◌≤◌, sym, ap, length, arith, Some}
 use Rattle.std.proofs.lemmas.List.{length-map}
-use Rattle.nest.specs.Plan.{Group, Plan}
+use Rattle.nest.specs.Plan.{Plan}
 use Rattle.nest.specs.View.{plan_of, group_of}
 use Rattle.cert.specs.Certificate.{Certificate, certificate_of}
 use Rattle.cert.specs.Cells.{first_cell}

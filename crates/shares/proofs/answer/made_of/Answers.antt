@@ -8,13 +8,14 @@ use Rattle.cert.specs.Certificate.{Certificate, certificate_of}
 use Rattle.cert.specs.Cells.{pieces}
 use Rattle.orders.specs.Claimed.{IsClaimedBy}
 use Rattle.orders.specs.Lists.{own_lists, fetched_lists, needs_lists}
+use Rattle.orders.specs.Faults.{IsFirstUnserved}
 use Rattle.orders.specs.Work.{NeedsServe}
 use Rattle.orders.specs.declared.lists.Piece.{Piece}
 use Rattle.orders.proofs.Claiming.{unowned}
 use Rattle.orders.proofs.Verdict.{none_verdict}
 use Rattle.shares.specs.Seats.{piece_of}
 use Rattle.shares.specs.Layout.{own_list, OwnIsInside}
-use Rattle.shares.proofs.Told.{inside_all, lists_are, known_all, claimed_lists}
+use Rattle.shares.proofs.Told.{inside_all, lists_are, known_all, pieces_all, cells_sound, not_served, claimed_lists}
 use Rattle.shares.proofs.answer.made_of.Goals as goal
 
 pub returns-in-Err-clause-flaw : goal.returns-in-Err-clause-flaw
@@ -125,3 +126,45 @@ returns-clause-inside c =
     let many : length seats ≡ length (pieces p) = sym (length-map seats piece_of) ∙ ap length c.requires.seats in
     let k : (n : ℕ) → n < length seats → OwnIsInside p cert n = rw c.in_default.is at c.in_ok-piece.ensures in
     inside_all p cert (λ n less. k n (omega (arith, less, many)))
+
+pub returns-clause-shares : goal.returns-clause-shares
+returns-clause-shares c =
+    let x = c.args.layout.now in
+    let p : Plan = plan_of x.plan.now in
+    let cert : Certificate = certificate_of x.cert.now in
+    let seats = x.seats.items in
+    let many : length seats ≡ length (pieces p) = sym (length-map seats piece_of) ∙ ap length c.requires.seats in
+    let own = own_list p cert in
+    let owners = c.in-Ok.owners.items in
+    let claimed : IsClaimedBy own owners (length seats) = rw c.in-Ok.is at c.in_ok-owners.ensures.claimed in
+    let long : length owners ≡ c.cell_count-cells.result = rw c.in-Ok.is at c.in_ok-owners.ensures.cells in
+    let ps = c.in-Ok-lists_of.pieces.items in
+    let count : length ps ≡ length (pieces p) = c.in-Ok-lists_of.ensures.count ∙ many in
+    let made = c.in-Ok-lists_of.ensures.made in
+    let lists : IsClaimedBy (own_lists ps) owners (length ps) = claimed_lists p cert ps count made owners (subst (λ (n : ℕ). IsClaimedBy own owners n) many claimed) in
+    let all : All (λ o. IsSome o) owners = subst (λ (os : List (Option ℕ)). All (λ o. IsSome o) os) c.deref.ensures.value c.in_default-first_gap.ensures in
+    let Serve : List Piece → Type 0 = λ qs. NeedsServe (length qs) (own_lists qs) (fetched_lists qs) (needs_lists qs) in
+    let serves : Serve c.deref-3.result.now = rw c.in_default-2.is at c.in_ok-piece-2.ensures in
+    let sound = none_verdict c.cell_count-cells.result ps owners lists long all (subst Serve c.deref-3.ensures.value serves) in
+    let inside : (n : ℕ) → n < length seats → OwnIsInside p cert n = rw c.in_default.is at c.in_ok-piece.ensures in
+    record {
+      inside = inside_all p cert (λ n less. inside n (omega (arith, less, many)));
+      cells = known_all p cert ps count made;
+      pieces = pieces_all p cert ps count made;
+      lists = cells_sound p cert ps count made c.cell_count-cells.result c.cell_count-cells.ensures sound;
+      few = c.in-Ok-lists_of.ensures.few;
+    }
+
+pub returns-in-Some-2-clause-flaw : goal.returns-in-Some-2-clause-flaw
+returns-in-Some-2-clause-flaw c =
+    let x = c.args.layout.now in
+    let p : Plan = plan_of x.plan.now in
+    let cert : Certificate = certificate_of x.cert.now in
+    let seats = x.seats.items in
+    let many : length seats ≡ length (pieces p) = sym (length-map seats piece_of) ∙ ap length c.requires.seats in
+    let ps = c.in-Ok-lists_of.pieces.items in
+    let count : length ps ≡ length (pieces p) = c.in-Ok-lists_of.ensures.count ∙ many in
+    let made = c.in-Ok-lists_of.ensures.made in
+    let first : IsFirstUnserved (length c.deref-3.result.now) (own_lists c.deref-3.result.now) (fetched_lists c.deref-3.result.now) (needs_lists c.deref-3.result.now) (Some c.in-Some-2.piece) = rw c.in-Some-2.is at c.in_ok-piece-2.ensures in
+    let First : List Piece → Type 0 = λ qs. IsFirstUnserved (length qs) (own_lists qs) (fetched_lists qs) (needs_lists qs) (Some c.in-Some-2.piece) in
+    c.need_flaw.ensures (c.in-Some-2.piece, c.group_of-in-Some-2.ensures, not_served p cert ps count made c.in-Some-2.piece (subst First c.deref-3.ensures.value first))

@@ -1,6 +1,5 @@
-use Rattle.std.proofs.Common.{◌≡◌, ◌∙◌, ◌+◌, ◌<◌, ◌≤◌, ℕ, List, sym, ap, subst, length, arith, drop, get_or}
+use Rattle.std.proofs.Common.{◌≡◌, subst, arith, get_or}
 use Rattle.cert.specs.declared.cert.Own.{Own}
-use Rattle.shares.specs.Made.{own_place}
 use Rattle.shares.proofs.Lines.{place_here, place_later, no_place}
 use Rattle.shares.proofs.answer.own_place.Goals as goal
 

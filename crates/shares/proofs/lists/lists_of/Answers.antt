@@ -1,7 +1,11 @@
-use Rattle.std.proofs.Common.{◌∙◌, ◌+◌, ◌∷◌, [], ℕ, sym, ap, subst, length, length-append}
+use Rattle.std.proofs.Common.{◌≡◌, ◌∙◌, ◌+◌, ◌∷◌, ◌<◌, [], ℕ, sym, ap, subst, length, length-append, arith}
+use Rattle.std.proofs.lemmas.List.{length-map}
 use Rattle.nest.specs.View.{plan_of}
 use Rattle.cert.specs.Certificate.{certificate_of}
-use Rattle.shares.specs.Made.{IsMade, AreMade}
+use Rattle.cert.specs.Cells.{pieces}
+use Rattle.shares.specs.Seats.{piece_of}
+use Rattle.shares.specs.Made.{IsMade, AreMade, TroubleMeans}
+use Rattle.shares.proofs.Counting.{trouble_means, fetched_next, needed_next, are_few}
 use Rattle.shares.proofs.Groups.{push_each}
 use Rattle.shares.proofs.lists.lists_of.Goals as goal
 
@@ -10,7 +14,42 @@ loop-piece-preserved c =
     let p = plan_of c.args.layout.now.plan.now in let cert = certificate_of c.args.layout.now.cert.now in
     let old = c.loop-piece.lists.items in
     let made = c.in-Ok.made in
+    let n = c.loop-piece.piece in
+    let fetched = ap length (c.as_slice.ensures.value ∙ c.in-Ok.ensures.made.fetched) in
+    let needs = ap length (c.as_slice-in-loop-piece.ensures.value ∙ c.in-Ok.ensures.made.needs) in
+    let has = ap length c.in-Ok.ensures.made.fetched in
+    let wants = ap length c.in-Ok.ensures.made.needs in
+    let more = fetched_next p n in
+    let further = needed_next p cert n in
+    let cells = c.loop-piece.invariant.cells in
+    let counted = c.loop-piece.invariant.pieces in
+    let room = c.in-Ok.ensures.cells in
+    let places = c.in-Ok.ensures.pieces in
     record {
       count = ap length c.in_ok-push_lists.ensures ∙ length-append old (made ∷ []) ∙ ap (λ (n : ℕ). n + 1) c.loop-piece.invariant.count;
       made = subst (AreMade p cert) (sym c.in_ok-push_lists.ensures) (push_each (IsMade p cert) old made c.loop-piece.invariant.made (subst (λ (n : ℕ). IsMade p cert n made) (sym c.loop-piece.invariant.count) c.in-Ok.ensures.made));
+      cells = omega (arith, fetched, has, more, cells, room);
+      pieces = omega (arith, needs, wants, further, counted, places);
     }
+
+pub returns-in-Err-clause-trouble : goal.returns-in-Err-clause-trouble
+returns-in-Err-clause-trouble c =
+    let x = c.args.layout.now in
+    let p = plan_of x.plan.now in let cert = certificate_of x.cert.now in
+    let n = c.loop-piece.piece in
+    let seats = x.seats.items in
+    let many : length seats ≡ length (pieces p) = sym (length-map seats piece_of) ∙ ap length c.requires.seats in
+    let all = c.len-piece-end.ensures in
+    let less : n < length seats = omega (arith, c.loop-piece-test.true, all) in
+    subst (TroubleMeans p cert (length seats)) (sym c.trouble_of.ensures)
+    (trouble_means p cert n (length seats) c.loop-piece.cells c.loop-piece.pieces c.in-Err.stop less many c.loop-piece.invariant.cells c.loop-piece.invariant.pieces c.in-Err.ensures.stop)
+
+pub returns-clause-few : goal.returns-clause-few
+returns-clause-few c =
+    let x = c.args.layout.now in
+    let p = plan_of x.plan.now in let cert = certificate_of x.cert.now in
+    let seats = x.seats.items in
+    let many : length seats ≡ length (pieces p) = sym (length-map seats piece_of) ∙ ap length c.requires.seats in
+    let all = c.len-piece-end.ensures in
+    let end = c.loop-piece.auto.piece-end in
+    are_few p cert c.loop-piece.piece c.loop-piece.cells c.loop-piece.pieces (omega (arith, many, all, end, c.loop-piece-test.false)) c.loop-piece.invariant.cells c.loop-piece.invariant.pieces

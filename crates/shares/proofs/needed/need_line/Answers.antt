@@ -1,6 +1,7 @@
 use Rattle.std.proofs.Common.{◌≡◌, ◌∙◌, ◌+◌, ◌++◌, ℕ, List, sym, ap, subst, map, length, arith, Option}
-use Rattle.std.specs.Prelude.{All, IsTrue, Contains, ℤ, slice_get}
-use Rattle.std.proofs.lemmas.List.{append-nil, length-map}
+use Rattle.std.specs.Prelude.{All, IsTrue, ℤ, slice_get}
+use Rattle.std.proofs.lemmas.Bool.{false≢true}
+use Rattle.std.proofs.lemmas.List.{length-map}
 use Rattle.std.proofs.lemmas.List.Elements.{recursion_from_All}
 use Rattle.nest.specs.Plan.{Group, Plan}
 use Rattle.nest.specs.Symbols.{points}
@@ -15,16 +16,8 @@ use Rattle.shares.specs.Spaces.{numbers_in}
 use Rattle.shares.specs.Needed.{need_grid, need_points, need_numbers}
 use Rattle.shares.proofs.Shared.{all_filtered}
 use Rattle.shares.proofs.Seated.{named_group, ground_within, ground_at}
-use Rattle.shares.proofs.Needing.{numbers_none, numbers_some}
+use Rattle.shares.proofs.Needing.{numbers_some}
 use Rattle.shares.proofs.needed.need_line.Goals as goal
-
-pub returns-then-need-seat-clause-members : goal.returns-then-need-seat-clause-members
-returns-then-need-seat-clause-members c i =
-    let old = c.args.needed.now.items in
-    let none = numbers_none (plan_of c.args.layout.now.plan.now) (piece_of c.args.seat.now) c.args.need.now c.if-need-seat.true in
-    let e = sym (ap (λ (ns : List ℕ). old ++ ns) none ∙ append-nil old) in
-    let Has : List ℕ → Type 0 = λ xs. Contains xs i in
-    ((λ m. subst Has e m), (λ m. subst Has (sym e) m))
 
 pub index-ground-requires : goal.index-ground-requires
 index-ground-requires c =
@@ -59,8 +52,23 @@ found_in-requires-clause-dimensions c =
     let known = ground_at x c.requires.layout n.needed k.0 k.1 y c.index-ground.ensures in
     ap length c.as_slice.ensures ∙ k.2.1 ∙ sym (length-map k.0.grid _) ∙ ap length (sym known.piece_sides)
 
-pub returns-clause-members : goal.returns-clause-members
-returns-clause-members c i =
+pub returns-then-not-found-clause-unserved : goal.returns-then-not-found-clause-unserved
+returns-then-not-found-clause-unserved c _ inside =
+    let x = c.args.layout.now in
+    let n = c.args.need.now in
+    let k = named_group (slice_get (plan_of x.plan.now).groups n.needed) (λ g. IsLike n.region (length g.grid)) c.requires.need in
+    let y = c.index-ground.result.now in
+    let known = ground_at x c.requires.layout n.needed k.0 k.1 y c.index-ground.ensures in
+    let p : Plan = plan_of x.plan.now in
+    let R = y.pieces.sides.items in
+    let sides : R ≡ need_grid p n = known.piece_sides ∙ ap (λ (o : Option Group). grid_sides (group_grid o)) (sym k.1) in
+    let Inside : List Side → List (List ℤ) → Type 0 = λ ss qs. All (λ q. IsTrue (is_in_box ss q)) qs in
+    let qs : points (grid_symbols c.deref.result.now) c.as_slice.result.now ≡ need_points (piece_of c.args.seat.now) n = λ t. points (grid_symbols (c.deref.ensures.value t)) (c.as_slice.ensures t) in
+    let here = subst (λ (ss : List Side). Inside ss (points (grid_symbols c.deref.result.now) c.as_slice.result.now)) (sym sides) (subst (Inside (need_grid p n)) (sym qs) (inside c.requires.group)) in
+    false≢true (sym c.if-not-found.true ∙ c.in_ok-found.ensures.whole.1 here)
+
+pub returns-clause-numbers : goal.returns-clause-numbers
+returns-clause-numbers c =
     let x = c.args.layout.now in
     let n = c.args.need.now in
     let k = named_group (slice_get (plan_of x.plan.now).groups n.needed) (λ g. IsLike n.region (length g.grid)) c.requires.need in
@@ -76,11 +84,8 @@ returns-clause-members c i =
     let same : c.deref-2.result.now ≡ need_numbers p j n =
     c.deref-2.ensures.value ∙ kept
     ∙ (λ t. map (λ q. known.first_piece t + rank (sides t) q) (points (grid_symbols (c.deref.ensures.value t)) (c.as_slice.ensures t)))
-    ∙ numbers_some p j n c.if-need-seat.false in
-    let Has : List ℕ → Type 0 = λ xs. Contains xs i in
-    let both = c.in_ok-merge.ensures.members i in
-    let e = ap (λ (ns : List ℕ). c.args.needed.now.items ++ ns) same in
-    ((λ m. subst Has e (both.0 m)), (λ m. both.1 (subst Has (sym e) m)))
+    ∙ numbers_some p j n c.requires.group in
+    c.in_ok-push_all.ensures ∙ ap (λ (ns : List ℕ). c.args.needed.now.items ++ ns) same
 
 pub returns-clause-known : goal.returns-clause-known
 returns-clause-known c _ =

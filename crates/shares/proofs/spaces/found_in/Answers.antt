@@ -1,37 +1,39 @@
-use Rattle.std.proofs.Common.{◌<◌, ◌+◌, ◌-◌, ◌^◌, ℕ, List, length, map, filter, ap, sym, ◌∙◌, subst, arith, min}
-use Rattle.std.specs.Prelude.{All}
+use Rattle.std.proofs.Common.{◌≡◌, ◌∙◌, ◌+◌, ◌-◌, ◌<◌, ◌^◌, List, [], ap, arith, length, filter, min}
+use Rattle.std.specs.Prelude.{All, IsTrue, ◌↔◌}
+use Rattle.lin.proofs.Limits.{if_ok}
 use Rattle.nest.specs.Symbols.{points}
 use Rattle.cert.specs.Cells.{grid_symbols}
 use Rattle.shares.specs.declared.boxes.Side.{Side}
-use Rattle.shares.specs.Boxes.{is_in_box, sides, point_count}
-use Rattle.shares.specs.Walked.{shared_cells}
-use Rattle.shares.proofs.Shared.{shared_is, raised_ranks, raised_below, whole_test}
+use Rattle.shares.specs.Boxes.{is_in_box, point_count}
+use Rattle.shares.specs.Spaces.{numbers_in, HasAll}
+use Rattle.shares.proofs.Empty.{counts_some, none_numbers, none_whole}
 use Rattle.shares.proofs.spaces.found_in.Goals as goal
 
-pub returns-clause-numbers : goal.returns-clause-numbers
-returns-clause-numbers c =
-    let s = grid_symbols c.args.at.now in
-    let region = c.args.region.now in
-    let R = c.args.space.now.sides.items in
-    let own = c.deref.ensures.value ∙ c.in_ok-own.ensures.sides in
-    let known = c.in_ok-shared.ensures.cells ∙ ap (λ (xs : List Side). shared_cells xs c.deref-2.result.now) own ∙ ap (λ (ys : List Side). shared_cells (sides s region) ys) c.deref-2.ensures.value ∙ shared_is s region R c.requires.dimensions in
-    c.in_ok-numbers.ensures ∙ ap (map (λ n. c.args.space.now.first + n)) (c.deref-4.ensures.value ∙ known) ∙ raised_ranks c.args.space.now.first R (filter (is_in_box R) (points s region))
+pub returns-then-count-eq0-clause-numbers : goal.returns-then-count-eq0-clause-numbers
+returns-then-count-eq0-clause-numbers c =
+    let x = c.args.space.now in
+    let qs = points (grid_symbols c.args.at.now) c.args.region.now in
+    let same = c.most_points-count.ensures ∙ ap (λ (xs : List Side). min (point_count xs) (2 ^ 64 - 1)) c.deref.ensures.value in
+    let none : point_count x.sides.items ≡ 0 = omega (arith, same, c.if-count-eq0.true) in
+    if_ok c.none_found.result (λ found. found.numbers.items ≡ []) (λ found. found.numbers.items ≡ numbers_in x (filter (is_in_box x.sides.items) qs)) (λ found e. e ∙ none_numbers x qs none) c.none_found.ensures.numbers
 
-pub returns-clause-whole : goal.returns-clause-whole
-returns-clause-whole c =
-    let s = grid_symbols c.args.at.now in
-    let region = c.args.region.now in
-    let R = c.args.space.now.sides.items in
-    let own = c.deref.ensures.value ∙ c.in_ok-own.ensures.sides in
-    let known = c.in_ok-shared.ensures.cells ∙ ap (λ (xs : List Side). shared_cells xs c.deref-2.result.now) own ∙ ap (λ (ys : List Side). shared_cells (sides s region) ys) c.deref-2.ensures.value in
-    let few = c.requires.space.few in
-    whole_test s region R (length c.as_slice.result.now) c.most_points.result c.requires.dimensions (omega (arith, few)) (ap length (c.as_slice.ensures.value ∙ known))
-    (c.most_points.ensures ∙ ap (λ (xs : List Side). min (point_count xs) (2 ^ 64 - 1)) (c.deref-3.ensures.value ∙ c.in_ok-own.ensures.sides))
+pub returns-then-count-eq0-clause-within : goal.returns-then-count-eq0-clause-within
+returns-then-count-eq0-clause-within c =
+    let x = c.args.space.now in
+    if_ok c.none_found.result (λ found. found.numbers.items ≡ []) (λ found. All (λ n. n < x.first + point_count x.sides.items) found.numbers.items)
+    (λ found e k d less. let long = ap length e in absurd (omega (arith, less, long))) c.none_found.ensures.numbers
 
-pub returns-clause-within : goal.returns-clause-within
-returns-clause-within c =
-    let first = c.args.space.now.first in
-    let count = point_count c.args.space.now.sides.items in
-    let Below : ℕ → List ℕ → Type 0 = λ n xs. All (λ k. k < n) xs in
-    let low : Below count c.deref-4.result.now = subst (Below count) (sym c.deref-4.ensures.value) (subst (λ (ys : List Side). Below (point_count ys) c.in_ok-shared.shared.items) c.deref-2.ensures.value c.in_ok-shared.ensures.within) in
-    subst (Below (first + count)) (sym c.in_ok-numbers.ensures) (raised_below first count c.deref-4.result.now low)
+pub returns-then-count-eq0-clause-whole : goal.returns-then-count-eq0-clause-whole
+returns-then-count-eq0-clause-whole c =
+    let x = c.args.space.now in
+    let qs = points (grid_symbols c.args.at.now) c.args.region.now in
+    let same = c.most_points-count.ensures ∙ ap (λ (xs : List Side). min (point_count xs) (2 ^ 64 - 1)) c.deref.ensures.value in
+    let none : point_count x.sides.items ≡ 0 = omega (arith, same, c.if-count-eq0.true) in
+    let both = none_whole x qs none in
+    if_ok c.none_found.result (λ found. IsTrue found.whole ↔ (length qs ≡ 0)) (λ found. IsTrue found.whole ↔ HasAll x qs) (λ found k. ((λ h. both.0 (k.0 h)), (λ h. k.1 (both.1 h)))) c.none_found.ensures.whole
+
+pub some_found-requires-clause-sides : goal.some_found-requires-clause-sides
+some_found-requires-clause-sides c =
+    let x = c.args.space.now in
+    let same = c.most_points-count.ensures ∙ ap (λ (xs : List Side). min (point_count xs) (2 ^ 64 - 1)) c.deref.ensures.value in
+    c.requires.space.sides (counts_some x.sides.items (λ none. c.if-count-eq0.false (omega (arith, same, none))))

@@ -5,7 +5,7 @@ use Rattle.std.proofs.lemmas.List.Filters.{dedup_is}
 use Rattle.std.proofs.lemmas.List.Kept.{Contains-dedup_nat, Contains-from_dedup}
 use Rattle.std.proofs.lemmas.List.Sorted.{Contains-permutation, IsPermutation-sym}
 use Rattle.std.proofs.lemmas.Map.Keys.{IsStrictlyIncreasing-dedup}
-use Rattle.shares.proofs.needed.merge.Goals as goal
+use Rattle.shares.proofs.needed.settle.Goals as goal
 use lib.Dec.{eqb}
 
 pub returns-clause-rises : goal.returns-clause-rises
@@ -16,10 +16,10 @@ returns-clause-rises c =
 
 pub returns-clause-members : goal.returns-clause-members
 returns-clause-members c i =
-    let P = c.push_all.new.numbers.items in
+    let P = c.args.numbers.now.items in
     let S = c.sort.new.self.items in
     let Has : List ℕ → Type 0 = λ xs. Contains xs i in
     let is = dedup_is eqb S c.dedup.new.self.items c.dedup.ensures.filtered in (
-      (λ m. subst Has c.in_ok-push_all.ensures (Contains-permutation S P i (IsPermutation-sym P S c.in_ok-sort.ensures.permutation) (Contains-from_dedup eqb S i (subst Has is m)))),
-      (λ m. subst Has (sym is) (Contains-dedup_nat S i (Contains-permutation P S i c.in_ok-sort.ensures.permutation (subst Has (sym c.in_ok-push_all.ensures) m)))),
+      (λ m. Contains-permutation S P i (IsPermutation-sym P S c.in_ok-sort.ensures.permutation) (Contains-from_dedup eqb S i (subst Has is m))),
+      (λ m. subst Has (sym is) (Contains-dedup_nat S i (Contains-permutation P S i c.in_ok-sort.ensures.permutation m))),
     )

@@ -1,0 +1,3 @@
+mod Ready
+mod Plain
+mod Faults

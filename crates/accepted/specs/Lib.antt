@@ -1,0 +1,4 @@
+pub mod Accepted
+pub mod Plain
+pub mod Faults
+pub mod Laws

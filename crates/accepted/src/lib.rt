@@ -1,0 +1,4 @@
+//! What the checker of plans asks, as one definition; what a yes gives, and what a refusal says.
+#![tactic(auto)]
+
+pub mod laws;

@@ -1,0 +1,11 @@
+-- What a refusal means for the shares of pieces.
+use Rattle.nest.specs.Plan.{Plan}
+use Rattle.cert.specs.Certificate.{Certificate}
+use Rattle.refusals.specs.declared.code.Flaw.{Flaw}
+use Rattle.shares.specs.declared.answer.SharesError.TheVariants.{Flaw as FlawTold}
+use Rattle.shares.specs.Has.{HasShares}
+use Rattle.shares.specs.Made.{ErrorMeans}
+
+-- where a fault is told, there are no shares
+abbrev pub FaultsHaveNoShares : Type 0
+FaultsHaveNoShares = (p : Plan) (c : Certificate) (f : Flaw) → ErrorMeans p c (FlawTold f) → ¬ HasShares p c
