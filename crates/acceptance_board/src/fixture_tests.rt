@@ -4,7 +4,8 @@ ghost use Rattle.std.specs.Prelude.{◌≡◌, IfOk};
 ghost use Rattle.algo.specs.View.{IsFor};
 
 use algo::{Algo, Inputs};
-use audit::{Checked, check};
+use audit::check;
+use checked::Checked;
 use image::Image;
 use numeric::Ty;
 use std::alloc::Global;

@@ -8,10 +8,10 @@ ghost use Rattle.board.specs.Views.{completed, first_view, IsIdle, Knows};
 ghost use Rattle.boards.specs.Layouts.{layout_of, values_of};
 
 use algo::Inputs;
-use audit::Checked;
 use board::{Board, BoardSeat, Run, Ticket};
 use boards::laws::{layouts_are_sound, own_is_of_work, values_are_targets};
-use headline::laws::{inputs_are_samples, shown_is_right};
+use checked::Checked;
+use headline::laws::inputs_are_samples;
 use std::alloc::Global;
 use std::test::Fail;
 use steps::replay;
@@ -25,7 +25,6 @@ pub(crate) fn cell_values(
     requires { IsFor checked.now.algo.now inputs.now }
     ensures { IfOk result (λ values. values.items ≡ values_of checked.now inputs.now) }
 {
-    shown_is_right();
     inputs_are_samples();
     values_are_targets();
     let state = replay(alloc, checked, inputs, &[0; 24])?;

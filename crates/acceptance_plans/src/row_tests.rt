@@ -1,7 +1,8 @@
 //! Row plans of whole algorithms, which the checker accepts.
 
 use algo::Algo;
-use audit::{Checked, check};
+use audit::check;
+use checked::Checked;
 use rows::rows;
 use std::alloc::Global;
 use std::test::Fail;

@@ -3,7 +3,7 @@
 ghost use Rattle.std.specs.Prelude.{◌<◌};
 
 use algo::{Algo, Inputs};
-use audit::Checked;
+use checked::Checked;
 use image::Image;
 use numeric::Ty;
 use std::alloc::{AllocError, Global};

@@ -5,7 +5,7 @@ ghost use Rattle.std.specs.Prelude.{◌<◌};
 use crate::crew_tests::{after, assert_cells, pictured, turns};
 use crate::increment_tests::{RIGHT, TEXT, two_pieces};
 use algo::Algo;
-use audit::Checked;
+use checked::Checked;
 use std::alloc::{AllocError, Global};
 use std::test::Fail;
 use steps::State;

@@ -21,7 +21,7 @@ use Rattle.shares.specs.Has.{HasShares}
 use Rattle.shares.specs.Made.{ErrorMeans}
 use Rattle.shares.specs.declared.answer.SharesError.TheVariants.{Flaw as Told}
 use Rattle.shown.specs.Wide.{grid_binders}
-use Rattle.clear.specs.Laws.{GroupsAreApart}
+use Rattle.accepted.specs.Clear.{GroupsAreApart}
 use Rattle.accepted.specs.Accepted.{IsAccepted}
 use Rattle.accepted.specs.Faults.{IsFirst, IsOfWidth, IsOfDebt, IsOfOutput, HasEachPoint, IsFault}
 use Rattle.accepted.specs.Laws.{FaultsAreRefusals}

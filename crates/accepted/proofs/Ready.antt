@@ -33,8 +33,8 @@ use Rattle.cert_lines.specs.Clear.{IsClear}
 use Rattle.shares.specs.Layout.{PieceFetchesCells}
 use Rattle.shown.specs.Wide.{stored_in, HasLines, Accepts, AreSuited, AcceptedIsRight as RulesAreRight, AcceptedIsSound as RulesAreSound}
 use Rattle.near.specs.Near.{NearIsNarrow}
-use Rattle.clear.specs.Laws.{GroupsAreFree, GroupsAreNear, RegionsAreSmall, PlansAreSmall, GroupsAreApart}
-use Rattle.clear.proofs.Free.{same_allots}
+use Rattle.accepted.specs.Clear.{GroupsAreFree, GroupsAreNear, RegionsAreSmall, PlansAreSmall, GroupsAreApart}
+use Rattle.accepted.proofs.Free.{same_allots}
 use Rattle.ready.specs.Ready.{place_of_group, Ready}
 use Rattle.accepted.specs.Accepted.{IsAccepted}
 use Rattle.accepted.specs.Laws.{AcceptedIsReady}

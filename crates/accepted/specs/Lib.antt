@@ -1,4 +1,5 @@
 pub mod Accepted
-pub mod Plain
+pub mod Clear
 pub mod Faults
 pub mod Laws
+pub mod Plain

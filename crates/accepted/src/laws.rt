@@ -2,11 +2,11 @@
 
 ghost use Rattle.accepted.specs.Laws.{AcceptedIsReady, AcceptedIsRight, FaultsAreRefusals, PlainIsAccepted};
 
-use bounding::laws::{rules_are_suited, rules_say_same};
-use cert_lines::laws::no_flaw_is_clear;
-use clear::laws::{
+use crate::clear::{
     groups_are_apart, groups_are_free, groups_are_near, plans_are_small, regions_are_small,
 };
+use bounding::laws::{rules_are_suited, rules_say_same};
+use cert_lines::laws::no_flaw_is_clear;
 use group_lines::laws::{bodies_are_covered, groups_are_published, stores_are_definitions};
 use near::near_is_narrow;
 use obligations::laws::shown_is_nothing_told;

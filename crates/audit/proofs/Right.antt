@@ -13,7 +13,7 @@ use Rattle.rowplan.specs.declared.error.RowError.{RowError}
 use Rattle.rowplan.specs.declared.error.RowError.TheVariants.{Misfit, Memory as RowMemory}
 use Rattle.audit.specs.declared.refusal.CheckError.{CheckError}
 use Rattle.audit.specs.declared.refusal.CheckError.TheVariants.{Refused, Memory}
-use Rattle.audit.specs.Refusal.{number_of}
+use Rattle.refusals.specs.Codes.{number_of}
 use Rattle.audit.specs.Faults.{told, refusal_of, IsRightly, IsRefusal, IsUnmet}
 
 module _ (a : Algorithm) (p : Plan) (c : Certificate) where

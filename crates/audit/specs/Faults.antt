@@ -1,21 +1,18 @@
 -- What the code's answers about demands mean.
-use Rattle.std.specs.Prelude.{◌≡◌, ℕ, ◌-◌, ◌^◌, ◌<◌, ◌≤◌, min, List, [], ◌∷◌, length, Option, MatchOption}
+use Rattle.std.specs.Prelude.{◌≡◌, ℕ, ◌-◌, ◌^◌, ◌<◌, ◌≤◌, min, All, List, [], ◌∷◌, length, Option, MatchOption}
 use Rattle.meaning.specs.Algorithm.{Algorithm}
 use Rattle.nest.specs.Plan.{Plan}
 use Rattle.cert.specs.Certificate.{Certificate}
-use Rattle.orders.specs.declared.lists.Piece.{Piece}
-use Rattle.pieces.specs.Work.{work_of}
-use Rattle.owned.specs.Asked.{AreListsOf}
+use Rattle.refusals.specs.Codes.{number_of}
+use Rattle.refusals.specs.declared.code.K.TheVariants.{K14}
 use Rattle.headline.specs.Row.{Row}
 use Rattle.headline.specs.Demands.{Demand, Holds, SameInput, SameOutput, code_of, line_of}
 use Rattle.headline.specs.Shown.{Fails, Shown}
 use Rattle.rowplan.specs.declared.error.RowError.{RowError}
 use Rattle.rowplan.specs.declared.error.RowError.TheVariants.{Misfit, Memory as RowMemory}
-use Rattle.audit.specs.declared.refusal.K.TheVariants.{K14}
 use Rattle.audit.specs.declared.demand.Demand as Named
 use Rattle.audit.specs.declared.refusal.CheckError.{CheckError}
 use Rattle.audit.specs.declared.refusal.CheckError.TheVariants.{Refused, Memory}
-use Rattle.audit.specs.Refusal.{number_of}
 use Rattle.audit.specs.Asked.{demand_of, group_demands, buffer_demands, loop_demands, store_demands, published_demands, own_demands, claim_demands}
 
 -- lines past 2^32 - 1 are told as that
@@ -56,6 +53,10 @@ pub record HeadIsSame (a : Algorithm) (p : Plan) : Type 0 where
   pub input : SameInput a p.input
   pub output : SameOutput a p.output
 
+-- it is not so that no group is the output's
+abbrev pub HasOutputGroup : Algorithm → Plan → Type 0
+HasOutputGroup a p = ¬ All (λ g. ¬ (g.function ≡ a.output)) p.groups
+
 -- all of these demands hold
 abbrev pub AllHold : Algorithm → Row → List Demand → Type 0
 AllHold a r [] = Unit {0}
@@ -87,7 +88,3 @@ pub record AreMet (a : Algorithm) (r : Row) : Type 0 where
   pub published : EachHolds a r published_demands
   pub own : EachHolds a r own_demands
   pub claim : EachHolds a r claim_demands
-
--- the lists of the pieces are those of the plan's work, whatever the input's samples
-abbrev pub ListsAreOf : Algorithm → Plan → Certificate → List Piece → Type 0
-ListsAreOf a p c pieces = (samples : List ℕ) → AreListsOf (work_of a p c samples) pieces

@@ -1,4 +1,2 @@
-pub mod Refusal
 pub mod Asked
 pub mod Faults
-pub mod View

@@ -5,13 +5,14 @@ ghost use Rattle.meaning.specs.Algorithm.{Algorithm};
 ghost use Rattle.headline.specs.Row.{line_of_claim};
 ghost use Rattle.headline.specs.Demands.{code_of, line_of, line_of_place, Holds};
 ghost use Rattle.rowplan.specs.View.{row_of};
-ghost use Rattle.audit.specs.Refusal.{number_of};
+ghost use Rattle.refusals.specs.Codes.{number_of};
 ghost use Rattle.demands.specs.Asked.{place_of};
 ghost use Rattle.audit.specs.Asked.{demand_of};
 ghost use Rattle.audit.specs.Faults.{IsUnmet, told};
 
-use crate::refusal::{CheckError, K};
+use crate::refusal::CheckError;
 use demands::forms::FormLine;
+use refusals::K;
 use rowplan::row::RowPlan;
 
 /// What is asked of a row plan. Loops are numbered from 0, the outermost first.

@@ -13,7 +13,7 @@ pub(crate) fn output_name(algo: &Algo) -> &str
 }
 
 /// The extents of the output.
-#[tactic(auto, using(crate::proofs::Named::each_positive))]
+#[tactic(auto, using(checked::proofs::Named::each_positive))]
 pub(crate) fn output_extents(algo: &Algo) -> &[u32]
     ensures extents { result.now ≡ (algorithm_of algo.now).output_extents }
     ensures positive { All (λ n. 1 ≤ n) result.now }

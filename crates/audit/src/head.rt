@@ -1,11 +1,11 @@
 //! Whether the first three lines of a plan are the algorithm's.
 
-ghost use Rattle.std.specs.Prelude.{◌≡◌, MatchOption};
+ghost use Rattle.std.specs.Prelude.{◌≡◌, IsNone, MatchOption};
 ghost use Rattle.algo.specs.View.{algorithm_of};
 ghost use Rattle.nest.specs.View.{plan_of};
 ghost use Rattle.headline.specs.Demands.{output_function};
 ghost use Rattle.headline.specs.Shown.{FailsHead};
-ghost use Rattle.audit.specs.Faults.{HeadIsSame};
+ghost use Rattle.audit.specs.Faults.{HasOutputGroup, HeadIsSame};
 
 use crate::given::{output_extents, output_name};
 use algo::Algo;
@@ -42,9 +42,13 @@ fn output_type(algo: &Algo) -> Ty
     algo.output().shape.ty
 }
 
-/// The line at which the plan's name, its input or its output is not the algorithm's, or no group is the output's.
-pub(crate) fn head_fault(algo: &Algo, plan: &Plan) -> Option<u32>
-    ensures { MatchOption result (HeadIsSame (algorithm_of algo.now) (plan_of plan.now)) (FailsHead (algorithm_of algo.now) (plan_of plan.now)) }
+/// The line of a plan's head at which its name (line 1), its input (line 2) or its output (line 3) is not the algorithm's, the
+/// first of these; else line 3 where no group is the output's. `None` where all three are and some group is.
+///
+/// It allocates nothing, and the time is linear in the groups.
+pub fn head_fault(algo: &Algo, plan: &Plan) -> Option<u32>
+    ensures head { MatchOption result (HeadIsSame (algorithm_of algo.now) (plan_of plan.now)) (FailsHead (algorithm_of algo.now) (plan_of plan.now)) }
+    ensures group { IsNone result → HasOutputGroup (algorithm_of algo.now) (plan_of plan.now) }
 {
     let output = output_name(algo);
     let extents = output_extents(algo);

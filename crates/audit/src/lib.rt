@@ -4,12 +4,14 @@
 //! workers gives, on every input, the picture that the algorithm says.
 #![tactic(auto)]
 
-mod checked;
+mod checking;
 mod demand;
 mod given;
 mod head;
 mod refusal;
 mod row;
 
-pub use checked::{Checked, check};
-pub use refusal::{CheckError, K};
+pub use checking::check;
+pub use head::head_fault;
+pub use refusal::CheckError;
+pub use refusals::K;

@@ -1,68 +1,11 @@
 //! Why a plan is refused.
 
 ghost use Rattle.std.specs.Prelude.{◌≡◌};
-ghost use Rattle.audit.specs.Refusal.{number_of};
 ghost use Rattle.audit.specs.Faults.{refusal_of as refusal_meant};
 
+use refusals::K;
 use rowplan::error::RowError;
 use std::alloc::AllocError;
-
-/// The code of a refusal.
-#[derive(Clone, Copy, Debug, PartialEq, Eq, Drop)]
-pub enum K {
-    /// The name, the input or the output is not the algorithm's, or no group is the output's.
-    K1,
-    /// A symbol, buffer, claim, function, definition, group or variable is unknown or out of scope.
-    K2,
-    /// A linear form is out of its limits.
-    K3,
-    /// An index may leave its buffer or the input.
-    K4,
-    /// A load, or the own region at `publish`, has no claim in force.
-    K5,
-    /// A statement does not make its claim.
-    K6,
-    /// An update's nest does not take each point through its reduction points in order.
-    K7,
-    /// A window does not hold its span.
-    K8,
-    /// A cell is in the own regions of two pieces.
-    K9,
-    /// A cell is in no own region, or an own region leaves the group's region, or the output's region lacks a point.
-    K10,
-    /// A piece fetches what no piece that it needs owns, or needs a piece that is not earlier.
-    K11,
-    /// A stored expression is not the definition.
-    K12,
-    /// A vector loop is not one that lanes can run.
-    K13,
-    /// Another limit is passed.
-    K14,
-}
-
-impl K {
-    /// The number of the code: 1 for K1, and so on.
-    pub fn number(self) -> u32
-        ensures { result ≡ number_of self }
-    {
-        match self {
-            K::K1 => 1,
-            K::K2 => 2,
-            K::K3 => 3,
-            K::K4 => 4,
-            K::K5 => 5,
-            K::K6 => 6,
-            K::K7 => 7,
-            K::K8 => 8,
-            K::K9 => 9,
-            K::K10 => 10,
-            K::K11 => 11,
-            K::K12 => 12,
-            K::K13 => 13,
-            K::K14 => 14,
-        }
-    }
-}
 
 /// Why a check gives no answer but a refusal.
 #[derive(Clone, Copy, Debug, PartialEq, Eq, Drop)]

@@ -1,9 +1,7 @@
 -- The layout of a checked plan is sound, and has the work's own cells.
-use Rattle.std.proofs.Common.{◌≡◌, ℕ, ◌+◌, ◌*◌, ◌<◌, ◌≤◌, ◌^◌, List, [], ◌∷◌, length, length-append, Option, Some, None, MatchOption, refl, sym, ap, ◌∙◌, arith, subst}
+use Rattle.std.proofs.Common.{◌≡◌, ℕ, ◌<◌, ◌≤◌, ◌^◌, List, [], ◌∷◌, length, Option, Some, None, MatchOption, refl, sym, ap, ◌∙◌, arith, subst}
 use Rattle.std.specs.Prelude.{map, Contains, slice_index, true, ℤ}
-use Rattle.std.specs.List.{range_with_len}
 use Rattle.std.proofs.lemmas.List.{length-map}
-use Rattle.std.proofs.lemmas.List.FromFn.{length-map-range_with_len}
 use Rattle.std.proofs.Props.{props}
 use Rattle.std.proofs.Math.Logic.{∥∥₁_elim}
 use Rattle.numeric.specs.declared.ty.Ty.TheVariants.{U8}
@@ -15,20 +13,14 @@ use Rattle.meaning.specs.Conditions.{IsAlgorithm, IsOutput, function_named}
 use Rattle.meaning.specs.Functions.{AreSamples}
 use Rattle.algo.specs.Parts.{output_frame}
 use Rattle.nest.specs.Plan.{Plan}
-use Rattle.nest.specs.Symbols.{points}
-use Rattle.cert.specs.Cells.{cell, cells, group_pieces, no_symbols, piece, pieces}
+use Rattle.cert.specs.Cells.{cells, pieces}
 use Rattle.orders.specs.Work.{Work, IsSound, OwnIsApart, OwnIsInTable}
 use Rattle.pieces.specs.Numbers.{cell_number}
-use Rattle.pieces.specs.Parts.{point_count}
 use Rattle.pieces.specs.Work.{own_cells}
-use Rattle.pieces.proofs.Parts.{points_counted}
-use Rattle.headline.specs.Demands.{CellsAreFew, PiecesAreFew}
-use Rattle.headline.specs.Ranges.{ends_at, extents_of, product, width}
-use Rattle.headline.specs.Row.{Ends, Row, group_of, plan_of, spans_of}
-use Rattle.audit.specs.declared.checked.Checked.{Checked}
-use Rattle.audit.specs.View.{algorithm_checked, plan_checked, certificate_checked}
+use Rattle.checked.specs.declared.checked.Checked.{Checked}
+use Rattle.checked.specs.View.{algorithm_checked, plan_checked, certificate_checked}
 use Rattle.output.specs.Cells.{HoldsOutput}
-use Rattle.output.proofs.Shown.{has_output}
+use Rattle.output.proofs.Plans.{holds_output as output_held}
 use Rattle.board.specs.Layout.{IsSound as IsSoundLayout, own_of, pieces_of}
 use Rattle.boards.specs.Layouts.{layout_of}
 use Rattle.boards.specs.Laws.{work_checked, target_checked, LayoutsAreSound, OwnIsOfWork, WorksAreSound}
@@ -42,24 +34,6 @@ own_work x samples = record {
   cells = refl;
   own = row_at (λ j. map (cell_number (plan_checked x)) (own_cells (plan_checked x) (certificate_checked x) j)) (pieces (plan_checked x));
 }
-
--- ---- how many pieces and cells there are
-
-row_pieces : (r : Row) → length (pieces (plan_of r)) ≡ r.count
-row_pieces r =
-    length-append (map (piece (group_of r) 0) (range_with_len 0 (group_pieces (group_of r)))) []
-    ∙ ap (λ n. n + 0) (length-map-range_with_len (piece (group_of r) 0) 0 (group_pieces (group_of r)))
-    ∙ (omega arith)
-
-region_count : (es : List Ends) → point_count no_symbols (spans_of es) ≡ product (map (λ e. width (ends_at no_symbols e)) es)
-region_count [] = refl
-region_count (e ∷ es) = ap (λ n. width (ends_at no_symbols e) * n) (region_count es)
-
-row_cells : (r : Row) → length (cells (plan_of r)) ≡ product (extents_of r)
-row_cells r =
-    let ps = points no_symbols (spans_of r.region) in
-    length-append (map (cell 0) ps) [] ∙ ap (λ n. n + 0) (length-map ps (cell 0)) ∙ (omega arith)
-    ∙ points_counted.points no_symbols (spans_of r.region) ∙ region_count r.region
 
 -- ---- the picture
 
@@ -81,10 +55,10 @@ sampled es (Some f) h = h.sampled
 output_shape : (a : Algorithm) → IsAlgorithm a → IsShape (output_frame a)
 output_shape a w = record { ty = sampled a.output_extents (function_named a.functions a.output) w.output; extents = w.output_extents }
 
--- what a shown plan's cells hold of its output
+-- what a checked plan's cells hold of its output
 pub holds_output : (x : Checked) (at : List ℤ) → is_within (algorithm_checked x).output_extents at ≡ true → ∥ HoldsOutput (algorithm_checked x) (plan_checked x) at ∥₁
 holds_output x at on =
-    ∥∥₁_elim x.shown (hlevel props) (λ shown. ∣ (has_output (algorithm_checked x) (plan_checked x) (certificate_checked x) shown).holds at on ∣₁)
+    ∥∥₁_elim x.ready (hlevel props) (λ ready. ∣ output_held (algorithm_checked x) (plan_checked x) (certificate_checked x) ready at on ∣₁)
 
 -- ---- the layout
 
@@ -111,17 +85,13 @@ module _ (works : WorksAreSound) (x : Checked) where
   count = (own_work x []).pieces
 
   few_pieces : pieces_of (layout_of x) ≤ 2 ^ 20
-  few_pieces = ∥∥₁_elim x.shown (search props) (λ s.
-      let most : s.row.count ≤ 2 ^ 20 = s.holds PiecesAreFew in
-      let same : length (pieces p) ≡ s.row.count = ap (λ (q : Plan). length (pieces q)) s.fits.plan ∙ row_pieces s.row in
+  few_pieces = ∥∥₁_elim x.ready (search props) (λ ready.
+      let most : length (pieces p) ≤ 2 ^ 20 = ready.few_pieces in
       let all : pieces_of (layout_of x) ≡ length (pieces p) = count in
-      omega (arith, most, same, all))
+      omega (arith, most, all))
 
   few_cells : length (cells p) ≤ 2 ^ 24
-  few_cells = ∥∥₁_elim x.shown (search props) (λ s.
-      let most : product (extents_of s.row) ≤ 2 ^ 24 = s.holds CellsAreFew in
-      let same : length (cells p) ≡ product (extents_of s.row) = ap (λ (q : Plan). length (cells q)) s.fits.plan ∙ row_cells s.row in
-      omega (arith, most, same))
+  few_cells = ∥∥₁_elim x.ready (search props) (λ ready. ready.few_cells)
 
   in_table : OwnIsInTable (pieces_of (layout_of x)) (layout_of x).cells (own_of (layout_of x))
   in_table j c lt m = ∥∥₁_elim work (search props) (λ s. s.lists.in_table j c (subst (λ n. j < n) count lt) (subst (λ xs. Contains xs c) (own j) m))

@@ -25,8 +25,8 @@ use Rattle.algo.specs.View.{IsFor, picture_of as picture_given, samples_of}
 use Rattle.claims.proofs.Refines.{name_true}
 use Rattle.cert.specs.Cells.{cells}
 use Rattle.headline.proofs.Samples.{inputs_are_samples}
-use Rattle.audit.specs.declared.checked.Checked.{Checked}
-use Rattle.audit.specs.View.{algorithm_checked, plan_checked}
+use Rattle.checked.specs.declared.checked.Checked.{Checked}
+use Rattle.checked.specs.View.{algorithm_checked, plan_checked}
 use Rattle.output.specs.Cells.{number_of_point}
 use Rattle.board.specs.Layout.{value_at}
 use Rattle.boards.specs.Layouts.{values_of}

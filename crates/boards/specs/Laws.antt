@@ -5,8 +5,8 @@ use Rattle.algo.specs.View.{IsFor, picture_said, samples_of}
 use Rattle.meaning.specs.Functions.{AreSamples}
 use Rattle.orders.specs.Work.{Work, IsSound as IsSoundWork}
 use Rattle.pieces.specs.Work.{target, work_of}
-use Rattle.audit.specs.declared.checked.Checked.{Checked}
-use Rattle.audit.specs.View.{algorithm_checked, plan_checked, certificate_checked}
+use Rattle.checked.specs.declared.checked.Checked.{Checked}
+use Rattle.checked.specs.View.{algorithm_checked, plan_checked, certificate_checked}
 use Rattle.board.specs.Layout.{pieces_of, own_of, value_at, picture_of, IsSound, ShowsSamples}
 use Rattle.boards.specs.Layouts.{layout_of, values_of}
 

@@ -6,8 +6,8 @@ use Rattle.algo.specs.View.{samples_of}
 use Rattle.cert.specs.Cells.{cells, pieces}
 use Rattle.pieces.specs.Numbers.{cell_number}
 use Rattle.pieces.specs.Work.{own_cells, cell_value}
-use Rattle.audit.specs.declared.checked.Checked.{Checked}
-use Rattle.audit.specs.View.{algorithm_checked, plan_checked, certificate_checked}
+use Rattle.checked.specs.declared.checked.Checked.{Checked}
+use Rattle.checked.specs.View.{algorithm_checked, plan_checked, certificate_checked}
 use Rattle.output.specs.Cells.{number_of_point}
 use Rattle.board.specs.Layout.{Layout}
 

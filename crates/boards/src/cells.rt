@@ -4,8 +4,8 @@ ghost use Rattle.std.specs.Prelude.{◌≡◌, IfOk};
 ghost use Rattle.boards.specs.Layouts.{layout_of};
 
 use crate::laws::layouts_are_sound;
-use audit::Checked;
 use board::Source;
+use checked::Checked;
 use image::Shape;
 use output::OutputCells;
 use std::alloc::{AllocError, Global};

@@ -2,31 +2,11 @@
 
 ghost use Rattle.boards.specs.Laws.{LayoutsAreSound, OwnIsOfWork, PicturesAreSaid, RunsGiveValues, ValuesAreSamples, ValuesAreTargets, WorksAreSound};
 
-use image::laws::raster_is_order;
-use inlining::laws::{calls_come_to_updates, definitions_stay};
-use intervals::laws::calls_stay_within;
-use pieces::laws::{
-    cells_are_numbered, needs_are_one_list, nothing_is_fetched, output_is_there,
-    parts_are_the_work, pieces_run_right, plans_are_right,
-};
-
 /// The work of a checked plan is sound: its pieces part the cells among them, and each private run gives the algorithm's
 /// values.
 pub fn works_are_sound()
     ensures { WorksAreSound }
-{
-    plans_are_right();
-    output_is_there();
-    parts_are_the_work();
-    needs_are_one_list();
-    nothing_is_fetched();
-    cells_are_numbered();
-    calls_stay_within();
-    definitions_stay();
-    calls_come_to_updates();
-    raster_is_order();
-    pieces_run_right();
-}
+{}
 
 /// The layout of a checked plan is sound: each cell is some piece's, once, and each sample of the picture is a cell's.
 pub fn layouts_are_sound()

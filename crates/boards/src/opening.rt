@@ -9,8 +9,8 @@ ghost use Rattle.boards.specs.Layouts.{layout_of, values_of};
 use crate::cells::CheckedCells;
 use crate::laws::values_are_samples;
 use algo::Inputs;
-use audit::Checked;
 use board::{Board, BoardSeat, Run};
+use checked::Checked;
 use std::alloc::{AllocError, Global};
 
 /// A board for the pieces of a checked plan on an input of its algorithm, with nothing drawn, and its first seat, which

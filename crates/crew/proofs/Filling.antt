@@ -1,9 +1,10 @@
 -- How a seat's view goes while it fills a piece.
-use Rattle.std.proofs.Common.{◌≡◌, ℕ, ◌+◌, ◌<◌, ◌∙◌, List, ℤ, map, length, get_or, pos, ap, subst, arith}
-use Rattle.std.specs.Prelude.{slice_index}
+use Rattle.std.proofs.Common.{◌≡◌, ℕ, zero, suc, ◌+◌, ◌<◌, ◌∙◌, List, [], ◌∷◌, Some, ℤ, map, length, get_or, pos, refl, ap, sym, subst, arith}
+use Rattle.std.specs.Prelude.{Contains, slice_index}
 use Rattle.std.proofs.lemmas.List.{get_or-map, length-map}
+use Rattle.std.proofs.lemmas.Option.{same_Some}
 use Rattle.board.specs.declared.view.View.{View}
-use Rattle.board.specs.Views.{after_put, knowing, completed, drew, IsIdle}
+use Rattle.board.specs.Views.{after_put, knowing, completed, IsIdle}
 use Rattle.board.specs.Seats.{Place, Task, seeing, task}
 
 -- the view with this many puts
@@ -22,12 +23,22 @@ all_put s t u n j is finished = finished ∙ ap (λ (p : Place). seeing p (knowi
 pub one_more_task : (t u : Task) (j n : ℕ) → t ≡ task j n → u ≡ task t.piece (t.puts + 1) → u ≡ task j (n + 1)
 one_more_task t u j n is put = put ∙ ap (λ (x : Task). task x.piece (x.puts + 1)) is
 
--- the seat completed piece j
-pub idle_again : (v : View) (j n : ℕ) → IsIdle (completed (drew v j) j n)
-idle_again v j n k e = let same : j ≡ k = cc in (0, omega arith, same)
-
 -- the values of a list of cells, by place
 pub value_there : (f : ℕ → ℤ) (values : List ℤ) (own : List ℕ) (i : ℕ) → values ≡ map f own → i < length values → get_or values i (pos 0) ≡ f (slice_index own i)
 value_there f values own i is inside =
     let l : i < length own = (let m = length-map own f in subst (λ n. i < n) (ap (λ (xs : List ℤ). length xs) is ∙ m) inside) in
     ap (λ (xs : List ℤ). get_or xs i (pos 0)) is ∙ get_or-map f own i 0 (pos 0) l
+
+-- once the piece drawn last is completed, the seat is idle
+pub idle_again : (s t : Place) (j n : ℕ) → s.view.last ≡ Some j → t ≡ seeing s (completed s.view j n) → IsIdle t.view
+idle_again s t j n last is = subst (λ (p : Place). IsIdle p.view) (sym is) (λ i e. let same : j ≡ i = same_Some j i (sym last ∙ e) in (0, omega arith, same))
+
+-- what stands at a place does not depend on what stands for none
+pub same_there : (xs : List ℕ) (k d e : ℕ) → k < length xs → get_or xs k d ≡ get_or xs k e
+same_there [] k d e lt = absurd (omega (arith, lt))
+same_there (x ∷ xs) zero d e lt = refl
+same_there (x ∷ xs) (suc k) d e lt = same_there xs k d e (omega (arith, lt))
+
+-- what stands at a place of a list is in it
+pub at_place_there : (xs ys : List ℕ) (k : ℕ) → xs ≡ ys → k < length xs → Contains ys (slice_index xs k)
+at_place_there xs ys k is lt = subst (λ (zs : List ℕ). Contains zs (slice_index xs k)) is (k, lt, same_there xs k (slice_index xs k) 0 lt)

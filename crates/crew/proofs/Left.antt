@@ -2,7 +2,7 @@
 use Rattle.std.proofs.Common.{◌≡◌, ℕ, ◌<◌, List, ℤ, subst}
 use Rattle.algo.specs.declared.inputs.Inputs.{Inputs}
 use Rattle.algo.specs.View.{samples_of}
-use Rattle.audit.specs.declared.checked.Checked.{Checked}
+use Rattle.checked.specs.declared.checked.Checked.{Checked}
 use Rattle.board.specs.declared.view.View.{View}
 use Rattle.board.specs.Layout.{Layout}
 use Rattle.board.specs.Rule.{AtStep}

@@ -1,8 +1,12 @@
-pub mod Quiet
+pub mod Bits
+pub mod Typed
+pub mod Told
+pub mod Owners
+pub mod Points
 pub mod Filling
-pub mod Alone
 pub mod Private
 pub mod Left
 pub mod Most
 pub mod Scratches
 mod Shared
+pub mod Runs

@@ -1,20 +1,19 @@
--- How many cells a piece owns at most.
-use Rattle.std.proofs.Common.{◌≡◌, ℕ, ◌+◌, ◌≤◌, ◌<◌, List, length, sym, subst, arith}
-use Rattle.audit.proofs.Counted.{one_more}
-use Rattle.board.specs.Layout.{Layout, own_of, pieces_of}
-use Rattle.crew.specs.Private.{IsMostOwn}
+-- The longest of some lists.
+use Rattle.std.proofs.Common.{◌≡◌, ℕ, ◌+◌, ◌≤◌, ◌<◌, List, length, inl, inr, sym, subst, arith}
+use Rattle.std.proofs.lemmas.Bool.{cases_lt}
 
--- the pieces before this one own no more cells
-abbrev pub IsMostBefore : Layout → ℕ → ℕ → Type 0
-IsMostBefore l count most = (j : ℕ) → j < count → length (own_of l j) ≤ most
+-- none of the lists before this one is longer
+abbrev pub IsMostBefore : (ℕ → List ℕ) → ℕ → ℕ → Type 0
+IsMostBefore lists count most = (j : ℕ) → j < count → length (lists j) ≤ most
 
-pub one_piece_more : (l : Layout) (i most new : ℕ) (own : List ℕ) → IsMostBefore l i most → own_of l i ≡ own → most ≤ new → length own ≤ new → IsMostBefore l (i + 1) new
-one_piece_more l i most new own before is le here =
-    let earlier : IsMostBefore l i new = λ j lt. (let h : length (own_of l j) ≤ most = before j lt in omega (arith, h, le)) in
-    let this : length (own_of l i) ≤ new = subst (λ (xs : List ℕ). length xs ≤ new) (sym is) here in
-    one_more (λ j. length (own_of l j) ≤ new) i earlier this
+pub one_list_more : (lists : ℕ → List ℕ) (i most new : ℕ) (list : List ℕ) → IsMostBefore lists i most → lists i ≡ list → most ≤ new → length list ≤ new → IsMostBefore lists (i + 1) new
+one_list_more lists i most new list before is le here j lt = elim (cases_lt j i) [
+  | inl earlier ↦ let h : length (lists j) ≤ most = before j earlier in omega (arith, h, le)
+  | inr later ↦
+      let this : length (lists i) ≤ new = subst (λ (xs : List ℕ). length xs ≤ new) (sym is) here in
+      let same : i ≡ j = omega (arith, lt, later) in
+      subst (λ (k : ℕ). length (lists k) ≤ new) same this
+]
 
-pub all_pieces : (l : Layout) (i count most : ℕ) → pieces_of l ≡ count → count ≤ i → IsMostBefore l i most → IsMostOwn l most
-all_pieces l i count most is end before j lt =
-    let same : pieces_of l ≡ count = is in
-    before j (omega (arith, lt, same, end))
+pub all_lists : (lists : ℕ → List ℕ) (i count end most : ℕ) → count ≡ end → end ≤ i → IsMostBefore lists i most → IsMostBefore lists count most
+all_lists lists i count end most is past before j lt = before j (omega (arith, lt, is, past))

@@ -1,58 +1,139 @@
--- What the private runs of an accepted plan's pieces give.
-use Rattle.std.proofs.Common.{◌≡◌, ℕ, ◌<◌, List, ℤ, map, Some, sym, ◌∙◌, subst}
-use Rattle.image.specs.View.{Picture}
+-- What the private runs of a checked plan's pieces give.
+use Rattle.std.proofs.Common.{◌≡◌, ℕ, ◌<◌, ◌≤◌, true, List, [], ◌∷◌, length, map, Some, ℤ, inl, inr, sym, ap, ◌∙◌, subst, arith}
+use Rattle.std.specs.Prelude.{Contains}
+use Rattle.std.specs.List.{AllByRecursion}
+use Rattle.std.proofs.Props.{props}
+use Rattle.std.proofs.Math.Logic.{∥∥₁_elim}
+use Rattle.numeric.specs.Wrap.{IsOf}
+use Rattle.meaning.specs.Algorithm.{Algorithm}
+use Rattle.meaning.specs.Functions.{AreSamples}
 use Rattle.algo.specs.declared.inputs.Inputs.{Inputs}
 use Rattle.algo.specs.View.{IsFor, picture_of, samples_of}
-use Rattle.audit.specs.declared.checked.Checked.{Checked}
-use Rattle.audit.specs.View.{algorithm_checked, plan_checked, certificate_checked}
-use Rattle.std.specs.Prelude.{slice_get}
+use Rattle.checked.specs.declared.checked.Checked.{Checked}
+use Rattle.checked.specs.View.{algorithm_checked, plan_checked, certificate_checked}
 use Rattle.nest.specs.Plan.{Group, Plan}
 use Rattle.cert.specs.Certificate.{Certificate}
-use Rattle.pieces.specs.Parts.{NothingIsFetched, PartsAreTheWork}
-use Rattle.board.specs.Layout.{Layout, own_of, value_at}
-use Rattle.boards.specs.Laws.{OwnIsOfWork, RunsGiveValues, target_checked}
+use Rattle.cert.specs.Cells.{Cell, grid_point}
+use Rattle.claims.proofs.Forms.{rec_weaker}
+use Rattle.headline.proofs.Samples.{inputs_are_samples}
+use Rattle.pieces.specs.Numbers.{CellsAreNumbered, cell_number, is_cell}
+use Rattle.pieces.specs.Parts.{PointsAreCounted}
+use Rattle.pieces.specs.Work.{cell_function, cell_value, looked_value, target, type_named, value_or_zero}
+use Rattle.ready.specs.Ready.{Ready}
+use Rattle.board.specs.Layout.{Layout, own_of, pieces_of, value_at}
+use Rattle.boards.specs.Laws.{OwnIsOfWork, RunsGiveValues, ValuesAreTargets, WorksAreSound}
 use Rattle.boards.specs.Layouts.{layout_of, values_of}
-use Rattle.narrow.specs.Law.{ShownIsNarrow}
-use Rattle.steps.proofs.Accepted.{same_extents}
-use Rattle.crew.specs.Private.{AreReady, GivesValues, IsMostOwn}
-use Rattle.crew.proofs.Alone.{gives_alone, narrow_alone}
+use Rattle.interpreter.specs.Outcome.{piece_gives}
+use Rattle.looked.specs.Laws.{PiecesAreNarrow, RunsAreTheWork}
+use Rattle.looked.specs.Looked.{cells_of_piece}
+use Rattle.looked.proofs.Lookups.{are_cells, numbers_are}
+use Rattle.places.specs.Places.{IsPlaceOf}
+use Rattle.crew.specs.Private.{CanRun, GivesValues, HaveIndices, IsMostFetched, IsMostOwn, IsOwnOf, IsRunnable, as_typed, fetched_of, needs_of, told_by, words_at}
+use Rattle.crew.proofs.Owners.{owner_of}
+use Rattle.crew.proofs.Points.{at_place, point_is}
+use Rattle.crew.proofs.Told.{IsTyped, told_values}
+use Rattle.crew.proofs.Typed.{call_typed}
 
 -- what lower crates have proved
 pub record Laws : Type 0 where
-  pub parts : PartsAreTheWork
-  pub fetched : NothingIsFetched
-  pub narrow : ShownIsNarrow
   pub own : OwnIsOfWork
+  pub works : WorksAreSound
+  pub values : ValuesAreTargets
   pub runs : RunsGiveValues
+  pub work : RunsAreTheWork
+  pub narrow : PiecesAreNarrow
+  pub numbered : CellsAreNumbered
+  pub counted : PointsAreCounted
 
-pub gives_values : Laws → (x : Checked) (i : Inputs) → IsFor x.algo.now i → GivesValues (layout_of x) (values_of x i) (plan_checked x) (certificate_checked x) (picture_of i)
-gives_values laws x i fits =
-    let a = algorithm_checked x in
-    let p = plan_checked x in
-    let c = certificate_checked x in
-    let samples = samples_of i in
-    let own = laws.own x samples in
-    record {
-      extents = fits.extents ∙ sym (same_extents a p c x.shown);
-      narrow = λ j h. narrow_alone a p c samples x.shown laws.parts j (subst (λ n. j < n) own.pieces h) laws.narrow;
-      gives = λ j h. gives_alone a p c samples x.shown laws.parts j (subst (λ n. j < n) own.pieces h) laws.fetched
-          (target_checked x samples) (map (value_at (values_of x i)) (own_of (layout_of x) j)) (laws.runs x i j fits h);
-    }
+-- of no cells each has what is asked
+none_of : (P : Cell → Type 0) (f : Cell → ℕ) (xs : List Cell) → length (map f xs) ≤ 0 → AllByRecursion P xs
+none_of P f [] h = tt
+none_of P f (x ∷ xs) h = absurd (omega (arith, h))
 
--- the same of what is equal
-pub moved : (l m : Layout) (v w : List ℤ) (p q : Plan) (c d : Certificate) (i : Picture) → m ≡ l → w ≡ v → q ≡ p → d ≡ c → GivesValues l v p c i → GivesValues m w q d i
-moved l m v w p q c d i el ev ep ec h =
-    let L : Layout → Type 0 = λ x. GivesValues x w q d i in
-    let V : List ℤ → Type 0 = λ x. GivesValues l x q d i in
-    let P : Plan → Type 0 = λ x. GivesValues l v x d i in
-    let C : Certificate → Type 0 = λ x. GivesValues l v p x i in
-    subst L (sym el) (subst V (sym ev) (subst P (sym ep) (subst C (sym ec) h)))
+module _ (laws : Laws) (x : Checked) (i : Inputs) (most : ℕ) (fits : IsFor x.algo.now i) (fetched : IsMostFetched x (pieces_of (layout_of x)) most) (runnable : IsRunnable (plan_checked x).groups most) where
+  abbrev a : Algorithm
+  a = algorithm_checked x
 
--- the pieces of an accepted plan, as they are handed to the workers
-pub pieces_give : Laws → (x : Checked) (i : Inputs) (m : Layout) (w : List ℤ) (q : Plan) (d : Certificate) (g : Group) (most : ℕ) → IsFor x.algo.now i → m ≡ layout_of x → w ≡ values_of x i → q ≡ plan_checked x → d ≡ certificate_checked x
-    → slice_get q.groups 0 ≡ Some g → IsMostOwn (layout_of x) most → AreReady m w q d (picture_of i) g most
-pieces_give laws x i m w q d g most fits em ew eq ed group own = (
-  moved (layout_of x) m (values_of x i) w (plan_checked x) q (certificate_checked x) d (picture_of i) em ew eq ed (gives_values laws x i fits),
-  group,
-  subst (λ l. IsMostOwn l most) (sym em) own,
-)
+  abbrev p : Plan
+  p = plan_checked x
+
+  abbrev c : Certificate
+  c = certificate_checked x
+
+  abbrev samples : List ℕ
+  samples = samples_of i
+
+  abbrev V : List ℤ
+  V = values_of x i
+
+  abbrev count : ℕ
+  count = pieces_of (layout_of x)
+
+  given : AreSamples a samples
+  given = inputs_are_samples a (picture_of i) x.algo.now.well_formed fits
+
+  -- ---- what is told of fetched cells
+
+  typed_cell : Ready a p c → HaveIndices p.groups → (y : Cell) → is_cell p y ≡ true → IsTyped a p V (cell_number p) y
+  typed_cell ready ends y h =
+      let value : value_at V (cell_number p y) ≡ (cell_value a p samples y).number = laws.values x i (cell_number p y) ∙ ap (value_or_zero a p samples) (laws.numbered.stands p y ready.ends h) in
+      subst (IsOf (type_named a (cell_function p y))) (sym value)
+      (call_typed a samples x.algo.now.well_formed given (cell_function p y) y.point (point_is a p c laws.counted ready ends y h))
+
+  cells_typed : Ready a p c → (j : ℕ) → j < count → AllByRecursion (IsTyped a p V (cell_number p)) (cells_of_piece p j)
+  cells_typed ready j lt = elim runnable.1 [
+    | inl none ↦
+        let few : length (fetched_of x j) ≤ 0 = subst (λ n. length (fetched_of x j) ≤ n) none (fetched j lt) in
+        none_of (IsTyped a p V (cell_number p)) (cell_number p) (cells_of_piece p j) (subst (λ (ns : List ℕ). length ns ≤ 0) (numbers_are p j) few)
+    | inr ends ↦ rec_weaker (λ y. is_cell p y ≡ true) (IsTyped a p V (cell_number p)) (typed_cell ready ends) (cells_of_piece p j) (are_cells a p c ready j)
+  ]
+
+  told_same : Ready a p c → (j : ℕ) → j < count → (name : List ℕ) (at : List ℤ) →
+      told_by a p j (words_at V (fetched_of x j)) name at ≡ looked_value a p (cells_of_piece p j) (map (target a p samples) (fetched_of x j)) name at
+  told_same ready j lt name at =
+      let cells = cells_of_piece p j in
+      ap (λ (ns : List ℕ). as_typed (looked_value a p cells (words_at V ns) name at)) (numbers_are p j)
+      ∙ told_values a p V (cell_number p) cells (cells_typed ready j lt) name at
+      ∙ ap (λ (ns : List ℕ). looked_value a p cells (map (value_at V) ns) name at) (sym (numbers_are p j))
+      ∙ (λ k. looked_value a p cells (map (λ n. laws.values x i n k) (fetched_of x j)) name at)
+
+  runs_right : (j n k : ℕ) (at : IsPlaceOf p.groups j n k) → j < count →
+      piece_gives p c samples (told_by a p j (words_at V (fetched_of x j))) n (grid_point at.g.grid k) ≡ Some (map (value_at V) (own_of (layout_of x) j))
+  runs_right j n k at lt = ∥∥₁_elim x.ready (search props) (λ ready.
+      (λ v. piece_gives p c samples (λ name q. told_same ready j lt name q v) n (grid_point at.g.grid k))
+      ∙ laws.work a p c samples (map (target a p samples) (fetched_of x j)) j n k at
+      ∙ laws.runs x i j fits lt)
+
+  -- ---- lists
+
+  needs_earlier : (j : ℕ) → j < count → (m : ℕ) → Contains (needs_of x j) m → m < count
+  needs_earlier j lt m there = ∥∥₁_elim (laws.works x samples given) (search props) (λ s.
+      let before = s.lists.earlier j m (subst (λ n. j < n) (laws.own x samples).pieces lt) there in omega (arith, lt, before))
+
+  owned : (j : ℕ) → j < count → (n : ℕ) → Contains (fetched_of x j) n → IsOwnOf (layout_of x) (needs_of x j) n
+  owned j lt n there = owner_of (needs_of x j) (own_of (layout_of x)) n (λ none. ∥∥₁_elim (laws.works x samples given) (hlevel props) (λ s.
+      let o = s.lists.needed j n (subst (λ m. j < m) (laws.own x samples).pieces lt) there in
+      none (o.0, o.1, subst (λ xs. Contains xs n) (sym ((laws.own x samples).own o.0)) o.2)))
+
+  pub gives_values : GivesValues (layout_of x) V a p c (picture_of i)
+  gives_values = record {
+    extents = fits.extents ∙ sym (∥∥₁_elim x.ready (search props) (λ ready. ready.input.extents));
+    all = sym (laws.own x samples).pieces;
+    needs = needs_earlier;
+    fetched = owned;
+    short = λ n g e. at_place (λ (f : Group). length f.grid ≤ 4) p.groups n g runnable.0 e;
+    narrow = laws.narrow x;
+    gives = runs_right;
+  }
+
+-- the pieces of a checked plan, as they are handed to the workers
+pub pieces_give : Laws → (x : Checked) (i : Inputs) (m : Layout) (w : List ℤ) (fetched own : ℕ) → IsFor x.algo.now i → IsMostFetched x (pieces_of (layout_of x)) fetched → IsRunnable (plan_checked x).groups fetched
+    → m ≡ layout_of x → w ≡ values_of x i → IsMostOwn (layout_of x) own → length x.pieces.items ≡ pieces_of (layout_of x) → CanRun m w x (picture_of i) own
+pieces_give laws x i m w fetched own fits most runnable em ew h count =
+    let G : Layout → List ℤ → Type 0 = λ l v. GivesValues l v (algorithm_checked x) (plan_checked x) (certificate_checked x) (picture_of i) in (
+      (
+        subst (λ (l : Layout). G l w) (sym em) (subst (λ (v : List ℤ). G (layout_of x) v) (sym ew) (gives_values laws x i fetched fits most runnable)),
+        subst (λ l. IsMostOwn l own) (sym em) h,
+      ),
+      subst (λ (l : Layout). length x.pieces.items ≡ pieces_of l) (sym em) count,
+    )

@@ -1,7 +1,12 @@
--- Memory for the private runs of a plan's pieces.
-use Rattle.std.proofs.Common.{◌≡◌, ℕ, ◌≤◌, ◌<◌, List, length, map, Option, Some, MatchOption, Ok, Err, ℤ, sym, subst, arith}
-use Rattle.std.specs.Prelude.{Result, IfOk, slice_get}
+-- The scratches of a worker, one for each group.
+use Rattle.std.proofs.Common.{◌≡◌, ℕ, zero, suc, ◌<◌, ◌≤◌, List, [], ◌∷◌, ◌++◌, length, map, Option, Some, MatchOption, ℤ, refl, sym, ap, ◌∙◌, subst, arith, inl, inr}
+use Rattle.std.specs.Prelude.{slice_get}
+use Rattle.std.proofs.Math.ListN.{set}
 use Rattle.std.proofs.lemmas.List.{length-map}
+use Rattle.std.proofs.lemmas.Option.{same_Some, slice_get_within}
+use Rattle.std.proofs.lemmas.Bool.{cases_lt}
+use mathlib.Core.Logic.{dite}
+use native.Mathlib.Decide.{ℕ_discrete}
 use Rattle.nest.specs.Plan.{Group, Plan}
 use Rattle.cert.specs.Certificate.{Certificate}
 use Rattle.board.specs.Layout.{Layout, own_of, pieces_of, value_at}
@@ -13,21 +18,15 @@ use Rattle.interpreter.specs.declared.scratch.Scratch.{Scratch}
 use Rattle.interpreter.specs.declared.sizes.Size.{Size}
 use Rattle.crew.specs.Private.{HasMemory, IsMostOwn}
 
-pub both_ok : {T E : Type 0} (r : Result T E) (P Q R : T → Type 0) → ((x : T) → P x → Q x → R x) → IfOk r P → IfOk r Q → IfOk r R
-both_ok (Ok x) P Q R f h k = f x h k
-both_ok (Err e) P Q R f h k = tt
+-- a scratch that suffices for a group's pieces, and for what each gives
+pub record IsFit (l : Layout) (c : Certificate) (n : ℕ) (g : Group) (x : Scratch) : Type 0 where
+  pub group : IsScratchFor x c n g
+  pub given : IsMostOwn l (room_of x)
 
--- a scratch that was made for the first group has the memory
-pub made : (l : Layout) (p : Plan) (c : Certificate) (g : Group) (most : ℕ) (x : Scratch) → slice_get p.groups 0 ≡ Some g → IsMostOwn l most → IsScratchFor x c 0 g → most ≤ room_of x → HasMemory l p c x
-made l p c g most x is own h room = record {
-  group = subst (λ (o : Option Group). MatchOption o ⊥ (IsScratchFor x c 0)) (sym is) h;
-  given = λ j lt. let k = own j lt in omega arith;
-}
-
--- a scratch after a run has the memory again
-pub again : (l : Layout) (p : Plan) (c : Certificate) (old new : Scratch) → HasMemory l p c old → IsAgain old new → HasMemory l p c new
-again l p c old new h k =
-    let M : List Size → Bindings → ℕ → List Limit → Type 0 = λ a b r ls. MatchOption (slice_get p.groups 0) ⊥ (Suffices a b r ls c 0) in
+-- a scratch after a run suffices again
+pub again : (l : Layout) (c : Certificate) (n : ℕ) (g : Group) (old new : Scratch) → IsFit l c n g old → IsAgain old new → IsFit l c n g new
+again l c n g old new h k =
+    let M : List Size → Bindings → ℕ → List Limit → Type 0 = λ a b r ls. Suffices a b r ls c n g in
     let one : M new.sizes.items old.constants old.symbols.room (limits_of old.state.memory) = subst (λ a. M a old.constants old.symbols.room (limits_of old.state.memory)) (sym k.sizes) h.group in
     let two : M new.sizes.items new.constants old.symbols.room (limits_of old.state.memory) = subst (λ b. M new.sizes.items b old.symbols.room (limits_of old.state.memory)) (sym k.constants) one in
     let three : M new.sizes.items new.constants new.symbols.room (limits_of old.state.memory) = subst (λ r. M new.sizes.items new.constants r (limits_of old.state.memory)) (sym k.symbols) two in
@@ -35,6 +34,79 @@ again l p c old new h k =
       group = subst (λ ls. M new.sizes.items new.constants new.symbols.room ls) (sym k.limits) three;
       given = subst (λ n. IsMostOwn l n) (sym k.given) h.given;
     }
+
+-- ---- places of a list
+
+pub set_here : (xs : List Scratch) (n : ℕ) (y : Scratch) → n < length xs → slice_get (set xs n y) n ≡ Some y
+set_here [] n y lt = absurd (omega (arith, lt))
+set_here (x ∷ xs) zero y lt = refl
+set_here (x ∷ xs) (suc n) y lt = set_here xs n y (omega (arith, lt))
+
+set_there : (xs : List Scratch) (m n : ℕ) (y : Scratch) → (m ≡ n → ⊥) → slice_get (set xs n y) m ≡ slice_get xs m
+set_there [] m n y ne = refl
+set_there (x ∷ xs) zero zero y ne = absurd (ne refl)
+set_there (x ∷ xs) zero (suc n) y ne = refl
+set_there (x ∷ xs) (suc m) zero y ne = refl
+set_there (x ∷ xs) (suc m) (suc n) y ne = set_there xs m n y (λ e. ne (ap suc e))
+
+pub set_long : (xs : List Scratch) (n : ℕ) (y : Scratch) → length (set xs n y) ≡ length xs
+set_long [] n y = refl
+set_long (x ∷ xs) zero y = refl
+set_long (x ∷ xs) (suc n) y = ap suc (set_long xs n y)
+
+more_there : (xs : List Scratch) (n : ℕ) (x y : Scratch) → slice_get (xs ++ y ∷ []) n ≡ Some x → (n < length xs → slice_get xs n ≡ Some x) × (length xs ≤ n → (n ≡ length xs) × (y ≡ x))
+more_there [] zero x y e = (λ lt. absurd (omega (arith, lt)), λ le. (refl, let same : y ≡ x = cc e in same))
+more_there [] (suc n) x y e = absurd (cc e)
+more_there (z ∷ zs) zero x y e = (λ lt. e, λ le. absurd (omega (arith, le)))
+more_there (z ∷ zs) (suc n) x y e =
+    let r = more_there zs n x y e in
+    (λ lt. r.0 (omega (arith, lt)), λ le. let q = r.1 (omega (arith, le)) in (ap suc q.0, q.1))
+
+-- ---- all scratches
+
+-- the scratches of the first groups suffice
+abbrev pub SufficeSoFar : Layout → Plan → Certificate → List Scratch → Type 0
+SufficeSoFar l p c xs = (n : ℕ) (g : Group) (x : Scratch) → slice_get p.groups n ≡ Some g → slice_get xs n ≡ Some x → IsScratchFor x c n g × IsMostOwn l (room_of x)
+
+pub none_yet : (l : Layout) (p : Plan) (c : Certificate) → SufficeSoFar l p c []
+none_yet l p c n g x e k = absurd (cc k)
+
+pub one_more : (l : Layout) (p : Plan) (c : Certificate) (xs : List Scratch) (i most : ℕ) (g : Group) (y : Scratch) → length xs ≡ i → slice_get p.groups i ≡ Some g → IsMostOwn l most → IsScratchFor y c i g → most ≤ room_of y
+    → SufficeSoFar l p c xs → SufficeSoFar l p c (xs ++ y ∷ [])
+one_more l p c xs i most g y long at own fit room before n h x e k =
+    let r = more_there xs n x y k in
+    elim (cases_lt n (length xs)) [
+      | inl lt ↦ before n h x e (r.0 lt)
+      | inr le ↦ let q = r.1 le in
+          let here : slice_get p.groups n ≡ Some g = ap (λ m. slice_get p.groups m) (q.0 ∙ long) ∙ at in
+          let same : g ≡ h = same_Some g h (sym here ∙ e) in
+          let number : i ≡ n = sym (q.0 ∙ long) in
+          let G : Group → Type 0 = λ f. IsScratchFor y c n f in
+          let N : ℕ → Type 0 = λ m. IsScratchFor y c m g in
+          let X : Scratch → Type 0 = λ z. IsScratchFor z c n h × IsMostOwn l (room_of z) in
+          subst X q.1 (subst G same (subst N number fit), λ j lt. (let m = own j lt in omega (arith, m, room)))
+    ]
+
+pub memory_made : (l : Layout) (p : Plan) (c : Certificate) (xs : List Scratch) → length xs ≡ length p.groups → SufficeSoFar l p c xs → HasMemory l p c xs
+memory_made l p c xs long h = record { count = long; each = h }
+
+-- after a run in one of them they suffice again
+pub memory_again : (l : Layout) (p : Plan) (c : Certificate) (xs : List Scratch) (n : ℕ) (g : Group) (old new : Scratch) → HasMemory l p c xs → slice_get p.groups n ≡ Some g → slice_get xs n ≡ Some old → IsAgain old new
+    → HasMemory l p c (set xs n new)
+memory_again l p c xs n g old new h at is k = record {
+  count = set_long xs n new ∙ h.count;
+  each = λ m f x e there. dite (ℕ_discrete m n)
+      (λ same.
+      let here : slice_get (set xs n new) n ≡ Some x = ap (λ i. slice_get (set xs n new) i) (sym same) ∙ there in
+      let now : new ≡ x = same_Some new x (sym (set_here xs n new (slice_get_within xs n old is)) ∙ here) in
+      let group : slice_get p.groups n ≡ Some f = ap (λ i. slice_get p.groups i) (sym same) ∙ e in
+      let before = h.each n f old group is in
+      let fit = again l c n f old new (record { group = before.0; given = before.1 }) k in
+      let N : ℕ → Type 0 = λ i. IsScratchFor new c i f × IsMostOwn l (room_of new) in
+      let X : Scratch → Type 0 = λ z. IsScratchFor z c m f × IsMostOwn l (room_of z) in
+      subst X now (subst N (sym same) (fit.group, fit.given)))
+      (λ other. h.each m f x e (sym (set_there xs m n new other) ∙ there));
+}
 
 -- what a piece gives has room
 pub has_room : (l : Layout) (values : List ℤ) (j room : ℕ) (whole : Option (List ℤ)) → j < pieces_of l → IsMostOwn l room → whole ≡ Some (map (value_at values) (own_of l j)) → MatchOption whole (Unit {0}) (λ given. length given ≤ room)

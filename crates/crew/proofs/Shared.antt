@@ -1,6 +1,11 @@
--- A plan, a certificate and an input may be shared among threads.
+-- A checked plan, its cells and an input may be shared among threads.
+use Rattle.std.proofs.Common.{ℕ, List, [], ◌∷◌}
+use denote.Ref.{NamedLft}
 use denote.RattleType.{RattleType}
-use denote.Param.Send.{IsSync, sendable}
+use denote.Param.Send.{IsSend, IsSync, sendable}
+use denote.Param.SendFields.{as_row_send, declared_send}
+use denote.Struct.Field.{row_field}
+use denote.Struct.Tuple.{TupleAt, type_at}
 use Rattle.std.proofs.Crossing.{crosses}
 use Rattle.numeric.proofs.op.Comparison.TheSendSync as comparison
 use Rattle.numeric.proofs.op.Op.TheSendSync as op
@@ -23,6 +28,17 @@ use Rattle.nest.specs.contracts.stmt.Stmt as Stmt
 use Rattle.cert.proofs.cert.Cert.TheSendSync as cert
 use Rattle.cert.specs.contracts.cert.Cert as Cert
 use Rattle.algo.specs.contracts.inputs.Inputs as Inputs
+use Rattle.algo.specs.contracts.algorithm.Algo as Algo
+use Rattle.algo.specs.contracts.function.Function as Function
+use Rattle.algo.specs.contracts.function.Update as Update
+use Rattle.algo.proofs.function.Range.TheSendSync as range
+use Rattle.orders.specs.contracts.lists.Piece as Piece
+use Rattle.checked.specs.contracts.checked.Checked as Checked
+use Rattle.output.specs.contracts.plan.GroupCells as GroupCells
+use Rattle.output.specs.contracts.plan.PlanCells as PlanCells
+use Rattle.interpreter.proofs.scratch.Scratch.TheSendSync as scratch
+use Rattle.looked.specs.contracts.cells.LookedCells as LookedCells
+use Rattle.crew.specs.contracts.values.Desk as Desk
 use Rattle.crew.specs.contracts.running.work_both.{P-row}
 
 expr_field_sync : IsSync (Expr.the_field).row
@@ -62,6 +78,45 @@ cert_sync = cert.the_sync
 
 pub inputs_sync : IsSync Inputs.the_row
 inputs_sync = search (sendable, crosses) depth 40
+
+update_sync : IsSync Update.the_row
+update_sync = search (sendable, crosses, range.the_field_sync, expr_field_sync) depth 20 fits 100000
+
+function_sync : IsSync Function.the_row
+function_sync = search (sendable, crosses, ty.the_field_sync, expr_field_sync, update_sync) depth 20 fits 100000
+
+pub algo_sync : IsSync Algo.the_row
+algo_sync = search (sendable, crosses, function_sync) depth 30 fits 100000
+
+pub piece_sync : IsSync Piece.the_row
+piece_sync = search (sendable, crosses) depth 20 fits 100000
+
+plan_field_sync : IsSync (Plan.the_field).row
+plan_field_sync = search (sendable, crosses, declaration.the_field_sync, group_sync) depth 20 fits 100000
+
+pub checked_sync : (κ : NamedLft) → IsSync (Checked.the_row κ)
+checked_sync κ = search (sendable, crosses, algo_sync, plan_field_sync, cert.the_field_sync, piece_sync) depth 40 fits 100000
+
+cells_of_group_sync : IsSync GroupCells.the_row
+cells_of_group_sync = search (sendable, crosses) depth 20 fits 100000
+
+pub cells_sync : (κ : NamedLft) → IsSync (PlanCells.the_row κ)
+cells_sync κ = search (sendable, crosses, checked_sync, cells_of_group_sync) depth 30 fits 100000
+
+looked_field_send : (κ : NamedLft) → IsSend (LookedCells.the_field κ).row
+looked_field_send κ = search (sendable, crosses, cells_sync) depth 40 fits 100000
+
+pub desk_send : (κ : NamedLft) → IsSend (Desk.the_row κ)
+desk_send κ = search (sendable, crosses, scratch.the_send, looked_field_send) depth 40 fits 100000
+
+pub desk_field_send : (κ : NamedLft) → IsSend (Desk.the_field κ).row
+desk_field_send κ = search (sendable, crosses, scratch.the_send, looked_field_send) depth 40 fits 100000
+
+-- six values together
+pub six_send : (name : List ℕ) (a b c d e f : RattleType) → IsSend a → IsSend b → IsSend c → IsSend d → IsSend e → IsSend f → IsSend (TupleAt name (a ∷ b ∷ c ∷ d ∷ e ∷ f ∷ []))
+six_send name a b c d e f sa sb sc sd se sf =
+    declared_send (type_at name (a ∷ b ∷ c ∷ d ∷ e ∷ f ∷ []))
+    (as_row_send (row_field a) sa, (as_row_send (row_field b) sb, (as_row_send (row_field c) sc, (as_row_send (row_field d) sd, (as_row_send (row_field e) se, (as_row_send (row_field f) sf, tt))))))
 
 -- as a value of a type parameter
 pub as_parameter : (a b c : RattleType) → IsSync b → IsSync (P-row a b c)

@@ -1,36 +1,137 @@
--- What the private runs of a plan's pieces give, and the memory that they need.
-use Rattle.std.specs.Prelude.{◌≡◌, ℕ, ◌<◌, ◌≤◌, List, [], ◌∷◌, length, map, MatchOption, Some, ℤ, pos, slice_get}
+-- What the private runs of a checked plan's pieces give, and the memory that they need.
+use Rattle.std.specs.Prelude.{◌≡◌, ℕ, ◌<◌, ◌≤◌, ◌⊎◌, List, [], length, map, Option, Some, None, ℤ, pos, Contains, slice_get, vec_capacity}
+use Rattle.std.specs.List.{AllByRecursion}
+use Rattle.numeric.specs.Wrap.{wrap, IsOf}
+use Rattle.numeric.specs.declared.ty.Ty.TheVariants.{I32}
 use Rattle.image.specs.View.{Picture}
-use Rattle.numeric.specs.declared.ty.Ty.TheVariants.{U8}
+use Rattle.tree.specs.Meaning.{typed}
 use Rattle.tree.specs.declared.value.Value.{Value}
+use Rattle.lin.specs.declared.span.Span1.{Span1}
+use Rattle.meaning.specs.Algorithm.{Algorithm}
+use Rattle.meaning.specs.Value.{Calls}
 use Rattle.nest.specs.Plan.{Group, Plan}
 use Rattle.cert.specs.Certificate.{Certificate}
+use Rattle.cert.specs.Cells.{grid_point, pieces}
+use Rattle.pieces.specs.Work.{looked_value, needed_pieces, of_piece}
+use Rattle.ready.specs.Ready.{first_constant}
+use Rattle.checked.specs.declared.checked.Checked.{Checked}
+use Rattle.checked.specs.View.{algorithm_checked, plan_checked, certificate_checked}
 use Rattle.board.specs.Layout.{Layout, own_of, pieces_of, value_at}
+use Rattle.board.specs.Words.{bits_of}
 use Rattle.interpreter.specs.Narrow.{PieceIsNarrow}
 use Rattle.interpreter.specs.Outcome.{piece_gives}
 use Rattle.interpreter.specs.Scratches.{room_of, IsScratchFor}
 use Rattle.interpreter.specs.declared.scratch.Scratch.{Scratch}
+use Rattle.looked.specs.Looked.{cells_of_piece, numbers_of_piece}
+use Rattle.looked.specs.declared.cells.LookedCells.{LookedCells}
+use Rattle.places.specs.Places.{IsPlaceOf}
 
--- what a piece that fetches nothing is told of other pieces' cells: any value does, since it never asks
-abbrev pub nothing_fetched : List ℕ → List ℤ → Value
-nothing_fetched name at = record { ty = U8; number = pos 0 }
+-- ---- what a piece fetches and needs
+
+-- the numbers of the pieces that a piece needs
+abbrev pub needs_in : Plan → Certificate → ℕ → List ℕ
+needs_in p c j = of_piece (slice_get (pieces p) j) [] (needed_pieces p c)
+
+-- the same of a checked plan, and the numbers of the cells that a piece fetches
+abbrev pub needs_of : Checked → ℕ → List ℕ
+needs_of x j = needs_in (plan_checked x) (certificate_checked x) j
+
+abbrev pub fetched_of : Checked → ℕ → List ℕ
+fetched_of x j = numbers_of_piece (plan_checked x) j
+
+-- the cell is an own cell of one of these pieces
+abbrev pub IsOwnOf : Layout → List ℕ → ℕ → Type 0
+IsOwnOf layout ms c = (m : ℕ) × Contains ms m × Contains (own_of layout m) c
 
 -- no piece owns more cells
 abbrev pub IsMostOwn : Layout → ℕ → Type 0
 IsMostOwn layout n = (j : ℕ) → j < pieces_of layout → length (own_of layout j) ≤ n
 
--- on this picture each piece of the one group can be run, and gives the values of its own cells
-pub record GivesValues (layout : Layout) (values : List ℤ) (p : Plan) (c : Certificate) (picture : Picture) : Type 0 where
+-- none of so many pieces fetches more cells
+abbrev pub IsMostFetched : Checked → ℕ → ℕ → Type 0
+IsMostFetched x count n = (j : ℕ) → j < count → length (fetched_of x j) ≤ n
+
+-- ---- what is told of fetched cells
+
+-- the bits of these cells' values, as numbers
+abbrev pub words_at : List ℤ → List ℕ → List ℤ
+words_at values cells = map (λ c. pos (bits_of (value_at values c))) cells
+
+-- the value of the same type with these bits
+abbrev pub as_typed : Value → Value
+as_typed v = typed v.ty (wrap v.ty v.number)
+
+-- what is told of a function at a point by the bits of the cells that a piece fetches
+abbrev pub told_by : Algorithm → Plan → ℕ → List ℤ → Calls
+told_by a p j words name at = as_typed (looked_value a p (cells_of_piece p j) words name at)
+
+abbrev pub told : LookedCells → Calls
+told x = told_by (algorithm_checked x.cells.now.checked.now) (plan_checked x.cells.now.checked.now) x.piece x.looked.items
+
+-- the bits of the cells that this piece fetches were looked at
+pub record HasLooked (values : List ℤ) (x : Checked) (j : ℕ) (l : LookedCells) : Type 0 where
+  pub plan : l.cells.now.checked.now ≡ x
+  pub piece : l.piece ≡ j
+  pub words : l.looked.items ≡ words_at values (fetched_of x j)
+
+-- there is room for the cells that any of so many pieces fetches
+pub record HasRoom (x : Checked) (count : ℕ) (l : LookedCells) : Type 0 where
+  pub plan : l.cells.now.checked.now ≡ x
+  pub room : IsMostFetched x count (vec_capacity l.looked)
+
+-- ---- which plans workers can run
+
+-- the ends of a span are i32 values
+pub record HasIndexEnds (x : Span1) : Type 0 where
+  pub low : IsOf I32 (first_constant x.lower)
+  pub high : IsOf I32 (first_constant x.upper)
+
+-- all cells' coordinates are i32 values
+abbrev pub HaveIndices : List Group → Type 0
+HaveIndices gs = AllByRecursion (λ g. AllByRecursion HasIndexEnds g.region) gs
+
+-- all grid points have at most four coordinates
+abbrev pub AreShort : List Group → Type 0
+AreShort gs = AllByRecursion (λ g. length g.grid ≤ 4) gs
+
+-- grids are short, and where pieces fetch cells, at most so many, all cells' coordinates are i32 values, so that their values
+-- are told by their bits
+abbrev pub IsRunnable : List Group → ℕ → Type 0
+IsRunnable gs most = AreShort gs × ((most ≡ 0) ⊎ HaveIndices gs)
+
+-- ---- what pieces give
+
+-- on this picture each piece can be run, and gives the values of its own cells once it is told the bits of those that it
+-- fetches; these are own cells of pieces that it needs
+pub record GivesValues (layout : Layout) (values : List ℤ) (a : Algorithm) (p : Plan) (c : Certificate) (picture : Picture) : Type 0 where
   pub extents : picture.extents ≡ p.input.extents
-  pub narrow : (j : ℕ) → j < pieces_of layout → MatchOption (slice_get p.groups 0) ⊥ (λ g. PieceIsNarrow c 0 g (j ∷ []))
-  pub gives : (j : ℕ) → j < pieces_of layout → piece_gives p c picture.samples nothing_fetched 0 (j ∷ []) ≡ Some (map (value_at values) (own_of layout j))
+  pub all : length (pieces p) ≡ pieces_of layout
+  pub needs : (j : ℕ) → j < pieces_of layout → (m : ℕ) → Contains (needs_in p c j) m → m < pieces_of layout
+  pub fetched : (j : ℕ) → j < pieces_of layout → (n : ℕ) → Contains (numbers_of_piece p j) n → IsOwnOf layout (needs_in p c j) n
+  pub short : (n : ℕ) (g : Group) → slice_get p.groups n ≡ Some g → length g.grid ≤ 4
+  pub narrow : (j n k : ℕ) (at : IsPlaceOf p.groups j n k) → PieceIsNarrow c n at.g (grid_point at.g.grid k)
+  pub gives : (j n k : ℕ) (at : IsPlaceOf p.groups j n k) → j < pieces_of layout →
+      piece_gives p c picture.samples (told_by a p j (words_at values (numbers_of_piece p j))) n (grid_point at.g.grid k) ≡ Some (map (value_at values) (own_of layout j))
 
--- pieces that workers can be handed: each gives the values of its own cells, this is their one group, and none owns more
--- cells than so many
-abbrev pub AreReady : Layout → List ℤ → Plan → Certificate → Picture → Group → ℕ → Type 0
-AreReady layout values p c picture g most = GivesValues layout values p c picture × (slice_get p.groups 0 ≡ Some g) × IsMostOwn layout most
+-- pieces that workers can be handed: each gives the values of its own cells, and none owns more cells than so many
+abbrev pub AreReady : Layout → List ℤ → Algorithm → Plan → Certificate → Picture → ℕ → Type 0
+AreReady layout values a p c picture most = GivesValues layout values a p c picture × IsMostOwn layout most
 
--- the scratch has all the memory that a run of a piece of the one group takes
-pub record HasMemory (layout : Layout) (p : Plan) (c : Certificate) (x : Scratch) : Type 0 where
-  pub group : MatchOption (slice_get p.groups 0) ⊥ (IsScratchFor x c 0)
-  pub given : IsMostOwn layout (room_of x)
+-- the same of a checked plan, which has lists for all its pieces
+abbrev pub CanRun : Layout → List ℤ → Checked → Picture → ℕ → Type 0
+CanRun layout values x picture most = AreReady layout values (algorithm_checked x) (plan_checked x) (certificate_checked x) picture most × (length x.pieces.items ≡ pieces_of layout)
+
+-- ---- memory
+
+-- the scratches have, group by group, all the memory that a run of a piece takes
+pub record HasMemory (layout : Layout) (p : Plan) (c : Certificate) (xs : List Scratch) : Type 0 where
+  pub count : length xs ≡ length p.groups
+  pub each : (n : ℕ) (g : Group) (x : Scratch) → slice_get p.groups n ≡ Some g → slice_get xs n ≡ Some x → IsScratchFor x c n g × IsMostOwn layout (room_of x)
+
+-- the numbers that the scratch of a group gives
+abbrev pub given_by : Option Scratch → List ℤ
+given_by None = []
+given_by (Some x) = x.state.given.items
+
+abbrev pub given_in : List Scratch → ℕ → List ℤ
+given_in xs n = given_by (slice_get xs n)

@@ -1,8 +1,8 @@
 -- Why a run gives no picture.
 use Rattle.std.specs.Prelude.{ℕ, ◌<◌, length, ⊤}
 use Rattle.algo.specs.declared.inputs.Inputs.{Inputs}
-use Rattle.audit.specs.declared.checked.Checked.{Checked}
-use Rattle.audit.specs.View.{plan_checked}
+use Rattle.checked.specs.declared.checked.Checked.{Checked}
+use Rattle.checked.specs.View.{plan_checked}
 use Rattle.cert.specs.Cells.{pieces}
 use Rattle.board.specs.declared.view.View.{View}
 use Rattle.board.specs.Rule.{AtStep}

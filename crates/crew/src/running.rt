@@ -1,29 +1,32 @@
 //! The run of a checked plan by a crew of two.
 
-ghost use Rattle.std.specs.Prelude.{◌≡◌, ◌≤◌, IfErr, IfOk, MatchOption, None, Some, length, slice_get};
+ghost use Rattle.std.specs.Prelude.{◌≡◌, ◌≤◌, IfErr, IfOk, vec_capacity};
 ghost use Rattle.algo.specs.View.{picture_of, picture_said, samples_of, IsFor};
-ghost use Rattle.audit.specs.View.{algorithm_checked};
-ghost use Rattle.board.specs.Views.{IsIdle};
+ghost use Rattle.checked.specs.View.{algorithm_checked, plan_checked};
+ghost use Rattle.board.specs.Layout.{pieces_of};
+ghost use Rattle.board.specs.Seats.{place};
+ghost use Rattle.board.specs.Views.{first_view, IsIdle};
 ghost use Rattle.boards.specs.Layouts.{layout_of, values_of};
-ghost use Rattle.cert.specs.Certificate.{certificate_of};
-ghost use Rattle.crew.specs.Private.{AreReady, IsMostOwn};
+ghost use Rattle.crew.specs.Private.{CanRun, HasRoom, IsMostFetched, IsRunnable};
 ghost use Rattle.crew.specs.Refusals.{IsRunRefused};
 ghost use Rattle.crew.specs.declared.running.RunError.TheVariants.{Memory as OutOfMemory};
 ghost use Rattle.image.specs.View.{image_of};
-ghost use Rattle.nest.specs.View.{group_of, plan_of};
 
-use crate::values::{Pieces, PrivateRuns};
+use crate::runnable::{is_runnable, most_fetched, most_own};
+use crate::values::{Desk, Pieces, PrivateRuns};
 use crate::worker::work;
 use algo::Inputs;
-use audit::Checked;
 use board::{Board, BoardSeat, Run, Unfinished};
-use boards::laws::{own_is_of_work, pictures_are_said, runs_give_values};
+use boards::laws::{
+    own_is_of_work, pictures_are_said, runs_give_values, values_are_targets, works_are_sound,
+};
 use boards::open;
+use checked::Checked;
 use image::Image;
-use interpreter::Scratch;
-use narrow::shown_is_narrow;
-use nest::{Group, Plan};
-use pieces::laws::{nothing_is_fetched, parts_are_the_work};
+use looked::LookedCells;
+use looked::laws::{pieces_are_narrow, runs_are_the_work};
+use output::PlanCells;
+use pieces::laws::{cells_are_numbered, points_are_counted};
 use std::alloc::{AllocError, Global};
 use std::marker::Brand;
 use std::sync::Wait;
@@ -47,123 +50,133 @@ impl From<AllocError> for RunError {
 }
 
 /// One worker's turn at the board. Its seat comes back where all pieces are drawn and it has finished its own.
-fn work_as<J: Run, P: PrivateRuns<J>>(
+fn work_as<J: Run, P: PrivateRuns<J>, R: Wait>(
+    rt: &R,
     alloc: Global,
     board: &Board<J>,
     mut seat: BoardSeat,
     runs: &P,
-    mut scratch: Scratch,
+    desk: &mut Desk<'_>,
 ) -> BoardSeat
     requires runs { P.gives runs.now }
-    requires scratch { P.suffices runs.now scratch }
+    requires scratches { P.suffices runs.now desk.old.scratches.items }
+    requires room { HasRoom (P.plan runs.now) (pieces_of J.layout) desk.old.looked }
     requires board { seat.board ≡ board.now }
     requires idle { IsIdle seat.view }
     ensures { (result.board ≡ board.now) × IsIdle result.view }
 {
-    work(alloc, board, &mut seat, runs, &mut scratch);
+    work(rt, alloc, board, &mut seat, runs, desk);
     seat
 }
 
-/// The turns of two workers, in the caller's thread and in one more where it can be started.
-fn work_both<J: Run + Send + Sync, P: PrivateRuns<J> + Sync, R: Threads + Sync>(
+/// The turns of two workers, in the caller's thread and in one more where it can be started. Each has a seat and a desk.
+fn work_both<J: Run + Send + Sync, P: PrivateRuns<J> + Sync, R: Threads + Wait + Sync>(
     rt: &R,
     alloc: Global,
     board: &Board<J>,
-    first: (BoardSeat, Scratch),
-    second: (BoardSeat, Scratch),
     runs: &P,
+    first: BoardSeat,
+    one: &mut Desk<'_>,
+    second: BoardSeat,
+    two: &mut Desk<'_>,
 ) -> (BoardSeat, BoardSeat)
     requires runs { P.gives runs.now }
-    requires scratch { P.suffices runs.now first.1 × P.suffices runs.now second.1 }
-    requires board { (first.0.board ≡ board.now) × (second.0.board ≡ board.now) }
-    requires idle { IsIdle first.0.view × IsIdle second.0.view }
+    requires scratches { P.suffices runs.now one.old.scratches.items × P.suffices runs.now two.old.scratches.items }
+    requires room { HasRoom (P.plan runs.now) (pieces_of J.layout) one.old.looked × HasRoom (P.plan runs.now) (pieces_of J.layout) two.old.looked }
+    requires board { (first.board ≡ board.now) × (second.board ≡ board.now) }
+    requires idle { IsIdle first.view × IsIdle second.view }
     ensures first { (result.0.board ≡ board.now) × IsIdle result.0.view }
     ensures second { (result.1.board ≡ board.now) × IsIdle result.1.view }
 {
-    let (first, first_scratch) = first;
-    let (second, second_scratch) = second;
     join(
         rt,
         move || -> BoardSeat
-            requires { P.gives runs.now × P.suffices runs.now first_scratch × (first.board ≡ board.now) × IsIdle first.view }
+            requires { P.gives runs.now × P.suffices runs.now one.now.scratches.items × HasRoom (P.plan runs.now) (pieces_of J.layout) one.now.looked × (first.board ≡ board.now) × IsIdle first.view }
             ensures { (result.board ≡ board.entry.now) × IsIdle result.view }
-        { work_as(alloc, board, first, runs, first_scratch) },
+        { work_as(rt, alloc, board, first, runs, one) },
         move || -> BoardSeat
-            requires { P.gives runs.now × P.suffices runs.now second_scratch × (second.board ≡ board.now) × IsIdle second.view }
+            requires { P.gives runs.now × P.suffices runs.now two.now.scratches.items × HasRoom (P.plan runs.now) (pieces_of J.layout) two.now.looked × (second.board ≡ board.now) × IsIdle second.view }
             ensures { (result.board ≡ board.entry.now) × IsIdle result.view }
-        { work_as(alloc, board, second, runs, second_scratch) },
+        { work_as(rt, alloc, board, second, runs, two) },
     )
 }
 
-/// The first group, if there is one.
-fn only_group(plan: &Plan) -> Option<&Group>
-    ensures { MatchOption result (slice_get (plan_of plan.now).groups 0 ≡ None) (λ g. slice_get (plan_of plan.now).groups 0 ≡ Some (group_of g.now)) }
-{
-    plan.groups.get(0)
-}
-
-/// The larger of a number and a count of cells.
-fn at_least(most: usize, cells: &[u32]) -> usize
-    ensures most { most ≤ result }
-    ensures cells { length cells.now ≤ result }
-{
-    if most < cells.len() {
-        cells.len()
-    } else {
-        most
-    }
-}
-
-/// How many cells a piece owns at most.
-fn most_own(checked: &Checked<'_>) -> usize
-    ensures { IsMostOwn (layout_of checked.now) result }
-{
-    own_is_of_work();
-    let mut most = 0;
-    for piece in 0..checked.pieces() {
-        most = at_least(most, checked.own(piece));
-    }
-    most
-}
-
 /// The pieces of a checked plan on an input, for workers at its board.
-fn pieces_on<'a, J: Run>(checked: &'a Checked<'_>, inputs: &'a Inputs) -> Pieces<'a>
+fn pieces_on<'a, J: Run>(checked: &'a Checked<'a>, inputs: &'a Inputs, most: usize) -> Pieces<'a>
     requires layout { J.layout ≡ layout_of checked.now }
     requires values { J.values ≡ values_of checked.now inputs.now }
     requires input { IsFor checked.now.algo.now inputs.now }
-    ensures { AreReady J.layout J.values (plan_of result.plan.now) (certificate_of result.cert.now) (picture_of result.inputs.now) (group_of result.group.now) result.most }
+    requires fetched { IsMostFetched checked.now (pieces_of (layout_of checked.now)) most }
+    requires runnable { IsRunnable (plan_checked checked.now).groups most }
+    ensures ready { CanRun J.layout J.values result.checked.now (picture_of result.inputs.now) result.most }
+    ensures same { result.checked.now ≡ checked.now }
 {
-    parts_are_the_work();
-    nothing_is_fetched();
-    shown_is_narrow();
     own_is_of_work();
+    works_are_sound();
+    values_are_targets();
     runs_give_values();
-    let plan = checked.plan();
-    let Some(group) = only_group(plan) else {
-        unreachable!()
-    };
+    runs_are_the_work();
+    pieces_are_narrow();
+    cells_are_numbered();
+    points_are_counted();
+    let _count = checked.pieces();
     Pieces {
-        plan,
-        cert: checked.cert(),
-        group,
+        checked,
         inputs,
         most: most_own(checked),
     }
 }
 
-/// The memory of two workers.
-fn scratches<J: Run, P: PrivateRuns<J>>(
+/// The memory of one worker, who looks at so many cells for a piece at most.
+fn desk_for<'a, J: Run, P: PrivateRuns<J>>(
     alloc: Global,
     runs: &P,
-) -> Result<(Scratch, Scratch), AllocError>
-    requires { P.gives runs.now }
-    ensures { IfOk result (λ both. P.suffices runs.now both.0 × P.suffices runs.now both.1) }
+    cells: &'a PlanCells<'a>,
+    most: usize,
+) -> Result<Desk<'a>, AllocError>
+    requires runs { P.gives runs.now }
+    requires plan { cells.now.checked.now ≡ P.plan runs.now }
+    requires most { IsMostFetched (P.plan runs.now) (pieces_of J.layout) most }
+    ensures scratches { IfOk result (λ desk. P.suffices runs.now desk.scratches.items) }
+    ensures room { IfOk result (λ desk. HasRoom (P.plan runs.now) (pieces_of J.layout) desk.looked) }
 {
-    Ok((runs.scratch(alloc)?, runs.scratch(alloc)?))
+    let scratches = runs.scratches(alloc)?;
+    let looked = LookedCells::new(alloc, cells, most)?;
+    Ok(Desk { scratches, looked })
+}
+
+/// The work of two workers at a board that was just opened, whose first seat comes back. All memory is taken before the
+/// first worker starts.
+fn work_on<J: Run + Send + Sync, R: Threads + Wait + Sync>(
+    rt: &R,
+    alloc: Global,
+    board: &Board<J>,
+    mut first: BoardSeat,
+    checked: &Checked<'_>,
+    inputs: &Inputs,
+    most: usize,
+) -> Result<BoardSeat, AllocError>
+    requires layout { J.layout ≡ layout_of checked.now }
+    requires values { J.values ≡ values_of checked.now inputs.now }
+    requires input { IsFor checked.now.algo.now inputs.now }
+    requires fetched { IsMostFetched checked.now (pieces_of (layout_of checked.now)) most }
+    requires runnable { IsRunnable (plan_checked checked.now).groups most }
+    requires seat { first ≡ place board.now first_view }
+    ensures { IfOk result (λ seat. seat.board ≡ board.now) }
+{
+    let cells = PlanCells::of(alloc, checked)?;
+    let runs = pieces_on::<J>(checked, inputs, most);
+    let mut one = desk_for::<J, Pieces<'_>>(alloc, &runs, &cells, most)?;
+    let mut two = desk_for::<J, Pieces<'_>>(alloc, &runs, &cells, most)?;
+    let Ok(second) = board.seat(&mut first) else {
+        unreachable!()
+    };
+    let (first, _second) = work_both(rt, alloc, board, &runs, first, &mut one, second, &mut two);
+    Ok(first)
 }
 
 /// The run, on a board for this checked plan and this input.
-fn run_on<J: Run + Send + Sync, R: Threads + Sync>(
+fn run_on<J: Run + Send + Sync, R: Threads + Wait + Sync>(
     rt: &R,
     alloc: Global,
     checked: &Checked<'_>,
@@ -177,28 +190,31 @@ fn run_on<J: Run + Send + Sync, R: Threads + Sync>(
 {
     own_is_of_work();
     pictures_are_said();
-    let runs = pieces_on::<J>(checked, inputs);
-    let (board, mut first) = open::<J>(alloc, checked, inputs)?;
-    let Ok(second) = board.seat(&mut first) else {
-        unreachable!()
-    };
-    let (one, two) = scratches::<J, Pieces<'_>>(alloc, &runs)?;
-    let (mut first, second) = work_both(rt, alloc, &board, (first, one), (second, two), &runs);
-    board.join(&mut first, second);
-    match board.close(first) {
+    let most = most_fetched(checked);
+    let (board, mut seat) = open::<J>(alloc, checked, inputs)?;
+    if is_runnable(checked.plan(), most) {
+        seat = work_on(rt, alloc, &board, seat, checked, inputs, most)?;
+    }
+    match board.close(seat) {
         Ok(image) => Ok(image),
         Err(Unfinished(piece)) => Err(RunError::Unfinished(piece)),
     }
 }
 
 /// The picture that the algorithm says of the input, computed by a crew of two: the caller's thread and one more. Each
-/// draws a piece, computes it by its private run, puts its own cells and finishes it, until all pieces are drawn. Where no
-/// thread can be started the caller computes them all.
+/// draws a piece, waits until the pieces that it needs are finished, looks at the cells that it fetches, computes it by its
+/// private run, puts its own cells and finishes it, until all pieces are drawn. Where no thread can be started the caller
+/// computes them all.
+///
+/// No worker starts, and all pieces stay unfinished, where some grid has more than four symbols, or where pieces fetch
+/// cells and some region has a coordinate that is no `i32`.
 ///
 /// The board takes 8 bytes for each piece and each cell (twice as much while it opens), and keeps the own cells and the
-/// cells of the picture, 4 bytes each, and the picture's samples, 2 bytes each. Each worker has a scratch, which takes 24
-/// bytes for each place of the plan's buffers and for each line that binds a symbol, and 8 bytes for each own cell of the
-/// piece that owns most. All this is taken before the first worker starts; the workers take no memory.
+/// cells of the picture, 4 bytes each, and the picture's samples, 2 bytes each. For each coordinate of a group's region
+/// 16 bytes are kept. Each worker has a scratch for each group, which takes 24 bytes for each place of the group's buffers
+/// and for each line that binds a symbol, and 8 bytes for each own cell of the piece that owns most; and for each fetched
+/// cell of the piece that fetches most 8 bytes, and 16 or more in an index of these cells. All this is taken before the
+/// first worker starts; the workers take no memory.
 ///
 /// # Errors
 /// `Memory` where memory runs out, which is before the first worker starts. `Unfinished` with the lowest piece that is not

@@ -1,89 +1,160 @@
 //! The values that a piece gives its own cells.
 
-ghost use Rattle.std.specs.Prelude.{◌≡◌, ◌<◌, IfOk, map};
-ghost use Rattle.interpreter.specs.declared.scratch.Scratch.{Scratch as Memory};
+ghost use Rattle.std.specs.Prelude.{◌≡◌, ◌<◌, ◌≤◌, ℕ, List, IfOk, length, map, slice_index};
+ghost use Rattle.checked.specs.declared.checked.Checked.{Checked as CheckedPlan};
 ghost use Rattle.board.specs.Layout.{own_of, pieces_of, value_at};
-ghost use Rattle.crew.specs.Private.{nothing_fetched};
+ghost use Rattle.crew.specs.Private.{fetched_of, given_in, needs_of, told, HasLooked, IsOwnOf};
+ghost use Rattle.interpreter.specs.declared.scratch.Scratch.{Scratch as RunMemory};
 
 use algo::Inputs;
 use board::Run;
-use cert::Cert;
+use checked::Checked;
 use interpreter::{Cells, Scratch, run_piece_in};
-use nest::{Group, Plan};
-use numeric::Ty;
+use looked::LookedCells;
+use numeric::wrap;
+use places::{grid_point, place_of};
 use std::alloc::{AllocError, Global};
 use tree::Value;
+
+/// The memory of one worker: that of the private runs of each group's pieces, and what it has looked at.
+#[derive(Drop)]
+pub(crate) struct Desk<'a> {
+    pub(crate) scratches: Vec<Scratch>,
+    pub(crate) looked: LookedCells<'a>,
+}
+
+impl Desk<'_> {
+    /// The numbers that the last run of a piece of a group gave.
+    pub(crate) fn given(&self, group: usize) -> &[i64]
+        requires { group < length self.now.scratches.items }
+        ensures { result.now ≡ given_in self.now.scratches.items group }
+    {
+        self.scratches[group].given()
+    }
+}
 
 /// The private runs of the pieces that a board is for.
 pub(crate) trait PrivateRuns<J: Run> {
     ghost gives: { Self → Type 0 };
 
-    ghost suffices: { Self → Memory → Type 0 };
+    ghost suffices: { Self → List RunMemory → Type 0 };
+
+    ghost plan: { Self → CheckedPlan };
 
     /// The memory that one worker needs for the private runs of all pieces.
     ///
     /// # Errors
     /// `AllocError` where memory runs out.
-    fn scratch(&self, alloc: Global) -> Result<Scratch, AllocError>
+    fn scratches(&self, alloc: Global) -> Result<Vec<Scratch>, AllocError>
         requires { gives self.now }
-        ensures { IfOk result (λ scratch. suffices self.now scratch) };
+        ensures { IfOk result (λ scratches. suffices self.now scratches.items) };
 
-    /// The private run of a piece. It takes no memory, and leaves the values of the piece's own cells in the scratch, in
-    /// the order in which they are put.
-    fn run(&self, alloc: Global, scratch: &mut Scratch, piece: u32)
+    /// The numbers of the pieces that a piece needs.
+    fn needs(&self, piece: u32) -> &[u32]
         requires runs { gives self.now }
-        requires scratch { suffices self.now scratch.old }
         requires piece { piece < pieces_of J.layout }
-        ensures values { scratch.new.state.given.items ≡ map (value_at J.values) (own_of J.layout piece) }
-        ensures scratch { suffices self.now scratch.new };
+        ensures needs { result.now ≡ needs_of (plan self.now) piece }
+        ensures pieces { (k : ℕ) → k < length result.now → slice_index result.now k < pieces_of J.layout };
+
+    /// The numbers of the cells that a piece fetches, each of which a needed piece owns.
+    fn fetched(&self, piece: u32) -> &[u32]
+        requires runs { gives self.now }
+        requires piece { piece < pieces_of J.layout }
+        ensures fetched { result.now ≡ fetched_of (plan self.now) piece }
+        ensures needed { (k : ℕ) → k < length result.now → IsOwnOf J.layout (needs_of (plan self.now) piece) (slice_index result.now k) };
+
+    /// The private run of a piece, of whose fetched cells the desk has the bits. It takes no memory. It answers the number
+    /// of the piece's group, and leaves the values of the piece's own cells in the desk, in the order in which they are put.
+    fn run(&self, alloc: Global, desk: &mut Desk<'_>, piece: u32) -> usize
+        requires runs { gives self.now }
+        requires scratches { suffices self.now desk.old.scratches.items }
+        requires piece { piece < pieces_of J.layout }
+        requires looked { HasLooked J.values (plan self.now) piece desk.old.looked }
+        ensures place { result < length desk.new.scratches.items }
+        ensures values { given_in desk.new.scratches.items result ≡ map (value_at J.values) (own_of J.layout piece) }
+        ensures scratches { suffices self.now desk.new.scratches.items }
+        ensures looked { desk.new.looked ≡ desk.old.looked };
 }
 
-/// The fetched cells of a piece that fetches none, as all pieces of the plans that the checker accepts.
-struct NoCells;
+/// What a piece is told of the cells that it fetches: of each the value of its function's type that has the bits that
+/// were looked at.
+#[derive(Drop)]
+struct Told<'a, 'b> {
+    looked: &'a LookedCells<'b>,
+}
 
-impl Cells for NoCells {
-    ghost cell = { λ _. nothing_fetched };
+impl Cells for Told<'_, '_> {
+    ghost cell = { λ x. told x.looked.now };
 
-    fn cell(&self, _function: &str, _at: &[i64]) -> Value {
+    fn cell(&self, function: &str, at: &[i64]) -> Value {
+        let Value { ty, number } = self.looked.cell(function, at);
         Value {
-            ty: Ty::U8,
-            number: 0,
+            ty,
+            number: wrap(ty, number),
         }
     }
 }
 
-/// The pieces of an accepted plan, with its certificate and its one group, on an input. None owns more than so many cells.
+/// The pieces of a checked plan on an input, and the number of cells that none owns more of.
 #[derive(Clone, Copy, Drop)]
 pub(crate) struct Pieces<'a> {
-    pub plan: &'a Plan,
-    pub cert: &'a Cert,
-    pub group: &'a Group,
+    pub checked: &'a Checked<'a>,
     pub inputs: &'a Inputs,
     pub most: usize,
 }
 
 impl<J: Run> PrivateRuns<J> for Pieces<'_> {
     ghost use Rattle.algo.specs.View.{picture_of};
-    ghost use Rattle.cert.specs.Certificate.{certificate_of};
-    ghost use Rattle.crew.specs.Private.{AreReady, HasMemory};
-    ghost use Rattle.nest.specs.View.{group_of, plan_of};
+    ghost use Rattle.checked.specs.View.{certificate_checked, plan_checked};
+    ghost use Rattle.crew.specs.Private.{CanRun, HasMemory};
 
-    ghost gives = { λ runs. AreReady J.layout J.values (plan_of runs.plan.now) (certificate_of runs.cert.now) (picture_of runs.inputs.now) (group_of runs.group.now) runs.most };
+    ghost gives = { λ runs. CanRun J.layout J.values runs.checked.now (picture_of runs.inputs.now) runs.most };
 
-    ghost suffices = { λ runs memory. HasMemory J.layout (plan_of runs.plan.now) (certificate_of runs.cert.now) memory };
+    ghost suffices = { λ runs scratches. HasMemory J.layout (plan_checked runs.checked.now) (certificate_checked runs.checked.now) scratches };
 
-    fn scratch(&self, alloc: Global) -> Result<Scratch, AllocError> {
-        Scratch::new(alloc, self.group, self.cert, 0, self.most)
+    ghost plan = { λ runs. runs.checked.now };
+
+    fn scratches(&self, alloc: Global) -> Result<Vec<Scratch>, AllocError> {
+        let plan = self.checked.plan();
+        let cert = self.checked.cert();
+        let mut scratches = Vec::new(alloc);
+        for (number, group) in plan.groups.iter().enumerate() {
+            scratches.push(Scratch::new(alloc, group, cert, number, self.most)?)?;
+        }
+        Ok(scratches)
     }
 
-    fn run(&self, alloc: Global, scratch: &mut Scratch, piece: u32) {
+    fn needs(&self, piece: u32) -> &[u32] {
+        self.checked.needs(piece as usize)
+    }
+
+    fn fetched(&self, piece: u32) -> &[u32] {
+        self.checked.fetched(piece as usize)
+    }
+
+    fn run(&self, alloc: Global, desk: &mut Desk<'_>, piece: u32) -> usize {
+        let plan = self.checked.plan();
+        let cert = self.checked.cert();
+        let place = place_of(plan, piece);
+        let grid = plan.groups[place.group].grid.as_slice();
+        let at = grid_point(alloc, grid, place.rank);
+        let scratch = &mut desk.scratches[place.group];
         let image = self.inputs.image();
-        // The group's grid counts the pieces.
-        let at = [piece];
+        let cells = Told {
+            looked: &desk.looked,
+        };
         let Ok(()) = run_piece_in(
-            alloc, scratch, self.plan, self.cert, image, &NoCells, 0, &at,
+            alloc,
+            scratch,
+            plan,
+            cert,
+            image,
+            &cells,
+            place.group,
+            at.as_slice(),
         ) else {
             unreachable!()
         };
+        place.group
     }
 }

@@ -1,3 +1,4 @@
+pub mod Plans
 pub mod Ranks
-pub mod Shown
+pub mod Regions
 pub mod Spans

@@ -9,7 +9,8 @@ use Rattle.nest.specs.Symbols.{clipped, largest, smallest, turns}
 use Rattle.cert.specs.Cells.{no_symbols}
 use Rattle.owned.proofs.Shared.{length-rising}
 use Rattle.output.specs.declared.axis.Axis.{Axis}
-use Rattle.output.specs.Axes.{first_constant, IsSmallSpan, HasNumber, axis_of, axes_of}
+use Rattle.output.specs.Axes.{HasNumber, axis_of, axes_of}
+use Rattle.ready.specs.Ready.{first_constant, IsSmallSpan}
 use lib.Dec.{T}
 use lib.Signed.{non_neg}
 use lib.IntN.{nat_abs}

@@ -1,28 +1,10 @@
--- The coordinates by which a point of the output is counted.
-use Rattle.std.specs.Prelude.{◌≡◌, ℕ, ◌+◌, ◌*◌, ◌<◌, ◌≤◌, ◌^◌, List, [], ◌∷◌, length, map, ℤ, pos, ◌-ℤ◌, ◌≤ℤ◌, slice_get}
-use Rattle.lin.specs.Forms.{Form, IsWithin}
+-- The coordinates by which the points of a region are counted.
+use Rattle.std.specs.Prelude.{ℕ, ◌+◌, ◌*◌, ◌<◌, ◌≤◌, ◌^◌, ◌&&◌, Bool, true, false, List, [], ◌∷◌, length, map, ℤ, pos, ◌+ℤ◌, ◌-ℤ◌, ◌≤ℤ◌, int_le, int_lt}
+use Rattle.lin.specs.Forms.{IsWithin}
 use Rattle.lin.specs.declared.span.Span1.{Span1}
-use Rattle.meaning.specs.Algorithm.{Algorithm}
-use Rattle.nest.specs.Plan.{Plan}
-use Rattle.nest.specs.Symbols.{largest, smallest, clipped, turns}
+use Rattle.nest.specs.Symbols.{largest, clipped, turns}
 use Rattle.cert.specs.Cells.{no_symbols}
-use Rattle.pieces.specs.Numbers.{group_region}
-use Rattle.output.specs.Cells.{place_of_group}
 use Rattle.output.specs.declared.axis.Axis.{Axis}
-
--- the constant of the first form, and 0 where there is none
-abbrev pub first_constant : List Form → ℤ
-first_constant [] = pos 0
-first_constant (f ∷ fs) = f.constant
-
--- the ends are the constants of the first forms, and from 1 to 8192 numbers lie between them
-pub record IsSmallSpan (x : Span1) : Type 0 where
-  pub low : largest no_symbols x.lower ≡ first_constant x.lower
-  pub high : smallest no_symbols x.upper ≡ first_constant x.upper
-  pub low_within : IsWithin (2 ^ 40) (first_constant x.lower)
-  pub high_within : IsWithin (2 ^ 40) (first_constant x.upper)
-  pub some : 1 ≤ length (turns no_symbols x)
-  pub few : length (turns no_symbols x) ≤ 8192
 
 -- the low end of a span and how many numbers it has
 abbrev pub axis_of : Span1 → Axis
@@ -54,9 +36,13 @@ abbrev pub rank_of : List Axis → List ℤ → ℕ
 rank_of (x ∷ xs) (z ∷ zs) = clipped (z -ℤ x.low) + x.count * rank_of xs zs
 rank_of _ _ = 0
 
--- the region of the output's group
-abbrev pub output_region : Algorithm → Plan → List Span1
-output_region a p = group_region (slice_get p.groups (place_of_group p.groups a.output))
+-- the low end is near 0, and the axis short
+pub record IsNear (x : Axis) : Type 0 where
+  pub low : IsWithin (2 ^ 40) x.low
+  pub short : x.count ≤ 8192
 
-abbrev pub output_axes : Algorithm → Plan → List Axis
-output_axes a p = axes_of (output_region a p)
+-- whether each coordinate of the point is one of its axis
+abbrev pub is_on : List Axis → List ℤ → Bool
+is_on [] [] = true
+is_on (x ∷ xs) (z ∷ zs) = int_le x.low z && int_lt z (x.low +ℤ pos x.count) && is_on xs zs
+is_on _ _ = false

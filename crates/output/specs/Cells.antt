@@ -1,18 +1,33 @@
--- The cell of each point of the output, by its number.
-use Rattle.std.specs.Prelude.{◌≡◌, ℕ, zero, suc, ◌+◌, ◌<◌, List, [], ◌∷◌, length, ℤ, true, false}
+-- The cell of each point of a group, and of the output, by its number.
+use Rattle.std.specs.Prelude.{◌≡◌, ℕ, ◌-◌, ◌^◌, ◌<◌, List, length, min, if◌then◌else◌, Option, Some, None, ℤ, slice_get}
 use Rattle.meaning.specs.Algorithm.{Algorithm}
 use Rattle.meaning.specs.Functions.{AreSamples}
-use Rattle.meaning.specs.Names.{same_name}
 use Rattle.meaning.specs.Value.{output_value}
 use Rattle.nest.specs.Plan.{Group, Plan}
-use Rattle.cert.specs.Cells.{cell, cells}
-use Rattle.pieces.specs.Numbers.{cell_number}
+use Rattle.cert.specs.Cells.{cell, cells, first_cell}
+use Rattle.pieces.specs.Numbers.{cell_number, group_region, is_cell}
 use Rattle.pieces.specs.Work.{target}
+use Rattle.ready.specs.Ready.{place_of_group}
+use Rattle.output.specs.Axes.{axes_of}
+use Rattle.output.specs.declared.axis.Axis.{Axis}
+use Rattle.output.specs.declared.plan.GroupCells.{GroupCells}
 
--- the place of the first group of this function, and how many groups there are where none is
-abbrev pub place_of_group : List Group → List ℕ → ℕ
-place_of_group [] name = 0
-place_of_group (g ∷ gs) name = elim (same_name g.function name) [ true ↦ 0 | false ↦ 1 + place_of_group gs name ]
+-- the cells of one group: how many cells come before them, and the coordinates of its region
+pub record Counted : Type 0 where
+  pub first : ℕ
+  pub axes : List Axis
+
+-- what is held of a group
+abbrev pub counted : GroupCells → Counted
+counted x = record { first = x.first; axes = x.axes.items }
+
+-- the cells of the group of this number; more cells than a u32 holds count as the greatest u32
+abbrev pub cells_of_group : List Group → ℕ → Counted
+cells_of_group gs n = record { first = min (first_cell gs n) (2 ^ 32 - 1); axes = axes_of (group_region (slice_get gs n)) }
+
+-- the number of a group's cell at a point, none where its region has not the point
+abbrev pub number_in : Plan → ℕ → List ℤ → Option ℕ
+number_in p n at = if is_cell p (cell n at) then Some (cell_number p (cell n at)) else None
 
 -- the number of the cell that has a point of the output
 abbrev pub number_of_point : Algorithm → Plan → List ℤ → ℕ

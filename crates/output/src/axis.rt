@@ -1,7 +1,9 @@
 //! The coordinates of a region.
 
-ghost use Rattle.std.specs.Prelude.{◌≡◌, ◌≤◌, ◌<◌, ◌^◌, All, IfOk};
-ghost use Rattle.output.specs.Axes.{IsOn, IsSmallSpan, axes_of, axis_of, first_constant, point_count, rank_of};
+ghost use Rattle.std.specs.Prelude.{◌≡◌, ◌≤◌, ◌^◌, All, IfOk};
+ghost use Rattle.std.specs.List.{AllByRecursion};
+ghost use Rattle.output.specs.Axes.{IsNear, IsOn, axes_of, axis_of, is_on, point_count, rank_of};
+ghost use Rattle.ready.specs.Ready.{IsSmallSpan, first_constant};
 
 use lin::{Forms, Span1};
 use std::alloc::{AllocError, Global};
@@ -58,4 +60,20 @@ pub(crate) fn rank_of(axes: &[Axis], at: &[i64]) -> u32
         rank = (at[place] - axis.low) as u32 + axis.count * rank;
     }
     rank
+}
+
+/// Whether the numbers are of these coordinates, one of each.
+pub(crate) fn is_on(axes: &[Axis], at: &[i64]) -> bool
+    requires { AllByRecursion IsNear axes.now }
+    ensures { result ≡ is_on axes.now at.now }
+{
+    match axes {
+        [] => at.is_empty(),
+        [axis, axes @ ..] => match at {
+            [] => false,
+            [z, at @ ..] => {
+                axis.low <= *z && *z < axis.low + i64::from(axis.count) && is_on(axes, at)
+            }
+        },
+    }
 }

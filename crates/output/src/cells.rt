@@ -2,36 +2,39 @@
 
 ghost use Rattle.std.specs.Prelude.{◌≡◌, IfOk, true};
 ghost use Rattle.image.specs.Raster.{is_within};
-ghost use Rattle.audit.specs.View.{algorithm_checked, plan_checked};
+ghost use Rattle.checked.specs.View.{algorithm_checked, plan_checked};
 ghost use Rattle.output.specs.Cells.{HoldsOutput, number_of_point};
-ghost use Rattle.output.specs.Axes.{output_axes};
+ghost use Rattle.ready.specs.Ready.{place_of_group};
 
-use crate::axis::{Axis, axes_of, rank_of};
-use audit::Checked;
+use crate::plan::PlanCells;
+use checked::Checked;
 use std::alloc::{AllocError, Global};
 
 /// Which cell of a checked plan has each point of the output.
-///
-/// It holds a low end and a count for each coordinate of the output, so that a point's cell is told by a short sum.
 #[derive(Drop)]
 pub struct OutputCells<'a> {
     checked: &'a Checked<'a>,
-    axes: Vec<Axis>,
-    ghost axes_are: { ∥ axes.items ≡ output_axes (algorithm_checked checked.now) (plan_checked checked.now) ∥₁ },
+    cells: PlanCells<'a>,
+    place: usize,
+    ghost cells_are: { cells.checked.now ≡ checked.now },
+    ghost place_is: { place ≡ place_of_group (plan_checked checked.now).groups (algorithm_checked checked.now).output },
 }
 
 impl<'a> OutputCells<'a> {
     /// The cells of a checked plan's output.
+    ///
+    /// # Errors
+    /// `AllocError` where memory runs out.
     pub fn of(alloc: Global, checked: &'a Checked<'a>) -> Result<OutputCells<'a>, AllocError>
         ensures { IfOk result (λ cells. cells.checked.now ≡ checked.now) }
     {
-        match checked.plan().groups.as_slice() {
-            [group, ..] => Ok(OutputCells {
-                checked,
-                axes: axes_of(alloc, group.region.as_slice())?,
-            }),
-            [] => unreachable!(),
-        }
+        let cells = PlanCells::of(alloc, checked)?;
+        let place = cells.place(checked.algo().output().name.as_str());
+        Ok(OutputCells {
+            checked,
+            cells,
+            place,
+        })
     }
 
     /// The cell that has a point of the output.
@@ -42,6 +45,9 @@ impl<'a> OutputCells<'a> {
         ensures number { result ≡ number_of_point (algorithm_checked self.now.checked.now) (plan_checked self.now.checked.now) at.now }
         ensures holds { HoldsOutput (algorithm_checked self.now.checked.now) (plan_checked self.now.checked.now) at.now }
     {
-        rank_of(&self.axes, at)
+        match self.cells.number(self.place, at) {
+            Some(number) => number,
+            None => unreachable!(),
+        }
     }
 }

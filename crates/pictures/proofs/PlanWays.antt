@@ -13,7 +13,7 @@ use Rattle.algo.specs.Refusal.{IsAlgorithmText}
 use Rattle.algo.specs.View.{picture_said}
 use Rattle.audit.specs.declared.refusal.CheckError.{CheckError}
 use Rattle.audit.specs.declared.refusal.CheckError.TheVariants as check
-use Rattle.audit.specs.Faults.{IsRefusal}
+use Rattle.checker.specs.Refused.{IsRefused}
 use Rattle.plan_lines.specs.declared.error.TextError.{TextError}
 use Rattle.plan_lines.specs.declared.error.TextError.TheVariants as error
 use Rattle.plan_file.specs.File.{IsFileOf, IsRefusedFile}
@@ -34,7 +34,7 @@ refuses_file a file (error.Form line) h = h
 refuses_file a file (error.Limit line) h = h
 
 pub refuses_plan : (a : Algorithm) (file : List ℕ) (plan : PlanMade) (cert : Cert) (e : CheckError) → IsFileOf file (plan_of plan) (certificate_of cert)
-    → IsRefusal a (plan_of plan) (certificate_of cert) e → IsFileRefused a file (plan_fault e)
+    → IsRefused a (plan_of plan) (certificate_of cert) e → IsFileRefused a file (plan_fault e)
 refuses_plan a file plan cert check.Memory said h = tt
 refuses_plan a file plan cert (check.Refused code line) said h = record { plan = plan; cert = cert; file = said; refused = h }
 

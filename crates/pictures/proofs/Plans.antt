@@ -15,12 +15,12 @@ use Rattle.rows.specs.declared.error.RowsError.{RowsError}
 use Rattle.rows.specs.declared.error.RowsError.TheVariants as no_rows
 use Rattle.rows.specs.Made.{IsMade, IsRefusalOf}
 use Rattle.rows.specs.Rows.{RowsFailByRangesAndLimits, row_made}
-use Rattle.audit.specs.declared.refusal.K.{K}
-use Rattle.audit.specs.declared.refusal.K.TheVariants.{K1, K2, K3, K4, K5, K6, K7, K8, K9, K10, K11, K12, K13, K14}
+use Rattle.refusals.specs.declared.code.K.{K}
+use Rattle.refusals.specs.declared.code.K.TheVariants.{K1, K2, K3, K4, K5, K6, K7, K8, K9, K10, K11, K12, K13, K14}
 use Rattle.audit.specs.declared.refusal.CheckError.{CheckError}
 use Rattle.audit.specs.declared.refusal.CheckError.TheVariants.{Refused, Memory}
 use Rattle.audit.specs.Faults.{IsRefusal}
-use Rattle.audit.specs.Refusal.{number_of}
+use Rattle.refusals.specs.Codes.{number_of}
 use Rattle.pictures.specs.Faults.{plan_fault, rows_fault}
 use Rattle.pictures.specs.Rows.{HasNoRows, IsAccepted, IsPlanRefused}
 

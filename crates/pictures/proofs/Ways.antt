@@ -17,8 +17,8 @@ use Rattle.pnm.specs.Text.{text_of}
 use Rattle.pictures.specs.declared.fault.Fault.{Fault}
 use Rattle.pictures.specs.declared.fault.Fault.TheVariants.{Memory, Algo, Updates, TooLarge, Plan, Image, Form, Limit, Order, Unfinished, Budget}
 use Rattle.algo.specs.declared.inputs.Inputs.{Inputs}
-use Rattle.audit.specs.declared.checked.Checked.{Checked}
-use Rattle.audit.specs.View.{plan_checked}
+use Rattle.checked.specs.declared.checked.Checked.{Checked}
+use Rattle.checked.specs.View.{plan_checked}
 use Rattle.crew.specs.declared.running.RunError.{RunError}
 use Rattle.crew.specs.declared.running.RunError.TheVariants as crew
 use Rattle.crew.specs.Refusals.{IsRunRefused}

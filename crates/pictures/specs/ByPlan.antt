@@ -11,10 +11,10 @@ use Rattle.algo.specs.Refusal.{IsAlgorithmText}
 use Rattle.algo.specs.View.{picture_said}
 use Rattle.plan_lines.specs.declared.error.TextError.TheVariants as read
 use Rattle.plan_file.specs.File.{IsFileOf, IsRefusedFile}
-use Rattle.headline.specs.Shown.{Headline, Shown}
-use Rattle.audit.specs.declared.refusal.K.{K}
+use Rattle.headline.specs.Shown.{Headline}
+use Rattle.checker.specs.Refused.{Accepts, IsRefused}
+use Rattle.refusals.specs.declared.code.K.{K}
 use Rattle.audit.specs.declared.refusal.CheckError.TheVariants as check
-use Rattle.audit.specs.Faults.{IsRefusal}
 use Rattle.pnm.specs.declared.error.PnmError.{PnmError}
 use Rattle.pnm.specs.declared.error.PnmError.TheVariants as image
 use Rattle.pnm.specs.Reading.{wanted_of}
@@ -29,7 +29,7 @@ use Rattle.pictures.specs.Rows.{IsImageRefused, IsTextRefused, IsUntouched}
 -- the text says this plan and this certificate, and they are right for the algorithm
 pub record IsAccepted (a : Algorithm) (text : List ℕ) (plan : PlanMade) (cert : Cert) : Type 0 where
   pub file : IsFileOf text (plan_of plan) (certificate_of cert)
-  pub shown : Shown a (plan_of plan) (certificate_of cert)
+  pub accepted : Accepts a (plan_of plan) (certificate_of cert)
   pub headline : Headline a (plan_of plan) (certificate_of cert)
 
 -- the text says a plan that the checker accepts
@@ -41,7 +41,7 @@ pub record IsWrong (a : Algorithm) (text : List ℕ) (code : K) (line : ℕ) : T
   pub plan : PlanMade
   pub cert : Cert
   pub file : IsFileOf text (plan_of plan) (certificate_of cert)
-  pub refused : IsRefusal a (plan_of plan) (certificate_of cert) (check.Refused code line)
+  pub refused : IsRefused a (plan_of plan) (certificate_of cert) (check.Refused code line)
 
 -- why a plan file is refused; want of memory says nothing
 abbrev pub IsFileRefused : Algorithm → List ℕ → Fault → Type 0

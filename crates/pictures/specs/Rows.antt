@@ -18,8 +18,8 @@ use Rattle.headline.specs.Shown.{Headline, Shown}
 use Rattle.rows.specs.declared.error.RowsError.{RowsError}
 use Rattle.rows.specs.declared.error.RowsError.TheVariants as no_rows
 use Rattle.rows.specs.Made.{IsMade, IsRefusalOf}
-use Rattle.audit.specs.declared.refusal.K.{K}
-use Rattle.audit.specs.declared.refusal.K.TheVariants.{K4, K14}
+use Rattle.refusals.specs.declared.code.K.{K}
+use Rattle.refusals.specs.declared.code.K.TheVariants.{K4, K14}
 use Rattle.audit.specs.declared.refusal.CheckError.TheVariants as check
 use Rattle.audit.specs.Faults.{IsRefusal}
 use Rattle.pnm.specs.declared.error.PnmError.{PnmError}

@@ -4,7 +4,7 @@ ghost use Rattle.std.specs.Prelude.{◌≡◌, ◌⊎◌, ◌↔◌, true, false
 ghost use Rattle.algo.specs.Parts.{input_frame};
 ghost use Rattle.algo.specs.Refusal.{IsAlgorithmText};
 ghost use Rattle.algo.specs.View.{algorithm_of, picture_said, samples_of, IsFor};
-ghost use Rattle.audit.specs.View.{algorithm_checked, plan_checked};
+ghost use Rattle.checked.specs.View.{algorithm_checked, plan_checked};
 ghost use Rattle.image.specs.View.{image_of};
 ghost use Rattle.pnm.specs.declared.error.PnmError.TheVariants.{Device};
 ghost use Rattle.pnm.specs.Reading.{wanted_of};
@@ -15,7 +15,8 @@ ghost use Rattle.pictures.specs.Rows.{IsAccepted, IsCrewRefused, IsDone, IsImage
 use crate::fault::Fault;
 use crate::laws::read_images_fit;
 use algo::{Algo, Inputs};
-use audit::{Checked, check};
+use audit::check;
+use checked::Checked;
 use crew::run;
 use headline::laws::shown_never_fails;
 use image::Image;

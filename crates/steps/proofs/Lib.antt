@@ -1,5 +1,3 @@
-pub mod Walks
-pub mod Small
 pub mod Accepted
 pub mod Runs
 pub mod Outputs

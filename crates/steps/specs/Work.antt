@@ -1,8 +1,8 @@
 -- The work that a checked plan is on an input.
 use Rattle.algo.specs.declared.inputs.Inputs.{Inputs}
 use Rattle.algo.specs.View.{samples_of}
-use Rattle.audit.specs.declared.checked.Checked.{Checked}
-use Rattle.audit.specs.View.{algorithm_checked, plan_checked, certificate_checked}
+use Rattle.checked.specs.declared.checked.Checked.{Checked}
+use Rattle.checked.specs.View.{algorithm_checked, plan_checked, certificate_checked}
 use Rattle.orders.specs.Work.{Work}
 use Rattle.pieces.specs.Work.{work_of}
 

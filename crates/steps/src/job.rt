@@ -1,25 +1,28 @@
 //! A checked plan on an input, as the work of a crew.
 
+ghost use Rattle.std.specs.Prelude.{◌≡◌};
 ghost use Rattle.algo.specs.View.{IsFor};
 ghost use Rattle.steps.specs.Work.{work_on};
 
-use crate::fetched::NoCells;
-use crate::place::{grid_point, place_of};
 use algo::Inputs;
-use audit::Checked;
+use checked::Checked;
 use evaluation::Stop;
 use interpreter::run_piece;
-use narrow::shown_is_narrow;
+use looked::LookedCells;
+use looked::laws::{pieces_are_narrow, runs_are_the_work};
 use orders::Job;
-use pieces::laws::{nothing_is_fetched, parts_are_the_work};
+use output::PlanCells;
+use places::{grid_point, place_of};
 use std::alloc::{AllocError, Global};
 
-/// A checked plan, and an input of its algorithm.
+/// A checked plan, an input of its algorithm, and the numbers of the plan's cells.
 #[derive(Drop)]
 pub(crate) struct PlanJob<'a> {
     pub(crate) checked: &'a Checked<'a>,
     pub(crate) inputs: &'a Inputs,
+    pub(crate) cells: PlanCells<'a>,
     ghost input: { IsFor checked.now.algo.now inputs.now },
+    ghost cells_are: { cells.checked.now ≡ checked.now },
 }
 
 impl Job for PlanJob<'_> {
@@ -45,23 +48,24 @@ impl Job for PlanJob<'_> {
         self.checked.needs(piece as usize)
     }
 
-    /// The values of the own cells. Accepted plans fetch nothing, so that there are no values to look at.
+    /// The values of the own cells, by the values of the fetched cells in the order in which they were looked at. The run's
+    /// memory is given back when it ends. A grid of more than four symbols counts as want of memory.
     fn private_run(
         &self,
         alloc: Global,
         piece: u32,
-        _looked: &[i64],
+        looked: &[i64],
     ) -> Result<Option<Vec<i64>>, AllocError> {
-        parts_are_the_work();
-        nothing_is_fetched();
-        shown_is_narrow();
+        pieces_are_narrow();
+        runs_are_the_work();
         let plan = self.checked.plan();
         let place = place_of(plan, piece);
         let grid = plan.groups[place.group].grid.as_slice();
-        let at = grid_point(alloc, grid, place.rank)?;
-        let cells = NoCells {
-            algo: self.checked.algo(),
-        };
+        if grid.len() > 4 {
+            return Err(AllocError);
+        }
+        let at = grid_point(alloc, grid, place.rank);
+        let cells = LookedCells::of(alloc, &self.cells, piece, looked)?;
         let cert = self.checked.cert();
         let image = self.inputs.image();
         let most = self.checked.own(piece as usize).len();

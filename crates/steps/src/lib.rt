@@ -2,9 +2,7 @@
 #![tactic(auto)]
 
 mod alone;
-mod fetched;
 mod job;
-mod place;
 mod replaying;
 mod samples;
 

@@ -2,7 +2,7 @@
 
 ghost use Rattle.std.specs.Prelude.{◌≡◌, ◌<◌, true, IfOk};
 ghost use Rattle.algo.specs.View.{samples_of};
-ghost use Rattle.audit.specs.View.{algorithm_checked};
+ghost use Rattle.checked.specs.View.{algorithm_checked};
 ghost use Rattle.image.specs.Raster.{is_within, natural, raster_point, sample_count};
 ghost use Rattle.meaning.specs.Picture.{picture};
 ghost use Rattle.meaning.specs.Value.{output_value};

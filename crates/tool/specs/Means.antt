@@ -4,8 +4,8 @@ use Rattle.clap.specs.Words.{Text}
 use Rattle.meaning.specs.Algorithm.{Algorithm}
 use Rattle.algo.specs.declared.algorithm.Algo.{Algo}
 use Rattle.algo.specs.View.{algorithm_of}
-use Rattle.audit.specs.declared.checked.Checked.{Checked}
-use Rattle.audit.specs.View.{plan_checked}
+use Rattle.checked.specs.declared.checked.Checked.{Checked}
+use Rattle.checked.specs.View.{plan_checked}
 use Rattle.pictures.specs.declared.fault.Fault.{Fault}
 use Rattle.pictures.specs.declared.fault.Fault.TheVariants.{Memory}
 use Rattle.pictures.specs.Rows as rows

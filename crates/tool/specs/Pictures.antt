@@ -5,8 +5,8 @@ use Rattle.meaning.specs.Algorithm.{Algorithm}
 use Rattle.algo.specs.Parts.{input_frame}
 use Rattle.algo.specs.View.{picture_said}
 use Rattle.algo.specs.Refusal.{IsAlgorithmText}
-use Rattle.audit.specs.declared.checked.Checked.{Checked}
-use Rattle.audit.specs.View.{plan_checked}
+use Rattle.checked.specs.declared.checked.Checked.{Checked}
+use Rattle.checked.specs.View.{plan_checked}
 use Rattle.clap.specs.Words.{Text}
 use Rattle.pnm.specs.declared.error.PnmError.TheVariants.{Device}
 use Rattle.pnm.specs.Reading.{reading, wanted_of}

@@ -1,11 +1,11 @@
 //! Files and streams in memory, which can fail, and the program run over them.
 
+use crate::{FileError, Files, tool};
 use std::alloc::Global;
 use std::io;
 use std::io::{ErrorKind, Read, Write};
 use std::sync::Wait;
 use std::thread::Threads;
-use crate::{FileError, Files, tool};
 
 // A file that was put.
 #[derive(Drop)]

@@ -1,11 +1,11 @@
 //! Files and streams that fail.
 
 use crate::desk_tests::{ALGORITHM, BOTH, Given, INPUT, ROOM, ROWS, Shelf, Taken, answer};
+use crate::{FileError, tool};
 use std::alloc::Global;
 use std::process::Abort;
 use std::sync::Wait;
 use std::thread::Threads;
-use crate::{FileError, tool};
 
 const TEXT: &[u8] = b"pipeline p; input in u8 [2]; func out u8 (x) = in[x]; output out [2];";
 

@@ -7,6 +7,8 @@ mod device;
 #[cfg(test)]
 mod device_tests;
 mod exit;
+#[cfg(test)]
+mod group_tests;
 pub mod laws;
 mod picture;
 #[cfg(test)]

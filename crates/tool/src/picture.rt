@@ -16,7 +16,7 @@ use crate::device::Files;
 use crate::plan::plan_in;
 use crate::request::{PictureRequest, Way};
 use algo::{Algo, Inputs};
-use audit::Checked;
+use checked::Checked;
 use image::Image;
 use pictures::{
     Fault, check_rows, plain_picture, plan_picture, read_algorithm, read_inputs, rows_picture,
@@ -65,7 +65,7 @@ fn means_of<'a, T: Threads + Sync, F: Files>(
     match way {
         Way::Rows => Ok(Means::Rows(check_rows(rt, alloc, algo)?)),
         Way::Plain => Ok(Means::Definitions(algo)),
-        Way::File(name) => Ok(Means::File(plan_in(rt, alloc, files, algo, name)?)),
+        Way::File(name) => Ok(Means::File(plan_in(alloc, files, algo, name)?)),
     }
 }
 

@@ -13,17 +13,15 @@ use crate::picture::algorithm_in;
 use crate::program::flush;
 use crate::request::CheckRequest;
 use algo::Algo;
-use audit::Checked;
+use checked::Checked;
 use pictures::{Fault, check_plan};
 use pnm::PnmError;
 use std::alloc::Global;
 use std::io::Write;
 use std::str;
-use std::thread::Threads;
 
 /// Reads a plan file and has the plan checked against its algorithm.
-pub(crate) fn plan_in<'a, T: Threads + Sync, F: Files>(
-    rt: &T,
+pub(crate) fn plan_in<'a, F: Files>(
     alloc: Global,
     files: &mut F,
     algo: &'a Algo,
@@ -36,7 +34,7 @@ pub(crate) fn plan_in<'a, T: Threads + Sync, F: Files>(
 {
     let bytes = files.get(alloc, name)?;
     match str::from_utf8(bytes.as_slice()) {
-        Ok(file) => check_plan(rt, alloc, algo, file),
+        Ok(file) => check_plan(alloc, algo, file),
         Err(_) => Err(Fault::Image(PnmError::Device)),
     }
 }
@@ -60,8 +58,7 @@ fn tell<W: Write>(out: &mut W, checked: &Checked<'_>) -> Result<(), Fault>
 ///
 /// # Errors
 /// The first refusal: of the algorithm's text, then of the plan file; a text that is not UTF-8 is one of the device.
-pub(crate) fn check_command<T: Threads + Sync, F: Files, W: Write>(
-    rt: &T,
+pub(crate) fn check_command<F: Files, W: Write>(
     alloc: Global,
     files: &mut F,
     out: &mut W,
@@ -73,6 +70,6 @@ pub(crate) fn check_command<T: Threads + Sync, F: Files, W: Write>(
 {
     let text = files.get(alloc, request.algorithm)?;
     let algo = algorithm_in(alloc, text.as_slice())?;
-    let checked = plan_in(rt, alloc, files, &algo, request.plan)?;
+    let checked = plan_in(alloc, files, &algo, request.plan)?;
     tell(out, &checked)
 }

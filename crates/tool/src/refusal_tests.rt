@@ -1,12 +1,12 @@
 //! Refusals of algorithms, plans and images: the line, the status, and how many files were asked for. Nothing is put.
 
 use crate::desk_tests::{ALGORITHM, BOTH, INPUT, ROWS, Shelf, answer};
+use crate::{Fault, status};
 use std::alloc::Global;
 use std::process::Abort;
 use std::sync::Wait;
 use std::test::Fail;
 use std::thread::Threads;
-use crate::{Fault, status};
 
 // What is refused: the text, the image, the calls of files up to then, the status and the line.
 #[derive(Clone, Copy, Drop)]

@@ -3,7 +3,7 @@ use Rattle.std.proofs.lemmas.Int.{to_z-of_z}
 use Rattle.std.proofs.lemmas.List.{length-map}
 use Rattle.std.proofs.lemmas.List.FromFn.{map-range_with_len_more}
 use Rattle.algo.specs.View.{samples_of}
-use Rattle.audit.specs.View.{algorithm_checked, plan_checked}
+use Rattle.checked.specs.View.{algorithm_checked, plan_checked}
 use Rattle.cert.specs.Cells.{cells}
 use Rattle.orders.specs.Seen.{crew_of}
 use Rattle.board.specs.Layout.{value_at}
@@ -21,7 +21,7 @@ loop-cell-preserved c =
     let cell : ℕ = c.loop-cell.cell in
     let f : ℕ → ℤ = value_at (values_of x i) in
     let fits : SFits w64 c.in-Some.value = search rules in
-    let value : to_z w64 (of_z w64 c.in-Some.value) ≡ f cell = to_z-of_z w64 c.in-Some.value fits ∙ right_value c.shown_is_right.ensures c.inputs_are_samples.ensures c.values_are_targets.ensures x i (crew_of c.in_ok-state.state) (replicate 24 0) c.requires c.in_ok-state.ensures cell c.in-Some.value c.in-Some.ensures in
+    let value : to_z w64 (of_z w64 c.in-Some.value) ≡ f cell = to_z-of_z w64 c.in-Some.value fits ∙ right_value c.inputs_are_samples.ensures c.values_are_targets.ensures x i (crew_of c.in_ok-state.state) (replicate 24 0) c.requires c.in_ok-state.ensures cell c.in-Some.value c.in-Some.ensures in
     c.in_ok-push-in-Some.ensures.items ∙ (λ k. c.loop-cell.invariant k ++ value k ∷ []) ∙ sym (map-range_with_len_more f 0 cell cell (omega arith))
 
 pub returns : goal.returns

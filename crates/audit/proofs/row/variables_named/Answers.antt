@@ -8,7 +8,7 @@ use Rattle.meaning.specs.Names.{same_name}
 use Rattle.meaning.specs.Conditions.{function_named}
 use Rattle.algo.specs.Parts.{functions_of}
 use Rattle.algo.specs.declared.function.Function.{Function as Entry}
-use Rattle.audit.proofs.Named.{found_here, found_later}
+use Rattle.checked.proofs.Named.{found_here, found_later}
 use Rattle.audit.proofs.row.variables_named.Goals as goal
 
 pub returns-then-same_name : goal.returns-then-same_name

@@ -1,13 +1,15 @@
 use Rattle.std.proofs.Common.{◌≡◌, ◌-◌}
 use Rattle.board.specs.Layout.{pieces_of}
 use Rattle.board.specs.Views.{next_after, IsIdle}
+use Rattle.crew.specs.Private.{HasRoom}
 use Rattle.crew.proofs.worker.work.Given as goal
 
 abbrev pub invariant-loop-ticket : goal.invariant-loop-ticket
 invariant-loop-ticket g l = record {
   board : l.seat.board ≡ l.initial.seat.board;
   idle : IsIdle l.seat.view;
-  scratch : g.P.PrivateRuns.suffices l.runs l.scratch;
+  scratches : g.P.PrivateRuns.suffices l.runs l.desk.scratches.items;
+  room : HasRoom (g.P.PrivateRuns.plan l.runs) (pieces_of g.J.Run.layout) l.desk.looked;
 }
 
 abbrev pub decreases-loop-ticket : goal.decreases-loop-ticket

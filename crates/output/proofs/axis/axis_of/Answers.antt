@@ -1,4 +1,4 @@
-use Rattle.output.proofs.Spans.{AreEnds, count_fits, axis_is}
+use Rattle.output.proofs.Spans.{count_fits, axis_is}
 use Rattle.output.proofs.axis.axis_of.Goals as goal
 
 pub overflow_cast-count : goal.overflow_cast-count

@@ -1,5 +1,5 @@
 use Rattle.std.proofs.lemmas.Result.{err_from_is_err_and}
-use Rattle.audit.specs.View.{plan_checked}
+use Rattle.checked.specs.View.{plan_checked}
 use Rattle.pictures.specs.Faults.{crew_fault}
 use Rattle.pictures.specs.Rows.{IsCrewRefused}
 use Rattle.pictures.proofs.Ways.{refuses_piece, told}

@@ -1,5 +1,5 @@
 use Rattle.algo.specs.View.{picture_of}
-use Rattle.audit.specs.View.{algorithm_checked}
+use Rattle.checked.specs.View.{algorithm_checked}
 use Rattle.orders.specs.Seen.{crew_of}
 use Rattle.steps.proofs.Accepted.{completed}
 use Rattle.steps.proofs.replaying.picture.Goals as goal
@@ -9,4 +9,4 @@ output_samples-requires c =
     let x = c.args.checked.now in
     let w = x.algo.now.well_formed in
     let given = c.inputs_are_samples.ensures (algorithm_checked x) (picture_of c.args.inputs.now) w c.requires in
-    completed c.shown_is_right.ensures x c.args.inputs.now (crew_of c.in_ok-state.state) w given c.in_ok-state.ensures
+    completed x c.args.inputs.now (crew_of c.in_ok-state.state) w given c.in_ok-state.ensures

@@ -1,7 +1,7 @@
 use Rattle.std.proofs.Common.{◌≡◌, ℕ, [], ◌∷◌, ◌++◌, sym, ap, ◌∙◌, arith}
 use Rattle.std.proofs.lemmas.List.FromFn.{map-range_with_len_more}
 use Rattle.algo.specs.View.{samples_of}
-use Rattle.audit.specs.View.{algorithm_checked}
+use Rattle.checked.specs.View.{algorithm_checked}
 use Rattle.image.specs.Raster.{natural, raster_point}
 use Rattle.image.specs.View.{Frame}
 use Rattle.meaning.specs.Algorithm.{Algorithm}

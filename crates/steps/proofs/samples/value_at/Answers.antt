@@ -2,7 +2,7 @@ use Rattle.std.proofs.Common.{◌≡◌, ◌<◌, ◌^◌, Some, ℤ, pos, sym, 
 use Rattle.std.proofs.lemmas.Int.{to_z-of_z}
 use Rattle.std.proofs.lemmas.Option.{same_Some}
 use Rattle.algo.specs.View.{picture_of, samples_of}
-use Rattle.audit.specs.View.{algorithm_checked}
+use Rattle.checked.specs.View.{algorithm_checked}
 use Rattle.headline.proofs.Samples.{inputs_are_samples}
 use Rattle.image.specs.Raster.{natural}
 use Rattle.meaning.specs.Value.{output_value}

@@ -1,0 +1,6 @@
+//! Plans that a checker has accepted for an algorithm.
+#![tactic(auto)]
+
+mod checked;
+
+pub use checked::Checked;

@@ -1,0 +1,6 @@
+mod Extents
+mod Named
+mod Grids
+mod Counts
+mod Told
+mod OutputGroup

@@ -1,0 +1,26 @@
+use Rattle.std.proofs.Common.{◌∙◌, ap}
+use Rattle.std.specs.Prelude.{slice_get}
+use Rattle.lin.proofs.Limits.{if_ok}
+use Rattle.algo.specs.View.{algorithm_of}
+use Rattle.nest.specs.View.{plan_of}
+use Rattle.cert.specs.Certificate.{certificate_of}
+use Rattle.around.specs.declared.judge.Part.TheVariants.{Claims}
+use Rattle.outlines.specs.View.{plan_in, certificate_in, number_in, group_in}
+use Rattle.checker.proofs.Told.{AreOf, unmet_moved, same_group}
+use Rattle.checker.proofs.groups.group_claims_flaw.Goals as goal
+
+pub returns : goal.returns
+returns c g at =
+    let o = c.in_ok-outlined.outlined in
+    let b = c.in_ok-bounds.bounds in
+    let is = c.in_ok-bounds.ensures.outlined in
+    let said = c.in_ok-outlined.ensures in
+    let of : AreOf b.bounds (algorithm_of c.args.algo.now) (plan_of c.args.plan.now) (certificate_of c.args.cert.now) c.args.number g =
+    record {
+      algorithm = ap algorithm_of c.in_ok-bounds.ensures.algo;
+      plan = ap plan_in is ∙ said.plan;
+      certificate = ap certificate_in is ∙ said.certificate;
+      number = ap number_in is ∙ said.number;
+      group = ap group_in is ∙ same_group (slice_get (plan_of c.args.plan.now).groups c.args.number) (group_in o) g said.group at;
+    } in
+    if_ok c.unmet_part.result _ _ (λ flaw e. e ∙ unmet_moved b.bounds (algorithm_of c.args.algo.now) (plan_of c.args.plan.now) (certificate_of c.args.cert.now) c.args.number g of Claims) c.unmet_part.ensures

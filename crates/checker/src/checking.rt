@@ -1,0 +1,71 @@
+//! The checker.
+
+ghost use Rattle.std.specs.Prelude.{◌≡◌, IfOk, IfErr};
+ghost use Rattle.algo.specs.View.{algorithm_of};
+ghost use Rattle.nest.specs.View.{plan_of};
+ghost use Rattle.cert.specs.Certificate.{certificate_of};
+ghost use Rattle.headline.specs.Shown.{Headline};
+ghost use Rattle.accepted.specs.Accepted.{IsAccepted};
+ghost use Rattle.checker.specs.Refused.{IsRefused};
+
+use crate::certificate::shares_where_accepted;
+use crate::output::{group_named, output_name};
+use accepted::laws::{accepted_is_ready, accepted_is_right, faults_are_refusals};
+use algo::Algo;
+use audit::{CheckError, head_fault};
+use cert::Cert;
+use checked::Checked;
+use nest::Plan;
+use refusals::K;
+use shares::SharesError;
+use std::alloc::Global;
+
+/// Whether a plan with its certificate is right for an algorithm, by what its author wrote alone.
+///
+/// A yes promises: on every input of the algorithm and in every order of the steps of any workers, no step is a fault (no
+/// access leaves its buffer or the input, nothing is read before it is written or written twice), what is set is right, and
+/// some order finishes; and each point of the output has a cell whose right value is what the algorithm, read without any
+/// schedule, says.
+///
+/// The time is about linear in the lines of the plan and its certificate, the cells, the fetched cells and the needed pieces;
+/// bounds of forms are searched for within the limits of that search.
+///
+/// # Errors
+/// `Refused` with a code and the line of the text at which it holds, `Memory` where memory runs out. What is wrong is looked
+/// for in the order of the lines, and at one line the lowest code is told:
+/// - the head: `K1` at line 1, 2 or 3;
+/// - the lines of groups: names, limits and stored expressions (`K2`, `K3`, `K12`, `K14`), then what loops, stores, fetches
+///   and `publish` owe (`K2`, `K4`, `K5`, `K7`), and numbers not shown to be small (`K14`, told before what the same line
+///   owes);
+/// - the lines of own and needed regions: names and limits (`K2`, `K3`, `K14`, and `K10` at `cert`) and then, where no line
+///   of the certificate has such a flaw, how the pieces share the cells (`K9`, `K10`, `K11`, `K14`) and whether the output's
+///   group has each point of the output (`K10`);
+/// - the lines of claims and windows: names and limits (`K2`, `K3`, `K14`) and claims that their statements are not shown
+///   to make (`K6`), in each group the first by its statements.
+pub fn check<'a>(
+    alloc: Global,
+    algo: &'a Algo,
+    plan: Plan,
+    cert: Cert,
+) -> Result<Checked<'a>, CheckError>
+    ensures accepted { IfOk result (λ _. IsAccepted (algorithm_of algo.now) (plan_of plan) (certificate_of cert)) }
+    ensures headline { IfOk result (λ _. Headline (algorithm_of algo.now) (plan_of plan) (certificate_of cert)) }
+    ensures holds { IfOk result (λ checked. (checked.algo.now ≡ algo.now) × (checked.plan ≡ plan) × (checked.cert ≡ cert)) }
+    ensures refused { IfErr result (IsRefused (algorithm_of algo.now) (plan_of plan) (certificate_of cert)) }
+{
+    accepted_is_ready();
+    accepted_is_right();
+    faults_are_refusals();
+    algo.is_well_formed();
+    if let Some(line) = head_fault(algo, &plan) {
+        return Err(CheckError::Refused(K::K1, line));
+    }
+    let Some(number) = group_named(&plan.groups, output_name(algo)) else {
+        unreachable!();
+    };
+    match shares_where_accepted(alloc, algo, &plan, &cert, number) {
+        Ok(shares) => Ok(Checked::of(algo, plan, cert, shares.pieces, shares.cells)),
+        Err(SharesError::Memory) => Err(CheckError::Memory),
+        Err(SharesError::Flaw(flaw)) => Err(CheckError::Refused(flaw.code, flaw.line)),
+    }
+}

@@ -1,6 +1,0 @@
-use Rattle.boards.specs.Layouts.{layout_of}
-use Rattle.crew.proofs.Most.{IsMostBefore}
-use Rattle.crew.proofs.running.most_own.Given as goal
-
-abbrev pub invariant-loop-piece : goal.invariant-loop-piece
-invariant-loop-piece l = IsMostBefore (layout_of l.checked) l.piece l.most

@@ -1,0 +1,4 @@
+pub mod Values
+pub mod Lookups
+pub mod Small
+pub mod Runs
