@@ -114,6 +114,34 @@ fn shares_by_certificate(
     }
 }
 
+/// The flaw that is told in place of one of the lines of groups. Where some group has no own region, what its line `publish`
+/// owes is not shown either: that flaw is told as the one of the certificate.
+fn told_of_groups(
+    alloc: Global,
+    algo: &Algo,
+    plan: &Plan,
+    cert: &Cert,
+    flaw: Flaw,
+) -> Result<Flaw, AllocError>
+    requires { IsFlaw (algorithm_of algo.now) (plan_of plan.now) (certificate_of cert.now) flaw }
+    ensures { IfOk result (IsFlaw (algorithm_of algo.now) (plan_of plan.now) (certificate_of cert.now)) }
+{
+    if flaw.code.number() != 5 {
+        return Ok(flaw);
+    }
+    let found = certificate_flaw(alloc, algo, plan, cert)?;
+    match found {
+        None => Ok(flaw),
+        Some(other) => {
+            if other.code.number() == 10 {
+                Ok(other)
+            } else {
+                Ok(flaw)
+            }
+        }
+    }
+}
+
 /// The shares of the pieces of a plan of which the head is the algorithm's, where all else that is asked of it holds: the
 /// group of this number is the output's.
 pub(crate) fn shares_where_accepted(
@@ -133,6 +161,9 @@ pub(crate) fn shares_where_accepted(
     let found = groups_flaw(alloc, algo, plan, cert)?;
     match found {
         None => shares_by_certificate(alloc, algo, plan, cert, number),
-        Some(flaw) => Err(SharesError::Flaw(flaw)),
+        Some(flaw) => {
+            let told = told_of_groups(alloc, algo, plan, cert, flaw)?;
+            Err(SharesError::Flaw(told))
+        }
     }
 }

@@ -158,7 +158,7 @@ const LARGE: &[(Sizes, u8, &str)] = &[
             ..SIZES
         },
         1,
-        "stencil: K2 line 13\n",
+        "stencil: K10 line 12\n",
     ),
     (
         Sizes {
