@@ -1,9 +1,11 @@
 pub mod Answered
 pub mod Broken
+pub mod Calls
 pub mod Converse
 pub mod Exclusion
 pub mod Kept
 pub mod Lists
+pub mod Named
 pub mod Placed
 pub mod Small
 pub mod Whole

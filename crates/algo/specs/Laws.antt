@@ -1,15 +1,19 @@
 -- Laws of refusals.
 use Rattle.std.specs.Prelude.{◌≡◌, ℕ, List}
+use Rattle.token.specs.declared.span.Span.{Span}
 use Rattle.tree.specs.Term.{Term}
 use Rattle.syntax.specs.declared.statement.File.{File}
 use Rattle.syntax.specs.Text.{FileText}
+use Rattle.syntax.specs.Grammar.{IsTextOf}
 use Rattle.syntax.specs.View.{file_text}
+use Rattle.algo.specs.declared.error.Code.TheVariants.{LaterCall}
 use Rattle.algo.specs.declared.error.AlgoError.{AlgoError}
-use Rattle.algo.specs.declared.error.AlgoError.TheVariants.{Memory}
+use Rattle.algo.specs.declared.error.AlgoError.TheVariants.{Memory, Refused}
 use Rattle.algo.specs.Saying.{IsWellFormed}
 use Rattle.algo.specs.Keeping.{FileBreaks}
 use Rattle.algo.specs.Faults.{TellsOfFile}
-use Rattle.algo.specs.Refusal.{IsRefusedText, IsNoAlgorithm}
+use Rattle.algo.specs.Refusal.{IsRefusedText, IsRefusedPlace, IsNoAlgorithm}
+use Rattle.algo.specs.Calls.{LaterCallAt}
 
 -- a well-formed file keeps each condition that a refusal can name
 abbrev pub WellFormedBreaksNothing : Type 0
@@ -22,3 +26,7 @@ ToldBreaks = (file : File) (e : AlgoError) → TellsOfFile file e → FileBreaks
 -- what is refused is no algorithm
 abbrev pub RefusedIsNoAlgorithm : Type 0
 RefusedIsNoAlgorithm = (text : List ℕ) (e : AlgoError) → IsRefusedText text e → IsNoAlgorithm text e
+
+-- where a text is refused for a call of a function that is not declared before, the bytes at the place are the name of such a call
+abbrev pub LaterCallsAreNamed : Type 0
+LaterCallsAreNamed = (text : List ℕ) (at : Span) → IsRefusedPlace text (Refused LaterCall at) → (file : File) × IsTextOf text (file_text file) × LaterCallAt text file at

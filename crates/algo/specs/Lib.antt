@@ -1,3 +1,4 @@
+pub mod Calls
 pub mod Context
 pub mod Definitions
 pub mod Faults

@@ -20,6 +20,7 @@ use Rattle.algo.specs.declared.error.AlgoError.TheVariants.{Memory, Refused}
 use Rattle.algo.specs.Saying.{says, IsWellFormed}
 use Rattle.algo.specs.Keeping.{FileBreaks}
 use Rattle.algo.specs.Faults.{TellsOfFile}
+use Rattle.algo.specs.Calls.{CallsStand}
 
 -- the code of a refusal, and its place
 abbrev pub code_of : AlgoError → Option Code
@@ -58,14 +59,15 @@ pub record StatementRefused (text : List ℕ) (e : AlgoError) : Type 0 where
   pub only : (other : FileText Term) → IsTextOf text other → other ≡ file
   pub broken : FileBreaks file e
 
--- the text stands for this file and nothing else, whose names, numbers, types and expressions, with all their parts, stand in
--- the text where the file says, and the error tells a fault of the file and its place
+-- the text stands for this file and nothing else, whose names, numbers, types and expressions, with all their parts, and the
+-- names of the calls in them stand in the text where the file says, and the error tells a fault of the file and its place
 pub record PlaceRefused (text : List ℕ) (e : AlgoError) : Type 0 where
   pub file : File
   pub found : IsTextOf text (file_text file)
   pub only : (other : FileText Term) → IsTextOf text other → other ≡ file_text file
   pub stands : NamesStand text file
   pub placed : PartsStand text file
+  pub called : CallsStand text file
   pub fault : TellsOfFile file e
 
 -- the form of the text is refused at this place, or a statement of it breaks the condition of the code there

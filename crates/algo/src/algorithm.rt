@@ -44,7 +44,7 @@ impl Algo {
     pub fn read(alloc: Global, text: &str) -> Result<Algo, AlgoError>
         ensures said { IfOk result (λ a. IsAlgorithmText text.now (algorithm_of a)) }
         ensures refused { IfErr result (IsRefusedText text.now) }
-        // What the code says is broken is broken at the place.
+        // What the code says is broken is broken at the place; where a call's name does it, the bytes there are that name.
         ensures place { IfErr result (IsRefusedPlace text.now) }
         // A text is refused only where it is no algorithm.
         ensures only { IfErr result (IsNoAlgorithm text.now) }

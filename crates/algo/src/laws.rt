@@ -1,6 +1,6 @@
 //! Laws, each the contract of a function that does nothing.
 
-ghost use Rattle.algo.specs.Laws.{ToldBreaks, WellFormedBreaksNothing, RefusedIsNoAlgorithm};
+ghost use Rattle.algo.specs.Laws.{ToldBreaks, WellFormedBreaksNothing, RefusedIsNoAlgorithm, LaterCallsAreNamed};
 
 /// A fault that is told at its place breaks the condition of its code.
 pub fn told_faults_break_conditions()
@@ -15,4 +15,9 @@ pub fn refused_is_ill_formed()
 /// A text that is refused is no algorithm, where memory did not run out.
 pub fn refused_is_no_algorithm()
     ensures { RefusedIsNoAlgorithm }
+{}
+
+/// The bytes of the text where a later call is refused are its name.
+pub fn later_calls_are_named()
+    ensures { LaterCallsAreNamed }
 {}

@@ -68,7 +68,7 @@ is_of_function (Some f) k = nat_le k.definition (length f.changes) && (length k.
 abbrev pub bound_at : Place → List ℕ
 bound_at x = grid_symbols (length x.group.grid) ++ x.symbols
 
--- the claim is of a buffer of the group that has its line, in symbols that are bound there
+-- a statement ends at the claim's line, and the claim is of a buffer of that group, in symbols that are bound there
 abbrev pub is_at : Option Place → Claim → Bool
 is_at None k = false
 is_at (Some x) k = is_of_buffer (allocated x.group.body k.buffer) k && spans_are_over (bound_at x) k.region

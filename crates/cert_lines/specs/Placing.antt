@@ -1,4 +1,4 @@
--- Where the line of a claim lies.
+-- Where the statement ends at which a claim's line stands.
 use Rattle.std.specs.Prelude.{ℕ, zero, suc, ◌-◌, ◌==◌, nat_lt, if◌then◌else◌, List, [], ◌∷◌, ◌++◌, Option, Some, None}
 use Rattle.nest.specs.Plan.{Statement, Seq, For, Let, First, Guard, Alloc, Fetch, Store, Publish, Statements, Empty, Then, Group}
 use Rattle.nest.specs.Lines.{lines, group_lines}
@@ -47,25 +47,26 @@ abbrev mutual
   block_loops_at Empty k = None
   block_loops_at (Then a rest) k = if nat_lt k (lines a) then loops_at a k else block_loops_at rest (k - lines a)
 
-abbrev pub symbols_or_none : Option (List ℕ) → List ℕ
-symbols_or_none None = []
-symbols_or_none (Some symbols) = symbols
+-- the same of a group's lines, of which the first, its line `group`, is 0
+abbrev pub group_loops_at : Group → ℕ → Option (List ℕ)
+group_loops_at g zero = None
+group_loops_at g (suc k) = loops_at g.body k
 
--- the symbols of the loops round the statement that ends at the line; no symbol where no statement does
-abbrev pub symbols_at : Group → ℕ → List ℕ
-symbols_at g zero = []
-symbols_at g (suc k) = symbols_or_none (loops_at g.body k)
-
--- the group that has a line, and the symbols of the loops round the statement that ends there
+-- where a statement ends: the group that has the line, and the symbols of the loops round the statement
 pub record Place : Type 0 where
   pub group : Group
   pub symbols : List ℕ
 
--- where a line lies, counted from the first group's line, which is 0
+-- where a statement of the group ends, with loops of these symbols round it, if one does
+abbrev pub place_with : Group → Option (List ℕ) → Option Place
+place_with g None = None
+place_with g (Some symbols) = Some (record { group = g; symbols = symbols })
+
+-- where a statement ends at a line, counted from the first group's line, which is 0
 abbrev pub place_in : List Group → ℕ → Option Place
 place_in [] k = None
-place_in (g ∷ gs) k = if nat_lt k (group_lines g) then Some (record { group = g; symbols = symbols_at g k }) else place_in gs (k - group_lines g)
+place_in (g ∷ gs) k = if nat_lt k (group_lines g) then place_with g (group_loops_at g k) else place_in gs (k - group_lines g)
 
--- where a line of the plan's text lies: the first group stands at line 4
+-- where a statement ends at a line of the plan's text, if one does: the first group stands at line 4
 abbrev pub place_at : List Group → ℕ → Option Place
 place_at groups line = if nat_lt line 4 then None else place_in groups (line - 4)

@@ -2,11 +2,11 @@
 use Rattle.std.specs.Prelude.{◌≡◌, ℕ, ◌+◌, ◌<◌, List, ◌++◌, Option, Some, None}
 use Rattle.nest.specs.Plan.{Statement, Statements, Group}
 use Rattle.nest.specs.Lines.{lines, block_lines, group_lines}
-use Rattle.cert_lines.specs.Placing.{loops_at, first_at, later_at, block_loops_at, symbols_at}
+use Rattle.cert_lines.specs.Placing.{loops_at, first_at, later_at, block_loops_at, group_loops_at}
 use Rattle.cert_lines.specs.declared.placing.Way.{Way}
 use Rattle.cert_lines.specs.declared.placing.Way.TheVariants.{Ends, Within, Past}
 use Rattle.cert_lines.specs.declared.placing.Seen.{Seen}
-use Rattle.cert_lines.specs.declared.placing.Seen.TheVariants.{Here, Behind}
+use Rattle.cert_lines.specs.declared.placing.Seen.TheVariants.{Here, Inside, Behind}
 
 -- symbols behind others
 abbrev pub behind : List ℕ → Option (List ℕ) → Option (List ℕ)
@@ -32,7 +32,8 @@ IsWayInLater b k old new way = IsWay (lines b + 2) (later_at (lines b) (loops_at
 abbrev pub IsWayInBlock : Statements → ℕ → List ℕ → List ℕ → Way → Type 0
 IsWayInBlock all k old new way = IsWay (block_lines all) (block_loops_at all k) k old new way
 
--- the line is one of the group's, with these symbols, or lies behind them
+-- the line is one of the group's, at which a statement ends with these symbols, or none does, or lies behind them
 abbrev pub IsSeen : Group → ℕ → Seen → Type 0
-IsSeen g k (Here symbols) = (k < group_lines g) × (symbols.items ≡ symbols_at g k)
+IsSeen g k (Here symbols) = (k < group_lines g) × (group_loops_at g k ≡ Some symbols.items)
+IsSeen g k Inside = (k < group_lines g) × (group_loops_at g k ≡ None)
 IsSeen g k (Behind n) = group_lines g + n ≡ k

@@ -84,7 +84,7 @@ fn bound_at(alloc: Global, placed: &Placed<'_, '_>) -> Result<Vec<Sym>, AllocErr
     Ok(symbols)
 }
 
-/// Whether the claim is of a buffer of the group that has its line, in symbols that are bound there.
+/// Whether a statement ends at the claim's line, and the claim is of a buffer of that group, in symbols that are bound there.
 fn is_at(alloc: Global, outlines: &[Outlined<'_>], claim: &Claim) -> Result<bool, AllocError>
     ensures { IfOk result (λ yes. yes ≡ is_at (place_at (map group_in outlines.now) claim.now.line) (claim_of claim.now)) }
 {

@@ -8,7 +8,7 @@ ghost use Rattle.cert.specs.Certificate.{Certificate};
 ghost use Rattle.outlines.specs.Flaws.{first_of};
 ghost use Rattle.cert_lines.specs.Certificate.{flaws_of_certificate};
 ghost use Rattle.cert_lines.specs.Clear.{IsClear};
-ghost use Rattle.cert_lines.specs.Placing.{place_at, symbols_at};
+ghost use Rattle.cert_lines.specs.Placing.{group_loops_at, place_at, place_with};
 
 /// Where a certificate's lines have no flaw, each group has one own region, own and needed regions are regions of their
 /// groups, claims are of what is known, and there are no windows.
@@ -16,7 +16,8 @@ pub fn no_flaw_is_clear()
     ensures { (a : Algorithm) (p : Plan) (c : Certificate) → None ≡ first_of (flaws_of_certificate a p c) → IsClear a p c }
 {}
 
-/// A line so many lines behind a group's line `group`, and before the next group, lies in that group.
+/// A statement that ends at a line so many lines behind a group's line `group`, and before the next group, is one of that
+/// group.
 pub fn lines_lie_in_their_groups()
-    ensures { (p : Plan) (n k : ℕ) (g : Group) → slice_get p.groups n ≡ Some g → k < group_lines g → place_at p.groups (group_line p n + k) ≡ Some (record { group = g; symbols = symbols_at g k }) }
+    ensures { (p : Plan) (n k : ℕ) (g : Group) → slice_get p.groups n ≡ Some g → k < group_lines g → place_at p.groups (group_line p n + k) ≡ place_with g (group_loops_at g k) }
 {}

@@ -13,7 +13,8 @@ use nest::Plan;
 use outlines::Outlined;
 use std::alloc::{AllocError, Global};
 
-/// The group that has a line, and the symbols of the loops round the statement that ends there, the innermost first.
+/// Where a statement ends: the group that has the line, and the symbols of the loops round the statement, the innermost
+/// first.
 #[derive(Drop)]
 pub(crate) struct Placed<'p, 'a> {
     pub outlined: &'p Outlined<'a>,
@@ -35,7 +36,7 @@ pub(crate) fn outlines_of<'a>(
     Ok(all)
 }
 
-/// Where a line lies, so many lines behind the first group's line.
+/// Where a statement ends at a line, so many lines behind the first group's line, if one does.
 fn place_behind<'p, 'a>(
     alloc: Global,
     outlines: &'p [Outlined<'a>],
@@ -47,13 +48,14 @@ fn place_behind<'p, 'a>(
     for outlined in outlines {
         match seen_from(alloc, outlined.group(), left)? {
             Seen::Here(symbols) => return Ok(Some(Placed { outlined, symbols })),
+            Seen::Inside => return Ok(None),
             Seen::Behind(rest) => left = rest,
         }
     }
     Ok(None)
 }
 
-/// Where a line of the plan's text lies.
+/// Where a statement ends at a line of the plan's text, if one does.
 pub(crate) fn placed_at<'p, 'a>(
     alloc: Global,
     outlines: &'p [Outlined<'a>],

@@ -30,6 +30,8 @@ pub(crate) enum Way {
 pub(crate) enum Seen {
     /// It is one of the group's lines: the symbols of the loops round the statement that ends there, the innermost first.
     Here(Vec<Sym>),
+    /// It is one of the group's lines, and no statement ends there.
+    Inside,
     /// It lies so many lines behind the line that follows the group.
     Behind(u64),
 }
@@ -149,10 +151,11 @@ pub(crate) fn seen_from(alloc: Global, group: &Group, left: u64) -> Result<Seen,
 {
     let mut symbols = Vec::new(alloc);
     let Some(left) = left.checked_sub(1) else {
-        return Ok(Seen::Here(symbols));
+        return Ok(Seen::Inside);
     };
     match way_in(&group.body, left, &mut symbols)? {
-        Way::Ends | Way::Within => Ok(Seen::Here(symbols)),
+        Way::Ends => Ok(Seen::Here(symbols)),
+        Way::Within => Ok(Seen::Inside),
         Way::Past(left) => Ok(Seen::Behind(left)),
     }
 }

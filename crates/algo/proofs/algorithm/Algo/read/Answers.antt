@@ -3,6 +3,7 @@ use Rattle.std.proofs.lemmas.Result.{IfErr-weaker}
 use Rattle.syntax.specs.View.{statement_text}
 use Rattle.algo.specs.Refusal.{IsRefusedPlace, IsRefusedText}
 use Rattle.algo.specs.Faults.{TellsOfFile}
+use Rattle.algo.proofs.Calls.{calls_stand}
 use Rattle.algo.proofs.Exclusion.{error_excludes}
 use Rattle.algo.proofs.Small.{all_small}
 use Rattle.algo.proofs.algorithm.Algo.read.Goals as goal
@@ -24,4 +25,4 @@ pub returns-clause-place : goal.returns-clause-place
 returns-clause-place c =
     let file = c.in_ok-file.file in
     let read = c.in_ok-file.ensures in
-    IfErr-weaker c.read_file.result (TellsOfFile file) (IsRefusedPlace c.args.text.now) (λ e h. inr (record { file = file; found = read.found; only = read.only; stands = read.stands; placed = read.placed; fault = h })) c.read_file.ensures.place
+    IfErr-weaker c.read_file.result (TellsOfFile file) (IsRefusedPlace c.args.text.now) (λ e h. inr (record { file = file; found = read.found; only = read.only; stands = read.stands; placed = read.placed; called = calls_stand c.args.text.now file read.placed; fault = h })) c.read_file.ensures.place
