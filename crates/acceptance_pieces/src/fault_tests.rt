@@ -22,6 +22,10 @@ enum Stored {
     Next,
     // The pixel before where the column is below 0, which it never is, else the pixel.
     Before,
+    // The pixel where the column is below 4, which it always is, else the next.
+    After,
+    // What no claim is about.
+    Unclaimed,
 }
 
 // What stands round the store in the loop.
@@ -100,7 +104,9 @@ fn value_of(alloc: Global, value: Stored) -> Made<Expr> {
     match value {
         Stored::Mean => mean(alloc),
         Stored::Next => pixel(alloc, 1),
-        Stored::Before => select_below(alloc, "x", pixel(alloc, -1), pixel(alloc, 0)),
+        Stored::Before => select_below(alloc, "x", 0, pixel(alloc, -1), pixel(alloc, 0)),
+        Stored::After => select_below(alloc, "x", 4, pixel(alloc, 0), pixel(alloc, 1)),
+        Stored::Unclaimed => call(alloc, "@1", one(alloc, variable(alloc, "x"))),
     }
 }
 
@@ -163,9 +169,23 @@ const FAULTS: &[(&str, Row)] = &[
         },
     ),
     (
-        "a pixel off the extents in the arm that is not taken",
+        "a pixel off the extents in the first arm, which is not taken",
         Row {
             value: Stored::Before,
+            ..ROW
+        },
+    ),
+    (
+        "a pixel off the extents in the second arm, which is not taken",
+        Row {
+            value: Stored::After,
+            ..ROW
+        },
+    ),
+    (
+        "a load by a claim that there is not",
+        Row {
+            value: Stored::Unclaimed,
             ..ROW
         },
     ),

@@ -4,6 +4,8 @@
 #[cfg(test)]
 mod fault_tests;
 #[cfg(test)]
+mod fetch_tests;
+#[cfg(test)]
 mod forms_tests;
 #[cfg(test)]
 mod inc_tests;

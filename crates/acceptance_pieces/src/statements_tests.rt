@@ -110,6 +110,15 @@ pub(crate) fn room(
     })
 }
 
+// The cells of a group.
+pub(crate) fn fetch(alloc: Global, buffer: u32, group: u64, ends: &[Ends]) -> Made<Stmt> {
+    Ok(Stmt::Fetch {
+        buffer,
+        group,
+        region: region(alloc, ends)?,
+    })
+}
+
 pub(crate) fn publish(claim: u32) -> Made<Stmt> {
     Ok(Stmt::Publish { claim })
 }

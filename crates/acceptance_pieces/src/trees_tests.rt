@@ -92,10 +92,10 @@ pub(crate) fn clamp(alloc: Global, value: Made<Expr>, last: i64) -> Made<Expr> {
     })
 }
 
-// Whether a variable is below 0.
-fn below_zero(alloc: Global, name: &str) -> Made<Box<Cond>> {
+// Whether a variable is below a number.
+fn below(alloc: Global, name: &str, limit: i64) -> Made<Box<Cond>> {
     let left = variable(alloc, name)?;
-    let right = number(Ty::I32, 0)?;
+    let right = number(Ty::I32, limit)?;
     let cond = Cond::Compare {
         by: Comparison::Less,
         left,
@@ -105,14 +105,9 @@ fn below_zero(alloc: Global, name: &str) -> Made<Box<Cond>> {
     Ok(Box::new(alloc, cond)?)
 }
 
-// The one value where a variable is below 0, else the other.
-pub(crate) fn select_below(
-    alloc: Global,
-    name: &str,
-    yes: Made<Expr>,
-    no: Made<Expr>,
-) -> Made<Expr> {
-    let cond = below_zero(alloc, name)?;
+// The one value where the condition holds, else the other.
+fn select(alloc: Global, cond: Made<Box<Cond>>, yes: Made<Expr>, no: Made<Expr>) -> Made<Expr> {
+    let cond = cond?;
     let yes = boxed(alloc, yes)?;
     let no = boxed(alloc, no)?;
     Ok(Expr::Select {
@@ -121,4 +116,15 @@ pub(crate) fn select_below(
         no,
         span: NOWHERE,
     })
+}
+
+// The one value where a variable is below a number, else the other.
+pub(crate) fn select_below(
+    alloc: Global,
+    name: &str,
+    limit: i64,
+    yes: Made<Expr>,
+    no: Made<Expr>,
+) -> Made<Expr> {
+    select(alloc, below(alloc, name, limit), yes, no)
 }

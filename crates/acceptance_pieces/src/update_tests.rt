@@ -105,6 +105,11 @@ const PLACES: Ends = Ends {
     upper: &[(255, 0, 0)],
 };
 
+const BUT_LAST_PLACE: Ends = Ends {
+    lower: &[(0, 0, 0)],
+    upper: &[(254, 0, 0)],
+};
+
 const ROWS: Ends = Ends {
     lower: &[(0, 0, 0)],
     upper: &[(1, 0, 0)],
@@ -149,11 +154,11 @@ fn sampled(alloc: Global) -> Made<Expr> {
     cast(alloc, Ty::I32, call(alloc, "in", at))
 }
 
-// Nothing counted yet.
-fn zeros(alloc: Global) -> Made<Stmt> {
+// Nothing counted yet at these places.
+fn zeros(alloc: Global, ends: Ends) -> Made<Stmt> {
     let place = one(alloc, is_symbol(alloc, "i", 1));
     let store = store(0, 0, place, number(Ty::U16, 0));
-    in_loop(alloc, 1, PLACES, one(alloc, store))
+    in_loop(alloc, 1, ends, one(alloc, store))
 }
 
 // Each pixel counted at its place.
@@ -169,9 +174,10 @@ fn counts(alloc: Global) -> Made<Stmt> {
     in_loop(alloc, 2, ROWS, one(alloc, columns))
 }
 
-fn hist(alloc: Global, samples: &[u16]) -> Made<Case> {
-    let room = room(alloc, 0, "h", one(alloc, places(alloc, (0, 0, 0), 256)));
-    let body = then(one(alloc, room), zeros(alloc));
+// The plan over so many places, of which these are 0 at first.
+fn hist(alloc: Global, count: u64, ends: Ends, samples: &[u16]) -> Made<Case> {
+    let room = room(alloc, 0, "h", one(alloc, places(alloc, (0, 0, 0), count)));
+    let body = then(one(alloc, room), zeros(alloc, ends));
     let body = then(then(body, counts(alloc)), publish(1));
     case_of(alloc, HIST, COUNTS, body, samples)
 }
@@ -183,7 +189,19 @@ fn pixels_are_counted_at_their_places(rt: HostRuntime) -> Result<(), Fail> {
     wanted[1] = 2;
     wanted[2] = 3;
     wanted[255] = 1;
-    let hist = hist(alloc, &[1, 1, 2, 2, 2, 255])?;
+    let hist = hist(alloc, 256, PLACES, &[1, 1, 2, 2, 2, 255])?;
     assert!(rt; gives(alloc, &hist, &[0], &wanted)?);
+    Ok(())
+}
+
+// The last pixel leads past the last place, or to one at which nothing is set.
+#[test]
+fn a_pixel_leads_nowhere(rt: HostRuntime) -> Result<(), Fail> {
+    let alloc = rt.alloc();
+    let samples = [1, 1, 2, 2, 2, 255];
+    let few = hist(alloc, 255, BUT_LAST_PLACE, &samples)?;
+    assert!(rt; faults(alloc, &few, &[0])?);
+    let unset = hist(alloc, 256, BUT_LAST_PLACE, &samples)?;
+    assert!(rt; faults(alloc, &unset, &[0])?);
     Ok(())
 }

@@ -443,7 +443,7 @@ module _ (given : Given) (rules : Rules) where
       status_after given (given.outline.claim c).buffer p (actions given.outline.setting a sc.symbols) (begun given (given.outline.claim c).function (if v then Some ((given.outline.claim c).definition - 1) else None)) ≡ Some (given.steps (given.outline.claim c).function (given.outline.claim c).definition) →
       AllMeant given (if v then
       obligation given.outline rules NotMade (rules.claim_line c) known (Named (list_any (λ d. follows given.outline rules d c) known.own))
-      ∷ obligation given.outline rules OutOfOrder (or_same (store_line given.outline rules a first (given.outline.claim c).buffer) last) known (InTurn c a)
+      ∷ obligation given.outline rules OutOfOrder (or_same (store_line given.outline rules a first (given.outline.claim c).buffer) (rules.claim_line c)) known (InTurn c a)
       ∷ map (λ d. obligation given.outline rules NotMade (rules.claim_line c) known (Inside (region_of given.outline rules c) (region_of given.outline rules d))) (filter (λ d. follows given.outline rules d c) known.own)
       else []) →
       (st : Option ℕ) × Before given sc.facts (given.outline.claim c).buffer (given.outline.claim c).function p st
@@ -726,10 +726,10 @@ module _ (given : Given) (rules : Rules) where
   earlier_meant : (first last : ℕ) (known : Known) (a : Statement) (c : ℕ) → (v : Bool) → v ≡ true →
       AllMeant given (if v then
       obligation given.outline rules NotMade (rules.claim_line c) known (Named (list_any (λ d. follows given.outline rules d c) known.own))
-      ∷ obligation given.outline rules OutOfOrder (or_same (store_line given.outline rules a first (given.outline.claim c).buffer) last) known (InTurn c a)
+      ∷ obligation given.outline rules OutOfOrder (or_same (store_line given.outline rules a first (given.outline.claim c).buffer) (rules.claim_line c)) known (InTurn c a)
       ∷ map (λ d. obligation given.outline rules NotMade (rules.claim_line c) known (Inside (region_of given.outline rules c) (region_of given.outline rules d))) (filter (λ d. follows given.outline rules d c) known.own)
       else []) →
-      Meant given (obligation given.outline rules OutOfOrder (or_same (store_line given.outline rules a first (given.outline.claim c).buffer) last) known (InTurn c a))
+      Meant given (obligation given.outline rules OutOfOrder (or_same (store_line given.outline rules a first (given.outline.claim c).buffer) (rules.claim_line c)) known (InTurn c a))
       × AllMeant given (map (λ d. obligation given.outline rules NotMade (rules.claim_line c) known (Inside (region_of given.outline rules c) (region_of given.outline rules d))) (filter (λ d. follows given.outline rules d c) known.own))
   earlier_meant first last known a c true e h = (h.1.0, h.1.1)
   earlier_meant first last known a c false e h = absurd (cc e)

@@ -379,12 +379,13 @@ module _ (outline : Outline) (rules : Rules) where
     block_store_line Empty line b = None
     block_store_line (Then a rest) line b = or_same_line (store_line a line b) (block_store_line rest (line + lines a) b)
 
-  -- the claims of the definition before that a claim goes on from, and that its region lies in; the nest begins at the line
+  -- the claims of the definition before that a claim goes on from, and that its region lies in; the nest begins at the line, and
+  -- its order is asked at its first store, or at the claim where it stores nothing
   abbrev pub earlier_obligations : ℕ → ℕ → Known → Statement → ℕ → List Obligation
   earlier_obligations begin line known a c =
       if updates outline.setting a (outline.claim c).buffer (outline.claim c).function then
       obligation NotMade (rules.claim_line c) known (Named (list_any (λ d. follows d c) known.own))
-      ∷ obligation OutOfOrder (or_same (store_line a begin (outline.claim c).buffer) line) known (InTurn c a)
+      ∷ obligation OutOfOrder (or_same (store_line a begin (outline.claim c).buffer) (rules.claim_line c)) known (InTurn c a)
       ∷ map (λ d. obligation NotMade (rules.claim_line c) known (Inside (region_of c) (region_of d))) (filter (λ d. follows d c) known.own)
       else []
 

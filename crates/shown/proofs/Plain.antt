@@ -77,7 +77,7 @@ module _ (accepted : PlainNestsAreAccepted) (rules : Rules) (a : Algorithm) (out
     earlier v =
         if v then
         obligation outline rules NotMade (rules.claim_line c) known (Named (list_any (λ d. follows outline rules d c) known.own))
-        ∷ obligation outline rules OutOfOrder (or_same (store_line outline rules b first claim.buffer) last) known (InTurn c b)
+        ∷ obligation outline rules OutOfOrder (or_same (store_line outline rules b first claim.buffer) (rules.claim_line c)) known (InTurn c b)
         ∷ map (λ d. obligation outline rules NotMade (rules.claim_line c) known (Inside (region_of outline rules c) (region_of outline rules d))) (filter (λ d. follows outline rules d c) known.own)
         else []
 

@@ -1,0 +1,6 @@
+mod Altered
+mod Counted
+mod Parts
+mod Rules
+mod Run
+mod Summed
