@@ -11,6 +11,7 @@ use binders::{Binder, NestTests};
 use lin::Span1;
 use nest::Places;
 use outlines::Outlined;
+use refusals::Flaw;
 use std::alloc::{AllocError, Global};
 
 /// Which obligations are asked after.
@@ -20,6 +21,8 @@ pub enum Part {
     Lines,
     /// That statements make their claims.
     Claims,
+    /// Those that would be told before a flaw.
+    Before(Flaw),
 }
 
 /// What decides a group's obligations, and which of them are asked after.

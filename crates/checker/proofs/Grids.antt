@@ -1,8 +1,7 @@
 -- The symbols of a grid, one more at a time.
-use Rattle.std.proofs.Common.{◌≡◌, ℕ, ◌+◌, List, [], ◌∷◌, ◌++◌, length, refl, ap, ◌∙◌, arith}
+use Rattle.std.proofs.Common.{◌≡◌, ℕ, ◌+◌, List, [], ◌∷◌, ◌++◌, length, ap, ◌∙◌, arith}
 use Rattle.claims.specs.Obligations.{Binder, Ranged}
 use Rattle.binders.specs.View.{grid_span}
-use Rattle.obligations.specs.Around as walked
 use Rattle.shown.specs.Wide.{grid_from, grid_binders}
 
 grid_more_from : (k : ℕ) (ns : List ℕ) (n : ℕ) → grid_from k (ns ++ n ∷ []) ≡ Ranged (k + length ns) (grid_span n) ∷ grid_from k ns
@@ -14,11 +13,3 @@ grid_more_from k (m ∷ ns) n =
 -- one more symbol of a grid
 pub grid_more : (ns : List ℕ) (n : ℕ) → grid_binders (ns ++ n ∷ []) ≡ Ranged (length ns) (grid_span n) ∷ grid_binders ns
 grid_more ns n = grid_more_from 0 ns n ∙ ap (λ (i : ℕ). Ranged i (grid_span n) ∷ grid_binders ns) (omega arith)
-
-from_same : (k : ℕ) (ns : List ℕ) → walked.grid_from k ns ≡ grid_from k ns
-from_same k [] = refl
-from_same k (n ∷ ns) = ap (λ (l : List Binder). l ++ Ranged k (grid_span n) ∷ []) (from_same (k + 1) ns)
-
--- the walk over a group's lines begins with these symbols
-pub grids_same : (ns : List ℕ) → walked.grid_binders ns ≡ grid_binders ns
-grids_same ns = from_same 0 ns

@@ -1,6 +1,5 @@
 mod Extents
 mod Named
 mod Grids
-mod Counts
 mod Told
 mod OutputGroup

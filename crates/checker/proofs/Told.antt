@@ -1,36 +1,52 @@
 -- What follows from flaws that are told and from those that are not.
-use Rattle.std.proofs.Common.{◌≡◌, ℕ, ◌+◌, ◌<◌, ◌≤◌, ◌-◌, ◌^◌, zero, suc, List, [], ◌∷◌, true, false, Option, Some, None, inl, inr, ap, refl, sym, ◌∙◌, subst, arith}
-use Rattle.std.specs.Prelude.{MatchOption, is_some, map, slice_get, length, ◌⊎◌}
+use Rattle.std.proofs.Common.{◌≡◌, ℕ, ◌+◌, ◌<◌, ◌≤◌, zero, suc, Bool, List, [], ◌∷◌, true, false, Option, Some, None, inl, inr, ap, refl, sym, ◌∙◌, subst, arith}
+use Rattle.std.specs.Prelude.{◌==◌, ◌&&◌, nat_lt, if◌then◌else◌, MatchOption, map, slice_get, length}
 use Rattle.std.proofs.lemmas.Option.{slice_get_within}
 use Rattle.meaning.specs.Algorithm.{Algorithm}
 use Rattle.nest.specs.declared.plan.Group.{Group as GroupHeld}
 use Rattle.nest.specs.Plan.{Group, Plan}
-use Rattle.nest.specs.Lines.{body_line, group_line}
+use Rattle.nest.specs.Lines.{body_line}
 use Rattle.nest.specs.View.{group_of}
 use Rattle.cert.specs.Certificate.{Certificate}
+use Rattle.refusals.specs.Codes.{is_before, least, lesser, number_of}
 use Rattle.refusals.specs.declared.code.Flaw.{Flaw}
 use Rattle.refusals.specs.declared.code.K.TheVariants.{K14}
 use Rattle.algo.specs.View.{algorithm_of}
-use Rattle.outlines.specs.Flaws.{Flaw as Said, first_of, line_told, told}
+use Rattle.outlines.specs.Flaws.{Flaw as Said, first_of, told}
 use Rattle.outlines.specs.View.{plan_in, certificate_in, number_in, group_in}
 use Rattle.bounding.specs.Rules.{rules_of}
 use Rattle.bounding.specs.View.{rules_in}
 use Rattle.bounding.specs.declared.plan_bounds.PlanBounds.{PlanBounds}
-use Rattle.around.specs.declared.judge.Part.{Part}
-use Rattle.around.specs.declared.judge.Part.TheVariants.{Lines, Claims}
 use Rattle.widths.specs.Widths.{first_told, wide_lines}
 use Rattle.group_lines.specs.Lines.{flaws_of_groups}
 use Rattle.cert_lines.specs.Certificate.{flaws_of_certificate}
 use Rattle.shown.specs.Wide.{grid_binders}
-use Rattle.checker.specs.Stand.{unmet, unmet_in, GroupStands, StandUpTo, GroupsStand, ClaimsStand, IsFlaw}
+use Rattle.faults.specs.First.{AllMet, IsFirstUnmet}
+use Rattle.checker.specs.Stand.{AreNarrow, AreShown, IsFlaw, IsNarrow}
+use Rattle.checker.specs.Refused.{but_symbols, told_first, wide_or_owed, with_owed}
 use Rattle.checker.proofs.Named.{before_or_at}
 
 -- ---- the lesser of two
 
-pub least_tells : (left right r : Option Flaw) (N : Type 0) (P : Flaw → Type 0) → MatchOption r ((left ≡ None) × (right ≡ None)) (λ f. (left ≡ Some f) ⊎ (right ≡ Some f))
-    → (left ≡ None → right ≡ None → N) → ((f : Flaw) → left ≡ Some f → P f) → ((f : Flaw) → right ≡ Some f → P f) → MatchOption r N P
-least_tells left right None N P h none l r = none h.0 h.1
-least_tells left right (Some f) N P h none l r = elim h [ inl e ↦ l f e | inr e ↦ r f e ]
+module _ (P : Flaw → Type 0) where
+  lesser_by : (b : Bool) (f g : Flaw) → P f → P g → P (if b then g else f)
+  lesser_by true f g h k = k
+  lesser_by false f g h k = h
+
+  pub lesser_told : (f g : Flaw) → P f → P g → P (lesser f g)
+  lesser_told f g h k = lesser_by (is_before g f) f g h k
+
+  pub least_told : (x y : Option Flaw) (M N : Type 0) → MatchOption x M P → MatchOption y N P → MatchOption (least x y) (M × N) P
+  least_told None None M N h k = (h, k)
+  least_told None (Some g) M N h k = k
+  least_told (Some f) None M N h k = h
+  least_told (Some f) (Some g) M N h k = lesser_told f g h k
+
+  pub wide_told : (x y : Option Flaw) (M N : Type 0) → MatchOption x M P → MatchOption y N P → MatchOption (wide_or_owed x y) (M × N) P
+  wide_told None None M N h k = (h, k)
+  wide_told None (Some g) M N h k = k
+  wide_told (Some f) None M N h k = h
+  wide_told (Some f) (Some g) M N h k = lesser_by (nat_lt g.line f.line) f g h k
 
 pub none_of : {A : Type 0} (o : Option A) (N : Type 0) (P : A → Type 0) → MatchOption o N P → o ≡ None → N
 none_of o N P h e = subst (λ x. MatchOption x N P) e h
@@ -38,17 +54,13 @@ none_of o N P h e = subst (λ x. MatchOption x N P) e h
 pub some_of : {A : Type 0} (o : Option A) (N : Type 0) (P : A → Type 0) → MatchOption o N P → (x : A) → o ≡ Some x → P x
 some_of o N P h x e = subst (λ y. MatchOption y N P) e h
 
-pub found_none : {A : Type 0} (o : Option A) (N : Type 0) (P : A → Type 0) → MatchOption o N P → is_some o ≡ false → N
-found_none None N P h e = h
-found_none (Some x) N P h e = absurd (cc e)
-
-pub found_some : {A : Type 0} (o : Option A) (N M : Type 0) (P : A → Type 0) → MatchOption o N P → is_some o ≡ true → MatchOption o M P
-found_some None N M P h e = absurd (cc e)
-found_some (Some x) N M P h e = h
+pub match_weaker : (o : Option Flaw) (M N : Type 0) (P Q : Flaw → Type 0) → (M → N) → ((f : Flaw) → P f → Q f) → MatchOption o M P → MatchOption o N Q
+match_weaker None M N P Q m p h = m h
+match_weaker (Some f) M N P Q m p h = p f h
 
 -- ---- no first one of some is none
 
-pub no_flaws : (fs : List Said) → None ≡ first_of fs → fs ≡ []
+no_flaws : (fs : List Said) → None ≡ first_of fs → fs ≡ []
 no_flaws [] h = refl
 no_flaws (f ∷ fs) h = absurd (cc h)
 
@@ -66,9 +78,6 @@ pub record AreOf (b : PlanBounds) (a : Algorithm) (p : Plan) (c : Certificate) (
   pub number : number_in b.outlined.now ≡ n
   pub group : group_in b.outlined.now ≡ g
 
-pub unmet_moved : (b : PlanBounds) (a : Algorithm) (p : Plan) (c : Certificate) (n : ℕ) (g : Group) → AreOf b a p c n g → (part : Part) → unmet_in b part ≡ unmet a p c n g part
-unmet_moved b a p c n g h part = λ i. unmet (h.algorithm i) (h.plan i) (h.certificate i) (h.number i) (h.group i) part
-
 wide_moved : (b : PlanBounds) (a : Algorithm) (p : Plan) (c : Certificate) (n : ℕ) (g : Group) → AreOf b a p c n g →
     first_told (wide_lines (rules_in b) (grid_binders (group_in b.outlined.now).grid) (body_line (plan_in b.outlined.now) (number_in b.outlined.now)) (group_in b.outlined.now).body)
     ≡ first_told (wide_lines (rules_of a p c n) (grid_binders g.grid) (body_line p n) g.body)
@@ -79,47 +88,19 @@ module _ (a : Algorithm) (p : Plan) (c : Certificate) where
   abbrev IsWide : Option ℕ → Option Flaw → Type 0
   IsWide line r = MatchOption line (r ≡ None) (λ k. r ≡ Some (record { code = K14; line = k }))
 
-  no_wide : (line : Option ℕ) (r : Option Flaw) → IsWide line r → r ≡ None → line ≡ None
-  no_wide None r h e = refl
-  no_wide (Some k) r h e = let f : Some (record { code = K14; line = k }) ≡ None = sym h ∙ e in absurd (cc f)
-
   module _ (n : ℕ) (g : Group) (at : slice_get p.groups n ≡ Some g) where
-    wide_flaw : (k : ℕ) (f : Flaw) → Some k ≡ first_told (wide_lines (rules_of a p c n) (grid_binders g.grid) (body_line p n) g.body) → record { code = K14; line = k } ≡ f → IsFlaw a p c f
-    wide_flaw k f is e = subst (IsFlaw a p c) e (inr (inr (inl (record { number = n; group = g; stands = at; code_is = refl; first = sym is }))))
+    abbrev Told : Option Flaw → Type 0
+    Told r = MatchOption r (IsNarrow a p c n g) (IsFlaw a p c)
 
-    wide_is : (line : Option ℕ) (r : Option Flaw) → IsWide line r → line ≡ first_told (wide_lines (rules_of a p c n) (grid_binders g.grid) (body_line p n) g.body) → (f : Flaw) → r ≡ Some f → IsFlaw a p c f
-    wide_is None r h is f e = let k : None ≡ Some f = sym h ∙ e in absurd (cc k)
-    wide_is (Some k) r h is f e = let j : Some (record { code = K14; line = k }) ≡ Some f = sym h ∙ e in wide_flaw k f is (cc j)
+    wide_is : (line : Option ℕ) (r : Option Flaw) → IsWide line r → line ≡ first_told (wide_lines (rules_of a p c n) (grid_binders g.grid) (body_line p n) g.body) → Told r
+    wide_is None r h is = subst Told (sym h) (no_lines (wide_lines (rules_of a p c n) (grid_binders g.grid) (body_line p n) g.body) is)
+    wide_is (Some k) r h is = subst Told (sym h) (inr (inr (inl (record { number = n; group = g; stands = at; code_is = refl; first = sym is }))))
 
-    pub unmet_is : (part : Part) (o : Option Flaw) → o ≡ unmet a p c n g part → (f : Flaw) → o ≡ Some f → IsFlaw a p c f
-    unmet_is part o is f e = inr (inr (inr (inl (record { number = n; group = g; stands = at; part = part; first = ap told (sym is ∙ e) }))))
-
-    -- the lesser of the flaws of a group's lines, if there is one
-    pub group_told : (b : PlanBounds) (line : Option ℕ) (wide met r : Option Flaw) → AreOf b a p c n g
+    -- the flaw of a group's numbers, if there is one
+    pub group_told : (b : PlanBounds) (line : Option ℕ) (r : Option Flaw) → AreOf b a p c n g
         → line ≡ first_told (wide_lines (rules_in b) (grid_binders (group_in b.outlined.now).grid) (body_line (plan_in b.outlined.now) (number_in b.outlined.now)) (group_in b.outlined.now).body)
-        → IsWide line wide → met ≡ unmet_in b Lines → MatchOption r ((wide ≡ None) × (met ≡ None)) (λ f. (wide ≡ Some f) ⊎ (met ≡ Some f))
-        → MatchOption r (GroupStands a p c n g) (IsFlaw a p c)
-    group_told b line wide met r of first is owes least =
-        let lines = first ∙ wide_moved b a p c n g of in
-        let debt = owes ∙ unmet_moved b a p c n g of Lines in
-        least_tells wide met r (GroupStands a p c n g) (IsFlaw a p c) least
-        (λ e d. record { narrow = no_lines (wide_lines (rules_of a p c n) (grid_binders g.grid) (body_line p n) g.body) (sym (no_wide line wide is e) ∙ lines); met = sym debt ∙ d })
-        (wide_is line wide is lines) (unmet_is Lines met debt)
-
-  -- ---- all groups
-
-  -- what the named flaw and the first by bounds tell
-  pub groups_told : (named other r : Option Flaw) (last : ℕ) → told named ≡ first_of (flaws_of_groups a p c) → MatchOption named (last ≡ 2 ^ 32 - 1) (λ f. last ≡ f.line)
-      → MatchOption other (StandUpTo a p c last) (IsFlaw a p c) → MatchOption r ((named ≡ None) × (other ≡ None)) (λ f. (named ≡ Some f) ⊎ (other ≡ Some f))
-      → MatchOption r (GroupsStand a p c) (IsFlaw a p c)
-  groups_told named other r last is end stand least =
-      least_tells named other r (GroupsStand a p c) (IsFlaw a p c) least
-      (λ e d.
-      let most = none_of named (last ≡ 2 ^ 32 - 1) (λ f. last ≡ f.line) end e in
-      let each = none_of other (StandUpTo a p c last) (IsFlaw a p c) stand d in
-      record { named = no_flaws (flaws_of_groups a p c) (ap told (sym e) ∙ is); each = λ n g at. each n g at (omega (arith, most)) })
-      (λ f e. inr (inl (sym is ∙ ap told e)))
-      (some_of other (StandUpTo a p c last) (IsFlaw a p c) stand)
+        → IsWide line r → Told r
+    group_told b line r of first is = wide_is line r is (first ∙ wide_moved b a p c n g of)
 
 -- a group in memory
 pub group_there : (xs : List GroupHeld) (n : ℕ) → n < length xs → (g : Group) × (slice_get (map group_of xs) n ≡ Some g)
@@ -130,55 +111,84 @@ group_there (x ∷ xs) (suc n) less = group_there xs n (omega (arith, less))
 pub same_group : (x : Option Group) (g h : Group) → x ≡ Some g → x ≡ Some h → g ≡ h
 same_group x g h e f = let k : Some g ≡ Some h = sym e ∙ f in cc
 
--- what stands stands where it is asked
-pub where_asked : (o : Option Flaw) (N A : Type 0) (P : Flaw → Type 0) → MatchOption o N P → MatchOption o (A → N) P
-where_asked None N A P h = λ _. h
-where_asked (Some f) N A P h = h
-
 module _ (a : Algorithm) (p : Plan) (c : Certificate) where
-  -- each of the first k groups that begins up to a line stands
-  abbrev pub StandBefore : ℕ → ℕ → Type 0
-  StandBefore last k = (n : ℕ) (g : Group) → n < k → slice_get p.groups n ≡ Some g → line_told (group_line p n) ≤ last → GroupStands a p c n g
+  -- ---- all groups
 
-  pub before_more : (last k : ℕ) (o : Option Flaw)
-      → ((g : Group) → slice_get p.groups k ≡ Some g → MatchOption o (line_told (group_line p k) ≤ last → GroupStands a p c k g) (IsFlaw a p c)) → is_some o ≡ false
-      → StandBefore last k → StandBefore last (k + 1)
-  before_more last k o is none before n g less at =
-      elim (before_or_at n k less) [
-        | inl earlier ↦ before n g earlier at
-        | inr here ↦ subst (λ (j : ℕ). line_told (group_line p j) ≤ last → GroupStands a p c j g) (sym here)
-            (found_none o (line_told (group_line p k) ≤ last → GroupStands a p c k g) (IsFlaw a p c) (is g (subst (λ (j : ℕ). slice_get p.groups j ≡ Some g) here at)) none)
-      ]
+  -- the numbers of each of the first k groups are small
+  abbrev pub NarrowBefore : ℕ → Type 0
+  NarrowBefore k = (n : ℕ) (g : Group) → n < k → slice_get p.groups n ≡ Some g → IsNarrow a p c n g
 
-  pub before_all : (last k : ℕ) → length p.groups ≤ k → StandBefore last k → StandUpTo a p c last
-  before_all last k all before n g at = let less = slice_get_within p.groups n g at in before n g (omega (arith, less, all)) at
-
-  -- the claims of each of the first k groups are made
-  abbrev pub ClaimsBefore : ℕ → Type 0
-  ClaimsBefore k = (n : ℕ) (g : Group) → n < k → slice_get p.groups n ≡ Some g → unmet a p c n g Claims ≡ None
-
-  pub claims_more : (k : ℕ) (g : Group) → slice_get p.groups k ≡ Some g → (found flaw r : Option Flaw) → flaw ≡ unmet a p c k g Claims
-      → MatchOption found (ClaimsBefore k) (IsFlaw a p c) → MatchOption r ((found ≡ None) × (flaw ≡ None)) (λ f. (found ≡ Some f) ⊎ (flaw ≡ Some f)) → MatchOption r (ClaimsBefore (k + 1)) (IsFlaw a p c)
-  claims_more k g at found flaw r is before least =
-      least_tells found flaw r (ClaimsBefore (k + 1)) (IsFlaw a p c) least
-      (λ e d n h less there. elim (before_or_at n k less) [
-        | inl earlier ↦ none_of found (ClaimsBefore k) (IsFlaw a p c) before e n h earlier there
-        | inr here ↦
-            let own : g ≡ h = same_group (slice_get p.groups k) g h at (subst (λ (j : ℕ). slice_get p.groups j ≡ Some h) here there) in
-            (λ i. unmet a p c (here i) (sym own i) Claims) ∙ sym is ∙ d
+  pub narrow_more : (k : ℕ) (g : Group) → slice_get p.groups k ≡ Some g → (found flaw r : Option Flaw) → MatchOption flaw (IsNarrow a p c k g) (IsFlaw a p c)
+      → MatchOption found (NarrowBefore k) (IsFlaw a p c) → r ≡ least found flaw → MatchOption r (NarrowBefore (k + 1)) (IsFlaw a p c)
+  narrow_more k g at found flaw r here before is =
+      subst (λ (x : Option Flaw). MatchOption x (NarrowBefore (k + 1)) (IsFlaw a p c)) (sym is)
+      (match_weaker (least found flaw) (NarrowBefore k × IsNarrow a p c k g) (NarrowBefore (k + 1)) (IsFlaw a p c) (IsFlaw a p c)
+      (λ both n h less there. elim (before_or_at n k less) [
+        | inl earlier ↦ both.0 n h earlier there
+        | inr same ↦
+            let own : g ≡ h = same_group (slice_get p.groups k) g h at (subst (λ (j : ℕ). slice_get p.groups j ≡ Some h) same there) in
+            subst (λ (j : ℕ). IsNarrow a p c j h) (sym same) (subst (IsNarrow a p c k) own both.1)
       ])
-      (some_of found (ClaimsBefore k) (IsFlaw a p c) before) (unmet_is a p c k g at Claims flaw is)
+      (λ f told. told)
+      (least_told (IsFlaw a p c) found flaw (NarrowBefore k) (IsNarrow a p c k g) before here))
 
-  pub claims_all : (k : ℕ) (found : Option Flaw) → length p.groups ≤ k → MatchOption found (ClaimsBefore k) (IsFlaw a p c) → MatchOption found (ClaimsStand a p c) (IsFlaw a p c)
-  claims_all k None all before = λ n g at. let less = slice_get_within p.groups n g at in before n g (omega (arith, less, all)) at
-  claims_all k (Some f) all before = before
+  pub narrow_all : (k : ℕ) (found : Option Flaw) → length p.groups ≤ k → MatchOption found (NarrowBefore k) (IsFlaw a p c) → MatchOption found (AreNarrow a p c) (IsFlaw a p c)
+  narrow_all k None all before = λ n g at. let less = slice_get_within p.groups n g at in before n g (omega (arith, less, all)) at
+  narrow_all k (Some f) all before = before
 
-module _ (a : Algorithm) (p : Plan) (c : Certificate) where
+  -- ---- what is told
+
+  -- what the first flaw of the lines of groups tells
+  pub groups_told : (found : Option Flaw) → told found ≡ first_of (flaws_of_groups a p c) → MatchOption found (flaws_of_groups a p c ≡ []) (IsFlaw a p c)
+  groups_told None is = no_flaws (flaws_of_groups a p c) is
+  groups_told (Some f) is = inr (inl (sym is))
+
   -- what the first flaw of a certificate tells
   pub certificate_told : (found : Option Flaw) → told found ≡ first_of (flaws_of_certificate a p c) → MatchOption found (flaws_of_certificate a p c ≡ []) (IsFlaw a p c)
   certificate_told None is = no_flaws (flaws_of_certificate a p c) is
   certificate_told (Some f) is = inr (inr (inr (inr (inl (sym is)))))
 
-  -- one of two flaws that are faults
-  pub either_told : (f g r : Flaw) → (r ≡ f) ⊎ (r ≡ g) → IsFlaw a p c f → IsFlaw a p c g → IsFlaw a p c r
-  either_told f g r which h k = elim which [ inl e ↦ subst (IsFlaw a p c) (sym e) h | inr e ↦ subst (IsFlaw a p c) (sym e) k ]
+  -- the first that is owed is a fault
+  owed_is : (f : Flaw) → IsFirstUnmet a p c f → IsFlaw a p c f
+  owed_is f h = inr (inr (inr (inl (record { number = h.number; group = h.group; stands = h.stands; part = h.part; first = ap told h.first }))))
+
+  -- what is decided by bounds
+  pub owed_told : (wide owed r : Option Flaw) → MatchOption wide (AreNarrow a p c) (IsFlaw a p c) → MatchOption owed (AllMet a p c) (IsFirstUnmet a p c) → r ≡ wide_or_owed wide owed
+      → MatchOption r (AreShown a p c) (IsFlaw a p c)
+  owed_told wide owed r narrow met is =
+      subst (λ (x : Option Flaw). MatchOption x (AreShown a p c) (IsFlaw a p c)) (sym is)
+      (match_weaker (wide_or_owed wide owed) (AreNarrow a p c × AllMet a p c) (AreShown a p c) (IsFlaw a p c) (IsFlaw a p c)
+      (λ both. record { narrow = both.0; met = both.1 })
+      (λ f h. h)
+      (wide_told (IsFlaw a p c) wide owed (AreNarrow a p c) (AllMet a p c) narrow
+      (match_weaker owed (AllMet a p c) (AllMet a p c) (IsFirstUnmet a p c) (IsFlaw a p c) (λ m. m) owed_is met)))
+
+  -- one of some flaws that are faults
+  pub either_told : (f g r : Flaw) → r ≡ lesser f g → IsFlaw a p c f → IsFlaw a p c g → IsFlaw a p c r
+  either_told f g r is h k = subst (IsFlaw a p c) (sym is) (lesser_told (IsFlaw a p c) f g h k)
+
+  kept_told : (b : Bool) (g : Flaw) → IsFlaw a p c g → MatchOption (if b then None else Some g) (Unit {0}) (IsFlaw a p c)
+  kept_told true g h = tt
+  kept_told false g h = h
+
+  with_told : (named : Flaw) (owed : Option Flaw) (M : Type 0) → IsFlaw a p c named → MatchOption owed M (IsFlaw a p c) → IsFlaw a p c (with_owed named owed)
+  with_told named None M h k = h
+  with_told named (Some g) M h k = lesser_told (IsFlaw a p c) named g h k
+
+  but_told : (owed : Option Flaw) (M : Type 0) → MatchOption owed M (IsFlaw a p c) → MatchOption (but_symbols owed) (Unit {0}) (IsFlaw a p c)
+  but_told None M h = tt
+  but_told (Some g) M h = kept_told (number_of g.code == 2) g h
+
+  either_way : (b : Bool) (f g : Flaw) → IsFlaw a p c f → IsFlaw a p c g → IsFlaw a p c (if b then f else g)
+  either_way true f g h k = h
+  either_way false f g h k = k
+
+  first_told_is : (named : Flaw) (owed listed : Option Flaw) (M N : Type 0) → IsFlaw a p c named → MatchOption owed M (IsFlaw a p c) → MatchOption listed N (IsFlaw a p c) → IsFlaw a p c (told_first named owed listed)
+  first_told_is named owed None M N h k l = with_told named owed M h k
+  first_told_is named owed (Some o) M N h k l =
+      let kept = but_symbols owed in
+      either_way (number_of (with_owed named kept).code == 5 && number_of o.code == 10) o (with_owed named kept) l (with_told named kept (Unit {0}) h (but_told owed M k))
+
+  pub one_told : (named r : Flaw) (owed listed : Option Flaw) (M N : Type 0) → r ≡ told_first named owed listed
+      → IsFlaw a p c named → MatchOption owed M (IsFlaw a p c) → MatchOption listed N (IsFlaw a p c) → IsFlaw a p c r
+  one_told named r owed listed M N is h k l = subst (IsFlaw a p c) (sym is) (first_told_is named owed listed M N h k l)

@@ -8,8 +8,8 @@ ghost use Rattle.headline.specs.Shown.{Headline};
 ghost use Rattle.accepted.specs.Accepted.{IsAccepted};
 ghost use Rattle.checker.specs.Refused.{IsRefused};
 
-use crate::certificate::shares_where_accepted;
 use crate::output::{group_named, output_name};
+use crate::verdict::shares_where_accepted;
 use accepted::laws::{accepted_is_ready, accepted_is_right, faults_are_refusals};
 use algo::Algo;
 use audit::{CheckError, head_fault};
@@ -19,6 +19,7 @@ use nest::Plan;
 use refusals::K;
 use shares::SharesError;
 use std::alloc::Global;
+use std::thread::Threads;
 
 /// Whether a plan with its certificate is right for an algorithm, by what its author wrote alone.
 ///
@@ -28,21 +29,27 @@ use std::alloc::Global;
 /// schedule, says.
 ///
 /// The time is about linear in the lines of the plan and its certificate, the cells, the fetched cells and the needed pieces;
-/// bounds of forms are searched for within the limits of that search.
+/// bounds of forms are searched for within the limits of that search. What the lines and what the claims of each group owe
+/// is looked at side by side, in as many threads as there are processors.
 ///
 /// # Errors
-/// `Refused` with a code and the line of the text at which it holds, `Memory` where memory runs out. What is wrong is looked
-/// for in the order of the lines, and at one line the lowest code is told:
-/// - the head: `K1` at line 1, 2 or 3;
-/// - the lines of groups: names, limits and stored expressions (`K2`, `K3`, `K12`, `K14`), then what loops, stores, fetches
-///   and `publish` owe (`K2`, `K4`, `K5`, `K7`), and numbers not shown to be small (`K14`, told before what the same line
-///   owes);
-/// - the lines of own and needed regions: names and limits (`K2`, `K3`, `K14`, and `K10` at `cert`) and then, where no line
-///   of the certificate has such a flaw, how the pieces share the cells (`K9`, `K10`, `K11`, `K14`) and whether the output's
-///   group has each point of the output (`K10`);
-/// - the lines of claims and windows: names and limits (`K2`, `K3`, `K14`) and claims that their statements are not shown
-///   to make (`K6`), in each group the first by its statements.
-pub fn check<'a>(
+/// `Refused` with a code and the line of the text at which it holds, `Memory` where memory runs out. Where the head is wrong,
+/// that is told: `K1` at line 1, 2 or 3. Else of all that is wrong the first is told, in the order of the lines, and at one
+/// line the lowest code:
+/// - at the lines of groups: names, limits and stored expressions (`K2`, `K3`, `K12`, `K14`), what loops, stores, fetches
+///   and `publish` owe (`K2`, `K4`, `K5`, `K7`), and in each group the first number not shown to be small (`K14`);
+/// - at the lines of own and needed regions: names and limits (`K2`, `K3`, `K14`, and `K10` at `cert`), how the pieces share
+///   the cells (`K9`, `K10`, `K11`, `K14`), and whether the output's group has each point of the output (`K10`);
+/// - at the lines of claims and windows: names and limits (`K2`, `K3`, `K14`) and claims that their statements are not shown
+///   to make (`K6`).
+///
+/// How the pieces share the cells, and whether the output's group has each point, is asked only where no line of a group or
+/// of the certificate has a flaw of names, limits or stored expressions. At one line a number not shown to be small is told
+/// before what the line owes, which is shown where numbers are small. Where some group has no own region (`K10` at `cert`),
+/// that is told in place of a `K5` that would be the first, and a symbol that stands twice (`K2`) is told at the claim that
+/// names it where it is not bound.
+pub fn check<'a, R: Threads + Sync>(
+    rt: &R,
     alloc: Global,
     algo: &'a Algo,
     plan: Plan,
@@ -63,7 +70,7 @@ pub fn check<'a>(
     let Some(number) = group_named(&plan.groups, output_name(algo)) else {
         unreachable!();
     };
-    match shares_where_accepted(alloc, algo, &plan, &cert, number) {
+    match shares_where_accepted(rt, alloc, algo, &plan, &cert, number) {
         Ok(shares) => Ok(Checked::of(algo, plan, cert, shares.pieces, shares.cells)),
         Err(SharesError::Memory) => Err(CheckError::Memory),
         Err(SharesError::Flaw(flaw)) => Err(CheckError::Refused(flaw.code, flaw.line)),

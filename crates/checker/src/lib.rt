@@ -4,13 +4,11 @@
 //! workers gives, on every input, the picture that the algorithm says.
 #![tactic(auto)]
 
-mod certificate;
 mod checking;
-mod group_bounds;
 mod groups;
-mod least;
 mod output;
 mod shared;
+mod verdict;
 
 pub use audit::CheckError;
 pub use checked::Checked;

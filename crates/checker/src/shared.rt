@@ -13,14 +13,13 @@ ghost use Rattle.checked.specs.Lists.{ListsAreOf};
 ghost use Rattle.checker.specs.Refused.{IsTold};
 ghost use Rattle.checker.specs.Stand.{IsFlaw, IsGroupOf};
 
-use crate::least::first_of;
 use crate::output::{has_extents, output_extents, own_line};
 use accepted::clear::{groups_are_apart, plans_are_shared, regions_are_small};
 use algo::Algo;
 use cert::Cert;
 use cert_lines::laws::no_flaw_is_clear;
 use nest::Plan;
-use refusals::{Flaw, K};
+use refusals::{Flaw, K, lesser};
 use shares::{Shares, SharesError, shares_of};
 use std::alloc::Global;
 
@@ -71,7 +70,7 @@ pub(crate) fn shares_with_output(
         Err(SharesError::Memory) => Err(SharesError::Memory),
         Err(SharesError::Flaw(flaw)) => match lacking {
             None => Err(SharesError::Flaw(flaw)),
-            Some(other) => Err(SharesError::Flaw(first_of(flaw, other))),
+            Some(other) => Err(SharesError::Flaw(lesser(flaw, other))),
         },
     }
 }

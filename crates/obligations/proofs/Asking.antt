@@ -46,7 +46,7 @@ module _ (outline : Outline) (rules : Rules) where
 
   unless_true : (part : Part) (k : K) (line : ℕ) → unless part k line true ≡ None
   unfolding unless
-  unless_true part k line = none_both (is_asked part k)
+  unless_true part k line = none_both (is_asked part (record { code = k; line = line }))
 
   module _ (nests : Nests) (part : Part) (line : ℕ) (known : Known) (b : ℕ) (f : List ℕ) (places : List Span1) where
     -- what a store asks for of the nest that it stands in

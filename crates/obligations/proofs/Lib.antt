@@ -5,3 +5,4 @@ pub mod Loading
 pub mod Asking
 pub mod Walking
 pub mod Silent
+pub mod Earlier

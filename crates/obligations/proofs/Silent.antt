@@ -11,12 +11,12 @@ use Rattle.obligations.specs.Asked.{code_of, is_asked, is_of_claims, first_unmet
 use Rattle.obligations.specs.Laws.{NothingToldIsShown, ShownIsNothingTold}
 use Rattle.obligations.proofs.Unmet.{one, nothing}
 
-or_none_parts : (a b : Option Flaw) → or_else a b ≡ None → (a ≡ None) × (b ≡ None)
+pub or_none_parts : (a b : Option Flaw) → or_else a b ≡ None → (a ≡ None) × (b ≡ None)
 or_none_parts None b h = (refl, h)
 or_none_parts (Some f) b h = absurd (cc h)
 
 -- what is told of one that is asked after or not, shown or not
-abbrev tells : Bool → Bool → Flaw → Option Flaw
+abbrev pub tells : Bool → Bool → Flaw → Option Flaw
 tells a s f = if a then (if s then None else Some f) else None
 
 both_silent : (b s : Bool) (f : Flaw) → tells (not b) s f ≡ None → tells b s f ≡ None → s ≡ true
@@ -24,7 +24,7 @@ both_silent b true f h k = refl
 both_silent true false f h k = absurd (cc k)
 both_silent false false f h k = absurd (cc h)
 
-silent : (a : Bool) (f : Flaw) → tells a true f ≡ None
+pub silent : (a : Bool) (f : Flaw) → tells a true f ≡ None
 silent true f = refl
 silent false f = refl
 
@@ -34,9 +34,10 @@ unless_both k line s h g = both_silent (is_of_claims k) s (record { code = k; li
 
 unless_shown : (part : Part) (k : K) (line : ℕ) (s : Bool) → s ≡ true → unless part k line s ≡ None
 unfolding unless
-unless_shown part k line s h = ap (λ (b : Bool). tells (is_asked part k) b (record { code = k; line = line })) h ∙ silent (is_asked part k) (record { code = k; line = line })
+unless_shown part k line s h = ap (λ (b : Bool). tells (is_asked part (record { code = k; line = line })) b (record { code = k; line = line })) h
+    ∙ silent (is_asked part (record { code = k; line = line })) (record { code = k; line = line })
 
-and_parts : (a b : Bool) → (a && b) ≡ true → (a ≡ true) × (b ≡ true)
+pub and_parts : (a b : Bool) → (a && b) ≡ true → (a ≡ true) × (b ≡ true)
 and_parts true b h = (refl, h)
 and_parts false b h = absurd (cc h)
 

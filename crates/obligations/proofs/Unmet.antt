@@ -46,8 +46,8 @@ module _ (rules : Rules) (nests : Nests) (part : Part) where
       first_unmet rules nests part (o ∷ os) ≡ or_else (unless part (code_of o.code) (min o.line (2 ^ 32 - 1)) (is_shown rules nests o)) (first_unmet rules nests part os)
   unfolding first_unmet unless
   one o os =
-      ap told (pushed (is_asked part (code_of o.code)) o (of_part part os))
-      ∙ picked (is_asked part (code_of o.code)) (is_shown rules nests o) o (first_fault rules nests (of_part part os))
+      ap told (pushed (is_asked part (flaw_of o)) o (of_part part os))
+      ∙ picked (is_asked part (flaw_of o)) (is_shown rules nests o) o (first_fault rules nests (of_part part os))
 
   pub append : (xs ys : List Obligation) → first_unmet rules nests part (xs ++ ys) ≡ or_else (first_unmet rules nests part xs) (first_unmet rules nests part ys)
   append [] ys = sym (ap (λ (o : Option Flaw). or_else o (first_unmet rules nests part ys)) nothing)
@@ -105,10 +105,10 @@ module _ (rules : Rules) (nests : Nests) (part : Part) where
     loop_ends all i none le inv =
         sym (inv ∙ ap (λ (xs : List X). first_unmet rules nests part (F xs)) (drop_all i all le) ∙ ap (first_unmet rules nests part) none ∙ nothing)
 
--- a number or the same
-pub or_same_is : (o : Option ℕ) (n : ℕ) → unwrap_or o n ≡ or_same o n
-or_same_is None n = refl
-or_same_is (Some m) n = refl
+-- a line or the other, as it is told
+pub told_line : (o : Option ℕ) (n : ℕ) → min (unwrap_or o (min n (2 ^ 32 - 1))) (2 ^ 32 - 1) ≡ min (or_same o n) (2 ^ 32 - 1)
+told_line None n = omega arith
+told_line (Some m) n = refl
 
 -- an element that passes a test or not, before others
 pub kept_step : {Y : Type 0} (h : Y → Obligation) (b : Bool) (y : Y) (ys : List Y) → map h (if b then y ∷ ys else ys) ≡ (if b then h y ∷ [] else []) ++ map h ys

@@ -32,7 +32,7 @@ asked_by_claims outline rules k c ds =
 
 -- what a claim asks of a nest of updates: that it stands in the block of a claim of the definition before, that it is in turn,
 -- and that those claims' regions hold the claim's
-abbrev pub asked_of_updates : Outline → Rules → ℕ → ℕ → KnownHeld → Statement → ℕ → List Obligation
-asked_of_updates outline rules begin last k a c =
+abbrev pub asked_of_updates : Outline → Rules → ℕ → KnownHeld → Statement → ℕ → List Obligation
+asked_of_updates outline rules begin k a c =
     obligation outline rules NotMade (rules.claim_line c) (known_of k []) (Named (list_any (λ d. follows outline rules d c) k.own.items))
-    ∷ obligation outline rules OutOfOrder (or_same (store_line outline rules a begin (outline.claim c).buffer) last) (known_of k []) (InTurn c a) ∷ asked_by_claims outline rules k c k.own.items
+    ∷ obligation outline rules OutOfOrder (or_same (store_line outline rules a begin (outline.claim c).buffer) (rules.claim_line c)) (known_of k []) (InTurn c a) ∷ asked_by_claims outline rules k c k.own.items

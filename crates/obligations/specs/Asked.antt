@@ -3,10 +3,11 @@ use Rattle.std.specs.Prelude.{ℕ, ◌-◌, ◌^◌, min, Bool, true, false, not
 use Rattle.refusals.specs.declared.code.K.{K}
 use Rattle.refusals.specs.declared.code.K.TheVariants.{K2, K4, K5, K6, K7}
 use Rattle.refusals.specs.declared.code.Flaw.{Flaw}
+use Rattle.refusals.specs.Codes.{is_before}
 use Rattle.claims.specs.Obligations.{Rules, Code, Undefined, OutOfBuffer, NotClaimed, NotMade, OutOfOrder, Obligation}
 use Rattle.claims.specs.Shown.{Nests, first_fault}
 use Rattle.around.specs.declared.judge.Part.{Part}
-use Rattle.around.specs.declared.judge.Part.TheVariants.{Lines, Claims}
+use Rattle.around.specs.declared.judge.Part.TheVariants.{Lines, Claims, Before}
 
 -- why a plan is refused, as it is told
 abbrev pub code_of : Code → K
@@ -21,18 +22,19 @@ abbrev pub is_of_claims : K → Bool
 is_of_claims K6 = true
 is_of_claims _ = false
 
--- whether obligations of a code are asked after
-abbrev pub is_asked : Part → K → Bool
-is_asked Lines k = not (is_of_claims k)
-is_asked Claims k = is_of_claims k
-
--- the obligations that are asked after
-abbrev pub of_part : Part → List Obligation → List Obligation
-of_part part os = filter (λ o. is_asked part (code_of o.code)) os
+-- whether obligations that are told as a flaw are asked after
+abbrev pub is_asked : Part → Flaw → Bool
+is_asked Lines f = not (is_of_claims f.code)
+is_asked Claims f = is_of_claims f.code
+is_asked (Before g) f = is_before f g
 
 -- an obligation as it is told: lines past the greatest number of 32 bits are told as that
 abbrev pub flaw_of : Obligation → Flaw
 flaw_of o = record { code = code_of o.code; line = min o.line (2 ^ 32 - 1) }
+
+-- the obligations that are asked after
+abbrev pub of_part : Part → List Obligation → List Obligation
+of_part part os = filter (λ o. is_asked part (flaw_of o)) os
 
 abbrev pub told : Option Obligation → Option Flaw
 told None = None
@@ -44,4 +46,6 @@ first_unmet rules nests part os = told (first_fault rules nests (of_part part os
 
 -- what is told of an obligation alone
 unfoldable pub unless : Part → K → ℕ → Bool → Option Flaw
-unless part k line shown = if is_asked part k then (if shown then None else Some (record { code = k; line = line })) else None
+unless part k line shown =
+    let f : Flaw = record { code = k; line = line } in
+    if is_asked part f then (if shown then None else Some f) else None

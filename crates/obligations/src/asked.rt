@@ -6,13 +6,14 @@ ghost use Rattle.obligations.specs.Asked.{is_asked, unless};
 use around::Part;
 use refusals::{Flaw, K};
 
-/// Whether obligations of this code are asked after.
-fn is_asked(part: Part, code: K) -> bool
-    ensures { result ≡ is_asked part code }
+/// Whether obligations that are told as this flaw are asked after.
+fn is_asked(part: Part, flaw: Flaw) -> bool
+    ensures { result ≡ is_asked part flaw }
 {
     match part {
-        Part::Lines => !matches!(code, K::K6),
-        Part::Claims => matches!(code, K::K6),
+        Part::Lines => !matches!(flaw.code, K::K6),
+        Part::Claims => matches!(flaw.code, K::K6),
+        Part::Before(first) => flaw.is_before(first),
     }
 }
 
@@ -21,8 +22,9 @@ fn is_asked(part: Part, code: K) -> bool
 pub(crate) fn unless(part: Part, code: K, line: u32, shown: bool) -> Option<Flaw>
     ensures { result ≡ unless part code line shown }
 {
-    if is_asked(part, code) && !shown {
-        Some(Flaw { code, line })
+    let flaw = Flaw { code, line };
+    if is_asked(part, flaw) && !shown {
+        Some(flaw)
     } else {
         None
     }

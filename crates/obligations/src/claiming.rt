@@ -141,26 +141,25 @@ fn unmet_regions<B: Facts, T: NestTests>(
     Ok(None)
 }
 
-/// What a claim asks of a nest of updates: that it is in turn, and goes on from claims of the definition before. The nest stands
-/// from the one line to the other.
-#[tactic(auto, using(crate::proofs::Unmet::one, crate::proofs::Unmet::alone, crate::proofs::Unmet::nothing, crate::proofs::Unmet::append, crate::proofs::Unmet::stops, crate::proofs::Unmet::goes, crate::proofs::Unmet::or_same_is))]
+/// What a claim asks of a nest of updates, which begins at the line: that it is in turn, and goes on from claims of the
+/// definition before.
+#[tactic(auto, using(crate::proofs::Unmet::one, crate::proofs::Unmet::alone, crate::proofs::Unmet::nothing, crate::proofs::Unmet::append, crate::proofs::Unmet::stops, crate::proofs::Unmet::goes, crate::proofs::Unmet::told_line))]
 fn unmet_update<B: Facts, T: NestTests>(
     judge: &Judge<'_, B, T>,
     stmt: &Stmt,
     begin: u32,
-    last: u32,
     known: &Known<'_>,
     claim: u32,
 ) -> Result<Option<Flaw>, AllocError>
     requires { begin + lines (statement_of stmt.now) < 2 ^ 32 }
-    ensures { IfOk result (λ flaw. flaw ≡ first_unmet (B.rules judge.now.bounds.now) (T.nests judge.now.tests.now) judge.now.part (asked_of_updates (outline_in judge.now.outlined.now) (B.rules judge.now.bounds.now) begin last known.now (statement_of stmt.now) claim)) }
+    ensures { IfOk result (λ flaw. flaw ≡ first_unmet (B.rules judge.now.bounds.now) (T.nests judge.now.tests.now) judge.now.part (asked_of_updates (outline_in judge.now.outlined.now) (B.rules judge.now.bounds.now) begin known.now (statement_of stmt.now) claim)) }
 {
     let has = has_earlier(judge, &known.own, claim);
     if let Some(flaw) = unless(judge.part, K::K6, judge.bounds.claim_line(claim), has) {
         return Ok(Some(flaw));
     }
     let buffer = said_by(judge.outlined, claim).buffer;
-    let line = store_line(judge, stmt, begin, buffer).unwrap_or(last);
+    let line = store_line(judge, stmt, begin, buffer).unwrap_or(judge.bounds.claim_line(claim));
     let shown = judge
         .tests
         .is_in_turn(judge.alloc, &known.binders, claim, stmt)?;
@@ -185,7 +184,7 @@ fn unmet_earlier<B: Facts, T: NestTests>(
 {
     let said = said_by(judge.outlined, claim);
     if only_updates(judge.outlined, stmt, said.buffer, said.function) {
-        unmet_update(judge, stmt, begin, last, known, claim)
+        unmet_update(judge, stmt, begin, known, claim)
     } else {
         Ok(None)
     }

@@ -1,7 +1,7 @@
 //! The codes of refusals, and where they stand.
 
 ghost use Rattle.std.specs.Prelude.{◌≡◌};
-ghost use Rattle.refusals.specs.Codes.{number_of};
+ghost use Rattle.refusals.specs.Codes.{is_before, least, lesser, number_of};
 
 /// The code of a refusal.
 #[derive(Clone, Copy, Debug, PartialEq, Eq, Drop)]
@@ -66,4 +66,34 @@ impl K {
 pub struct Flaw {
     pub code: K,
     pub line: u32,
+}
+
+impl Flaw {
+    /// Whether it is told before another: it stands at an earlier line, or at the same line with a lower code.
+    pub fn is_before(self, other: Flaw) -> bool
+        ensures { result ≡ is_before self other }
+    {
+        self.line < other.line
+            || self.line == other.line && self.code.number() < other.code.number()
+    }
+}
+
+/// The one of two flaws that is told first.
+pub fn lesser(left: Flaw, right: Flaw) -> Flaw
+    ensures { result ≡ lesser left right }
+{
+    if right.is_before(left) { right } else { left }
+}
+
+/// The one of two flaws that is told first, where there may be none.
+pub fn least(left: Option<Flaw>, right: Option<Flaw>) -> Option<Flaw>
+    ensures { result ≡ least left right }
+{
+    match left {
+        None => right,
+        Some(one) => match right {
+            None => left,
+            Some(other) => Some(lesser(one, other)),
+        },
+    }
 }

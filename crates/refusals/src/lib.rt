@@ -1,6 +1,6 @@
-//! The codes by which a checker of plans refuses, and where.
+//! The codes by which a checker of plans refuses, and where, and which of two flaws is told.
 #![tactic(auto)]
 
 mod code;
 
-pub use code::{Flaw, K};
+pub use code::{Flaw, K, least, lesser};

@@ -1,12 +1,15 @@
-use Rattle.std.proofs.Common.{refl, inl}
+use Rattle.std.proofs.Common.{refl, inl, subst}
 use Rattle.algo.specs.View.{algorithm_of}
 use Rattle.nest.specs.View.{plan_of}
 use Rattle.cert.specs.Certificate.{certificate_of}
+use Rattle.refusals.specs.Codes.{number_of}
+use Rattle.shares.specs.declared.answer.SharesError.{SharesError}
 use Rattle.accepted.specs.Faults.{IsFault}
+use Rattle.checker.specs.Refused.{IsTold}
 use Rattle.checker.proofs.checking.check.Goals as goal
 
 pub returns-in-Some-clause-refused : goal.returns-in-Some-clause-refused
-returns-in-Some-clause-refused c =
+returns-in-Some-clause-refused g c =
     let a = algorithm_of c.args.algo.now in
     let p = plan_of c.args.plan in
     let d = certificate_of c.args.cert in
@@ -14,4 +17,13 @@ returns-in-Some-clause-refused c =
     (fault, c.faults_are_refusals.ensures a p d 1 c.in-Some.line fault)
 
 pub of-requires-clause-ready : goal.of-requires-clause-ready
-of-requires-clause-ready c = c.accepted_is_ready.ensures (algorithm_of c.args.algo.now) (plan_of c.args.plan) (certificate_of c.args.cert) c.is_well_formed.ensures c.in-Ok.ensures.accepted
+of-requires-clause-ready g c = c.accepted_is_ready.ensures (algorithm_of c.args.algo.now) (plan_of c.args.plan) (certificate_of c.args.cert) c.is_well_formed.ensures c.in-Ok.ensures.accepted
+
+pub returns-clause-refused : goal.returns-clause-refused
+returns-clause-refused g c =
+    let a = algorithm_of c.args.algo.now in
+    let p = plan_of c.args.plan in
+    let d = certificate_of c.args.cert in
+    let f = c.in-Err-Flaw.flaw in
+    let fault = subst (λ (e : SharesError). IsTold a p d e) c.in-Err-Flaw.field-0-is c.in-Err-Flaw.ensures.told in
+    (fault, c.faults_are_refusals.ensures a p d (number_of f.code) f.line fault)

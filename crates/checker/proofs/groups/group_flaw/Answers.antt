@@ -10,16 +10,15 @@ use Rattle.checker.proofs.groups.group_flaw.Goals as goal
 pub returns : goal.returns
 returns c g at =
     let o = c.in_ok-outlined.outlined in
-    let b = c.in_ok-bounds.bounds in
-    let is = c.in_ok-bounds.ensures.outlined in
+    let is = c.bounds_of-bounds.ensures.outlined in
     let said = c.in_ok-outlined.ensures in
-    let of : AreOf b.bounds (algorithm_of c.args.algo.now) (plan_of c.args.plan.now) (certificate_of c.args.cert.now) c.args.number g =
+    let of : AreOf c.bounds_of-bounds.result (algorithm_of c.args.algo.now) (plan_of c.args.plan.now) (certificate_of c.args.cert.now) c.args.number g =
     record {
-      algorithm = ap algorithm_of c.in_ok-bounds.ensures.algo;
+      algorithm = ap algorithm_of c.bounds_of-bounds.ensures.algo;
       plan = ap plan_in is ∙ said.plan;
       certificate = ap certificate_in is ∙ said.certificate;
       number = ap number_in is ∙ said.number;
       group = ap group_in is ∙ same_group (slice_get (plan_of c.args.plan.now).groups c.args.number) (group_in o) g said.group at;
     } in
     group_told (algorithm_of c.args.algo.now) (plan_of c.args.plan.now) (certificate_of c.args.cert.now) c.args.number g at
-    b.bounds c.in_ok-wide.wide c.wide_flaw.result c.in_ok-unmet.unmet c.earlier.result of c.in_ok-wide.ensures c.wide_flaw.ensures c.in_ok-unmet.ensures c.earlier.ensures
+    c.bounds_of-bounds.result c.in_ok-wide.wide c.wide_flaw.result of c.in_ok-wide.ensures c.wide_flaw.ensures

@@ -28,6 +28,6 @@ returns-in-Some-lacking-clause-told c =
     let p = plan_of c.args.plan.now in
     let d = certificate_of c.args.cert.now in
     let means = subst (λ (e : SharesError). ErrorMeans p d e) c.in-Err-Flaw.field-0-is c.in-Err-Flaw.ensures.flaw in
-    either_told a p d c.in-Err-Flaw.flaw c.in-Some-lacking.other c.first_of.result c.first_of.ensures
+    either_told a p d c.in-Err-Flaw.flaw c.in-Some-lacking.other c.lesser.result c.lesser.ensures
     (inr (inr (inr (inr (inr (inl (record { flaw = c.in-Err-Flaw.flaw; code_is = refl; line_is = refl; means = means })))))))
     c.in-Some-lacking.ensures

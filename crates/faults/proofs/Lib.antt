@@ -1,0 +1,5 @@
+mod Counts
+mod Grids
+mod Firsts
+mod Together
+mod Shared
