@@ -19,6 +19,7 @@ use image::Image;
 use pnm::{Sink, Source, Watched, write_to};
 use std::alloc::Global;
 use std::io::{Read, Write};
+use std::thread::Threads;
 use steps::picture;
 
 /// Reads a plan file and has the plan checked against its algorithm.
@@ -26,13 +27,18 @@ use steps::picture;
 /// # Errors
 /// `Form` and `Limit` with the first line that is not as it is written for any plan; `Plan` with the code and the line of
 /// what the checker refuses; `Memory` where memory runs out.
-pub fn check_plan<'a>(alloc: Global, algo: &'a Algo, file: &str) -> Result<Checked<'a>, Fault>
+pub fn check_plan<'a, T: Threads + Sync>(
+    rt: &T,
+    alloc: Global,
+    algo: &'a Algo,
+    file: &str,
+) -> Result<Checked<'a>, Fault>
     ensures checked { IfOk result (λ checked. checked.algo.now ≡ algo.now) }
     ensures accepted { IfOk result (λ checked. IsAccepted (algorithm_of algo.now) file.now checked.plan checked.cert) }
     ensures refused { IfErr result (IsFileRefused (algorithm_of algo.now) file.now) }
 {
     let (plan, cert) = plan_file::read(alloc, file)?;
-    Ok(check(alloc, algo, plan, cert)?)
+    Ok(check(rt, alloc, algo, plan, cert)?)
 }
 
 /// The picture that the algorithm says of an input, computed by the pieces of a checked plan, one after another.
@@ -49,7 +55,8 @@ pub fn plan_picture(alloc: Global, checked: &Checked<'_>, inputs: &Inputs) -> Re
 
 /// The way from a text, a plan file and an image to the picture, between a source and a sink that remember whether they
 /// have failed.
-fn run_between<S: Source, K: Sink>(
+fn run_between<T: Threads + Sync, S: Source, K: Sink>(
+    rt: &T,
     alloc: Global,
     text: &str,
     file: &str,
@@ -66,7 +73,7 @@ fn run_between<S: Source, K: Sink>(
     ensures same_sink { K.identity sink.new ≡ K.identity sink.old }
 {
     let algo = read_algorithm(alloc, text)?;
-    let checked = check_plan(alloc, &algo, file)?;
+    let checked = check_plan(rt, alloc, &algo, file)?;
     let inputs = inputs_from(alloc, &algo, source)?;
     let image = plan_picture(alloc, &checked, &inputs)?;
     Ok(write_to(sink, &image)?)
@@ -78,7 +85,8 @@ fn run_between<S: Source, K: Sink>(
 /// # Errors
 /// The first refusal in this order: of the text, of the plan file, of the image, and of the writer. Nothing is written
 /// before all else has succeeded, and writing takes no memory.
-pub fn run_over<R: Read, W: Write>(
+pub fn run_over<T: Threads + Sync, R: Read, W: Write>(
+    rt: &T,
     alloc: Global,
     text: &str,
     file: &str,
@@ -96,7 +104,7 @@ pub fn run_over<R: Read, W: Write>(
         device: output,
         failed: false,
     };
-    let result = run_between(alloc, text, file, &mut source, &mut sink);
+    let result = run_between(rt, alloc, text, file, &mut source, &mut sink);
     let Watched {
         device: reader,
         failed: _,

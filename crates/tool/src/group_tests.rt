@@ -17,36 +17,36 @@ const RUN: &[&str] = &["run", ALGORITHM, PLAN, INPUT, OUTPUT];
 
 const REPLAY: &[&str] = &["replay", ALGORITHM, PLAN, INPUT, ORDER];
 
-const TWO: &[u8] =
+pub(crate) const TWO: &[u8] =
     b"pipeline two; input in u8 [2]; func f u8 (x) = in[x] + 1u8; func out u8 (x) = f[x] * 2u8 + f[1 - x]; output out [2];";
 
-const NEAR: &[u8] =
+pub(crate) const NEAR: &[u8] =
     b"pipeline near; input in u8 [4]; func f u8 (x) = in[x] + 1u8; func out u8 (x) = f[clamp(x - 1, 0, 3)] + f[x]; output out [4];";
 
 const FAR: &[u8] =
     b"pipeline far; input in u8 [4]; func f u8 (x) = in[clamp(x, 0, 3)]; func out u8 (x) = f[x + 2147483647]; output out [4];";
 
-const SCAN: &[u8] =
+pub(crate) const SCAN: &[u8] =
     b"pipeline scan; input in u8 [4]; func s u8 (x) = in[clamp(x, 0, 3)]; update s over (r 1..3) [r] = s[r] + s[r - 1]; output s [4];";
 
-const HIST: &[u8] =
+pub(crate) const HIST: &[u8] =
     b"pipeline hist; input in u8 [3, 2]; func h u16 (i) = 0u16; update h over (rx 0..2, ry 0..1) [i32(in[rx, ry])] = h[i32(in[rx, ry])] + 1u16; output h [256];";
 
-const TWO_IMAGE: &[u8] = b"P5\n2 1\n255\n\x05\x07";
+pub(crate) const TWO_IMAGE: &[u8] = b"P5\n2 1\n255\n\x05\x07";
 
-const FOUR_IMAGE: &[u8] = b"P5\n4 1\n255\n\x01\x02\x03\x04";
+pub(crate) const FOUR_IMAGE: &[u8] = b"P5\n4 1\n255\n\x01\x02\x03\x04";
 
-const SIX_IMAGE: &[u8] = b"P5\n3 2\n255\n\x01\x01\x02\x02\x02\xff";
+pub(crate) const SIX_IMAGE: &[u8] = b"P5\n3 2\n255\n\x01\x01\x02\x02\x02\xff";
 
 // Pieces 0 and 1 have a cell of f each, piece 2 both cells of out; it needs these pieces.
-fn two_plan(alloc: Global, needed: &str) -> Result<String, AllocError> {
+pub(crate) fn two_plan(alloc: Global, needed: &str) -> Result<String, AllocError> {
     format!(in alloc;
         "plan 1 two\ninput in u8 [2]\noutput out u8 [2]\ngroup 0 f [0:1] grid 2\nalloc b0 f [0+1*s0#1]\nfor s1 0+1*s0:0+1*s0 serial\nstore b0 0 x=0+1*s1 (in[x]+1u8)\nend\npublish @0\ngroup 1 out [0:1] grid 1\nalloc b0 f [0#2]\nfetch b0 0 [0:1]\nalloc b1 out [0#2]\nfor s1 0:1 serial\nstore b1 0 x=0+1*s1 ((@1[x]*2u8)+@1[(1-x)])\nend\npublish @2\ncert\nown 0 [0+1*s0:0+1*s0]\nown 1 [0:1]\nneed 1 0 [{needed}]\nclaim 0 8 b0 f 0 [0+1*s0:0+1*s0]\nclaim 1 12 b0 f 0 [0:1]\nclaim 2 16 b1 out 0 [0:1]\nend\n"
     )
 }
 
 // Each piece of out fetches its cell of f and the one before, where there is one; it needs these pieces.
-fn near_plan(alloc: Global, needed: &str) -> Result<String, AllocError> {
+pub(crate) fn near_plan(alloc: Global, needed: &str) -> Result<String, AllocError> {
     format!(in alloc;
         "plan 1 near\ninput in u8 [4]\noutput out u8 [4]\ngroup 0 f [0:3] grid 4\nalloc b0 f [0+1*s0#1]\nfor s1 0+1*s0:0+1*s0 serial\nstore b0 0 x=0+1*s1 (in[x]+1u8)\nend\npublish @0\ngroup 1 out [0:3] grid 4\nalloc b0 f [-1+1*s0#2]\nalloc b1 out [0+1*s0#1]\nfetch b0 0 [-1+1*s0,0:0+1*s0]\nfor s1 0+1*s0:0+1*s0 serial\nstore b1 0 x=0+1*s1 (@1[clamp((x-1),0,3)]+@1[x])\nend\npublish @2\ncert\nown 0 [0+1*s0:0+1*s0]\nown 1 [0+1*s0:0+1*s0]\nneed 1 0 [{needed}]\nclaim 0 8 b0 f 0 [0+1*s0:0+1*s0]\nclaim 1 13 b0 f 0 [-1+1*s0,0:0+1*s0]\nclaim 2 16 b1 out 0 [0+1*s0:0+1*s0]\nend\n"
     )
@@ -61,13 +61,13 @@ fn far_plan(alloc: Global, first: i64) -> Result<String, AllocError> {
 }
 
 // A running sum; the loop of the update has this mark.
-fn scan_plan(alloc: Global, mark: &str) -> Result<String, AllocError> {
+pub(crate) fn scan_plan(alloc: Global, mark: &str) -> Result<String, AllocError> {
     format!(in alloc;
         "plan 1 scan\ninput in u8 [4]\noutput s u8 [4]\ngroup 0 s [0:3] grid 1\nalloc b0 s [0#4]\nfor s1 0:3 serial\nstore b0 0 x=0+1*s1 in[clamp(x,0,3)]\nend\nfor s2 1:3 {mark}\nstore b0 1 x~r r=0+1*s2 (@0[r]+@0[(r-1)])\nend\npublish @1\ncert\nown 0 [0:3]\nclaim 0 8 b0 s 0 [0:3]\nclaim 1 11 b0 s 1 [0:3]\nend\n"
     )
 }
 
-const HIST_PLAN: &[u8] = b"plan 1 hist
+pub(crate) const HIST_PLAN: &[u8] = b"plan 1 hist
 input in u8 [3,2]
 output h u16 [256]
 group 0 h [0:255] grid 1
@@ -196,6 +196,17 @@ fn plans_of_two_groups_are_run(rt: HostRuntime) -> Result<(), Fail> {
     Ok(())
 }
 
+// The histogram of the six samples.
+pub(crate) fn hist_picture(alloc: Global) -> Result<Vec<u8>, AllocError> {
+    let mut picture = Vec::new(alloc);
+    picture.extend_from_slice(b"P5\n256 1\n65535\n\x00\x00\x00\x02\x00\x03")?;
+    for _ in 0..504 {
+        picture.push(0)?;
+    }
+    picture.extend_from_slice(b"\x00\x01")?;
+    Ok(picture)
+}
+
 #[test]
 fn updates_are_run(rt: HostRuntime) -> Result<(), Fail> {
     let alloc = rt.alloc();
@@ -206,12 +217,7 @@ fn updates_are_run(rt: HostRuntime) -> Result<(), Fail> {
         (INPUT, FOUR_IMAGE),
     ];
     assert_runs(&rt, alloc, &files, b"P5\n4 1\n255\n\x01\x03\x06\x0a");
-    let mut picture = Vec::new(alloc);
-    picture.extend_from_slice(b"P5\n256 1\n65535\n\x00\x00\x00\x02\x00\x03")?;
-    for _ in 0..504 {
-        picture.push(0)?;
-    }
-    picture.extend_from_slice(b"\x00\x01")?;
+    let picture = hist_picture(alloc)?;
     let files = [(ALGORITHM, HIST), (PLAN, HIST_PLAN), (INPUT, SIX_IMAGE)];
     assert_runs(&rt, alloc, &files, picture.as_slice());
     Ok(())

@@ -2,6 +2,8 @@
 #![tactic(auto)]
 
 #[cfg(test)]
+mod alteration_tests;
+#[cfg(test)]
 mod desk_tests;
 mod device;
 #[cfg(test)]

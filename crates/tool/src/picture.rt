@@ -65,7 +65,7 @@ fn means_of<'a, T: Threads + Sync, F: Files>(
     match way {
         Way::Rows => Ok(Means::Rows(check_rows(rt, alloc, algo)?)),
         Way::Plain => Ok(Means::Definitions(algo)),
-        Way::File(name) => Ok(Means::File(plan_in(alloc, files, algo, name)?)),
+        Way::File(name) => Ok(Means::File(plan_in(rt, alloc, files, algo, name)?)),
     }
 }
 

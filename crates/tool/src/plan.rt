@@ -19,9 +19,11 @@ use pnm::PnmError;
 use std::alloc::Global;
 use std::io::Write;
 use std::str;
+use std::thread::Threads;
 
 /// Reads a plan file and has the plan checked against its algorithm.
-pub(crate) fn plan_in<'a, F: Files>(
+pub(crate) fn plan_in<'a, T: Threads + Sync, F: Files>(
+    rt: &T,
     alloc: Global,
     files: &mut F,
     algo: &'a Algo,
@@ -34,7 +36,7 @@ pub(crate) fn plan_in<'a, F: Files>(
 {
     let bytes = files.get(alloc, name)?;
     match str::from_utf8(bytes.as_slice()) {
-        Ok(file) => check_plan(alloc, algo, file),
+        Ok(file) => check_plan(rt, alloc, algo, file),
         Err(_) => Err(Fault::Image(PnmError::Device)),
     }
 }
@@ -58,7 +60,8 @@ fn tell<W: Write>(out: &mut W, checked: &Checked<'_>) -> Result<(), Fault>
 ///
 /// # Errors
 /// The first refusal: of the algorithm's text, then of the plan file; a text that is not UTF-8 is one of the device.
-pub(crate) fn check_command<F: Files, W: Write>(
+pub(crate) fn check_command<T: Threads + Sync, F: Files, W: Write>(
+    rt: &T,
     alloc: Global,
     files: &mut F,
     out: &mut W,
@@ -70,6 +73,6 @@ pub(crate) fn check_command<F: Files, W: Write>(
 {
     let text = files.get(alloc, request.algorithm)?;
     let algo = algorithm_in(alloc, text.as_slice())?;
-    let checked = plan_in(alloc, files, &algo, request.plan)?;
+    let checked = plan_in(rt, alloc, files, &algo, request.plan)?;
     tell(out, &checked)
 }

@@ -14,11 +14,11 @@ const RUN: &[&str] = &["run", ALGORITHM, PLAN, INPUT, OUTPUT];
 
 const REPLAY: &[&str] = &["replay", ALGORITHM, PLAN, INPUT, ORDER];
 
-const INC: &[u8] =
+pub(crate) const INC: &[u8] =
     b"pipeline inc; input in u8 [2, 10]; func out u8 (x, y) = in[x, y] + 1u8; output out [2, 10];";
 
 // The rows 0 to 2, and the rows 3 to 9.
-const INC_PLAN: &[u8] = b"plan 1 inc
+pub(crate) const INC_PLAN: &[u8] = b"plan 1 inc
 input in u8 [2,10]
 output out u8 [2,10]
 group 0 out [0:1;0:9] grid 2
@@ -35,10 +35,10 @@ claim 0 10 b0 out 0 [0:1;0+3*s0:2+7*s0]
 end
 ";
 
-const IMAGE: &[u8] =
+pub(crate) const IMAGE: &[u8] =
     b"P5\n2 10\n255\n\x00\x01\x02\x03\x04\x05\x06\x07\x08\x09\x0a\x0b\x0c\x0d\x0e\x0f\x10\x11\x12\x13";
 
-const PICTURE: &[u8] =
+pub(crate) const PICTURE: &[u8] =
     b"P5\n2 10\n255\n\x01\x02\x03\x04\x05\x06\x07\x08\x09\x0a\x0b\x0c\x0d\x0e\x0f\x10\x11\x12\x13\x14";
 
 const FILES: &[(&str, &[u8])] = &[

@@ -62,12 +62,17 @@ pub(crate) fn flush<W: Write>(out: &mut W) -> Result<(), Fault>
 }
 
 /// The increment of an image, by its plan of two pieces.
-fn increment<R: Read, W: Write>(alloc: Global, input: &mut R, out: &mut W) -> Result<(), Fault>
+fn increment<T: Threads + Sync, R: Read, W: Write>(
+    rt: &T,
+    alloc: Global,
+    input: &mut R,
+    out: &mut W,
+) -> Result<(), Fault>
     ensures done { OnOk result (IsRun INCREMENT.now INCREMENT_PLAN.now (R.remaining input.old) (R.remaining input.new) (W.contents out.old) (W.contents out.new)) }
     ensures refused { IfErr result (λ fault. IsRunRefused INCREMENT.now INCREMENT_PLAN.now (R.remaining input.old) (R.remaining input.new) (W.contents out.old) (W.contents out.new) fault
         ⊎ ((fault ≡ Fault.Image PnmError.Device) × IsRun INCREMENT.now INCREMENT_PLAN.now (R.remaining input.old) (R.remaining input.new) (W.contents out.old) (W.contents out.new))) }
 {
-    run_over(alloc, INCREMENT, INCREMENT_PLAN, input, out)?;
+    run_over(rt, alloc, INCREMENT, INCREMENT_PLAN, input, out)?;
     flush(out)
 }
 
@@ -121,8 +126,8 @@ fn command<T: Threads + Wait + Sync, F: Files, W: Write>(
 {
     match request {
         Request::Picture(asked) => picture_command(rt, alloc, files, asked),
-        Request::Check(asked) => check_command(alloc, files, out, asked),
-        Request::Replay(asked) => replay_command(alloc, files, out, asked),
+        Request::Check(asked) => check_command(rt, alloc, files, out, asked),
+        Request::Replay(asked) => replay_command(rt, alloc, files, out, asked),
     }
 }
 
@@ -144,7 +149,7 @@ pub fn tool<T: Threads + Wait + Sync, F: Files, R: Read, W: Write, E: Write>(
     ensures command { words.now ≢ [] → CommandAnswers (map (λ word. word.now) words.now) (F.contents files.old) (F.contents files.new) result }
 {
     if words.is_empty() {
-        return answer(increment(alloc, input, out), err);
+        return answer(increment(rt, alloc, input, out), err);
     }
     match read_words(alloc, words) {
         Ok(request) => answer(command(rt, alloc, files, out, &request), err),

@@ -18,6 +18,7 @@ use pnm::PnmError;
 use std::alloc::Global;
 use std::io::{Error, Write};
 use std::str;
+use std::thread::Threads;
 use worker_order::{OrderError, read};
 
 /// Reads the text of an order.
@@ -68,7 +69,8 @@ fn tell<W: Write>(
 /// # Errors
 /// The first refusal: of the algorithm's text, of the plan file, of the image, and of the order; a text that is not UTF-8
 /// is one of the device.
-pub(crate) fn replay_command<F: Files, W: Write>(
+pub(crate) fn replay_command<T: Threads + Sync, F: Files, W: Write>(
+    rt: &T,
     alloc: Global,
     files: &mut F,
     out: &mut W,
@@ -80,7 +82,7 @@ pub(crate) fn replay_command<F: Files, W: Write>(
 {
     let text = files.get(alloc, request.check.algorithm)?;
     let algo = algorithm_in(alloc, text.as_slice())?;
-    let checked = plan_in(alloc, files, &algo, request.check.plan)?;
+    let checked = plan_in(rt, alloc, files, &algo, request.check.plan)?;
     let bytes = files.get(alloc, request.input)?;
     let inputs = image_in(alloc, &algo, bytes.as_slice())?;
     drop(bytes);

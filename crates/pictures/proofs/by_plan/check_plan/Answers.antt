@@ -7,7 +7,7 @@ use Rattle.pictures.proofs.Ways.{told}
 use Rattle.pictures.proofs.by_plan.check_plan.Goals as goal
 
 pub returns-in_err-check-clause-refused : goal.returns-in_err-check-clause-refused
-returns-in_err-check-clause-refused c =
+returns-in_err-check-clause-refused g c =
     let a = algorithm_of c.args.algo.now in
     let file = c.args.file.now in
     let e = c.in_err-check.field-0.0 in
