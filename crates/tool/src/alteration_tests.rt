@@ -296,15 +296,16 @@ fn assert_numbers<T: Abort + Threads + Wait + Sync>(
 // The text with this done to one line.
 fn with_line(alloc: Global, text: &str, place: usize, way: Way) -> Result<Vec<u8>, AllocError> {
     let mut altered = Vec::new(alloc);
-    let mut held = "";
+    let mut held: &[u8] = b"";
     for (number, line) in text.split_inclusive('\n').enumerate() {
+        let line = line.as_bytes();
         if number != place {
-            altered.extend_from_slice(line.as_bytes())?;
-            altered.extend_from_slice(held.as_bytes())?;
-            held = "";
+            altered.extend_from_slice(line)?;
+            altered.extend_from_slice(held)?;
+            held = b"";
         } else if way == Way::Doubled {
-            altered.extend_from_slice(line.as_bytes())?;
-            altered.extend_from_slice(line.as_bytes())?;
+            altered.extend_from_slice(line)?;
+            altered.extend_from_slice(line)?;
         } else if way == Way::Moved {
             held = line;
         }
