@@ -1,26 +1,47 @@
-.PHONY: run test bench wrong-bodies
+.PHONY: all run test bench wrong-bodies
+.DEFAULT_GOAL := all
 
-# Runs the program's main job on a shipped example: the 3x3 blur of a small image.
-run:
+SOURCES := $(shell git ls-files crates crates.txt examples 2> /dev/null || find crates examples -type f -not -path '*/out/*')
+JOBS ?= $(shell nproc)
+
+# Proves every crate, as many side by side as there are processors, and builds the program; each crate is told as it ends.
+all: out/stencil
+
+out/stencil: $(SOURCES)
 	@mkdir -p out
-	cd crates/stencil && rt run -- rows $(CURDIR)/examples/blur3.alg $(CURDIR)/examples/shapes.pgm $(CURDIR)/out/blur3.pgm
+	rt all check --jobs $(JOBS)
+	cd crates/stencil && rt run -- --help > /dev/null
+	cp crates/stencil/out/stencil $@
+	@echo "the proved program is $@"
+
+# A first picture: checks a plan of the shipped 3x3 blur and runs it. This builds the program without its proofs, with
+# checks while it runs instead; `make` proves it. Where the proved program stands already, that one runs.
+run: out/blur3.pgm
 	@echo "the picture is in out/blur3.pgm"
 
-# The gate: in a copy of the files that git knows, proves every crate from nothing, tries the wrong bodies that must-fail.txt
-# names, runs every test. As many checks run side by side as there are processors: a check takes far less memory than `rt ci`
-# plans for.
-test:
-	set -e; room=$$(mktemp -d); git ls-files -z | tar c --null -T - | tar x -C $$room; cd $$room; \
-	for it in crates/*/must-fail/*.edit; do grep -qxF $$it must-fail.txt || mv $$it $${it%.edit}.md; done; \
-	RT_JOBS=$$(nproc) rt ci; rm -rf $$room
+out/blur3.pgm: $(SOURCES)
+	@mkdir -p out
+	@if [ -x out/stencil ]; then \
+	  out/stencil check examples/blur3.alg examples/blur3.plan && \
+	  out/stencil run examples/blur3.alg examples/blur3.plan examples/shapes.pgm $@; \
+	else \
+	  echo "building without proofs: about two minutes"; cd crates/stencil && \
+	  rt try -- run $(CURDIR)/examples/blur3.alg $(CURDIR)/examples/blur3.plan $(CURDIR)/examples/shapes.pgm $(CURDIR)/$@; \
+	fi
 
-# How long the checker takes for a row plan of 4096 by 4096 (4096 pieces and 2^24 cells), and how long and how much memory
-# the command `rows` takes for an increment and a 3x3 blur of 1024 by 1024 and 4096 by 4096, and `plain` for the blur of
-# 1024 by 1024.
-bench:
-	cd crates/bench && rt run -- 4096
-	cd crates/stencil && rt run -- --help > /dev/null
-	python3 bench/rows.py crates/stencil/out/stencil
+# The gate: in a copy of the files that git knows, proves every crate from nothing, tries the wrong bodies that must-fail.txt
+# names, runs every test, and then the cases of tests/ on the program that was built. As many checks run side by side as there
+# are processors, or RT_JOBS: a check takes far less memory than `rt ci` plans for.
+test:
+	set -e; room=$$(mktemp -d); trap "rm -rf $$room" EXIT; \
+	git ls-files -z | tar c --null -T - | tar x -C $$room; cd $$room; \
+	for it in crates/*/must-fail/*.edit; do grep -qxF $$it must-fail.txt || mv $$it $${it%.edit}.md; done; \
+	RT_JOBS=$${RT_JOBS:-$$(nproc)} rt ci; \
+	python3 tests/run.py crates/stencil/out/stencil
+
+# How long the proved program takes for `check` and `run` of plans with a piece a row, and for `plain`.
+bench: out/stencil
+	python3 bench/rows.py out/stencil
 
 # Tries every wrong body. It takes some hours.
 wrong-bodies:

@@ -1,7 +1,7 @@
 //! Algorithm texts: what reads, and where each refusal stands.
 
 use algo::{Algo, Inputs};
-use image::{Image, Ty};
+use meaning::image::{Image, Ty};
 use std::alloc::Global;
 use std::test::Fail;
 

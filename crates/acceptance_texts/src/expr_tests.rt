@@ -4,7 +4,7 @@ use expr::{Cond, Expr, ExprError, Refusal, Span, Stop, expression, read_expr, wh
 use numeric::{Comparison, Op};
 use std::alloc::{AllocError, Global};
 use std::test::Fail;
-use token::{tokens, type_text};
+use tree::token::{tokens, type_text};
 
 fn op_text(op: Op) -> &'static str {
     match op {

@@ -1,6 +1,6 @@
 //! Image files, with exact bytes.
 
-use image::{Image, Shape, Ty};
+use meaning::image::{Image, Shape, Ty};
 use pnm::{PnmError, read, write};
 use std::alloc::Global;
 use std::io;

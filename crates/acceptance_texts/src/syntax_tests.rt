@@ -1,9 +1,9 @@
 //! Algorithm texts as statements: what is read, and where a text is refused.
 
+use expr::statements::{Bound, Domain, Extent, File, FormError, Named, Statement, read};
 use std::alloc::{AllocError, Global};
 use std::test::Fail;
-use syntax::{Bound, Domain, Extent, File, FormError, Named, Statement, read};
-use token::{Span, type_text};
+use tree::token::{Span, type_text};
 
 // Each name after a blank.
 fn show_names(out: &mut String, names: &[Named]) -> Result<(), AllocError> {

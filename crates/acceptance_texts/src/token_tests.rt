@@ -3,7 +3,7 @@
 use numeric::Ty;
 use std::alloc::Global;
 use std::test::*;
-use token::{Literal, Span, Symbol, Token, TokenError, Word, tokens};
+use tree::token::{Literal, Span, Symbol, Token, TokenError, Word, tokens};
 
 // Numbers, with their types.
 const NUMBERS: &[(&str, u32, Option<Ty>)] = &[

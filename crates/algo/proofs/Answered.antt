@@ -4,7 +4,7 @@ use Rattle.std.proofs.Math.Seq.{take-append_seam}
 use Rattle.std.proofs.lemmas.List.{map_more, take-append-le}
 use Rattle.std.proofs.lemmas.List.Sums.{fold-append}
 use Rattle.meaning.specs.Algorithm.{Function, Algorithm}
-use Rattle.syntax.specs.Text.{UpdateText, StatementText}
+use Rattle.expr.specs.Statements.Text.{UpdateText, StatementText}
 use Rattle.algo.specs.declared.error.Code.TheVariants.{Limit}
 use Rattle.algo.specs.Saying.{after_statement, functions_said, FollowsFunction, FollowFunctions}
 use Rattle.algo.proofs.Kept.{pushed_cases}

@@ -8,8 +8,8 @@ use Rattle.std.proofs.lemmas.List.{get_or-map, length-map, take-map}
 use Rattle.std.proofs.lemmas.Option.{get_or_from_slice_get, slice_get-map, slice_get_within}
 use Rattle.numeric.specs.declared.ty.Ty.{Ty}
 use Rattle.numeric.specs.declared.ty.Ty.TheVariants.{I32}
-use Rattle.token.specs.declared.span.Span.{Span}
-use Rattle.image.specs.View.{AreExtents, IsExtent}
+use Rattle.tree.specs.declared.token.span.Span.{Span}
+use Rattle.meaning.specs.Image.View.{AreExtents, IsExtent}
 use Rattle.tree.specs.declared.expr.Expr.{Expr}
 use Rattle.tree.specs.Term.{Term, Terms, term_of}
 use Rattle.tree.specs.Typing.{type_of}
@@ -18,21 +18,21 @@ use Rattle.meaning.specs.Algorithm.{Algorithm, Function}
 use Rattle.meaning.specs.Names.{same_name, is_among}
 use Rattle.meaning.specs.Conditions.{callable, AreDistinct, IsRange, function_named}
 use Rattle.meaning.proofs.Calls.{from_take}
-use Rattle.scoping.specs.Expressions.{is_known, takes_count}
-use Rattle.scoping.specs.Standing.{Written, accepts, placed_calls, placed_variables, written, RefusedVariableAt, RefusedCallAt}
-use Rattle.scoping.proofs.Doubles.{among_stands}
-use Rattle.scoping.proofs.Listed.{names_of, calls_at, all_listed}
-use Rattle.syntax.specs.declared.statement.Named.{Named}
-use Rattle.syntax.specs.declared.statement.Extent.{Extent}
-use Rattle.syntax.specs.declared.statement.Domain.{Domain}
-use Rattle.syntax.specs.declared.statement.InputStatement.{InputStatement}
-use Rattle.syntax.specs.declared.statement.FunctionStatement.{FunctionStatement}
-use Rattle.syntax.specs.declared.statement.UpdateStatement.{UpdateStatement}
-use Rattle.syntax.specs.declared.statement.Statement.{Statement}
-use Rattle.syntax.specs.declared.statement.Statement.TheVariants as statement
-use Rattle.syntax.specs.declared.statement.OutputStatement.{OutputStatement}
-use Rattle.syntax.specs.declared.statement.File.{File}
-use Rattle.syntax.specs.View.{named_text, extent_text, domain_text, input_text, function_text, update_text, statement_text, output_text, file_text}
+use Rattle.algo.specs.Scoping.Expressions.{is_known, takes_count}
+use Rattle.algo.specs.Scoping.Standing.{Written, accepts, placed_calls, placed_variables, written, RefusedVariableAt, RefusedCallAt}
+use Rattle.algo.proofs.Doubles.{among_stands}
+use Rattle.algo.proofs.Listed.{names_of, calls_at, all_listed}
+use Rattle.expr.specs.declared.statements.statement.Named.{Named}
+use Rattle.expr.specs.declared.statements.statement.Extent.{Extent}
+use Rattle.expr.specs.declared.statements.statement.Domain.{Domain}
+use Rattle.expr.specs.declared.statements.statement.InputStatement.{InputStatement}
+use Rattle.expr.specs.declared.statements.statement.FunctionStatement.{FunctionStatement}
+use Rattle.expr.specs.declared.statements.statement.UpdateStatement.{UpdateStatement}
+use Rattle.expr.specs.declared.statements.statement.Statement.{Statement}
+use Rattle.expr.specs.declared.statements.statement.Statement.TheVariants as statement
+use Rattle.expr.specs.declared.statements.statement.OutputStatement.{OutputStatement}
+use Rattle.expr.specs.declared.statements.statement.File.{File}
+use Rattle.expr.specs.Statements.View.{named_text, extent_text, domain_text, input_text, function_text, update_text, statement_text, output_text, file_text}
 use Rattle.algo.specs.declared.error.Code.{Code}
 use Rattle.algo.specs.declared.error.Code.TheVariants.{Name, LaterCall, IndexCount, MovedVariable, NoDomain, TypesDiffer, Limit, SampleType}
 use Rattle.algo.specs.declared.error.AlgoError.{AlgoError}

@@ -4,25 +4,25 @@ use Rattle.std.specs.Prelude.{min}
 use Rattle.std.specs.List.{flat_map}
 use Rattle.std.proofs.lemmas.List.{length-take, take_min}
 use Rattle.std.proofs.lemmas.List.Elements.{All-nil, All-cons, All-head, All-tail, All-append}
-use Rattle.token.specs.declared.span.Span.{Span}
-use Rattle.token.specs.declared.token.Token.{Token}
-use Rattle.token.specs.declared.token.Word.TheVariants as word
-use Rattle.token.specs.declared.token.Token.TheVariants as token
-use Rattle.token.specs.declared.token.Lexeme.{Lexeme}
-use Rattle.token.specs.Spelling.{IsSpelled}
-use Rattle.token.specs.Lexical.{gap, slice, AreUpTo}
-use Rattle.token.proofs.Spelled.{token_spelled}
+use Rattle.tree.specs.declared.token.span.Span.{Span}
+use Rattle.tree.specs.declared.token.token.Token.{Token}
+use Rattle.tree.specs.declared.token.token.Word.TheVariants as word
+use Rattle.tree.specs.declared.token.token.Token.TheVariants as token
+use Rattle.tree.specs.declared.token.token.Lexeme.{Lexeme}
+use Rattle.tree.specs.Token.Spelling.{IsSpelled}
+use Rattle.tree.specs.Token.Lexical.{gap, slice, AreUpTo}
+use Rattle.tree.proofs.Spelled.{token_spelled}
 use Rattle.tree.specs.declared.expr.Expr.{Expr, Literal, Variable, Call', Negate', Binary', Clamp', Cast', Select', Row_of-Expr, end_of-Expr, more_of-Expr}
 use Rattle.tree.specs.declared.expr.Cond.{Cond, Compare, Not', All', Any'}
 use Rattle.tree.specs.Term.{terms_of}
 use Rattle.tree.proofs.Uses.{All-left, All-right}
 use Rattle.expr.specs.Text.{last_end}
 use Rattle.expr.specs.Places.{Form, Covers, ◌⨾◌, Part, InBrackets, of_one, of_two, of_three, Stands, RowStands, TestStands}
-use Rattle.scoping.specs.Standing.{Written, written, name_place, placed_calls, placed_calls_of_all, placed_calls_of_test}
-use Rattle.syntax.specs.Marks.{Mark, Marks, stands, begins, ends, spells, AreMarked, PartsStand, named_marks, type_marks, domain_marks, input_marks, expression_marks, update_marks, statement_marks, output_marks, file_marks}
-use Rattle.syntax.specs.declared.statement.Statement.{Statement}
-use Rattle.syntax.specs.declared.statement.Statement.TheVariants as statement
-use Rattle.syntax.specs.declared.statement.File.{File}
+use Rattle.algo.specs.Scoping.Standing.{Written, written, name_place, placed_calls, placed_calls_of_all, placed_calls_of_test}
+use Rattle.expr.specs.Statements.Marks.{Mark, Marks, stands, begins, ends, spells, AreMarked, PartsStand, named_marks, type_marks, domain_marks, input_marks, expression_marks, update_marks, statement_marks, output_marks, file_marks}
+use Rattle.expr.specs.declared.statements.statement.Statement.{Statement}
+use Rattle.expr.specs.declared.statements.statement.Statement.TheVariants as statement
+use Rattle.expr.specs.declared.statements.statement.File.{File}
 use Rattle.algo.specs.Calls.{expressions, CallStands, CallsStandIn, CallsStand}
 
 -- ---- tokens one behind the other

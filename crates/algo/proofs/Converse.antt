@@ -9,7 +9,7 @@ use Rattle.std.proofs.lemmas.List.{map-append, length-map}
 use Rattle.std.proofs.lemmas.List.Sums.{fold-append}
 use Rattle.std.proofs.Math.Seq.{take-append_seam}
 use Rattle.numeric.specs.declared.ty.Ty.{Ty}
-use Rattle.image.specs.View.{IsSampleType}
+use Rattle.meaning.specs.Image.View.{IsSampleType}
 use Rattle.numeric.specs.declared.ty.Ty.TheVariants.{I32}
 use Rattle.tree.specs.Term.{Term}
 use Rattle.tree.specs.Names.{TakesCall}
@@ -19,11 +19,11 @@ use Rattle.meaning.specs.Algorithm.{Change, Function, Algorithm}
 use Rattle.meaning.specs.Names.{same_name, is_among}
 use Rattle.meaning.specs.Conditions.{AreDistinct, callable, function_named, IsExpression, IsUpdate, IsFunction, IsAlgorithm, IsOutput, IsSmall, names_in}
 use Rattle.meaning.proofs.Cases.{same_name_is}
-use Rattle.scoping.specs.Expressions.{takes, is_known, takes_count}
-use Rattle.scoping.proofs.Doubles.{among_stands, stands_among}
+use Rattle.algo.specs.Scoping.Expressions.{takes, is_known, takes_count}
+use Rattle.algo.proofs.Doubles.{among_stands, stands_among}
 use Rattle.expr.specs.Text.{IsSmall as IsSmallTerm}
-use Rattle.syntax.specs.Grammar.{IsSmallStatement, IsSmall as IsSmallFile}
-use Rattle.syntax.specs.Text.{FunctionText, UpdateText, StatementText, function, update, FileText}
+use Rattle.expr.specs.Statements.Grammar.{IsSmallStatement, IsSmall as IsSmallFile}
+use Rattle.expr.specs.Statements.Text.{FunctionText, UpdateText, StatementText, function, update, FileText}
 use Rattle.algo.specs.declared.error.Code.{Code}
 use Rattle.algo.specs.declared.error.Code.TheVariants.{BadToken, BadForm, TooLarge, Name, LaterCall, IndexCount, MovedVariable, NoDomain, TypesDiffer, Limit, SampleType}
 use Rattle.algo.specs.declared.error.AlgoError.{AlgoError}

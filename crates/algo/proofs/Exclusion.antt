@@ -1,12 +1,12 @@
 -- A refused text is no algorithm.
 use Rattle.std.proofs.Common.{◌≡◌, ℕ, ◌≤◌, ◌<◌, List, length, Result, Ok, Err, IfErr, inl, inr, refl, sym, ◌∙◌, subst, arith}
 use Rattle.tree.specs.Term.{Term}
-use Rattle.token.specs.Lexical.{max_text}
-use Rattle.syntax.specs.declared.error.FormError.{FormError}
-use Rattle.syntax.specs.declared.error.FormError.TheVariants as form
-use Rattle.syntax.specs.Text.{FileText}
-use Rattle.syntax.specs.Grammar.{IsTextOf}
-use Rattle.syntax.specs.Places.{IsRefused}
+use Rattle.tree.specs.Token.Lexical.{max_text}
+use Rattle.expr.specs.declared.statements.error.FormError.{FormError}
+use Rattle.expr.specs.declared.statements.error.FormError.TheVariants as form
+use Rattle.expr.specs.Statements.Text.{FileText}
+use Rattle.expr.specs.Statements.Grammar.{IsTextOf}
+use Rattle.expr.specs.Statements.Places.{IsRefused}
 use Rattle.algo.specs.declared.error.AlgoError.{AlgoError}
 use Rattle.algo.specs.declared.error.AlgoError.TheVariants.{Memory}
 use Rattle.algo.specs.Saying.{IsWellFormed}

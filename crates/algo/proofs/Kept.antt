@@ -12,9 +12,9 @@ use Rattle.tree.specs.Typing.{type_of}
 use Rattle.meaning.specs.Algorithm.{Range, Change, Function, Algorithm}
 use Rattle.meaning.specs.Names.{same_name, is_among}
 use Rattle.meaning.specs.Conditions.{AreDistinct, callable, IsSmall, IsExpression, IsDomain, IsUpdate, IsFunction, names_in}
-use Rattle.scoping.proofs.Expressions.{typed_is_expression}
-use Rattle.scoping.proofs.Doubles.{distinct_push}
-use Rattle.syntax.specs.Text.{DomainText, FunctionText, UpdateText}
+use Rattle.algo.proofs.Expressions.{typed_is_expression}
+use Rattle.algo.proofs.Doubles.{distinct_push}
+use Rattle.expr.specs.Statements.Text.{DomainText, FunctionText, UpdateText}
 use Rattle.algo.specs.declared.error.Code.{Code}
 use Rattle.algo.specs.declared.error.Code.TheVariants.{BadToken, BadForm, TooLarge, Name, LaterCall, IndexCount, MovedVariable, NoDomain, TypesDiffer, Limit, SampleType}
 use Rattle.algo.specs.Saying.{range_said, change_said, function_said, domain_names, with_update}

@@ -1,3 +1,13 @@
+pub mod Answers
+pub mod Doubles
+pub mod Expressions
+pub mod Indices
+pub mod ScopingKept
+pub mod Listed
+pub mod Refused
+pub mod Rows
+pub mod Sizes
+pub mod Standing
 pub mod Answered
 pub mod Broken
 pub mod Calls

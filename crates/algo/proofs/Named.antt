@@ -3,22 +3,22 @@ use Rattle.std.proofs.Common.{◌≡◌, ℕ, inl, inr, List, [], ◌∷◌, ◌
 use Rattle.std.specs.Prelude.{slice_get, Contains}
 use Rattle.std.proofs.lemmas.Option.{get_or_from_slice_get, slice_get_within}
 use Rattle.std.proofs.lemmas.List.Elements.{All-contains, All-contains_itself, All-head}
-use Rattle.token.specs.declared.span.Span.{Span}
-use Rattle.token.specs.Lexical.{slice}
+use Rattle.tree.specs.declared.token.span.Span.{Span}
+use Rattle.tree.specs.Token.Lexical.{slice}
 use Rattle.tree.specs.declared.expr.Expr.{Expr}
 use Rattle.tree.specs.Term.{Terms}
 use Rattle.tree.proofs.Uses.{All-left, All-right}
 use Rattle.meaning.specs.Algorithm.{Algorithm, Function}
 use Rattle.meaning.specs.Conditions.{callable}
-use Rattle.scoping.specs.Expressions.{is_known}
-use Rattle.scoping.specs.Standing.{name_place, placed_calls, written}
-use Rattle.syntax.specs.declared.error.FormError.{FormError}
-use Rattle.syntax.specs.declared.error.FormError.TheVariants as form
-use Rattle.syntax.specs.declared.statement.UpdateStatement.{UpdateStatement}
-use Rattle.syntax.specs.declared.statement.Statement.{Statement}
-use Rattle.syntax.specs.declared.statement.Statement.TheVariants as statement
-use Rattle.syntax.specs.declared.statement.File.{File}
-use Rattle.syntax.specs.View.{file_text, input_text, statement_text}
+use Rattle.algo.specs.Scoping.Expressions.{is_known}
+use Rattle.algo.specs.Scoping.Standing.{name_place, placed_calls, written}
+use Rattle.expr.specs.declared.statements.error.FormError.{FormError}
+use Rattle.expr.specs.declared.statements.error.FormError.TheVariants as form
+use Rattle.expr.specs.declared.statements.statement.UpdateStatement.{UpdateStatement}
+use Rattle.expr.specs.declared.statements.statement.Statement.{Statement}
+use Rattle.expr.specs.declared.statements.statement.Statement.TheVariants as statement
+use Rattle.expr.specs.declared.statements.statement.File.{File}
+use Rattle.expr.specs.Statements.View.{file_text, input_text, statement_text}
 use Rattle.algo.specs.declared.error.Code.TheVariants.{LaterCall}
 use Rattle.algo.specs.declared.error.AlgoError.TheVariants.{Refused}
 use Rattle.algo.specs.Saying.{functions_said, input_said, names_declared}

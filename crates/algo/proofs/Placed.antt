@@ -5,18 +5,18 @@ use Rattle.std.specs.Option.{option_map}
 use Rattle.std.proofs.lemmas.Bool.{cases_lt}
 use Rattle.std.proofs.lemmas.Option.{slice_get-get_or, slice_get-map}
 use Rattle.numeric.specs.declared.ty.Ty.{Ty}
-use Rattle.token.specs.declared.span.Span.{Span}
+use Rattle.tree.specs.declared.token.span.Span.{Span}
 use Rattle.tree.specs.declared.expr.Expr.{Expr}
-use Rattle.image.specs.View.{IsSampleType}
+use Rattle.meaning.specs.Image.View.{IsSampleType}
 use Rattle.meaning.specs.Algorithm.{Algorithm, Function}
 use Rattle.meaning.specs.Conditions.{AreDistinct}
 use Rattle.meaning.proofs.Calls.{from_take}
-use Rattle.scoping.specs.Doubles.{IsFirstDouble}
-use Rattle.scoping.proofs.Doubles.{among_stands}
-use Rattle.syntax.specs.declared.statement.Named.{Named}
-use Rattle.syntax.specs.declared.statement.UpdateStatement.{UpdateStatement}
-use Rattle.syntax.specs.declared.statement.Domain.{Domain}
-use Rattle.syntax.specs.View.{domain_text, named_text}
+use Rattle.algo.specs.Scoping.Doubles.{IsFirstDouble}
+use Rattle.algo.proofs.Doubles.{among_stands}
+use Rattle.expr.specs.declared.statements.statement.Named.{Named}
+use Rattle.expr.specs.declared.statements.statement.UpdateStatement.{UpdateStatement}
+use Rattle.expr.specs.declared.statements.statement.Domain.{Domain}
+use Rattle.expr.specs.Statements.View.{domain_text, named_text}
 use Rattle.algo.specs.declared.error.Code.{Code}
 use Rattle.algo.specs.declared.error.Code.TheVariants.{Limit}
 use Rattle.algo.specs.declared.error.AlgoError.{AlgoError}

@@ -5,8 +5,8 @@ use Rattle.std.proofs.lemmas.List.Elements.{All-from_recursion}
 use Rattle.tree.specs.Term.{Term}
 use Rattle.meaning.specs.Conditions.{IsSmall}
 use Rattle.expr.specs.Text.{IsSmall as IsSmallTerm}
-use Rattle.syntax.specs.Text.{StatementText, function, update}
-use Rattle.syntax.specs.Grammar.{IsSmallStatement}
+use Rattle.expr.specs.Statements.Text.{StatementText, function, update}
+use Rattle.expr.specs.Statements.Grammar.{IsSmallStatement}
 use Rattle.algo.specs.Saying.{HasSmallExpressions}
 
 small : (e : Term) → IsSmallTerm e → IsSmall e

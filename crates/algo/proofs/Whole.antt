@@ -10,12 +10,12 @@ use Rattle.std.proofs.lemmas.Option.{slice_get_within}
 use Rattle.indexmap.specs.IndexMap.{insert_entry, insert_all}
 use Rattle.numeric.specs.declared.ty.Ty.{Ty}
 use Rattle.numeric.specs.declared.ty.Ty.TheVariants.{I32, U8}
-use Rattle.image.specs.View.{IsSampleType}
+use Rattle.meaning.specs.Image.View.{IsSampleType}
 use Rattle.meaning.specs.Algorithm as said
 use Rattle.meaning.specs.Names.{same_name, is_among}
 use Rattle.meaning.specs.Conditions.{AreDistinct, callable, IsExpression, IsUpdate, IsFunction, IsOutput, names_in}
 use Rattle.meaning.proofs.Cases.{same_name_is, name_same}
-use Rattle.scoping.proofs.Doubles.{among_stands}
+use Rattle.algo.proofs.Doubles.{among_stands}
 use Rattle.algo.specs.declared.function.Function.{Function}
 use Rattle.algo.specs.Parts.{functions_of, function_of}
 use Rattle.algo.specs.Context.{function_names}

@@ -1,16 +1,16 @@
 -- The names of calls stand in the text where their spans say.
 use Rattle.std.specs.Prelude.{◌≡◌, ℕ, List, [], ◌∷◌, ◌++◌, take, map, Some, slice_get, Bool, All, Contains}
-use Rattle.token.specs.declared.span.Span.{Span}
-use Rattle.token.specs.Lexical.{slice}
+use Rattle.tree.specs.declared.token.span.Span.{Span}
+use Rattle.tree.specs.Token.Lexical.{slice}
 use Rattle.tree.specs.declared.expr.Expr.{Expr}
 use Rattle.tree.specs.Term.{Terms}
 use Rattle.meaning.specs.Conditions.{callable}
-use Rattle.scoping.specs.Expressions.{is_known}
-use Rattle.scoping.specs.Standing.{Written, name_place, placed_calls}
-use Rattle.syntax.specs.declared.statement.Statement.{Statement}
-use Rattle.syntax.specs.declared.statement.Statement.TheVariants as statement
-use Rattle.syntax.specs.declared.statement.File.{File}
-use Rattle.syntax.specs.View.{input_text, statement_text}
+use Rattle.algo.specs.Scoping.Expressions.{is_known}
+use Rattle.algo.specs.Scoping.Standing.{Written, name_place, placed_calls}
+use Rattle.expr.specs.declared.statements.statement.Statement.{Statement}
+use Rattle.expr.specs.declared.statements.statement.Statement.TheVariants as statement
+use Rattle.expr.specs.declared.statements.statement.File.{File}
+use Rattle.expr.specs.Statements.View.{input_text, statement_text}
 use Rattle.algo.specs.Saying.{functions_said, input_said}
 use Rattle.algo.specs.Faults.{CalledAt}
 

@@ -2,8 +2,8 @@
 use Rattle.std.specs.Prelude.{◌≡◌, ◌≢◌, ◌⊎◌, ◌+◌, ◌≤◌, ◌<◌, ◌^◌, ℕ, zero, suc, pos, negsuc, ◌<ℤ◌, IsTrue, Bool, List, [], ◌∷◌, ◌++◌, length, map, take, not, Option, Some, None, slice_get}
 use Rattle.numeric.specs.declared.ty.Ty.{Ty}
 use Rattle.numeric.specs.declared.ty.Ty.TheVariants.{I32}
-use Rattle.image.specs.View.{IsExtent, IsSampleType}
-use Rattle.token.specs.declared.span.Span.{Span}
+use Rattle.meaning.specs.Image.View.{IsExtent, IsSampleType}
+use Rattle.tree.specs.declared.token.span.Span.{Span}
 use Rattle.tree.specs.declared.expr.Expr.{Expr}
 use Rattle.tree.specs.Term.{Terms, term_of}
 use Rattle.tree.specs.Typing.{type_of}
@@ -12,22 +12,22 @@ use Rattle.meaning.specs.Algorithm.{Function, Algorithm}
 use Rattle.meaning.specs.Names.{same_name, is_among}
 use Rattle.meaning.specs.Reduction.{size}
 use Rattle.meaning.specs.Conditions.{function_named, callable}
-use Rattle.scoping.specs.declared.calls.CallPlace.{CallPlace}
-use Rattle.scoping.specs.Doubles.{IsFirstDouble}
-use Rattle.scoping.specs.Expressions.{is_known, takes_count}
-use Rattle.scoping.specs.Keeping.{MisplacedAt}
-use Rattle.scoping.specs.Standing.{RefusedVariableAt, RefusedCallAt}
-use Rattle.syntax.specs.declared.statement.Named.{Named}
-use Rattle.syntax.specs.declared.statement.Extent.{Extent}
-use Rattle.syntax.specs.declared.statement.Domain.{Domain}
-use Rattle.syntax.specs.declared.statement.InputStatement.{InputStatement}
-use Rattle.syntax.specs.declared.statement.FunctionStatement.{FunctionStatement}
-use Rattle.syntax.specs.declared.statement.UpdateStatement.{UpdateStatement}
-use Rattle.syntax.specs.declared.statement.Statement.{Statement}
-use Rattle.syntax.specs.declared.statement.Statement.TheVariants as statement
-use Rattle.syntax.specs.declared.statement.OutputStatement.{OutputStatement}
-use Rattle.syntax.specs.declared.statement.File.{File}
-use Rattle.syntax.specs.View.{named_text, domain_text, input_text, update_text, statement_text, file_text}
+use Rattle.algo.specs.declared.scoping.calls.CallPlace.{CallPlace}
+use Rattle.algo.specs.Scoping.Doubles.{IsFirstDouble}
+use Rattle.algo.specs.Scoping.Expressions.{is_known, takes_count}
+use Rattle.algo.specs.Scoping.Keeping.{MisplacedAt}
+use Rattle.algo.specs.Scoping.Standing.{RefusedVariableAt, RefusedCallAt}
+use Rattle.expr.specs.declared.statements.statement.Named.{Named}
+use Rattle.expr.specs.declared.statements.statement.Extent.{Extent}
+use Rattle.expr.specs.declared.statements.statement.Domain.{Domain}
+use Rattle.expr.specs.declared.statements.statement.InputStatement.{InputStatement}
+use Rattle.expr.specs.declared.statements.statement.FunctionStatement.{FunctionStatement}
+use Rattle.expr.specs.declared.statements.statement.UpdateStatement.{UpdateStatement}
+use Rattle.expr.specs.declared.statements.statement.Statement.{Statement}
+use Rattle.expr.specs.declared.statements.statement.Statement.TheVariants as statement
+use Rattle.expr.specs.declared.statements.statement.OutputStatement.{OutputStatement}
+use Rattle.expr.specs.declared.statements.statement.File.{File}
+use Rattle.expr.specs.Statements.View.{named_text, domain_text, input_text, update_text, statement_text, file_text}
 use Rattle.algo.specs.declared.error.Code.{Code}
 use Rattle.algo.specs.declared.error.Code.TheVariants.{Name, LaterCall, IndexCount, MovedVariable, NoDomain, TypesDiffer, Limit, SampleType}
 use Rattle.algo.specs.declared.error.AlgoError.{AlgoError}

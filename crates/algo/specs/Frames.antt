@@ -3,7 +3,7 @@ use Rattle.std.specs.Prelude.{ℕ, List, [], ◌∷◌}
 use Rattle.std.proofs.Props.{props}
 use Rattle.numeric.specs.declared.ty.Ty.{Ty}
 use Rattle.numeric.specs.declared.ty.Ty.TheVariants.{U8, U16, U32, I8, I16, I32}
-use Rattle.image.specs.View.{Frame, Picture, IsSampleType, AreExtents, IsShape, HasShape}
+use Rattle.meaning.specs.Image.View.{Frame, Picture, IsSampleType, AreExtents, IsShape, HasShape}
 
 -- the type and the extents that a picture states
 abbrev pub own_frame : Picture → Frame

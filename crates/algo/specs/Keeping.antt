@@ -2,7 +2,7 @@
 use Rattle.std.specs.Prelude.{◌⊎◌, IsSome, MatchOption, take, ◌≡◌, ℕ, ◌<◌, ◌≤◌, ◌^◌, List, [], ◌∷◌, ◌++◌, length, map, All, false, IsTrue, Option, Some, not, slice_get}
 use Rattle.numeric.specs.declared.ty.Ty.{Ty}
 use Rattle.numeric.specs.declared.ty.Ty.TheVariants.{I32}
-use Rattle.image.specs.View.{IsSampleType, AreExtents}
+use Rattle.meaning.specs.Image.View.{IsSampleType, AreExtents}
 use Rattle.tree.specs.Term.{Term}
 use Rattle.tree.specs.Typing.{type_of}
 use Rattle.tree.specs.Uses.{variables_of, EachCall}
@@ -10,9 +10,9 @@ use Rattle.meaning.specs.Algorithm.{Function, Algorithm}
 use Rattle.meaning.specs.Names.{same_name, is_among}
 use Rattle.meaning.specs.Reduction.{size}
 use Rattle.meaning.specs.Conditions.{function_named, AreDistinct, callable, IsRange}
-use Rattle.scoping.specs.Expressions.{is_known, takes_count}
-use Rattle.scoping.specs.Keeping.{KeepPlaces}
-use Rattle.syntax.specs.Text.{DomainText, InputText, FunctionText, UpdateText, StatementText, function, update, OutputText, FileText}
+use Rattle.algo.specs.Scoping.Expressions.{is_known, takes_count}
+use Rattle.algo.specs.Scoping.Keeping.{KeepPlaces}
+use Rattle.expr.specs.Statements.Text.{DomainText, InputText, FunctionText, UpdateText, StatementText, function, update, OutputText, FileText}
 use Rattle.algo.specs.declared.error.Code.{Code}
 use Rattle.algo.specs.declared.error.Code.TheVariants.{Name, LaterCall, IndexCount, MovedVariable, NoDomain, TypesDiffer, Limit, SampleType}
 use Rattle.algo.specs.declared.error.AlgoError.{AlgoError}

@@ -1,11 +1,11 @@
 -- Laws of refusals.
 use Rattle.std.specs.Prelude.{◌≡◌, ℕ, List}
-use Rattle.token.specs.declared.span.Span.{Span}
+use Rattle.tree.specs.declared.token.span.Span.{Span}
 use Rattle.tree.specs.Term.{Term}
-use Rattle.syntax.specs.declared.statement.File.{File}
-use Rattle.syntax.specs.Text.{FileText}
-use Rattle.syntax.specs.Grammar.{IsTextOf}
-use Rattle.syntax.specs.View.{file_text}
+use Rattle.expr.specs.declared.statements.statement.File.{File}
+use Rattle.expr.specs.Statements.Text.{FileText}
+use Rattle.expr.specs.Statements.Grammar.{IsTextOf}
+use Rattle.expr.specs.Statements.View.{file_text}
 use Rattle.algo.specs.declared.error.Code.TheVariants.{LaterCall}
 use Rattle.algo.specs.declared.error.AlgoError.{AlgoError}
 use Rattle.algo.specs.declared.error.AlgoError.TheVariants.{Memory, Refused}

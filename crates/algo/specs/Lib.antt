@@ -1,3 +1,4 @@
+pub mod Scoping
 pub mod Calls
 pub mod Context
 pub mod Definitions

@@ -5,7 +5,7 @@ use Rattle.std.specs.Global.{Global}
 use Rattle.numeric.specs.declared.ty.Ty.{Ty}
 use Rattle.numeric.specs.declared.ty.Ty.TheVariants.{U8}
 use Rattle.tree.specs.Term.{term_of, list_terms}
-use Rattle.image.specs.View.{Frame}
+use Rattle.meaning.specs.Image.View.{Frame}
 use Rattle.meaning.specs.Algorithm as said
 use Rattle.meaning.specs.Conditions.{function_named}
 use Rattle.algo.specs.declared.function.Port.{Port}

@@ -1,18 +1,18 @@
 -- Which text is an algorithm, and why a text is refused.
 use Rattle.std.specs.Prelude.{◌≡◌, ◌≤◌, ◌⊎◌, ℕ, List, length, Option, Some, None}
-use Rattle.token.specs.Lexical.{max_text}
-use Rattle.token.specs.declared.span.Span.{Span}
+use Rattle.tree.specs.Token.Lexical.{max_text}
+use Rattle.tree.specs.declared.token.span.Span.{Span}
 use Rattle.tree.specs.Term.{Term}
 use Rattle.meaning.specs.Algorithm.{Algorithm}
-use Rattle.syntax.specs.declared.error.FormError.{FormError}
-use Rattle.syntax.specs.declared.error.FormError.TheVariants as form
-use Rattle.syntax.specs.Text.{FileText}
-use Rattle.syntax.specs.Grammar.{IsTextOf}
-use Rattle.syntax.specs.Places.{IsRefused}
-use Rattle.syntax.specs.Standing.{NamesStand}
-use Rattle.syntax.specs.Marks.{PartsStand}
-use Rattle.syntax.specs.View.{file_text}
-use Rattle.syntax.specs.declared.statement.File.{File}
+use Rattle.expr.specs.declared.statements.error.FormError.{FormError}
+use Rattle.expr.specs.declared.statements.error.FormError.TheVariants as form
+use Rattle.expr.specs.Statements.Text.{FileText}
+use Rattle.expr.specs.Statements.Grammar.{IsTextOf}
+use Rattle.expr.specs.Statements.Places.{IsRefused}
+use Rattle.expr.specs.Statements.Standing.{NamesStand}
+use Rattle.expr.specs.Statements.Marks.{PartsStand}
+use Rattle.expr.specs.Statements.View.{file_text}
+use Rattle.expr.specs.declared.statements.statement.File.{File}
 use Rattle.algo.specs.declared.error.Code.{Code}
 use Rattle.algo.specs.declared.error.Code.TheVariants.{BadToken, BadForm, TooLarge}
 use Rattle.algo.specs.declared.error.AlgoError.{AlgoError}

@@ -4,7 +4,7 @@ use Rattle.std.specs.List.{flat_map}
 use Rattle.tree.specs.Term.{Term}
 use Rattle.meaning.specs.Algorithm.{Range, Change, Function, Algorithm}
 use Rattle.meaning.specs.Conditions.{IsSmall, IsAlgorithm}
-use Rattle.syntax.specs.Text.{InputText, DomainText, FunctionText, UpdateText, StatementText, function, update, FileText, bound_value}
+use Rattle.expr.specs.Statements.Text.{InputText, DomainText, FunctionText, UpdateText, StatementText, function, update, FileText, bound_value}
 
 abbrev pub range_said : DomainText → Range
 range_said d = record { variable = d.variable; low = bound_value d.low; high = bound_value d.high }

@@ -1,6 +1,6 @@
 -- What algorithms and inputs say.
 use Rattle.std.specs.Prelude.{ℕ, ◌≤◌, List, length, MatchOption, slice_get}
-use Rattle.image.specs.View.{Frame, image_of, HasShape, Picture}
+use Rattle.meaning.specs.Image.View.{Frame, image_of, HasShape, Picture}
 use Rattle.meaning.specs.Algorithm.{Algorithm}
 use Rattle.meaning.specs.Picture.{picture}
 use Rattle.algo.specs.declared.algorithm.Algo.{Algo}

@@ -25,7 +25,7 @@ pub struct Algo {
 
 impl Algo {
     ghost use Rattle.std.specs.Prelude.{string_bytes, IfOk, IfErr, IfSome, slice_get};
-    ghost use Rattle.image.specs.View.{shape_of, IsShape};
+    ghost use Rattle.meaning.specs.Image.View.{shape_of, IsShape};
     ghost use Rattle.algo.specs.Parts.{functions_of, input_frame, output_frame};
     ghost use Rattle.algo.specs.View.{algorithm_of, HasDefinition};
     ghost use Rattle.algo.specs.Definitions.{IsDefinition};
@@ -49,7 +49,7 @@ impl Algo {
         // A text is refused only where it is no algorithm.
         ensures only { IfErr result (IsNoAlgorithm text.now) }
     {
-        let file = syntax::read(alloc, text)?;
+        let file = expr::statements::read(alloc, text)?;
         read_file(alloc, &file)
     }
 

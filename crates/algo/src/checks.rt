@@ -6,8 +6,8 @@ ghost use Rattle.tree.specs.Term.{Term, term_of, list_terms};
 ghost use Rattle.tree.specs.Typing.{type_of};
 ghost use Rattle.meaning.specs.Names.{is_among};
 ghost use Rattle.meaning.specs.Conditions.{callable};
-ghost use Rattle.scoping.specs.Expressions.{is_known, takes_count};
-ghost use Rattle.token.specs.declared.span.Span.{Span};
+ghost use Rattle.algo.specs.Scoping.Expressions.{is_known, takes_count};
+ghost use Rattle.tree.specs.declared.token.span.Span.{Span};
 ghost use Rattle.algo.specs.declared.error.AlgoError.TheVariants.{Refused};
 ghost use Rattle.algo.specs.Parts.{names_of, functions_of};
 ghost use Rattle.algo.specs.Context.{only_input, HasType};
@@ -16,9 +16,9 @@ ghost use Rattle.algo.specs.Faults.{BadTypeAt, CallAt, CalledAt, UnknownAt};
 
 use crate::error::{AlgoError, Code};
 use crate::function::{Function, Port};
+use crate::scoping::{Among, CallTest, first_call, first_variable, is_among, same_name};
 use numeric::Ty;
-use scoping::{Among, CallTest, first_call, first_variable, is_among, same_name};
-use token::Span;
+use tree::token::Span;
 use tree::{Expr, Names, ty_of};
 
 /// What stands before a statement: the input, the functions so far, and the names of all that the text declares.

@@ -4,11 +4,11 @@ ghost use Rattle.std.specs.Prelude.{◌≡◌};
 ghost use Rattle.algo.specs.declared.error.AlgoError.TheVariants.{Memory};
 ghost use Rattle.algo.specs.Refusal.{code_of, form_error, place_of};
 
+use expr::statements::FormError;
 use std::alloc::{AllocError, AllocFailed};
 use std::fmt::{self, Display, Formatter};
-use syntax::FormError;
 use thiserror::Error;
-use token::Span;
+use tree::token::Span;
 
 /// What a text breaks.
 #[derive(Clone, Copy, Debug, PartialEq, Eq, Error)]

@@ -2,9 +2,9 @@
 
 ghost use Rattle.std.specs.Prelude.{◌≡◌, ◌∷◌, ◌↔◌, map, All, IfOk, IfErr, IfSome, IsTrue, MatchOption, string_bytes, length};
 ghost use Rattle.std.specs.Option.{option_map};
-ghost use Rattle.image.specs.View.{AreExtents, IsExtent, IsSampleType, shape_of};
+ghost use Rattle.meaning.specs.Image.View.{AreExtents, IsExtent, IsSampleType, shape_of};
 ghost use Rattle.meaning.specs.Conditions.{AreDistinct, function_named};
-ghost use Rattle.syntax.specs.View.{extent_text, file_text, input_text, output_text, statement_text};
+ghost use Rattle.expr.specs.Statements.View.{extent_text, file_text, input_text, output_text, statement_text};
 ghost use Rattle.algo.specs.declared.error.Code.{Code};
 ghost use Rattle.algo.specs.declared.error.AlgoError.TheVariants.{Memory};
 ghost use Rattle.algo.specs.Parts.{names_of, functions_of, output_type};
@@ -18,14 +18,14 @@ use crate::algorithm::Algo;
 use crate::checks::refuse;
 use crate::error::{AlgoError, Code};
 use crate::function::{Function, Port};
+use crate::scoping::same_name;
 use crate::statement::read_functions;
-use image::Shape;
+use expr::statements::{Extent, File, InputStatement, Named, OutputStatement, Statement};
 use indexmap::IndexMap;
+use meaning::image::Shape;
 use numeric::Ty;
-use scoping::same_name;
 use std::alloc::{AllocError, Global};
-use syntax::{Extent, File, InputStatement, Named, OutputStatement, Statement};
-use token::Span;
+use tree::token::Span;
 
 // Whether images have samples of this type.
 fn is_sample_type(ty: Ty) -> bool

@@ -2,7 +2,7 @@
 
 ghost use Rattle.std.specs.Prelude.{◌≤◌, map, vec_len};
 
-use image::Shape;
+use meaning::image::Shape;
 use numeric::Ty;
 use tree::Expr;
 

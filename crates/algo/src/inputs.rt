@@ -1,10 +1,10 @@
 //! An image as the input of an algorithm.
 
-ghost use Rattle.image.specs.View.{image_of};
+ghost use Rattle.meaning.specs.Image.View.{image_of};
 ghost use Rattle.algo.specs.Frames.{IsWhole, IsWhole-prop};
 
 use crate::algorithm::Algo;
-use image::Image;
+use meaning::image::Image;
 use thiserror::Error;
 
 /// Why an image is no input of an algorithm.
@@ -25,7 +25,7 @@ pub struct Inputs {
 impl Inputs {
     ghost use Rattle.std.specs.Prelude.{◌≡◌, ◌↔◌, MatchResult, IsTrue};
     ghost use Rattle.numeric.specs.declared.ty.Ty.{Ty};
-    ghost use Rattle.image.specs.View.{HasShape};
+    ghost use Rattle.meaning.specs.Image.View.{HasShape};
     ghost use Rattle.algo.specs.Parts.{input_frame};
     ghost use Rattle.algo.specs.View.{algorithm_of, picture_of, IsFor};
 

@@ -8,6 +8,7 @@ mod file;
 pub mod function;
 pub mod inputs;
 pub mod laws;
+pub mod scoping;
 mod statement;
 mod update;
 

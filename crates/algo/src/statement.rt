@@ -4,8 +4,8 @@ ghost use Rattle.std.specs.Prelude.{◌≡◌, ◌++◌, ◌∷◌, [], map, len
 ghost use Rattle.tree.specs.Term.{term_of, list_terms};
 ghost use Rattle.meaning.specs.Names.{is_among};
 ghost use Rattle.meaning.specs.Conditions.{callable};
-ghost use Rattle.syntax.specs.View.{named_text, function_text, statement_text, update_text};
-ghost use Rattle.syntax.specs.Text.{update};
+ghost use Rattle.expr.specs.Statements.View.{named_text, function_text, statement_text, update_text};
+ghost use Rattle.expr.specs.Statements.Text.{update};
 ghost use Rattle.algo.specs.declared.error.Code.{Code};
 ghost use Rattle.algo.specs.declared.error.AlgoError.TheVariants.{Memory};
 ghost use Rattle.algo.specs.Parts.{names_of, function_of, functions_of, change_of};
@@ -19,12 +19,12 @@ use crate::checks::{
 };
 use crate::error::{AlgoError, Code};
 use crate::function::{Function, Port, Update};
+use crate::scoping::{first_double, same_name};
 use crate::update::read_update;
-use scoping::{first_double, same_name};
+use expr::statements::{FunctionStatement, Named, Statement, UpdateStatement};
 use std::alloc::{AllocError, Global};
-use syntax::{FunctionStatement, Named, Statement, UpdateStatement};
-use token::Span;
 use tree::copy;
+use tree::token::Span;
 
 // Whether the name is the input's or that of one of the functions.
 fn is_taken(input: &Port, functions: &[(String, Function)], name: &str) -> bool

@@ -5,11 +5,11 @@ ghost use Rattle.numeric.specs.declared.ty.Ty.TheVariants.{I32 as Index};
 ghost use Rattle.tree.specs.Term.{Term, term_of, list_terms};
 ghost use Rattle.tree.specs.Uses.{EachCall};
 ghost use Rattle.meaning.specs.Names.{same_name, is_among};
-ghost use Rattle.scoping.specs.Expressions.{is_known};
+ghost use Rattle.algo.specs.Scoping.Expressions.{is_known};
 ghost use Rattle.meaning.specs.Conditions.{callable, AreDistinct, IsRange};
 ghost use Rattle.meaning.specs.Reduction.{size, width};
-ghost use Rattle.syntax.specs.View.{update_text, bound_text, domain_text};
-ghost use Rattle.syntax.specs.Text.{bound_value};
+ghost use Rattle.expr.specs.Statements.View.{update_text, bound_text, domain_text};
+ghost use Rattle.expr.specs.Statements.Text.{bound_value};
 ghost use Rattle.algo.specs.declared.error.Code.{Code};
 ghost use Rattle.algo.specs.declared.error.Code.TheVariants.{Limit};
 ghost use Rattle.algo.specs.declared.error.AlgoError.TheVariants.{Refused};
@@ -24,11 +24,11 @@ use crate::checks::{
 };
 use crate::error::{AlgoError, Code};
 use crate::function::{Function, Range, Update};
+use crate::scoping::{CallTest, first_call, first_double, first_misplaced, same_name};
+use expr::statements::{Bound, Domain, UpdateStatement};
 use numeric::Ty;
-use scoping::{CallTest, first_call, first_double, first_misplaced, same_name};
 use std::alloc::{AllocError, Global};
-use syntax::{Bound, Domain, UpdateStatement};
-use token::Span;
+use tree::token::Span;
 use tree::{Expr, copy};
 
 // No call is of the function of this name.

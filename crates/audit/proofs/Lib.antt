@@ -1,6 +1,7 @@
-pub mod All
-pub mod Combined
-pub mod Counted
-pub mod Decided
-pub mod Lines
-pub mod Right
+mod Decided
+mod Extents
+mod Heads
+mod Named
+mod Grids
+mod Told
+mod OutputGroup

@@ -1,2 +1,3 @@
-pub mod Asked
-pub mod Faults
+pub mod Head
+pub mod Stand
+pub mod Refused

@@ -1,64 +1,26 @@
-//! The checker of row plans.
+//! The checker.
 
-ghost use Rattle.std.specs.Prelude.{◌≡◌, ℕ, List, length, IfOk, IfErr};
+ghost use Rattle.std.specs.Prelude.{◌≡◌, IfOk, IfErr};
 ghost use Rattle.algo.specs.View.{algorithm_of};
-ghost use Rattle.nest.specs.View.{plan_of};
-ghost use Rattle.cert.specs.Certificate.{certificate_of};
-ghost use Rattle.cert.specs.Cells.{cells as cells_of};
-ghost use Rattle.headline.specs.Shown.{Shown, Headline};
-ghost use Rattle.audit.specs.Faults.{HeadIsSame, IsRefusal};
-ghost use Rattle.checked.specs.Lists.{ListsAreOf};
+ghost use Rattle.plan.specs.View.{plan_of};
+ghost use Rattle.plan.specs.Certificate.Certificate.{certificate_of};
+ghost use Rattle.headline.specs.Headline.{Headline};
+ghost use Rattle.verdict.specs.Accepted.{IsAccepted};
+ghost use Rattle.audit.specs.Refused.{IsRefused};
 
+use crate::answer::shares_where_accepted;
 use crate::head::head_fault;
-use crate::refusal::{CheckError, refusal_of};
-use crate::row::first_unmet;
+use crate::output::{group_named, output_name};
+use crate::refusal::CheckError;
 use algo::Algo;
-use cert::Cert;
-use checked::Checked;
-use headline::laws::shown_is_right;
-use nest::Plan;
-use orders::Piece;
-use owned::demands::{cell_count_of, pieces_of};
-use ready::laws::shown_is_ready;
-use refusals::K;
-use rowplan::plan::row_plan;
+use checked_plan::Checked;
+use outline::refusals::K;
+use plan::Plan;
+use plan::certificate::Cert;
+use shares::SharesError;
 use std::alloc::Global;
 use std::thread::Threads;
-
-/// The lists of a row plan's pieces and the number of its cells.
-#[derive(Drop)]
-struct Lists {
-    pieces: Vec<Piece>,
-    cells: u32,
-}
-
-/// The lists of the pieces of a plan of which the head is the algorithm's, where all else that is asked of it is met.
-fn lists_of(
-    rt: &(impl Threads + Sync),
-    alloc: Global,
-    algo: &Algo,
-    plan: &Plan,
-    cert: &Cert,
-) -> Result<Lists, CheckError>
-    requires head { HeadIsSame (algorithm_of algo.now) (plan_of plan.now) }
-    ensures shown { IfOk result (λ lists. Shown (algorithm_of algo.now) (plan_of plan.now) (certificate_of cert.now)) }
-    ensures lists { IfOk result (λ lists. ListsAreOf (algorithm_of algo.now) (plan_of plan.now) (certificate_of cert.now) lists.pieces.items) }
-    ensures counted { IfOk result (λ lists. lists.cells ≡ length (cells_of (plan_of plan.now))) }
-    ensures refused { IfErr result (IsRefusal (algorithm_of algo.now) (plan_of plan.now) (certificate_of cert.now)) }
-{
-    let row = match row_plan(alloc, plan, cert) {
-        Ok(row) => row,
-        Err(error) => return Err(refusal_of(error)),
-    };
-    match first_unmet(rt, alloc, algo, &row)? {
-        Some(demand) => Err(demand.refusal(&row)),
-        None => {
-            let cells = cell_count_of(alloc, &row)?;
-            let pieces = pieces_of(alloc, &row)?;
-            Ok(Lists { pieces, cells })
-        }
-    }
-}
+use verdict::laws::{accepted_is_ready, accepted_is_right, faults_are_refusals};
 
 /// Whether a plan with its certificate is right for an algorithm, by what its author wrote alone.
 ///
@@ -67,31 +29,51 @@ fn lists_of(
 /// some order finishes; and each point of the output has a cell whose right value is what the algorithm, read without any
 /// schedule, says.
 ///
-/// What is asked at each piece is looked at by as many threads as there are processors; the answer is the one that a single
-/// thread would come to first. The time is linear in the plan's cells and pieces.
+/// The time is about linear in the lines of the plan and its certificate, the cells, the fetched cells and the needed pieces;
+/// bounds of forms are searched for within the limits of that search. What the lines and what the claims of each group owe
+/// is looked at side by side, in as many threads as there are processors.
 ///
 /// # Errors
-/// `Refused` with the code and the line of the first fault: first what is wrong with the plan's head, then the first line
-/// that is not as in a row plan (`K14`), then line by line what is not met, at one line the lowest code. `Memory` where
-/// memory runs out.
-pub fn check<'a>(
-    rt: &(impl Threads + Sync),
+/// `Refused` with a code and the line of the text at which it holds, `Memory` where memory runs out. Where the head is wrong,
+/// that is told: `K1` at line 1, 2 or 3. Else of all that is wrong the first is told, in the order of the lines, and at one
+/// line the lowest code:
+/// - at the lines of groups: names, limits and stored expressions (`K2`, `K3`, `K12`, `K14`), what loops, stores, fetches
+///   and `publish` owe (`K2`, `K4`, `K5`, `K7`), and in each group the first number not shown to be small (`K14`);
+/// - at the lines of own and needed regions: names and limits (`K2`, `K3`, `K14`, and `K10` at `cert`), how the pieces share
+///   the cells (`K9`, `K10`, `K11`, `K14`), and whether the output's group has each point of the output (`K10`);
+/// - at the lines of claims and windows: names and limits (`K2`, `K3`, `K14`) and claims that their statements are not shown
+///   to make (`K6`).
+///
+/// How the pieces share the cells, and whether the output's group has each point, is asked only where no line of a group or
+/// of the certificate has a flaw of names, limits or stored expressions. At one line a number not shown to be small is told
+/// before what the line owes, which is shown where numbers are small. Where some group has no own region (`K10` at `cert`),
+/// that is told in place of a `K5` that would be the first, and a symbol that stands twice (`K2`) is told at the claim that
+/// names it where it is not bound.
+pub fn check<'a, R: Threads + Sync>(
+    rt: &R,
     alloc: Global,
     algo: &'a Algo,
     plan: Plan,
     cert: Cert,
 ) -> Result<Checked<'a>, CheckError>
-    ensures headline { IfOk result (λ checked. Headline (algorithm_of algo.now) (plan_of plan) (certificate_of cert)) }
+    ensures accepted { IfOk result (λ _. IsAccepted (algorithm_of algo.now) (plan_of plan) (certificate_of cert)) }
+    ensures headline { IfOk result (λ _. Headline (algorithm_of algo.now) (plan_of plan) (certificate_of cert)) }
     ensures holds { IfOk result (λ checked. (checked.algo.now ≡ algo.now) × (checked.plan ≡ plan) × (checked.cert ≡ cert)) }
-    ensures shown { IfOk result (λ checked. Shown (algorithm_of algo.now) (plan_of plan) (certificate_of cert)) }
-    ensures refused { IfErr result (IsRefusal (algorithm_of algo.now) (plan_of plan) (certificate_of cert)) }
+    ensures refused { IfErr result (IsRefused (algorithm_of algo.now) (plan_of plan) (certificate_of cert)) }
 {
-    shown_is_right();
-    shown_is_ready();
+    accepted_is_ready();
+    accepted_is_right();
+    faults_are_refusals();
     algo.is_well_formed();
     if let Some(line) = head_fault(algo, &plan) {
         return Err(CheckError::Refused(K::K1, line));
     }
-    let lists = lists_of(rt, alloc, algo, &plan, &cert)?;
-    Ok(Checked::of(algo, plan, cert, lists.pieces, lists.cells))
+    let Some(number) = group_named(&plan.groups, output_name(algo)) else {
+        unreachable!();
+    };
+    match shares_where_accepted(rt, alloc, algo, &plan, &cert, number) {
+        Ok(shares) => Ok(Checked::of(algo, plan, cert, shares.pieces, shares.cells)),
+        Err(SharesError::Memory) => Err(CheckError::Memory),
+        Err(SharesError::Flaw(flaw)) => Err(CheckError::Refused(flaw.code, flaw.line)),
+    }
 }

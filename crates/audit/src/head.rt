@@ -2,16 +2,16 @@
 
 ghost use Rattle.std.specs.Prelude.{◌≡◌, IsNone, MatchOption};
 ghost use Rattle.algo.specs.View.{algorithm_of};
-ghost use Rattle.nest.specs.View.{plan_of};
-ghost use Rattle.headline.specs.Demands.{output_function};
-ghost use Rattle.headline.specs.Shown.{FailsHead};
-ghost use Rattle.audit.specs.Faults.{HasOutputGroup, HeadIsSame};
+ghost use Rattle.plan.specs.View.{plan_of};
+ghost use Rattle.headline.specs.Head.{FailsHead, output_function};
+ghost use Rattle.verdict.specs.Shown.Wide.{HasHead};
+ghost use Rattle.audit.specs.Head.{HasOutputGroup};
 
-use crate::given::{output_extents, output_name};
+use crate::names::{input_is_same, name_is_same, output_is_same, some_group_is_of};
+use crate::output::{output_extents, output_name};
 use algo::Algo;
-use nest::Plan;
 use numeric::Ty;
-use rowplan::names::{input_is_same, name_is_same, output_is_same, some_group_is_of};
+use plan::Plan;
 
 /// The name of the input.
 fn input_name(algo: &Algo) -> &str
@@ -46,8 +46,8 @@ fn output_type(algo: &Algo) -> Ty
 /// first of these; else line 3 where no group is the output's. `None` where all three are and some group is.
 ///
 /// It allocates nothing, and the time is linear in the groups.
-pub fn head_fault(algo: &Algo, plan: &Plan) -> Option<u32>
-    ensures head { MatchOption result (HeadIsSame (algorithm_of algo.now) (plan_of plan.now)) (FailsHead (algorithm_of algo.now) (plan_of plan.now)) }
+pub(crate) fn head_fault(algo: &Algo, plan: &Plan) -> Option<u32>
+    ensures head { MatchOption result (HasHead (algorithm_of algo.now) (plan_of plan.now)) (FailsHead (algorithm_of algo.now) (plan_of plan.now)) }
     ensures group { IsNone result → HasOutputGroup (algorithm_of algo.now) (plan_of plan.now) }
 {
     let output = output_name(algo);

@@ -7,7 +7,7 @@ use Rattle.board.specs.declared.view.View.{View}
 use Rattle.board.specs.Words.{flag, cell, cell_place, bits_of, word_of}
 use Rattle.board.specs.Rule.{IsFinished, Kept}
 use Rattle.board.specs.Seats.{KnowsAll}
-use Rattle.image.specs.Raster.{natural}
+use Rattle.meaning.specs.Image.Raster.{natural}
 use Rattle.std.specs.List.{range_with_len}
 use Rattle.std.proofs.lemmas.List.FromFn.{fill_by_all, get_or-map-range_with_len, length-map-range_with_len}
 use Rattle.board.proofs.Parts.{IsParted}

@@ -6,8 +6,8 @@ use Rattle.numeric.specs.declared.ty.Ty.{Ty}
 use Rattle.numeric.specs.declared.ty.Ty.TheVariants.{U8, U16, U32, I8, I16, I32}
 use Rattle.numeric.specs.Wrap.{IsOf, wrap}
 use Rattle.numeric.proofs.Wraps.{wraps_to, wrap_of_value}
-use Rattle.image.specs.Raster.{natural}
-use Rattle.image.specs.View.{IsSampleType}
+use Rattle.meaning.specs.Image.Raster.{natural}
+use Rattle.meaning.specs.Image.View.{IsSampleType}
 use Rattle.board.specs.Words.{bits_of}
 
 natural_most : (z : ℤ) (m : ℕ) → z ≤ℤ pos m → natural z ≤ m

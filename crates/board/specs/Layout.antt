@@ -2,8 +2,8 @@
 use Rattle.std.specs.Prelude.{ℕ, ◌^◌, ◌<◌, ◌≤◌, ℤ, pos, List, [], map, length, slice_index, slice_index_or}
 use Rattle.std.specs.List.{range_with_len}
 use Rattle.numeric.specs.Wrap.{IsOf}
-use Rattle.image.specs.View.{Frame, Picture, IsShape}
-use Rattle.image.specs.Raster.{natural, raster_point, sample_count}
+use Rattle.meaning.specs.Image.View.{Frame, Picture, IsShape}
+use Rattle.meaning.specs.Image.Raster.{natural, raster_point, sample_count}
 use Rattle.orders.specs.Work.{OwnIsParted, OwnIsWhole}
 
 pub record Layout : Type 0 where

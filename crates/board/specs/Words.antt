@@ -2,7 +2,7 @@
 use Rattle.std.specs.Prelude.{ℕ, ◌+◌, ℤ, List, slice_index}
 use Rattle.numeric.specs.declared.ty.Ty.TheVariants.{U32}
 use Rattle.numeric.specs.Wrap.{wrap}
-use Rattle.image.specs.Raster.{natural}
+use Rattle.meaning.specs.Image.Raster.{natural}
 use Rattle.board.specs.Layout.{Layout, pieces_of, own_cell}
 
 abbrev pub word_count : Layout → ℕ

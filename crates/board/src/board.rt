@@ -3,7 +3,7 @@
 ghost use Rattle.std.specs.Slots.{slots_items, slots_len, IsFull};
 ghost use Rattle.std.specs.Prelude.{◌≡◌, ◌≢◌, ℕ, ◌+◌, ◌^◌, ◌<◌, ◌≤◌, ◌↔◌, true, false, length, map, slice_index, IfSome, IfNone, IfOk, IfErr, IsOk, IsTrue, MatchBool};
 ghost use Rattle.std.specs.List.{range_with_len};
-ghost use Rattle.image.specs.View.{image_of};
+ghost use Rattle.meaning.specs.Image.View.{image_of};
 ghost use Rattle.board.specs.Words.{bits_of};
 ghost use Rattle.board.specs.Layout.{pieces_of, own_of, own_cell, value_at, picture_of, ShowsSamples};
 
@@ -13,7 +13,7 @@ use crate::seat::{BoardSeat, Ticket};
 use crate::source::Source;
 use crate::view::View;
 use atomic_table::{Closed, Table};
-use image::{Image, Shape};
+use meaning::image::{Image, Shape};
 use numeric::{Ty, wrap};
 use std::alloc::{AllocError, Global};
 use std::marker::Model;
@@ -35,7 +35,7 @@ impl<J: Run> Model for Board<J> {
     ghost use Rattle.std.specs.Prelude.{◌≡◌, length, map};
     ghost use Rattle.std.specs.List.{range_with_len};
     ghost use Rattle.atomic_table.specs.Seated.{TableId, table_id_coded};
-    ghost use Rattle.image.specs.View.{shape_of};
+    ghost use Rattle.meaning.specs.Image.View.{shape_of};
     ghost use Rattle.board.specs.Layout.{IsSound, ShowsSamples, samples_in, shown_cell};
     ghost use Rattle.board.specs.Words.{word_count};
 

@@ -2,12 +2,12 @@
 
 ghost use Rattle.std.specs.Prelude.{◌≡◌, ◌<◌, ℕ, [], IfOk, length, map, slice_index_or, true};
 ghost use Rattle.std.specs.List.{range_with_len};
-ghost use Rattle.image.specs.Raster.{is_within, raster_point, sample_count};
-ghost use Rattle.image.specs.View.{AreExtents};
+ghost use Rattle.meaning.specs.Image.Raster.{is_within, raster_point, sample_count};
+ghost use Rattle.meaning.specs.Image.View.{AreExtents};
 ghost use Rattle.board.specs.Layout.{samples_in, shown_cell};
 
 use crate::source::Source;
-use image::laws::raster_is_order;
+use meaning::image::laws::raster_is_order;
 use std::alloc::{AllocError, Global};
 use std::marker::Model;
 

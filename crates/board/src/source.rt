@@ -1,11 +1,11 @@
 //! What a board is opened for.
 
 ghost use Rattle.std.specs.Prelude.{◌≡◌, ◌<◌, true};
-ghost use Rattle.image.specs.Raster.{is_within};
-ghost use Rattle.image.specs.View.{shape_of};
+ghost use Rattle.meaning.specs.Image.Raster.{is_within};
+ghost use Rattle.meaning.specs.Image.View.{shape_of};
 ghost use Rattle.board.specs.Layout.{Layout, pieces_of, own_of, IsSound};
 
-use image::Shape;
+use meaning::image::Shape;
 
 /// Work that was accepted, as a board reads it.
 pub trait Source {

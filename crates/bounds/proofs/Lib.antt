@@ -6,3 +6,11 @@ pub mod ListSound
 pub mod SpanSound
 pub mod Fitting
 pub mod IntervalSound
+pub mod LetLemmas
+pub mod SearchLemmas
+pub mod Soundness
+pub mod Names
+pub mod RegionLemmas
+pub mod UnionHolds
+pub mod ProjectionSound
+pub mod UnionSound

@@ -4,6 +4,7 @@
 mod ends;
 mod expression;
 mod lists;
+pub mod projection;
 mod spans;
 
 pub use ends::{Ends, constant_ends};

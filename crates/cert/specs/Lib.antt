@@ -1,3 +1,6 @@
-pub mod Cells
-pub mod Certificate
 pub mod Lines
+pub mod Spelling
+pub mod Order
+pub mod Reading
+pub mod Notation
+pub mod File

@@ -1,9 +1,14 @@
-//! Certificates: why a plan is right.
+//! Certificates as text: one text for each certificate, and one certificate for each text.
 #![tactic(auto)]
 
-pub mod cert;
-pub mod copying;
-pub mod lines;
+pub mod file;
+pub mod laws;
+mod line;
+mod reading;
+mod words;
+mod writing;
 
-pub use cert::{Cert, Claim, Need, Own, Window};
-pub use copying::copy;
+pub use plan::certificate::Cert;
+pub use reading::read;
+pub use spelling::lines::TextError;
+pub use writing::write;

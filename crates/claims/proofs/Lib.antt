@@ -1,22 +1,5 @@
-pub mod Calls
-pub mod Folds
-pub mod Forms
-pub mod Hist
-pub mod Learned
-pub mod Meant
-pub mod Ongoing
-pub mod Refines
-pub mod Renamed
-pub mod Rows
-pub mod Runs
-pub mod Scan
-pub mod ScanMeant
-pub mod Shown
-pub mod Slide
-pub mod Sound
-pub mod Stored
-pub mod Turns
-pub mod Updates
-pub mod Whole
-pub mod Windows
-pub mod Written
+mod Counts
+mod Grids
+mod Firsts
+mod Together
+mod Shared

@@ -1,8 +1,1 @@
-pub mod Claims
-pub mod Given
-pub mod Obligations
-pub mod Origins
-pub mod Right
-pub mod Shown
-pub mod Stored
-pub mod Worked
+pub mod First

@@ -1,5 +1,10 @@
-//! Why a sound plan computes right values.
+//! What the lines of a plan's groups owe: whether all of it is shown, and the first that is not, in the order of the lines
+//! and at one line in that of the codes.
 #![tactic(auto)]
 
-pub mod laws;
-pub mod worked;
+mod group;
+mod group_bounds;
+mod least;
+mod tasks;
+
+pub use tasks::first_fault;

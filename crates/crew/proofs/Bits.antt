@@ -5,7 +5,7 @@ use Rattle.numeric.specs.declared.ty.Ty.{Ty}
 use Rattle.numeric.specs.declared.ty.Ty.TheVariants.{U8, U16, U32, I8, I16, I32}
 use Rattle.numeric.specs.Wrap.{wrap, IsOf, WrapsTo}
 use Rattle.numeric.proofs.Wraps.{wraps_only, wrap_of_value}
-use Rattle.image.specs.Raster.{natural}
+use Rattle.meaning.specs.Image.Raster.{natural}
 use Rattle.board.specs.Words.{bits_of}
 
 -- the bits of a number from 0 on are the number

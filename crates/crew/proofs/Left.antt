@@ -2,13 +2,13 @@
 use Rattle.std.proofs.Common.{◌≡◌, ℕ, ◌<◌, List, ℤ, subst}
 use Rattle.algo.specs.declared.inputs.Inputs.{Inputs}
 use Rattle.algo.specs.View.{samples_of}
-use Rattle.checked.specs.declared.checked.Checked.{Checked}
+use Rattle.checked_plan.specs.declared.checked.Checked.{Checked}
 use Rattle.board.specs.declared.view.View.{View}
 use Rattle.board.specs.Layout.{Layout}
 use Rattle.board.specs.Rule.{AtStep}
 use Rattle.board.specs.Seats.{IsFirstUnfinished}
-use Rattle.boards.specs.Laws.{HasOwnOf}
-use Rattle.boards.specs.Layouts.{layout_of, values_of}
+use Rattle.crew.specs.Opening.Laws.{HasOwnOf}
+use Rattle.crew.specs.Opening.Layouts.{layout_of, values_of}
 use Rattle.crew.specs.declared.running.RunError.TheVariants.{Unfinished}
 use Rattle.crew.specs.Refusals.{IsRunRefused}
 

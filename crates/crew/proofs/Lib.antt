@@ -1,3 +1,7 @@
+pub mod Rows
+pub mod Works
+pub mod Layouts
+pub mod Samples
 pub mod Bits
 pub mod Typed
 pub mod Told

@@ -3,7 +3,7 @@ use Rattle.std.proofs.Common.{ℕ, List, [], ◌∷◌, refl, subst, inl, inr}
 use Rattle.std.specs.Prelude.{Contains, ◌⊎◌}
 use mathlib.Core.Logic.{dite}
 use native.Mathlib.Decide.{ℕ_discrete}
-use Rattle.claims.specs.Claims.{In}
+use Rattle.soundness.specs.Claims.{In}
 use Rattle.headline.proofs.Members.{contains_of, in_of}
 
 -- whether a number is in a list

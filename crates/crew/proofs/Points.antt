@@ -9,15 +9,15 @@ use Rattle.numeric.specs.Wrap.{IsOf}
 use Rattle.lin.specs.declared.span.Span1.{Span1}
 use Rattle.meaning.specs.Algorithm.{Algorithm}
 use Rattle.meaning.specs.Functions.{IsPoint}
-use Rattle.nest.specs.Plan.{Group, Plan}
-use Rattle.nest.specs.Symbols.{clipped, largest, smallest, turns}
-use Rattle.cert.specs.Certificate.{Certificate}
-use Rattle.cert.specs.Cells.{Cell, no_symbols}
-use Rattle.pieces.specs.Numbers.{has_point, is_cell}
-use Rattle.pieces.specs.Parts.{PointsAreCounted}
-use Rattle.ready.specs.Ready.{IsSmallSpan, Ready}
-use Rattle.output.specs.Axes.{HasNumber, IsOn, axes_of, axis_of}
-use Rattle.output.proofs.Regions.{axes_near, on_axes, on_region}
+use Rattle.plan.specs.Plan.{Group, Plan}
+use Rattle.plan.specs.Symbols.{clipped, largest, smallest, turns}
+use Rattle.plan.specs.Certificate.Certificate.{Certificate}
+use Rattle.plan.specs.Certificate.Cells.{Cell, no_symbols}
+use Rattle.headline.specs.Numbers.{has_point, is_cell}
+use Rattle.headline.specs.Parts.{PointsAreCounted}
+use Rattle.checked_plan.specs.Ready.Ready.{IsSmallSpan, Ready}
+use Rattle.checked_plan.specs.Output.Axes.{HasNumber, IsOn, axes_of, axis_of}
+use Rattle.checked_plan.proofs.Regions.{axes_near, on_axes, on_region}
 use Rattle.crew.specs.Private.{HasIndexEnds, HaveIndices}
 
 pub at_place : {A : Type 0} (P : A → Type 0) (xs : List A) (i : ℕ) (x : A) → AllByRecursion P xs → slice_get xs i ≡ Some x → P x

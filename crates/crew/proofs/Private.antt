@@ -9,25 +9,25 @@ use Rattle.meaning.specs.Algorithm.{Algorithm}
 use Rattle.meaning.specs.Functions.{AreSamples}
 use Rattle.algo.specs.declared.inputs.Inputs.{Inputs}
 use Rattle.algo.specs.View.{IsFor, picture_of, samples_of}
-use Rattle.checked.specs.declared.checked.Checked.{Checked}
-use Rattle.checked.specs.View.{algorithm_checked, plan_checked, certificate_checked}
-use Rattle.nest.specs.Plan.{Group, Plan}
-use Rattle.cert.specs.Certificate.{Certificate}
-use Rattle.cert.specs.Cells.{Cell, grid_point}
-use Rattle.claims.proofs.Forms.{rec_weaker}
+use Rattle.checked_plan.specs.declared.checked.Checked.{Checked}
+use Rattle.checked_plan.specs.View.{algorithm_checked, plan_checked, certificate_checked}
+use Rattle.plan.specs.Plan.{Group, Plan}
+use Rattle.plan.specs.Certificate.Certificate.{Certificate}
+use Rattle.plan.specs.Certificate.Cells.{Cell, grid_point}
+use Rattle.soundness.proofs.Forms.{rec_weaker}
 use Rattle.headline.proofs.Samples.{inputs_are_samples}
-use Rattle.pieces.specs.Numbers.{CellsAreNumbered, cell_number, is_cell}
-use Rattle.pieces.specs.Parts.{PointsAreCounted}
-use Rattle.pieces.specs.Work.{cell_function, cell_value, looked_value, target, type_named, value_or_zero}
-use Rattle.ready.specs.Ready.{Ready}
+use Rattle.headline.specs.Numbers.{CellsAreNumbered, cell_number, is_cell}
+use Rattle.headline.specs.Parts.{PointsAreCounted}
+use Rattle.headline.specs.Work.{cell_function, cell_value, looked_value, target, type_named, value_or_zero}
+use Rattle.checked_plan.specs.Ready.Ready.{Ready}
 use Rattle.board.specs.Layout.{Layout, own_of, pieces_of, value_at}
-use Rattle.boards.specs.Laws.{OwnIsOfWork, RunsGiveValues, ValuesAreTargets, WorksAreSound}
-use Rattle.boards.specs.Layouts.{layout_of, values_of}
+use Rattle.crew.specs.Opening.Laws.{OwnIsOfWork, RunsGiveValues, ValuesAreTargets, WorksAreSound}
+use Rattle.crew.specs.Opening.Layouts.{layout_of, values_of}
 use Rattle.interpreter.specs.Outcome.{piece_gives}
-use Rattle.looked.specs.Laws.{PiecesAreNarrow, RunsAreTheWork}
-use Rattle.looked.specs.Looked.{cells_of_piece}
-use Rattle.looked.proofs.Lookups.{are_cells, numbers_are}
-use Rattle.places.specs.Places.{IsPlaceOf}
+use Rattle.piece.specs.Laws.{PiecesAreNarrow, RunsAreTheWork}
+use Rattle.piece.specs.Looked.{cells_of_piece}
+use Rattle.piece.proofs.Lookups.{are_cells, numbers_are}
+use Rattle.piece.specs.Places.Places.{IsPlaceOf}
 use Rattle.crew.specs.Private.{CanRun, GivesValues, HaveIndices, IsMostFetched, IsMostOwn, IsOwnOf, IsRunnable, as_typed, fetched_of, needs_of, told_by, words_at}
 use Rattle.crew.proofs.Owners.{owner_of}
 use Rattle.crew.proofs.Points.{at_place, point_is}

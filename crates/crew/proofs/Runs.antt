@@ -3,22 +3,22 @@ use Rattle.std.proofs.Common.{◌≡◌, ℕ, suc, ◌<◌, ◌≤◌, List, [],
 use Rattle.std.specs.Prelude.{slice_get}
 use Rattle.std.proofs.Math.ListN.{set}
 use Rattle.std.proofs.lemmas.Option.{slice_get-get_or, slice_get_within}
-use Rattle.image.specs.View.{Picture}
+use Rattle.meaning.specs.Image.View.{Picture}
 use Rattle.meaning.specs.Algorithm.{Algorithm}
 use Rattle.meaning.specs.Value.{Calls}
-use Rattle.nest.specs.Plan.{Group, Plan}
-use Rattle.cert.specs.Certificate.{Certificate}
-use Rattle.cert.specs.Cells.{grid_point}
-use Rattle.checked.specs.declared.checked.Checked.{Checked}
-use Rattle.checked.specs.View.{algorithm_checked, plan_checked, certificate_checked}
+use Rattle.plan.specs.Plan.{Group, Plan}
+use Rattle.plan.specs.Certificate.Certificate.{Certificate}
+use Rattle.plan.specs.Certificate.Cells.{grid_point}
+use Rattle.checked_plan.specs.declared.checked.Checked.{Checked}
+use Rattle.checked_plan.specs.View.{algorithm_checked, plan_checked, certificate_checked}
 use Rattle.board.specs.Layout.{Layout, own_of, pieces_of, value_at}
 use Rattle.interpreter.specs.Narrow.{PieceIsNarrow}
 use Rattle.interpreter.specs.Outcome.{piece_gives}
 use Rattle.interpreter.specs.Scratches.{room_of, IsAgain, IsScratchFor}
 use Rattle.interpreter.specs.declared.scratch.Scratch.{Scratch}
-use Rattle.looked.specs.Looked.{numbers_of_piece}
-use Rattle.looked.specs.declared.cells.LookedCells.{LookedCells}
-use Rattle.places.specs.Places.{IsPlaceOf}
+use Rattle.piece.specs.Looked.{numbers_of_piece}
+use Rattle.piece.specs.declared.cells.LookedCells.{LookedCells}
+use Rattle.piece.specs.Places.Places.{IsPlaceOf}
 use Rattle.crew.specs.Private.{AreReady, CanRun, HasLooked, HasMemory, given_by, given_in, told, told_by, words_at}
 use Rattle.crew.proofs.Scratches.{has_room, memory_again, set_here}
 

@@ -7,11 +7,11 @@ use Rattle.std.proofs.lemmas.Option.{same_Some, slice_get_within}
 use Rattle.std.proofs.lemmas.Bool.{cases_lt}
 use mathlib.Core.Logic.{dite}
 use native.Mathlib.Decide.{ℕ_discrete}
-use Rattle.nest.specs.Plan.{Group, Plan}
-use Rattle.cert.specs.Certificate.{Certificate}
+use Rattle.plan.specs.Plan.{Group, Plan}
+use Rattle.plan.specs.Certificate.Certificate.{Certificate}
 use Rattle.board.specs.Layout.{Layout, own_of, pieces_of, value_at}
-use Rattle.buffers.specs.Blocks.{limits_of}
-use Rattle.buffers.specs.declared.limit.Limit.{Limit}
+use Rattle.interpreter.specs.Buffers.Blocks.{limits_of}
+use Rattle.interpreter.specs.declared.buffers.limit.Limit.{Limit}
 use Rattle.interpreter.specs.Bindings.{Bindings}
 use Rattle.interpreter.specs.Scratches.{room_of, IsAgain, IsScratchFor, Suffices}
 use Rattle.interpreter.specs.declared.scratch.Scratch.{Scratch}

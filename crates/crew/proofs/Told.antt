@@ -9,10 +9,10 @@ use Rattle.tree.specs.Meaning.{typed}
 use Rattle.meaning.specs.Algorithm.{Algorithm}
 use Rattle.meaning.specs.Names.{same_name, same_point}
 use Rattle.meaning.proofs.Types.{zero_is_of}
-use Rattle.nest.specs.Plan.{Plan}
-use Rattle.cert.specs.Cells.{Cell}
-use Rattle.claims.proofs.Refines.{and_parts, name_true}
-use Rattle.pieces.specs.Work.{cell_function, looked_value, type_named}
+use Rattle.plan.specs.Plan.{Plan}
+use Rattle.plan.specs.Certificate.Cells.{Cell}
+use Rattle.soundness.proofs.Refines.{and_parts, name_true}
+use Rattle.headline.specs.Work.{cell_function, looked_value, type_named}
 use Rattle.board.specs.Layout.{value_at}
 use Rattle.board.specs.Words.{bits_of}
 use Rattle.crew.specs.Private.{as_typed, words_at}

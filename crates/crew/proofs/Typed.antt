@@ -10,10 +10,10 @@ use Rattle.meaning.specs.Names.{same_name}
 use Rattle.meaning.specs.Value.{calls_of, input_calls, value_of_function}
 use Rattle.meaning.proofs.Calls.{NoneNamed, called, callable_input, calls_miss}
 use Rattle.meaning.proofs.Typed.{before_answers, value_is_typed}
-use Rattle.claims.specs.Given.{function_named}
-use Rattle.claims.proofs.Refines.{name_refl}
-use Rattle.pieces.specs.Work.{type_named, type_or_input}
-use Rattle.pieces.proofs.Types.{stands}
+use Rattle.soundness.specs.Given.{function_named}
+use Rattle.soundness.proofs.Refines.{name_refl}
+use Rattle.headline.specs.Work.{type_named, type_or_input}
+use Rattle.headline.proofs.Types.{stands}
 
 none_named : (fs : List Function) (name : List ℕ) → function_named fs name ≡ None → NoneNamed name fs
 none_named [] name e j g at is = cc

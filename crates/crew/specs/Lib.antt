@@ -1,2 +1,3 @@
+pub mod Opening
 pub mod Private
 pub mod Refusals

@@ -3,28 +3,28 @@ use Rattle.std.specs.Prelude.{◌≡◌, ℕ, ◌<◌, ◌≤◌, ◌⊎◌, Lis
 use Rattle.std.specs.List.{AllByRecursion}
 use Rattle.numeric.specs.Wrap.{wrap, IsOf}
 use Rattle.numeric.specs.declared.ty.Ty.TheVariants.{I32}
-use Rattle.image.specs.View.{Picture}
+use Rattle.meaning.specs.Image.View.{Picture}
 use Rattle.tree.specs.Meaning.{typed}
 use Rattle.tree.specs.declared.value.Value.{Value}
 use Rattle.lin.specs.declared.span.Span1.{Span1}
 use Rattle.meaning.specs.Algorithm.{Algorithm}
 use Rattle.meaning.specs.Value.{Calls}
-use Rattle.nest.specs.Plan.{Group, Plan}
-use Rattle.cert.specs.Certificate.{Certificate}
-use Rattle.cert.specs.Cells.{grid_point, pieces}
-use Rattle.pieces.specs.Work.{looked_value, needed_pieces, of_piece}
-use Rattle.ready.specs.Ready.{first_constant}
-use Rattle.checked.specs.declared.checked.Checked.{Checked}
-use Rattle.checked.specs.View.{algorithm_checked, plan_checked, certificate_checked}
+use Rattle.plan.specs.Plan.{Group, Plan}
+use Rattle.plan.specs.Certificate.Certificate.{Certificate}
+use Rattle.plan.specs.Certificate.Cells.{grid_point, pieces}
+use Rattle.headline.specs.Work.{looked_value, needed_pieces, of_piece}
+use Rattle.checked_plan.specs.Ready.Ready.{first_constant}
+use Rattle.checked_plan.specs.declared.checked.Checked.{Checked}
+use Rattle.checked_plan.specs.View.{algorithm_checked, plan_checked, certificate_checked}
 use Rattle.board.specs.Layout.{Layout, own_of, pieces_of, value_at}
 use Rattle.board.specs.Words.{bits_of}
 use Rattle.interpreter.specs.Narrow.{PieceIsNarrow}
 use Rattle.interpreter.specs.Outcome.{piece_gives}
 use Rattle.interpreter.specs.Scratches.{room_of, IsScratchFor}
 use Rattle.interpreter.specs.declared.scratch.Scratch.{Scratch}
-use Rattle.looked.specs.Looked.{cells_of_piece, numbers_of_piece}
-use Rattle.looked.specs.declared.cells.LookedCells.{LookedCells}
-use Rattle.places.specs.Places.{IsPlaceOf}
+use Rattle.piece.specs.Looked.{cells_of_piece, numbers_of_piece}
+use Rattle.piece.specs.declared.cells.LookedCells.{LookedCells}
+use Rattle.piece.specs.Places.Places.{IsPlaceOf}
 
 -- ---- what a piece fetches and needs
 

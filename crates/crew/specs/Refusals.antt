@@ -1,13 +1,13 @@
 -- Why a run gives no picture.
 use Rattle.std.specs.Prelude.{ℕ, ◌<◌, length, ⊤}
 use Rattle.algo.specs.declared.inputs.Inputs.{Inputs}
-use Rattle.checked.specs.declared.checked.Checked.{Checked}
-use Rattle.checked.specs.View.{plan_checked}
-use Rattle.cert.specs.Cells.{pieces}
+use Rattle.checked_plan.specs.declared.checked.Checked.{Checked}
+use Rattle.checked_plan.specs.View.{plan_checked}
+use Rattle.plan.specs.Certificate.Cells.{pieces}
 use Rattle.board.specs.declared.view.View.{View}
 use Rattle.board.specs.Rule.{AtStep}
 use Rattle.board.specs.Seats.{IsFirstUnfinished}
-use Rattle.boards.specs.Layouts.{layout_of, values_of}
+use Rattle.crew.specs.Opening.Layouts.{layout_of, values_of}
 use Rattle.crew.specs.declared.running.RunError.{RunError}
 use Rattle.crew.specs.declared.running.RunError.TheVariants.{Memory, Unfinished}
 

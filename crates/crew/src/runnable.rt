@@ -2,19 +2,19 @@
 
 ghost use Rattle.std.specs.Prelude.{◌≡◌, ◌≤◌, IsTrue, length, map};
 ghost use Rattle.std.specs.List.{AllByRecursion};
-ghost use Rattle.boards.specs.Layouts.{layout_of};
+ghost use Rattle.crew.specs.Opening.Layouts.{layout_of};
 ghost use Rattle.board.specs.Layout.{pieces_of};
 ghost use Rattle.crew.specs.Private.{AreShort, HasIndexEnds, HaveIndices, IsMostFetched, IsMostOwn, IsRunnable};
-ghost use Rattle.nest.specs.View.{group_of, plan_of};
+ghost use Rattle.plan.specs.View.{group_of, plan_of};
 ghost use Rattle.numeric.specs.Wrap.{IsOf};
 ghost use Rattle.numeric.specs.declared.ty.Ty.TheVariants.{I32};
-ghost use Rattle.ready.specs.Ready.{first_constant};
+ghost use Rattle.checked_plan.specs.Ready.Ready.{first_constant};
 
-use boards::laws::own_is_of_work;
-use checked::Checked;
+use crate::opening::laws::own_is_of_work;
+use checked_plan::Checked;
 use lin::{Forms, Span1};
-use nest::{Group, Plan};
 use numeric::{Ty, wrap};
+use plan::{Group, Plan};
 
 /// The larger of a number and a count of cells.
 fn at_least(most: usize, cells: &[u32]) -> usize

@@ -2,31 +2,31 @@
 
 ghost use Rattle.std.specs.Prelude.{◌≡◌, ◌≤◌, IfErr, IfOk, vec_capacity};
 ghost use Rattle.algo.specs.View.{picture_of, picture_said, samples_of, IsFor};
-ghost use Rattle.checked.specs.View.{algorithm_checked, plan_checked};
+ghost use Rattle.checked_plan.specs.View.{algorithm_checked, plan_checked};
 ghost use Rattle.board.specs.Layout.{pieces_of};
 ghost use Rattle.board.specs.Seats.{place};
 ghost use Rattle.board.specs.Views.{first_view, IsIdle};
-ghost use Rattle.boards.specs.Layouts.{layout_of, values_of};
+ghost use Rattle.crew.specs.Opening.Layouts.{layout_of, values_of};
 ghost use Rattle.crew.specs.Private.{CanRun, HasRoom, IsMostFetched, IsRunnable};
 ghost use Rattle.crew.specs.Refusals.{IsRunRefused};
 ghost use Rattle.crew.specs.declared.running.RunError.TheVariants.{Memory as OutOfMemory};
-ghost use Rattle.image.specs.View.{image_of};
+ghost use Rattle.meaning.specs.Image.View.{image_of};
 
+use crate::opening::laws::{
+    own_is_of_work, pictures_are_said, runs_give_values, values_are_targets, works_are_sound,
+};
+use crate::opening::open;
 use crate::runnable::{is_runnable, most_fetched, most_own};
 use crate::values::{Desk, Pieces, PrivateRuns};
 use crate::worker::work;
 use algo::Inputs;
 use board::{Board, BoardSeat, Run, Unfinished};
-use boards::laws::{
-    own_is_of_work, pictures_are_said, runs_give_values, values_are_targets, works_are_sound,
-};
-use boards::open;
-use checked::Checked;
-use image::Image;
-use looked::LookedCells;
-use looked::laws::{pieces_are_narrow, runs_are_the_work};
-use output::PlanCells;
-use pieces::laws::{cells_are_numbered, points_are_counted};
+use checked_plan::Checked;
+use checked_plan::output::PlanCells;
+use headline::laws::{cells_are_numbered, points_are_counted};
+use meaning::image::Image;
+use piece::LookedCells;
+use piece::laws::{pieces_are_narrow, runs_are_the_work};
 use std::alloc::{AllocError, Global};
 use std::marker::Brand;
 use std::sync::Wait;

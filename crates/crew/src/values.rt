@@ -1,18 +1,18 @@
 //! The values that a piece gives its own cells.
 
 ghost use Rattle.std.specs.Prelude.{◌≡◌, ◌<◌, ◌≤◌, ℕ, List, IfOk, length, map, slice_index};
-ghost use Rattle.checked.specs.declared.checked.Checked.{Checked as CheckedPlan};
+ghost use Rattle.checked_plan.specs.declared.checked.Checked.{Checked as CheckedPlan};
 ghost use Rattle.board.specs.Layout.{own_of, pieces_of, value_at};
 ghost use Rattle.crew.specs.Private.{fetched_of, given_in, needs_of, told, HasLooked, IsOwnOf};
 ghost use Rattle.interpreter.specs.declared.scratch.Scratch.{Scratch as RunMemory};
 
 use algo::Inputs;
 use board::Run;
-use checked::Checked;
+use checked_plan::Checked;
 use interpreter::{Cells, Scratch, run_piece_in};
-use looked::LookedCells;
 use numeric::wrap;
-use places::{grid_point, place_of};
+use piece::LookedCells;
+use piece::places::{grid_point, place_of};
 use std::alloc::{AllocError, Global};
 use tree::Value;
 
@@ -105,7 +105,7 @@ pub(crate) struct Pieces<'a> {
 
 impl<J: Run> PrivateRuns<J> for Pieces<'_> {
     ghost use Rattle.algo.specs.View.{picture_of};
-    ghost use Rattle.checked.specs.View.{certificate_checked, plan_checked};
+    ghost use Rattle.checked_plan.specs.View.{certificate_checked, plan_checked};
     ghost use Rattle.crew.specs.Private.{CanRun, HasMemory};
 
     ghost gives = { λ runs. CanRun J.layout J.values runs.checked.now (picture_of runs.inputs.now) runs.most };

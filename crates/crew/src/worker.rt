@@ -9,7 +9,7 @@ ghost use Rattle.crew.specs.Private.{words_at, HasRoom};
 use crate::values::{Desk, PrivateRuns};
 use board::{Board, BoardSeat, Run, Ticket};
 use crossbeam_utils::Backoff;
-use looked::LookedCells;
+use piece::LookedCells;
 use std::alloc::Global;
 use std::sync::Wait;
 

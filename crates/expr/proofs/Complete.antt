@@ -4,12 +4,12 @@ use Rattle.numeric.specs.declared.ty.Ty.{Ty}
 use Rattle.numeric.specs.declared.op.Op.{Op}
 use Rattle.numeric.specs.declared.op.Comparison.{Comparison}
 use Rattle.numeric.specs.declared.op.Comparison.TheVariants as by
-use Rattle.token.specs.declared.token.Symbol.TheVariants as symbol
-use Rattle.token.specs.declared.token.Word.TheVariants as word
-use Rattle.token.specs.declared.token.Literal.{Literal}
-use Rattle.token.specs.declared.token.Token.{Token}
-use Rattle.token.specs.declared.token.Token.TheVariants as token
-use Rattle.token.specs.Cursor.{after}
+use Rattle.tree.specs.declared.token.token.Symbol.TheVariants as symbol
+use Rattle.tree.specs.declared.token.token.Word.TheVariants as word
+use Rattle.tree.specs.declared.token.token.Literal.{Literal}
+use Rattle.tree.specs.declared.token.token.Token.{Token}
+use Rattle.tree.specs.declared.token.token.Token.TheVariants as token
+use Rattle.tree.specs.Token.Cursor.{after}
 use Rattle.tree.specs.Term.{Term, Name, Call, Minus, Binary, Clamp, Cast, Choice, More as MoreTerms, Test, Compares, Fails, indices as index_terms}
 use Rattle.tree.specs.Tree.{node_count, depth}
 use Rattle.expr.specs.declared.measured.Joint.{Joint}

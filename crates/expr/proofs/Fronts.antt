@@ -5,13 +5,13 @@ use Rattle.std.proofs.lemmas.List.{take_all, take-append-drop}
 use Rattle.std.proofs.Math.Seq.{drop-cons}
 use Rattle.numeric.specs.declared.op.Op.{Op}
 use Rattle.numeric.specs.declared.op.Comparison.{Comparison}
-use Rattle.token.specs.declared.span.Span.{Span}
-use Rattle.token.specs.declared.token.Symbol.{Symbol}
-use Rattle.token.specs.declared.token.Symbol.TheVariants as symbol
-use Rattle.token.specs.declared.token.Token.{Token}
-use Rattle.token.specs.declared.token.Token.TheVariants as token
-use Rattle.token.specs.declared.token.Lexeme.{Lexeme}
-use Rattle.token.specs.Cursor.{after, kinds, place}
+use Rattle.tree.specs.declared.token.span.Span.{Span}
+use Rattle.tree.specs.declared.token.token.Symbol.{Symbol}
+use Rattle.tree.specs.declared.token.token.Symbol.TheVariants as symbol
+use Rattle.tree.specs.declared.token.token.Token.{Token}
+use Rattle.tree.specs.declared.token.token.Token.TheVariants as token
+use Rattle.tree.specs.declared.token.token.Lexeme.{Lexeme}
+use Rattle.tree.specs.Token.Cursor.{after, kinds, place}
 use Rattle.tree.specs.declared.expr.Expr.{Expr, Row_of-Expr, end_of-Expr, more_of-Expr, items-the_row-Expr, items_hidden-the_row-Expr-0}
 use Rattle.tree.specs.declared.expr.Cond.{Cond, Compare, Not', All', Any'}
 use Rattle.tree.specs.Place.{test_span}
@@ -21,7 +21,7 @@ use Rattle.std.specs.Prelude.{string_bytes}
 use Rattle.expr.specs.Grammar.{sign}
 use Rattle.expr.specs.Text.{last_end}
 use Rattle.expr.specs.Brackets.{is_opening}
-use Rattle.token.specs.declared.token.Word.{Word}
+use Rattle.tree.specs.declared.token.token.Word.{Word}
 use Rattle.expr.specs.declared.parser.Level.{Level}
 use Rattle.expr.specs.Parsing.{operator, comparison}
 use Rattle.expr.specs.Places.{extreme, ExtremeOf, OperatorOf, ComparisonOf, Form, Covers, Then, ◌⨾◌, One, opens, closes, comma, InBrackets, Part, Separates, called, Stands, TestStands, RowStands, AllStand, AreOpening, Front, FrontAt}

@@ -7,3 +7,13 @@ pub mod Complete
 pub mod Sound
 pub mod Texts
 pub mod Fronts
+pub mod StatementsTurns
+pub mod Ends
+pub mod Tails
+pub mod Standing
+pub mod Marked
+pub mod Lengths
+pub mod StatementsSound
+pub mod StatementsComplete
+pub mod StatementsTexts
+pub mod Wants

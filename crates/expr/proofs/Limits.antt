@@ -1,7 +1,7 @@
 -- Terms that are within the limits, and terms that are not.
 use Rattle.std.proofs.Common.{◌≡◌, ℕ, suc, ◌≤◌, Bool, true, false, cond, leb, ◌&&◌, List, [], ◌∷◌, length, Result, Ok, Err, refl, ap, ◌⊎◌, inl, inr, arith}
 use Rattle.std.proofs.lemmas.Bool.{leb-true, le-leb}
-use Rattle.token.specs.declared.token.Token.{Token}
+use Rattle.tree.specs.declared.token.token.Token.{Token}
 use Rattle.tree.specs.Term.{Term, Number, Name, Call, Minus, Binary, Clamp, Cast, Choice, Test, Compares, Fails, Both, Either, indices}
 use Rattle.tree.specs.Tree.{node_count, node_counts, cond_count, depth, depths, test_depth}
 use Rattle.expr.specs.declared.error.Refusal.{Refusal}

@@ -1,11 +1,11 @@
 -- A run of opening brackets is read as the brackets one within another.
 use Rattle.std.proofs.Common.{◌≡◌, ℕ, zero, suc, ◌+◌, cond, List, [], ◌∷◌, length, drop, Result, Ok, Err, refl, sym, ap, ◌∙◌, arith}
 use Rattle.std.specs.List.{prefix_len}
-use Rattle.token.specs.declared.token.Symbol.TheVariants as symbol
-use Rattle.token.specs.declared.token.Token.{Token}
-use Rattle.token.specs.declared.token.Token.TheVariants as token
-use Rattle.token.specs.declared.token.Lexeme.{Lexeme}
-use Rattle.token.specs.Cursor.{kinds}
+use Rattle.tree.specs.declared.token.token.Symbol.TheVariants as symbol
+use Rattle.tree.specs.declared.token.token.Token.{Token}
+use Rattle.tree.specs.declared.token.token.Token.TheVariants as token
+use Rattle.tree.specs.declared.token.token.Lexeme.{Lexeme}
+use Rattle.tree.specs.Token.Cursor.{kinds}
 use Rattle.tree.specs.Term.{Term}
 use Rattle.expr.specs.declared.error.Refusal.{Refusal}
 use Rattle.expr.specs.declared.error.Stop.{Stop}

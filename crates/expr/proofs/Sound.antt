@@ -6,13 +6,13 @@ use Rattle.numeric.specs.declared.op.Op.{Op}
 use Rattle.numeric.specs.declared.op.Op.TheVariants as op
 use Rattle.numeric.specs.declared.op.Comparison.{Comparison}
 use Rattle.numeric.specs.declared.op.Comparison.TheVariants as by
-use Rattle.token.specs.contracts.token.Symbol.{the_type}
-use Rattle.token.specs.declared.token.Symbol.{Symbol}
-use Rattle.token.specs.declared.token.Symbol.TheVariants as symbol
-use Rattle.token.specs.declared.token.Word.TheVariants as word
-use Rattle.token.specs.declared.token.Token.{Token}
-use Rattle.token.specs.declared.token.Token.TheVariants as token
-use Rattle.token.specs.Cursor.{after, same_symbol}
+use Rattle.tree.specs.contracts.token.token.Symbol.{the_type}
+use Rattle.tree.specs.declared.token.token.Symbol.{Symbol}
+use Rattle.tree.specs.declared.token.token.Symbol.TheVariants as symbol
+use Rattle.tree.specs.declared.token.token.Word.TheVariants as word
+use Rattle.tree.specs.declared.token.token.Token.{Token}
+use Rattle.tree.specs.declared.token.token.Token.TheVariants as token
+use Rattle.tree.specs.Token.Cursor.{after, same_symbol}
 use Rattle.tree.specs.Term.{Term, Name, Call, Minus, Binary, Clamp, Cast, Choice, Terms, More as MoreTerms, Test, Compares, Fails, indices as index_terms}
 use Rattle.expr.specs.declared.measured.Joint.{Joint}
 use Rattle.expr.specs.declared.measured.Joint.TheVariants as joint

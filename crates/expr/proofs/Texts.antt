@@ -1,11 +1,11 @@
 -- A whole text.
 use Rattle.std.proofs.Common.{◌≡◌, ℕ, zero, suc, ◌≤◌, ◌<◌, Bool, true, false, List, [], ◌∷◌, Result, Ok, Err, refl, sym, ap, subst, ◌∙◌, ◌⊎◌, inl, inr, arith}
-use Rattle.token.specs.declared.token.Token.{Token}
-use Rattle.token.specs.declared.token.Lexeme.{Lexeme}
-use Rattle.token.specs.declared.error.TokenError.{TokenError}
-use Rattle.token.specs.declared.error.TokenError.TheVariants as token_error
-use Rattle.token.specs.Cursor.{kinds}
-use Rattle.token.specs.Lexical.{AreLexemes, IsRefused as AreRefused}
+use Rattle.tree.specs.declared.token.token.Token.{Token}
+use Rattle.tree.specs.declared.token.token.Lexeme.{Lexeme}
+use Rattle.tree.specs.declared.token.error.TokenError.{TokenError}
+use Rattle.tree.specs.declared.token.error.TokenError.TheVariants as token_error
+use Rattle.tree.specs.Token.Cursor.{kinds}
+use Rattle.tree.specs.Token.Lexical.{AreLexemes, IsRefused as AreRefused}
 use Rattle.tree.specs.Term.{Term}
 use Rattle.tree.specs.Tree.{node_count, depth}
 use Rattle.expr.specs.declared.error.Refusal.{Refusal}

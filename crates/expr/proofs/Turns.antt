@@ -1,9 +1,9 @@
 -- The parser's loops, turn by turn.
 use Rattle.std.proofs.Common.{◌≡◌, ℕ, suc, ◌+◌, ◌-◌, ◌≤◌, ◌<◌, List, [], ◌∷◌, ◌++◌, Some, None, Result, Ok, Err, refl, sym, ◌∙◌, arith}
 use Rattle.numeric.specs.declared.op.Op.{Op}
-use Rattle.token.specs.declared.token.Token.{Token}
-use Rattle.token.specs.declared.token.Symbol.TheVariants as symbol
-use Rattle.token.specs.Cursor.{after}
+use Rattle.tree.specs.declared.token.token.Token.{Token}
+use Rattle.tree.specs.declared.token.token.Symbol.TheVariants as symbol
+use Rattle.tree.specs.Token.Cursor.{after}
 use Rattle.tree.specs.Term.{Term, Binary}
 use Rattle.expr.specs.declared.parser.Level.{Level}
 use Rattle.expr.specs.declared.error.Refusal.{Refusal}

@@ -1,8 +1,8 @@
 -- A run of opening brackets, which is closed from the innermost bracket outwards.
 use Rattle.std.specs.Prelude.{ℕ, zero, suc, Bool, true, false, Ok}
-use Rattle.token.specs.declared.token.Symbol.TheVariants as symbol
-use Rattle.token.specs.declared.token.Token.{Token}
-use Rattle.token.specs.declared.token.Token.TheVariants as token
+use Rattle.tree.specs.declared.token.token.Symbol.TheVariants as symbol
+use Rattle.tree.specs.declared.token.token.Token.{Token}
+use Rattle.tree.specs.declared.token.token.Token.TheVariants as token
 use Rattle.tree.specs.Term.{Term}
 use Rattle.expr.specs.Parsing.{Parse, Reader, closed, ◌>>=◌}
 

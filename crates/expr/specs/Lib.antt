@@ -3,3 +3,4 @@ pub mod Brackets
 pub mod Grammar
 pub mod Text
 pub mod Places
+pub mod Statements

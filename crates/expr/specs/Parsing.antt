@@ -6,13 +6,13 @@ use Rattle.numeric.specs.declared.op.Op.{Op}
 use Rattle.numeric.specs.declared.op.Op.TheVariants as op
 use Rattle.numeric.specs.declared.op.Comparison.{Comparison}
 use Rattle.numeric.specs.declared.op.Comparison.TheVariants as by
-use Rattle.token.specs.declared.token.Symbol.{Symbol}
-use Rattle.token.specs.declared.token.Symbol.TheVariants as symbol
-use Rattle.token.specs.declared.token.Word.TheVariants as word
-use Rattle.token.specs.declared.token.Literal.{Literal}
-use Rattle.token.specs.declared.token.Token.{Token}
-use Rattle.token.specs.declared.token.Token.TheVariants as token
-use Rattle.token.specs.Cursor.{after}
+use Rattle.tree.specs.declared.token.token.Symbol.{Symbol}
+use Rattle.tree.specs.declared.token.token.Symbol.TheVariants as symbol
+use Rattle.tree.specs.declared.token.token.Word.TheVariants as word
+use Rattle.tree.specs.declared.token.token.Literal.{Literal}
+use Rattle.tree.specs.declared.token.token.Token.{Token}
+use Rattle.tree.specs.declared.token.token.Token.TheVariants as token
+use Rattle.tree.specs.Token.Cursor.{after}
 use Rattle.tree.specs.Term.{Term, Number, Name, Call, Minus, Binary, Clamp, Cast, Choice, Test, Compares, Fails, Both, Either, indices as index_terms}
 use Rattle.tree.specs.Tree.{node_count, cond_count, depth, test_depth}
 use Rattle.expr.specs.declared.parser.Level.{Level}

@@ -4,16 +4,16 @@ use Rattle.numeric.specs.declared.ty.Ty.{Ty}
 use Rattle.numeric.specs.declared.op.Op.{Op}
 use Rattle.numeric.specs.declared.op.Op.TheVariants as op
 use Rattle.numeric.specs.declared.op.Comparison.{Comparison}
-use Rattle.token.specs.declared.span.Span.{Span}
-use Rattle.token.specs.declared.token.Symbol.{Symbol}
-use Rattle.token.specs.declared.token.Symbol.TheVariants as symbol
-use Rattle.token.specs.declared.token.Word.{Word}
-use Rattle.token.specs.declared.token.Word.TheVariants as word
-use Rattle.token.specs.declared.token.Literal.{Literal}
-use Rattle.token.specs.declared.token.Token.{Token}
-use Rattle.token.specs.declared.token.Token.TheVariants as token
-use Rattle.token.specs.declared.token.Lexeme.{Lexeme}
-use Rattle.token.specs.Lexical.{AreLexemes}
+use Rattle.tree.specs.declared.token.span.Span.{Span}
+use Rattle.tree.specs.declared.token.token.Symbol.{Symbol}
+use Rattle.tree.specs.declared.token.token.Symbol.TheVariants as symbol
+use Rattle.tree.specs.declared.token.token.Word.{Word}
+use Rattle.tree.specs.declared.token.token.Word.TheVariants as word
+use Rattle.tree.specs.declared.token.token.Literal.{Literal}
+use Rattle.tree.specs.declared.token.token.Token.{Token}
+use Rattle.tree.specs.declared.token.token.Token.TheVariants as token
+use Rattle.tree.specs.declared.token.token.Lexeme.{Lexeme}
+use Rattle.tree.specs.Token.Lexical.{AreLexemes}
 use Rattle.tree.specs.declared.expr.Expr.{Expr, Literal as Literal', Variable, Call', Negate', Binary', Clamp', Cast', Select', Row_of-Expr, end_of-Expr, more_of-Expr}
 use Rattle.tree.specs.declared.expr.Cond.{Cond, Compare, Not', All', Any'}
 use Rattle.tree.specs.Term.{Number}

@@ -1,11 +1,11 @@
 -- What a text stands for, and why a text is refused.
 use Rattle.std.specs.Prelude.{◌≡◌, ◌≤◌, ◌<◌, ℕ, ◌-◌, ◌⊎◌, List, [], ◌∷◌, length, drop, Err}
-use Rattle.token.specs.declared.span.Span.{Span}
-use Rattle.token.specs.declared.token.Lexeme.{Lexeme}
-use Rattle.token.specs.declared.error.TokenError.{TokenError}
-use Rattle.token.specs.declared.error.TokenError.TheVariants as token_error
-use Rattle.token.specs.Cursor.{kinds, place}
-use Rattle.token.specs.Lexical.{AreLexemes, IsBadAt, max_text}
+use Rattle.tree.specs.declared.token.span.Span.{Span}
+use Rattle.tree.specs.declared.token.token.Lexeme.{Lexeme}
+use Rattle.tree.specs.declared.token.error.TokenError.{TokenError}
+use Rattle.tree.specs.declared.token.error.TokenError.TheVariants as token_error
+use Rattle.tree.specs.Token.Cursor.{kinds, place}
+use Rattle.tree.specs.Token.Lexical.{AreLexemes, IsBadAt, max_text}
 use Rattle.tree.specs.Term.{Term}
 use Rattle.expr.specs.declared.error.ExprError.{ExprError}
 use Rattle.expr.specs.declared.error.ExprError.TheVariants as error

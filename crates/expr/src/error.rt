@@ -5,7 +5,7 @@ ghost use Rattle.expr.specs.declared.error.Stop.TheVariants.{Memory};
 ghost use Rattle.expr.specs.Text.{token_refusal};
 
 use std::alloc::{AllocError, AllocFailed};
-use token::{Span, TokenError};
+use tree::token::{Span, TokenError};
 
 /// What is wrong with the tokens. A number says how many of them are left where the fault stands.
 #[derive(Clone, Copy, Debug, PartialEq, Eq, Drop)]

@@ -1,7 +1,7 @@
 //! Laws of the definitions that the contracts are written with.
 
 ghost use Rattle.std.specs.Prelude.{◌≡◌, List, Ok};
-ghost use Rattle.token.specs.declared.token.Token.{Token as AnyToken};
+ghost use Rattle.tree.specs.declared.token.token.Token.{Token as AnyToken};
 ghost use Rattle.tree.specs.Term.{Term as AnyTerm};
 ghost use Rattle.expr.specs.Parsing.{expression, made};
 ghost use Rattle.expr.specs.Grammar.{Sums, sums_then, sums_term, Ends, Fits, StandsFor};

@@ -6,15 +6,15 @@ ghost use Rattle.tree.specs.Term.{term_of, test_of, list_terms, indices};
 ghost use Rattle.tree.specs.Tree.{node_count, cond_count, node_counts, depth as levels_of, test_depth, depths};
 ghost use Rattle.expr.specs.Parsing as spec;
 ghost use Rattle.expr.specs.Parsing.{Gives};
-ghost use Rattle.token.specs.declared.token.Lexeme.{Lexeme};
-ghost use Rattle.token.specs.declared.token.Token.TheVariants as token;
-ghost use Rattle.token.specs.declared.token.Word.TheVariants as word;
+ghost use Rattle.tree.specs.declared.token.token.Lexeme.{Lexeme};
+ghost use Rattle.tree.specs.declared.token.token.Token.TheVariants as token;
+ghost use Rattle.tree.specs.declared.token.token.Word.TheVariants as word;
 ghost use Rattle.expr.specs.Places.{Covers, One, NumberOf, ExtremeOf, Part, Stands, TestStands, AllStand, signed, operated, compared, called, of_one, of_two, of_three, joint_word};
 
 use crate::error::{Refusal, Stop};
 use numeric::{Comparison, Op, Ty};
 use std::alloc::{AllocError, Global};
-use token::{Literal, Name, Span};
+use tree::token::{Literal, Name, Span};
 use tree::{Cond, Expr};
 
 /// How many nodes an expression has at most.

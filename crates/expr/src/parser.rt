@@ -3,15 +3,15 @@
 ghost use Rattle.std.specs.Prelude.{List, IfSome, take, ◌≡◌, ◌≤◌, ◌<◌, ℕ, suc, ◌+◌, ◌*◌, ◌++◌, ◌∷◌, [], length, Ok, Err, Some, None, MatchOption, IfOk};
 ghost use Rattle.std.specs.List.{prefix_len};
 ghost use Rattle.tree.specs.Term.{term_of, test_of, list_terms};
-ghost use Rattle.token.specs.Cursor.{kinds};
+ghost use Rattle.tree.specs.Token.Cursor.{kinds};
 ghost use Rattle.expr.specs.Parsing as spec;
 ghost use Rattle.expr.specs.Parsing.{Gives};
 ghost use Rattle.expr.specs.Brackets.{is_opening, all_closed};
-ghost use Rattle.token.specs.declared.token.Lexeme.{Lexeme as AnyLexeme};
-ghost use Rattle.token.specs.declared.token.Token.TheVariants as token;
-ghost use Rattle.token.specs.declared.token.Symbol.TheVariants as symbol;
-ghost use Rattle.token.specs.declared.token.Word.TheVariants as word;
-ghost use Rattle.token.specs.Cursor.{place as first_place};
+ghost use Rattle.tree.specs.declared.token.token.Lexeme.{Lexeme as AnyLexeme};
+ghost use Rattle.tree.specs.declared.token.token.Token.TheVariants as token;
+ghost use Rattle.tree.specs.declared.token.token.Symbol.TheVariants as symbol;
+ghost use Rattle.tree.specs.declared.token.token.Word.TheVariants as word;
+ghost use Rattle.tree.specs.Token.Cursor.{place as first_place};
 ghost use Rattle.expr.specs.Grammar.{sign};
 ghost use Rattle.expr.specs.Places.{One, OperatorOf, ComparisonOf, ExtremeOf, Part, Stands, TestStands, AllStand, AreOpening, Front, FrontAt, joint_word};
 
@@ -19,8 +19,8 @@ use crate::error::{Refusal, Stop};
 use crate::measured::{self, Indices, Joint, Measured, MeasuredCond};
 use numeric::{Comparison, Op, Ty};
 use std::alloc::Global;
-use token::{Lexeme, Name, Span, Symbol, Token, Word, after, place};
 use tree::Expr;
+use tree::token::{Lexeme, Name, Span, Symbol, Token, Word, after, place};
 
 /// How many levels an expression has at most.
 pub const MAX_LEVELS: u8 = 64;

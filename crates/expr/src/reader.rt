@@ -8,8 +8,8 @@ ghost use Rattle.expr.specs.Places.{StandsIn};
 use crate::error::{ExprError, Refusal, Stop};
 use crate::parser::whole;
 use std::alloc::Global;
-use token::{Lexeme, Span, place, tokens};
 use tree::Expr;
+use tree::token::{Lexeme, Span, place, tokens};
 
 // Where so many tokens are left.
 fn place_left(lexemes: &[Lexeme], left: usize, end: usize) -> Span

@@ -6,8 +6,8 @@ use Rattle.std.proofs.lemmas.List.Elements.{All-weaker}
 use Rattle.numeric.specs.declared.ty.Ty.{Ty}
 use Rattle.numeric.specs.declared.ty.Ty.TheVariants.{U8, U16, U32, I8, I16, I32}
 use Rattle.numeric.specs.Wrap.{IsOf}
-use Rattle.image.specs.View.{IsSampleType, max_sample}
-use Rattle.headline.specs.Shown.{InputsAreSamples}
+use Rattle.meaning.specs.Image.View.{IsSampleType, max_sample}
+use Rattle.headline.specs.Headline.{InputsAreSamples}
 
 sample_of : (t : Ty) → IsSampleType t → (s : ℕ) → s ≤ max_sample t → IsOf t (pos s)
 sample_of U8 h s l = record { from = omega (arith, ints, l); to = omega (arith, ints, l) }

@@ -1,6 +1,9 @@
-pub mod Row
-pub mod Ranges
-pub mod Demands
-pub mod Misfit
-pub mod Shown
+pub mod Fetched
+pub mod Numbers
+pub mod Work
+pub mod Sound
+pub mod Theorem
+pub mod Parts
+pub mod Head
+pub mod Headline
 pub mod Worked

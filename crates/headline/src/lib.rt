@@ -1,4 +1,5 @@
-//! What a yes of the checker means, and why it implies that every order of steps is right.
+//! Plans as work for a crew: what a yes of the checker promises, and why the pieces of a right plan give the algorithm's
+//! values.
 #![tactic(auto)]
 
 pub mod laws;

@@ -5,12 +5,12 @@ use Rattle.std.proofs.lemmas.List.{take_more, append-nil}
 use Rattle.std.proofs.Math.Seq.{take-append_seam}
 use Rattle.std.proofs.lemmas.Bool.Decides.{nat_tests}
 use Rattle.lin.specs.Forms.{Form}
-use Rattle.nest.specs.declared.stmt.Pick.{Pick}
-use Rattle.nest.specs.declared.stmt.Pick.TheVariants.{Min, Max}
-use Rattle.nest.specs.Plan.{Let}
-use Rattle.nest.specs.Symbols.{Symbols, bind}
-use Rattle.cert.specs.Cells.{grid_value, grid_symbols}
-use Rattle.actions.specs.Actions.{after}
+use Rattle.plan.specs.declared.stmt.Pick.{Pick}
+use Rattle.plan.specs.declared.stmt.Pick.TheVariants.{Min, Max}
+use Rattle.plan.specs.Plan.{Let}
+use Rattle.plan.specs.Symbols.{Symbols, bind}
+use Rattle.plan.specs.Certificate.Cells.{grid_value, grid_symbols}
+use Rattle.plan.specs.Semantics.Actions.{after}
 use Rattle.interpreter.specs.declared.symbols.Binding.{Binding}
 use Rattle.interpreter.specs.Bindings.{Bindings, bind_all, symbols_of, also, Extends, named_value}
 

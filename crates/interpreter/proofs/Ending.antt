@@ -1,9 +1,9 @@
 -- How a part's end ends the whole.
 use Rattle.std.proofs.Common.{◌≡◌, Option, Some, None, Err, refl, sym, ap, ◌∙◌, subst}
-use Rattle.actions.specs.Found.{with}
-use Rattle.evaluation.specs.declared.stop.Stop.{Stop}
-use Rattle.evaluation.specs.declared.stop.Stop.TheVariants.{Fault, Memory}
-use Rattle.evaluation.specs.Outcome.{Ends}
+use Rattle.plan.specs.Semantics.Found.{with}
+use Rattle.interpreter.specs.declared.evaluation.stop.Stop.{Stop}
+use Rattle.interpreter.specs.declared.evaluation.stop.Stop.TheVariants.{Fault, Memory}
+use Rattle.interpreter.specs.Evaluation.Outcome.{Ends}
 
 -- the whole stops where its first part does
 pub stops : {A C X B : Type 0} (f : A → X) (g : C → B) (e : Stop) (o : Option X) (go : X → Option B) (t : Option B) → t ≡ with o go → Ends f (Err e) o → Ends g (Err e) t

@@ -4,14 +4,14 @@ use Rattle.std.specs.Prelude.{All}
 use Rattle.std.specs.List.{AllByRecursion}
 use Rattle.std.proofs.Math.Seq.{take-append_seam}
 use Rattle.std.proofs.lemmas.List.Elements.{All-from_recursion, All-take, recursion_from_All}
-use Rattle.nest.specs.declared.stmt.Places.{Places}
-use Rattle.nest.specs.declared.stmt.Places.TheVariants.{From, Folded}
-use Rattle.nest.specs.Plan.{Statement, Seq, For, Let, First, Guard, Alloc, Fetch, Store, Publish, Statements, Empty, Then}
-use Rattle.nest.specs.Rooms.{room}
-use Rattle.nest.specs.Symbols.{Symbols}
-use Rattle.buffers.specs.Blocks.{HasMemoryFor}
-use Rattle.buffers.specs.Raster.{place_count}
-use Rattle.buffers.specs.declared.limit.Limit.{Limit}
+use Rattle.plan.specs.declared.stmt.Places.{Places}
+use Rattle.plan.specs.declared.stmt.Places.TheVariants.{From, Folded}
+use Rattle.plan.specs.Plan.{Statement, Seq, For, Let, First, Guard, Alloc, Fetch, Store, Publish, Statements, Empty, Then}
+use Rattle.plan.specs.Rooms.{room}
+use Rattle.plan.specs.Symbols.{Symbols}
+use Rattle.interpreter.specs.Buffers.Blocks.{HasMemoryFor}
+use Rattle.interpreter.specs.Buffers.Raster.{place_count}
+use Rattle.interpreter.specs.declared.buffers.limit.Limit.{Limit}
 use Rattle.interpreter.specs.Needs.{allotments, block_allotments, block_symbol_count, name_count, places_in, symbol_count, BlockFits, BlockIsShort, StatementFits, StatementIsShort}
 
 All-front : (P : Limit → Type 0) (xs ys : List Limit) → All P (xs ++ ys) → All P xs

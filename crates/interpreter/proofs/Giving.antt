@@ -2,20 +2,20 @@
 use Rattle.std.proofs.Common.{◌≡◌, ℕ, List, [], ◌∷◌, map, Option, Some, None, refl, sym, ap, subst, ◌∙◌, ◌<◌, length, Ok, Err, ℤ, slice_get}
 use Rattle.std.specs.Prelude.{Result, MatchOption, ⊤, flat_map, if◌then◌else◌}
 use Rattle.lin.specs.declared.span.Span1.{Span1}
-use Rattle.nest.specs.Plan.{Group, Plan}
-use Rattle.nest.specs.Symbols.{Symbols}
-use Rattle.cert.specs.Certificate.{Certificate}
-use Rattle.cert.specs.Cells.{is_in_region, no_symbols, points_within, grid_symbols}
+use Rattle.plan.specs.Plan.{Group, Plan}
+use Rattle.plan.specs.Symbols.{Symbols}
+use Rattle.plan.specs.Certificate.Certificate.{Certificate}
+use Rattle.plan.specs.Certificate.Cells.{is_in_region, no_symbols, points_within, grid_symbols}
 use Rattle.tree.specs.declared.value.Value.{Value}
-use Rattle.actions.specs.Actions.{Action, Give, actions}
-use Rattle.actions.specs.Found.{with}
-use Rattle.actions.specs.Memory.{Memory, nothing}
-use Rattle.actions.specs.Run.{Around, outcome}
-use Rattle.actions.specs.Setting.{setting_of, around_of}
-use Rattle.pieces.specs.Work.{numbers}
+use Rattle.plan.specs.Semantics.Actions.{Action, Give, actions}
+use Rattle.plan.specs.Semantics.Found.{with}
+use Rattle.plan.specs.Semantics.Memory.{Memory, nothing}
+use Rattle.plan.specs.Semantics.Run.{Around, outcome}
+use Rattle.plan.specs.Semantics.Setting.{setting_of, around_of}
+use Rattle.headline.specs.Work.{numbers}
 use Rattle.interpreter.specs.Outcome.{group_gives, piece_gives}
-use Rattle.evaluation.specs.declared.stop.Stop.{Stop}
-use Rattle.evaluation.specs.declared.stop.Stop.TheVariants.{Fault, Memory as OutOfMemory}
+use Rattle.interpreter.specs.declared.evaluation.stop.Stop.{Stop}
+use Rattle.interpreter.specs.declared.evaluation.stop.Stop.TheVariants.{Fault, Memory as OutOfMemory}
 use Rattle.interpreter.specs.Scratches.{GivesIn}
 use Rattle.interpreter.specs.States.{EndsIn, Overflows}
 use Rattle.interpreter.specs.Steps.{Progress, steps}

@@ -1,3 +1,8 @@
+pub mod Indices
+pub mod Wrapping
+pub mod EvaluationShorts
+pub mod Places
+pub mod Blocks
 pub mod Bindings
 pub mod Counting
 pub mod Ending

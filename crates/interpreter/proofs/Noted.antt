@@ -1,11 +1,11 @@
 -- Sizes of buffers, noted in the order in which they are allocated.
 use Rattle.std.proofs.Common.{◌≡◌, ℕ, suc, ◌+◌, ◌<◌, List, [], ◌∷◌, ◌++◌, length, drop, get_or, drop-cons, Bool, true, false, Option, Some, None, refl, sym, ap, ◌∙◌, add-one}
 use Rattle.std.specs.Prelude.{◌==◌, if◌then◌else◌}
-use Rattle.nest.specs.declared.stmt.Stmt.{Stmt}
-use Rattle.nest.specs.Plan.{block}
-use Rattle.nest.specs.Lists.{list_statements}
-use Rattle.nest.specs.View.{statement_of}
-use Rattle.actions.specs.Setting.{Buffer, allocated, block_allocated, or_else}
+use Rattle.plan.specs.declared.stmt.Stmt.{Stmt}
+use Rattle.plan.specs.Plan.{block}
+use Rattle.plan.specs.Lists.{list_statements}
+use Rattle.plan.specs.View.{statement_of}
+use Rattle.plan.specs.Semantics.Setting.{Buffer, allocated, block_allocated, or_else}
 use Rattle.interpreter.specs.declared.sizes.Size.{Size}
 use Rattle.interpreter.specs.Sizes.{first_size, size_of}
 

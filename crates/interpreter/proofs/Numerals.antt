@@ -3,10 +3,10 @@ use Rattle.std.proofs.Common.{◌≡◌, ℕ, ◌+◌, ◌-◌, ◌*◌, ◌^◌
 use Rattle.std.specs.Prelude.{nat_lt, ◌==◌, ◌&&◌, not, if◌then◌else◌}
 use Rattle.std.proofs.lemmas.List.{take_more}
 use Rattle.std.proofs.lemmas.Bool.Decides.{nat_tests}
-use Rattle.nest.specs.Claimed.{digits_after, is_digit, is_numeral}
+use Rattle.plan.specs.Claimed.{digits_after, is_digit, is_numeral}
 use Rattle.std.specs.List.{list_all}
 use Rattle.interpreter.proofs.Summing.{rest_of}
-use Rattle.actions.specs.Run.{ByClaim, Unknown, claim_source}
+use Rattle.plan.specs.Semantics.Run.{ByClaim, Unknown, claim_source}
 
 digits_after-push : (n : ℕ) (ds : List ℕ) (d : ℕ) → digits_after n (ds ++ d ∷ []) ≡ 10 * digits_after n ds + (d - 48)
 digits_after-push n [] d = refl

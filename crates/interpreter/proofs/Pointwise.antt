@@ -3,8 +3,8 @@ use Rattle.std.proofs.Common.{◌≡◌, List, [], ◌∷◌, ◌++◌, map, Boo
 use Rattle.std.specs.Prelude.{flat_map, filter, if◌then◌else◌}
 use Rattle.std.proofs.lemmas.List.{append-nil}
 use Rattle.lin.specs.declared.span.Span1.{Span1}
-use Rattle.nest.specs.Symbols.{Symbols, turns, points}
-use Rattle.actions.specs.Actions.{Action, Take, Give}
+use Rattle.plan.specs.Symbols.{Symbols, turns, points}
+use Rattle.plan.specs.Semantics.Actions.{Action, Take, Give}
 use Rattle.interpreter.specs.Visits.{extended}
 
 flat_map-append : {X A : Type 0} (f : X → List A) (xs ys : List X) → flat_map f (xs ++ ys) ≡ flat_map f xs ++ flat_map f ys

@@ -1,16 +1,16 @@
 -- Runs of blocks and loops, one part after another.
 use Rattle.std.proofs.Common.{◌≡◌, ℕ, suc, ◌+◌, ◌<◌, ◌≤◌, List, ◌∷◌, drop, length, get_or, drop-cons, add-one, Option, Some, sym, ap, ◌∙◌, subst, ℤ, pos, ◌+ℤ◌, ◌≤ℤ◌, ◌<ℤ◌}
 use Rattle.std.specs.Prelude.{flat_map}
-use Rattle.nest.specs.declared.stmt.Stmt.{Stmt}
-use Rattle.nest.specs.Plan.{Statements, Then, block}
-use Rattle.buffers.specs.declared.limit.Limit.{Limit}
+use Rattle.plan.specs.declared.stmt.Stmt.{Stmt}
+use Rattle.plan.specs.Plan.{Statements, Then, block}
+use Rattle.interpreter.specs.declared.buffers.limit.Limit.{Limit}
 use Rattle.interpreter.specs.Needs.{name_count, BlockFits, StatementFits}
-use Rattle.nest.specs.Lists.{list_statements}
-use Rattle.nest.specs.View.{statement_of}
-use Rattle.nest.specs.Symbols.{Symbols}
-use Rattle.actions.specs.Actions.{Setting, Action, actions, block_actions, after}
-use Rattle.actions.specs.Found.{with}
-use Rattle.actions.specs.Run.{Around}
+use Rattle.plan.specs.Lists.{list_statements}
+use Rattle.plan.specs.View.{statement_of}
+use Rattle.plan.specs.Symbols.{Symbols}
+use Rattle.plan.specs.Semantics.Actions.{Setting, Action, actions, block_actions, after}
+use Rattle.plan.specs.Semantics.Found.{with}
+use Rattle.plan.specs.Semantics.Run.{Around}
 use Rattle.interpreter.specs.Narrow.{StatementIsNarrow, BlockIsNarrow}
 use Rattle.interpreter.specs.Steps.{Progress, steps}
 use Rattle.interpreter.specs.Visits.{between}

@@ -3,11 +3,11 @@ use Rattle.std.proofs.Common.{◌≡◌, ℕ, ◌-◌, ◌<◌, ◌≤◌, List,
 use Rattle.std.specs.List.{AllByRecursion}
 use Rattle.std.proofs.lemmas.List.Elements.{All-from_recursion, recursion_from_All}
 use Rattle.std.proofs.lemmas.Grind.{common_steps}
-use Rattle.image.specs.Raster.{is_within}
+use Rattle.meaning.specs.Image.Raster.{is_within}
 use Rattle.lin.specs.declared.span.Span1.{Span1}
 use Rattle.meaning.specs.Names.{bound}
-use Rattle.nest.specs.Symbols.{Symbols}
-use Rattle.cert.specs.Cells.{is_in_region}
+use Rattle.plan.specs.Symbols.{Symbols}
+use Rattle.plan.specs.Certificate.Cells.{is_in_region}
 
 pub within_short : (es : List ℕ) (at : List ℤ) → 1 ≤ length es → length at < 1 → false ≡ is_within es at
 within_short [] at h g = absurd (omega arith)

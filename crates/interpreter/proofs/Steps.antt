@@ -2,13 +2,13 @@
 use Rattle.std.proofs.Common.{◌≡◌, ℕ, ◌<◌, List, [], ◌∷◌, ◌++◌, length, length-append, map, Option, Some, None, Err, ℤ, refl, sym, ap, subst, ◌∙◌, append_assoc, arith}
 use Rattle.std.proofs.lemmas.List.{append-nil}
 use Rattle.tree.specs.declared.value.Value.{Value}
-use Rattle.actions.specs.Actions.{Action, Allot, Take, Put, Change, Give}
-use Rattle.actions.specs.Found.{with}
-use Rattle.actions.specs.Memory.{Memory, read, allot}
-use Rattle.actions.specs.Run.{Around, act, outcome}
-use Rattle.pieces.specs.Work.{numbers}
-use Rattle.evaluation.specs.declared.stop.Stop.{Stop}
-use Rattle.evaluation.specs.declared.stop.Stop.TheVariants.{Fault, Memory as OutOfMemory}
+use Rattle.plan.specs.Semantics.Actions.{Action, Allot, Take, Put, Change, Give}
+use Rattle.plan.specs.Semantics.Found.{with}
+use Rattle.plan.specs.Semantics.Memory.{Memory, read, allot}
+use Rattle.plan.specs.Semantics.Run.{Around, act, outcome}
+use Rattle.headline.specs.Work.{numbers}
+use Rattle.interpreter.specs.declared.evaluation.stop.Stop.{Stop}
+use Rattle.interpreter.specs.declared.evaluation.stop.Stop.TheVariants.{Fault, Memory as OutOfMemory}
 use Rattle.interpreter.specs.States.{EndsIn, Overflows}
 use Rattle.interpreter.specs.Steps.{Progress, step, steps}
 

@@ -4,18 +4,18 @@ use Rattle.std.proofs.lemmas.List.{append-nil}
 use Rattle.tree.specs.declared.value.Value.{Value}
 use Rattle.tree.specs.Term.{Term}
 use Rattle.meaning.specs.Names.{bound}
-use Rattle.nest.specs.declared.stmt.Coordinate.{Coordinate as CodeCoordinate}
-use Rattle.nest.specs.Plan.{Coordinate}
-use Rattle.nest.specs.View.{coordinate_of}
-use Rattle.nest.specs.Symbols.{Symbols}
-use Rattle.actions.specs.Actions.{Target, Fixed, Open, target, fixed, are_fixed, is_pure_store, action_for, store_action, stored}
-use Rattle.actions.specs.Found.{with, found}
-use Rattle.actions.specs.Memory.{Memory, write}
-use Rattle.actions.specs.Run.{Around, look, found_target, act}
+use Rattle.plan.specs.declared.stmt.Coordinate.{Coordinate as CodeCoordinate}
+use Rattle.plan.specs.Plan.{Coordinate}
+use Rattle.plan.specs.View.{coordinate_of}
+use Rattle.plan.specs.Symbols.{Symbols}
+use Rattle.plan.specs.Semantics.Actions.{Target, Fixed, Open, target, fixed, are_fixed, is_pure_store, action_for, store_action, stored}
+use Rattle.plan.specs.Semantics.Found.{with, found}
+use Rattle.plan.specs.Semantics.Memory.{Memory, write}
+use Rattle.plan.specs.Semantics.Run.{Around, look, found_target, act}
 use Rattle.std.proofs.lemmas.List.{take-map, map-append, take-append-drop}
 use Rattle.std.specs.List.{drop-map}
 use Rattle.std.specs.Prelude.{string_bytes}
-use Rattle.actions.specs.Run.{Source, Input, ByClaim, Unknown, look_at}
+use Rattle.plan.specs.Semantics.Run.{Source, Input, ByClaim, Unknown, look_at}
 use Rattle.interpreter.specs.Pieces.{around, no_cells, setting}
 use Rattle.interpreter.specs.declared.piece.Piece.{Piece}
 use Rattle.interpreter.specs.Steps.{Progress, steps}

@@ -1,10 +1,10 @@
 -- Values of symbols, kept as those of a grid point and what was bound since.
 use Rattle.std.specs.Prelude.{◌≡◌, ℕ, List, [], ◌∷◌, ◌++◌, ℤ}
 use Rattle.lin.specs.Forms.{Form}
-use Rattle.nest.specs.declared.stmt.Pick.{Pick}
-use Rattle.nest.specs.declared.stmt.Pick.TheVariants.{Min, Max}
-use Rattle.nest.specs.Symbols.{Symbols, bind, largest, smallest}
-use Rattle.cert.specs.Cells.{grid_symbols}
+use Rattle.plan.specs.declared.stmt.Pick.{Pick}
+use Rattle.plan.specs.declared.stmt.Pick.TheVariants.{Min, Max}
+use Rattle.plan.specs.Symbols.{Symbols, bind, largest, smallest}
+use Rattle.plan.specs.Certificate.Cells.{grid_symbols}
 use Rattle.interpreter.specs.declared.symbols.Binding.{Binding}
 
 -- a grid point, what was bound since, the newest last, and how many can be bound

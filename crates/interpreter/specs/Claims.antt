@@ -1,7 +1,7 @@
 -- Numbers of claims as far as memory can have so many.
 use Rattle.std.specs.Prelude.{◌≡◌, ℕ, ◌<◌, ◌^◌, List, Option}
-use Rattle.nest.specs.Claimed.{claim_of}
-use Rattle.actions.specs.Run.{claim_source}
+use Rattle.plan.specs.Claimed.{claim_of}
+use Rattle.plan.specs.Semantics.Run.{claim_source}
 
 -- the name means the claim of this number, where there are fewer than 2^64
 abbrev pub Means : List ℕ → Option ℕ → Type 0

@@ -1,3 +1,5 @@
+pub mod Evaluation
+pub mod Buffers
 pub mod Bindings
 pub mod Claims
 pub mod Narrow

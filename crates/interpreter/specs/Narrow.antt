@@ -2,13 +2,13 @@
 use Rattle.std.specs.Prelude.{◌≡◌, ℕ, ◌^◌, true, false, List, All, Contains, ℤ, pos, neg_ℤ, ◌≤ℤ◌, ◌<ℤ◌, int_le, MatchOption}
 use Rattle.lin.specs.Forms.{Form, is_within_limits}
 use Rattle.lin.specs.declared.span.Span1.{Span1}
-use Rattle.nest.specs.declared.stmt.Places.{Places}
-use Rattle.nest.specs.declared.stmt.Places.TheVariants.{From, Folded}
-use Rattle.nest.specs.Plan.{Index, At, Found, Statement, Seq, For, Let, First, Guard, Alloc, Fetch, Store, Publish, Statements, Empty, Then, Group}
-use Rattle.nest.specs.Symbols.{Symbols, bind, form_value, largest, turns}
-use Rattle.cert.specs.Certificate.{Certificate}
-use Rattle.cert.specs.Cells.{grid_symbols, no_symbols, own_region}
-use Rattle.actions.specs.Actions.{after}
+use Rattle.plan.specs.declared.stmt.Places.{Places}
+use Rattle.plan.specs.declared.stmt.Places.TheVariants.{From, Folded}
+use Rattle.plan.specs.Plan.{Index, At, Found, Statement, Seq, For, Let, First, Guard, Alloc, Fetch, Store, Publish, Statements, Empty, Then, Group}
+use Rattle.plan.specs.Symbols.{Symbols, bind, form_value, largest, turns}
+use Rattle.plan.specs.Certificate.Certificate.{Certificate}
+use Rattle.plan.specs.Certificate.Cells.{grid_symbols, no_symbols, own_region}
+use Rattle.plan.specs.Semantics.Actions.{after}
 
 -- a 64-bit number
 pub record IsNumber (z : ℤ) : Type 0 where

@@ -1,13 +1,13 @@
 -- What a run needs: memory for its buffers, room for the symbols that it binds, and points of at most four coordinates.
 use Rattle.std.specs.Prelude.{◌≡◌, ℕ, ◌+◌, ◌*◌, ◌≤◌, ◌<◌, List, [], ◌∷◌, ◌++◌, length, All, Option, ⊤, MatchOption}
-use Rattle.nest.specs.declared.stmt.Places.{Places}
-use Rattle.nest.specs.declared.stmt.Places.TheVariants.{From, Folded}
-use Rattle.nest.specs.Plan.{Index, At, Found, Statement, Seq, For, Let, First, Guard, Alloc, Fetch, Store, Publish, Statements, Empty, Then, Group}
-use Rattle.cert.specs.Certificate.{Certificate}
-use Rattle.cert.specs.Cells.{own_region}
-use Rattle.evaluation.specs.Short.{IsShort}
-use Rattle.buffers.specs.Blocks.{HasMemoryFor}
-use Rattle.buffers.specs.declared.limit.Limit.{Limit}
+use Rattle.plan.specs.declared.stmt.Places.{Places}
+use Rattle.plan.specs.declared.stmt.Places.TheVariants.{From, Folded}
+use Rattle.plan.specs.Plan.{Index, At, Found, Statement, Seq, For, Let, First, Guard, Alloc, Fetch, Store, Publish, Statements, Empty, Then, Group}
+use Rattle.plan.specs.Certificate.Certificate.{Certificate}
+use Rattle.plan.specs.Certificate.Cells.{own_region}
+use Rattle.interpreter.specs.Evaluation.Short.{IsShort}
+use Rattle.interpreter.specs.Buffers.Blocks.{HasMemoryFor}
+use Rattle.interpreter.specs.declared.buffers.limit.Limit.{Limit}
 
 -- ---- symbols
 

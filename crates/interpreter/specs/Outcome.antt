@@ -1,11 +1,11 @@
 -- What the piece of a group at a grid point gives, told by the group's number.
 use Rattle.std.specs.Prelude.{◌≡◌, ℕ, List, Option, Some, None, ℤ, slice_get}
 use Rattle.tree.specs.declared.value.Value.{Value}
-use Rattle.image.specs.View.{Picture, AreExtents}
-use Rattle.nest.specs.Plan.{Group, Plan}
-use Rattle.cert.specs.Certificate.{Certificate}
-use Rattle.actions.specs.Setting.{piece_run}
-use Rattle.pieces.specs.Work.{numbers}
+use Rattle.meaning.specs.Image.View.{Picture, AreExtents}
+use Rattle.plan.specs.Plan.{Group, Plan}
+use Rattle.plan.specs.Certificate.Certificate.{Certificate}
+use Rattle.plan.specs.Semantics.Setting.{piece_run}
+use Rattle.headline.specs.Work.{numbers}
 
 -- the numbers that the piece gives for its own cells, none where there is no such group
 abbrev pub group_gives : Plan → Certificate → List ℕ → (List ℕ → List ℤ → Value) → ℕ → List ℕ → Option Group → Option (List ℤ)

@@ -2,16 +2,16 @@
 use Rattle.std.specs.Prelude.{ℕ, List, ℤ, pos, Option, [], ◌≡◌}
 use Rattle.numeric.specs.declared.ty.Ty.TheVariants.{U8}
 use Rattle.tree.specs.declared.value.Value.{Value}
-use Rattle.image.specs.View.{image_of}
-use Rattle.nest.specs.View.{plan_of, group_of, statement_of}
-use Rattle.nest.specs.Symbols.{Symbols}
-use Rattle.nest.specs.Plan.{Statement, Let}
-use Rattle.cert.specs.Cells.{no_symbols}
-use Rattle.cert.specs.Certificate.{certificate_of}
-use Rattle.actions.specs.Actions.{Setting}
-use Rattle.actions.specs.Run.{Around, look}
-use Rattle.actions.specs.Setting.{allocated, dimensions_in, setting_of, around_of}
-use Rattle.buffers.specs.Blocks.{Block, memory_of}
+use Rattle.meaning.specs.Image.View.{image_of}
+use Rattle.plan.specs.View.{plan_of, group_of, statement_of}
+use Rattle.plan.specs.Symbols.{Symbols}
+use Rattle.plan.specs.Plan.{Statement, Let}
+use Rattle.plan.specs.Certificate.Cells.{no_symbols}
+use Rattle.plan.specs.Certificate.Certificate.{certificate_of}
+use Rattle.plan.specs.Semantics.Actions.{Setting}
+use Rattle.plan.specs.Semantics.Run.{Around, look}
+use Rattle.plan.specs.Semantics.Setting.{allocated, dimensions_in, setting_of, around_of}
+use Rattle.interpreter.specs.Buffers.Blocks.{Block, memory_of}
 use Rattle.interpreter.specs.Narrow.{OwnIsNarrow, FormsAreNarrow}
 use Rattle.interpreter.specs.Bindings.{symbols_of}
 use Rattle.interpreter.specs.Needs.{OwnIsShort}

@@ -2,7 +2,7 @@
 use Rattle.std.specs.Prelude.{ℕ, List, [], ◌∷◌}
 use Rattle.std.specs.Coded.{×_prop, le_prop, Coded-set, coded_ℕ}
 use mathlib.Core.HLevel.{×₃_prop}
-use Rattle.image.specs.View.{AreExtents}
+use Rattle.meaning.specs.Image.View.{AreExtents}
 
 -- no two proofs that an image can have the extents differ
 pub AreExtents-prop : (es : List ℕ) → IsProp (AreExtents es)

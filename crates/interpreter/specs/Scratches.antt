@@ -1,13 +1,13 @@
 -- When memory is enough for the pieces of a group.
 use Rattle.std.specs.Prelude.{◌≡◌, ℕ, ◌+◌, ◌≤◌, ◌<◌, List, [], ◌++◌, length, All, Option, None, Some, MatchOption, Result, Ok, Err, ℤ, ⊤}
-use Rattle.nest.specs.Plan.{Group}
-use Rattle.cert.specs.Certificate.{Certificate}
-use Rattle.cert.specs.Cells.{no_symbols}
-use Rattle.actions.specs.Setting.{allocated, dimensions_in}
-use Rattle.evaluation.specs.declared.stop.Stop.{Stop}
-use Rattle.evaluation.specs.declared.stop.Stop.TheVariants.{Fault, Memory}
-use Rattle.buffers.specs.Blocks.{limits_of}
-use Rattle.buffers.specs.declared.limit.Limit.{Limit}
+use Rattle.plan.specs.Plan.{Group}
+use Rattle.plan.specs.Certificate.Certificate.{Certificate}
+use Rattle.plan.specs.Certificate.Cells.{no_symbols}
+use Rattle.plan.specs.Semantics.Setting.{allocated, dimensions_in}
+use Rattle.interpreter.specs.declared.evaluation.stop.Stop.{Stop}
+use Rattle.interpreter.specs.declared.evaluation.stop.Stop.TheVariants.{Fault, Memory}
+use Rattle.interpreter.specs.Buffers.Blocks.{limits_of}
+use Rattle.interpreter.specs.declared.buffers.limit.Limit.{Limit}
 use Rattle.interpreter.specs.Bindings.{Bindings, symbols_of}
 use Rattle.interpreter.specs.Needs.{OwnIsShort, StatementFits}
 use Rattle.interpreter.specs.Sizes.{size_in}

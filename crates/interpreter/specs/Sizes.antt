@@ -1,6 +1,6 @@
 -- How many coordinates buffers have.
 use Rattle.std.specs.Prelude.{ℕ, ◌==◌, if◌then◌else◌, List, [], ◌∷◌, length, Option, Some, None}
-use Rattle.actions.specs.Setting.{Buffer}
+use Rattle.plan.specs.Semantics.Setting.{Buffer}
 use Rattle.interpreter.specs.declared.sizes.Size.{Size}
 
 -- the coordinates of a buffer that is allocated

@@ -1,11 +1,11 @@
 -- What a run in memory has come to.
 use Rattle.std.specs.Prelude.{◌≡◌, ℕ, ◌<◌, List, length, ℤ, Result, Ok, Err, Option, Some, None, ⊤}
 use Rattle.tree.specs.declared.value.Value.{Value}
-use Rattle.actions.specs.Found.{with}
-use Rattle.actions.specs.Memory.{write}
-use Rattle.evaluation.specs.declared.stop.Stop.TheVariants.{Fault, Memory}
-use Rattle.evaluation.specs.declared.stop.Stop.{Stop}
-use Rattle.buffers.specs.Blocks.{limits_of, memory_of}
+use Rattle.plan.specs.Semantics.Found.{with}
+use Rattle.plan.specs.Semantics.Memory.{write}
+use Rattle.interpreter.specs.declared.evaluation.stop.Stop.TheVariants.{Fault, Memory}
+use Rattle.interpreter.specs.declared.evaluation.stop.Stop.{Stop}
+use Rattle.interpreter.specs.Buffers.Blocks.{limits_of, memory_of}
 use Rattle.interpreter.specs.Steps.{Progress}
 use Rattle.interpreter.specs.declared.state.State.{State}
 

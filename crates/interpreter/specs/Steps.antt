@@ -1,9 +1,9 @@
 -- A run's actions in order, over what memory holds and the numbers given so far.
 use Rattle.std.specs.Prelude.{List, [], ◌∷◌, ◌++◌, Option, Some, ℤ}
-use Rattle.actions.specs.Actions.{Action, Give}
-use Rattle.actions.specs.Found.{with}
-use Rattle.actions.specs.Memory.{Memory, read}
-use Rattle.actions.specs.Run.{Around, act}
+use Rattle.plan.specs.Semantics.Actions.{Action, Give}
+use Rattle.plan.specs.Semantics.Found.{with}
+use Rattle.plan.specs.Semantics.Memory.{Memory, read}
+use Rattle.plan.specs.Semantics.Run.{Around, act}
 use Rattle.tree.specs.declared.value.Value.{Value}
 
 -- what a run has come to

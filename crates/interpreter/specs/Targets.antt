@@ -1,11 +1,11 @@
 -- Numbers of the coordinates of a store.
 use Rattle.std.specs.Prelude.{ℕ, List, ℤ, Option, Some}
 use Rattle.tree.specs.declared.value.Value.{Value}
-use Rattle.nest.specs.declared.stmt.Coordinate.{Coordinate}
-use Rattle.nest.specs.View.{coordinate_of}
-use Rattle.nest.specs.Symbols.{Symbols}
-use Rattle.actions.specs.Actions.{Target, Fixed, Open, target, fixed}
-use Rattle.actions.specs.Found.{with, found}
+use Rattle.plan.specs.declared.stmt.Coordinate.{Coordinate}
+use Rattle.plan.specs.View.{coordinate_of}
+use Rattle.plan.specs.Symbols.{Symbols}
+use Rattle.plan.specs.Semantics.Actions.{Target, Fixed, Open, target, fixed}
+use Rattle.plan.specs.Semantics.Found.{with, found}
 use Rattle.interpreter.specs.Narrow.{IndexIsNarrow}
 use Rattle.interpreter.specs.Needs.{IndexIsShort}
 

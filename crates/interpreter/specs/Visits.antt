@@ -1,9 +1,9 @@
 -- What is done at each point of a region.
 use Rattle.std.specs.Prelude.{List, [], ◌∷◌, ℤ, pos, ◌+ℤ◌, ◌-ℤ◌, flat_map, map, if◌then◌else◌}
 use Rattle.lin.specs.declared.span.Span1.{Span1}
-use Rattle.nest.specs.Symbols.{Symbols, rising, clipped, turns}
-use Rattle.cert.specs.Cells.{is_in_region}
-use Rattle.actions.specs.Actions.{Action, Take, Give}
+use Rattle.plan.specs.Symbols.{Symbols, rising, clipped, turns}
+use Rattle.plan.specs.Certificate.Cells.{is_in_region}
+use Rattle.plan.specs.Semantics.Actions.{Action, Take, Give}
 use Rattle.interpreter.specs.Bindings.{symbols_of}
 use Rattle.interpreter.specs.Narrow.{RegionIsNarrow}
 use Rattle.interpreter.specs.declared.piece.Piece.{Piece}

@@ -3,7 +3,7 @@
 ghost use Rattle.std.specs.Prelude.{◌≡◌, pos, fold, map};
 ghost use Rattle.std.specs.Int.{int_max, int_min, int_wrap, w64};
 ghost use Rattle.lin.specs.Forms.{sum_of};
-ghost use Rattle.nest.specs.Symbols.{form_value, largest, smallest};
+ghost use Rattle.plan.specs.Symbols.{form_value, largest, smallest};
 ghost use Rattle.interpreter.specs.Bindings.{symbols_of};
 ghost use Rattle.interpreter.specs.Narrow.{FormIsNarrow, FormsAreNarrow};
 

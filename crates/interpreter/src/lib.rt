@@ -1,7 +1,9 @@
 //! The private run of a piece: its statements done one after another, on buffers of its own.
 #![tactic(auto)]
 
+pub mod buffers;
 mod cells;
+pub mod evaluation;
 mod forms;
 mod loads;
 mod needs;

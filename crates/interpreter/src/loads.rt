@@ -2,7 +2,7 @@
 
 ghost use Rattle.std.specs.Prelude.{◌≡◌, ◌-◌, ◌^◌, ◌==◌, ◌&&◌, not, min};
 ghost use Rattle.std.specs.List.{list_all};
-ghost use Rattle.nest.specs.Claimed.{is_digit, is_numeral, digits_after};
+ghost use Rattle.plan.specs.Claimed.{is_digit, is_numeral, digits_after};
 ghost use Rattle.interpreter.specs.Claims.{Means};
 
 /// Whether the byte is a decimal digit.

@@ -1,16 +1,16 @@
 //! What the statements of a group need.
 
 ghost use Rattle.std.specs.Prelude.{◌≡◌, ◌∷◌, ◌≤◌, [], length, All, IfSome, IsTrue, OnOk};
-ghost use Rattle.nest.specs.Lists.{list_statements};
-ghost use Rattle.nest.specs.Plan.{block};
-ghost use Rattle.nest.specs.View.{statement_of};
+ghost use Rattle.plan.specs.Lists.{list_statements};
+ghost use Rattle.plan.specs.Plan.{block};
+ghost use Rattle.plan.specs.View.{statement_of};
 ghost use Rattle.interpreter.specs.Needs.{allotments, block_allotments, block_symbol_count, count_in, places_in, symbol_count, BlockIsShort, StatementIsShort};
 ghost use Rattle.interpreter.specs.Scratches.{IsNoted};
 ghost use Rattle.interpreter.specs.Targets.{CoordinateIsShort};
 
-use buffers::Limit;
-use evaluation::is_short;
-use nest::{Coordinate, Index, Places, Stmt};
+use crate::buffers::Limit;
+use crate::evaluation::is_short;
+use plan::{Coordinate, Index, Places, Stmt};
 use std::alloc::AllocError;
 
 /// What some statements need: the buffers that they allocate, with their places, and how many lines bind a symbol.

@@ -1,14 +1,14 @@
 //! What a piece goes by.
 
 ghost use Rattle.std.specs.Prelude.{◌≡◌};
-ghost use Rattle.image.specs.View.{AreExtents};
+ghost use Rattle.meaning.specs.Image.View.{AreExtents};
 ghost use Rattle.interpreter.specs.Raster.{AreExtents-prop};
 
 use crate::sizes::Size;
 use crate::symbols::Symbols;
-use cert::Cert;
-use image::Image;
-use nest::{Group, Plan};
+use meaning::image::Image;
+use plan::certificate::Cert;
+use plan::{Group, Plan};
 
 /// What a piece goes by: its plan and certificate, the input, its group with that group's number, and how many
 /// coordinates the group's buffers have.

@@ -1,15 +1,15 @@
 //! What a store's expressions are evaluated over.
 
 ghost use Rattle.std.specs.Prelude.{◌≡◌, map, string_bytes};
-ghost use Rattle.image.specs.Raster.{is_within};
+ghost use Rattle.meaning.specs.Image.Raster.{is_within};
 ghost use Rattle.meaning.specs.Names.{bound, same_name};
 ghost use Rattle.interpreter.specs.Pieces.{found_in};
 
+use crate::buffers::Buffers;
+use crate::evaluation::Reader;
 use crate::loads::claim_of;
 use crate::piece::Piece;
-use buffers::Buffers;
-use evaluation::Reader;
-use nest::Coordinate;
+use plan::Coordinate;
 use tree::Value;
 
 /// A store's coordinates and their numbers, over what a piece finds around it and its buffers hold.
@@ -61,13 +61,13 @@ fn is_within(extents: &[u64], at: &[i64]) -> bool
 
 impl Reading<'_, '_> {
     ghost use Rattle.std.specs.Prelude.{length};
-    ghost use Rattle.image.specs.View.{image_of};
-    ghost use Rattle.nest.specs.View.{plan_of};
-    ghost use Rattle.cert.specs.Certificate.{certificate_of};
-    ghost use Rattle.actions.specs.Memory.{read};
-    ghost use Rattle.actions.specs.Run.{claim_source, look_at};
-    ghost use Rattle.nest.specs.Claimed.{claim_of as claim_meant};
-    ghost use Rattle.buffers.specs.Blocks.{memory_of};
+    ghost use Rattle.meaning.specs.Image.View.{image_of};
+    ghost use Rattle.plan.specs.View.{plan_of};
+    ghost use Rattle.plan.specs.Certificate.Certificate.{certificate_of};
+    ghost use Rattle.plan.specs.Semantics.Memory.{read};
+    ghost use Rattle.plan.specs.Semantics.Run.{claim_source, look_at};
+    ghost use Rattle.plan.specs.Claimed.{claim_of as claim_meant};
+    ghost use Rattle.interpreter.specs.Buffers.Blocks.{memory_of};
     ghost use Rattle.interpreter.specs.Pieces.{around, no_cells};
 
     /// The input's sample at a point; nothing where the point is off the extents.

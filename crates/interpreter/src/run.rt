@@ -1,17 +1,17 @@
 //! The private run of a piece.
 
 ghost use Rattle.std.specs.Prelude.{◌≡◌, ◌+◌, ◌≤◌, ◌<◌, [], ℕ, ℤ, None, Some, length, map, Contains, flat_map, int_le, MatchOption, MatchResult, OnOk, slice_get};
-ghost use Rattle.image.specs.View.{image_of};
-ghost use Rattle.nest.specs.Lists.{list_statements};
-ghost use Rattle.nest.specs.Plan.{Fetch, Publish, block};
-ghost use Rattle.nest.specs.Symbols.{bind, largest, smallest};
-ghost use Rattle.nest.specs.View.{group_of, plan_of, statement_of};
-ghost use Rattle.cert.specs.Certificate.{certificate_of};
-ghost use Rattle.actions.specs.Actions.{actions, after, block_actions};
-ghost use Rattle.actions.specs.Setting.{group_name};
-ghost use Rattle.cert.specs.Cells.{own_region};
-ghost use Rattle.buffers.specs.Blocks.{limits_of};
-ghost use Rattle.evaluation.specs.Outcome.{Ends};
+ghost use Rattle.meaning.specs.Image.View.{image_of};
+ghost use Rattle.plan.specs.Lists.{list_statements};
+ghost use Rattle.plan.specs.Plan.{Fetch, Publish, block};
+ghost use Rattle.plan.specs.Symbols.{bind, largest, smallest};
+ghost use Rattle.plan.specs.View.{group_of, plan_of, statement_of};
+ghost use Rattle.plan.specs.Certificate.Certificate.{certificate_of};
+ghost use Rattle.plan.specs.Semantics.Actions.{actions, after, block_actions};
+ghost use Rattle.plan.specs.Semantics.Setting.{group_name};
+ghost use Rattle.plan.specs.Certificate.Cells.{own_region};
+ghost use Rattle.interpreter.specs.Buffers.Blocks.{limits_of};
+ghost use Rattle.interpreter.specs.Evaluation.Outcome.{Ends};
 ghost use Rattle.interpreter.specs.Bindings.{symbols_of, named_value, Extends};
 ghost use Rattle.interpreter.specs.Narrow.{BlockIsNarrow, FormsAreNarrow, PieceIsNarrow, RegionIsNarrow, SpanIsNarrow, StatementIsNarrow};
 ghost use Rattle.interpreter.specs.Outcome.{IsInput, piece_gives};
@@ -23,6 +23,7 @@ ghost use Rattle.interpreter.specs.Steps.{steps};
 ghost use Rattle.interpreter.specs.Visits.{between};
 
 use crate::cells::Cells;
+use crate::evaluation::Stop;
 use crate::forms::{largest, smallest, value_of};
 use crate::piece::Piece;
 use crate::scratch::Scratch;
@@ -31,11 +32,10 @@ use crate::state::State;
 use crate::store::{allot, store};
 use crate::symbols::{Binding, Symbols};
 use crate::visits::{Visit, Walk, visit_region};
-use cert::{Cert, Own};
-use evaluation::Stop;
-use image::Image;
 use lin::{Forms, Region, Span1, Sym};
-use nest::{Group, Pick, Plan, Stmt};
+use meaning::image::Image;
+use plan::certificate::{Cert, Own};
+use plan::{Group, Pick, Plan, Stmt};
 use std::alloc::Global;
 
 /// The name of a group's function, empty where there is no such group.

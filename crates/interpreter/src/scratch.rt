@@ -1,19 +1,19 @@
 //! The memory of private runs.
 
 ghost use Rattle.std.specs.Prelude.{◌≡◌, ◌≤◌, length, IfOk, IsTrue, MatchOption};
-ghost use Rattle.nest.specs.View.{group_of};
-ghost use Rattle.cert.specs.Certificate.{certificate_of};
-ghost use Rattle.cert.specs.Cells.{own_region};
+ghost use Rattle.plan.specs.View.{group_of};
+ghost use Rattle.plan.specs.Certificate.Certificate.{certificate_of};
+ghost use Rattle.plan.specs.Certificate.Cells.{own_region};
 ghost use Rattle.interpreter.specs.Scratches.{room_of, IsScratchFor};
 
+use crate::buffers::Buffers;
 use crate::needs::{Needs, note_needs};
 use crate::run::own_region;
 use crate::sizes::{Size, sizes_of};
 use crate::state::State;
 use crate::symbols::Symbols;
-use buffers::Buffers;
-use cert::{Cert, Own};
-use nest::Group;
+use plan::Group;
+use plan::certificate::{Cert, Own};
 use smallvec::SmallVec;
 use std::alloc::{AllocError, Global};
 

@@ -1,13 +1,13 @@
 //! How many coordinates the buffers of a group have.
 
 ghost use Rattle.std.specs.Prelude.{◌≡◌, ℕ, IfOk, OnOk};
-ghost use Rattle.nest.specs.Lists.{list_statements};
-ghost use Rattle.nest.specs.Plan.{block};
-ghost use Rattle.nest.specs.View.{statement_of};
-ghost use Rattle.actions.specs.Setting.{allocated, block_allocated, dimensions_in, or_else};
+ghost use Rattle.plan.specs.Lists.{list_statements};
+ghost use Rattle.plan.specs.Plan.{block};
+ghost use Rattle.plan.specs.View.{statement_of};
+ghost use Rattle.plan.specs.Semantics.Setting.{allocated, block_allocated, dimensions_in, or_else};
 ghost use Rattle.interpreter.specs.Sizes.{first_size, size_in, size_of};
 
-use nest::Stmt;
+use plan::Stmt;
 use std::alloc::{AllocError, Global};
 
 /// A buffer and how many coordinates it has.

@@ -1,6 +1,6 @@
 //! What a run has come to.
 
-use buffers::Buffers;
+use crate::buffers::Buffers;
 use smallvec::SmallVec;
 
 /// What a run has come to: what its buffers hold, and the numbers given so far.

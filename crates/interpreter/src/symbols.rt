@@ -1,7 +1,7 @@
 //! Values of symbols.
 
 ghost use Rattle.std.specs.Prelude.{◌≡◌, ◌≤◌, ◌<◌, [], take, length, slice_get, IfOk};
-ghost use Rattle.cert.specs.Cells.{grid_value};
+ghost use Rattle.plan.specs.Certificate.Cells.{grid_value};
 ghost use Rattle.interpreter.specs.Bindings.{symbols_of, also};
 
 use lin::Sym;

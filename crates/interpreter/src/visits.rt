@@ -2,11 +2,11 @@
 
 ghost use Rattle.std.specs.Prelude.{◌≡◌, ◌∷◌, ◌+◌, ◌≤◌, ◌<◌, [], flat_map, length, ℕ, ℤ, List, OnOk, map, slice_get, int_le};
 ghost use Rattle.tree.specs.declared.value.Value.{Value as ValueFound};
-ghost use Rattle.nest.specs.Symbols.{form_value};
-ghost use Rattle.cert.specs.Cells.{is_in_span, is_in_region};
-ghost use Rattle.cert.specs.Certificate.{claim_of};
-ghost use Rattle.actions.specs.Actions.{Give, Take};
-ghost use Rattle.actions.specs.Setting.{buffer_in};
+ghost use Rattle.plan.specs.Symbols.{form_value};
+ghost use Rattle.plan.specs.Certificate.Cells.{is_in_span, is_in_region};
+ghost use Rattle.plan.specs.Certificate.Certificate.{claim_of};
+ghost use Rattle.plan.specs.Semantics.Actions.{Give, Take};
+ghost use Rattle.plan.specs.Semantics.Setting.{buffer_in};
 ghost use Rattle.std.specs.List.{list_all};
 ghost use Rattle.interpreter.specs.Bindings.{symbols_of};
 ghost use Rattle.interpreter.specs.Narrow.{FormsAreNarrow, SpanIsNarrow, RegionIsNarrow};
@@ -16,13 +16,13 @@ ghost use Rattle.interpreter.specs.Steps.{steps};
 ghost use Rattle.interpreter.specs.Visits.{at_point, between, extended, VisitIsNarrow};
 
 use crate::cells::Cells;
+use crate::evaluation::Stop;
 use crate::forms::{largest, smallest, value_of};
 use crate::piece::Piece;
 use crate::state::State;
 use crate::symbols::Symbols;
-use cert::Claim;
-use evaluation::Stop;
 use lin::{Lin, Span1};
+use plan::certificate::Claim;
 use smallvec::SmallVec;
 use std::alloc::Global;
 use tree::Value;

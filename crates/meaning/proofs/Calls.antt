@@ -6,7 +6,7 @@ use Rattle.std.proofs.lemmas.Bool.{false≢true}
 use Rattle.numeric.specs.declared.ty.Ty.{Ty}
 use Rattle.tree.specs.Meaning.{typed}
 use Rattle.tree.specs.declared.value.Value.{Value}
-use Rattle.image.specs.Raster.{sample}
+use Rattle.meaning.specs.Image.Raster.{sample}
 use Rattle.meaning.specs.Algorithm.{Function, Algorithm}
 use Rattle.meaning.specs.Names.{same_name}
 use Rattle.meaning.specs.Conditions.{AreDistinct, callable}

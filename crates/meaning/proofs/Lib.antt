@@ -1,3 +1,4 @@
+pub mod Places
 pub mod Alone
 pub mod Back
 pub mod Calls
@@ -8,3 +9,8 @@ pub mod Props
 pub mod Steps
 pub mod Typed
 pub mod Types
+pub mod Keeps
+pub mod Marks
+pub mod Own
+pub mod Stays
+pub mod InliningTyped

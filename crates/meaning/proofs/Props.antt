@@ -3,7 +3,7 @@ use Rattle.std.specs.Prelude.{◌≡◌, ℕ, List, [], ◌∷◌, All, Bool, tr
 use Rattle.std.proofs.Props.{props}
 use Rattle.numeric.specs.declared.ty.Ty.{Ty}
 use Rattle.numeric.specs.declared.ty.Ty.TheVariants.{U8, U16, U32, I8, I16, I32}
-use Rattle.image.specs.View.{IsSampleType, AreExtents}
+use Rattle.meaning.specs.Image.View.{IsSampleType, AreExtents}
 use Rattle.tree.specs.Names.{TakesCall}
 use Rattle.tree.specs.Term.{Term, Number, Name, Call, Minus, Binary, Clamp, Cast, Choice, Terms, End, More, Test, Compares, Fails, Both, Either}
 use Rattle.tree.specs.Uses.{EachCall, EachCallOfTest, EachCallOfAll, variables_of}

@@ -10,7 +10,7 @@ use Rattle.numeric.specs.declared.ty.Ty.TheVariants.{I32}
 use Rattle.numeric.specs.Wrap.{IsOf}
 use Rattle.tree.specs.declared.value.Value.{Value}
 use Rattle.tree.specs.Meaning.{typed}
-use Rattle.image.specs.Raster.{sample, is_within, place}
+use Rattle.meaning.specs.Image.Raster.{sample, is_within, place}
 use Rattle.meaning.specs.Algorithm.{Range, Change, Function, Algorithm}
 use Rattle.meaning.specs.Names.{same_name, same_point, is_among, bound}
 use Rattle.meaning.specs.Reduction.{size, point}

@@ -2,7 +2,7 @@
 use Rattle.std.specs.Prelude.{◌≡◌, ℕ, zero, suc, ◌++◌, ◌^◌, ◌≤◌, List, [], ◌∷◌, length, map, take, All, Bool, true, false, Option, Some, None, IsSome, MatchOption, IsTrue, pos, negsuc, ◌≤ℤ◌, slice_get}
 use Rattle.numeric.specs.declared.ty.Ty.{Ty}
 use Rattle.numeric.specs.declared.ty.Ty.TheVariants.{I32}
-use Rattle.image.specs.View.{IsSampleType, AreExtents}
+use Rattle.meaning.specs.Image.View.{IsSampleType, AreExtents}
 use Rattle.tree.specs.Term.{Term, Name, Terms, End, More}
 use Rattle.tree.specs.Names.{TakesCall}
 use Rattle.tree.specs.Tree.{node_count, depth}

@@ -4,7 +4,7 @@ use Rattle.numeric.specs.declared.ty.Ty.TheVariants.{I32}
 use Rattle.numeric.specs.Wrap.{IsOf}
 use Rattle.tree.specs.Meaning.{typed}
 use Rattle.tree.specs.Uses.{EachCall}
-use Rattle.image.specs.Raster.{sample}
+use Rattle.meaning.specs.Image.Raster.{sample}
 use Rattle.meaning.specs.Algorithm.{Change, Function, Algorithm}
 use Rattle.meaning.specs.Conditions.{IsAlgorithm}
 use Rattle.meaning.specs.Value.{Calls, value_at_step, calls_before, calls_of, value_of_function, value_of_function_at_step, output_value}

@@ -1,3 +1,4 @@
+pub mod Image
 pub mod Algorithm
 pub mod Cases
 pub mod Conditions
@@ -11,3 +12,4 @@ pub mod Reduction
 pub mod Steps
 pub mod Value
 pub mod Worked
+pub mod Inlining

@@ -1,7 +1,7 @@
 -- The picture of an algorithm.
 use Rattle.std.specs.Prelude.{ℕ, List, map}
 use Rattle.std.specs.List.{range_with_len}
-use Rattle.image.specs.Raster.{natural, raster_point, sample_count}
+use Rattle.meaning.specs.Image.Raster.{natural, raster_point, sample_count}
 use Rattle.meaning.specs.Algorithm.{Algorithm}
 use Rattle.meaning.specs.Value.{output_value}
 

@@ -4,7 +4,7 @@ use Rattle.numeric.specs.declared.ty.Ty.{Ty}
 use Rattle.tree.specs.declared.value.Value.{Value}
 use Rattle.tree.specs.Term.{Term}
 use Rattle.tree.specs.Meaning.{value_of, typed}
-use Rattle.image.specs.Raster.{sample}
+use Rattle.meaning.specs.Image.Raster.{sample}
 use Rattle.meaning.specs.Algorithm.{Change, Function, Algorithm}
 use Rattle.meaning.specs.Reduction.{size, point, rank}
 use Rattle.meaning.specs.Names.{same_name, same_point, bound}

@@ -1,2 +1,13 @@
+pub mod Levels
+pub mod Counted
+pub mod Written
+pub mod BlocksAgain
+pub mod Completed
+pub mod Lists
+pub mod Turns
+pub mod Again
+pub mod Feeds
+pub mod Steps
+pub mod Exits
 pub mod Counts
-pub mod Rows
+pub mod Whole

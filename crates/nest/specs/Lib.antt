@@ -1,7 +1,7 @@
-pub mod Claimed
-pub mod Lines
-pub mod Lists
-pub mod Plan
-pub mod Rooms
-pub mod Symbols
-pub mod View
+pub mod Blocks
+pub mod Spelling
+pub mod Fitting
+pub mod Reading
+pub mod Notation
+pub mod Reader
+pub mod Writing

@@ -1,11 +1,13 @@
-//! Plans: how an algorithm is to be computed, piece by piece.
+//! Plans as text: each plan has one text, and only that text is read as the plan.
 #![tactic(auto)]
 
-pub mod copying;
-pub mod lines;
-pub mod plan;
-pub mod stmt;
+pub mod blocks;
+mod fitting;
+pub mod laws;
+mod reading;
+mod text;
+mod writing;
 
-pub use copying::copy;
-pub use plan::{Declaration, Group, Plan};
-pub use stmt::{Coordinate, Index, Kind, Pick, Places, Stmt};
+pub use plan::Plan;
+pub use text::read;
+pub use writing::write;

@@ -4,23 +4,23 @@ use Rattle.std.specs.Prelude.{filter, flat_map, if◌then◌else◌}
 use Rattle.std.specs.List.{list_any, drop-map}
 use Rattle.std.proofs.lemmas.List.{take-map, take-append-drop}
 use Rattle.tree.specs.Term.{Term}
-use Rattle.nest.specs.declared.stmt.Coordinate.{Coordinate as CoordinateHeld}
-use Rattle.nest.specs.Plan.{Coordinate}
-use Rattle.nest.specs.View.{coordinate_of}
+use Rattle.plan.specs.declared.stmt.Coordinate.{Coordinate as CoordinateHeld}
+use Rattle.plan.specs.Plan.{Coordinate}
+use Rattle.plan.specs.View.{coordinate_of}
 use Rattle.lin.specs.declared.span.Span1.{Span1}
-use Rattle.refusals.specs.declared.code.K.{K}
-use Rattle.refusals.specs.declared.code.K.TheVariants.{K5}
-use Rattle.refusals.specs.declared.code.Flaw.{Flaw}
-use Rattle.actions.specs.Setting.{or_else}
-use Rattle.claims.specs.Origins.{Outline}
-use Rattle.claims.specs.Obligations.{seated, places_of, coordinate_loads, loads, may_load, met, target_span, variable_span, store_obligations, OutOfBuffer, Known, Rules, NotClaimed, Named, Inside, Obligation, obligation, region_of, serves, follows, is_begun, claimed}
-use Rattle.claims.specs.Shown.{Nests}
-use Rattle.around.specs.declared.judge.Part.{Part}
-use Rattle.around.specs.declared.known.Nest.{Nest}
-use Rattle.around.specs.declared.known.Known.{Known as KnownHeld}
+use Rattle.outline.specs.declared.refusals.code.K.{K}
+use Rattle.outline.specs.declared.refusals.code.K.TheVariants.{K5}
+use Rattle.outline.specs.declared.refusals.code.Flaw.{Flaw}
+use Rattle.plan.specs.Semantics.Setting.{or_else}
+use Rattle.soundness.specs.Origins.{Outline}
+use Rattle.soundness.specs.Obligations.{seated, places_of, coordinate_loads, loads, may_load, met, target_span, variable_span, store_obligations, OutOfBuffer, Known, Rules, NotClaimed, Named, Inside, Obligation, obligation, region_of, serves, follows, is_begun, claimed}
+use Rattle.soundness.specs.Shown.{Nests}
+use Rattle.obligations.specs.declared.context.judge.Part.{Part}
+use Rattle.obligations.specs.declared.context.known.Nest.{Nest}
+use Rattle.obligations.specs.declared.context.known.Known.{Known as KnownHeld}
 use Rattle.obligations.specs.declared.loads.Reads.{Reads}
 use Rattle.obligations.specs.Asked.{is_asked, first_unmet, unless}
-use Rattle.around.specs.Around.{nest_of}
+use Rattle.obligations.specs.Context.Around.{nest_of}
 use Rattle.obligations.specs.Around.{asked_by_claims}
 use Rattle.obligations.specs.Loads.{asked_by_nests, asked_by_store, coordinates_of, known_in, names_in, names_of, variable_spans}
 use Rattle.obligations.proofs.Unmet.{one, alone}

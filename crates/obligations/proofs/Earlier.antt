@@ -2,13 +2,13 @@
 use Rattle.std.proofs.Common.{◌≡◌, ℕ, zero, suc, ◌+◌, ◌-◌, ◌^◌, ◌<◌, min, Bool, true, false, List, [], ◌∷◌, Option, Some, None, refl, sym, ap, ◌∙◌, arith, inl, inr, subst}
 use Rattle.std.specs.Prelude.{◌&&◌, ◌||◌, ◌==◌, nat_lt, if◌then◌else◌, ◌⊎◌}
 use Rattle.std.proofs.lemmas.Bool.Decides.{nat_tests}
-use Rattle.refusals.specs.Codes.{number_of, is_before}
-use Rattle.refusals.specs.declared.code.Flaw.{Flaw}
-use Rattle.claims.specs.Obligations.{Rules, Obligation}
-use Rattle.claims.specs.Shown.{Nests, is_shown, all_shown, first_fault}
-use Rattle.actions.specs.Setting.{or_else}
-use Rattle.around.specs.declared.judge.Part.{Part}
-use Rattle.around.specs.declared.judge.Part.TheVariants.{Before}
+use Rattle.outline.specs.Refusals.Codes.{number_of, is_before}
+use Rattle.outline.specs.declared.refusals.code.Flaw.{Flaw}
+use Rattle.soundness.specs.Obligations.{Rules, Obligation}
+use Rattle.soundness.specs.Shown.{Nests, is_shown, all_shown, first_fault}
+use Rattle.plan.specs.Semantics.Setting.{or_else}
+use Rattle.obligations.specs.declared.context.judge.Part.{Part}
+use Rattle.obligations.specs.declared.context.judge.Part.TheVariants.{Before}
 use Rattle.obligations.specs.Asked.{code_of, flaw_of, is_asked, of_part, told, first_unmet, unless}
 use Rattle.obligations.specs.Laws.{PartIsShown, LaterIsSilent, ToldIsAsked}
 use Rattle.obligations.proofs.Unmet.{one, nothing}

@@ -1,3 +1,6 @@
+pub mod Blocks
+pub mod Tests
+pub mod Bound
 pub mod Steps
 pub mod Unmet
 pub mod Grid

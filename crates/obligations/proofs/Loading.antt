@@ -7,10 +7,10 @@ use Rattle.lin.specs.declared.span.Span1.{Span1}
 use Rattle.tree.specs.declared.expr.Expr.{Expr}
 use Rattle.tree.specs.Term.{term_of, indices, list_terms}
 use Rattle.meaning.specs.Names.{same_name}
-use Rattle.claims.specs.Claims.{is_update}
-use Rattle.claims.specs.Origins.{Outline}
-use Rattle.claims.specs.Obligations.{Binder, Known, Rules, serves, is_usable, may_load, met, index_met, intervals}
-use Rattle.nest.specs.Plan.{Coordinate}
+use Rattle.soundness.specs.Claims.{is_update}
+use Rattle.soundness.specs.Origins.{Outline}
+use Rattle.soundness.specs.Obligations.{Binder, Known, Rules, serves, is_usable, may_load, met, index_met, intervals}
+use Rattle.plan.specs.Plan.{Coordinate}
 
 module _ (outline : Outline) (rules : Rules) where
   pub may_own : (known : Known) (b : ℕ) (f : List ℕ) (n c : ℕ) → (is_update n && same_name (outline.claim c).function f) ≡ true →

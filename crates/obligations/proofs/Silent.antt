@@ -1,12 +1,12 @@
 -- Where nothing is told, all is shown.
 use Rattle.std.proofs.Common.{◌≡◌, ℕ, ◌-◌, ◌^◌, min, Bool, true, false, [], ◌∷◌, Option, Some, None, refl, sym, ap, ◌∙◌}
 use Rattle.std.specs.Prelude.{◌&&◌, not, if◌then◌else◌}
-use Rattle.refusals.specs.declared.code.K.{K}
-use Rattle.refusals.specs.declared.code.Flaw.{Flaw}
-use Rattle.actions.specs.Setting.{or_else}
-use Rattle.claims.specs.Shown.{is_shown, all_shown}
-use Rattle.around.specs.declared.judge.Part.{Part}
-use Rattle.around.specs.declared.judge.Part.TheVariants.{Lines, Claims}
+use Rattle.outline.specs.declared.refusals.code.K.{K}
+use Rattle.outline.specs.declared.refusals.code.Flaw.{Flaw}
+use Rattle.plan.specs.Semantics.Setting.{or_else}
+use Rattle.soundness.specs.Shown.{is_shown, all_shown}
+use Rattle.obligations.specs.declared.context.judge.Part.{Part}
+use Rattle.obligations.specs.declared.context.judge.Part.TheVariants.{Lines, Claims}
 use Rattle.obligations.specs.Asked.{code_of, is_asked, is_of_claims, first_unmet, unless}
 use Rattle.obligations.specs.Laws.{NothingToldIsShown, ShownIsNothingTold}
 use Rattle.obligations.proofs.Unmet.{one, nothing}

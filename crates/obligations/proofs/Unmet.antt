@@ -2,13 +2,13 @@
 use Rattle.std.proofs.Common.{◌≡◌, ℕ, ◌+◌, ◌-◌, ◌^◌, ◌<◌, ◌≤◌, min, Bool, true, false, List, [], ◌∷◌, ◌++◌, drop, length, get_or, Option, Some, None, refl, sym, ap, ◌∙◌, arith, map}
 use Rattle.std.specs.Prelude.{if◌then◌else◌}
 use Rattle.std.specs.Option.{unwrap_or}
-use Rattle.claims.specs.Origins.{or_same}
+use Rattle.soundness.specs.Origins.{or_same}
 use Rattle.std.proofs.lemmas.List.{drop_all}
-use Rattle.refusals.specs.declared.code.Flaw.{Flaw}
-use Rattle.actions.specs.Setting.{or_else}
-use Rattle.claims.specs.Obligations.{Rules, Obligation}
-use Rattle.claims.specs.Shown.{Nests, is_shown, first_fault}
-use Rattle.around.specs.declared.judge.Part.{Part}
+use Rattle.outline.specs.declared.refusals.code.Flaw.{Flaw}
+use Rattle.plan.specs.Semantics.Setting.{or_else}
+use Rattle.soundness.specs.Obligations.{Rules, Obligation}
+use Rattle.soundness.specs.Shown.{Nests, is_shown, first_fault}
+use Rattle.obligations.specs.declared.context.judge.Part.{Part}
 use Rattle.obligations.specs.Asked.{code_of, is_asked, of_part, flaw_of, told, first_unmet, unless}
 use Rattle.obligations.proofs.Steps.{drop_more}
 

@@ -2,17 +2,17 @@
 use Rattle.std.proofs.Common.{◌≡◌, ℕ, ◌+◌, ◌-◌, ◌<◌, List, ◌++◌, length, get_or, sym, ap, ◌∙◌}
 use Rattle.std.specs.Prelude.{flat_map}
 use Rattle.std.proofs.lemmas.List.{append_assoc}
-use Rattle.actions.specs.Setting.{or_else}
-use Rattle.nest.specs.declared.stmt.Stmt.{Stmt}
-use Rattle.nest.specs.Lines.{lines}
-use Rattle.nest.specs.Plan.{Statements}
-use Rattle.nest.specs.View.{statement_of}
-use Rattle.claims.specs.Origins.{Outline}
-use Rattle.claims.specs.Obligations.{Known, Rules, Obligation, within, onwards, obligations, block_obligations, claim_obligations}
-use Rattle.claims.specs.Shown.{Nests}
-use Rattle.around.specs.declared.judge.Part.{Part}
+use Rattle.plan.specs.Semantics.Setting.{or_else}
+use Rattle.plan.specs.declared.stmt.Stmt.{Stmt}
+use Rattle.plan.specs.Lines.{lines}
+use Rattle.plan.specs.Plan.{Statements}
+use Rattle.plan.specs.View.{statement_of}
+use Rattle.soundness.specs.Origins.{Outline}
+use Rattle.soundness.specs.Obligations.{Known, Rules, Obligation, within, onwards, obligations, block_obligations, claim_obligations}
+use Rattle.soundness.specs.Shown.{Nests}
+use Rattle.obligations.specs.declared.context.judge.Part.{Part}
 use Rattle.obligations.specs.Asked.{first_unmet}
-use Rattle.around.proofs.Blocks.{from, from_more}
+use Rattle.obligations.proofs.Blocks.{from, from_more}
 use Rattle.obligations.proofs.Unmet.{append}
 
 module _ (outline : Outline) (rules : Rules) (nests : Nests) (part : Part) where

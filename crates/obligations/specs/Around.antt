@@ -1,12 +1,12 @@
 -- The symbols of a grid, statements that are one line, and what a claim asks of the statement that makes it.
 use Rattle.std.specs.Prelude.{ℕ, ◌+◌, filter, List, [], ◌∷◌, ◌++◌, map}
 use Rattle.std.specs.List.{list_any}
-use Rattle.nest.specs.Plan.{Statement, Seq, For, First, Guard}
-use Rattle.claims.specs.Origins.{Outline, or_same}
-use Rattle.claims.specs.Obligations.{Binder, Ranged, Rules, region_of, NotMade, OutOfOrder, Inside, Named, InTurn, store_line, Obligation, obligation, follows}
-use Rattle.binders.specs.View.{grid_span}
-use Rattle.around.specs.declared.known.Known.{Known as KnownHeld}
-use Rattle.around.specs.Around.{known_of}
+use Rattle.plan.specs.Plan.{Statement, Seq, For, First, Guard}
+use Rattle.soundness.specs.Origins.{Outline, or_same}
+use Rattle.soundness.specs.Obligations.{Binder, Ranged, Rules, region_of, NotMade, OutOfOrder, Inside, Named, InTurn, store_line, Obligation, obligation, follows}
+use Rattle.soundness.specs.Binders.View.{grid_span}
+use Rattle.obligations.specs.declared.context.known.Known.{Known as KnownHeld}
+use Rattle.obligations.specs.Context.Around.{known_of}
 
 -- the symbols of a grid from number i on, of which each takes so many values from 0 on, the last first
 abbrev pub grid_from : ℕ → List ℕ → List Binder

@@ -1,13 +1,13 @@
 -- Which obligations are asked after, and how the first that is not shown is told.
 use Rattle.std.specs.Prelude.{ℕ, ◌-◌, ◌^◌, min, Bool, true, false, not, if◌then◌else◌, List, filter, Option, Some, None}
-use Rattle.refusals.specs.declared.code.K.{K}
-use Rattle.refusals.specs.declared.code.K.TheVariants.{K2, K4, K5, K6, K7}
-use Rattle.refusals.specs.declared.code.Flaw.{Flaw}
-use Rattle.refusals.specs.Codes.{is_before}
-use Rattle.claims.specs.Obligations.{Rules, Code, Undefined, OutOfBuffer, NotClaimed, NotMade, OutOfOrder, Obligation}
-use Rattle.claims.specs.Shown.{Nests, first_fault}
-use Rattle.around.specs.declared.judge.Part.{Part}
-use Rattle.around.specs.declared.judge.Part.TheVariants.{Lines, Claims, Before}
+use Rattle.outline.specs.declared.refusals.code.K.{K}
+use Rattle.outline.specs.declared.refusals.code.K.TheVariants.{K2, K4, K5, K6, K7}
+use Rattle.outline.specs.declared.refusals.code.Flaw.{Flaw}
+use Rattle.outline.specs.Refusals.Codes.{is_before}
+use Rattle.soundness.specs.Obligations.{Rules, Code, Undefined, OutOfBuffer, NotClaimed, NotMade, OutOfOrder, Obligation}
+use Rattle.soundness.specs.Shown.{Nests, first_fault}
+use Rattle.obligations.specs.declared.context.judge.Part.{Part}
+use Rattle.obligations.specs.declared.context.judge.Part.TheVariants.{Lines, Claims, Before}
 
 -- why a plan is refused, as it is told
 abbrev pub code_of : Code → K

@@ -1,11 +1,11 @@
 -- What follows where nothing is told.
 use Rattle.std.specs.Prelude.{◌≡◌, ◌↔◌, true, false, List, None, Some}
-use Rattle.refusals.specs.Codes.{is_before}
-use Rattle.refusals.specs.declared.code.Flaw.{Flaw}
-use Rattle.claims.specs.Obligations.{Rules, Obligation}
-use Rattle.claims.specs.Shown.{Nests, all_shown}
-use Rattle.around.specs.declared.judge.Part.{Part}
-use Rattle.around.specs.declared.judge.Part.TheVariants.{Lines, Claims, Before}
+use Rattle.outline.specs.Refusals.Codes.{is_before}
+use Rattle.outline.specs.declared.refusals.code.Flaw.{Flaw}
+use Rattle.soundness.specs.Obligations.{Rules, Obligation}
+use Rattle.soundness.specs.Shown.{Nests, all_shown}
+use Rattle.obligations.specs.declared.context.judge.Part.{Part}
+use Rattle.obligations.specs.declared.context.judge.Part.TheVariants.{Lines, Claims, Before}
 use Rattle.obligations.specs.Asked.{first_unmet, is_asked, of_part}
 
 -- where nothing is told of either part, all obligations are shown

@@ -1,3 +1,4 @@
+pub mod Context
 pub mod Asked
 pub mod Around
 pub mod Loads

@@ -2,17 +2,17 @@
 use Rattle.std.specs.Prelude.{ℕ, ◌&&◌, filter, flat_map, ◌∷◌, ◌++◌, Bool, List, map}
 use Rattle.lin.specs.declared.span.Span1.{Span1}
 use Rattle.tree.specs.Term.{Term, Terms, Test}
-use Rattle.nest.specs.declared.stmt.Coordinate.{Coordinate as CoordinateHeld}
-use Rattle.nest.specs.Plan.{Coordinate}
-use Rattle.nest.specs.View.{coordinate_of}
+use Rattle.plan.specs.declared.stmt.Coordinate.{Coordinate as CoordinateHeld}
+use Rattle.plan.specs.Plan.{Coordinate}
+use Rattle.plan.specs.View.{coordinate_of}
 use Rattle.meaning.specs.Names.{same_name}
-use Rattle.actions.specs.Run.{Source}
-use Rattle.claims.specs.Claims.{is_update}
-use Rattle.claims.specs.Origins.{Outline}
-use Rattle.claims.specs.Obligations.{Known, Rules, OutOfBuffer, NotClaimed, Inside, Named, seated, places_of, is_begun, claimed, coordinate_loads, target_span, Obligation, obligation, region_of, serves, index_met, variable_span, may_load, met, load_obligations, intervals, loads, loads_of_all, loads_of_test}
-use Rattle.around.specs.declared.known.Nest.{Nest}
+use Rattle.plan.specs.Semantics.Run.{Source}
+use Rattle.soundness.specs.Claims.{is_update}
+use Rattle.soundness.specs.Origins.{Outline}
+use Rattle.soundness.specs.Obligations.{Known, Rules, OutOfBuffer, NotClaimed, Inside, Named, seated, places_of, is_begun, claimed, coordinate_loads, target_span, Obligation, obligation, region_of, serves, index_met, variable_span, may_load, met, load_obligations, intervals, loads, loads_of_all, loads_of_test}
+use Rattle.obligations.specs.declared.context.known.Nest.{Nest}
 use Rattle.obligations.specs.declared.loads.Reads.{Reads}
-use Rattle.around.specs.Around.{known_of, nest_of}
+use Rattle.obligations.specs.Context.Around.{known_of, nest_of}
 
 abbrev pub coordinates_of : List CoordinateHeld → List Coordinate
 coordinates_of = map coordinate_of

@@ -3,8 +3,8 @@
 ghost use Rattle.std.specs.Prelude.{◌≡◌, ◌-◌, ◌^◌, min};
 ghost use Rattle.obligations.specs.Asked.{is_asked, unless};
 
-use around::Part;
-use refusals::{Flaw, K};
+use crate::context::Part;
+use outline::refusals::{Flaw, K};
 
 /// Whether obligations that are told as this flaw are asked after.
 fn is_asked(part: Part, flaw: Flaw) -> bool

@@ -2,23 +2,25 @@
 
 ghost use Rattle.std.specs.Prelude.{◌≡◌, ◌+◌, ◌<◌, ◌^◌, ◌∷◌, ◌++◌, [], IfOk, map, filter, flat_map};
 ghost use Rattle.std.specs.List.{list_any};
-ghost use Rattle.nest.specs.Lines.{lines, block_lines};
-ghost use Rattle.nest.specs.Lists.{list_statements};
-ghost use Rattle.nest.specs.Plan.{block};
-ghost use Rattle.nest.specs.View.{statement_of};
-ghost use Rattle.claims.specs.Obligations.{claim_obligations, earlier_obligations, follows, made, obligation, places_of, region_of, store_line, block_store_line, Inside, NotMade};
-ghost use Rattle.claims.specs.Shown.{shows};
-ghost use Rattle.binders.specs.View.{binders_of};
-ghost use Rattle.outlines.specs.View.{outline_in};
-ghost use Rattle.around.specs.Around.{buffers_of, known_of};
+ghost use Rattle.plan.specs.Lines.{lines, block_lines};
+ghost use Rattle.plan.specs.Lists.{list_statements};
+ghost use Rattle.plan.specs.Plan.{block};
+ghost use Rattle.plan.specs.View.{statement_of};
+ghost use Rattle.soundness.specs.Obligations.{claim_obligations, earlier_obligations, follows, made, obligation, places_of, region_of, store_line, block_store_line, Inside, NotMade};
+ghost use Rattle.soundness.specs.Shown.{shows};
+ghost use Rattle.soundness.specs.Binders.View.{binders_of};
+ghost use Rattle.outline.specs.View.{outline_in};
+ghost use Rattle.obligations.specs.Context.Around.{buffers_of, known_of};
 ghost use Rattle.obligations.specs.Around.{asked_by_claims, asked_of_updates};
 ghost use Rattle.obligations.specs.Asked.{first_unmet};
 
 use crate::asked::{told, unless};
-use around::{Facts, Judge, Known, are_within, follows, only_updates, only_writes, said_by};
-use binders::NestTests;
-use nest::Stmt;
-use refusals::{Flaw, K};
+use crate::context::{
+    Facts, Judge, Known, are_within, follows, only_updates, only_writes, said_by,
+};
+use outline::refusals::{Flaw, K};
+use plan::Stmt;
+use soundness::binders::NestTests;
 use std::alloc::AllocError;
 
 /// The line of a statement's first store in a buffer, where the statement begins at the line.

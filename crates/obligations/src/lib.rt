@@ -3,11 +3,12 @@
 
 mod asked;
 mod claiming;
+pub mod context;
 pub mod laws;
 mod loads;
 mod spans;
 mod stores;
 mod walk;
 
-pub use around::{Facts, Part};
+pub use crate::context::{Facts, Part};
 pub use walk::first_unmet;

@@ -3,21 +3,23 @@
 ghost use Rattle.std.specs.Prelude.{◌≡◌, ◌++◌, ◌==◌, ◌&&◌, [], IfOk};
 ghost use Rattle.std.specs.List.{list_any};
 ghost use Rattle.tree.specs.Term.{term_of, test_of, indices, list_terms};
-ghost use Rattle.actions.specs.Run.{ByClaim};
-ghost use Rattle.claims.specs.Obligations.{is_usable, serves};
-ghost use Rattle.outlines.specs.View.{outline_in};
-ghost use Rattle.around.specs.Around.{known_of, nest_of};
+ghost use Rattle.plan.specs.Semantics.Run.{ByClaim};
+ghost use Rattle.soundness.specs.Obligations.{is_usable, serves};
+ghost use Rattle.outline.specs.View.{outline_in};
+ghost use Rattle.obligations.specs.Context.Around.{known_of, nest_of};
 ghost use Rattle.obligations.specs.Asked.{first_unmet};
 ghost use Rattle.obligations.specs.Loads.{intervals_in, is_own, load_in, loads_in, loads_of_all_in, loads_of_test_in, may_in, steps_met};
 
 use crate::asked::told;
+use crate::context::{
+    Facts, Judge, Known, Nest, are_within, have_room, is_member, is_same, said_by,
+};
 use crate::spans::met_spans;
-use around::{Facts, Judge, Known, Nest, are_within, have_room, is_member, is_same, said_by};
-use binders::NestTests;
 use lin::{Region, Span1};
-use nest::Coordinate;
-use outlines::Source;
-use refusals::{Flaw, K};
+use outline::Source;
+use outline::refusals::{Flaw, K};
+use plan::Coordinate;
+use soundness::binders::NestTests;
 use std::alloc::AllocError;
 use tree::{Cond, Expr};
 

@@ -1,15 +1,15 @@
 //! Spans and names of coordinates.
 
 ghost use Rattle.std.specs.Prelude.{◌≡◌, ◌++◌, IfOk, OnOk, map};
-ghost use Rattle.nest.specs.View.{index_of};
-ghost use Rattle.claims.specs.Obligations.{exactly, anything, index_met, index_span};
-ghost use Rattle.outlines.specs.View.{outline_in};
+ghost use Rattle.plan.specs.View.{index_of};
+ghost use Rattle.soundness.specs.Obligations.{exactly, anything, index_met, index_span};
+ghost use Rattle.outline.specs.View.{outline_in};
 ghost use Rattle.obligations.specs.Loads.{met_spans, names_of, variable_spans};
 
-use around::{Facts, Judge};
-use binders::NestTests;
+use crate::context::{Facts, Judge};
 use lin::{Forms, Lin, Region, Span1};
-use nest::{Coordinate, Index};
+use plan::{Coordinate, Index};
+use soundness::binders::NestTests;
 use std::alloc::{AllocError, Global};
 
 /// The span of one number.

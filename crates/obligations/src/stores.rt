@@ -3,22 +3,22 @@
 ghost use Rattle.std.specs.Prelude.{◌≡◌, ◌∷◌, [], ◌++◌, IfOk, OnOk, map, filter, flat_map};
 ghost use Rattle.std.specs.List.{list_any};
 ghost use Rattle.tree.specs.Term.{term_of};
-ghost use Rattle.nest.specs.Plan.{Store};
-ghost use Rattle.nest.specs.View.{coordinate_of, index_of};
-ghost use Rattle.claims.specs.Obligations.{claimed, coordinate_loads, index_loads, index_place, is_begun, obligation, obligations, region_of, seated, serves, store_obligations, target_span, variable_span, places_of, Inside, Named, NotClaimed};
-ghost use Rattle.outlines.specs.View.{outline_in};
-ghost use Rattle.around.specs.Around.{known_of, nest_of};
+ghost use Rattle.plan.specs.Plan.{Store};
+ghost use Rattle.plan.specs.View.{coordinate_of, index_of};
+ghost use Rattle.soundness.specs.Obligations.{claimed, coordinate_loads, index_loads, index_place, is_begun, obligation, obligations, region_of, seated, serves, store_obligations, target_span, variable_span, places_of, Inside, Named, NotClaimed};
+ghost use Rattle.outline.specs.View.{outline_in};
+ghost use Rattle.obligations.specs.Context.Around.{known_of, nest_of};
 ghost use Rattle.obligations.specs.Asked.{first_unmet};
 ghost use Rattle.obligations.specs.Loads.{asked_by_nests, asked_by_store, coordinates_of, known_in, loads_in, may_in, meets_in, names_in, variable_spans};
 
 use crate::asked::told;
+use crate::context::{Facts, Judge, Known, Nest, are_within, have_room, said_by};
 use crate::loads::{Reads, serves, unmet_loads};
 use crate::spans::{exactly, names_of, push_variables};
-use around::{Facts, Judge, Known, Nest, are_within, have_room, said_by};
-use binders::NestTests;
 use lin::{Region, Span1};
-use nest::{Coordinate, Index};
-use refusals::{Flaw, K};
+use outline::refusals::{Flaw, K};
+use plan::{Coordinate, Index};
+use soundness::binders::NestTests;
 use std::alloc::AllocError;
 use tree::Expr;
 

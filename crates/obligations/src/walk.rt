@@ -1,31 +1,31 @@
 //! The walk over a group's lines.
 
 ghost use Rattle.std.specs.Prelude.{◌≡◌, ◌+◌, ◌<◌, ◌^◌, ◌∷◌, [], ◌++◌, IfOk, flat_map, not};
-ghost use Rattle.nest.specs.Lines.{body_line, lines, block_lines};
-ghost use Rattle.nest.specs.Lists.{list_statements};
-ghost use Rattle.nest.specs.Plan.{block, Publish};
-ghost use Rattle.nest.specs.View.{statement_of};
-ghost use Rattle.claims.specs.Obligations.{block_obligations, claim_obligations, has_symbol, obligation, obligations, within, from_each, Named, Undefined};
-ghost use Rattle.claims.specs.Shown.{start};
-ghost use Rattle.binders.specs.View.{binders_of};
-ghost use Rattle.outlines.specs.View.{outline_in, group_in, number_in, plan_in};
-ghost use Rattle.around.specs.Around.{known_of};
+ghost use Rattle.plan.specs.Lines.{body_line, lines, block_lines};
+ghost use Rattle.plan.specs.Lists.{list_statements};
+ghost use Rattle.plan.specs.Plan.{block, Publish};
+ghost use Rattle.plan.specs.View.{statement_of};
+ghost use Rattle.soundness.specs.Obligations.{block_obligations, claim_obligations, has_symbol, obligation, obligations, within, from_each, Named, Undefined};
+ghost use Rattle.soundness.specs.Shown.{start};
+ghost use Rattle.soundness.specs.Binders.View.{binders_of};
+ghost use Rattle.outline.specs.View.{outline_in, group_in, number_in, plan_in};
+ghost use Rattle.obligations.specs.Context.Around.{known_of};
 ghost use Rattle.obligations.specs.Around.{grid_binders, IsLine};
 ghost use Rattle.obligations.specs.Asked.{first_unmet};
 
 use crate::asked::told;
 use crate::claiming::unmet_claims;
-use crate::loads::is_usable;
-use crate::stores::unmet_store;
-use around::{
+use crate::context::{
     Facts, Judge, Known, Nest, Part, are_within, around_has, forms_have, have_room, nests_within,
     onwards, said_by, span_has,
 };
-use binders::{Binder, NestTests};
+use crate::loads::is_usable;
+use crate::stores::unmet_store;
 use lin::{Lin, Span1, Sym};
-use nest::Stmt;
-use outlines::Outlined;
-use refusals::{Flaw, K};
+use outline::Outlined;
+use outline::refusals::{Flaw, K};
+use plan::Stmt;
+use soundness::binders::{Binder, NestTests};
 use std::alloc::{AllocError, Global};
 
 /// What a line without lines in it asks for, but for loops, arms and guards.
@@ -93,7 +93,7 @@ fn unmet_publish<B: Facts, T: NestTests>(
 }
 
 /// A name of the smallest or largest of forms that stands elsewhere.
-#[tactic(auto, using(crate::proofs::Unmet::one, crate::proofs::Unmet::alone, crate::proofs::Unmet::nothing, crate::proofs::Unmet::append, crate::proofs::Unmet::stops, crate::proofs::Unmet::goes, around::proofs::Tests::or_false))]
+#[tactic(auto, using(crate::proofs::Unmet::one, crate::proofs::Unmet::alone, crate::proofs::Unmet::nothing, crate::proofs::Unmet::append, crate::proofs::Unmet::stops, crate::proofs::Unmet::goes, crate::proofs::Tests::or_false))]
 fn unmet_name<B: Facts, T: NestTests>(
     judge: &Judge<'_, B, T>,
     symbol: Sym,

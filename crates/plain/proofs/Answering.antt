@@ -17,8 +17,8 @@ use Rattle.tree.specs.Uses.{Asked, calls_made_by_all, EachCallOfAll}
 use Rattle.tree.proofs.Uses.{each_stands_in_all, same_indices}
 use Rattle.tree.proofs.Typed.{index-is}
 use Rattle.tree.proofs.Soundness.{few_indices}
-use Rattle.image.specs.View.{Picture}
-use Rattle.image.specs.Raster.{sample}
+use Rattle.meaning.specs.Image.View.{Picture}
+use Rattle.meaning.specs.Image.Raster.{sample}
 use Rattle.meaning.specs.Algorithm.{Function, Algorithm}
 use Rattle.meaning.specs.Names.{same_name, same_point, is_among, bound}
 use Rattle.meaning.specs.Reduction.{point}

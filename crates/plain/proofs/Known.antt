@@ -8,8 +8,8 @@ use Rattle.numeric.specs.Wrap.{IsOf}
 use Rattle.tree.specs.declared.value.Value.{Value}
 use Rattle.tree.specs.Names.{TakesCall}
 use Rattle.tree.specs.Meaning.{typed}
-use Rattle.image.specs.Raster.{sample}
-use Rattle.image.specs.View.{AreExtents}
+use Rattle.meaning.specs.Image.Raster.{sample}
+use Rattle.meaning.specs.Image.View.{AreExtents}
 use Rattle.meaning.specs.Algorithm.{Change, Function, Algorithm}
 use Rattle.meaning.specs.Names.{same_name}
 use Rattle.meaning.specs.Reduction.{size}

@@ -8,9 +8,9 @@ use Rattle.std.proofs.lemmas.List.Elements.{All-from_recursion}
 use Rattle.numeric.specs.declared.ty.Ty.{Ty}
 use Rattle.numeric.specs.declared.ty.Ty.TheVariants.{U8, U16, U32, I8, I16, I32}
 use Rattle.numeric.specs.Wrap.{IsOf}
-use Rattle.image.proofs.Places.{raster_is_order}
-use Rattle.image.specs.Raster.{is_within, sample_count, HasRaster}
-use Rattle.image.specs.View.{AreExtents, IsSampleType}
+use Rattle.meaning.proofs.Places.{raster_is_order}
+use Rattle.meaning.specs.Image.Raster.{is_within, sample_count, HasRaster}
+use Rattle.meaning.specs.Image.View.{AreExtents, IsSampleType}
 use Rattle.meaning.specs.Algorithm.{Function, Algorithm}
 use Rattle.meaning.specs.Conditions.{IsAlgorithm, IsOutput as OutputFits, function_named}
 use Rattle.meaning.specs.Functions.{AreSamples, IsPoint}

@@ -2,8 +2,8 @@
 use Rattle.std.proofs.Common.{◌≡◌, ℕ, ◌-◌, ◌<◌, ◌≤◌, ◌+◌, List, length, get_or, All, Any, sym, ◌∙◌, subst, arith}
 use Rattle.std.specs.List.{range_with_len}
 use Rattle.rayon.specs.NumberLaws.{nat_range-IsRange, run-length}
-use Rattle.image.proofs.Places.{raster_is_order}
-use Rattle.image.specs.Raster.{place, raster_point, sample_count}
+use Rattle.meaning.proofs.Places.{raster_is_order}
+use Rattle.meaning.specs.Image.Raster.{place, raster_point, sample_count}
 use Rattle.meaning.specs.Algorithm.{Algorithm}
 use Rattle.meaning.specs.Conditions.{IsAlgorithm}
 use Rattle.meaning.specs.Count.{output_count}

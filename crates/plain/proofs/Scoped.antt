@@ -17,7 +17,7 @@ use Rattle.tree.specs.Meaning.{numbers_of, value_of}
 use Rattle.tree.specs.Typing.{type_of, is_index, are_indices, index_count, HasFewIndices}
 use Rattle.tree.specs.Uses.{Asked, EachCallOfAll}
 use Rattle.tree.proofs.Typed.{both_true, index-is}
-use Rattle.image.specs.View.{Picture, HasShape, IsSampleType, max_sample}
+use Rattle.meaning.specs.Image.View.{Picture, HasShape, IsSampleType, max_sample}
 use Rattle.meaning.specs.Algorithm.{Algorithm}
 use Rattle.meaning.specs.Names.{is_among, bound, same_name}
 use Rattle.meaning.specs.Conditions.{IsAlgorithm, callable}

@@ -3,7 +3,7 @@ use Rattle.std.specs.Prelude.{◌≡◌, ◌<◌, ◌≤◌, ℕ, List, [], ◌�
 use Rattle.std.specs.declared.result.Result.{Result}
 use Rattle.std.specs.declared.vec.Vec.{Vec}
 use Rattle.std.specs.Global.{Global}
-use Rattle.image.specs.Raster.{is_within, natural, raster_point}
+use Rattle.meaning.specs.Image.Raster.{is_within, natural, raster_point}
 use Rattle.meaning.specs.Algorithm.{Algorithm}
 use Rattle.meaning.specs.Count.{output_count}
 use Rattle.meaning.specs.Value.{output_value}

@@ -6,8 +6,8 @@ use Rattle.numeric.specs.declared.ty.Ty.TheVariants.{U8}
 use Rattle.tree.specs.Term.{Number}
 use Rattle.tree.specs.Names.{IsIndex, AnswersWithin}
 use Rattle.meaning.specs.Conditions.{callable}
-use Rattle.image.specs.View.{Picture}
-use Rattle.image.specs.Raster.{sample}
+use Rattle.meaning.specs.Image.View.{Picture}
+use Rattle.meaning.specs.Image.Raster.{sample}
 use Rattle.meaning.specs.Algorithm.{Change, Function, Algorithm}
 use Rattle.meaning.specs.Names.{same_name}
 use Rattle.plain.specs.Works.{Entry, recorded}

@@ -5,8 +5,8 @@ ghost use Rattle.algo.specs.Parts.{function_of, change_of};
 ghost use Rattle.algo.specs.View.{algorithm_of};
 ghost use Rattle.plain.specs.Scopes.{function_at, change_at, NoneBefore, IsFirstNamed};
 
+use algo::scoping::same_name;
 use algo::{Algo, Function, Update};
-use scoping::same_name;
 
 /// A function and its name, by its number in the order of declaration.
 pub(crate) fn function_at(algo: &Algo, number: usize) -> (&String, &Function)

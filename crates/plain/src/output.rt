@@ -2,7 +2,7 @@
 
 ghost use Rattle.std.specs.Prelude.{◌≡◌, ◌<◌, ◌≤◌, ◌^◌, length, true, pos, IfOk, IfErr};
 ghost use Rattle.algo.specs.View.{algorithm_of, samples_of, IsFor};
-ghost use Rattle.image.specs.Raster.{is_within, natural, sample_count};
+ghost use Rattle.meaning.specs.Image.Raster.{is_within, natural, sample_count};
 ghost use Rattle.meaning.specs.Count.{output_count};
 ghost use Rattle.meaning.specs.Value.{output_value};
 ghost use Rattle.plain.specs.declared.error.PlainError.TheVariants.{Budget};

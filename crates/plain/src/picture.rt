@@ -3,15 +3,15 @@
 ghost use Rattle.std.specs.Prelude.{◌≡◌, ◌<◌, ◌≤◌, IfOk, IfErr};
 ghost use Rattle.std.specs.List.{range_with_len};
 ghost use Rattle.algo.specs.View.{algorithm_of, picture_said, samples_of, IsFor};
-ghost use Rattle.image.specs.Raster.{sample_count};
-ghost use Rattle.image.specs.View.{image_of};
+ghost use Rattle.meaning.specs.Image.Raster.{sample_count};
+ghost use Rattle.meaning.specs.Image.View.{image_of};
 ghost use Rattle.plain.specs.declared.error.PlainError.TheVariants.{Budget};
 ghost use Rattle.plain.specs.Picture.{count_at, sample_at, AllWithin, Extends, Gives, GivesNone, Joins, SomeAbove};
 
 use crate::error::PlainError;
 use crate::output::{Output, output_number, sample_at};
 use algo::{Algo, Inputs};
-use image::Image;
+use meaning::image::Image;
 use rayon::prelude::*;
 use std::alloc::Global;
 use std::thread::Threads;

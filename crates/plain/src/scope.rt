@@ -8,9 +8,9 @@ ghost use Rattle.plain.specs.Works.{entry_of, bound_name, bound_number, recorded
 ghost use Rattle.plain.specs.Scopes.{answered, AreIndices, AreIndices-prop, AnswerWithin, AnswerWithin-prop};
 
 use crate::callee::{function_at, number_of};
+use algo::scoping::same_name;
 use algo::{Algo, Inputs};
 use numeric::Ty;
-use scoping::same_name;
 use tree::{Env, Names};
 
 /// A name and the number that it stands for.

@@ -4,7 +4,7 @@ ghost use Rattle.std.specs.Prelude.{◌≡◌, ◌++◌, map, OnOk};
 ghost use Rattle.tree.specs.Term.{term_of, test_of, indices, list_terms};
 ghost use Rattle.plain.specs.Sites.{site_of, sites, sites_of_test, sites_of_all, own_site};
 
-use scoping::same_name;
+use algo::scoping::same_name;
 use std::alloc::AllocError;
 use tree::{Cond, Expr};
 

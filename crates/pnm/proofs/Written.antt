@@ -9,8 +9,8 @@ use Rattle.std.proofs.lemmas.Nat.{div-add-mod'}
 use Rattle.std.proofs.Math.Nat.{mod-lt, mod-eq_of_lt, mul-le-mul_left}
 use Rattle.numeric.specs.declared.ty.Ty.{Ty}
 use Rattle.numeric.specs.declared.ty.Ty.TheVariants.{U8, U16, U32, I8, I16, I32}
-use Rattle.image.specs.Raster.{sample_count}
-use Rattle.image.specs.View.{IsSampleType, AreExtents, max_sample}
+use Rattle.meaning.specs.Image.Raster.{sample_count}
+use Rattle.meaning.specs.Image.View.{IsSampleType, AreExtents, max_sample}
 use Rattle.pnm.specs.declared.state.Form.TheVariants.{Raw}
 use Rattle.pnm.specs.Bytes.{is_space, is_digit}
 use Rattle.pnm.specs.Reading.{wanted_of, width_of, height_of, has_colours}

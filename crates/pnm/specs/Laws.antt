@@ -1,6 +1,6 @@
 -- The laws of reading and writing, each of them the contract of a function.
 use Rattle.std.specs.Prelude.{◌≡◌, ℕ, List, Ok, nat_lt}
-use Rattle.image.specs.View.{Frame, Picture, IsShape, HasShape}
+use Rattle.meaning.specs.Image.View.{Frame, Picture, IsShape, HasShape}
 use Rattle.pnm.specs.Grammar.{Each, IsFile}
 use Rattle.pnm.specs.Reading.{reading, wanted_of}
 use Rattle.pnm.specs.Text.{text_of}

@@ -1,7 +1,7 @@
 -- What a file's bytes are, read one after another: each of them leads on, gives a sample or is a fault.
 use Rattle.std.specs.Prelude.{ℕ, ◌+◌, ◌-◌, ◌*◌, List, [], ◌∷◌, ◌++◌, fold, Bool, true, false, ◌&&◌, ◌==◌, nat_le, nat_lt, if◌then◌else◌, None, Some, Option, Result, Ok, Err}
-use Rattle.image.specs.View.{Frame, max_sample}
-use Rattle.image.specs.Raster.{sample_count}
+use Rattle.meaning.specs.Image.View.{Frame, max_sample}
+use Rattle.meaning.specs.Image.Raster.{sample_count}
 use Rattle.pnm.specs.declared.error.PnmError.{PnmError}
 use Rattle.pnm.specs.declared.error.PnmError.TheVariants as fault
 use Rattle.pnm.specs.declared.state.Form.{Form}

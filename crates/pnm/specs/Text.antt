@@ -3,7 +3,7 @@ use Rattle.std.specs.Prelude.{ℕ, ◌/◌, ◌%◌, List, [], ◌∷◌, ◌++�
 use Rattle.std.specs.List.{flat_map}
 use Rattle.numeric.specs.declared.ty.Ty.{Ty}
 use Rattle.numeric.specs.declared.ty.Ty.TheVariants.{U8}
-use Rattle.image.specs.View.{Picture, max_sample}
+use Rattle.meaning.specs.Image.View.{Picture, max_sample}
 use Rattle.pnm.specs.Reading.{width_of, height_of, has_colours}
 
 -- P6 and LF for an image with colours, else P5 and LF

@@ -1,11 +1,11 @@
 //! The numbers of a header.
 
 ghost use Rattle.std.specs.Prelude.{◌≡◌};
-ghost use Rattle.image.specs.View.{shape_of, IsShape, max_sample};
+ghost use Rattle.meaning.specs.Image.View.{shape_of, IsShape, max_sample};
 ghost use Rattle.pnm.specs.Reading.{has_colours, height_of, wanted_of, width_of};
 
 use crate::state::Wanted;
-use image::{Shape, Ty};
+use meaning::image::{Shape, Ty};
 
 pub(crate) fn width_of(extents: &[u32]) -> u32
     ensures { result ≡ width_of extents.now }

@@ -2,7 +2,7 @@
 
 ghost use Rattle.std.specs.Prelude.{◌≡◌, ◌⊎◌, ◌↔◌, true, false, Ok, Err, MatchResult, IsErrOf, IfOk, IfErr, OnErr, OnOk};
 ghost use Rattle.std.specs.Io.KnownBytes.{Keeps};
-ghost use Rattle.image.specs.View.{image_of, shape_of, IsShape};
+ghost use Rattle.meaning.specs.Image.View.{image_of, shape_of, IsShape};
 ghost use Rattle.pnm.specs.Reading.{step, finish, taken, with_last, Going, Stopped, wanted_of};
 ghost use Rattle.pnm.specs.Source.{ReadsFile, Refuses, IsEndless};
 
@@ -11,7 +11,7 @@ use crate::header::wanted;
 use crate::state::{State, Step, Wanted};
 use crate::stepping::{finish, step};
 use crate::watched::{Source, Watched};
-use image::{Image, Shape};
+use meaning::image::{Image, Shape};
 use std::alloc::Global;
 use std::io::Read;
 

@@ -2,14 +2,14 @@
 
 ghost use Rattle.std.specs.Prelude.{◌≡◌, [], ◌∷◌, ◌++◌, false, true, decimal, ◌||◌, is_err};
 ghost use Rattle.std.specs.List.{flat_map};
-ghost use Rattle.image.specs.View.{image_of};
+ghost use Rattle.meaning.specs.Image.View.{image_of};
 ghost use Rattle.pnm.specs.Source.{Sends};
 ghost use Rattle.pnm.specs.Text.{magic, numbers, sample_bytes, text_of};
 
 use crate::error::PnmError;
 use crate::header::{has_colours, height_of, max_sample, width_of};
 use crate::watched::{Sink, Watched};
-use image::{Image, Ty};
+use meaning::image::{Image, Ty};
 use std::io::Write;
 
 fn send_number<S: Sink>(sink: &mut S, number: u32, after: u8) -> Result<(), PnmError>

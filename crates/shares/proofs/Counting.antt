@@ -1,9 +1,9 @@
 -- How much pieces fetch and need in all.
 use Rattle.std.proofs.Common.{◌≡◌, ℕ, zero, suc, ◌+◌, ◌-◌, ◌<◌, ◌≤◌, ◌^◌, length, arith, ap, refl, sym, ◌∙◌, subst, inl, inr, Ok, Err}
 use Rattle.std.specs.Prelude.{Result, IsErrAnd}
-use Rattle.nest.specs.Plan.{Plan}
-use Rattle.cert.specs.Certificate.{Certificate}
-use Rattle.cert.specs.Cells.{pieces}
+use Rattle.plan.specs.Plan.{Plan}
+use Rattle.plan.specs.Certificate.Certificate.{Certificate}
+use Rattle.plan.specs.Certificate.Cells.{pieces}
 use Rattle.shares.specs.declared.stop.Stop.{Stop}
 use Rattle.shares.specs.declared.stop.Stop.TheVariants.{Unserved, Large, Memory}
 use Rattle.shares.specs.Layout.{FetchesCells, fetched_list, needs_list}

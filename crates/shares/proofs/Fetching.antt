@@ -5,16 +5,16 @@ use Rattle.std.specs.List.{AllByRecursion}
 use Rattle.std.proofs.lemmas.Bool.{false≢true}
 use Rattle.std.proofs.lemmas.List.{append-nil, length-map}
 use Rattle.std.proofs.lemmas.List.Elements.{recursion_from_All, All-from_recursion}
-use Rattle.nest.specs.declared.stmt.Stmt.{Stmt, Seq' as Block, For' as Loop, Let as Naming, First' as AtFirst, Guard' as Where, Alloc as Allocation, Fetch as Fetching, Store as Storing, Publish as Publishing}
-use Rattle.nest.specs.Plan.{Statement, Seq, For, Let, First, Guard, Alloc, Fetch, Store, Publish, Plan, block}
-use Rattle.nest.specs.Lists.{list_statements}
-use Rattle.nest.specs.Symbols.{Symbols}
-use Rattle.nest.specs.View.{statement_of}
-use Rattle.actions.specs.Actions.{after}
-use Rattle.cert.specs.Cells.{Cell}
-use Rattle.pieces.specs.Fetched.{fetched_cells, block_fetched_cells}
-use Rattle.pieces.specs.Numbers.{cell_number, is_cell}
-use Rattle.pieces.proofs.Parts.{none_fetched}
+use Rattle.plan.specs.declared.stmt.Stmt.{Stmt, Seq' as Block, For' as Loop, Let as Naming, First' as AtFirst, Guard' as Where, Alloc as Allocation, Fetch as Fetching, Store as Storing, Publish as Publishing}
+use Rattle.plan.specs.Plan.{Statement, Seq, For, Let, First, Guard, Alloc, Fetch, Store, Publish, Plan, block}
+use Rattle.plan.specs.Lists.{list_statements}
+use Rattle.plan.specs.Symbols.{Symbols}
+use Rattle.plan.specs.View.{statement_of}
+use Rattle.plan.specs.Semantics.Actions.{after}
+use Rattle.plan.specs.Certificate.Cells.{Cell}
+use Rattle.headline.specs.Fetched.{fetched_cells, block_fetched_cells}
+use Rattle.headline.specs.Numbers.{cell_number, is_cell}
+use Rattle.headline.proofs.Parts.{none_fetched}
 use Rattle.shares.specs.Shared.{LineIsShared, LinesAreShared}
 use Rattle.shares.specs.Layout.{AllCells}
 

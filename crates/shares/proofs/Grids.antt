@@ -6,7 +6,7 @@ use Rattle.std.specs.Prelude.{All}
 use Rattle.std.specs.List.{AllByRecursion}
 use Rattle.std.proofs.lemmas.List.Elements.{recursion_from_All, All-from_recursion}
 use Rattle.shares.specs.Walked.{IsExtent}
-use Rattle.cert.specs.Cells.{grid_point, piece_count}
+use Rattle.plan.specs.Certificate.Cells.{grid_point, piece_count}
 use Rattle.shares.specs.declared.boxes.Side.{Side}
 use Rattle.shares.specs.Boxes.{grid_sides, point_count}
 

@@ -5,9 +5,9 @@ use Rattle.std.specs.List.{AllByRecursion}
 use Rattle.std.proofs.lemmas.Bool.{false≢true}
 use Rattle.std.proofs.lemmas.Bool.Decides.{nat_tests}
 use Rattle.std.proofs.lemmas.List.Elements.{recursion_from_All, All-from_recursion}
-use Rattle.nest.specs.Plan.{Plan}
-use Rattle.cert.specs.declared.cert.Need.{Need}
-use Rattle.cert.specs.Cells.{Piece}
+use Rattle.plan.specs.Plan.{Plan}
+use Rattle.plan.specs.declared.certificate.cert.Need.{Need}
+use Rattle.plan.specs.Certificate.Cells.{Piece}
 use Rattle.shares.specs.Filed.{needs_in, AreLinesOf}
 use Rattle.shares.specs.Needed.{need_numbers, all_numbers, NeedIsInside, NeedsAreInside}
 use Rattle.shares.specs.Shared.{NeedIsShared}

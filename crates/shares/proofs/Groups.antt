@@ -5,10 +5,10 @@ use Rattle.std.specs.List.{range_with_len}
 use Rattle.std.proofs.lemmas.List.{length-map}
 use Rattle.std.proofs.lemmas.List.FromFn.{length-map-range_with_len}
 use Rattle.std.proofs.lemmas.Option.{get_or_from_slice_get}
-use Rattle.nest.specs.Plan.{Group}
-use Rattle.nest.specs.View.{group_of}
-use Rattle.nest.specs.declared.plan.Group.{Group as CodeGroup}
-use Rattle.cert.specs.Cells.{piece, cell, first_cell, first_piece, group_points, group_pieces, cells_from, pieces_from}
+use Rattle.plan.specs.Plan.{Group}
+use Rattle.plan.specs.View.{group_of}
+use Rattle.plan.specs.declared.plan.Group.{Group as CodeGroup}
+use Rattle.plan.specs.Certificate.Cells.{piece, cell, first_cell, first_piece, group_points, group_pieces, cells_from, pieces_from}
 
 pub get_some : {A : Type 0} (xs : List A) (n : ℕ) (d : A) → n < length xs → slice_get xs n ≡ Some (get_or xs n d)
 get_some [] n d h = absurd (omega (arith, h))

@@ -2,9 +2,9 @@
 use Rattle.std.proofs.Common.{◌≡◌, ℕ, ◌+◌, ◌≤◌, ◌-◌, ◌^◌, List, [], ◌∷◌, ◌++◌, min, length-append, length, arith, ap, refl, sym, ◌∙◌, subst, Option, Some, None}
 use Rattle.std.specs.Prelude.{All, MatchOption, slice_get}
 use Rattle.lin.specs.declared.span.Span1.{Span1}
-use Rattle.nest.specs.Plan.{Group, Plan}
-use Rattle.cert.specs.Certificate.{Certificate}
-use Rattle.cert.specs.Cells.{no_symbols, own_region, first_cell, first_piece, group_points, group_pieces, pieces}
+use Rattle.plan.specs.Plan.{Group, Plan}
+use Rattle.plan.specs.Certificate.Certificate.{Certificate}
+use Rattle.plan.specs.Certificate.Cells.{no_symbols, own_region, first_cell, first_piece, group_points, group_pieces, pieces}
 use Rattle.shares.specs.declared.boxes.Side.{Side}
 use Rattle.shares.specs.declared.spaces.Space.{Space}
 use Rattle.shares.specs.Boxes.{sides, grid_sides, point_count}

@@ -2,12 +2,12 @@
 use Rattle.std.proofs.Common.{◌≡◌, ℕ, suc, ◌+◌, ◌-◌, ◌^◌, ◌<◌, min, List, [], ◌∷◌, length, get_or, drop, drop-cons, arith, ap, refl, sym, ◌∙◌, subst, true, false, Option, Some, None, inl, inr}
 use Rattle.std.specs.Prelude.{◌==◌, ◌⊎◌}
 use Rattle.std.proofs.lemmas.Bool.Decides.{nat_tests}
-use Rattle.cert.specs.declared.cert.Own.{Own}
-use Rattle.nest.specs.Plan.{Plan}
-use Rattle.cert.specs.Certificate.{Certificate}
-use Rattle.cert.specs.declared.cert.Need.{Need}
-use Rattle.refusals.specs.declared.code.K.{K}
-use Rattle.refusals.specs.declared.code.K.TheVariants.{K9, K10, K11, K14}
+use Rattle.plan.specs.declared.certificate.cert.Own.{Own}
+use Rattle.plan.specs.Plan.{Plan}
+use Rattle.plan.specs.Certificate.Certificate.{Certificate}
+use Rattle.plan.specs.declared.certificate.cert.Need.{Need}
+use Rattle.outline.specs.declared.refusals.code.K.{K}
+use Rattle.outline.specs.declared.refusals.code.K.TheVariants.{K9, K10, K11, K14}
 use Rattle.shares.specs.Made.{own_place, need_place, next_place, owns_line, needs_line, StandsAt}
 
 head_here : (o : Own) (os : List Own) (g : ℕ) → o.group ≡ g → own_place (o ∷ os) g ≡ 0

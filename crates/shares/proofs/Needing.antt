@@ -8,19 +8,19 @@ use Rattle.std.proofs.lemmas.Int.{ints}
 use Rattle.std.proofs.lemmas.List.Elements.{recursion_from_All, All-from_recursion, All-cons, Contains-append_left, Contains-append_right, Contains-append_cases}
 use Rattle.std.proofs.Math.Nat.{mul-le-mul_left, mul-add, mul-one, mul_comm, mod-eq_of_lt, add-mul-mod_self_left}
 use Rattle.std.proofs.lemmas.Nat.{div-mul-add}
-use Rattle.nest.specs.Plan.{Group, Plan}
-use Rattle.nest.specs.Symbols.{clipped, points}
+use Rattle.plan.specs.Plan.{Group, Plan}
+use Rattle.plan.specs.Symbols.{clipped, points}
 use Rattle.meaning.specs.Names.{same_point}
 use Rattle.meaning.proofs.Cases.{point_same}
-use Rattle.cert.specs.declared.cert.Need.{Need}
-use Rattle.cert.specs.Certificate.{Certificate}
-use Rattle.cert.specs.Cells.{Piece, Cell, piece, cell, pieces, first_piece, grid_point, grid_rank, piece_count, grid_symbols}
-use Rattle.claims.proofs.Refines.{eq_refl, and_parts}
-use Rattle.claims.proofs.Learned.{point_true}
-use Rattle.pieces.specs.Numbers.{group_grid}
-use Rattle.pieces.specs.Parts.{IsNeeded}
-use Rattle.pieces.specs.Work.{needs_this}
-use Rattle.pieces.proofs.Places.{pieces_numbered}
+use Rattle.plan.specs.declared.certificate.cert.Need.{Need}
+use Rattle.plan.specs.Certificate.Certificate.{Certificate}
+use Rattle.plan.specs.Certificate.Cells.{Piece, Cell, piece, cell, pieces, first_piece, grid_point, grid_rank, piece_count, grid_symbols}
+use Rattle.soundness.proofs.Refines.{eq_refl, and_parts}
+use Rattle.soundness.proofs.Learned.{point_true}
+use Rattle.headline.specs.Numbers.{group_grid}
+use Rattle.headline.specs.Parts.{IsNeeded}
+use Rattle.headline.specs.Work.{needs_this}
+use Rattle.headline.proofs.Places.{pieces_numbered}
 use Rattle.shares.specs.Boxes.{grid_sides, is_in_box, rank}
 use Rattle.shares.specs.Needed.{need_grid, need_points, need_numbers, all_numbers, NeedIsInside, NeedsAreInside}
 use Rattle.shares.specs.Shared.{NeedIsShared, IsLike}

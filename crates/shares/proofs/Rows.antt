@@ -13,7 +13,7 @@ use Rattle.lin.specs.Forms.{IsWithin}
 use Rattle.shares.specs.declared.boxes.Side.{Side}
 use Rattle.shares.specs.Boxes.{point_count}
 use Rattle.shares.specs.Walked.{common, IsNear, IsExtent, shared_cells}
-use Rattle.nest.specs.Symbols.{clipped}
+use Rattle.plan.specs.Symbols.{clipped}
 use Rattle.shares.proofs.Values.{clipped_abs, clipped_none}
 use mir.Val.{to_z, of_z, Fits}
 use lib.Dec.{T}

@@ -5,14 +5,14 @@ use Rattle.std.specs.List.{AllByRecursion}
 use Rattle.std.proofs.lemmas.List.{length-map}
 use Rattle.std.proofs.lemmas.List.Elements.{recursion_from_All, All-from_recursion}
 use Rattle.lin.specs.declared.span.Span1.{Span1}
-use Rattle.nest.specs.Plan.{Group, Plan}
-use Rattle.nest.specs.Symbols.{Symbols, points}
-use Rattle.nest.specs.View.{plan_of, group_of}
-use Rattle.cert.specs.Certificate.{Certificate, certificate_of}
-use Rattle.cert.specs.Cells.{Piece, Cell, cell, cells, pieces, no_symbols, grid_symbols, own_region, own_points, points_within, is_in_region}
-use Rattle.pieces.specs.Numbers.{cell_number, has_point, is_cell, group_region, point_rank}
-use Rattle.pieces.specs.Work.{of_piece, own_cells, group_own}
-use Rattle.pieces.proofs.Places.{piece_from}
+use Rattle.plan.specs.Plan.{Group, Plan}
+use Rattle.plan.specs.Symbols.{Symbols, points}
+use Rattle.plan.specs.View.{plan_of, group_of}
+use Rattle.plan.specs.Certificate.Certificate.{Certificate, certificate_of}
+use Rattle.plan.specs.Certificate.Cells.{Piece, Cell, cell, cells, pieces, no_symbols, grid_symbols, own_region, own_points, points_within, is_in_region}
+use Rattle.headline.specs.Numbers.{cell_number, has_point, is_cell, group_region, point_rank}
+use Rattle.headline.specs.Work.{of_piece, own_cells, group_own}
+use Rattle.headline.proofs.Places.{piece_from}
 use Rattle.shares.specs.declared.grounds.Ground.{Ground}
 use Rattle.shares.specs.declared.layout.Layout.{Layout}
 use Rattle.shares.specs.declared.seats.Seat.{Seat}
@@ -21,7 +21,7 @@ use Rattle.shares.specs.Seats.{piece_of}
 use Rattle.shares.specs.Spaces.{numbers_in, HasAll}
 use Rattle.shares.specs.Grounds.{IsGroundOf}
 use Rattle.shares.specs.Layout.{IsLayout, own_list, OwnIsInside, PieceIsInside, region_points, AllCells}
-use Rattle.cert.specs.declared.cert.Need.{Need}
+use Rattle.plan.specs.declared.certificate.cert.Need.{Need}
 use Rattle.shares.specs.Filed.{needs_in}
 use Rattle.shares.proofs.Filing.{row}
 use Rattle.shares.proofs.Groups.{get_mapped, get_some, get_within, cells_most}
@@ -37,7 +37,7 @@ module _ (p : Plan) (c : Certificate) (n : ℕ) (g : Group) (at : slice_get p.gr
   number_is : (q : List ℤ) → x.cells.first + rank x.cells.sides.items q ≡ cell_number p (cell n q)
   number_is q =
       (λ i. ground.first_cell i + rank (ground.cell_sides i) q)
-      ∙ ap (λ (k : ℕ). Rattle.cert.specs.Cells.first_cell p.groups n + k) (rank_is no_symbols g.region q ∙ ap (λ (o : Option Group). point_rank no_symbols (group_region o) q) (sym at))
+      ∙ ap (λ (k : ℕ). Rattle.plan.specs.Certificate.Cells.first_cell p.groups n + k) (rank_is no_symbols g.region q ∙ ap (λ (o : Option Group). point_rank no_symbols (group_region o) q) (sym at))
 
   pub cells_are : (qs : List (List ℤ)) → numbers_in x.cells qs ≡ map (cell_number p) (map (cell n) qs)
   cells_are [] = refl

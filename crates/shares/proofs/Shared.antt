@@ -11,9 +11,9 @@ use Rattle.std.proofs.lemmas.List.{map-append}
 use Rattle.std.proofs.Math.Nat.{mul-add, mul-one}
 use Rattle.lin.specs.Forms.{Form}
 use Rattle.lin.specs.declared.span.Span1.{Span1}
-use Rattle.nest.specs.Symbols.{Symbols, form_value, largest, clipped, rising, turns, points}
-use Rattle.cert.specs.Cells.{is_in_span, is_in_region}
-use Rattle.pieces.specs.Numbers.{point_rank}
+use Rattle.plan.specs.Symbols.{Symbols, form_value, largest, clipped, rising, turns, points}
+use Rattle.plan.specs.Certificate.Cells.{is_in_span, is_in_region}
+use Rattle.headline.specs.Numbers.{point_rank}
 use Rattle.shares.specs.declared.boxes.Side.{Side}
 use Rattle.shares.specs.Boxes.{IsSingle, IsPlainSpan, side, sides, is_in_side, is_in_box, rank, point_count}
 use Rattle.shares.specs.Walked.{common, shared_cells}

@@ -1,7 +1,7 @@
 -- Values of forms, computed modulo 2^64.
 use Rattle.std.proofs.Common.{◌≡◌, ℕ, ◌+◌, ◌-◌, ◌*◌, ◌%◌, ◌<◌, ◌≤◌, List, [], ◌∷◌, ◌++◌, length, take, drop, map, fold, get_or, sym, ap, ◌∙◌, arith, ℤ, ◌+ℤ◌, ◌*ℤ◌, w64, SFits, to_z, of_z}
 use Rattle.std.specs.Int.{int_wrap, int_max, int_min}
-use Rattle.nest.specs.Symbols.{Symbols, form_value, largest, smallest}
+use Rattle.plan.specs.Symbols.{Symbols, form_value, largest, smallest}
 use Rattle.std.proofs.lemmas.Grind.{common_steps}
 use Rattle.std.proofs.lemmas.List.{take_more, map-append}
 use Rattle.std.proofs.lemmas.List.Sums.{fold_push}

@@ -4,19 +4,19 @@ use Rattle.std.specs.Prelude.{◌+◌, slice_get, Contains, MatchOption}
 use Rattle.std.proofs.lemmas.Bool.{cases_lt}
 use Rattle.std.proofs.lemmas.Option.{slice_get_past}
 use Rattle.meaning.specs.Algorithm.{Algorithm}
-use Rattle.nest.specs.Plan.{Plan}
-use Rattle.cert.specs.Certificate.{Certificate}
-use Rattle.cert.specs.Cells.{pieces, cells}
-use Rattle.cert.specs.Cells.{Piece as PlanPiece}
+use Rattle.plan.specs.Plan.{Plan}
+use Rattle.plan.specs.Certificate.Certificate.{Certificate}
+use Rattle.plan.specs.Certificate.Cells.{pieces, cells}
+use Rattle.plan.specs.Certificate.Cells.{Piece as PlanPiece}
 use Rattle.orders.specs.Claimed.{IsClaimed, IsClaimedBy}
 use Rattle.orders.specs.declared.lists.Piece.{Piece}
 use Rattle.orders.specs.Faults.{IsFirstUnserved}
 use Rattle.orders.specs.Work.{HasSoundLists, NeedsIsEarlier, FetchedIsNeeded}
 use Rattle.orders.specs.Lists.{AreSound, own_of, fetched_of, needs_of, own_lists, fetched_lists, needs_lists}
-use Rattle.pieces.proofs.Lists.{at_below}
-use Rattle.pieces.specs.Numbers.{cell_number}
-use Rattle.pieces.specs.Theorem.{HasSoundCells}
-use Rattle.pieces.specs.Work.{of_piece, own_cells, cells_fetched, needed_pieces, work_of}
+use Rattle.headline.proofs.Lists.{at_below}
+use Rattle.headline.specs.Numbers.{cell_number}
+use Rattle.headline.specs.Theorem.{HasSoundCells}
+use Rattle.headline.specs.Work.{of_piece, own_cells, cells_fetched, needed_pieces, work_of}
 use Rattle.shares.specs.Layout.{own_list, fetched_list, needs_list, FetchesCells, PieceFetchesCells, OwnIsInside, PieceIsInside}
 use Rattle.shares.specs.Needed.{NeedsAreInside}
 use Rattle.shares.specs.Has.{NeedsPieces, IsServed}

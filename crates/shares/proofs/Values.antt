@@ -9,8 +9,8 @@ use Rattle.lin.specs.Forms.{Form, sum_of, AreWithin, IsWithin, is_within_limits}
 use Rattle.lin.specs.declared.form.Multiple.{Multiple}
 use Rattle.lin.proofs.Limits.{within_limits-terms, within_limits-constant, within_limits-few}
 use Rattle.lin.proofs.Machine.{product_within, sum_within}
-use Rattle.nest.specs.Symbols.{clipped, form_value}
-use Rattle.cert.specs.Cells.{grid_value, grid_symbols}
+use Rattle.plan.specs.Symbols.{clipped, form_value}
+use Rattle.plan.specs.Certificate.Cells.{grid_value, grid_symbols}
 use Rattle.shares.specs.Boxes.{IsSmall}
 use lib.IntN.{nat_abs}
 use mir.Val.{to_z}

@@ -2,7 +2,7 @@
 use Rattle.std.specs.Prelude.{ℕ, ◌+◌, ◌*◌, ◌≤◌, ◌^◌, Bool, true, false, ◌&&◌, List, [], ◌∷◌, map, ℤ, pos, ◌+ℤ◌, ◌-ℤ◌, int_le, IsTrue, All}
 use Rattle.lin.specs.Forms.{Form, is_within_limits}
 use Rattle.lin.specs.declared.span.Span1.{Span1}
-use Rattle.nest.specs.Symbols.{Symbols, largest, smallest, clipped}
+use Rattle.plan.specs.Symbols.{Symbols, largest, smallest, clipped}
 use Rattle.shares.specs.declared.boxes.Side.{Side}
 
 -- forms within the limits

@@ -1,8 +1,8 @@
 -- What is wrong with the shares of pieces.
 use Rattle.std.specs.Prelude.{◌≡◌, ℕ, ◌<◌, length, slice_index}
-use Rattle.nest.specs.Plan.{Plan}
-use Rattle.cert.specs.Certificate.{Certificate}
-use Rattle.cert.specs.Cells.{pieces}
+use Rattle.plan.specs.Plan.{Plan}
+use Rattle.plan.specs.Certificate.Certificate.{Certificate}
+use Rattle.plan.specs.Certificate.Cells.{pieces}
 use Rattle.shares.specs.Layout.{own_list}
 
 -- no own cell of the piece stands in another place of its own list or in another piece's

@@ -1,7 +1,7 @@
 -- Need lines by their groups.
 use Rattle.std.specs.Prelude.{◌≡◌, ℕ, ◌==◌, List, All, length, filter, Some, slice_get}
-use Rattle.nest.specs.Plan.{Plan}
-use Rattle.cert.specs.declared.cert.Need.{Need}
+use Rattle.plan.specs.Plan.{Plan}
+use Rattle.plan.specs.declared.certificate.cert.Need.{Need}
 use Rattle.shares.specs.Shared.{NeedIsShared}
 
 -- the need lines of a group, in their order

@@ -1,8 +1,8 @@
 -- What is known of a group for its pieces' shares.
 use Rattle.std.specs.Prelude.{◌≡◌, ℕ, List, length, Some, slice_get}
-use Rattle.nest.specs.Plan.{Group, Plan}
-use Rattle.cert.specs.Certificate.{Certificate}
-use Rattle.cert.specs.Cells.{no_symbols, own_region, first_cell, first_piece}
+use Rattle.plan.specs.Plan.{Group, Plan}
+use Rattle.plan.specs.Certificate.Certificate.{Certificate}
+use Rattle.plan.specs.Certificate.Cells.{no_symbols, own_region, first_cell, first_piece}
 use Rattle.shares.specs.declared.grounds.Ground.{Ground}
 use Rattle.shares.specs.Boxes.{sides, grid_sides}
 use Rattle.shares.specs.Shared.{IsLike}

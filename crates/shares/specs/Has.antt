@@ -1,11 +1,11 @@
 -- The shares of a plan's pieces: the one condition on which they can be told.
 use Rattle.std.specs.Prelude.{ℕ, zero, suc, ◌+◌, ◌≤◌, ◌<◌, ◌^◌, List, length, Contains, MatchOption, slice_get}
 use Rattle.meaning.specs.Algorithm.{Algorithm}
-use Rattle.nest.specs.Plan.{Plan}
-use Rattle.cert.specs.Certificate.{Certificate}
-use Rattle.cert.specs.Cells.{pieces}
-use Rattle.pieces.specs.Work.{work_of}
-use Rattle.pieces.specs.Theorem.{HasSoundCells}
+use Rattle.plan.specs.Plan.{Plan}
+use Rattle.plan.specs.Certificate.Certificate.{Certificate}
+use Rattle.plan.specs.Certificate.Cells.{pieces}
+use Rattle.headline.specs.Work.{work_of}
+use Rattle.headline.specs.Theorem.{HasSoundCells}
 use Rattle.shares.specs.Layout.{own_list, fetched_list, needs_list, FetchesCells, OwnIsInside}
 use Rattle.shares.specs.Needed.{NeedsAreInside}
 

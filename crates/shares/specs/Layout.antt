@@ -1,13 +1,13 @@
 -- The lists of pieces by their numbers.
 use Rattle.std.specs.Prelude.{◌≡◌, ℕ, List, [], length, map, Option, Some, None, All, ℤ, IsTrue, slice_get}
 use Rattle.lin.specs.declared.span.Span1.{Span1}
-use Rattle.nest.specs.Plan.{Plan}
-use Rattle.nest.specs.Symbols.{points}
-use Rattle.nest.specs.View.{plan_of}
-use Rattle.cert.specs.Certificate.{Certificate, certificate_of}
-use Rattle.cert.specs.Cells.{Piece, Cell, pieces, own_region, grid_symbols}
-use Rattle.pieces.specs.Numbers.{cell_number, has_point, is_cell}
-use Rattle.pieces.specs.Work.{of_piece, own_cells, cells_fetched, needed_pieces}
+use Rattle.plan.specs.Plan.{Plan}
+use Rattle.plan.specs.Symbols.{points}
+use Rattle.plan.specs.View.{plan_of}
+use Rattle.plan.specs.Certificate.Certificate.{Certificate, certificate_of}
+use Rattle.plan.specs.Certificate.Cells.{Piece, Cell, pieces, own_region, grid_symbols}
+use Rattle.headline.specs.Numbers.{cell_number, has_point, is_cell}
+use Rattle.headline.specs.Work.{of_piece, own_cells, cells_fetched, needed_pieces}
 use Rattle.shares.specs.declared.layout.Layout.{Layout}
 use Rattle.shares.specs.Seats.{pieces_of, AreSmall}
 use Rattle.shares.specs.Shared.{AreShared}

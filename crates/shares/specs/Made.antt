@@ -1,17 +1,17 @@
 -- The lists of pieces as they are made.
 use Rattle.std.specs.Prelude.{Option, None, suc, ◌+◌, ◌-◌, ◌≤◌, ◌^◌, ◌==◌, if◌then◌else◌, [], ◌∷◌, min, MatchOption, ◌≡◌, ℕ, ◌<◌, List, length, Some, Contains, slice_get, ◌⊎◌}
-use Rattle.nest.specs.Plan.{Plan}
-use Rattle.cert.specs.Certificate.{Certificate}
-use Rattle.nest.specs.Lines.{certificate_line}
-use Rattle.cert.specs.declared.cert.Own.{Own}
-use Rattle.cert.specs.declared.cert.Need.{Need}
-use Rattle.cert.specs.Lines.{own_line, need_line}
-use Rattle.cert.specs.Cells.{first_cell, pieces}
+use Rattle.plan.specs.Plan.{Plan}
+use Rattle.plan.specs.Certificate.Certificate.{Certificate}
+use Rattle.plan.specs.Lines.{certificate_line}
+use Rattle.plan.specs.declared.certificate.cert.Own.{Own}
+use Rattle.plan.specs.declared.certificate.cert.Need.{Need}
+use Rattle.plan.specs.Certificate.Lines.{own_line, need_line}
+use Rattle.plan.specs.Certificate.Cells.{first_cell, pieces}
 use Rattle.orders.specs.Work.{Work}
 use Rattle.orders.specs.declared.lists.Piece.{Piece}
 use Rattle.orders.specs.Lists.{own_lists, fetched_lists, needs_lists}
-use Rattle.refusals.specs.declared.code.K.{K}
-use Rattle.refusals.specs.declared.code.K.TheVariants.{K9, K10, K11, K14}
+use Rattle.outline.specs.declared.refusals.code.K.{K}
+use Rattle.outline.specs.declared.refusals.code.K.TheVariants.{K9, K10, K11, K14}
 use Rattle.shares.specs.declared.answer.SharesError.{SharesError}
 use Rattle.shares.specs.declared.answer.SharesError.TheVariants.{Flaw, Memory}
 use Rattle.shares.specs.declared.lists.Trouble.{Trouble}

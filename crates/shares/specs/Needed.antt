@@ -1,10 +1,10 @@
 -- The pieces that a piece needs, line after line.
 use Rattle.std.specs.Prelude.{◌≡◌, ℕ, ◌+◌, ◌==◌, if◌then◌else◌, List, [], map, flat_map, All, IsTrue, ℤ, slice_get}
-use Rattle.nest.specs.Plan.{Plan}
-use Rattle.nest.specs.Symbols.{points}
-use Rattle.cert.specs.declared.cert.Need.{Need}
-use Rattle.cert.specs.Cells.{Piece, first_piece, grid_symbols}
-use Rattle.pieces.specs.Numbers.{group_grid}
+use Rattle.plan.specs.Plan.{Plan}
+use Rattle.plan.specs.Symbols.{points}
+use Rattle.plan.specs.declared.certificate.cert.Need.{Need}
+use Rattle.plan.specs.Certificate.Cells.{Piece, first_piece, grid_symbols}
+use Rattle.headline.specs.Numbers.{group_grid}
 use Rattle.shares.specs.declared.boxes.Side.{Side}
 use Rattle.shares.specs.Boxes.{grid_sides, is_in_box, rank}
 

@@ -1,7 +1,7 @@
 -- Pieces as code has them.
 use Rattle.std.specs.Prelude.{ℕ, List, map, All}
 use Rattle.std.specs.List.{range_with_len}
-use Rattle.cert.specs.Cells.{Piece, grid_point}
+use Rattle.plan.specs.Certificate.Cells.{Piece, grid_point}
 use Rattle.shares.specs.declared.seats.Seat.{Seat}
 use Rattle.shares.specs.Boxes.{IsSmall}
 

@@ -1,11 +1,11 @@
 -- What the shares of pieces rest on: what is asked of the lines before.
 use Rattle.std.specs.Prelude.{◌≡◌, ℕ, ◌≤◌, ◌^◌, false, List, length, Some, MatchOption, All, slice_get}
 use Rattle.lin.specs.declared.span.Span1.{Span1}
-use Rattle.nest.specs.Plan.{Statement, Seq, Let, Fetch, Statements, Empty, Then, Group, Plan}
-use Rattle.cert.specs.declared.cert.Need.{Need}
-use Rattle.cert.specs.Certificate.{Certificate}
-use Rattle.cert.specs.Cells.{no_symbols, own_region, cells, pieces}
-use Rattle.pieces.specs.Fetched.{fetches}
+use Rattle.plan.specs.Plan.{Statement, Seq, Let, Fetch, Statements, Empty, Then, Group, Plan}
+use Rattle.plan.specs.declared.certificate.cert.Need.{Need}
+use Rattle.plan.specs.Certificate.Certificate.{Certificate}
+use Rattle.plan.specs.Certificate.Cells.{no_symbols, own_region, cells, pieces}
+use Rattle.headline.specs.Fetched.{fetches}
 use Rattle.shares.specs.Boxes.{IsLimited, ArePlain, sides}
 
 -- a region in forms within the limits that has as many spans as another

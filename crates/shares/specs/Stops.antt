@@ -1,7 +1,7 @@
 -- Why the lists of a piece are not made.
 use Rattle.std.specs.Prelude.{ℕ, ◌<◌, length, ◌⊎◌}
-use Rattle.nest.specs.Plan.{Plan}
-use Rattle.cert.specs.Certificate.{Certificate}
+use Rattle.plan.specs.Plan.{Plan}
+use Rattle.plan.specs.Certificate.Certificate.{Certificate}
 use Rattle.shares.specs.declared.stop.Stop.{Stop}
 use Rattle.shares.specs.declared.stop.Stop.TheVariants.{Unserved, Large, Memory}
 use Rattle.shares.specs.Layout.{FetchesCells, fetched_list, needs_list}

@@ -3,7 +3,7 @@ use Rattle.std.specs.Prelude.{ℕ, ◌+◌, ◌*◌, ◌≤◌, ◌^◌, List, [
 use Rattle.std.specs.List.{range_with_len}
 use Rattle.std.specs.Int.{int_max, int_min}
 use Rattle.lin.specs.Forms.{IsWithin}
-use Rattle.nest.specs.Symbols.{clipped}
+use Rattle.plan.specs.Symbols.{clipped}
 use Rattle.shares.specs.declared.boxes.Side.{Side}
 
 -- the numbers that two sides share

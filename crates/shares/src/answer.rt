@@ -2,14 +2,14 @@
 
 ghost use Rattle.std.specs.Prelude.{◌≡◌, ℕ, ◌<◌, ◌≤◌, ◌+◌, ◌-◌, ◌^◌, ◌⊎◌, min, List, IfOk, IfErr, MatchOption, length};
 ghost use Rattle.meaning.specs.Algorithm.{Algorithm};
-ghost use Rattle.nest.specs.View.{plan_of};
-ghost use Rattle.cert.specs.Certificate.{certificate_of};
-ghost use Rattle.cert.specs.Cells.{cells, first_cell};
+ghost use Rattle.plan.specs.View.{plan_of};
+ghost use Rattle.plan.specs.Certificate.Certificate.{certificate_of};
+ghost use Rattle.plan.specs.Certificate.Cells.{cells, first_cell};
 ghost use Rattle.orders.specs.Lists.{AreSound};
-ghost use Rattle.pieces.specs.Work.{work_of};
+ghost use Rattle.headline.specs.Work.{work_of};
 ghost use Rattle.shares.specs.Shared.{AreShared};
 ghost use Rattle.shares.specs.Layout.{IsLayout, FetchesCells, OwnIsInside};
-ghost use Rattle.refusals.specs.declared.code.K.TheVariants.{K9, K10, K11, K14};
+ghost use Rattle.outline.specs.declared.refusals.code.K.TheVariants.{K9, K10, K11, K14};
 ghost use Rattle.shares.specs.Has.{HasShares};
 ghost use Rattle.shares.specs.Made.{AreListsOf, CodeMeans, ErrorMeans, IsPieceOf, TroubleMeans, need_place, needs_line, own_place, owns_line};
 
@@ -17,10 +17,10 @@ use crate::boxes::most_points;
 use crate::layout::{Layout, layout_of, own_of};
 use crate::lists::{Trouble, lists_of};
 use crate::owners::owners_of;
-use cert::{Cert, Need, Own};
-use nest::Plan;
 use orders::{Piece, first_gap, first_unserved};
-use refusals::{Flaw, K};
+use outline::refusals::{Flaw, K};
+use plan::Plan;
+use plan::certificate::{Cert, Need, Own};
 use std::alloc::{AllocError, Global};
 
 /// The lists of a plan's pieces, and how many cells it has.

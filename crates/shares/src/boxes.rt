@@ -2,7 +2,7 @@
 
 ghost use Rattle.std.specs.Prelude.{◌≡◌, ◌≤◌, ◌<◌, ◌*◌, ◌+◌, ◌-◌, ◌^◌, ◌↔◌, IsTrue, IfOk, [], All, length, min};
 ghost use Rattle.lin.specs.Forms.{IsWithin};
-ghost use Rattle.cert.specs.Cells.{grid_symbols};
+ghost use Rattle.plan.specs.Certificate.Cells.{grid_symbols};
 ghost use Rattle.shares.specs.Walked.{IsNear};
 ghost use Rattle.shares.specs.Boxes.{AreLimited, IsLimited, IsSmall, side, sides, point_count};
 

@@ -1,13 +1,13 @@
 //! The cells that pieces fetch.
 
 ghost use Rattle.std.specs.Prelude.{◌≡◌, ℕ, ◌<◌, ◌≤◌, ◌+◌, ◌++◌, ◌↔◌, List, IfOk, IfErr, OnOk, All, Err, MatchOption, map, length, slice_get};
-ghost use Rattle.nest.specs.Plan.{block};
-ghost use Rattle.nest.specs.Lists.{list_statements};
-ghost use Rattle.nest.specs.Symbols.{points};
-ghost use Rattle.nest.specs.View.{plan_of, statement_of};
-ghost use Rattle.cert.specs.Cells.{cell, grid_symbols};
-ghost use Rattle.pieces.specs.Fetched.{fetched_cells, block_fetched_cells};
-ghost use Rattle.pieces.specs.Numbers.{cell_number};
+ghost use Rattle.plan.specs.Plan.{block};
+ghost use Rattle.plan.specs.Lists.{list_statements};
+ghost use Rattle.plan.specs.Symbols.{points};
+ghost use Rattle.plan.specs.View.{plan_of, statement_of};
+ghost use Rattle.plan.specs.Certificate.Cells.{cell, grid_symbols};
+ghost use Rattle.headline.specs.Fetched.{fetched_cells, block_fetched_cells};
+ghost use Rattle.headline.specs.Numbers.{cell_number};
 ghost use Rattle.shares.specs.declared.stop.Stop.TheVariants.{Unserved, Large};
 ghost use Rattle.shares.specs.Boxes.{IsSmall};
 ghost use Rattle.shares.specs.Shared.{IsLike, LineIsShared, LinesAreShared};
@@ -18,7 +18,7 @@ use crate::layout::Layout;
 use crate::spaces::found_in;
 use crate::stop::Stop;
 use lin::Span1;
-use nest::Stmt;
+use plan::Stmt;
 use std::alloc::{AllocError, Global};
 
 /// Adds numbers.

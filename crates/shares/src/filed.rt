@@ -1,10 +1,10 @@
 //! Need lines by their groups.
 
 ghost use Rattle.std.specs.Prelude.{◌≡◌, ℕ, List, ◌++◌, ◌∷◌, [], IfOk, OnOk, map};
-ghost use Rattle.cert.specs.declared.cert.Need.{Need as CertNeed};
+ghost use Rattle.plan.specs.declared.certificate.cert.Need.{Need as CertNeed};
 ghost use Rattle.shares.specs.Filed.{AreFiled};
 
-use cert::Need;
+use plan::certificate::Need;
 use std::alloc::{AllocError, Global};
 
 /// No need lines for any of so many groups.

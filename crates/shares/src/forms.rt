@@ -3,8 +3,8 @@
 ghost use Rattle.std.specs.Prelude.{◌≡◌, ◌^◌, pos, fold, map, slice_get, IsTrue};
 ghost use Rattle.std.specs.Int.{int_max, int_min, int_wrap, w64};
 ghost use Rattle.lin.specs.Forms.{sum_of, is_within_limits, IsWithin};
-ghost use Rattle.nest.specs.Symbols.{form_value, largest, smallest};
-ghost use Rattle.cert.specs.Cells.{grid_value, grid_symbols};
+ghost use Rattle.plan.specs.Symbols.{form_value, largest, smallest};
+ghost use Rattle.plan.specs.Certificate.Cells.{grid_value, grid_symbols};
 ghost use Rattle.shares.specs.Boxes.{AreLimited, IsSmall};
 
 use lin::{Forms, Lin, Multiple, Sym};

@@ -2,10 +2,10 @@
 
 ghost use Rattle.std.specs.Prelude.{◌≡◌, ◌≤◌, ◌<◌, ◌+◌, ◌^◌, IfOk, All, None, Some, MatchOption, length, slice_get, List};
 ghost use Rattle.lin.specs.declared.span.Span1.{Span1 as Span};
-ghost use Rattle.nest.specs.Plan.{Group as NestGroup};
-ghost use Rattle.nest.specs.View.{plan_of};
-ghost use Rattle.cert.specs.Certificate.{certificate_of};
-ghost use Rattle.cert.specs.Cells.{first_cell as cells_before, first_piece as pieces_before, own_region};
+ghost use Rattle.plan.specs.Plan.{Group as NestGroup};
+ghost use Rattle.plan.specs.View.{plan_of};
+ghost use Rattle.plan.specs.Certificate.Certificate.{certificate_of};
+ghost use Rattle.plan.specs.Certificate.Cells.{first_cell as cells_before, first_piece as pieces_before, own_region};
 ghost use Rattle.shares.specs.Boxes.{grid_sides};
 ghost use Rattle.shares.specs.Walked.{IsExtent};
 ghost use Rattle.shares.specs.Shared.{AreShared};
@@ -13,9 +13,9 @@ ghost use Rattle.shares.specs.Grounds.{IsGroundOf, AreGrounds};
 
 use crate::boxes::{Side, box_at, most_points};
 use crate::spaces::Space;
-use cert::{Cert, Own};
 use lin::{Region, Span1};
-use nest::Plan;
+use plan::Plan;
+use plan::certificate::{Cert, Own};
 use std::alloc::{AllocError, Global};
 
 /// The cells and pieces of a group by their numbers, and its own region.

@@ -1,9 +1,9 @@
 //! A plan with its certificate, and the pieces and groups that it has.
 
 ghost use Rattle.std.specs.Prelude.{◌≡◌, ◌<◌, ◌↔◌, IsTrue, IfOk, All, length};
-ghost use Rattle.nest.specs.View.{plan_of};
-ghost use Rattle.cert.specs.Certificate.{certificate_of};
-ghost use Rattle.cert.specs.Cells.{cells};
+ghost use Rattle.plan.specs.View.{plan_of};
+ghost use Rattle.plan.specs.Certificate.Certificate.{certificate_of};
+ghost use Rattle.plan.specs.Certificate.Cells.{cells};
 ghost use Rattle.shares.specs.Shared.{AreShared};
 ghost use Rattle.shares.specs.Layout.{IsLayout, OwnIsInside, own_list};
 
@@ -11,8 +11,8 @@ use crate::filed::filed_needs;
 use crate::grounds::{Ground, grounds_of};
 use crate::seats::{Seat, seats_of};
 use crate::spaces::{Found, found_in};
-use cert::{Cert, Need};
-use nest::Plan;
+use plan::Plan;
+use plan::certificate::{Cert, Need};
 use std::alloc::{AllocError, Global};
 
 /// A plan and its certificate, with what is known of its groups, and its pieces.

@@ -2,8 +2,8 @@
 
 ghost use Rattle.std.specs.Prelude.{◌≡◌, ℕ, ◌<◌, ◌≤◌, ◌++◌, ◌↔◌, IfOk, IfErr, OnOk, Contains, Err, length, map};
 ghost use Rattle.std.specs.List.Sorted.{IsStrictlyIncreasing};
-ghost use Rattle.nest.specs.View.{plan_of};
-ghost use Rattle.cert.specs.Certificate.{certificate_of};
+ghost use Rattle.plan.specs.View.{plan_of};
+ghost use Rattle.plan.specs.Certificate.Certificate.{certificate_of};
 ghost use Rattle.shares.specs.declared.stop.Stop.TheVariants.{Unserved, Large};
 ghost use Rattle.shares.specs.Boxes.{IsSmall};
 ghost use Rattle.shares.specs.Seats.{piece_of};
@@ -19,7 +19,7 @@ use crate::layout::Layout;
 use crate::seats::Seat;
 use crate::spaces::found_in;
 use crate::stop::Stop;
-use cert::Need;
+use plan::certificate::Need;
 use std::alloc::{AllocError, Global};
 
 /// Leaves numbers rising and each once.

@@ -1,9 +1,9 @@
 //! Whose own each cell is.
 
 ghost use Rattle.std.specs.Prelude.{◌≡◌, ℕ, ◌<◌, ◌≤◌, ◌+◌, ◌^◌, List, IsTrue, IsFalse, IfOk, IfErr, None, length};
-ghost use Rattle.nest.specs.View.{plan_of};
-ghost use Rattle.cert.specs.Certificate.{certificate_of};
-ghost use Rattle.cert.specs.Cells.{cells};
+ghost use Rattle.plan.specs.View.{plan_of};
+ghost use Rattle.plan.specs.Certificate.Certificate.{certificate_of};
+ghost use Rattle.plan.specs.Certificate.Cells.{cells};
 ghost use Rattle.orders.specs.Claimed.{IsClaimed, IsClaimedBy};
 ghost use Rattle.orders.specs.Work.{OwnIsParted};
 ghost use Rattle.shares.specs.Layout.{IsLayout, own_list};

@@ -1,14 +1,14 @@
 //! The pieces of a plan: a group and a grid point each.
 
 ghost use Rattle.std.specs.Prelude.{◌≡◌, ◌≤◌, ◌<◌, ◌+◌, ◌++◌, ◌^◌, IfOk, OnOk, All, length};
-ghost use Rattle.nest.specs.View.{plan_of};
-ghost use Rattle.cert.specs.Cells.{grid_point, piece_count, pieces};
+ghost use Rattle.plan.specs.View.{plan_of};
+ghost use Rattle.plan.specs.Certificate.Cells.{grid_point, piece_count, pieces};
 ghost use Rattle.shares.specs.Seats.{AreSmall, grid_pieces, pieces_of};
 ghost use Rattle.shares.specs.Grounds.{HaveGrids};
 
 use crate::boxes::most_points;
 use crate::grounds::Ground;
-use nest::Plan;
+use plan::Plan;
 use std::alloc::{AllocError, Global};
 
 /// A piece: the number of its group, and its grid point.

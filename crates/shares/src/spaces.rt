@@ -1,8 +1,8 @@
 //! Points that are numbered.
 
 ghost use Rattle.std.specs.Prelude.{◌≡◌, ◌≤◌, ◌<◌, ◌+◌, ◌^◌, ◌↔◌, IsTrue, IfOk, [], All, length, map, filter};
-ghost use Rattle.nest.specs.Symbols.{points};
-ghost use Rattle.cert.specs.Cells.{grid_symbols};
+ghost use Rattle.plan.specs.Symbols.{points};
+ghost use Rattle.plan.specs.Certificate.Cells.{grid_symbols};
 ghost use Rattle.shares.specs.Boxes.{IsLimited, IsSmall, is_in_box, point_count};
 ghost use Rattle.shares.specs.Walked.{IsExtent};
 ghost use Rattle.shares.specs.Spaces.{IsSpace, HasAll, numbers_in};

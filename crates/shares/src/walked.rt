@@ -2,7 +2,7 @@
 
 ghost use Rattle.std.specs.Prelude.{◌≡◌, ◌≤◌, ◌<◌, ◌*◌, ◌+◌, ◌^◌, ◌++◌, IfOk, OnOk, All, flat_map, length, drop, pos, ◌+ℤ◌, ◌-ℤ◌, ◌≤ℤ◌};
 ghost use Rattle.std.specs.List.{range_with_len};
-ghost use Rattle.nest.specs.Symbols.{clipped};
+ghost use Rattle.plan.specs.Symbols.{clipped};
 ghost use Rattle.shares.specs.Boxes.{point_count};
 ghost use Rattle.shares.specs.Walked.{common, IsNear, IsExtent, shared_cells};
 

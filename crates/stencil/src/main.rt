@@ -1,13 +1,13 @@
 //! The program over the real files and streams. Without words it runs one algorithm from standard input to standard output.
 #![tactic(auto)]
 
-use pictures::Fault;
 use std::alloc::Global;
 use std::io::{BufReader, BufWriter, Error, ErrorKind, Read};
 use std::process::ExitCode;
 use std::sync::Wait;
 use std::thread::Threads;
 use std::{env, fs, io};
+use tool::pipeline::Fault;
 use tool::{FileError, Files, status, tool};
 
 // The status of a command line fault.

@@ -3,22 +3,22 @@ use Rattle.std.proofs.Common.{◌≡◌, ℕ, ◌^◌, ◌<◌, ◌≤◌, List,
 use Rattle.std.proofs.Props.{props}
 use Rattle.std.proofs.Math.Logic.{∥∥₁_elim}
 use Rattle.meaning.specs.Algorithm.{Algorithm}
-use Rattle.nest.specs.Plan.{Plan}
-use Rattle.cert.specs.Certificate.{Certificate}
-use Rattle.cert.specs.Cells.{pieces}
-use Rattle.headline.specs.Shown.{Headline}
-use Rattle.ready.specs.Ready.{Ready}
+use Rattle.plan.specs.Plan.{Plan}
+use Rattle.plan.specs.Certificate.Certificate.{Certificate}
+use Rattle.plan.specs.Certificate.Cells.{pieces}
+use Rattle.headline.specs.Headline.{Headline}
+use Rattle.checked_plan.specs.Ready.Ready.{Ready}
 use Rattle.meaning.specs.Conditions.{IsAlgorithm}
 use Rattle.meaning.specs.Functions.{AreSamples}
 use Rattle.meaning.specs.Value.{output_value}
 use Rattle.orders.specs.Crew.{Crew, Table, cell_at, go}
 use Rattle.orders.specs.Work.{all_steps}
-use Rattle.output.specs.Cells.{HoldsOutput, number_of_point}
+use Rattle.checked_plan.specs.Output.Cells.{HoldsOutput, number_of_point}
 use Rattle.steps.specs.Complete.{IsComplete}
 use Rattle.algo.specs.declared.inputs.Inputs.{Inputs}
 use Rattle.algo.specs.View.{samples_of}
-use Rattle.checked.specs.declared.checked.Checked.{Checked}
-use Rattle.checked.specs.View.{algorithm_checked, plan_checked, certificate_checked}
+use Rattle.checked_plan.specs.declared.checked.Checked.{Checked}
+use Rattle.checked_plan.specs.View.{algorithm_checked, plan_checked, certificate_checked}
 use Rattle.steps.specs.Work.{work_on}
 
 module _ (a : Algorithm) (p : Plan) (c : Certificate) where

@@ -2,17 +2,17 @@
 use Rattle.std.proofs.Common.{◌≡◌, ℕ, List, Option, MatchOption, ℤ, sym, ◌∙◌, subst}
 use Rattle.std.specs.Prelude.{slice_get}
 use Rattle.meaning.specs.Value.{Calls}
-use Rattle.nest.specs.Plan.{Group, Plan}
-use Rattle.cert.specs.Certificate.{Certificate}
-use Rattle.cert.specs.Cells.{grid_point}
-use Rattle.pieces.specs.Work.{looked_value, work_of}
-use Rattle.checked.specs.View.{algorithm_checked, certificate_checked, plan_checked}
-use Rattle.checked.specs.declared.checked.Checked.{Checked}
+use Rattle.plan.specs.Plan.{Group, Plan}
+use Rattle.plan.specs.Certificate.Certificate.{Certificate}
+use Rattle.plan.specs.Certificate.Cells.{grid_point}
+use Rattle.headline.specs.Work.{looked_value, work_of}
+use Rattle.checked_plan.specs.View.{algorithm_checked, certificate_checked, plan_checked}
+use Rattle.checked_plan.specs.declared.checked.Checked.{Checked}
 use Rattle.interpreter.specs.Narrow.{PieceIsNarrow}
 use Rattle.interpreter.specs.Outcome.{piece_gives}
-use Rattle.places.specs.Places.{IsPlaceOf}
-use Rattle.looked.specs.Laws.{PiecesAreNarrow, RunsAreTheWork}
-use Rattle.looked.specs.Looked.{cells_of_piece}
+use Rattle.piece.specs.Places.Places.{IsPlaceOf}
+use Rattle.piece.specs.Laws.{PiecesAreNarrow, RunsAreTheWork}
+use Rattle.piece.specs.Looked.{cells_of_piece}
 
 -- what a piece is told of other pieces' cells by these values
 abbrev pub told : Checked → ℕ → List ℤ → Calls

@@ -2,10 +2,10 @@
 use Rattle.std.specs.Prelude.{◌≡◌, ℕ, ◌<◌, Some}
 use Rattle.algo.specs.declared.inputs.Inputs.{Inputs}
 use Rattle.algo.specs.View.{samples_of}
-use Rattle.checked.specs.declared.checked.Checked.{Checked}
-use Rattle.checked.specs.View.{algorithm_checked, plan_checked}
+use Rattle.checked_plan.specs.declared.checked.Checked.{Checked}
+use Rattle.checked_plan.specs.View.{algorithm_checked, plan_checked}
 use Rattle.orders.specs.Crew.{Table, cell_at}
-use Rattle.pieces.specs.Work.{target}
+use Rattle.headline.specs.Work.{target}
 use Rattle.steps.specs.Work.{work_on}
 
 -- each cell of the plan holds its right value on the input

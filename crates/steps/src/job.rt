@@ -5,14 +5,14 @@ ghost use Rattle.algo.specs.View.{IsFor};
 ghost use Rattle.steps.specs.Work.{work_on};
 
 use algo::Inputs;
-use checked::Checked;
-use evaluation::Stop;
+use checked_plan::Checked;
+use checked_plan::output::PlanCells;
+use interpreter::evaluation::Stop;
 use interpreter::run_piece;
-use looked::LookedCells;
-use looked::laws::{pieces_are_narrow, runs_are_the_work};
 use orders::Job;
-use output::PlanCells;
-use places::{grid_point, place_of};
+use piece::LookedCells;
+use piece::laws::{pieces_are_narrow, runs_are_the_work};
+use piece::places::{grid_point, place_of};
 use std::alloc::{AllocError, Global};
 
 /// A checked plan, an input of its algorithm, and the numbers of the plan's cells.

@@ -2,8 +2,8 @@
 
 ghost use Rattle.std.specs.Prelude.{◌≡◌, ◌<◌, All, IfOk};
 ghost use Rattle.algo.specs.View.{IsFor, picture_said, samples_of};
-ghost use Rattle.checked.specs.View.{algorithm_checked};
-ghost use Rattle.image.specs.View.{image_of};
+ghost use Rattle.checked_plan.specs.View.{algorithm_checked};
+ghost use Rattle.meaning.specs.Image.View.{image_of};
 ghost use Rattle.orders.specs.Crew.{go};
 ghost use Rattle.orders.specs.Seen.{crew_of};
 ghost use Rattle.steps.specs.Work.{work_on};
@@ -12,11 +12,11 @@ use crate::alone::alone;
 use crate::job::PlanJob;
 use crate::samples::output_samples;
 use algo::Inputs;
-use checked::Checked;
+use checked_plan::Checked;
+use checked_plan::output::PlanCells;
 use headline::laws::inputs_are_samples;
-use image::Image;
+use meaning::image::Image;
 use orders::State;
-use output::PlanCells;
 use std::alloc::{AllocError, Global};
 
 /// The workers' state after an order of steps: each entry is one step of the worker of that number, 0 to 63.

@@ -2,15 +2,15 @@
 
 ghost use Rattle.std.specs.Prelude.{◌≡◌, ◌<◌, true, IfOk};
 ghost use Rattle.algo.specs.View.{samples_of};
-ghost use Rattle.checked.specs.View.{algorithm_checked};
-ghost use Rattle.image.specs.Raster.{is_within, natural, raster_point, sample_count};
+ghost use Rattle.checked_plan.specs.View.{algorithm_checked};
+ghost use Rattle.meaning.specs.Image.Raster.{is_within, natural, raster_point, sample_count};
 ghost use Rattle.meaning.specs.Picture.{picture};
 ghost use Rattle.meaning.specs.Value.{output_value};
 ghost use Rattle.steps.specs.Complete.{IsComplete};
 
 use crate::job::PlanJob;
+use checked_plan::output::OutputCells;
 use orders::State;
-use output::OutputCells;
 use std::alloc::{AllocError, Global};
 
 /// The output's value at a point, as its cell holds it.

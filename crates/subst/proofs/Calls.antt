@@ -3,13 +3,13 @@ use Rattle.std.proofs.Common.{◌≡◌, ℕ, ◌+◌, ◌<◌, ◌≤◌, List,
 use Rattle.std.specs.Prelude.{string_bytes, ◌||◌, max}
 use Rattle.std.specs.declared.string.String.{String}
 use Rattle.std.specs.Global.{Global, Vec}
-use Rattle.token.specs.declared.span.Span.{Span}
+use Rattle.tree.specs.declared.token.span.Span.{Span}
 use Rattle.tree.specs.declared.expr.Expr.{Expr}
 use Rattle.tree.specs.declared.expr.Cond.TheViews.{Call}
 use Rattle.tree.specs.Term.{Term, Terms, Clamp, Call as CallTerm, term_of, list_terms, indices}
 use Rattle.tree.specs.Substitution.{with_calls, all_with_calls}
 use Rattle.tree.specs.Tree.{node_count, node_counts, depth, depths}
-use Rattle.inlining.specs.PutIn.{calls_some, all_call_some}
+use Rattle.meaning.specs.Inlining.PutIn.{calls_some, all_call_some}
 use Rattle.subst.specs.declared.error.SubstError.{SubstError}
 use Rattle.subst.specs.declared.built.Built.{Built}
 use Rattle.subst.specs.declared.built.Row.{Row}

@@ -3,7 +3,7 @@ use Rattle.std.proofs.Common.{◌≡◌, ℕ, ◌+◌, ◌<◌, ◌≤◌, List,
 use Rattle.std.specs.Prelude.{string_bytes}
 use Rattle.std.specs.declared.string.String.{String}
 use Rattle.std.specs.Global.{Global, Vec}
-use Rattle.token.specs.declared.span.Span.{Span}
+use Rattle.tree.specs.declared.token.span.Span.{Span}
 use Rattle.tree.specs.declared.expr.Expr.{Expr}
 use Rattle.tree.specs.declared.expr.Cond.TheViews.{Call}
 use Rattle.tree.specs.Term.{Term, Terms, Clamp, Call as CallTerm, term_of, list_terms, indices}

@@ -7,7 +7,7 @@ use Rattle.tree.specs.Term.{Term, Terms, End, More, term_of}
 use Rattle.tree.specs.Substitution.{put_in}
 use Rattle.meaning.specs.Names.{same_name}
 use Rattle.meaning.proofs.Cases.{name_same, name_differs}
-use Rattle.inlining.specs.PutIn.{index_for}
+use Rattle.meaning.specs.Inlining.PutIn.{index_for}
 use Rattle.subst.specs.declared.error.SubstError.{SubstError}
 use Rattle.subst.specs.declared.error.SubstError.TheVariants.{TooLarge}
 use Rattle.subst.specs.declared.built.Built.{Built}

@@ -1,8 +1,6 @@
 pub mod Calls
 pub mod Fills
 pub mod Indices
-pub mod Lists
-pub mod Outputs
 pub mod Parts
 pub mod Sizes
 pub mod Steps

@@ -9,7 +9,7 @@ use Rattle.tree.specs.Substitution.{with_calls}
 use Rattle.meaning.specs.Algorithm.{Function}
 use Rattle.algo.specs.Parts.{function_of, functions_of}
 use Rattle.algo.specs.declared.function.Function.{Function as Entry}
-use Rattle.inlining.specs.PutIn.{Replacement, over_unstored, with_definition, with_definitions, with_updates, comes_to_updates, has_updates, calls_some}
+use Rattle.meaning.specs.Inlining.PutIn.{Replacement, over_unstored, with_definition, with_definitions, with_updates, comes_to_updates, has_updates, calls_some}
 use Rattle.subst.specs.declared.bodies.Body.{Body}
 use Rattle.subst.specs.Built.{Holds}
 use Rattle.subst.specs.Table.{stands_in, marked_in, AreBodiesIn, stands, marked, AreBodies, IsBodyOf, IsTableOf}

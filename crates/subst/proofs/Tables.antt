@@ -7,8 +7,8 @@ use Rattle.tree.specs.Term.{Term, Number, Name, Call, Minus, Binary, Clamp, Cast
 use Rattle.tree.specs.Tree.{node_count, cond_count, node_counts, depth, test_depth, depths}
 use Rattle.tree.specs.Substitution.{put_in, substituted, test_substituted, all_substituted, with_calls}
 use Rattle.meaning.specs.Names.{same_name}
-use Rattle.inlining.specs.PutIn.{index_for, has_updates, calls_some}
-use Rattle.inlining.proofs.Typed.{some_bool}
+use Rattle.meaning.specs.Inlining.PutIn.{index_for, has_updates, calls_some}
+use Rattle.meaning.proofs.InliningTyped.{some_bool}
 use Rattle.subst.specs.declared.error.SubstError.{SubstError}
 use Rattle.subst.specs.declared.error.SubstError.TheVariants.{Memory, Updates, TooLarge}
 use Rattle.subst.specs.declared.built.Built.{Built}

@@ -8,8 +8,8 @@ use Rattle.tree.specs.Substitution.{with_calls}
 use Rattle.meaning.specs.Algorithm.{Algorithm, Function}
 use Rattle.algo.specs.Parts.{function_of, functions_of}
 use Rattle.algo.specs.declared.function.Function.{Function as Entry}
-use Rattle.inlining.specs.PutIn.{Replacement, put_in, with_definitions, comes_to_updates, calls_some, calls_updates}
-use Rattle.inlining.specs.Laws.{TakesNoUpdates}
+use Rattle.meaning.specs.Inlining.PutIn.{Replacement, put_in, with_definitions, comes_to_updates, calls_some, calls_updates}
+use Rattle.meaning.specs.Inlining.Laws.{TakesNoUpdates}
 use Rattle.subst.specs.declared.error.SubstError.{SubstError}
 use Rattle.subst.specs.declared.error.SubstError.TheVariants.{Memory, Updates, TooLarge}
 use Rattle.subst.specs.declared.built.Built.{Built}

@@ -4,7 +4,7 @@ use Rattle.std.specs.declared.string.String.{String}
 use Rattle.std.specs.Global.{Global}
 use Rattle.tree.specs.Term.{Term, Test, Terms, End, More}
 use Rattle.tree.specs.Substitution.{put_in, substituted, test_substituted, all_substituted}
-use Rattle.inlining.specs.PutIn.{index_for}
+use Rattle.meaning.specs.Inlining.PutIn.{index_for}
 use Rattle.subst.specs.declared.error.SubstError.{SubstError}
 use Rattle.subst.specs.declared.built.Built.{Built}
 use Rattle.subst.specs.declared.built.BuiltCond.{BuiltCond}

@@ -8,7 +8,7 @@ use Rattle.algo.specs.Parts.{function_of, functions_of}
 use Rattle.algo.specs.declared.function.Function.{Function as Entry}
 use Rattle.std.specs.declared.string.String.{String}
 use Rattle.std.specs.Global.{Global}
-use Rattle.inlining.specs.PutIn.{Replacement, index_for, with_definition, with_definitions, with_updates, comes_to_updates, has_updates, calls_some}
+use Rattle.meaning.specs.Inlining.PutIn.{Replacement, index_for, with_definition, with_definitions, with_updates, comes_to_updates, has_updates, calls_some}
 use Rattle.subst.specs.declared.bodies.Body.{Body}
 use Rattle.subst.specs.declared.error.SubstError.{SubstError}
 use Rattle.subst.specs.declared.built.Built.{Built}

@@ -2,7 +2,7 @@
 
 ghost use Rattle.std.specs.Prelude.{◌≡◌, length, map, MatchResult};
 ghost use Rattle.std.specs.Option.{option_copied};
-ghost use Rattle.inlining.specs.PutIn.{has_updates as are_updates};
+ghost use Rattle.meaning.specs.Inlining.PutIn.{has_updates as are_updates};
 ghost use Rattle.algo.specs.Parts.{function_of, change_of};
 ghost use Rattle.subst.specs.Limits.{IsMemory};
 ghost use Rattle.subst.specs.Table.{found, AreBodies, IsBodyOf, IsTableOf};

@@ -12,7 +12,7 @@ use crate::nodes::{
     variable, with_index,
 };
 use std::alloc::Global;
-use token::Span;
+use tree::token::Span;
 use tree::{Cond, Expr, copy};
 
 /// A definition with the indices put in for its variables. An index that is nothing passes the limits.

@@ -8,19 +8,15 @@ ghost use Rattle.subst.specs.PutIn.{PutsIn};
 
 mod bodies;
 mod built;
-mod equality;
 mod error;
 mod filling;
 mod nodes;
-mod output;
 mod putting;
 mod updates;
 
 use algo::Algo;
 use bodies::bodies_of;
-pub use equality::same;
 pub use error::SubstError;
-pub use output::{definition_put_in, is_output_put_in};
 use putting::put;
 use std::alloc::Global;
 use tree::Expr;

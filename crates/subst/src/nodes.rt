@@ -29,7 +29,7 @@ use crate::built::{Built, BuiltCond, Row};
 use crate::error::SubstError;
 use numeric::{Comparison, Op, Ty};
 use std::alloc::Global;
-use token::Span;
+use tree::token::Span;
 use tree::{Cond, Expr};
 
 // The greatest number of nodes, and of nodes on a way down.

@@ -2,7 +2,7 @@
 
 ghost use Rattle.std.specs.Prelude.{◌≡◌};
 ghost use Rattle.tree.specs.Term.{term_of, test_of, list_terms, indices};
-ghost use Rattle.inlining.specs.PutIn.{calls_some, test_calls_some, all_call_some};
+ghost use Rattle.meaning.specs.Inlining.PutIn.{calls_some, test_calls_some, all_call_some};
 ghost use Rattle.subst.specs.Table.{marked, AreBodies};
 
 use crate::bodies::{Body, body_of_name};

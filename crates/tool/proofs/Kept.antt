@@ -2,8 +2,8 @@
 use Rattle.std.proofs.Common.{◌≡◌, ◌∙◌, sym, ℕ, List, Option, None, Some, inl, inr, refl, Result, Ok, Err}
 use Rattle.std.specs.Prelude.{IfErr, MatchResult, OnOk}
 use Rattle.std.specs.Io.KnownBytes.{Appends, Keeps}
-use Rattle.pictures.specs.declared.fault.Fault.{Fault}
-use Rattle.pictures.specs.ByPlan.{IsRun}
+use Rattle.tool.specs.declared.pipeline.fault.Fault.{Fault}
+use Rattle.tool.specs.Pipeline.ByPlan.{IsRun}
 use Rattle.tool.specs.declared.device.FileError.{FileError}
 use Rattle.tool.specs.declared.device.FileError.TheVariants.{Device, Memory}
 use Rattle.tool.specs.Files.{Contents, Holds, SameFiles, SameOthers}

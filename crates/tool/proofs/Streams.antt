@@ -2,8 +2,8 @@
 use Rattle.std.proofs.Common.{◌≡◌, ◌⊎◌, ◌∙◌, ap, inl, inr, ℕ, Result, Ok, Err, IfErr}
 use Rattle.std.specs.Prelude.{OnOk}
 use Rattle.pnm.specs.declared.error.PnmError.TheVariants.{Device}
-use Rattle.pictures.specs.declared.fault.Fault.{Fault}
-use Rattle.pictures.specs.declared.fault.Fault.TheVariants.{Image}
+use Rattle.tool.specs.declared.pipeline.fault.Fault.{Fault}
+use Rattle.tool.specs.declared.pipeline.fault.Fault.TheVariants.{Image}
 use Rattle.tool.specs.Answer.{status_after}
 use Rattle.tool.specs.Status.{status_of}
 

@@ -1,8 +1,8 @@
 -- What the program does on its words, and the status that it answers.
 use Rattle.std.specs.Prelude.{◌≡◌, ◌⊎◌, ℕ, List, Option, Result, Ok, Err, MatchResult}
 use Rattle.clap.specs.Words.{Text}
-use Rattle.pictures.specs.declared.fault.Fault.{Fault}
-use Rattle.pictures.specs.ByPlan as streams
+use Rattle.tool.specs.declared.pipeline.fault.Fault.{Fault}
+use Rattle.tool.specs.Pipeline.ByPlan as streams
 use Rattle.tool.specs.Asked.{Asked, Picture, Check, Replay}
 use Rattle.tool.specs.Checks.{IsChecked, IsCheckRefused}
 use Rattle.tool.specs.Replays.{IsReplayed, IsReplayRefused}

@@ -8,9 +8,8 @@ use Rattle.tool.specs.declared.request.ReplayRequest.{ReplayRequest}
 use Rattle.tool.specs.declared.request.Request.{Request}
 use Rattle.tool.specs.declared.request.Request.TheVariants as request
 
--- how a picture is computed: by rows, by the definitions alone, or by the plan of a file
+-- how a picture is computed: by the definitions alone, or by the plan of a file
 pub data AskedWay : Type 0 where
-  Rows : AskedWay
   Plain : AskedWay
   File : (plan : Text) → AskedWay
 
@@ -38,7 +37,6 @@ pub data Asked : Type 0 where
   Replay : AskedReplay → Asked
 
 abbrev pub way_asked : Way → AskedWay
-way_asked way.Rows = Rows
 way_asked way.Plain = Plain
 way_asked (way.File plan) = File plan.now
 

@@ -2,7 +2,7 @@
 use Rattle.std.specs.Prelude.{◌⊎◌, ℕ, List}
 use Rattle.meaning.specs.Algorithm.{Algorithm}
 use Rattle.algo.specs.Refusal.{IsAlgorithmText}
-use Rattle.pictures.specs.declared.fault.Fault.{Fault}
+use Rattle.tool.specs.declared.pipeline.fault.Fault.{Fault}
 use Rattle.tool.specs.Asked.{AskedCheck}
 use Rattle.tool.specs.Files.{Contents, Holds}
 use Rattle.tool.specs.Pictures.{HasPlanFile, IsOfDevice, IsPlanFault, IsTextFault}

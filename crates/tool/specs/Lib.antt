@@ -1,3 +1,5 @@
+pub mod Order
+pub mod Pipeline
 pub mod Answer
 pub mod Asked
 pub mod Files

@@ -5,7 +5,7 @@ use Rattle.clap.specs.declared.error.kind.ErrorKind.{ErrorKind}
 use Rattle.clap.specs.declared.error.kind.ErrorKind.TheVariants.{DisplayHelp, MissingSubcommand}
 use Rattle.clap.specs.declared.error.Error.{Error}
 use Rattle.clap.specs.Words.{App, HasKind, IsAmong, Row, Rule, Text, fault_of, first_of, kind_of, new_app, new_rule, subcommand_of, with_rule, with_subcommand}
-use Rattle.tool.specs.Asked.{AskedWay, Rows, Plain, File, AskedCheck, Asked, Picture, Check, Replay}
+use Rattle.tool.specs.Asked.{AskedWay, Plain, File, AskedCheck, Asked, Picture, Check, Replay}
 
 -- a word that has to be there, under a name
 abbrev pub needed : Text → Rule
@@ -29,9 +29,9 @@ run_line = with_rule (with_rule (with_rule (with_rule (new_app (codes "run")) (n
 abbrev pub replay_line : App
 replay_line = with_rule (with_rule (with_rule (with_rule (new_app (codes "replay")) (needed (codes "ALG"))) (needed (codes "PLAN"))) (needed (codes "IN"))) (needed (codes "ORDER"))
 
--- the commands by rows and without a plan, and with those that take a plan file
+-- the command without a plan, and with it those that take a plan file
 abbrev pub planless : App
-planless = with_subcommand (with_subcommand program (picture_line (codes "rows")).top) (picture_line (codes "plain")).top
+planless = with_subcommand program (picture_line (codes "plain")).top
 
 abbrev pub line : App
 line = with_subcommand (with_subcommand (with_subcommand planless check_line.top) run_line.top) replay_line.top
@@ -66,11 +66,10 @@ replay_in rows = option_and_then (λ check. with_order check (first_of (codes "I
 -- what a command of this name asks for
 abbrev pub asked_of_command : Text × List Row → Option Asked
 asked_of_command command =
-    if bytes_eq command.0 (codes "rows") then picture_in Rows command.1
-    else (if bytes_eq command.0 (codes "plain") then picture_in Plain command.1
+    if bytes_eq command.0 (codes "plain") then picture_in Plain command.1
     else (if bytes_eq command.0 (codes "run") then run_in command.1
     else (if bytes_eq command.0 (codes "check") then option_map Check (check_in command.1)
-    else (if bytes_eq command.0 (codes "replay") then replay_in command.1 else None))))
+    else (if bytes_eq command.0 (codes "replay") then replay_in command.1 else None)))
 
 -- what the words ask for
 abbrev pub asked : List Text → Option Asked

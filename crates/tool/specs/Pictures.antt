@@ -1,22 +1,20 @@
 -- What the commands that write a picture do to the files.
 use Rattle.std.specs.Prelude.{◌≡◌, ◌⊎◌, ℕ, List, Option, Some, Ok, ⊤}
-use Rattle.image.specs.View.{Frame}
+use Rattle.meaning.specs.Image.View.{Frame}
 use Rattle.meaning.specs.Algorithm.{Algorithm}
 use Rattle.algo.specs.Parts.{input_frame}
 use Rattle.algo.specs.View.{picture_said}
 use Rattle.algo.specs.Refusal.{IsAlgorithmText}
-use Rattle.checked.specs.declared.checked.Checked.{Checked}
-use Rattle.checked.specs.View.{plan_checked}
 use Rattle.clap.specs.Words.{Text}
 use Rattle.pnm.specs.declared.error.PnmError.TheVariants.{Device}
 use Rattle.pnm.specs.Reading.{reading, wanted_of}
 use Rattle.pnm.specs.Text.{text_of}
-use Rattle.pictures.specs.declared.fault.Fault.{Fault}
-use Rattle.pictures.specs.declared.fault.Fault.TheVariants.{Memory, Image}
-use Rattle.pictures.specs.Rows.{HasRows, IsAccepted, IsCrewRefused, IsImageRefused, IsPlanRefused, IsTextRefused}
-use Rattle.pictures.specs.ByPlan.{HasPlan, IsFileRefused}
-use Rattle.pictures.specs.WithoutPlan.{IsBudgetSpent}
-use Rattle.tool.specs.Asked.{AskedWay, Rows, Plain, File, AskedPicture}
+use Rattle.tool.specs.declared.pipeline.fault.Fault.{Fault}
+use Rattle.tool.specs.declared.pipeline.fault.Fault.TheVariants.{Memory, Image}
+use Rattle.tool.specs.Pipeline.Texts.{IsImageRefused, IsTextRefused}
+use Rattle.tool.specs.Pipeline.ByPlan.{HasPlan, IsFileRefused}
+use Rattle.tool.specs.Pipeline.WithoutPlan.{IsBudgetSpent}
+use Rattle.tool.specs.Asked.{AskedWay, Plain, File, AskedPicture}
 use Rattle.tool.specs.Files.{Contents, Holds, Puts, SameFiles, SameOthers}
 
 -- ---- the ways
@@ -37,22 +35,18 @@ HasPlanFile files name a = (bytes : List ℕ) × Holds files name bytes × HasPl
 abbrev pub IsPlanFault : Contents → Text → Algorithm → Fault → Type 0
 IsPlanFault files name a fault = IsOfDevice fault ⊎ ((bytes : List ℕ) × Holds files name bytes × IsFileFault a bytes fault)
 
--- an algorithm's picture can be computed this way: by rows where it has a row plan that the checker accepts
+-- an algorithm's picture can be computed this way: by a file where it is that of a plan that the checker accepts
 abbrev pub IsReady : Contents → AskedWay → Algorithm → Type 0
-IsReady files Rows a = HasRows a
 IsReady files Plain a = ⊤
 IsReady files (File name) a = HasPlanFile files name a
 
 -- why it can't
 abbrev pub IsUnready : Contents → AskedWay → Algorithm → Fault → Type 0
-IsUnready files Rows a fault = IsPlanRefused a fault
 IsUnready files Plain a fault = ⊥
 IsUnready files (File name) a fault = IsPlanFault files name a fault
 
--- why it was not computed: a piece of the row plan was left unfinished, or some pixel takes too many evaluations; by the plan of
--- a file there is no reason but want of memory
+-- why it was not computed: some pixel takes too many evaluations; by the plan of a file there is no reason but want of memory
 abbrev pub IsStopped : AskedWay → Algorithm → List ℕ → Fault → Type 0
-IsStopped Rows a samples fault = (x : Checked) × IsAccepted a x.plan x.cert × IsCrewRefused (plan_checked x) fault
 IsStopped Plain a samples fault = IsBudgetSpent a samples fault
 IsStopped (File name) a samples fault = fault ≡ Memory
 

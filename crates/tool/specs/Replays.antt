@@ -4,9 +4,9 @@ use Rattle.meaning.specs.Algorithm.{Algorithm}
 use Rattle.algo.specs.Parts.{input_frame}
 use Rattle.algo.specs.Refusal.{IsAlgorithmText}
 use Rattle.pnm.specs.Reading.{reading, wanted_of}
-use Rattle.pictures.specs.declared.fault.Fault.{Fault}
-use Rattle.pictures.specs.declared.fault.Fault.TheVariants.{Order}
-use Rattle.worker_order.specs.Order.{IsOrder, IsNoOrder}
+use Rattle.tool.specs.declared.pipeline.fault.Fault.{Fault}
+use Rattle.tool.specs.declared.pipeline.fault.Fault.TheVariants.{Order}
+use Rattle.tool.specs.Order.Order.{IsOrder, IsNoOrder}
 use Rattle.tool.specs.Asked.{AskedReplay}
 use Rattle.tool.specs.Files.{Contents, Holds}
 use Rattle.tool.specs.Checks.{IsChecked, IsCheckRefused}

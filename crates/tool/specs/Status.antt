@@ -2,8 +2,8 @@
 use Rattle.std.specs.Prelude.{ℕ}
 use Rattle.pnm.specs.declared.error.PnmError.{PnmError}
 use Rattle.pnm.specs.declared.error.PnmError.TheVariants as image
-use Rattle.pictures.specs.declared.fault.Fault.{Fault}
-use Rattle.pictures.specs.declared.fault.Fault.TheVariants.{Memory, Algo, Updates, TooLarge, Plan, Form, Limit, Order, Image, Unfinished, Budget}
+use Rattle.tool.specs.declared.pipeline.fault.Fault.{Fault}
+use Rattle.tool.specs.declared.pipeline.fault.Fault.TheVariants.{Memory, Algo, Plan, Form, Limit, Order, Image, Budget}
 use Rattle.tool.specs.declared.device.FileError.{FileError}
 use Rattle.tool.specs.declared.device.FileError.TheVariants as file
 
@@ -17,11 +17,8 @@ image_status _ = 3
 abbrev pub status_of : Fault → ℕ
 status_of Memory = 4
 status_of (Algo code span) = 3
-status_of (Updates function) = 3
-status_of (TooLarge function) = 3
 status_of (Plan code line) = 1
 status_of (Image e) = image_status e
-status_of (Unfinished piece) = 6
 status_of (Form line) = 3
 status_of (Limit line) = 3
 status_of Order = 3

@@ -1,11 +1,11 @@
 //! Files by their names.
 
 ghost use Rattle.std.specs.Prelude.{◌≡◌, ℕ, List, Option, None, IfOk, OnErr, OnOk};
-ghost use Rattle.pictures.specs.declared.fault.Fault.{Fault};
+ghost use Rattle.tool.specs.declared.pipeline.fault.Fault.{Fault};
 ghost use Rattle.tool.specs.Files.{Holds, Puts, SameFiles, SameOthers};
 ghost use Rattle.tool.specs.Status.{fault_of};
 
-use pictures::Fault;
+use crate::pipeline::Fault;
 use pnm::PnmError;
 use std::alloc::Global;
 

@@ -1,10 +1,9 @@
 //! Laws of the command line, each the contract of a function that does nothing.
 
-ghost use Rattle.tool.specs.Worked.{CheckWithNames, HelpWords, MisusedWords, PlainWithNames, ReplayWithNames, RowsWithNames, RunWithNames};
+ghost use Rattle.tool.specs.Worked.{CheckWithNames, HelpWords, MisusedWords, PlainWithNames, ReplayWithNames, RunWithNames};
 
 /// What words that are written out ask for.
 pub fn words_are_read()
-    ensures rows { RowsWithNames }
     ensures plain { PlainWithNames }
     ensures run { RunWithNames }
     ensures check { CheckWithNames }

@@ -1,10 +1,10 @@
-//! The commands that write a picture: by the row plan of an algorithm, by its definitions alone, and by the plan of a file.
+//! The commands that write a picture: by the definitions of an algorithm alone, and by the plan of a file.
 
 ghost use Rattle.std.specs.Prelude.{◌≡◌, Some, IfOk, IfErr, OnOk};
 ghost use Rattle.algo.specs.Parts.{input_frame};
 ghost use Rattle.algo.specs.Refusal.{IsAlgorithmText};
 ghost use Rattle.algo.specs.View.{algorithm_of, picture_said, samples_of, IsFor};
-ghost use Rattle.image.specs.View.{image_of};
+ghost use Rattle.meaning.specs.Image.View.{image_of};
 ghost use Rattle.pnm.specs.Reading.{reading, wanted_of};
 ghost use Rattle.pnm.specs.Text.{text_of};
 ghost use Rattle.tool.specs.Asked.{picture_asked, way_asked};
@@ -13,14 +13,12 @@ ghost use Rattle.tool.specs.Means.{AreMeans, IsHalted, algo_meant};
 ghost use Rattle.tool.specs.Pictures.{IsDone, IsImageFault, IsRefused, IsTextFault, IsUnready};
 
 use crate::device::Files;
-use crate::plan::plan_in;
+use crate::pipeline::{Fault, plain_picture, plan_picture, read_algorithm, read_inputs};
+use crate::plan_command::plan_in;
 use crate::request::{PictureRequest, Way};
 use algo::{Algo, Inputs};
-use checked::Checked;
-use image::Image;
-use pictures::{
-    Fault, check_rows, plain_picture, plan_picture, read_algorithm, read_inputs, rows_picture,
-};
+use checked_plan::Checked;
+use meaning::image::Image;
 use pnm::PnmError;
 use std::alloc::Global;
 use std::str;
@@ -30,8 +28,6 @@ use std::thread::Threads;
 /// What a picture is computed by.
 #[derive(Drop)]
 enum Means<'a> {
-    /// The algorithm's row plan, which the checker has accepted.
-    Rows(Checked<'a>),
     /// The algorithm's definitions.
     Definitions(&'a Algo),
     /// The plan of a file, which the checker has accepted.
@@ -63,7 +59,6 @@ fn means_of<'a, T: Threads + Sync, F: Files>(
     ensures refused { IfErr result (IsUnready (F.contents files.old) (way_asked way.entry) (algorithm_of algo.now)) }
 {
     match way {
-        Way::Rows => Ok(Means::Rows(check_rows(rt, alloc, algo)?)),
         Way::Plain => Ok(Means::Definitions(algo)),
         Way::File(name) => Ok(Means::File(plan_in(rt, alloc, files, algo, name)?)),
     }
@@ -91,7 +86,6 @@ fn computed<T: Threads + Wait + Sync>(
     ensures refused { IfErr result (IsHalted means.now (samples_of inputs.now)) }
 {
     match means {
-        Means::Rows(checked) => rows_picture(rt, alloc, checked, inputs),
         Means::Definitions(algo) => plain_picture(rt, alloc, algo, inputs),
         Means::File(checked) => plan_picture(alloc, checked, inputs),
     }
@@ -117,9 +111,8 @@ fn picture_file<T: Threads + Wait + Sync>(
     }
 }
 
-/// Writes the picture that an algorithm says of an image: by its row plan, which is made, checked and computed in the
-/// caller's thread and one more; by its definitions alone, in as many threads as serve; or by the plan of a file, which is
-/// checked and computed by one worker.
+/// Writes the picture that an algorithm says of an image: by its definitions alone, in as many threads as serve; or by the
+/// plan of a file, which is checked and computed by one worker.
 ///
 /// The algorithm's file is read, its text and its plan are checked, the image is read, and the picture is written last,
 /// after everything else has succeeded.

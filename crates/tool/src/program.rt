@@ -3,8 +3,8 @@
 ghost use Rattle.std.specs.Prelude.{◌≡◌, ◌≢◌, ◌⊎◌, [], map, IfErr, OnOk, IsErrOf};
 ghost use Rattle.std.specs.Io.KnownBytes.{Keeps};
 ghost use Rattle.clap.specs.Words.{kind_of};
-ghost use Rattle.pictures.specs.ByPlan.{IsRun, IsRunRefused};
-ghost use Rattle.pictures.specs.declared.fault.Fault.{Fault};
+ghost use Rattle.tool.specs.Pipeline.ByPlan.{IsRun, IsRunRefused};
+ghost use Rattle.tool.specs.declared.pipeline.fault.Fault.{Fault};
 ghost use Rattle.pnm.specs.declared.error.PnmError.{PnmError};
 ghost use Rattle.tool.specs.Asked.{asked_by};
 ghost use Rattle.tool.specs.Answer.{CommandAnswers, Ends, StreamsAnswer, status_after};
@@ -12,13 +12,13 @@ ghost use Rattle.tool.specs.Answer.{CommandAnswers, Ends, StreamsAnswer, status_
 use crate::device::Files;
 use crate::exit::status;
 use crate::picture::picture_command;
-use crate::plan::check_command;
+use crate::pipeline::{Fault, run_over};
+use crate::plan_command::check_command;
 use crate::replay::replay_command;
 use crate::request::Request;
 use crate::words::read_words;
 use clap::Error;
 use clap::error::ErrorKind;
-use pictures::{Fault, run_over};
 use pnm::PnmError;
 use std::alloc::Global;
 use std::io::{Read, Write};

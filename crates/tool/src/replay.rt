@@ -5,21 +5,21 @@ ghost use Rattle.tool.specs.Asked.{replay_asked};
 ghost use Rattle.tool.specs.Files.{SameFiles};
 ghost use Rattle.tool.specs.Pictures.{IsOfDevice};
 ghost use Rattle.tool.specs.Replays.{IsOrderFault, IsReplayed, IsReplayRefused};
-ghost use Rattle.worker_order.specs.Order.{IsOrder};
+ghost use Rattle.tool.specs.Order.Order.{IsOrder};
 
 use crate::device::Files;
+use crate::order::{OrderError, read};
 use crate::picture::{algorithm_in, image_in};
-use crate::plan::plan_in;
+use crate::pipeline::{Fault, State, replay};
+use crate::plan_command::plan_in;
 use crate::program::flush;
 use crate::request::ReplayRequest;
-use checked::Checked;
-use pictures::{Fault, State, replay};
+use checked_plan::Checked;
 use pnm::PnmError;
 use std::alloc::Global;
 use std::io::{Error, Write};
 use std::str;
 use std::thread::Threads;
-use worker_order::{OrderError, read};
 
 /// Reads the text of an order.
 fn order_in(alloc: Global, bytes: &[u8]) -> Result<Vec<u8>, Fault>

@@ -3,8 +3,6 @@
 /// How a picture is computed.
 #[derive(Clone, Copy, Debug, Drop)]
 pub enum Way<'a> {
-    /// By the algorithm's row plan.
-    Rows,
     /// By the algorithm's definitions alone, each pixel within a budget.
     Plain,
     /// By the plan of the file of this name.

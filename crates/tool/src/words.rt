@@ -11,8 +11,6 @@ use clap::error::ErrorKind;
 use clap::{Arg, ArgMatches, Command, Error};
 use std::alloc::{AllocError, Global};
 
-const ROWS: &str = "rows";
-
 const PLAIN: &str = "plain";
 
 const CHECK: &str = "check";
@@ -93,12 +91,11 @@ fn replay_described<'a>(alloc: Global) -> Result<Command<'a>, AllocError>
         ))
 }
 
-/// The program's line with the commands that take no plan file.
+/// The program's line with the command that takes no plan file.
 fn planless_described<'a>(alloc: Global) -> Result<Command<'a>, AllocError>
     ensures line { IfOk result (λ command. app_of command ≡ planless) }
     ensures local { IfOk result (λ command. (out-Command command).has_globals ≡ false) }
 {
-    let rows = picture_described(alloc, ROWS, "Write the picture, computed row by row")?;
     let plain = picture_described(
         alloc,
         PLAIN,
@@ -108,7 +105,6 @@ fn planless_described<'a>(alloc: Global) -> Result<Command<'a>, AllocError>
         .about("Compile, check and run integer image pipelines")
         .no_binary_name(true)
         .subcommand_required(true)
-        .subcommand(rows)?
         .subcommand(plain)
 }
 
@@ -171,9 +167,7 @@ fn replay_found<'a>(matches: &ArgMatches<'a>) -> Option<Request<'a>>
 fn request_named<'a>(name: &str, matches: &ArgMatches<'a>) -> Option<Request<'a>>
     ensures { option_map asked_by result ≡ asked_of_command (name.now, rows_of (found_of matches.now)) }
 {
-    if name == ROWS {
-        picture_found(Way::Rows, matches)
-    } else if name == PLAIN {
+    if name == PLAIN {
         picture_found(Way::Plain, matches)
     } else if name == RUN {
         run_found(matches)

@@ -1,3 +1,7 @@
+pub mod Fronts
+pub mod Decimals
+pub mod Spelled
+pub mod Lexemes
 pub mod Places
 pub mod Rows
 pub mod Soundness

@@ -4,7 +4,7 @@ use Rattle.std.specs.Option.{ok_or}
 use Rattle.std.specs.Result.{IfOk, IfErr}
 use Rattle.numeric.specs.declared.ty.Ty.{Ty}
 use Rattle.std.specs.Prelude.{slice_get}
-use Rattle.token.specs.declared.span.Span.{Span}
+use Rattle.tree.specs.declared.token.span.Span.{Span}
 use Rattle.tree.specs.declared.typing.TypeError.{TypeError}
 use Rattle.tree.specs.Place.{misfit}
 

@@ -1,3 +1,4 @@
+pub mod Token
 pub mod Laws
 pub mod Meaning
 pub mod Names

@@ -1,7 +1,7 @@
 -- Where in the text the parts of an expression stand, and where its types do not fit.
 use Rattle.std.specs.Prelude.{ℕ, List, [], ◌∷◌, ◌++◌, Bool, true, ◌&&◌, Option, None, is_some, string_bytes}
 use Rattle.numeric.specs.declared.ty.Ty.{Ty}
-use Rattle.token.specs.declared.span.Span.{Span}
+use Rattle.tree.specs.declared.token.span.Span.{Span}
 use Rattle.tree.specs.declared.expr.Expr.{Expr, Literal, Variable, Call', Negate', Binary', Clamp', Cast', Select', Row_of-Expr, end_of-Expr, more_of-Expr}
 use Rattle.tree.specs.declared.expr.Cond.{Cond, Compare, Not', All', Any'}
 use Rattle.tree.specs.Term.{term_of, terms_of, test_of, Number, Name, Call, Minus, Binary, Clamp, Cast, Choice}

@@ -5,9 +5,9 @@ ghost use Rattle.tree.specs.Term.{term_of, test_of, list_terms, Number, Minus, B
 ghost use Rattle.tree.specs.Place.{spans_of, spans_of_test, list_spans};
 
 use crate::expr::{Cond, Expr};
+use crate::token::Span;
 use numeric::{Op, Ty};
 use std::alloc::{AllocError, Global};
-use token::Span;
 
 /// An equal expression, with the same places, in memory of its own.
 #[cycle(copy)]

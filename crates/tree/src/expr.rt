@@ -3,8 +3,8 @@
 ghost use Rattle.std.specs.Prelude.{◌≡◌};
 ghost use Rattle.tree.specs.Place.{span_of, test_span};
 
+use crate::token::Span;
 use numeric::{Comparison, Op, Ty};
-use token::Span;
 
 /// An expression. Each node has the part of the text that it was read from,
 /// without brackets round it.

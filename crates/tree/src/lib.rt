@@ -6,6 +6,7 @@ pub mod evaluation;
 pub mod expr;
 pub mod laws;
 pub mod names;
+pub mod token;
 pub mod typing;
 pub mod value;
 

@@ -10,8 +10,8 @@ ghost use Rattle.tree.specs.Place.{misfits, misfits_of_test, list_misfits};
 
 use crate::expr::{Cond, Expr};
 use crate::names::Names;
+use crate::token::Span;
 use numeric::{Op, Ty};
-use token::Span;
 
 /// Types differ, a name is not known, a call has another number of indices or an index
 /// that is no i32, or a literal is no value of its type.

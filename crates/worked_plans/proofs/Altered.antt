@@ -2,23 +2,23 @@
 use Rattle.std.proofs.Common.{◌≡◌, ℕ, suc, ◌+◌, ◌*◌, ◌≤◌, ◌<◌, Bool, true, false, List, [], ◌∷◌, ◌++◌, Option, Some, None, refl, sym, ap, ◌∙◌, subst, inl, inr, arith}
 use Rattle.std.specs.Prelude.{ℤ, pos, negsuc, ◌≤ℤ◌, ◌+ℤ◌, ◌-ℤ◌, ◌*ℤ◌, ◌==◌, ◌&&◌, codes, if◌then◌else◌, flat_map, unsigned_abs, int_le}
 use Rattle.std.proofs.lemmas.Int.{ints}
-use Rattle.image.specs.Raster.{sample}
+use Rattle.meaning.specs.Image.Raster.{sample}
 use Rattle.numeric.specs.declared.ty.Ty.TheVariants.{I32}
 use Rattle.numeric.specs.Wrap.{wrap}
 use Rattle.lin.specs.declared.span.Span1.{Span1}
-use Rattle.nest.specs.declared.stmt.Kind.TheVariants.{Serial}
-use Rattle.nest.specs.Plan.{Statement, Seq, block}
-use Rattle.nest.specs.Symbols.{bind, rising, turns}
-use Rattle.actions.specs.Actions.{Action, Allot, Take, Put, Change, Give, actions}
-use Rattle.actions.specs.Worked.{constants, loop}
+use Rattle.plan.specs.declared.stmt.Kind.TheVariants.{Serial}
+use Rattle.plan.specs.Plan.{Statement, Seq, block}
+use Rattle.plan.specs.Symbols.{bind, rising, turns}
+use Rattle.plan.specs.Semantics.Actions.{Action, Allot, Take, Put, Change, Give, actions}
+use Rattle.plan.specs.Semantics.Worked.{constants, loop}
 use Rattle.meaning.specs.Names.{same_point}
-use Rattle.claims.specs.Origins.{Given, matches}
-use Rattle.claims.specs.Claims.{In, IsMade, status_after, Scope, Before}
-use Rattle.claims.specs.Worked.{hist_store}
-use Rattle.claims.proofs.Forms.{lies_region, region_lies}
-use Rattle.claims.proofs.Ongoing.{only_steps, some_before}
-use Rattle.claims.proofs.Turns.{turns_within}
-use Rattle.claims.proofs.Windows.{turns_rising}
+use Rattle.soundness.specs.Origins.{Given, matches}
+use Rattle.soundness.specs.Claims.{In, IsMade, status_after, Scope, Before}
+use Rattle.soundness.specs.Worked.{hist_store}
+use Rattle.soundness.proofs.Forms.{lies_region, region_lies}
+use Rattle.soundness.proofs.Ongoing.{only_steps, some_before}
+use Rattle.soundness.proofs.Turns.{turns_within}
+use Rattle.soundness.proofs.Windows.{turns_rising}
 use Rattle.worked_plans.specs.Counts.{over_rows, over_columns, FirstRowIsNeeded, LastRowIsNeeded, ColumnsComeFirst, ClaimsAreNotWider, SamplesArePlaces}
 use Rattle.worked_plans.proofs.Parts.{turn_scope, begun, first_turn, second_turn, one_only, sample_from, stays, s, region, given_at, before}
 

@@ -5,26 +5,26 @@ use Rattle.std.proofs.lemmas.Bool.Decides.{nat_tests}
 use Rattle.std.proofs.lemmas.Int.{ints}
 use Rattle.lin.specs.Forms.{number}
 use Rattle.lin.specs.declared.span.Span1.{Span1}
-use Rattle.nest.specs.declared.stmt.Kind.TheVariants.{Serial}
-use Rattle.nest.specs.declared.stmt.Places.{Places}
-use Rattle.nest.specs.declared.stmt.Places.TheVariants.{From}
-use Rattle.nest.specs.Plan.{Statement, Seq, block}
-use Rattle.nest.specs.Symbols.{Symbols, bind, turns}
-use Rattle.nest.specs.Rooms.{Room, Straight, room, place}
-use Rattle.actions.specs.Actions.{Action, actions}
-use Rattle.actions.specs.Worked.{constants, symbol}
-use Rattle.claims.specs.Origins.{Given}
-use Rattle.claims.specs.Obligations.{Lies, LieIn, anything, exactly, Binder, Ranged, Respects, Rules, Made, MeantAt, AllMeant, obligations}
-use Rattle.claims.specs.Shown.{start, Nests, AreRightNests, MeantIsSound}
-use Rattle.claims.proofs.Folds.{near_apart, straight_near}
-use Rattle.claims.proofs.Forms.{region_lies}
-use Rattle.claims.proofs.Rows.{itself}
-use Rattle.claims.proofs.Turns.{below_has, joined_some, turns_have}
-use Rattle.claims.proofs.Windows.{fills_loop, fills_make}
-use Rattle.claims.proofs.Written.{written_turns}
-use Rattle.claims.specs.Worked.{hist_algorithm}
-use Rattle.nests.specs.Laws.{PlainNestsAreRight, domains_of}
-use Rattle.nests.specs.Tests.{plain_nests}
+use Rattle.plan.specs.declared.stmt.Kind.TheVariants.{Serial}
+use Rattle.plan.specs.declared.stmt.Places.{Places}
+use Rattle.plan.specs.declared.stmt.Places.TheVariants.{From}
+use Rattle.plan.specs.Plan.{Statement, Seq, block}
+use Rattle.plan.specs.Symbols.{Symbols, bind, turns}
+use Rattle.plan.specs.Rooms.{Room, Straight, room, place}
+use Rattle.plan.specs.Semantics.Actions.{Action, actions}
+use Rattle.plan.specs.Semantics.Worked.{constants, symbol}
+use Rattle.soundness.specs.Origins.{Given}
+use Rattle.soundness.specs.Obligations.{Lies, LieIn, anything, exactly, Binder, Ranged, Respects, Rules, Made, MeantAt, AllMeant, obligations}
+use Rattle.soundness.specs.Shown.{start, Nests, AreRightNests, MeantIsSound}
+use Rattle.soundness.proofs.Folds.{near_apart, straight_near}
+use Rattle.soundness.proofs.Forms.{region_lies}
+use Rattle.soundness.proofs.Rows.{itself}
+use Rattle.soundness.proofs.Turns.{below_has, joined_some, turns_have}
+use Rattle.soundness.proofs.Windows.{fills_loop, fills_make}
+use Rattle.soundness.proofs.Written.{written_turns}
+use Rattle.soundness.specs.Worked.{hist_algorithm}
+use Rattle.soundness.specs.Nests.Laws.{PlainNestsAreRight, domains_of}
+use Rattle.soundness.specs.Nests.Tests.{plain_nests}
 use Rattle.worked_plans.specs.Counts.{ArePlaces, HistIsSound, over_rows, counts_body}
 use Rattle.worked_plans.proofs.Parts.{s, region, store, fill, given_at}
 use Rattle.worked_plans.proofs.Rules.{rules_for, suited, counted}

@@ -2,7 +2,7 @@
 use Rattle.std.proofs.Common.{◌≡◌, ℕ, suc, ◌+◌, Bool, true, false, List, [], ◌∷◌, subst, inl, inr, arith}
 use Rattle.std.specs.Prelude.{ℤ, pos, ◌≤ℤ◌, ◌⊎◌, codes, if◌then◌else◌, slice_index}
 use Rattle.std.proofs.lemmas.Int.{ints}
-use Rattle.image.specs.Raster.{is_within, sample, place as raster_place}
+use Rattle.meaning.specs.Image.Raster.{is_within, sample, place as raster_place}
 use Rattle.numeric.specs.declared.ty.Ty.TheVariants.{I32, U16}
 use Rattle.numeric.specs.Wrap.{wrap}
 use Rattle.numeric.proofs.Wraps.{wrap_of_value}
@@ -11,17 +11,17 @@ use Rattle.tree.specs.Term.{Number, Call, Binary, End, More}
 use Rattle.meaning.specs.Algorithm.{Range, Change, Function}
 use Rattle.lin.specs.Forms.{number}
 use Rattle.lin.specs.declared.span.Span1.{Span1}
-use Rattle.nest.specs.declared.stmt.Kind.{Kind}
-use Rattle.nest.specs.declared.stmt.Places.TheVariants.{From}
-use Rattle.nest.specs.Plan.{Statement, For, Alloc, Store}
-use Rattle.nest.specs.Symbols.{Symbols, turns, largest}
-use Rattle.cert.specs.Cells.{grid_symbols}
-use Rattle.actions.specs.Worked.{constants, symbol, is, loop}
-use Rattle.claims.specs.Origins.{Given}
-use Rattle.claims.specs.Right.{at_start}
-use Rattle.claims.specs.Given.{given_of, outline_of}
-use Rattle.claims.specs.Claims.{EachTurn, Fact, Scope, IsSound, choose_facts, is_updated, in_turn, turn_symbols, handed_on, left, onward}
-use Rattle.claims.specs.Worked.{hist_algorithm, sampled}
+use Rattle.plan.specs.declared.stmt.Kind.{Kind}
+use Rattle.plan.specs.declared.stmt.Places.TheVariants.{From}
+use Rattle.plan.specs.Plan.{Statement, For, Alloc, Store}
+use Rattle.plan.specs.Symbols.{Symbols, turns, largest}
+use Rattle.plan.specs.Certificate.Cells.{grid_symbols}
+use Rattle.plan.specs.Semantics.Worked.{constants, symbol, is, loop}
+use Rattle.soundness.specs.Origins.{Given}
+use Rattle.soundness.specs.Right.{at_start}
+use Rattle.soundness.specs.Given.{given_of, outline_of}
+use Rattle.soundness.specs.Claims.{EachTurn, Fact, Scope, IsSound, choose_facts, is_updated, in_turn, turn_symbols, handed_on, left, onward}
+use Rattle.soundness.specs.Worked.{hist_algorithm, sampled}
 use Rattle.worked_plans.specs.Counts.{counts_group, counts_plan, counts_certificate}
 
 first_of : (P : ℤ → List Fact → Type 0) (next : ℤ → List Fact → List Fact) (carried : List Fact) (zs ys : List ℤ) (z : ℤ) → zs ≡ z ∷ ys → EachTurn P next carried zs → P z carried

@@ -3,7 +3,7 @@ use Rattle.std.proofs.Common.{◌≡◌, ℕ, zero, suc, ◌+◌, Bool, true, fa
 use Rattle.std.specs.Prelude.{ℤ, pos, negsuc, ◌≤ℤ◌, ◌+ℤ◌, ◌&&◌, IsTrue, codes, if◌then◌else◌, int_le, nat_lt}
 use Rattle.std.proofs.lemmas.Bool.Decides.{nat_tests}
 use Rattle.std.proofs.lemmas.Int.{ints}
-use Rattle.image.specs.Raster.{is_within, sample}
+use Rattle.meaning.specs.Image.Raster.{is_within, sample}
 use Rattle.numeric.specs.declared.ty.Ty.{Ty}
 use Rattle.numeric.specs.declared.ty.Ty.TheVariants.{U8, U16, U32, I8, I16, I32}
 use Rattle.numeric.specs.Wrap.{wrap}
@@ -16,17 +16,17 @@ use Rattle.meaning.specs.Reduction.{size, rank}
 use Rattle.lin.specs.Forms.{sum_of}
 use Rattle.lin.specs.declared.form.Multiple.{Multiple}
 use Rattle.lin.specs.declared.span.Span1.{Span1}
-use Rattle.nest.specs.Plan.{Statement}
-use Rattle.nest.specs.Symbols.{Symbols, points}
-use Rattle.actions.specs.Worked.{constants}
-use Rattle.claims.specs.Origins.{Given, Reader, answer}
-use Rattle.claims.specs.Given.{update_in, steps_in, all_steps_in, step_in, is_in, is_in_domain}
-use Rattle.claims.specs.Obligations.{Lies, LieIn, anything, Rules, Suited}
-use Rattle.claims.specs.Worked.{hist_algorithm}
-use Rattle.claims.proofs.Forms.{point_lies}
-use Rattle.claims.proofs.Refines.{name_true}
-use Rattle.claims.proofs.Written.{in_filter}
-use Rattle.nests.specs.Laws.{Counts, ranges_in, domains_of}
+use Rattle.plan.specs.Plan.{Statement}
+use Rattle.plan.specs.Symbols.{Symbols, points}
+use Rattle.plan.specs.Semantics.Worked.{constants}
+use Rattle.soundness.specs.Origins.{Given, Reader, answer}
+use Rattle.soundness.specs.Given.{update_in, steps_in, all_steps_in, step_in, is_in, is_in_domain}
+use Rattle.soundness.specs.Obligations.{Lies, LieIn, anything, Rules, Suited}
+use Rattle.soundness.specs.Worked.{hist_algorithm}
+use Rattle.soundness.proofs.Forms.{point_lies}
+use Rattle.soundness.proofs.Refines.{name_true}
+use Rattle.soundness.proofs.Written.{in_filter}
+use Rattle.soundness.specs.Nests.Laws.{Counts, ranges_in, domains_of}
 use Rattle.worked_plans.specs.Counts.{ArePlaces, over_rows}
 use Rattle.worked_plans.proofs.Parts.{given_at, region, sample_from, stays, ranges_of, counting}
 

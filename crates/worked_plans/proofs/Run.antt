@@ -5,24 +5,24 @@ use Rattle.numeric.specs.declared.ty.Ty.TheVariants.{U8, U16}
 use Rattle.tree.specs.declared.value.Value.{Value}
 use Rattle.tree.specs.Term.{Term}
 use Rattle.tree.specs.Meaning.{typed, value_of}
-use Rattle.image.specs.Raster.{sample}
+use Rattle.meaning.specs.Image.Raster.{sample}
 use Rattle.meaning.specs.Algorithm.{Algorithm, Function, Change}
 use Rattle.meaning.specs.Names.{same_name}
 use Rattle.meaning.specs.Value.{calls_of}
-use Rattle.nest.specs.Claimed.{claim_of}
-use Rattle.nest.specs.Plan.{Seq, block}
-use Rattle.nest.specs.Symbols.{bind, largest, turns}
-use Rattle.cert.specs.Certificate.{Claim}
-use Rattle.actions.specs.Actions.{Action, Allot, Take, Put, Change as Update, Give, actions}
-use Rattle.actions.specs.Run.{Around, Source, Input, ByClaim, Unknown, claim_source, source_of}
-use Rattle.actions.specs.Setting.{buffer_in, around_of}
-use Rattle.actions.specs.Worked.{constants, loop, no_cells}
-use Rattle.claims.specs.Origins.{Given}
-use Rattle.claims.specs.Given.{claim_or_none}
-use Rattle.claims.specs.Right.{Suits, AreRight, PrivateRunsAreRight, right_outcome}
-use Rattle.claims.specs.Stored.{AreDefinitions, AreFetchedRight, KeepsValues, IsOfAlgorithm, DefinitionsAreRight, GivenIsOfAlgorithm, calls_within}
-use Rattle.claims.specs.Worked.{hist_algorithm, hist_store}
-use Rattle.claims.proofs.Refines.{name_true}
+use Rattle.plan.specs.Claimed.{claim_of}
+use Rattle.plan.specs.Plan.{Seq, block}
+use Rattle.plan.specs.Symbols.{bind, largest, turns}
+use Rattle.plan.specs.Certificate.Certificate.{Claim}
+use Rattle.plan.specs.Semantics.Actions.{Action, Allot, Take, Put, Change as Update, Give, actions}
+use Rattle.plan.specs.Semantics.Run.{Around, Source, Input, ByClaim, Unknown, claim_source, source_of}
+use Rattle.plan.specs.Semantics.Setting.{buffer_in, around_of}
+use Rattle.plan.specs.Semantics.Worked.{constants, loop, no_cells}
+use Rattle.soundness.specs.Origins.{Given}
+use Rattle.soundness.specs.Given.{claim_or_none}
+use Rattle.soundness.specs.Right.{Suits, AreRight, PrivateRunsAreRight, right_outcome}
+use Rattle.soundness.specs.Stored.{AreDefinitions, AreFetchedRight, KeepsValues, IsOfAlgorithm, DefinitionsAreRight, GivenIsOfAlgorithm, calls_within}
+use Rattle.soundness.specs.Worked.{hist_algorithm, hist_store}
+use Rattle.soundness.proofs.Refines.{name_true}
 use Rattle.worked_plans.specs.Counts.{HistIsSound, HistRunsRight, all_rows, counts_body, counts_plan, counts_certificate}
 use Rattle.worked_plans.proofs.Parts.{s, room_line, store, fill, given_at, change, counting}
 

@@ -6,17 +6,17 @@ use Rattle.lin.specs.declared.span.Span1.{Span1}
 use Rattle.numeric.specs.declared.ty.Ty.TheVariants.{I32}
 use Rattle.tree.specs.Term.{Number, Name, Call, Clamp, End, More}
 use Rattle.lin.specs.Forms.{number}
-use Rattle.nest.specs.declared.stmt.Places.TheVariants.{From}
-use Rattle.nest.specs.Plan.{Statement, Alloc, Store}
-use Rattle.actions.specs.Actions.{Action, actions}
-use Rattle.actions.specs.Worked.{constants, symbol, is, loop, scan_certificate}
-use Rattle.claims.specs.Given.{given_of, outline_of}
-use Rattle.claims.specs.Origins.{Given}
-use Rattle.claims.specs.Claims.{Scope, IsMade, Before, onward, status_after}
-use Rattle.claims.specs.Right.{at_start}
-use Rattle.claims.specs.Worked.{scan_algorithm}
-use Rattle.claims.proofs.Forms.{lies_region}
-use Rattle.claims.proofs.Ongoing.{only_steps, some_before}
+use Rattle.plan.specs.declared.stmt.Places.TheVariants.{From}
+use Rattle.plan.specs.Plan.{Statement, Alloc, Store}
+use Rattle.plan.specs.Semantics.Actions.{Action, actions}
+use Rattle.plan.specs.Semantics.Worked.{constants, symbol, is, loop, scan_certificate}
+use Rattle.soundness.specs.Given.{given_of, outline_of}
+use Rattle.soundness.specs.Origins.{Given}
+use Rattle.soundness.specs.Claims.{Scope, IsMade, Before, onward, status_after}
+use Rattle.soundness.specs.Right.{at_start}
+use Rattle.soundness.specs.Worked.{scan_algorithm}
+use Rattle.soundness.proofs.Forms.{lies_region}
+use Rattle.soundness.proofs.Ongoing.{only_steps, some_before}
 use Rattle.worked_plans.specs.Sums.{sums_update, sums_group, sums_plan, FirstPointIsNeeded, LastPointIsNeeded}
 use Rattle.worked_plans.proofs.Parts.{one_only, s}
 

@@ -2,17 +2,17 @@
 use Rattle.std.specs.Prelude.{◌≡◌, ℕ, suc, List, [], ◌∷◌, map, Some, ℤ, pos, ◌≤ℤ◌, ◌<ℤ◌, codes}
 use Rattle.numeric.specs.declared.ty.Ty.TheVariants.{U8, U16}
 use Rattle.tree.specs.Term.{Number}
-use Rattle.image.specs.Raster.{sample}
+use Rattle.meaning.specs.Image.Raster.{sample}
 use Rattle.lin.specs.Forms.{number}
 use Rattle.lin.specs.declared.span.Span1.{Span1}
-use Rattle.nest.specs.declared.stmt.Places.TheVariants.{From}
-use Rattle.nest.specs.Plan.{Statement, Seq, Alloc, Store, Publish, block, Group, Plan}
+use Rattle.plan.specs.declared.stmt.Places.TheVariants.{From}
+use Rattle.plan.specs.Plan.{Statement, Seq, Alloc, Store, Publish, block, Group, Plan}
 use Rattle.meaning.specs.Conditions.{IsAlgorithm}
 use Rattle.meaning.specs.Value.{calls_of}
-use Rattle.cert.specs.Certificate.{Certificate}
-use Rattle.cert.specs.Cells.{own_points, grid_symbols}
-use Rattle.actions.specs.Worked.{piece, symbol, constants, is, loop}
-use Rattle.claims.specs.Worked.{hist_algorithm, hist_store, IsPieceSound}
+use Rattle.plan.specs.Certificate.Certificate.{Certificate}
+use Rattle.plan.specs.Certificate.Cells.{own_points, grid_symbols}
+use Rattle.plan.specs.Semantics.Worked.{piece, symbol, constants, is, loop}
+use Rattle.soundness.specs.Worked.{hist_algorithm, hist_store, IsPieceSound}
 
 -- ---- the plan, over the places 0 to `last`: the update is any statement
 

@@ -4,10 +4,10 @@ use Rattle.numeric.specs.declared.ty.Ty.TheVariants.{U8, I32}
 use Rattle.numeric.specs.declared.op.Op.TheVariants.{Add, Sub}
 use Rattle.tree.specs.Term.{Number, Name, Call, Binary, Clamp, End, More}
 use Rattle.lin.specs.Forms.{number}
-use Rattle.nest.specs.declared.stmt.Places.TheVariants.{From}
-use Rattle.nest.specs.Plan.{Statement, Seq, Alloc, Store, Publish, block, Group, Plan}
-use Rattle.actions.specs.Worked.{constants, symbol, is, finds, loop, load, scan_certificate}
-use Rattle.claims.specs.Worked.{scan_algorithm, IsPieceSound}
+use Rattle.plan.specs.declared.stmt.Places.TheVariants.{From}
+use Rattle.plan.specs.Plan.{Statement, Seq, Alloc, Store, Publish, block, Group, Plan}
+use Rattle.plan.specs.Semantics.Worked.{constants, symbol, is, finds, loop, load, scan_certificate}
+use Rattle.soundness.specs.Worked.{scan_algorithm, IsPieceSound}
 
 -- the update over the points from the first number to the last
 abbrev pub sums_update : ℤ → ℤ → Statement

@@ -2,10 +2,10 @@
 
 ghost use Rattle.worked_plans.specs.Counts.{ClaimsAreNotWider, ColumnsComeFirst, FirstRowIsNeeded, HistIsSound, HistRunsRight, LastRowIsNeeded, SamplesArePlaces};
 
-use claims::laws::{
+use soundness::laws::{
     definitions_are_right, given_is_of_algorithm, meant_is_sound, private_runs_are_right,
 };
-use nests::laws::plain_nests_are_right;
+use soundness::nests::laws::plain_nests_are_right;
 
 /// The piece of a histogram is sound for every number of rows, where the samples are places.
 pub fn hist_is_sound()

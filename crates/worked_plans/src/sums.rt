@@ -2,7 +2,7 @@
 
 ghost use Rattle.worked_plans.specs.Sums.{AllPointsAreEnough, FirstPointIsNeeded, LastPointIsNeeded};
 
-use claims::worked::scan_is_sound;
+use soundness::worked::scan_is_sound;
 
 /// The piece of a running sum over all points is sound.
 pub fn all_points_are_enough()

@@ -1,6 +1,6 @@
 use Rattle.std.proofs.Common.{◌≡◌, ◌∷◌, map, take, string_bytes}
 use Rattle.std.specs.List.{flat_map}
-use Rattle.syntax.specs.View.{statement_text}
+use Rattle.expr.specs.Statements.View.{statement_text}
 use Rattle.algo.specs.Parts.{names_of}
 use Rattle.algo.specs.Saying.{name_declared}
 use Rattle.algo.proofs.file.declared.Given as goal

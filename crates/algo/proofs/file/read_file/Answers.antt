@@ -1,8 +1,8 @@
 use Rattle.std.proofs.Common.{◌≡◌, sym, subst, string_bytes}
-use Rattle.image.specs.View.{AreExtents, IsSampleType}
+use Rattle.meaning.specs.Image.View.{AreExtents, IsSampleType}
 use Rattle.meaning.specs.Conditions.{IsAlgorithm, IsOutput, function_named}
 use Rattle.std.specs.Prelude.{MatchOption, IsSome, IfSome}
-use Rattle.syntax.specs.View.{output_text}
+use Rattle.expr.specs.Statements.View.{output_text}
 use Rattle.algo.specs.declared.error.Code.{Code}
 use Rattle.algo.specs.Keeping.{KeepsOutput}
 use Rattle.algo.specs.declared.error.Code.TheVariants.{Name, IndexCount, Limit, SampleType}

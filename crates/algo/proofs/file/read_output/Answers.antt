@@ -1,5 +1,5 @@
 use Rattle.std.proofs.Common.{IsTrue, false, refl}
-use Rattle.image.specs.View.{IsSampleType}
+use Rattle.meaning.specs.Image.View.{IsSampleType}
 use Rattle.algo.proofs.Placed.{sampleless}
 use Rattle.algo.proofs.file.read_output.Goals as goal
 

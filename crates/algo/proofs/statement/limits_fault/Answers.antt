@@ -1,6 +1,6 @@
 use Rattle.std.proofs.Common.{◌≡◌, Some, List, inr, refl, subst}
 use Rattle.std.specs.Prelude.{slice_get}
-use Rattle.syntax.specs.declared.statement.Named.{Named}
+use Rattle.expr.specs.declared.statements.statement.Named.{Named}
 use Rattle.algo.proofs.Placed.{item_at}
 use Rattle.algo.proofs.statement.limits_fault.Goals as goal
 

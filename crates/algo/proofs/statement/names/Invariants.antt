@@ -1,5 +1,5 @@
 use Rattle.std.proofs.Common.{◌≡◌, map, take, vec_len}
-use Rattle.syntax.specs.View.{named_text}
+use Rattle.expr.specs.Statements.View.{named_text}
 use Rattle.algo.specs.Parts.{names_of}
 use Rattle.algo.proofs.statement.names.Given as goal
 

@@ -1,7 +1,7 @@
 use Rattle.std.proofs.Common.{◌≡◌, List, [], inl, inr, subst, arith, MatchOption}
 use Rattle.std.specs.Prelude.{slice_get}
-use Rattle.scoping.specs.Doubles.{IsFirstDouble}
-use Rattle.syntax.specs.declared.statement.Named.{Named}
+use Rattle.algo.specs.Scoping.Doubles.{IsFirstDouble}
+use Rattle.expr.specs.declared.statements.statement.Named.{Named}
 use Rattle.algo.proofs.Placed.{doubled_at}
 use Rattle.algo.proofs.statement.names_fault.Goals as goal
 

@@ -1,7 +1,7 @@
 use Rattle.std.proofs.Common.{◌≡◌, ℕ, ◌∙◌, ◌++◌, ◌∷◌, [], List, subst, sym, ap}
 use Rattle.std.proofs.lemmas.List.{map-append}
 use Rattle.meaning.specs.Algorithm as said
-use Rattle.syntax.specs.View.{update_text, named_text}
+use Rattle.expr.specs.Statements.View.{update_text, named_text}
 use Rattle.algo.specs.declared.error.Code.{Code}
 use Rattle.algo.specs.declared.error.Code.TheVariants.{Name}
 use Rattle.algo.specs.Parts.{names_of, functions_of, function_of}

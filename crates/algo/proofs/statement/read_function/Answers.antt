@@ -2,7 +2,7 @@ use Rattle.std.proofs.Common.{◌≡◌, ◌∙◌, ℕ, List, Some, map, subst,
 use Rattle.tree.specs.Typing.{type_of}
 use Rattle.meaning.specs.Names.{is_among}
 use Rattle.meaning.specs.Conditions.{callable}
-use Rattle.syntax.specs.View.{function_text, named_text}
+use Rattle.expr.specs.Statements.View.{function_text, named_text}
 use Rattle.algo.specs.Parts.{names_of, functions_of}
 use Rattle.algo.specs.Context.{only_input}
 use Rattle.algo.proofs.Kept.{function_keeps}

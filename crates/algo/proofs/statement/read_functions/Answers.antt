@@ -2,7 +2,7 @@ use Rattle.std.proofs.Common.{◌∙◌, Some, subst, sym, ap}
 use Rattle.std.proofs.lemmas.List.{take-map}
 use Rattle.std.proofs.lemmas.Option.{slice_get-map, slice_get-get_or}
 use Rattle.std.specs.Option.{option_map}
-use Rattle.syntax.specs.View.{statement_text}
+use Rattle.expr.specs.Statements.View.{statement_text}
 use Rattle.algo.specs.Parts.{names_of}
 use Rattle.algo.specs.Context.{only_input}
 use Rattle.algo.specs.Saying.{functions_said, after_statement, FollowsFunction, HasSmallExpressions}

@@ -1,5 +1,5 @@
 use Rattle.std.proofs.Common.{◌≡◌, map, take}
-use Rattle.syntax.specs.View.{statement_text}
+use Rattle.expr.specs.Statements.View.{statement_text}
 use Rattle.algo.specs.Parts.{functions_of}
 use Rattle.algo.specs.Context.{only_input, AreFunctions}
 use Rattle.algo.specs.Saying.{functions_said, FollowFunctions}

@@ -3,8 +3,8 @@ use Rattle.std.specs.declared.string.String.{String}
 use Rattle.std.specs.Global.{Global}
 use Rattle.std.proofs.lemmas.List.{map-append}
 use Rattle.meaning.specs.Conditions.{IsSmall}
-use Rattle.syntax.specs.declared.statement.Statement.{Statement}
-use Rattle.syntax.specs.View.{statement_text, function_text}
+use Rattle.expr.specs.declared.statements.statement.Statement.{Statement}
+use Rattle.expr.specs.Statements.View.{statement_text, function_text}
 use Rattle.algo.specs.declared.error.Code.{Code}
 use Rattle.algo.specs.declared.error.Code.TheVariants.{Name, Limit}
 use Rattle.algo.specs.declared.function.Function.{Function}

@@ -1,7 +1,7 @@
 use Rattle.std.proofs.Common.{◌≡◌, ◌-◌, ℕ, List, length, inl, inr, subst, arith}
 use Rattle.std.specs.Prelude.{string_bytes}
 use Rattle.std.proofs.lemmas.List.{length-map}
-use Rattle.scoping.specs.Doubles.{IsFirstDouble}
+use Rattle.algo.specs.Scoping.Doubles.{IsFirstDouble}
 use Rattle.algo.specs.Parts.{names_of}
 use Rattle.algo.proofs.Placed.{reduction_doubled}
 use Rattle.algo.proofs.update.names_fault.Goals as goal

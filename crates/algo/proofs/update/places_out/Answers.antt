@@ -6,8 +6,8 @@ use Rattle.tree.specs.declared.expr.Expr.{Expr}
 use Rattle.tree.specs.Term.{Term, term_of, list_terms}
 use Rattle.tree.specs.Uses.{EachCall}
 use Rattle.meaning.specs.Names.{same_name}
-use Rattle.scoping.specs.Keeping.{KeepPlaces}
-use Rattle.syntax.specs.View.{update_text}
+use Rattle.algo.specs.Scoping.Keeping.{KeepPlaces}
+use Rattle.expr.specs.Statements.View.{update_text}
 use Rattle.algo.specs.Parts.{names_of, function_of}
 use Rattle.algo.specs.Keeping.{UpdatePlaces}
 use Rattle.algo.proofs.Answered.{match_none}

@@ -1,8 +1,8 @@
 use Rattle.std.proofs.Common.{◌≡◌, map, All, subst, refl, ap, List, [], ◌∷◌}
 use Rattle.meaning.specs.Algorithm.{Range}
 use Rattle.meaning.specs.Conditions.{IsRange}
-use Rattle.syntax.specs.declared.statement.Domain.{Domain}
-use Rattle.syntax.specs.View.{domain_text}
+use Rattle.expr.specs.declared.statements.statement.Domain.{Domain}
+use Rattle.expr.specs.Statements.View.{domain_text}
 use Rattle.algo.specs.Saying.{range_said}
 use Rattle.algo.specs.Keeping.{OnLimit}
 use Rattle.algo.specs.Faults.{BadRangeAt, OneRangeAt, OnlyLimit}

@@ -1,6 +1,6 @@
 use Rattle.std.proofs.Common.{◌≡◌, map, take, All}
 use Rattle.meaning.specs.Conditions.{IsRange}
-use Rattle.syntax.specs.View.{domain_text}
+use Rattle.expr.specs.Statements.View.{domain_text}
 use Rattle.algo.specs.Parts.{range_of}
 use Rattle.algo.specs.Saying.{range_said}
 use Rattle.algo.proofs.update.ranges.Given as goal

@@ -1,6 +1,6 @@
 use Rattle.std.proofs.Common.{map, subst, List}
-use Rattle.syntax.specs.declared.statement.Domain.{Domain}
-use Rattle.syntax.specs.View.{update_text, domain_text}
+use Rattle.expr.specs.declared.statements.statement.Domain.{Domain}
+use Rattle.expr.specs.Statements.View.{update_text, domain_text}
 use Rattle.algo.specs.Parts.{names_of, functions_of, function_of}
 use Rattle.algo.specs.Context.{only_input}
 use Rattle.algo.specs.Keeping.{Breaks, OnLimit, DomainLimits, KeepsUpdateOver}

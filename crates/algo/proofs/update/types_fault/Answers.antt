@@ -5,7 +5,7 @@ use Rattle.tree.specs.Term.{list_terms}
 use Rattle.tree.specs.Typing.{type_of}
 use Rattle.meaning.specs.Names.{is_among}
 use Rattle.meaning.specs.Conditions.{callable}
-use Rattle.syntax.specs.View.{update_text}
+use Rattle.expr.specs.Statements.View.{update_text}
 use Rattle.algo.specs.Parts.{names_of, function_of, functions_of}
 use Rattle.algo.specs.Context.{only_input}
 use Rattle.algo.specs.Keeping.{names_for}

@@ -1,5 +1,5 @@
 use Rattle.std.proofs.Common.{◌≡◌, ◌++◌, ◌+◌, map, take, vec_len, length}
-use Rattle.syntax.specs.View.{domain_text}
+use Rattle.expr.specs.Statements.View.{domain_text}
 use Rattle.algo.specs.Parts.{names_of}
 use Rattle.algo.specs.Saying.{domain_names}
 use Rattle.algo.proofs.update.with_reductions.Given as goal

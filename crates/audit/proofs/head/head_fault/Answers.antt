@@ -1,7 +1,7 @@
 use Rattle.std.proofs.Common.{◌≡◌, ◌∙◌, sym, refl, subst, inl, inr, All, List, ℕ}
 use Rattle.algo.specs.View.{algorithm_of}
-use Rattle.nest.specs.View.{plan_of}
-use Rattle.nest.specs.Plan.{Group}
+use Rattle.plan.specs.View.{plan_of}
+use Rattle.plan.specs.Plan.{Group}
 use Rattle.audit.proofs.Decided.{refuted, met}
 use Rattle.audit.proofs.head.head_fault.Goals as goal
 

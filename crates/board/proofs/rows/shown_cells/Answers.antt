@@ -1,8 +1,8 @@
 use Rattle.std.proofs.Common.{◌≡◌, ◌∙◌, ℕ, List, [], ◌∷◌, ◌++◌, map, arith, sym, ap}
 use Rattle.std.specs.List.{range_with_len}
 use Rattle.std.proofs.lemmas.List.FromFn.{map-range_with_len_more}
-use Rattle.image.specs.Raster.{raster_point, sample_count}
-use Rattle.image.specs.View.{Frame}
+use Rattle.meaning.specs.Image.Raster.{raster_point, sample_count}
+use Rattle.meaning.specs.Image.View.{Frame}
 use Rattle.board.specs.Layout.{Layout, shown_cell, samples_in}
 use Rattle.board.proofs.rows.shown_cells.Goals as goal
 

@@ -1,7 +1,7 @@
 use Rattle.std.proofs.Common.{[], sym, ◌∙◌}
 use Rattle.board.specs.Layout.{pieces_of}
 use Rattle.crew.specs.Private.{fetched_of}
-use Rattle.boards.specs.Layouts.{layout_of}
+use Rattle.crew.specs.Opening.Layouts.{layout_of}
 use Rattle.crew.proofs.Most.{all_lists, one_list_more}
 use Rattle.crew.proofs.runnable.most_fetched.Goals as goal
 

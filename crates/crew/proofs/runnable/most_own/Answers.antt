@@ -1,6 +1,6 @@
 use Rattle.std.proofs.Common.{[], sym, ◌∙◌}
 use Rattle.board.specs.Layout.{own_of, pieces_of}
-use Rattle.boards.specs.Layouts.{layout_of}
+use Rattle.crew.specs.Opening.Layouts.{layout_of}
 use Rattle.crew.proofs.Most.{all_lists, one_list_more}
 use Rattle.crew.proofs.runnable.most_own.Goals as goal
 

@@ -1,5 +1,5 @@
 use Rattle.board.specs.Layout.{own_of}
-use Rattle.boards.specs.Layouts.{layout_of}
+use Rattle.crew.specs.Opening.Layouts.{layout_of}
 use Rattle.crew.proofs.Most.{IsMostBefore}
 use Rattle.crew.proofs.runnable.most_own.Given as goal
 

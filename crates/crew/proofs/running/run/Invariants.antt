@@ -1,4 +1,4 @@
-use Rattle.boards.specs.Layouts.{layout_of, values_of}
+use Rattle.crew.specs.Opening.Layouts.{layout_of, values_of}
 use Rattle.crew.proofs.running.run.Given as goal
 
 abbrev pub ghosts-run_on : goal.ghosts-run_on

@@ -3,8 +3,8 @@ use Rattle.std.specs.Prelude.{Contains}
 use Rattle.board.specs.Layout.{own_of, pieces_of}
 use Rattle.board.specs.Seats.{IsTicketOf, Place}
 use Rattle.board.specs.Views.{IsIdle}
-use Rattle.output.specs.declared.plan.PlanCells.{PlanCells}
-use Rattle.looked.specs.declared.cells.LookedCells.{LookedCells}
+use Rattle.checked_plan.specs.declared.output.plan_cells.PlanCells.{PlanCells}
+use Rattle.piece.specs.declared.cells.LookedCells.{LookedCells}
 use Rattle.crew.specs.Private.{HasRoom, IsMostFetched}
 use Rattle.crew.proofs.Filling.{idle_again}
 use Rattle.crew.proofs.worker.work.Goals as goal

@@ -1,6 +1,6 @@
 use Rattle.std.proofs.Common.{sym, subst}
 use Rattle.std.proofs.lemmas.Result.{IfOk-weaker}
-use Rattle.token.specs.declared.token.Token.TheVariants as token
+use Rattle.tree.specs.declared.token.token.Token.TheVariants as token
 use Rattle.tree.specs.declared.expr.Expr.{Expr}
 use Rattle.expr.specs.Places.{One, Part, Stands, of_one}
 use Rattle.expr.proofs.measured.cast.Goals as goal

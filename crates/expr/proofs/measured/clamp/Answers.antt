@@ -1,7 +1,7 @@
 use Rattle.std.proofs.Common.{sym, subst}
 use Rattle.std.proofs.lemmas.Result.{IfOk-weaker}
-use Rattle.token.specs.declared.token.Token.TheVariants as token
-use Rattle.token.specs.declared.token.Word.TheVariants as word
+use Rattle.tree.specs.declared.token.token.Token.TheVariants as token
+use Rattle.tree.specs.declared.token.token.Word.TheVariants as word
 use Rattle.tree.specs.declared.expr.Expr.{Expr}
 use Rattle.expr.specs.Places.{One, Part, Stands, of_three}
 use Rattle.expr.proofs.measured.clamp.Goals as goal

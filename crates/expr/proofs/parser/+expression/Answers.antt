@@ -1,17 +1,17 @@
 use Rattle.std.proofs.Common.{◌≡◌, ◌+◌, ◌-◌, ◌++◌, List, Err, ◌∷◌, [], take, drop, suc, length, length-append, refl, sym, ap, subst, ◌∙◌, inl, inr, arith, rules}
 use Rattle.std.proofs.lemmas.Result.{err_from_is_err_and, IfOk-weaker}
-use Rattle.token.specs.declared.token.Symbol.TheVariants as symbol
+use Rattle.tree.specs.declared.token.token.Symbol.TheVariants as symbol
 use Rattle.expr.specs.Places.{Part, Stands, TestStands, AreOpening, FrontAt}
-use Rattle.token.specs.declared.token.Token.TheVariants as token
-use Rattle.token.specs.declared.token.Word.TheVariants as word
+use Rattle.tree.specs.declared.token.token.Token.TheVariants as token
+use Rattle.tree.specs.declared.token.token.Word.TheVariants as word
 use Rattle.numeric.specs.declared.op.Op.TheVariants as op
 use Rattle.expr.proofs.Fronts.{item_at, extreme_at, both_are, test_front, then_at, node_at, test_at, front_of, in_brackets, symbol_at, separates_comma, separates_end, opened, opened_all, one_more_index, last_index, no_index}
-use Rattle.token.specs.Cursor.{kinds}
+use Rattle.tree.specs.Token.Cursor.{kinds}
 use Rattle.tree.specs.Term.{term_of, list_terms}
 use Rattle.expr.specs.Parsing.{part, operand_level, within, chained}
 use Rattle.expr.proofs.Turns.{join_ends, join_stops, join_too_large, join_goes_on, join_is_done, join_has_more, index_stops, bracket_stops, bracket_ends, index_goes_on, too_many, bracket_refused, bracket_closed, all_are_closed}
 use Rattle.expr.proofs.Openings.{unary_read, unary_stops}
-use Rattle.token.specs.declared.token.Token.{Token}
+use Rattle.tree.specs.declared.token.token.Token.{Token}
 use Rattle.tree.specs.Term.{Term}
 use Rattle.tree.specs.declared.expr.Expr.{Expr}
 use Rattle.std.proofs.lemmas.List.{length-map}

@@ -1,6 +1,6 @@
 use Rattle.std.proofs.Common.{◌≡◌, ◌-◌, ◌++◌, List, [], length, drop}
-use Rattle.token.specs.declared.token.Lexeme.{Lexeme}
-use Rattle.token.specs.Cursor.{kinds}
+use Rattle.tree.specs.declared.token.token.Lexeme.{Lexeme}
+use Rattle.tree.specs.Token.Cursor.{kinds}
 use Rattle.tree.specs.Term.{term_of, list_terms}
 use Rattle.expr.specs.Parsing.{joined, part, operand_level, within, indices}
 use Rattle.expr.specs.Brackets.{all_closed}

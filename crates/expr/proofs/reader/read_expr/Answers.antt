@@ -1,5 +1,5 @@
 use Rattle.std.proofs.Common.{length, inr, inl, Result, Err, ap, sym, subst, ◌∙◌}
-use Rattle.token.specs.Cursor.{kinds}
+use Rattle.tree.specs.Token.Cursor.{kinds}
 use Rattle.tree.specs.Term.{Term, term_of}
 use Rattle.expr.specs.declared.error.Refusal.{Refusal}
 use Rattle.expr.specs.Parsing.{whole}

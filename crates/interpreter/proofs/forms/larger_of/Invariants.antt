@@ -1,6 +1,6 @@
 use Rattle.std.proofs.Common.{◌≡◌, take, map, fold}
 use Rattle.std.specs.Int.{int_max}
-use Rattle.nest.specs.Symbols.{form_value}
+use Rattle.plan.specs.Symbols.{form_value}
 use Rattle.interpreter.specs.Bindings.{symbols_of}
 use Rattle.interpreter.proofs.forms.larger_of.Given as goal
 

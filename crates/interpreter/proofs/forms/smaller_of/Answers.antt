@@ -2,7 +2,7 @@ use Rattle.std.proofs.Common.{◌∙◌, rules, w64, SFits, to_z, of_z}
 use Rattle.std.specs.Int.{int_min}
 use Rattle.std.proofs.lemmas.Int.{to_z-of_z}
 use Rattle.lin.specs.Forms.{Form}
-use Rattle.nest.specs.Symbols.{form_value}
+use Rattle.plan.specs.Symbols.{form_value}
 use Rattle.interpreter.specs.Bindings.{symbols_of}
 use Rattle.interpreter.proofs.Summing.{fold_next}
 use Rattle.interpreter.proofs.forms.smaller_of.Goals as goal

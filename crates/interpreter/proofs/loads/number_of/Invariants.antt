@@ -1,5 +1,5 @@
 use Rattle.std.proofs.Common.{◌≡◌, ◌-◌, ◌^◌, min, take}
-use Rattle.nest.specs.Claimed.{digits_after}
+use Rattle.plan.specs.Claimed.{digits_after}
 use Rattle.interpreter.proofs.loads.number_of.Given as goal
 
 abbrev pub invariant-loop-digit : goal.invariant-loop-digit

@@ -2,12 +2,12 @@ use Rattle.std.proofs.Common.{◌≡◌, ◌≤◌, ℕ, List, length, map, sym,
 use Rattle.std.proofs.lemmas.Grind.{common_steps}
 use Rattle.std.proofs.lemmas.List.{append-nil, length-map}
 use Rattle.std.specs.Prelude.{OnOk, All, IsTrue}
-use Rattle.nest.specs.declared.stmt.Coordinate.{Coordinate as CodeCoordinate}
-use Rattle.nest.specs.declared.stmt.Stmt.{Stmt}
-use Rattle.nest.specs.Plan.{Coordinate, Statement, Seq, block}
-use Rattle.nest.specs.Lists.{list_statements}
-use Rattle.nest.specs.View.{coordinate_of, statement_of}
-use Rattle.nest.proofs.Rows.{statement_of-seq}
+use Rattle.plan.specs.declared.stmt.Coordinate.{Coordinate as CodeCoordinate}
+use Rattle.plan.specs.declared.stmt.Stmt.{Stmt}
+use Rattle.plan.specs.Plan.{Coordinate, Statement, Seq, block}
+use Rattle.plan.specs.Lists.{list_statements}
+use Rattle.plan.specs.View.{coordinate_of, statement_of}
+use Rattle.plan.proofs.Rows.{statement_of-seq}
 use Rattle.interpreter.specs.Needs.{allotments, symbol_count, IndexIsShort, StatementIsShort}
 use Rattle.interpreter.specs.Scratches.{IsNoted}
 use Rattle.interpreter.specs.Targets.{CoordinateIsShort}

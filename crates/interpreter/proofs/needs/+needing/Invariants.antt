@@ -1,6 +1,6 @@
 use Rattle.std.proofs.Common.{◌≡◌, ◌+◌, ◌++◌}
-use Rattle.nest.specs.Plan.{block}
-use Rattle.nest.specs.Lists.{list_statements}
+use Rattle.plan.specs.Plan.{block}
+use Rattle.plan.specs.Lists.{list_statements}
 use Rattle.interpreter.specs.Needs.{block_allotments, block_symbol_count, BlockIsShort}
 use Rattle.interpreter.proofs.Running.{from}
 use Rattle.interpreter.proofs.needs.+needing.Given as goal

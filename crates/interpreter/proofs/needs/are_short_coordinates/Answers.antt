@@ -2,7 +2,7 @@ use Rattle.std.proofs.Common.{List, ◌≡◌, ◌∷◌, [], ◌++◌, take, sy
 use Rattle.std.specs.Prelude.{All}
 use Rattle.std.proofs.lemmas.List.{take_all, take_more}
 use Rattle.std.proofs.lemmas.List.Elements.{All-push}
-use Rattle.nest.specs.declared.stmt.Coordinate.{Coordinate}
+use Rattle.plan.specs.declared.stmt.Coordinate.{Coordinate}
 use Rattle.interpreter.specs.Targets.{CoordinateIsShort}
 use Rattle.interpreter.proofs.needs.are_short_coordinates.Goals as goal
 

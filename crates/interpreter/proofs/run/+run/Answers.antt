@@ -2,21 +2,21 @@ use Rattle.std.proofs.Common.{◌≡◌, List, ℤ, ℕ, Err, ◌≤ℤ◌, [], 
 use Rattle.std.specs.Prelude.{Contains, flat_map, int_le}
 use Rattle.std.proofs.lemmas.Int.{ints, to_z-of_z}
 use Rattle.std.proofs.lemmas.Result.{err_from_is_err_and}
-use Rattle.nest.specs.declared.stmt.Stmt.{Stmt}
-use Rattle.nest.specs.declared.stmt.Stmt.TheViews.{the_lemmas}
-use Rattle.nest.specs.declared.stmt.Places.{Places}
-use Rattle.nest.specs.declared.stmt.Coordinate.{Coordinate as CodeCoordinate}
-use Rattle.nest.specs.Plan.{Statement, Seq, Coordinate, block}
-use Rattle.nest.specs.Lists.{list_statements}
-use Rattle.nest.specs.Rooms.{room}
-use Rattle.nest.specs.Symbols.{Symbols, bind, largest, smallest}
-use Rattle.nest.specs.View.{statement_of, coordinate_of}
-use Rattle.nest.proofs.Rows.{statement_of-seq}
-use Rattle.actions.specs.Actions.{Action, Allot, actions, after, block_actions}
-use Rattle.actions.specs.Found.{with}
+use Rattle.plan.specs.declared.stmt.Stmt.{Stmt}
+use Rattle.plan.specs.declared.stmt.Stmt.TheViews.{the_lemmas}
+use Rattle.plan.specs.declared.stmt.Places.{Places}
+use Rattle.plan.specs.declared.stmt.Coordinate.{Coordinate as CodeCoordinate}
+use Rattle.plan.specs.Plan.{Statement, Seq, Coordinate, block}
+use Rattle.plan.specs.Lists.{list_statements}
+use Rattle.plan.specs.Rooms.{room}
+use Rattle.plan.specs.Symbols.{Symbols, bind, largest, smallest}
+use Rattle.plan.specs.View.{statement_of, coordinate_of}
+use Rattle.plan.proofs.Rows.{statement_of-seq}
+use Rattle.plan.specs.Semantics.Actions.{Action, Allot, actions, after, block_actions}
+use Rattle.plan.specs.Semantics.Found.{with}
 use Rattle.interpreter.specs.declared.run.Turns.{Turns}
 use Rattle.interpreter.specs.Bindings.{Bindings, symbols_of, also, Extends}
-use Rattle.buffers.specs.Blocks.{limits_of, HasMemoryFor}
+use Rattle.interpreter.specs.Buffers.Blocks.{limits_of, HasMemoryFor}
 use Rattle.interpreter.specs.Needs.{name_count, places_in, BlockFits, IndexIsShort, StatementFits}
 use Rattle.interpreter.specs.Narrow.{StatementIsNarrow, BlockIsNarrow, IndexIsNarrow}
 use Rattle.interpreter.specs.Pieces.{around, setting, OwnIsSmall}

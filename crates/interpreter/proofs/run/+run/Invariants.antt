@@ -1,12 +1,12 @@
 use Rattle.std.proofs.Common.{ℤ, ◌≤ℤ◌, List, ◌≡◌, flat_map, length}
 use Rattle.std.specs.Prelude.{int_le}
-use Rattle.nest.specs.Plan.{block}
-use Rattle.nest.specs.Lists.{list_statements}
-use Rattle.nest.specs.Symbols.{bind}
-use Rattle.nest.specs.View.{statement_of}
-use Rattle.actions.specs.Actions.{Action, actions, block_actions}
+use Rattle.plan.specs.Plan.{block}
+use Rattle.plan.specs.Lists.{list_statements}
+use Rattle.plan.specs.Symbols.{bind}
+use Rattle.plan.specs.View.{statement_of}
+use Rattle.plan.specs.Semantics.Actions.{Action, actions, block_actions}
 use Rattle.interpreter.specs.Bindings.{symbols_of, Extends}
-use Rattle.buffers.specs.Blocks.{limits_of}
+use Rattle.interpreter.specs.Buffers.Blocks.{limits_of}
 use Rattle.interpreter.specs.Needs.{BlockFits}
 use Rattle.interpreter.specs.Narrow.{BlockIsNarrow}
 use Rattle.interpreter.specs.Pieces.{around, setting, OwnIsSmall}

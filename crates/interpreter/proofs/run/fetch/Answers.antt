@@ -1,11 +1,11 @@
 use Rattle.std.proofs.Common.{◌≡◌, List, ℕ, [], ◌∷◌, sym, ap, ◌∙◌, subst, map, slice_get}
 use Rattle.std.specs.Prelude.{flat_map}
 use Rattle.lin.specs.declared.span.Span1.{Span1}
-use Rattle.nest.specs.declared.plan.Group.{Group as CodeGroup}
-use Rattle.nest.specs.Symbols.{points}
-use Rattle.nest.specs.View.{group_of}
-use Rattle.actions.specs.Actions.{Action, Take}
-use Rattle.actions.specs.Setting.{group_name}
+use Rattle.plan.specs.declared.plan.Group.{Group as CodeGroup}
+use Rattle.plan.specs.Symbols.{points}
+use Rattle.plan.specs.View.{group_of}
+use Rattle.plan.specs.Semantics.Actions.{Action, Take}
+use Rattle.plan.specs.Semantics.Setting.{group_name}
 use Rattle.interpreter.specs.Bindings.{symbols_of}
 use Rattle.interpreter.specs.Pieces.{around}
 use Rattle.interpreter.specs.States.{progress_of, EndsIn}

@@ -1,8 +1,8 @@
 use Rattle.std.proofs.Common.{ap, sym, ◌∙◌, refl, rules, w64, SFits}
 use Rattle.std.proofs.lemmas.Int.{to_z-of_z}
-use Rattle.nest.specs.declared.stmt.Stmt.{Stmt}
-use Rattle.nest.specs.View.{statement_of}
-use Rattle.actions.specs.Actions.{after}
+use Rattle.plan.specs.declared.stmt.Stmt.{Stmt}
+use Rattle.plan.specs.View.{statement_of}
+use Rattle.plan.specs.Semantics.Actions.{after}
 use Rattle.interpreter.specs.Bindings.{symbols_of}
 use Rattle.interpreter.proofs.Bindings.{named_after}
 use Rattle.interpreter.proofs.run.name_from.Goals as goal

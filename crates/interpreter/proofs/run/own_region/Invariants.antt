@@ -1,5 +1,5 @@
 use Rattle.std.proofs.Common.{◌≡◌, drop}
-use Rattle.cert.specs.Cells.{own_region}
+use Rattle.plan.specs.Certificate.Cells.{own_region}
 use Rattle.interpreter.proofs.run.own_region.Given as goal
 
 abbrev pub invariant-loop-own : goal.invariant-loop-own

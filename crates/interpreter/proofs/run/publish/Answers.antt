@@ -1,11 +1,11 @@
 use Rattle.std.proofs.Common.{◌≡◌, List, [], ◌∷◌, sym, ap, ◌∙◌, subst, map, Option, Some, MatchOption}
 use Rattle.std.specs.Prelude.{flat_map, if◌then◌else◌}
 use Rattle.lin.specs.declared.span.Span1.{Span1}
-use Rattle.nest.specs.Symbols.{Symbols}
-use Rattle.nest.specs.View.{group_of}
-use Rattle.cert.specs.declared.cert.Own.{Own}
-use Rattle.cert.specs.Cells.{is_in_region, no_symbols, own_region, points_within}
-use Rattle.actions.specs.Actions.{Action, Give}
+use Rattle.plan.specs.Symbols.{Symbols}
+use Rattle.plan.specs.View.{group_of}
+use Rattle.plan.specs.declared.certificate.cert.Own.{Own}
+use Rattle.plan.specs.Certificate.Cells.{is_in_region, no_symbols, own_region, points_within}
+use Rattle.plan.specs.Semantics.Actions.{Action, Give}
 use Rattle.interpreter.specs.Bindings.{symbols_of}
 use Rattle.interpreter.specs.Narrow.{RegionIsNarrow}
 use Rattle.interpreter.specs.Pieces.{around}

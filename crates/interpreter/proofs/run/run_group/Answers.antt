@@ -1,10 +1,10 @@
 use Rattle.std.proofs.Common.{◌≡◌, ℕ, List, ℤ, sym, ap, ◌∙◌, subst, map, Option, Some, slice_get}
-use Rattle.nest.specs.declared.plan.Group.{Group as CodeGroup}
-use Rattle.nest.specs.View.{plan_of, group_of, statement_of}
-use Rattle.cert.specs.Certificate.{certificate_of}
-use Rattle.actions.specs.Actions.{actions}
-use Rattle.actions.specs.Setting.{setting_of, around_of}
-use Rattle.buffers.specs.Blocks.{memory_of}
+use Rattle.plan.specs.declared.plan.Group.{Group as CodeGroup}
+use Rattle.plan.specs.View.{plan_of, group_of, statement_of}
+use Rattle.plan.specs.Certificate.Certificate.{certificate_of}
+use Rattle.plan.specs.Semantics.Actions.{actions}
+use Rattle.plan.specs.Semantics.Setting.{setting_of, around_of}
+use Rattle.interpreter.specs.Buffers.Blocks.{memory_of}
 use Rattle.interpreter.specs.Bindings.{Bindings, symbols_of}
 use Rattle.interpreter.specs.Outcome.{piece_gives}
 use Rattle.interpreter.specs.Scratches.{GivesIn}

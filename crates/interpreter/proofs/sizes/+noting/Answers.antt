@@ -1,12 +1,12 @@
 use Rattle.std.proofs.Common.{◌≡◌, ℕ, List, Some, None, sym, ap, ◌∙◌, subst, length, rules, arith}
 use Rattle.std.proofs.lemmas.Grind.{common_steps}
 use Rattle.std.specs.Prelude.{OnOk, ◌==◌, if◌then◌else◌, string_bytes}
-use Rattle.nest.specs.declared.stmt.Stmt.{Stmt}
-use Rattle.nest.specs.Plan.{Statement, Seq, block}
-use Rattle.nest.specs.Lists.{list_statements}
-use Rattle.nest.specs.View.{statement_of}
-use Rattle.nest.proofs.Rows.{statement_of-seq}
-use Rattle.actions.specs.Setting.{allocated, or_else}
+use Rattle.plan.specs.declared.stmt.Stmt.{Stmt}
+use Rattle.plan.specs.Plan.{Statement, Seq, block}
+use Rattle.plan.specs.Lists.{list_statements}
+use Rattle.plan.specs.View.{statement_of}
+use Rattle.plan.proofs.Rows.{statement_of-seq}
+use Rattle.plan.specs.Semantics.Setting.{allocated, or_else}
 use Rattle.interpreter.specs.declared.sizes.Size.{Size}
 use Rattle.interpreter.specs.Sizes.{first_size, size_of}
 use Rattle.interpreter.proofs.Noted.{first_size-push, size_of-alloc}

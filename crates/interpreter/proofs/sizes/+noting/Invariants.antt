@@ -1,7 +1,7 @@
 use Rattle.std.proofs.Common.{◌≡◌, ℕ}
-use Rattle.nest.specs.Plan.{block}
-use Rattle.nest.specs.Lists.{list_statements}
-use Rattle.actions.specs.Setting.{block_allocated, or_else}
+use Rattle.plan.specs.Plan.{block}
+use Rattle.plan.specs.Lists.{list_statements}
+use Rattle.plan.specs.Semantics.Setting.{block_allocated, or_else}
 use Rattle.interpreter.specs.Sizes.{first_size, size_of}
 use Rattle.interpreter.proofs.Noted.{left}
 use Rattle.interpreter.proofs.sizes.+noting.Given as goal

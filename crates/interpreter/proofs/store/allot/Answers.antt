@@ -1,6 +1,6 @@
 use Rattle.std.proofs.Common.{ℕ, sym, ap, ◌∙◌, subst}
-use Rattle.buffers.specs.Raster.{place_count}
-use Rattle.buffers.specs.Blocks.{limits_of, HasMemoryFor}
+use Rattle.interpreter.specs.Buffers.Raster.{place_count}
+use Rattle.interpreter.specs.Buffers.Blocks.{limits_of, HasMemoryFor}
 use Rattle.interpreter.specs.Bindings.{symbols_of}
 use Rattle.interpreter.proofs.Fitting.{counted}
 use Rattle.interpreter.proofs.store.allot.Goals as goal

@@ -2,8 +2,8 @@ use Rattle.std.proofs.Common.{◌≡◌, ℤ, List, ◌∷◌, [], ◌++◌, ap,
 use Rattle.std.specs.Prelude.{string_bytes}
 use Rattle.std.proofs.lemmas.Int.{to_z-of_z}
 use Rattle.meaning.specs.Names.{bound}
-use Rattle.actions.specs.Run.{found_target, look}
-use Rattle.buffers.specs.Blocks.{memory_of}
+use Rattle.plan.specs.Semantics.Run.{found_target, look}
+use Rattle.interpreter.specs.Buffers.Blocks.{memory_of}
 use Rattle.interpreter.specs.Bindings.{symbols_of}
 use Rattle.interpreter.specs.Pieces.{around, no_cells}
 use Rattle.interpreter.specs.Targets.{target_of, target_number}

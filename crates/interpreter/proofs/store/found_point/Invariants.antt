@@ -1,8 +1,8 @@
 use Rattle.std.proofs.Common.{◌≡◌, ◌≤◌, length, drop, map}
 use Rattle.std.specs.Prelude.{string_bytes}
 use Rattle.meaning.specs.Names.{bound}
-use Rattle.actions.specs.Run.{found_target}
-use Rattle.buffers.specs.Blocks.{memory_of}
+use Rattle.plan.specs.Semantics.Run.{found_target}
+use Rattle.interpreter.specs.Buffers.Blocks.{memory_of}
 use Rattle.interpreter.specs.Bindings.{symbols_of}
 use Rattle.interpreter.specs.Pieces.{around, no_cells}
 use Rattle.interpreter.specs.Targets.{target_of}

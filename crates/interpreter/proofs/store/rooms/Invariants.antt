@@ -1,6 +1,6 @@
 use Rattle.std.proofs.Common.{◌≡◌, ◌≤◌, length, take, map}
-use Rattle.nest.specs.Rooms.{room}
-use Rattle.buffers.specs.Rooms.{room_of}
+use Rattle.plan.specs.Rooms.{room}
+use Rattle.interpreter.specs.Buffers.Rooms.{room_of}
 use Rattle.interpreter.specs.Bindings.{symbols_of}
 use Rattle.interpreter.proofs.store.rooms.Given as goal
 

@@ -5,10 +5,10 @@ use Rattle.std.specs.Global.{Global}
 use Rattle.tree.specs.declared.value.Value.{Value}
 use Rattle.tree.specs.Term.{term_of}
 use Rattle.meaning.specs.Names.{bound}
-use Rattle.actions.specs.Found.{with, found}
-use Rattle.nest.specs.View.{coordinate_of}
-use Rattle.actions.specs.Actions.{stored}
-use Rattle.actions.specs.Run.{found_target, look}
+use Rattle.plan.specs.Semantics.Found.{with, found}
+use Rattle.plan.specs.View.{coordinate_of}
+use Rattle.plan.specs.Semantics.Actions.{stored}
+use Rattle.plan.specs.Semantics.Run.{found_target, look}
 use Rattle.interpreter.specs.Bindings.{symbols_of}
 use Rattle.interpreter.specs.Pieces.{around, no_cells, setting}
 use Rattle.interpreter.specs.States.{progress_of, EndsIn}

@@ -6,9 +6,9 @@ use Rattle.std.proofs.lemmas.Grind.{common_steps}
 use Rattle.std.proofs.lemmas.List.Elements.{All-take}
 use Rattle.std.proofs.lemmas.Result.{err_from_is_err_and}
 use Rattle.lin.specs.declared.span.Span1.{Span1}
-use Rattle.nest.specs.Symbols.{largest, smallest}
-use Rattle.actions.specs.Actions.{Action}
-use Rattle.actions.specs.Found.{with}
+use Rattle.plan.specs.Symbols.{largest, smallest}
+use Rattle.plan.specs.Semantics.Actions.{Action}
+use Rattle.plan.specs.Semantics.Found.{with}
 use Rattle.interpreter.specs.Bindings.{symbols_of}
 use Rattle.interpreter.specs.Pieces.{around}
 use Rattle.interpreter.specs.States.{progress_of, EndsIn, IsAsLarge}

@@ -1,5 +1,5 @@
 use Rattle.std.proofs.Common.{length, ℤ, List, ◌+◌, ◌*◌, ◌∷◌, flat_map}
-use Rattle.actions.specs.Actions.{Action}
+use Rattle.plan.specs.Semantics.Actions.{Action}
 use Rattle.interpreter.specs.Bindings.{symbols_of}
 use Rattle.interpreter.specs.Pieces.{around}
 use Rattle.interpreter.specs.States.{progress_of, IsAsLarge}

@@ -1,8 +1,8 @@
 use Rattle.std.proofs.Common.{◌≡◌, List, [], ◌∷◌, sym, ap, ◌∙◌, subst, Bool, true}
 use Rattle.std.specs.Prelude.{if◌then◌else◌}
 use Rattle.lin.specs.declared.span.Span1.{Span1}
-use Rattle.cert.specs.Cells.{is_in_region}
-use Rattle.actions.specs.Actions.{Action, Give}
+use Rattle.plan.specs.Certificate.Cells.{is_in_region}
+use Rattle.plan.specs.Semantics.Actions.{Action, Give}
 use Rattle.interpreter.specs.declared.visits.Visit.{Visit}
 use Rattle.interpreter.specs.Bindings.{symbols_of}
 use Rattle.interpreter.specs.Narrow.{RegionIsNarrow}

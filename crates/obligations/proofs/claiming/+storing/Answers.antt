@@ -1,11 +1,11 @@
 use Rattle.std.proofs.Common.{◌+◌, ◌<◌, ◌^◌, sym, ap, ◌∙◌, subst, rules}
-use Rattle.nest.specs.declared.stmt.Stmt.TheViews.{the_lemmas}
-use Rattle.nest.specs.Lines.{lines, block_lines}
-use Rattle.nest.specs.Lists.{list_statements}
-use Rattle.nest.specs.Plan.{Statement, block}
-use Rattle.claims.specs.Obligations.{store_line}
-use Rattle.outlines.specs.View.{outline_in}
-use Rattle.around.proofs.Blocks.{seq_is}
+use Rattle.plan.specs.declared.stmt.Stmt.TheViews.{the_lemmas}
+use Rattle.plan.specs.Lines.{lines, block_lines}
+use Rattle.plan.specs.Lists.{list_statements}
+use Rattle.plan.specs.Plan.{Statement, block}
+use Rattle.soundness.specs.Obligations.{store_line}
+use Rattle.outline.specs.View.{outline_in}
+use Rattle.obligations.proofs.Blocks.{seq_is}
 use Rattle.obligations.proofs.claiming.+storing.Goals as goal
 
 pub store_line-store_line_in-requires : goal.store_line-store_line_in-requires

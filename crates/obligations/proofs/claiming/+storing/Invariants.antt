@@ -1,10 +1,10 @@
 use Rattle.std.proofs.Common.{◌≡◌, ◌+◌, ◌^◌, ◌<◌}
-use Rattle.nest.specs.Lines.{block_lines}
-use Rattle.nest.specs.Lists.{list_statements}
-use Rattle.nest.specs.Plan.{block}
-use Rattle.claims.specs.Obligations.{block_store_line}
-use Rattle.outlines.specs.View.{outline_in}
-use Rattle.around.proofs.Blocks.{from}
+use Rattle.plan.specs.Lines.{block_lines}
+use Rattle.plan.specs.Lists.{list_statements}
+use Rattle.plan.specs.Plan.{block}
+use Rattle.soundness.specs.Obligations.{block_store_line}
+use Rattle.outline.specs.View.{outline_in}
+use Rattle.obligations.proofs.Blocks.{from}
 use Rattle.obligations.proofs.claiming.+storing.Given as goal
 
 abbrev pub invariant-store_line_in-loop-stmt : goal.invariant-store_line_in-loop-stmt

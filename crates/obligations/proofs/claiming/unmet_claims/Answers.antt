@@ -1,10 +1,10 @@
 use Rattle.std.proofs.Common.{[], get_or, refl, sym, ◌∙◌}
 use Rattle.std.specs.Prelude.{flat_map}
 use Rattle.std.proofs.lemmas.List.{get_or_default}
-use Rattle.nest.specs.View.{statement_of}
-use Rattle.claims.specs.Obligations.{claim_obligations}
-use Rattle.around.specs.Around.{known_of}
-use Rattle.outlines.specs.View.{outline_in}
+use Rattle.plan.specs.View.{statement_of}
+use Rattle.soundness.specs.Obligations.{claim_obligations}
+use Rattle.obligations.specs.Context.Around.{known_of}
+use Rattle.outline.specs.View.{outline_in}
 use Rattle.obligations.proofs.Unmet.{loop_stops, loop_goes, loop_ends}
 use Rattle.obligations.proofs.claiming.unmet_claims.Goals as goal
 

@@ -1,10 +1,10 @@
 use Rattle.std.proofs.Common.{◌≡◌, drop, []}
 use Rattle.std.specs.Prelude.{flat_map}
-use Rattle.nest.specs.View.{statement_of}
-use Rattle.claims.specs.Obligations.{claim_obligations}
-use Rattle.outlines.specs.View.{outline_in}
+use Rattle.plan.specs.View.{statement_of}
+use Rattle.soundness.specs.Obligations.{claim_obligations}
+use Rattle.outline.specs.View.{outline_in}
 use Rattle.obligations.specs.Asked.{first_unmet}
-use Rattle.around.specs.Around.{known_of}
+use Rattle.obligations.specs.Context.Around.{known_of}
 use Rattle.obligations.proofs.claiming.unmet_claims.Given as goal
 
 abbrev pub invariant-loop-claim : goal.invariant-loop-claim

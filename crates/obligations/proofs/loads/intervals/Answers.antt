@@ -1,7 +1,7 @@
 use Rattle.std.proofs.Common.{◌++◌, ◌∷◌, [], sym, ap, ◌∙◌}
 use Rattle.tree.specs.Term.{term_of}
-use Rattle.outlines.specs.View.{outline_in}
-use Rattle.binders.specs.View.{binders_of}
+use Rattle.outline.specs.View.{outline_in}
+use Rattle.soundness.specs.Binders.View.{binders_of}
 use Rattle.obligations.specs.Loads.{known_in, names_in}
 use Rattle.obligations.proofs.Loading.{intervals_more}
 use Rattle.obligations.proofs.loads.intervals.Goals as goal

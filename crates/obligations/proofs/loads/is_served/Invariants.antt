@@ -1,9 +1,9 @@
 use Rattle.std.proofs.Common.{◌≡◌, false, take}
 use Rattle.std.specs.Prelude.{◌==◌, ◌&&◌}
 use Rattle.std.specs.List.{list_any}
-use Rattle.claims.specs.Obligations.{serves}
-use Rattle.outlines.specs.View.{outline_in}
-use Rattle.around.specs.Around.{nest_of}
+use Rattle.soundness.specs.Obligations.{serves}
+use Rattle.outline.specs.View.{outline_in}
+use Rattle.obligations.specs.Context.Around.{nest_of}
 use Rattle.obligations.proofs.loads.is_served.Given as goal
 
 abbrev pub invariant-loop-nest : goal.invariant-loop-nest

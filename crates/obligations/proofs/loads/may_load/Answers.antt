@@ -1,9 +1,9 @@
 use Rattle.std.proofs.Common.{◌≡◌, true, sym, ◌∙◌, rules}
 use Rattle.std.specs.Prelude.{◌==◌, ◌&&◌}
-use Rattle.claims.specs.Obligations.{Updating, serves}
-use Rattle.outlines.specs.View.{outline_in}
+use Rattle.soundness.specs.Obligations.{Updating, serves}
+use Rattle.outline.specs.View.{outline_in}
 use Rattle.obligations.specs.Loads.{is_own, known_in}
-use Rattle.around.proofs.Bound.{any_nests}
+use Rattle.obligations.proofs.Bound.{any_nests}
 use Rattle.obligations.proofs.Loading.{may_own}
 use Rattle.obligations.proofs.loads.may_load.Goals as goal
 

@@ -1,9 +1,9 @@
 use Rattle.std.proofs.Common.{[], ◌∷◌, get_or, refl, sym, ◌∙◌}
 use Rattle.std.proofs.lemmas.List.{get_or_default}
-use Rattle.around.specs.declared.known.Nest.{Nest}
+use Rattle.obligations.specs.declared.context.known.Nest.{Nest}
 use Rattle.obligations.specs.Loads.{asked_by_nests}
 use Rattle.obligations.proofs.Asking.{nests_step}
-use Rattle.outlines.specs.View.{outline_in}
+use Rattle.outline.specs.View.{outline_in}
 use Rattle.obligations.proofs.Unmet.{loop_stops, loop_goes, loop_ends}
 use Rattle.obligations.proofs.stores.unmet_claimed.Goals as goal
 

@@ -1,13 +1,13 @@
 use Rattle.std.proofs.Common.{◌≡◌, Bool, Option, sym, ap, ◌∙◌, ◌^◌, ◌-◌, min, subst}
 use Rattle.std.specs.Prelude.{IfOk}
-use Rattle.refusals.specs.declared.code.K.TheVariants.{K5}
-use Rattle.refusals.specs.declared.code.Flaw.{Flaw}
-use Rattle.claims.specs.Obligations.{serves}
-use Rattle.outlines.specs.View.{outline_in}
+use Rattle.outline.specs.declared.refusals.code.K.TheVariants.{K5}
+use Rattle.outline.specs.declared.refusals.code.Flaw.{Flaw}
+use Rattle.soundness.specs.Obligations.{serves}
+use Rattle.outline.specs.View.{outline_in}
 use Rattle.obligations.specs.Asked.{unless}
 use Rattle.obligations.specs.Loads.{known_in}
 use Rattle.obligations.proofs.Asking.{nest_pure, nest_later}
-use Rattle.around.proofs.Bound.{any_nests}
+use Rattle.obligations.proofs.Bound.{any_nests}
 use Rattle.obligations.proofs.Unmet.{stops, goes}
 use Rattle.obligations.proofs.stores.unmet_nest.Goals as goal
 

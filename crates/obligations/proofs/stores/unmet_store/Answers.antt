@@ -2,12 +2,12 @@ use Rattle.std.proofs.Common.{◌≡◌, ℕ, List, ◌++◌, map, length, min, 
 use Rattle.std.specs.Prelude.{IfOk}
 use Rattle.std.proofs.lemmas.List.{take_min, drop_min}
 use Rattle.lin.specs.declared.span.Span1.{Span1}
-use Rattle.refusals.specs.declared.code.Flaw.{Flaw}
+use Rattle.outline.specs.declared.refusals.code.Flaw.{Flaw}
 use Rattle.tree.specs.Term.{term_of}
-use Rattle.claims.specs.Obligations.{store_obligations}
-use Rattle.outlines.specs.View.{outline_in}
+use Rattle.soundness.specs.Obligations.{store_obligations}
+use Rattle.outline.specs.View.{outline_in}
 use Rattle.obligations.specs.declared.loads.Reads.{Reads}
-use Rattle.around.specs.Around.{known_of}
+use Rattle.obligations.specs.Context.Around.{known_of}
 use Rattle.obligations.specs.Asked.{first_unmet}
 use Rattle.obligations.specs.Loads.{coordinates_of, names_in, names_of, variable_spans}
 use Rattle.obligations.proofs.Asking.{store_of}

@@ -1,10 +1,10 @@
 use Rattle.std.proofs.Common.{List, refl, sym, ◌∙◌}
 use Rattle.std.specs.Prelude.{flat_map}
-use Rattle.nest.specs.declared.stmt.Coordinate.{Coordinate}
-use Rattle.nest.specs.View.{coordinate_of}
-use Rattle.claims.specs.Obligations.{coordinate_loads}
+use Rattle.plan.specs.declared.stmt.Coordinate.{Coordinate}
+use Rattle.plan.specs.View.{coordinate_of}
+use Rattle.soundness.specs.Obligations.{coordinate_loads}
 use Rattle.obligations.specs.Loads.{coordinates_of, known_in, may_in, meets_in, names_in}
-use Rattle.outlines.specs.View.{outline_in}
+use Rattle.outline.specs.View.{outline_in}
 use Rattle.obligations.proofs.Unmet.{loop_stops, loop_goes, loop_ends}
 use Rattle.obligations.proofs.stores.unmet_targets.Goals as goal
 

@@ -1,18 +1,18 @@
 use Rattle.std.proofs.Common.{◌≡◌, ℕ, ◌<◌, ◌+◌, ◌-◌, ◌^◌, List, [], ◌∷◌, sym, ap, ◌∙◌, arith, Option, rules, subst}
 use Rattle.std.specs.Prelude.{IfOk, not}
-use Rattle.actions.specs.Setting.{or_else}
-use Rattle.refusals.specs.declared.code.Flaw.{Flaw}
-use Rattle.nest.specs.declared.stmt.Stmt.{Stmt}
-use Rattle.nest.specs.declared.stmt.Stmt.TheViews.{the_lemmas}
-use Rattle.nest.specs.Lines.{lines, block_lines}
-use Rattle.nest.specs.Lists.{list_statements}
-use Rattle.nest.specs.Plan.{Statement, Statements, block}
-use Rattle.nest.specs.View.{statement_of}
-use Rattle.claims.specs.Obligations.{Known, onwards, in_loop, has_symbol, obligation, obligations, block_obligations, Undefined, Named}
-use Rattle.outlines.specs.View.{outline_in}
-use Rattle.around.specs.Around.{known_of}
+use Rattle.plan.specs.Semantics.Setting.{or_else}
+use Rattle.outline.specs.declared.refusals.code.Flaw.{Flaw}
+use Rattle.plan.specs.declared.stmt.Stmt.{Stmt}
+use Rattle.plan.specs.declared.stmt.Stmt.TheViews.{the_lemmas}
+use Rattle.plan.specs.Lines.{lines, block_lines}
+use Rattle.plan.specs.Lists.{list_statements}
+use Rattle.plan.specs.Plan.{Statement, Statements, block}
+use Rattle.plan.specs.View.{statement_of}
+use Rattle.soundness.specs.Obligations.{Known, onwards, in_loop, has_symbol, obligation, obligations, block_obligations, Undefined, Named}
+use Rattle.outline.specs.View.{outline_in}
+use Rattle.obligations.specs.Context.Around.{known_of}
 use Rattle.obligations.specs.Asked.{first_unmet}
-use Rattle.around.proofs.Blocks.{from, from_more, from_end, seq_is}
+use Rattle.obligations.proofs.Blocks.{from, from_more, from_end, seq_is}
 use Rattle.obligations.proofs.Unmet.{stops, goes, nothing, one_apart}
 use Rattle.obligations.proofs.Walking.{block_at}
 use Rattle.obligations.proofs.walk.+walking.Goals as goal

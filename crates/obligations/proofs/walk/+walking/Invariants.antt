@@ -1,12 +1,12 @@
 use Rattle.std.proofs.Common.{◌≡◌, ◌+◌, ◌^◌, ◌<◌}
-use Rattle.nest.specs.Lines.{block_lines}
-use Rattle.nest.specs.Lists.{list_statements}
-use Rattle.nest.specs.Plan.{block}
-use Rattle.claims.specs.Obligations.{block_obligations}
-use Rattle.outlines.specs.View.{outline_in}
+use Rattle.plan.specs.Lines.{block_lines}
+use Rattle.plan.specs.Lists.{list_statements}
+use Rattle.plan.specs.Plan.{block}
+use Rattle.soundness.specs.Obligations.{block_obligations}
+use Rattle.outline.specs.View.{outline_in}
 use Rattle.obligations.specs.Asked.{first_unmet}
-use Rattle.around.specs.Around.{known_of}
-use Rattle.around.proofs.Blocks.{from}
+use Rattle.obligations.specs.Context.Around.{known_of}
+use Rattle.obligations.proofs.Blocks.{from}
 use Rattle.obligations.proofs.walk.+walking.Given as goal
 
 abbrev pub invariant-unmet_in_block-loop-stmt : goal.invariant-unmet_in_block-loop-stmt

@@ -1,14 +1,14 @@
 use Rattle.std.proofs.Common.{◌≡◌, List, [], ◌∷◌, map, sym, ap, ◌∙◌, subst}
 use Rattle.std.specs.Prelude.{IfOk, not}
 use Rattle.lin.specs.Forms.{Form}
-use Rattle.nest.specs.declared.stmt.Stmt.{Stmt}
+use Rattle.plan.specs.declared.stmt.Stmt.{Stmt}
 use Rattle.tree.specs.Term.{term_of}
-use Rattle.nest.specs.declared.stmt.Coordinate.{Coordinate}
-use Rattle.nest.specs.Plan.{Statement, Store}
-use Rattle.nest.specs.View.{statement_of, coordinate_of}
-use Rattle.claims.specs.Obligations.{obligation, obligations, has_symbol, from_each, Undefined, Named}
-use Rattle.outlines.specs.View.{outline_in}
-use Rattle.around.specs.Around.{known_of}
+use Rattle.plan.specs.declared.stmt.Coordinate.{Coordinate}
+use Rattle.plan.specs.Plan.{Statement, Store}
+use Rattle.plan.specs.View.{statement_of, coordinate_of}
+use Rattle.soundness.specs.Obligations.{obligation, obligations, has_symbol, from_each, Undefined, Named}
+use Rattle.outline.specs.View.{outline_in}
+use Rattle.obligations.specs.Context.Around.{known_of}
 use Rattle.obligations.specs.Asked.{first_unmet}
 use Rattle.obligations.proofs.walk.unmet_line.Goals as goal
 

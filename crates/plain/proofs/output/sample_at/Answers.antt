@@ -1,7 +1,7 @@
 use Rattle.std.proofs.Common.{◌≡◌, ◌/◌, ◌%◌, [], ◌∷◌, get_or, pos, sym, ◌∙◌, subst, rules}
 use Rattle.std.proofs.lemmas.Int.{to_z-of_z}
-use Rattle.image.specs.Raster.{is_within}
-use Rattle.image.specs.View.{AreExtents}
+use Rattle.meaning.specs.Image.Raster.{is_within}
+use Rattle.meaning.specs.Image.View.{AreExtents}
 use Rattle.plain.proofs.Outputs.{third}
 use Rattle.plain.proofs.output.sample_at.Goals as goal
 use mir.Syntax.{w32}

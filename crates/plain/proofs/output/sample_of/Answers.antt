@@ -2,7 +2,7 @@ use Rattle.std.proofs.Common.{◌≡◌, ◌<◌, ◌≤◌, ◌^◌, ℤ, pos, 
 use Rattle.std.specs.Prelude.{IfSome}
 use Rattle.std.proofs.lemmas.Int.{to_z-of_z}
 use Rattle.algo.specs.View.{algorithm_of, picture_of, samples_of}
-use Rattle.image.specs.Raster.{natural}
+use Rattle.meaning.specs.Image.Raster.{natural}
 use Rattle.meaning.specs.Count.{output_count}
 use Rattle.plain.proofs.Outputs.{at, fits, coordinate_count, same_value, same_count, output_sample, passed_on}
 use Rattle.plain.proofs.Scoped.{are_samples}

@@ -1,7 +1,7 @@
 use Rattle.std.proofs.Common.{ap, ◌∙◌}
 use Rattle.algo.specs.View.{algorithm_of, samples_of}
-use Rattle.image.specs.Raster.{sample_count}
-use Rattle.image.specs.View.{Frame}
+use Rattle.meaning.specs.Image.Raster.{sample_count}
+use Rattle.meaning.specs.Image.View.{Frame}
 use Rattle.plain.specs.Picture.{SomeAbove}
 use Rattle.plain.proofs.Outputs.{passed_on}
 use Rattle.plain.proofs.Rasters.{all_within, some_above}

@@ -1,7 +1,7 @@
 use Rattle.std.proofs.Common.{◌≡◌, ◌-◌, ◌<◌, List, ℕ, ◌∙◌, subst, ap, arith}
 use Rattle.std.specs.List.{range_with_len, AllZip}
 use Rattle.algo.specs.View.{algorithm_of, samples_of}
-use Rattle.image.specs.Raster.{sample_count}
+use Rattle.meaning.specs.Image.Raster.{sample_count}
 use Rattle.rayon.specs.Numbers.{nat_range}
 use Rattle.rayon.proofs.ToStd.{nat_range-All}
 use Rattle.plain.specs.Picture.{Gives, Part, sample_at, count_at}

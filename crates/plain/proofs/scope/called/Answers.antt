@@ -1,7 +1,7 @@
 use Rattle.std.proofs.Common.{◌≡◌, ap, sym, ◌∙◌, length, Some, ℕ, List, rules}
 use Rattle.std.proofs.lemmas.List.{length-map}
 use Rattle.std.specs.Prelude.{string_bytes}
-use Rattle.image.specs.View.{Frame}
+use Rattle.meaning.specs.Image.View.{Frame}
 use Rattle.meaning.specs.Names.{same_name}
 use Rattle.meaning.specs.Algorithm.{Function}
 use Rattle.meaning.proofs.Calls.{callable_input, callable_none}

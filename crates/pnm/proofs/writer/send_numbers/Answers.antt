@@ -3,7 +3,7 @@ use Rattle.std.proofs.Common.{◌∷◌, [], ◌++◌, Err, subst, decimal}
 use Rattle.std.proofs.lemmas.Result.{err_from_is_err_and}
 use Rattle.std.proofs.KnownBytes.{Appends-trans}
 use Rattle.std.specs.Io.KnownBytes.{Appends}
-use Rattle.image.specs.View.{max_sample}
+use Rattle.meaning.specs.Image.View.{max_sample}
 use Rattle.pnm.specs.Reading.{width_of, height_of}
 use Rattle.pnm.specs.Source.{Sends}
 use Rattle.pnm.proofs.Sending.{sends_first, sends_both, sends_failed}

@@ -1,9 +1,9 @@
 use Rattle.std.proofs.Common.{◌≡◌, ◌∙◌, ◌+◌, ◌-◌, ◌<◌, sym, ap, length, arith, Some}
 use Rattle.std.proofs.lemmas.List.{length-map}
-use Rattle.nest.specs.Plan.{Plan}
-use Rattle.nest.specs.View.{plan_of, group_of}
-use Rattle.cert.specs.Certificate.{Certificate, certificate_of}
-use Rattle.cert.specs.Cells.{first_cell}
+use Rattle.plan.specs.Plan.{Plan}
+use Rattle.plan.specs.View.{plan_of, group_of}
+use Rattle.plan.specs.Certificate.Certificate.{Certificate, certificate_of}
+use Rattle.plan.specs.Certificate.Cells.{first_cell}
 use Rattle.shares.specs.declared.grounds.Ground.{Ground}
 use Rattle.shares.proofs.Groups.{group_below, get_some, cells_next, cells_all}
 use Rattle.shares.proofs.Known.{cells_counted}

@@ -1,6 +1,6 @@
 use Rattle.std.proofs.Common.{◌≡◌, refl, sym, subst, Option}
 use Rattle.std.specs.Prelude.{MatchOption}
-use Rattle.cert.specs.Cells.{Piece}
+use Rattle.plan.specs.Certificate.Cells.{Piece}
 use Rattle.shares.proofs.Seated.{piece_is}
 use Rattle.shares.proofs.answer.group_of.Goals as goal
 

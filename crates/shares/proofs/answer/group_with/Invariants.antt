@@ -1,6 +1,6 @@
 use Rattle.std.proofs.Common.{◌≤◌}
-use Rattle.nest.specs.View.{plan_of}
-use Rattle.cert.specs.Cells.{first_cell}
+use Rattle.plan.specs.View.{plan_of}
+use Rattle.plan.specs.Certificate.Cells.{first_cell}
 use Rattle.shares.proofs.answer.group_with.Given as goal
 
 abbrev pub invariant-loop-group : goal.invariant-loop-group

@@ -2,10 +2,10 @@ use Rattle.std.proofs.Common.{◌≡◌, ◌∙◌, ◌<◌, ℕ, List, sym, ap,
 use Rattle.std.specs.Prelude.{All, IsSome, slice_get}
 use Rattle.std.proofs.lemmas.List.{length-map}
 use Rattle.std.proofs.lemmas.Option.{slice_get_within}
-use Rattle.nest.specs.Plan.{Plan}
-use Rattle.nest.specs.View.{plan_of}
-use Rattle.cert.specs.Certificate.{Certificate, certificate_of}
-use Rattle.cert.specs.Cells.{pieces}
+use Rattle.plan.specs.Plan.{Plan}
+use Rattle.plan.specs.View.{plan_of}
+use Rattle.plan.specs.Certificate.Certificate.{Certificate, certificate_of}
+use Rattle.plan.specs.Certificate.Cells.{pieces}
 use Rattle.orders.specs.Claimed.{IsClaimedBy}
 use Rattle.orders.specs.Lists.{own_lists, fetched_lists, needs_lists}
 use Rattle.orders.specs.Faults.{IsFirstUnserved}

@@ -1,5 +1,5 @@
 use Rattle.std.proofs.Common.{◌≡◌, ◌∙◌, ℕ, sym, ap, subst, arith, refl, get_or, Some}
-use Rattle.cert.specs.declared.cert.Need.{Need}
+use Rattle.plan.specs.declared.certificate.cert.Need.{Need}
 use Rattle.shares.specs.Made.{need_place}
 use Rattle.shares.proofs.Lines.{further_none, found_here, found_later, found_none}
 use Rattle.shares.proofs.answer.need_place.Goals as goal

@@ -1,5 +1,5 @@
-use Rattle.nest.specs.View.{plan_of}
-use Rattle.cert.specs.Certificate.{certificate_of}
+use Rattle.plan.specs.View.{plan_of}
+use Rattle.plan.specs.Certificate.Certificate.{certificate_of}
 use Rattle.shares.proofs.Lines.{own_stands}
 use Rattle.shares.proofs.answer.own_flaw.Goals as goal
 

@@ -1,5 +1,5 @@
 use Rattle.std.proofs.Common.{◌∙◌, List, ap, arith}
-use Rattle.cert.specs.declared.cert.Own.{Own}
+use Rattle.plan.specs.declared.certificate.cert.Own.{Own}
 use Rattle.shares.specs.Made.{own_place}
 use Rattle.shares.proofs.answer.own_line.Goals as goal
 

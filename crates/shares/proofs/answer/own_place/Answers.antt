@@ -1,5 +1,5 @@
 use Rattle.std.proofs.Common.{◌≡◌, subst, arith, get_or}
-use Rattle.cert.specs.declared.cert.Own.{Own}
+use Rattle.plan.specs.declared.certificate.cert.Own.{Own}
 use Rattle.shares.proofs.Lines.{place_here, place_later, no_place}
 use Rattle.shares.proofs.answer.own_place.Goals as goal
 

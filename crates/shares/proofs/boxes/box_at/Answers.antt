@@ -3,7 +3,7 @@ use Rattle.std.specs.Prelude.{All}
 use Rattle.std.proofs.lemmas.List.{take_more, map-append}
 use Rattle.std.proofs.lemmas.List.Elements.{All-push, All-get_or}
 use Rattle.lin.specs.declared.span.Span1.{Span1}
-use Rattle.cert.specs.Cells.{grid_symbols}
+use Rattle.plan.specs.Certificate.Cells.{grid_symbols}
 use Rattle.shares.specs.declared.boxes.Side.{Side}
 use Rattle.shares.specs.Boxes.{side, sides, AreLimited}
 use Rattle.shares.specs.Walked.{IsNear}

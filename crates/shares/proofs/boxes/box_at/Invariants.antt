@@ -1,6 +1,6 @@
 use Rattle.std.proofs.Common.{◌≡◌, take}
 use Rattle.std.specs.Prelude.{All}
-use Rattle.cert.specs.Cells.{grid_symbols}
+use Rattle.plan.specs.Certificate.Cells.{grid_symbols}
 use Rattle.shares.specs.Boxes.{sides}
 use Rattle.shares.specs.Walked.{IsNear}
 use Rattle.shares.proofs.boxes.box_at.Given as goal

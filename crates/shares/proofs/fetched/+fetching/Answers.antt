@@ -3,16 +3,16 @@ use Rattle.std.specs.Prelude.{IsTrue, OnOk, MatchOption, slice_get}
 use Rattle.std.proofs.lemmas.List.{map-append}
 use Rattle.std.proofs.lemmas.List.Elements.{All-append}
 use Rattle.lin.specs.declared.span.Span1.{Span1}
-use Rattle.nest.specs.declared.stmt.Stmt.{Stmt}
-use Rattle.nest.specs.declared.stmt.Stmt.TheViews.{the_lemmas}
-use Rattle.nest.specs.Plan.{Statement, Seq, block}
-use Rattle.nest.specs.Lists.{list_statements}
-use Rattle.nest.specs.Symbols.{points}
-use Rattle.nest.specs.View.{plan_of, statement_of}
-use Rattle.nest.proofs.Rows.{statement_of-seq}
-use Rattle.cert.specs.Cells.{Cell, cell, grid_symbols}
-use Rattle.pieces.specs.Fetched.{fetched_cells}
-use Rattle.pieces.specs.Numbers.{cell_number, is_cell}
+use Rattle.plan.specs.declared.stmt.Stmt.{Stmt}
+use Rattle.plan.specs.declared.stmt.Stmt.TheViews.{the_lemmas}
+use Rattle.plan.specs.Plan.{Statement, Seq, block}
+use Rattle.plan.specs.Lists.{list_statements}
+use Rattle.plan.specs.Symbols.{points}
+use Rattle.plan.specs.View.{plan_of, statement_of}
+use Rattle.plan.proofs.Rows.{statement_of-seq}
+use Rattle.plan.specs.Certificate.Cells.{Cell, cell, grid_symbols}
+use Rattle.headline.specs.Fetched.{fetched_cells}
+use Rattle.headline.specs.Numbers.{cell_number, is_cell}
 use Rattle.shares.specs.declared.stop.Stop.TheVariants.{Unserved, Large}
 use Rattle.shares.specs.Shared.{LineIsShared, IsLike}
 use Rattle.shares.specs.Layout.{AllCells}

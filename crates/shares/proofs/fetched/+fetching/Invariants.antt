@@ -1,8 +1,8 @@
 use Rattle.std.proofs.Common.{◌≡◌, ◌≤◌, ◌++◌, drop, length, map}
 use Rattle.std.specs.Prelude.{◌↔◌}
-use Rattle.nest.specs.View.{plan_of}
-use Rattle.cert.specs.Cells.{grid_symbols}
-use Rattle.pieces.specs.Numbers.{cell_number}
+use Rattle.plan.specs.View.{plan_of}
+use Rattle.plan.specs.Certificate.Cells.{grid_symbols}
+use Rattle.headline.specs.Numbers.{cell_number}
 use Rattle.shares.specs.Layout.{AllCells}
 use Rattle.shares.proofs.Fetching.{cells_in, AreLines}
 use Rattle.shares.proofs.fetched.+fetching.Given as goal

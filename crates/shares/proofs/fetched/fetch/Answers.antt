@@ -1,16 +1,16 @@
 use Rattle.std.proofs.Common.{◌∙◌, ◌++◌, ℕ, List, sym, ap, arith, length, map}
 use Rattle.std.specs.Prelude.{IsTrue, slice_get, ℤ}
 use Rattle.std.proofs.lemmas.List.{length-map}
-use Rattle.nest.specs.Symbols.{points}
-use Rattle.nest.specs.View.{plan_of}
-use Rattle.cert.specs.Cells.{grid_symbols, cell}
+use Rattle.plan.specs.Symbols.{points}
+use Rattle.plan.specs.View.{plan_of}
+use Rattle.plan.specs.Certificate.Cells.{grid_symbols, cell}
 use Rattle.shares.specs.Boxes.{is_in_box}
 use Rattle.shares.specs.Shared.{IsLike}
 use Rattle.shares.specs.Spaces.{numbers_in}
 use Rattle.shares.proofs.Seated.{named_group, ground_within, ground_at, cells_at, all_at}
 use Rattle.std.proofs.lemmas.Bool.{false≢true}
 use Rattle.std.proofs.lemmas.List.Elements.{recursion_from_All}
-use Rattle.pieces.specs.Numbers.{cell_number}
+use Rattle.headline.specs.Numbers.{cell_number}
 use Rattle.shares.proofs.Shared.{all_filtered}
 use Rattle.shares.proofs.fetched.fetch.Goals as goal
 

@@ -1,12 +1,12 @@
 use Rattle.std.proofs.Common.{◌∙◌, ◌++◌, ◌<◌, ℕ, List, [], sym, ap, subst, map, length, arith, Some, Option, Err}
 use Rattle.std.proofs.lemmas.List.{length-map}
-use Rattle.nest.specs.Plan.{Group, Plan}
-use Rattle.nest.specs.declared.plan.Group.{Group as CodeGroup}
-use Rattle.nest.specs.View.{plan_of, group_of, statement_of}
-use Rattle.cert.specs.Cells.{Cell, Piece, grid_symbols}
-use Rattle.pieces.specs.Fetched.{fetched_cells}
-use Rattle.pieces.specs.Numbers.{cell_number}
-use Rattle.pieces.specs.Work.{of_piece, cells_fetched, group_fetched}
+use Rattle.plan.specs.Plan.{Group, Plan}
+use Rattle.plan.specs.declared.plan.Group.{Group as CodeGroup}
+use Rattle.plan.specs.View.{plan_of, group_of, statement_of}
+use Rattle.plan.specs.Certificate.Cells.{Cell, Piece, grid_symbols}
+use Rattle.headline.specs.Fetched.{fetched_cells}
+use Rattle.headline.specs.Numbers.{cell_number}
+use Rattle.headline.specs.Work.{of_piece, cells_fetched, group_fetched}
 use Rattle.shares.specs.Seats.{piece_of}
 use Rattle.shares.specs.Layout.{AllCells, PieceFetchesCells}
 use Rattle.shares.proofs.Counting.{fetch_stops}

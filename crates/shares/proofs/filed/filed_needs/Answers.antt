@@ -1,6 +1,6 @@
 use Rattle.std.proofs.Common.{◌∙◌, ◌++◌, ◌∷◌, [], List, map, take, ap, sym, subst, arith}
 use Rattle.std.proofs.lemmas.List.{take_all, take_more}
-use Rattle.cert.specs.declared.cert.Need.{Need}
+use Rattle.plan.specs.declared.certificate.cert.Need.{Need}
 use Rattle.shares.specs.Filed.{AreFiled}
 use Rattle.shares.proofs.Filing.{row}
 use Rattle.shares.proofs.filed.filed_needs.Goals as goal

@@ -1,6 +1,6 @@
 use Rattle.std.proofs.Common.{◌≡◌, ◌∙◌, ◌+◌, ◌++◌, ◌∷◌, [], List, map, ap, sym, subst, Bor}
 use Rattle.std.proofs.lemmas.List.{map-append}
-use Rattle.cert.specs.declared.cert.Need.{Need}
+use Rattle.plan.specs.declared.certificate.cert.Need.{Need}
 use Rattle.shares.specs.Filed.{AreFiled}
 use Rattle.shares.proofs.Filing.{row, filed_none, filed_more}
 use Rattle.shares.proofs.filed.none_filed.Goals as goal

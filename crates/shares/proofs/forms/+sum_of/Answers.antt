@@ -2,7 +2,7 @@ use Rattle.std.proofs.Common.{sym, ap, ◌∙◌, rules, w64, SFits, get_or, pos
 use Rattle.std.specs.Int.{int_wrap}
 use Rattle.lin.specs.declared.form.Multiple.{Multiple}
 use Rattle.lin.specs.Forms.{sum_of}
-use Rattle.cert.specs.Cells.{grid_value}
+use Rattle.plan.specs.Certificate.Cells.{grid_value}
 use Rattle.shares.proofs.Summing.{wrapped_step, sum_first}
 use Rattle.shares.proofs.forms.+sum_of.Goals as goal
 

@@ -1,8 +1,8 @@
 use Rattle.std.proofs.Common.{◌≡◌, take, map, fold, ◌^◌}
 use Rattle.std.specs.Int.{int_max}
 use Rattle.lin.specs.Forms.{IsWithin}
-use Rattle.nest.specs.Symbols.{form_value}
-use Rattle.cert.specs.Cells.{grid_symbols}
+use Rattle.plan.specs.Symbols.{form_value}
+use Rattle.plan.specs.Certificate.Cells.{grid_symbols}
 use Rattle.shares.proofs.forms.larger_of.Given as goal
 
 abbrev pub invariant-loop-form : goal.invariant-loop-form

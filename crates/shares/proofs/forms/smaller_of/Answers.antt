@@ -2,8 +2,8 @@ use Rattle.std.proofs.Common.{◌∙◌, rules, w64, SFits, to_z, of_z, ◌^◌,
 use Rattle.std.specs.Int.{int_min}
 use Rattle.std.proofs.lemmas.Int.{to_z-of_z}
 use Rattle.lin.specs.Forms.{Form, IsWithin}
-use Rattle.nest.specs.Symbols.{form_value}
-use Rattle.cert.specs.Cells.{grid_symbols}
+use Rattle.plan.specs.Symbols.{form_value}
+use Rattle.plan.specs.Certificate.Cells.{grid_symbols}
 use Rattle.shares.proofs.Summing.{fold_next}
 use Rattle.shares.proofs.Values.{smaller_small}
 use Rattle.shares.proofs.forms.smaller_of.Goals as goal

@@ -2,8 +2,8 @@ use Rattle.std.proofs.Common.{◌∙◌, rules, w64, SFits, ℤ, ap, map, take, 
 use Rattle.std.specs.Int.{int_min}
 use Rattle.std.proofs.lemmas.Int.{to_z-of_z}
 use Rattle.lin.specs.Forms.{Form}
-use Rattle.nest.specs.Symbols.{form_value, smallest}
-use Rattle.cert.specs.Cells.{grid_symbols}
+use Rattle.plan.specs.Symbols.{form_value, smallest}
+use Rattle.plan.specs.Certificate.Cells.{grid_symbols}
 use Rattle.shares.proofs.Summing.{smallest_first}
 use Rattle.shares.proofs.forms.smallest.Goals as goal
 

@@ -3,8 +3,8 @@ use Rattle.std.specs.Int.{int_wrap}
 use Rattle.lin.specs.declared.form.Multiple.{Multiple}
 use Rattle.lin.specs.Forms.{sum_of, IsWithin}
 use Rattle.lin.proofs.Machine.{within_fits}
-use Rattle.cert.specs.Cells.{grid_value, grid_symbols}
-use Rattle.nest.specs.Symbols.{form_value}
+use Rattle.plan.specs.Certificate.Cells.{grid_value, grid_symbols}
+use Rattle.plan.specs.Symbols.{form_value}
 use Rattle.shares.proofs.Values.{form_small}
 use Rattle.shares.proofs.Summing.{wrapped_sum}
 use Rattle.shares.proofs.forms.value_of.Goals as goal

@@ -1,11 +1,11 @@
 use Rattle.std.proofs.Common.{List, ap, sym, ◌∙◌, subst, Some, length}
 use Rattle.lin.specs.declared.span.Span1.{Span1}
 use Rattle.shares.specs.Shared.{IsLike}
-use Rattle.nest.specs.Plan.{Group, Plan}
-use Rattle.nest.specs.View.{plan_of, group_of}
-use Rattle.nest.specs.declared.plan.Group.{Group as CodeGroup}
-use Rattle.cert.specs.Certificate.{Certificate, certificate_of}
-use Rattle.cert.specs.Cells.{no_symbols}
+use Rattle.plan.specs.Plan.{Group, Plan}
+use Rattle.plan.specs.View.{plan_of, group_of}
+use Rattle.plan.specs.declared.plan.Group.{Group as CodeGroup}
+use Rattle.plan.specs.Certificate.Certificate.{Certificate, certificate_of}
+use Rattle.plan.specs.Certificate.Cells.{no_symbols}
 use Rattle.shares.specs.Boxes.{IsLimited, sides, grid_sides}
 use Rattle.shares.specs.declared.grounds.Ground.{Ground}
 use Rattle.shares.specs.Grounds.{IsGroundOf}

@@ -1,7 +1,7 @@
 use Rattle.std.proofs.Common.{◌≡◌, ℕ, ◌+◌, sym, ◌∙◌, subst, arith, length}
-use Rattle.nest.specs.Plan.{Plan}
-use Rattle.nest.specs.View.{plan_of, group_of}
-use Rattle.cert.specs.Certificate.{Certificate, certificate_of}
+use Rattle.plan.specs.Plan.{Plan}
+use Rattle.plan.specs.View.{plan_of, group_of}
+use Rattle.plan.specs.Certificate.Certificate.{Certificate, certificate_of}
 use Rattle.shares.specs.Grounds.{AreGrounds}
 use Rattle.shares.proofs.Groups.{no_cells, no_pieces, group_below, cells_next, pieces_after}
 use Rattle.shares.proofs.Known.{cells_counted, pieces_counted, grounds_none, grounds_more}

@@ -1,7 +1,7 @@
 use Rattle.std.proofs.Common.{◌≡◌}
-use Rattle.nest.specs.View.{plan_of}
-use Rattle.cert.specs.Certificate.{certificate_of}
-use Rattle.cert.specs.Cells.{first_cell, first_piece}
+use Rattle.plan.specs.View.{plan_of}
+use Rattle.plan.specs.Certificate.Certificate.{certificate_of}
+use Rattle.plan.specs.Certificate.Cells.{first_cell, first_piece}
 use Rattle.shares.specs.Grounds.{AreGrounds}
 use Rattle.shares.proofs.grounds.grounds_of.Given as goal
 

@@ -2,10 +2,10 @@ use Rattle.std.proofs.Common.{◌≡◌, ◌∙◌, ◌+◌, ◌<◌, ℕ, List,
 use Rattle.std.specs.Prelude.{All, IsTrue, ◌↔◌, filter}
 use Rattle.std.proofs.lemmas.List.{length-map}
 use Rattle.lin.proofs.Limits.{if_ok}
-use Rattle.nest.specs.Symbols.{points}
-use Rattle.nest.specs.View.{plan_of}
-use Rattle.cert.specs.Cells.{grid_symbols, cells}
-use Rattle.cert.specs.Certificate.{certificate_of}
+use Rattle.plan.specs.Symbols.{points}
+use Rattle.plan.specs.View.{plan_of}
+use Rattle.plan.specs.Certificate.Cells.{grid_symbols, cells}
+use Rattle.plan.specs.Certificate.Certificate.{certificate_of}
 use Rattle.shares.specs.Boxes.{is_in_box, point_count, IsSmall}
 use Rattle.shares.specs.Spaces.{numbers_in, HasAll}
 use Rattle.shares.specs.Layout.{own_list, OwnIsInside}

@@ -1,5 +1,5 @@
-use Rattle.nest.specs.View.{plan_of}
-use Rattle.cert.specs.Certificate.{certificate_of}
+use Rattle.plan.specs.View.{plan_of}
+use Rattle.plan.specs.Certificate.Certificate.{certificate_of}
 use Rattle.shares.proofs.Counting.{stops_fetching, stops_needing}
 use Rattle.shares.proofs.lists.lists_at.Goals as goal
 

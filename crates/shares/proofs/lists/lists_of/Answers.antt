@@ -1,8 +1,8 @@
 use Rattle.std.proofs.Common.{◌≡◌, ◌∙◌, ◌+◌, ◌∷◌, ◌<◌, [], ℕ, sym, ap, subst, length, length-append, arith}
 use Rattle.std.proofs.lemmas.List.{length-map}
-use Rattle.nest.specs.View.{plan_of}
-use Rattle.cert.specs.Certificate.{certificate_of}
-use Rattle.cert.specs.Cells.{pieces}
+use Rattle.plan.specs.View.{plan_of}
+use Rattle.plan.specs.Certificate.Certificate.{certificate_of}
+use Rattle.plan.specs.Certificate.Cells.{pieces}
 use Rattle.shares.specs.Seats.{piece_of}
 use Rattle.shares.specs.Made.{IsMade, AreMade, TroubleMeans}
 use Rattle.shares.proofs.Counting.{trouble_means, fetched_next, needed_next, are_few}

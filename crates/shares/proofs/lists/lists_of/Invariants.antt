@@ -1,6 +1,6 @@
 use Rattle.std.proofs.Common.{◌≡◌, ◌+◌, ◌^◌, length}
-use Rattle.nest.specs.View.{plan_of}
-use Rattle.cert.specs.Certificate.{certificate_of}
+use Rattle.plan.specs.View.{plan_of}
+use Rattle.plan.specs.Certificate.Certificate.{certificate_of}
 use Rattle.shares.specs.Has.{fetched_before, needed_before}
 use Rattle.shares.specs.Made.{AreMade}
 use Rattle.shares.proofs.lists.lists_of.Given as goal

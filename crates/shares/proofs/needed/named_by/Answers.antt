@@ -2,10 +2,10 @@ use Rattle.std.proofs.Common.{◌≡◌, ◌∙◌, ◌+◌, ◌++◌, ◌<◌, 
 use Rattle.std.specs.Prelude.{Contains}
 use Rattle.std.proofs.lemmas.List.{append-nil, length-map}
 use Rattle.std.proofs.lemmas.List.Elements.{All-nil}
-use Rattle.nest.specs.Plan.{Plan}
-use Rattle.nest.specs.View.{plan_of}
-use Rattle.cert.specs.declared.cert.Need.{Need}
-use Rattle.cert.specs.Cells.{Piece}
+use Rattle.plan.specs.Plan.{Plan}
+use Rattle.plan.specs.View.{plan_of}
+use Rattle.plan.specs.declared.certificate.cert.Need.{Need}
+use Rattle.plan.specs.Certificate.Cells.{Piece}
 use Rattle.shares.specs.Seats.{piece_of}
 use Rattle.shares.specs.Shared.{NeedIsShared}
 use Rattle.shares.specs.Needed.{need_numbers, all_numbers, NeedIsInside, NeedsAreInside}

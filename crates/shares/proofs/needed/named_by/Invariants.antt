@@ -1,7 +1,7 @@
 use Rattle.std.proofs.Common.{◌++◌, ℕ, drop, map, Bor}
 use Rattle.std.specs.Prelude.{Contains, ◌↔◌}
-use Rattle.nest.specs.View.{plan_of}
-use Rattle.cert.specs.declared.cert.Need.{Need}
+use Rattle.plan.specs.View.{plan_of}
+use Rattle.plan.specs.declared.certificate.cert.Need.{Need}
 use Rattle.shares.specs.Seats.{piece_of}
 use Rattle.shares.specs.Needed.{all_numbers, NeedsAreInside}
 use Rattle.shares.proofs.needed.named_by.Given as goal

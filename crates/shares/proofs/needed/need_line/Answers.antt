@@ -3,11 +3,11 @@ use Rattle.std.specs.Prelude.{All, IsTrue, ℤ, slice_get}
 use Rattle.std.proofs.lemmas.Bool.{false≢true}
 use Rattle.std.proofs.lemmas.List.{length-map}
 use Rattle.std.proofs.lemmas.List.Elements.{recursion_from_All}
-use Rattle.nest.specs.Plan.{Group, Plan}
-use Rattle.nest.specs.Symbols.{points}
-use Rattle.nest.specs.View.{plan_of}
-use Rattle.cert.specs.Cells.{Piece, grid_symbols}
-use Rattle.pieces.specs.Numbers.{group_grid}
+use Rattle.plan.specs.Plan.{Group, Plan}
+use Rattle.plan.specs.Symbols.{points}
+use Rattle.plan.specs.View.{plan_of}
+use Rattle.plan.specs.Certificate.Cells.{Piece, grid_symbols}
+use Rattle.headline.specs.Numbers.{group_grid}
 use Rattle.shares.specs.declared.boxes.Side.{Side}
 use Rattle.shares.specs.Boxes.{IsLimited, grid_sides, is_in_box, rank}
 use Rattle.shares.specs.Seats.{piece_of}

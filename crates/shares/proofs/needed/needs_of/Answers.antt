@@ -1,13 +1,13 @@
 use Rattle.std.proofs.Common.{◌≡◌, ◌∙◌, ◌<◌, ℕ, List, [], map, sym, ap, subst, length, arith, Option, Bor, Err}
 use Rattle.std.specs.Prelude.{Contains, ◌↔◌, MatchOption}
-use Rattle.nest.specs.Plan.{Plan}
-use Rattle.nest.specs.View.{plan_of}
-use Rattle.cert.specs.declared.cert.Need.{Need}
-use Rattle.cert.specs.Certificate.{Certificate, certificate_of}
-use Rattle.cert.specs.Cells.{Piece}
-use Rattle.pieces.specs.Parts.{IsNeeded}
-use Rattle.pieces.specs.Work.{of_piece, needed_pieces}
-use Rattle.pieces.proofs.Parts.{needs_one}
+use Rattle.plan.specs.Plan.{Plan}
+use Rattle.plan.specs.View.{plan_of}
+use Rattle.plan.specs.declared.certificate.cert.Need.{Need}
+use Rattle.plan.specs.Certificate.Certificate.{Certificate, certificate_of}
+use Rattle.plan.specs.Certificate.Cells.{Piece}
+use Rattle.headline.specs.Parts.{IsNeeded}
+use Rattle.headline.specs.Work.{of_piece, needed_pieces}
+use Rattle.headline.proofs.Parts.{needs_one}
 use Rattle.shares.specs.Filed.{needs_in, AreLinesOf}
 use Rattle.shares.specs.Seats.{piece_of}
 use Rattle.shares.specs.Needed.{all_numbers, NeedsAreInside}

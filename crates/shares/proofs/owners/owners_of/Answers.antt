@@ -1,9 +1,9 @@
 use Rattle.std.proofs.Common.{◌≡◌, ◌+◌, ◌<◌, ◌∙◌, ℕ, List, sym, ap, subst, length, arith, Option}
 use Rattle.std.specs.Prelude.{All}
 use Rattle.std.proofs.lemmas.List.{length-map}
-use Rattle.nest.specs.View.{plan_of}
-use Rattle.cert.specs.Certificate.{certificate_of}
-use Rattle.cert.specs.Cells.{cells, pieces}
+use Rattle.plan.specs.View.{plan_of}
+use Rattle.plan.specs.Certificate.Certificate.{certificate_of}
+use Rattle.plan.specs.Certificate.Cells.{cells, pieces}
 use Rattle.orders.specs.Work.{OwnIsParted}
 use Rattle.orders.proofs.Claiming.{claimed_parted}
 use Rattle.orders.specs.Claimed.{IsClaimed}

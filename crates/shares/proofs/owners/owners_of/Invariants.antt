@@ -1,6 +1,6 @@
 use Rattle.std.proofs.Common.{◌≡◌, length}
-use Rattle.nest.specs.View.{plan_of}
-use Rattle.cert.specs.Certificate.{certificate_of}
+use Rattle.plan.specs.View.{plan_of}
+use Rattle.plan.specs.Certificate.Certificate.{certificate_of}
 use Rattle.orders.specs.Claimed.{IsClaimed}
 use Rattle.shares.specs.Layout.{own_list}
 use Rattle.shares.proofs.owners.owners_of.Given as goal

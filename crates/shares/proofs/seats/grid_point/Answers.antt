@@ -3,7 +3,7 @@ use Rattle.std.specs.Prelude.{All}
 use Rattle.std.proofs.lemmas.List.{append-nil}
 use Rattle.std.proofs.lemmas.List.Elements.{All-push}
 use Rattle.std.proofs.Math.Nat.{div-le_self, mod-le}
-use Rattle.cert.specs.Cells.{grid_point, piece_count}
+use Rattle.plan.specs.Certificate.Cells.{grid_point, piece_count}
 use Rattle.shares.proofs.Grids.{point_more, count_more, some_left, div_left, point_end}
 use Rattle.shares.proofs.seats.grid_point.Goals as goal
 

@@ -1,6 +1,6 @@
 use Rattle.std.proofs.Common.{◌≡◌, ◌<◌, ◌≤◌, ◌++◌, drop}
 use Rattle.std.specs.Prelude.{All}
-use Rattle.cert.specs.Cells.{grid_point, piece_count}
+use Rattle.plan.specs.Certificate.Cells.{grid_point, piece_count}
 use Rattle.shares.proofs.seats.grid_point.Given as goal
 
 abbrev pub invariant-loop-count : goal.invariant-loop-count

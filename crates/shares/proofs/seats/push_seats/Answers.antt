@@ -2,7 +2,7 @@ use Rattle.std.proofs.Common.{◌≡◌, ℕ, ◌+◌, List, [], ◌∷◌, ◌+
 use Rattle.std.proofs.lemmas.List.{map-append, append-nil}
 use Rattle.std.proofs.lemmas.List.Elements.{All-push}
 use Rattle.std.proofs.lemmas.List.FromFn.{map-range_with_len_more}
-use Rattle.cert.specs.Cells.{Piece, grid_point}
+use Rattle.plan.specs.Certificate.Cells.{Piece, grid_point}
 use Rattle.shares.specs.declared.seats.Seat.{Seat}
 use Rattle.shares.specs.Boxes.{IsSmall}
 use Rattle.shares.specs.Seats.{AreSmall, grid_pieces, pieces_of, piece_of}

@@ -1,9 +1,9 @@
 use Rattle.std.proofs.Common.{ℕ, List, ◌++◌, ◌+◌, ap, sym, ◌∙◌, Some, arith, drop, append_assoc}
 use Rattle.std.proofs.lemmas.List.{length-map, append-nil}
-use Rattle.nest.specs.Plan.{Plan}
-use Rattle.nest.specs.View.{plan_of, group_of}
-use Rattle.nest.specs.declared.plan.Group.{Group as CodeGroup}
-use Rattle.cert.specs.Cells.{Piece, pieces_from, piece_count}
+use Rattle.plan.specs.Plan.{Plan}
+use Rattle.plan.specs.View.{plan_of, group_of}
+use Rattle.plan.specs.declared.plan.Group.{Group as CodeGroup}
+use Rattle.plan.specs.Certificate.Cells.{Piece, pieces_from, piece_count}
 use Rattle.shares.specs.declared.grounds.Ground.{Ground}
 use Rattle.shares.specs.Seats.{pieces_of, grid_pieces}
 use Rattle.shares.proofs.Groups.{get_mapped, get_some, pieces_at, pieces_end}

@@ -1,6 +1,6 @@
 use Rattle.std.proofs.Common.{◌≡◌, ◌++◌, drop}
-use Rattle.nest.specs.View.{plan_of}
-use Rattle.cert.specs.Cells.{pieces, pieces_from}
+use Rattle.plan.specs.View.{plan_of}
+use Rattle.plan.specs.Certificate.Cells.{pieces, pieces_from}
 use Rattle.shares.specs.Seats.{AreSmall, pieces_of}
 use Rattle.shares.proofs.seats.seats_of.Given as goal
 

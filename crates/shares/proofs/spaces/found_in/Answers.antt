@@ -1,8 +1,8 @@
 use Rattle.std.proofs.Common.{◌≡◌, ◌∙◌, ◌+◌, ◌-◌, ◌<◌, ◌^◌, List, [], ap, arith, length, filter, min}
 use Rattle.std.specs.Prelude.{All, IsTrue, ◌↔◌}
 use Rattle.lin.proofs.Limits.{if_ok}
-use Rattle.nest.specs.Symbols.{points}
-use Rattle.cert.specs.Cells.{grid_symbols}
+use Rattle.plan.specs.Symbols.{points}
+use Rattle.plan.specs.Certificate.Cells.{grid_symbols}
 use Rattle.shares.specs.declared.boxes.Side.{Side}
 use Rattle.shares.specs.Boxes.{is_in_box, point_count}
 use Rattle.shares.specs.Spaces.{numbers_in, HasAll}

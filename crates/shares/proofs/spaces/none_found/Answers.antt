@@ -1,6 +1,6 @@
 use Rattle.std.proofs.Common.{◌∙◌, ◌-◌, ◌^◌, List, ap, length, min}
-use Rattle.nest.specs.Symbols.{points}
-use Rattle.cert.specs.Cells.{grid_symbols}
+use Rattle.plan.specs.Symbols.{points}
+use Rattle.plan.specs.Certificate.Cells.{grid_symbols}
 use Rattle.shares.specs.declared.boxes.Side.{Side}
 use Rattle.shares.specs.Boxes.{sides, point_count}
 use Rattle.shares.proofs.Shared.{points_counted}

@@ -1,7 +1,7 @@
 use Rattle.std.proofs.Common.{◌<◌, ◌+◌, ◌-◌, ◌^◌, ℕ, List, length, map, filter, ap, sym, ◌∙◌, subst, arith, min}
 use Rattle.std.specs.Prelude.{All}
-use Rattle.nest.specs.Symbols.{points}
-use Rattle.cert.specs.Cells.{grid_symbols}
+use Rattle.plan.specs.Symbols.{points}
+use Rattle.plan.specs.Certificate.Cells.{grid_symbols}
 use Rattle.shares.specs.declared.boxes.Side.{Side}
 use Rattle.shares.specs.Boxes.{is_in_box, sides, point_count}
 use Rattle.shares.specs.Walked.{shared_cells}

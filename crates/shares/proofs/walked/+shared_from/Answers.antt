@@ -1,7 +1,7 @@
 use Rattle.std.proofs.Common.{arith, ◌≡◌, ◌<◌, ◌≤◌, ◌∙◌, ap, sym, subst, ◌+◌, ◌*◌, ◌^◌, List, ℕ, flat_map, length, drop, get_or}
 use Rattle.std.specs.Prelude.{pos, All, ◌-ℤ◌, ◌+ℤ◌, ◌≤ℤ◌}
 use Rattle.std.specs.List.{range_with_len}
-use Rattle.nest.specs.Symbols.{clipped}
+use Rattle.plan.specs.Symbols.{clipped}
 use Rattle.std.proofs.lemmas.List.Elements.{All-get_or}
 use Rattle.lin.proofs.Limits.{if_ok}
 use Rattle.shares.specs.declared.boxes.Side.{Side}

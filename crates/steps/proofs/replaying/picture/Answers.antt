@@ -1,5 +1,5 @@
 use Rattle.algo.specs.View.{picture_of}
-use Rattle.checked.specs.View.{algorithm_checked}
+use Rattle.checked_plan.specs.View.{algorithm_checked}
 use Rattle.orders.specs.Seen.{crew_of}
 use Rattle.steps.proofs.Accepted.{completed}
 use Rattle.steps.proofs.replaying.picture.Goals as goal

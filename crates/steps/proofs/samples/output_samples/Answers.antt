@@ -1,9 +1,9 @@
 use Rattle.std.proofs.Common.{◌≡◌, ℕ, [], ◌∷◌, ◌++◌, sym, ap, ◌∙◌, arith}
 use Rattle.std.proofs.lemmas.List.FromFn.{map-range_with_len_more}
 use Rattle.algo.specs.View.{samples_of}
-use Rattle.checked.specs.View.{algorithm_checked}
-use Rattle.image.specs.Raster.{natural, raster_point}
-use Rattle.image.specs.View.{Frame}
+use Rattle.checked_plan.specs.View.{algorithm_checked}
+use Rattle.meaning.specs.Image.Raster.{natural, raster_point}
+use Rattle.meaning.specs.Image.View.{Frame}
 use Rattle.meaning.specs.Algorithm.{Algorithm}
 use Rattle.meaning.specs.Value.{output_value}
 use Rattle.steps.proofs.samples.output_samples.Goals as goal

@@ -1,8 +1,8 @@
 use Rattle.std.proofs.Common.{◌≡◌, map}
 use Rattle.std.specs.List.{range_with_len}
 use Rattle.algo.specs.View.{samples_of}
-use Rattle.checked.specs.View.{algorithm_checked}
-use Rattle.image.specs.Raster.{natural, raster_point}
+use Rattle.checked_plan.specs.View.{algorithm_checked}
+use Rattle.meaning.specs.Image.Raster.{natural, raster_point}
 use Rattle.meaning.specs.Value.{output_value}
 use Rattle.steps.proofs.samples.output_samples.Given as goal
 

@@ -1,7 +1,7 @@
 use Rattle.std.proofs.Common.{◌≡◌, ◌/◌, ◌%◌, ◌<◌, ◌^◌, [], ◌∷◌, get_or, pos, sym, ◌∙◌, subst}
 use Rattle.std.proofs.lemmas.Int.{to_z_pos}
-use Rattle.image.specs.Raster.{is_within}
-use Rattle.image.specs.View.{AreExtents}
+use Rattle.meaning.specs.Image.Raster.{is_within}
+use Rattle.meaning.specs.Image.View.{AreExtents}
 use Rattle.steps.proofs.Outputs.{few_places, quotient_few, remainder_few, third}
 use Rattle.steps.proofs.samples.sample_at.Goals as goal
 use mir.Syntax.{w64}

@@ -2,9 +2,9 @@ use Rattle.std.proofs.Common.{◌≡◌, ◌<◌, ◌^◌, Some, ℤ, pos, sym, 
 use Rattle.std.proofs.lemmas.Int.{to_z-of_z}
 use Rattle.std.proofs.lemmas.Option.{same_Some}
 use Rattle.algo.specs.View.{picture_of, samples_of}
-use Rattle.checked.specs.View.{algorithm_checked}
+use Rattle.checked_plan.specs.View.{algorithm_checked}
 use Rattle.headline.proofs.Samples.{inputs_are_samples}
-use Rattle.image.specs.Raster.{natural}
+use Rattle.meaning.specs.Image.Raster.{natural}
 use Rattle.meaning.specs.Value.{output_value}
 use Rattle.steps.proofs.Accepted.{held}
 use Rattle.steps.proofs.Outputs.{output_sample}

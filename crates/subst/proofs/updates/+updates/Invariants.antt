@@ -1,6 +1,6 @@
 use Rattle.std.proofs.Common.{◌≡◌, drop}
 use Rattle.tree.specs.Term.{indices, list_terms}
-use Rattle.inlining.specs.PutIn.{all_call_some}
+use Rattle.meaning.specs.Inlining.PutIn.{all_call_some}
 use Rattle.subst.specs.Table.{marked}
 use Rattle.subst.proofs.updates.+updates.Given as goal
 

@@ -3,10 +3,6 @@ use Rattle.clap.specs.declared.error.kind.ErrorKind.TheVariants.{MissingRequired
 use Rattle.clap.proofs.OnLiterals.{clap_on_literals}
 use Rattle.tool.proofs.laws.words_are_read.Goals as goal
 
-pub returns-clause-rows : goal.returns-clause-rows
-unfolding clap_on_literals
-returns-clause-rows c = (refl, refl)
-
 pub returns-clause-plain : goal.returns-clause-plain
 unfolding clap_on_literals
 returns-clause-plain c = (refl, refl)

@@ -5,7 +5,7 @@ use Rattle.algo.specs.Parts.{input_frame}
 use Rattle.algo.specs.Refusal.{IsAlgorithmText}
 use Rattle.algo.specs.View.{algorithm_of, samples_of}
 use Rattle.pnm.specs.Reading.{reading, wanted_of}
-use Rattle.worker_order.specs.Order.{IsOrder}
+use Rattle.tool.specs.Order.Order.{IsOrder}
 use Rattle.tool.proofs.Kept.{held_before, of_device, on_ok, same_then}
 use Rattle.tool.proofs.Prepared.{fault_before, plan_before}
 use Rattle.tool.specs.Asked.{check_asked, replay_asked}

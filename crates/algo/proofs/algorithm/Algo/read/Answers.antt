@@ -1,6 +1,6 @@
 use Rattle.std.proofs.Common.{map, inr, IfErr, rules}
 use Rattle.std.proofs.lemmas.Result.{IfErr-weaker}
-use Rattle.syntax.specs.View.{statement_text}
+use Rattle.expr.specs.Statements.View.{statement_text}
 use Rattle.algo.specs.Refusal.{IsRefusedPlace, IsRefusedText}
 use Rattle.algo.specs.Faults.{TellsOfFile}
 use Rattle.algo.proofs.Calls.{calls_stand}

@@ -2,7 +2,7 @@ use Rattle.std.proofs.Common.{◌≡◌, ◌+◌, ◌<◌, ◌∙◌, ◌≤◌,
 use Rattle.std.proofs.lemmas.List.{take_at}
 use Rattle.std.specs.Prelude.{slice_index}
 use Rattle.std.specs.Slots.{slots_items}
-use Rattle.image.specs.Raster.{natural}
+use Rattle.meaning.specs.Image.Raster.{natural}
 use Rattle.board.specs.Layout.{Layout, pieces_of, samples_in, shown_cell, value_at}
 use Rattle.board.specs.Words.{bits_of, word_of}
 use Rattle.board.specs.Seats.{Place, KnowsAll}

@@ -1,12 +1,12 @@
 use Rattle.std.proofs.Common.{rules, ◌≡◌, ◌<◌, List, ℕ, length, sym, ap, ◌∙◌, subst, arith}
 use Rattle.std.proofs.lemmas.Option.{same_Some}
 use Rattle.algo.specs.View.{picture_of}
-use Rattle.cert.specs.Certificate.{certificate_of}
-use Rattle.cert.specs.Cells.{grid_point, pieces}
-use Rattle.nest.specs.Plan.{Group, Plan}
-use Rattle.nest.specs.View.{plan_of}
-use Rattle.image.specs.View.{image_of}
-use Rattle.places.proofs.Walks.{group_is}
+use Rattle.plan.specs.Certificate.Certificate.{certificate_of}
+use Rattle.plan.specs.Certificate.Cells.{grid_point, pieces}
+use Rattle.plan.specs.Plan.{Group, Plan}
+use Rattle.plan.specs.View.{plan_of}
+use Rattle.meaning.specs.Image.View.{image_of}
+use Rattle.piece.proofs.Walks.{group_is}
 use Rattle.crew.proofs.Runs as runs
 use Rattle.crew.proofs.Scratches.{set_long}
 use Rattle.crew.proofs.values.PiecesPrivateRuns.run.Goals as goal

@@ -2,12 +2,12 @@ use Rattle.std.proofs.Common.{◌≡◌, ◌+◌, [], ◌∷◌, List, length, s
 use Rattle.std.specs.Prelude.{slice_get}
 use Rattle.std.proofs.lemmas.List.{length-append, length-map}
 use Rattle.interpreter.specs.declared.scratch.Scratch.{Scratch}
-use Rattle.nest.specs.Plan.{Plan}
-use Rattle.nest.specs.declared.plan.Group.{Group as CodeGroup}
-use Rattle.cert.specs.Certificate.{Certificate, certificate_of}
-use Rattle.nest.specs.View.{group_of}
-use Rattle.checked.specs.View.{plan_checked}
-use Rattle.places.proofs.Walks.{group_at}
+use Rattle.plan.specs.Plan.{Plan}
+use Rattle.plan.specs.declared.plan.Group.{Group as CodeGroup}
+use Rattle.plan.specs.Certificate.Certificate.{Certificate, certificate_of}
+use Rattle.plan.specs.View.{group_of}
+use Rattle.checked_plan.specs.View.{plan_checked}
+use Rattle.piece.proofs.Walks.{group_at}
 use Rattle.crew.specs.Private.{HasMemory}
 use Rattle.crew.proofs.Scratches.{SufficeSoFar, none_yet, one_more, memory_made}
 use Rattle.crew.proofs.values.PiecesPrivateRuns.scratches.Goals as goal

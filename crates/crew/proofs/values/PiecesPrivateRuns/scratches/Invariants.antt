@@ -1,6 +1,6 @@
 use Rattle.std.proofs.Common.{◌≡◌, length}
-use Rattle.checked.specs.View.{plan_checked}
-use Rattle.cert.specs.Certificate.{certificate_of}
+use Rattle.checked_plan.specs.View.{plan_checked}
+use Rattle.plan.specs.Certificate.Certificate.{certificate_of}
 use Rattle.crew.proofs.Scratches.{SufficeSoFar}
 use Rattle.crew.proofs.values.PiecesPrivateRuns.scratches.Given as goal
 

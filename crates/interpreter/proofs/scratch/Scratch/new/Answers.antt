@@ -1,10 +1,10 @@
 use Rattle.std.proofs.Common.{◌≡◌, ◌+◌, ◌≤◌, ℕ, List, ◌++◌, length, sym, ap, ◌∙◌, subst, rules, arith}
 use Rattle.std.specs.Prelude.{All, MatchOption}
-use Rattle.cert.specs.declared.cert.Own.{Own}
-use Rattle.cert.specs.Cells.{grid_symbols, own_region}
-use Rattle.nest.specs.View.{statement_of}
-use Rattle.buffers.specs.Blocks.{limits_of, HasMemoryFor}
-use Rattle.buffers.specs.declared.limit.Limit.{Limit}
+use Rattle.plan.specs.declared.certificate.cert.Own.{Own}
+use Rattle.plan.specs.Certificate.Cells.{grid_symbols, own_region}
+use Rattle.plan.specs.View.{statement_of}
+use Rattle.interpreter.specs.Buffers.Blocks.{limits_of, HasMemoryFor}
+use Rattle.interpreter.specs.declared.buffers.limit.Limit.{Limit}
 use Rattle.interpreter.specs.Bindings.{bind_all}
 use Rattle.interpreter.specs.Needs.{allotments, symbol_count}
 use Rattle.interpreter.proofs.Fitting.{fits}

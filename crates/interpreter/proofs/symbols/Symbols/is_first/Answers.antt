@@ -1,5 +1,5 @@
 use Rattle.std.proofs.Common.{◌≡◌, ◌<◌, length, List, get_or, ap, ◌∙◌, subst, rules, pos, false}
-use Rattle.cert.specs.Cells.{grid_symbols}
+use Rattle.plan.specs.Certificate.Cells.{grid_symbols}
 use Rattle.interpreter.specs.declared.symbols.Binding.{Binding}
 use Rattle.interpreter.proofs.Bindings.{first_same, first_other}
 use Rattle.interpreter.proofs.symbols.Symbols.is_first.Goals as goal

@@ -1,6 +1,6 @@
 use Rattle.std.proofs.Common.{◌≡◌, ◌<◌, length, List, get_or, ap, ◌∙◌, subst, rules, arith, w64, to_z, pos, false}
 use Rattle.std.proofs.lemmas.Int.{to_z-of_z}
-use Rattle.cert.specs.Cells.{grid_symbols}
+use Rattle.plan.specs.Certificate.Cells.{grid_symbols}
 use Rattle.interpreter.specs.declared.symbols.Binding.{Binding}
 use Rattle.interpreter.proofs.Bindings.{value_same, value_other}
 use Rattle.interpreter.proofs.symbols.Symbols.value.Goals as goal

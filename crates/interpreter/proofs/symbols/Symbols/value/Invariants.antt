@@ -1,5 +1,5 @@
 use Rattle.std.proofs.Common.{◌≡◌, take}
-use Rattle.cert.specs.Cells.{grid_symbols}
+use Rattle.plan.specs.Certificate.Cells.{grid_symbols}
 use Rattle.interpreter.specs.Bindings.{bind_all}
 use Rattle.interpreter.proofs.symbols.Symbols.value.Given as goal
 

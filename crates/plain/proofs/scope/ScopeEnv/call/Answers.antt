@@ -1,7 +1,7 @@
 use Rattle.std.proofs.Common.{◌≡◌, sym, subst, ap, ◌∙◌, rules, w64, true, false, Bool, List, ℕ, ℤ, map}
 use Rattle.std.proofs.lemmas.Int.{to_z-of_z}
-use Rattle.image.specs.Raster.{sample}
-use Rattle.image.specs.View.{Picture}
+use Rattle.meaning.specs.Image.Raster.{sample}
+use Rattle.meaning.specs.Image.View.{Picture}
 use Rattle.meaning.specs.Names.{same_name}
 use Rattle.meaning.specs.Conditions.{callable}
 use Rattle.std.specs.Prelude.{take}

@@ -1,6 +1,6 @@
 use Rattle.std.proofs.Common.{◌^◌, ◌<◌, ℕ, rules, subst, sym}
 use Rattle.algo.specs.View.{samples_of}
-use Rattle.checked.specs.View.{algorithm_checked, plan_checked, certificate_checked}
+use Rattle.checked_plan.specs.View.{algorithm_checked, plan_checked, certificate_checked}
 use Rattle.steps.proofs.Accepted.{few}
 use Rattle.steps.proofs.job.PlanJobJob.pieces.Goals as goal
 

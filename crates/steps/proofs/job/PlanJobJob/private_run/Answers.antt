@@ -1,15 +1,15 @@
 use Rattle.std.proofs.Common.{◌≡◌, List, ℕ, None, sym, ap, ◌∙◌, subst}
 use Rattle.std.specs.Prelude.{slice_get}
-use Rattle.image.specs.View.{AreExtents, Picture, image_of}
+use Rattle.meaning.specs.Image.View.{AreExtents, Picture, image_of}
 use Rattle.algo.specs.View.{samples_of}
-use Rattle.nest.specs.Plan.{Group, Plan}
-use Rattle.nest.specs.View.{plan_of}
-use Rattle.cert.specs.Certificate.{certificate_of}
-use Rattle.cert.specs.Cells.{grid_point}
-use Rattle.checked.specs.View.{algorithm_checked, plan_checked, certificate_checked}
-use Rattle.output.specs.declared.plan.PlanCells.{PlanCells}
+use Rattle.plan.specs.Plan.{Group, Plan}
+use Rattle.plan.specs.View.{plan_of}
+use Rattle.plan.specs.Certificate.Certificate.{certificate_of}
+use Rattle.plan.specs.Certificate.Cells.{grid_point}
+use Rattle.checked_plan.specs.View.{algorithm_checked, plan_checked, certificate_checked}
+use Rattle.checked_plan.specs.declared.output.plan_cells.PlanCells.{PlanCells}
 use Rattle.interpreter.specs.Outcome.{piece_gives}
-use Rattle.places.proofs.Walks.{group_is}
+use Rattle.piece.proofs.Walks.{group_is}
 use Rattle.steps.proofs.Accepted.{listed, same_extents}
 use Rattle.steps.proofs.Runs.{narrow_here, place_here, run_here, told, told_same}
 use Rattle.steps.proofs.job.PlanJobJob.private_run.Goals as goal

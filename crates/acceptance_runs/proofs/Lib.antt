@@ -1,0 +1,4 @@
+mod Blocks
+mod Near
+pub mod Filling
+pub mod Values

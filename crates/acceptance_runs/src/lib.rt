@@ -1,0 +1,47 @@
+//! Pieces, boards, steps, plain values and failing devices on worked examples, run as tests. The crate holds tests alone.
+#![tactic(auto)]
+
+#[cfg(test)]
+mod board_tests;
+#[cfg(test)]
+mod crew_tests;
+#[cfg(test)]
+mod desk_tests;
+#[cfg(test)]
+mod device_tests;
+#[cfg(test)]
+mod fault_tests;
+#[cfg(test)]
+mod fetch_tests;
+#[cfg(test)]
+mod fixture_tests;
+#[cfg(test)]
+mod forms_tests;
+#[cfg(test)]
+mod inc_tests;
+#[cfg(test)]
+mod increment_tests;
+#[cfg(test)]
+mod picture_tests;
+#[cfg(test)]
+mod piece_tests;
+#[cfg(test)]
+mod row_tests;
+#[cfg(test)]
+mod running_tests;
+#[cfg(test)]
+mod samples_tests;
+#[cfg(test)]
+mod slide_tests;
+#[cfg(test)]
+mod small_tests;
+#[cfg(test)]
+mod statements_tests;
+#[cfg(test)]
+mod trees_tests;
+#[cfg(test)]
+mod update_tests;
+#[cfg(test)]
+mod value_tests;
+#[cfg(test)]
+mod worker_tests;

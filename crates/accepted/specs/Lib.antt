@@ -1,5 +1,0 @@
-pub mod Accepted
-pub mod Clear
-pub mod Faults
-pub mod Laws
-pub mod Plain

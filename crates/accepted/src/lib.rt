@@ -1,5 +1,0 @@
-//! What the checker of plans asks, as one definition; what a yes gives, and what a refusal says.
-#![tactic(auto)]
-
-pub mod clear;
-pub mod laws;

@@ -1,4 +1,0 @@
-//! What a piece does, and its private run.
-#![tactic(auto)]
-
-pub mod worked;

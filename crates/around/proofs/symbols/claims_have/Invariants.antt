@@ -1,8 +1,0 @@
-use Rattle.std.proofs.Common.{◌≡◌, false, take}
-use Rattle.std.specs.List.{list_any}
-use Rattle.claims.specs.Obligations.{span_has, region_of}
-use Rattle.outlines.specs.View.{outline_in}
-use Rattle.around.proofs.symbols.claims_have.Given as goal
-
-abbrev pub invariant-loop-claim : goal.invariant-loop-claim
-invariant-loop-claim g l = list_any (λ c. list_any (span_has l.symbol) (region_of (outline_in l.judge.outlined.now) (g.B.Bounds.rules l.judge.bounds.now) c)) (take l.claim-index l.claims) ≡ false

@@ -1,0 +1,194 @@
+-- What follows from flaws that are told and from those that are not.
+use Rattle.std.proofs.Common.{◌≡◌, ℕ, ◌+◌, ◌<◌, ◌≤◌, zero, suc, Bool, List, [], ◌∷◌, true, false, Option, Some, None, inl, inr, ap, refl, sym, ◌∙◌, subst, arith}
+use Rattle.std.specs.Prelude.{◌==◌, ◌&&◌, nat_lt, if◌then◌else◌, MatchOption, map, slice_get, length}
+use Rattle.std.proofs.lemmas.Option.{slice_get_within}
+use Rattle.meaning.specs.Algorithm.{Algorithm}
+use Rattle.plan.specs.declared.plan.Group.{Group as GroupHeld}
+use Rattle.plan.specs.Plan.{Group, Plan}
+use Rattle.plan.specs.Lines.{body_line}
+use Rattle.plan.specs.View.{group_of}
+use Rattle.plan.specs.Certificate.Certificate.{Certificate}
+use Rattle.outline.specs.Refusals.Codes.{is_before, least, lesser, number_of}
+use Rattle.outline.specs.declared.refusals.code.Flaw.{Flaw}
+use Rattle.outline.specs.declared.refusals.code.K.TheVariants.{K14}
+use Rattle.algo.specs.View.{algorithm_of}
+use Rattle.outline.specs.Flaws.{Flaw as Said, first_of, told}
+use Rattle.outline.specs.View.{plan_in, certificate_in, number_in, group_in}
+use Rattle.rules.specs.Bounding.Rules.{rules_of}
+use Rattle.rules.specs.Bounding.View.{rules_in}
+use Rattle.rules.specs.declared.bounding.plan_bounds.PlanBounds.{PlanBounds}
+use Rattle.rules.specs.Widths.Widths.{first_told, wide_lines}
+use Rattle.validation.specs.Groups.Lines.{flaws_of_groups}
+use Rattle.validation.specs.Certificate.Certificate.{flaws_of_certificate}
+use Rattle.soundness.specs.Binders.View.{grid_binders}
+use Rattle.claims.specs.First.{AllMet, IsFirstUnmet}
+use Rattle.audit.specs.Stand.{AreNarrow, AreShown, IsFlaw, IsNarrow}
+use Rattle.audit.specs.Refused.{but_symbols, told_first, wide_or_owed, with_owed}
+use Rattle.audit.proofs.Named.{before_or_at}
+
+-- ---- the lesser of two
+
+module _ (P : Flaw → Type 0) where
+  lesser_by : (b : Bool) (f g : Flaw) → P f → P g → P (if b then g else f)
+  lesser_by true f g h k = k
+  lesser_by false f g h k = h
+
+  pub lesser_told : (f g : Flaw) → P f → P g → P (lesser f g)
+  lesser_told f g h k = lesser_by (is_before g f) f g h k
+
+  pub least_told : (x y : Option Flaw) (M N : Type 0) → MatchOption x M P → MatchOption y N P → MatchOption (least x y) (M × N) P
+  least_told None None M N h k = (h, k)
+  least_told None (Some g) M N h k = k
+  least_told (Some f) None M N h k = h
+  least_told (Some f) (Some g) M N h k = lesser_told f g h k
+
+  pub wide_told : (x y : Option Flaw) (M N : Type 0) → MatchOption x M P → MatchOption y N P → MatchOption (wide_or_owed x y) (M × N) P
+  wide_told None None M N h k = (h, k)
+  wide_told None (Some g) M N h k = k
+  wide_told (Some f) None M N h k = h
+  wide_told (Some f) (Some g) M N h k = lesser_by (nat_lt g.line f.line) f g h k
+
+pub none_of : {A : Type 0} (o : Option A) (N : Type 0) (P : A → Type 0) → MatchOption o N P → o ≡ None → N
+none_of o N P h e = subst (λ x. MatchOption x N P) e h
+
+pub some_of : {A : Type 0} (o : Option A) (N : Type 0) (P : A → Type 0) → MatchOption o N P → (x : A) → o ≡ Some x → P x
+some_of o N P h x e = subst (λ y. MatchOption y N P) e h
+
+pub match_weaker : (o : Option Flaw) (M N : Type 0) (P Q : Flaw → Type 0) → (M → N) → ((f : Flaw) → P f → Q f) → MatchOption o M P → MatchOption o N Q
+match_weaker None M N P Q m p h = m h
+match_weaker (Some f) M N P Q m p h = p f h
+
+-- ---- no first one of some is none
+
+no_flaws : (fs : List Said) → None ≡ first_of fs → fs ≡ []
+no_flaws [] h = refl
+no_flaws (f ∷ fs) h = absurd (cc h)
+
+no_lines : (ns : List ℕ) → None ≡ first_told ns → ns ≡ []
+no_lines [] h = refl
+no_lines (n ∷ ns) h = absurd (cc h)
+
+-- ---- a group
+
+-- the bounds are of this group
+pub record AreOf (b : PlanBounds) (a : Algorithm) (p : Plan) (c : Certificate) (n : ℕ) (g : Group) : Type 0 where
+  pub algorithm : algorithm_of b.algo.now ≡ a
+  pub plan : plan_in b.outlined.now ≡ p
+  pub certificate : certificate_in b.outlined.now ≡ c
+  pub number : number_in b.outlined.now ≡ n
+  pub group : group_in b.outlined.now ≡ g
+
+wide_moved : (b : PlanBounds) (a : Algorithm) (p : Plan) (c : Certificate) (n : ℕ) (g : Group) → AreOf b a p c n g →
+    first_told (wide_lines (rules_in b) (grid_binders (group_in b.outlined.now).grid) (body_line (plan_in b.outlined.now) (number_in b.outlined.now)) (group_in b.outlined.now).body)
+    ≡ first_told (wide_lines (rules_of a p c n) (grid_binders g.grid) (body_line p n) g.body)
+wide_moved b a p c n g h = λ i. first_told (wide_lines (rules_of (h.algorithm i) (h.plan i) (h.certificate i) (h.number i)) (grid_binders (h.group i).grid) (body_line (h.plan i) (h.number i)) (h.group i).body)
+
+module _ (a : Algorithm) (p : Plan) (c : Certificate) where
+  -- the flaw at a line with a large number
+  abbrev IsWide : Option ℕ → Option Flaw → Type 0
+  IsWide line r = MatchOption line (r ≡ None) (λ k. r ≡ Some (record { code = K14; line = k }))
+
+  module _ (n : ℕ) (g : Group) (at : slice_get p.groups n ≡ Some g) where
+    abbrev Told : Option Flaw → Type 0
+    Told r = MatchOption r (IsNarrow a p c n g) (IsFlaw a p c)
+
+    wide_is : (line : Option ℕ) (r : Option Flaw) → IsWide line r → line ≡ first_told (wide_lines (rules_of a p c n) (grid_binders g.grid) (body_line p n) g.body) → Told r
+    wide_is None r h is = subst Told (sym h) (no_lines (wide_lines (rules_of a p c n) (grid_binders g.grid) (body_line p n) g.body) is)
+    wide_is (Some k) r h is = subst Told (sym h) (inr (inr (inl (record { number = n; group = g; stands = at; code_is = refl; first = sym is }))))
+
+    -- the flaw of a group's numbers, if there is one
+    pub group_told : (b : PlanBounds) (line : Option ℕ) (r : Option Flaw) → AreOf b a p c n g
+        → line ≡ first_told (wide_lines (rules_in b) (grid_binders (group_in b.outlined.now).grid) (body_line (plan_in b.outlined.now) (number_in b.outlined.now)) (group_in b.outlined.now).body)
+        → IsWide line r → Told r
+    group_told b line r of first is = wide_is line r is (first ∙ wide_moved b a p c n g of)
+
+-- a group in memory
+pub group_there : (xs : List GroupHeld) (n : ℕ) → n < length xs → (g : Group) × (slice_get (map group_of xs) n ≡ Some g)
+group_there [] n less = absurd (omega (arith, less))
+group_there (x ∷ xs) zero less = (group_of x, refl)
+group_there (x ∷ xs) (suc n) less = group_there xs n (omega (arith, less))
+
+pub same_group : (x : Option Group) (g h : Group) → x ≡ Some g → x ≡ Some h → g ≡ h
+same_group x g h e f = let k : Some g ≡ Some h = sym e ∙ f in cc
+
+module _ (a : Algorithm) (p : Plan) (c : Certificate) where
+  -- ---- all groups
+
+  -- the numbers of each of the first k groups are small
+  abbrev pub NarrowBefore : ℕ → Type 0
+  NarrowBefore k = (n : ℕ) (g : Group) → n < k → slice_get p.groups n ≡ Some g → IsNarrow a p c n g
+
+  pub narrow_more : (k : ℕ) (g : Group) → slice_get p.groups k ≡ Some g → (found flaw r : Option Flaw) → MatchOption flaw (IsNarrow a p c k g) (IsFlaw a p c)
+      → MatchOption found (NarrowBefore k) (IsFlaw a p c) → r ≡ least found flaw → MatchOption r (NarrowBefore (k + 1)) (IsFlaw a p c)
+  narrow_more k g at found flaw r here before is =
+      subst (λ (x : Option Flaw). MatchOption x (NarrowBefore (k + 1)) (IsFlaw a p c)) (sym is)
+      (match_weaker (least found flaw) (NarrowBefore k × IsNarrow a p c k g) (NarrowBefore (k + 1)) (IsFlaw a p c) (IsFlaw a p c)
+      (λ both n h less there. elim (before_or_at n k less) [
+        | inl earlier ↦ both.0 n h earlier there
+        | inr same ↦
+            let own : g ≡ h = same_group (slice_get p.groups k) g h at (subst (λ (j : ℕ). slice_get p.groups j ≡ Some h) same there) in
+            subst (λ (j : ℕ). IsNarrow a p c j h) (sym same) (subst (IsNarrow a p c k) own both.1)
+      ])
+      (λ f told. told)
+      (least_told (IsFlaw a p c) found flaw (NarrowBefore k) (IsNarrow a p c k g) before here))
+
+  pub narrow_all : (k : ℕ) (found : Option Flaw) → length p.groups ≤ k → MatchOption found (NarrowBefore k) (IsFlaw a p c) → MatchOption found (AreNarrow a p c) (IsFlaw a p c)
+  narrow_all k None all before = λ n g at. let less = slice_get_within p.groups n g at in before n g (omega (arith, less, all)) at
+  narrow_all k (Some f) all before = before
+
+  -- ---- what is told
+
+  -- what the first flaw of the lines of groups tells
+  pub groups_told : (found : Option Flaw) → told found ≡ first_of (flaws_of_groups a p c) → MatchOption found (flaws_of_groups a p c ≡ []) (IsFlaw a p c)
+  groups_told None is = no_flaws (flaws_of_groups a p c) is
+  groups_told (Some f) is = inr (inl (sym is))
+
+  -- what the first flaw of a certificate tells
+  pub certificate_told : (found : Option Flaw) → told found ≡ first_of (flaws_of_certificate a p c) → MatchOption found (flaws_of_certificate a p c ≡ []) (IsFlaw a p c)
+  certificate_told None is = no_flaws (flaws_of_certificate a p c) is
+  certificate_told (Some f) is = inr (inr (inr (inr (inl (sym is)))))
+
+  -- the first that is owed is a fault
+  owed_is : (f : Flaw) → IsFirstUnmet a p c f → IsFlaw a p c f
+  owed_is f h = inr (inr (inr (inl (record { number = h.number; group = h.group; stands = h.stands; part = h.part; first = ap told h.first }))))
+
+  -- what is decided by bounds
+  pub owed_told : (wide owed r : Option Flaw) → MatchOption wide (AreNarrow a p c) (IsFlaw a p c) → MatchOption owed (AllMet a p c) (IsFirstUnmet a p c) → r ≡ wide_or_owed wide owed
+      → MatchOption r (AreShown a p c) (IsFlaw a p c)
+  owed_told wide owed r narrow met is =
+      subst (λ (x : Option Flaw). MatchOption x (AreShown a p c) (IsFlaw a p c)) (sym is)
+      (match_weaker (wide_or_owed wide owed) (AreNarrow a p c × AllMet a p c) (AreShown a p c) (IsFlaw a p c) (IsFlaw a p c)
+      (λ both. record { narrow = both.0; met = both.1 })
+      (λ f h. h)
+      (wide_told (IsFlaw a p c) wide owed (AreNarrow a p c) (AllMet a p c) narrow
+      (match_weaker owed (AllMet a p c) (AllMet a p c) (IsFirstUnmet a p c) (IsFlaw a p c) (λ m. m) owed_is met)))
+
+  -- one of some flaws that are faults
+  pub either_told : (f g r : Flaw) → r ≡ lesser f g → IsFlaw a p c f → IsFlaw a p c g → IsFlaw a p c r
+  either_told f g r is h k = subst (IsFlaw a p c) (sym is) (lesser_told (IsFlaw a p c) f g h k)
+
+  kept_told : (b : Bool) (g : Flaw) → IsFlaw a p c g → MatchOption (if b then None else Some g) (Unit {0}) (IsFlaw a p c)
+  kept_told true g h = tt
+  kept_told false g h = h
+
+  with_told : (named : Flaw) (owed : Option Flaw) (M : Type 0) → IsFlaw a p c named → MatchOption owed M (IsFlaw a p c) → IsFlaw a p c (with_owed named owed)
+  with_told named None M h k = h
+  with_told named (Some g) M h k = lesser_told (IsFlaw a p c) named g h k
+
+  but_told : (owed : Option Flaw) (M : Type 0) → MatchOption owed M (IsFlaw a p c) → MatchOption (but_symbols owed) (Unit {0}) (IsFlaw a p c)
+  but_told None M h = tt
+  but_told (Some g) M h = kept_told (number_of g.code == 2) g h
+
+  either_way : (b : Bool) (f g : Flaw) → IsFlaw a p c f → IsFlaw a p c g → IsFlaw a p c (if b then f else g)
+  either_way true f g h k = h
+  either_way false f g h k = k
+
+  first_told_is : (named : Flaw) (owed listed : Option Flaw) (M N : Type 0) → IsFlaw a p c named → MatchOption owed M (IsFlaw a p c) → MatchOption listed N (IsFlaw a p c) → IsFlaw a p c (told_first named owed listed)
+  first_told_is named owed None M N h k l = with_told named owed M h k
+  first_told_is named owed (Some o) M N h k l =
+      let kept = but_symbols owed in
+      either_way (number_of (with_owed named kept).code == 5 && number_of o.code == 10) o (with_owed named kept) l (with_told named kept (Unit {0}) h (but_told owed M k))
+
+  pub one_told : (named r : Flaw) (owed listed : Option Flaw) (M N : Type 0) → r ≡ told_first named owed listed
+      → IsFlaw a p c named → MatchOption owed M (IsFlaw a p c) → MatchOption listed N (IsFlaw a p c) → IsFlaw a p c r
+  one_told named r owed listed M N is h k l = subst (IsFlaw a p c) (sym is) (first_told_is named owed listed M N h k l)

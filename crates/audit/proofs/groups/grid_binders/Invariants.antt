@@ -1,0 +1,6 @@
+use Rattle.std.proofs.Common.{◌≡◌, take}
+use Rattle.soundness.specs.Binders.View.{binders_of, grid_binders}
+use Rattle.audit.proofs.groups.grid_binders.Given as goal
+
+abbrev pub invariant-loop-symbol : goal.invariant-loop-symbol
+invariant-loop-symbol l = binders_of l.binders.items ≡ grid_binders (take l.symbol l.counts)

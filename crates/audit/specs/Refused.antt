@@ -1,0 +1,51 @@
+-- What a refusal of the checker says, and which of the flaws of lines is told.
+use Rattle.std.specs.Prelude.{◌==◌, ◌&&◌, nat_lt, if◌then◌else◌, Option, Some, None}
+use Rattle.meaning.specs.Algorithm.{Algorithm}
+use Rattle.plan.specs.Plan.{Plan}
+use Rattle.plan.specs.Certificate.Certificate.{Certificate}
+use Rattle.outline.specs.declared.refusals.code.Flaw.{Flaw as FlawHeld}
+use Rattle.outline.specs.Refusals.Codes.{number_of, lesser}
+use Rattle.shares.specs.declared.answer.SharesError.{SharesError}
+use Rattle.shares.specs.declared.answer.SharesError.TheVariants.{Flaw, Memory as Want}
+use Rattle.audit.specs.declared.refusal.CheckError.{CheckError}
+use Rattle.audit.specs.declared.refusal.CheckError.TheVariants.{Refused, Memory}
+use Rattle.verdict.specs.Accepted.{IsAccepted}
+use Rattle.verdict.specs.Faults.{IsFault}
+use Rattle.audit.specs.Stand.{IsFlaw}
+
+-- a yes: all that is asked of the plan is so
+abbrev pub Accepts : Algorithm → Plan → Certificate → Type 0
+Accepts a p c = IsAccepted a p c
+
+-- an error of a decision: what a flaw tells is a fault, and want of memory says nothing
+abbrev pub IsTold : Algorithm → Plan → Certificate → SharesError → Type 0
+IsTold a p c (Flaw f) = IsFlaw a p c f
+IsTold a p c Want = Unit {0}
+
+-- a refusal is right: its code and line are those of a fault, and the plan is not accepted; want of memory says nothing
+abbrev pub IsRefused : Algorithm → Plan → Certificate → CheckError → Type 0
+IsRefused a p c (Refused code line) = IsFault a p c (number_of code) line × ¬ IsAccepted a p c
+IsRefused a p c Memory = Unit {0}
+
+-- the first of a number that may be too large and of what lines owe: at one line the number, since what is owed is shown where
+-- numbers are small
+abbrev pub wide_or_owed : Option FlawHeld → Option FlawHeld → Option FlawHeld
+wide_or_owed None o = o
+wide_or_owed (Some f) None = Some f
+wide_or_owed (Some f) (Some g) = Some (if nat_lt g.line f.line then g else f)
+
+-- what is owed, but for a symbol that stands elsewhere: it is so only where a claim names it though it is not bound there
+abbrev pub but_symbols : Option FlawHeld → Option FlawHeld
+but_symbols None = None
+but_symbols (Some g) = if number_of g.code == 2 then None else Some g
+
+-- the first of a flaw by names and limits and one by bounds
+abbrev pub with_owed : FlawHeld → Option FlawHeld → FlawHeld
+with_owed f None = f
+with_owed f (Some g) = lesser f g
+
+-- the one of them that is told, where that of the certificate is known: a symbol that stands elsewhere is told as the claim that
+-- names it, and where a K5 would be the first and some group has no own region, it is that of the certificate
+abbrev pub told_first : FlawHeld → Option FlawHeld → Option FlawHeld → FlawHeld
+told_first f owed None = with_owed f owed
+told_first f owed (Some h) = if number_of (with_owed f (but_symbols owed)).code == 5 && number_of h.code == 10 then h else with_owed f (but_symbols owed)

@@ -1,0 +1,76 @@
+//! The shares of a plan's pieces, where the output's group has each point of the output.
+
+ghost use Rattle.std.specs.Prelude.{◌≡◌, ℕ, [], List, IfOk, IfErr, MatchOption, length};
+ghost use Rattle.algo.specs.View.{algorithm_of};
+ghost use Rattle.plan.specs.View.{plan_of};
+ghost use Rattle.plan.specs.Certificate.Cells.{cells};
+ghost use Rattle.plan.specs.Certificate.Certificate.{certificate_of};
+ghost use Rattle.validation.specs.Groups.Lines.{flaws_of_groups};
+ghost use Rattle.validation.specs.Certificate.Certificate.{flaws_of_certificate};
+ghost use Rattle.shares.specs.Has.{HasShares};
+ghost use Rattle.verdict.specs.Shown.Wide.{HasOutput};
+ghost use Rattle.checked_plan.specs.Lists.{ListsAreOf};
+ghost use Rattle.audit.specs.Refused.{IsTold};
+ghost use Rattle.audit.specs.Stand.{IsFlaw, IsGroupOf};
+
+use crate::output::{has_extents, output_extents, own_line};
+use algo::Algo;
+use outline::refusals::{Flaw, K, lesser};
+use plan::Plan;
+use plan::certificate::Cert;
+use shares::{Shares, SharesError, shares_of};
+use std::alloc::Global;
+use validation::certificate::laws::no_flaw_is_clear;
+use verdict::clear::{groups_are_apart, plans_are_shared, regions_are_small};
+
+/// The flaw of the group of this number, which is the output's, if it lacks a point of the output.
+fn output_flaw(algo: &Algo, plan: &Plan, cert: &Cert, number: usize) -> Option<Flaw>
+    requires named { flaws_of_groups (algorithm_of algo.now) (plan_of plan.now) (certificate_of cert.now) ≡ [] }
+    requires number { IsGroupOf (plan_of plan.now).groups (algorithm_of algo.now).output number }
+    ensures { MatchOption result (HasOutput (algorithm_of algo.now) (plan_of plan.now)) (IsFlaw (algorithm_of algo.now) (plan_of plan.now) (certificate_of cert.now)) }
+{
+    regions_are_small();
+    groups_are_apart();
+    let group = &plan.groups[number];
+    if has_extents(group.region.as_slice(), output_extents(algo)) {
+        return None;
+    }
+    Some(Flaw {
+        code: K::K10,
+        line: own_line(plan, cert, number),
+    })
+}
+
+/// The shares of the pieces of a plan of which no line has a flaw, where each point of the output has a cell: the group of
+/// this number is the output's.
+pub(crate) fn shares_with_output(
+    alloc: Global,
+    algo: &Algo,
+    plan: &Plan,
+    cert: &Cert,
+    number: usize,
+) -> Result<Shares, SharesError>
+    requires named { flaws_of_groups (algorithm_of algo.now) (plan_of plan.now) (certificate_of cert.now) ≡ [] }
+    requires certificate { flaws_of_certificate (algorithm_of algo.now) (plan_of plan.now) (certificate_of cert.now) ≡ [] }
+    requires number { IsGroupOf (plan_of plan.now).groups (algorithm_of algo.now).output number }
+    ensures shares { IfOk result (λ _. HasShares (plan_of plan.now) (certificate_of cert.now)) }
+    ensures output { IfOk result (λ _. HasOutput (algorithm_of algo.now) (plan_of plan.now)) }
+    ensures lists { IfOk result (λ made. ListsAreOf (algorithm_of algo.now) (plan_of plan.now) (certificate_of cert.now) made.pieces.items) }
+    ensures counted { IfOk result (λ made. made.cells ≡ length (cells (plan_of plan.now))) }
+    ensures told { IfErr result (IsTold (algorithm_of algo.now) (plan_of plan.now) (certificate_of cert.now)) }
+{
+    no_flaw_is_clear();
+    plans_are_shared();
+    let lacking = output_flaw(algo, plan, cert, number);
+    match shares_of(alloc, plan, cert) {
+        Ok(shares) => match lacking {
+            None => Ok(shares),
+            Some(flaw) => Err(SharesError::Flaw(flaw)),
+        },
+        Err(SharesError::Memory) => Err(SharesError::Memory),
+        Err(SharesError::Flaw(flaw)) => match lacking {
+            None => Err(SharesError::Flaw(flaw)),
+            Some(other) => Err(SharesError::Flaw(lesser(flaw, other))),
+        },
+    }
+}

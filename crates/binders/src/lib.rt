@@ -1,8 +1,0 @@
-//! What is around a line of a plan, and the tests by bounds that are asked there.
-#![tactic(auto)]
-
-mod binder;
-mod bounds;
-
-pub use binder::Binder;
-pub use bounds::{Bounds, NestTests};

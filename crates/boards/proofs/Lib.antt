@@ -1,4 +1,0 @@
-pub mod Rows
-pub mod Works
-pub mod Layouts
-pub mod Samples

@@ -1,5 +1,0 @@
-use Rattle.std.proofs.Common.{[]}
-use Rattle.boards.proofs.cells.CheckedCellsSource.cells.Goals as goal
-
-pub returns : goal.returns
-returns c = c.cells.ensures []

@@ -1,6 +1,0 @@
-use Rattle.std.proofs.Common.{[], sym, ◌∙◌}
-use Rattle.boards.proofs.Layouts.{own_work}
-use Rattle.boards.proofs.cells.CheckedCellsSource.pieces.Goals as goal
-
-pub returns-clause-count : goal.returns-clause-count
-returns-clause-count c = c.pieces.ensures.work [] ∙ sym (own_work c.args.self.now.checked.now []).pieces

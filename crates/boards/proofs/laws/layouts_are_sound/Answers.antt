@@ -1,5 +1,0 @@
-use Rattle.boards.proofs.Layouts.{layouts_sound}
-use Rattle.boards.proofs.laws.layouts_are_sound.Goals as goal
-
-pub returns : goal.returns
-returns c = layouts_sound c.works_are_sound.ensures

@@ -1,7 +1,0 @@
-use Rattle.std.proofs.Common.{◌≡◌, take, min}
-use Rattle.binders.specs.View.{binders_of}
-use Rattle.bounding.specs.Scopes.{most_symbols, symbol_count}
-use Rattle.bounding.proofs.scope.symbol_count.Given as goal
-
-abbrev pub invariant-loop-binder : goal.invariant-loop-binder
-invariant-loop-binder l = l.count ≡ min (symbol_count (binders_of (take l.binder-index l.binders))) most_symbols

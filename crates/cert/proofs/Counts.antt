@@ -1,8 +1,0 @@
--- How many claims a certificate has.
-use Rattle.std.proofs.Common.{◌≡◌, List, [], ◌∷◌, length, map, refl, ap, arith}
-use Rattle.cert.specs.declared.cert.Claim.{Claim as CodeClaim}
-use Rattle.cert.specs.Certificate.{claim_of}
-
-pub claims_counted : (cs : List CodeClaim) → length (map claim_of cs) ≡ length cs
-claims_counted [] = refl
-claims_counted (c ∷ cs) = let rest = claims_counted cs in omega arith

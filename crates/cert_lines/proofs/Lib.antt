@@ -1,6 +1,0 @@
-pub mod Lines
-pub mod Ways
-pub mod Named
-pub mod Taken
-pub mod Clear
-pub mod GroupLines

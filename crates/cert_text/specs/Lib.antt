@@ -1,5 +1,0 @@
-pub mod Lines
-pub mod Spelling
-pub mod Order
-pub mod Reading
-pub mod Notation

@@ -1,0 +1,6 @@
+pub mod Lists
+pub mod Named
+pub mod Plans
+pub mod Ranks
+pub mod Regions
+pub mod Spans

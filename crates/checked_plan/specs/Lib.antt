@@ -1,0 +1,4 @@
+pub mod Ready
+pub mod Lists
+pub mod View
+pub mod Output

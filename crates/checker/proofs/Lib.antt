@@ -1,5 +1,0 @@
-mod Extents
-mod Named
-mod Grids
-mod Told
-mod OutputGroup

@@ -1,5 +1,0 @@
-use Rattle.checker.proofs.Named.{NoneIsOf}
-use Rattle.checker.proofs.output.group_named.Given as goal
-
-abbrev pub invariant-loop-number : goal.invariant-loop-number
-invariant-loop-number l = NoneIsOf l.groups l.name l.number

@@ -1,8 +1,0 @@
-use Rattle.algo.specs.View.{algorithm_of}
-use Rattle.nest.specs.View.{plan_of}
-use Rattle.cert.specs.Certificate.{certificate_of}
-use Rattle.checker.proofs.Told.{groups_told}
-use Rattle.checker.proofs.verdict.named_flaw.Goals as goal
-
-pub returns : goal.returns
-returns c = groups_told (algorithm_of c.args.algo.now) (plan_of c.args.plan.now) (certificate_of c.args.cert.now) c.in_ok-found.found c.in_ok-found.ensures

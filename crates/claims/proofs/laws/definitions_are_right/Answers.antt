@@ -1,5 +1,0 @@
-use Rattle.claims.proofs.Stored.{definitions_right}
-use Rattle.claims.proofs.laws.definitions_are_right.Goals as goal
-
-pub returns : goal.returns
-returns c = definitions_right

@@ -1,5 +1,0 @@
-use Rattle.claims.proofs.Calls.{given_is_of_algorithm as lemma_given}
-use Rattle.claims.proofs.laws.given_is_of_algorithm.Goals as goal
-
-pub returns : goal.returns
-returns c = lemma_given

@@ -1,5 +1,0 @@
-use Rattle.claims.proofs.Shown.{meant_is_sound}
-use Rattle.claims.proofs.laws.meant_is_sound.Goals as goal
-
-pub returns : goal.returns
-returns c = meant_is_sound

@@ -1,5 +1,0 @@
-use Rattle.claims.proofs.Shown.{shown_is_sound}
-use Rattle.claims.proofs.laws.shown_is_sound.Goals as goal
-
-pub returns : goal.returns
-returns c = shown_is_sound

@@ -1,5 +1,0 @@
-use Rattle.claims.proofs.Scan.{scan_sound}
-use Rattle.claims.proofs.worked.scan_is_sound.Goals as goal
-
-pub returns : goal.returns
-returns c = scan_sound

@@ -1,5 +1,0 @@
-use Rattle.claims.proofs.Slide.{slide_is_sound}
-use Rattle.claims.proofs.worked.slide_is_sound.Goals as goal
-
-pub returns : goal.returns
-returns c = slide_is_sound

@@ -1,0 +1,37 @@
+//! Opening a board.
+
+ghost use Rattle.std.specs.Prelude.{◌≡◌, IfOk};
+ghost use Rattle.algo.specs.View.{IsFor};
+ghost use Rattle.board.specs.Seats.{place};
+ghost use Rattle.board.specs.Views.{first_view};
+ghost use Rattle.crew.specs.Opening.Layouts.{layout_of, values_of};
+
+use crate::opening::cells::CheckedCells;
+use crate::opening::laws::values_are_samples;
+use algo::Inputs;
+use board::{Board, BoardSeat, Run};
+use checked_plan::Checked;
+use std::alloc::{AllocError, Global};
+
+/// A board for the pieces of a checked plan on an input of its algorithm, with nothing drawn, and its first seat, which
+/// may split off 63 more.
+///
+/// It takes 8 bytes for each piece and each cell (twice as much while it opens), and keeps the own cells and the cells of
+/// the picture, 4 bytes each, and the picture's samples, 2 bytes each. The picture that `close` gives is made here.
+///
+/// # Errors
+/// `AllocError` where memory runs out.
+pub fn open<J: Run>(
+    alloc: Global,
+    checked: &Checked<'_>,
+    inputs: &Inputs,
+) -> Result<(Board<J>, BoardSeat), AllocError>
+    requires layout { J.layout ≡ layout_of checked.now }
+    requires values { J.values ≡ values_of checked.now inputs.now }
+    requires input { IsFor checked.now.algo.now inputs.now }
+    ensures { IfOk result (λ b. b.1 ≡ place b.0 first_view) }
+{
+    values_are_samples();
+    let cells = CheckedCells::of(alloc, checked)?;
+    Board::open(alloc, &cells)
+}

@@ -1,9 +1,0 @@
-pub mod Distinct
-pub mod Extents
-pub mod Known
-pub mod Lines
-pub mod Loads
-pub mod Nodes
-pub mod Products
-pub mod Rows
-pub mod Tests

@@ -1,6 +1,0 @@
-pub mod Asked
-pub mod Given
-pub mod Plain
-pub mod Pure
-pub mod Sizes
-pub mod Sources

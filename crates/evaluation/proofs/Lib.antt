@@ -1,3 +1,0 @@
-pub mod Indices
-pub mod Wrapping
-pub mod Shorts

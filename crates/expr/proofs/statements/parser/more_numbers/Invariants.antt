@@ -1,0 +1,16 @@
+use Rattle.std.proofs.Common.{◌≡◌, ℕ, List, ◌-◌, length, map}
+use Rattle.std.specs.List.{flat_map}
+use Rattle.tree.specs.declared.token.token.Lexeme.{Lexeme}
+use Rattle.tree.specs.Token.Cursor.{kinds}
+use Rattle.expr.specs.Statements.View.{extent_text}
+use Rattle.expr.specs.Statements.Standing.{AreOf}
+use Rattle.expr.specs.Statements.Marks.{StandIn, extent_marks}
+use Rattle.expr.specs.Statements.Reading.{more_of, number}
+use Rattle.expr.proofs.statements.parser.more_numbers.Given as goal
+
+abbrev pub invariant-loop : goal.invariant-loop
+invariant-loop l = record {
+  read : more_of number (length l.tokens - l.counter) (map extent_text l.found.items) (kinds l.rest) ≡ more_of number (length l.tokens) (map extent_text l.initial.found.items) (kinds l.tokens);
+  kept : (text : List ℕ) → AreOf text l.tokens → AreOf text l.rest;
+  placed : (before : List Lexeme) → StandIn (flat_map extent_marks l.initial.found.items) before l.tokens → StandIn (flat_map extent_marks l.found.items) before l.rest;
+}

@@ -1,0 +1,8 @@
+use Rattle.expr.proofs.Marked.{close, skip}
+use Rattle.expr.proofs.statements.parser.size.Goals as goal
+
+pub returns-clause-kept : goal.returns-clause-kept
+returns-clause-kept c text h = c.in_ok-rest-2.ensures.kept text (c.in_ok-found.ensures.kept text (c.in_ok-rest.ensures.kept text h))
+
+pub returns-clause-placed : goal.returns-clause-placed
+returns-clause-placed c = close (skip c.in_ok-rest.ensures.placed c.in_ok-found.ensures.placed) c.in_ok-rest-2.ensures.placed

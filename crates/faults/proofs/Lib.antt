@@ -1,5 +1,0 @@
-mod Counts
-mod Grids
-mod Firsts
-mod Together
-mod Shared

@@ -1,6 +1,0 @@
-use Rattle.std.proofs.Common.{◌≡◌, drop}
-use Rattle.cert.specs.Cells.{own_region}
-use Rattle.faults.proofs.group_bounds.own_region.Given as goal
-
-abbrev pub invariant-loop-own : goal.invariant-loop-own
-invariant-loop-own l = own_region l.all l.group ≡ own_region (drop l.own-index l.all) l.group

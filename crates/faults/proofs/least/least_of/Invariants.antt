@@ -1,6 +1,0 @@
-use Rattle.std.proofs.Common.{◌≡◌, None, drop}
-use Rattle.faults.specs.First.{least_from}
-use Rattle.faults.proofs.least.least_of.Given as goal
-
-abbrev pub invariant-loop-one : goal.invariant-loop-one
-invariant-loop-one l = least_from None l.told ≡ least_from l.found (drop l.one-index l.told)

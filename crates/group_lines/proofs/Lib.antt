@@ -1,9 +1,0 @@
-pub mod Actions
-pub mod Allotted
-pub mod Extents
-pub mod Flawless
-pub mod Free
-pub mod Products
-pub mod Rowed
-pub mod Stores
-pub mod Walk

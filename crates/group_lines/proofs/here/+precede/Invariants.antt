@@ -1,8 +1,0 @@
-use Rattle.std.proofs.Common.{◌≡◌, drop}
-use Rattle.nest.specs.Plan.{block}
-use Rattle.nest.specs.Lists.{list_statements}
-use Rattle.group_lines.specs.Lines.{may_all_precede}
-use Rattle.group_lines.proofs.here.+precede.Given as goal
-
-abbrev pub invariant-may_all_precede-loop-stmt : goal.invariant-may_all_precede-loop-stmt
-invariant-may_all_precede-loop-stmt l = may_all_precede (block (list_statements (drop l.stmt-index l.all))) ≡ may_all_precede (block (list_statements l.all))

@@ -1,8 +1,0 @@
-use Rattle.claims.specs.Given.{outline_of}
-use Rattle.group_lines.specs.Lines.{start}
-use Rattle.group_lines.proofs.Flawless.{body_fine, group_fine}
-use Rattle.group_lines.proofs.Stores.{covered}
-use Rattle.group_lines.proofs.laws.bodies_are_covered.Goals as goal
-
-pub returns : goal.returns
-returns c a p d h n g at = let f = group_fine a p d h n g at in covered a p d g (outline_of p d n g) g.body (start f.line g) (body_fine a p d n g f)

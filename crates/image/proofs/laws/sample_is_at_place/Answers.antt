@@ -1,5 +1,0 @@
-use Rattle.image.proofs.laws.sample_is_at_place.Goals as goal
-use Rattle.image.proofs.Places.{sample_is_at_place}
-
-pub returns : goal.returns
-returns c = sample_is_at_place

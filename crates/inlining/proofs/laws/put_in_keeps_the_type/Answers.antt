@@ -1,5 +1,0 @@
-use Rattle.inlining.proofs.Own.{put_in_keeps_type}
-use Rattle.inlining.proofs.laws.put_in_keeps_the_type.Goals as goal
-
-pub returns : goal.returns
-returns c = λ a stored known t e w h. put_in_keeps_type a w stored known t e h

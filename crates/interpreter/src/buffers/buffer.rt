@@ -1,0 +1,120 @@
+//! One buffer.
+
+ghost use Rattle.std.specs.Prelude.{◌≡◌, ℕ, ◌<◌, ◌≤◌, ◌^◌, ◌==◌, ◌&&◌, false, true, IfOk, IsFalse, None, map, replicate};
+ghost use Rattle.std.specs.Bool.{OnTrue};
+ghost use Rattle.plan.specs.Rooms.{place};
+ghost use Rattle.plan.specs.Semantics.Memory.{held_at};
+ghost use Rattle.interpreter.specs.Buffers.Rooms.{room_of};
+ghost use Rattle.interpreter.specs.Buffers.Raster.{place_count};
+ghost use Rattle.interpreter.specs.Buffers.Blocks.{held_in, unused, IsSetAt};
+
+use crate::buffers::limit::Limit;
+use crate::buffers::raster::{place_count, place_number};
+use crate::buffers::room::{Room, Rooms};
+use smallvec::SmallVec;
+use std::alloc::{AllocError, Global};
+use std::marker::Model;
+use tree::Value;
+
+/// A buffer: its number, for how many places there is memory, whether it is in use, the places of each coordinate, and
+/// what all places hold in raster order.
+#[derive(Drop)]
+pub struct Buffer {
+    number: u32,
+    limit: usize,
+    is_used: bool,
+    rooms: Rooms,
+    places: Vec<Option<Value>>,
+}
+
+impl Model for Buffer {
+    ghost use Rattle.std.specs.Prelude.{◌≡◌, ◌<◌, ◌≤◌, ◌^◌, map, length, vec_capacity};
+    ghost use Rattle.interpreter.specs.Buffers.Blocks.{Block};
+    ghost use Rattle.interpreter.specs.Buffers.Rooms.{room_of};
+    ghost use Rattle.interpreter.specs.Buffers.Raster.{place_count};
+
+    ghost Value = { Block };
+
+    ghost view = { λ b. record { number = b.number; limit = b.limit; used = b.is_used; rooms = map room_of b.rooms.items; places = b.places.items } };
+
+    ghost invariant = { λ b. (length b.places.items ≡ place_count (map room_of b.rooms.items)) × (place_count (map room_of b.rooms.items) < 2 ^ 64) × (b.limit ≤ vec_capacity b.places) × (b.limit < 2 ^ 64) };
+}
+
+impl Buffer {
+    /// A buffer that is not in use. It takes memory for its places, 24 bytes each.
+    pub(crate) fn new(alloc: Global, limit: Limit) -> Result<Buffer, AllocError>
+        ensures number { IfOk result (λ b. b.number ≡ limit.buffer) }
+        ensures limit { IfOk result (λ b. b.limit ≡ limit.places) }
+        ensures unused { IfOk result (λ b. b.used ≡ false) }
+    {
+        let mut places = Vec::with_capacity(alloc, limit.places)?;
+        // Without coordinates there is one place.
+        places.push(None)?;
+        Ok(Buffer {
+            number: limit.buffer,
+            limit: limit.places,
+            is_used: false,
+            rooms: SmallVec::new(alloc),
+            places,
+        })
+    }
+
+    /// Whether the buffer has this number.
+    pub(crate) fn is_numbered(&self, number: u32) -> bool
+        ensures { result ≡ (number == self.now.number) }
+    {
+        number == self.number
+    }
+
+    /// Whether the buffer has this number and is in use.
+    pub(crate) fn is_used_as(&self, number: u32) -> bool
+        ensures { result ≡ (self.now.used && (number == self.now.number)) }
+    {
+        self.is_used && number == self.number
+    }
+
+    /// Takes the buffer into use, with unset places.
+    pub(crate) fn begin(&mut self, rooms: Rooms)
+        requires { place_count (map room_of rooms.items) ≤ self.old.limit }
+        ensures { self.new ≡ record { number = self.old.number; limit = self.old.limit; used = true; rooms = map room_of rooms.items; places = replicate (place_count (map room_of rooms.items)) None } }
+    {
+        self.places.clear();
+        let Some(count) = place_count(&rooms) else {
+            unreachable!()
+        };
+        let Ok(()) = self.places.resize(count, None) else {
+            unreachable!()
+        };
+        self.rooms = rooms;
+        self.is_used = true;
+    }
+
+    /// Takes the buffer out of use.
+    pub(crate) fn end(&mut self)
+        ensures { self.new ≡ unused self.old }
+    {
+        self.is_used = false;
+    }
+
+    /// What is held at a point.
+    pub(crate) fn read(&self, at: &[i64]) -> Option<Value>
+        ensures { result ≡ held_at (held_in self.now) (place self.now.rooms at.now) }
+    {
+        let number = place_number(&self.rooms, at)?;
+        self.places[number]
+    }
+
+    /// Sets the place of a point; `false` where the point has none.
+    pub(crate) fn write(&mut self, at: &[i64], value: Value) -> bool
+        ensures set { OnTrue result (IsSetAt self.old self.new at.now value) }
+        ensures outside { IsFalse result → (place self.old.rooms at.now ≡ None) × (self.new ≡ self.old) }
+    {
+        match place_number(&self.rooms, at) {
+            Some(number) => {
+                self.places[number] = Some(value);
+                true
+            }
+            None => false,
+        }
+    }
+}

@@ -1,0 +1,147 @@
+//! Buffers by number.
+
+ghost use Rattle.std.specs.Prelude.{◌≡◌, ◌==◌, ◌≤◌, ◌&&◌, All, IfOk, Some, None, map, position, IsFalse};
+ghost use Rattle.std.specs.Bool.{OnTrue};
+ghost use Rattle.plan.specs.Semantics.Memory.{allot, nothing, read, write};
+ghost use Rattle.interpreter.specs.Buffers.Raster.{place_count};
+ghost use Rattle.interpreter.specs.Buffers.Rooms.{room_of};
+ghost use Rattle.interpreter.specs.Buffers.Blocks.{limits_of, memory_of, HasMemoryFor};
+
+use crate::buffers::buffer::Buffer;
+use crate::buffers::limit::Limit;
+use crate::buffers::room::Rooms;
+use std::alloc::{AllocError, Global};
+use std::marker::Model;
+use tree::Value;
+
+/// The private memory of a piece: a few buffers, found by their numbers one after another.
+///
+/// All memory is taken by `new`.
+#[derive(Drop)]
+pub struct Buffers {
+    buffers: Vec<Buffer>,
+}
+
+impl Model for Buffers {
+    ghost use Rattle.std.specs.Prelude.{List};
+    ghost use Rattle.interpreter.specs.Buffers.Blocks.{Block};
+
+    ghost Value = { List Block };
+
+    ghost view = { λ b. b.buffers.items };
+}
+
+/// The place of the first buffer of this number that is in use.
+fn used_position(buffers: &[Buffer], number: u32) -> Option<usize>
+    ensures { result ≡ position (λ block. block.used && (number == block.number)) buffers.now }
+{
+    buffers.iter().position(|buffer| buffer.is_used_as(number))
+}
+
+/// The place of the first buffer of this number.
+fn position(buffers: &[Buffer], number: u32) -> Option<usize>
+    ensures { result ≡ position (λ block. number == block.number) buffers.now }
+{
+    buffers.iter().position(|buffer| buffer.is_numbered(number))
+}
+
+/// The places that a limit asks for a buffer, 0 where it is another's.
+fn places_for(limit: Limit, buffer: u32) -> usize
+    ensures { limit.buffer ≡ buffer → limit.places ≤ result }
+{
+    if limit.buffer == buffer {
+        limit.places
+    } else {
+        0
+    }
+}
+
+/// The larger of two numbers.
+fn larger(left: usize, right: usize) -> usize
+    ensures left { left ≤ result }
+    ensures right { right ≤ result }
+{
+    if left < right { right } else { left }
+}
+
+/// The greatest number of places that the limits ask for a buffer.
+fn most_places(limits: &[Limit], buffer: u32) -> usize
+    ensures { All (λ limit. limit.buffer ≡ buffer → limit.places ≤ result) limits.now }
+{
+    let mut most = 0;
+    for limit in limits {
+        most = larger(most, places_for(*limit, buffer));
+    }
+    most
+}
+
+impl Buffers {
+    /// Memory for buffers, of which none is in use: for each limit one of its number, with the most places that a limit
+    /// of the number asks for.
+    ///
+    /// It takes 24 bytes a place.
+    pub fn new(alloc: Global, limits: &[Limit]) -> Result<Buffers, AllocError>
+        ensures nothing { IfOk result (λ buffers. memory_of buffers ≡ nothing) }
+        ensures limits { IfOk result (λ buffers. All (λ x. HasMemoryFor (limits_of buffers) x.buffer x.places) limits.now) }
+    {
+        let mut buffers = Vec::new(alloc);
+        for limit in limits {
+            let places = most_places(limits, limit.buffer);
+            buffers.push(Buffer::new(
+                alloc,
+                Limit {
+                    buffer: limit.buffer,
+                    places,
+                },
+            )?)?;
+        }
+        Ok(Buffers { buffers })
+    }
+
+    /// Takes all buffers out of use.
+    pub fn clear(&mut self)
+        ensures nothing { memory_of self.new ≡ nothing }
+        ensures limits { limits_of self.new ≡ limits_of self.old }
+    {
+        for index in 0..self.buffers.len() {
+            self.buffers[index].end();
+        }
+    }
+
+    /// Makes a buffer of unset places, in place of one of this number if there is one.
+    pub fn allot(&mut self, buffer: u32, rooms: Rooms)
+        requires { HasMemoryFor (limits_of self.old) buffer (place_count (map room_of rooms.items)) }
+        ensures memory { memory_of self.new ≡ allot (memory_of self.old) buffer (map room_of rooms.items) }
+        ensures limits { limits_of self.new ≡ limits_of self.old }
+    {
+        match used_position(&self.buffers, buffer) {
+            Some(found) => self.buffers[found].begin(rooms),
+            None => {
+                let Some(found) = position(&self.buffers, buffer) else {
+                    unreachable!()
+                };
+                self.buffers[found].begin(rooms);
+            }
+        }
+    }
+
+    /// What is held at a point; nothing where there is no such buffer, the point is outside it, or its place is unset.
+    pub fn read(&self, buffer: u32, at: &[i64]) -> Option<Value>
+        ensures { result ≡ read (memory_of self.now) buffer at.now }
+    {
+        let found = used_position(&self.buffers, buffer)?;
+        self.buffers[found].read(at)
+    }
+
+    /// Sets the place of a point; `false` where there is no such buffer or the point is outside it.
+    pub fn write(&mut self, buffer: u32, at: &[i64], value: Value) -> bool
+        ensures set { OnTrue result (write (memory_of self.old) buffer at.now value ≡ Some (memory_of self.new)) }
+        ensures outside { IsFalse result → (write (memory_of self.old) buffer at.now value ≡ None) × (self.new ≡ self.old) }
+        ensures limits { limits_of self.new ≡ limits_of self.old }
+    {
+        match used_position(&self.buffers, buffer) {
+            Some(found) => self.buffers[found].write(at, value),
+            None => false,
+        }
+    }
+}

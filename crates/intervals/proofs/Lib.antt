@@ -1,4 +1,0 @@
-pub mod Contains
-pub mod CallsMade
-pub mod Indices
-pub mod Saturation

@@ -1,7 +1,0 @@
-use Rattle.std.proofs.Common.{arith}
-use Rattle.std.proofs.lemmas.Int.{to_z-of_z}
-use Rattle.intervals.proofs.Saturation.{fitted_nearest, min_nearest, max_nearest}
-use Rattle.intervals.proofs.range.product.Goals as goal
-
-pub returns : goal.returns
-returns c = grind (arith, to_z-of_z, fitted_nearest, min_nearest, max_nearest)

@@ -1,4 +1,0 @@
-pub mod Calls
-pub mod Interval
-pub mod Laws
-pub mod Worked

@@ -1,4 +1,0 @@
-pub mod Values
-pub mod Lookups
-pub mod Small
-pub mod Runs

@@ -1,5 +1,0 @@
-use Rattle.looked.proofs.Runs.{runs}
-use Rattle.looked.proofs.laws.runs_are_the_work.Goals as goal
-
-pub returns : goal.returns
-returns c = runs c.pieces_are_numbered.ensures

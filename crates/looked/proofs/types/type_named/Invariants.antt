@@ -1,7 +1,0 @@
-use Rattle.std.proofs.Common.{◌≡◌, drop}
-use Rattle.meaning.specs.Conditions.{function_named}
-use Rattle.algo.specs.Parts.{functions_of}
-use Rattle.looked.proofs.types.type_named.Given as goal
-
-abbrev pub invariant-loop-k : goal.invariant-loop-k
-invariant-loop-k l = function_named (functions_of (drop l.k l.functions.entries)) l.name ≡ function_named (functions_of l.functions.entries) l.name

@@ -1,9 +1,0 @@
-//! What a piece is told of the cells that it fetches.
-#![tactic(auto)]
-
-mod cells;
-mod index;
-pub mod laws;
-mod types;
-
-pub use cells::LookedCells;

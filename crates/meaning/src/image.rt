@@ -1,0 +1,10 @@
+//! Images: samples of 8 or 16 bits over one, two or three dimensions, in raster order.
+
+mod extents;
+pub mod laws;
+pub mod picture;
+pub mod shape;
+
+pub use numeric::Ty;
+pub use picture::Image;
+pub use shape::Shape;

@@ -1,8 +1,0 @@
-use Rattle.std.proofs.Common.{arith}
-use Rattle.std.proofs.lemmas.Bool.{ltb-true, ltb-false}
-use Rattle.binders.specs.View.{binders_of}
-use Rattle.nest_tests.proofs.Ends.{too_few_spans}
-use Rattle.nest_tests.proofs.covering.+are_within.Goals as goal
-
-pub returns-in-len1-up-empty : goal.returns-in-len1-up-empty
-returns-in-len1-up-empty g t c = too_few_spans (g.B.Bounds.rules c.args.at.now.bounds.now) (binders_of c.args.at.now.binders.now) c.args.inner.now c.args.outer.now (omega (arith, ltb-true, ltb-false)) (omega (arith, ltb-true, ltb-false))

@@ -1,5 +1,0 @@
-use Rattle.std.proofs.Common.{length}
-use Rattle.nest_tests.proofs.folds.+fold_holds.Given as goal
-
-abbrev pub decreases-fold_holds : goal.decreases-fold_holds
-decreases-fold_holds g l = length l.region.now

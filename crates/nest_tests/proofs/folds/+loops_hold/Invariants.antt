@@ -1,5 +1,0 @@
-use Rattle.std.proofs.Common.{length}
-use Rattle.nest_tests.proofs.folds.+loops_hold.Given as goal
-
-abbrev pub decreases-loops_hold : goal.decreases-loops_hold
-decreases-loops_hold g l = length l.coordinates.now

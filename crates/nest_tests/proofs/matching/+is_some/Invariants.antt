@@ -1,5 +1,0 @@
-use Rattle.std.proofs.Common.{length}
-use Rattle.nest_tests.proofs.matching.+is_some.Given as goal
-
-abbrev pub decreases-is_some : goal.decreases-is_some
-decreases-is_some l = length l.coordinates.now

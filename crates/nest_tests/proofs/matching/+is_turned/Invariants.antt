@@ -1,5 +1,0 @@
-use Rattle.std.proofs.Common.{length}
-use Rattle.nest_tests.proofs.matching.+is_turned.Given as goal
-
-abbrev pub decreases-is_turned : goal.decreases-is_turned
-decreases-is_turned l = length l.loops.now

@@ -1,7 +1,0 @@
-use Rattle.std.proofs.Common.{◌≡◌, drop}
-use Rattle.claims.specs.Given.{function_named}
-use Rattle.algo.specs.Parts.{functions_of}
-use Rattle.nest_tests.proofs.ranges.updates_named.Given as goal
-
-abbrev pub invariant-loop-k : goal.invariant-loop-k
-invariant-loop-k l = function_named (functions_of (drop l.k l.functions.entries)) l.name ≡ function_named (functions_of l.functions.entries) l.name

@@ -1,5 +1,0 @@
-use Rattle.std.proofs.Common.{length}
-use Rattle.nest_tests.proofs.seats.+coordinates_are_seated.Given as goal
-
-abbrev pub decreases-coordinates_are_seated : goal.decreases-coordinates_are_seated
-decreases-coordinates_are_seated g l = length l.coordinates.now

@@ -1,5 +1,0 @@
-use Rattle.std.proofs.Common.{length}
-use Rattle.nest_tests.proofs.symbols.+are_outside.Given as goal
-
-abbrev pub decreases-are_outside : goal.decreases-are_outside
-decreases-are_outside l = length l.some.now

@@ -1,5 +1,0 @@
-use Rattle.nests.proofs.Counted.{domains_are_counted as lemma_counted}
-use Rattle.nests.proofs.laws.domains_are_counted.Goals as goal
-
-pub returns : goal.returns
-returns c = lemma_counted

@@ -1,5 +1,0 @@
-use Rattle.nests.proofs.Same.{forms_at_most_themselves}
-use Rattle.nests.proofs.laws.forms_are_at_most_themselves.Goals as goal
-
-pub returns : goal.returns
-returns c = forms_at_most_themselves

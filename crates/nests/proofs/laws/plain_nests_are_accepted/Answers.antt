@@ -1,5 +1,0 @@
-use Rattle.nests.proofs.Accepted.{plain_nests_accepted}
-use Rattle.nests.proofs.laws.plain_nests_are_accepted.Goals as goal
-
-pub returns : goal.returns
-returns c = plain_nests_accepted

@@ -1,5 +1,0 @@
-//! Nests of plain loops: whether one makes its claim, and whether an update's nest does its steps in turn.
-#![tactic(auto)]
-
-pub mod laws;
-pub mod worked;

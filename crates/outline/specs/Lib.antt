@@ -1,0 +1,6 @@
+pub mod Refusals
+pub mod View
+pub mod Rooms
+pub mod Claims
+pub mod Forms
+pub mod Flaws

@@ -1,6 +1,0 @@
-use Rattle.std.proofs.Common.{◌≡◌}
-use Rattle.outlines.specs.Forms.{grid_symbols}
-use Rattle.outlines.proofs.forms.grid_symbols.Given as goal
-
-abbrev pub invariant-loop-symbol : goal.invariant-loop-symbol
-invariant-loop-symbol l = l.symbols.items ≡ grid_symbols l.symbol

@@ -1,5 +1,0 @@
-pub mod View
-pub mod Rooms
-pub mod Claims
-pub mod Forms
-pub mod Flaws

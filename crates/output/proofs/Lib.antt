@@ -1,4 +1,0 @@
-pub mod Plans
-pub mod Ranks
-pub mod Regions
-pub mod Spans

@@ -1,6 +1,0 @@
-use Rattle.std.proofs.Common.{◌≡◌, take}
-use Rattle.output.specs.Axes.{axes_of}
-use Rattle.output.proofs.axis.axes_of.Given as goal
-
-abbrev pub invariant-loop-span : goal.invariant-loop-span
-invariant-loop-span l = l.axes.items ≡ axes_of (take l.span-index l.region)

@@ -1,5 +1,0 @@
-use Rattle.std.proofs.Common.{length}
-use Rattle.output.proofs.plan.+point_count.Given as goal
-
-abbrev pub decreases-point_count : goal.decreases-point_count
-decreases-point_count l = length l.axes.now

@@ -1,9 +1,0 @@
-pub mod Values
-pub mod Rows
-pub mod Shared
-pub mod Parted
-pub mod Counted
-pub mod Straight
-pub mod Extents
-pub mod Asked
-pub mod Lists

@@ -1,5 +1,0 @@
-use Rattle.std.proofs.Common.{length, ◌-◌}
-use Rattle.owned.proofs.cells.+shared_from.Given as goal
-
-abbrev pub decreases-shared_from : goal.decreases-shared_from
-decreases-shared_from l = length l.own.now - l.place

@@ -1,6 +1,0 @@
-use Rattle.std.proofs.Common.{◌≡◌, ◌≤◌, ◌*◌, ◌-◌, ◌^◌, drop, min}
-use Rattle.owned.specs.Boxes.{point_count}
-use Rattle.owned.proofs.inside.most_points.Given as goal
-
-abbrev pub invariant-loop-side : goal.invariant-loop-side
-invariant-loop-side l = (min (l.count * point_count (drop l.side-index l.sides)) (2 ^ 64 - 1) ≡ min (point_count l.sides) (2 ^ 64 - 1)) × (l.count ≤ 2 ^ 64 - 1)

@@ -1,5 +1,0 @@
-mod Plans
-mod PlainWays
-mod PlanWays
-mod Samples
-mod Ways

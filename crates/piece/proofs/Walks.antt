@@ -1,0 +1,116 @@
+-- Pieces counted through the groups, and grid points symbol by symbol.
+use Rattle.std.proofs.Common.{◌≡◌, ℕ, zero, suc, ◌+◌, ◌-◌, ◌*◌, ◌/◌, ◌%◌, ◌^◌, min, ◌<◌, ◌≤◌, List, [], ◌∷◌, ◌++◌, map, take, drop, length, get_or, Some, refl, sym, ap, ◌∙◌, subst, arith, append_assoc}
+use Rattle.std.specs.Prelude.{slice_get}
+use Rattle.std.specs.List.{range_with_len}
+use Rattle.std.proofs.Math.Nat.{div-lt_iff_lt-mul, div-le_self, mod-le}
+use Rattle.std.proofs.lemmas.List.{take_more, length-append, length-map, drop_more}
+use Rattle.std.proofs.lemmas.Option.{same_Some, slice_get-map, slice_get-get_or, slice_get_within}
+use Rattle.std.specs.Option.{option_map}
+use Rattle.std.proofs.lemmas.List.FromFn.{length-map-range_with_len}
+use Rattle.plan.specs.Plan.{Group}
+use Rattle.plan.specs.View.{group_of}
+use Rattle.plan.specs.declared.plan.Group.{Group as CodeGroup}
+use Rattle.plan.specs.Certificate.Cells.{grid_point, group_pieces, piece, piece_count, pieces_from, first_piece}
+
+-- ---- products
+
+mul_three : (a b c : ℕ) → a * (b * c) ≡ a * b * c
+mul_three a b c = grind arith
+
+count_more : (xs : List ℕ) (n : ℕ) → piece_count (xs ++ n ∷ []) ≡ piece_count xs * n
+count_more [] n = omega arith
+count_more (x ∷ xs) n = ap (λ v. x * v) (count_more xs n) ∙ mul_three x (piece_count xs) n
+
+-- one extent more
+pub count_next : (xs : List ℕ) (i d : ℕ) → i < length xs → piece_count (take (i + 1) xs) ≡ piece_count (take i xs) * get_or xs i d
+count_next xs i d l = ap piece_count (take_more xs i d l) ∙ count_more (take i xs) (get_or xs i d)
+
+-- ---- groups
+
+none_before : (gs : List Group) → first_piece gs 0 ≡ 0
+none_before [] = refl
+none_before (x ∷ xs) = refl
+
+pub first_next : (gs : List Group) (i : ℕ) (g : Group) → slice_get gs i ≡ Some g → first_piece gs (i + 1) ≡ first_piece gs i + group_pieces g
+first_next [] i g e = absurd (cc e)
+first_next (x ∷ xs) zero g e =
+    let same : x ≡ g = cc in
+    let none = none_before xs in
+    let size : group_pieces x ≡ group_pieces g = ap group_pieces same in
+    omega (arith, none, size)
+first_next (x ∷ xs) (suc i) g e =
+    let later : suc i + 1 ≡ suc (i + 1) = omega arith in
+    let rest = first_next xs i g e in
+    let sums : group_pieces x + first_piece xs (i + 1) ≡ (group_pieces x + first_piece xs i) + group_pieces g = omega (arith, rest) in
+    ap (first_piece (x ∷ xs)) later ∙ sums
+
+-- nothing comes before the first group
+pub none_first : (gs : List Group) (n : ℕ) → n ≡ first_piece gs 0 + n
+none_first gs n = let none = none_before gs in omega (arith, none)
+
+pub all_pieces : (k : ℕ) (gs : List Group) → length (pieces_from k gs) ≡ first_piece gs (length gs)
+all_pieces k [] = refl
+all_pieces k (x ∷ xs) =
+    length-append (map (piece x k) (range_with_len 0 (group_pieces x))) (pieces_from (k + 1) xs)
+    ∙ (λ i. length-map-range_with_len (piece x k) 0 (group_pieces x) i + all_pieces (k + 1) xs i)
+
+-- the pieces of one group more are passed
+pub passed : (first next size piece rank count : ℕ) → count ≡ min size (2 ^ 64 - 1) → next ≡ first + size → piece ≡ first + rank → count ≤ rank → rank < 2 ^ 32 → piece ≡ next + (rank - count)
+passed first next size piece rank count e f g l s = omega arith
+
+-- behind all groups there is no piece
+pub past : (gs : List Group) (i piece rank : ℕ) → i ≡ length gs → piece ≡ first_piece gs i + rank → piece < length (pieces_from 0 gs) → ⊥
+past gs i piece rank end at inside =
+    let total = all_pieces 0 gs in
+    let same : first_piece gs i ≡ first_piece gs (length gs) = ap (first_piece gs) end in
+    omega (arith, total, same, at, inside)
+
+-- the group that stands at a place of the code's list
+pub group_at : (gs items : List CodeGroup) (i : ℕ) (x : CodeGroup) → items ≡ gs → i < length items → x ≡ get_or items i x → slice_get (map group_of gs) i ≡ Some (group_of x)
+group_at gs items i x same l is =
+    slice_get-map group_of gs i
+    ∙ ap (option_map group_of) (ap (λ (xs : List CodeGroup). slice_get xs i) (sym same) ∙ slice_get-get_or items i x l)
+    ∙ ap (λ (y : CodeGroup). Some (group_of y)) (sym is)
+
+-- and the code's group that is read there
+pub group_is : (gs : List CodeGroup) (i : ℕ) (x : CodeGroup) (g : Group) → slice_get (map group_of gs) i ≡ Some g → x ≡ get_or gs i x → group_of x ≡ g
+group_is gs i x g at is =
+    let l : i < length gs = (let m = slice_get_within (map group_of gs) i g at in let e = length-map gs group_of in omega (arith, m, e)) in
+    same_Some (group_of x) g (sym (group_at gs gs i x refl l is) ∙ at)
+
+-- ---- grid points
+
+-- parts of a number are no larger than it
+pub remainder_small : (n w : ℕ) → n < 2 ^ 32 → n % w < 2 ^ 32
+remainder_small n w h = let le = mod-le n w in omega (arith, le, h)
+
+pub quotient_small : (n w : ℕ) → n < 2 ^ 32 → n / w < 2 ^ 32
+quotient_small n w h = let le = div-le_self n w in omega (arith, le, h)
+
+pub quotient_below : (n w m : ℕ) → 0 < w → n < w * m → n / w < m
+quotient_below n w m some h = (div-lt_iff_lt-mul {k = w} {x = n} {y = m} some).1 (omega arith)
+
+pub some_width : (n w m : ℕ) → n < w * m → 0 < w
+some_width n zero m h = absurd (omega arith)
+some_width n (suc w) m h = omega arith
+
+-- so many coordinates are known, and the rest is the grid point of what is left
+pub record IsUnderWay (grid : List ℕ) (rank i : ℕ) (at : List ℕ) (rest : ℕ) : Type 0 where
+  pub point : at ++ grid_point (drop i grid) rest ≡ grid_point grid rank
+  pub inside : rest < piece_count (drop i grid)
+
+next_inside : (grid : List ℕ) (rank i : ℕ) (at : List ℕ) (rest : ℕ) → i < length grid → IsUnderWay grid rank i at rest → rest < get_or grid i 0 * piece_count (drop (i + 1) grid)
+next_inside grid rank i at rest l h = subst (λ xs. rest < piece_count xs) (drop_more grid i 0 l) h.inside
+
+-- an extent of which points are left is not 0
+pub some_extent : (grid : List ℕ) (rank i : ℕ) (at : List ℕ) (rest : ℕ) → i < length grid → IsUnderWay grid rank i at rest → 0 < get_or grid i 0
+some_extent grid rank i at rest l h = some_width rest (get_or grid i 0) (piece_count (drop (i + 1) grid)) (next_inside grid rank i at rest l h)
+
+pub further : (grid : List ℕ) (rank i : ℕ) (at : List ℕ) (rest : ℕ) → i < length grid → IsUnderWay grid rank i at rest → IsUnderWay grid rank (i + 1) (at ++ (rest % get_or grid i 0) ∷ []) (rest / get_or grid i 0)
+further grid rank i at rest l h =
+    let w = get_or grid i 0 in
+    let more = drop (i + 1) grid in
+    record {
+      point = append_assoc at ((rest % w) ∷ []) (grid_point more (rest / w)) ∙ ap (λ xs. at ++ grid_point xs rest) (sym (drop_more grid i 0 l)) ∙ h.point;
+      inside = quotient_below rest w (piece_count more) (some_extent grid rank i at rest l h) (next_inside grid rank i at rest l h);
+    }

@@ -1,5 +1,0 @@
-use Rattle.pieces.proofs.Apart.{looks_by_number}
-use Rattle.pieces.proofs.laws.looks_are_by_number.Goals as goal
-
-pub returns : goal.returns
-returns c = looks_by_number

@@ -1,5 +1,0 @@
-use Rattle.pieces.proofs.Parts.{none_fetched}
-use Rattle.pieces.proofs.laws.nothing_is_fetched.Goals as goal
-
-pub returns : goal.returns
-returns c = none_fetched

@@ -1,5 +1,0 @@
-use Rattle.pieces.proofs.Parts.{parts_are}
-use Rattle.pieces.proofs.laws.parts_are_the_work.Goals as goal
-
-pub returns : goal.returns
-returns c = parts_are

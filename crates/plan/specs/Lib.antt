@@ -1,0 +1,9 @@
+pub mod Claimed
+pub mod Lines
+pub mod Lists
+pub mod Plan
+pub mod Rooms
+pub mod Symbols
+pub mod View
+pub mod Certificate
+pub mod Semantics

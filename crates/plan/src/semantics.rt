@@ -1,0 +1,3 @@
+//! What a piece does, and its private run.
+
+pub mod worked;

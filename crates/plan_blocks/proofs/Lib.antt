@@ -1,5 +1,0 @@
-pub mod Levels
-pub mod Counted
-pub mod Written
-pub mod Again
-pub mod Completed

@@ -1,7 +1,0 @@
-use Rattle.std.proofs.Common.{◌≡◌, ◌-◌, []}
-use Rattle.plan_words.specs.Reading.{separated_from}
-use Rattle.plan_sizes.specs.Sizes.{size_from}
-use Rattle.plan_sizes.proofs.reading.sizes_by_commas.Given as goal
-
-abbrev pub invariant-loop : goal.invariant-loop
-invariant-loop l = separated_from 44 size_from (l.most - l.counter) l.found.items l.rest ≡ separated_from 44 size_from l.most [] l.text

@@ -1,7 +1,0 @@
-use Rattle.std.proofs.Common.{◌≡◌, ◌-◌, []}
-use Rattle.plan_words.specs.Reading.{separated_from}
-use Rattle.plan_text.specs.Reading.{place_from}
-use Rattle.plan_text.proofs.reading.places_by_semicolons.Given as goal
-
-abbrev pub invariant-loop : goal.invariant-loop
-invariant-loop l = separated_from 59 place_from (l.most - l.counter) l.found.items l.rest ≡ separated_from 59 place_from l.most [] l.text

@@ -1,9 +1,0 @@
-use Rattle.std.proofs.Common.{◌≡◌, ◌++◌, take}
-use Rattle.std.specs.Prelude.{string_bytes}
-use Rattle.nest.specs.Plan.{block}
-use Rattle.nest.specs.Lists.{list_statements}
-use Rattle.plan_text.specs.Writing.{block_text}
-use Rattle.plan_text.proofs.writing.+put_stmt.Given as goal
-
-abbrev pub invariant-put_block-loop-stmt : goal.invariant-put_block-loop-stmt
-invariant-put_block-loop-stmt l = string_bytes l.text ≡ string_bytes l.fn.text ++ block_text (block (list_statements (take l.stmt-index l.all)))

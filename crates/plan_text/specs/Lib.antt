@@ -1,6 +1,0 @@
-pub mod Spelling
-pub mod Fitting
-pub mod Reading
-pub mod Notation
-pub mod Reader
-pub mod Writing

@@ -1,6 +1,0 @@
-use Rattle.std.proofs.Common.{◌≡◌}
-use Rattle.projection.specs.Lets.{with_lets_below}
-use Rattle.projection.proofs.lets.with_lets.Given as goal
-
-abbrev pub invariant-loop-symbol : goal.invariant-loop-symbol
-invariant-loop-symbol l = l.inner.items ≡ with_lets_below l.scope l.loops l.symbol

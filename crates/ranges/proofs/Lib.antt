@@ -1,6 +1,0 @@
-pub mod Values
-pub mod Same
-pub mod Lists
-pub mod Sums
-pub mod Dimensions
-pub mod Walks

@@ -1,4 +1,0 @@
-//! What the crates that run a checked plan rest on, whatever form the plan has.
-#![tactic(auto)]
-
-pub mod laws;

@@ -1,6 +1,0 @@
-//! The codes by which a checker of plans refuses, and where, and which of two flaws is told.
-#![tactic(auto)]
-
-mod code;
-
-pub use code::{Flaw, K, least, lesser};

@@ -1,5 +1,0 @@
-pub mod Descent
-pub mod Given
-pub mod Steps
-pub mod Taken
-pub mod View

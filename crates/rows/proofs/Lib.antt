@@ -1,6 +1,0 @@
-mod Firsts
-mod Own
-mod Parts
-mod Shapes
-mod Stand
-mod Values

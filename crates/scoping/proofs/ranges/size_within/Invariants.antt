@@ -1,7 +1,0 @@
-use Rattle.std.proofs.Common.{◌≡◌, ◌*◌, map, drop}
-use Rattle.meaning.specs.Reduction.{size}
-use Rattle.scoping.specs.Ranges.{unnamed}
-use Rattle.scoping.proofs.ranges.size_within.Given as goal
-
-abbrev pub invariant-loop-range : goal.invariant-loop-range
-invariant-loop-range l = l.points * size (map unnamed (drop l.range-index l.ranges)) ≡ size (map unnamed l.ranges)

@@ -1,0 +1,7 @@
+//! What is around a line of a plan, and the tests by bounds that are asked there.
+
+mod binder;
+mod bounds;
+
+pub use binder::Binder;
+pub use bounds::{Bounds, NestTests};

@@ -1,0 +1,7 @@
+//! Why a sound plan computes right values.
+#![tactic(auto)]
+
+pub mod binders;
+pub mod laws;
+pub mod nests;
+pub mod worked;

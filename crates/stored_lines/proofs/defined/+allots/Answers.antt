@@ -1,7 +1,0 @@
-use Rattle.std.proofs.Common.{◌∙◌}
-use Rattle.stored_lines.specs.Definitions.{allots}
-use Rattle.stored_lines.proofs.Rows.{at_seq}
-use Rattle.stored_lines.proofs.defined.+allots.Goals as goal
-
-pub allots-returns-in-Seq : goal.allots-returns-in-Seq
-allots-returns-in-Seq t c = c.any_allots.ensures ∙ at_seq (allots c.args.name.now) c.in-Seq.all c.deref.result.now c.args.stmt.now c.deref.ensures.value c.in-Seq.is

@@ -1,5 +1,0 @@
-use Rattle.syntax.proofs.Complete.{reads_small, reads_large}
-use Rattle.syntax.proofs.laws.grammar_is_read.Goals as goal
-
-pub returns : goal.returns
-returns c = record { small = reads_small; large = reads_large }

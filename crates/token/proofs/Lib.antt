@@ -1,4 +1,0 @@
-pub mod Fronts
-pub mod Decimals
-pub mod Spelled
-pub mod Lexemes

@@ -1,0 +1,15 @@
+//! From an algorithm's text and an image file to the picture, by a plan file or without any plan: what the program's commands
+//! are made of.
+
+mod by_plan;
+mod fault;
+mod laws;
+mod reading;
+mod without_plan;
+
+pub use by_plan::{check_plan, plan_picture, run_over};
+pub use fault::Fault;
+pub use reading::{read_algorithm, read_inputs};
+pub use without_plan::{plain_over, plain_picture};
+/// What replays the steps of a checked plan.
+pub use steps::{State, replay};

@@ -1,0 +1,9 @@
+use Rattle.std.proofs.Common.{◌≡◌, ◌<◌, ◌^◌, drop}
+use Rattle.std.specs.Str.Parse.{digits_value, digits_value_after}
+use Rattle.tree.proofs.token.lexer.decimal.Given as goal
+
+abbrev pub invariant-loop-digit : goal.invariant-loop-digit
+invariant-loop-digit l = record {
+  small : l.value < 2 ^ 32;
+  so_far : digits_value_after 10 l.value (drop l.digit-index l.digits) ≡ digits_value 10 l.digits;
+}

@@ -1,0 +1,104 @@
+-- What is wrong with the lines of a certificate by names, limits and lists of forms.
+use Rattle.std.specs.Prelude.{ℕ, ◌==◌, nat_le, Bool, false, ◌&&◌, not, List, ◌++◌, length, take, Option, Some, None, slice_get}
+use Rattle.std.specs.List.{list_all, list_any, range_with_len}
+use Rattle.lin.specs.declared.span.Span1.{Span1}
+use Rattle.meaning.specs.Algorithm.{Function, Algorithm}
+use Rattle.meaning.specs.Names.{same_name}
+use Rattle.meaning.specs.Conditions.{function_named}
+use Rattle.plan.specs.Plan.{Group, Plan}
+use Rattle.plan.specs.Lines.{certificate_line}
+use Rattle.plan.specs.declared.certificate.cert.Own.{Own}
+use Rattle.plan.specs.declared.certificate.cert.Need.{Need}
+use Rattle.plan.specs.declared.certificate.cert.Window.{Window}
+use Rattle.plan.specs.Certificate.Certificate.{Claim, Certificate}
+use Rattle.plan.specs.Certificate.Lines.{own_line, need_line, claim_line, window_line}
+use Rattle.plan.specs.Semantics.Setting.{Buffer, allocated}
+use Rattle.outline.specs.Forms.{spans_are_over, spans_are_within_limits, have_ends, grid_symbols}
+use Rattle.outline.specs.Flaws.{Flaw, unless}
+use Rattle.validation.specs.Certificate.Lines.{line_flaws, each_line}
+use Rattle.validation.specs.Certificate.Placing.{Place, place_at}
+
+-- as many spans, over these symbols
+abbrev pub fits : ℕ → List ℕ → List Span1 → Bool
+fits count symbols region = (length region == count) && spans_are_over symbols region
+
+-- ---- own regions
+
+-- one of these lines is of the group
+abbrev pub is_owned : List Own → ℕ → Bool
+is_owned os g = list_any (λ o. o.group == g) os
+
+-- each of so many groups has a line
+abbrev pub are_owned : List Own → ℕ → Bool
+are_owned os count = list_all (is_owned os) (range_with_len 0 count)
+
+-- a region of the group, in the symbols of the group's grid
+abbrev pub is_region_of : Option Group → List Span1 → Bool
+is_region_of None region = false
+is_region_of (Some g) region = fits (length g.region) (grid_symbols (length g.grid)) region
+
+-- the line is of a group that none of the earlier ones is of
+abbrev pub own_is_known : List Group → List Own → Own → Bool
+own_is_known groups earlier o = not (is_owned earlier o.group) && is_region_of (slice_get groups o.group) o.region
+
+-- ---- needed regions
+
+-- a region of the needed group's grid, in the symbols of the group's own grid
+abbrev pub is_need_of : Option Group → Option Group → List Span1 → Bool
+is_need_of None h region = false
+is_need_of (Some g) None region = false
+is_need_of (Some g) (Some h) region = fits (length h.grid) (grid_symbols (length g.grid)) region
+
+abbrev pub need_is_known : List Group → Need → Bool
+need_is_known groups n = is_need_of (slice_get groups n.group) (slice_get groups n.needed) n.region
+
+-- ---- claims
+
+-- the buffer is allocated, for values of the claim's function
+abbrev pub is_of_buffer : Option Buffer → Claim → Bool
+is_of_buffer None k = false
+is_of_buffer (Some b) k = same_name b.function k.function
+
+-- the function is known, and has the claim's definition and as many variables as the claim has spans
+abbrev pub is_of_function : Option Function → Claim → Bool
+is_of_function None k = false
+is_of_function (Some f) k = nat_le k.definition (length f.changes) && (length k.region == length f.variables)
+
+-- the symbols bound at the line: those of the grid, and of the loops round the statement that ends there
+abbrev pub bound_at : Place → List ℕ
+bound_at x = grid_symbols (length x.group.grid) ++ x.symbols
+
+-- a statement ends at the claim's line, and the claim is of a buffer of that group, in symbols that are bound there
+abbrev pub is_at : Option Place → Claim → Bool
+is_at None k = false
+is_at (Some x) k = is_of_buffer (allocated x.group.body k.buffer) k && spans_are_over (bound_at x) k.region
+
+abbrev pub claim_is_known : List Function → List Group → Claim → Bool
+claim_is_known functions groups k = is_of_function (function_named functions k.function) k && is_at (place_at groups k.line) k
+
+-- ---- the certificate
+
+-- K10 at the line `cert`, where a group has no own region
+abbrev pub cert_flaws : Plan → Certificate → List Flaw
+cert_flaws p c = unless (are_owned c.own (length p.groups)) 10 (certificate_line p)
+
+-- what is wrong with the line of an own region, of a needed region, of a claim
+abbrev pub own_flaws : Plan → Certificate → ℕ → Own → List Flaw
+own_flaws p c i o = line_flaws (own_is_known p.groups (take i c.own) o) (spans_are_within_limits o.region) (have_ends o.region) (own_line (certificate_line p) i)
+
+abbrev pub need_flaws : Plan → Certificate → ℕ → Need → List Flaw
+need_flaws p c i n = line_flaws (need_is_known p.groups n) (spans_are_within_limits n.region) (have_ends n.region) (need_line c (certificate_line p) i)
+
+abbrev pub claim_flaws : Algorithm → Plan → Certificate → ℕ → Claim → List Flaw
+claim_flaws a p c i k = line_flaws (claim_is_known a.functions p.groups k) (spans_are_within_limits k.region) (have_ends k.region) (claim_line c (certificate_line p) i)
+
+-- K14: windows are not decided
+abbrev pub window_flaws : Plan → Certificate → ℕ → Window → List Flaw
+window_flaws p c i w = unless false 14 (window_line c (certificate_line p) i)
+
+-- in the order of lines, and at one line the lowest code first
+abbrev pub flaws_of_certificate : Algorithm → Plan → Certificate → List Flaw
+flaws_of_certificate a p c =
+    cert_flaws p c
+    ++ (each_line (own_flaws p c) 0 c.own
+    ++ (each_line (need_flaws p c) 0 c.needs ++ (each_line (claim_flaws a p c) 0 c.claims ++ each_line (window_flaws p c) 0 c.windows)))

@@ -1,0 +1,37 @@
+-- What holds of a certificate whose lines have no flaw.
+use Rattle.std.specs.Prelude.{◌≡◌, ℕ, ◌<◌, true, List, [], length, Some, MatchOption, slice_get}
+use Rattle.lin.specs.declared.span.Span1.{Span1}
+use Rattle.meaning.specs.Algorithm.{Algorithm}
+use Rattle.plan.specs.Plan.{Group, Plan}
+use Rattle.plan.specs.declared.certificate.cert.Own.{Own}
+use Rattle.plan.specs.declared.certificate.cert.Need.{Need}
+use Rattle.plan.specs.Certificate.Certificate.{Claim, Certificate}
+use Rattle.plan.specs.Certificate.Cells.{own_region}
+use Rattle.outline.specs.Forms.{spans_are_over, spans_are_within_limits, have_ends, grid_symbols}
+use Rattle.validation.specs.Certificate.Certificate.{claim_is_known}
+
+-- so many spans with one to four forms at each end, within the limits, in the symbols of a grid of so many numbers
+pub record IsRegion (count grid : ℕ) (region : List Span1) : Type 0 where
+  pub long : length region ≡ count
+  pub symbols : spans_are_over (grid_symbols grid) region ≡ true
+  pub limits : spans_are_within_limits region ≡ true
+  pub ends : have_ends region ≡ true
+
+-- a region of the needed group's grid, in the symbols of the group's own
+abbrev pub IsNeed : List Group → Need → Type 0
+IsNeed groups n = MatchOption (slice_get groups n.group) ⊥ (λ g. MatchOption (slice_get groups n.needed) ⊥ (λ h. IsRegion (length h.grid) (length g.grid) n.region))
+
+-- a claim of what is known, with one to four forms at each end, within the limits
+pub record IsClaim (a : Algorithm) (p : Plan) (k : Claim) : Type 0 where
+  pub known : claim_is_known a.functions p.groups k ≡ true
+  pub limits : spans_are_within_limits k.region ≡ true
+  pub ends : have_ends k.region ≡ true
+
+pub record IsClear (a : Algorithm) (p : Plan) (c : Certificate) : Type 0 where
+  -- each group has an own region
+  pub own : (n : ℕ) (g : Group) → slice_get p.groups n ≡ Some g → MatchOption (own_region c.own n) ⊥ (IsRegion (length g.region) (length g.grid))
+  -- of which there is no second line
+  pub once : (i j : ℕ) (o q : Own) → i < j → slice_get c.own i ≡ Some o → slice_get c.own j ≡ Some q → o.group ≡ q.group → ⊥
+  pub needs : (i : ℕ) (n : Need) → slice_get c.needs i ≡ Some n → IsNeed p.groups n
+  pub claims : (i : ℕ) (k : Claim) → slice_get c.claims i ≡ Some k → IsClaim a p k
+  pub windows : c.windows ≡ []

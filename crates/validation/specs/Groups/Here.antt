@@ -1,0 +1,7 @@
+-- Where a statement stands, in memory.
+use Rattle.std.specs.Prelude.{Bool}
+use Rattle.validation.specs.Groups.Lines.{Here}
+use Rattle.validation.specs.declared.groups.here.Here.{Here as HereHeld}
+
+abbrev pub here_of : HereHeld → Bool → Here
+here_of h last = record { line = h.line; symbols = h.symbols.items; buffers = h.buffers.items; used = h.used; fetching = h.fetching; last = last }

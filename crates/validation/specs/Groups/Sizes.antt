@@ -1,0 +1,64 @@
+-- How large the parts of a plan are.
+use Rattle.std.specs.Prelude.{ℕ, ◌+◌, ◌*◌, ◌==◌, ◌&&◌, nat_le, Bool, List, [], ◌∷◌, map, length, ℤ, pos, ◌+ℤ◌, ◌-ℤ◌}
+use Rattle.lin.specs.Forms.{Form}
+use Rattle.lin.specs.declared.span.Span1.{Span1}
+use Rattle.plan.specs.declared.stmt.Places.{Places}
+use Rattle.plan.specs.declared.stmt.Places.TheVariants.{From, Folded}
+use Rattle.plan.specs.Plan.{Statement, Seq, For, Let, First, Guard, Alloc, Fetch, Store, Publish, Statements, Empty, Then}
+use Rattle.plan.specs.Symbols.{clipped}
+use Rattle.validation.specs.Stored.Sizes.{counted}
+
+-- so many and so many more
+abbrev pub more : ℕ → ℕ → ℕ
+more a b = counted (a + b)
+
+abbrev pub product : List ℕ → ℕ
+product [] = 1
+product (n ∷ ns) = n * product ns
+
+-- how many places there are for one coordinate
+abbrev pub place_count : Places → ℕ
+place_count (From l n) = n
+place_count (Folded n) = n
+
+-- how many places a buffer has
+abbrev pub places_count : List Places → ℕ
+places_count xs = counted (product (map place_count xs))
+
+-- how many places the buffers have that a statement allocates, each `alloc` line once
+abbrev mutual
+  pub allotted : Statement → ℕ
+  allotted (Seq all) = block_allotted all
+  allotted (For i x kind body) = allotted body
+  allotted (Let i pick ls) = 0
+  allotted (First i a b) = more (allotted a) (allotted b)
+  allotted (Guard low high body) = allotted body
+  allotted (Alloc b f places) = places_count places
+  allotted (Fetch b g region) = 0
+  allotted (Store b k at e) = 0
+  allotted (Publish c) = 0
+
+  pub block_allotted : Statements → ℕ
+  block_allotted Empty = 0
+  block_allotted (Then a rest) = more (allotted a) (block_allotted rest)
+
+-- the constant of the first form, 0 of none
+abbrev pub constant_of : List Form → ℤ
+constant_of [] = pos 0
+constant_of (l ∷ ls) = l.constant
+
+-- how many numbers a span of one constant at each end has
+abbrev pub extent_of : Span1 → ℕ
+extent_of x = clipped ((constant_of x.upper +ℤ pos 1) -ℤ constant_of x.lower)
+
+-- how many points a region of such spans has
+abbrev pub cell_count : List Span1 → ℕ
+cell_count xs = counted (product (map extent_of xs))
+
+-- one form alone
+abbrev pub is_single : List Form → Bool
+is_single ls = length ls == 1
+
+-- one form at each end, and from 1 to 8192 numbers
+abbrev pub is_extent : Span1 → Bool
+is_extent x = is_single x.lower && (is_single x.upper && (nat_le 1 (counted (extent_of x)) && nat_le (counted (extent_of x)) 8192))

@@ -1,0 +1,23 @@
+//! What is wrong with a line that has a region.
+
+ghost use Rattle.std.specs.Prelude.{◌≡◌, ℕ};
+ghost use Rattle.outline.specs.Flaws.{first_of};
+ghost use Rattle.validation.specs.Certificate.Lines.{line_flaws, told_at};
+
+use outline::refusals::K;
+
+/// The code of what is wrong with a line: whether what it names is known, its forms are within the limits, and each side of
+/// its spans has one to four forms.
+pub(crate) fn line_code(known: bool, small: bool, listed: bool) -> Option<K>
+    ensures { (line : ℕ) → told_at result line ≡ first_of (line_flaws known small listed line) }
+{
+    if !known {
+        Some(K::K2)
+    } else if !small {
+        Some(K::K3)
+    } else if !listed {
+        Some(K::K14)
+    } else {
+        None
+    }
+}

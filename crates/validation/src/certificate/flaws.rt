@@ -1,0 +1,66 @@
+//! The first flaw of a certificate's lines.
+
+ghost use Rattle.std.specs.Prelude.{◌≡◌, IfOk};
+ghost use Rattle.plan.specs.Lines.{certificate_line};
+ghost use Rattle.plan.specs.View.{plan_of};
+ghost use Rattle.plan.specs.Certificate.Certificate.{certificate_of};
+ghost use Rattle.algo.specs.View.{algorithm_of};
+ghost use Rattle.outline.specs.Flaws.{first_of, told, line_told};
+ghost use Rattle.validation.specs.Certificate.Lines.{each_line};
+ghost use Rattle.validation.specs.Certificate.Certificate.{window_flaws, flaws_of_certificate};
+
+use crate::certificate::claim_lines::claim_flaw;
+use crate::certificate::need_lines::need_flaw;
+use crate::certificate::own_lines::{cert_flaw, own_flaw};
+use algo::Algo;
+use outline::refusals::{Flaw, K};
+use plan::Plan;
+use plan::certificate::Cert;
+use std::alloc::{AllocError, Global};
+
+/// The flaw of the first window, where the line `cert` is given.
+fn window_flaw(plan: &Plan, cert: &Cert, line: u32) -> Option<Flaw>
+    requires { line ≡ line_told (certificate_line (plan_of plan.now)) }
+    ensures { told result ≡ first_of (each_line (window_flaws (plan_of plan.now) (certificate_of cert.now)) 0 cert.now.windows.items) }
+{
+    match cert.windows.as_slice() {
+        [] => None,
+        [_, ..] => Some(Flaw {
+            code: K::K14,
+            line: cert.window_line(line, 0),
+        }),
+    }
+}
+
+/// The first flaw of the lines of a plan's certificate, from its line `cert` on: at one line the lowest code. None exactly
+/// where there is none.
+///
+/// It asks of names, limits and lists of forms alone: that each group has an own region, and that own regions, needed regions
+/// and claims are of known groups, buffers, functions and definitions, with as many spans as those have coordinates, in
+/// symbols that are bound at the line. Windows are flaws. The time is about the groups' lines for each claim.
+///
+/// # Errors
+/// Want of memory.
+pub fn first_flaw(
+    alloc: Global,
+    algo: &Algo,
+    plan: &Plan,
+    cert: &Cert,
+) -> Result<Option<Flaw>, AllocError>
+    ensures { IfOk result (λ found. told found ≡ first_of (flaws_of_certificate (algorithm_of algo.now) (plan_of plan.now) (certificate_of cert.now))) }
+{
+    let line = plan.certificate_line();
+    if let Some(flaw) = cert_flaw(plan, cert, line) {
+        return Ok(Some(flaw));
+    }
+    if let Some(flaw) = own_flaw(alloc, plan, cert, line)? {
+        return Ok(Some(flaw));
+    }
+    if let Some(flaw) = need_flaw(alloc, plan, cert, line)? {
+        return Ok(Some(flaw));
+    }
+    if let Some(flaw) = claim_flaw(alloc, algo, plan, cert, line)? {
+        return Ok(Some(flaw));
+    }
+    Ok(window_flaw(plan, cert, line))
+}

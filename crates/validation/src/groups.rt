@@ -1,0 +1,9 @@
+//! What is wrong with the lines of a plan's groups by names, limits and stored expressions.
+
+mod groups;
+mod here;
+pub mod laws;
+mod lines;
+mod sizes;
+
+pub use groups::first_flaw;

@@ -1,0 +1,92 @@
+//! Where a statement of a group stands.
+
+ghost use Rattle.std.specs.Prelude.{◌≡◌, Bool, false, IfOk, OnOk};
+ghost use Rattle.plan.specs.View.{statement_of};
+ghost use Rattle.plan.specs.Lists.{list_statements};
+ghost use Rattle.plan.specs.Plan.{block};
+ghost use Rattle.validation.specs.Groups.Here.{here_of};
+ghost use Rattle.validation.specs.Groups.Lines.{after, in_loop, may_precede, may_all_precede};
+
+use crate::groups::sizes::allotted;
+use lin::Sym;
+use plan::Stmt;
+use std::alloc::AllocError;
+
+/// Where a statement stands: its line, the symbols and buffers in scope, the places of buffers of earlier lines, and
+/// whether lines `fetch` may still come.
+#[derive(Drop)]
+pub(crate) struct Here {
+    pub line: u32,
+    pub symbols: Vec<Sym>,
+    pub buffers: Vec<u32>,
+    pub used: u64,
+    pub fetching: bool,
+}
+
+/// Whether lines `fetch` may come behind the statement.
+#[cycle(precede)]
+fn may_precede(stmt: &Stmt) -> bool
+    ensures { result ≡ may_precede (statement_of stmt.now) }
+{
+    match stmt {
+        Stmt::Seq(all) => may_all_precede(all),
+        Stmt::Let { .. } | Stmt::Alloc { .. } | Stmt::Fetch { .. } | Stmt::Publish { .. } => true,
+        Stmt::For { .. } | Stmt::First { .. } | Stmt::Guard { .. } | Stmt::Store { .. } => false,
+    }
+}
+
+/// The same of a block's statements.
+#[cycle(precede)]
+fn may_all_precede(all: &[Stmt]) -> bool
+    ensures { result ≡ may_all_precede (block (list_statements all.now)) }
+{
+    for stmt in all {
+        if !may_precede(stmt) {
+            return false;
+        }
+    }
+    true
+}
+
+impl Here {
+    /// The same place, in memory of its own.
+    pub(crate) fn copy(&self) -> Result<Here, AllocError>
+        ensures { IfOk result (λ copy. (last : Bool) → here_of copy last ≡ here_of self.now last) }
+    {
+        Ok(Here {
+            line: self.line,
+            symbols: self.symbols.clone()?,
+            buffers: self.buffers.clone()?,
+            used: self.used,
+            fetching: self.fetching,
+        })
+    }
+
+    /// Inside a loop over the symbol that stands here.
+    pub(crate) fn in_loop(&self, symbol: Sym) -> Result<Here, AllocError>
+        ensures { IfOk result (λ inner. (last : Bool) → here_of inner false ≡ in_loop symbol (here_of self.now last)) }
+    {
+        let mut symbols = self.symbols.clone()?;
+        symbols.push(symbol)?;
+        Ok(Here {
+            line: self.line.saturating_add(1),
+            symbols,
+            buffers: self.buffers.clone()?,
+            used: self.used,
+            fetching: false,
+        })
+    }
+
+    /// Goes on behind a statement that stands here.
+    pub(crate) fn pass(&mut self, stmt: &Stmt) -> Result<(), AllocError>
+        ensures { OnOk result ((last : Bool) → here_of self.new last ≡ after (statement_of stmt.now) (here_of self.old last)) }
+    {
+        if let Stmt::Alloc { buffer, .. } = stmt {
+            self.buffers.push(*buffer)?;
+        }
+        self.line = self.line.saturating_add(stmt.line_count());
+        self.used = self.used.saturating_add(allotted(stmt));
+        self.fetching = self.fetching && may_precede(stmt);
+        Ok(())
+    }
+}

@@ -1,0 +1,507 @@
+//! The first flaw of a group's lines.
+
+ghost use Rattle.std.specs.Prelude.{◌≡◌, ◌&&◌, ◌||◌, ◌==◌, not, ◌+◌, ◌<◌, drop, ◌^◌, nat_le, nat_lt, length, true, IfOk, map, slice_get};
+ghost use Rattle.std.specs.List.{list_all, list_any};
+ghost use Rattle.std.specs.Option.{option_map};
+ghost use Rattle.tree.specs.Term.{term_of};
+ghost use Rattle.algo.specs.View.{algorithm_of};
+ghost use Rattle.plan.specs.Lists.{list_statements};
+ghost use Rattle.plan.specs.Plan.{block};
+ghost use Rattle.plan.specs.View.{coordinate_of, statement_of};
+ghost use Rattle.outline.specs.Forms.{are_over, are_within_limits, is_listed};
+ghost use Rattle.outline.specs.Flaws.{first_of, told};
+ghost use Rattle.outline.specs.View.{certificate_in, group_in, outline_in, plan_in};
+ghost use Rattle.validation.specs.Stored.Definitions.{definition_held, function_in, has_variables as known_with, parts_named};
+ghost use Rattle.validation.specs.Groups.Sizes.{more, places_count};
+ghost use Rattle.validation.specs.Stored.Sizes.{is_small};
+ghost use Rattle.validation.specs.Groups.Here.{here_of};
+ghost use Rattle.validation.specs.Groups.Lines.{alloc_flaws, block_flaws, definition_is_named, definition_is_stored, fetch_flaws, fetch_is_named, flaws, is_claim_of, is_empty, is_new, is_serial, is_straight, line_flaws, place_is_over, place_is_within, publish_flaws, store_flaws};
+ghost use Rattle.validation.specs.Stored.Stored.{index_is_over, index_is_small, index_is_within};
+
+use crate::groups::here::Here;
+use crate::groups::sizes::places_count;
+use crate::stored::{
+    Defined, Ground, definition_of, has_names, has_variables, indices_are_known, indices_are_small,
+    is_defined, is_known, is_small,
+};
+use algo::scoping::same_name;
+use lin::{Span1, Sym};
+use outline::forms::{
+    are_over, are_within_limits, have_ends, is_listed, is_over, spans_are_over,
+    spans_are_within_limits,
+};
+use outline::refusals::{Flaw, K};
+use plan::{Coordinate, Index, Kind, Places, Stmt};
+use std::alloc::{AllocError, Global};
+use tree::Expr;
+
+/// The most places of all buffers of a group together.
+const MOST_PLACES: u64 = 1 << 22;
+
+/// The flaw of a line by the lowest code whose test fails: names, forms, the definition, limits.
+pub(crate) fn line_flaw(
+    line: u32,
+    named: bool,
+    within: bool,
+    defined: bool,
+    limited: bool,
+) -> Option<Flaw>
+    ensures { told result ≡ first_of (line_flaws line named within defined limited) }
+{
+    if !named {
+        Some(Flaw { code: K::K2, line })
+    } else if !within {
+        Some(Flaw { code: K::K3, line })
+    } else if !defined {
+        Some(Flaw { code: K::K12, line })
+    } else if !limited {
+        Some(Flaw { code: K::K14, line })
+    } else {
+        None
+    }
+}
+
+/// Whether a number is one of these.
+fn is_among(numbers: &[u32], number: u32) -> bool
+    ensures { result ≡ list_any (λ x. x == number) numbers.now }
+{
+    numbers.iter().any(|one| *one == number)
+}
+
+/// Whether a symbol is greater than all of these.
+fn is_new(symbols: &[Sym], symbol: Sym) -> bool
+    ensures { result ≡ is_new symbols.now symbol }
+{
+    symbols.iter().all(|one| *one < symbol)
+}
+
+/// Whether the turns of the loop are run one after another.
+fn is_serial(kind: Kind) -> bool
+    ensures { result ≡ is_serial kind }
+{
+    match kind {
+        Kind::Serial => true,
+        Kind::Unroll | Kind::Vector => false,
+    }
+}
+
+/// The flaw of a line `for`.
+fn loop_flaw(here: &Here, symbol: Sym, span: &Span1, kind: Kind) -> Option<Flaw>
+    ensures { told result ≡ first_of (line_flaws here.now.line
+        (is_new here.now.symbols.items symbol && (are_over here.now.symbols.items span.now.lower && are_over here.now.symbols.items span.now.upper))
+        (are_within_limits span.now.lower && are_within_limits span.now.upper)
+        true
+        (is_serial kind && (is_listed span.now.lower && is_listed span.now.upper))) }
+{
+    let lower = span.lower.as_slice();
+    let upper = span.upper.as_slice();
+    let named = is_new(&here.symbols, symbol)
+        && are_over(&here.symbols, lower)
+        && are_over(&here.symbols, upper);
+    let within = are_within_limits(lower) && are_within_limits(upper);
+    let limited = is_serial(kind) && is_listed(&span.lower) && is_listed(&span.upper);
+    line_flaw(here.line, named, within, true, limited)
+}
+
+/// Whether the symbols of the origin, if the places have one, are among these.
+fn place_is_over(symbols: &[Sym], places: &Places) -> bool
+    ensures { result ≡ place_is_over symbols.now places.now }
+{
+    match places {
+        Places::From { origin, .. } => is_over(symbols, origin),
+        Places::Folded { .. } => true,
+    }
+}
+
+/// Whether the origin, if the places have one, is within the limits of linear forms.
+fn place_is_within(places: &Places) -> bool
+    ensures { result ≡ place_is_within places.now }
+{
+    match places {
+        Places::From { origin, .. } => origin.is_within_limits(),
+        Places::Folded { .. } => true,
+    }
+}
+
+/// Whether the places are not folded.
+fn is_straight(places: &Places) -> bool
+    ensures { result ≡ is_straight places.now }
+{
+    match places {
+        Places::From { .. } => true,
+        Places::Folded { .. } => false,
+    }
+}
+
+/// Whether the symbols of all origins are among these.
+fn places_are_over(symbols: &[Sym], places: &[Places]) -> bool
+    ensures { result ≡ list_all (place_is_over symbols.now) places.now }
+{
+    places.iter().all(|one| place_is_over(symbols, one))
+}
+
+/// Whether all origins are within the limits of linear forms.
+fn places_are_within(places: &[Places]) -> bool
+    ensures { result ≡ list_all place_is_within places.now }
+{
+    places.iter().all(place_is_within)
+}
+
+/// Whether no places are folded.
+fn are_straight(places: &[Places]) -> bool
+    ensures { result ≡ list_all is_straight places.now }
+{
+    places.iter().all(is_straight)
+}
+
+/// The flaw of a line `alloc`.
+fn alloc_flaw(
+    ground: Ground<'_, '_>,
+    here: &Here,
+    function: &str,
+    places: &[Places],
+) -> Option<Flaw>
+    ensures { told result ≡ first_of (alloc_flaws (algorithm_of ground.entry.algo.now) (plan_in ground.entry.outlined.now) (certificate_in ground.entry.outlined.now) (group_in ground.entry.outlined.now) (outline_in ground.entry.outlined.now) (here_of here.now true) function.now places.now) }
+{
+    let named = alloc_is_named(ground, here, function, places);
+    let within = places_are_within(places);
+    line_flaw(
+        here.line,
+        named,
+        within,
+        true,
+        alloc_is_limited(here, places),
+    )
+}
+
+/// Whether the function of a line `alloc` is known, with as many variables, and the symbols of the places are.
+fn alloc_is_named(ground: Ground<'_, '_>, here: &Here, function: &str, places: &[Places]) -> bool
+    ensures { result ≡ (known_with (parts_named (algorithm_of ground.entry.algo.now) function.now) (length places.now) && list_all (place_is_over here.now.symbols.items) places.now) }
+{
+    has_variables(ground.algo, function, places.len()) && places_are_over(&here.symbols, places)
+}
+
+/// Whether no places are folded, and with these the buffers of the group have few places.
+fn alloc_is_limited(here: &Here, places: &[Places]) -> bool
+    ensures { result ≡ (list_all is_straight places.now && nat_le (more here.now.used (places_count places.now)) (2 ^ 22)) }
+{
+    are_straight(places) && here.used.saturating_add(places_count(places)) <= MOST_PLACES
+}
+
+/// Whether the buffer and the group of a line `fetch` are known and of one function, and the region is one of it.
+fn fetch_is_named(
+    ground: Ground<'_, '_>,
+    here: &Here,
+    buffer: u32,
+    group: u64,
+    region: &[Span1],
+) -> bool
+    ensures { result ≡ fetch_is_named (algorithm_of ground.entry.algo.now) (plan_in ground.entry.outlined.now) (certificate_in ground.entry.outlined.now) (group_in ground.entry.outlined.now) (outline_in ground.entry.outlined.now) (here_of here.now true) buffer group region.now }
+{
+    let function = ground.outlined.group_function(group);
+    is_among(&here.buffers, buffer)
+        && is_group(ground, group)
+        && same_name(function, ground.outlined.buffer_function(buffer))
+        && has_variables(ground.algo, function, region.len())
+        && spans_are_over(ground.grid, region)
+}
+
+/// Whether there is a group of this number.
+fn is_group(ground: Ground<'_, '_>, group: u64) -> bool
+    ensures { result ≡ nat_lt group (length (plan_in ground.entry.outlined.now).groups) }
+{
+    group < ground.outlined.plan().groups.len() as u64
+}
+
+/// The flaw of a line `fetch`.
+fn fetch_flaw(
+    ground: Ground<'_, '_>,
+    here: &Here,
+    buffer: u32,
+    group: u64,
+    region: &[Span1],
+) -> Option<Flaw>
+    ensures { told result ≡ first_of (fetch_flaws (algorithm_of ground.entry.algo.now) (plan_in ground.entry.outlined.now) (certificate_in ground.entry.outlined.now) (group_in ground.entry.outlined.now) (outline_in ground.entry.outlined.now) (here_of here.now true) buffer group region.now) }
+{
+    let named = fetch_is_named(ground, here, buffer, group, region);
+    let within = spans_are_within_limits(region);
+    line_flaw(
+        here.line,
+        named,
+        within,
+        true,
+        here.fetching && have_ends(region),
+    )
+}
+
+/// Whether the symbols of the coordinate's form, if it is given by one, are among these.
+fn coordinate_is_over(symbols: &[Sym], coordinate: &Coordinate) -> bool
+    ensures { result ≡ index_is_over symbols.now (coordinate_of coordinate.now).index }
+{
+    match &coordinate.index {
+        Index::Form(form) => is_over(symbols, form),
+        Index::Found(_) => true,
+    }
+}
+
+/// Whether the symbols of all coordinates' forms are among these.
+fn coordinates_are_over(symbols: &[Sym], coordinates: &[Coordinate]) -> bool
+    ensures { result ≡ list_all (λ x. index_is_over symbols.now x.index) (map coordinate_of coordinates.now) }
+{
+    for one in coordinates {
+        if !coordinate_is_over(symbols, one) {
+            return false;
+        }
+    }
+    true
+}
+
+/// Whether the coordinate's form, if it is given by one, is within the limits of linear forms.
+fn coordinate_is_within(coordinate: &Coordinate) -> bool
+    ensures { result ≡ index_is_within (coordinate_of coordinate.now).index }
+{
+    match &coordinate.index {
+        Index::Form(form) => form.is_within_limits(),
+        Index::Found(_) => true,
+    }
+}
+
+/// Whether all coordinates' forms are within the limits of linear forms.
+fn coordinates_are_within(coordinates: &[Coordinate]) -> bool
+    ensures { result ≡ list_all (λ x. index_is_within x.index) (map coordinate_of coordinates.now) }
+{
+    for one in coordinates {
+        if !coordinate_is_within(one) {
+            return false;
+        }
+    }
+    true
+}
+
+/// How many variables the function of the definition has.
+fn variable_count(defined: Defined<'_>) -> usize
+    ensures { result ≡ length (function_in (definition_held defined.entry)).variables }
+{
+    match defined {
+        Defined::Pure(function) | Defined::Update(function, _) => function.variables.len(),
+    }
+}
+
+/// Whether the definition is known, and the store's variables, symbols and calls are.
+fn definition_is_named(
+    ground: Ground<'_, '_>,
+    here: &Here,
+    defined: Option<Defined<'_>>,
+    buffer: u32,
+    coordinates: &[Coordinate],
+    value: &Expr,
+) -> bool
+    ensures { result ≡ definition_is_named (algorithm_of ground.entry.algo.now) (plan_in ground.entry.outlined.now) (certificate_in ground.entry.outlined.now) (group_in ground.entry.outlined.now) (outline_in ground.entry.outlined.now) (option_map definition_held defined.entry) (here_of here.now true) buffer (map coordinate_of coordinates.now) (term_of value.now) }
+{
+    match defined {
+        None => false,
+        Some(defined) => {
+            has_names(defined, coordinates)
+                && ground.outlined.dimensions(buffer) == variable_count(defined)
+                && coordinates_are_over(&here.symbols, coordinates)
+                && indices_are_known(ground, coordinates)
+                && is_known(ground, coordinates, value)
+        }
+    }
+}
+
+/// Whether the store is of the definition, where there is one.
+fn definition_is_stored(
+    alloc: Global,
+    ground: Ground<'_, '_>,
+    defined: Option<Defined<'_>>,
+    coordinates: &[Coordinate],
+    value: &Expr,
+) -> Result<bool, AllocError>
+    requires { (is_small (term_of value.now) && list_all (λ x. index_is_small x.index) (map coordinate_of coordinates.now)) ≡ true }
+    ensures { IfOk result (λ yes. yes ≡ definition_is_stored (algorithm_of ground.entry.algo.now) (plan_in ground.entry.outlined.now) (certificate_in ground.entry.outlined.now) (group_in ground.entry.outlined.now) (outline_in ground.entry.outlined.now) (option_map definition_held defined.entry) (map coordinate_of coordinates.now) (term_of value.now)) }
+{
+    match defined {
+        None => Ok(true),
+        Some(defined) => is_defined(alloc, ground, defined, coordinates, value),
+    }
+}
+
+/// The flaw of a line `store`.
+fn store_flaw(
+    alloc: Global,
+    ground: Ground<'_, '_>,
+    here: &Here,
+    buffer: u32,
+    definition: u64,
+    coordinates: &[Coordinate],
+    value: &Expr,
+) -> Result<Option<Flaw>, AllocError>
+    ensures { IfOk result (λ flaw. told flaw ≡ first_of (store_flaws (algorithm_of ground.entry.algo.now) (plan_in ground.entry.outlined.now) (certificate_in ground.entry.outlined.now) (group_in ground.entry.outlined.now) (outline_in ground.entry.outlined.now) (here_of here.now true) buffer definition (map coordinate_of coordinates.now) (term_of value.now))) }
+{
+    let defined = definition_of(
+        ground.algo,
+        ground.outlined.buffer_function(buffer),
+        definition,
+    );
+    let named = store_is_named(ground, here, defined, buffer, coordinates, value);
+    let within = coordinates_are_within(coordinates);
+    let small = store_is_small(coordinates, value);
+    let stored = is_stored_if_small(alloc, ground, small, defined, coordinates, value)?;
+    Ok(line_flaw(here.line, named, within, stored, small))
+}
+
+/// Whether the buffer of a store is in scope, the definition is known, and the store's variables, symbols and calls are.
+fn store_is_named(
+    ground: Ground<'_, '_>,
+    here: &Here,
+    defined: Option<Defined<'_>>,
+    buffer: u32,
+    coordinates: &[Coordinate],
+    value: &Expr,
+) -> bool
+    ensures { result ≡ (list_any (λ x. x == buffer) here.now.buffers.items && definition_is_named (algorithm_of ground.entry.algo.now) (plan_in ground.entry.outlined.now) (certificate_in ground.entry.outlined.now) (group_in ground.entry.outlined.now) (outline_in ground.entry.outlined.now) (option_map definition_held defined.entry) (here_of here.now true) buffer (map coordinate_of coordinates.now) (term_of value.now)) }
+{
+    is_among(&here.buffers, buffer)
+        && definition_is_named(ground, here, defined, buffer, coordinates, value)
+}
+
+/// Whether the expressions of a store are small.
+fn store_is_small(coordinates: &[Coordinate], value: &Expr) -> bool
+    ensures { result ≡ (is_small (term_of value.now) && list_all (λ x. index_is_small x.index) (map coordinate_of coordinates.now)) }
+{
+    is_small(value) && indices_are_small(coordinates)
+}
+
+/// Whether a store is of the definition, if its expressions are small.
+fn is_stored_if_small(
+    alloc: Global,
+    ground: Ground<'_, '_>,
+    small: bool,
+    defined: Option<Defined<'_>>,
+    coordinates: &[Coordinate],
+    value: &Expr,
+) -> Result<bool, AllocError>
+    requires { small ≡ (is_small (term_of value.now) && list_all (λ x. index_is_small x.index) (map coordinate_of coordinates.now)) }
+    ensures { IfOk result (λ yes. yes ≡ (not small || definition_is_stored (algorithm_of ground.entry.algo.now) (plan_in ground.entry.outlined.now) (certificate_in ground.entry.outlined.now) (group_in ground.entry.outlined.now) (outline_in ground.entry.outlined.now) (option_map definition_held defined.entry) (map coordinate_of coordinates.now) (term_of value.now))) }
+{
+    if small {
+        definition_is_stored(alloc, ground, defined, coordinates, value)
+    } else {
+        Ok(true)
+    }
+}
+
+/// Whether there is a claim of this number, of the group's function.
+fn is_claim_of_group(ground: Ground<'_, '_>, claim: u32) -> bool
+    ensures { result ≡ is_claim_of (slice_get (certificate_in ground.entry.outlined.now).claims claim) (group_in ground.entry.outlined.now).function }
+{
+    match ground.outlined.claim(claim) {
+        Some(claim) => same_name(
+            claim.function.as_str(),
+            ground.outlined.group().function.as_str(),
+        ),
+        None => false,
+    }
+}
+
+/// The flaw of a line `publish`.
+fn publish_flaw(ground: Ground<'_, '_>, here: &Here, last: bool, claim: u32) -> Option<Flaw>
+    ensures { told result ≡ first_of (publish_flaws (algorithm_of ground.entry.algo.now) (plan_in ground.entry.outlined.now) (certificate_in ground.entry.outlined.now) (group_in ground.entry.outlined.now) (outline_in ground.entry.outlined.now) (here_of here.now last) claim) }
+{
+    line_flaw(
+        here.line,
+        is_claim_of_group(ground, claim),
+        true,
+        true,
+        last,
+    )
+}
+
+/// Whether the statement of this number is the last of its group, where the block is.
+fn is_last(last: bool, k: usize, all: &[Stmt]) -> bool
+    requires { k < length all.now }
+    ensures { result ≡ (last && is_empty (block (list_statements (drop (k + 1) all.now)))) }
+{
+    last && k + 1 == all.len()
+}
+
+/// The first flaw of a statement's lines.
+#[cycle(walk)]
+pub(crate) fn stmt_flaw(
+    alloc: Global,
+    ground: Ground<'_, '_>,
+    stmt: &Stmt,
+    here: &Here,
+    last: bool,
+) -> Result<Option<Flaw>, AllocError>
+    ensures { IfOk result (λ flaw. told flaw ≡ first_of (flaws (algorithm_of ground.entry.algo.now) (plan_in ground.entry.outlined.now) (certificate_in ground.entry.outlined.now) (group_in ground.entry.outlined.now) (outline_in ground.entry.outlined.now) (statement_of stmt.now) (here_of here.now last))) }
+{
+    match stmt {
+        Stmt::Seq(all) => all_flaw(alloc, ground, all, here, last),
+        Stmt::For {
+            symbol,
+            span,
+            kind,
+            body,
+        } => {
+            let flaw = loop_flaw(here, *symbol, span, *kind);
+            if flaw.is_some() {
+                return Ok(flaw);
+            }
+            let inner = here.in_loop(*symbol)?;
+            stmt_flaw(alloc, ground, body, &inner, false)
+        }
+        Stmt::Let { .. } | Stmt::First { .. } | Stmt::Guard { .. } => Ok(line_flaw(
+            here.line, true, true, true, false,
+        )),
+        Stmt::Alloc {
+            function,
+            places,
+            ..
+        } => Ok(alloc_flaw(ground, here, function.as_str(), places)),
+        Stmt::Fetch {
+            buffer,
+            group,
+            region,
+        } => Ok(fetch_flaw(ground, here, *buffer, *group, region.as_slice())),
+        Stmt::Store {
+            buffer,
+            definition,
+            coordinates,
+            value,
+        } => store_flaw(
+            alloc,
+            ground,
+            here,
+            *buffer,
+            *definition,
+            coordinates,
+            value,
+        ),
+        Stmt::Publish { claim } => Ok(publish_flaw(ground, here, last, *claim)),
+    }
+}
+
+/// The first flaw of the lines of a block's statements.
+#[cycle(walk)]
+fn all_flaw(
+    alloc: Global,
+    ground: Ground<'_, '_>,
+    all: &[Stmt],
+    here: &Here,
+    last: bool,
+) -> Result<Option<Flaw>, AllocError>
+    ensures { IfOk result (λ flaw. told flaw ≡ first_of (block_flaws (algorithm_of ground.entry.algo.now) (plan_in ground.entry.outlined.now) (certificate_in ground.entry.outlined.now) (group_in ground.entry.outlined.now) (outline_in ground.entry.outlined.now) (block (list_statements all.now)) (here_of here.now last))) }
+{
+    let mut now = here.copy()?;
+    for k in 0..all.len() {
+        let stmt = &all[k];
+        let flaw = stmt_flaw(alloc, ground, stmt, &now, is_last(last, k, all))?;
+        if flaw.is_some() {
+            return Ok(flaw);
+        }
+        now.pass(stmt)?;
+    }
+    Ok(None)
+}

@@ -1,0 +1,126 @@
+//! Counts with limits: the places of buffers, the cells of a region.
+
+ghost use Rattle.std.specs.Prelude.{◌≡◌, map};
+ghost use Rattle.std.specs.List.{list_all};
+ghost use Rattle.plan.specs.Certificate.Cells.{piece_count};
+ghost use Rattle.plan.specs.Lists.{list_statements};
+ghost use Rattle.plan.specs.Plan.{block};
+ghost use Rattle.plan.specs.View.{statement_of};
+ghost use Rattle.validation.specs.Groups.Sizes.{product, place_count, places_count, allotted, block_allotted, constant_of, extent_of, cell_count, is_single, is_extent};
+ghost use Rattle.validation.specs.Stored.Sizes.{counted};
+
+use lin::{Forms, Span1};
+use plan::{Places, Stmt};
+
+/// How many places there are for one coordinate.
+fn place_count(places: &Places) -> u64
+    ensures { result ≡ place_count places.now }
+{
+    match places {
+        Places::From { count, .. } | Places::Folded { count } => *count,
+    }
+}
+
+/// How many places there are for all coordinates. More than a `u64` holds count as the greatest `u64`.
+pub(crate) fn places_count(places: &[Places]) -> u64
+    ensures { result ≡ places_count places.now }
+{
+    let mut total: u64 = 1;
+    for one in places {
+        total = total.saturating_mul(place_count(one));
+    }
+    total
+}
+
+/// How many places the buffers have that a statement allocates. More than a `u64` holds count as the greatest `u64`.
+#[cycle(allotted)]
+pub(crate) fn allotted(stmt: &Stmt) -> u64
+    ensures { result ≡ allotted (statement_of stmt.now) }
+{
+    match stmt {
+        Stmt::Seq(all) => all_allotted(all),
+        Stmt::For { body, .. } | Stmt::Guard { body, .. } => allotted(body),
+        Stmt::First { first, later, .. } => allotted(first).saturating_add(allotted(later)),
+        Stmt::Alloc { places, .. } => places_count(places),
+        Stmt::Let { .. } | Stmt::Fetch { .. } | Stmt::Store { .. } | Stmt::Publish { .. } => 0,
+    }
+}
+
+/// The same of a block's statements.
+#[cycle(allotted)]
+fn all_allotted(all: &[Stmt]) -> u64
+    ensures { result ≡ block_allotted (block (list_statements all.now)) }
+{
+    let mut total: u64 = 0;
+    for stmt in all {
+        total = total.saturating_add(allotted(stmt));
+    }
+    total
+}
+
+/// The constant of the first form, 0 where there is none.
+fn constant_of(forms: &Forms) -> i64
+    ensures { result ≡ constant_of forms.now }
+{
+    match forms.as_slice() {
+        [] => 0,
+        [form, ..] => form.constant(),
+    }
+}
+
+/// How many numbers a span of one constant at each end has. More than a `u64` holds count as the greatest `u64`.
+fn extent_of(span: &Span1) -> u64
+    ensures { result ≡ counted (extent_of span.now) }
+{
+    let low = constant_of(&span.lower);
+    let high = constant_of(&span.upper);
+    if high < low {
+        0
+    } else {
+        high.abs_diff(low).saturating_add(1)
+    }
+}
+
+/// Whether there is one form alone.
+fn is_single(forms: &Forms) -> bool
+    ensures { result ≡ is_single forms.now }
+{
+    forms.as_slice().len() == 1
+}
+
+/// Whether the span has one form at each end, and from 1 to 8192 numbers.
+fn is_extent(span: &Span1) -> bool
+    ensures { result ≡ is_extent span.now }
+{
+    let width = extent_of(span);
+    is_single(&span.lower) && is_single(&span.upper) && 1 <= width && width <= 8192
+}
+
+/// Whether each span has one form at each end, and from 1 to 8192 numbers.
+pub(crate) fn are_extents(region: &[Span1]) -> bool
+    ensures { result ≡ list_all is_extent region.now }
+{
+    region.iter().all(is_extent)
+}
+
+/// The points of a region of constants. More than a `u64` holds count as the greatest `u64`.
+pub(crate) fn cell_count(region: &[Span1]) -> u64
+    ensures { result ≡ cell_count region.now }
+{
+    let mut total: u64 = 1;
+    for span in region {
+        total = total.saturating_mul(extent_of(span));
+    }
+    total
+}
+
+/// The pieces of a grid. More than a `u64` holds count as the greatest `u64`.
+pub(crate) fn piece_count(grid: &[u64]) -> u64
+    ensures { result ≡ counted (piece_count grid.now) }
+{
+    let mut total: u64 = 1;
+    for count in grid {
+        total = total.saturating_mul(*count);
+    }
+    total
+}

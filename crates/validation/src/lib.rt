@@ -1,0 +1,6 @@
+//! Names, limits and stored expressions of all lines of a plan file.
+#![tactic(auto)]
+
+pub mod certificate;
+pub mod groups;
+pub mod stored;

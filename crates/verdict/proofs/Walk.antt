@@ -1,0 +1,252 @@
+-- All forms that a piece comes to are narrow.
+use Rattle.std.proofs.Common.{◌≡◌, ℕ, zero, suc, ◌+◌, ◌/◌, ◌^◌, ◌<◌, ◌≤◌, Bool, true, false, List, [], ◌∷◌, ◌++◌, length, Option, Some, None, refl, sym, subst, arith, inl, inr}
+use Rattle.std.specs.Prelude.{ℤ, pos, neg_ℤ, ◌==◌, ◌||◌, ◌&&◌, ◌⊎◌, int_le, MatchOption}
+use Rattle.std.specs.List.{AllByRecursion, list_any, list_all, range_with_len}
+use Rattle.std.proofs.Math.Nat.{div-le_self, mod-add-div}
+use Rattle.std.proofs.lemmas.Bool.Decides.{nat_tests}
+use Rattle.std.proofs.lemmas.Int.{ints}
+use Rattle.std.proofs.lemmas.List.Elements.{All-from_recursion}
+use Rattle.lin.specs.Forms.{Form, number, IsWithin}
+use Rattle.lin.specs.declared.form.Multiple.{Multiple}
+use Rattle.lin.specs.declared.span.Span1.{Span1}
+use Rattle.plan.specs.Plan.{Statement, Seq, For, Let, First, Guard, Alloc, Fetch, Store, Publish, Statements, Empty, Then, Group}
+use Rattle.plan.specs.Symbols.{Symbols, bind, largest, turns}
+use Rattle.plan.specs.Certificate.Cells.{grid_point, grid_symbols, grid_value, group_pieces, no_symbols, own_region}
+use Rattle.plan.specs.Certificate.Certificate.{Certificate}
+use Rattle.plan.specs.Semantics.Actions.{after}
+use Rattle.soundness.specs.Claims.{In}
+use Rattle.soundness.specs.Obligations.{Binder, Ranged, Picked, Passed, Lies, Respects, Rules, Suited, binder_has, span_has}
+use Rattle.soundness.specs.Origins.{Given}
+use Rattle.soundness.proofs.Forms.{rec_weaker, turn_lies, lies_on, respects_on}
+use Rattle.soundness.proofs.Refines.{and_parts, eq_refl, eq_true}
+use Rattle.soundness.specs.Binders.View.{grid_binders, grid_from, grid_span}
+use Rattle.interpreter.specs.Narrow.{RegionIsNarrow, PlacesAreNarrow, IndexIsNarrow, StatementIsNarrow, BlockIsNarrow, OwnIsNarrow, PieceIsNarrow}
+use Rattle.headline.proofs.Members.{in_of}
+use Rattle.plan.specs.Lines.{lines}
+use Rattle.rules.specs.Widths.Widths.{alone, block_wide_lines, is_narrow, line_unless, wide_lines}
+use Rattle.verdict.proofs.Grid.{grid_respected}
+use Rattle.verdict.specs.Bounded.Near.{is_over, SpanStands, HasForms, HasFormsInBlock, grid_numbers, GroupIsNear, NearIsNarrow}
+use Rattle.verdict.proofs.Size.{is_one, AreNear, span_narrow, region_narrow, places_narrow, indices_narrow, or_none, IsOver, over_of, span_free, symbol_free}
+
+-- ---- one symbol more
+
+other_value : (s : Symbols) (i : ℕ) (z : ℤ) (b : Bool) (j : ℕ) → (j == i) ≡ false → (bind s i z b).value j ≡ s.value j
+other_value s i z b j h = rw h refl
+
+or_same : (v : Bool) → (v || false) ≡ true → v ≡ true
+or_same true h = refl
+or_same false h = h
+
+or_first : (v w : Bool) → v ≡ true → (v || w) ≡ true
+or_first true w h = refl
+or_first false w h = absurd (cc h)
+
+or_second : (v w : Bool) → w ≡ true → (v || w) ≡ true
+or_second true w h = refl
+or_second false w h = h
+
+and_both : (v w : Bool) → v ≡ true → w ≡ true → (v && w) ≡ true
+and_both true w h k = k
+and_both false w h k = absurd (cc h)
+
+one_more : (j i : ℕ) (symbols : List ℕ) → is_one j symbols ≡ true → is_one j (symbols ++ i ∷ []) ≡ true
+one_more j i [] h = absurd (cc h)
+one_more j i (x ∷ xs) h = of (x == j) h (one_more j i xs)
+  where
+    of : (v : Bool) → (v || is_one j xs) ≡ true → (is_one j xs ≡ true → is_one j (xs ++ i ∷ []) ≡ true) → (v || is_one j (xs ++ i ∷ [])) ≡ true
+    of true h rest = refl
+    of false h rest = rest h
+
+one_last : (i : ℕ) (symbols : List ℕ) → is_one i (symbols ++ i ∷ []) ≡ true
+one_last i [] = or_first (i == i) false (eq_refl i)
+one_last i (x ∷ xs) = or_second (x == i) (is_one i (xs ++ i ∷ [])) (one_last i xs)
+
+one_of : (j i : ℕ) (symbols : List ℕ) → is_one j (symbols ++ i ∷ []) ≡ true → (is_one j symbols ≡ true) ⊎ (i ≡ j)
+one_of j i [] h = inr (eq_true i j (or_same (i == j) h))
+one_of j i (x ∷ xs) h = of (x == j) h (one_of j i xs)
+  where
+    of : (v : Bool) → (v || is_one j (xs ++ i ∷ [])) ≡ true → (is_one j (xs ++ i ∷ []) ≡ true → (is_one j xs ≡ true) ⊎ (i ≡ j)) → ((v || is_one j xs) ≡ true) ⊎ (i ≡ j)
+    of true h rest = inl refl
+    of false h rest = rest h
+
+over_more : (i : ℕ) (symbols : List ℕ) (f : Form) → is_over symbols f ≡ true → is_over (symbols ++ i ∷ []) f ≡ true
+over_more i symbols f h = go f.terms h
+  where
+    go : (ts : List Multiple) → list_all (λ (t : Multiple). is_one t.symbol symbols) ts ≡ true → list_all (λ (t : Multiple). is_one t.symbol (symbols ++ i ∷ [])) ts ≡ true
+    go [] k = refl
+    go (t ∷ ts) k =
+        let p = and_parts (is_one t.symbol symbols) (list_all (λ (u : Multiple). is_one u.symbol symbols) ts) k in
+        and_both (is_one t.symbol (symbols ++ i ∷ [])) (list_all (λ (u : Multiple). is_one u.symbol (symbols ++ i ∷ [])) ts) (one_more t.symbol i symbols p.0) (go ts p.1)
+
+span_more : (i : ℕ) (symbols : List ℕ) (x : Span1) → IsOver symbols x → IsOver (symbols ++ i ∷ []) x
+span_more i symbols x h = record {
+  lower = rec_weaker (λ f. is_over symbols f ≡ true) (λ f. is_over (symbols ++ i ∷ []) f ≡ true) (over_more i symbols) x.lower h.lower;
+  upper = rec_weaker (λ f. is_over symbols f ≡ true) (λ f. is_over (symbols ++ i ∷ []) f ≡ true) (over_more i symbols) x.upper h.upper;
+}
+
+-- the binders are loops and symbols of the grid, over these symbols
+abbrev AreOver : List ℕ → List Binder → Type 0
+AreOver symbols [] = Unit {0}
+AreOver symbols (Ranged i x ∷ bs) = (is_one i symbols ≡ true) × IsOver symbols x × AreOver symbols bs
+AreOver symbols (Picked i pick ls ∷ bs) = ⊥
+AreOver symbols (Passed low high ∷ bs) = ⊥
+
+binders_more : (i : ℕ) (symbols : List ℕ) (bs : List Binder) → AreOver symbols bs → AreOver (symbols ++ i ∷ []) bs
+binders_more i symbols [] h = tt
+binders_more i symbols (Ranged j x ∷ bs) h = (one_more j i symbols h.0, span_more i symbols x h.1, binders_more i symbols bs h.2)
+binders_more i symbols (Picked j pick ls ∷ bs) h = absurd h
+binders_more i symbols (Passed low high ∷ bs) h = absurd h
+
+binders_free : (i : ℕ) (symbols : List ℕ) → is_one i symbols ≡ false → (bs : List Binder) → AreOver symbols bs → list_any (binder_has i) bs ≡ false
+binders_free i symbols new [] h = refl
+binders_free i symbols new (Ranged j x ∷ bs) h =
+    or_none ((j == i) || span_has i x) (list_any (binder_has i) bs) (or_none (j == i) (span_has i x) (symbol_free i symbols new j h.0) (span_free i symbols new x h.1)) (binders_free i symbols new bs h.2)
+binders_free i symbols new (Picked j pick ls ∷ bs) h = absurd h
+binders_free i symbols new (Passed low high ∷ bs) h = absurd h
+
+-- ---- lists of lines
+
+none_both : (xs ys : List ℕ) → xs ++ ys ≡ [] → (xs ≡ []) × (ys ≡ [])
+none_both [] ys h = (refl, h)
+none_both (x ∷ xs) ys h = absurd (cc h)
+
+one_near : (v : Bool) (line : ℕ) (rest : List ℕ) → line_unless v line ++ rest ≡ [] → (v ≡ true) × (rest ≡ [])
+one_near true line rest h = (refl, h)
+one_near false line rest h = absurd (cc h)
+
+-- ---- the grid
+
+starts : (a j : ℕ) (v more : Bool) → (a == j) ≡ v → a ≤ j → (a + 1 ≤ j → more ≡ true) → (v || more) ≡ true
+starts a j true more e low h = refl
+starts a j false more e low h = h (above a j e low)
+  where
+    above : (a j : ℕ) → (a == j) ≡ false → a ≤ j → a + 1 ≤ j
+    above a j e low = grind (arith, nat_tests)
+
+in_range : (a n j : ℕ) → a ≤ j → j < a + n → is_one j (range_with_len a n) ≡ true
+in_range a zero j low high = absurd (omega (arith, low, high))
+in_range a (suc n) j low high = starts a j (a == j) (is_one j (range_with_len (a + 1) n)) refl low (λ l. in_range (a + 1) n j l (omega (arith, high)))
+
+over_append : (symbols : List ℕ) (bs cs : List Binder) → AreOver symbols bs → AreOver symbols cs → AreOver symbols (bs ++ cs)
+over_append symbols [] cs h k = k
+over_append symbols (Ranged j x ∷ bs) cs h k = (h.0, h.1, over_append symbols bs cs h.2 k)
+over_append symbols (Picked j pick ls ∷ bs) cs h k = absurd h
+over_append symbols (Passed low high ∷ bs) cs h k = absurd h
+
+grid_over : (i : ℕ) (ns symbols : List ℕ) → ((j : ℕ) → i ≤ j → j < i + length ns → is_one j symbols ≡ true) → AreOver symbols (grid_from i ns)
+grid_over i [] symbols h = tt
+grid_over i (n ∷ ns) symbols h =
+    over_append symbols (grid_from (i + 1) ns) (Ranged i (grid_span n) ∷ []) (grid_over (i + 1) ns symbols (λ j a b. h j (omega (arith, a)) (omega (arith, b))))
+    (h i (omega arith) (omega arith), record { lower = (refl, tt); upper = (refl, tt) }, tt)
+
+grid_near : (grid : List ℕ) (k m : ℕ) → k ≤ m → (j : ℕ) → IsWithin m (grid_value (grid_point grid k) j)
+grid_near [] k m h j = omega arith
+grid_near (n ∷ ns) k m h zero = let parts = mod-add-div k n in omega (arith, parts, h)
+grid_near (n ∷ ns) k m h (suc j) = let less = div-le_self k n in grid_near ns (k / n) m (omega (arith, less, h)) j
+
+-- ---- statements
+
+map_match : {A : Type 0} (P Q : A → Type 0) (o : Option A) → ((a : A) → P a → Q a) → MatchOption o (Unit {0}) P → MatchOption o (Unit {0}) Q
+map_match P Q None f h = tt
+map_match P Q (Some a) f h = f a h
+
+module _ (given : Given) (rules : Rules) (c : Certificate) (n : ℕ) (g : Group) (begins : ℕ) (suited : Suited given rules) (is : GroupIsNear rules c n g begins) where
+  abbrev Own : Symbols → Type 0
+  Own = OwnIsNarrow c n g
+
+  -- what holds at a statement
+  record Here (symbols : List ℕ) (bs : List Binder) (s : Symbols) : Type 0 where
+    respects : Respects bs s
+    near : AreNear symbols s
+    over : AreOver symbols bs
+    grid : (i : ℕ) → is_one i (grid_numbers g.grid) ≡ true → is_one i symbols ≡ true
+
+  abbrev least : Form
+  least = number (neg_ℤ (pos (2 ^ 39)))
+
+  abbrev greatest : Form
+  greatest = number (pos (2 ^ 39))
+
+  index_near : (i : ℕ) (x : Span1) (bs : List Binder) (s : Symbols) → is_narrow rules bs i x ≡ true → Respects (Ranged i x ∷ bs) s → IsWithin (2 ^ 39) (s.value i)
+  index_near i x bs s h r =
+      let at : List Binder = Ranged i x ∷ bs in
+      let p = and_parts ((rules.at_most at least (alone i) || false) && true) ((rules.at_most at (alone i) greatest || false) && true) h in
+      let a = suited.ordered at least (alone i) s (or_same (rules.at_most at least (alone i)) (and_parts (rules.at_most at least (alone i) || false) true p.0).0) r in
+      let b = suited.ordered at (alone i) greatest s (or_same (rules.at_most at (alone i) greatest) (and_parts (rules.at_most at (alone i) greatest || false) true p.1).0) r in
+      omega (arith, ints, a, b)
+
+  turn : (i : ℕ) (x : Span1) (symbols : List ℕ) (bs : List Binder) (s : Symbols) (z : ℤ) (b : Bool) → Here symbols bs s → SpanStands symbols x → is_one i symbols ≡ false → is_narrow rules bs i x ≡ true →
+      In z (turns s x) → Here (symbols ++ i ∷ []) (Ranged i x ∷ bs) (bind s i z b)
+  turn i x symbols bs s z b h stands new index m =
+      let over = over_of symbols x stands in
+      let free = span_free i symbols new x over in
+      let t : Symbols = bind s i z b in
+      let here : t.value i ≡ z = rw (eq_refl i) refl in
+      let lies : Lies t x (t.value i) = subst (Lies t x) (sym here) (lies_on s i z b x z free (turn_lies s x z m)) in
+      let respects : Respects (Ranged i x ∷ bs) t = (lies, respects_on s i z b bs (binders_free i symbols new bs h.over) h.respects) in
+      record {
+        respects = respects;
+        near = λ j k. elim (one_of j i symbols k) [
+          | inl old ↦ subst (IsWithin (2 ^ 39)) (sym (other_value s i z b j (symbol_free i symbols new j old))) (h.near j old)
+          | inr e ↦ subst (λ v. IsWithin (2 ^ 39) (t.value v)) e (index_near i x bs t index respects)
+        ];
+        over = (one_last i symbols, span_more i symbols x over, binders_more i symbols bs h.over);
+        grid = λ j k. one_more j i symbols (h.grid j k);
+      }
+
+  after_same : (a : Statement) (symbols : List ℕ) (s : Symbols) → HasForms a symbols → after a s ≡ s
+  after_same (Seq all) symbols s h = refl
+  after_same (For i x kind body) symbols s h = refl
+  after_same (Let i pick forms) symbols s h = absurd h
+  after_same (First i a b) symbols s h = refl
+  after_same (Guard low high body) symbols s h = refl
+  after_same (Alloc b f places) symbols s h = refl
+  after_same (Fetch b k region) symbols s h = refl
+  after_same (Store b k at e) symbols s h = refl
+  after_same (Publish k) symbols s h = refl
+
+  none_near : AreNear [] no_symbols
+  none_near i h = absurd (cc h)
+
+  own_narrow : (symbols : List ℕ) (bs : List Binder) (s : Symbols) → Here symbols bs s → Own s
+  own_narrow symbols bs s h = record {
+    own = map_match (AllByRecursion (SpanStands (grid_numbers g.grid))) (RegionIsNarrow s) (own_region c.own n) (λ xs k. region_narrow (grid_numbers g.grid) s (λ i m. h.near i (h.grid i m)) xs k) is.own;
+    group = region_narrow [] no_symbols none_near g.region is.region;
+  }
+
+  mutual
+    narrow : (a : Statement) (symbols : List ℕ) (bs : List Binder) (line : ℕ) (s : Symbols) → Here symbols bs s → HasForms a symbols → wide_lines rules bs line a ≡ [] → StatementIsNarrow Own a s
+    narrow (Seq all) symbols bs line s h k f = narrow_block all symbols bs line s h k f
+    narrow (For i x kind body) symbols bs line s h k f =
+        let near = one_near (is_narrow rules bs i x) line (wide_lines rules (Ranged i x ∷ bs) (line + 1) body) f in (
+          span_narrow symbols s h.near x k.0,
+          (λ z m. narrow body (symbols ++ i ∷ []) (Ranged i x ∷ bs) (line + 1) (bind s i z (int_le z (largest s x.lower)))
+              (turn i x symbols bs s z (int_le z (largest s x.lower)) h k.0 k.1 near.0 (in_of (turns s x) z m)) k.2 near.1),
+        )
+    narrow (Let i pick forms) symbols bs line s h k f = absurd k
+    narrow (First i a b) symbols bs line s h k f = absurd k
+    narrow (Guard low high body) symbols bs line s h k f = absurd k
+    narrow (Alloc b g places) symbols bs line s h k f = All-from_recursion (PlacesAreNarrow s) places (places_narrow symbols s h.near places k)
+    narrow (Fetch b j region) symbols bs line s h k f = region_narrow symbols s h.near region k
+    narrow (Store b j at e) symbols bs line s h k f = All-from_recursion (λ c. IndexIsNarrow s c.index) at (indices_narrow symbols s h.near at k)
+    narrow (Publish j) symbols bs line s h k f = own_narrow symbols bs s h
+
+    narrow_block : (all : Statements) (symbols : List ℕ) (bs : List Binder) (line : ℕ) (s : Symbols) → Here symbols bs s → HasFormsInBlock all symbols → block_wide_lines rules bs line all ≡ [] → BlockIsNarrow Own all s
+    narrow_block Empty symbols bs line s h k f = tt
+    narrow_block (Then a rest) symbols bs line s h k f =
+        let parts = none_both (wide_lines rules bs line a) (block_wide_lines rules bs (line + lines a) rest) f in
+        let later = parts.1 in
+        (narrow a symbols bs line s h k.0 parts.0, subst (BlockIsNarrow Own rest) (sym (after_same a symbols s k.0)) (narrow_block rest symbols bs (line + lines a) s h k.1 later))
+
+  pub piece_narrow : (k : ℕ) → k < group_pieces g → PieceIsNarrow c n g (grid_point g.grid k)
+  piece_narrow k less =
+      let few = is.few in
+      narrow g.body (grid_numbers g.grid) (grid_binders g.grid) begins (grid_symbols (grid_point g.grid k)) (record {
+        respects = grid_respected g.grid k less;
+        near = λ j m. grid_near g.grid k (2 ^ 39) (omega (arith, few, less)) j;
+        over = grid_over 0 g.grid (grid_numbers g.grid) (λ j a b. in_range 0 (length g.grid) j a b);
+        grid = λ i m. m;
+      }) is.lines is.loops
+
+pub near_narrow : NearIsNarrow
+near_narrow given rules c n g line k suited is less = piece_narrow given rules c n g line suited is k less

@@ -1,0 +1,7 @@
+//! What the checker of plans asks, as one definition; what a yes gives, and what a refusal says.
+#![tactic(auto)]
+
+pub mod bounded;
+pub mod clear;
+pub mod laws;
+pub mod shown;

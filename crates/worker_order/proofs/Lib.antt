@@ -1,3 +1,0 @@
-pub mod Decimals
-pub mod Words
-pub mod Turns

@@ -1,0 +1,6 @@
+# Twice one more than each pixel, and one more than the pixel at the other end.
+pipeline two;
+input in u8 [2];
+func f u8 (x) = in[x] + 1u8;
+func out u8 (x) = f[x] * 2u8 + f[1 - x];
+output out [2];
