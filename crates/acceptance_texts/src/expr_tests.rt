@@ -159,22 +159,6 @@ fn shown(alloc: Global, text: &str) -> Result<String, AllocError> {
     }
 }
 
-// `before`, then the text so many times, then `after`.
-fn repeated(
-    alloc: Global,
-    before: &str,
-    text: &str,
-    count: u32,
-    after: &str,
-) -> Result<String, AllocError> {
-    let mut out = String::from_str(alloc, before)?;
-    for _ in 0..count {
-        out.push_str(text)?;
-    }
-    out.push_str(after)?;
-    Ok(out)
-}
-
 // Texts, and the tree or the refusal of each.
 const TEXTS: &[(&str, &str)] = &[
     ("7u8", " 7u8"),
@@ -235,49 +219,6 @@ fn trees_and_refusals(rt: HostRuntime) -> Result<(), Fail> {
     for (text, want) in TEXTS {
         let found = shown(rt.alloc(), text)?;
         assert_eq!(rt; found.as_str(), *want, "at {text}");
-    }
-    Ok(())
-}
-
-// What is repeated so often between two texts, and the refusal, if it is refused.
-const LIMITS: &[(&str, &str, u32, &str, &str)] = &[
-    // A call and 511 indices are 512 nodes.
-    ("f[x", ",x", 510, "]", ""),
-    ("f[x", ",x", 511, "]", "E4 0..1026"),
-    // 63 signs and a name are 64 levels.
-    ("", "-", 63, "x", ""),
-    ("", "-", 64, "x", "E4 0..65"),
-    ("x", " ", 65_536, "", "E4 65536..65537"),
-];
-
-// The code and the place of the refusal, and nothing for an expression.
-fn refused(alloc: Global, text: &str) -> Result<String, AllocError> {
-    if read_expr(alloc, text).is_ok() {
-        Ok(String::new(alloc))
-    } else {
-        shown(alloc, text)
-    }
-}
-
-#[test]
-fn limits(rt: HostRuntime) -> Result<(), Fail> {
-    let alloc = rt.alloc();
-    for (before, text, count, after, want) in LIMITS {
-        let whole = repeated(alloc, before, text, *count, after)?;
-        let found = refused(alloc, whole.as_str())?;
-        assert_eq!(rt; found.as_str(), *want, "{count} of {text}");
-    }
-    Ok(())
-}
-
-#[test]
-fn brackets(rt: HostRuntime) -> Result<(), Fail> {
-    let alloc = rt.alloc();
-    for count in [300, 20_000] {
-        let open = repeated(alloc, "", "(", count, "x")?;
-        let text = repeated(alloc, open.as_str(), ")", count, "")?;
-        let found = shown(alloc, text.as_str())?;
-        assert_eq!(rt; found.as_str(), " x");
     }
     Ok(())
 }

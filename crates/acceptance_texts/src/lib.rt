@@ -9,8 +9,6 @@ mod certificate_tests;
 #[cfg(test)]
 mod expr_tests;
 #[cfg(test)]
-mod limit_tests;
-#[cfg(test)]
 mod plan_tests;
 #[cfg(test)]
 mod pnm_tests;

@@ -1,9 +1,9 @@
-//! Tokens of texts: what each piece is, and what is none.
+//! Tokens of texts: what each piece is.
 
 use numeric::Ty;
 use std::alloc::Global;
 use std::test::*;
-use tree::token::{Literal, Span, Symbol, Token, TokenError, Word, tokens};
+use tree::token::{Literal, Span, Symbol, Token, Word, tokens};
 
 // Numbers, with their types.
 const NUMBERS: &[(&str, u32, Option<Ty>)] = &[
@@ -49,29 +49,6 @@ fn other_tokens(rt: HostRuntime) -> Result<(), Fail> {
     Ok(())
 }
 
-// Texts with the place of the first piece that is no token.
-const BAD: &[(&str, usize, usize)] = &[
-    ("256u8", 0, 5),
-    ("2147483648", 0, 10),
-    ("08", 0, 2),
-    ("1u9", 0, 3),
-    ("1u8x", 0, 4),
-    ("a + 1x + 2y", 4, 6),
-    ("x & y", 2, 3),
-    ("x = 'a'", 4, 5),
-    ("\u{e9}", 0, 2),
-    ("a # \u{20ac}\nb", 4, 7),
-];
-
-#[test]
-fn bad_tokens(rt: HostRuntime) {
-    for (text, start, end) in BAD {
-        let (start, end) = (*start, *end);
-        let want = Some(TokenError::BadToken(Span { start, end }));
-        assert_eq!(rt; tokens(rt.alloc(), text).err(), want);
-    }
-}
-
 #[test]
 fn names_and_places(rt: HostRuntime) -> Result<(), Fail> {
     let found = tokens(rt.alloc(), "a_name_of_16_byt #=\n\t<1")
@@ -94,19 +71,5 @@ fn comments_alone(rt: HostRuntime) -> Result<(), Fail> {
     for text in NOTHING {
         assert_eq!(rt; tokens(rt.alloc(), text).ok().ok_or("tokens")?.len(), 0);
     }
-    Ok(())
-}
-
-#[test]
-fn length_of_a_text(rt: HostRuntime) -> Result<(), Fail> {
-    let blanks = vec![in rt.alloc(); b' '; 65_537]?;
-    let long = str::from_utf8(&blanks).ok().ok_or("text")?;
-    let want = Some(TokenError::TooLong(Span {
-        start: 65_536,
-        end: 65_537,
-    }));
-    assert_eq!(rt; tokens(rt.alloc(), long).err(), want);
-    let fits = str::from_utf8(&blanks[1..]).ok().ok_or("text")?;
-    assert_eq!(rt; tokens(rt.alloc(), fits).err(), None);
     Ok(())
 }

@@ -1,8 +1,8 @@
 //! Words of plans, read and written again.
 
 use spelling::words::{
-    counts_from, fits_region, form_from, has_large_number, is_name, put_counts, put_form,
-    put_region, region_from, skip, type_from,
+    fits_region, form_from, has_large_number, is_name, put_form, put_region, region_from, skip,
+    type_from,
 };
 use std::alloc::{AllocError, Global};
 use std::test::Fail;
@@ -64,13 +64,8 @@ fn regions(rt: HostRuntime) -> Result<(), Fail> {
 }
 
 #[test]
-fn counts_and_names(rt: HostRuntime) -> Result<(), Fail> {
-    let alloc = rt.alloc();
-    let (counts, rest) = counts_from(alloc, b"[2,10,4294967295] u16")?;
-    let mut written = String::new(alloc);
-    put_counts(&mut written, &counts)?;
-    assert_eq!(rt; written.as_str(), "[2,10,4294967295]");
-    let (ty, rest) = type_from(skip(1, rest));
+fn types_and_names(rt: HostRuntime) -> Result<(), Fail> {
+    let (ty, rest) = type_from(skip(1, b" u16"));
     assert_eq!(rt; ty.bits(), 16);
     assert_eq!(rt; rest.len(), 0);
     assert_eq!(rt; is_name(b"out_1"), true);

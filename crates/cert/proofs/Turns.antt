@@ -15,7 +15,7 @@ use Rattle.cert.specs.Lines.{Line, OwnLine, NeedLine, WindowLine, End, mark_of, 
 use Rattle.cert.specs.Spelling.{line_text}
 use Rattle.cert.specs.Reading.{line_from}
 use Rattle.cert.specs.Order.{fits_line, may_follow, may_stand}
-use Rattle.cert.specs.Notation.{certificate_notation, is_large, refusal, IsLine, IsWrong}
+use Rattle.cert.specs.Notation.{certificate_notation, is_large, mark_behind, refusal, IsLine, IsWrong}
 use Rattle.cert.proofs.Tests.{both, NextParts, next_parts, next_whole}
 use Rattle.cert.proofs.Again.{line_again}
 use Rattle.cert.proofs.Feeds.{line_feedless}
@@ -79,6 +79,13 @@ lawful = record {
   feedless = λ c fits. feedless_texts (lines_of c) (all_fit mark.Start (lines_of c) fits);
   one = λ a b p q e. same_certificate a b (same_texts (lines_of a) (lines_of b) (all_fit mark.Start (lines_of a) p) (all_fit mark.Start (lines_of b) q) e);
 }
+
+-- the mark of the last line, told by its text
+texts_mark : (p : Mark) (ls : List Line) → list_all fits_line ls ≡ true → mark_behind p (texts ls) ≡ last_mark p ls
+texts_mark p [] h = refl
+texts_mark p (l ∷ ls) h =
+    let q = both (fits_line l) (list_all fits_line ls) h in
+    ap (λ (x : Line). mark_behind (mark_of x) (texts ls)) (line_again l q.0) ∙ texts_mark (mark_of l) ls q.1
 
 -- the last line of a certificate is `end`
 last_behind : (p : Mark) (front back : List Line) → last_mark p (front ++ back) ≡ last_mark (last_mark p front) back
@@ -167,13 +174,22 @@ module _ (first : ℕ) (text rest : List ℕ) (number : ℕ) (last : Mark) (c : 
     wrong : Begins certificate_notation first (texts read.front ++ bytes ∷ []) → ⊥
     wrong b = let n = next_is bytes b in no_line n.0 n.1
 
-    refused_by : (large : Bool) → (not (is_within number bytes) || is_large bytes) ≡ large
-        → IsRefused certificate_notation first text (if large then error.Limit number else error.Form number)
-    refused_by true h = named_limit (past_limit certificate_notation lawful first text rest (texts read.front) read.spelled begun bytes after split one wrong (subst (λ (n : ℕ). (not (is_within n bytes) || is_large bytes) ≡ true) read.counted h))
-    refused_by false h = named_form (wrong_form certificate_notation lawful first text rest (texts read.front) read.spelled begun bytes after split one wrong (subst (λ (n : ℕ). (not (is_within n bytes) || is_large bytes) ≡ false) read.counted h))
+    behind : last ≡ mark_behind mark.Start (texts read.front)
+    behind = sym read.marked ∙ sym (texts_mark mark.Start read.front (all_fit mark.Start read.front read.stand))
 
-    pub refused : IsRefused certificate_notation first text (refusal number bytes)
-    refused = refused_by (not (is_within number bytes) || is_large bytes) refl
+    at_front : (large : Bool) → (not (is_within number bytes) || is_large last bytes) ≡ large
+        → (not (is_within (first + length (texts read.front)) bytes) || is_large (mark_behind mark.Start (texts read.front)) bytes) ≡ large
+    at_front large h =
+        ap (λ (n : ℕ). not (is_within n bytes) || is_large (mark_behind mark.Start (texts read.front)) bytes) (sym read.counted)
+        ∙ ap (λ (m : Mark). not (is_within number bytes) || is_large m bytes) (sym behind) ∙ h
+
+    refused_by : (large : Bool) → (not (is_within number bytes) || is_large last bytes) ≡ large
+        → IsRefused certificate_notation first text (if large then error.Limit number else error.Form number)
+    refused_by true h = named_limit (past_limit certificate_notation lawful first text rest (texts read.front) read.spelled begun bytes after split one wrong (at_front true h))
+    refused_by false h = named_form (wrong_form certificate_notation lawful first text rest (texts read.front) read.spelled begun bytes after split one wrong (at_front false h))
+
+    pub refused : IsRefused certificate_notation first text (refusal last number bytes)
+    refused = refused_by (not (is_within number bytes) || is_large last bytes) refl
 
   pub refused_line : (bytes after : List ℕ) (e : TextError) → rest ≡ bytes ++ 10 ∷ after → is_line bytes ≡ true → IsWrong last number bytes e → IsRefused certificate_notation first text e
   refused_line bytes after e split one (inl h) = subst (IsRefused certificate_notation first text) (sym h) tt

@@ -71,7 +71,7 @@ fn may_precede_own(last: Mark, group: u64) -> bool
 }
 
 /// Whether a line behind this one may be that of the claim of the number.
-fn may_precede_claim(last: Mark, number: u32) -> bool
+pub(crate) fn may_precede_claim(last: Mark, number: u32) -> bool
     ensures { result ≡ order.may_precede_claim last number }
 {
     match last {

@@ -15,7 +15,7 @@ ghost use Rattle.cert.specs.Order.{IsNext};
 ghost use Rattle.cert.specs.Notation as notation;
 ghost use Rattle.cert.specs.Notation.{certificate_notation, IsWrong, IsLine};
 
-use crate::line::{Line, Mark, may_follow};
+use crate::line::{Line, Mark, may_follow, may_precede_claim};
 use crate::words::line_from;
 use crate::writing::put_line;
 use lin::{Region, Span1};
@@ -115,38 +115,49 @@ fn has_long_side(span: &Span1) -> bool
     span.lower.as_slice().len() > MOST_BOUNDS || span.upper.as_slice().len() > MOST_BOUNDS
 }
 
-fn has_long_list(region: &Region) -> bool
+fn any_has_long_side(region: &Region) -> bool
     ensures { result ≡ list_any notation.has_long_side region.now }
 {
     region.as_slice().iter().any(|span| has_long_side(span))
 }
 
-/// Whether a list has too many bounds, or the line is that of a claim past the last that there may be.
-fn has_too_many(line: &Line) -> bool
-    ensures { result ≡ notation.has_too_many (spec.line_of line.now) }
+/// Whether a list of the line has too many bounds.
+fn has_long_list(line: &Line) -> bool
+    ensures { result ≡ notation.has_long_list (spec.line_of line.now) }
 {
     match line {
-        Line::Own(own) => has_long_list(&own.region),
-        Line::Need(need) => has_long_list(&need.region),
-        Line::Claim(number, claim) => *number >= MOST_CLAIMS || has_long_list(&claim.region),
+        Line::Own(own) => any_has_long_side(&own.region),
+        Line::Need(need) => any_has_long_side(&need.region),
+        Line::Claim(_, claim) => any_has_long_side(&claim.region),
         Line::Window(window) => has_long_side(&window.span),
         Line::Head | Line::End => false,
     }
 }
 
-/// Whether the bytes are spelled as a line with too many claims or bounds.
-fn is_past(alloc: Global, bytes: &[u8]) -> Result<bool, AllocError>
-    ensures { IfOk result (λ yes. yes ≡ notation.is_past bytes.now) }
+/// Whether the line is that of the next claim behind the last, and there are as many before it as there may be.
+fn is_one_too_many(last: Mark, line: &Line) -> bool
+    ensures { result ≡ notation.is_one_too_many last (spec.line_of line.now) }
 {
-    let line = line_from(alloc, bytes)?;
-    Ok(is_written(alloc, &line, bytes)? && has_too_many(&line))
+    match line {
+        Line::Claim(number, _) => may_precede_claim(last, *number) && *number >= MOST_CLAIMS,
+        Line::Head | Line::Own(_) | Line::Need(_) | Line::Window(_) | Line::End => false,
+    }
 }
 
-/// N2 where a line that is not as it has to be passes a limit, else N1.
-fn refusal(alloc: Global, number: usize, bytes: &[u8]) -> Result<TextError, AllocError>
-    ensures { IfOk result (λ e. e ≡ notation.refusal number bytes.now) }
+/// Whether the bytes are spelled as a line with too many bounds, or as that of one claim too many behind the last.
+fn is_past(alloc: Global, last: Mark, bytes: &[u8]) -> Result<bool, AllocError>
+    ensures { IfOk result (λ yes. yes ≡ notation.is_past last bytes.now) }
 {
-    if !is_within(number, bytes) || has_large_number(bytes) || is_past(alloc, bytes)? {
+    let line = line_from(alloc, bytes)?;
+    let written = is_written(alloc, &line, bytes)?;
+    Ok(written && (has_long_list(&line) || is_one_too_many(last, &line)))
+}
+
+/// N2 where a line that is not as it has to be behind the last passes a limit, else N1.
+fn refusal(alloc: Global, last: Mark, number: usize, bytes: &[u8]) -> Result<TextError, AllocError>
+    ensures { IfOk result (λ e. e ≡ notation.refusal last number bytes.now) }
+{
+    if !is_within(number, bytes) || has_large_number(bytes) || is_past(alloc, last, bytes)? {
         Ok(TextError::Limit(number))
     } else {
         Ok(TextError::Form(number))
@@ -159,11 +170,11 @@ fn line_at(alloc: Global, last: Mark, number: usize, bytes: &[u8]) -> Result<Lin
     ensures wrong { IfErr result (IsWrong last number bytes.now) }
 {
     if !is_within(number, bytes) {
-        return Err(refusal(alloc, number, bytes)?);
+        return Err(refusal(alloc, last, number, bytes)?);
     }
     match next_line(alloc, last, bytes)? {
         Some(line) => Ok(line),
-        None => Err(refusal(alloc, number, bytes)?),
+        None => Err(refusal(alloc, last, number, bytes)?),
     }
 }
 
@@ -192,7 +203,7 @@ fn is_whole(last: Mark, rest: &[u8]) -> bool
 ///
 /// N1 names the first line that is not as it is written for any certificate, or that is not whole, and N2 such a line that
 /// passes a limit: a file has 65,536 lines of at most 65,536 bytes, numbers take 64 bits, a list has four bounds,
-/// and there are 4096 claims.
+/// and there are 4096 claims. A claim's number that is not the next one is N1.
 pub fn read(alloc: Global, text: &str, first_line: usize) -> Result<Cert, TextError>
     ensures said { IfOk result (λ certificate. IsTextOf certificate_notation first_line text.now (certificate_of certificate)) }
     ensures refused { IfErr result (IsRefused certificate_notation first_line text.now) }

@@ -10,9 +10,8 @@ use Rattle.spelling.specs.declared.lines.error.TextError.TheVariants as error
 use Rattle.spelling.proofs.Texts.{lines_more, ends_early, wrong_form, past_limit}
 use Rattle.spelling.specs.Terms.Laws.{TermIsReadAgain, TermIsPlain}
 use Rattle.nest.specs.Blocks.Numbers.{start}
-use Rattle.nest.specs.Blocks.Nesting.{finished}
 use Rattle.nest.specs.Notation.{counted, is_large_at, plan_notation}
-use Rattle.nest.specs.Reader.{State, initial, next_state, refusal}
+use Rattle.nest.specs.Reader.{State, initial, next_state, finished_state, refusal}
 use Rattle.nest.proofs.Steps.{IsRead, read_none, read_more, begins, is_plan, count_is, refused, unfinished, lawful, follows_within}
 
 -- the lines before the rest were read, and the next has that number
@@ -45,11 +44,11 @@ reading_more text rest line after n s t r split e =
 pub reading_small : (line : List ℕ) (n : ℕ) (s t : State) → next_state n line s ≡ Some t → n ≤ 65536
 reading_small line n s t e = follows_within n line s t e
 
-pub reading_whole : (text rest : List ℕ) (n : ℕ) (s : State) (p : Plan) → Reading text rest n s → rest ≡ [] → finished s.draft ≡ Some p → IsTextOf plan_notation 1 text p
+pub reading_whole : (text rest : List ℕ) (n : ℕ) (s : State) (p : Plan) → Reading text rest n s → rest ≡ [] → finished_state s ≡ Some p → IsTextOf plan_notation 1 text p
 reading_whole text rest n s p r none e = is_plan r.front s p text r.read e (r.spelled ∙ ap (λ w. lines_text r.front ++ w) none ∙ append-nil (lines_text r.front))
 
 module _ (term_again : TermIsReadAgain) (term_plain : TermIsPlain) where
-  pub reading_ends : (text rest : List ℕ) (n : ℕ) (s : State) → Reading text rest n s → is_line rest ≡ true → (rest ≡ [] → finished s.draft ≡ None) → IsRefused plan_notation 1 text (error.Form n)
+  pub reading_ends : (text rest : List ℕ) (n : ℕ) (s : State) → Reading text rest n s → is_line rest ≡ true → (rest ≡ [] → finished_state s ≡ None) → IsRefused plan_notation 1 text (error.Form n)
   reading_ends text rest n s r one open_still =
       subst (λ k. IsRefused plan_notation 1 text (error.Form k)) (sym r.counted)
       (ends_early plan_notation (lawful term_again term_plain) 1 text rest r.front r.spelled (begins r.front s r.read) one (λ none. unfinished term_again term_plain r.front s r.read (open_still none)))

@@ -2,6 +2,7 @@ pub mod Levels
 pub mod Counted
 pub mod Written
 pub mod BlocksAgain
+pub mod InForm
 pub mod Completed
 pub mod Lists
 pub mod Turns

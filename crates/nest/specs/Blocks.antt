@@ -2,6 +2,8 @@ pub mod Line
 pub mod View
 pub mod Flat
 pub mod Shape
+pub mod Form
+pub mod Stages
 pub mod Numbers
 pub mod Nesting
 pub mod Drafts

@@ -12,14 +12,16 @@ use Rattle.spelling.specs.Terms.Fitting.{has_deep_brackets}
 use Rattle.nest.specs.Blocks.Line.{Line, GroupLine, ForLine, LetLine, FetchLine}
 use Rattle.nest.specs.Blocks.Flat.{plan_lines}
 use Rattle.nest.specs.Blocks.Shape.{is_canonical}
-use Rattle.nest.specs.Blocks.Numbers.{Count, start, has_room, after, are_numbered}
+use Rattle.nest.specs.Blocks.Form.{is_in_form}
+use Rattle.nest.specs.Blocks.Stages.{may_stand}
+use Rattle.nest.specs.Blocks.Numbers.{Count, start, has_room, is_next, after, are_numbered}
 use Rattle.nest.specs.Spelling.{line_text}
 use Rattle.nest.specs.Fitting.{fits_line}
 use Rattle.nest.specs.Reading.{line_from}
 
--- each body is a block, symbols and buffers are numbered in order within their limits, and each line can be read
+-- each body is a block, each group has the form of groups, symbols and buffers are numbered in order within their limits, and each line can be read
 abbrev pub fits_plan : Plan → Bool
-fits_plan p = is_canonical p && are_numbered start (plan_lines p) && list_all fits_line (plan_lines p)
+fits_plan p = is_canonical p && is_in_form p && are_numbered start (plan_lines p) && list_all fits_line (plan_lines p)
 
 -- ---- limits
 
@@ -40,9 +42,13 @@ has_long_list (LetLine i pick forms) = is_long forms
 has_long_list (FetchLine b g region) = any_has_long_side region
 has_long_list _ = false
 
--- the text is a line's, which has too long a list, or for which there is no room where so much has been counted
+-- the line may stand where so much has been counted, with the number that is next, but there is no room for it
+abbrev pub is_one_too_many : Line → Count → Bool
+is_one_too_many l c = may_stand l c.stage && is_next l c && not (has_room l c)
+
+-- the text is a line's, which has too long a list or is one too many
 abbrev pub is_past : Count → List ℕ → Bool
-is_past c line = bytes_eq (line_text (line_from line)) line && (has_long_list (line_from line) || not (has_room (line_from line) c))
+is_past c line = bytes_eq (line_text (line_from line)) line && (has_long_list (line_from line) || is_one_too_many (line_from line) c)
 
 -- a number is none of 64 bits, or brackets stand too deep, or the line is past a limit of lists, symbols, buffers or blocks
 abbrev pub is_large_at : Count → List ℕ → Bool

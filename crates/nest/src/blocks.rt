@@ -4,7 +4,9 @@ mod blocks;
 mod count;
 mod draft;
 pub mod line;
+pub mod stage;
 
 pub use count::Count;
 pub use draft::Draft;
 pub use line::Line;
+pub use stage::Stage;

@@ -49,6 +49,13 @@ fn is_numbered(count: &Count, line: &Line) -> bool
     count.has_room(line) && count.is_next(line)
 }
 
+/// Whether the line may stand where so much was counted, and keeps what is asked there.
+fn is_lawful(count: &Count, line: &Line) -> bool
+    ensures { result ≡ spec.is_lawful (line_of line.now) (count_of count.now) }
+{
+    count.stage.has_place_for(line) && is_numbered(count, line)
+}
+
 /// Whether the line fits and the bytes are its text.
 fn is_spelled(alloc: Global, bytes: &[u8], line: &Line) -> Result<bool, AllocError>
     ensures { IfOk result (λ r. r ≡ spec.is_spelled bytes.now (line_of line.now)) }
@@ -59,7 +66,7 @@ fn is_spelled(alloc: Global, bytes: &[u8], line: &Line) -> Result<bool, AllocErr
 
 /// The reader after a line that has room and the next number. None where it cannot stand there.
 fn with_line(alloc: Global, reader: Reader, line: Line) -> Result<Option<Reader>, AllocError>
-    requires { spec.is_numbered (line_of line) (count_of reader.count) ≡ true }
+    requires { spec.is_lawful (line_of line) (count_of reader.count) ≡ true }
     ensures { IfOk result (λ r. MatchOption r (spec.with_line (line_of line) (state_of reader) ≡ None) (λ after. spec.with_line (line_of line) (state_of reader) ≡ Some (state_of after))) }
 {
     let Reader { draft, count } = reader;
@@ -84,8 +91,8 @@ fn advanced(
     }
     let line = line_from(alloc, bytes)?;
     let spelled = is_spelled(alloc, bytes, &line)?;
-    let numbered = is_numbered(&reader.count, &line);
-    if spelled && numbered {
+    let lawful = is_lawful(&reader.count, &line);
+    if spelled && lawful {
         with_line(alloc, reader, line)
     } else {
         Ok(None)
@@ -133,13 +140,20 @@ fn has_long_list(line: &Line) -> bool
     }
 }
 
-/// Whether the bytes are a line's with too long a list, or for which there is no room.
+/// Whether the line may stand where so much was counted, with the number that is next, but there is no room for it.
+fn is_one_too_many(count: &Count, line: &Line) -> bool
+    ensures { result ≡ notation.is_one_too_many (line_of line.now) (count_of count.now) }
+{
+    count.stage.has_place_for(line) && count.is_next(line) && !count.has_room(line)
+}
+
+/// Whether the bytes are a line's with too long a list, or one that is one too many.
 fn is_past(alloc: Global, count: Count, bytes: &[u8]) -> Result<bool, AllocError>
     ensures { IfOk result (λ r. r ≡ notation.is_past (count_of count) bytes.now) }
 {
     let line = line_from(alloc, bytes)?;
     let spelled = is_text_of(alloc, bytes, &line)?;
-    Ok(spelled && (has_long_list(&line) || !count.has_room(&line)))
+    Ok(spelled && (has_long_list(&line) || is_one_too_many(&count, &line)))
 }
 
 /// Why a line was refused: N2 where it passes a limit, else N1.
@@ -159,6 +173,17 @@ fn refusal(
         Ok(TextError::Limit(number))
     } else {
         Ok(TextError::Form(number))
+    }
+}
+
+/// The plan, where nothing is open and the last group has its `publish`.
+fn finished(reader: Reader) -> Result<Option<Plan>, AllocError>
+    ensures { IfOk result (λ r. MatchOption r (spec.finished_state (state_of reader) ≡ None) (λ p. spec.finished_state (state_of reader) ≡ Some (plan_of p))) }
+{
+    if reader.count.stage.published {
+        reader.draft.finished()
+    } else {
+        Ok(None)
     }
 }
 
@@ -185,7 +210,7 @@ fn read_bytes(alloc: Global, text: &[u8]) -> Result<Plan, TextError>
     if !rest.is_empty() {
         return Err(TextError::Form(number));
     }
-    let Some(plan) = reader.draft.finished()? else {
+    let Some(plan) = finished(reader)? else {
         return Err(TextError::Form(number));
     };
     Ok(plan)
@@ -194,8 +219,9 @@ fn read_bytes(alloc: Global, text: &[u8]) -> Result<Plan, TextError>
 /// The plan whose text it is: the lines before the first line `cert`. Lines are counted from 1.
 ///
 /// N1 or N2 names the first line that is not as a plan has it: no plan's text goes on with it, or the text ends before it
-/// is whole. N2 where that line passes a limit: its number or length, a number past 64 bits, a list of more than four
-/// bounds, the symbols, buffers or open blocks of its group, or brackets in brackets; else N1.
+/// is whole. A group begins with its buffers, lets and fetches, and its one `publish` is its last line. N2 where that line
+/// passes a limit: its number or length, a number past 64 bits, a list of more than four bounds, the symbols, buffers or
+/// open blocks of its group where the number that it gives is the next one, or brackets in brackets; else N1.
 pub fn read(alloc: Global, text: &str) -> Result<Plan, TextError>
     ensures said { IfOk result (λ plan. IsTextOf plan_notation 1 text.now (plan_of plan)) }
     ensures refused { IfErr result (IsRefused plan_notation 1 text.now) }

@@ -20,7 +20,8 @@ use plan::{Coordinate, Declaration, Group, Index, Kind, Pick, Places, Plan, Stmt
 use spelling::sizes::{put_size, put_sizes};
 use spelling::terms::put_term;
 use spelling::words::{
-    put_count, put_form, put_forms, put_name, put_region, put_span, put_symbol, put_type,
+    put_count, put_form, put_forms, put_name, put_region, put_separator, put_span, put_symbol,
+    put_type,
 };
 use std::alloc::{AllocError, Global};
 use tree::Expr;
@@ -75,15 +76,11 @@ fn put_place(text: &mut String, place: &Places) -> Result<(), AllocError>
 fn put_by_semicolons(text: &mut String, all: &[Places]) -> Result<(), AllocError>
     ensures { OnOk result (string_bytes text.new ≡ string_bytes text.old ++ words.separated_text 59 spec.place_text all.now) }
 {
-    match all {
-        [] => Ok(()),
-        [only] => put_place(text, only),
-        [first, rest @ ..] => {
-            put_place(text, first)?;
-            text.push_str(";")?;
-            put_by_semicolons(text, rest)
-        }
+    for (i, place) in all.iter().enumerate() {
+        put_separator(text, ";", i)?;
+        put_place(text, place)?;
     }
+    Ok(())
 }
 
 #[tactic(auto, unfolding(crate::specs::Spelling::places_text))]
@@ -133,15 +130,11 @@ fn put_coordinates(text: &mut String, all: &[Coordinate]) -> Result<(), AllocErr
 fn put_grid(text: &mut String, grid: &[u64]) -> Result<(), AllocError>
     ensures { OnOk result (string_bytes text.new ≡ string_bytes text.old ++ words.separated_text 32 words.count_text grid.now) }
 {
-    match grid {
-        [] => Ok(()),
-        [only] => put_size(text, *only),
-        [first, rest @ ..] => {
-            put_size(text, *first)?;
-            text.push_str(" ")?;
-            put_grid(text, rest)
-        }
+    for (i, size) in grid.iter().enumerate() {
+        put_separator(text, " ", i)?;
+        put_size(text, *size)?;
     }
+    Ok(())
 }
 
 #[tactic(auto, unfolding(crate::specs::Spelling::input_text))]

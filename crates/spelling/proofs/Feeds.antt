@@ -7,8 +7,8 @@ use Rattle.std.proofs.lemmas.Bool.{ltb-true}
 use Rattle.std.proofs.lemmas.Bool.Decides.{nat_tests}
 use Rattle.tree.specs.Token.Spelling.{is_digit, is_word_byte, type_text}
 use Rattle.lin.specs.declared.form.Multiple.{Multiple}
-use Rattle.spelling.specs.Words.Spelling.{count_text, number_text, signed_text, symbol_text, term_text, form_text, forms_text, span_text, region_text, counts_text, separated_text, bracketed_text}
-use Rattle.spelling.specs.Words.Fitting.{fits_count, fits_number, fits_symbol, fits_term, fits_form, fits_forms, fits_span, fits_region, fits_counts, is_name}
+use Rattle.spelling.specs.Words.Spelling.{count_text, number_text, signed_text, symbol_text, term_text, form_text, forms_text, span_text, region_text, separated_text, bracketed_text}
+use Rattle.spelling.specs.Words.Fitting.{fits_count, fits_number, fits_symbol, fits_term, fits_form, fits_forms, fits_span, fits_region, is_name}
 use Rattle.spelling.specs.Words.Laws.{is_feedless, IsFeedless}
 use Rattle.spelling.proofs.Runs.{both, decimal_passes}
 use Rattle.spelling.proofs.WordsAgain.{term_parts, form_parts, forms_fit, name_bytes, type_word}
@@ -90,10 +90,6 @@ span_feedless span fits =
 pub region_feedless : IsFeedless fits_region region_text
 unfolding region_text
 region_feedless spans fits = bracketed_feedless 59 fits_span span_text span_feedless refl spans fits
-
-pub counts_feedless : IsFeedless fits_counts counts_text
-unfolding counts_text
-counts_feedless counts fits = bracketed_feedless 44 fits_count count_text count_feedless refl counts fits
 
 -- ---- names and types
 

@@ -3,6 +3,7 @@ pub mod Texts
 pub mod Decimals
 pub mod WordsTurns
 pub mod WordsWords
+pub mod Separated
 pub mod Runs
 pub mod Rising
 pub mod WordsAgain

@@ -14,9 +14,9 @@ use Rattle.tree.specs.Token.Lexical.{type_named}
 use Rattle.lin.specs.Forms.{Form, is_zero}
 use Rattle.lin.specs.declared.form.Multiple.{Multiple}
 use Rattle.lin.specs.declared.span.Span1.{Span1}
-use Rattle.spelling.specs.Words.Spelling.{count_text, number_text, signed_text, symbol_text, term_text, form_text, forms_text, span_text, region_text, counts_text, separated_text, bracketed_text}
-use Rattle.spelling.specs.Words.Fitting.{fits_count, fits_number, fits_symbol, fits_term, rise, fits_form, fits_forms, fits_span, fits_region, fits_counts, is_name, is_reserved}
-use Rattle.spelling.specs.Words.Reading.{Stops, begins, is_sign, is_form_byte, is_forms_byte, no_byte, digits_from, count_from, number_from, symbol_from, separated_from, bracketed_from, term_from, with_term, terms_from, form_from, forms_from, span_from, region_from, counts_from, name_from, type_from}
+use Rattle.spelling.specs.Words.Spelling.{count_text, number_text, signed_text, symbol_text, term_text, form_text, forms_text, span_text, region_text, separated_text, bracketed_text}
+use Rattle.spelling.specs.Words.Fitting.{fits_count, fits_number, fits_symbol, fits_term, rise, fits_form, fits_forms, fits_span, fits_region, is_name, is_reserved}
+use Rattle.spelling.specs.Words.Reading.{Stops, begins, is_sign, is_form_byte, is_forms_byte, no_byte, digits_from, count_from, number_from, symbol_from, separated_from, bracketed_from, term_from, with_term, terms_from, form_from, forms_from, span_from, region_from, name_from, type_from}
 use Rattle.spelling.specs.Words.Laws.{ReadsAgain}
 use Rattle.spelling.proofs.Runs.{both, neither, run_is, decimal_passes, decimal_first, digit_no_minus, digit_of_form, form_byte_not_bracket, form_byte_some}
 
@@ -52,11 +52,6 @@ number_first (pos n) rest fits =
     let lt : n < 2 ^ 63 = ltb-true n (2 ^ 63) fits in
     digit_of_form (slice_index (decimal n ++ rest) 0) (decimal_first n rest (omega arith))
 number_first (negsuc n) rest fits = refl
-
-pub count_first : (n : ℕ) (rest : List ℕ) → fits_count n ≡ true → is_form_byte (slice_index (count_text n ++ rest) 0) ≡ true
-count_first n rest fits =
-    let lt : n < 2 ^ 32 = ltb-true n (2 ^ 32) fits in
-    digit_of_form (slice_index (decimal n ++ rest) 0) (decimal_first n rest (omega arith))
 
 -- ---- terms
 
@@ -256,7 +251,7 @@ pub forms_first : (forms : List Form) (rest : List ℕ) → 0 < length forms →
 forms_first [] rest some fits = absurd (omega arith)
 forms_first (x ∷ xs) rest some fits = separated_first 44 fits_form is_form_byte form_text form_from form_again refl form_first x xs rest (both (fits_form x) (list_all fits_form xs) fits).0
 
--- ---- spans, regions and lists of counts
+-- ---- spans and regions
 
 span_cut : (span : Span1) (rest : List ℕ) → span_text span ++ rest ≡ forms_text span.lower ++ (58 ∷ (forms_text span.upper ++ rest))
 unfolding span_text
@@ -277,10 +272,6 @@ span_first span rest fits =
 pub region_again : ReadsAgain fits_region no_byte region_text region_from
 unfolding region_text
 region_again spans rest fits h = bracketed_again 59 fits_span is_forms_byte span_text span_from span_again refl span_first spans rest fits refl refl
-
-pub counts_again : ReadsAgain fits_counts no_byte counts_text counts_from
-unfolding counts_text
-counts_again counts rest fits h = bracketed_again 44 fits_count is_digit count_text count_from count_again refl count_first counts rest fits refl refl
 
 -- ---- names and types
 

@@ -11,6 +11,8 @@ use Rattle.nest.specs.declared.blocks.draft.Draft.{Draft as CodeDraft}
 use Rattle.nest.specs.declared.blocks.draft.Draft.TheVariants as draft
 use Rattle.nest.specs.declared.blocks.count.Count.{Count as CodeCount}
 use Rattle.nest.specs.Blocks.Numbers.{Count}
+use Rattle.nest.specs.Blocks.Stages.{Stage}
+use Rattle.nest.specs.declared.blocks.stage.Stage.{Stage as CodeStage}
 use Rattle.nest.specs.Blocks.Nesting.{Open, OpenGroup, OpenFor, OpenFirst, OpenElse, OpenGuard, Level, level, Blocks, Draft, Nothing, Named, Fed, Headed}
 
 abbrev pub open_of : CodeOpen → Open
@@ -36,5 +38,8 @@ draft_of (draft.Named name) = Named (string_bytes name)
 draft_of (draft.Fed name input) = Fed (string_bytes name) (declaration_of input)
 draft_of (draft.Headed name input output blocks) = Headed (string_bytes name) (declaration_of input) (declaration_of output) (blocks_of blocks)
 
+abbrev pub stage_of : CodeStage → Stage
+stage_of s = record { depth = s.depth; published = s.published; may_fetch = s.may_fetch }
+
 abbrev pub count_of : CodeCount → Count
-count_of c = record { symbols = c.symbols; buffers = c.buffers; depth = c.depth }
+count_of c = record { groups = c.groups; symbols = c.symbols; buffers = c.buffers; stage = stage_of c.stage }

@@ -1,4 +1,4 @@
-//! The numbers that a plan's lines give to symbols and buffers.
+//! The numbers that a plan's lines give to groups, symbols and buffers.
 
 ghost use Rattle.std.specs.Prelude.{◌≡◌, ◌<◌, ◌≤◌, ◌^◌, IsTrue};
 ghost use Rattle.nest.specs.Blocks.View.{line_of};
@@ -6,21 +6,42 @@ ghost use Rattle.nest.specs.Blocks.Numbers as spec;
 ghost use Rattle.nest.specs.Blocks.Drafts.{count_of};
 
 use crate::blocks::line::Line;
+use crate::blocks::stage::Stage;
 
-/// The next symbol and the next buffer of a group, and how many of its blocks are open.
+/// The next group, the next symbol and the next buffer of the last one, and where in it the next line stands.
 #[derive(Clone, Copy, Debug, Drop)]
 pub struct Count {
+    pub groups: usize,
     pub symbols: usize,
     pub buffers: u32,
-    pub depth: usize,
+    pub stage: Stage,
 }
 
 /// The most symbols of a group.
 const MOST_SYMBOLS: usize = 256;
 /// The most buffers of a group.
 const MOST_BUFFERS: u32 = 256;
-/// How many blocks may stand in one another.
-const MOST_BLOCKS: usize = 512;
+
+/// Whether the numbers of the line's symbols, or of its buffer, keep the limits.
+fn has_small_number(line: &Line) -> bool
+    ensures { result ≡ spec.has_small_number (line_of line.now) }
+{
+    match line {
+        Line::Group { grid, .. } => grid.len() <= MOST_SYMBOLS,
+        Line::For { symbol, .. } | Line::Let { symbol, .. } => *symbol < MOST_SYMBOLS,
+        Line::Alloc { buffer, .. } => *buffer < MOST_BUFFERS,
+        Line::Plan { .. }
+        | Line::Input(_)
+        | Line::Output(_)
+        | Line::First { .. }
+        | Line::Else
+        | Line::Guard { .. }
+        | Line::End
+        | Line::Fetch { .. }
+        | Line::Store { .. }
+        | Line::Publish { .. } => true,
+    }
+}
 
 impl Count {
     /// Before the first line.
@@ -28,9 +49,10 @@ impl Count {
         ensures { count_of result ≡ spec.start }
     {
         Count {
+            groups: 0,
             symbols: 0,
             buffers: 0,
-            depth: 0,
+            stage: Stage::outside(),
         }
     }
 
@@ -38,34 +60,20 @@ impl Count {
     pub fn has_room(&self, line: &Line) -> bool
         ensures { result ≡ spec.has_room (line_of line.now) (count_of self.now) }
     {
-        match line {
-            Line::Group { grid, .. } => grid.len() <= MOST_SYMBOLS,
-            Line::For { symbol, .. } => *symbol < MOST_SYMBOLS && self.depth < MOST_BLOCKS,
-            Line::Let { symbol, .. } => *symbol < MOST_SYMBOLS,
-            Line::First { .. } | Line::Guard { .. } => self.depth < MOST_BLOCKS,
-            Line::Alloc { buffer, .. } => *buffer < MOST_BUFFERS,
-            Line::Plan { .. }
-            | Line::Input(_)
-            | Line::Output(_)
-            | Line::Else
-            | Line::End
-            | Line::Fetch { .. }
-            | Line::Store { .. }
-            | Line::Publish { .. } => true,
-        }
+        has_small_number(line) && self.stage.has_depth_for(line)
     }
 
-    /// Whether what the line numbers, a symbol or a buffer, has the next number.
+    /// Whether what the line numbers, a group, a symbol or a buffer, has the next number.
     pub fn is_next(&self, line: &Line) -> bool
         ensures { result ≡ spec.is_next (line_of line.now) (count_of self.now) }
     {
         match line {
+            Line::Group { number, .. } => *number as usize == self.groups,
             Line::For { symbol, .. } | Line::Let { symbol, .. } => *symbol == self.symbols,
             Line::Alloc { buffer, .. } => *buffer == self.buffers,
             Line::Plan { .. }
             | Line::Input(_)
             | Line::Output(_)
-            | Line::Group { .. }
             | Line::First { .. }
             | Line::Else
             | Line::Guard { .. }
@@ -83,24 +91,22 @@ impl Count {
         ensures { count_of result ≡ spec.after (line_of line.now) (count_of self) }
     {
         let mut count = self;
+        count.stage = self.stage.after(line);
         match line {
-            Line::Group { grid, .. } => {
+            Line::Group { number, grid, .. } => {
+                count.groups = *number as usize + 1;
                 count.symbols = grid.len();
                 count.buffers = 0;
-                count.depth = 0;
             }
-            Line::For { .. } => {
-                count.symbols += 1;
-                count.depth += 1;
-            }
-            Line::Let { .. } => count.symbols += 1,
-            Line::First { .. } | Line::Guard { .. } => count.depth += 1,
+            Line::For { .. } | Line::Let { .. } => count.symbols += 1,
             Line::Alloc { .. } => count.buffers += 1,
-            Line::End => count.depth = count.depth.saturating_sub(1),
             Line::Plan { .. }
             | Line::Input(_)
             | Line::Output(_)
+            | Line::First { .. }
             | Line::Else
+            | Line::Guard { .. }
+            | Line::End
             | Line::Fetch { .. }
             | Line::Store { .. }
             | Line::Publish { .. } => {}

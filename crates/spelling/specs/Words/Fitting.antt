@@ -47,9 +47,6 @@ fits_span span = fits_forms span.lower && fits_forms span.upper
 abbrev pub fits_region : List Span1 → Bool
 fits_region spans = list_all fits_span spans
 
-abbrev pub fits_counts : List ℕ → Bool
-fits_counts counts = list_all fits_count counts
-
 -- ---- names
 
 -- the name of a type, or a word of the grammar

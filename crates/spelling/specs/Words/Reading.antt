@@ -129,9 +129,6 @@ span_from text =
 abbrev pub region_from : List ℕ → List Span1 × List ℕ
 region_from text = bracketed_from 59 span_from text
 
-abbrev pub counts_from : List ℕ → List ℕ × List ℕ
-counts_from text = bracketed_from 44 count_from text
-
 -- ---- names
 
 -- the longest run of letters, digits and `_`

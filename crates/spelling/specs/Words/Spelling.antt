@@ -1,5 +1,5 @@
 -- How numbers, forms, spans, regions, names and types are spelled in a plan's text.
-use Rattle.std.specs.Prelude.{ℕ, suc, ℤ, pos, negsuc, List, [], ◌∷◌, ◌++◌}
+use Rattle.std.specs.Prelude.{ℕ, zero, suc, ℤ, pos, negsuc, List, [], ◌∷◌, ◌++◌}
 use Rattle.std.specs.List.{flat_map}
 use Rattle.std.specs.Fmt.{decimal, signed_decimal}
 use Rattle.lin.specs.Forms.{Form}
@@ -37,6 +37,11 @@ separated_text separator text (x ∷ y ∷ ys) = text x ++ (separator ∷ separa
 abbrev pub bracketed_text : {X : Type 0} → ℕ → (X → List ℕ) → List X → List ℕ
 bracketed_text separator text xs = 91 ∷ (separated_text separator text xs ++ 93 ∷ [])
 
+-- what stands before the part of that number: the separator, and nothing before the first
+abbrev pub separator_before : List ℕ → ℕ → List ℕ
+separator_before separator zero = []
+separator_before separator (suc part) = separator
+
 -- ---- forms
 
 -- `+C*sN` or `-C*sN`
@@ -59,6 +64,6 @@ span_text span = forms_text span.lower ++ (58 ∷ forms_text span.upper)
 unfoldable pub region_text : List Span1 → List ℕ
 region_text spans = bracketed_text 59 span_text spans
 
--- `[W,..]`
+-- sizes by commas, in brackets: `[W,..]`
 unfoldable pub counts_text : List ℕ → List ℕ
 counts_text counts = bracketed_text 44 count_text counts

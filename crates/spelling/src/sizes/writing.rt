@@ -3,6 +3,7 @@
 ghost use Rattle.std.specs.Prelude.{◌≡◌, ◌++◌, OnOk, string_bytes};
 ghost use Rattle.spelling.specs.Words.Spelling as spec;
 
+use crate::words::put_separator;
 use itoa::Buffer;
 use std::alloc::AllocError;
 
@@ -16,15 +17,11 @@ pub fn put_size(text: &mut String, size: u64) -> Result<(), AllocError>
 fn put_by_commas(text: &mut String, sizes: &[u64]) -> Result<(), AllocError>
     ensures { OnOk result (string_bytes text.new ≡ string_bytes text.old ++ spec.separated_text 44 spec.count_text sizes.now) }
 {
-    match sizes {
-        [] => Ok(()),
-        [only] => put_size(text, *only),
-        [first, rest @ ..] => {
-            put_size(text, *first)?;
-            text.push_str(",")?;
-            put_by_commas(text, rest)
-        }
+    for (i, size) in sizes.iter().enumerate() {
+        put_separator(text, ",", i)?;
+        put_size(text, *size)?;
     }
+    Ok(())
 }
 
 /// Writes sizes by commas, in brackets.

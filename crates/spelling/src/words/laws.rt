@@ -16,7 +16,6 @@ pub fn texts_are_read_again()
     ensures lists_of_forms { ReadsAgain fitting.fits_forms reading.is_forms_byte spelling.forms_text reading.forms_from }
     ensures spans { ReadsAgain fitting.fits_span reading.is_forms_byte spelling.span_text reading.span_from }
     ensures regions { ReadsAgain fitting.fits_region reading.no_byte spelling.region_text reading.region_from }
-    ensures lists_of_counts { ReadsAgain fitting.fits_counts reading.no_byte spelling.counts_text reading.counts_from }
     ensures names { ReadsAgain fitting.is_name is_word_byte (λ name. name) reading.name_from }
     ensures types { ReadsAgain (λ ty. true) is_word_byte type_text reading.type_from }
 {}
@@ -30,7 +29,6 @@ pub fn texts_have_no_line_feed()
     ensures lists_of_forms { IsFeedless fitting.fits_forms spelling.forms_text }
     ensures spans { IsFeedless fitting.fits_span spelling.span_text }
     ensures regions { IsFeedless fitting.fits_region spelling.region_text }
-    ensures lists_of_counts { IsFeedless fitting.fits_counts spelling.counts_text }
     ensures names { IsFeedless fitting.is_name (λ name. name) }
     ensures types { IsFeedless (λ ty. true) type_text }
 {}

@@ -1,4 +1,4 @@
-//! Reading forms, spans, regions, lists of counts, names and types, without a look at what stands between their parts.
+//! Reading forms, spans, regions, names and types, without a look at what stands between their parts.
 
 ghost use Rattle.std.specs.Prelude.{◌≡◌, ◌≤◌, IfOk, OnOk, [], length, nat_lt, string_bytes};
 ghost use Rattle.std.specs.List.{list_all, prefix_len};
@@ -9,7 +9,7 @@ ghost use Rattle.spelling.specs.Words.Reading as spec;
 
 use crate::words::bytes::{begins, first, is_word_byte, skip};
 use crate::words::fitting::TYPES;
-use crate::words::numbers::{count_from, number_from, symbol_from};
+use crate::words::numbers::{number_from, symbol_from};
 use lin::{Forms, Lin, Multiple, Region, Span1, Sym};
 use numeric::Ty;
 use std::alloc::{AllocError, Global};
@@ -145,41 +145,6 @@ pub fn region_from(alloc: Global, text: &[u8]) -> Result<(Region, &[u8]), AllocE
     }
     let (region, rest) = spans_from(alloc, text.len(), skip(1, text))?;
     Ok((region, skip(1, rest)))
-}
-
-/// Counts as long as a comma follows, but not more than a number.
-fn counts_by_commas(
-    alloc: Global,
-    most: usize,
-    text: &[u8],
-) -> Result<(Vec<u32>, &[u8]), AllocError>
-    ensures counts { IfOk result (λ r. r.0.items ≡ (spec.separated_from 44 spec.count_from most [] text.now).0) }
-    ensures rest { IfOk result (λ r. r.1.now ≡ (spec.separated_from 44 spec.count_from most [] text.now).1) }
-{
-    let mut found = Vec::new(alloc);
-    let mut rest = text;
-    for _ in 0..most {
-        let (count, next) = count_from(rest);
-        found.push(count)?;
-        if !begins(b',', next) {
-            return Ok((found, next));
-        }
-        rest = skip(1, next);
-    }
-    Ok((found, rest))
-}
-
-/// The counts at the front, in brackets.
-#[tactic(auto, unfolding(crate::specs::Words::Reading::bracketed_from))]
-pub fn counts_from(alloc: Global, text: &[u8]) -> Result<(Vec<u32>, &[u8]), AllocError>
-    ensures counts { IfOk result (λ r. r.0.items ≡ (spec.counts_from text.now).0) }
-    ensures rest { IfOk result (λ r. r.1.now ≡ (spec.counts_from text.now).1) }
-{
-    if begins(b']', skip(1, text)) {
-        return Ok((Vec::new(alloc), skip(2, text)));
-    }
-    let (counts, rest) = counts_by_commas(alloc, text.len(), skip(1, text))?;
-    Ok((counts, skip(1, rest)))
 }
 
 /// How many letters, digits and `_` stand at the front.

@@ -1,4 +1,4 @@
-//! Writing numbers, forms, spans, regions, lists of counts, names and types at the end of a text.
+//! Writing numbers, forms, spans, regions, names and types at the end of a text.
 
 ghost use Rattle.std.specs.Prelude.{◌≡◌, ◌++◌, ◌∷◌, [], OnOk, string_bytes};
 ghost use Rattle.tree.specs.Token.Spelling.{type_text};
@@ -62,18 +62,25 @@ pub fn put_form(text: &mut String, form: &Lin) -> Result<(), AllocError>
     Ok(())
 }
 
+/// Writes what stands before the part of that number in a list: the separator, and nothing before the first part.
+pub fn put_separator(text: &mut String, separator: &str, part: usize) -> Result<(), AllocError>
+    ensures { OnOk result (string_bytes text.new ≡ string_bytes text.old ++ spec.separator_before separator.now part) }
+{
+    if part == 0 {
+        Ok(())
+    } else {
+        text.push_str(separator)
+    }
+}
+
 fn put_by_commas(text: &mut String, forms: &[Lin]) -> Result<(), AllocError>
     ensures { OnOk result (string_bytes text.new ≡ string_bytes text.old ++ spec.forms_text forms.now) }
 {
-    match forms {
-        [] => Ok(()),
-        [only] => put_form(text, only),
-        [first, rest @ ..] => {
-            put_form(text, first)?;
-            text.push_str(",")?;
-            put_by_commas(text, rest)
-        }
+    for (i, form) in forms.iter().enumerate() {
+        put_separator(text, ",", i)?;
+        put_form(text, form)?;
     }
+    Ok(())
 }
 
 /// Writes forms by commas.
@@ -96,15 +103,11 @@ pub fn put_span(text: &mut String, span: &Span1) -> Result<(), AllocError>
 fn put_spans(text: &mut String, spans: &[Span1]) -> Result<(), AllocError>
     ensures { OnOk result (string_bytes text.new ≡ string_bytes text.old ++ spec.separated_text 59 spec.span_text spans.now) }
 {
-    match spans {
-        [] => Ok(()),
-        [only] => put_span(text, only),
-        [first, rest @ ..] => {
-            put_span(text, first)?;
-            text.push_str(";")?;
-            put_spans(text, rest)
-        }
+    for (i, span) in spans.iter().enumerate() {
+        put_separator(text, ";", i)?;
+        put_span(text, span)?;
     }
+    Ok(())
 }
 
 /// Writes a region: its spans by semicolons, in brackets.
@@ -114,30 +117,6 @@ pub fn put_region(text: &mut String, region: &Region) -> Result<(), AllocError>
 {
     text.push_str("[")?;
     put_spans(text, region.as_slice())?;
-    text.push_str("]")
-}
-
-fn put_counts_by_commas(text: &mut String, counts: &[u32]) -> Result<(), AllocError>
-    ensures { OnOk result (string_bytes text.new ≡ string_bytes text.old ++ spec.separated_text 44 spec.count_text counts.now) }
-{
-    match counts {
-        [] => Ok(()),
-        [only] => put_count(text, *only),
-        [first, rest @ ..] => {
-            put_count(text, *first)?;
-            text.push_str(",")?;
-            put_counts_by_commas(text, rest)
-        }
-    }
-}
-
-/// Writes counts by commas, in brackets.
-#[tactic(auto, unfolding(crate::specs::Words::Spelling::counts_text))]
-pub fn put_counts(text: &mut String, counts: &[u32]) -> Result<(), AllocError>
-    ensures { OnOk result (string_bytes text.new ≡ string_bytes text.old ++ spec.counts_text counts.now) }
-{
-    text.push_str("[")?;
-    put_counts_by_commas(text, counts)?;
     text.push_str("]")
 }
 

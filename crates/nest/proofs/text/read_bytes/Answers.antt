@@ -3,10 +3,8 @@ use Rattle.plan.specs.View.{plan_of}
 use Rattle.spelling.specs.Lines.Texts.{IsRefused}
 use Rattle.spelling.proofs.TermsAgain.{term_again}
 use Rattle.spelling.proofs.Plain.{term_plain}
-use Rattle.nest.specs.Blocks.Drafts.{draft_of}
-use Rattle.nest.specs.Blocks.Nesting.{finished}
 use Rattle.nest.specs.Notation.{plan_notation}
-use Rattle.nest.specs.Reader.{state_of, next_state}
+use Rattle.nest.specs.Reader.{state_of, next_state, finished_state}
 use Rattle.nest.proofs.Exits.{reading_more, reading_whole, reading_ends, reading_refused, empty_is, some_left}
 use Rattle.nest.proofs.text.read_bytes.Goals as goal
 
@@ -28,10 +26,10 @@ returns-then-not-is_empty-clause-refused c =
 
 pub returns-in_default-3-clause-refused : goal.returns-in_default-3-clause-refused
 returns-in_default-3-clause-refused c =
-    let none : finished (draft_of c.loop-line.reader.draft) ≡ None = rw c.in_default-3.is at c.in_ok-plan.ensures in
+    let none : finished_state (state_of c.loop-line.reader) ≡ None = rw c.in_default-3.is at c.in_ok-plan.ensures in
     reading_ends term_again term_plain c.args.text.now c.loop-line.rest.now c.loop-line.number (state_of c.loop-line.reader) c.loop-line.invariant c.in_default.ensures.none (λ e. none)
 
 pub returns-clause-said : goal.returns-clause-said
 returns-clause-said c =
-    let whole : finished (draft_of c.loop-line.reader.draft) ≡ Some (plan_of c.in-Some-3.plan) = rw c.in-Some-3.is at c.in_ok-plan.ensures in
+    let whole : finished_state (state_of c.loop-line.reader) ≡ Some (plan_of c.in-Some-3.plan) = rw c.in-Some-3.is at c.in_ok-plan.ensures in
     reading_whole c.args.text.now c.loop-line.rest.now c.loop-line.number (state_of c.loop-line.reader) (plan_of c.in-Some-3.plan) c.loop-line.invariant (empty_is c.loop-line.rest.now (sym c.if-not-is_empty.false ∙ c.is_empty.ensures)) whole

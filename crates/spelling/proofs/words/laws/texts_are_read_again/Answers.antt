@@ -1,4 +1,4 @@
-use Rattle.spelling.proofs.WordsAgain.{count_again, number_again, symbol_again, form_again, forms_again, span_again, region_again, counts_again, name_again, type_again}
+use Rattle.spelling.proofs.WordsAgain.{count_again, number_again, symbol_again, form_again, forms_again, span_again, region_again, name_again, type_again}
 use Rattle.spelling.proofs.words.laws.texts_are_read_again.Goals as goal
 
 pub returns-clause-counts : goal.returns-clause-counts
@@ -21,9 +21,6 @@ returns-clause-spans c = span_again
 
 pub returns-clause-regions : goal.returns-clause-regions
 returns-clause-regions c = region_again
-
-pub returns-clause-lists_of_counts : goal.returns-clause-lists_of_counts
-returns-clause-lists_of_counts c = counts_again
 
 pub returns-clause-names : goal.returns-clause-names
 returns-clause-names c = name_again

@@ -1,4 +1,4 @@
-use Rattle.spelling.proofs.Feeds.{count_feedless, number_feedless, symbol_feedless, form_feedless, forms_feedless, span_feedless, region_feedless, counts_feedless, name_feedless, type_feedless}
+use Rattle.spelling.proofs.Feeds.{count_feedless, number_feedless, symbol_feedless, form_feedless, forms_feedless, span_feedless, region_feedless, name_feedless, type_feedless}
 use Rattle.spelling.proofs.words.laws.texts_have_no_line_feed.Goals as goal
 
 pub returns-clause-counts : goal.returns-clause-counts
@@ -21,9 +21,6 @@ returns-clause-spans c = span_feedless
 
 pub returns-clause-regions : goal.returns-clause-regions
 returns-clause-regions c = region_feedless
-
-pub returns-clause-lists_of_counts : goal.returns-clause-lists_of_counts
-returns-clause-lists_of_counts c = counts_feedless
 
 pub returns-clause-names : goal.returns-clause-names
 returns-clause-names c = name_feedless

@@ -1,0 +1,8 @@
+use Rattle.std.proofs.Common.{◌≡◌, ◌++◌, take}
+use Rattle.std.specs.Prelude.{string_bytes}
+use Rattle.spelling.specs.Words.Spelling.{separated_text}
+use Rattle.nest.specs.Spelling.{place_text}
+use Rattle.nest.proofs.writing.put_by_semicolons.Given as goal
+
+abbrev pub invariant-loop-i : goal.invariant-loop-i
+invariant-loop-i l = string_bytes l.text ≡ string_bytes l.fn.text ++ separated_text 59 place_text (take l.i l.all)

@@ -1,0 +1,7 @@
+use Rattle.std.proofs.Common.{◌≡◌, ◌++◌, take}
+use Rattle.std.specs.Prelude.{string_bytes}
+use Rattle.spelling.specs.Words.Spelling.{separated_text, count_text}
+use Rattle.spelling.proofs.sizes.writing.put_by_commas.Given as goal
+
+abbrev pub invariant-loop-i : goal.invariant-loop-i
+invariant-loop-i l = string_bytes l.text ≡ string_bytes l.fn.text ++ separated_text 44 count_text (take l.i l.sizes)
