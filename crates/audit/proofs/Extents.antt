@@ -14,7 +14,7 @@ use Rattle.plan.specs.Symbols.{form_value, largest, smallest}
 use Rattle.plan.specs.Certificate.Cells.{no_symbols, is_in_span, is_in_region}
 use Rattle.soundness.proofs.Refines.{and_parts}
 use Rattle.headline.specs.Numbers.{HasEnds, HaveEnds}
-use Rattle.checked_plan.specs.Ready.Ready.{first_constant, IsSmallSpan}
+use Rattle.checked_plan.specs.Ready.Ready.{high_end, low_end, IsSmallSpan}
 use Rattle.audit.specs.Stand.{HasExtent}
 
 -- ---- the ends of a span
@@ -81,16 +81,16 @@ has_upper (l ∷ ls) z some e =
     above_each (λ m. form_value m no_symbols) (form_value l no_symbols) z ls (le_is z (form_value l no_symbols) k.0) k.1
 
 -- a number between the constants is one of the span, and the other way round
-span_has : (x : Span1) (z : ℤ) → HasEnds x → IsSmallSpan x → first_constant x.lower ≤ℤ z → z ≤ℤ first_constant x.upper → is_in_span no_symbols x z ≡ true
+span_has : (x : Span1) (z : ℤ) → HasEnds x → IsSmallSpan x → low_end x ≤ℤ z → z ≤ℤ high_end x → is_in_span no_symbols x z ≡ true
 span_has x z ends small low high =
-    let a = lower_has x.lower z ends.lower (subst (λ (y : ℤ). y ≤ℤ z) (sym small.low) low) in
-    let b = upper_has x.upper z ends.upper (subst (λ (y : ℤ). z ≤ℤ y) (sym small.high) high) in
+    let a = lower_has x.lower z ends.lower low in
+    let b = upper_has x.upper z ends.upper high in
     λ i. a i && b i
 
-has_span : (x : Span1) (z : ℤ) → HasEnds x → IsSmallSpan x → is_in_span no_symbols x z ≡ true → (first_constant x.lower ≤ℤ z) × (z ≤ℤ first_constant x.upper)
+has_span : (x : Span1) (z : ℤ) → HasEnds x → IsSmallSpan x → is_in_span no_symbols x z ≡ true → (low_end x ≤ℤ z) × (z ≤ℤ high_end x)
 has_span x z ends small e =
     let k = and_parts (list_all (λ l. int_le (form_value l no_symbols) z) x.lower) (list_all (λ u. int_le z (form_value u no_symbols)) x.upper) e in
-    (subst (λ (y : ℤ). y ≤ℤ z) small.low (has_lower x.lower z ends.lower k.0), subst (λ (y : ℤ). z ≤ℤ y) small.high (has_upper x.upper z ends.upper k.1))
+    (has_lower x.lower z ends.lower k.0, has_upper x.upper z ends.upper k.1)
 
 -- ---- coordinate by coordinate
 
@@ -175,7 +175,7 @@ corners (n ∷ ns) (x ∷ xs) ends small some e f =
     let last = and_parts (is_in_span no_symbols x (pos (n - 1))) (is_in_region no_symbols xs (last_corner ns)) f in
     let a = has_span x (pos 0) ends.0 small.0 first.0 in
     let b = has_span x (pos (n - 1)) ends.0 small.0 last.0 in
-    ((a.0, high_from n (first_constant x.upper) some.0 b.1), corners ns xs ends.1 small.1 some.1 first.1 last.1)
+    ((a.0, high_from n (high_end x) some.0 b.1), corners ns xs ends.1 small.1 some.1 first.1 last.1)
 
 pub extents_needed : (ns : List ℕ) (xs : List Span1) → HaveEnds xs → AllByRecursion IsSmallSpan xs → All (λ n. 1 ≤ n) ns
     → ((p : List ℤ) → is_within ns p ≡ true → is_in_region no_symbols xs p ≡ true) → HaveExtents ns xs

@@ -1,5 +1,5 @@
 -- What follows from flaws that are told and from those that are not.
-use Rattle.std.proofs.Common.{◌≡◌, ℕ, ◌+◌, ◌<◌, ◌≤◌, zero, suc, Bool, List, [], ◌∷◌, true, false, Option, Some, None, inl, inr, ap, refl, sym, ◌∙◌, subst, arith}
+use Rattle.std.proofs.Common.{◌≡◌, ℕ, ◌+◌, ◌<◌, ◌≤◌, zero, suc, Bool, List, [], ◌∷◌, ◌++◌, true, false, Option, Some, None, inl, inr, ap, refl, sym, ◌∙◌, subst, arith}
 use Rattle.std.specs.Prelude.{◌==◌, ◌&&◌, nat_lt, if◌then◌else◌, MatchOption, map, slice_get, length}
 use Rattle.std.proofs.lemmas.Option.{slice_get_within}
 use Rattle.meaning.specs.Algorithm.{Algorithm}
@@ -19,7 +19,7 @@ use Rattle.rules.specs.Bounding.View.{rules_in}
 use Rattle.rules.specs.declared.bounding.plan_bounds.PlanBounds.{PlanBounds}
 use Rattle.rules.specs.Widths.Widths.{first_told, wide_lines}
 use Rattle.validation.specs.Groups.Lines.{flaws_of_groups}
-use Rattle.validation.specs.Certificate.Certificate.{flaws_of_certificate}
+use Rattle.validation.specs.Certificate.Certificate.{flaws_of_certificate, flaws_of_claims, flaws_of_regions}
 use Rattle.soundness.specs.Binders.View.{grid_binders}
 use Rattle.claims.specs.First.{AllMet, IsFirstUnmet}
 use Rattle.audit.specs.Stand.{AreNarrow, AreShown, IsFlaw, IsNarrow}
@@ -63,6 +63,10 @@ match_weaker (Some f) M N P Q m p h = p f h
 no_flaws : (fs : List Said) → None ≡ first_of fs → fs ≡ []
 no_flaws [] h = refl
 no_flaws (f ∷ fs) h = absurd (cc h)
+
+first_none : (xs ys : List Said) → xs ++ ys ≡ [] → xs ≡ []
+first_none [] ys h = refl
+first_none (x ∷ xs) ys h = absurd (cc h)
 
 no_lines : (ns : List ℕ) → None ≡ first_told ns → ns ≡ []
 no_lines [] h = refl
@@ -183,12 +187,25 @@ module _ (a : Algorithm) (p : Plan) (c : Certificate) where
   either_way true f g h k = h
   either_way false f g h k = k
 
-  first_told_is : (named : Flaw) (owed listed : Option Flaw) (M N : Type 0) → IsFlaw a p c named → MatchOption owed M (IsFlaw a p c) → MatchOption listed N (IsFlaw a p c) → IsFlaw a p c (told_first named owed listed)
-  first_told_is named owed None M N h k l = with_told named owed M h k
-  first_told_is named owed (Some o) M N h k l =
+  first_told_is : (named : Flaw) (owed listed : Option Flaw) (unowned : Bool) (M N : Type 0) → IsFlaw a p c named → MatchOption owed M (IsFlaw a p c) → MatchOption listed N (IsFlaw a p c) → IsFlaw a p c (told_first named owed listed unowned)
+  first_told_is named owed None unowned M N h k l = with_told named owed M h k
+  first_told_is named owed (Some o) unowned M N h k l =
       let kept = but_symbols owed in
-      either_way (number_of (with_owed named kept).code == 5 && number_of o.code == 10) o (with_owed named kept) l (with_told named kept (Unit {0}) h (but_told owed M k))
+      either_way (number_of (with_owed named kept).code == 5 && unowned) o (with_owed named kept) l (with_told named kept (Unit {0}) h (but_told owed M k))
 
-  pub one_told : (named r : Flaw) (owed listed : Option Flaw) (M N : Type 0) → r ≡ told_first named owed listed
+  pub one_told : (named r : Flaw) (owed listed : Option Flaw) (unowned : Bool) (M N : Type 0) → r ≡ told_first named owed listed unowned
       → IsFlaw a p c named → MatchOption owed M (IsFlaw a p c) → MatchOption listed N (IsFlaw a p c) → IsFlaw a p c r
-  one_told named r owed listed M N is h k l = subst (IsFlaw a p c) (sym is) (first_told_is named owed listed M N h k l)
+  one_told named r owed listed unowned M N is h k l = subst (IsFlaw a p c) (sym is) (first_told_is named owed listed unowned M N h k l)
+
+  -- where the certificate's lines have no flaw those of regions have none
+  pub regions_clear : flaws_of_certificate a p c ≡ [] → flaws_of_regions p c ≡ []
+  regions_clear h = first_none (flaws_of_regions p c) (flaws_of_claims a p c) h
+
+pub any_flaw : (o : Option Flaw) (M : Type 0) (P : Flaw → Type 0) → MatchOption o M P → MatchOption o M (λ _. Unit {0})
+any_flaw None M P h = h
+any_flaw (Some f) M P h = tt
+
+-- what the first flaw of own and needed regions leaves
+pub regions_told : (p : Plan) (c : Certificate) (found : Option Flaw) → told found ≡ first_of (flaws_of_regions p c) → MatchOption found (flaws_of_regions p c ≡ []) (λ _. Unit {0})
+regions_told p c None is = no_flaws (flaws_of_regions p c) is
+regions_told p c (Some f) is = tt

@@ -1,10 +1,13 @@
 -- What a refusal of the checker says, and which of the flaws of lines is told.
-use Rattle.std.specs.Prelude.{◌==◌, ◌&&◌, nat_lt, if◌then◌else◌, Option, Some, None}
+use Rattle.std.specs.Prelude.{◌≡◌, ℕ, ◌+◌, ◌-◌, ◌<◌, ◌==◌, ◌&&◌, nat_lt, if◌then◌else◌, Bool, length, Option, Some, None}
 use Rattle.meaning.specs.Algorithm.{Algorithm}
+use Rattle.plan.specs.Lines.{group_line}
 use Rattle.plan.specs.Plan.{Plan}
 use Rattle.plan.specs.Certificate.Certificate.{Certificate}
 use Rattle.outline.specs.declared.refusals.code.Flaw.{Flaw as FlawHeld}
+use Rattle.outline.specs.Flaws.{line_told}
 use Rattle.outline.specs.Refusals.Codes.{number_of, lesser}
+use Rattle.shares.specs.Made.{own_place}
 use Rattle.shares.specs.declared.answer.SharesError.{SharesError}
 use Rattle.shares.specs.declared.answer.SharesError.TheVariants.{Flaw, Memory as Want}
 use Rattle.audit.specs.declared.refusal.CheckError.{CheckError}
@@ -44,8 +47,17 @@ abbrev pub with_owed : FlawHeld → Option FlawHeld → FlawHeld
 with_owed f None = f
 with_owed f (Some g) = lesser f g
 
+-- the group has no own line, and its last line is this one
+abbrev pub IsUnownedEnd : Plan → Certificate → ℕ → ℕ → Type 0
+IsUnownedEnd p c line n = (own_place c.own n ≡ length c.own) × (line_told (group_line p (n + 1)) - 1 ≡ line)
+
+-- the line is the last of such a group
+abbrev pub EndsUnowned : Plan → Certificate → ℕ → Type 0
+EndsUnowned p c line = (n : ℕ) × (n < length p.groups) × IsUnownedEnd p c line n
+
 -- the one of them that is told, where that of the certificate is known: a symbol that stands elsewhere is told as the claim that
--- names it, and where a K5 would be the first and some group has no own region, it is that of the certificate
-abbrev pub told_first : FlawHeld → Option FlawHeld → Option FlawHeld → FlawHeld
-told_first f owed None = with_owed f owed
-told_first f owed (Some h) = if number_of (with_owed f (but_symbols owed)).code == 5 && number_of h.code == 10 then h else with_owed f (but_symbols owed)
+-- names it, and where a K5 would be the first and stands at the last line of a group without an own region, as the test says, it
+-- is that of the certificate
+abbrev pub told_first : FlawHeld → Option FlawHeld → Option FlawHeld → Bool → FlawHeld
+told_first f owed None unowned = with_owed f owed
+told_first f owed (Some h) unowned = if number_of (with_owed f (but_symbols owed)).code == 5 && unowned then h else with_owed f (but_symbols owed)

@@ -11,7 +11,7 @@ use Rattle.rules.specs.Bounding.Rules.{rules_of}
 use Rattle.rules.specs.Widths.Widths.{wide_lines}
 use Rattle.soundness.specs.Binders.View.{grid_binders}
 use Rattle.claims.specs.First.{AllMet}
-use Rattle.checked_plan.specs.Ready.Ready.{first_constant}
+use Rattle.checked_plan.specs.Ready.Ready.{high_end, low_end}
 use Rattle.verdict.specs.Faults.{IsFault}
 
 module _ (a : Algorithm) (p : Plan) (c : Certificate) where
@@ -36,6 +36,6 @@ module _ (a : Algorithm) (p : Plan) (c : Certificate) where
 abbrev pub IsGroupOf : List Group → List ℕ → ℕ → Type 0
 IsGroupOf gs f n = MatchOption (slice_get gs n) ⊥ (λ g. g.function ≡ f)
 
--- each number from 0 up to an extent lies between the constants of a span's first forms
+-- each number from 0 up to an extent lies between the ends of a span
 abbrev pub HasExtent : ℕ → Span1 → Type 0
-HasExtent n x = (first_constant x.lower ≤ℤ pos 0) × (pos n ≤ℤ (first_constant x.upper +ℤ pos 1))
+HasExtent n x = (low_end x ≤ℤ pos 0) × (pos n ≤ℤ (high_end x +ℤ pos 1))

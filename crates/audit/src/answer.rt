@@ -1,20 +1,21 @@
 //! What is told of a plan whose head is the algorithm's: the first of all that is wrong with its lines, its certificate's
 //! lines, its shares and its output.
 
-ghost use Rattle.std.specs.Prelude.{◌≡◌, [], MatchOption, IfOk, IfErr, length};
+ghost use Rattle.std.specs.Prelude.{◌≡◌, ◌<◌, ◌↔◌, [], MatchOption, IfOk, IfErr, IsTrue, length};
 ghost use Rattle.algo.specs.View.{algorithm_of};
 ghost use Rattle.plan.specs.View.{plan_of};
 ghost use Rattle.plan.specs.Certificate.Cells.{cells};
 ghost use Rattle.plan.specs.Certificate.Certificate.{certificate_of};
 ghost use Rattle.validation.specs.Groups.Lines.{flaws_of_groups};
-ghost use Rattle.validation.specs.Certificate.Certificate.{flaws_of_certificate};
+ghost use Rattle.validation.specs.Certificate.Certificate.{flaws_of_certificate, flaws_of_regions};
 ghost use Rattle.checked_plan.specs.Lists.{ListsAreOf};
 ghost use Rattle.verdict.specs.Accepted.{IsAccepted};
 ghost use Rattle.verdict.specs.Shown.Wide.{HasHead};
-ghost use Rattle.audit.specs.Refused.{IsTold, but_symbols, told_first, wide_or_owed, with_owed};
+ghost use Rattle.audit.specs.Refused.{EndsUnowned, IsTold, IsUnownedEnd, but_symbols, told_first, wide_or_owed, with_owed};
 ghost use Rattle.audit.specs.Stand.{AreShown, IsFlaw, IsGroupOf};
 
 use crate::groups::first_wide;
+use crate::output::own_place;
 use crate::shared::shares_with_output;
 use algo::Algo;
 use claims::first_fault;
@@ -103,22 +104,51 @@ fn owed_flaw<R: Threads + Sync>(
     Ok(wide_or_owed(wide, owed))
 }
 
+/// Whether a group has no own line, and its last line is this one.
+fn is_unowned_end(plan: &Plan, cert: &Cert, number: usize, line: u32) -> bool
+    requires { number < length plan.now.groups.items }
+    ensures { IsTrue result ↔ IsUnownedEnd (plan_of plan.now) (certificate_of cert.now) line number }
+{
+    own_place(&cert.own, number) == cert.own.len()
+        && plan.group_line(number + 1).saturating_sub(1) == line
+}
+
+/// Whether a line is the last of a group that has no own line: what its `publish` owes is then not shown.
+fn ends_unowned(plan: &Plan, cert: &Cert, line: u32) -> bool
+    ensures { IsTrue result ↔ EndsUnowned (plan_of plan.now) (certificate_of cert.now) line }
+{
+    for number in 0..plan.groups.len() {
+        if is_unowned_end(plan, cert, number, line) {
+            return true;
+        }
+    }
+    false
+}
+
 /// The one that is told of a flaw by names and limits and of one by bounds, where that of the certificate is known. A symbol
-/// that stands elsewhere is told as the flaw of the claim that names it. Where some group has no own region, what its line
-/// `publish` owes is not shown either: that is told as the flaw of the certificate.
-fn told_first(named: Flaw, owed: Option<Flaw>, listed: Option<Flaw>) -> Flaw
-    ensures { result ≡ told_first named owed listed }
+/// that stands elsewhere is told as the flaw of the claim that names it. Where the first is a K5 at the last line of a group
+/// without an own region, as the test says, the flaw of the certificate is told: what such a `publish` owes is not shown.
+fn told_first(named: Flaw, owed: Option<Flaw>, listed: Option<Flaw>, unowned: bool) -> Flaw
+    ensures { result ≡ told_first named owed listed unowned }
 {
     match listed {
         None => with_owed(named, owed),
         Some(other) => {
             let first = with_owed(named, but_symbols(owed));
-            if first.code.number() == 5 && other.code.number() == 10 {
+            if first.code.number() == 5 && unowned {
                 other
             } else {
                 first
             }
         }
+    }
+}
+
+/// The line of what is owed, 0 where nothing is.
+fn owed_line(owed: Option<Flaw>) -> u32 {
+    match owed {
+        None => 0,
+        Some(flaw) => flaw.line,
     }
 }
 
@@ -142,17 +172,87 @@ fn shares_where_named(
     ensures counted { IfOk result (λ made. made.cells ≡ length (cells (plan_of plan.now))) }
     ensures told { IfErr result (IsTold (algorithm_of algo.now) (plan_of plan.now) (certificate_of cert.now)) }
 {
-    let Some(flaw) = owed else {
-        let shares = shares_with_output(alloc, algo, plan, cert, number)?;
-        return Ok(shares);
-    };
-    if flaw.line < plan.certificate_line() {
-        return Err(SharesError::Flaw(flaw));
+    match owed {
+        None => {
+            let shares = shares_with_output(alloc, algo, plan, cert, number)?;
+            Ok(shares)
+        }
+        Some(flaw) => Err(told_with_shares(alloc, algo, plan, cert, number, flaw)),
     }
+}
+
+/// What is told of a plan of which no line of a group and no line of own and needed regions has a flaw by names and limits,
+/// where this flaw is the first of all else: it, or what the pieces share, which stands at a line of a group or of a region.
+fn told_with_shares(
+    alloc: Global,
+    algo: &Algo,
+    plan: &Plan,
+    cert: &Cert,
+    number: usize,
+    flaw: Flaw,
+) -> SharesError
+    requires groups { flaws_of_groups (algorithm_of algo.now) (plan_of plan.now) (certificate_of cert.now) ≡ [] }
+    requires regions { flaws_of_regions (plan_of plan.now) (certificate_of cert.now) ≡ [] }
+    requires number { IsGroupOf (plan_of plan.now).groups (algorithm_of algo.now).output number }
+    requires flaw { IsFlaw (algorithm_of algo.now) (plan_of plan.now) (certificate_of cert.now) flaw }
+    ensures { IsTold (algorithm_of algo.now) (plan_of plan.now) (certificate_of cert.now) result }
+{
     match shares_with_output(alloc, algo, plan, cert, number) {
-        Ok(_) => Err(SharesError::Flaw(flaw)),
-        Err(SharesError::Memory) => Err(SharesError::Memory),
-        Err(SharesError::Flaw(other)) => Err(SharesError::Flaw(lesser(flaw, other))),
+        Ok(_) => SharesError::Flaw(flaw),
+        Err(SharesError::Memory) => SharesError::Memory,
+        Err(SharesError::Flaw(other)) => SharesError::Flaw(lesser(flaw, other)),
+    }
+}
+
+/// The first flaw of the lines of own and needed regions by names and limits.
+fn region_flaw(alloc: Global, plan: &Plan, cert: &Cert) -> Result<Option<Flaw>, AllocError>
+    ensures { IfOk result (λ flaw. MatchOption flaw (flaws_of_regions (plan_of plan.now) (certificate_of cert.now) ≡ []) (λ _. Unit {0})) }
+{
+    let found = validation::certificate::first_region_flaw(alloc, plan, cert)?;
+    Ok(found)
+}
+
+/// What is told of a plan of which no line of a group has a flaw by names and limits, where this flaw is the first of all else:
+/// it, or what the pieces share, where that can be told.
+fn told_beside_claims(
+    alloc: Global,
+    algo: &Algo,
+    plan: &Plan,
+    cert: &Cert,
+    number: usize,
+    flaw: Flaw,
+) -> SharesError
+    requires groups { flaws_of_groups (algorithm_of algo.now) (plan_of plan.now) (certificate_of cert.now) ≡ [] }
+    requires number { IsGroupOf (plan_of plan.now).groups (algorithm_of algo.now).output number }
+    requires flaw { IsFlaw (algorithm_of algo.now) (plan_of plan.now) (certificate_of cert.now) flaw }
+    ensures { IsTold (algorithm_of algo.now) (plan_of plan.now) (certificate_of cert.now) result }
+{
+    match region_flaw(alloc, plan, cert) {
+        Ok(None) => told_with_shares(alloc, algo, plan, cert, number, flaw),
+        Ok(Some(_)) => SharesError::Flaw(flaw),
+        Err(_) => SharesError::Memory,
+    }
+}
+
+/// What is told of a plan of which a line has a flaw by names and limits, where this flaw is the first of all but the shares and
+/// the first one of the lines of groups is known: the shares are asked where these lines have none.
+fn told_where_flawed(
+    alloc: Global,
+    algo: &Algo,
+    plan: &Plan,
+    cert: &Cert,
+    number: usize,
+    named: Option<Flaw>,
+    flaw: Flaw,
+) -> SharesError
+    requires named { MatchOption named (flaws_of_groups (algorithm_of algo.now) (plan_of plan.now) (certificate_of cert.now) ≡ []) (λ _. Unit {0}) }
+    requires number { IsGroupOf (plan_of plan.now).groups (algorithm_of algo.now).output number }
+    requires flaw { IsFlaw (algorithm_of algo.now) (plan_of plan.now) (certificate_of cert.now) flaw }
+    ensures { IsTold (algorithm_of algo.now) (plan_of plan.now) (certificate_of cert.now) result }
+{
+    match named {
+        None => told_beside_claims(alloc, algo, plan, cert, number, flaw),
+        Some(_) => SharesError::Flaw(flaw),
     }
 }
 
@@ -178,6 +278,10 @@ pub(crate) fn shares_where_accepted<R: Threads + Sync>(
     let owed = owed_flaw(rt, alloc, algo, plan, cert)?;
     match least(named, listed) {
         None => shares_where_named(alloc, algo, plan, cert, number, owed),
-        Some(flaw) => Err(SharesError::Flaw(told_first(flaw, owed, listed))),
+        Some(flaw) => {
+            let unowned = ends_unowned(plan, cert, owed_line(owed));
+            let told = told_first(flaw, owed, listed, unowned);
+            Err(told_where_flawed(alloc, algo, plan, cert, number, named, told))
+        }
     }
 }

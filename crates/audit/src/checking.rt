@@ -44,11 +44,11 @@ use verdict::laws::{accepted_is_ready, accepted_is_right, faults_are_refusals};
 /// - at the lines of claims and windows: names and limits (`K2`, `K3`, `K14`) and claims that their statements are not shown
 ///   to make (`K6`).
 ///
-/// How the pieces share the cells, and whether the output's group has each point, is asked only where no line of a group or
-/// of the certificate has a flaw of names, limits or stored expressions. At one line a number not shown to be small is told
-/// before what the line owes, which is shown where numbers are small. Where some group has no own region (`K10` at `cert`),
-/// that is told in place of a `K5` that would be the first, and a symbol that stands twice (`K2`) is told at the claim that
-/// names it where it is not bound.
+/// How the pieces share the cells, and whether the output's group has each point, is asked only where no line of a group and no
+/// line of own and needed regions has a flaw of names, limits or stored expressions; flaws of claims and windows hide nothing of
+/// it. At one line a number not shown to be small is told before what the line owes, which is shown where numbers are small.
+/// Where a group has no own region (`K10` at `cert`), that is told in place of a `K5` at that group's last line, its `publish`,
+/// which would be the first; and a symbol that stands twice (`K2`) is told at the claim that names it where it is not bound.
 pub fn check<'a, R: Threads + Sync>(
     rt: &R,
     alloc: Global,

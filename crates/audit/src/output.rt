@@ -10,13 +10,14 @@ ghost use Rattle.plan.specs.Certificate.Cells.{is_in_region, no_symbols};
 ghost use Rattle.plan.specs.Certificate.Certificate.{certificate_of};
 ghost use Rattle.plan.specs.Certificate.Lines.{own_line};
 ghost use Rattle.headline.specs.Numbers.{HaveEnds};
-ghost use Rattle.checked_plan.specs.Ready.Ready.{IsSmallSpan, first_constant};
+ghost use Rattle.checked_plan.specs.Ready.Ready.{IsSmallSpan};
 ghost use Rattle.shares.specs.Made.{own_place};
 ghost use Rattle.audit.specs.Stand.{HasExtent, IsGroupOf};
 
 use algo::Algo;
 use algo::scoping::same_name;
-use lin::{Forms, Span1};
+use checked_plan::output::{high_end, low_end};
+use lin::Span1;
 use plan::certificate::{Cert, Own};
 use plan::{Group, Plan};
 
@@ -48,23 +49,13 @@ pub(crate) fn group_named(groups: &[Group], name: &str) -> Option<usize>
     None
 }
 
-/// The constant of the first form, 0 where there is none.
-fn first_constant(forms: &Forms) -> i64
-    ensures { result ≡ first_constant forms.now }
-{
-    match forms.as_slice() {
-        [] => 0,
-        [form, ..] => form.constant(),
-    }
-}
-
 /// Whether a span with constant ends has each number from 0 up to an extent.
 fn has_extent(span: &Span1, extent: u32) -> bool
     requires { IsSmallSpan span.now }
     ensures { IsTrue result ↔ HasExtent extent span.now }
 {
-    let low = first_constant(&span.lower);
-    let high = first_constant(&span.upper);
+    let low = low_end(span);
+    let high = high_end(span);
     low <= 0 && i64::from(extent) <= high + 1
 }
 
@@ -87,7 +78,7 @@ pub(crate) fn has_extents(region: &[Span1], extents: &[u32]) -> bool
 }
 
 /// The place of a group's own line among the own lines.
-fn own_place(all: &[Own], group: usize) -> usize
+pub(crate) fn own_place(all: &[Own], group: usize) -> usize
     ensures { result ≡ own_place all.now group }
 {
     let mut place: usize = 0;

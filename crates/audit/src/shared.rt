@@ -6,7 +6,7 @@ ghost use Rattle.plan.specs.View.{plan_of};
 ghost use Rattle.plan.specs.Certificate.Cells.{cells};
 ghost use Rattle.plan.specs.Certificate.Certificate.{certificate_of};
 ghost use Rattle.validation.specs.Groups.Lines.{flaws_of_groups};
-ghost use Rattle.validation.specs.Certificate.Certificate.{flaws_of_certificate};
+ghost use Rattle.validation.specs.Certificate.Certificate.{flaws_of_regions};
 ghost use Rattle.shares.specs.Has.{HasShares};
 ghost use Rattle.verdict.specs.Shown.Wide.{HasOutput};
 ghost use Rattle.checked_plan.specs.Lists.{ListsAreOf};
@@ -20,7 +20,7 @@ use plan::Plan;
 use plan::certificate::Cert;
 use shares::{Shares, SharesError, shares_of};
 use std::alloc::Global;
-use validation::certificate::laws::no_flaw_is_clear;
+use validation::certificate::laws::no_region_flaw_is_shared;
 use verdict::clear::{groups_are_apart, plans_are_shared, regions_are_small};
 
 /// The flaw of the group of this number, which is the output's, if it lacks a point of the output.
@@ -41,8 +41,8 @@ fn output_flaw(algo: &Algo, plan: &Plan, cert: &Cert, number: usize) -> Option<F
     })
 }
 
-/// The shares of the pieces of a plan of which no line has a flaw, where each point of the output has a cell: the group of
-/// this number is the output's.
+/// The shares of the pieces of a plan of which no line of a group and no line of own and needed regions has a flaw, where each
+/// point of the output has a cell: the group of this number is the output's.
 pub(crate) fn shares_with_output(
     alloc: Global,
     algo: &Algo,
@@ -51,7 +51,7 @@ pub(crate) fn shares_with_output(
     number: usize,
 ) -> Result<Shares, SharesError>
     requires named { flaws_of_groups (algorithm_of algo.now) (plan_of plan.now) (certificate_of cert.now) ≡ [] }
-    requires certificate { flaws_of_certificate (algorithm_of algo.now) (plan_of plan.now) (certificate_of cert.now) ≡ [] }
+    requires regions { flaws_of_regions (plan_of plan.now) (certificate_of cert.now) ≡ [] }
     requires number { IsGroupOf (plan_of plan.now).groups (algorithm_of algo.now).output number }
     ensures shares { IfOk result (λ _. HasShares (plan_of plan.now) (certificate_of cert.now)) }
     ensures output { IfOk result (λ _. HasOutput (algorithm_of algo.now) (plan_of plan.now)) }
@@ -59,7 +59,7 @@ pub(crate) fn shares_with_output(
     ensures counted { IfOk result (λ made. made.cells ≡ length (cells (plan_of plan.now))) }
     ensures told { IfErr result (IsTold (algorithm_of algo.now) (plan_of plan.now) (certificate_of cert.now)) }
 {
-    no_flaw_is_clear();
+    no_region_flaw_is_shared();
     plans_are_shared();
     let lacking = output_flaw(algo, plan, cert, number);
     match shares_of(alloc, plan, cert) {

@@ -5,7 +5,7 @@ use Rattle.std.specs.Int.{int_max, int_min}
 use Rattle.std.specs.List.{AllByRecursion, list_all}
 use Rattle.std.proofs.lemmas.Int.{ints, fold-int_max_bounds, fold-int_min_bounds}
 use Rattle.std.proofs.lemmas.List.Elements.{recursion_from_All}
-use Rattle.lin.specs.Forms.{Form, IsWithin}
+use Rattle.lin.specs.Forms.{Form}
 use Rattle.lin.specs.declared.span.Span1.{Span1}
 use Rattle.plan.specs.Symbols.{Symbols, form_value, clipped, largest, smallest, turns}
 use Rattle.plan.specs.Certificate.Cells.{no_symbols, is_in_span, is_in_region}
@@ -144,7 +144,7 @@ one_axis x z h lower upper =
     both (int_le low z) (int_lt z end) (is_le low z from) (is_lt z end under))
 
 near_axis : (x : Span1) → IsSmallSpan x → IsNear (axis_of x)
-near_axis x h = record { low = subst (IsWithin (2 ^ 40)) (sym h.low) h.low_within; short = h.few }
+near_axis x h = record { low = h.low; short = h.few }
 
 -- ---- all coordinates
 

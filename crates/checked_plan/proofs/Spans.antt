@@ -9,7 +9,7 @@ use Rattle.plan.specs.Symbols.{clipped, largest, rising, smallest, turns}
 use Rattle.plan.specs.Certificate.Cells.{no_symbols}
 use Rattle.checked_plan.specs.declared.output.axis.Axis.{Axis}
 use Rattle.checked_plan.specs.Output.Axes.{HasNumber, axis_of, axes_of}
-use Rattle.checked_plan.specs.Ready.Ready.{first_constant, IsSmallSpan}
+use Rattle.checked_plan.specs.Ready.Ready.{low_end, high_end, IsSmallSpan}
 use lib.Dec.{T}
 use lib.Signed.{non_neg}
 use lib.IntN.{nat_abs}
@@ -42,19 +42,19 @@ counted_is low high n l h e =
 
 -- the ends that the code reads
 pub record AreEnds (x : Span1) (low high : ℤ) : Type 0 where
-  pub low_is : low ≡ first_constant x.lower
-  pub high_is : high ≡ first_constant x.upper
+  pub low_is : low ≡ low_end x
+  pub high_is : high ≡ high_end x
 
 pub count_is : (x : Span1) (low high : ℤ) → IsSmallSpan x → AreEnds x low high → counted low high ≡ pos (length (turns no_symbols x))
 count_is x low high s e =
-    let l : low ≡ largest no_symbols x.lower = e.low_is ∙ sym s.low in
-    let u : high ≡ smallest no_symbols x.upper = e.high_is ∙ sym s.high in
+    let l : low ≡ largest no_symbols x.lower = e.low_is in
+    let u : high ≡ smallest no_symbols x.upper = e.high_is in
     let width : ℤ = (high +ℤ pos 1) -ℤ low in
     let n : length (turns no_symbols x) ≡ clipped width =
     length-rising (largest no_symbols x.lower) (clipped ((smallest no_symbols x.upper +ℤ pos 1) -ℤ largest no_symbols x.lower))
     ∙ ap (λ (z : ℤ). clipped ((z +ℤ pos 1) -ℤ largest no_symbols x.lower)) (sym u) ∙ ap (λ (z : ℤ). clipped ((high +ℤ pos 1) -ℤ z)) (sym l) in
     let is : width ≡ pos (clipped width) = clipped_some width (subst (λ (k : ℕ). 1 ≤ k) n s.some) in
-    counted_is low high (length (turns no_symbols x)) (subst (IsWithin (2 ^ 40)) (sym e.low_is) s.low_within) (subst (IsWithin (2 ^ 40)) (sym e.high_is) s.high_within) (is ∙ ap (λ (k : ℕ). pos k) (sym n))
+    counted_is low high (length (turns no_symbols x)) (subst (IsWithin (2 ^ 40)) (sym e.low_is) s.low) (subst (IsWithin (2 ^ 40)) (sym e.high_is) s.high) (is ∙ ap (λ (k : ℕ). pos k) (sym n))
 
 pub count_fits : (x : Span1) (low high : ℤ) → IsSmallSpan x → AreEnds x low high → T (non_neg (counted low high)) × Fits w32 (nat_abs (counted low high))
 count_fits x low high s e =
@@ -63,8 +63,8 @@ count_fits x low high s e =
 
 pub axis_is : (x : Span1) (low high : ℤ) → IsSmallSpan x → AreEnds x low high → ◌≡◌ {A = Axis} (record { low = to_z w64 (of_z w64 low); count = nat_abs (counted low high) }) (axis_of x)
 axis_is x low high s e =
-    let near : IsWithin (2 ^ 40) low = subst (IsWithin (2 ^ 40)) (sym e.low_is) s.low_within in
-    let a : to_z w64 (of_z w64 low) ≡ largest no_symbols x.lower = (let b : to_z w64 (of_z w64 low) ≡ low = omega (arith, ints, near) in b) ∙ e.low_is ∙ sym s.low in
+    let near : IsWithin (2 ^ 40) low = subst (IsWithin (2 ^ 40)) (sym e.low_is) s.low in
+    let a : to_z w64 (of_z w64 low) ≡ largest no_symbols x.lower = (let b : to_z w64 (of_z w64 low) ≡ low = omega (arith, ints, near) in b) ∙ e.low_is in
     let n : nat_abs (counted low high) ≡ length (turns no_symbols x) = ap nat_abs (count_is x low high s e) in
     λ i. record { low = a i; count = n i }
 

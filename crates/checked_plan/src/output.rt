@@ -2,8 +2,10 @@
 
 mod axis;
 mod cells;
+mod ends;
 mod plan_cells;
 
 pub use axis::Axis;
 pub use cells::OutputCells;
+pub use ends::{high_end, low_end};
 pub use plan_cells::{GroupCells, PlanCells};

@@ -14,7 +14,6 @@ use Rattle.algo.specs.declared.function.Function.{Function as Entry}
 use Rattle.algo.specs.Parts.{change_of, function_of, functions_of}
 use Rattle.soundness.specs.Given.{function_named}
 use Rattle.rules.specs.Bounding.Called.{update_count}
-use Rattle.rules.specs.Nests.Last as nests
 
 -- how many updates a function in memory has
 abbrev pub count_held : Option Entry → ℕ
@@ -42,8 +41,3 @@ looked_up [] name = refl
 looked_up (e ∷ es) name =
     found_alike (bytes_eq name (string_bytes e.0)) (same_name (string_bytes e.0) name) e (lookup (λ k. bytes_eq name (string_bytes k)) es) (function_named (functions_of es) name)
     (turned name (string_bytes e.0)) (looked_up es name)
-
--- the tests of nests count them in the same way
-pub counted_same : (f : Option Function) → update_count f ≡ nests.update_count f
-counted_same None = refl
-counted_same (Some f) = refl

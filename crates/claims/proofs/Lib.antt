@@ -1,5 +1,4 @@
 mod Counts
-mod Grids
 mod Firsts
 mod Together
 mod Shared

@@ -41,7 +41,7 @@ clipped_is (negsuc n) h = absurd (omega (arith, ints))
 clipped_of : (i : ℕ) (low z : ℤ) → z ≡ low +ℤ pos i → clipped (z -ℤ low) ≡ i
 clipped_of i low z e = let k : z -ℤ low ≡ pos i = omega (arith, ints) in ap clipped k
 
-turn_stands : (s : Symbols) (x : Span1) (z : ℤ) → largest s x.lower ≤ℤ z → z ≤ℤ smallest s x.upper → slice_get (turns s x) (clipped (z -ℤ largest s x.lower)) ≡ Some z
+pub turn_stands : (s : Symbols) (x : Span1) (z : ℤ) → largest s x.lower ≤ℤ z → z ≤ℤ smallest s x.upper → slice_get (turns s x) (clipped (z -ℤ largest s x.lower)) ≡ Some z
 turn_stands s x z h k =
     let low = largest s x.lower in
     let width = (smallest s x.upper +ℤ pos 1) -ℤ low in
@@ -81,13 +81,13 @@ above_all s z v (u ∷ us) h k =
     let parts = and_parts (int_le z (form_value u s)) (list_all (λ u. int_le z (form_value u s)) us) k in
     above_all s z (int_min v (form_value u s)) us (least v (form_value u s) z h (le_is z (form_value u s) parts.0)) parts.1
 
-largest_below : (s : Symbols) (z : ℤ) (ls : List Form) → 1 ≤ length ls → list_all (λ l. int_le (form_value l s) z) ls ≡ true → largest s ls ≤ℤ z
+pub largest_below : (s : Symbols) (z : ℤ) (ls : List Form) → 1 ≤ length ls → list_all (λ l. int_le (form_value l s) z) ls ≡ true → largest s ls ≤ℤ z
 largest_below s z [] some k = absurd (omega arith)
 largest_below s z (l ∷ ls) some k =
     let parts = and_parts (int_le (form_value l s) z) (list_all (λ l. int_le (form_value l s) z) ls) k in
     below_all s z (form_value l s) ls (le_is (form_value l s) z parts.0) parts.1
 
-smallest_above : (s : Symbols) (z : ℤ) (us : List Form) → 1 ≤ length us → list_all (λ u. int_le z (form_value u s)) us ≡ true → z ≤ℤ smallest s us
+pub smallest_above : (s : Symbols) (z : ℤ) (us : List Form) → 1 ≤ length us → list_all (λ u. int_le z (form_value u s)) us ≡ true → z ≤ℤ smallest s us
 smallest_above s z [] some k = absurd (omega arith)
 smallest_above s z (u ∷ us) some k =
     let parts = and_parts (int_le z (form_value u s)) (list_all (λ u. int_le z (form_value u s)) us) k in
@@ -101,7 +101,7 @@ all_upper : (s : Symbols) (z : ℤ) (us : List Form) → AllByRecursion (λ u. z
 all_upper s z [] h = refl
 all_upper s z (u ∷ us) h = rw (is_le z (form_value u s) h.0) (all_upper s z us h.1)
 
-lies_test : (s : Symbols) (x : Span1) (z : ℤ) → Lies s x z → is_in_span s x z ≡ true
+pub lies_test : (s : Symbols) (x : Span1) (z : ℤ) → Lies s x z → is_in_span s x z ≡ true
 lies_test s x z h = rw (all_lower s z x.lower h.0) (all_upper s z x.upper h.1)
 
 -- ---- the points of a region

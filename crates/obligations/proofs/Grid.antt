@@ -1,8 +1,7 @@
 -- The symbols of a grid, one more at a time.
 use Rattle.std.proofs.Common.{◌≡◌, ℕ, ◌+◌, List, [], ◌∷◌, ◌++◌, length, ap, ◌∙◌, arith}
 use Rattle.soundness.specs.Obligations.{Binder, Ranged}
-use Rattle.soundness.specs.Binders.View.{grid_span}
-use Rattle.obligations.specs.Around.{grid_from, grid_binders}
+use Rattle.soundness.specs.Binders.View.{grid_binders, grid_from, grid_span}
 
 grid_more_from : (k : ℕ) (ns : List ℕ) (n : ℕ) → grid_from k (ns ++ n ∷ []) ≡ Ranged (k + length ns) (grid_span n) ∷ grid_from k ns
 grid_more_from k [] n = ap (λ (i : ℕ). Ranged i (grid_span n) ∷ []) (omega arith)

@@ -1,21 +1,11 @@
--- The symbols of a grid, statements that are one line, and what a claim asks of the statement that makes it.
-use Rattle.std.specs.Prelude.{ℕ, ◌+◌, filter, List, [], ◌∷◌, ◌++◌, map}
+-- Statements that are one line, and what a claim asks of the statement that makes it.
+use Rattle.std.specs.Prelude.{ℕ, filter, List, [], ◌∷◌, map}
 use Rattle.std.specs.List.{list_any}
 use Rattle.plan.specs.Plan.{Statement, Seq, For, First, Guard}
 use Rattle.soundness.specs.Origins.{Outline, or_same}
-use Rattle.soundness.specs.Obligations.{Binder, Ranged, Rules, region_of, NotMade, OutOfOrder, Inside, Named, InTurn, store_line, Obligation, obligation, follows}
-use Rattle.soundness.specs.Binders.View.{grid_span}
+use Rattle.soundness.specs.Obligations.{Rules, region_of, NotMade, OutOfOrder, Inside, Named, InTurn, store_line, Obligation, obligation, follows}
 use Rattle.obligations.specs.declared.context.known.Known.{Known as KnownHeld}
 use Rattle.obligations.specs.Context.Around.{known_of}
-
--- the symbols of a grid from number i on, of which each takes so many values from 0 on, the last first
-abbrev pub grid_from : ℕ → List ℕ → List Binder
-grid_from i [] = []
-grid_from i (n ∷ ns) = grid_from (i + 1) ns ++ Ranged i (grid_span n) ∷ []
-
--- the symbols of a grid
-abbrev pub grid_binders : List ℕ → List Binder
-grid_binders ns = grid_from 0 ns
 
 -- a statement that is one line
 abbrev pub IsLine : Statement → Type 0

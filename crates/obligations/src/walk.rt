@@ -7,10 +7,10 @@ ghost use Rattle.plan.specs.Plan.{block, Publish};
 ghost use Rattle.plan.specs.View.{statement_of};
 ghost use Rattle.soundness.specs.Obligations.{block_obligations, claim_obligations, has_symbol, obligation, obligations, within, from_each, Named, Undefined};
 ghost use Rattle.soundness.specs.Shown.{start};
-ghost use Rattle.soundness.specs.Binders.View.{binders_of};
+ghost use Rattle.soundness.specs.Binders.View.{binders_of, grid_binders};
 ghost use Rattle.outline.specs.View.{outline_in, group_in, number_in, plan_in};
 ghost use Rattle.obligations.specs.Context.Around.{known_of};
-ghost use Rattle.obligations.specs.Around.{grid_binders, IsLine};
+ghost use Rattle.obligations.specs.Around.{IsLine};
 ghost use Rattle.obligations.specs.Asked.{first_unmet};
 
 use crate::asked::told;

@@ -11,10 +11,9 @@ use Rattle.std.proofs.lemmas.List.{map-append, take_more, append_assoc, take-app
 use Rattle.plan.specs.declared.stmt.Stmt.{Stmt}
 use Rattle.plan.specs.Lines.{lines, block_lines}
 use Rattle.plan.specs.Lists.{list_statements}
-use Rattle.plan.specs.Plan.{Statement, block}
+use Rattle.plan.specs.Plan.{Statement, Statements, Empty, Then, block}
 use Rattle.plan.specs.View.{statement_of}
-use Rattle.soundness.specs.Obligations.{Binder, Rules}
-use Rattle.rules.specs.Widths.Widths.{told, first_told, wide_lines, block_wide_lines}
+use Rattle.rules.specs.Widths.Widths.{told, first_told}
 
 pub more_binders : (bs : List BinderHeld) (b : BinderHeld) → binders_of (bs ++ b ∷ []) ≡ binder_of b ∷ binders_of bs
 more_binders [] b = refl
@@ -56,32 +55,60 @@ take_drop_more xs i x h is =
     sym (take-append-drop (i + 1) xs) ∙ ap (λ l. l ++ drop (i + 1) xs) (take_more xs i x h ∙ ap (λ y. take i xs ++ y ∷ []) (sym is))
     ∙ append_assoc (take i xs) (x ∷ []) (drop (i + 1) xs)
 
-module _ (rules : Rules) (bs : List Binder) where
-  append_lines : (n : ℕ) (xs ys : List Statement) → block_wide_lines rules bs n (block (xs ++ ys)) ≡ block_wide_lines rules bs n (block xs) ++ block_wide_lines rules bs (n + block_lines (block xs)) (block ys)
-  append_lines n [] ys = ap (λ k. block_wide_lines rules bs k (block ys)) (omega arith)
+-- of each statement the lines that count, and of a block those of its statements
+module _ (of_one : ℕ → Statement → List ℕ) (of_block : ℕ → Statements → List ℕ) (of_none : (n : ℕ) → of_block n Empty ≡ [])
+    (of_more : (n : ℕ) (x : Statement) (rest : Statements) → of_block n (Then x rest) ≡ of_one n x ++ of_block (n + lines x) rest) where
+  append_lines : (n : ℕ) (xs ys : List Statement) → of_block n (block (xs ++ ys)) ≡ of_block n (block xs) ++ of_block (n + block_lines (block xs)) (block ys)
+  append_lines n [] ys = ap (λ k. of_block k (block ys)) (omega arith) ∙ ap (λ l. l ++ of_block (n + 0) (block ys)) (sym (of_none n))
   append_lines n (x ∷ xs) ys =
-      ap (λ l. wide_lines rules bs n x ++ l) (append_lines (n + lines x) xs ys)
-      ∙ sym (append_assoc (wide_lines rules bs n x) (block_wide_lines rules bs (n + lines x) (block xs)) _)
-      ∙ ap (λ k. (wide_lines rules bs n x ++ block_wide_lines rules bs (n + lines x) (block xs)) ++ block_wide_lines rules bs k (block ys)) (omega arith)
+      of_more n x (block (xs ++ ys))
+      ∙ ap (λ l. of_one n x ++ l) (append_lines (n + lines x) xs ys)
+      ∙ sym (append_assoc (of_one n x) (of_block (n + lines x) (block xs)) _)
+      ∙ ap (λ k. (of_one n x ++ of_block (n + lines x) (block xs)) ++ of_block k (block ys)) (omega arith)
+      ∙ ap (λ l. l ++ of_block (n + block_lines (block (x ∷ xs))) (block ys)) (sym (of_more n x (block xs)))
 
   -- the lines of a block up to one of its statements, and from it on
-  pub split_lines : (n : ℕ) (xs : List Stmt) (i : ℕ) (x : Stmt) → i < length xs → x ≡ get_or xs i x → block_wide_lines rules bs n (block (list_statements (take i xs))) ≡ [] →
-      block_wide_lines rules bs n (block (list_statements xs))
-      ≡ wide_lines rules bs (n + block_lines (block (list_statements (take i xs)))) (statement_of x)
-      ++ block_wide_lines rules bs (n + block_lines (block (list_statements (take i xs))) + lines (statement_of x)) (block (list_statements (drop (i + 1) xs)))
+  pub split_lines : (n : ℕ) (xs : List Stmt) (i : ℕ) (x : Stmt) → i < length xs → x ≡ get_or xs i x → of_block n (block (list_statements (take i xs))) ≡ [] →
+      of_block n (block (list_statements xs))
+      ≡ of_one (n + block_lines (block (list_statements (take i xs)))) (statement_of x)
+      ++ of_block (n + block_lines (block (list_statements (take i xs))) + lines (statement_of x)) (block (list_statements (drop (i + 1) xs)))
   split_lines n xs i x h is e =
-      ap (λ l. block_wide_lines rules bs n (block (list_statements l))) (take_drop_more xs i x h is)
-      ∙ ap (λ l. block_wide_lines rules bs n (block l)) (map-append statement_of (take i xs) (x ∷ drop (i + 1) xs))
+      ap (λ l. of_block n (block (list_statements l))) (take_drop_more xs i x h is)
+      ∙ ap (λ l. of_block n (block l)) (map-append statement_of (take i xs) (x ∷ drop (i + 1) xs))
       ∙ append_lines n (list_statements (take i xs)) (statement_of x ∷ list_statements (drop (i + 1) xs))
-      ∙ ap (λ l. l ++ block_wide_lines rules bs (n + block_lines (block (list_statements (take i xs)))) (block (statement_of x ∷ list_statements (drop (i + 1) xs)))) e
+      ∙ ap (λ l. l ++ of_block (n + block_lines (block (list_statements (take i xs)))) (block (statement_of x ∷ list_statements (drop (i + 1) xs)))) e
+      ∙ of_more (n + block_lines (block (list_statements (take i xs)))) (statement_of x) (block (list_statements (drop (i + 1) xs)))
 
   -- and up to the next
-  pub next_lines : (n : ℕ) (xs : List Stmt) (i : ℕ) (x : Stmt) → i < length xs → x ≡ get_or xs i x → block_wide_lines rules bs n (block (list_statements (take i xs))) ≡ [] →
-      wide_lines rules bs (n + block_lines (block (list_statements (take i xs)))) (statement_of x) ≡ [] →
-      block_wide_lines rules bs n (block (list_statements (take (i + 1) xs))) ≡ []
+  pub next_lines : (n : ℕ) (xs : List Stmt) (i : ℕ) (x : Stmt) → i < length xs → x ≡ get_or xs i x → of_block n (block (list_statements (take i xs))) ≡ [] →
+      of_one (n + block_lines (block (list_statements (take i xs)))) (statement_of x) ≡ [] →
+      of_block n (block (list_statements (take (i + 1) xs))) ≡ []
   next_lines n xs i x h is e f =
-      ap (λ l. block_wide_lines rules bs n (block (list_statements l))) (take_more xs i x h ∙ ap (λ y. take i xs ++ y ∷ []) (sym is))
-      ∙ ap (λ l. block_wide_lines rules bs n (block l)) (map-append statement_of (take i xs) (x ∷ []))
+      let k = n + block_lines (block (list_statements (take i xs))) in
+      ap (λ l. of_block n (block (list_statements l))) (take_more xs i x h ∙ ap (λ y. take i xs ++ y ∷ []) (sym is))
+      ∙ ap (λ l. of_block n (block l)) (map-append statement_of (take i xs) (x ∷ []))
       ∙ append_lines n (list_statements (take i xs)) (statement_of x ∷ [])
-      ∙ ap (λ l. l ++ block_wide_lines rules bs (n + block_lines (block (list_statements (take i xs)))) (block (statement_of x ∷ []))) e
-      ∙ ap (λ l. l ++ []) f
+      ∙ ap (λ l. l ++ of_block k (block (statement_of x ∷ []))) e
+      ∙ of_more k (statement_of x) Empty
+      ∙ ap (λ l. l ++ of_block (k + lines (statement_of x)) Empty) f
+      ∙ of_none (k + lines (statement_of x))
+
+  -- a statement of a block whose first line that counts is found
+  pub found_at : (n : ℕ) (xs : List Stmt) (i : ℕ) (x : Stmt) (o : Option ℕ) → i < length xs → x ≡ get_or xs i x → of_block n (block (list_statements (take i xs))) ≡ [] →
+      o ≡ first_told (of_one (n + block_lines (block (list_statements (take i xs)))) (statement_of x)) → true ≡ is_some o →
+      o ≡ first_told (of_block n (block (list_statements xs)))
+  found_at n xs i x o h is e first some =
+      first_found (of_one (n + block_lines (block (list_statements (take i xs)))) (statement_of x)) _ o first some ∙ ap first_told (sym (split_lines n xs i x h is e))
+
+  -- what holds of the next statement of a block: at which line it begins, and that no line before it counts
+  pub gone_on : (n next : ℕ) (xs : List Stmt) (i : ℕ) (x : Stmt) (count after : ℕ) (o : Option ℕ) → i < length xs → x ≡ get_or xs i x →
+      next ≡ told (n + block_lines (block (list_statements (take i xs)))) → of_block n (block (list_statements (take i xs))) ≡ [] →
+      o ≡ first_told (of_one (n + block_lines (block (list_statements (take i xs)))) (statement_of x)) → false ≡ is_some o →
+      count ≡ told (lines (statement_of x)) → after ≡ min (next + count) (2 ^ 32 - 1) →
+      (after ≡ told (n + block_lines (block (list_statements (take (i + 1) xs))))) × (of_block n (block (list_statements (take (i + 1) xs))) ≡ [])
+  gone_on n next xs i x count after o h is begins e first none counted later =
+      let k = n + block_lines (block (list_statements (take i xs))) in
+      let more = lines_more xs i x h is in (
+        later ∙ later_told next k count (lines (statement_of x)) begins counted ∙ ap told (omega (arith, more)),
+        next_lines n xs i x h is e (found_none (of_one k (statement_of x)) o first none),
+      )

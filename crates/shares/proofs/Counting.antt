@@ -24,7 +24,7 @@ fetched_least p n count less =
     let e : (count - suc n) + suc n ≡ count = omega (arith, less) in
     subst (λ (m : ℕ). fetched_before p (suc n) ≤ fetched_before p m) e (fetched_more p (suc n) (count - suc n))
 
-needed_least : (p : Plan) (c : Certificate) (n count : ℕ) → n < count → needed_before p c n + length (needs_list p c n) ≤ needed_before p c count
+pub needed_least : (p : Plan) (c : Certificate) (n count : ℕ) → n < count → needed_before p c n + length (needs_list p c n) ≤ needed_before p c count
 needed_least p c n count less =
     let e : (count - suc n) + suc n ≡ count = omega (arith, less) in
     subst (λ (m : ℕ). needed_before p c (suc n) ≤ needed_before p c m) e (needed_more p c (suc n) (count - suc n))

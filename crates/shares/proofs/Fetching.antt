@@ -77,7 +77,7 @@ parts_counted p old now line later whole e =
     omega (arith, a, b, k, l, m, n)
 
 -- a line names nothing for the lines after it
-stays : (p : Plan) (a : Statement) (s : Symbols) → LineIsShared p a → after a s ≡ s
+pub stays : (p : Plan) (a : Statement) (s : Symbols) → LineIsShared p a → after a s ≡ s
 stays p (Seq all) s h = refl
 stays p (For i x kind body) s h = refl
 stays p (Let i pick forms) s h = absurd h

@@ -15,6 +15,8 @@ use Rattle.shares.specs.Has.{HasShares, IsServed}
 use Rattle.shares.specs.Made.{CodeMeans}
 use Rattle.shares.specs.Laws.{FaultsHaveNoShares}
 use Rattle.shares.proofs.Groups.{get_within}
+use Rattle.shares.proofs.Totals.{fetched_past}
+use Rattle.shares.proofs.Prefixes.{needed_past}
 
 -- any algorithm, since the lists of pieces don't depend on it
 nothing : Algorithm
@@ -24,7 +26,7 @@ piece_below : (p : Plan) (n piece : ℕ) (o : Option Piece) → slice_get (piece
 piece_below p n piece None e h = absurd h
 piece_below p n piece (Some j) e h = get_within (pieces p) piece j e
 
-cells_within : (k : ℕ) (gs : List Group) (n : ℕ) → first_cell gs n ≤ length (cells_from k gs)
+pub cells_within : (k : ℕ) (gs : List Group) (n : ℕ) → first_cell gs n ≤ length (cells_from k gs)
 cells_within k [] n = omega arith
 cells_within k (g ∷ gs) zero = omega arith
 cells_within k (g ∷ gs) (suc n) =
@@ -40,7 +42,7 @@ module _ (p : Plan) (c : Certificate) (has : HasShares p c) where
   sound : Lists
   sound = has.lists nothing []
 
-  served : (n : ℕ) → n < length (pieces p) → IsServed p c n
+  pub served : (n : ℕ) → n < length (pieces p) → IsServed p c n
   served n less = record {
     cells = has.cells n;
     pieces = has.pieces n;
@@ -48,7 +50,7 @@ module _ (p : Plan) (c : Certificate) (has : HasShares p c) where
     owned = λ x m. sound.needed n x less m;
   }
 
-  no_code : (n : ℕ) (k : K) → CodeMeans p c n k → ⊥
+  pub no_code : (n : ℕ) (k : K) → CodeMeans p c n k → ⊥
   no_code n K1 h = h
   no_code n K2 h = h
   no_code n K3 h = h
@@ -71,7 +73,10 @@ module _ (p : Plan) (c : Certificate) (has : HasShares p c) where
   no_code n K11 h = h.2 (served h.0 (piece_below p n h.0 (slice_get (pieces p) h.0) refl h.1))
   no_code n K12 h = h
   no_code n K13 h = h
-  no_code n K14 h = h has.few
+  no_code n K14 h = h
 
 pub none_shared : FaultsHaveNoShares
-none_shared p c f told has = no_code p c has told.0 f.code told.1
+none_shared p c f told has = elim told.0 [
+  | inl code ↦ no_code p c has code.0 f.code code.1
+  | inr past ↦ elim past.1 [ inl line ↦ fetched_past p c line.0 line.1 has.few | inr line ↦ needed_past p c line.0 line.1 has.few ]
+]

@@ -14,5 +14,15 @@ pub mod Lines
 pub mod Empty
 pub mod Grouped
 pub mod Counting
-pub mod Having
 pub mod Filing
+pub mod Totals
+pub mod Noting
+pub mod Prefixes
+pub mod Having
+pub mod Owning
+pub mod Alone
+pub mod Firsts
+pub mod Standing
+pub mod Passing
+pub mod Codes
+pub mod WorkedShares

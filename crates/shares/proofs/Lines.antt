@@ -1,14 +1,10 @@
 -- The places of a group's own line and of its first need line.
-use Rattle.std.proofs.Common.{◌≡◌, ℕ, suc, ◌+◌, ◌-◌, ◌^◌, ◌<◌, min, List, [], ◌∷◌, length, get_or, drop, drop-cons, arith, ap, refl, sym, ◌∙◌, subst, true, false, Option, Some, None, inl, inr}
-use Rattle.std.specs.Prelude.{◌==◌, ◌⊎◌}
+use Rattle.std.proofs.Common.{◌≡◌, ℕ, suc, ◌+◌, ◌<◌, List, [], ◌∷◌, length, get_or, drop, drop-cons, arith, ap, refl, sym, ◌∙◌, true, false, Option, Some, None}
+use Rattle.std.specs.Prelude.{◌==◌}
 use Rattle.std.proofs.lemmas.Bool.Decides.{nat_tests}
 use Rattle.plan.specs.declared.certificate.cert.Own.{Own}
-use Rattle.plan.specs.Plan.{Plan}
-use Rattle.plan.specs.Certificate.Certificate.{Certificate}
 use Rattle.plan.specs.declared.certificate.cert.Need.{Need}
-use Rattle.outline.specs.declared.refusals.code.K.{K}
-use Rattle.outline.specs.declared.refusals.code.K.TheVariants.{K9, K10, K11, K14}
-use Rattle.shares.specs.Made.{own_place, need_place, next_place, owns_line, needs_line, StandsAt}
+use Rattle.shares.specs.Made.{own_place, need_place, next_place}
 
 head_here : (o : Own) (os : List Own) (g : ℕ) → o.group ≡ g → own_place (o ∷ os) g ≡ 0
 head_here o os g e = let t : (o.group == g) ≡ true = grind (arith, nat_tests) in rw t refl
@@ -67,17 +63,3 @@ found_none xs k g e = ap (λ (ys : List Need). further k (need_place ys g)) (non
     none : (xs : List Need) (k : ℕ) → length xs ≡ k → drop k xs ≡ []
     none [] k e = rw (sym e) refl
     none (x ∷ xs) k e = rw (sym e) (none xs (length xs) refl)
-
--- ---- where codes stand
-
-pub own_stands : (p : Plan) (c : Certificate) (n : ℕ) (k : K) (line : ℕ) → (k ≡ K9) ⊎ (k ≡ K10) → line ≡ min (owns_line p c n) (2 ^ 32 - 1) → StandsAt p c n k line
-own_stands p c n k line which h = elim which [
-  | inl is ↦ subst (λ (code : K). StandsAt p c n code line) (sym is) h
-  | inr is ↦ subst (λ (code : K). StandsAt p c n code line) (sym is) h
-]
-
-pub need_stands : (p : Plan) (c : Certificate) (n : ℕ) (k : K) (line : ℕ) → (k ≡ K11) ⊎ (k ≡ K14) → line ≡ min (needs_line p c n) (2 ^ 32 - 1) → StandsAt p c n k line
-need_stands p c n k line which h = elim which [
-  | inl is ↦ subst (λ (code : K). StandsAt p c n code line) (sym is) h
-  | inr is ↦ subst (λ (code : K). StandsAt p c n code line) (sym is) h
-]

@@ -10,19 +10,19 @@ use Rattle.plan.specs.Symbols.{Symbols, points}
 use Rattle.plan.specs.View.{plan_of, group_of}
 use Rattle.plan.specs.Certificate.Certificate.{Certificate, certificate_of}
 use Rattle.plan.specs.Certificate.Cells.{Piece, Cell, cell, cells, pieces, no_symbols, grid_symbols, own_region, own_points, points_within, is_in_region}
-use Rattle.headline.specs.Numbers.{cell_number, has_point, is_cell, group_region, point_rank}
+use Rattle.headline.specs.Numbers.{cell_number, has_point, is_cell, group_region, point_rank, HaveEnds}
 use Rattle.headline.specs.Work.{of_piece, own_cells, group_own}
 use Rattle.headline.proofs.Places.{piece_from}
 use Rattle.shares.specs.declared.grounds.Ground.{Ground}
 use Rattle.shares.specs.declared.layout.Layout.{Layout}
 use Rattle.shares.specs.declared.seats.Seat.{Seat}
-use Rattle.shares.specs.Boxes.{IsSmall, IsPlainSpan, ArePlain, is_in_box, rank, point_count}
+use Rattle.shares.specs.Boxes.{IsSmall, is_in_box, rank, point_count}
 use Rattle.shares.specs.Seats.{piece_of}
 use Rattle.shares.specs.Spaces.{numbers_in, HasAll}
 use Rattle.shares.specs.Grounds.{IsGroundOf}
 use Rattle.shares.specs.Layout.{IsLayout, own_list, OwnIsInside, PieceIsInside, region_points, AllCells}
 use Rattle.plan.specs.declared.certificate.cert.Need.{Need}
-use Rattle.shares.specs.Filed.{needs_in}
+use Rattle.shares.specs.Filed.{needs_in, AreFiled}
 use Rattle.shares.proofs.Filing.{row}
 use Rattle.shares.proofs.Groups.{get_mapped, get_some, get_within, cells_most}
 use Rattle.shares.proofs.Shared.{box_is, rank_is, points_counted}
@@ -33,7 +33,7 @@ filter_same f h e (q ∷ qs) = (λ i. cond (e q i) (q ∷ filter f qs) (filter f
 
 -- ---- a group's cells
 
-module _ (p : Plan) (c : Certificate) (n : ℕ) (g : Group) (at : slice_get p.groups n ≡ Some g) (x : Ground) (ground : IsGroundOf p c n g x) (plain : ArePlain g.region) where
+module _ (p : Plan) (c : Certificate) (n : ℕ) (g : Group) (at : slice_get p.groups n ≡ Some g) (x : Ground) (ground : IsGroundOf p c n g x) (ends : HaveEnds g.region) where
   number_is : (q : List ℤ) → x.cells.first + rank x.cells.sides.items q ≡ cell_number p (cell n q)
   number_is q =
       (λ i. ground.first_cell i + rank (ground.cell_sides i) q)
@@ -44,7 +44,7 @@ module _ (p : Plan) (c : Certificate) (n : ℕ) (g : Group) (at : slice_get p.gr
   cells_are (q ∷ qs) = λ i. number_is q i ∷ cells_are qs i
 
   pub test_is : (q : List ℤ) → is_in_box x.cells.sides.items q ≡ is_in_region no_symbols g.region q
-  test_is q = ap (λ (ss : _). is_in_box ss q) ground.cell_sides ∙ box_is no_symbols g.region q (recursion_from_All IsPlainSpan g.region plain)
+  test_is q = ap (λ (ss : _). is_in_box ss q) ground.cell_sides ∙ box_is no_symbols g.region q ends
 
   pub point_is : (q : List ℤ) → is_in_box x.cells.sides.items q ≡ has_point (slice_get p.groups n) q
   point_is q = test_is q ∙ ap (λ (o : Option Group). has_point o q) (sym at)
@@ -99,8 +99,8 @@ module _ (x : Layout) (ready : IsLayout x) (n : ℕ) (s : Seat) (less : n < leng
     pub ground_is : IsGroundOf P C s.group group_at.0 y
     ground_is = ready.grounds.each s.group group_at.0 y group_at.1 (get_some x.grounds.items s.group y group_within ∙ ap (λ (z : Ground). Some z) (sym this))
 
-    pub region_plain : ArePlain group_at.0.region
-    region_plain = (ready.shared.groups s.group group_at.0 group_at.1).plain
+    pub region_ends : HaveEnds group_at.0.region
+    region_ends = (ready.shared.groups s.group group_at.0 group_at.1).ends
 
     abbrev S : Symbols
     S = grid_symbols s.at.items
@@ -108,15 +108,15 @@ module _ (x : Layout) (ready : IsLayout x) (n : ℕ) (s : Seat) (less : n < leng
     pub own_is : numbers_in y.cells (filter (is_in_box y.cells.sides.items) (points S y.own.now)) ≡ own_list P C n
     own_is =
         let g = group_at.0 in
-        ap (numbers_in y.cells) (filter_same (is_in_box y.cells.sides.items) (is_in_region no_symbols g.region) (test_is P C s.group g group_at.1 y ground_is region_plain) (points S y.own.now))
-        ∙ cells_are P C s.group g group_at.1 y ground_is region_plain (filter (is_in_region no_symbols g.region) (points S y.own.now))
+        ap (numbers_in y.cells) (filter_same (is_in_box y.cells.sides.items) (is_in_region no_symbols g.region) (test_is P C s.group g group_at.1 y ground_is region_ends) (points S y.own.now))
+        ∙ cells_are P C s.group g group_at.1 y ground_is region_ends (filter (is_in_region no_symbols g.region) (points S y.own.now))
         ∙ ap (λ (o : Option (List Span1)). map (cell_number P) (map (cell s.group) (points_within g o S))) (sym ground_is.own)
         ∙ ap (λ (o : Option Group). map (cell_number P) (group_own o C (piece_of s))) (sym group_at.1)
         ∙ ap (λ (o : Option Piece). of_piece o [] (λ j. map (cell_number P) (own_cells P C j))) (sym piece_is)
 
     pub inside_is : HasAll y.cells (points S y.own.now) ↔ OwnIsInside P C n
     inside_is =
-        let both = all_points P C s.group group_at.0 group_at.1 y ground_is region_plain (points S y.own.now) in
+        let both = all_points P C s.group group_at.0 group_at.1 y ground_is region_ends (points S y.own.now) in
         let Inside : Option (List Span1) → Type 0 = λ o. All (λ q. IsTrue (has_point (slice_get P.groups s.group) q)) (region_points o (piece_of s)) in (
           (λ h. subst (PieceIsInside P C) (sym piece_is) (subst Inside (sym ground_is.own) (both.0 h))),
           (λ h. both.1 (subst Inside ground_is.own (subst (PieceIsInside P C) piece_is h))),
@@ -149,12 +149,12 @@ module _ (x : Layout) (ready : IsLayout x) (h : ℕ) (g : Group) (at : slice_get
     ground_at = ready.grounds.each h g y at (get_some x.grounds.items h y ground_within ∙ ap (λ (z : Ground). Some z) (sym this))
 
     pub cells_at : (qs : List (List ℤ)) → numbers_in y.cells qs ≡ map (cell_number (plan_of x.plan.now)) (map (cell h) qs)
-    cells_at qs = cells_are (plan_of x.plan.now) (certificate_of x.cert.now) h g at y ground_at (ready.shared.groups h g at).plain qs
+    cells_at qs = cells_are (plan_of x.plan.now) (certificate_of x.cert.now) h g at y ground_at (ready.shared.groups h g at).ends qs
 
     pub all_at : (qs : List (List ℤ)) → HasAll y.cells qs ↔ AllCells (plan_of x.plan.now) (map (cell h) qs)
     all_at qs =
         let p = plan_of x.plan.now in
-        let both = all_points p (certificate_of x.cert.now) h g at y ground_at (ready.shared.groups h g at).plain qs in
+        let both = all_points p (certificate_of x.cert.now) h g at y ground_at (ready.shared.groups h g at).ends qs in
         let Q : List ℤ → Type 0 = λ q. IsTrue (has_point (slice_get p.groups h) q) in
         let R : Cell → Type 0 = λ z. IsTrue (is_cell p z) in (
           (λ k. All-from_recursion R (map (cell h) qs) (mapped_to p h qs (recursion_from_All Q qs (both.0 k)))),
@@ -163,14 +163,14 @@ module _ (x : Layout) (ready : IsLayout x) (h : ℕ) (g : Group) (at : slice_get
 
 -- ---- the need lines of a group
 
-module _ (x : Layout) (ready : IsLayout x) (g : ℕ) (listed : g < length x.plan.now.groups.items) where
-  pub lines_within : g < length x.needs.items
+module _ (ns : List Need) (groups : ℕ) (lists : List (Vec (Bor Need) Global)) (filed : AreFiled ns groups (map row lists)) (g : ℕ) (listed : g < groups) where
+  pub lines_within : g < length lists
   lines_within =
-      let all = ready.needs.count in
-      let long = length-map x.needs.items row in
+      let all = filed.count in
+      let long = length-map lists row in
       omega (arith, listed, all, long)
 
-  pub lines_at : (v : Vec (Bor Need) Global) → v ≡ get_or x.needs.items g v → (now : List (Bor Need)) → now ≡ v.items → map (λ (n : Bor Need). n.now) now ≡ needs_in x.cert.now.needs.items g
+  pub lines_at : (v : Vec (Bor Need) Global) → v ≡ get_or lists g v → (now : List (Bor Need)) → now ≡ v.items → map (λ (n : Bor Need). n.now) now ≡ needs_in ns g
   lines_at v this now is =
-      let at = get_mapped row x.needs.items g v lines_within ∙ ap (λ (u : Vec (Bor Need) Global). Some (row u)) (sym this) in
-      ap (map (λ (n : Bor Need). n.now)) is ∙ ready.needs.each g (row v) at
+      let at = get_mapped row lists g v lines_within ∙ ap (λ (u : Vec (Bor Need) Global). Some (row u)) (sym this) in
+      ap (map (λ (n : Bor Need). n.now)) is ∙ filed.each g (row v) at

@@ -1,7 +1,7 @@
 -- The numbers of the points that a region shares with a box.
 use Rattle.std.proofs.Common.{◌≡◌, ℕ, zero, suc, ◌+◌, ◌*◌, ◌<◌, ◌≤◌, List, [], ◌∷◌, ◌++◌, length, true, false, Bool, arith, ap, refl, sym, ◌∙◌, cond, length-append, min, ◌-◌, ◌^◌}
 use Rattle.std.specs.Prelude.{ℤ, pos, negsuc, ◌+ℤ◌, ◌-ℤ◌, ◌≤ℤ◌, ◌<ℤ◌, ◌&&◌, flat_map, map, filter, int_le, IsTrue, All, ◌↔◌}
-use Rattle.std.specs.List.{range_with_len, AllByRecursion}
+use Rattle.std.specs.List.{range_with_len, AllByRecursion, list_all}
 use Rattle.std.specs.Int.{int_max, int_min}
 use Rattle.std.proofs.lemmas.Bool.{false≢true}
 use Rattle.std.proofs.lemmas.Int.{ints, clamps, by_lt_z}
@@ -9,13 +9,15 @@ use Rattle.std.proofs.lemmas.Bool.Decides.{nat_tests}
 use Rattle.std.proofs.lemmas.List.Elements.{filter-append, recursion_from_All, All-from_recursion}
 use Rattle.std.proofs.lemmas.List.{map-append}
 use Rattle.std.proofs.Math.Nat.{mul-add, mul-one}
-use Rattle.lin.specs.Forms.{Form}
 use Rattle.lin.specs.declared.span.Span1.{Span1}
-use Rattle.plan.specs.Symbols.{Symbols, form_value, largest, clipped, rising, turns, points}
+use Rattle.plan.specs.Symbols.{Symbols, form_value, largest, smallest, clipped, rising, turns, points}
 use Rattle.plan.specs.Certificate.Cells.{is_in_span, is_in_region}
-use Rattle.headline.specs.Numbers.{point_rank}
+use Rattle.soundness.proofs.Forms.{turn_lies}
+use Rattle.soundness.proofs.Refines.{and_parts}
+use Rattle.headline.specs.Numbers.{point_rank, HasEnds, HaveEnds}
+use Rattle.headline.proofs.Regions.{at_in, turn_stands, largest_below, smallest_above, lies_test}
 use Rattle.shares.specs.declared.boxes.Side.{Side}
-use Rattle.shares.specs.Boxes.{IsSingle, IsPlainSpan, side, sides, is_in_side, is_in_box, rank, point_count}
+use Rattle.shares.specs.Boxes.{side, sides, is_in_side, is_in_box, rank, point_count}
 use Rattle.shares.specs.Walked.{common, shared_cells}
 use Rattle.shares.proofs.Values.{clipped_none}
 use Rattle.shares.proofs.Rows.{shared_few}
@@ -227,20 +229,11 @@ whole_from s own R e k = kept_all (is_in_box R) (points s own) (sym (shared_leng
 pub whole_to : (s : Symbols) (own : List Span1) (R : List Side) → length own ≡ length R → AllByRecursion (λ q. IsTrue (is_in_box R q)) (points s own) → length (shared_cells (sides s own) R) ≡ point_count (sides s own)
 whole_to s own R e h = shared_length s own R e ∙ all_kept (is_in_box R) (points s own) h ∙ points_counted s own
 
--- ---- spans of one form a side
+-- ---- spans with ends
 
-test_yes : (a u z : ℤ) → a ≤ℤ z → z ≤ℤ u → (int_le a z && true && (int_le z u && true)) ≡ true
-test_yes a u z h k = grind (arith, ints)
-
-test_low : (a u z : ℤ) → z <ℤ a → (int_le a z && true && (int_le z u && true)) ≡ false
-test_low a u z h = grind (arith, ints)
-
-later_false : (x y : Bool) → y ≡ false → (x && true && (y && true)) ≡ false
-later_false true y e = rw e refl
-later_false false y e = refl
-
-test_high : (a u z : ℤ) → u <ℤ z → (int_le a z && true && (int_le z u && true)) ≡ false
-test_high a u z h = later_false (int_le a z) (int_le z u) (grind (arith, ints))
+not_true : (b : Bool) → (b ≡ true → ⊥) → b ≡ false
+not_true true h = absurd (h refl)
+not_true false h = refl
 
 clipped_up : (z : ℤ) → z ≤ℤ pos (clipped z)
 clipped_up (pos n) = omega (arith, ints)
@@ -250,14 +243,21 @@ below_end : (g z : ℤ) → pos 0 ≤ℤ z → z <ℤ pos (clipped g) → z <ℤ
 below_end (pos n) z a b = b
 below_end (negsuc n) z a b = absurd (omega (arith, ints))
 
-tests_of : (s : Symbols) (l u : Form) → Tests (is_in_span s (record { lower = l ∷ []; upper = u ∷ [] })) (form_value l s) (form_value l s +ℤ pos (clipped ((form_value u s +ℤ pos 1) -ℤ form_value l s)))
-tests_of s l u =
-    let a = form_value l s in let b = form_value u s in let g = (b +ℤ pos 1) -ℤ a in
+tests_of : (s : Symbols) (x : Span1) → HasEnds x → Tests (is_in_span s x) (largest s x.lower) (largest s x.lower +ℤ pos (clipped ((smallest s x.upper +ℤ pos 1) -ℤ largest s x.lower)))
+tests_of s x ends =
+    let a = largest s x.lower in let b = smallest s x.upper in let g = (b +ℤ pos 1) -ℤ a in
     let up : g ≤ℤ pos (clipped g) = clipped_up g in
     record {
-      inside = λ z h k. test_yes a b z h (let m : (z -ℤ a) <ℤ g = below_end g (z -ℤ a) (omega (arith, ints)) (omega (arith, ints)) in omega (arith, ints));
-      below = λ z h. test_low a b z h;
-      above = λ z h. test_high a b z (omega (arith, ints));
+      inside = λ z h k.
+          let m : (z -ℤ a) <ℤ g = below_end g (z -ℤ a) (omega (arith, ints)) (omega (arith, ints)) in
+          let n : z ≤ℤ b = omega (arith, ints) in
+          lies_test s x z (turn_lies s x z (at_in (turns s x) (clipped (z -ℤ a)) z (turn_stands s x z h n)));
+      below = λ z h. not_true (is_in_span s x z) (λ e.
+          let low : a ≤ℤ z = largest_below s z x.lower ends.lower (and_parts (list_all (λ l. int_le (form_value l s) z) x.lower) (list_all (λ u. int_le z (form_value u s)) x.upper) e).0 in
+          omega (arith, ints));
+      above = λ z h. not_true (is_in_span s x z) (λ e.
+          let high : z ≤ℤ b = smallest_above s z x.upper ends.upper (and_parts (list_all (λ l. int_le (form_value l s) z) x.lower) (list_all (λ u. int_le z (form_value u s)) x.upper) e).1 in
+          omega (arith, ints));
     }
 
 same_tests : (P Q : ℤ → Bool) (low end : ℤ) → Tests P low end → Tests Q low end → (z : ℤ) → P z ≡ Q z
@@ -265,21 +265,16 @@ same_tests P Q low end p q z =
     by_lt_z z low (λ less. p.below z less ∙ sym (q.below z less))
     (λ from. by_lt_z z end (λ less. p.inside z from less ∙ sym (q.inside z from less)) (λ past. p.above z past ∙ sym (q.above z past)))
 
-span_test : (s : Symbols) (lower upper : List Form) (z : ℤ) → IsSingle lower → IsSingle upper → let r : Span1 = record { lower = lower; upper = upper } in is_in_side (side s r) z ≡ is_in_span s r z
-span_test s [] upper z h k = absurd h
-span_test s (l ∷ m ∷ more) upper z h k = absurd h
-span_test s (l ∷ []) [] z h k = absurd k
-span_test s (l ∷ []) (u ∷ m ∷ more) z h k = absurd k
-span_test s (l ∷ []) (u ∷ []) z h k =
-    let r : Span1 = record { lower = l ∷ []; upper = u ∷ [] } in
-    same_tests (is_in_side (side s r)) (is_in_span s r) (form_value l s) (form_value l s +ℤ pos (clipped ((form_value u s +ℤ pos 1) -ℤ form_value l s))) (side_tests (side s r)) (tests_of s l u) z
+span_test : (s : Symbols) (x : Span1) (z : ℤ) → HasEnds x → is_in_side (side s x) z ≡ is_in_span s x z
+span_test s x z ends =
+    same_tests (is_in_side (side s x)) (is_in_span s x) (largest s x.lower) (largest s x.lower +ℤ pos (clipped ((smallest s x.upper +ℤ pos 1) -ℤ largest s x.lower))) (side_tests (side s x)) (tests_of s x ends) z
 
--- a region of one form a side is its box
-pub box_is : (s : Symbols) (xs : List Span1) (p : List ℤ) → AllByRecursion IsPlainSpan xs → is_in_box (sides s xs) p ≡ is_in_region s xs p
+-- a region with ends is its box
+pub box_is : (s : Symbols) (xs : List Span1) (p : List ℤ) → HaveEnds xs → is_in_box (sides s xs) p ≡ is_in_region s xs p
 box_is s [] [] h = refl
 box_is s [] (z ∷ zs) h = refl
 box_is s (x ∷ xs) [] h = refl
-box_is s (x ∷ xs) (z ∷ zs) h = λ i. span_test s x.lower x.upper z h.0.0 h.0.1 i && box_is s xs zs h.1 i
+box_is s (x ∷ xs) (z ∷ zs) h = λ i. span_test s x z h.0 i && box_is s xs zs h.1 i
 
 pub rank_is : (s : Symbols) (xs : List Span1) (p : List ℤ) → rank (sides s xs) p ≡ point_rank s xs p
 rank_is s [] p = refl

@@ -17,19 +17,6 @@ IsLimited xs = All (λ x. AreLimited x.lower × AreLimited x.upper) xs
 abbrev pub IsSmall : List ℕ → Type 0
 IsSmall at = All (λ x. x ≤ 2 ^ 20) at
 
--- one form
-abbrev pub IsSingle : List Form → Type 0
-IsSingle [] = ⊥
-IsSingle (f ∷ []) = Unit {0}
-IsSingle (f ∷ g ∷ rest) = ⊥
-
--- one lower and one upper form
-abbrev pub IsPlainSpan : Span1 → Type 0
-IsPlainSpan x = IsSingle x.lower × IsSingle x.upper
-
-abbrev pub ArePlain : List Span1 → Type 0
-ArePlain xs = All IsPlainSpan xs
-
 -- the numbers of a span: so many from the lower end on
 abbrev pub side : Symbols → Span1 → Side
 side s x = record { low = largest s x.lower; count = clipped ((smallest s x.upper +ℤ pos 1) -ℤ largest s x.lower) }

@@ -9,6 +9,10 @@ pub mod Faults
 pub mod Needed
 pub mod Filed
 pub mod Has
+pub mod Counts
+pub mod Noted
 pub mod Stops
 pub mod Made
+pub mod Owned
 pub mod Laws
+pub mod Worked

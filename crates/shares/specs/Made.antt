@@ -1,5 +1,5 @@
 -- The lists of pieces as they are made.
-use Rattle.std.specs.Prelude.{Option, None, suc, ◌+◌, ◌-◌, ◌≤◌, ◌^◌, ◌==◌, if◌then◌else◌, [], ◌∷◌, min, MatchOption, ◌≡◌, ℕ, ◌<◌, List, length, Some, Contains, slice_get, ◌⊎◌}
+use Rattle.std.specs.Prelude.{false, Option, None, suc, ◌+◌, ◌-◌, ◌≤◌, ◌^◌, ◌==◌, if◌then◌else◌, [], ◌∷◌, min, MatchOption, ◌≡◌, ℕ, ◌<◌, List, length, Some, Contains, slice_get, ◌⊎◌}
 use Rattle.plan.specs.Plan.{Plan}
 use Rattle.plan.specs.Certificate.Certificate.{Certificate}
 use Rattle.plan.specs.Lines.{certificate_line}
@@ -10,8 +10,10 @@ use Rattle.plan.specs.Certificate.Cells.{first_cell, pieces}
 use Rattle.orders.specs.Work.{Work}
 use Rattle.orders.specs.declared.lists.Piece.{Piece}
 use Rattle.orders.specs.Lists.{own_lists, fetched_lists, needs_lists}
+use Rattle.outline.specs.declared.refusals.code.Flaw.{Flaw as FlawHeld}
 use Rattle.outline.specs.declared.refusals.code.K.{K}
 use Rattle.outline.specs.declared.refusals.code.K.TheVariants.{K9, K10, K11, K14}
+use Rattle.outline.specs.Refusals.Codes.{is_before}
 use Rattle.shares.specs.declared.answer.SharesError.{SharesError}
 use Rattle.shares.specs.declared.answer.SharesError.TheVariants.{Flaw, Memory}
 use Rattle.shares.specs.declared.lists.Trouble.{Trouble}
@@ -19,8 +21,9 @@ use Rattle.shares.specs.declared.lists.Trouble.TheVariants.{Unserved, Large, Mem
 use Rattle.shares.specs.declared.stop.Stop.{Stop}
 use Rattle.shares.specs.declared.stop.Stop.TheVariants.{Unserved as StopUnserved, Large as StopLarge, Memory as StopWant}
 use Rattle.shares.specs.Layout.{own_list, fetched_list, needs_list, FetchesCells, OwnIsInside}
+use Rattle.shares.specs.Counts.{FetchPasses, NeedPasses}
 use Rattle.shares.specs.Faults.{IsApart}
-use Rattle.shares.specs.Has.{AreFew, NeedsPieces, IsServed}
+use Rattle.shares.specs.Has.{AreFew, NeedsPieces, IsServed, fetched_before}
 
 -- the lists of a piece are the plan's
 pub record IsMade (p : Plan) (c : Certificate) (n : ℕ) (x : Piece) : Type 0 where
@@ -74,12 +77,11 @@ HasGap p c n = (x : ℕ) × (first_cell p.groups n ≤ x) × (x < first_cell p.g
 abbrev pub IsUnserved : Plan → Certificate → ℕ → Type 0
 IsUnserved p c n = (piece : ℕ) × IsPieceOf p n piece × ¬ IsServed p c piece
 
--- what a code says of a group; no other code is told
+-- what a code says of a group; no other code is told of one
 abbrev pub CodeMeans : Plan → Certificate → ℕ → K → Type 0
 CodeMeans p c n K9 = Overlaps p c n
 CodeMeans p c n K10 = Leaves p c n ⊎ HasGap p c n
 CodeMeans p c n K11 = IsUnserved p c n
-CodeMeans p c n K14 = ¬ AreFew p c
 CodeMeans p c n k = ⊥
 
 -- a group's own line
@@ -94,15 +96,44 @@ line_at p c n (Some i) = need_line c (certificate_line p) i
 abbrev pub needs_line : Plan → Certificate → ℕ → ℕ
 needs_line p c n = line_at p c n (need_place c.needs n)
 
--- K9 and K10 stand at the group's own line, K11 and K14 at its first need line, or its own line where it has none; lines past
--- the greatest `u32` count as that
+-- K9 and K10 stand at the group's own line, K11 at its first need line, or its own line where it has none; lines past the greatest
+-- `u32` count as that
 abbrev pub StandsAt : Plan → Certificate → ℕ → K → ℕ → Type 0
 StandsAt p c n K11 line = line ≡ min (needs_line p c n) (2 ^ 32 - 1)
-StandsAt p c n K14 line = line ≡ min (needs_line p c n) (2 ^ 32 - 1)
 StandsAt p c n k line = line ≡ min (owns_line p c n) (2 ^ 32 - 1)
 
+-- what a flaw tells: a code of some group, at the line where it stands, or a limit that is passed with the line
+abbrev pub FlawMeans : Plan → Certificate → FlawHeld → Type 0
+FlawMeans p c f = ((n : ℕ) × CodeMeans p c n f.code × StandsAt p c n f.code f.line) ⊎ ((f.code ≡ K14) × (FetchPasses p c f.line ⊎ NeedPasses p c f.line))
+
+-- what is wrong at a group's own line: K11 stands there where the group needs no pieces
+abbrev pub OwnCode : Plan → Certificate → ℕ → K → Type 0
+OwnCode p c n K9 = Overlaps p c n
+OwnCode p c n K10 = Leaves p c n ⊎ HasGap p c n
+OwnCode p c n K11 = (need_place c.needs n ≡ None) × IsUnserved p c n
+OwnCode p c n k = ⊥
+
+-- a flaw at the own line of one of the first groups, so many
+abbrev pub IsOwnFlaw : Plan → Certificate → ℕ → FlawHeld → Type 0
+IsOwnFlaw p c groups f = (n : ℕ) × (n < groups) × OwnCode p c n f.code × (f.line ≡ min (owns_line p c n) (2 ^ 32 - 1))
+
+-- no flaw at an own line is told before it
+abbrev pub IsFirstOwn : Plan → Certificate → ℕ → FlawHeld → Type 0
+IsFirstOwn p c groups f = (g : FlawHeld) → IsOwnFlaw p c groups g → is_before g f ≡ false
+
+-- the flaw holds
+abbrev pub Holds : Plan → Certificate → SharesError → Type 0
+Holds p c (Flaw f) = FlawMeans p c f
+Holds p c Memory = Unit {0}
+
+-- nothing is wrong at fetch lines and own lines
+pub record LinesStand (p : Plan) (c : Certificate) : Type 0 where
+  pub fetched : fetched_before p (length (pieces p)) ≤ 2 ^ 26
+  pub own : (f : FlawHeld) → ¬ IsOwnFlaw p c (length p.groups) f
+
+-- the flaw holds, and of all at own lines none is told before it
 abbrev pub ErrorMeans : Plan → Certificate → SharesError → Type 0
-ErrorMeans p c (Flaw f) = (n : ℕ) × CodeMeans p c n f.code × StandsAt p c n f.code f.line
+ErrorMeans p c (Flaw f) = FlawMeans p c f × IsFirstOwn p c (length p.groups) f
 ErrorMeans p c Memory = Unit {0}
 
 -- what trouble tells of a piece, which is one of so many: it is not served, or with it more is fetched or needed than may be

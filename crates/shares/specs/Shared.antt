@@ -6,7 +6,8 @@ use Rattle.plan.specs.declared.certificate.cert.Need.{Need}
 use Rattle.plan.specs.Certificate.Certificate.{Certificate}
 use Rattle.plan.specs.Certificate.Cells.{no_symbols, own_region, cells, pieces}
 use Rattle.headline.specs.Fetched.{fetches}
-use Rattle.shares.specs.Boxes.{IsLimited, ArePlain, sides}
+use Rattle.headline.specs.Numbers.{HaveEnds}
+use Rattle.shares.specs.Boxes.{IsLimited, sides}
 
 -- a region in forms within the limits that has as many spans as another
 abbrev pub IsLike : List Span1 → ℕ → Type 0
@@ -31,8 +32,8 @@ NeedIsShared p n = MatchOption (slice_get p.groups n.needed) ⊥ (λ g. IsLike n
 
 -- of a group
 pub record GroupIsShared (p : Plan) (c : Certificate) (n : ℕ) (g : Group) : Type 0 where
-  -- its region has one form a side, within the limits, and small extents
-  pub plain : ArePlain g.region
+  -- its region has a form on each side, within the limits, and small extents
+  pub ends : HaveEnds g.region
   pub limits : IsLimited g.region
   pub extents : All (λ x. x.count ≤ 8192) (sides no_symbols g.region)
   -- its grid's counts are small where the grid has a point

@@ -1,26 +1,30 @@
 //! The shares of a plan's pieces.
 
-ghost use Rattle.std.specs.Prelude.{◌≡◌, ℕ, ◌<◌, ◌≤◌, ◌+◌, ◌-◌, ◌^◌, ◌⊎◌, min, List, IfOk, IfErr, MatchOption, length};
+ghost use Rattle.std.specs.Prelude.{◌≡◌, ℕ, ◌<◌, ◌≤◌, ◌+◌, ◌^◌, List, IfOk, IfErr, MatchOption, length};
 ghost use Rattle.meaning.specs.Algorithm.{Algorithm};
 ghost use Rattle.plan.specs.View.{plan_of};
 ghost use Rattle.plan.specs.Certificate.Certificate.{certificate_of};
-ghost use Rattle.plan.specs.Certificate.Cells.{cells, first_cell};
+ghost use Rattle.plan.specs.Certificate.Cells.{cells, pieces};
 ghost use Rattle.orders.specs.Lists.{AreSound};
 ghost use Rattle.headline.specs.Work.{work_of};
 ghost use Rattle.shares.specs.Shared.{AreShared};
 ghost use Rattle.shares.specs.Layout.{IsLayout, FetchesCells, OwnIsInside};
-ghost use Rattle.outline.specs.declared.refusals.code.K.TheVariants.{K9, K10, K11, K14};
-ghost use Rattle.shares.specs.Has.{HasShares};
-ghost use Rattle.shares.specs.Made.{AreListsOf, CodeMeans, ErrorMeans, IsPieceOf, TroubleMeans, need_place, needs_line, own_place, owns_line};
+ghost use Rattle.outline.specs.declared.refusals.code.K.TheVariants.{K9, K11};
+ghost use Rattle.shares.specs.Has.{HasShares, fetched_before, needed_before};
+ghost use Rattle.shares.specs.Made.{AreListsOf, CodeMeans, ErrorMeans, Holds, IsPieceOf, LinesStand, TroubleMeans};
 
 use crate::boxes::most_points;
-use crate::layout::{Layout, layout_of, own_of};
+use crate::counts::fetch_flaw;
+use crate::layout::{Layout, layout_of};
+use crate::limits::need_past;
 use crate::lists::{Trouble, lists_of};
+use crate::own::own_flaw;
 use crate::owners::owners_of;
-use orders::{Piece, first_gap, first_unserved};
-use outline::refusals::{Flaw, K};
+use crate::stands::{needs_line, own_line};
+use orders::{Piece, first_unserved};
+use outline::refusals::{Flaw, K, least};
 use plan::Plan;
-use plan::certificate::{Cert, Need, Own};
+use plan::certificate::Cert;
 use std::alloc::{AllocError, Global};
 
 /// The lists of a plan's pieces, and how many cells it has.
@@ -62,20 +66,6 @@ fn cell_count(layout: &Layout<'_>) -> u32
     ground.cells.first + most_points(&ground.cells.sides) as u32
 }
 
-/// The first piece whose own region leaves its group's region.
-fn first_leaving(alloc: Global, layout: &Layout<'_>) -> Result<Option<u32>, AllocError>
-    requires { IsLayout layout.now }
-    ensures { IfOk result (λ found. MatchOption found ((n : ℕ) → n < length layout.now.seats.items → OwnIsInside (plan_of layout.now.plan.now) (certificate_of layout.now.cert.now) n) (λ n. (n < length layout.now.seats.items) × ¬ OwnIsInside (plan_of layout.now.plan.now) (certificate_of layout.now.cert.now) n)) }
-{
-    for piece in 0..layout.seats.len() as u32 {
-        let own = own_of(alloc, layout, piece)?;
-        if !own.whole {
-            return Ok(Some(piece));
-        }
-    }
-    Ok(None)
-}
-
 /// The group of a piece.
 fn group_of(layout: &Layout<'_>, piece: u32) -> usize
     requires layout { IsLayout layout.now }
@@ -85,97 +75,61 @@ fn group_of(layout: &Layout<'_>, piece: u32) -> usize
     layout.seats[piece as usize].group
 }
 
-/// The group that has a cell.
-fn group_with(layout: &Layout<'_>, cell: u32) -> usize
-    requires layout { IsLayout layout.now }
-    requires cell { cell < length (cells (plan_of layout.now.plan.now)) }
-    ensures from { first_cell (plan_of layout.now.plan.now).groups result ≤ cell }
-    ensures to { cell < first_cell (plan_of layout.now.plan.now).groups (result + 1) }
-{
-    for group in 0..layout.grounds.as_slice().len() {
-        let space = &layout.grounds[group].cells;
-        if u64::from(cell) < u64::from(space.first) + u64::from(most_points(&space.sides) as u32) {
-            return group;
-        }
-    }
-    0
-}
-
-/// The place of a group's own line among the own lines.
-fn own_place(all: &[Own], group: usize) -> usize
-    ensures { result ≡ own_place all.now group }
-{
-    let mut place: usize = 0;
-    for own in all {
-        if own.group as usize == group {
-            return place;
-        }
-        place += 1;
-    }
-    place
-}
-
-/// The place of a group's first need line among the need lines, if it has one.
-fn need_place(all: &[Need], group: usize) -> Option<usize>
-    ensures { result ≡ need_place all.now group }
-{
-    let mut place: usize = 0;
-    for need in all {
-        if need.group as usize == group {
-            return Some(place);
-        }
-        place += 1;
-    }
-    None
-}
-
-/// The line of a group's own region.
-fn own_line(layout: &Layout<'_>, group: usize) -> u32
-    ensures { result ≡ min (owns_line (plan_of layout.now.plan.now) (certificate_of layout.now.cert.now) group) (2 ^ 32 - 1) }
-{
-    let place = own_place(&layout.cert.own, group);
-    layout.cert.own_line(layout.plan.certificate_line(), place)
-}
-
-/// The line of a group's first need line, or of its own region where it has none.
-fn needs_line(layout: &Layout<'_>, group: usize) -> u32
-    ensures { result ≡ min (needs_line (plan_of layout.now.plan.now) (certificate_of layout.now.cert.now) group) (2 ^ 32 - 1) }
-{
-    match need_place(&layout.cert.needs, group) {
-        Some(place) => layout.cert.need_line(layout.plan.certificate_line(), place),
-        None => own_line(layout, group),
-    }
-}
-
-/// K9 or K10 of a group, at its own line.
-fn own_flaw(layout: &Layout<'_>, code: K, group: usize) -> SharesError
-    requires { (code ≡ K9) ⊎ (code ≡ K10) }
-    ensures { CodeMeans (plan_of layout.now.plan.now) (certificate_of layout.now.cert.now) group code → ErrorMeans (plan_of layout.now.plan.now) (certificate_of layout.now.cert.now) result }
+/// K9 of a group, at its own line.
+fn overlap(layout: &Layout<'_>, group: usize) -> SharesError
+    ensures { CodeMeans (plan_of layout.now.plan.now) (certificate_of layout.now.cert.now) group K9 → Holds (plan_of layout.now.plan.now) (certificate_of layout.now.cert.now) result }
 {
     let line = own_line(layout, group);
-    SharesError::Flaw(Flaw { code, line })
+    SharesError::Flaw(Flaw { code: K::K9, line })
 }
 
-/// K11 or K14 of a group, at its first need line, or its own line where it has none.
-fn need_flaw(layout: &Layout<'_>, code: K, group: usize) -> SharesError
-    requires { (code ≡ K11) ⊎ (code ≡ K14) }
-    ensures { CodeMeans (plan_of layout.now.plan.now) (certificate_of layout.now.cert.now) group code → ErrorMeans (plan_of layout.now.plan.now) (certificate_of layout.now.cert.now) result }
+/// K11 of a group, at its first need line, or its own line where it has none.
+fn unserved(layout: &Layout<'_>, group: usize) -> SharesError
+    ensures { CodeMeans (plan_of layout.now.plan.now) (certificate_of layout.now.cert.now) group K11 → Holds (plan_of layout.now.plan.now) (certificate_of layout.now.cert.now) result }
 {
     let line = needs_line(layout, group);
-    SharesError::Flaw(Flaw { code, line })
+    SharesError::Flaw(Flaw { code: K::K11, line })
 }
 
-/// What is wrong where the lists of the pieces are not made.
-fn error_of(layout: &Layout<'_>, trouble: Trouble) -> SharesError
+/// K14 at the need line with which too many pieces are needed, where they are.
+fn too_many_needed(alloc: Global, layout: &Layout<'_>) -> SharesError
+    requires layout { IsLayout layout.now }
+    requires many { ¬ (needed_before (plan_of layout.now.plan.now) (certificate_of layout.now.cert.now) (length (pieces (plan_of layout.now.plan.now))) ≤ 2 ^ 24) }
+    ensures { Holds (plan_of layout.now.plan.now) (certificate_of layout.now.cert.now) result }
+{
+    match need_past(alloc, layout) {
+        Ok(Ok(place)) => {
+            let line = layout.cert.need_line(layout.plan.certificate_line(), place);
+            SharesError::Flaw(Flaw { code: K::K14, line })
+        }
+        Ok(Err(piece)) => unserved(layout, group_of(layout, piece)),
+        Err(_) => SharesError::Memory,
+    }
+}
+
+/// What is wrong where the lists of the pieces are not made, though not too many cells are fetched.
+fn error_of(alloc: Global, layout: &Layout<'_>, trouble: Trouble) -> SharesError
     requires layout { IsLayout layout.now }
     requires trouble { TroubleMeans (plan_of layout.now.plan.now) (certificate_of layout.now.cert.now) (length layout.now.seats.items) trouble }
-    ensures { ErrorMeans (plan_of layout.now.plan.now) (certificate_of layout.now.cert.now) result }
+    requires fetched { fetched_before (plan_of layout.now.plan.now) (length (pieces (plan_of layout.now.plan.now))) ≤ 2 ^ 26 }
+    ensures { Holds (plan_of layout.now.plan.now) (certificate_of layout.now.cert.now) result }
 {
     match trouble {
-        Trouble::Unserved(piece) => need_flaw(layout, K::K11, group_of(layout, piece)),
-        Trouble::Large(piece) => need_flaw(layout, K::K14, group_of(layout, piece)),
+        Trouble::Unserved(piece) => unserved(layout, group_of(layout, piece)),
+        Trouble::Large(_) => too_many_needed(alloc, layout),
         Trouble::Memory => SharesError::Memory,
     }
+}
+
+/// The first of what is wrong at fetch lines and at own lines, if anything is.
+fn line_flaw(alloc: Global, layout: &Layout<'_>, count: u32) -> Result<Option<Flaw>, AllocError>
+    requires layout { IsLayout layout.now }
+    requires count { count ≡ length (cells (plan_of layout.now.plan.now)) }
+    ensures { IfOk result (λ found. MatchOption found (LinesStand (plan_of layout.now.plan.now) (certificate_of layout.now.cert.now)) (λ f. ErrorMeans (plan_of layout.now.plan.now) (certificate_of layout.now.cert.now) (SharesError.Flaw f))) }
+{
+    let fetched = fetch_flaw(alloc, layout)?;
+    let own = own_flaw(alloc, layout, count)?;
+    Ok(least(fetched, own))
 }
 
 /// Which cells each piece of a plan owns and fetches, and which pieces it needs, where the pieces part the cells among
@@ -183,11 +137,12 @@ fn error_of(layout: &Layout<'_>, trouble: Trouble) -> SharesError
 ///
 /// K9: a cell is in the own regions of two pieces. K10: an own region leaves its group's region, or a cell is in no own
 /// region. K11: a piece fetches a point that no piece that it needs owns, or needs a grid point that is no earlier piece.
-/// K14: more than 2^26 cells are fetched or 2^24 pieces needed in all. K9 and K10 stand at the own line of the group, the
-/// others at its first need line, or its own line if there is none.
+/// K14: more than 2^26 cells are fetched or 2^24 pieces needed in all. K9 and K10 stand at the own line of the group, K11 at
+/// its first need line, or its own line if there is none, K14 at the fetch line or need line with which the limit is passed.
+/// Of what is wrong at fetch lines and own lines the first is told, at one line the lowest code.
 ///
-/// The time is about linear in the pieces, the cells, the fetched cells, the need lines, and the points that the need lines
-/// of each piece's group name for it.
+/// The time is about linear in the pieces, the cells, the fetch lines for each piece, the fetched cells, the need lines, and the
+/// points that the need lines of each piece's group name for it.
 pub fn shares_of(alloc: Global, plan: &Plan, cert: &Cert) -> Result<Shares, SharesError>
     requires { AreShared (plan_of plan.now) (certificate_of cert.now) }
     ensures lists { (a : Algorithm) (samples : List ℕ) → IfOk result (λ made. AreListsOf (work_of a (plan_of plan.now) (certificate_of cert.now) samples) made.pieces.items) }
@@ -214,22 +169,19 @@ fn made_of(alloc: Global, layout: &Layout<'_>) -> Result<Shares, SharesError>
     ensures flaw { IfErr result (ErrorMeans (plan_of layout.now.plan.now) (certificate_of layout.now.cert.now)) }
 {
     let cells = cell_count(layout);
+    if let Some(flaw) = line_flaw(alloc, layout, cells)? {
+        return Err(SharesError::Flaw(flaw));
+    }
     let owners = match owners_of(alloc, layout, cells)? {
         Ok(owners) => owners,
-        Err(piece) => return Err(own_flaw(layout, K::K9, group_of(layout, piece))),
+        Err(piece) => return Err(overlap(layout, group_of(layout, piece))),
     };
-    if let Some(piece) = first_leaving(alloc, layout)? {
-        return Err(own_flaw(layout, K::K10, group_of(layout, piece)));
-    }
-    if let Some(cell) = first_gap(&owners) {
-        return Err(own_flaw(layout, K::K10, group_with(layout, cell as u32)));
-    }
     let pieces = match lists_of(alloc, layout) {
         Ok(pieces) => pieces,
-        Err(trouble) => return Err(error_of(layout, trouble)),
+        Err(trouble) => return Err(error_of(alloc, layout, trouble)),
     };
     if let Some(piece) = first_unserved(alloc, &owners, &pieces)? {
-        return Err(need_flaw(layout, K::K11, group_of(layout, piece)));
+        return Err(unserved(layout, group_of(layout, piece)));
     }
     Ok(Shares { pieces, cells })
 }

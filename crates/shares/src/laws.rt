@@ -1,8 +1,15 @@
-//! What a refusal means.
+//! What a refusal means, and a plan whose pieces have shares.
 
 ghost use Rattle.shares.specs.Laws.{FaultsHaveNoShares};
+ghost use Rattle.shares.specs.Worked.{SharesAreWorked};
 
 /// Where K9, K10, K11 or K14 is told, the pieces have no shares.
 pub fn faults_have_no_shares()
     ensures { FaultsHaveNoShares }
+{}
+
+/// The pieces of a plan of two groups have shares; with a cell owned twice, a cell without an owner and a needed piece left out
+/// they have K9, K10 and K11 at the own and the need line.
+pub fn worked_shares()
+    ensures { SharesAreWorked }
 {}

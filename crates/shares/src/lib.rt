@@ -6,17 +6,21 @@
 
 mod answer;
 mod boxes;
+mod counts;
 mod fetched;
 mod filed;
 mod forms;
 mod grounds;
 pub mod laws;
 mod layout;
+mod limits;
 mod lists;
 mod needed;
+mod own;
 mod owners;
 mod seats;
 mod spaces;
+mod stands;
 mod stop;
 mod walked;
 

@@ -10,6 +10,7 @@ ghost use Rattle.shares.specs.Made.{IsMade, AreMade, TroubleMeans, trouble_of};
 
 use crate::fetched::fetched_of;
 use crate::layout::{Layout, own_of};
+use crate::limits::MOST_NEEDED;
 use crate::needed::needs_of;
 use crate::stop::Stop;
 use orders::Piece;
@@ -17,8 +18,6 @@ use std::alloc::{AllocError, Global};
 
 /// The most cells that the pieces of a plan fetch.
 const MOST_FETCHED: u64 = 1 << 26;
-/// The most pieces that the pieces of a plan need.
-const MOST_NEEDED: u64 = 1 << 24;
 
 /// Why the lists were not made.
 #[derive(Debug, Drop)]

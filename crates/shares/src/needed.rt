@@ -1,6 +1,6 @@
 //! The pieces that pieces need.
 
-ghost use Rattle.std.specs.Prelude.{◌≡◌, ℕ, ◌<◌, ◌≤◌, ◌++◌, ◌↔◌, IfOk, IfErr, OnOk, Contains, Err, length, map};
+ghost use Rattle.std.specs.Prelude.{◌≡◌, ℕ, ◌<◌, ◌≤◌, ◌++◌, ◌↔◌, IfOk, IfErr, OnOk, All, Contains, Err, length, map};
 ghost use Rattle.std.specs.List.Sorted.{IsStrictlyIncreasing};
 ghost use Rattle.plan.specs.View.{plan_of};
 ghost use Rattle.plan.specs.Certificate.Certificate.{certificate_of};
@@ -10,7 +10,8 @@ ghost use Rattle.shares.specs.Seats.{piece_of};
 ghost use Rattle.shares.specs.Shared.{NeedIsShared};
 ghost use Rattle.shares.specs.Layout.{IsLayout, needs_list};
 ghost use Rattle.shares.specs.Needed.{NeedIsInside, NeedsAreInside, need_numbers, all_numbers};
-ghost use Rattle.shares.specs.Filed.{AreLinesOf};
+ghost use Rattle.shares.specs.Counts.{with_lines};
+ghost use Rattle.shares.specs.Filed.{AreFiled, AreLinesOf};
 ghost use Rattle.shares.specs.Has.{NeedsPieces};
 ghost use Rattle.shares.specs.Stops.{NeedStops};
 
@@ -95,9 +96,41 @@ fn named_by(
     Ok(needed)
 }
 
-/// The pieces that a piece needs, rising and each once, where its need lines name only pieces and there is room for them.
+/// The pieces that a piece needs by these need lines, which are filed by their groups, rising and each once, where they name
+/// only pieces and there is room for them.
 ///
 /// The time is about linear in the lines of the piece's group and the points that they name.
+pub(crate) fn needs_by(
+    alloc: Global,
+    layout: &Layout<'_>,
+    lines: &[Need],
+    filed: &Vec<Vec<&Need>>,
+    piece: u32,
+    room: u64,
+) -> Result<Vec<u32>, Stop>
+    requires layout { IsLayout layout.now }
+    requires lines { All (NeedIsShared (plan_of layout.now.plan.now)) lines.now }
+    requires filed { AreFiled lines.now (length layout.now.plan.now.groups.items) (map (λ xs. map (λ n. n.now) xs.items) filed.now.items) }
+    requires piece { piece < length layout.now.seats.items }
+    ensures list { IfOk result (λ needed. needed.items ≡ needs_list (plan_of layout.now.plan.now) (with_lines (certificate_of layout.now.cert.now) lines.now) piece) }
+    ensures known { IfOk result (λ _. NeedsPieces (plan_of layout.now.plan.now) (with_lines (certificate_of layout.now.cert.now) lines.now) piece) }
+    ensures few { IfOk result (λ needed. length needed.items ≤ room) }
+    ensures stop { IfErr result (NeedStops (plan_of layout.now.plan.now) (with_lines (certificate_of layout.now.cert.now) lines.now) piece room) }
+{
+    let seat = &layout.seats[piece as usize];
+    let own_lines = &filed[seat.group];
+    let mut needed = match named_by(alloc, layout, seat, own_lines) {
+        Ok(needed) => needed,
+        Err(stop) => return Err(stop),
+    };
+    settle(&mut needed)?;
+    if needed.as_slice().len() as u64 > room {
+        return Err(Stop::Large);
+    }
+    Ok(needed)
+}
+
+/// The pieces that a piece needs, rising and each once, where its need lines name only pieces and there is room for them.
 pub(crate) fn needs_of(
     alloc: Global,
     layout: &Layout<'_>,
@@ -111,15 +144,12 @@ pub(crate) fn needs_of(
     ensures few { IfOk result (λ needed. length needed.items ≤ room) }
     ensures stop { IfErr result (NeedStops (plan_of layout.now.plan.now) (certificate_of layout.now.cert.now) piece room) }
 {
-    let seat = &layout.seats[piece as usize];
-    let lines = &layout.needs[seat.group];
-    let mut needed = match named_by(alloc, layout, seat, lines) {
-        Ok(needed) => needed,
-        Err(stop) => return Err(stop),
-    };
-    settle(&mut needed)?;
-    if needed.as_slice().len() as u64 > room {
-        return Err(Stop::Large);
-    }
-    Ok(needed)
+    needs_by(
+        alloc,
+        layout,
+        &layout.cert.needs,
+        &layout.needs,
+        piece,
+        room,
+    )
 }

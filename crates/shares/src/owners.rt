@@ -14,7 +14,7 @@ use orders::claim_cell;
 use std::alloc::{AllocError, Global};
 
 /// Makes a piece the owner of these cells, where all are in the table and without an owner.
-fn claim_cells(owners: &mut [Option<u32>], cells: &[u32], piece: u32) -> bool
+pub(crate) fn claim_cells(owners: &mut [Option<u32>], cells: &[u32], piece: u32) -> bool
     ensures claimed { (own : ℕ → List ℕ) → own piece ≡ cells.now → IsClaimed own owners.old piece 0 → IsTrue result → IsClaimed own owners.new (piece + 1) 0 }
     ensures fault { (own : ℕ → List ℕ) → own piece ≡ cells.now → IsClaimed own owners.old piece 0 → IsFalse result → OwnIsParted (piece + 1) (length owners.old) own → ⊥ }
 {

@@ -1,6 +1,6 @@
 -- Certificates without a flaw.
 use Rattle.std.proofs.Common.{◌≡◌, ℕ, zero, suc, ◌+◌, ◌<◌, ◌≤◌, List, [], ◌∷◌, ◌++◌, length, take, Bool, true, false, Option, Some, None, refl, sym, ap, ◌∙◌, subst, arith}
-use Rattle.std.specs.Prelude.{slice_get, ◌==◌, ◌&&◌, ◌||◌, not, MatchOption, if◌then◌else◌}
+use Rattle.std.specs.Prelude.{slice_get, ◌==◌, ◌&&◌, ◌||◌, not, nat_lt, MatchOption, if◌then◌else◌}
 use Rattle.std.specs.List.{list_all, range_with_len}
 use Rattle.std.proofs.lemmas.Bool.{false≢true}
 use Rattle.std.proofs.lemmas.Bool.Decides.{nat_tests}
@@ -17,8 +17,8 @@ use Rattle.plan.specs.Certificate.Lines.{own_line, need_line, claim_line}
 use Rattle.outline.specs.Flaws.{Flaw, first_of as the_first, unless}
 use Rattle.outline.specs.Forms.{spans_are_over, spans_are_within_limits, have_ends, grid_symbols}
 use Rattle.validation.specs.Certificate.Lines.{line_flaws, each_line}
-use Rattle.validation.specs.Certificate.Certificate.{fits, is_owned, are_owned, is_region_of, own_is_known, is_need_of, need_is_known, claim_is_known, cert_flaws, own_flaws, need_flaws, claim_flaws, window_flaws, flaws_of_certificate}
-use Rattle.validation.specs.Certificate.Clear.{IsRegion, IsNeed, IsClaim, IsClear}
+use Rattle.validation.specs.Certificate.Certificate.{fits, is_owned, are_owned, is_region_of, own_is_known, is_need_of, need_is_known, claim_is_known, cert_flaws, own_flaws, need_flaws, claim_flaws, window_flaws, flaws_of_regions, flaws_of_claims, flaws_of_certificate}
+use Rattle.validation.specs.Certificate.Clear.{IsRegion, IsNeed, IsClaim, HasRegions, IsClear}
 
 none_is : {A : Type 0} (x : A) (e : None ≡ Some x) → ⊥
 none_is x e = cc
@@ -182,19 +182,27 @@ need_right p c h i n is =
 
 claim_right : (a : Algorithm) (p : Plan) (c : Certificate) → None ≡ the_first (each_line (claim_flaws a p c) 0 c.claims) → (i : ℕ) (k : Claim) → slice_get c.claims i ≡ Some k → IsClaim a p k
 claim_right a p c h i k is =
-    let line = line_clear (claim_is_known a.functions p.groups k) (spans_are_within_limits k.region) (have_ends k.region) (claim_line c (certificate_line p) i) (each_clear (claim_flaws a p c) 0 c.claims h i i k (omega arith) is) in
-    record { known = line.0; limits = line.1; ends = line.2 }
+    let line = line_clear (claim_is_known a.functions p.groups k) (spans_are_within_limits k.region) (have_ends k.region && nat_lt i 4096) (claim_line c (certificate_line p) i) (each_clear (claim_flaws a p c) 0 c.claims h i i k (omega arith) is) in
+    record { known = line.0; limits = line.1; ends = (both_true (have_ends k.region) (nat_lt i 4096) line.2).0 }
+
+pub has_regions : (p : Plan) (c : Certificate) → None ≡ the_first (flaws_of_regions p c) → HasRegions p c
+has_regions p c h =
+    let one = no_flaws (cert_flaws p c) _ h in
+    let two = no_flaws (each_line (own_flaws p c) 0 c.own) (each_line (need_flaws p c) 0 c.needs) one.1 in
+    record { own = own_right p c one.0 two.0; once = own_once p c two.0; needs = need_right p c two.1 }
+
+pub without_flaws : (p : Plan) (c : Certificate) → flaws_of_regions p c ≡ [] → HasRegions p c
+without_flaws p c h = has_regions p c (sym (ap the_first h))
 
 pub clear : (a : Algorithm) (p : Plan) (c : Certificate) → None ≡ the_first (flaws_of_certificate a p c) → IsClear a p c
 clear a p c h =
-    let one = no_flaws (cert_flaws p c) _ h in
-    let two = no_flaws (each_line (own_flaws p c) 0 c.own) _ one.1 in
-    let three = no_flaws (each_line (need_flaws p c) 0 c.needs) _ two.1 in
-    let four = no_flaws (each_line (claim_flaws a p c) 0 c.claims) (each_line (window_flaws p c) 0 c.windows) three.1 in
+    let parts = no_flaws (flaws_of_regions p c) (flaws_of_claims a p c) h in
+    let regions = has_regions p c parts.0 in
+    let claims = no_flaws (each_line (claim_flaws a p c) 0 c.claims) (each_line (window_flaws p c) 0 c.windows) parts.1 in
     record {
-      own = own_right p c one.0 two.0;
-      once = own_once p c two.0;
-      needs = need_right p c three.0;
-      claims = claim_right a p c four.0;
-      windows = no_windows p c c.windows four.1;
+      own = regions.own;
+      once = regions.once;
+      needs = regions.needs;
+      claims = claim_right a p c claims.0;
+      windows = no_windows p c c.windows claims.1;
     }

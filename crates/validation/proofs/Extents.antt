@@ -3,13 +3,14 @@ use Rattle.std.proofs.Common.{◌≡◌, ℕ, ◌+◌, ◌-◌, ◌^◌, min, re
 use Rattle.std.specs.Prelude.{ℤ, pos, negsuc, ◌+ℤ◌, ◌-ℤ◌, ◌≤ℤ◌, ◌<ℤ◌}
 use Rattle.std.proofs.lemmas.Int.{ints}
 use Rattle.lin.specs.declared.span.Span1.{Span1}
-use Rattle.plan.specs.Symbols.{clipped}
-use Rattle.validation.specs.Groups.Sizes.{constant_of, extent_of}
+use Rattle.plan.specs.Symbols.{clipped, largest, smallest}
+use Rattle.plan.specs.Certificate.Cells.{no_symbols}
+use Rattle.validation.specs.Groups.Sizes.{extent_of}
 use Rattle.validation.specs.Stored.Sizes.{counted}
 use lib.IntN.{nat_abs}
 
 -- the extent, by the constants of the ends
-extent_by : (x : Span1) (low high : ℤ) → low ≡ constant_of x.lower → high ≡ constant_of x.upper → extent_of x ≡ clipped ((high +ℤ pos 1) -ℤ low)
+extent_by : (x : Span1) (low high : ℤ) → low ≡ largest no_symbols x.lower → high ≡ smallest no_symbols x.upper → extent_of x ≡ clipped ((high +ℤ pos 1) -ℤ low)
 extent_by x low high p q = λ i. clipped ((sym q i +ℤ pos 1) -ℤ sym p i)
 
 clipped_abs : (z : ℤ) → pos 0 ≤ℤ z → nat_abs z ≡ clipped z
@@ -23,10 +24,10 @@ clipped_none (negsuc n) h = refl
 abs_more : (low high : ℤ) → low ≤ℤ high → nat_abs (high -ℤ low) + 1 ≡ nat_abs ((high +ℤ pos 1) -ℤ low)
 abs_more low high h = omega (arith, ints)
 
-pub no_extent : (x : Span1) (low high : ℤ) → low ≡ constant_of x.lower → high ≡ constant_of x.upper → high <ℤ low → 0 ≡ counted (extent_of x)
+pub no_extent : (x : Span1) (low high : ℤ) → low ≡ largest no_symbols x.lower → high ≡ smallest no_symbols x.upper → high <ℤ low → 0 ≡ counted (extent_of x)
 no_extent x low high p q h = sym (ap counted (extent_by x low high p q ∙ clipped_none ((high +ℤ pos 1) -ℤ low) (omega (arith, ints, h))))
 
-pub some_extent : (x : Span1) (low high : ℤ) (r : ℕ) → low ≡ constant_of x.lower → high ≡ constant_of x.upper → low ≤ℤ high
+pub some_extent : (x : Span1) (low high : ℤ) (r : ℕ) → low ≡ largest no_symbols x.lower → high ≡ smallest no_symbols x.upper → low ≤ℤ high
     → r ≡ min (nat_abs (high -ℤ low) + 1) (2 ^ 64 - 1) → r ≡ counted (extent_of x)
 some_extent x low high r p q h e =
     e

@@ -2,8 +2,10 @@
 use Rattle.std.proofs.Common.{◌≡◌, ℕ, zero, suc, ◌+◌, ◌≤◌, List, [], ◌∷◌, ◌++◌, take, length, Bool, true, false, Option, Some, None, refl, sym, ap, ◌∙◌, subst, arith}
 use Rattle.std.specs.Prelude.{◌&&◌, ◌||◌, ◌==◌, ◌^◌, not, nat_le, slice_get}
 use Rattle.std.specs.List.{list_all, list_any}
-use Rattle.outline.specs.Forms.{spans_are_over, spans_are_within_limits}
+use Rattle.outline.specs.Forms.{spans_are_over, spans_are_within_limits, is_listed}
 use Rattle.std.proofs.lemmas.Bool.{false≢true}
+use Rattle.std.proofs.lemmas.Bool.Decides.{nat_tests}
+use Rattle.lin.specs.Forms.{Form}
 use Rattle.meaning.specs.Algorithm.{Algorithm}
 use Rattle.meaning.specs.Names.{same_name}
 use Rattle.meaning.proofs.Cases.{same_name_is}
@@ -18,9 +20,11 @@ use Rattle.soundness.proofs.Refines.{and_parts, eq_true}
 use Rattle.headline.specs.Numbers.{HaveEnds}
 use Rattle.headline.specs.Sound.{publishes, block_publishes, PublishesLast, BlockPublishesLast, binds, block_binds, IsPublished}
 use Rattle.outline.specs.Flaws.{line_told}
-use Rattle.validation.specs.Groups.Sizes.{more, cell_count, is_single, is_extent}
+use Rattle.validation.specs.Groups.Sizes.{more, cell_count, is_extent}
 use Rattle.validation.specs.Stored.Sizes.{counted}
 use Rattle.validation.specs.Stored.Definitions.{parts_named, has_variables}
+use Rattle.validation.specs.declared.stored.lines.GroupLines.{GroupLines}
+use Rattle.validation.specs.Stored.Stored.{has_line}
 use Rattle.validation.specs.Groups.Lines.{Here, line_flaws, is_claim_of, before, after, in_loop, is_empty, flaws, block_flaws, group_line_flaws, group_flaws, groups_flaws, flaws_of_groups, start}
 
 some_flaw : {A : Type 0} {x : A} {xs : List A} → x ∷ xs ≡ [] → ⊥
@@ -58,9 +62,9 @@ or_false false = refl
 not_both : {b : Bool} → b ≡ false → b ≡ true → ⊥
 not_both f t = false≢true (sym f ∙ t)
 
-claim_is : (o : Option Claim) (name : List ℕ) → is_claim_of o name ≡ true → (claim_or_none o).function ≡ name
-claim_is None name h = absurd (false≢true h)
-claim_is (Some c) name h = same_name_is c.function name h
+claim_is : (lines : GroupLines) (o : Option Claim) (name : List ℕ) → is_claim_of lines o name ≡ true → (claim_or_none o).function ≡ name
+claim_is lines None name h = absurd (false≢true h)
+claim_is lines (Some c) name h = same_name_is c.function name (and_parts (has_line lines c.line) (same_name c.function name) h).1
 
 module _ (a : Algorithm) (p : Plan) (c : Certificate) (g : Group) (o : Outline) where
   -- a line that is not the group's last does not publish
@@ -74,7 +78,7 @@ module _ (a : Algorithm) (p : Plan) (c : Certificate) (g : Group) (o : Outline) 
     not_last (Alloc b f places) here l h = refl
     not_last (Fetch b k region) here l h = refl
     not_last (Store b k at e) here l h = refl
-    not_last (Publish k) here l h = absurd (not_both l (fine here.line (is_claim_of (slice_get c.claims k) g.function) true true here.last h).limits)
+    not_last (Publish k) here l h = absurd (not_both l (fine here.line (is_claim_of here.group (slice_get c.claims k) g.function) true true here.last h).limits)
 
     pub block_not_last : (s : Statements) (here : Here) → here.last ≡ false → block_flaws a p c g o s here ≡ [] → block_publishes s ≡ false
     block_not_last Empty here l h = refl
@@ -98,7 +102,7 @@ module _ (a : Algorithm) (p : Plan) (c : Certificate) (g : Group) (o : Outline) 
     last_is (Alloc b f places) here h t = absurd (false≢true t)
     last_is (Fetch b k region) here h t = absurd (false≢true t)
     last_is (Store b k at e) here h t = absurd (false≢true t)
-    last_is (Publish k) here h t = claim_is (slice_get c.claims k) g.function (fine here.line (is_claim_of (slice_get c.claims k) g.function) true true here.last h).names
+    last_is (Publish k) here h t = claim_is here.group (slice_get c.claims k) g.function (fine here.line (is_claim_of here.group (slice_get c.claims k) g.function) true true here.last h).names
 
     pub block_last_is : (s : Statements) (here : Here) → block_flaws a p c g o s here ≡ [] → block_publishes s ≡ true → BlockPublishesLast P s
     block_last_is Empty here h t = absurd (false≢true t)
@@ -131,15 +135,15 @@ module _ (a : Algorithm) (p : Plan) (c : Certificate) (g : Group) (o : Outline) 
 
 -- ---- regions and groups
 
-one_or_more : {A : Type 0} (xs : List A) → (length xs == 1) ≡ true → 1 ≤ length xs
-one_or_more xs h = let e : length xs ≡ 1 = eq_true (length xs) 1 h in omega (arith, e)
+one_or_more : (xs : List Form) → is_listed xs ≡ true → 1 ≤ length xs
+one_or_more xs h = let e : nat_le 1 (length xs) ≡ true = (and_parts (nat_le 1 (length xs)) (nat_le (length xs) 4) h).0 in grind (arith, nat_tests, e)
 
 pub ends_are : (xs : List Span1) → list_all is_extent xs ≡ true → HaveEnds xs
 ends_are [] h = tt
 ends_are (x ∷ xs) h =
     let k = and_parts (is_extent x) (list_all is_extent xs) h in
-    let low = and_parts (is_single x.lower) _ k.0 in
-    let high = and_parts (is_single x.upper) _ low.1 in
+    let low = and_parts (is_listed x.lower) _ k.0 in
+    let high = and_parts (is_listed x.upper) _ low.1 in
     (record { lower = one_or_more x.lower low.0; upper = one_or_more x.upper high.0 }, ends_are xs k.1)
 
 module _ (a : Algorithm) (p : Plan) (c : Certificate) where

@@ -4,7 +4,7 @@ use Rattle.std.specs.Prelude.{slice_get, nat_lt, if◌then◌else◌}
 use Rattle.std.proofs.lemmas.Bool.Decides.{nat_tests}
 use Rattle.plan.specs.Plan.{Group, Plan}
 use Rattle.plan.specs.Lines.{group_line, group_lines, groups_lines}
-use Rattle.validation.specs.Certificate.Placing.{Place, place_in, place_at, place_with, group_loops_at}
+use Rattle.validation.specs.Certificate.Placing.{Place, place_in, place_at, place_with, group_spot_at}
 
 none_is : (x : Group) (e : None ≡ Some x) → ⊥
 none_is x e = cc
@@ -31,7 +31,7 @@ lt_false : (m n : ℕ) → n ≤ m → nat_lt m n ≡ false
 lt_false m n h = grind (arith, nat_tests)
 
 abbrev the_place : Group → ℕ → Option Place
-the_place g k = place_with g (group_loops_at g k)
+the_place g k = place_with g (group_spot_at g k)
 
 here : (g : Group) (gs : List Group) (k : ℕ) → k < group_lines g → place_in (g ∷ gs) k ≡ the_place g k
 here g gs k lt = test_true (nat_lt k (group_lines g)) (the_place g k) (place_in gs (k - group_lines g)) (lt_true k (group_lines g) lt)

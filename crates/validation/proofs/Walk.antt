@@ -19,6 +19,7 @@ use Rattle.std.specs.Prelude.{not, ◌||◌}
 use Rattle.std.specs.List.{list_all, list_any}
 use Rattle.tree.specs.Term.{Term}
 use Rattle.validation.specs.declared.groups.here.Here.{Here as HereHeld}
+use Rattle.validation.specs.declared.stored.lines.GroupLines.{GroupLines}
 use Rattle.validation.specs.Groups.Here.{here_of}
 use Rattle.validation.specs.Stored.Definitions.{Definition}
 use Rattle.validation.specs.Stored.Stored.{index_is_within}
@@ -56,12 +57,12 @@ module _ (a : Algorithm) (p : Plan) (c : Certificate) (g : Group) (o : Outline) 
   block_step xs k x here h is = ap (λ (ys : List Stmt). BF ys here) (drop_at xs k x h is)
 
 -- what is asked of a store is the same wherever it stands in its block
-module _ (a : Algorithm) (p : Plan) (c : Certificate) (g : Group) (o : Outline) (h : HereHeld) (last : Bool) (b k : ℕ) (at : List Coordinate) (e : Term) where
-  named_anyhow : (w : Option Definition) → definition_is_named a p c g o w (here_of h true) b at e ≡ definition_is_named a p c g o w (here_of h last) b at e
+module _ (a : Algorithm) (p : Plan) (c : Certificate) (g : Group) (o : Outline) (lines : GroupLines) (h : HereHeld) (last : Bool) (b k : ℕ) (at : List Coordinate) (e : Term) where
+  named_anyhow : (w : Option Definition) → definition_is_named a p c g o w (here_of lines h true) b at e ≡ definition_is_named a p c g o w (here_of lines h last) b at e
   named_anyhow None = refl
   named_anyhow (Some m) = refl
 
-  pub store_anyhow : store_flaws a p c g o (here_of h true) b k at e ≡ store_flaws a p c g o (here_of h last) b k at e
+  pub store_anyhow : store_flaws a p c g o (here_of lines h true) b k at e ≡ store_flaws a p c g o (here_of lines h last) b k at e
   store_anyhow =
       ap (λ (n : Bool). line_flaws h.line (list_any (λ x. x == b) h.buffers.items && n) (list_all (λ x. index_is_within x.index) at) (not (store_is_small a p c g o at e) || definition_is_stored a p c g o (definition_of a p c g o b k) at e) (store_is_small a p c g o at e))
       (named_anyhow (definition_of a p c g o b k))

@@ -10,5 +10,6 @@ mod need_lines;
 mod own_lines;
 mod placed;
 mod placing;
+mod spot;
 
-pub use flaws::first_flaw;
+pub use flaws::{first_flaw, first_region_flaw};

@@ -1,5 +1,6 @@
 //! What is wrong with the lines of a plan's groups by names, limits and stored expressions.
 
+mod ends;
 mod groups;
 mod here;
 pub mod laws;

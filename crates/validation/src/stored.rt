@@ -4,11 +4,13 @@ mod alike;
 mod defined;
 mod ground;
 mod known;
+mod lines;
 mod small;
 mod stored;
 
 pub use defined::{Defined, definition_of, has_variables, stored_in};
 pub use ground::Ground;
 pub use known::{has_names, indices_are_known, is_known};
+pub use lines::GroupLines;
 pub use small::is_small;
 pub use stored::{indices_are_small, is_defined};

@@ -20,3 +20,4 @@ pub mod Lists
 pub mod Near
 pub mod Shared
 pub mod Small
+pub mod WorkedPlans

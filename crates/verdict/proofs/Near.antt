@@ -1,9 +1,8 @@
 -- The forms of a group stand where its lines have no flaw.
-use Rattle.std.proofs.Common.{◌≡◌, ℕ, ◌<◌, List, [], ◌∷◌, length, Bool, true, false, Option, Some, None, refl, sym, arith, subst}
+use Rattle.std.proofs.Common.{◌≡◌, ℕ, List, [], ◌∷◌, length, Bool, true, false, Option, Some, None, refl, sym, subst}
 use Rattle.std.specs.Prelude.{◌&&◌, ◌||◌, ◌==◌, not, nat_lt, MatchOption}
 use Rattle.std.specs.List.{list_all, list_any, AllByRecursion}
 use Rattle.std.proofs.lemmas.Bool.{false≢true}
-use Rattle.std.proofs.lemmas.Bool.Decides.{nat_tests}
 use Rattle.tree.specs.Term.{Term}
 use Rattle.lin.specs.Forms.{Form, is_within_limits}
 use Rattle.lin.specs.declared.span.Span1.{Span1}
@@ -24,7 +23,6 @@ use Rattle.validation.specs.Stored.Stored.{has_names, is_named, is_known, index_
 use Rattle.validation.specs.Groups.Lines.{Here, before, after, in_loop, is_empty, is_new, is_serial, may_precede, place_is_over, place_is_within, fetch_is_named, definition_is_named, definition_is_stored, definition_of, store_is_small, flaws, block_flaws, start}
 use Rattle.validation.proofs.Flawless.{fine, none_in, group_fine, body_fine}
 use Rattle.verdict.specs.Clear.{GroupsAreNear}
-use Rattle.verdict.proofs.Lists.{lt_true}
 use Rattle.verdict.proofs.Small.{line_fine, pieces_few}
 
 -- ---- forms
@@ -71,19 +69,12 @@ coordinates_stand symbols (x ∷ xs) o w =
     let l = and_parts (index_is_within x.index) (list_all (λ x. index_is_within x.index) xs) w in
     (index_stands symbols x.index k.0 l.0, coordinates_stand symbols xs k.1 l.1)
 
--- a symbol above all of a list is none of them
-unlike : (s i : ℕ) → s < i → (s == i) ≡ false
-unlike s i h = grind (arith, nat_tests, h)
-
-neither : (b c : Bool) → b ≡ false → c ≡ false → (b || c) ≡ false
-neither true c h k = absurd (false≢true (sym h))
-neither false c h k = k
+untrue : (b : Bool) → not b ≡ true → b ≡ false
+untrue true h = absurd (false≢true h)
+untrue false h = refl
 
 pub new_symbol : (symbols : List ℕ) (i : ℕ) → is_new symbols i ≡ true → list_any (λ s. s == i) symbols ≡ false
-new_symbol [] i h = refl
-new_symbol (s ∷ ss) i h =
-    let k = and_parts (nat_lt s i) (is_new ss i) h in
-    neither (s == i) (list_any (λ s. s == i) ss) (unlike s i (lt_true s i k.0)) (new_symbol ss i k.1)
+new_symbol symbols i h = untrue (list_any (λ s. s == i) symbols) h
 
 -- ---- lines
 
@@ -117,7 +108,7 @@ module _ (a : Algorithm) (p : Plan) (c : Certificate) (g : Group) (o : Outline) 
   named_over : (m : Option Definition) (here : Here) (b : ℕ) (at : List Coordinate) (e : Term) → definition_is_named a p c g o m here b at e ≡ true → list_all (λ x. index_is_over here.symbols x.index) at ≡ true
   named_over None here b at e h = absurd (false≢true h)
   named_over (Some m) here b at e h =
-      let known = list_all (λ x. index_is_known (is_named at) (is_call a p o) x.index) at && is_known (is_named at) (is_call a p o) e in
+      let known = list_all (λ x. index_is_known (is_named at) (is_call a p here.group o) x.index) at && is_known (is_named at) (is_call a p here.group o) e in
       let over = list_all (λ x. index_is_over here.symbols x.index) at in
       let one = and_parts (has_names m at) (o.setting.dimensions b == length (function_in m).variables && (over && known)) h in
       let two = and_parts (o.setting.dimensions b == length (function_in m).variables) (over && known) one.1 in

@@ -14,7 +14,8 @@ use Rattle.plan.specs.Lines.{body_line}
 use Rattle.plan.specs.Plan.{Group, Plan}
 use Rattle.plan.specs.Symbols.{Symbols}
 use Rattle.plan.specs.Certificate.Certificate.{Certificate}
-use Rattle.plan.specs.Certificate.Cells.{grid_symbols, grid_point, group_pieces, first_piece, piece}
+use Rattle.std.proofs.lemmas.Option.{slice_get_within}
+use Rattle.plan.specs.Certificate.Cells.{cells, grid_symbols, grid_point, group_pieces, first_piece, piece}
 use Rattle.plan.specs.Semantics.Actions.{actions}
 use Rattle.plan.specs.Semantics.Setting.{group_name, setting_of}
 use Rattle.soundness.specs.Given.{outline_of, given_of}
@@ -27,7 +28,7 @@ use Rattle.soundness.specs.Nests.Tests.{plain_nests}
 use Rattle.meaning.specs.Inlining.Laws.{PutInWherePossible, UpdatesKeepTheirSides}
 use Rattle.meaning.specs.Inlining.PutIn.{put_in_where_possible}
 use Rattle.headline.specs.Fetched.{fetched_cells}
-use Rattle.headline.specs.Numbers.{is_cell, PiecesAreNumbered}
+use Rattle.headline.specs.Numbers.{cell_number, is_cell, PiecesAreNumbered}
 use Rattle.headline.specs.Sound.{IsRightPiece, IsRightPlan}
 use Rattle.headline.specs.Theorem.{PiecesRunRight, PlansAreRight, OutputIsThere, output_cell}
 use Rattle.headline.specs.Work.{group_fetched}
@@ -129,6 +130,17 @@ module _ (laws : Laws) (rules : ℕ → Rules) (a : Algorithm) (p : Plan) (c : C
     every_order = λ samples in_type. (laws.plans a p c samples placed w (plan_right samples in_type) accepted.lists).0;
     one_worker = λ samples in_type. (laws.plans a p c samples placed w (plan_right samples in_type) accepted.lists).1;
     output = λ samples in_type at on. has_cell samples in_type at on;
+    finished = λ samples in_type order finished at on.
+        let has = has_cell samples in_type at on in
+        let right = ((laws.plans a p c samples placed w (plan_right samples in_type) accepted.lists).0 order).1 in
+        record {
+          cell = has.cell;
+          of_output = has.of_output;
+          point = has.point;
+          stands = has.stands;
+          holds = right.all_set finished (cell_number p has.cell) (slice_get_within (cells p) (cell_number p has.cell) has.cell has.stands) ∙ ap Some has.value;
+        };
+    fetched = accepted.cells;
   }
 
 pub accepted_right : Laws → AcceptedIsRight

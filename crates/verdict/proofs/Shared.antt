@@ -5,7 +5,6 @@ use Rattle.std.specs.List.{list_all, AllByRecursion}
 use Rattle.std.proofs.lemmas.Bool.{false≢true}
 use Rattle.std.proofs.lemmas.List.Elements.{All-from_recursion}
 use Rattle.std.proofs.lemmas.Option.{slice_get_cases}
-use Rattle.lin.specs.Forms.{Form}
 use Rattle.lin.specs.declared.span.Span1.{Span1}
 use Rattle.meaning.specs.Algorithm.{Algorithm}
 use Rattle.plan.specs.Plan.{Statement, Seq, For, Let, First, Guard, Alloc, Fetch, Store, Publish, Statements, Empty, Then, Group, Plan}
@@ -19,37 +18,27 @@ use Rattle.soundness.proofs.Refines.{and_parts, eq_true}
 use Rattle.headline.specs.Fetched.{fetches, block_fetches}
 use Rattle.outline.specs.Forms.{spans_are_within_limits}
 use Rattle.shares.specs.declared.boxes.Side.{Side}
-use Rattle.shares.specs.Boxes.{IsSingle, IsPlainSpan, side, sides}
+use Rattle.shares.specs.Boxes.{side, sides}
 use Rattle.shares.specs.Shared.{IsLike, LineIsShared, LinesAreShared, NeedIsShared}
 use Rattle.validation.specs.Certificate.Clear.{IsRegion}
-use Rattle.validation.specs.Groups.Sizes.{is_single, is_extent, extent_of}
+use Rattle.validation.specs.Groups.Sizes.{is_extent, extent_of}
 use Rattle.validation.specs.Stored.Definitions.{Parts, parts_named, has_variables}
 use Rattle.validation.specs.Groups.Lines.{Here, before, after, in_loop, is_empty, may_precede, flaws, block_flaws, flaws_of_groups, start}
-use Rattle.validation.proofs.Flawless.{none_in, group_fine, body_fine}
+use Rattle.validation.proofs.Flawless.{ends_are, none_in, group_fine, body_fine}
 use Rattle.verdict.specs.Clear.{PlansAreShared}
 use Rattle.verdict.proofs.Lists.{lt_true, spans_limited, looked_up}
-use Rattle.verdict.proofs.Small.{one, extent, count_is, line_fine, plans_small}
+use Rattle.verdict.proofs.Small.{extent, count_is, line_fine, plans_small}
 use Rattle.verdict.proofs.Near.{fetch_fine}
 use Rattle.verdict.proofs.Apart.{grids_small}
 
 -- ---- regions
-
-alone : (ls : List Form) → is_single ls ≡ true → IsSingle ls
-alone ls h = let o = one ls h in subst IsSingle (sym o.alone) tt
-
-plain : (xs : List Span1) → list_all is_extent xs ≡ true → AllByRecursion IsPlainSpan xs
-plain [] h = tt
-plain (x ∷ xs) h =
-    let k = and_parts (is_extent x) (list_all is_extent xs) h in
-    let e = extent x k.0 in
-    ((alone x.lower e.lower, alone x.upper e.upper), plain xs k.1)
 
 few_sides : (xs : List Span1) → list_all is_extent xs ≡ true → AllByRecursion (λ x. x.count ≤ 8192) (sides no_symbols xs)
 few_sides [] h = tt
 few_sides (x ∷ xs) h =
     let k = and_parts (is_extent x) (list_all is_extent xs) h in
     let e = extent x k.0 in
-    let counted : (side no_symbols x).count ≡ extent_of x = count_is x e in
+    let counted : (side no_symbols x).count ≡ extent_of x = count_is x in
     let few = e.few in
     (omega (arith, counted, few), few_sides xs k.1)
 
@@ -151,7 +140,7 @@ plans_shared a p c none clear =
           let f = group_fine a p c none n g at in
           let l = line_fine a p c n g f in
           record {
-            plain = All-from_recursion IsPlainSpan g.region (plain g.region l.extents);
+            ends = ends_are g.region l.extents;
             limits = spans_limited g.region l.limits;
             extents = All-from_recursion (λ (x : Side). x.count ≤ 8192) (sides no_symbols g.region) (few_sides g.region l.extents);
             grid = grids_small a p c none n g at;

@@ -4,50 +4,61 @@ use Rattle.std.specs.Prelude.{ℤ, ◌+ℤ◌, ◌*ℤ◌, ◌==◌, ◌||◌}
 use Rattle.std.specs.List.{AllByRecursion, list_any, list_all}
 use Rattle.std.proofs.lemmas.Int.{ints}
 use Rattle.std.proofs.lemmas.List.Elements.{All-from_recursion}
-use Rattle.lin.specs.Forms.{Form, sum_of, IsWithin, AreWithin}
+use Rattle.lin.specs.Forms.{Form, sum_of, IsWithin, AreWithin, is_within_limits}
 use Rattle.lin.specs.declared.form.Multiple.{Multiple}
 use Rattle.lin.specs.declared.span.Span1.{Span1}
 use Rattle.lin.proofs.Limits.{within_limits-terms, within_limits-constant, within_limits-few}
 use Rattle.lin.proofs.Machine.{product_within, sum_within}
-use Rattle.plan.specs.declared.stmt.Places.{Places}
-use Rattle.plan.specs.declared.stmt.Places.TheVariants.{From, Folded}
-use Rattle.plan.specs.Plan.{Index, At, Found, Coordinate}
 use Rattle.plan.specs.Symbols.{Symbols, form_value}
 use Rattle.soundness.specs.Obligations.{form_has, span_has}
 use Rattle.soundness.proofs.Forms.{rec_weaker}
 use Rattle.soundness.proofs.Refines.{and_parts, eq_true}
-use Rattle.interpreter.specs.Narrow.{IsNumber, FormIsNarrow, SpanIsNarrow, RegionIsNarrow, PlacesAreNarrow, IndexIsNarrow}
-use Rattle.verdict.specs.Bounded.Near.{is_over, FormStands, SpanStands, PlacesStand, IndexStands}
+use Rattle.interpreter.specs.Narrow.{IsNumber, FormIsNarrow, SpanIsNarrow, RegionIsNarrow}
+use Rattle.verdict.specs.Bounded.Near.{is_over, FormStands, SpanStands}
 
 -- the symbol is one of these
 abbrev pub is_one : ℕ → List ℕ → Bool
 is_one i symbols = list_any (λ s. s == i) symbols
 
--- each of these symbols is at most 2^31 from 0
+-- each of these symbols is at most 2^39 from 0
 abbrev pub AreNear : List ℕ → Symbols → Type 0
 AreNear symbols s = (i : ℕ) → is_one i symbols ≡ true → IsWithin (2 ^ 39) (s.value i)
 
-module _ (symbols : List ℕ) (s : Symbols) (near : AreNear symbols s) where
-  sum_near : (ts : List Multiple) → AreWithin (2 ^ 20) ts → list_all (λ (t : Multiple). is_one t.symbol symbols) ts ≡ true → IsWithin (length ts * (2 ^ 20 * 2 ^ 39)) (sum_of ts s.value)
-  sum_near [] factors over = omega arith
-  sum_near (t ∷ ts) factors over =
-      let k = and_parts (is_one t.symbol symbols) (list_all (λ (u : Multiple). is_one u.symbol symbols) ts) over in
-      let product : IsWithin (2 ^ 20 * 2 ^ 39) (t.factor *ℤ s.value t.symbol) = product_within (2 ^ 20) (2 ^ 39) t.factor (s.value t.symbol) factors.0 (near t.symbol k.0) in
-      let rest : IsWithin (length ts * (2 ^ 20 * 2 ^ 39)) (sum_of ts s.value) = sum_near ts factors.1 k.1 in
+-- each symbol of the terms is
+abbrev pub TermsAreNear : List Multiple → Symbols → Type 0
+TermsAreNear ts s = AllByRecursion (λ (t : Multiple). IsWithin (2 ^ 39) (s.value t.symbol)) ts
+
+module _ (s : Symbols) where
+  sum_near : (ts : List Multiple) → AreWithin (2 ^ 20) ts → TermsAreNear ts s → IsWithin (length ts * (2 ^ 20 * 2 ^ 39)) (sum_of ts s.value)
+  sum_near [] factors near = omega arith
+  sum_near (t ∷ ts) factors near =
+      let product : IsWithin (2 ^ 20 * 2 ^ 39) (t.factor *ℤ s.value t.symbol) = product_within (2 ^ 20) (2 ^ 39) t.factor (s.value t.symbol) factors.0 near.0 in
+      let rest : IsWithin (length ts * (2 ^ 20 * 2 ^ 39)) (sum_of ts s.value) = sum_near ts factors.1 near.1 in
       let sum : IsWithin (2 ^ 20 * 2 ^ 39 + length ts * (2 ^ 20 * 2 ^ 39)) (t.factor *ℤ s.value t.symbol +ℤ sum_of ts s.value) =
       sum_within (2 ^ 20 * 2 ^ 39) (length ts * (2 ^ 20 * 2 ^ 39)) (t.factor *ℤ s.value t.symbol) (sum_of ts s.value) product rest in
       omega (arith, sum)
 
-  is_number : (m : ℕ) (z : ℤ) → IsWithin m z → m < 2 ^ 63 → IsNumber z
+  pub is_number : (m : ℕ) (z : ℤ) → IsWithin m z → m < 2 ^ 63 → IsNumber z
   is_number m z h l = record { from = omega (arith, ints); to = omega (arith, ints) }
 
-  pub form_narrow : (f : Form) → FormStands symbols f → FormIsNarrow s f
-  form_narrow f h =
-      let few = within_limits-few f h.limits in
-      let sum : IsWithin (length f.terms * (2 ^ 20 * 2 ^ 39)) (sum_of f.terms s.value) = sum_near f.terms (within_limits-terms f h.limits) h.over in
+  -- a form within the limits over symbols that are near
+  pub form_is_narrow : (f : Form) → is_within_limits f ≡ true → TermsAreNear f.terms s → FormIsNarrow s f
+  form_is_narrow f limits near =
+      let few = within_limits-few f limits in
+      let sum : IsWithin (length f.terms * (2 ^ 20 * 2 ^ 39)) (sum_of f.terms s.value) = sum_near f.terms (within_limits-terms f limits) near in
       let whole : IsWithin (2 ^ 40 + length f.terms * (2 ^ 20 * 2 ^ 39)) (form_value f s) =
-      sum_within (2 ^ 40) (length f.terms * (2 ^ 20 * 2 ^ 39)) f.constant (sum_of f.terms s.value) (within_limits-constant f h.limits) sum in
-      record { limits = h.limits; value = is_number (2 ^ 40 + length f.terms * (2 ^ 20 * 2 ^ 39)) (form_value f s) whole (omega (arith, few)) }
+      sum_within (2 ^ 40) (length f.terms * (2 ^ 20 * 2 ^ 39)) f.constant (sum_of f.terms s.value) (within_limits-constant f limits) sum in
+      record { limits = limits; value = is_number (2 ^ 40 + length f.terms * (2 ^ 20 * 2 ^ 39)) (form_value f s) whole (omega (arith, few)) }
+
+module _ (symbols : List ℕ) (s : Symbols) (near : AreNear symbols s) where
+  terms_near : (ts : List Multiple) → list_all (λ (t : Multiple). is_one t.symbol symbols) ts ≡ true → TermsAreNear ts s
+  terms_near [] over = tt
+  terms_near (t ∷ ts) over =
+      let k = and_parts (is_one t.symbol symbols) (list_all (λ (u : Multiple). is_one u.symbol symbols) ts) over in
+      (near t.symbol k.0, terms_near ts k.1)
+
+  pub form_narrow : (f : Form) → FormStands symbols f → FormIsNarrow s f
+  form_narrow f h = form_is_narrow s f h.limits (terms_near f.terms h.over)
 
   pub span_narrow : (x : Span1) → SpanStands symbols x → SpanIsNarrow s x
   span_narrow x h = record {
@@ -57,20 +68,6 @@ module _ (symbols : List ℕ) (s : Symbols) (near : AreNear symbols s) where
 
   pub region_narrow : (xs : List Span1) → AllByRecursion (SpanStands symbols) xs → RegionIsNarrow s xs
   region_narrow xs h = All-from_recursion (SpanIsNarrow s) xs (rec_weaker (SpanStands symbols) (SpanIsNarrow s) span_narrow xs h)
-
-  place_narrow : (a : Places) → PlacesStand symbols a → PlacesAreNarrow s a
-  place_narrow (From l n) h = form_narrow l h
-  place_narrow (Folded n) h = tt
-
-  pub places_narrow : (places : List Places) → AllByRecursion (PlacesStand symbols) places → AllByRecursion (PlacesAreNarrow s) places
-  places_narrow places h = rec_weaker (PlacesStand symbols) (PlacesAreNarrow s) place_narrow places h
-
-  index_narrow : (i : Index) → IndexStands symbols i → IndexIsNarrow s i
-  index_narrow (At l) h = form_narrow l h
-  index_narrow (Found e) h = tt
-
-  pub indices_narrow : (at : List Coordinate) → AllByRecursion (λ c. IndexStands symbols c.index) at → AllByRecursion (λ c. IndexIsNarrow s c.index) at
-  indices_narrow at h = rec_weaker (λ c. IndexStands symbols c.index) (λ c. IndexIsNarrow s c.index) (λ c k. index_narrow c.index k) at h
 
 -- ---- symbols that stand nowhere
 

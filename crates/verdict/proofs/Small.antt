@@ -1,8 +1,8 @@
 -- Regions, cells and pieces of a plan whose groups' lines have no flaw.
-use Rattle.std.proofs.Common.{◌≡◌, ℕ, zero, suc, ◌+◌, ◌*◌, ◌^◌, ◌≤◌, List, [], ◌∷◌, take, map, length, length-append, true, Some, refl, sym, ap, ◌∙◌, arith, subst}
-use Rattle.std.specs.Prelude.{◌&&◌, not, nat_le, slice_get, ℤ, pos, ◌+ℤ◌, ◌-ℤ◌}
+use Rattle.std.proofs.Common.{◌≡◌, ℕ, zero, suc, ◌+◌, ◌*◌, ◌^◌, ◌≤◌, List, [], ◌∷◌, take, map, length, length-append, Bool, true, false, Some, refl, sym, ap, ◌∙◌, arith, subst}
+use Rattle.std.specs.Prelude.{◌&&◌, not, nat_le, slice_get, ℤ, pos, ◌+ℤ◌, fold, int_lt, if◌then◌else◌}
+use Rattle.std.specs.Int.{int_max, int_min}
 use Rattle.std.specs.List.{list_all, list_any, range_with_len, AllByRecursion}
-use Rattle.std.proofs.lemmas.Bool.{false≢true}
 use Rattle.std.proofs.lemmas.Int.{ints}
 use Rattle.std.proofs.Math.IntN.{*ℤ-zero}
 use Rattle.std.proofs.lemmas.List.{length-map}
@@ -15,19 +15,19 @@ use Rattle.meaning.specs.Algorithm.{Algorithm}
 use Rattle.meaning.specs.Names.{same_name}
 use Rattle.plan.specs.Plan.{Group, Plan}
 use Rattle.plan.specs.Lines.{group_line}
-use Rattle.plan.specs.Symbols.{form_value, clipped, largest, smallest, turns}
+use Rattle.plan.specs.Symbols.{form_value, largest, smallest, turns}
 use Rattle.plan.specs.Certificate.Certificate.{Certificate}
 use Rattle.plan.specs.Certificate.Cells.{cell, piece, cells_from, pieces_from, grid_value, group_pieces, group_points, piece_count, no_symbols}
 use Rattle.soundness.specs.Given.{outline_of}
-use Rattle.soundness.proofs.Refines.{and_parts, eq_true}
+use Rattle.soundness.proofs.Refines.{and_parts}
 use Rattle.headline.specs.Parts.{span_count, point_count}
 use Rattle.headline.specs.Sound.{publishes}
 use Rattle.headline.proofs.Parts.{points_counted}
 use Rattle.outline.specs.Flaws.{line_told}
-use Rattle.outline.specs.Forms.{are_within_limits, spans_are_within_limits, spans_are_over}
-use Rattle.checked_plan.specs.Ready.Ready.{IsSmallSpan, first_constant}
+use Rattle.outline.specs.Forms.{are_within_limits, is_listed, spans_are_within_limits, spans_are_over}
+use Rattle.checked_plan.specs.Ready.Ready.{IsSmallSpan}
 use Rattle.validation.specs.Stored.Sizes.{counted}
-use Rattle.validation.specs.Groups.Sizes.{more, product, constant_of, extent_of, cell_count, is_single, is_extent}
+use Rattle.validation.specs.Groups.Sizes.{more, product, extent_of, cell_count, is_extent}
 use Rattle.validation.specs.Stored.Definitions.{parts_named, has_variables}
 use Rattle.validation.specs.Groups.Lines.{group_line_flaws, group_flaws, groups_flaws, flaws_of_groups, flaws, start}
 use Rattle.validation.proofs.Flawless.{fine, none_in, GroupIsFine, group_fine}
@@ -46,65 +46,65 @@ plus_none z = omega (arith, ints)
 form_constant : (f : Form) → form_value f no_symbols ≡ f.constant
 form_constant f = ap (λ (z : ℤ). f.constant +ℤ z) (sum_zero f.terms) ∙ plus_none f.constant
 
--- one form alone, and its constant
-pub record IsOne (ls : List Form) : Type 0 where
-  pub form : Form
-  pub alone : ls ≡ form ∷ []
+-- ---- ends of constants
 
-pub one : (ls : List Form) → is_single ls ≡ true → IsOne ls
-one [] h = absurd (false≢true h)
-one (f ∷ []) h = record { form = f; alone = refl }
-one (f ∷ g ∷ rest) h = let e : length (f ∷ g ∷ rest) ≡ 1 = eq_true (length (f ∷ g ∷ rest)) 1 h in absurd (omega (arith, e))
+value_within : (f : Form) → is_within_limits f ≡ true → IsWithin (2 ^ 40) (form_value f no_symbols)
+value_within f h = subst (IsWithin (2 ^ 40)) (sym (form_constant f)) (within_limits-constant f h)
 
-pub low_is : (ls : List Form) → is_single ls ≡ true → largest no_symbols ls ≡ constant_of ls
-low_is ls h = let o = one ls h in subst (λ (fs : List Form). largest no_symbols fs ≡ constant_of fs) (sym o.alone) (form_constant o.form)
+max_within : (y z : ℤ) → IsWithin (2 ^ 40) y → IsWithin (2 ^ 40) z → IsWithin (2 ^ 40) (int_max y z)
+max_within y z h k = elim (int_lt z y) as (λ (b : Bool). IsWithin (2 ^ 40) (if b then y else z)) [ true ↦ h | false ↦ k ]
 
-pub high_is : (ls : List Form) → is_single ls ≡ true → smallest no_symbols ls ≡ constant_of ls
-high_is ls h = let o = one ls h in subst (λ (fs : List Form). smallest no_symbols fs ≡ constant_of fs) (sym o.alone) (form_constant o.form)
+min_within : (y z : ℤ) → IsWithin (2 ^ 40) y → IsWithin (2 ^ 40) z → IsWithin (2 ^ 40) (int_min y z)
+min_within y z h k = elim (int_lt z y) as (λ (b : Bool). IsWithin (2 ^ 40) (if b then z else y)) [ true ↦ k | false ↦ h ]
 
-same_constant : (ls : List Form) → constant_of ls ≡ first_constant ls
-same_constant [] = refl
-same_constant (f ∷ fs) = refl
+all_max : (v : ℤ) (ls : List Form) → IsWithin (2 ^ 40) v → are_within_limits ls ≡ true → IsWithin (2 ^ 40) (fold int_max v (map (λ m. form_value m no_symbols) ls))
+all_max v [] h k = h
+all_max v (l ∷ ls) h k =
+    let parts = and_parts (is_within_limits l) (are_within_limits ls) k in
+    all_max (int_max v (form_value l no_symbols)) ls (max_within v (form_value l no_symbols) h (value_within l parts.0)) parts.1
 
-constant_within : (ls : List Form) → are_within_limits ls ≡ true → IsWithin (2 ^ 40) (first_constant ls)
-constant_within [] h = let least : 0 ≤ 2 ^ 40 = omega arith in least
-constant_within (f ∷ fs) h = within_limits-constant f (and_parts (is_within_limits f) (are_within_limits fs) h).0
+all_min : (v : ℤ) (ls : List Form) → IsWithin (2 ^ 40) v → are_within_limits ls ≡ true → IsWithin (2 ^ 40) (fold int_min v (map (λ m. form_value m no_symbols) ls))
+all_min v [] h k = h
+all_min v (l ∷ ls) h k =
+    let parts = and_parts (is_within_limits l) (are_within_limits ls) k in
+    all_min (int_min v (form_value l no_symbols)) ls (min_within v (form_value l no_symbols) h (value_within l parts.0)) parts.1
+
+low_within : (ls : List Form) → are_within_limits ls ≡ true → IsWithin (2 ^ 40) (largest no_symbols ls)
+low_within [] h = let least : 0 ≤ 2 ^ 40 = omega arith in least
+low_within (l ∷ ls) h = let parts = and_parts (is_within_limits l) (are_within_limits ls) h in all_max (form_value l no_symbols) ls (value_within l parts.0) parts.1
+
+high_within : (ls : List Form) → are_within_limits ls ≡ true → IsWithin (2 ^ 40) (smallest no_symbols ls)
+high_within [] h = let least : 0 ≤ 2 ^ 40 = omega arith in least
+high_within (l ∷ ls) h = let parts = and_parts (is_within_limits l) (are_within_limits ls) h in all_min (form_value l no_symbols) ls (value_within l parts.0) parts.1
 
 -- what is known of a span of a group's region
 pub record IsExtent (x : Span1) : Type 0 where
-  pub lower : is_single x.lower ≡ true
-  pub upper : is_single x.upper ≡ true
+  pub lower : is_listed x.lower ≡ true
+  pub upper : is_listed x.upper ≡ true
   pub some : 1 ≤ extent_of x
   pub few : extent_of x ≤ 8192
 
 pub extent : (x : Span1) → is_extent x ≡ true → IsExtent x
 extent x h =
     let few = nat_le 1 (counted (extent_of x)) && nat_le (counted (extent_of x)) 8192 in
-    let k = and_parts (is_single x.lower) (is_single x.upper && few) h in
-    let l = and_parts (is_single x.upper) few k.1 in
+    let k = and_parts (is_listed x.lower) (is_listed x.upper && few) h in
+    let l = and_parts (is_listed x.upper) few k.1 in
     let m = and_parts (nat_le 1 (counted (extent_of x))) (nat_le (counted (extent_of x)) 8192) l.1 in
     let low = le_true 1 (counted (extent_of x)) m.0 in
     let high = le_true (counted (extent_of x)) 8192 m.1 in
     record { lower = k.0; upper = l.0; some = omega (arith, low); few = omega (arith, high) }
 
-pub count_is : (x : Span1) → IsExtent x → span_count no_symbols x ≡ extent_of x
-count_is x e = λ i. clipped ((high_is x.upper e.upper i +ℤ pos 1) -ℤ low_is x.lower e.lower i)
+pub count_is : (x : Span1) → span_count no_symbols x ≡ extent_of x
+count_is x = refl
 
 span_small : (x : Span1) → is_extent x ≡ true → (are_within_limits x.lower && are_within_limits x.upper) ≡ true → IsSmallSpan x
 span_small x h w =
     let e = extent x h in
     let k = and_parts (are_within_limits x.lower) (are_within_limits x.upper) w in
-    let long : length (turns no_symbols x) ≡ extent_of x = points_counted.turns no_symbols x ∙ count_is x e in
+    let long : length (turns no_symbols x) ≡ extent_of x = points_counted.turns no_symbols x ∙ count_is x in
     let some = e.some in
     let few = e.few in
-    record {
-      low = low_is x.lower e.lower ∙ same_constant x.lower;
-      high = high_is x.upper e.upper ∙ same_constant x.upper;
-      low_within = constant_within x.lower k.0;
-      high_within = constant_within x.upper k.1;
-      some = omega (arith, long, some);
-      few = omega (arith, long, few);
-    }
+    record { low = low_within x.lower k.0; high = high_within x.upper k.1; some = omega (arith, long, some); few = omega (arith, long, few) }
 
 pub region_small : (xs : List Span1) → list_all is_extent xs ≡ true → spans_are_within_limits xs ≡ true → AllByRecursion IsSmallSpan xs
 region_small [] h w = tt
@@ -164,7 +164,7 @@ count_all : (xs : List Span1) → list_all is_extent xs ≡ true → point_count
 count_all [] h = refl
 count_all (x ∷ xs) h =
     let k = and_parts (is_extent x) (list_all is_extent xs) h in
-    let first = count_is x (extent x k.0) in
+    let first = count_is x in
     let rest = count_all xs k.1 in
     λ i. first i * rest i
 

@@ -41,7 +41,7 @@ use Rattle.verdict.proofs.Stores.{all_defined}
 
 -- ---- the head
 
-head : HasHead two two_plan
+pub head : HasHead two two_plan
 head = record {
   name = refl;
   input = record { name = refl; ty = refl; extents = refl };
@@ -324,7 +324,7 @@ inside (pos x ∷ []) h =
     λ i. ((a i && true) && (b i && true)) && true
 inside (pos x ∷ z ∷ ps) h = let k = and_parts (nat_lt x 2) false h in absurd (cc (k.1))
 
-output : HasOutput two two_plan
+pub output : HasOutput two two_plan
 output = record { number = 1; group = out_group both; stands = refl; function = refl; inside = inside }
 
 all_narrow : (n : ℕ) (g : Group) → slice_get two_plan.groups n ≡ Some g → wide_lines (two_rules n) (grid_binders g.grid) (body_line two_plan n) g.body ≡ []

@@ -1,6 +1,6 @@
 -- All forms that a piece comes to are narrow.
-use Rattle.std.proofs.Common.{◌≡◌, ℕ, zero, suc, ◌+◌, ◌/◌, ◌^◌, ◌<◌, ◌≤◌, Bool, true, false, List, [], ◌∷◌, ◌++◌, length, Option, Some, None, refl, sym, subst, arith, inl, inr}
-use Rattle.std.specs.Prelude.{ℤ, pos, neg_ℤ, ◌==◌, ◌||◌, ◌&&◌, ◌⊎◌, int_le, MatchOption}
+use Rattle.std.proofs.Common.{◌≡◌, ℕ, zero, suc, ◌+◌, ◌/◌, ◌^◌, ◌<◌, ◌≤◌, Bool, true, false, List, [], ◌∷◌, ◌++◌, length, Option, Some, None, refl, sym, subst, arith}
+use Rattle.std.specs.Prelude.{ℤ, pos, neg_ℤ, ◌==◌, ◌||◌, ◌&&◌, ◌-◌, ◌≤ℤ◌, if◌then◌else◌, int_le, MatchOption}
 use Rattle.std.specs.List.{AllByRecursion, list_any, list_all, range_with_len}
 use Rattle.std.proofs.Math.Nat.{div-le_self, mod-add-div}
 use Rattle.std.proofs.lemmas.Bool.Decides.{nat_tests}
@@ -9,24 +9,27 @@ use Rattle.std.proofs.lemmas.List.Elements.{All-from_recursion}
 use Rattle.lin.specs.Forms.{Form, number, IsWithin}
 use Rattle.lin.specs.declared.form.Multiple.{Multiple}
 use Rattle.lin.specs.declared.span.Span1.{Span1}
-use Rattle.plan.specs.Plan.{Statement, Seq, For, Let, First, Guard, Alloc, Fetch, Store, Publish, Statements, Empty, Then, Group}
-use Rattle.plan.specs.Symbols.{Symbols, bind, largest, turns}
+use Rattle.plan.specs.declared.stmt.Places.{Places}
+use Rattle.plan.specs.declared.stmt.Places.TheVariants.{From, Folded}
+use Rattle.plan.specs.Plan.{Index, At, Found, Coordinate, Statement, Seq, For, Let, First, Guard, Alloc, Fetch, Store, Publish, Statements, Empty, Then, Group}
+use Rattle.plan.specs.Symbols.{Symbols, bind, form_value, largest, turns}
 use Rattle.plan.specs.Certificate.Cells.{grid_point, grid_symbols, grid_value, group_pieces, no_symbols, own_region}
 use Rattle.plan.specs.Certificate.Certificate.{Certificate}
 use Rattle.plan.specs.Semantics.Actions.{after}
 use Rattle.soundness.specs.Claims.{In}
-use Rattle.soundness.specs.Obligations.{Binder, Ranged, Picked, Passed, Lies, Respects, Rules, Suited, binder_has, span_has}
+use Rattle.soundness.specs.Obligations.{Binder, Ranged, Picked, Passed, Lies, Respects, Rules, Suited, binder_has, exactly, span_has}
+use Rattle.soundness.specs.Shown.{is_within}
 use Rattle.soundness.specs.Origins.{Given}
 use Rattle.soundness.proofs.Forms.{rec_weaker, turn_lies, lies_on, respects_on}
-use Rattle.soundness.proofs.Refines.{and_parts, eq_refl, eq_true}
+use Rattle.soundness.proofs.Refines.{and_parts, eq_refl}
 use Rattle.soundness.specs.Binders.View.{grid_binders, grid_from, grid_span}
-use Rattle.interpreter.specs.Narrow.{RegionIsNarrow, PlacesAreNarrow, IndexIsNarrow, StatementIsNarrow, BlockIsNarrow, OwnIsNarrow, PieceIsNarrow}
+use Rattle.interpreter.specs.Narrow.{FormIsNarrow, SpanIsNarrow, RegionIsNarrow, PlacesAreNarrow, IndexIsNarrow, StatementIsNarrow, BlockIsNarrow, OwnIsNarrow, PieceIsNarrow}
 use Rattle.headline.proofs.Members.{in_of}
 use Rattle.plan.specs.Lines.{lines}
-use Rattle.rules.specs.Widths.Widths.{alone, block_wide_lines, is_narrow, line_unless, wide_lines}
+use Rattle.rules.specs.Widths.Widths.{alone, are_near_places, block_wide_lines, from_to, is_i32, is_near, is_near_form, is_near_span, line_unless, or_line, store_lines, wide_lines}
 use Rattle.verdict.proofs.Grid.{grid_respected}
-use Rattle.verdict.specs.Bounded.Near.{is_over, SpanStands, HasForms, HasFormsInBlock, grid_numbers, GroupIsNear, NearIsNarrow}
-use Rattle.verdict.proofs.Size.{is_one, AreNear, span_narrow, region_narrow, places_narrow, indices_narrow, or_none, IsOver, over_of, span_free, symbol_free}
+use Rattle.verdict.specs.Bounded.Near.{is_over, FormStands, SpanStands, PlacesStand, IndexStands, HasForms, HasFormsInBlock, grid_numbers, GroupIsNear, NearIsNarrow}
+use Rattle.verdict.proofs.Size.{is_one, AreNear, TermsAreNear, form_is_narrow, region_narrow, or_none, IsOver, over_of, span_free, symbol_free}
 
 -- ---- one symbol more
 
@@ -60,14 +63,6 @@ one_more j i (x ∷ xs) h = of (x == j) h (one_more j i xs)
 one_last : (i : ℕ) (symbols : List ℕ) → is_one i (symbols ++ i ∷ []) ≡ true
 one_last i [] = or_first (i == i) false (eq_refl i)
 one_last i (x ∷ xs) = or_second (x == i) (is_one i (xs ++ i ∷ [])) (one_last i xs)
-
-one_of : (j i : ℕ) (symbols : List ℕ) → is_one j (symbols ++ i ∷ []) ≡ true → (is_one j symbols ≡ true) ⊎ (i ≡ j)
-one_of j i [] h = inr (eq_true i j (or_same (i == j) h))
-one_of j i (x ∷ xs) h = of (x == j) h (one_of j i xs)
-  where
-    of : (v : Bool) → (v || is_one j (xs ++ i ∷ [])) ≡ true → (is_one j (xs ++ i ∷ []) ≡ true → (is_one j xs ≡ true) ⊎ (i ≡ j)) → ((v || is_one j xs) ≡ true) ⊎ (i ≡ j)
-    of true h rest = inl refl
-    of false h rest = rest h
 
 over_more : (i : ℕ) (symbols : List ℕ) (f : Form) → is_over symbols f ≡ true → is_over (symbols ++ i ∷ []) f ≡ true
 over_more i symbols f h = go f.terms h
@@ -110,9 +105,18 @@ none_both : (xs ys : List ℕ) → xs ++ ys ≡ [] → (xs ≡ []) × (ys ≡ []
 none_both [] ys h = (refl, h)
 none_both (x ∷ xs) ys h = absurd (cc h)
 
-one_near : (v : Bool) (line : ℕ) (rest : List ℕ) → line_unless v line ++ rest ≡ [] → (v ≡ true) × (rest ≡ [])
-one_near true line rest h = (refl, h)
-one_near false line rest h = absurd (cc h)
+some_line : (line : ℕ) (ns : List ℕ) → or_line line ns ≡ [] → ⊥
+some_line line [] h = absurd (cc h)
+some_line line (n ∷ ns) h = absurd (cc h)
+
+-- where a loop over such ends has no line told, the ends are near, and its body has none
+near_ends : (v : Bool) (line : ℕ) (some inside : List ℕ) → (if v then inside else or_line line some) ≡ [] → (v ≡ true) × (inside ≡ [])
+near_ends true line some inside h = (refl, h)
+near_ends false line some inside h = absurd (some_line line some h)
+
+none_unless : (v : Bool) (line : ℕ) → line_unless v line ≡ [] → v ≡ true
+none_unless true line h = refl
+none_unless false line h = absurd (cc h)
 
 -- ---- the grid
 
@@ -157,39 +161,81 @@ module _ (given : Given) (rules : Rules) (c : Certificate) (n : ℕ) (g : Group)
   -- what holds at a statement
   record Here (symbols : List ℕ) (bs : List Binder) (s : Symbols) : Type 0 where
     respects : Respects bs s
-    near : AreNear symbols s
+    near : AreNear (grid_numbers g.grid) s
     over : AreOver symbols bs
     grid : (i : ℕ) → is_one i (grid_numbers g.grid) ≡ true → is_one i symbols ≡ true
 
-  abbrev least : Form
-  least = number (neg_ℤ (pos (2 ^ 39)))
+  -- what is shown to lie between two numbers does
+  between : (bs : List Binder) (f : Form) (low high : ℤ) (s : Symbols) → is_within rules bs (exactly f) (from_to low high) ≡ true → Respects bs s → (low ≤ℤ form_value f s) × (form_value f s ≤ℤ high)
+  between bs f low high s h r =
+      let below = rules.at_most bs (number low) f in
+      let above = rules.at_most bs f (number high) in
+      let p = and_parts ((below || false) && true) ((above || false) && true) h in
+      let a = suited.ordered bs (number low) f s (or_same below (and_parts (below || false) true p.0).0) r in
+      let b = suited.ordered bs f (number high) s (or_same above (and_parts (above || false) true p.1).0) r in
+      (omega (arith, ints, a), omega (arith, ints, b))
 
-  abbrev greatest : Form
-  greatest = number (pos (2 ^ 39))
+  index_near : (i : ℕ) (bs : List Binder) (s : Symbols) → is_near rules bs i ≡ true → Respects bs s → IsWithin (2 ^ 39) (s.value i)
+  index_near i bs s h r = let p = between bs (alone i) (neg_ℤ (pos (2 ^ 39))) (pos (2 ^ 39)) s h r in omega (arith, ints, p)
 
-  index_near : (i : ℕ) (x : Span1) (bs : List Binder) (s : Symbols) → is_narrow rules bs i x ≡ true → Respects (Ranged i x ∷ bs) s → IsWithin (2 ^ 39) (s.value i)
-  index_near i x bs s h r =
-      let at : List Binder = Ranged i x ∷ bs in
-      let p = and_parts ((rules.at_most at least (alone i) || false) && true) ((rules.at_most at (alone i) greatest || false) && true) h in
-      let a = suited.ordered at least (alone i) s (or_same (rules.at_most at least (alone i)) (and_parts (rules.at_most at least (alone i) || false) true p.0).0) r in
-      let b = suited.ordered at (alone i) greatest s (or_same (rules.at_most at (alone i) greatest) (and_parts (rules.at_most at (alone i) greatest || false) true p.1).0) r in
-      omega (arith, ints, a, b)
+  module _ (bs : List Binder) (s : Symbols) (r : Respects bs s) where
+    terms_near : (ts : List Multiple) → list_all (λ (t : Multiple). is_near rules bs t.symbol) ts ≡ true → TermsAreNear ts s
+    terms_near [] h = tt
+    terms_near (t ∷ ts) h =
+        let k = and_parts (is_near rules bs t.symbol) (list_all (λ (u : Multiple). is_near rules bs u.symbol) ts) h in
+        (index_near t.symbol bs s k.0 r, terms_near ts k.1)
 
-  turn : (i : ℕ) (x : Span1) (symbols : List ℕ) (bs : List Binder) (s : Symbols) (z : ℤ) (b : Bool) → Here symbols bs s → SpanStands symbols x → is_one i symbols ≡ false → is_narrow rules bs i x ≡ true →
+    forms_near : (symbols : List ℕ) (fs : List Form) → AllByRecursion (FormStands symbols) fs → list_all (is_near_form rules bs) fs ≡ true → AllByRecursion (FormIsNarrow s) fs
+    forms_near symbols [] h k = tt
+    forms_near symbols (f ∷ fs) h k =
+        let p = and_parts (is_near_form rules bs f) (list_all (is_near_form rules bs) fs) k in
+        (form_is_narrow s f h.0.limits (terms_near f.terms p.0), forms_near symbols fs h.1 p.1)
+
+    span_near : (symbols : List ℕ) (x : Span1) → SpanStands symbols x → is_near_span rules bs x ≡ true → SpanIsNarrow s x
+    span_near symbols x h k =
+        let p = and_parts (list_all (is_near_form rules bs) x.lower) (list_all (is_near_form rules bs) x.upper) k in
+        record {
+          lower = All-from_recursion (FormIsNarrow s) x.lower (forms_near symbols x.lower h.lower p.0);
+          upper = All-from_recursion (FormIsNarrow s) x.upper (forms_near symbols x.upper h.upper p.1);
+        }
+
+    spans_near : (symbols : List ℕ) (xs : List Span1) → AllByRecursion (SpanStands symbols) xs → list_all (is_near_span rules bs) xs ≡ true → AllByRecursion (SpanIsNarrow s) xs
+    spans_near symbols [] h k = tt
+    spans_near symbols (x ∷ xs) h k =
+        let p = and_parts (is_near_span rules bs x) (list_all (is_near_span rules bs) xs) k in (span_near symbols x h.0 p.0, spans_near symbols xs h.1 p.1)
+
+    place_near : (symbols : List ℕ) (a : Places) → PlacesStand symbols a → are_near_places rules bs a ≡ true → PlacesAreNarrow s a
+    place_near symbols (From l n) h k = form_is_narrow s l h.limits (terms_near l.terms k)
+    place_near symbols (Folded n) h k = tt
+
+    places_near : (symbols : List ℕ) (xs : List Places) → AllByRecursion (PlacesStand symbols) xs → list_all (are_near_places rules bs) xs ≡ true → AllByRecursion (PlacesAreNarrow s) xs
+    places_near symbols [] h k = tt
+    places_near symbols (x ∷ xs) h k =
+        let p = and_parts (are_near_places rules bs x) (list_all (are_near_places rules bs) xs) k in (place_near symbols x h.0 p.0, places_near symbols xs h.1 p.1)
+
+    -- a coordinate that is shown to be an i32 is a 64-bit number, whatever its symbols are
+    index_small : (symbols : List ℕ) (i : Index) → IndexStands symbols i → is_i32 rules bs i ≡ true → IndexIsNarrow s i
+    index_small symbols (At l) h k =
+        let p = between bs l (neg_ℤ (pos (2 ^ 31))) (pos (2 ^ 31 - 1)) s k r in
+        record { limits = h.limits; value = record { from = omega (arith, ints, p); to = omega (arith, ints, p) } }
+    index_small symbols (Found e) h k = tt
+
+    indices_small : (symbols : List ℕ) (at : List Coordinate) → AllByRecursion (λ c. IndexStands symbols c.index) at → list_all (λ c. is_i32 rules bs c.index) at ≡ true → AllByRecursion (λ c. IndexIsNarrow s c.index) at
+    indices_small symbols [] h k = tt
+    indices_small symbols (c ∷ cs) h k =
+        let p = and_parts (is_i32 rules bs c.index) (list_all (λ d. is_i32 rules bs d.index) cs) k in (index_small symbols c.index h.0 p.0, indices_small symbols cs h.1 p.1)
+
+  turn : (i : ℕ) (x : Span1) (symbols : List ℕ) (bs : List Binder) (s : Symbols) (z : ℤ) (b : Bool) → Here symbols bs s → SpanStands symbols x → is_one i symbols ≡ false →
       In z (turns s x) → Here (symbols ++ i ∷ []) (Ranged i x ∷ bs) (bind s i z b)
-  turn i x symbols bs s z b h stands new index m =
+  turn i x symbols bs s z b h stands new m =
       let over = over_of symbols x stands in
       let free = span_free i symbols new x over in
       let t : Symbols = bind s i z b in
       let here : t.value i ≡ z = rw (eq_refl i) refl in
       let lies : Lies t x (t.value i) = subst (Lies t x) (sym here) (lies_on s i z b x z free (turn_lies s x z m)) in
-      let respects : Respects (Ranged i x ∷ bs) t = (lies, respects_on s i z b bs (binders_free i symbols new bs h.over) h.respects) in
       record {
-        respects = respects;
-        near = λ j k. elim (one_of j i symbols k) [
-          | inl old ↦ subst (IsWithin (2 ^ 39)) (sym (other_value s i z b j (symbol_free i symbols new j old))) (h.near j old)
-          | inr e ↦ subst (λ v. IsWithin (2 ^ 39) (t.value v)) e (index_near i x bs t index respects)
-        ];
+        respects = (lies, respects_on s i z b bs (binders_free i symbols new bs h.over) h.respects);
+        near = λ j k. subst (IsWithin (2 ^ 39)) (sym (other_value s i z b j (symbol_free i symbols new j (h.grid j k)))) (h.near j k);
         over = (one_last i symbols, span_more i symbols x over, binders_more i symbols bs h.over);
         grid = λ j k. one_more j i symbols (h.grid j k);
       }
@@ -210,7 +256,7 @@ module _ (given : Given) (rules : Rules) (c : Certificate) (n : ℕ) (g : Group)
 
   own_narrow : (symbols : List ℕ) (bs : List Binder) (s : Symbols) → Here symbols bs s → Own s
   own_narrow symbols bs s h = record {
-    own = map_match (AllByRecursion (SpanStands (grid_numbers g.grid))) (RegionIsNarrow s) (own_region c.own n) (λ xs k. region_narrow (grid_numbers g.grid) s (λ i m. h.near i (h.grid i m)) xs k) is.own;
+    own = map_match (AllByRecursion (SpanStands (grid_numbers g.grid))) (RegionIsNarrow s) (own_region c.own n) (λ xs k. region_narrow (grid_numbers g.grid) s h.near xs k) is.own;
     group = region_narrow [] no_symbols none_near g.region is.region;
   }
 
@@ -218,17 +264,20 @@ module _ (given : Given) (rules : Rules) (c : Certificate) (n : ℕ) (g : Group)
     narrow : (a : Statement) (symbols : List ℕ) (bs : List Binder) (line : ℕ) (s : Symbols) → Here symbols bs s → HasForms a symbols → wide_lines rules bs line a ≡ [] → StatementIsNarrow Own a s
     narrow (Seq all) symbols bs line s h k f = narrow_block all symbols bs line s h k f
     narrow (For i x kind body) symbols bs line s h k f =
-        let near = one_near (is_narrow rules bs i x) line (wide_lines rules (Ranged i x ∷ bs) (line + 1) body) f in (
-          span_narrow symbols s h.near x k.0,
+        let near = near_ends (is_near_span rules bs x) line (store_lines (line + 1) body) (wide_lines rules (Ranged i x ∷ bs) (line + 1) body) f in (
+          span_near bs s h.respects symbols x k.0 near.0,
           (λ z m. narrow body (symbols ++ i ∷ []) (Ranged i x ∷ bs) (line + 1) (bind s i z (int_le z (largest s x.lower)))
-              (turn i x symbols bs s z (int_le z (largest s x.lower)) h k.0 k.1 near.0 (in_of (turns s x) z m)) k.2 near.1),
+              (turn i x symbols bs s z (int_le z (largest s x.lower)) h k.0 k.1 (in_of (turns s x) z m)) k.2 near.1),
         )
     narrow (Let i pick forms) symbols bs line s h k f = absurd k
     narrow (First i a b) symbols bs line s h k f = absurd k
     narrow (Guard low high body) symbols bs line s h k f = absurd k
-    narrow (Alloc b g places) symbols bs line s h k f = All-from_recursion (PlacesAreNarrow s) places (places_narrow symbols s h.near places k)
-    narrow (Fetch b j region) symbols bs line s h k f = region_narrow symbols s h.near region k
-    narrow (Store b j at e) symbols bs line s h k f = All-from_recursion (λ c. IndexIsNarrow s c.index) at (indices_narrow symbols s h.near at k)
+    narrow (Alloc b g places) symbols bs line s h k f =
+        All-from_recursion (PlacesAreNarrow s) places (places_near bs s h.respects symbols places k (none_unless (list_all (are_near_places rules bs) places) line f))
+    narrow (Fetch b j region) symbols bs line s h k f =
+        All-from_recursion (SpanIsNarrow s) region (spans_near bs s h.respects symbols region k (none_unless (list_all (is_near_span rules bs) region) line f))
+    narrow (Store b j at e) symbols bs line s h k f =
+        All-from_recursion (λ c. IndexIsNarrow s c.index) at (indices_small bs s h.respects symbols at k (none_unless (list_all (λ c. is_i32 rules bs c.index) at) line f))
     narrow (Publish j) symbols bs line s h k f = own_narrow symbols bs s h
 
     narrow_block : (all : Statements) (symbols : List ℕ) (bs : List Binder) (line : ℕ) (s : Symbols) → Here symbols bs s → HasFormsInBlock all symbols → block_wide_lines rules bs line all ≡ [] → BlockIsNarrow Own all s

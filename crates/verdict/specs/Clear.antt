@@ -16,7 +16,7 @@ use Rattle.verdict.specs.Shown.Wide.{IsFree, stored_in}
 use Rattle.shares.specs.Shared.{AreShared}
 use Rattle.verdict.specs.Bounded.Near.{GroupIsNear}
 use Rattle.checked_plan.specs.Ready.Ready.{IsSmallSpan}
-use Rattle.validation.specs.Certificate.Clear.{IsClear}
+use Rattle.validation.specs.Certificate.Clear.{HasRegions, IsClear}
 use Rattle.validation.specs.Groups.Lines.{flaws_of_groups}
 
 -- definitions that are stored come to no updates of functions that are not
@@ -26,7 +26,7 @@ GroupsAreFree =
 
 -- what the shares of pieces rest on
 abbrev pub PlansAreShared : Type 0
-PlansAreShared = (a : Algorithm) (p : Plan) (c : Certificate) → flaws_of_groups a p c ≡ [] → IsClear a p c → AreShared p c
+PlansAreShared = (a : Algorithm) (p : Plan) (c : Certificate) → flaws_of_groups a p c ≡ [] → HasRegions p c → AreShared p c
 
 -- forms stand, by rules that find no line wide
 abbrev pub GroupsAreNear : Type 0

@@ -5,3 +5,4 @@ pub mod Clear
 pub mod Faults
 pub mod Laws
 pub mod Plain
+pub mod Worked

@@ -1,6 +1,7 @@
 //! What is proved of plans that are accepted, and of those that are refused.
 
 ghost use Rattle.verdict.specs.Laws.{AcceptedIsReady, AcceptedIsRight, FaultsAreRefusals, PlainIsAccepted};
+ghost use Rattle.verdict.specs.Worked.{WorkedPlansAreAccepted};
 
 use crate::bounded::near_is_narrow;
 use crate::clear::{
@@ -55,3 +56,9 @@ pub fn faults_are_refusals()
     shown_is_nothing_told();
     faults_have_no_shares();
 }
+
+/// A plan of two groups is accepted by the checker's own rules; where a line of it is altered it has the fault that the
+/// alteration makes.
+pub fn worked_plans_are_accepted()
+    ensures { WorkedPlansAreAccepted }
+{}

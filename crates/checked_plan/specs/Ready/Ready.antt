@@ -1,7 +1,7 @@
 -- What the crates that run a checked plan rest on, whatever form the plan has.
 use Rattle.std.specs.Prelude.{◌≡◌, ℕ, ◌+◌, ◌^◌, ◌<◌, ◌≤◌, List, [], ◌∷◌, length, Some, true, false, ℤ, pos, slice_get}
 use Rattle.std.specs.List.{AllByRecursion}
-use Rattle.lin.specs.Forms.{Form, IsWithin}
+use Rattle.lin.specs.Forms.{IsWithin}
 use Rattle.lin.specs.declared.span.Span1.{Span1}
 use Rattle.meaning.specs.Image.Raster.{is_within}
 use Rattle.meaning.specs.Algorithm.{Algorithm}
@@ -19,17 +19,17 @@ use Rattle.headline.specs.Head.{SameInput}
 use Rattle.headline.specs.Headline.{Headline}
 use Rattle.interpreter.specs.Narrow.{PieceIsNarrow}
 
--- the constant of the first form, and 0 where there is none
-abbrev pub first_constant : List Form → ℤ
-first_constant [] = pos 0
-first_constant (f ∷ fs) = f.constant
+-- the ends of a span of constants: the largest lower one and the smallest upper one count
+abbrev pub low_end : Span1 → ℤ
+low_end x = largest no_symbols x.lower
 
--- the ends are the constants of the first forms, and from 1 to 8192 numbers lie between them
+abbrev pub high_end : Span1 → ℤ
+high_end x = smallest no_symbols x.upper
+
+-- the ends are near 0, and from 1 to 8192 numbers lie between them
 pub record IsSmallSpan (x : Span1) : Type 0 where
-  pub low : largest no_symbols x.lower ≡ first_constant x.lower
-  pub high : smallest no_symbols x.upper ≡ first_constant x.upper
-  pub low_within : IsWithin (2 ^ 40) (first_constant x.lower)
-  pub high_within : IsWithin (2 ^ 40) (first_constant x.upper)
+  pub low : IsWithin (2 ^ 40) (low_end x)
+  pub high : IsWithin (2 ^ 40) (high_end x)
   pub some : 1 ≤ length (turns no_symbols x)
   pub few : length (turns no_symbols x) ≤ 8192
 

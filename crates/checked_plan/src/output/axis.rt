@@ -3,9 +3,10 @@
 ghost use Rattle.std.specs.Prelude.{◌≡◌, ◌≤◌, ◌^◌, All, IfOk};
 ghost use Rattle.std.specs.List.{AllByRecursion};
 ghost use Rattle.checked_plan.specs.Output.Axes.{IsNear, IsOn, axes_of, axis_of, is_on, point_count, rank_of};
-ghost use Rattle.checked_plan.specs.Ready.Ready.{IsSmallSpan, first_constant};
+ghost use Rattle.checked_plan.specs.Ready.Ready.{IsSmallSpan};
 
-use lin::{Forms, Span1};
+use crate::output::ends::{high_end, low_end};
+use lin::Span1;
 use std::alloc::{AllocError, Global};
 
 /// A coordinate of a region: its low end and how many whole numbers it has from there on.
@@ -15,23 +16,13 @@ pub struct Axis {
     pub count: u32,
 }
 
-/// The constant of the first form, 0 where there is none.
-fn first_constant(forms: &Forms) -> i64
-    ensures { result ≡ first_constant forms.now }
-{
-    match forms.as_slice() {
-        [] => 0,
-        [form, ..] => form.constant(),
-    }
-}
-
 /// The coordinate that a span with constant ends is.
 fn axis_of(span: &Span1) -> Axis
     requires { IsSmallSpan span.now }
     ensures { result ≡ axis_of span.now }
 {
-    let low = first_constant(&span.lower);
-    let high = first_constant(&span.upper);
+    let low = low_end(span);
+    let high = high_end(span);
     let count = (high - low + 1) as u32;
     Axis { low, count }
 }

@@ -1,12 +1,8 @@
 -- The last definition of a function.
-use Rattle.std.specs.Prelude.{ℕ, List, length, Option, Some, None}
-use Rattle.meaning.specs.Algorithm.{Function, Algorithm}
+use Rattle.std.specs.Prelude.{ℕ, List}
+use Rattle.meaning.specs.Algorithm.{Algorithm}
 use Rattle.soundness.specs.Given.{function_named}
-
--- how many updates a function has, which is the number of its last definition
-abbrev pub update_count : Option Function → ℕ
-update_count None = 0
-update_count (Some f) = length f.changes
+use Rattle.rules.specs.Bounding.Called.{update_count}
 
 -- the number of the last definition of the function of this name, 0 where there is none
 abbrev pub last_in : Algorithm → List ℕ → ℕ

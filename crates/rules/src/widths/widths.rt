@@ -1,42 +1,17 @@
-//! The first line with a symbol or a coordinate that may be too large.
+//! The first line with a coordinate or a symbol that may be too large.
 
-ghost use Rattle.std.specs.Prelude.{◌≡◌, ◌∷◌, [], ◌++◌, ℕ, IfOk, map, Some, None};
-ghost use Rattle.std.specs.List.{list_all};
-ghost use Rattle.lin.specs.declared.span.Span1.{Span1};
-ghost use Rattle.soundness.specs.Obligations.{exactly};
-ghost use Rattle.soundness.specs.Shown.{is_within};
+ghost use Rattle.std.specs.Prelude.{◌≡◌, ◌+◌, ◌∷◌, ◌++◌, ℕ, IfOk, Some};
 ghost use Rattle.plan.specs.Lists.{list_statements};
 ghost use Rattle.plan.specs.Plan.{block};
-ghost use Rattle.plan.specs.View.{coordinate_of, index_of, statement_of};
+ghost use Rattle.plan.specs.View.{statement_of};
 ghost use Rattle.soundness.specs.Binders.View.{binder_of, binders_of};
-ghost use Rattle.rules.specs.Widths.Widths.{alone, block_wide_lines, coordinate_span, first_told, from_to, is_i32, is_narrow, symbol_span, told, wide_lines};
+ghost use Rattle.rules.specs.Widths.Widths.{block_wide_lines, first_told, line_unless, or_line, store_lines, told, wide_lines};
 
-use lin::{Forms, Lin, Span1, Sym};
-use plan::{Coordinate, Index, Stmt};
+use crate::widths::near::{are_i32, are_near_places, are_near_spans, is_near_span};
+use crate::widths::storing::first_store;
+use plan::Stmt;
 use soundness::binders::{Binder, Bounds};
 use std::alloc::{AllocError, Global};
-
-/// The span from one number to another.
-fn from_to(alloc: Global, low: i64, high: i64) -> Result<Span1, AllocError>
-    ensures { IfOk result (λ span. span ≡ from_to low high) }
-{
-    let mut lower = Forms::new(alloc);
-    lower.push(Lin::number(alloc, low))?;
-    let mut upper = Forms::new(alloc);
-    upper.push(Lin::number(alloc, high))?;
-    Ok(Span1 { lower, upper })
-}
-
-/// The span of one number.
-fn exactly(alloc: Global, form: &Lin) -> Result<Span1, AllocError>
-    ensures { IfOk result (λ span. span ≡ exactly form.now) }
-{
-    let mut lower = Forms::new(alloc);
-    lower.push(form.copy(alloc)?)?;
-    let mut upper = Forms::new(alloc);
-    upper.push(form.copy(alloc)?)?;
-    Ok(Span1 { lower, upper })
-}
 
 /// The binders with one more inside of them.
 fn with<'a>(
@@ -54,64 +29,30 @@ fn with<'a>(
     Ok(all)
 }
 
-/// Whether the symbol of a loop over the span is shown to be at most 2^39 from 0. The loop's binder is among those given.
-fn is_narrow<B: Bounds>(
-    alloc: Global,
-    bounds: &B,
-    binders: &[Binder<'_>],
-    symbol: Sym,
-) -> Result<bool, AllocError>
-    ensures { IfOk result (λ yes. yes ≡ is_within (B.rules bounds.now) (binders_of binders.now) (exactly (alone symbol)) symbol_span) }
+/// The line, unless what is asked of it holds.
+fn unless(shown: bool, line: u32) -> Option<u32>
+    ensures { (n : ℕ) → line ≡ told n → result ≡ first_told (line_unless shown n) }
 {
-    let form = Lin::symbol(alloc, symbol)?;
-    let span = exactly(alloc, &form)?;
-    let outer = from_to(alloc, -(1 << 39), 1 << 39)?;
-    bounds.is_within(alloc, binders, &span, &outer)
+    if shown { None } else { Some(line) }
 }
 
-/// Whether a coordinate that is a form is shown to be an i32.
-fn is_i32<B: Bounds>(
-    alloc: Global,
-    bounds: &B,
-    binders: &[Binder<'_>],
-    index: &Index,
-) -> Result<bool, AllocError>
-    ensures { IfOk result (λ yes. yes ≡ is_i32 (B.rules bounds.now) (binders_of binders.now) (index_of index.now)) }
+/// The first store in the body of a loop, or the loop's own line.
+#[tactic(auto, using(crate::proofs::Lists::later_told))]
+fn stored_or(line: u32, body: &Stmt) -> u32
+    ensures { (n : ℕ) → line ≡ told n → Some result ≡ first_told (or_line n (store_lines (n + 1) (statement_of body.now))) }
 {
-    match index {
-        Index::Form(form) => {
-            let span = exactly(alloc, form)?;
-            let outer = from_to(alloc, i64::from(i32::MIN), i64::from(i32::MAX))?;
-            bounds.is_within(alloc, binders, &span, &outer)
-        }
-        Index::Found(_) => Ok(true),
-    }
+    first_store(line.saturating_add(1), body).unwrap_or(line)
 }
 
-/// Whether all coordinates that are forms are shown to be i32.
-fn are_i32<B: Bounds>(
-    alloc: Global,
-    bounds: &B,
-    binders: &[Binder<'_>],
-    coordinates: &[Coordinate],
-) -> Result<bool, AllocError>
-    ensures { IfOk result (λ yes. yes ≡ list_all (λ c. is_i32 (B.rules bounds.now) (binders_of binders.now) (index_of c.index)) coordinates.now) }
-{
-    for coordinate in coordinates {
-        if !is_i32(alloc, bounds, binders, &coordinate.index)? {
-            return Ok(false);
-        }
-    }
-    Ok(true)
-}
-
-/// The first line, in the order of the text, of a statement that begins at a line, at which a loop's symbol is not shown to be
-/// at most 2^39 from 0, or a store's coordinate is not shown to be an i32. Lines are told up to the greatest `u32`.
+/// The first line, in the order of the text, of a statement that begins at a line, with a number that is not shown to be small:
+/// a store of which a coordinate is not shown to be an i32, or a line with a symbol that is not shown to be at most 2^39 from 0.
+/// A loop whose ends have such a symbol is told at the first store inside it, or by itself where it has none. Lines are told up to
+/// the greatest `u32`.
 ///
 /// # Errors
 /// `AllocError` where memory runs out.
 #[cycle(widths)]
-#[tactic(auto, using(crate::proofs::Lists::later_told, crate::proofs::Lists::all_indices))]
+#[tactic(auto, using(crate::proofs::Lists::later_told))]
 pub fn first_wide_line<B: Bounds>(
     alloc: Global,
     bounds: &B,
@@ -129,11 +70,11 @@ pub fn first_wide_line<B: Bounds>(
             body,
             ..
         } => {
+            if !is_near_span(alloc, bounds, binders, span)? {
+                return Ok(Some(stored_or(line, body)));
+            }
             let symbol = *symbol;
             let inside = with(alloc, binders, Binder::Ranged { symbol, span })?;
-            if !is_narrow(alloc, bounds, &inside, symbol)? {
-                return Ok(Some(line));
-            }
             first_wide_line(alloc, bounds, &inside, line.saturating_add(1), body)
         }
         Stmt::First { first, later, .. } => {
@@ -148,19 +89,25 @@ pub fn first_wide_line<B: Bounds>(
             let inside = with(alloc, binders, Binder::Passed { low, high })?;
             first_wide_line(alloc, bounds, &inside, line.saturating_add(1), body)
         }
+        Stmt::Alloc { places, .. } => {
+            let near = are_near_places(alloc, bounds, binders, places)?;
+            Ok(unless(near, line))
+        }
+        Stmt::Fetch { region, .. } => {
+            let near = are_near_spans(alloc, bounds, binders, region.as_slice())?;
+            Ok(unless(near, line))
+        }
         Stmt::Store { coordinates, .. } => {
             let small = are_i32(alloc, bounds, binders, coordinates)?;
-            Ok(if small { None } else { Some(line) })
+            Ok(unless(small, line))
         }
-        Stmt::Let { .. } | Stmt::Alloc { .. } | Stmt::Fetch { .. } | Stmt::Publish { .. } => {
-            Ok(None)
-        }
+        Stmt::Let { .. } | Stmt::Publish { .. } => Ok(None),
     }
 }
 
 /// The first such line of a block's statements.
 #[cycle(widths)]
-#[tactic(auto, using(crate::proofs::Lists::later_told, crate::proofs::Lists::all_indices))]
+#[tactic(auto, using(crate::proofs::Lists::later_told))]
 fn first_of_all<B: Bounds>(
     alloc: Global,
     bounds: &B,

@@ -1,5 +1,5 @@
 -- What is wrong with the lines of a certificate by names, limits and lists of forms.
-use Rattle.std.specs.Prelude.{ℕ, ◌==◌, nat_le, Bool, false, ◌&&◌, not, List, ◌++◌, length, take, Option, Some, None, slice_get}
+use Rattle.std.specs.Prelude.{ℕ, ◌==◌, nat_le, nat_lt, Bool, false, ◌&&◌, not, List, ◌++◌, length, take, Option, Some, None, slice_get}
 use Rattle.std.specs.List.{list_all, list_any, range_with_len}
 use Rattle.lin.specs.declared.span.Span1.{Span1}
 use Rattle.meaning.specs.Algorithm.{Function, Algorithm}
@@ -64,14 +64,12 @@ abbrev pub is_of_function : Option Function → Claim → Bool
 is_of_function None k = false
 is_of_function (Some f) k = nat_le k.definition (length f.changes) && (length k.region == length f.variables)
 
--- the symbols bound at the line: those of the grid, and of the loops round the statement that ends there
-abbrev pub bound_at : Place → List ℕ
-bound_at x = grid_symbols (length x.group.grid) ++ x.symbols
-
--- a statement ends at the claim's line, and the claim is of a buffer of that group, in symbols that are bound there
+-- a statement ends at the claim's line, and the claim is of a buffer of that group that is in scope there, in symbols that are
+-- bound there
 abbrev pub is_at : Option Place → Claim → Bool
 is_at None k = false
-is_at (Some x) k = is_of_buffer (allocated x.group.body k.buffer) k && spans_are_over (bound_at x) k.region
+is_at (Some x) k =
+    list_any (λ b. b == k.buffer) x.spot.buffers && (is_of_buffer (allocated x.group.body k.buffer) k && spans_are_over x.spot.symbols k.region)
 
 abbrev pub claim_is_known : List Function → List Group → Claim → Bool
 claim_is_known functions groups k = is_of_function (function_named functions k.function) k && is_at (place_at groups k.line) k
@@ -82,7 +80,7 @@ claim_is_known functions groups k = is_of_function (function_named functions k.f
 abbrev pub cert_flaws : Plan → Certificate → List Flaw
 cert_flaws p c = unless (are_owned c.own (length p.groups)) 10 (certificate_line p)
 
--- what is wrong with the line of an own region, of a needed region, of a claim
+-- what is wrong with the line of an own region, of a needed region, of a claim, of which there are 4096 at most
 abbrev pub own_flaws : Plan → Certificate → ℕ → Own → List Flaw
 own_flaws p c i o = line_flaws (own_is_known p.groups (take i c.own) o) (spans_are_within_limits o.region) (have_ends o.region) (own_line (certificate_line p) i)
 
@@ -90,15 +88,20 @@ abbrev pub need_flaws : Plan → Certificate → ℕ → Need → List Flaw
 need_flaws p c i n = line_flaws (need_is_known p.groups n) (spans_are_within_limits n.region) (have_ends n.region) (need_line c (certificate_line p) i)
 
 abbrev pub claim_flaws : Algorithm → Plan → Certificate → ℕ → Claim → List Flaw
-claim_flaws a p c i k = line_flaws (claim_is_known a.functions p.groups k) (spans_are_within_limits k.region) (have_ends k.region) (claim_line c (certificate_line p) i)
+claim_flaws a p c i k = line_flaws (claim_is_known a.functions p.groups k) (spans_are_within_limits k.region) (have_ends k.region && nat_lt i 4096) (claim_line c (certificate_line p) i)
 
 -- K14: windows are not decided
 abbrev pub window_flaws : Plan → Certificate → ℕ → Window → List Flaw
 window_flaws p c i w = unless false 14 (window_line c (certificate_line p) i)
 
--- in the order of lines, and at one line the lowest code first
+-- of the line `cert` and the lines of own and needed regions, in the order of lines, and at one line the lowest code first
+abbrev pub flaws_of_regions : Plan → Certificate → List Flaw
+flaws_of_regions p c = cert_flaws p c ++ (each_line (own_flaws p c) 0 c.own ++ each_line (need_flaws p c) 0 c.needs)
+
+-- of the lines of claims and windows behind them
+abbrev pub flaws_of_claims : Algorithm → Plan → Certificate → List Flaw
+flaws_of_claims a p c = each_line (claim_flaws a p c) 0 c.claims ++ each_line (window_flaws p c) 0 c.windows
+
+-- of all lines
 abbrev pub flaws_of_certificate : Algorithm → Plan → Certificate → List Flaw
-flaws_of_certificate a p c =
-    cert_flaws p c
-    ++ (each_line (own_flaws p c) 0 c.own
-    ++ (each_line (need_flaws p c) 0 c.needs ++ (each_line (claim_flaws a p c) 0 c.claims ++ each_line (window_flaws p c) 0 c.windows)))
+flaws_of_certificate a p c = flaws_of_regions p c ++ flaws_of_claims a p c

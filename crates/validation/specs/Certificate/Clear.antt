@@ -27,11 +27,27 @@ pub record IsClaim (a : Algorithm) (p : Plan) (k : Claim) : Type 0 where
   pub limits : spans_are_within_limits k.region ≡ true
   pub ends : have_ends k.region ≡ true
 
+-- each group has an own region
+abbrev pub EachHasOwn : Plan → Certificate → Type 0
+EachHasOwn p c = (n : ℕ) (g : Group) → slice_get p.groups n ≡ Some g → MatchOption (own_region c.own n) ⊥ (IsRegion (length g.region) (length g.grid))
+
+-- and no second line of one
+abbrev pub EachHasOne : Certificate → Type 0
+EachHasOne c = (i j : ℕ) (o q : Own) → i < j → slice_get c.own i ≡ Some o → slice_get c.own j ≡ Some q → o.group ≡ q.group → ⊥
+
+abbrev pub AreNeeds : Plan → Certificate → Type 0
+AreNeeds p c = (i : ℕ) (n : Need) → slice_get c.needs i ≡ Some n → IsNeed p.groups n
+
+-- own and needed regions are regions of what is known
+pub record HasRegions (p : Plan) (c : Certificate) : Type 0 where
+  pub own : EachHasOwn p c
+  pub once : EachHasOne c
+  pub needs : AreNeeds p c
+
+-- and claims are, and there are no windows
 pub record IsClear (a : Algorithm) (p : Plan) (c : Certificate) : Type 0 where
-  -- each group has an own region
-  pub own : (n : ℕ) (g : Group) → slice_get p.groups n ≡ Some g → MatchOption (own_region c.own n) ⊥ (IsRegion (length g.region) (length g.grid))
-  -- of which there is no second line
-  pub once : (i j : ℕ) (o q : Own) → i < j → slice_get c.own i ≡ Some o → slice_get c.own j ≡ Some q → o.group ≡ q.group → ⊥
-  pub needs : (i : ℕ) (n : Need) → slice_get c.needs i ≡ Some n → IsNeed p.groups n
+  pub own : EachHasOwn p c
+  pub once : EachHasOne c
+  pub needs : AreNeeds p c
   pub claims : (i : ℕ) (k : Claim) → slice_get c.claims i ≡ Some k → IsClaim a p k
   pub windows : c.windows ≡ []

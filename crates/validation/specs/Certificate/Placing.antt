@@ -1,71 +1,85 @@
 -- Where the statement ends at which a claim's line stands.
-use Rattle.std.specs.Prelude.{ℕ, zero, suc, ◌-◌, ◌==◌, nat_lt, if◌then◌else◌, List, [], ◌∷◌, ◌++◌, Option, Some, None}
+use Rattle.std.specs.Prelude.{ℕ, zero, suc, ◌-◌, ◌==◌, nat_lt, if◌then◌else◌, List, [], ◌∷◌, ◌++◌, length, Option, Some, None}
 use Rattle.plan.specs.Plan.{Statement, Seq, For, Let, First, Guard, Alloc, Fetch, Store, Publish, Statements, Empty, Then, Group}
 use Rattle.plan.specs.Lines.{lines, group_lines}
+use Rattle.outline.specs.Forms.{grid_symbols}
+use Rattle.validation.specs.Groups.Lines.{buffers_after}
 
--- of a line that ends a statement with no loop between
-abbrev pub ends_at : ℕ → ℕ → Option (List ℕ)
-ends_at at k = if at == k then Some [] else None
+-- where a statement stands: the symbols of the grid and of the loops round it, the innermost last, and the buffers in scope
+pub record Spot : Type 0 where
+  pub symbols : List ℕ
+  pub buffers : List ℕ
+
+-- inside a loop over the symbol
+abbrev pub in_loop : ℕ → Spot → Spot
+in_loop i x = record { symbols = x.symbols ++ i ∷ []; buffers = x.buffers }
+
+-- behind a statement that stands there
+abbrev pub past : Statement → Spot → Spot
+past a x = record { symbols = x.symbols; buffers = buffers_after a x.buffers }
+
+-- the line is the one that ends a statement
+abbrev pub ends_at : Spot → ℕ → ℕ → Option Spot
+ends_at x at k = if at == k then Some x else None
 
 -- what holds in a body of so many lines, or at the line that ends it
-abbrev pub in_body : ℕ → ℕ → Option (List ℕ) → Option (List ℕ)
-in_body count k inner = if nat_lt k count then inner else ends_at count k
-
--- the same symbols and one more
-abbrev pub inside : ℕ → Option (List ℕ) → Option (List ℕ)
-inside i None = None
-inside i (Some symbols) = Some (symbols ++ i ∷ [])
+abbrev pub in_body : ℕ → ℕ → Option Spot → Spot → Option Spot
+in_body count k inner x = if nat_lt k count then inner else ends_at x count k
 
 -- of a part for the first turn and the line before it
-abbrev pub first_at : (ℕ → Option (List ℕ)) → ℕ → Option (List ℕ)
+abbrev pub first_at : (ℕ → Option Spot) → ℕ → Option Spot
 first_at inner zero = None
 first_at inner (suc k) = inner k
 
 -- the same for a part for later turns, whose first line is the `else` before it
-abbrev pub later_at : ℕ → (ℕ → Option (List ℕ)) → ℕ → Option (List ℕ)
-later_at count inner zero = None
-later_at count inner (suc k) = in_body count k (inner k)
+abbrev pub later_at : ℕ → (ℕ → Option Spot) → Spot → ℕ → Option Spot
+later_at count inner x zero = None
+later_at count inner x (suc k) = in_body count k (inner k) x
 
--- Lines are counted from the statement's first one, which is 0. The symbols of the loops round the statement that ends at a
--- line, the innermost first; none where no statement ends at it.
+-- Lines are counted from the statement's first one, which is 0. Where the statement stands that ends at a line, seen behind it,
+-- in a statement that stands here; none where no statement ends at the line.
 abbrev mutual
-  pub loops_at : Statement → ℕ → Option (List ℕ)
-  loops_at (Seq all) k = block_loops_at all k
-  loops_at (For i x kind body) zero = None
-  loops_at (For i x kind body) (suc k) = in_body (lines body) k (inside i (loops_at body k))
-  loops_at (Let i pick forms) k = ends_at 0 k
-  loops_at (First i a b) zero = None
-  loops_at (First i a b) (suc k) = if nat_lt k (lines a) then loops_at a k else later_at (lines b) (λ j. loops_at b j) (k - lines a)
-  loops_at (Guard low high body) zero = None
-  loops_at (Guard low high body) (suc k) = in_body (lines body) k (loops_at body k)
-  loops_at (Alloc b f places) k = ends_at 0 k
-  loops_at (Fetch b g region) k = ends_at 0 k
-  loops_at (Store b d at e) k = ends_at 0 k
-  loops_at (Publish c) k = ends_at 0 k
+  pub spot_at : Statement → Spot → ℕ → Option Spot
+  spot_at (Seq all) x k = block_spot_at all x k
+  spot_at (For i span kind body) x zero = None
+  spot_at (For i span kind body) x (suc k) = in_body (lines body) k (spot_at body (in_loop i x) k) x
+  spot_at (Let i pick forms) x k = ends_at x 0 k
+  spot_at (First i a b) x zero = None
+  spot_at (First i a b) x (suc k) = if nat_lt k (lines a) then spot_at a x k else later_at (lines b) (λ j. spot_at b x j) x (k - lines a)
+  spot_at (Guard low high body) x zero = None
+  spot_at (Guard low high body) x (suc k) = in_body (lines body) k (spot_at body x k) x
+  spot_at (Alloc b f places) x k = ends_at (past (Alloc b f places) x) 0 k
+  spot_at (Fetch b g region) x k = ends_at x 0 k
+  spot_at (Store b d at e) x k = ends_at x 0 k
+  spot_at (Publish c) x k = ends_at x 0 k
 
-  pub block_loops_at : Statements → ℕ → Option (List ℕ)
-  block_loops_at Empty k = None
-  block_loops_at (Then a rest) k = if nat_lt k (lines a) then loops_at a k else block_loops_at rest (k - lines a)
+  pub block_spot_at : Statements → Spot → ℕ → Option Spot
+  block_spot_at Empty x k = None
+  block_spot_at (Then a rest) x k = if nat_lt k (lines a) then spot_at a x k else block_spot_at rest (past a x) (k - lines a)
+
+-- where a group's body begins
+abbrev pub group_spot : Group → Spot
+group_spot g = record { symbols = grid_symbols (length g.grid); buffers = [] }
 
 -- the same of a group's lines, of which the first, its line `group`, is 0
-abbrev pub group_loops_at : Group → ℕ → Option (List ℕ)
-group_loops_at g zero = None
-group_loops_at g (suc k) = loops_at g.body k
+abbrev pub group_spot_at : Group → ℕ → Option Spot
+group_spot_at g zero = None
+group_spot_at g (suc k) = spot_at g.body (group_spot g) k
 
--- where a statement ends: the group that has the line, and the symbols of the loops round the statement
+-- where a statement ends: the group that has the line, and where in it the statement stands
 pub record Place : Type 0 where
   pub group : Group
-  pub symbols : List ℕ
+  pub spot : Spot
 
--- where a statement of the group ends, with loops of these symbols round it, if one does
-abbrev pub place_with : Group → Option (List ℕ) → Option Place
+-- where a statement of the group ends, if one does
+abbrev pub place_with : Group → Option Spot → Option Place
 place_with g None = None
-place_with g (Some symbols) = Some (record { group = g; symbols = symbols })
+place_with g (Some x) = Some (record { group = g; spot = x })
 
 -- where a statement ends at a line, counted from the first group's line, which is 0
 abbrev pub place_in : List Group → ℕ → Option Place
 place_in [] k = None
-place_in (g ∷ gs) k = if nat_lt k (group_lines g) then place_with g (group_loops_at g k) else place_in gs (k - group_lines g)
+place_in (g ∷ gs) k = if nat_lt k (group_lines g) then place_with g (group_spot_at g k) else place_in gs (k - group_lines g)
 
 -- where a statement ends at a line of the plan's text, if one does: the first group stands at line 4
 abbrev pub place_at : List Group → ℕ → Option Place

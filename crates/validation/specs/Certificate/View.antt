@@ -6,6 +6,7 @@ use Rattle.plan.specs.Plan.{Group}
 use Rattle.plan.specs.View.{group_of}
 use Rattle.outline.specs.View.{group_in}
 use Rattle.validation.specs.Certificate.Placing.{Place}
+use Rattle.validation.specs.Certificate.Ways.{spot_of}
 use Rattle.validation.specs.declared.certificate.placed.Placed.{Placed}
 
 abbrev pub group_held : Option (Bor GroupHeld) → Option Group
@@ -13,7 +14,7 @@ group_held None = None
 group_held (Some g) = Some (group_of g.now)
 
 abbrev pub place_of : Placed → Place
-place_of x = record { group = group_in x.outlined.now; symbols = x.symbols.items }
+place_of x = record { group = group_in x.outlined.now; spot = spot_of x.spot }
 
 abbrev pub place_held : Option Placed → Option Place
 place_held None = None

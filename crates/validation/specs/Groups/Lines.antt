@@ -11,7 +11,7 @@ use Rattle.plan.specs.declared.stmt.Kind.TheVariants.{Serial, Unroll, Vector}
 use Rattle.plan.specs.declared.stmt.Places.{Places}
 use Rattle.plan.specs.declared.stmt.Places.TheVariants.{From, Folded}
 use Rattle.plan.specs.Plan.{Coordinate, Statement, Seq, For, Let, First, Guard, Alloc, Fetch, Store, Publish, Statements, Empty, Then, Group, Plan}
-use Rattle.plan.specs.Lines.{lines, group_line}
+use Rattle.plan.specs.Lines.{lines, group_line, group_lines}
 use Rattle.plan.specs.Certificate.Certificate.{Claim, Certificate}
 use Rattle.plan.specs.Certificate.Cells.{piece_count}
 use Rattle.soundness.specs.Origins.{Outline}
@@ -22,15 +22,17 @@ use Rattle.outline.specs.Flaws.{Flaw, unless, line_told}
 use Rattle.validation.specs.Groups.Sizes.{more, places_count, allotted, cell_count, is_extent}
 use Rattle.validation.specs.Stored.Sizes.{counted, is_small}
 use Rattle.validation.specs.Stored.Definitions.{parts_named, Definition, definition_in, function_in, has_variables}
-use Rattle.validation.specs.Stored.Stored.{has_names, is_named, is_known, index_is_over, index_is_within, index_is_small, index_is_known, is_call, is_defined}
+use Rattle.validation.specs.Stored.Stored.{has_names, is_named, is_known, index_is_over, index_is_within, index_is_small, index_is_known, has_line, is_call, is_defined}
+use Rattle.validation.specs.declared.stored.lines.GroupLines.{GroupLines}
 
 -- the flaws of a line, the lowest code first: names (K2), forms (K3), the definition (K12), limits (K14)
 abbrev pub line_flaws : ℕ → Bool → Bool → Bool → Bool → List Flaw
 line_flaws line named within defined limited = unless named 2 line ++ (unless within 3 line ++ (unless defined 12 line ++ unless limited 14 line))
 
--- where a statement stands: its line, the symbols and buffers in scope, the places of buffers of earlier lines, whether lines
--- `fetch` may still come, and whether it is the last of its group
+-- where a statement stands: the lines of its group, its line, the symbols and buffers in scope, the places of buffers of earlier
+-- lines, whether lines `fetch` may still come, and whether it is the last of its group
 pub record Here : Type 0 where
+  pub group : GroupLines
   pub line : ℕ
   pub symbols : List ℕ
   pub buffers : List ℕ
@@ -44,7 +46,7 @@ on line n = line_told (line + n)
 
 -- inside a loop over the symbol
 abbrev pub in_loop : ℕ → Here → Here
-in_loop i here = record { line = on here.line 1; symbols = here.symbols ++ i ∷ []; buffers = here.buffers; used = here.used; fetching = false; last = false }
+in_loop i here = record { group = here.group; line = on here.line 1; symbols = here.symbols ++ i ∷ []; buffers = here.buffers; used = here.used; fetching = false; last = false }
 
 -- at a statement of a block with others behind it
 abbrev pub is_empty : Statements → Bool
@@ -52,7 +54,7 @@ is_empty Empty = true
 is_empty (Then a rest) = false
 
 abbrev pub before : Bool → Here → Here
-before none_behind here = record { line = here.line; symbols = here.symbols; buffers = here.buffers; used = here.used; fetching = here.fetching; last = here.last && none_behind }
+before none_behind here = record { group = here.group; line = here.line; symbols = here.symbols; buffers = here.buffers; used = here.used; fetching = here.fetching; last = here.last && none_behind }
 
 -- the buffers in scope behind a statement
 abbrev pub buffers_after : Statement → List ℕ → List ℕ
@@ -79,6 +81,7 @@ abbrev mutual
 -- behind a statement
 abbrev pub after : Statement → Here → Here
 after a here = record {
+  group = here.group;
   line = on here.line (lines a);
   symbols = here.symbols;
   buffers = buffers_after a here.buffers;
@@ -92,9 +95,9 @@ is_serial Serial = true
 is_serial Unroll = false
 is_serial Vector = false
 
--- the symbol is not bound yet, and greater than all that are
+-- the symbol is not bound yet
 abbrev pub is_new : List ℕ → ℕ → Bool
-is_new symbols i = list_all (λ s. nat_lt s i) symbols
+is_new symbols i = not (list_any (λ s. s == i) symbols)
 
 -- places of one coordinate: the origin's symbols, its limits, and that they are not folded
 abbrev pub place_is_over : List ℕ → Places → Bool
@@ -109,10 +112,10 @@ abbrev pub is_straight : Places → Bool
 is_straight (From l n) = true
 is_straight (Folded n) = false
 
--- a claim of this number is of the function
-abbrev pub is_claim_of : Option Claim → List ℕ → Bool
-is_claim_of None name = false
-is_claim_of (Some c) name = same_name c.function name
+-- a claim of this number is of the group with these lines, and of the function
+abbrev pub is_claim_of : GroupLines → Option Claim → List ℕ → Bool
+is_claim_of group None name = false
+is_claim_of group (Some c) name = has_line group c.line && same_name c.function name
 
 module _ (a : Algorithm) (p : Plan) (c : Certificate) (g : Group) (outline : Outline) where
   abbrev pub alloc_flaws : Here → List ℕ → List Places → List Flaw
@@ -141,8 +144,8 @@ module _ (a : Algorithm) (p : Plan) (c : Certificate) (g : Group) (outline : Out
   definition_is_named (Some m) here b at e =
       has_names m at && (outline.setting.dimensions b == length (function_in m).variables
       && (list_all (λ x. index_is_over here.symbols x.index) at
-      && (list_all (λ x. index_is_known (is_named at) (is_call a p outline) x.index) at
-      && is_known (is_named at) (is_call a p outline) e)))
+      && (list_all (λ x. index_is_known (is_named at) (is_call a p here.group outline) x.index) at
+      && is_known (is_named at) (is_call a p here.group outline) e)))
 
   abbrev pub definition_is_stored : Option Definition → List Coordinate → Term → Bool
   definition_is_stored None at e = true
@@ -165,7 +168,7 @@ module _ (a : Algorithm) (p : Plan) (c : Certificate) (g : Group) (outline : Out
       (store_is_small at e)
 
   abbrev pub publish_flaws : Here → ℕ → List Flaw
-  publish_flaws here k = line_flaws here.line (is_claim_of (slice_get c.claims k) g.function) true true here.last
+  publish_flaws here k = line_flaws here.line (is_claim_of here.group (slice_get c.claims k) g.function) true true here.last
 
   abbrev mutual
     -- the flaws of a statement's lines
@@ -202,9 +205,13 @@ group_line_flaws a line earlier g cells pieces =
     true
     (list_all is_extent g.region && (nat_le cells (2 ^ 24) && (nat_le pieces (2 ^ 20) && publishes g.body)))
 
+-- the lines of a group whose line `group` is told so
+abbrev pub lines_from : ℕ → Group → GroupLines
+lines_from line g = record { first = line; behind = on line (group_lines g) }
+
 -- where a group's body begins
 abbrev pub start : ℕ → Group → Here
-start line g = record { line = on line 1; symbols = grid_symbols (length g.grid); buffers = []; used = 0; fetching = true; last = true }
+start line g = record { group = lines_from line g; line = on line 1; symbols = grid_symbols (length g.grid); buffers = []; used = 0; fetching = true; last = true }
 
 module _ (a : Algorithm) (p : Plan) (c : Certificate) where
   -- the flaws of the lines of the group of this number, whose line is told so, where groups up to it have so many cells and pieces

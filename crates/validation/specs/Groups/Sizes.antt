@@ -1,11 +1,12 @@
 -- How large the parts of a plan are.
-use Rattle.std.specs.Prelude.{ℕ, ◌+◌, ◌*◌, ◌==◌, ◌&&◌, nat_le, Bool, List, [], ◌∷◌, map, length, ℤ, pos, ◌+ℤ◌, ◌-ℤ◌}
-use Rattle.lin.specs.Forms.{Form}
+use Rattle.std.specs.Prelude.{ℕ, ◌+◌, ◌*◌, ◌&&◌, nat_le, Bool, List, [], ◌∷◌, map}
 use Rattle.lin.specs.declared.span.Span1.{Span1}
 use Rattle.plan.specs.declared.stmt.Places.{Places}
 use Rattle.plan.specs.declared.stmt.Places.TheVariants.{From, Folded}
 use Rattle.plan.specs.Plan.{Statement, Seq, For, Let, First, Guard, Alloc, Fetch, Store, Publish, Statements, Empty, Then}
-use Rattle.plan.specs.Symbols.{clipped}
+use Rattle.plan.specs.Certificate.Cells.{no_symbols}
+use Rattle.headline.specs.Parts.{span_count}
+use Rattle.outline.specs.Forms.{is_listed}
 use Rattle.validation.specs.Stored.Sizes.{counted}
 
 -- so many and so many more
@@ -42,23 +43,14 @@ abbrev mutual
   block_allotted Empty = 0
   block_allotted (Then a rest) = more (allotted a) (block_allotted rest)
 
--- the constant of the first form, 0 of none
-abbrev pub constant_of : List Form → ℤ
-constant_of [] = pos 0
-constant_of (l ∷ ls) = l.constant
-
--- how many numbers a span of one constant at each end has
+-- how many numbers a span of constants has: from the largest lower one to the smallest upper one
 abbrev pub extent_of : Span1 → ℕ
-extent_of x = clipped ((constant_of x.upper +ℤ pos 1) -ℤ constant_of x.lower)
+extent_of x = span_count no_symbols x
 
 -- how many points a region of such spans has
 abbrev pub cell_count : List Span1 → ℕ
 cell_count xs = counted (product (map extent_of xs))
 
--- one form alone
-abbrev pub is_single : List Form → Bool
-is_single ls = length ls == 1
-
--- one form at each end, and from 1 to 8192 numbers
+-- one to four forms at each end, and from 1 to 8192 numbers
 abbrev pub is_extent : Span1 → Bool
-is_extent x = is_single x.lower && (is_single x.upper && (nat_le 1 (counted (extent_of x)) && nat_le (counted (extent_of x)) 8192))
+is_extent x = is_listed x.lower && (is_listed x.upper && (nat_le 1 (counted (extent_of x)) && nat_le (counted (extent_of x)) 8192))

@@ -1,5 +1,5 @@
 -- What is asked of a line `store`.
-use Rattle.std.specs.Prelude.{ℕ, ◌==◌, ◌&&◌, not, Bool, true, false, List, [], ◌∷◌, map, take, drop, length}
+use Rattle.std.specs.Prelude.{ℕ, ◌==◌, ◌&&◌, nat_lt, not, Bool, true, false, List, [], ◌∷◌, map, take, drop, length}
 use Rattle.std.specs.List.{list_all, list_any}
 use Rattle.tree.specs.Term.{Term, Number, Name, Call, Minus, Binary, Clamp, Cast, Choice, Terms, End, More, Test, Compares, Fails, Both, Either}
 use Rattle.tree.specs.Substitution.{with_calls}
@@ -17,6 +17,7 @@ use Rattle.outline.specs.Forms.{is_over}
 use Rattle.validation.specs.Stored.Sizes.{is_small}
 use Rattle.validation.specs.Stored.Definitions.{parts_named, Definition, Pure, Step, has_variables, stored_in}
 use Rattle.validation.specs.Stored.Alike.{same_term}
+use Rattle.validation.specs.declared.stored.lines.GroupLines.{GroupLines}
 
 -- ---- names
 
@@ -95,16 +96,21 @@ call_read outline name at = Call (name_read outline (outline.source name) name) 
 abbrev pub as_read : Outline → Term → Term
 as_read outline e = with_calls (call_read outline) e
 
-module _ (a : Algorithm) (p : Plan) (outline : Outline) where
-  -- what a call of this name and so many indices goes to is known: the input, or a claim of a known function
+-- the line is one of these behind the line `group`
+abbrev pub has_line : GroupLines → ℕ → Bool
+has_line group line = nat_lt group.first line && nat_lt line group.behind
+
+module _ (a : Algorithm) (p : Plan) (group : GroupLines) (outline : Outline) where
+  -- what a call of this name and so many indices goes to is known: the input, or a claim of the group and of a known function
   abbrev pub source_takes : Source → ℕ → Bool
   source_takes Input n = length p.input.extents == n
-  source_takes (ByClaim c) n = has_variables (parts_named a (outline.claim c).function) n
+  source_takes (ByClaim c) n = has_line group (outline.claim c).line && has_variables (parts_named a (outline.claim c).function) n
   source_takes Unknown n = false
 
   abbrev pub is_call : List ℕ → ℕ → Bool
   is_call name n = source_takes (outline.source name) n
 
+module _ (a : Algorithm) (p : Plan) (outline : Outline) where
   -- ---- the definition
 
   -- read so, the expression is another with the calls of unstored functions put in, none of which has updates

@@ -1,6 +1,6 @@
 //! What is wrong with the lines of claims.
 
-ghost use Rattle.std.specs.Prelude.{◌≡◌, ◌&&◌, ℕ, IfOk, Some, map, string_bytes};
+ghost use Rattle.std.specs.Prelude.{◌≡◌, ◌&&◌, nat_lt, ℕ, IfOk, Some, map, string_bytes};
 ghost use Rattle.meaning.specs.Conditions.{function_named};
 ghost use Rattle.meaning.specs.Names.{same_name};
 ghost use Rattle.plan.specs.Lines.{certificate_line};
@@ -14,21 +14,24 @@ ghost use Rattle.outline.specs.Forms.{spans_are_within_limits, have_ends};
 ghost use Rattle.outline.specs.Flaws.{first_of, told, line_told};
 ghost use Rattle.outline.specs.View.{buffer_in, group_in};
 ghost use Rattle.validation.specs.Certificate.Lines.{line_flaws, each_line, told_at};
-ghost use Rattle.validation.specs.Certificate.Certificate.{is_of_buffer, is_of_function, is_at, bound_at, claim_is_known, claim_flaws};
+ghost use Rattle.validation.specs.Certificate.Certificate.{is_of_buffer, is_of_function, is_at, claim_is_known, claim_flaws};
 ghost use Rattle.validation.specs.Certificate.Placing.{place_at};
 ghost use Rattle.validation.specs.Certificate.View.{place_of};
 
+use crate::among::is_among;
 use crate::certificate::codes::line_code;
 use crate::certificate::placed::{Placed, outlines_of, placed_at};
 use algo::{Algo, Function};
 use indexmap::IndexMap;
-use lin::Sym;
 use outline::Outlined;
-use outline::forms::{grid_symbols, have_ends, spans_are_over, spans_are_within_limits};
+use outline::forms::{have_ends, spans_are_over, spans_are_within_limits};
 use outline::refusals::{Flaw, K};
 use plan::Plan;
 use plan::certificate::{Cert, Claim};
 use std::alloc::{AllocError, Global};
+
+/// The most claims of a certificate.
+const MOST_CLAIMS: usize = 4096;
 
 /// Whether the names are the same.
 fn same_name(left: &str, right: &str) -> bool
@@ -75,42 +78,41 @@ fn is_of_buffer(outlined: &Outlined<'_>, claim: &Claim) -> bool
     }
 }
 
-/// The symbols that are bound at a line: those of the grid, and of the loops there.
-fn bound_at(alloc: Global, placed: &Placed<'_, '_>) -> Result<Vec<Sym>, AllocError>
-    ensures { IfOk result (λ symbols. symbols.items ≡ bound_at (place_of placed.now)) }
+/// Whether a claim is of a buffer of the group that is in scope at a place, in symbols that are bound there.
+fn is_claim_at(placed: &Placed<'_, '_>, claim: &Claim) -> bool
+    ensures { result ≡ is_at (Some (place_of placed.now)) (claim_of claim.now) }
 {
-    let mut symbols = grid_symbols(alloc, placed.outlined.group().grid.len())?;
-    symbols.extend_from_slice(&placed.symbols)?;
-    Ok(symbols)
+    is_among(&placed.spot.buffers, claim.buffer)
+        && is_of_buffer(placed.outlined, claim)
+        && spans_are_over(&placed.spot.symbols, claim.region.as_slice())
 }
 
-/// Whether a statement ends at the claim's line, and the claim is of a buffer of that group, in symbols that are bound there.
+/// Whether a statement ends at the claim's line, and the claim is of a buffer of that group that is in scope there, in symbols
+/// that are bound there.
 fn is_at(alloc: Global, outlines: &[Outlined<'_>], claim: &Claim) -> Result<bool, AllocError>
     ensures { IfOk result (λ yes. yes ≡ is_at (place_at (map group_in outlines.now) claim.now.line) (claim_of claim.now)) }
 {
     match placed_at(alloc, outlines, claim.line)? {
         None => Ok(false),
-        Some(placed) => {
-            let symbols = bound_at(alloc, &placed)?;
-            let over = spans_are_over(&symbols, claim.region.as_slice());
-            Ok(both(is_of_buffer(placed.outlined, claim), over))
-        }
+        Some(placed) => Ok(is_claim_at(&placed, claim)),
     }
 }
 
-/// What is wrong with the line of a claim.
+/// What is wrong with the line of the claim of this number.
 fn claim_code(
     alloc: Global,
     functions: &IndexMap<String, Function>,
     outlines: &[Outlined<'_>],
+    number: usize,
     claim: &Claim,
 ) -> Result<Option<K>, AllocError>
-    ensures { IfOk result (λ code. (line : ℕ) → told_at code line ≡ first_of (line_flaws (claim_is_known (functions_of functions.now.entries) (map group_in outlines.now) (claim_of claim.now)) (spans_are_within_limits claim.now.region) (have_ends claim.now.region) line)) }
+    ensures { IfOk result (λ code. (line : ℕ) → told_at code line ≡ first_of (line_flaws (claim_is_known (functions_of functions.now.entries) (map group_in outlines.now) (claim_of claim.now)) (spans_are_within_limits claim.now.region) (have_ends claim.now.region && nat_lt number 4096) line)) }
 {
     let region = claim.region.as_slice();
     let at = is_at(alloc, outlines, claim)?;
     let known = both(is_of_function(functions, claim), at);
-    Ok(line_code(known, spans_are_within_limits(region), have_ends(region)))
+    let listed = both(have_ends(region), number < MOST_CLAIMS);
+    Ok(line_code(known, spans_are_within_limits(region), listed))
 }
 
 /// The first flaw of the lines of claims, where the line `cert` is given.
@@ -127,7 +129,7 @@ pub(crate) fn claim_flaw(
     let functions = algo.funcs();
     let outlines = outlines_of(alloc, plan, cert)?;
     for (index, claim) in cert.claims.iter().enumerate() {
-        if let Some(code) = claim_code(alloc, functions, &outlines, claim)? {
+        if let Some(code) = claim_code(alloc, functions, &outlines, index, claim)? {
             let line = cert.claim_line(line, index);
             return Ok(Some(Flaw { code, line }));
         }

@@ -1,14 +1,14 @@
 //! What the answer that there is no flaw means, and where lines lie.
 
-ghost use Rattle.std.specs.Prelude.{◌≡◌, ◌+◌, ◌<◌, ℕ, None, Some, slice_get};
+ghost use Rattle.std.specs.Prelude.{◌≡◌, ◌+◌, ◌<◌, ℕ, [], None, Some, slice_get};
 ghost use Rattle.meaning.specs.Algorithm.{Algorithm};
 ghost use Rattle.plan.specs.Lines.{group_line, group_lines};
 ghost use Rattle.plan.specs.Plan.{Group, Plan};
 ghost use Rattle.plan.specs.Certificate.Certificate.{Certificate};
 ghost use Rattle.outline.specs.Flaws.{first_of};
-ghost use Rattle.validation.specs.Certificate.Certificate.{flaws_of_certificate};
-ghost use Rattle.validation.specs.Certificate.Clear.{IsClear};
-ghost use Rattle.validation.specs.Certificate.Placing.{group_loops_at, place_at, place_with};
+ghost use Rattle.validation.specs.Certificate.Certificate.{flaws_of_certificate, flaws_of_regions};
+ghost use Rattle.validation.specs.Certificate.Clear.{HasRegions, IsClear};
+ghost use Rattle.validation.specs.Certificate.Placing.{group_spot_at, place_at, place_with};
 
 /// Where a certificate's lines have no flaw, each group has one own region, own and needed regions are regions of their
 /// groups, claims are of what is known, and there are no windows.
@@ -16,8 +16,14 @@ pub fn no_flaw_is_clear()
     ensures { (a : Algorithm) (p : Plan) (c : Certificate) → None ≡ first_of (flaws_of_certificate a p c) → IsClear a p c }
 {}
 
+/// Where the lines of own and needed regions have no flaw, and no group lacks an own region, these are regions of their
+/// groups, whatever the claims behind them.
+pub fn no_region_flaw_is_shared()
+    ensures { (p : Plan) (c : Certificate) → flaws_of_regions p c ≡ [] → HasRegions p c }
+{}
+
 /// A statement that ends at a line so many lines behind a group's line `group`, and before the next group, is one of that
 /// group.
 pub fn lines_lie_in_their_groups()
-    ensures { (p : Plan) (n k : ℕ) (g : Group) → slice_get p.groups n ≡ Some g → k < group_lines g → place_at p.groups (group_line p n + k) ≡ place_with g (group_loops_at g k) }
+    ensures { (p : Plan) (n k : ℕ) (g : Group) → slice_get p.groups n ≡ Some g → k < group_lines g → place_at p.groups (group_line p n + k) ≡ place_with g (group_spot_at g k) }
 {}

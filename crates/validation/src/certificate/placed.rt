@@ -7,18 +7,17 @@ ghost use Rattle.validation.specs.Certificate.Placing.{place_at, place_in};
 ghost use Rattle.validation.specs.Certificate.View.{place_held};
 
 use crate::certificate::placing::{Seen, seen_from};
-use lin::Sym;
+use crate::certificate::spot::Spot;
 use outline::Outlined;
 use plan::Plan;
 use plan::certificate::Cert;
 use std::alloc::{AllocError, Global};
 
-/// Where a statement ends: the group that has the line, and the symbols of the loops round the statement, the innermost
-/// first.
+/// Where a statement ends: the group that has the line, and where in it the statement stands, seen behind it.
 #[derive(Drop)]
 pub(crate) struct Placed<'p, 'a> {
     pub outlined: &'p Outlined<'a>,
-    pub symbols: Vec<Sym>,
+    pub spot: Spot,
 }
 
 /// The groups of a plan, in their order.
@@ -47,7 +46,7 @@ fn place_behind<'p, 'a>(
     let mut left = left;
     for outlined in outlines {
         match seen_from(alloc, outlined.group(), left)? {
-            Seen::Here(symbols) => return Ok(Some(Placed { outlined, symbols })),
+            Seen::Here(spot) => return Ok(Some(Placed { outlined, spot })),
             Seen::Inside => return Ok(None),
             Seen::Behind(rest) => left = rest,
         }

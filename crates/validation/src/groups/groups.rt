@@ -18,12 +18,13 @@ ghost use Rattle.validation.specs.Stored.Definitions.{has_variables as known_wit
 ghost use Rattle.validation.specs.Groups.Sizes.{cell_count, is_extent, more};
 ghost use Rattle.validation.specs.Stored.Sizes.{counted};
 ghost use Rattle.validation.specs.Groups.Here.{here_of};
-ghost use Rattle.validation.specs.Groups.Lines.{flaws, flaws_of_groups, group_flaws, group_line_flaws, groups_flaws, on, start};
+ghost use Rattle.validation.specs.Groups.Lines.{flaws, flaws_of_groups, group_flaws, group_line_flaws, groups_flaws, lines_from, on, start};
+ghost use Rattle.validation.specs.declared.stored.lines.GroupLines.{GroupLines};
 
 use crate::groups::here::Here;
 use crate::groups::lines::{line_flaw, stmt_flaw};
 use crate::groups::sizes::{are_extents, cell_count, piece_count};
-use crate::stored::{Ground, has_variables, stored_in};
+use crate::stored::{Ground, GroupLines, has_variables, stored_in};
 use algo::Algo;
 use algo::scoping::same_name;
 use lin::Sym;
@@ -122,9 +123,21 @@ fn group_is_limited(group: &Group, cells: u64, pieces: u64) -> bool
         && publishes(&group.body)
 }
 
+/// The lines of a group whose line `group` is this one.
+fn lines_from(line: u32, group: &Group) -> GroupLines
+    ensures { result ≡ lines_from line (group_of group.now) }
+{
+    GroupLines {
+        first: line,
+        behind: line
+            .saturating_add(group.body.line_count())
+            .saturating_add(1),
+    }
+}
+
 /// Where the body of a group begins, behind its line.
 fn start(line: u32, grid: Vec<Sym>, alloc: Global) -> Here
-    ensures { here_of result true ≡ record { line = on line 1; symbols = grid.items; buffers = []; used = 0; fetching = true; last = true } }
+    ensures { (group : GroupLines) → here_of group result true ≡ record { group = group; line = on line 1; symbols = grid.items; buffers = []; used = 0; fetching = true; last = true } }
 {
     Here {
         line: line.saturating_add(1),
@@ -152,6 +165,7 @@ fn body_flaw(
     let ground = Ground {
         algo,
         outlined,
+        lines: lines_from(line, outlined.group()),
         stored,
         grid: &grid,
     };

@@ -5,6 +5,7 @@ ghost use Rattle.plan.specs.View.{statement_of};
 ghost use Rattle.plan.specs.Lists.{list_statements};
 ghost use Rattle.plan.specs.Plan.{block};
 ghost use Rattle.validation.specs.Groups.Here.{here_of};
+ghost use Rattle.validation.specs.declared.stored.lines.GroupLines.{GroupLines};
 ghost use Rattle.validation.specs.Groups.Lines.{after, in_loop, may_precede, may_all_precede};
 
 use crate::groups::sizes::allotted;
@@ -51,7 +52,7 @@ fn may_all_precede(all: &[Stmt]) -> bool
 impl Here {
     /// The same place, in memory of its own.
     pub(crate) fn copy(&self) -> Result<Here, AllocError>
-        ensures { IfOk result (λ copy. (last : Bool) → here_of copy last ≡ here_of self.now last) }
+        ensures { IfOk result (λ copy. (group : GroupLines) (last : Bool) → here_of group copy last ≡ here_of group self.now last) }
     {
         Ok(Here {
             line: self.line,
@@ -64,7 +65,7 @@ impl Here {
 
     /// Inside a loop over the symbol that stands here.
     pub(crate) fn in_loop(&self, symbol: Sym) -> Result<Here, AllocError>
-        ensures { IfOk result (λ inner. (last : Bool) → here_of inner false ≡ in_loop symbol (here_of self.now last)) }
+        ensures { IfOk result (λ inner. (group : GroupLines) (last : Bool) → here_of group inner false ≡ in_loop symbol (here_of group self.now last)) }
     {
         let mut symbols = self.symbols.clone()?;
         symbols.push(symbol)?;
@@ -79,7 +80,7 @@ impl Here {
 
     /// Goes on behind a statement that stands here.
     pub(crate) fn pass(&mut self, stmt: &Stmt) -> Result<(), AllocError>
-        ensures { OnOk result ((last : Bool) → here_of self.new last ≡ after (statement_of stmt.now) (here_of self.old last)) }
+        ensures { OnOk result ((group : GroupLines) (last : Bool) → here_of group self.new last ≡ after (statement_of stmt.now) (here_of group self.old last)) }
     {
         if let Stmt::Alloc { buffer, .. } = stmt {
             self.buffers.push(*buffer)?;

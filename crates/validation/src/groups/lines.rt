@@ -18,6 +18,7 @@ ghost use Rattle.validation.specs.Groups.Here.{here_of};
 ghost use Rattle.validation.specs.Groups.Lines.{alloc_flaws, block_flaws, definition_is_named, definition_is_stored, fetch_flaws, fetch_is_named, flaws, is_claim_of, is_empty, is_new, is_serial, is_straight, line_flaws, place_is_over, place_is_within, publish_flaws, store_flaws};
 ghost use Rattle.validation.specs.Stored.Stored.{index_is_over, index_is_small, index_is_within};
 
+use crate::among::is_among;
 use crate::groups::here::Here;
 use crate::groups::sizes::places_count;
 use crate::stored::{
@@ -61,18 +62,18 @@ pub(crate) fn line_flaw(
     }
 }
 
-/// Whether a number is one of these.
-fn is_among(numbers: &[u32], number: u32) -> bool
-    ensures { result ≡ list_any (λ x. x == number) numbers.now }
+/// Whether a symbol is one of these.
+fn is_bound(symbols: &[Sym], symbol: Sym) -> bool
+    ensures { result ≡ list_any (λ s. s == symbol) symbols.now }
 {
-    numbers.iter().any(|one| *one == number)
+    symbols.iter().any(|one| *one == symbol)
 }
 
-/// Whether a symbol is greater than all of these.
+/// Whether a symbol is none of these.
 fn is_new(symbols: &[Sym], symbol: Sym) -> bool
     ensures { result ≡ is_new symbols.now symbol }
 {
-    symbols.iter().all(|one| *one < symbol)
+    !is_bound(symbols, symbol)
 }
 
 /// Whether the turns of the loop are run one after another.
@@ -161,7 +162,7 @@ fn alloc_flaw(
     function: &str,
     places: &[Places],
 ) -> Option<Flaw>
-    ensures { told result ≡ first_of (alloc_flaws (algorithm_of ground.entry.algo.now) (plan_in ground.entry.outlined.now) (certificate_in ground.entry.outlined.now) (group_in ground.entry.outlined.now) (outline_in ground.entry.outlined.now) (here_of here.now true) function.now places.now) }
+    ensures { told result ≡ first_of (alloc_flaws (algorithm_of ground.entry.algo.now) (plan_in ground.entry.outlined.now) (certificate_in ground.entry.outlined.now) (group_in ground.entry.outlined.now) (outline_in ground.entry.outlined.now) (here_of ground.entry.lines here.now true) function.now places.now) }
 {
     let named = alloc_is_named(ground, here, function, places);
     let within = places_are_within(places);
@@ -196,7 +197,7 @@ fn fetch_is_named(
     group: u64,
     region: &[Span1],
 ) -> bool
-    ensures { result ≡ fetch_is_named (algorithm_of ground.entry.algo.now) (plan_in ground.entry.outlined.now) (certificate_in ground.entry.outlined.now) (group_in ground.entry.outlined.now) (outline_in ground.entry.outlined.now) (here_of here.now true) buffer group region.now }
+    ensures { result ≡ fetch_is_named (algorithm_of ground.entry.algo.now) (plan_in ground.entry.outlined.now) (certificate_in ground.entry.outlined.now) (group_in ground.entry.outlined.now) (outline_in ground.entry.outlined.now) (here_of ground.entry.lines here.now true) buffer group region.now }
 {
     let function = ground.outlined.group_function(group);
     is_among(&here.buffers, buffer)
@@ -221,7 +222,7 @@ fn fetch_flaw(
     group: u64,
     region: &[Span1],
 ) -> Option<Flaw>
-    ensures { told result ≡ first_of (fetch_flaws (algorithm_of ground.entry.algo.now) (plan_in ground.entry.outlined.now) (certificate_in ground.entry.outlined.now) (group_in ground.entry.outlined.now) (outline_in ground.entry.outlined.now) (here_of here.now true) buffer group region.now) }
+    ensures { told result ≡ first_of (fetch_flaws (algorithm_of ground.entry.algo.now) (plan_in ground.entry.outlined.now) (certificate_in ground.entry.outlined.now) (group_in ground.entry.outlined.now) (outline_in ground.entry.outlined.now) (here_of ground.entry.lines here.now true) buffer group region.now) }
 {
     let named = fetch_is_named(ground, here, buffer, group, region);
     let within = spans_are_within_limits(region);
@@ -296,7 +297,7 @@ fn definition_is_named(
     coordinates: &[Coordinate],
     value: &Expr,
 ) -> bool
-    ensures { result ≡ definition_is_named (algorithm_of ground.entry.algo.now) (plan_in ground.entry.outlined.now) (certificate_in ground.entry.outlined.now) (group_in ground.entry.outlined.now) (outline_in ground.entry.outlined.now) (option_map definition_held defined.entry) (here_of here.now true) buffer (map coordinate_of coordinates.now) (term_of value.now) }
+    ensures { result ≡ definition_is_named (algorithm_of ground.entry.algo.now) (plan_in ground.entry.outlined.now) (certificate_in ground.entry.outlined.now) (group_in ground.entry.outlined.now) (outline_in ground.entry.outlined.now) (option_map definition_held defined.entry) (here_of ground.entry.lines here.now true) buffer (map coordinate_of coordinates.now) (term_of value.now) }
 {
     match defined {
         None => false,
@@ -337,7 +338,7 @@ fn store_flaw(
     coordinates: &[Coordinate],
     value: &Expr,
 ) -> Result<Option<Flaw>, AllocError>
-    ensures { IfOk result (λ flaw. told flaw ≡ first_of (store_flaws (algorithm_of ground.entry.algo.now) (plan_in ground.entry.outlined.now) (certificate_in ground.entry.outlined.now) (group_in ground.entry.outlined.now) (outline_in ground.entry.outlined.now) (here_of here.now true) buffer definition (map coordinate_of coordinates.now) (term_of value.now))) }
+    ensures { IfOk result (λ flaw. told flaw ≡ first_of (store_flaws (algorithm_of ground.entry.algo.now) (plan_in ground.entry.outlined.now) (certificate_in ground.entry.outlined.now) (group_in ground.entry.outlined.now) (outline_in ground.entry.outlined.now) (here_of ground.entry.lines here.now true) buffer definition (map coordinate_of coordinates.now) (term_of value.now))) }
 {
     let defined = definition_of(
         ground.algo,
@@ -360,7 +361,7 @@ fn store_is_named(
     coordinates: &[Coordinate],
     value: &Expr,
 ) -> bool
-    ensures { result ≡ (list_any (λ x. x == buffer) here.now.buffers.items && definition_is_named (algorithm_of ground.entry.algo.now) (plan_in ground.entry.outlined.now) (certificate_in ground.entry.outlined.now) (group_in ground.entry.outlined.now) (outline_in ground.entry.outlined.now) (option_map definition_held defined.entry) (here_of here.now true) buffer (map coordinate_of coordinates.now) (term_of value.now)) }
+    ensures { result ≡ (list_any (λ x. x == buffer) here.now.buffers.items && definition_is_named (algorithm_of ground.entry.algo.now) (plan_in ground.entry.outlined.now) (certificate_in ground.entry.outlined.now) (group_in ground.entry.outlined.now) (outline_in ground.entry.outlined.now) (option_map definition_held defined.entry) (here_of ground.entry.lines here.now true) buffer (map coordinate_of coordinates.now) (term_of value.now)) }
 {
     is_among(&here.buffers, buffer)
         && definition_is_named(ground, here, defined, buffer, coordinates, value)
@@ -392,22 +393,25 @@ fn is_stored_if_small(
     }
 }
 
-/// Whether there is a claim of this number, of the group's function.
+/// Whether there is a claim of this number, of the group and of its function.
 fn is_claim_of_group(ground: Ground<'_, '_>, claim: u32) -> bool
-    ensures { result ≡ is_claim_of (slice_get (certificate_in ground.entry.outlined.now).claims claim) (group_in ground.entry.outlined.now).function }
+    ensures { result ≡ is_claim_of ground.entry.lines (slice_get (certificate_in ground.entry.outlined.now).claims claim) (group_in ground.entry.outlined.now).function }
 {
     match ground.outlined.claim(claim) {
-        Some(claim) => same_name(
-            claim.function.as_str(),
-            ground.outlined.group().function.as_str(),
-        ),
+        Some(claim) => {
+            ground.lines.has(claim.line)
+                && same_name(
+                    claim.function.as_str(),
+                    ground.outlined.group().function.as_str(),
+                )
+        }
         None => false,
     }
 }
 
 /// The flaw of a line `publish`.
 fn publish_flaw(ground: Ground<'_, '_>, here: &Here, last: bool, claim: u32) -> Option<Flaw>
-    ensures { told result ≡ first_of (publish_flaws (algorithm_of ground.entry.algo.now) (plan_in ground.entry.outlined.now) (certificate_in ground.entry.outlined.now) (group_in ground.entry.outlined.now) (outline_in ground.entry.outlined.now) (here_of here.now last) claim) }
+    ensures { told result ≡ first_of (publish_flaws (algorithm_of ground.entry.algo.now) (plan_in ground.entry.outlined.now) (certificate_in ground.entry.outlined.now) (group_in ground.entry.outlined.now) (outline_in ground.entry.outlined.now) (here_of ground.entry.lines here.now last) claim) }
 {
     line_flaw(
         here.line,
@@ -435,7 +439,7 @@ pub(crate) fn stmt_flaw(
     here: &Here,
     last: bool,
 ) -> Result<Option<Flaw>, AllocError>
-    ensures { IfOk result (λ flaw. told flaw ≡ first_of (flaws (algorithm_of ground.entry.algo.now) (plan_in ground.entry.outlined.now) (certificate_in ground.entry.outlined.now) (group_in ground.entry.outlined.now) (outline_in ground.entry.outlined.now) (statement_of stmt.now) (here_of here.now last))) }
+    ensures { IfOk result (λ flaw. told flaw ≡ first_of (flaws (algorithm_of ground.entry.algo.now) (plan_in ground.entry.outlined.now) (certificate_in ground.entry.outlined.now) (group_in ground.entry.outlined.now) (outline_in ground.entry.outlined.now) (statement_of stmt.now) (here_of ground.entry.lines here.now last))) }
 {
     match stmt {
         Stmt::Seq(all) => all_flaw(alloc, ground, all, here, last),
@@ -492,7 +496,7 @@ fn all_flaw(
     here: &Here,
     last: bool,
 ) -> Result<Option<Flaw>, AllocError>
-    ensures { IfOk result (λ flaw. told flaw ≡ first_of (block_flaws (algorithm_of ground.entry.algo.now) (plan_in ground.entry.outlined.now) (certificate_in ground.entry.outlined.now) (group_in ground.entry.outlined.now) (outline_in ground.entry.outlined.now) (block (list_statements all.now)) (here_of here.now last))) }
+    ensures { IfOk result (λ flaw. told flaw ≡ first_of (block_flaws (algorithm_of ground.entry.algo.now) (plan_in ground.entry.outlined.now) (certificate_in ground.entry.outlined.now) (group_in ground.entry.outlined.now) (outline_in ground.entry.outlined.now) (block (list_statements all.now)) (here_of ground.entry.lines here.now last))) }
 {
     let mut now = here.copy()?;
     for k in 0..all.len() {

@@ -6,10 +6,12 @@ ghost use Rattle.plan.specs.Certificate.Cells.{piece_count};
 ghost use Rattle.plan.specs.Lists.{list_statements};
 ghost use Rattle.plan.specs.Plan.{block};
 ghost use Rattle.plan.specs.View.{statement_of};
-ghost use Rattle.validation.specs.Groups.Sizes.{product, place_count, places_count, allotted, block_allotted, constant_of, extent_of, cell_count, is_single, is_extent};
+ghost use Rattle.validation.specs.Groups.Sizes.{product, place_count, places_count, allotted, block_allotted, extent_of, cell_count, is_extent};
 ghost use Rattle.validation.specs.Stored.Sizes.{counted};
 
-use lin::{Forms, Span1};
+use crate::groups::ends::{high_end, low_end};
+use lin::Span1;
+use outline::forms::is_listed;
 use plan::{Places, Stmt};
 
 /// How many places there are for one coordinate.
@@ -58,22 +60,12 @@ fn all_allotted(all: &[Stmt]) -> u64
     total
 }
 
-/// The constant of the first form, 0 where there is none.
-fn constant_of(forms: &Forms) -> i64
-    ensures { result ≡ constant_of forms.now }
-{
-    match forms.as_slice() {
-        [] => 0,
-        [form, ..] => form.constant(),
-    }
-}
-
-/// How many numbers a span of one constant at each end has. More than a `u64` holds count as the greatest `u64`.
+/// How many numbers a span of constants has. More than a `u64` holds count as the greatest `u64`.
 fn extent_of(span: &Span1) -> u64
     ensures { result ≡ counted (extent_of span.now) }
 {
-    let low = constant_of(&span.lower);
-    let high = constant_of(&span.upper);
+    let low = low_end(span);
+    let high = high_end(span);
     if high < low {
         0
     } else {
@@ -81,22 +73,15 @@ fn extent_of(span: &Span1) -> u64
     }
 }
 
-/// Whether there is one form alone.
-fn is_single(forms: &Forms) -> bool
-    ensures { result ≡ is_single forms.now }
-{
-    forms.as_slice().len() == 1
-}
-
-/// Whether the span has one form at each end, and from 1 to 8192 numbers.
+/// Whether the span has one to four forms at each end, and from 1 to 8192 numbers.
 fn is_extent(span: &Span1) -> bool
     ensures { result ≡ is_extent span.now }
 {
     let width = extent_of(span);
-    is_single(&span.lower) && is_single(&span.upper) && 1 <= width && width <= 8192
+    is_listed(&span.lower) && is_listed(&span.upper) && 1 <= width && width <= 8192
 }
 
-/// Whether each span has one form at each end, and from 1 to 8192 numbers.
+/// Whether each span has one to four forms at each end, and from 1 to 8192 numbers.
 pub(crate) fn are_extents(region: &[Span1]) -> bool
     ensures { result ≡ list_all is_extent region.now }
 {

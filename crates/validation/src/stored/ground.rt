@@ -6,15 +6,17 @@ ghost use Rattle.outline.specs.Forms.{grid_symbols};
 ghost use Rattle.outline.specs.View.{group_in, plan_in};
 ghost use Rattle.validation.specs.Stored.Definitions.{stored_in};
 
+use crate::stored::lines::GroupLines;
 use algo::Algo;
 use lin::Sym;
 use outline::Outlined;
 
-/// The algorithm, the group, which functions are stored, and the symbols of the group's grid.
+/// The algorithm, the group, its lines, which functions are stored, and the symbols of the group's grid.
 #[derive(Clone, Copy, Drop)]
 pub struct Ground<'a, 'o> {
     pub algo: &'a Algo,
     pub outlined: &'o Outlined<'a>,
+    pub lines: GroupLines,
     pub stored: &'o [bool],
     pub grid: &'o [Sym],
     pub ghost marked: { stored.now ≡ stored_in (algorithm_of algo.now) (plan_in outlined.now) },

@@ -104,15 +104,19 @@ pub fn has_names(defined: Defined<'_>, coordinates: &[Coordinate]) -> bool
     }
 }
 
-/// Whether a call of this name with so many indices is of the input or of a claim of a known function, which has as many.
+/// Whether a call of this name with so many indices is of the input or of a claim of the group and of a known function, which
+/// has as many.
 fn is_call(ground: Ground<'_, '_>, name: &str, count: usize) -> bool
-    ensures { result ≡ is_call (algorithm_of ground.entry.algo.now) (plan_in ground.entry.outlined.now) (outline_in ground.entry.outlined.now) name.now count }
+    ensures { result ≡ is_call (algorithm_of ground.entry.algo.now) (plan_in ground.entry.outlined.now) ground.entry.lines (outline_in ground.entry.outlined.now) name.now count }
 {
     match ground.outlined.source(name) {
         Source::Input => ground.outlined.plan().input.extents.len() == count,
         Source::ByClaim(claim) => match ground.outlined.claim(claim) {
-            Some(claim) => has_variables(ground.algo, claim.function.as_str(), count),
-            None => has_variables(ground.algo, "", count),
+            Some(claim) => {
+                ground.lines.has(claim.line)
+                    && has_variables(ground.algo, claim.function.as_str(), count)
+            }
+            None => false,
         },
         Source::Unknown => false,
     }
@@ -121,7 +125,7 @@ fn is_call(ground: Ground<'_, '_>, name: &str, count: usize) -> bool
 /// Whether the expression's variables are the coordinates' and its calls are known.
 #[cycle(known)]
 pub fn is_known(ground: Ground<'_, '_>, coordinates: &[Coordinate], expr: &Expr) -> bool
-    ensures { result ≡ is_known (is_named (map coordinate_of coordinates.now)) (is_call (algorithm_of ground.entry.algo.now) (plan_in ground.entry.outlined.now) (outline_in ground.entry.outlined.now)) (term_of expr.now) }
+    ensures { result ≡ is_known (is_named (map coordinate_of coordinates.now)) (is_call (algorithm_of ground.entry.algo.now) (plan_in ground.entry.outlined.now) ground.entry.lines (outline_in ground.entry.outlined.now)) (term_of expr.now) }
 {
     match expr {
         Expr::Literal { .. } => true,
@@ -158,7 +162,7 @@ pub fn is_known(ground: Ground<'_, '_>, coordinates: &[Coordinate], expr: &Expr)
 /// The same of a condition.
 #[cycle(known)]
 fn is_known_test(ground: Ground<'_, '_>, coordinates: &[Coordinate], cond: &Cond) -> bool
-    ensures { result ≡ is_known_test (is_named (map coordinate_of coordinates.now)) (is_call (algorithm_of ground.entry.algo.now) (plan_in ground.entry.outlined.now) (outline_in ground.entry.outlined.now)) (test_of cond.now) }
+    ensures { result ≡ is_known_test (is_named (map coordinate_of coordinates.now)) (is_call (algorithm_of ground.entry.algo.now) (plan_in ground.entry.outlined.now) ground.entry.lines (outline_in ground.entry.outlined.now)) (test_of cond.now) }
 {
     match cond {
         Cond::Compare { left, right, .. } => {
@@ -174,7 +178,7 @@ fn is_known_test(ground: Ground<'_, '_>, coordinates: &[Coordinate], cond: &Cond
 /// The same of several expressions.
 #[cycle(known)]
 fn are_known(ground: Ground<'_, '_>, coordinates: &[Coordinate], at: &[Expr]) -> bool
-    ensures { result ≡ are_known (is_named (map coordinate_of coordinates.now)) (is_call (algorithm_of ground.entry.algo.now) (plan_in ground.entry.outlined.now) (outline_in ground.entry.outlined.now)) (indices (list_terms at.now)) }
+    ensures { result ≡ are_known (is_named (map coordinate_of coordinates.now)) (is_call (algorithm_of ground.entry.algo.now) (plan_in ground.entry.outlined.now) ground.entry.lines (outline_in ground.entry.outlined.now)) (indices (list_terms at.now)) }
 {
     for index in at {
         if !is_known(ground, coordinates, index) {
@@ -186,7 +190,7 @@ fn are_known(ground: Ground<'_, '_>, coordinates: &[Coordinate], at: &[Expr]) ->
 
 /// Whether the names in the coordinate's expression, if it has one, are known.
 fn index_is_known(ground: Ground<'_, '_>, coordinates: &[Coordinate], index: &Index) -> bool
-    ensures { result ≡ index_is_known (is_named (map coordinate_of coordinates.now)) (is_call (algorithm_of ground.entry.algo.now) (plan_in ground.entry.outlined.now) (outline_in ground.entry.outlined.now)) (index_of index.now) }
+    ensures { result ≡ index_is_known (is_named (map coordinate_of coordinates.now)) (is_call (algorithm_of ground.entry.algo.now) (plan_in ground.entry.outlined.now) ground.entry.lines (outline_in ground.entry.outlined.now)) (index_of index.now) }
 {
     match index {
         Index::Form(_) => true,
@@ -196,7 +200,7 @@ fn index_is_known(ground: Ground<'_, '_>, coordinates: &[Coordinate], index: &In
 
 /// Whether the names in the expressions of all coordinates are known.
 pub fn indices_are_known(ground: Ground<'_, '_>, coordinates: &[Coordinate]) -> bool
-    ensures { result ≡ list_all (λ x. index_is_known (is_named (map coordinate_of coordinates.now)) (is_call (algorithm_of ground.entry.algo.now) (plan_in ground.entry.outlined.now) (outline_in ground.entry.outlined.now)) x.index) (map coordinate_of coordinates.now) }
+    ensures { result ≡ list_all (λ x. index_is_known (is_named (map coordinate_of coordinates.now)) (is_call (algorithm_of ground.entry.algo.now) (plan_in ground.entry.outlined.now) ground.entry.lines (outline_in ground.entry.outlined.now)) x.index) (map coordinate_of coordinates.now) }
 {
     for one in coordinates {
         if !index_is_known(ground, coordinates, &one.index) {

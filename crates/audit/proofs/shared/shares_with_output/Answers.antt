@@ -1,8 +1,7 @@
-use Rattle.std.proofs.Common.{ap, sym, subst, refl, inl, inr}
+use Rattle.std.proofs.Common.{subst, refl, inl, inr}
 use Rattle.algo.specs.View.{algorithm_of}
 use Rattle.plan.specs.View.{plan_of}
 use Rattle.plan.specs.Certificate.Certificate.{certificate_of}
-use Rattle.outline.specs.Flaws.{first_of}
 use Rattle.headline.specs.Work.{work_of}
 use Rattle.shares.specs.Made.{ErrorMeans}
 use Rattle.shares.specs.declared.answer.SharesError.{SharesError}
@@ -15,7 +14,7 @@ shares_of-requires c =
     let a = algorithm_of c.args.algo.now in
     let p = plan_of c.args.plan.now in
     let d = certificate_of c.args.cert.now in
-    c.plans_are_shared.ensures a p d c.requires.named (c.no_flaw_is_clear.ensures a p d (sym (ap first_of c.requires.certificate)))
+    c.plans_are_shared.ensures a p d c.requires.named (c.no_region_flaw_is_shared.ensures p d c.requires.regions)
 
 pub returns-in-None-clause-lists : goal.returns-in-None-clause-lists
 returns-in-None-clause-lists c = λ samples.

@@ -1,8 +1,7 @@
 use Rattle.std.proofs.Common.{◌≡◌, ℕ, List, ◌∷◌, length, take, get_or, sym, ap, ◌∙◌, arith}
 use Rattle.std.proofs.lemmas.List.{take_more, length-take-le}
 use Rattle.soundness.specs.Obligations.{Binder, Ranged}
-use Rattle.soundness.specs.Binders.View.{binders_of, grid_span}
-use Rattle.obligations.specs.Around.{grid_binders}
+use Rattle.soundness.specs.Binders.View.{binders_of, grid_binders, grid_span}
 use Rattle.obligations.proofs.Bound.{binders_pushed}
 use Rattle.obligations.proofs.Grid.{grid_more}
 use Rattle.obligations.proofs.walk.grid_binders.Goals as goal

@@ -1,6 +1,5 @@
 use Rattle.std.proofs.Common.{◌≡◌, take}
-use Rattle.soundness.specs.Binders.View.{binders_of}
-use Rattle.obligations.specs.Around.{grid_binders}
+use Rattle.soundness.specs.Binders.View.{binders_of, grid_binders}
 use Rattle.obligations.proofs.walk.grid_binders.Given as goal
 
 abbrev pub invariant-loop-symbol : goal.invariant-loop-symbol

@@ -9,7 +9,7 @@ use Rattle.plan.specs.Certificate.Certificate.{certificate_of}
 use Rattle.shares.specs.Boxes.{is_in_box, point_count, IsSmall}
 use Rattle.shares.specs.Spaces.{numbers_in, HasAll}
 use Rattle.shares.specs.Layout.{own_list, OwnIsInside}
-use Rattle.shares.proofs.Seated.{group_at, group_within, seat_small, ground_is, region_plain, own_is, inside_is, below_cells}
+use Rattle.shares.proofs.Seated.{group_at, group_within, seat_small, ground_is, region_ends, own_is, inside_is, below_cells}
 use Rattle.shares.proofs.layout.own_of.Goals as goal
 
 pub index-ground-requires : goal.index-ground-requires
@@ -46,7 +46,7 @@ returns-clause-within c =
     let y = c.index-ground.result.now in
     let p = plan_of c.args.layout.now.plan.now in let cert = certificate_of c.args.layout.now.cert.now in
     let g = group_at c.args.layout.now c.requires.layout c.args.piece c.index-seat.result.now c.requires.piece c.index-seat.ensures in
-    let low = below_cells p cert c.index-seat.result.now.group g.0 g.1 y (ground_is c.args.layout.now c.requires.layout c.args.piece c.index-seat.result.now c.requires.piece c.index-seat.ensures c.index-ground.result.now c.index-ground.ensures) (region_plain c.args.layout.now c.requires.layout c.args.piece c.index-seat.result.now c.requires.piece c.index-seat.ensures c.index-ground.result.now c.index-ground.ensures) in
+    let low = below_cells p cert c.index-seat.result.now.group g.0 g.1 y (ground_is c.args.layout.now c.requires.layout c.args.piece c.index-seat.result.now c.requires.piece c.index-seat.ensures c.index-ground.result.now c.index-ground.ensures) (region_ends c.args.layout.now c.requires.layout c.args.piece c.index-seat.result.now c.requires.piece c.index-seat.ensures c.index-ground.result.now c.index-ground.ensures) in
     if_ok c.found_in.result (λ found. All (λ n. n < y.cells.first + point_count y.cells.sides.items) found.numbers.items) (λ found. All (λ n. n < length (cells p)) found.numbers.items)
     (λ found h k d less. let less = h k d less in omega (arith, low, less)) c.found_in.ensures.within
 

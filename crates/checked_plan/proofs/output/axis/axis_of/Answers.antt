@@ -3,10 +3,10 @@ use Rattle.checked_plan.proofs.output.axis.axis_of.Goals as goal
 
 pub overflow_cast-count : goal.overflow_cast-count
 overflow_cast-count c =
-    count_fits c.args.span.now c.first_constant-low.result c.first_constant-high.result c.requires
-    (record { low_is = c.first_constant-low.ensures; high_is = c.first_constant-high.ensures })
+    count_fits c.args.span.now c.low_end-low.result c.high_end-high.result c.requires
+    (record { low_is = c.low_end-low.ensures; high_is = c.high_end-high.ensures })
 
 pub returns : goal.returns
 returns c =
-    axis_is c.args.span.now c.first_constant-low.result c.first_constant-high.result c.requires
-    (record { low_is = c.first_constant-low.ensures; high_is = c.first_constant-high.ensures })
+    axis_is c.args.span.now c.low_end-low.result c.high_end-high.result c.requires
+    (record { low_is = c.low_end-low.ensures; high_is = c.high_end-high.ensures })

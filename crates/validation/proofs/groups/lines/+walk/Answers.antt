@@ -18,7 +18,7 @@ use Rattle.validation.proofs.groups.lines.+walk.Goals as goal
 pub all_flaw-loop-k-init : goal.all_flaw-loop-k-init
 all_flaw-loop-k-init t c =
     let o = c.args.ground.outlined.now in
-    ap (λ (h : Here). first_of (block_flaws (algorithm_of c.args.ground.algo.now) (plan_in o) (certificate_in o) (group_in o) (outline_in o) (block (list_statements c.args.all.now)) h)) (c.in_ok-now.ensures c.args.last)
+    ap (λ (h : Here). first_of (block_flaws (algorithm_of c.args.ground.algo.now) (plan_in o) (certificate_in o) (group_in o) (outline_in o) (block (list_statements c.args.all.now)) h)) (c.in_ok-now.ensures c.args.ground.lines c.args.last)
 
 pub all_flaw-returns-then-is_some : goal.all_flaw-returns-then-is_some
 all_flaw-returns-then-is_some t c =
@@ -27,13 +27,13 @@ all_flaw-returns-then-is_some t c =
     let xs = c.args.all.now in
     let k = c.loop-k.k in
     let x = c.index-all-k.result in
-    let h = here_of c.loop-k.now c.args.last in
+    let h = here_of c.args.ground.lines c.loop-k.now c.args.last in
     let none_behind = is_empty (block (list_statements (drop (k + 1) xs))) in
     first_found c.in_ok-flaw.flaw
     (flaws a (plan_in o) (certificate_in o) (group_in o) (outline_in o) (statement_of x) (before none_behind h))
     (block_flaws a (plan_in o) (certificate_in o) (group_in o) (outline_in o) (block (list_statements (drop (k + 1) xs))) (after (statement_of x) h))
     (sym c.is_some.ensures ∙ c.if-is_some.true)
-    (c.in_ok-flaw.ensures ∙ ap (λ (b : Bool). first_of (flaws a (plan_in o) (certificate_in o) (group_in o) (outline_in o) (statement_of x) (here_of c.loop-k.now b))) c.is_last.ensures)
+    (c.in_ok-flaw.ensures ∙ ap (λ (b : Bool). first_of (flaws a (plan_in o) (certificate_in o) (group_in o) (outline_in o) (statement_of x) (here_of c.args.ground.lines c.loop-k.now b))) c.is_last.ensures)
     ∙ ap first_of (sym (block_step a (plan_in o) (certificate_in o) (group_in o) (outline_in o) xs k x h c.loop-k-test.true c.index-all-k.is))
     ∙ c.loop-k.invariant
 
@@ -44,14 +44,14 @@ all_flaw-loop-k-preserved t c =
     let xs = c.args.all.now in
     let k = c.loop-k.k in
     let x = c.index-all-k.result in
-    let h = here_of c.loop-k.now c.args.last in
+    let h = here_of c.args.ground.lines c.loop-k.now c.args.last in
     let none_behind = is_empty (block (list_statements (drop (k + 1) xs))) in
-    ap (λ (n : Here). first_of (block_flaws a (plan_in o) (certificate_in o) (group_in o) (outline_in o) (block (list_statements (drop (k + 1) xs))) n)) (c.in_ok-pass.ensures c.args.last)
+    ap (λ (n : Here). first_of (block_flaws a (plan_in o) (certificate_in o) (group_in o) (outline_in o) (block (list_statements (drop (k + 1) xs))) n)) (c.in_ok-pass.ensures c.args.ground.lines c.args.last)
     ∙ sym (first_none c.in_ok-flaw.flaw
     (flaws a (plan_in o) (certificate_in o) (group_in o) (outline_in o) (statement_of x) (before none_behind h))
     (block_flaws a (plan_in o) (certificate_in o) (group_in o) (outline_in o) (block (list_statements (drop (k + 1) xs))) (after (statement_of x) h))
     (sym c.is_some.ensures ∙ c.if-is_some.false)
-    (c.in_ok-flaw.ensures ∙ ap (λ (b : Bool). first_of (flaws a (plan_in o) (certificate_in o) (group_in o) (outline_in o) (statement_of x) (here_of c.loop-k.now b))) c.is_last.ensures))
+    (c.in_ok-flaw.ensures ∙ ap (λ (b : Bool). first_of (flaws a (plan_in o) (certificate_in o) (group_in o) (outline_in o) (statement_of x) (here_of c.args.ground.lines c.loop-k.now b))) c.is_last.ensures))
     ∙ ap first_of (sym (block_step a (plan_in o) (certificate_in o) (group_in o) (outline_in o) xs k x h c.loop-k-test.true c.index-all-k.is))
     ∙ c.loop-k.invariant
 
@@ -62,7 +62,7 @@ stmt_flaw-returns-then-is_some t c =
     let x = c.in-For.span in
     let i = c.in-For.symbol in
     let symbols = c.args.here.now.symbols.items in
-    let h = here_of c.args.here.now c.args.last in
+    let h = here_of c.args.ground.lines c.args.here.now c.args.last in
     first_found c.loop_flaw-flaw.result
     (line_flaws c.args.here.now.line (is_new symbols i && (are_over symbols x.lower && are_over symbols x.upper)) (are_within_limits x.lower && are_within_limits x.upper) true (is_serial c.in-For.kind && (is_listed x.lower && is_listed x.upper)))
     (flaws a (plan_in o) (certificate_in o) (group_in o) (outline_in o) (statement_of c.in-For.body.value) (in_loop i h))
@@ -73,7 +73,7 @@ pub stmt_flaw-returns-in-Seq : goal.stmt_flaw-returns-in-Seq
 stmt_flaw-returns-in-Seq t c =
     let a = algorithm_of c.args.ground.algo.now in
     let o = c.args.ground.outlined.now in
-    let h = here_of c.args.here.now c.args.last in
+    let h = here_of c.args.ground.lines c.args.here.now c.args.last in
     subst (λ (s : Statement). IfOk c.all_flaw.result (λ flaw. told flaw ≡ first_of (flaws a (plan_in o) (certificate_in o) (group_in o) (outline_in o) s h)))
     (at_seq (λ s. s) c.in-Seq.all c.deref.result.now c.args.stmt.now c.deref.ensures.value c.in-Seq.is) c.all_flaw.ensures
 
@@ -84,23 +84,23 @@ stmt_flaw-returns-in_ok-inner-in-For t c =
     let x = c.in-For.span in
     let i = c.in-For.symbol in
     let symbols = c.args.here.now.symbols.items in
-    let h = here_of c.args.here.now c.args.last in
+    let h = here_of c.args.ground.lines c.args.here.now c.args.last in
     let own = line_flaws c.args.here.now.line (is_new symbols i && (are_over symbols x.lower && are_over symbols x.upper)) (are_within_limits x.lower && are_within_limits x.upper) true (is_serial c.in-For.kind && (is_listed x.lower && is_listed x.upper)) in
     let inside = flaws a (plan_in o) (certificate_in o) (group_in o) (outline_in o) (statement_of c.in-For.body.value) (in_loop i h) in
     let behind = sym (first_none c.loop_flaw-flaw.result own inside (sym c.is_some.ensures ∙ c.if-is_some.false) c.loop_flaw-flaw.ensures)
     ∙ ap (λ (s : Stmt). first_of (flaws a (plan_in o) (certificate_in o) (group_in o) (outline_in o) (statement_of s) h)) (sym c.in-For.is) in
     subst (λ (x : Option Flaw). IfOk c.stmt_flaw.result (λ flaw. told flaw ≡ x))
-    ((λ j. first_of (flaws a (plan_in o) (certificate_in o) (group_in o) (outline_in o) (statement_of (c.deref-in-For.ensures j)) (c.in_ok-inner-in-For.ensures c.args.last j))) ∙ behind)
+    ((λ j. first_of (flaws a (plan_in o) (certificate_in o) (group_in o) (outline_in o) (statement_of (c.deref-in-For.ensures j)) (c.in_ok-inner-in-For.ensures c.args.ground.lines c.args.last j))) ∙ behind)
     c.stmt_flaw.ensures
 
 pub stmt_flaw-returns-in-Store : goal.stmt_flaw-returns-in-Store
 stmt_flaw-returns-in-Store t c =
     let a = algorithm_of c.args.ground.algo.now in
     let o = c.args.ground.outlined.now in
-    let h = here_of c.args.here.now c.args.last in
+    let h = here_of c.args.ground.lines c.args.here.now c.args.last in
     let e = term_of c.in-Store.value in
     subst (λ (x : Option Flaw). IfOk c.store_flaw.result (λ flaw. told flaw ≡ x))
-    ((λ j. first_of (store_flaws a (plan_in o) (certificate_in o) (group_in o) (outline_in o) (here_of c.args.here.now true) c.in-Store.buffer c.in-Store.definition (map coordinate_of (c.deref-in-Store.ensures.value j)) e))
-    ∙ ap first_of (store_anyhow a (plan_in o) (certificate_in o) (group_in o) (outline_in o) c.args.here.now c.args.last c.in-Store.buffer c.in-Store.definition (map coordinate_of c.in-Store.coordinates.items) e)
+    ((λ j. first_of (store_flaws a (plan_in o) (certificate_in o) (group_in o) (outline_in o) (here_of c.args.ground.lines c.args.here.now true) c.in-Store.buffer c.in-Store.definition (map coordinate_of (c.deref-in-Store.ensures.value j)) e))
+    ∙ ap first_of (store_anyhow a (plan_in o) (certificate_in o) (group_in o) (outline_in o) c.args.ground.lines c.args.here.now c.args.last c.in-Store.buffer c.in-Store.definition (map coordinate_of c.in-Store.coordinates.items) e)
     ∙ ap (λ (s : Stmt). first_of (flaws a (plan_in o) (certificate_in o) (group_in o) (outline_in o) (statement_of s) h)) (sym c.in-Store.is))
     c.store_flaw.ensures

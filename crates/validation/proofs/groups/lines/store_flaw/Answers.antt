@@ -18,7 +18,7 @@ returns c =
     let at = map coordinate_of c.args.coordinates.now in
     let e = term_of c.args.value.now in
     let b = c.args.buffer in
-    let h = here_of c.args.here.now true in
+    let h = here_of c.args.ground.lines c.args.here.now true in
     let d = c.definition_of-defined.ensures ∙ ap (λ (n : List ℕ). definition_in (parts_named a n) c.args.definition) c.buffer_function.ensures in
     let named = c.store_is_named-named.ensures
     ∙ ap (λ (w : Option Definition). list_any (λ x. x == b) c.args.here.now.buffers.items && definition_is_named a (plan_in o) (certificate_in o) (group_in o) (outline_in o) w h b at e) d in

@@ -11,7 +11,7 @@ use Rattle.validation.proofs.stored.known.+known.Goals as goal
 
 pub is_known-returns-then-is_call : goal.is_known-returns-then-is_call
 is_known-returns-then-is_call t c =
-    let q = is_call (algorithm_of c.args.ground.algo.now) (plan_in c.args.ground.outlined.now) (outline_in c.args.ground.outlined.now) in
+    let q = is_call (algorithm_of c.args.ground.algo.now) (plan_in c.args.ground.outlined.now) c.args.ground.lines (outline_in c.args.ground.outlined.now) in
     let long : c.len.result ≡ length c.in-Call.at.items = first_of (search rules, grind (arith, common_steps)) in
     ap (λ (b : Bool). b && c.are_known.result) (sym c.if-is_call.true)
     ∙ known_call (is_named (map coordinate_of c.args.coordinates.now)) q c.args.expr.now c.in-Call.name c.in-Call.at c.in-Call.span c.len.result c.deref.result.now c.is_call.result c.are_known.result
@@ -20,7 +20,7 @@ is_known-returns-then-is_call t c =
 pub is_known-returns-else-is_call : goal.is_known-returns-else-is_call
 is_known-returns-else-is_call t c =
     let v = is_named (map coordinate_of c.args.coordinates.now) in
-    let q = is_call (algorithm_of c.args.ground.algo.now) (plan_in c.args.ground.outlined.now) (outline_in c.args.ground.outlined.now) in
+    let q = is_call (algorithm_of c.args.ground.algo.now) (plan_in c.args.ground.outlined.now) c.args.ground.lines (outline_in c.args.ground.outlined.now) in
     let long : c.len.result ≡ length c.in-Call.at.items = first_of (search rules, grind (arith, common_steps)) in
     let k = are_known v q (indices (list_terms c.in-Call.at.items)) in
     c.if-is_call.false

@@ -1,0 +1,7 @@
+use Rattle.plan.specs.View.{plan_of}
+use Rattle.plan.specs.Certificate.Certificate.{certificate_of}
+use Rattle.audit.proofs.Told.{regions_told}
+use Rattle.audit.proofs.answer.region_flaw.Goals as goal
+
+pub returns : goal.returns
+returns c = regions_told (plan_of c.args.plan.now) (certificate_of c.args.cert.now) c.in_ok-found.found c.in_ok-found.ensures

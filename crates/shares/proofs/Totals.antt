@@ -1,0 +1,216 @@
+-- What fetch lines count in all.
+use Rattle.std.proofs.Common.{◌≡◌, ℕ, zero, suc, ◌+◌, ◌<◌, ◌≤◌, ◌^◌, List, [], ◌∷◌, ◌++◌, length, length-append, map, take, get_or, Bool, true, false, arith, ap, refl, sym, ◌∙◌, subst, Option, Some, None}
+use Rattle.std.specs.Prelude.{◌==◌, sum_by, slice_get, if◌then◌else◌, All}
+use Rattle.std.specs.List.{AllByRecursion}
+use Rattle.std.proofs.lemmas.Bool.Decides.{nat_tests}
+use Rattle.std.proofs.lemmas.List.{length-map, take_all}
+use Rattle.std.proofs.lemmas.List.Elements.{All-from_recursion}
+use Rattle.std.proofs.lemmas.List.Sums.{sum_by-cons, sum_by-append, sum_by_more, sum_by-take-le}
+use Rattle.lin.specs.declared.span.Span1.{Span1}
+use Rattle.plan.specs.Plan.{Statement, Seq, For, Let, First, Guard, Alloc, Fetch, Store, Publish, Statements, Empty, Then, Group, Plan}
+use Rattle.plan.specs.Lines.{lines, body_line}
+use Rattle.plan.specs.Symbols.{Symbols, points}
+use Rattle.plan.specs.Semantics.Actions.{after}
+use Rattle.plan.specs.Certificate.Certificate.{Certificate}
+use Rattle.plan.specs.Certificate.Cells.{Piece, Cell, cell, grid_symbols, pieces}
+use Rattle.headline.specs.Fetched.{fetched_cells, block_fetched_cells}
+use Rattle.headline.specs.Numbers.{cell_number}
+use Rattle.headline.specs.Work.{of_piece, cells_fetched, group_fetched}
+use Rattle.headline.proofs.Parts.{none_fetched}
+use Rattle.headline.proofs.Places.{piece_from}
+use Rattle.shares.specs.Boxes.{IsLimited}
+use Rattle.shares.specs.Counts.{FetchLine, fetch_lines, block_fetch_lines, fetch_lines_from, plan_fetch_lines, cells_by, fetched_by, fetched_by_lines, PassesFetched}
+use Rattle.shares.specs.Has.{fetched_before, AreFew}
+use Rattle.shares.specs.Layout.{fetched_list}
+use Rattle.shares.specs.Shared.{AreShared, IsLike, LineIsShared, LinesAreShared}
+use Rattle.shares.proofs.Fetching.{stays}
+use Rattle.shares.proofs.Groups.{get_some, some_same}
+use Rattle.shares.proofs.Seated.{named_group}
+
+-- ---- sums in either order
+
+zero_sum : {A : Type 0} (f : A → ℕ) → ((x : A) → f x ≡ 0) → (xs : List A) → sum_by f xs ≡ 0
+zero_sum f none [] = refl
+zero_sum f none (x ∷ xs) = let here = none x in let rest = zero_sum f none xs in let whole = sum_by-cons f x xs in omega (arith, here, rest, whole)
+
+sum_of_two : {A : Type 0} (f g h : A → ℕ) → ((x : A) → h x ≡ f x + g x) → (xs : List A) → sum_by h xs ≡ sum_by f xs + sum_by g xs
+sum_of_two f g h both [] = refl
+sum_of_two f g h both (x ∷ xs) =
+    let here = both x in
+    let rest = sum_of_two f g h both xs in
+    let a = sum_by-cons f x xs in
+    let b = sum_by-cons g x xs in
+    let c = sum_by-cons h x xs in
+    omega (arith, here, rest, a, b, c)
+
+-- how many cells a piece fetches by some lines
+abbrev by : Piece → List FetchLine → ℕ
+by j xs = sum_by (λ x. cells_by x j) xs
+
+turned : (js : List Piece) (xs : List FetchLine) → fetched_by_lines js xs ≡ sum_by (λ j. by j xs) js
+turned js [] = sym (zero_sum (λ j. by j []) (λ j. refl) js)
+turned js (x ∷ xs) =
+    let first = sum_by-cons (fetched_by js) x xs in
+    let rest = turned js xs in
+    let whole = sum_of_two (cells_by x) (λ j. by j xs) (λ j. by j (x ∷ xs)) (λ j. sum_by-cons (λ y. cells_by y j) x xs) js in
+    omega (arith, first, rest, whole)
+
+-- ---- one piece
+
+pub chosen : (b : Bool) (n : ℕ) → b ≡ true → (if b then n else 0) ≡ n
+chosen b n e = rw e refl
+
+pub left_out : (b : Bool) (n : ℕ) → b ≡ false → (if b then n else 0) ≡ 0
+left_out b n e = rw e refl
+
+module _ (p : Plan) (n : ℕ) (j : Piece) where
+  mutual
+    lines_here : (a : Statement) (line : ℕ) → (n == j.group) ≡ true → LineIsShared p a → by j (fetch_lines n a line) ≡ length (fetched_cells a (grid_symbols j.at))
+    lines_here (Seq all) line e h = block_here all line e h
+    lines_here (For i x kind body) line e h = sym (ap length (none_fetched (For i x kind body) (grid_symbols j.at) h))
+    lines_here (Let i pick forms) line e h = absurd h
+    lines_here (First i a b) line e h = sym (ap length (none_fetched (First i a b) (grid_symbols j.at) h))
+    lines_here (Guard low high body) line e h = sym (ap length (none_fetched (Guard low high body) (grid_symbols j.at) h))
+    lines_here (Alloc b f places) line e h = refl
+    lines_here (Fetch b g region) line e h =
+        let count = length (points (grid_symbols j.at) region) in
+        let one = sum_by-cons (λ x. cells_by x j) (record { line = line; group = n; region = region }) [] in
+        let is = chosen (n == j.group) count e in
+        let row = length-map (points (grid_symbols j.at) region) (cell g) in
+        omega (arith, one, is, row)
+    lines_here (Store b k at v) line e h = refl
+    lines_here (Publish c) line e h = refl
+
+    block_here : (all : Statements) (line : ℕ) → (n == j.group) ≡ true → LinesAreShared p all → by j (block_fetch_lines n all line) ≡ length (block_fetched_cells all (grid_symbols j.at))
+    block_here Empty line e h = refl
+    block_here (Then a rest) line e h =
+        let s = grid_symbols j.at in
+        let whole = sum_by-append (λ x. cells_by x j) (fetch_lines n a line) (block_fetch_lines n rest (line + lines a)) in
+        let first = lines_here a line e h.0 in
+        let more = block_here rest (line + lines a) e h.1 in
+        let long = length-append (fetched_cells a s) (block_fetched_cells rest (after a s)) in
+        let same = ap (λ (t : Symbols). length (block_fetched_cells rest t)) (stays p a s h.0) in
+        omega (arith, whole, first, more, long, same)
+
+  mutual
+    lines_there : (a : Statement) (line : ℕ) → (n == j.group) ≡ false → by j (fetch_lines n a line) ≡ 0
+    lines_there (Seq all) line e = block_there all line e
+    lines_there (For i x kind body) line e = refl
+    lines_there (Let i pick forms) line e = refl
+    lines_there (First i a b) line e = refl
+    lines_there (Guard low high body) line e = refl
+    lines_there (Alloc b f places) line e = refl
+    lines_there (Fetch b g region) line e =
+        let count = length (points (grid_symbols j.at) region) in
+        let one = sum_by-cons (λ x. cells_by x j) (record { line = line; group = n; region = region }) [] in
+        let is = left_out (n == j.group) count e in
+        omega (arith, one, is)
+    lines_there (Store b k at v) line e = refl
+    lines_there (Publish c) line e = refl
+
+    block_there : (all : Statements) (line : ℕ) → (n == j.group) ≡ false → by j (block_fetch_lines n all line) ≡ 0
+    block_there Empty line e = refl
+    block_there (Then a rest) line e =
+        let whole = sum_by-append (λ x. cells_by x j) (fetch_lines n a line) (block_fetch_lines n rest (line + lines a)) in
+        let first = lines_there a line e in
+        let more = block_there rest (line + lines a) e in
+        omega (arith, whole, first, more)
+
+pub same_number : (m n : ℕ) → m ≡ n → (m == n) ≡ true
+same_number m n e = grind (arith, nat_tests)
+
+pub other_number : (m n : ℕ) → (m ≡ n → ⊥) → (m == n) ≡ false
+other_number m n e = grind (arith, nat_tests)
+
+module _ (p : Plan) (j : Piece) where
+  groups_past : (k : ℕ) (gs : List Group) → j.group < k → by j (fetch_lines_from p k gs) ≡ 0
+  groups_past k [] past = refl
+  groups_past k (g ∷ gs) past =
+      let whole = sum_by-append (λ x. cells_by x j) (fetch_lines k g.body (body_line p k)) (fetch_lines_from p (k + 1) gs) in
+      let first = lines_there p k j g.body (body_line p k) (other_number k j.group (λ e. omega (arith, e, past))) in
+      let more = groups_past (k + 1) gs (omega (arith, past)) in
+      omega (arith, whole, first, more)
+
+  groups_here : (k : ℕ) (gs : List Group) (m : ℕ) (g : Group) → ((i : ℕ) (h : Group) → slice_get gs i ≡ Some h → LineIsShared p h.body) → j.group ≡ k + m → slice_get gs m ≡ Some g →
+      by j (fetch_lines_from p k gs) ≡ length (fetched_cells g.body (grid_symbols j.at))
+  groups_here k [] m g all e at = absurd (cc at)
+  groups_here k (x ∷ xs) zero g all e at =
+      let whole = sum_by-append (λ x. cells_by x j) (fetch_lines k x.body (body_line p k)) (fetch_lines_from p (k + 1) xs) in
+      let first = lines_here p k j x.body (body_line p k) (same_number k j.group (omega (arith, e))) (all 0 x refl) in
+      let more = groups_past (k + 1) xs (omega (arith, e)) in
+      let same = ap (λ (h : Group). length (fetched_cells h.body (grid_symbols j.at))) (some_same x g at) in
+      omega (arith, whole, first, more, same)
+  groups_here k (x ∷ xs) (suc m) g all e at =
+      let whole = sum_by-append (λ x. cells_by x j) (fetch_lines k x.body (body_line p k)) (fetch_lines_from p (k + 1) xs) in
+      let first = lines_there p k j x.body (body_line p k) (other_number k j.group (λ same. omega (arith, e, same))) in
+      let more = groups_here (k + 1) xs m g (λ i h. all (suc i) h) (omega (arith, e)) at in
+      omega (arith, whole, first, more)
+
+module _ (p : Plan) (c : Certificate) (shared : AreShared p c) where
+  one_piece : (i : ℕ) (j : Piece) → slice_get (pieces p) i ≡ Some j → by j (plan_fetch_lines p) ≡ length (fetched_list p i)
+  one_piece i j at =
+      let k = piece_from p i j at in
+      let here = groups_here p j 0 p.groups j.group k.g (λ m h e. (shared.groups m h e).body) (omega arith) k.group in
+      let cells = ap (λ (o : Option Group). length (group_fetched o j)) k.group in
+      let list = ap (λ (o : Option Piece). length (of_piece o [] (λ x. map (cell_number p) (cells_fetched p x)))) at in
+      let long = length-map (cells_fetched p j) (cell_number p) in
+      omega (arith, here, cells, list, long)
+
+  abbrev none : Piece
+  none = record { group = 0; at = [] }
+
+  pieces_counted : (n : ℕ) → n ≤ length (pieces p) → fetched_before p n ≡ sum_by (λ j. by j (plan_fetch_lines p)) (take n (pieces p))
+  pieces_counted zero less = refl
+  pieces_counted (suc n) less =
+      let f : Piece → ℕ = λ j. by j (plan_fetch_lines p) in
+      let one : n + 1 ≡ suc n = omega arith in
+      let within : n < length (pieces p) = omega (arith, less) in
+      let before = pieces_counted n (omega (arith, less)) in
+      let this = one_piece n (get_or (pieces p) n none) (get_some (pieces p) n none within) in
+      let more = sum_by_more f (pieces p) n none within in
+      let same = ap (λ (m : ℕ). sum_by f (take m (pieces p))) one in
+      omega (arith, before, this, more, same)
+
+  -- all that pieces fetch is what the fetch lines count
+  pub all_fetched : fetched_before p (length (pieces p)) ≡ fetched_by_lines (pieces p) (plan_fetch_lines p)
+  all_fetched =
+      let f : Piece → ℕ = λ j. by j (plan_fetch_lines p) in
+      pieces_counted (length (pieces p)) (omega arith) ∙ ap (sum_by f) (take_all (length (pieces p)) (pieces p) (omega arith)) ∙ sym (turned (pieces p) (plan_fetch_lines p))
+
+-- where the limit of fetched cells is passed there are not few
+pub fetched_past : (p : Plan) (c : Certificate) (x : FetchLine) → PassesFetched p c x → ¬ AreFew p c
+fetched_past p c x h few =
+    let all = all_fetched p c h.shared in
+    let most = sum_by-take-le (fetched_by (pieces p)) (plan_fetch_lines p) (h.place + 1) in
+    let past = h.passed in
+    let fits = few.fetched in
+    omega (arith, all, most, past, fits)
+
+-- ---- the lines' regions
+
+limited_append : (xs ys : List FetchLine) → AllByRecursion (λ x. IsLimited x.region) xs → AllByRecursion (λ x. IsLimited x.region) ys → AllByRecursion (λ x. IsLimited x.region) (xs ++ ys)
+limited_append [] ys h k = k
+limited_append (x ∷ xs) ys h k = (h.0, limited_append xs ys h.1 k)
+
+mutual
+  limited_lines : (p : Plan) (n : ℕ) (a : Statement) (line : ℕ) → LineIsShared p a → AllByRecursion (λ x. IsLimited x.region) (fetch_lines n a line)
+  limited_lines p n (Seq all) line h = limited_block p n all line h
+  limited_lines p n (For i x kind body) line h = tt
+  limited_lines p n (Let i pick forms) line h = tt
+  limited_lines p n (First i a b) line h = tt
+  limited_lines p n (Guard low high body) line h = tt
+  limited_lines p n (Alloc b f places) line h = tt
+  limited_lines p n (Fetch b g region) line h = ((named_group (slice_get p.groups g) (λ x. IsLike region (length x.region)) h).2.0, tt)
+  limited_lines p n (Store b k at v) line h = tt
+  limited_lines p n (Publish c) line h = tt
+
+  limited_block : (p : Plan) (n : ℕ) (all : Statements) (line : ℕ) → LinesAreShared p all → AllByRecursion (λ x. IsLimited x.region) (block_fetch_lines n all line)
+  limited_block p n Empty line h = tt
+  limited_block p n (Then a rest) line h = limited_append (fetch_lines n a line) (block_fetch_lines n rest (line + lines a)) (limited_lines p n a line h.0) (limited_block p n rest (line + lines a) h.1)
+
+limited_groups : (p : Plan) (k : ℕ) (gs : List Group) → ((i : ℕ) (h : Group) → slice_get gs i ≡ Some h → LineIsShared p h.body) → AllByRecursion (λ x. IsLimited x.region) (fetch_lines_from p k gs)
+limited_groups p k [] all = tt
+limited_groups p k (g ∷ gs) all = limited_append (fetch_lines k g.body (body_line p k)) (fetch_lines_from p (k + 1) gs) (limited_lines p k g.body (body_line p k) (all 0 g refl)) (limited_groups p (k + 1) gs (λ i h. all (suc i) h))
+
+pub lines_limited : (p : Plan) (c : Certificate) → AreShared p c → All (λ x. IsLimited x.region) (plan_fetch_lines p)
+lines_limited p c shared = All-from_recursion (λ (x : FetchLine). IsLimited x.region) (plan_fetch_lines p) (limited_groups p 0 p.groups (λ i h e. (shared.groups i h e).body))

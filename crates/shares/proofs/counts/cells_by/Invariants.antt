@@ -1,0 +1,8 @@
+use Rattle.std.proofs.Common.{◌≡◌, ◌-◌, ◌^◌, min, take}
+use Rattle.shares.specs.Counts.{fetched_by}
+use Rattle.shares.specs.Noted.{line_of}
+use Rattle.shares.specs.Seats.{pieces_of}
+use Rattle.shares.proofs.counts.cells_by.Given as goal
+
+abbrev pub invariant-loop-seat : goal.invariant-loop-seat
+invariant-loop-seat l = l.count ≡ min (fetched_by (pieces_of (take l.seat-index l.layout.seats.items)) (line_of l.line)) (2 ^ 64 - 1)

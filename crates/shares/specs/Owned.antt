@@ -1,0 +1,35 @@
+-- The own cells of one group's pieces, and the first flaw at own lines.
+use Rattle.std.specs.Prelude.{◌≡◌, ℕ, ◌≤◌, ◌<◌, ◌==◌, if◌then◌else◌, List, [], map, Option, Some, None, MatchOption, slice_get}
+use Rattle.plan.specs.Plan.{Plan}
+use Rattle.plan.specs.Certificate.Certificate.{Certificate}
+use Rattle.plan.specs.Certificate.Cells.{pieces}
+use Rattle.headline.specs.Numbers.{cell_number}
+use Rattle.headline.specs.Work.{of_piece, own_cells}
+use Rattle.outline.specs.Refusals.Codes.{number_of}
+use Rattle.outline.specs.declared.refusals.code.Flaw.{Flaw}
+use Rattle.outline.specs.declared.refusals.code.K.{K}
+use Rattle.shares.specs.Has.{IsServed}
+use Rattle.shares.specs.Layout.{OwnIsInside}
+use Rattle.shares.specs.Made.{IsPieceOf, OwnCode, IsOwnFlaw, IsFirstOwn}
+
+-- the own cells of each piece of the group, and none of any other piece
+abbrev pub own_in : Plan → Certificate → ℕ → ℕ → List ℕ
+own_in p c n i = of_piece (slice_get (pieces p) i) [] (λ j. if j.group == n then map (cell_number p) (own_cells p c j) else [])
+
+-- the own regions of the group's pieces lie in its region
+abbrev pub GroupIsInside : Plan → Certificate → ℕ → Type 0
+GroupIsInside p c n = (i : ℕ) → IsPieceOf p n i → OwnIsInside p c i
+
+-- the piece is the group's, and is not served
+abbrev pub IsLeftAlone : Plan → Certificate → ℕ → ℕ → Type 0
+IsLeftAlone p c n i = IsPieceOf p n i × ¬ IsServed p c i
+
+-- the lowest code of what is wrong at the group's own line, if anything is
+abbrev pub IsLowestCode : Plan → Certificate → ℕ → Option K → Type 0
+IsLowestCode p c n None = (k : K) → ¬ OwnCode p c n k
+IsLowestCode p c n (Some k) = OwnCode p c n k × ((h : K) → OwnCode p c n h → number_of k ≤ number_of h)
+
+-- the first flaw at the own lines of the first groups, so many, if there is one
+abbrev pub IsFirstFlaw : Plan → Certificate → ℕ → Option Flaw → Type 0
+IsFirstFlaw p c groups None = (f : Flaw) → ¬ IsOwnFlaw p c groups f
+IsFirstFlaw p c groups (Some f) = IsOwnFlaw p c groups f × IsFirstOwn p c groups f

@@ -1,0 +1,48 @@
+//! Where a statement stands in its group.
+
+ghost use Rattle.std.specs.Prelude.{◌≡◌, IfOk, OnOk};
+ghost use Rattle.plan.specs.View.{group_of, statement_of};
+ghost use Rattle.validation.specs.Certificate.Placing.{group_spot, in_loop, past};
+ghost use Rattle.validation.specs.Certificate.Ways.{spot_of};
+
+use lin::Sym;
+use outline::forms::grid_symbols;
+use plan::{Group, Stmt};
+use std::alloc::{AllocError, Global};
+
+/// Where a statement stands: the symbols of the grid and of the loops round it, the innermost last, and the buffers in scope.
+#[derive(Drop)]
+pub(crate) struct Spot {
+    pub symbols: Vec<Sym>,
+    pub buffers: Vec<u32>,
+}
+
+impl Spot {
+    /// Where a group's body begins.
+    pub(crate) fn of_group(alloc: Global, group: &Group) -> Result<Spot, AllocError>
+        ensures { IfOk result (λ spot. spot_of spot ≡ group_spot (group_of group.now)) }
+    {
+        Ok(Spot {
+            symbols: grid_symbols(alloc, group.grid.len())?,
+            buffers: Vec::new(alloc),
+        })
+    }
+
+    /// Goes into a loop over the symbol.
+    pub(crate) fn enter(&mut self, symbol: Sym) -> Result<(), AllocError>
+        ensures { OnOk result (spot_of self.new ≡ in_loop symbol (spot_of self.old)) }
+    {
+        self.symbols.push(symbol)?;
+        Ok(())
+    }
+
+    /// Goes on behind a statement that stands here.
+    pub(crate) fn pass(&mut self, stmt: &Stmt) -> Result<(), AllocError>
+        ensures { OnOk result (spot_of self.new ≡ past (statement_of stmt.now) (spot_of self.old)) }
+    {
+        if let Stmt::Alloc { buffer, .. } = stmt {
+            self.buffers.push(*buffer)?;
+        }
+        Ok(())
+    }
+}
