@@ -153,7 +153,7 @@ fn means_of_two(rt: HostRuntime) -> Result<(), Fail> {
     let alloc = rt.alloc();
     for row in RIGHT {
         let case = row_case(alloc, *row)?;
-        assert!(rt; gives(alloc, &case, &[0], &[15, 25, 35, 41])?);
+        assert!(rt; gives(alloc, &case, 0, &[15, 25, 35, 41])?);
     }
     Ok(())
 }
@@ -224,7 +224,7 @@ fn each_fault_is_found(rt: HostRuntime) -> Result<(), Fail> {
     let alloc = rt.alloc();
     for (fault, row) in FAULTS {
         let case = row_case(alloc, *row)?;
-        assert!(rt; faults(alloc, &case, &[0])?, "{fault}");
+        assert!(rt; faults(alloc, &case, 0)?, "{fault}");
     }
     Ok(())
 }

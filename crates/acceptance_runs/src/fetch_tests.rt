@@ -74,7 +74,7 @@ fn fetching(alloc: Global, count: u64, cells: Ends, further: i64) -> Made<Case> 
 fn fetched_cells_are_read(rt: HostRuntime) -> Result<(), Fail> {
     let alloc = rt.alloc();
     let case = fetching(alloc, 4, ALL, 0)?;
-    assert!(rt; gives(alloc, &case, &[0], &[1, 1, 1, 1])?);
+    assert!(rt; gives(alloc, &case, 0, &[1, 1, 1, 1])?);
     Ok(())
 }
 
@@ -84,7 +84,7 @@ fn fetched_cells_have_faults(rt: HostRuntime) -> Result<(), Fail> {
     let alloc = rt.alloc();
     for (count, cells, further) in [(3, ALL, 0), (4, BUT_LAST, 0), (4, ALL, 1)] {
         let case = fetching(alloc, count, cells, further)?;
-        assert!(rt; faults(alloc, &case, &[0])?);
+        assert!(rt; faults(alloc, &case, 0)?);
     }
     Ok(())
 }

@@ -79,8 +79,8 @@ const SECOND: &[i64] = &[71, 72, 73, 74, 75, 76, 77, 78, 79, 80, 81, 82, 83, 84]
 fn each_piece_gives_its_rows(rt: HostRuntime) -> Result<(), Fail> {
     let alloc = rt.alloc();
     let inc = inc(alloc, ROWS, COLUMNS, inc_store(alloc, 2, 1))?;
-    assert!(rt; gives(alloc, &inc, &[0], FIRST)?);
-    assert!(rt; gives(alloc, &inc, &[1], SECOND)?);
+    assert!(rt; gives(alloc, &inc, 0, FIRST)?);
+    assert!(rt; gives(alloc, &inc, 1, SECOND)?);
     Ok(())
 }
 
@@ -89,7 +89,7 @@ fn each_piece_gives_its_rows(rt: HostRuntime) -> Result<(), Fail> {
 fn cells_are_given_in_their_order(rt: HostRuntime) -> Result<(), Fail> {
     let alloc = rt.alloc();
     let inc = inc(alloc, COLUMNS, ROWS, inc_store(alloc, 1, 2))?;
-    assert!(rt; gives(alloc, &inc, &[0], FIRST)?);
-    assert!(rt; gives(alloc, &inc, &[1], SECOND)?);
+    assert!(rt; gives(alloc, &inc, 0, FIRST)?);
+    assert!(rt; gives(alloc, &inc, 1, SECOND)?);
     Ok(())
 }

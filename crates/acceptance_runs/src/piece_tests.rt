@@ -40,32 +40,6 @@ fn counts(state: &State) -> Counts {
     (state.drawn(), state.finished(), state.set())
 }
 
-/// So many workers who take turns, so many steps, and the counts after these.
-const TURNS: &[(u8, u32, Counts)] = &[
-    // 2 + 6 and 2 + 14 steps
-    (1, 24, (2, 2, 20)),
-    (1, 23, (2, 1, 20)),
-    (1, 0, (0, 0, 0)),
-    (2, 32, (2, 2, 20)),
-    (2, 31, (2, 1, 20)),
-];
-
-#[test]
-fn orders_draw_set_and_finish(rt: HostRuntime) -> Result<(), Fail> {
-    let alloc = rt.alloc();
-    let algo = Algo::read(alloc, TEXT)?;
-    let case = two_pieces(&rt, alloc, &algo)?;
-    for (workers, steps, wanted) in TURNS {
-        assert!(rt; *workers > 0);
-        let order = turns(alloc, *workers, *steps)?;
-        let state = after(&rt, alloc, &case, order.as_slice())?;
-        assert_eq!(rt; counts(&state), *wanted, "{steps} steps of {workers}");
-    }
-    let state = after(&rt, alloc, &case, &[0, 0, 1])?;
-    assert_eq!(rt; counts(&state), (2, 0, 1));
-    Ok(())
-}
-
 #[test]
 fn all_cells_are_the_picture(rt: HostRuntime) -> Result<(), Fail> {
     let alloc = rt.alloc();

@@ -1,10 +1,11 @@
 //! Running a piece of a plan made by hand.
 
-ghost use Rattle.std.specs.Prelude.{◌≡◌, IsTrue, MatchOption, map, nat_le, pos, slice_get};
+ghost use Rattle.std.specs.Prelude.{◌≡◌, ◌∷◌, ◌<◌, [], IsTrue, MatchOption, map, nat_le, pos, slice_get};
 ghost use Rattle.std.specs.List.{list_all};
 ghost use Rattle.meaning.specs.Image.View.{AreExtents, image_of};
 ghost use Rattle.plan.specs.View.{group_of, plan_of};
 ghost use Rattle.plan.specs.Certificate.Certificate.{certificate_of};
+ghost use Rattle.plan.specs.Certificate.Cells.{grid_point, group_pieces, piece_count};
 ghost use Rattle.interpreter.specs.Narrow.{PieceIsNarrow};
 ghost use Rattle.interpreter.specs.Outcome.{IsInput};
 ghost use Rattle.acceptance_runs.specs.Small.{is_small_piece, is_small_region};
@@ -13,12 +14,12 @@ use crate::small_tests::{is_small_region, is_small_statement};
 use crate::statements_tests::{Frame, Held, cert, plan};
 use crate::trees_tests::Made;
 use interpreter::evaluation::Stop;
-use interpreter::{Cells, run_piece};
+use interpreter::{Cells, Scratch, run_piece_in};
 use meaning::image::Image;
 use numeric::Ty;
 use plan::certificate::{Cert, Own};
 use plan::{Group, Plan, Stmt};
-use std::alloc::{AllocError, Global};
+use std::alloc::Global;
 use std::test::Fail;
 use tree::Value;
 
@@ -136,44 +137,56 @@ fn first_group(groups: &[Group]) -> Option<&Group>
     groups.get(0)
 }
 
-// Whether there is a first group, and the forms of its piece at a grid point are small.
-fn has_small_piece(plan: &Plan, cert: &Cert, at: &[u32]) -> bool
-    ensures { IsTrue result → MatchOption (slice_get (plan_of plan.now).groups 0) ⊥ (λ g. PieceIsNarrow (certificate_of cert.now) 0 g at.now) }
+// Whether the grid has one count, and so many points besides that so many can come before one.
+fn is_only_coordinate(grid: &[u64], rank: u32) -> bool
+    ensures point { IsTrue result → grid_point grid.now rank ≡ rank ∷ [] }
+    ensures inside { IsTrue result → rank < piece_count grid.now }
+{
+    match grid {
+        [count] => u64::from(rank) < *count,
+        _ => false,
+    }
+}
+
+// Whether there is a first group, its grid has one count, and the forms of its piece that so many come before are small.
+fn has_small_piece(plan: &Plan, cert: &Cert, rank: u32) -> bool
+    ensures narrow { IsTrue result → MatchOption (slice_get (plan_of plan.now).groups 0) ⊥ (λ g. PieceIsNarrow (certificate_of cert.now) 0 g (grid_point g.grid rank)) }
+    ensures inside { IsTrue result → MatchOption (slice_get (plan_of plan.now).groups 0) ⊥ (λ g. rank < group_pieces g) }
 {
     match first_group(&plan.groups) {
-        Some(group) => is_small_piece(group, cert, at),
+        Some(group) => {
+            is_only_coordinate(group.grid.as_slice(), rank) && is_small_piece(group, cert, &[rank])
+        }
         None => false,
     }
 }
 
-// Nothing where there was a fault.
-fn unless_fault(ended: Result<Vec<i64>, Stop>) -> Result<Option<Vec<i64>>, AllocError> {
-    match ended {
-        Ok(given) => Ok(Some(given)),
-        Err(Stop::Fault) => Ok(None),
-        Err(Stop::Memory) => Err(AllocError),
-    }
-}
-
-// What the piece of the first group at a grid point gives, nothing where its run has a fault.
-pub(crate) fn run(alloc: Global, case: &Case, at: &[u32]) -> Result<Option<Vec<i64>>, Fail> {
+// What the piece of the first group gives that so many come before, nothing where its run has a fault.
+pub(crate) fn run(alloc: Global, case: &Case, rank: u32) -> Result<Option<Vec<i64>>, Fail> {
     let Case { plan, cert, image } = case;
-    if is_input(plan, image) && has_small_piece(plan, cert, at) {
-        Ok(unless_fault(run_piece(alloc, plan, cert, image, &NoCells, 0, at, 1024))?)
-    } else {
-        Err("the plan is not of small forms for this input".into())
+    let Some(group) = first_group(&plan.groups) else {
+        return Err("the plan has no group".into());
+    };
+    if !is_input(plan, image) || !has_small_piece(plan, cert, rank) {
+        return Err("the plan is not of small forms for this input".into());
+    }
+    let mut scratch = Scratch::new(alloc, group, cert, 0, 1024)?;
+    match run_piece_in(alloc, &mut scratch, plan, cert, image, &NoCells, 0, rank) {
+        Ok(()) => Ok(Some(scratch.given().to_vec(alloc)?)),
+        Err(Stop::Fault) => Ok(None),
+        Err(Stop::Full) => Err("more than 1024 numbers".into()),
     }
 }
 
-// Whether the piece at a grid point gives these numbers.
-pub(crate) fn gives(alloc: Global, case: &Case, at: &[u32], wanted: &[i64]) -> Result<bool, Fail> {
-    Ok(match run(alloc, case, at)? {
+// Whether the piece that so many come before gives these numbers.
+pub(crate) fn gives(alloc: Global, case: &Case, rank: u32, wanted: &[i64]) -> Result<bool, Fail> {
+    Ok(match run(alloc, case, rank)? {
         Some(given) => given.as_slice() == wanted,
         None => false,
     })
 }
 
-// Whether the run of the piece at a grid point has a fault.
-pub(crate) fn faults(alloc: Global, case: &Case, at: &[u32]) -> Result<bool, Fail> {
-    Ok(run(alloc, case, at)?.is_none())
+// Whether the run of the piece that so many come before has a fault.
+pub(crate) fn faults(alloc: Global, case: &Case, rank: u32) -> Result<bool, Fail> {
+    Ok(run(alloc, case, rank)?.is_none())
 }

@@ -146,8 +146,8 @@ const SECOND: &[i64] = &[
 fn three_places_are_enough(rt: HostRuntime) -> Result<(), Fail> {
     let alloc = rt.alloc();
     let three = slide(alloc, 3, 1)?;
-    assert!(rt; gives(alloc, &three, &[0], FIRST)?);
-    assert!(rt; gives(alloc, &three, &[1], SECOND)?);
+    assert!(rt; gives(alloc, &three, 0, FIRST)?);
+    assert!(rt; gives(alloc, &three, 1, SECOND)?);
     Ok(())
 }
 
@@ -155,8 +155,8 @@ fn three_places_are_enough(rt: HostRuntime) -> Result<(), Fail> {
 fn four_places_are_enough(rt: HostRuntime) -> Result<(), Fail> {
     let alloc = rt.alloc();
     let four = slide(alloc, 4, 1)?;
-    assert!(rt; gives(alloc, &four, &[0], FIRST)?);
-    assert!(rt; gives(alloc, &four, &[1], SECOND)?);
+    assert!(rt; gives(alloc, &four, 0, FIRST)?);
+    assert!(rt; gives(alloc, &four, 1, SECOND)?);
     Ok(())
 }
 
@@ -170,8 +170,8 @@ fn two_places_are_few(rt: HostRuntime) -> Result<(), Fail> {
     let second = [
         15, 16, 17, 18, 18, 19, 20, 21, 21, 22, 23, 24, 21, 22, 23, 24,
     ];
-    assert!(rt; gives(alloc, &two, &[0], &first)?);
-    assert!(rt; gives(alloc, &two, &[1], &second)?);
+    assert!(rt; gives(alloc, &two, 0, &first)?);
+    assert!(rt; gives(alloc, &two, 1, &second)?);
     Ok(())
 }
 
@@ -180,7 +180,7 @@ fn two_places_are_few(rt: HostRuntime) -> Result<(), Fail> {
 fn the_turns_of_no_loop_are_never_first(rt: HostRuntime) -> Result<(), Fail> {
     let alloc = rt.alloc();
     let never = slide(alloc, 3, 0)?;
-    assert!(rt; faults(alloc, &never, &[0])?);
-    assert!(rt; faults(alloc, &never, &[1])?);
+    assert!(rt; faults(alloc, &never, 0)?);
+    assert!(rt; faults(alloc, &never, 1)?);
     Ok(())
 }

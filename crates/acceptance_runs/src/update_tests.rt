@@ -85,7 +85,7 @@ fn scan(alloc: Global, pixel_ends: Ends, sum_ends: Ends) -> Made<Case> {
 fn each_sum_adds_to_the_one_before(rt: HostRuntime) -> Result<(), Fail> {
     let alloc = rt.alloc();
     let scan = scan(alloc, ALL, BUT_FIRST)?;
-    assert!(rt; gives(alloc, &scan, &[0], &[1, 3, 6, 10])?);
+    assert!(rt; gives(alloc, &scan, 0, &[1, 3, 6, 10])?);
     Ok(())
 }
 
@@ -94,9 +94,9 @@ fn each_sum_adds_to_the_one_before(rt: HostRuntime) -> Result<(), Fail> {
 fn a_load_finds_nothing(rt: HostRuntime) -> Result<(), Fail> {
     let alloc = rt.alloc();
     let unset = scan(alloc, BUT_LAST, BUT_FIRST)?;
-    assert!(rt; faults(alloc, &unset, &[0])?);
+    assert!(rt; faults(alloc, &unset, 0)?);
     let outside = scan(alloc, ALL, ALL)?;
-    assert!(rt; faults(alloc, &outside, &[0])?);
+    assert!(rt; faults(alloc, &outside, 0)?);
     Ok(())
 }
 
@@ -190,7 +190,7 @@ fn pixels_are_counted_at_their_places(rt: HostRuntime) -> Result<(), Fail> {
     wanted[2] = 3;
     wanted[255] = 1;
     let hist = hist(alloc, 256, PLACES, &[1, 1, 2, 2, 2, 255])?;
-    assert!(rt; gives(alloc, &hist, &[0], &wanted)?);
+    assert!(rt; gives(alloc, &hist, 0, &wanted)?);
     Ok(())
 }
 
@@ -200,8 +200,8 @@ fn a_pixel_leads_nowhere(rt: HostRuntime) -> Result<(), Fail> {
     let alloc = rt.alloc();
     let samples = [1, 1, 2, 2, 2, 255];
     let few = hist(alloc, 255, BUT_LAST_PLACE, &samples)?;
-    assert!(rt; faults(alloc, &few, &[0])?);
+    assert!(rt; faults(alloc, &few, 0)?);
     let unset = hist(alloc, 256, BUT_LAST_PLACE, &samples)?;
-    assert!(rt; faults(alloc, &unset, &[0])?);
+    assert!(rt; faults(alloc, &unset, 0)?);
     Ok(())
 }

@@ -14,3 +14,4 @@ pub mod Most
 pub mod Scratches
 mod Shared
 pub mod Runs
+pub mod Joining

@@ -38,13 +38,11 @@ coordinate : (x : Span1) (z : ℤ) → PointsAreCounted → IsSmallSpan x → Ha
 coordinate x z counted small ends h =
     let from = h.low in
     let to : z ≤ℤ smallest no_symbols x.upper = below_high (largest no_symbols x.lower) (smallest no_symbols x.upper) z (length (turns no_symbols x)) (counted.turns no_symbols x) from h.below in
-    let low = small.low in
-    let high = small.high in
     let least = ends.low.from in
     let most = ends.high.to in
     record {
-      from = omega (arith, ints, from, low, least);
-      to = omega (arith, ints, to, high, most);
+      from = omega (arith, ints, from, least);
+      to = omega (arith, ints, to, most);
     }
 
 coordinates : (xs : List Span1) (zs : List ℤ) → PointsAreCounted → AllByRecursion IsSmallSpan xs → AllByRecursion HasIndexEnds xs → IsOn (axes_of xs) zs → AllByRecursion (IsOf I32) zs

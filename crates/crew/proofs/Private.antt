@@ -11,7 +11,7 @@ use Rattle.algo.specs.declared.inputs.Inputs.{Inputs}
 use Rattle.algo.specs.View.{IsFor, picture_of, samples_of}
 use Rattle.checked_plan.specs.declared.checked.Checked.{Checked}
 use Rattle.checked_plan.specs.View.{algorithm_checked, plan_checked, certificate_checked}
-use Rattle.plan.specs.Plan.{Group, Plan}
+use Rattle.plan.specs.Plan.{Plan}
 use Rattle.plan.specs.Certificate.Certificate.{Certificate}
 use Rattle.plan.specs.Certificate.Cells.{Cell, grid_point}
 use Rattle.soundness.proofs.Forms.{rec_weaker}
@@ -30,7 +30,7 @@ use Rattle.piece.proofs.Lookups.{are_cells, numbers_are}
 use Rattle.piece.specs.Places.Places.{IsPlaceOf}
 use Rattle.crew.specs.Private.{CanRun, GivesValues, HaveIndices, IsMostFetched, IsMostOwn, IsOwnOf, IsRunnable, as_typed, fetched_of, needs_of, told_by, words_at}
 use Rattle.crew.proofs.Owners.{owner_of}
-use Rattle.crew.proofs.Points.{at_place, point_is}
+use Rattle.crew.proofs.Points.{point_is}
 use Rattle.crew.proofs.Told.{IsTyped, told_values}
 use Rattle.crew.proofs.Typed.{call_typed}
 
@@ -81,7 +81,7 @@ module _ (laws : Laws) (x : Checked) (i : Inputs) (most : ℕ) (fits : IsFor x.a
       (call_typed a samples x.algo.now.well_formed given (cell_function p y) y.point (point_is a p c laws.counted ready ends y h))
 
   cells_typed : Ready a p c → (j : ℕ) → j < count → AllByRecursion (IsTyped a p V (cell_number p)) (cells_of_piece p j)
-  cells_typed ready j lt = elim runnable.1 [
+  cells_typed ready j lt = elim runnable [
     | inl none ↦
         let few : length (fetched_of x j) ≤ 0 = subst (λ n. length (fetched_of x j) ≤ n) none (fetched j lt) in
         none_of (IsTyped a p V (cell_number p)) (cell_number p) (cells_of_piece p j) (subst (λ (ns : List ℕ). length ns ≤ 0) (numbers_are p j) few)
@@ -121,7 +121,6 @@ module _ (laws : Laws) (x : Checked) (i : Inputs) (most : ℕ) (fits : IsFor x.a
     all = sym (laws.own x samples).pieces;
     needs = needs_earlier;
     fetched = owned;
-    short = λ n g e. at_place (λ (f : Group). length f.grid ≤ 4) p.groups n g runnable.0 e;
     narrow = laws.narrow x;
     gives = runs_right;
   }

@@ -1,5 +1,6 @@
 -- The private run of one piece, in the scratch of its group.
-use Rattle.std.proofs.Common.{◌≡◌, ℕ, suc, ◌<◌, ◌≤◌, List, [], ◌∷◌, length, get_or, Option, Some, None, MatchOption, ℤ, map, refl, sym, ap, ◌∙◌, subst, arith}
+use Rattle.std.proofs.Common.{◌≡◌, ℕ, ◌<◌, ◌≤◌, List, length, get_or, Option, Some, None, Err, MatchOption, ℤ, map, sym, ap, ◌∙◌, subst, arith}
+use Rattle.std.proofs.lemmas.List.{length-map}
 use Rattle.std.specs.Prelude.{slice_get}
 use Rattle.std.proofs.Math.ListN.{set}
 use Rattle.std.proofs.lemmas.Option.{slice_get-get_or, slice_get_within}
@@ -12,76 +13,66 @@ use Rattle.plan.specs.Certificate.Cells.{grid_point}
 use Rattle.checked_plan.specs.declared.checked.Checked.{Checked}
 use Rattle.checked_plan.specs.View.{algorithm_checked, plan_checked, certificate_checked}
 use Rattle.board.specs.Layout.{Layout, own_of, pieces_of, value_at}
-use Rattle.interpreter.specs.Narrow.{PieceIsNarrow}
-use Rattle.interpreter.specs.Outcome.{piece_gives}
-use Rattle.interpreter.specs.Scratches.{room_of, IsAgain, IsScratchFor}
+use Rattle.interpreter.specs.declared.evaluation.stop.Stop.{Stop}
+use Rattle.interpreter.specs.declared.evaluation.stop.Stop.TheVariants.{Fault, Full}
+use Rattle.interpreter.specs.Outcome.{piece_gives, point_in, rank_gives}
+use Rattle.interpreter.specs.Scratches.{room_of, GivesIn, IsAgain, IsScratchFor}
 use Rattle.interpreter.specs.declared.scratch.Scratch.{Scratch}
 use Rattle.piece.specs.Looked.{numbers_of_piece}
 use Rattle.piece.specs.declared.cells.LookedCells.{LookedCells}
 use Rattle.piece.specs.Places.Places.{IsPlaceOf}
 use Rattle.crew.specs.Private.{AreReady, CanRun, HasLooked, HasMemory, given_by, given_in, told, told_by, words_at}
-use Rattle.crew.proofs.Scratches.{has_room, memory_again, set_here}
+use Rattle.crew.proofs.Scratches.{memory_again, set_here}
 
-pub never : {A : Type 0} (o : Option A) (x : A) → o ≡ None → o ≡ Some x → ⊥
-never None x e h = cc h
-never (Some y) x e h = cc e
-
-pub long_point : (grid : List ℕ) (k : ℕ) → length (grid_point grid k) ≡ length grid
-long_point [] k = refl
-long_point (n ∷ ns) k = ap suc (long_point ns _)
+-- a run that gives no more than there is room for does not fail
+pub never : (room : ℕ) (e : Stop) (given : List ℤ) (whole : Option (List ℤ)) (vs : List ℤ) → GivesIn {A = Unit {0}} room (Err e) given whole → whole ≡ Some vs → length vs ≤ room → ⊥
+never room Fault given None vs h is few = cc is
+never room Fault given (Some zs) vs h is few = cc h
+never room Full given None vs h is few = cc is
+never room Full given (Some zs) vs h is few = let same : zs ≡ vs = cc in let long = ap length same in omega (arith, h, few, long)
 
 module _ (l : Layout) (v : List ℤ) (q : Checked) (i : Picture) (most : ℕ) (can : CanRun l v q i most) (xs : List Scratch) (held : HasMemory l (plan_checked q) (certificate_checked q) xs)
-    (p : Plan) (ep : p ≡ plan_checked q) (c : Certificate) (ec : c ≡ certificate_checked q) (j n k : ℕ) (place : IsPlaceOf p.groups j n k) where
+    (j n k : ℕ) (place : IsPlaceOf (plan_checked q).groups j n k) where
   abbrev a : Algorithm
   a = algorithm_checked q
 
-  ready : AreReady l v a p c i most
-  ready = subst (λ (d : Certificate). AreReady l v a p d i most) (sym ec) (subst (λ (z : Plan). AreReady l v a z (certificate_checked q) i most) (sym ep) can.0)
+  abbrev p : Plan
+  p = plan_checked q
 
-  memory : HasMemory l p c xs
-  memory = subst (λ (d : Certificate). HasMemory l p d xs) (sym ec) (subst (λ (z : Plan). HasMemory l z (certificate_checked q) xs) (sym ep) held)
+  abbrev c : Certificate
+  c = certificate_checked q
+
+  ready : AreReady l v a p c i most
+  ready = can.0
 
   pub inside : n < length xs
-  inside = let m = slice_get_within p.groups n place.g place.at in let e = memory.count in omega (arith, m, e)
-
-  pub short : length place.g.grid ≤ 4
-  short = ready.0.short n place.g place.at
+  inside = let m = slice_get_within p.groups n place.g place.at in let e = held.count in omega (arith, m, e)
 
   pub extents : i.extents ≡ p.input.extents
   extents = ready.0.extents
 
-  module _ (at : List ℕ) (same : at ≡ grid_point place.g.grid k) (x : Scratch) (is : x ≡ get_or xs n x) where
+  module _ (x : Scratch) (is : x ≡ get_or xs n x) where
     stands : slice_get xs n ≡ Some x
     stands = slice_get-get_or xs n x inside ∙ ap Some (sym is)
 
-    pub narrow : MatchOption (slice_get p.groups n) ⊥ (λ g. PieceIsNarrow c n g at)
-    narrow =
-        subst (λ (o : Option Group). MatchOption o ⊥ (λ g. PieceIsNarrow c n g at)) (sym place.at)
-        (subst (λ (z : List ℕ). PieceIsNarrow c n place.g z) (sym same) (ready.0.narrow j n k place))
-
     pub scratch : MatchOption (slice_get p.groups n) ⊥ (IsScratchFor x c n)
-    scratch = subst (λ (o : Option Group). MatchOption o ⊥ (IsScratchFor x c n)) (sym place.at) (memory.each n place.g x place.at stands).0
+    scratch = subst (λ (o : Option Group). MatchOption o ⊥ (IsScratchFor x c n)) (sym place.at) (held.each n place.g x place.at stands).0
 
     pub left : (new : Scratch) (values : List ℤ) → new.state.given.items ≡ values → given_in (set xs n new) n ≡ values
     left new values e = ap given_by (set_here xs n new inside) ∙ e
 
-    pub again : (new : Scratch) → IsAgain x new → HasMemory l (plan_checked q) (certificate_checked q) (set xs n new)
-    again new e =
-        let there : HasMemory l p c (set xs n new) = memory_again l p c xs n place.g x new memory place.at stands e in
-        subst (λ (d : Certificate). HasMemory l (plan_checked q) d (set xs n new)) ec (subst (λ (z : Plan). HasMemory l z c (set xs n new)) ep there)
+    pub again : (new : Scratch) → IsAgain x new → HasMemory l p c (set xs n new)
+    again new e = memory_again l p c xs n place.g x new held place.at stands e
 
-    module _ (y : Picture) (seen : y ≡ i) (cells : LookedCells) (looked : HasLooked v q j cells) (lt : j < pieces_of l) where
+    module _ (cells : LookedCells) (looked : HasLooked v q j cells) (lt : j < pieces_of l) where
       told_here : told cells ≡ told_by a p j (words_at v (numbers_of_piece p j))
-      told_here =
-          (λ r. told_by (algorithm_checked (looked.plan r)) (plan_checked (looked.plan r)) (looked.piece r) (looked.words r))
-          ∙ ap (λ (z : Plan). told_by a z j (words_at v (numbers_of_piece z j))) (sym ep)
+      told_here = λ r. told_by (algorithm_checked (looked.plan r)) (plan_checked (looked.plan r)) (looked.piece r) (looked.words r)
 
-      pub gives : piece_gives p c y.samples (told cells) n at ≡ Some (map (value_at v) (own_of l j))
+      pub gives : rank_gives p c i.samples (told cells) n k ≡ Some (map (value_at v) (own_of l j))
       gives =
-          ap (λ (z : Picture). piece_gives p c z.samples (told cells) n at) seen
-          ∙ ap (λ (f : Calls). piece_gives p c i.samples f n at) told_here
-          ∙ ap (λ (z : List ℕ). piece_gives p c i.samples (told_by a p j (words_at v (numbers_of_piece p j))) n z) same
+          ap (λ (o : Option Group). piece_gives p c i.samples (told cells) n (point_in o k)) place.at
+          ∙ ap (λ (f : Calls). piece_gives p c i.samples f n (grid_point place.g.grid k)) told_here
           ∙ ready.0.gives j n k place lt
 
-      pub room : MatchOption (piece_gives p c y.samples (told cells) n at) (Unit {0}) (λ given. length given ≤ room_of x)
-      room = has_room l v j (room_of x) (piece_gives p c y.samples (told cells) n at) lt (memory.each n place.g x place.at stands).1 gives
+      pub room : length (map (value_at v) (own_of l j)) ≤ room_of x
+      room = let long = length-map (own_of l j) (value_at v) in let most_own = (held.each n place.g x place.at stands).1 j lt in omega (arith, long, most_own)

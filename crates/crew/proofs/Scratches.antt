@@ -10,10 +10,11 @@ use native.Mathlib.Decide.{ℕ_discrete}
 use Rattle.plan.specs.Plan.{Group, Plan}
 use Rattle.plan.specs.Certificate.Certificate.{Certificate}
 use Rattle.board.specs.Layout.{Layout, own_of, pieces_of, value_at}
-use Rattle.interpreter.specs.Buffers.Blocks.{limits_of}
-use Rattle.interpreter.specs.declared.buffers.limit.Limit.{Limit}
-use Rattle.interpreter.specs.Bindings.{Bindings}
-use Rattle.interpreter.specs.Scratches.{room_of, IsAgain, IsScratchFor, Suffices}
+use Rattle.interpreter.specs.Bindings.{symbols_of}
+use Rattle.interpreter.specs.Needs.{own_count, Space, StatementFits}
+use Rattle.interpreter.specs.Scratches.{room_of, IsAgain, IsScratchFor}
+use Rattle.interpreter.specs.Sizes.{size_in}
+use Rattle.interpreter.specs.States.{space_of}
 use Rattle.interpreter.specs.declared.scratch.Scratch.{Scratch}
 use Rattle.interpreter.specs.declared.sizes.Size.{Size}
 use Rattle.crew.specs.Private.{HasMemory, IsMostOwn}
@@ -25,15 +26,16 @@ pub record IsFit (l : Layout) (c : Certificate) (n : ℕ) (g : Group) (x : Scrat
 
 -- a scratch after a run suffices again
 pub again : (l : Layout) (c : Certificate) (n : ℕ) (g : Group) (old new : Scratch) → IsFit l c n g old → IsAgain old new → IsFit l c n g new
-again l c n g old new h k =
-    let M : List Size → Bindings → ℕ → List Limit → Type 0 = λ a b r ls. Suffices a b r ls c n g in
-    let one : M new.sizes.items old.constants old.symbols.room (limits_of old.state.memory) = subst (λ a. M a old.constants old.symbols.room (limits_of old.state.memory)) (sym k.sizes) h.group in
-    let two : M new.sizes.items new.constants old.symbols.room (limits_of old.state.memory) = subst (λ b. M new.sizes.items b old.symbols.room (limits_of old.state.memory)) (sym k.constants) one in
-    let three : M new.sizes.items new.constants new.symbols.room (limits_of old.state.memory) = subst (λ r. M new.sizes.items new.constants r (limits_of old.state.memory)) (sym k.symbols) two in
-    record {
-      group = subst (λ ls. M new.sizes.items new.constants new.symbols.room ls) (sym k.limits) three;
-      given = subst (λ n. IsMostOwn l n) (sym k.given) h.given;
-    }
+again l c n g old new h k = record {
+  group = record {
+    sizes = λ b. ap (λ (xs : List Size). size_in xs b) k.sizes ∙ h.group.sizes b;
+    constants = ap symbols_of k.constants ∙ h.group.constants;
+    grid = subst (λ (m : ℕ). length g.grid ≤ m) (sym k.grid) h.group.grid;
+    fits = subst (λ (w : Space). StatementFits (own_count c n) w new.symbols.room g.body 0) (sym k.space)
+        (subst (λ (m : ℕ). StatementFits (own_count c n) (space_of old.state) m g.body 0) (sym k.symbols) h.group.fits);
+  };
+  given = subst (λ m. IsMostOwn l m) (sym k.given) h.given;
+}
 
 -- ---- places of a list
 

@@ -1,11 +1,7 @@
 -- A checked plan, its cells and an input may be shared among threads.
-use Rattle.std.proofs.Common.{ℕ, List, [], ◌∷◌}
 use denote.Ref.{NamedLft}
 use denote.RattleType.{RattleType}
 use denote.Param.Send.{IsSend, IsSync, sendable}
-use denote.Param.SendFields.{as_row_send, declared_send}
-use denote.Struct.Field.{row_field}
-use denote.Struct.Tuple.{TupleAt, type_at}
 use Rattle.std.proofs.Crossing.{crosses}
 use Rattle.numeric.proofs.op.Comparison.TheSendSync as comparison
 use Rattle.numeric.proofs.op.Op.TheSendSync as op
@@ -38,8 +34,10 @@ use Rattle.checked_plan.specs.contracts.output.plan_cells.GroupCells as GroupCel
 use Rattle.checked_plan.specs.contracts.output.plan_cells.PlanCells as PlanCells
 use Rattle.interpreter.proofs.scratch.Scratch.TheSendSync as scratch
 use Rattle.piece.specs.contracts.cells.LookedCells as LookedCells
+use Rattle.board.proofs.seat.BoardSeat.TheSendSync as seat
 use Rattle.crew.specs.contracts.values.Desk as Desk
-use Rattle.crew.specs.contracts.running.work_both.{P-row}
+use Rattle.crew.specs.contracts.workers.Worker as Worker
+use Rattle.crew.specs.contracts.workers.work_all.{P-row}
 
 expr_field_sync : IsSync (Expr.the_field).row
 expr_field_sync = search (
@@ -112,12 +110,9 @@ desk_send κ = search (sendable, crosses, scratch.the_send, looked_field_send) d
 pub desk_field_send : (κ : NamedLft) → IsSend (Desk.the_field κ).row
 desk_field_send κ = search (sendable, crosses, scratch.the_send, looked_field_send) depth 40 fits 100000
 
--- six values together
-pub six_send : (name : List ℕ) (a b c d e f : RattleType) → IsSend a → IsSend b → IsSend c → IsSend d → IsSend e → IsSend f → IsSend (TupleAt name (a ∷ b ∷ c ∷ d ∷ e ∷ f ∷ []))
-six_send name a b c d e f sa sb sc sd se sf =
-    declared_send (type_at name (a ∷ b ∷ c ∷ d ∷ e ∷ f ∷ []))
-    (as_row_send (row_field a) sa, (as_row_send (row_field b) sb, (as_row_send (row_field c) sc, (as_row_send (row_field d) sd, (as_row_send (row_field e) se, (as_row_send (row_field f) sf, tt))))))
+pub worker_send : (κ : NamedLft) → IsSend (Worker.the_row κ)
+worker_send κ = search (sendable, crosses, seat.the_send, desk_field_send) depth 40 fits 100000
 
 -- as a value of a type parameter
-pub as_parameter : (a b c : RattleType) → IsSync b → IsSync (P-row a b c)
-as_parameter a b c y = search (sendable, crosses, y) depth 20
+pub as_parameter : (a b c d : RattleType) → IsSync b → IsSync (P-row a b c d)
+as_parameter a b c d y = search (sendable, crosses, y) depth 20

@@ -1,3 +1,4 @@
 pub mod Opening
 pub mod Private
 pub mod Refusals
+pub mod Workers

@@ -13,7 +13,7 @@ use Rattle.plan.specs.Plan.{Group, Plan}
 use Rattle.plan.specs.Certificate.Certificate.{Certificate}
 use Rattle.plan.specs.Certificate.Cells.{grid_point, pieces}
 use Rattle.headline.specs.Work.{looked_value, needed_pieces, of_piece}
-use Rattle.checked_plan.specs.Ready.Ready.{first_constant}
+use Rattle.checked_plan.specs.Ready.Ready.{high_end, low_end}
 use Rattle.checked_plan.specs.declared.checked.Checked.{Checked}
 use Rattle.checked_plan.specs.View.{algorithm_checked, plan_checked, certificate_checked}
 use Rattle.board.specs.Layout.{Layout, own_of, pieces_of, value_at}
@@ -25,6 +25,7 @@ use Rattle.interpreter.specs.declared.scratch.Scratch.{Scratch}
 use Rattle.piece.specs.Looked.{cells_of_piece, numbers_of_piece}
 use Rattle.piece.specs.declared.cells.LookedCells.{LookedCells}
 use Rattle.piece.specs.Places.Places.{IsPlaceOf}
+use Rattle.crew.specs.Opening.Layouts.{layout_of}
 
 -- ---- what a piece fetches and needs
 
@@ -83,21 +84,20 @@ pub record HasRoom (x : Checked) (count : ℕ) (l : LookedCells) : Type 0 where
 
 -- the ends of a span are i32 values
 pub record HasIndexEnds (x : Span1) : Type 0 where
-  pub low : IsOf I32 (first_constant x.lower)
-  pub high : IsOf I32 (first_constant x.upper)
+  pub low : IsOf I32 (low_end x)
+  pub high : IsOf I32 (high_end x)
 
 -- all cells' coordinates are i32 values
 abbrev pub HaveIndices : List Group → Type 0
 HaveIndices gs = AllByRecursion (λ g. AllByRecursion HasIndexEnds g.region) gs
 
--- all grid points have at most four coordinates
-abbrev pub AreShort : List Group → Type 0
-AreShort gs = AllByRecursion (λ g. length g.grid ≤ 4) gs
-
--- grids are short, and where pieces fetch cells, at most so many, all cells' coordinates are i32 values, so that their values
--- are told by their bits
+-- where pieces fetch cells, at most so many, all cells' coordinates are i32 values, so that their values are told by their bits
 abbrev pub IsRunnable : List Group → ℕ → Type 0
-IsRunnable gs most = AreShort gs × ((most ≡ 0) ⊎ HaveIndices gs)
+IsRunnable gs most = (most ≡ 0) ⊎ HaveIndices gs
+
+-- of a checked plan: no piece fetches a cell, or all cells' coordinates are i32 values
+abbrev pub IsForWorkers : Checked → Type 0
+IsForWorkers x = IsMostFetched x (pieces_of (layout_of x)) 0 ⊎ HaveIndices (plan_checked x).groups
 
 -- ---- what pieces give
 
@@ -108,7 +108,6 @@ pub record GivesValues (layout : Layout) (values : List ℤ) (a : Algorithm) (p 
   pub all : length (pieces p) ≡ pieces_of layout
   pub needs : (j : ℕ) → j < pieces_of layout → (m : ℕ) → Contains (needs_in p c j) m → m < pieces_of layout
   pub fetched : (j : ℕ) → j < pieces_of layout → (n : ℕ) → Contains (numbers_of_piece p j) n → IsOwnOf layout (needs_in p c j) n
-  pub short : (n : ℕ) (g : Group) → slice_get p.groups n ≡ Some g → length g.grid ≤ 4
   pub narrow : (j n k : ℕ) (at : IsPlaceOf p.groups j n k) → PieceIsNarrow c n at.g (grid_point at.g.grid k)
   pub gives : (j n k : ℕ) (at : IsPlaceOf p.groups j n k) → j < pieces_of layout →
       piece_gives p c picture.samples (told_by a p j (words_at values (numbers_of_piece p j))) n (grid_point at.g.grid k) ≡ Some (map (value_at values) (own_of layout j))

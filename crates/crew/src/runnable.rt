@@ -4,15 +4,15 @@ ghost use Rattle.std.specs.Prelude.{◌≡◌, ◌≤◌, IsTrue, length, map};
 ghost use Rattle.std.specs.List.{AllByRecursion};
 ghost use Rattle.crew.specs.Opening.Layouts.{layout_of};
 ghost use Rattle.board.specs.Layout.{pieces_of};
-ghost use Rattle.crew.specs.Private.{AreShort, HasIndexEnds, HaveIndices, IsMostFetched, IsMostOwn, IsRunnable};
+ghost use Rattle.crew.specs.Private.{HasIndexEnds, HaveIndices, IsForWorkers, IsMostFetched, IsMostOwn, IsRunnable};
 ghost use Rattle.plan.specs.View.{group_of, plan_of};
 ghost use Rattle.numeric.specs.Wrap.{IsOf};
 ghost use Rattle.numeric.specs.declared.ty.Ty.TheVariants.{I32};
-ghost use Rattle.checked_plan.specs.Ready.Ready.{first_constant};
 
 use crate::opening::laws::own_is_of_work;
 use checked_plan::Checked;
-use lin::{Forms, Span1};
+use checked_plan::output::{high_end, low_end};
+use lin::Span1;
 use numeric::{Ty, wrap};
 use plan::{Group, Plan};
 
@@ -52,15 +52,11 @@ pub(crate) fn most_fetched(checked: &Checked<'_>) -> usize
     most
 }
 
-/// Whether the constant of the first form is an `i32`, as is 0 where there is none.
-fn is_index(forms: &Forms) -> bool
-    ensures { IsTrue result → IsOf I32 (first_constant forms.now) }
+/// Whether a number is an `i32`.
+fn is_index(number: i64) -> bool
+    ensures { IsTrue result → IsOf I32 number }
 {
-    let constant = match forms.as_slice() {
-        [] => 0,
-        [form, ..] => form.constant(),
-    };
-    wrap(Ty::I32, constant) == constant
+    wrap(Ty::I32, number) == number
 }
 
 /// Whether the ends of spans are `i32` values.
@@ -70,7 +66,7 @@ fn have_index_ends(region: &[Span1]) -> bool
     match region {
         [] => true,
         [span, rest @ ..] => {
-            is_index(&span.lower) && is_index(&span.upper) && have_index_ends(rest)
+            is_index(low_end(span)) && is_index(high_end(span)) && have_index_ends(rest)
         }
     }
 }
@@ -85,24 +81,22 @@ fn have_indices(groups: &[Group]) -> bool
     }
 }
 
-/// Whether the groups' grid points have at most four coordinates.
-fn are_short(groups: &[Group]) -> bool
-    ensures { IsTrue result → AreShort (map group_of groups.now) }
-{
-    match groups {
-        [] => true,
-        [group, rest @ ..] => group.grid.as_slice().len() <= 4 && are_short(rest),
-    }
-}
-
-/// Whether workers can run a plan's pieces, which fetch so many cells at most. No piece has a grid point of more than
-/// four coordinates; and where cells are fetched all cells' coordinates are `i32` values, for only then is a cell's value
-/// told by its 32 bits.
+/// Whether workers can run a plan's pieces, which fetch so many cells at most: where cells are fetched all cells'
+/// coordinates are `i32` values, for only then is a cell's value told by its 32 bits.
 ///
 /// The time is linear in the groups.
 pub(crate) fn is_runnable(plan: &Plan, most: usize) -> bool
     ensures { IsTrue result → IsRunnable (plan_of plan.now).groups most }
 {
-    let groups = plan.groups.as_slice();
-    are_short(groups) && (most == 0 || have_indices(groups))
+    most == 0 || have_indices(plan.groups.as_slice())
+}
+
+/// Whether workers can run a checked plan's pieces: a cell is told to a worker by 32 bits of its value, and these tell the value
+/// where no piece fetches a cell, or all cells' coordinates are `i32` values. `run` starts no worker where they cannot.
+///
+/// The time is linear in the groups and the pieces. It takes no memory.
+pub fn can_run(checked: &Checked<'_>) -> bool
+    ensures { IsTrue result → IsForWorkers checked.now }
+{
+    is_runnable(checked.plan(), most_fetched(checked))
 }

@@ -9,10 +9,10 @@ ghost use Rattle.interpreter.specs.declared.scratch.Scratch.{Scratch as RunMemor
 use algo::Inputs;
 use board::Run;
 use checked_plan::Checked;
-use interpreter::{Cells, Scratch, run_piece_in};
+use interpreter::{Cells, Scratch};
 use numeric::wrap;
-use piece::LookedCells;
-use piece::places::{grid_point, place_of};
+use piece::places::place_of;
+use piece::{LookedCells, run_in};
 use std::alloc::{AllocError, Global};
 use tree::Value;
 
@@ -133,25 +133,19 @@ impl<J: Run> PrivateRuns<J> for Pieces<'_> {
     }
 
     fn run(&self, alloc: Global, desk: &mut Desk<'_>, piece: u32) -> usize {
-        let plan = self.checked.plan();
-        let cert = self.checked.cert();
-        let place = place_of(plan, piece);
-        let grid = plan.groups[place.group].grid.as_slice();
-        let at = grid_point(alloc, grid, place.rank);
+        let place = place_of(self.checked.plan(), piece);
         let scratch = &mut desk.scratches[place.group];
-        let image = self.inputs.image();
         let cells = Told {
             looked: &desk.looked,
         };
-        let Ok(()) = run_piece_in(
+        let Ok(()) = run_in(
             alloc,
             scratch,
-            plan,
-            cert,
-            image,
+            self.checked,
+            self.inputs,
             &cells,
-            place.group,
-            at.as_slice(),
+            piece,
+            place,
         ) else {
             unreachable!()
         };

@@ -4,8 +4,9 @@ ghost use Rattle.std.specs.Prelude.{◌≡◌, ◌<◌, ◌≤◌, ℕ, true, le
 ghost use Rattle.board.specs.Layout.{own_of, pieces_of, value_at};
 ghost use Rattle.board.specs.Seats.{seeing, IsKnownCell, IsTicketOf, Task};
 ghost use Rattle.board.specs.Views.{completed, knowing, IsIdle, Knows};
-ghost use Rattle.crew.specs.Private.{words_at, HasRoom};
+ghost use Rattle.crew.specs.Private.{needs_of, words_at, HasRoom};
 
+use crate::gate::Gate;
 use crate::values::{Desk, PrivateRuns};
 use board::{Board, BoardSeat, Run, Ticket};
 use crossbeam_utils::Backoff;
@@ -84,15 +85,43 @@ fn complete<J: Run>(board: &Board<J>, seat: &mut BoardSeat, mut ticket: Ticket, 
     board.finish(seat, ticket);
 }
 
-/// Draws pieces until all are drawn. Of each it waits for the pieces that it needs, looks at the cells that it fetches,
-/// computes it at the desk, puts its own cells and finishes it. It takes no memory.
-pub(crate) fn work<J: Run, P: PrivateRuns<J>, R: Wait>(
+/// Looks at the cells that the ticket's piece fetches, where all pieces that it needs are known, computes it at the desk, puts
+/// its own cells and finishes it. It waits for nobody, and takes no memory.
+fn fill<J: Run, P: PrivateRuns<J>>(
+    alloc: Global,
+    board: &Board<J>,
+    seat: &mut BoardSeat,
+    ticket: Ticket,
+    runs: &P,
+    desk: &mut Desk<'_>,
+)
+    requires runs { P.gives runs.now }
+    requires scratches { P.suffices runs.now desk.old.scratches.items }
+    requires room { HasRoom (P.plan runs.now) (pieces_of J.layout) desk.old.looked }
+    requires board { seat.old.board ≡ board.now }
+    requires ticket { IsTicketOf J.layout seat.old.view ticket }
+    requires fresh { ticket.puts ≡ 0 }
+    requires known { (j : ℕ) → Contains (needs_of (P.plan runs.now) ticket.piece) j → Knows seat.old.view j }
+    ensures seat { seat.new ≡ seeing seat.old (completed seat.old.view ticket.piece (length (own_of J.layout ticket.piece))) }
+    ensures scratches { P.suffices runs.now desk.new.scratches.items }
+    ensures room { HasRoom (P.plan runs.now) (pieces_of J.layout) desk.new.looked }
+{
+    let piece = ticket.piece();
+    look_at(board, seat, &mut desk.looked, piece, runs.fetched(piece));
+    let group = runs.run(alloc, desk, piece);
+    complete(board, seat, ticket, desk.given(group));
+}
+
+/// Draws pieces until all are drawn. Of each it tells the gate, waits for the pieces that it needs, looks at the cells that it
+/// fetches, computes it at the desk, puts its own cells, finishes it, and tells the gate. It takes no memory.
+pub(crate) fn work<J: Run, P: PrivateRuns<J>, R: Wait, G: Gate>(
     rt: &R,
     alloc: Global,
     board: &Board<J>,
     seat: &mut BoardSeat,
     runs: &P,
     desk: &mut Desk<'_>,
+    gate: &G,
 )
     requires runs { P.gives runs.now }
     requires scratches { P.suffices runs.now desk.old.scratches.items }
@@ -102,12 +131,14 @@ pub(crate) fn work<J: Run, P: PrivateRuns<J>, R: Wait>(
     ensures board { seat.new.board ≡ seat.old.board }
     ensures idle { IsIdle seat.new.view }
     ensures all_drawn { seat.new.view.none_left ≡ true }
+    ensures scratches { P.suffices runs.now desk.new.scratches.items }
+    ensures room { HasRoom (P.plan runs.now) (pieces_of J.layout) desk.new.looked }
 {
     while let Some(ticket) = board.draw(seat) {
         let piece = ticket.piece();
+        gate.enter(piece);
         wait_for_all(rt, board, seat, runs.needs(piece));
-        look_at(board, seat, &mut desk.looked, piece, runs.fetched(piece));
-        let group = runs.run(alloc, desk, piece);
-        complete(board, seat, ticket, desk.given(group));
+        fill(alloc, board, seat, ticket, runs, desk);
+        gate.leave(piece);
     }
 }

@@ -68,22 +68,22 @@ on_ok (Ok x) P Q f h = f h
 on_ok (Err e) P Q f h = tt
 
 -- what is bound behind the others goes away with them
-pub kept : (old new : Bindings) → Extends old new → record { grid = new.grid; bound = take (length old.bound) new.bound; room = new.room } ≡ old
-kept old new x = λ j. record { grid = x.grid j; bound = (ap (take (length old.bound)) x.bound ∙ take-append_seam old.bound x.more) j; room = x.room j }
+pub kept : (old new : Bindings) → Extends old new → record { grid = new.grid; bound = take (length old.bound) new.bound; grid_room = new.grid_room; room = new.room } ≡ old
+kept old new x = λ j. record { grid = x.grid j; bound = (ap (take (length old.bound)) x.bound ∙ take-append_seam old.bound x.more) j; grid_room = x.grid_room j; room = x.room j }
 
 pub extends_same : (x : Bindings) → Extends x x
-extends_same x = record { grid = refl; more = []; bound = sym (append-nil x.bound); room = refl }
+extends_same x = record { grid = refl; more = []; bound = sym (append-nil x.bound); grid_room = refl; room = refl }
 
 pub extends_both : (x y z : Bindings) → Extends x y → Extends y z → Extends x z
-extends_both x y z h k = record { grid = k.grid ∙ h.grid; more = h.more ++ k.more; bound = k.bound ∙ ap (λ (l : List Binding). l ++ k.more) h.bound ∙ append_assoc x.bound h.more k.more; room = k.room ∙ h.room }
+extends_both x y z h k = record { grid = k.grid ∙ h.grid; more = h.more ++ k.more; bound = k.bound ∙ ap (λ (l : List Binding). l ++ k.more) h.bound ∙ append_assoc x.bound h.more k.more; grid_room = k.grid_room ∙ h.grid_room; room = k.room ∙ h.room }
 
 pub extends_also : (old new : Bindings) (b : Binding) → new ≡ also old b → Extends old new
-extends_also old new b e = record { grid = ap (λ (x : Bindings). x.grid) e; more = b ∷ []; bound = ap (λ (x : Bindings). x.bound) e; room = ap (λ (x : Bindings). x.room) e }
+extends_also old new b e = record { grid = ap (λ (x : Bindings). x.grid) e; more = b ∷ []; bound = ap (λ (x : Bindings). x.bound) e; grid_room = ap (λ (x : Bindings). x.grid_room) e; room = ap (λ (x : Bindings). x.room) e }
 
 -- the symbols where one more is bound
 pub bound_now : (old new : Bindings) (b : Binding) (i : ℕ) (z : ℤ) (f : Bool) → new ≡ also old b → b ≡ record { symbol = i; value = z; first = f } → symbols_of new ≡ bind (symbols_of old) i z f
 bound_now old new b i z f is e = ap symbols_of is ∙ bind_all-push (grid_symbols old.grid) old.bound b ∙ ap (λ (x : Binding). bind (symbols_of old) x.symbol x.value x.first) e
 
 -- one more symbol bound, and forgotten again
-pub forgotten : (old now : Bindings) (b : Binding) (k : ℕ) → now ≡ also old b → k ≡ length old.bound → record { grid = now.grid; bound = take k now.bound; room = now.room } ≡ old
-forgotten old now b k is e = (λ j. record { grid = now.grid; bound = take (e j) now.bound; room = now.room }) ∙ kept old now (extends_also old now b is)
+pub forgotten : (old now : Bindings) (b : Binding) (k : ℕ) → now ≡ also old b → k ≡ length old.bound → record { grid = now.grid; bound = take k now.bound; grid_room = now.grid_room; room = now.room } ≡ old
+forgotten old now b k is e = (λ j. record { grid = now.grid; bound = take (e j) now.bound; grid_room = now.grid_room; room = now.room }) ∙ kept old now (extends_also old now b is)

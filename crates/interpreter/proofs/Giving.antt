@@ -15,7 +15,7 @@ use Rattle.plan.specs.Semantics.Setting.{setting_of, around_of}
 use Rattle.headline.specs.Work.{numbers}
 use Rattle.interpreter.specs.Outcome.{group_gives, piece_gives}
 use Rattle.interpreter.specs.declared.evaluation.stop.Stop.{Stop}
-use Rattle.interpreter.specs.declared.evaluation.stop.Stop.TheVariants.{Fault, Memory as OutOfMemory}
+use Rattle.interpreter.specs.declared.evaluation.stop.Stop.TheVariants.{Fault, Full}
 use Rattle.interpreter.specs.Scratches.{GivesIn}
 use Rattle.interpreter.specs.States.{EndsIn, Overflows}
 use Rattle.interpreter.specs.Steps.{Progress, steps}
@@ -51,7 +51,7 @@ given_with (Some x) = refl
 pub ends_gives : (room : ℕ) (r : Result (Unit {0}) Stop) (x : Progress) (o : Option Progress) (whole : Option (List ℤ)) → whole ≡ given_of o → EndsIn room (λ (_ : Unit {0}). x) r o → GivesIn room r x.given whole
 ends_gives room (Ok a) x o whole is h = is ∙ ap given_of h
 ends_gives room (Err Fault) x o whole is h = is ∙ ap given_of h
-ends_gives room (Err OutOfMemory) x o whole is h = subst (λ (w : Option (List ℤ)). GivesIn {A = Unit {0}} room (Err OutOfMemory) x.given w) (sym is) (of o h)
+ends_gives room (Err Full) x o whole is h = subst (λ (w : Option (List ℤ)). GivesIn {A = Unit {0}} room (Err Full) x.given w) (sym is) (of o h)
   where
     of : (p : Option Progress) → Overflows room p → MatchOption (given_of p) ⊤ (λ v. room < length v)
     of None h = tt

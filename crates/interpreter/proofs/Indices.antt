@@ -1,7 +1,8 @@
 -- What is found of the indices of a call, read at a list.
-use Rattle.std.proofs.Common.{◌≡◌, ℕ, suc, ◌+◌, ◌<◌, List, [], ◌∷◌, ◌++◌, length, length-append, take, drop, get_or, drop-cons, refl, sym, ap, ◌∙◌, ℤ, Option, Some, None}
+use Rattle.std.proofs.Common.{◌≡◌, ℕ, suc, ◌+◌, ◌<◌, ◌≤◌, List, [], ◌∷◌, ◌++◌, length, length-append, take, drop, get_or, drop-cons, add-one, append_assoc, refl, sym, ap, ◌∙◌, ℤ, Option, Some, None}
+use Rattle.std.proofs.Math.Seq.{take-append_seam}
 use Rattle.std.specs.Prelude.{string_bytes}
-use Rattle.std.proofs.lemmas.List.{take_more, take-append-drop}
+use Rattle.std.proofs.lemmas.List.{take_more, take-append-drop, drop_all}
 use Rattle.plan.specs.Semantics.Found.{found, all_found, with}
 use Rattle.tree.specs.declared.token.span.Span.{Span}
 use Rattle.tree.specs.Term.{term_of, list_terms, indices}
@@ -9,6 +10,8 @@ use Rattle.tree.specs.declared.value.Value.{Value}
 use Rattle.tree.specs.declared.expr.Expr.{Expr}
 use Rattle.tree.specs.declared.expr.Cond.TheViews.{Call}
 use Rattle.tree.proofs.Rows.{term_of-call}
+use Rattle.interpreter.specs.Evaluation.Indices.{indices_in, indices_in_all}
+use Rattle.interpreter.specs.Rows.{Listed}
 
 -- one index and the others
 abbrev joined : Option Value → Option (List ℤ) → Option (List ℤ)
@@ -32,9 +35,45 @@ joined-both (Some x) None q = refl
 joined-both (Some x) (Some xs) None = refl
 joined-both (Some x) (Some xs) (Some ys) = refl
 
--- one number more
-pub longer : (zs made : List ℤ) (n : ℤ) (i : ℕ) → made ≡ zs ++ n ∷ [] → length zs ≡ i → length made ≡ i + 1
-longer zs made n i pushed long = ap length pushed ∙ length-append zs (n ∷ []) ∙ ap (λ k. k + 1) long
+-- ---- room for the indices of a call
+
+-- how many indices the calls have in the indices of a call from the i-th on, and those
+pub left : List Expr → ℕ → ℕ
+left at i = indices_in_all (indices (list_terms (drop i at)))
+
+pub left_all : (at : List Expr) → left at 0 ≡ indices_in_all (indices (list_terms at))
+unfolding left
+left_all at = refl
+
+pub left_none : (at : List Expr) (i : ℕ) → length at ≤ i → left at i ≡ 0
+unfolding left
+left_none at i le = ap (λ (l : List Expr). indices_in_all (indices (list_terms l))) (drop_all i at le)
+
+pub left_more : (at : List Expr) (i : ℕ) (e : Expr) → i < length at → e ≡ get_or at i e → left at i ≡ indices_in (term_of e) + left at (i + 1) + 1
+unfolding left
+left_more at i e lt is =
+    ap (λ (l : List Expr). indices_in_all (indices (list_terms l))) (drop-cons at i e lt ∙ ap (λ (x : Expr). x ∷ drop (suc i) at) (sym is))
+    ∙ ap (λ (n : ℕ). indices_in (term_of e) + indices_in_all (indices (list_terms (drop n at))) + 1) (sym (add-one i))
+
+pub room-call : (name : _) (at : _) (s : Span) → indices_in (term_of (Call name at s)) ≡ indices_in_all (indices (list_terms at.items))
+room-call name at s = ap indices_in (term_of-call name at s)
+
+-- behind what the list held, the numbers stand that were found
+pub record Behind (old new : Listed) (o : Option (List ℤ)) : Type 0 where
+  pub more : List ℤ
+  pub items : new.items ≡ old.items ++ more
+  pub room : new.room ≡ old.room
+  pub found : o ≡ Some more
+
+drop-append_seam : {A : Type 0} (xs ys : List A) → drop (length xs) (xs ++ ys) ≡ ys
+drop-append_seam [] ys = refl
+drop-append_seam (x ∷ xs) ys = drop-append_seam xs ys
+
+pub behind_front : (old new : Listed) (o : Option (List ℤ)) → Behind old new o → take (length old.items) new.items ≡ old.items
+behind_front old new o h = ap (take (length old.items)) h.items ∙ take-append_seam old.items h.more
+
+pub behind_back : (old new : Listed) (o : Option (List ℤ)) → Behind old new o → o ≡ Some (drop (length old.items) new.items)
+behind_back old new o h = h.found ∙ ap Some (sym (ap (drop (length old.items)) h.items ∙ drop-append_seam old.items h.more))
 
 module _ (variables : List ℕ → ℤ) (look : List ℕ → List ℤ → Option Value) where
   abbrev FoundOf : List Expr → Option (List ℤ)

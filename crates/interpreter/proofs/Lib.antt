@@ -1,6 +1,5 @@
 pub mod Indices
 pub mod Wrapping
-pub mod EvaluationShorts
 pub mod Places
 pub mod Blocks
 pub mod Bindings
@@ -16,3 +15,4 @@ pub mod Shorts
 pub mod Steps
 pub mod Storing
 pub mod Summing
+pub mod GridPoints

@@ -1,11 +1,12 @@
 -- What is done at each point of a region, by its last coordinate and by the others.
-use Rattle.std.proofs.Common.{◌≡◌, List, [], ◌∷◌, ◌++◌, map, Bool, true, false, refl, sym, ap, ◌∙◌, append_assoc, ℕ, ℤ}
+use Rattle.std.proofs.Common.{◌≡◌, zero, suc, ◌+◌, length, drop, add-one, List, [], ◌∷◌, ◌++◌, map, Bool, true, false, refl, sym, ap, ◌∙◌, append_assoc, ℕ, ℤ}
 use Rattle.std.specs.Prelude.{flat_map, filter, if◌then◌else◌}
 use Rattle.std.proofs.lemmas.List.{append-nil}
 use Rattle.lin.specs.declared.span.Span1.{Span1}
 use Rattle.plan.specs.Symbols.{Symbols, turns, points}
 use Rattle.plan.specs.Semantics.Actions.{Action, Take, Give}
-use Rattle.interpreter.specs.Visits.{extended}
+use Rattle.interpreter.specs.Rows.{Listed}
+use Rattle.interpreter.specs.Visits.{extended, KeepsFrom}
 
 flat_map-append : {X A : Type 0} (f : X → List A) (xs ys : List X) → flat_map f (xs ++ ys) ≡ flat_map f xs ++ flat_map f ys
 flat_map-append f [] ys = refl
@@ -50,3 +51,20 @@ module _ (s : Symbols) where
 
   pub published : (c : ℕ) (test : List ℤ → Bool) (xs : List Span1) → map (Give c) (filter test (points s xs)) ≡ flat_map (λ p. if test p then Give c p ∷ [] else []) (extended s xs [])
   published c test xs = ap (λ (ps : List (List ℤ)). map (Give c) (filter test ps)) (points-extended xs) ∙ sym (flat_map-filter (Give c) test (extended s xs []))
+
+-- ---- the coordinates of a point behind the n-th
+
+drop-suc : {A : Type 0} (n : ℕ) (xs : List A) → drop (suc n) xs ≡ drop 1 (drop n xs)
+drop-suc zero xs = refl
+drop-suc (suc n) [] = refl
+drop-suc (suc n) (x ∷ xs) = drop-suc n xs
+
+drop-next : {A : Type 0} (n : ℕ) (xs : List A) → drop (n + 1) xs ≡ drop 1 (drop n xs)
+drop-next n xs = ap (λ m. drop m xs) (add-one n) ∙ drop-suc n xs
+
+-- one was put in front of them, and what stands in front of it was changed
+pub keeps_more : (n : ℕ) (old now put new : Listed) (z : ℤ) → KeepsFrom (n + 1) old now → drop n put.items ≡ z ∷ drop (n + 1) now.items → length put.items ≡ length now.items → KeepsFrom n put new → KeepsFrom (n + 1) old new
+keeps_more n old now put new z before is count after = record {
+  from = drop-next n new.items ∙ ap (drop 1) (after.from ∙ is) ∙ before.from;
+  count = after.count ∙ count ∙ before.count;
+}

@@ -8,7 +8,7 @@ use Rattle.plan.specs.Semantics.Memory.{Memory, read, allot}
 use Rattle.plan.specs.Semantics.Run.{Around, act, outcome}
 use Rattle.headline.specs.Work.{numbers}
 use Rattle.interpreter.specs.declared.evaluation.stop.Stop.{Stop}
-use Rattle.interpreter.specs.declared.evaluation.stop.Stop.TheVariants.{Fault, Memory as OutOfMemory}
+use Rattle.interpreter.specs.declared.evaluation.stop.Stop.TheVariants.{Fault, Full}
 use Rattle.interpreter.specs.States.{EndsIn, Overflows}
 use Rattle.interpreter.specs.Steps.{Progress, step, steps}
 
@@ -97,4 +97,4 @@ overflows_after around room xs (Some x) h = overflows_on around room xs x.memory
 pub stops_in : (around : Around) (room : ℕ) (x y : Progress) (e : Stop) (o : Option Progress) (xs : List Action) (t : Option Progress) → t ≡ with o (steps around xs)
     → EndsIn room (λ (_ : Unit {0}). x) (Err e) o → EndsIn room (λ (_ : Unit {0}). y) (Err e) t
 stops_in around room x y Fault o xs t is h = is ∙ ap (λ p. with p (steps around xs)) h
-stops_in around room x y OutOfMemory o xs t is h = subst (Overflows room) (sym is) (overflows_after around room xs o h)
+stops_in around room x y Full o xs t is h = subst (Overflows room) (sym is) (overflows_after around room xs o h)

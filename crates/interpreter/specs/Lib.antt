@@ -7,6 +7,7 @@ pub mod Needs
 pub mod Outcome
 pub mod Pieces
 pub mod Raster
+pub mod Rows
 pub mod Scratches
 pub mod Sizes
 pub mod States

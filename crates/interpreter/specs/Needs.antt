@@ -1,11 +1,12 @@
--- What a run needs: memory for its buffers, room for the symbols that it binds, and points of at most four coordinates.
-use Rattle.std.specs.Prelude.{◌≡◌, ℕ, ◌+◌, ◌*◌, ◌≤◌, ◌<◌, List, [], ◌∷◌, ◌++◌, length, All, Option, ⊤, MatchOption}
+-- What a run needs: memory for its buffers, and room for the symbols that it binds, for points and for the indices of calls.
+use Rattle.std.specs.Prelude.{◌≡◌, ℕ, ◌+◌, ◌*◌, ◌≤◌, ◌<◌, List, [], ◌∷◌, ◌++◌, length, Option, Some, None, ⊤}
+use Rattle.lin.specs.declared.span.Span1.{Span1}
 use Rattle.plan.specs.declared.stmt.Places.{Places}
 use Rattle.plan.specs.declared.stmt.Places.TheVariants.{From, Folded}
-use Rattle.plan.specs.Plan.{Index, At, Found, Statement, Seq, For, Let, First, Guard, Alloc, Fetch, Store, Publish, Statements, Empty, Then, Group}
+use Rattle.plan.specs.Plan.{Index, At, Found, Coordinate, Statement, Seq, For, Let, First, Guard, Alloc, Fetch, Store, Publish, Statements, Empty, Then, Group}
 use Rattle.plan.specs.Certificate.Certificate.{Certificate}
 use Rattle.plan.specs.Certificate.Cells.{own_region}
-use Rattle.interpreter.specs.Evaluation.Short.{IsShort}
+use Rattle.interpreter.specs.Evaluation.Indices.{indices_in}
 use Rattle.interpreter.specs.Buffers.Blocks.{HasMemoryFor}
 use Rattle.interpreter.specs.declared.buffers.limit.Limit.{Limit}
 
@@ -71,11 +72,63 @@ abbrev mutual
 
 -- ---- points
 
-abbrev pub IndexIsShort : Index → Type 0
-IndexIsShort (At l) = Unit {0}
-IndexIsShort (Found e) = IsShort e
+-- how many coordinates the points have at which a statement fetches or stores, all counted
+abbrev mutual
+  pub coordinate_count : Statement → ℕ
+  coordinate_count (Seq all) = block_coordinate_count all
+  coordinate_count (For i x kind body) = coordinate_count body
+  coordinate_count (Let i pick forms) = 0
+  coordinate_count (First i a b) = coordinate_count a + coordinate_count b
+  coordinate_count (Guard low high body) = coordinate_count body
+  coordinate_count (Alloc b f places) = 0
+  coordinate_count (Fetch b g region) = length region
+  coordinate_count (Store b k at e) = length at
+  coordinate_count (Publish c) = 0
 
--- no point of a statement, and no call in its expressions, has more than four coordinates
+  pub block_coordinate_count : Statements → ℕ
+  block_coordinate_count Empty = 0
+  block_coordinate_count (Then a rest) = coordinate_count a + block_coordinate_count rest
+
+-- how many coordinates a region has that may be there
+abbrev pub region_count : Option (List Span1) → ℕ
+region_count None = 0
+region_count (Some r) = length r
+
+-- how many coordinates the cells have that the pieces of the group of this number own
+abbrev pub own_count : Certificate → ℕ → ℕ
+own_count c number = region_count (own_region c.own number)
+
+-- ---- calls
+
+-- how many indices the calls have that find a coordinate, and those that find some
+abbrev pub found_indices : Index → ℕ
+found_indices (At l) = 0
+found_indices (Found e) = indices_in e
+
+abbrev pub coordinate_indices : List Coordinate → ℕ
+coordinate_indices [] = 0
+coordinate_indices (c ∷ cs) = found_indices c.index + coordinate_indices cs
+
+-- how many indices the calls of a statement have, all counted
+abbrev mutual
+  pub call_indices : Statement → ℕ
+  call_indices (Seq all) = block_call_indices all
+  call_indices (For i x kind body) = call_indices body
+  call_indices (Let i pick forms) = 0
+  call_indices (First i a b) = call_indices a + call_indices b
+  call_indices (Guard low high body) = call_indices body
+  call_indices (Alloc b f places) = 0
+  call_indices (Fetch b g region) = 0
+  call_indices (Store b k at e) = coordinate_indices at + indices_in e
+  call_indices (Publish c) = 0
+
+  pub block_call_indices : Statements → ℕ
+  block_call_indices Empty = 0
+  block_call_indices (Then a rest) = call_indices a + block_call_indices rest
+
+-- ---- buffers of few coordinates
+
+-- no buffer has more than four coordinates
 abbrev mutual
   pub StatementIsShort : Statement → Type 0
   StatementIsShort (Seq all) = BlockIsShort all
@@ -84,23 +137,27 @@ abbrev mutual
   StatementIsShort (First i a b) = StatementIsShort a × StatementIsShort b
   StatementIsShort (Guard low high body) = StatementIsShort body
   StatementIsShort (Alloc b f places) = length places ≤ 4
-  StatementIsShort (Fetch b g region) = length region ≤ 4
-  StatementIsShort (Store b k at e) = (length at ≤ 4) × All (λ c. IndexIsShort c.index) at × IsShort e
+  StatementIsShort (Fetch b g region) = Unit {0}
+  StatementIsShort (Store b k at e) = Unit {0}
   StatementIsShort (Publish c) = Unit {0}
 
   pub BlockIsShort : Statements → Type 0
   BlockIsShort Empty = Unit {0}
   BlockIsShort (Then a rest) = StatementIsShort a × BlockIsShort rest
 
--- nor has a point of the group's own region
-abbrev pub OwnIsShort : Certificate → ℕ → Type 0
-OwnIsShort c number = MatchOption (own_region c.own number) (Unit {0}) (λ r. length r ≤ 4)
-
 -- ---- all of it
 
--- A statement fits where buffers have memory up to these limits, so many symbols can be bound, and so many are bound before
--- it: each buffer that it allocates has the memory, each symbol that it binds has room, and points have few coordinates.
-module _ (limits : List Limit) (room : ℕ) where
+-- the memory of a run: the limits of its buffers, and how many numbers its lists have room for
+pub record Space : Type 0 where
+  pub limits : List Limit
+  pub numbers : ℕ
+  pub point : ℕ
+  pub stack : ℕ
+
+-- A statement of a group whose pieces own cells of so many coordinates fits into this memory, where so many symbols can be bound,
+-- and so many are bound before it: each buffer that it allocates has the memory, each symbol that it binds has room, and so have
+-- its points and the indices of its calls.
+module _ (own : ℕ) (space : Space) (room : ℕ) where
   abbrev mutual
     pub StatementFits : Statement → ℕ → Type 0
     StatementFits (Seq all) n = BlockFits all n
@@ -108,10 +165,10 @@ module _ (limits : List Limit) (room : ℕ) where
     StatementFits (Let i pick forms) n = Unit {0}
     StatementFits (First i a b) n = StatementFits a n × StatementFits b n
     StatementFits (Guard low high body) n = StatementFits body n
-    StatementFits (Alloc b f places) n = (length places ≤ 4) × HasMemoryFor limits b (places_in places)
-    StatementFits (Fetch b g region) n = length region ≤ 4
-    StatementFits (Store b k at e) n = (length at ≤ 4) × All (λ c. IndexIsShort c.index) at × IsShort e
-    StatementFits (Publish c) n = Unit {0}
+    StatementFits (Alloc b f places) n = (length places ≤ 4) × HasMemoryFor space.limits b (places_in places)
+    StatementFits (Fetch b g region) n = length region ≤ space.point
+    StatementFits (Store b k at e) n = (length at ≤ space.numbers) × (length at ≤ space.point) × (coordinate_indices at + indices_in e ≤ space.stack)
+    StatementFits (Publish c) n = own ≤ space.point
 
     pub BlockFits : Statements → ℕ → Type 0
     BlockFits Empty n = Unit {0}

@@ -14,7 +14,7 @@ use Rattle.plan.specs.Semantics.Setting.{allocated, dimensions_in, setting_of, a
 use Rattle.interpreter.specs.Buffers.Blocks.{Block, memory_of}
 use Rattle.interpreter.specs.Narrow.{OwnIsNarrow, FormsAreNarrow}
 use Rattle.interpreter.specs.Bindings.{symbols_of}
-use Rattle.interpreter.specs.Needs.{OwnIsShort}
+use Rattle.interpreter.specs.Needs.{own_count}
 use Rattle.interpreter.specs.Sizes.{size_in}
 use Rattle.interpreter.specs.declared.piece.Piece.{Piece}
 
@@ -24,12 +24,14 @@ around x cell = around_of (plan_of x.plan.now) (certificate_of x.cert.now) (imag
 abbrev pub setting : Piece → Setting
 setting x = setting_of (plan_of x.plan.now) (certificate_of x.cert.now) x.number (group_of x.group.now)
 
--- the piece knows how many coordinates each of its buffers has, no symbol is bound among its constants, and the points of
--- its own region have few coordinates
+-- the piece knows how many coordinates each of its buffers has, and no symbol is bound among its constants
 pub record IsReady (x : Piece) : Type 0 where
   pub sizes : (b : ℕ) → size_in x.sizes.now b ≡ dimensions_in (allocated (statement_of x.group.now.body) b)
   pub constants : symbols_of x.constants.now ≡ no_symbols
-  pub own : OwnIsShort (certificate_of x.cert.now) x.number
+
+-- how many coordinates its own cells have
+abbrev pub own_of : Piece → ℕ
+own_of x = own_count (certificate_of x.cert.now) x.number
 
 -- where lines publish, the own region and the group's are narrow
 abbrev pub OwnIsSmall : Piece → Symbols → Type 0

@@ -3,9 +3,10 @@ use Rattle.std.specs.Prelude.{◌≡◌, ℕ, ◌<◌, List, length, ℤ, Result
 use Rattle.tree.specs.declared.value.Value.{Value}
 use Rattle.plan.specs.Semantics.Found.{with}
 use Rattle.plan.specs.Semantics.Memory.{write}
-use Rattle.interpreter.specs.declared.evaluation.stop.Stop.TheVariants.{Fault, Memory}
+use Rattle.interpreter.specs.declared.evaluation.stop.Stop.TheVariants.{Fault, Full}
 use Rattle.interpreter.specs.declared.evaluation.stop.Stop.{Stop}
 use Rattle.interpreter.specs.Buffers.Blocks.{limits_of, memory_of}
+use Rattle.interpreter.specs.Needs.{Space}
 use Rattle.interpreter.specs.Steps.{Progress}
 use Rattle.interpreter.specs.declared.state.State.{State}
 
@@ -17,16 +18,20 @@ abbrev pub Overflows : ℕ → Option Progress → Type 0
 Overflows room None = ⊤
 Overflows room (Some x) = room < length x.given
 
--- An answer says this progress, a fault that there is none. Where there is room for so many numbers, memory runs out only in
--- a run that gives more.
+-- An answer says this progress, a fault that there is none. Where there is room for so many numbers, it is full only in a run
+-- that gives more.
 abbrev pub EndsIn : {A : Type 0} → ℕ → (A → Progress) → Result A Stop → Option Progress → Type 0
 EndsIn room says (Ok a) whole = whole ≡ Some (says a)
 EndsIn room says (Err Fault) whole = whole ≡ None
-EndsIn room says (Err Memory) whole = Overflows room whole
+EndsIn room says (Err Full) whole = Overflows room whole
 
--- the memory is for the same buffers and as many numbers
+-- the memory of a state
+abbrev pub space_of : State → Space
+space_of x = record { limits = limits_of x.memory; numbers = x.numbers.room; point = x.point.room; stack = x.stack.room }
+
+-- the memory is as much, and for as many numbers that are given
 pub record IsAsLarge (old new : State) : Type 0 where
-  pub limits : limits_of new.memory ≡ limits_of old.memory
+  pub space : space_of new ≡ space_of old
   pub given : new.given.capacity ≡ old.given.capacity
 
 -- the place of a point is set, and nothing else; a fault where it has none

@@ -1,11 +1,12 @@
 -- What is done at each point of a region.
-use Rattle.std.specs.Prelude.{List, [], ◌∷◌, ℤ, pos, ◌+ℤ◌, ◌-ℤ◌, flat_map, map, if◌then◌else◌}
+use Rattle.std.specs.Prelude.{◌≡◌, ℕ, List, [], ◌∷◌, drop, length, ℤ, pos, ◌+ℤ◌, ◌-ℤ◌, flat_map, map, if◌then◌else◌}
 use Rattle.lin.specs.declared.span.Span1.{Span1}
 use Rattle.plan.specs.Symbols.{Symbols, rising, clipped, turns}
 use Rattle.plan.specs.Certificate.Cells.{is_in_region}
 use Rattle.plan.specs.Semantics.Actions.{Action, Take, Give}
 use Rattle.interpreter.specs.Bindings.{symbols_of}
 use Rattle.interpreter.specs.Narrow.{RegionIsNarrow}
+use Rattle.interpreter.specs.Rows.{Listed}
 use Rattle.interpreter.specs.declared.piece.Piece.{Piece}
 use Rattle.interpreter.specs.declared.visits.Visit.{Visit}
 use Rattle.interpreter.specs.declared.visits.Visit.TheVariants.{Fetch, Publish}
@@ -23,6 +24,11 @@ extended s (x ∷ xs) p = flat_map (λ q. map (λ z. z ∷ q) (turns s x)) (exte
 abbrev pub at_point : Piece → Visit → List ℤ → List Action
 at_point x (Fetch b f) p = Take b f.now p ∷ []
 at_point x (Publish c) p = if is_in_region (symbols_of x.constants.now) x.group.now.region p then Give c p ∷ [] else []
+
+-- the coordinates of the point are as before from the n-th on, and as many
+pub record KeepsFrom (n : ℕ) (old new : Listed) : Type 0 where
+  pub from : drop n new.items ≡ drop n old.items
+  pub count : length new.items ≡ length old.items
 
 -- the forms that are asked of each point are narrow
 abbrev pub VisitIsNarrow : Piece → Visit → Type 0

@@ -1,12 +1,12 @@
 //! The value of an expression where a call may find nothing.
 
 mod evaluation;
+mod indices;
 mod operators;
 mod reader;
-mod short;
 mod stop;
 
 pub use evaluation::evaluate;
+pub use indices::indices_after;
 pub use reader::Reader;
-pub use short::is_short;
 pub use stop::Stop;

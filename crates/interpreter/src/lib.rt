@@ -9,6 +9,7 @@ mod loads;
 mod needs;
 mod piece;
 mod reading;
+mod row;
 mod run;
 mod scratch;
 mod sizes;
@@ -18,5 +19,6 @@ mod symbols;
 mod visits;
 
 pub use cells::Cells;
-pub use run::{Fault, run_piece, run_piece_in};
+pub use row::Row;
+pub use run::run_piece_in;
 pub use scratch::Scratch;

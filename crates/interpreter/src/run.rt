@@ -1,6 +1,6 @@
 //! The private run of a piece.
 
-ghost use Rattle.std.specs.Prelude.{◌≡◌, ◌+◌, ◌≤◌, ◌<◌, [], ℕ, ℤ, None, Some, length, map, Contains, flat_map, int_le, MatchOption, MatchResult, OnOk, slice_get};
+ghost use Rattle.std.specs.Prelude.{◌≡◌, ◌+◌, ◌≤◌, ◌<◌, [], ℕ, ℤ, None, Some, length, map, Contains, flat_map, int_le, MatchOption, OnOk, slice_get};
 ghost use Rattle.meaning.specs.Image.View.{image_of};
 ghost use Rattle.plan.specs.Lists.{list_statements};
 ghost use Rattle.plan.specs.Plan.{Fetch, Publish, block};
@@ -9,16 +9,14 @@ ghost use Rattle.plan.specs.View.{group_of, plan_of, statement_of};
 ghost use Rattle.plan.specs.Certificate.Certificate.{certificate_of};
 ghost use Rattle.plan.specs.Semantics.Actions.{actions, after, block_actions};
 ghost use Rattle.plan.specs.Semantics.Setting.{group_name};
-ghost use Rattle.plan.specs.Certificate.Cells.{own_region};
-ghost use Rattle.interpreter.specs.Buffers.Blocks.{limits_of};
-ghost use Rattle.interpreter.specs.Evaluation.Outcome.{Ends};
+ghost use Rattle.plan.specs.Certificate.Cells.{grid_point, group_pieces, own_region};
 ghost use Rattle.interpreter.specs.Bindings.{symbols_of, named_value, Extends};
 ghost use Rattle.interpreter.specs.Narrow.{BlockIsNarrow, FormsAreNarrow, PieceIsNarrow, RegionIsNarrow, SpanIsNarrow, StatementIsNarrow};
-ghost use Rattle.interpreter.specs.Outcome.{IsInput, piece_gives};
-ghost use Rattle.interpreter.specs.Pieces.{NamesAreNarrow, around, setting, IsReady, OwnIsSmall};
+ghost use Rattle.interpreter.specs.Outcome.{rank_gives, IsInput};
+ghost use Rattle.interpreter.specs.Pieces.{NamesAreNarrow, around, own_of, setting, IsReady, OwnIsSmall};
 ghost use Rattle.interpreter.specs.Needs.{name_count, BlockFits, IsLine, StatementFits};
 ghost use Rattle.interpreter.specs.Scratches.{room_of, GivesIn, IsAgain, IsScratchFor, Suffices};
-ghost use Rattle.interpreter.specs.States.{progress_of, EndsIn, IsAsLarge};
+ghost use Rattle.interpreter.specs.States.{progress_of, space_of, EndsIn, IsAsLarge};
 ghost use Rattle.interpreter.specs.Steps.{steps};
 ghost use Rattle.interpreter.specs.Visits.{between};
 
@@ -31,7 +29,7 @@ use crate::sizes::Size;
 use crate::state::State;
 use crate::store::{allot, store};
 use crate::symbols::{Binding, Symbols};
-use crate::visits::{Visit, Walk, visit_region};
+use crate::visits::{Visit, Walk, visit_points};
 use lin::{Forms, Region, Span1, Sym};
 use meaning::image::Image;
 use plan::certificate::{Cert, Own};
@@ -50,7 +48,6 @@ fn group_name(groups: &[Group], group: u64) -> &str
 
 /// Sets the cells of a region of another group in a buffer.
 fn fetch<'a, C: Cells>(
-    alloc: Global,
     piece: &'a Piece<'a>,
     cells: &C,
     buffer: u32,
@@ -60,7 +57,7 @@ fn fetch<'a, C: Cells>(
     state: &mut State,
 ) -> Result<(), Stop>
     requires narrow { RegionIsNarrow (symbols_of symbols.now) region.now }
-    requires short { length region.now ≤ 4 }
+    requires room { length region.now ≤ state.old.point.room }
     ensures large { OnOk result (IsAsLarge state.old state.new) }
     ensures run { EndsIn state.old.given.capacity (λ _. progress_of state.new) result (steps (around piece.now (C.cell cells.now)) (actions (setting piece.now) (Fetch buffer group region.now) (symbols_of symbols.now)) (progress_of state.old)) }
 {
@@ -72,7 +69,7 @@ fn fetch<'a, C: Cells>(
         },
         symbols,
     };
-    visit_region(alloc, &walk, cells, region.as_slice(), &[], state)
+    visit_points(&walk, cells, region.as_slice(), state)
 }
 
 /// The region that the pieces of a group own, if the certificate says it.
@@ -89,7 +86,6 @@ pub(crate) fn own_region(all: &[Own], group: usize) -> Option<&Region>
 
 /// Gives the values of the piece's own cells.
 fn publish<'a, C: Cells>(
-    alloc: Global,
     piece: &'a Piece<'a>,
     cells: &C,
     claim: u32,
@@ -98,6 +94,7 @@ fn publish<'a, C: Cells>(
 ) -> Result<(), Stop>
     requires ready { IsReady piece.now }
     requires narrow { OwnIsSmall piece.now (symbols_of symbols.now) }
+    requires room { own_of piece.now ≤ state.old.point.room }
     ensures large { OnOk result (IsAsLarge state.old state.new) }
     ensures run { EndsIn state.old.given.capacity (λ _. progress_of state.new) result (steps (around piece.now (C.cell cells.now)) (actions (setting piece.now) (Publish claim) (symbols_of symbols.now)) (progress_of state.old)) }
 {
@@ -109,7 +106,7 @@ fn publish<'a, C: Cells>(
         visit: Visit::Publish { claim },
         symbols,
     };
-    visit_region(alloc, &walk, cells, region.as_slice(), &[], state)
+    visit_points(&walk, cells, region.as_slice(), state)
 }
 
 /// The smallest or the largest of some forms.
@@ -192,7 +189,7 @@ fn run_turns<'a, C: Cells>(
     requires ready { IsReady piece.now }
     requires narrow { (z : ℤ) → Contains (between turns.low turns.high) z → StatementIsNarrow (OwnIsSmall piece.now) (statement_of body.now) (bind (symbols_of symbols.old) turns.symbol z (int_le z turns.low)) }
     requires room { length symbols.old.bound < symbols.old.room }
-    requires fits { StatementFits (limits_of state.old.memory) symbols.old.room (statement_of body.now) (length symbols.old.bound + 1) }
+    requires fits { StatementFits (own_of piece.now) (space_of state.old) symbols.old.room (statement_of body.now) (length symbols.old.bound + 1) }
     ensures run { EndsIn state.old.given.capacity (λ _. progress_of state.new) result (steps (around piece.now (C.cell cells.now)) (flat_map (λ z. actions (setting piece.now) (statement_of body.now) (bind (symbols_of symbols.old) turns.symbol z (int_le z turns.low))) (between turns.low turns.high)) (progress_of state.old)) }
     ensures symbols { OnOk result (symbols.new ≡ symbols.old) }
     ensures large { OnOk result (IsAsLarge state.old state.new) }
@@ -218,7 +215,7 @@ fn run_block<'a, C: Cells>(
 ) -> Result<(), Stop>
     requires ready { IsReady piece.now }
     requires narrow { BlockIsNarrow (OwnIsSmall piece.now) (block (list_statements all.now)) (symbols_of symbols.old) }
-    requires fits { BlockFits (limits_of state.old.memory) symbols.old.room (block (list_statements all.now)) (length symbols.old.bound) }
+    requires fits { BlockFits (own_of piece.now) (space_of state.old) symbols.old.room (block (list_statements all.now)) (length symbols.old.bound) }
     ensures run { EndsIn state.old.given.capacity (λ _. progress_of state.new) result (steps (around piece.now (C.cell cells.now)) (block_actions (setting piece.now) (block (list_statements all.now)) (symbols_of symbols.old)) (progress_of state.old)) }
     ensures symbols { OnOk result (symbols.new ≡ symbols.old) }
     ensures large { OnOk result (IsAsLarge state.old state.new) }
@@ -243,7 +240,7 @@ fn run_line<'a, C: Cells>(
 ) -> Result<(), Stop>
     requires ready { IsReady piece.now }
     requires narrow { StatementIsNarrow (OwnIsSmall piece.now) (statement_of stmt.now) (symbols_of symbols.old) }
-    requires fits { StatementFits (limits_of state.old.memory) symbols.old.room (statement_of stmt.now) (length symbols.old.bound) }
+    requires fits { StatementFits (own_of piece.now) (space_of state.old) symbols.old.room (statement_of stmt.now) (length symbols.old.bound) }
     requires line { IsLine (statement_of stmt.now) }
     ensures run { EndsIn state.old.given.capacity (λ _. progress_of state.new) result (steps (around piece.now (C.cell cells.now)) (actions (setting piece.now) (statement_of stmt.now) (symbols_of symbols.old)) (progress_of state.old)) }
     ensures symbols { OnOk result (symbols.new ≡ symbols.old) }
@@ -259,14 +256,14 @@ fn run_line<'a, C: Cells>(
             buffer,
             group,
             region,
-        } => fetch(alloc, piece, cells, *buffer, *group, region, symbols, state),
+        } => fetch(piece, cells, *buffer, *group, region, symbols, state),
         Stmt::Store {
             buffer,
             coordinates,
             value,
             ..
-        } => store(alloc, piece, *buffer, coordinates, value, symbols, state),
-        Stmt::Publish { claim } => publish(alloc, piece, cells, *claim, symbols, state),
+        } => store(piece, *buffer, coordinates, value, symbols, state),
+        Stmt::Publish { claim } => publish(piece, cells, *claim, symbols, state),
         Stmt::Seq(_) | Stmt::For { .. } | Stmt::First { .. } | Stmt::Guard { .. } => unreachable!(),
     }
 }
@@ -283,7 +280,7 @@ fn run<'a, C: Cells>(
 ) -> Result<(), Stop>
     requires ready { IsReady piece.now }
     requires narrow { StatementIsNarrow (OwnIsSmall piece.now) (statement_of stmt.now) (symbols_of symbols.old) }
-    requires fits { StatementFits (limits_of state.old.memory) symbols.old.room (statement_of stmt.now) (length symbols.old.bound) }
+    requires fits { StatementFits (own_of piece.now) (space_of state.old) symbols.old.room (statement_of stmt.now) (length symbols.old.bound) }
     ensures run { EndsIn state.old.given.capacity (λ _. progress_of state.new) result (steps (around piece.now (C.cell cells.now)) (actions (setting piece.now) (statement_of stmt.now) (symbols_of symbols.old)) (progress_of state.old)) }
     ensures symbols { OnOk result (symbols.new ≡ symbols.old) }
     ensures large { OnOk result (IsAsLarge state.old state.new) }
@@ -328,7 +325,7 @@ fn group_at(groups: &[Group], number: usize) -> Option<&Group>
     groups.get(number)
 }
 
-/// The run of the piece of the group of a number at a grid point, in this memory.
+/// The run of the piece of the group of a number that so many of the group's pieces come before, in this memory.
 fn run_group<'a, C: Cells>(
     alloc: Global,
     sizes: &'a [Size],
@@ -340,20 +337,20 @@ fn run_group<'a, C: Cells>(
     image: &'a Image,
     cells: &C,
     number: usize,
-    at: &[u32],
+    rank: u32,
 ) -> Result<(), Stop>
     requires input { IsInput (plan_of plan.now) (image_of image.now) }
-    requires narrow { MatchOption (slice_get (plan_of plan.now).groups number) ⊥ (λ g. PieceIsNarrow (certificate_of cert.now) number g at.now) }
-    requires memory { MatchOption (slice_get (plan_of plan.now).groups number) ⊥ (Suffices sizes.now constants.now symbols.old.room (limits_of state.old.memory) (certificate_of cert.now) number) }
-    requires few { length at.now ≤ 4 }
-    ensures gives { GivesIn state.old.given.capacity result state.new.given.items (piece_gives (plan_of plan.now) (certificate_of cert.now) (image_of image.now).samples (C.cell cells.now) number at.now) }
-    ensures symbols { OnOk result (symbols.new.room ≡ symbols.old.room) }
+    requires narrow { MatchOption (slice_get (plan_of plan.now).groups number) ⊥ (λ g. PieceIsNarrow (certificate_of cert.now) number g (grid_point g.grid rank)) }
+    requires memory { MatchOption (slice_get (plan_of plan.now).groups number) ⊥ (Suffices sizes.now constants.now symbols.old (space_of state.old) (certificate_of cert.now) number) }
+    requires inside { MatchOption (slice_get (plan_of plan.now).groups number) ⊥ (λ g. rank < group_pieces g) }
+    ensures gives { GivesIn state.old.given.capacity result state.new.given.items (rank_gives (plan_of plan.now) (certificate_of cert.now) (image_of image.now).samples (C.cell cells.now) number rank) }
+    ensures symbols { OnOk result ((symbols.new.grid_room ≡ symbols.old.grid_room) × (symbols.new.room ≡ symbols.old.room)) }
     ensures large { OnOk result (IsAsLarge state.old state.new) }
 {
     let Some(group) = group_at(&plan.groups, number) else {
         return Err(Stop::Fault);
     };
-    symbols.begin(at);
+    symbols.begin(group.grid.as_slice(), rank);
     state.memory.clear();
     state.given.clear();
     let piece = Piece {
@@ -368,18 +365,14 @@ fn run_group<'a, C: Cells>(
     run(alloc, &piece, cells, &group.body, symbols, state)
 }
 
-/// A run has a fault: something is read that is not there, or a place is written that a buffer does not have.
-#[derive(Clone, Copy, Debug, PartialEq, Eq, Drop)]
-pub struct Fault;
-
-/// The private run of the piece of a group at a grid point, in memory that was taken before. The numbers for its own
-/// cells, in their order, are then those that the scratch gives.
+/// The private run of a piece, in memory that was taken before. The numbers for its own cells, in their order, are then
+/// those that the scratch gives.
 ///
-/// `group` is the group's number and `at` the grid point. It takes no memory: a point has at most four coordinates, and
-/// lies in place.
+/// `group` is the number of the piece's group, and `rank` tells how many of the group's pieces come before it. It takes no
+/// memory.
 ///
 /// # Errors
-/// `Fault` where the run has a fault.
+/// `Fault` where the run has a fault. `Full` where it gives more numbers than the scratch has room for.
 pub fn run_piece_in<C: Cells>(
     alloc: Global,
     scratch: &mut Scratch,
@@ -388,17 +381,16 @@ pub fn run_piece_in<C: Cells>(
     image: &Image,
     cells: &C,
     group: usize,
-    at: &[u32],
-) -> Result<(), Fault>
+    rank: u32,
+) -> Result<(), Stop>
     requires input { IsInput (plan_of plan.now) (image_of image.now) }
-    requires narrow { MatchOption (slice_get (plan_of plan.now).groups group) ⊥ (λ g. PieceIsNarrow (certificate_of cert.now) group g at.now) }
+    requires narrow { MatchOption (slice_get (plan_of plan.now).groups group) ⊥ (λ g. PieceIsNarrow (certificate_of cert.now) group g (grid_point g.grid rank)) }
     requires memory { MatchOption (slice_get (plan_of plan.now).groups group) ⊥ (IsScratchFor scratch.old (certificate_of cert.now) group) }
-    requires few { length at.now ≤ 4 }
-    requires room { MatchOption (piece_gives (plan_of plan.now) (certificate_of cert.now) (image_of image.now).samples (C.cell cells.now) group at.now) (Unit {0}) (λ given. length given ≤ room_of scratch.old) }
-    ensures gives { MatchResult result (λ _. piece_gives (plan_of plan.now) (certificate_of cert.now) (image_of image.now).samples (C.cell cells.now) group at.now ≡ Some scratch.new.state.given.items) (λ _. piece_gives (plan_of plan.now) (certificate_of cert.now) (image_of image.now).samples (C.cell cells.now) group at.now ≡ None) }
+    requires inside { MatchOption (slice_get (plan_of plan.now).groups group) ⊥ (λ g. rank < group_pieces g) }
+    ensures gives { GivesIn (room_of scratch.old) result scratch.new.state.given.items (rank_gives (plan_of plan.now) (certificate_of cert.now) (image_of image.now).samples (C.cell cells.now) group rank) }
     ensures memory { OnOk result (IsAgain scratch.old scratch.new) }
 {
-    match run_group(
+    run_group(
         alloc,
         &scratch.sizes,
         &scratch.constants,
@@ -409,61 +401,6 @@ pub fn run_piece_in<C: Cells>(
         &*image,
         cells,
         group,
-        at,
-    ) {
-        Ok(()) => Ok(()),
-        // A piece that gives numbers gives no more than there is room for.
-        Err(_) => Err(Fault),
-    }
-}
-
-/// The numbers that the piece of a group at a grid point gives for its own cells, in their order, of which there are at
-/// most `most`.
-///
-/// `group` is the group's number and `at` the grid point. The memory is that of a scratch for the group.
-///
-/// # Errors
-/// `Fault` where the run has a fault: something is read that is not there, or a place is written that a buffer does
-/// not have. `Memory` where memory runs out, or a scratch has no room.
-pub fn run_piece<C: Cells>(
-    alloc: Global,
-    plan: &Plan,
-    cert: &Cert,
-    image: &Image,
-    cells: &C,
-    group: usize,
-    at: &[u32],
-    most: usize,
-) -> Result<Vec<i64>, Stop>
-    requires input { IsInput (plan_of plan.now) (image_of image.now) }
-    requires narrow { MatchOption (slice_get (plan_of plan.now).groups group) ⊥ (λ g. PieceIsNarrow (certificate_of cert.now) group g at.now) }
-    ensures { Ends (λ v. v.items) result (piece_gives (plan_of plan.now) (certificate_of cert.now) (image_of image.now).samples (C.cell cells.now) group at.now) }
-{
-    let Some(described) = group_at(&plan.groups, group) else {
-        return Err(Stop::Fault);
-    };
-    if at.len() > 4 {
-        return Err(Stop::Memory);
-    }
-    let scratch = Scratch::new(alloc, described, cert, group, most)?;
-    let Scratch {
-        sizes,
-        constants,
-        mut symbols,
-        mut state,
-    } = scratch;
-    run_group(
-        alloc,
-        &sizes,
-        &constants,
-        &mut symbols,
-        &mut state,
-        &*plan,
-        &*cert,
-        &*image,
-        cells,
-        group,
-        at,
-    )?;
-    Ok(state.given.as_slice().to_vec(alloc)?)
+        rank,
+    )
 }

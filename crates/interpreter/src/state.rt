@@ -1,11 +1,39 @@
 //! What a run has come to.
 
-use crate::buffers::Buffers;
-use smallvec::SmallVec;
+ghost use Rattle.std.specs.Prelude.{◌≡◌, [], IfOk};
+ghost use Rattle.interpreter.specs.Scratches.{IsMadeFor};
 
-/// What a run has come to: what its buffers hold, and the numbers given so far.
+use crate::buffers::Buffers;
+use crate::needs::Needs;
+use crate::row::Row;
+use smallvec::SmallVec;
+use std::alloc::{AllocError, Global};
+
+/// What a run has come to: what its buffers hold, and the numbers given so far. Besides, the lists that its lines fill
+/// anew.
 #[derive(Drop)]
 pub(crate) struct State {
     pub memory: Buffers,
     pub given: SmallVec<i64, 4>,
+    /// The numbers of a store's coordinates, as far as they are known.
+    pub numbers: Row,
+    /// The point that is read or written.
+    pub point: Row,
+    /// The indices of the calls that are under way.
+    pub stack: Row,
+}
+
+impl State {
+    /// A state with memory for what is needed, and for so many numbers that are given.
+    pub(crate) fn new(alloc: Global, needs: &Needs, given: usize) -> Result<State, AllocError>
+        ensures { IfOk result (λ state. IsMadeFor needs.now given state) }
+    {
+        Ok(State {
+            memory: Buffers::new(alloc, &needs.limits)?,
+            given: SmallVec::with_capacity(alloc, given)?,
+            numbers: Row::new(alloc, needs.coordinates)?,
+            point: Row::new(alloc, needs.coordinates)?,
+            stack: Row::new(alloc, needs.indices)?,
+        })
+    }
 }

@@ -1,6 +1,6 @@
 //! Stores and allocations.
 
-ghost use Rattle.std.specs.Prelude.{◌≡◌, ◌∷◌, ◌++◌, ◌+◌, ◌≤◌, [], ℕ, ℤ, List, Some, All, IfSome, OnOk, length, map, option_map, take, drop, string_bytes};
+ghost use Rattle.std.specs.Prelude.{◌≡◌, ◌∷◌, ◌+◌, ◌≤◌, [], ℕ, ℤ, List, Some, None, All, IfSome, MatchOption, OnOk, length, map, take, drop, string_bytes};
 ghost use Rattle.tree.specs.declared.value.Value.{Value as ValueFound};
 ghost use Rattle.tree.specs.Term.{term_of};
 ghost use Rattle.meaning.specs.Names.{bound};
@@ -10,24 +10,26 @@ ghost use Rattle.plan.specs.Semantics.Actions.{stored, Allot};
 ghost use Rattle.plan.specs.Semantics.Run.{Around, found_target};
 ghost use Rattle.interpreter.specs.Buffers.Rooms.{room_of};
 ghost use Rattle.interpreter.specs.Buffers.Blocks.{limits_of, memory_of, HasMemoryFor};
-ghost use Rattle.interpreter.specs.Evaluation.Short.{IsShort};
+ghost use Rattle.interpreter.specs.Evaluation.Indices.{indices_in};
 ghost use Rattle.interpreter.specs.Bindings.{symbols_of};
 ghost use Rattle.interpreter.specs.Narrow.{PlacesAreNarrow};
 ghost use Rattle.interpreter.specs.Needs.{places_in};
 ghost use Rattle.interpreter.specs.Pieces.{around, setting, found_in, no_cells, IsReady};
 ghost use Rattle.interpreter.specs.States.{progress_of, EndsIn, IsAsLarge};
 ghost use Rattle.interpreter.specs.Steps.{steps};
-ghost use Rattle.interpreter.specs.Targets.{target_of, known_number, target_number, CoordinateIsNarrow, CoordinateIsShort};
+ghost use Rattle.interpreter.specs.Rows.{listed};
+ghost use Rattle.interpreter.specs.Targets.{indices_of, indices_of_all, target_of, known_number, target_number, CoordinateIsNarrow};
 
 use crate::buffers::{Room, Rooms};
 use crate::evaluation::{Stop, evaluate};
 use crate::forms::value_of;
 use crate::piece::Piece;
 use crate::reading::Reading;
+use crate::row::Row;
 use crate::sizes::size_in;
 use crate::state::State;
 use crate::symbols::Symbols;
-use crate::visits::{Point, set};
+use crate::visits::set;
 use plan::{Coordinate, Index, Places};
 use smallvec::SmallVec;
 use std::alloc::Global;
@@ -89,55 +91,58 @@ fn known_number(coordinate: &Coordinate, symbols: &Symbols) -> i64
     }
 }
 
-/// The numbers of all coordinates, 0 where an expression finds one.
-fn known_numbers(alloc: Global, coordinates: &[Coordinate], symbols: &Symbols) -> Point
+/// Notes the numbers of all coordinates, 0 where an expression finds one.
+fn known_numbers(coordinates: &[Coordinate], symbols: &Symbols, numbers: &mut Row)
     requires narrow { All (CoordinateIsNarrow (symbols_of symbols.now)) coordinates.now }
-    requires short { length coordinates.now ≤ 4 }
-    ensures { result.items ≡ map (known_number (symbols_of symbols.now)) coordinates.now }
+    requires room { length coordinates.now ≤ numbers.old.room }
+    ensures { numbers.new ≡ listed (map (known_number (symbols_of symbols.now)) coordinates.now) numbers.old.room }
 {
-    let mut numbers = SmallVec::new(alloc);
+    numbers.clear();
     for coordinate in coordinates {
-        numbers.push_reserved(known_number(coordinate, symbols));
+        numbers.push(known_number(coordinate, symbols));
     }
-    numbers
 }
 
 /// The number of a coordinate, which an expression may have to find.
 fn found_number(
-    alloc: Global,
     coordinate: &Coordinate,
     symbols: &Symbols,
     reading: &Reading<'_, '_>,
+    stack: &mut Row,
 ) -> Option<i64>
     requires narrow { CoordinateIsNarrow (symbols_of symbols.now) coordinate.now }
-    requires short { CoordinateIsShort coordinate.now }
-    ensures { result ≡ (target_number (bound (map (λ c. string_bytes c.variable) reading.now.coordinates.now) reading.now.numbers.now) (found_in reading.now.piece.now reading.now.memory.now) (target_of (symbols_of symbols.now) coordinate.now)) }
+    requires room { length stack.old.items + indices_of coordinate.now ≤ stack.old.room }
+    ensures number { result ≡ (target_number (bound (map (λ c. string_bytes c.variable) reading.now.coordinates.now) reading.now.numbers.now) (found_in reading.now.piece.now reading.now.memory.now) (target_of (symbols_of symbols.now) coordinate.now)) }
+    ensures stack { stack.new ≡ stack.old }
 {
     match &coordinate.index {
         Index::Form(form) => Some(value_of(form, symbols)),
-        Index::Found(expr) => Some(evaluate(alloc, expr, reading)?.number),
+        Index::Found(expr) => Some(evaluate(expr, reading, stack)?.number),
     }
 }
 
-/// The point where a store writes.
-fn found_point(
-    alloc: Global,
+/// Finds the point where a store writes, if there is one.
+fn find_point(
     coordinates: &[Coordinate],
     symbols: &Symbols,
     reading: &Reading<'_, '_>,
-) -> Option<Point>
+    stack: &mut Row,
+    point: &mut Row,
+) -> Option<()>
     requires narrow { All (CoordinateIsNarrow (symbols_of symbols.now)) coordinates.now }
-    requires few { length coordinates.now ≤ 4 }
-    requires short { All CoordinateIsShort coordinates.now }
-    ensures count { IfSome result (λ p. length p.items ≡ length coordinates.now) }
-    ensures point { option_map (λ p. p.items) result ≡ (found_target (around reading.now.piece.now no_cells) (bound (map (λ c. string_bytes c.variable) reading.now.coordinates.now) reading.now.numbers.now) (map (target_of (symbols_of symbols.now)) coordinates.now) (memory_of reading.now.memory.now)) }
+    requires room { length coordinates.now ≤ point.old.room }
+    requires stack { length stack.old.items + indices_of_all coordinates.now ≤ stack.old.room }
+    ensures stack { stack.new ≡ stack.old }
+    ensures room { point.new.room ≡ point.old.room }
+    ensures count { IfSome result (λ _. length point.new.items ≡ length coordinates.now) }
+    ensures point { MatchOption result (found_target (around reading.now.piece.now no_cells) (bound (map (λ c. string_bytes c.variable) reading.now.coordinates.now) reading.now.numbers.now) (map (target_of (symbols_of symbols.now)) coordinates.now) (memory_of reading.now.memory.now) ≡ None) (λ _. found_target (around reading.now.piece.now no_cells) (bound (map (λ c. string_bytes c.variable) reading.now.coordinates.now) reading.now.numbers.now) (map (target_of (symbols_of symbols.now)) coordinates.now) (memory_of reading.now.memory.now) ≡ Some point.new.items) }
 {
-    let mut point = SmallVec::new(alloc);
+    point.clear();
     for coordinate in coordinates {
-        let number = found_number(alloc, coordinate, symbols, reading)?;
-        point.push_reserved(number);
+        let number = found_number(coordinate, symbols, reading, stack)?;
+        point.push(number);
     }
-    Some(point)
+    Some(())
 }
 
 /// The coordinates that are the function's, the first so many.
@@ -154,24 +159,8 @@ fn of_reduction(numbers: &[i64], count: usize) -> &[i64]
     &numbers[count.min(numbers.len())..]
 }
 
-/// The numbers of two parts, one behind the other.
-fn joined(alloc: Global, front: &[i64], back: &[i64]) -> Point
-    requires { length front.now + length back.now ≤ 4 }
-    ensures { result.items ≡ front.now ++ back.now }
-{
-    let mut all: Point = SmallVec::new(alloc);
-    let Ok(()) = all.extend_from_slice(front) else {
-        unreachable!()
-    };
-    let Ok(()) = all.extend_from_slice(back) else {
-        unreachable!()
-    };
-    all
-}
-
 /// Stores the value of a definition at a point. A pure definition's point is known, an update's may have to be found.
 pub(crate) fn store<'a>(
-    alloc: Global,
     piece: &'a Piece<'a>,
     buffer: u32,
     coordinates: &'a [Coordinate],
@@ -181,33 +170,37 @@ pub(crate) fn store<'a>(
 ) -> Result<(), Stop>
     requires ready { IsReady piece.now }
     requires narrow { All (CoordinateIsNarrow (symbols_of symbols.now)) coordinates.now }
-    requires few { length coordinates.now ≤ 4 }
-    requires short { All CoordinateIsShort coordinates.now }
-    requires value { IsShort (term_of value.now) }
+    requires numbers { length coordinates.now ≤ state.old.numbers.room }
+    requires point { length coordinates.now ≤ state.old.point.room }
+    requires stack { indices_of_all coordinates.now + indices_in (term_of value.now) ≤ state.old.stack.room }
     ensures large { OnOk result (IsAsLarge state.old state.new) }
     ensures store { (definition : ℕ) (cell : List ℕ → List ℤ → ValueFound) → EndsIn state.old.given.capacity (λ _. progress_of state.new) result (steps (around piece.now cell) (stored (setting piece.now) buffer definition (map coordinate_of coordinates.now) (term_of value.now) (symbols_of symbols.now) ∷ []) (progress_of state.old)) }
 {
     let count = size_in(piece.sizes, buffer);
-    let numbers = known_numbers(alloc, coordinates, symbols);
+    let place = of_function(coordinates, count);
+    known_numbers(coordinates, symbols, &mut state.numbers);
+    state.stack.clear();
     let left = Reading {
         piece,
         coordinates,
         memory: &state.memory,
-        numbers: &numbers,
+        numbers: state.numbers.as_slice(),
     };
-    let place = of_function(coordinates, count);
-    let Some(point) = found_point(alloc, place, symbols, &left) else {
+    let Some(()) = find_point(place, symbols, &left, &mut state.stack, &mut state.point) else {
         return Err(Stop::Fault);
     };
-    let all = joined(alloc, &point, of_reduction(&numbers, count));
+    state
+        .point
+        .append(of_reduction(state.numbers.as_slice(), count));
     let right = Reading {
         piece,
         coordinates,
         memory: &state.memory,
-        numbers: &all,
+        numbers: state.point.as_slice(),
     };
-    let Some(found) = evaluate(alloc, value, &right) else {
+    let Some(found) = evaluate(value, &right, &mut state.stack) else {
         return Err(Stop::Fault);
     };
-    set(state, buffer, &point, found)
+    state.point.truncate(place.len());
+    set(state, buffer, found)
 }

@@ -1,11 +1,10 @@
 //! Values of symbols.
 
-ghost use Rattle.std.specs.Prelude.{◌≡◌, ◌≤◌, ◌<◌, [], take, length, slice_get, IfOk};
-ghost use Rattle.plan.specs.Certificate.Cells.{grid_value};
+ghost use Rattle.std.specs.Prelude.{◌≡◌, ◌≤◌, ◌<◌, ◌%◌, ◌/◌, [], take, length, slice_get, vec_capacity, IfOk};
+ghost use Rattle.plan.specs.Certificate.Cells.{grid_point, grid_value, piece_count};
 ghost use Rattle.interpreter.specs.Bindings.{symbols_of, also};
 
 use lin::Sym;
-use smallvec::SmallVec;
 use std::alloc::{AllocError, Global};
 use std::marker::Model;
 
@@ -17,14 +16,12 @@ pub(crate) struct Binding {
     pub first: bool,
 }
 
-/// The coordinates of a grid point. Up to four take no memory of the heap.
-type Grid = SmallVec<u32, 4>;
-
-/// The values of symbols: those of a grid point, and what was bound since, for which there is so much room. A symbol that
+/// The values of symbols: those of a grid point, and what was bound since, with room for so many of each. A symbol that
 /// has none is 0.
 #[derive(Drop)]
 pub(crate) struct Symbols {
-    grid: Grid,
+    grid: Vec<u32>,
+    grid_room: usize,
     bound: Vec<Binding>,
     room: usize,
 }
@@ -35,9 +32,9 @@ impl Model for Symbols {
 
     ghost Value = { Bindings };
 
-    ghost view = { λ s. record { grid = s.grid.items; bound = s.bound.items; room = s.room } };
+    ghost view = { λ s. record { grid = s.grid.items; bound = s.bound.items; grid_room = s.grid_room; room = s.room } };
 
-    ghost invariant = { λ s. s.room ≤ vec_capacity s.bound };
+    ghost invariant = { λ s. (s.grid_room ≤ vec_capacity s.grid) × (s.room ≤ vec_capacity s.bound) };
 }
 
 /// A coordinate of a grid point, if it has so many.
@@ -57,28 +54,54 @@ fn grid_value(at: &[u32], symbol: Sym) -> i64
     }
 }
 
+/// The remainder and the quotient of a number by another.
+#[tactic(auto, using(crate::proofs::GridPoints::remainder_small, crate::proofs::GridPoints::quotient_small))]
+fn divided(number: u32, by: u64) -> (u32, u32)
+    requires { 0 < by }
+    ensures remainder { result.0 ≡ number % by }
+    ensures quotient { result.1 ≡ number / by }
+{
+    let number = u64::from(number);
+    ((number % by) as u32, (number / by) as u32)
+}
+
+/// Finds the point of a grid that so many come before. The first symbol runs fastest.
+fn find_point(grid: &[u64], rank: u32, at: &mut Vec<u32>)
+    requires inside { rank < piece_count grid.now }
+    requires room { length grid.now ≤ vec_capacity at.old }
+    ensures point { at.new.items ≡ grid_point grid.now rank }
+    ensures room { vec_capacity at.new ≡ vec_capacity at.old }
+{
+    at.clear();
+    let mut rest = rank;
+    for extent in grid {
+        let (coordinate, quotient) = divided(rest, *extent);
+        at.push_reserved(coordinate);
+        rest = quotient;
+    }
+}
+
 impl Symbols {
-    /// No symbol at all, and room to bind so many.
-    pub(crate) fn new(alloc: Global, room: usize) -> Result<Symbols, AllocError>
+    /// No symbol at all, and room for grid points of so many coordinates and to bind so many symbols.
+    pub(crate) fn new(alloc: Global, grid_room: usize, room: usize) -> Result<Symbols, AllocError>
         ensures none { IfOk result (λ s. (s.grid ≡ []) × (s.bound ≡ [])) }
-        ensures room { IfOk result (λ s. room ≤ s.room) }
+        ensures room { IfOk result (λ s. (s.grid_room ≡ grid_room) × (s.room ≡ room)) }
     {
         Ok(Symbols {
-            grid: SmallVec::new(alloc),
+            grid: Vec::with_capacity(alloc, grid_room)?,
+            grid_room,
             bound: Vec::with_capacity(alloc, room)?,
             room,
         })
     }
 
-    /// Takes the symbols of a grid point, those of the grid alone.
-    pub(crate) fn begin(&mut self, at: &[u32])
-        requires { length at.now ≤ 4 }
-        ensures { self.new ≡ record { grid = at.now; bound = []; room = self.old.room } }
+    /// Takes the symbols of the point of a grid that so many come before, those of the grid alone.
+    pub(crate) fn begin(&mut self, grid: &[u64], rank: u32)
+        requires inside { rank < piece_count grid.now }
+        requires room { length grid.now ≤ self.old.grid_room }
+        ensures { self.new ≡ record { grid = grid_point grid.now rank; bound = []; grid_room = self.old.grid_room; room = self.old.room } }
     {
-        let Ok(grid) = SmallVec::from_slice(*self.grid.allocator(), at) else {
-            unreachable!()
-        };
-        self.grid = grid;
+        find_point(grid, rank, &mut self.grid);
         self.bound.clear();
     }
 
@@ -127,7 +150,7 @@ impl Symbols {
 
     /// Forgets all but the first so many bound symbols.
     pub(crate) fn forget(&mut self, kept: usize)
-        ensures { self.new ≡ record { grid = self.old.grid; bound = take kept self.old.bound; room = self.old.room } }
+        ensures { self.new ≡ record { grid = self.old.grid; bound = take kept self.old.bound; grid_room = self.old.grid_room; room = self.old.room } }
     {
         self.bound.truncate(kept);
     }

@@ -1,6 +1,6 @@
 //! What is done at each point of a region.
 
-ghost use Rattle.std.specs.Prelude.{◌≡◌, ◌∷◌, ◌+◌, ◌≤◌, ◌<◌, [], flat_map, length, ℕ, ℤ, List, OnOk, map, slice_get, int_le};
+ghost use Rattle.std.specs.Prelude.{◌≡◌, ◌∷◌, ◌+◌, ◌≤◌, ◌<◌, [], drop, flat_map, length, ℕ, ℤ, List, OnOk, map, slice_get, int_le};
 ghost use Rattle.tree.specs.declared.value.Value.{Value as ValueFound};
 ghost use Rattle.plan.specs.Symbols.{form_value};
 ghost use Rattle.plan.specs.Certificate.Cells.{is_in_span, is_in_region};
@@ -13,7 +13,7 @@ ghost use Rattle.interpreter.specs.Narrow.{FormsAreNarrow, SpanIsNarrow, RegionI
 ghost use Rattle.interpreter.specs.Pieces.{around};
 ghost use Rattle.interpreter.specs.States.{progress_of, EndsIn, IsAsLarge, SetsOrFaults};
 ghost use Rattle.interpreter.specs.Steps.{steps};
-ghost use Rattle.interpreter.specs.Visits.{at_point, between, extended, VisitIsNarrow};
+ghost use Rattle.interpreter.specs.Visits.{at_point, between, extended, KeepsFrom, VisitIsNarrow};
 
 use crate::cells::Cells;
 use crate::evaluation::Stop;
@@ -23,12 +23,7 @@ use crate::state::State;
 use crate::symbols::Symbols;
 use lin::{Lin, Span1};
 use plan::certificate::Claim;
-use smallvec::SmallVec;
-use std::alloc::Global;
 use tree::Value;
-
-/// The coordinates of a point, at most four.
-pub(crate) type Point = SmallVec<i64, 4>;
 
 /// What is done at each point.
 #[derive(Clone, Copy, Drop)]
@@ -106,71 +101,57 @@ fn claim_buffer(claims: &[Claim], claim: u32) -> u32
     }
 }
 
-/// Sets the place of a point in a buffer.
-pub(crate) fn set(state: &mut State, buffer: u32, point: &[i64], value: Value) -> Result<(), Stop>
-    ensures set { SetsOrFaults result state.old state.new buffer point.now value }
+/// Sets the place of the point in a buffer.
+pub(crate) fn set(state: &mut State, buffer: u32, value: Value) -> Result<(), Stop>
+    ensures set { SetsOrFaults result state.old state.new buffer state.old.point.items value }
     ensures large { IsAsLarge state.old state.new }
+    ensures point { state.new.point ≡ state.old.point }
 {
-    if state.memory.write(buffer, point, value) {
+    if state.memory.write(buffer, state.point.as_slice(), value) {
         Ok(())
     } else {
         Err(Stop::Fault)
     }
 }
 
-/// Gives the number that a claim's buffer holds at a point.
-fn give(piece: &Piece<'_>, claim: u32, point: &[i64], state: &mut State) -> Result<(), Stop>
+/// Gives the number that a claim's buffer holds at the point.
+fn give(piece: &Piece<'_>, claim: u32, state: &mut State) -> Result<(), Stop>
     ensures large { OnOk result (IsAsLarge state.old state.new) }
-    ensures give { (cell : List ℕ → List ℤ → ValueFound) → EndsIn state.old.given.capacity (λ _. progress_of state.new) result (steps (around piece.now cell) (Give claim point.now ∷ []) (progress_of state.old)) }
+    ensures point { OnOk result (state.new.point ≡ state.old.point) }
+    ensures give { (cell : List ℕ → List ℤ → ValueFound) → EndsIn state.old.given.capacity (λ _. progress_of state.new) result (steps (around piece.now cell) (Give claim state.old.point.items ∷ []) (progress_of state.old)) }
 {
     let buffer = claim_buffer(&piece.cert.claims, claim);
-    let Some(value) = state.memory.read(buffer, point) else {
+    let Some(value) = state.memory.read(buffer, state.point.as_slice()) else {
         return Err(Stop::Fault);
     };
     if state.given.len() == state.given.capacity() {
-        return Err(Stop::Memory);
+        return Err(Stop::Full);
     }
     state.given.push_reserved(value.number);
     Ok(())
 }
 
-/// Does at a point what the visit says.
-fn visit_point<C: Cells>(
-    walk: &Walk<'_, '_>,
-    cells: &C,
-    point: &[i64],
-    state: &mut State,
-) -> Result<(), Stop>
+/// Does at the point what the visit says.
+fn visit_point<C: Cells>(walk: &Walk<'_, '_>, cells: &C, state: &mut State) -> Result<(), Stop>
     requires { VisitIsNarrow walk.now.piece.now walk.now.visit }
     ensures large { OnOk result (IsAsLarge state.old state.new) }
-    ensures run { EndsIn state.old.given.capacity (λ _. progress_of state.new) result (steps (around walk.now.piece.now (C.cell cells.now)) (at_point walk.now.piece.now walk.now.visit point.now) (progress_of state.old)) }
+    ensures point { OnOk result (state.new.point ≡ state.old.point) }
+    ensures run { EndsIn state.old.given.capacity (λ _. progress_of state.new) result (steps (around walk.now.piece.now (C.cell cells.now)) (at_point walk.now.piece.now walk.now.visit state.old.point.items) (progress_of state.old)) }
 {
     match walk.visit {
         Visit::Fetch { buffer, function } => {
-            set(state, buffer, point, cells.cell(function, point))
+            let value = cells.cell(function, state.point.as_slice());
+            set(state, buffer, value)
         }
         Visit::Publish { claim } => {
             let region = walk.piece.group.region.as_slice();
-            if is_in_region(region, point, walk.piece.constants) {
-                give(walk.piece, claim, point, state)
+            if is_in_region(region, state.point.as_slice(), walk.piece.constants) {
+                give(walk.piece, claim, state)
             } else {
                 Ok(())
             }
         }
     }
-}
-
-/// A point with one more coordinate in front.
-fn in_front(alloc: Global, coordinate: i64, point: &[i64]) -> Point
-    requires { length point.now < 4 }
-    ensures { result.items ≡ coordinate ∷ point.now }
-{
-    let mut longer = SmallVec::new(alloc);
-    longer.push_reserved(coordinate);
-    for number in point {
-        longer.push_reserved(*number);
-    }
-    longer
 }
 
 /// The numbers of a span.
@@ -180,54 +161,69 @@ struct Numbers {
     high: i64,
 }
 
-/// Visits the points of a region, each followed by each of some numbers and by these coordinates.
+/// Visits the points of a region, each followed by each of some numbers and by the other coordinates of the point.
 #[cycle(visiting)]
 fn visit_numbers<C: Cells>(
-    alloc: Global,
     walk: &Walk<'_, '_>,
     cells: &C,
     region: &[Span1],
     numbers: Numbers,
-    point: &[i64],
     state: &mut State,
 ) -> Result<(), Stop>
     requires region { RegionIsNarrow (symbols_of walk.now.symbols.now) region.now }
     requires visit { VisitIsNarrow walk.now.piece.now walk.now.visit }
-    requires short { length region.now + length point.now < 4 }
+    requires long { length region.now < length state.old.point.items }
     ensures large { OnOk result (IsAsLarge state.old state.new) }
-    ensures run { EndsIn state.old.given.capacity (λ _. progress_of state.new) result (steps (around walk.now.piece.now (C.cell cells.now)) (flat_map (λ z. flat_map (at_point walk.now.piece.now walk.now.visit) (extended (symbols_of walk.now.symbols.now) region.now (z ∷ point.now))) (between numbers.low numbers.high)) (progress_of state.old)) }
+    ensures kept { OnOk result (KeepsFrom (length region.now + 1) state.old.point state.new.point) }
+    ensures run { EndsIn state.old.given.capacity (λ _. progress_of state.new) result (steps (around walk.now.piece.now (C.cell cells.now)) (flat_map (λ z. flat_map (at_point walk.now.piece.now walk.now.visit) (extended (symbols_of walk.now.symbols.now) region.now (z ∷ drop (length region.now + 1) state.old.point.items))) (between numbers.low numbers.high)) (progress_of state.old)) }
 {
     for number in numbers.low..=numbers.high {
-        let longer = in_front(alloc, number, point);
-        visit_region(alloc, walk, cells, region, &longer, state)?;
+        state.point.set(region.len(), number);
+        visit_region(walk, cells, region, state)?;
     }
     Ok(())
 }
 
-/// Visits the points of a region, each followed by these coordinates, the first coordinate fastest.
+/// Visits the points of a region, each followed by the other coordinates of the point, the first coordinate fastest.
 #[cycle(visiting)]
-pub(crate) fn visit_region<C: Cells>(
-    alloc: Global,
+fn visit_region<C: Cells>(
     walk: &Walk<'_, '_>,
     cells: &C,
     region: &[Span1],
-    point: &[i64],
     state: &mut State,
 ) -> Result<(), Stop>
     requires region { RegionIsNarrow (symbols_of walk.now.symbols.now) region.now }
     requires visit { VisitIsNarrow walk.now.piece.now walk.now.visit }
-    requires short { length region.now + length point.now ≤ 4 }
+    requires long { length region.now ≤ length state.old.point.items }
     ensures large { OnOk result (IsAsLarge state.old state.new) }
-    ensures run { EndsIn state.old.given.capacity (λ _. progress_of state.new) result (steps (around walk.now.piece.now (C.cell cells.now)) (flat_map (at_point walk.now.piece.now walk.now.visit) (extended (symbols_of walk.now.symbols.now) region.now point.now)) (progress_of state.old)) }
+    ensures kept { OnOk result (KeepsFrom (length region.now) state.old.point state.new.point) }
+    ensures run { EndsIn state.old.given.capacity (λ _. progress_of state.new) result (steps (around walk.now.piece.now (C.cell cells.now)) (flat_map (at_point walk.now.piece.now walk.now.visit) (extended (symbols_of walk.now.symbols.now) region.now (drop (length region.now) state.old.point.items))) (progress_of state.old)) }
 {
     match region {
-        [] => visit_point(walk, cells, point, state),
+        [] => visit_point(walk, cells, state),
         [region @ .., span] => {
             let numbers = Numbers {
                 low: largest(&span.lower, walk.symbols),
                 high: smallest(&span.upper, walk.symbols),
             };
-            visit_numbers(alloc, walk, cells, region, numbers, point, state)
+            visit_numbers(walk, cells, region, numbers, state)
         }
     }
+}
+
+/// Visits the points of a region, the first coordinate fastest.
+pub(crate) fn visit_points<C: Cells>(
+    walk: &Walk<'_, '_>,
+    cells: &C,
+    region: &[Span1],
+    state: &mut State,
+) -> Result<(), Stop>
+    requires region { RegionIsNarrow (symbols_of walk.now.symbols.now) region.now }
+    requires visit { VisitIsNarrow walk.now.piece.now walk.now.visit }
+    requires room { length region.now ≤ state.old.point.room }
+    ensures large { OnOk result (IsAsLarge state.old state.new) }
+    ensures run { EndsIn state.old.given.capacity (λ _. progress_of state.new) result (steps (around walk.now.piece.now (C.cell cells.now)) (flat_map (at_point walk.now.piece.now walk.now.visit) (extended (symbols_of walk.now.symbols.now) region.now [])) (progress_of state.old)) }
+{
+    state.point.begin(region.len());
+    visit_region(walk, cells, region, state)
 }

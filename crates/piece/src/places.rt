@@ -1,5 +1,5 @@
-//! Where the pieces of a plan stand: the group and the grid point that a piece's number tells.
+//! Where the pieces of a plan stand: the group that a piece's number tells, and how many of its pieces come before it.
 
 mod standing;
 
-pub use standing::{Place, grid_point, place_of};
+pub use standing::{Place, place_of};

@@ -7,12 +7,7 @@ ghost use Rattle.steps.specs.Work.{work_on};
 use algo::Inputs;
 use checked_plan::Checked;
 use checked_plan::output::PlanCells;
-use interpreter::evaluation::Stop;
-use interpreter::run_piece;
 use orders::Job;
-use piece::LookedCells;
-use piece::laws::{pieces_are_narrow, runs_are_the_work};
-use piece::places::{grid_point, place_of};
 use std::alloc::{AllocError, Global};
 
 /// A checked plan, an input of its algorithm, and the numbers of the plan's cells.
@@ -49,39 +44,13 @@ impl Job for PlanJob<'_> {
     }
 
     /// The values of the own cells, by the values of the fetched cells in the order in which they were looked at. The run's
-    /// memory is given back when it ends. A grid of more than four symbols counts as want of memory.
+    /// memory is given back when it ends.
     fn private_run(
         &self,
         alloc: Global,
         piece: u32,
         looked: &[i64],
     ) -> Result<Option<Vec<i64>>, AllocError> {
-        pieces_are_narrow();
-        runs_are_the_work();
-        let plan = self.checked.plan();
-        let place = place_of(plan, piece);
-        let grid = plan.groups[place.group].grid.as_slice();
-        if grid.len() > 4 {
-            return Err(AllocError);
-        }
-        let at = grid_point(alloc, grid, place.rank);
-        let cells = LookedCells::of(alloc, &self.cells, piece, looked)?;
-        let cert = self.checked.cert();
-        let image = self.inputs.image();
-        let most = self.checked.own(piece as usize).len();
-        match run_piece(
-            alloc,
-            plan,
-            cert,
-            image,
-            &cells,
-            place.group,
-            at.as_slice(),
-            most,
-        ) {
-            Ok(values) => Ok(Some(values)),
-            Err(Stop::Fault) => Ok(None),
-            Err(Stop::Memory) => Err(AllocError),
-        }
+        piece::private_run(alloc, &self.cells, self.inputs, piece, looked)
     }
 }

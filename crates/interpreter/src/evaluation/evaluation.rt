@@ -1,43 +1,40 @@
 //! The value of an expression.
 
-ghost use Rattle.std.specs.Prelude.{◌≡◌, ◌≤◌, length, option_map};
+ghost use Rattle.std.specs.Prelude.{◌≡◌, ◌+◌, ◌≤◌, drop, length, take, Some, None, MatchBool};
 ghost use Rattle.plan.specs.Semantics.Found.{found, test_found, all_found, with};
-ghost use Rattle.interpreter.specs.Evaluation.Short.{IsShort, IsShortTest, AreShort};
+ghost use Rattle.interpreter.specs.Evaluation.Indices.{indices_in, indices_in_all, indices_in_test};
 ghost use Rattle.tree.specs.Meaning.{typed};
 ghost use Rattle.tree.specs.Term.{term_of, test_of, indices, list_terms};
 
 use crate::evaluation::operators::{applied, clamped, negated, wrapped};
 use crate::evaluation::reader::Reader;
+use crate::row::Row;
 use numeric::{Ty, compare};
-use smallvec::SmallVec;
-use std::alloc::Global;
 use tree::{Cond, Expr, Value};
-
-/// The indices of a call.
-type Indices = SmallVec<i64, 4>;
 
 /// The value of an expression, nothing where a call finds nothing. Both arms of a choice are evaluated, and all of its
 /// condition.
 ///
-/// It takes no memory: the indices of a call, at most four, lie in place.
+/// It takes no memory: the indices of the calls that are under way lie on a stack that has room for all of them.
 #[cycle(evaluate)]
-pub fn evaluate<R: Reader>(alloc: Global, expr: &Expr, reader: &R) -> Option<Value>
-    requires { IsShort (term_of expr.now) }
-    ensures { result ≡ found (R.variables reader.now) (R.look reader.now) (term_of expr.now) }
+pub fn evaluate<R: Reader>(expr: &Expr, reader: &R, stack: &mut Row) -> Option<Value>
+    requires room { length stack.old.items + indices_in (term_of expr.now) ≤ stack.old.room }
+    ensures value { result ≡ found (R.variables reader.now) (R.look reader.now) (term_of expr.now) }
+    ensures stack { stack.new ≡ stack.old }
 {
     match expr {
         Expr::Literal { ty, number, .. } => Some(typed(*ty, *number)),
         Expr::Variable { name, .. } => Some(typed(Ty::I32, reader.variable(name.as_str()))),
-        Expr::Call { name, at, .. } => call(alloc, name.as_str(), at, reader),
-        Expr::Negate { value, .. } => Some(negated(evaluate(alloc, value, reader)?)),
+        Expr::Call { name, at, .. } => call(name.as_str(), at, reader, stack),
+        Expr::Negate { value, .. } => Some(negated(evaluate(value, reader, stack)?)),
         Expr::Binary {
             op,
             left,
             right,
             ..
         } => {
-            let left = evaluate(alloc, left, reader)?;
-            let right = evaluate(alloc, right, reader)?;
+            let left = evaluate(left, reader, stack)?;
+            let right = evaluate(right, reader, stack)?;
             Some(applied(*op, left, right))
         }
         Expr::Clamp {
@@ -46,19 +43,19 @@ pub fn evaluate<R: Reader>(alloc: Global, expr: &Expr, reader: &R) -> Option<Val
             high,
             ..
         } => {
-            let value = evaluate(alloc, value, reader)?;
-            let low = evaluate(alloc, low, reader)?;
-            let high = evaluate(alloc, high, reader)?;
+            let value = evaluate(value, reader, stack)?;
+            let low = evaluate(low, reader, stack)?;
+            let high = evaluate(high, reader, stack)?;
             Some(clamped(value, low, high))
         }
         Expr::Cast { ty, value, .. } => {
-            let value = evaluate(alloc, value, reader)?;
+            let value = evaluate(value, reader, stack)?;
             Some(wrapped(*ty, value.number))
         }
         Expr::Select { cond, yes, no, .. } => {
-            let chosen = holds(alloc, cond, reader)?;
-            let yes = evaluate(alloc, yes, reader)?;
-            let no = evaluate(alloc, no, reader)?;
+            let chosen = holds(cond, reader, stack)?;
+            let yes = evaluate(yes, reader, stack)?;
+            let no = evaluate(no, reader, stack)?;
             Some(if chosen { yes } else { no })
         }
     }
@@ -66,9 +63,10 @@ pub fn evaluate<R: Reader>(alloc: Global, expr: &Expr, reader: &R) -> Option<Val
 
 // Whether a condition holds. All of it is evaluated.
 #[cycle(evaluate)]
-fn holds<R: Reader>(alloc: Global, cond: &Cond, reader: &R) -> Option<bool>
-    requires { IsShortTest (test_of cond.now) }
-    ensures { result ≡ test_found (R.variables reader.now) (R.look reader.now) (test_of cond.now) }
+fn holds<R: Reader>(cond: &Cond, reader: &R, stack: &mut Row) -> Option<bool>
+    requires room { length stack.old.items + indices_in_test (test_of cond.now) ≤ stack.old.room }
+    ensures stack { stack.new ≡ stack.old }
+    ensures value { result ≡ test_found (R.variables reader.now) (R.look reader.now) (test_of cond.now) }
 {
     match cond {
         Cond::Compare {
@@ -77,19 +75,19 @@ fn holds<R: Reader>(alloc: Global, cond: &Cond, reader: &R) -> Option<bool>
             right,
             ..
         } => {
-            let left = evaluate(alloc, left, reader)?;
-            let right = evaluate(alloc, right, reader)?;
+            let left = evaluate(left, reader, stack)?;
+            let right = evaluate(right, reader, stack)?;
             Some(compare(*by, left.number, right.number))
         }
-        Cond::Not { cond, .. } => Some(!holds(alloc, cond, reader)?),
+        Cond::Not { cond, .. } => Some(!holds(cond, reader, stack)?),
         Cond::All { first, second, .. } => {
-            let first = holds(alloc, first, reader)?;
-            let second = holds(alloc, second, reader)?;
+            let first = holds(first, reader, stack)?;
+            let second = holds(second, reader, stack)?;
             Some(first && second)
         }
         Cond::Any { first, second, .. } => {
-            let first = holds(alloc, first, reader)?;
-            let second = holds(alloc, second, reader)?;
+            let first = holds(first, reader, stack)?;
+            let second = holds(second, reader, stack)?;
             Some(first || second)
         }
     }
@@ -97,27 +95,51 @@ fn holds<R: Reader>(alloc: Global, cond: &Cond, reader: &R) -> Option<bool>
 
 // What a call finds.
 #[cycle(evaluate)]
-fn call<R: Reader>(alloc: Global, name: &str, at: &[Expr], reader: &R) -> Option<Value>
-    requires few { length at.now ≤ 4 }
-    requires short { AreShort (indices (list_terms at.now)) }
-    ensures { result ≡ with (all_found (R.variables reader.now) (R.look reader.now) (indices (list_terms at.now))) (λ zs. R.look reader.now name.now zs) }
+fn call<R: Reader>(name: &str, at: &[Expr], reader: &R, stack: &mut Row) -> Option<Value>
+    requires room { length stack.old.items + indices_in_all (indices (list_terms at.now)) ≤ stack.old.room }
+    ensures value { result ≡ with (all_found (R.variables reader.now) (R.look reader.now) (indices (list_terms at.now))) (λ zs. R.look reader.now name.now zs) }
+    ensures stack { stack.new ≡ stack.old }
 {
-    let at = numbers(alloc, at, reader)?;
-    reader.look(name, at.as_slice())
+    let mark = stack.len();
+    let are_found = numbers(at, reader, stack);
+    let found = look_behind(name, reader, stack, mark, are_found);
+    stack.truncate(mark);
+    found
 }
 
-// The numbers of the indices of a call.
-#[cycle(evaluate)]
-fn numbers<R: Reader>(alloc: Global, at: &[Expr], reader: &R) -> Option<Indices>
-    requires few { length at.now ≤ 4 }
-    requires short { AreShort (indices (list_terms at.now)) }
-    ensures { option_map (λ v. v.items) result ≡ all_found (R.variables reader.now) (R.look reader.now) (indices (list_terms at.now)) }
+// What a name finds at the indices behind the first so many numbers of the stack, if they are found.
+fn look_behind<R: Reader>(
+    name: &str,
+    reader: &R,
+    stack: &Row,
+    mark: usize,
+    are_found: bool,
+) -> Option<Value>
+    requires { mark ≤ length stack.now.items }
+    ensures { MatchBool are_found (result ≡ R.look reader.now name.now (drop mark stack.now.items)) (result ≡ None) }
 {
-    let mut numbers = SmallVec::new(alloc);
-    for index in at {
-        numbers.push_reserved(evaluate(alloc, index, reader)?.number);
+    if are_found {
+        reader.look(name, &stack.as_slice()[mark..])
+    } else {
+        None
     }
-    Some(numbers)
+}
+
+// Whether the numbers of the indices of a call are found. They then lie behind what the stack held before.
+#[cycle(evaluate)]
+fn numbers<R: Reader>(at: &[Expr], reader: &R, stack: &mut Row) -> bool
+    requires room { length stack.old.items + indices_in_all (indices (list_terms at.now)) ≤ stack.old.room }
+    ensures before { take (length stack.old.items) stack.new.items ≡ stack.old.items }
+    ensures room { stack.new.room ≡ stack.old.room }
+    ensures found { MatchBool result (all_found (R.variables reader.now) (R.look reader.now) (indices (list_terms at.now)) ≡ Some (drop (length stack.old.items) stack.new.items)) (all_found (R.variables reader.now) (R.look reader.now) (indices (list_terms at.now)) ≡ None) }
+{
+    for index in at {
+        let Some(value) = evaluate(index, reader, stack) else {
+            return false;
+        };
+        stack.push(value.number);
+    }
+    true
 }
 
 // A number with its type.

@@ -5,5 +5,5 @@ use Rattle.crew.proofs.running.run_on.Goals as goal
 pub returns-in-Err-clause-refused : goal.returns-in-Err-clause-refused
 returns-in-Err-clause-refused g c =
     let x = c.args.checked.now in
-    let i = c.args.inputs.now in
-    left_over x i g.J.Run.layout g.J.Run.values _ c.in-Err.field-0.0 c.requires.layout c.requires.values (c.own_is_of_work.ensures x (samples_of i)) c.in-Err.ensures.unfinished
+    let samples = samples_of c.args.inputs.now in
+    left_over x samples g.J.Run.layout g.J.Run.values _ c.in-Err.field-0.0 c.requires.layout (c.own_is_of_work.ensures x samples) c.in-Err.ensures.unfinished

@@ -16,13 +16,12 @@ use Rattle.plan.specs.Semantics.Actions.{Action, Allot, actions, after, block_ac
 use Rattle.plan.specs.Semantics.Found.{with}
 use Rattle.interpreter.specs.declared.run.Turns.{Turns}
 use Rattle.interpreter.specs.Bindings.{Bindings, symbols_of, also, Extends}
-use Rattle.interpreter.specs.Buffers.Blocks.{limits_of, HasMemoryFor}
-use Rattle.interpreter.specs.Needs.{name_count, places_in, BlockFits, IndexIsShort, StatementFits}
+use Rattle.interpreter.specs.Needs.{name_count, BlockFits, Space, StatementFits}
 use Rattle.interpreter.specs.Narrow.{StatementIsNarrow, BlockIsNarrow, IndexIsNarrow}
-use Rattle.interpreter.specs.Pieces.{around, setting, OwnIsSmall}
-use Rattle.interpreter.specs.States.{progress_of, EndsIn, IsAsLarge}
+use Rattle.interpreter.specs.Pieces.{around, own_of, setting, OwnIsSmall}
+use Rattle.interpreter.specs.States.{progress_of, space_of, EndsIn, IsAsLarge}
 use Rattle.interpreter.specs.Steps.{Progress, steps}
-use Rattle.interpreter.specs.Targets.{CoordinateIsNarrow, CoordinateIsShort}
+use Rattle.interpreter.specs.Targets.{CoordinateIsNarrow}
 use Rattle.interpreter.specs.Visits.{between}
 use Rattle.interpreter.proofs.Bindings.{bound_now, forgotten, extends_both}
 use Rattle.interpreter.proofs.Counting.{between_has, between_none}
@@ -39,7 +38,7 @@ run-run_block-requires g t c κs within =
     let e : statement_of c.args.stmt.now ≡ Seq (block (list_statements c.deref.result.now)) =
     ap statement_of c.in-Seq.is ∙ statement_of-seq c.in-Seq.all ∙ ap (λ (l : List Stmt). Seq (block (list_statements l))) (sym c.deref.ensures.value) in
     let narrow : BlockIsNarrow Own (block (list_statements c.deref.result.now)) s = subst (λ (a : Statement). StatementIsNarrow Own a s) e c.requires.narrow in
-    let fits = subst (λ (a : Statement). StatementFits (limits_of c.args.state.now.memory) c.args.symbols.now.room a (length c.args.symbols.now.bound)) e c.requires.fits in
+    let fits = subst (λ (a : Statement). StatementFits (own_of c.args.piece.now) (space_of c.args.state.now) c.args.symbols.now.room a (length c.args.symbols.now.bound)) e c.requires.fits in
     (search (rules, the_lemmas), (search rules, (c.requires.ready, (narrow, fits))))
 
 pub run-returns-in-Seq-clause-run : goal.run-returns-in-Seq-clause-run
@@ -87,9 +86,9 @@ run_block-loop-stmt-preserved g t c =
     let now : symbols_of new ≡ after (statement_of a) s = c.name_from.ensures.value ∙ ap (λ (b : Bindings). after (statement_of a) (symbols_of b)) kept in
     let go : Progress → Option Progress = steps A (block_actions S (from all (i + 1)) (after (statement_of a) s)) in
     record {
-      large = record { limits = c.in_ok-run.ensures.large.limits ∙ l.invariant.large.limits; given = c.in_ok-run.ensures.large.given ∙ l.invariant.large.given };
-      fits = subst (λ (n : ℕ). BlockFits (limits_of c.args.state.now.memory) c.args.symbols.now.room (from all (i + 1)) n) (sym (c.name_from.ensures.count ∙ ap (λ (b : Bindings). length b.bound + name_count (statement_of a)) kept))
-          (block_fits (limits_of c.args.state.now.memory) c.args.symbols.now.room all i a (length l.symbols.bound) c.loop-stmt-test.true c.stmt-item.is l.invariant.fits).2;
+      large = record { space = c.in_ok-run.ensures.large.space ∙ l.invariant.large.space; given = c.in_ok-run.ensures.large.given ∙ l.invariant.large.given };
+      fits = subst (λ (n : ℕ). BlockFits (own_of c.args.piece.now) (space_of c.args.state.now) c.args.symbols.now.room (from all (i + 1)) n) (sym (c.name_from.ensures.count ∙ ap (λ (b : Bindings). length b.bound + name_count (statement_of a)) kept))
+          (block_fits (own_of c.args.piece.now) (space_of c.args.state.now) c.args.symbols.now.room all i a (length l.symbols.bound) c.loop-stmt-test.true c.stmt-item.is l.invariant.fits).2;
       extends = extends_both c.args.symbols.now l.symbols new l.invariant.extends (subst (λ (b : Bindings). Extends b new) kept c.name_from.ensures.extends);
       narrow = subst (λ (y : Symbols). BlockIsNarrow Own (from all (i + 1)) y) (sym now) (block_narrow Own all i a s c.loop-stmt-test.true c.stmt-item.is l.invariant.narrow).1;
       run = goes_on (steps A (actions S (statement_of a) s) (progress_of l.state)) (progress_of c.run.new.state) go whole (block_next A S all i a s (progress_of l.state) whole c.loop-stmt-test.true c.stmt-item.is l.invariant.run) c.in_ok-run.ensures.run
@@ -117,13 +116,14 @@ run_turns-run-requires g t c κs within =
     bound_now l.symbols c.bind.new.self c.turn.result turns.symbol z (int_le z turns.low) made is ∙ ap (λ (b : Bindings). bind (symbols_of b) turns.symbol z (int_le z turns.low)) l.invariant.symbols in
     let Own : Symbols → Type 0 = OwnIsSmall x in
     let narrow : StatementIsNarrow Own body (symbols_of c.bind.new.self) = subst (λ (y : Symbols). StatementIsNarrow Own body y) (sym now) (c.requires.narrow z (between_has turns.low turns.high z from_low to_high)) in
-    let limits = limits_of c.args.state.now.memory in
+    let own = own_of c.args.piece.now in
+    let space = space_of c.args.state.now in
     let more : c.bind.new.self ≡ also old c.turn.result = made ∙ ap (λ (b : Bindings). also b c.turn.result) l.invariant.symbols in
     let one : length old.bound + 1 ≡ length c.bind.new.self.bound = sym (ap (λ (b : Bindings). length b.bound) more ∙ length-append old.bound (c.turn.result ∷ [])) in
-    let fits : StatementFits (limits_of l.state.memory) c.bind.new.self.room body (length c.bind.new.self.bound) =
-    subst (λ ls. StatementFits ls c.bind.new.self.room body (length c.bind.new.self.bound)) (sym l.invariant.large.limits)
-    (subst (λ (m : ℕ). StatementFits limits m body (length c.bind.new.self.bound)) (sym (ap (λ (b : Bindings). b.room) more))
-    (subst (λ (m : ℕ). StatementFits limits old.room body m) one c.requires.fits)) in
+    let fits : StatementFits own (space_of l.state) c.bind.new.self.room body (length c.bind.new.self.bound) =
+    subst (λ (w : Space). StatementFits own w c.bind.new.self.room body (length c.bind.new.self.bound)) (sym l.invariant.large.space)
+    (subst (λ (m : ℕ). StatementFits own space m body (length c.bind.new.self.bound)) (sym (ap (λ (b : Bindings). b.room) more))
+    (subst (λ (m : ℕ). StatementFits own space old.room body m) one c.requires.fits)) in
     (first_of (search (rules, the_lemmas), omega arith), (search rules, (c.requires.ready, (narrow, fits))))
 
 pub run_turns-returns-in_err-run-clause-run : goal.run_turns-returns-in_err-run-clause-run
@@ -181,8 +181,8 @@ run_turns-loop-value-preserved g t c =
     let kept : c.run.new.symbols ≡ c.bind.new.self = c.in_ok-run.ensures.symbols in
     let count : c.bound_count-mark.result ≡ length l.symbols.bound = c.bound_count-mark.ensures ∙ ap (λ (b : Bindings). length b.bound) (sym l.invariant.symbols) in
     record {
-      large = record { limits = c.in_ok-run.ensures.large.limits ∙ l.invariant.large.limits; given = c.in_ok-run.ensures.large.given ∙ l.invariant.large.given };
-      symbols = c.forget.ensures ∙ (λ j. record { grid = (kept j).grid; bound = take c.bound_count-mark.result (kept j).bound; room = (kept j).room }) ∙ forgotten l.symbols c.bind.new.self c.turn.result c.bound_count-mark.result made count ∙ l.invariant.symbols;
+      large = record { space = c.in_ok-run.ensures.large.space ∙ l.invariant.large.space; given = c.in_ok-run.ensures.large.given ∙ l.invariant.large.given };
+      symbols = c.forget.ensures ∙ (λ j. record { grid = (kept j).grid; bound = take c.bound_count-mark.result (kept j).bound; grid_room = (kept j).grid_room; room = (kept j).room }) ∙ forgotten l.symbols c.bind.new.self c.turn.result c.bound_count-mark.result made count ∙ l.invariant.symbols;
       low = omega (arith, ints, l.invariant.low);
       run = later ∙ ap (λ (y : ℤ). steps A (flat_map f (between y turns.high)) (progress_of c.run.new.state)) (omega (arith, ints));
     }
@@ -227,10 +227,11 @@ run-run_turns-requires g t c κs within =
     let P : Turns → Type 0 = λ r. (z : ℤ) → Contains (between r.low r.high) z → StatementIsNarrow Own body (bind s r.symbol z (int_le z r.low)) in
     let Q : Stmt → Type 0 = λ b. (z : ℤ) → Contains (between (largest s c.in-For.span.lower) (smallest s c.in-For.span.upper)) z → StatementIsNarrow Own (statement_of b) (bind s c.in-For.symbol z (int_le z (largest s c.in-For.span.lower))) in
     let narrow : P c.turns_of-turns.result = subst P (sym c.turns_of-turns.ensures) (subst Q (sym same) (subst (λ (a : Stmt). StatementIsNarrow Own (statement_of a) s) c.in-For.is c.requires.narrow).1) in
-    let limits = limits_of c.args.state.now.memory in
+    let own = own_of c.args.piece.now in
+    let space = space_of c.args.state.now in
     let n = length c.args.symbols.now.bound in
-    let R : Stmt → Type 0 = λ b. (n < c.args.symbols.now.room) × StatementFits limits c.args.symbols.now.room (statement_of b) (n + 1) in
-    let needs : R c.deref-in-For.result.now = subst R (sym same) (subst (λ (a : Stmt). StatementFits limits c.args.symbols.now.room (statement_of a) n) c.in-For.is c.requires.fits) in
+    let R : Stmt → Type 0 = λ b. (n < c.args.symbols.now.room) × StatementFits own space c.args.symbols.now.room (statement_of b) (n + 1) in
+    let needs : R c.deref-in-For.result.now = subst R (sym same) (subst (λ (a : Stmt). StatementFits own space c.args.symbols.now.room (statement_of a) n) c.in-For.is c.requires.fits) in
     (search (rules, the_lemmas), (search rules, (c.requires.ready, (narrow, needs))))
 
 pub run-returns-in-For-clause-run : goal.run-returns-in-For-clause-run
@@ -257,7 +258,7 @@ run_block-run-requires g t c κs within =
     let all = c.args.all.now in
     let n = length l.symbols.bound in
     let narrow = (block_narrow Own all i a (symbols_of l.symbols) c.loop-stmt-test.true c.stmt-item.is l.invariant.narrow).0 in
-    let here = (block_fits (limits_of c.args.state.now.memory) c.args.symbols.now.room all i a n c.loop-stmt-test.true c.stmt-item.is l.invariant.fits).0 in
-    let fits = subst (λ ls. StatementFits ls l.symbols.room (statement_of a) n) (sym l.invariant.large.limits)
-    (subst (λ (m : ℕ). StatementFits (limits_of c.args.state.now.memory) m (statement_of a) n) (sym l.invariant.extends.room) here) in
+    let here = (block_fits (own_of c.args.piece.now) (space_of c.args.state.now) c.args.symbols.now.room all i a n c.loop-stmt-test.true c.stmt-item.is l.invariant.fits).0 in
+    let fits = subst (λ (w : Space). StatementFits (own_of x) w l.symbols.room (statement_of a) n) (sym l.invariant.large.space)
+    (subst (λ (m : ℕ). StatementFits (own_of c.args.piece.now) (space_of c.args.state.now) m (statement_of a) n) (sym l.invariant.extends.room) here) in
     (first_of (search (rules, the_lemmas), omega arith), (search rules, (c.requires.ready, (narrow, fits))))

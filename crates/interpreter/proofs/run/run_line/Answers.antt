@@ -1,4 +1,7 @@
-use Rattle.std.proofs.Common.{◌≡◌, List, ℤ, ℕ, Err, ◌≤ℤ◌, [], ◌∷◌, ◌+◌, ◌<◌, length, length-append, get_or, sym, ap, ◌∙◌, subst, take, rules, arith, pos, ◌+ℤ◌, w64, to_z, Option, Some, map}
+use Rattle.std.proofs.Common.{◌≡◌, List, ℤ, ℕ, Err, ◌≤ℤ◌, [], ◌∷◌, ◌+◌, ◌<◌, ◌≤◌, length, length-append, get_or, sym, ap, ◌∙◌, subst, take, rules, arith, pos, ◌+ℤ◌, w64, to_z, Option, Some, map}
+use Rattle.tree.specs.Term.{term_of}
+use Rattle.std.proofs.lemmas.List.{length-map}
+use Rattle.interpreter.specs.Evaluation.Indices.{indices_in}
 use Rattle.std.specs.Prelude.{Contains, flat_map, int_le}
 use Rattle.std.proofs.lemmas.Int.{ints, to_z-of_z}
 use Rattle.std.proofs.lemmas.Result.{err_from_is_err_and}
@@ -17,18 +20,18 @@ use Rattle.plan.specs.Semantics.Found.{with}
 use Rattle.interpreter.specs.declared.run.Turns.{Turns}
 use Rattle.interpreter.specs.Bindings.{Bindings, symbols_of, also, Extends}
 use Rattle.interpreter.specs.Buffers.Blocks.{limits_of, HasMemoryFor}
-use Rattle.interpreter.specs.Needs.{name_count, places_in, BlockFits, IndexIsShort, StatementFits}
+use Rattle.interpreter.specs.Needs.{places_in, StatementFits}
 use Rattle.interpreter.specs.Narrow.{StatementIsNarrow, BlockIsNarrow, IndexIsNarrow}
-use Rattle.interpreter.specs.Pieces.{around, setting, OwnIsSmall}
-use Rattle.interpreter.specs.States.{progress_of, EndsIn, IsAsLarge}
+use Rattle.interpreter.specs.Pieces.{around, own_of, setting, OwnIsSmall}
+use Rattle.interpreter.specs.States.{progress_of, space_of}
 use Rattle.interpreter.specs.Steps.{Progress, steps}
-use Rattle.interpreter.specs.Targets.{CoordinateIsNarrow, CoordinateIsShort}
+use Rattle.interpreter.specs.Targets.{indices_of_all, CoordinateIsNarrow}
 use Rattle.interpreter.specs.Visits.{between}
 use Rattle.interpreter.proofs.Bindings.{bound_now, forgotten, extends_both}
 use Rattle.interpreter.proofs.Counting.{between_has, between_none}
 use Rattle.interpreter.proofs.Ending.{goes_on}
 use Rattle.interpreter.proofs.Steps.{stops_in}
-use Rattle.interpreter.proofs.Running.{from, turns_next, block_next, block_narrow, block_fits}
+use Rattle.interpreter.proofs.Fitting.{indices_mapped}
 use Rattle.interpreter.proofs.Shorts.{all_unmapped}
 use Rattle.interpreter.proofs.run.run_line.Goals as goal
 
@@ -40,16 +43,35 @@ fetch-requires-clause-narrow g c =
 
 pub allot-requires-clause-memory : goal.allot-requires-clause-memory
 allot-requires-clause-memory g c =
-    let limits = limits_of c.args.state.now.memory in
-    subst (λ (l : List Places). HasMemoryFor limits c.in-Alloc.buffer (places_in l)) (sym c.deref.ensures.value)
-    (subst (λ (a : Stmt). StatementFits limits c.args.symbols.now.room (statement_of a) (length c.args.symbols.now.bound)) c.in-Alloc.is c.requires.fits).1
+    subst (λ (l : List Places). HasMemoryFor (limits_of c.args.state.now.memory) c.in-Alloc.buffer (places_in l)) (sym c.deref.ensures.value)
+    (subst (λ (a : Stmt). StatementFits (own_of c.args.piece.now) (space_of c.args.state.now) c.args.symbols.now.room (statement_of a) (length c.args.symbols.now.bound)) c.in-Alloc.is c.requires.fits).1
 
-pub store-requires-clause-short : goal.store-requires-clause-short
-store-requires-clause-short g c =
-    let fits = subst (λ (a : Stmt). StatementFits (limits_of c.args.state.now.memory) c.args.symbols.now.room (statement_of a) (length c.args.symbols.now.bound)) c.in-Store.is c.requires.fits in
-    let P : Coordinate → Type 0 = λ x. IndexIsShort x.index in
-    let Q : List CodeCoordinate → Type 0 = λ cs. (k : ℕ) (d : CodeCoordinate) → k < length cs → CoordinateIsShort (get_or cs k d) in
-    subst Q (sym c.deref-in-Store.ensures.value) (all_unmapped P coordinate_of c.in-Store.coordinates.items fits.1)
+pub fetch-requires-clause-room : goal.fetch-requires-clause-room
+fetch-requires-clause-room g c =
+    subst (λ (a : Stmt). StatementFits (own_of c.args.piece.now) (space_of c.args.state.now) c.args.symbols.now.room (statement_of a) (length c.args.symbols.now.bound)) c.in-Fetch.is c.requires.fits
+
+pub publish-requires-clause-room : goal.publish-requires-clause-room
+publish-requires-clause-room g c =
+    subst (λ (a : Stmt). StatementFits (own_of c.args.piece.now) (space_of c.args.state.now) c.args.symbols.now.room (statement_of a) (length c.args.symbols.now.bound)) c.in-Publish.is c.requires.fits
+
+pub store-requires-clause-numbers : goal.store-requires-clause-numbers
+store-requires-clause-numbers g c =
+    let cs = c.in-Store.coordinates.items in
+    let fits = subst (λ (a : Stmt). StatementFits (own_of c.args.piece.now) (space_of c.args.state.now) c.args.symbols.now.room (statement_of a) (length c.args.symbols.now.bound)) c.in-Store.is c.requires.fits in
+    subst (λ (n : ℕ). n ≤ c.args.state.now.numbers.room) (length-map cs coordinate_of ∙ ap length (sym c.deref-in-Store.ensures.value)) fits.0
+
+pub store-requires-clause-point : goal.store-requires-clause-point
+store-requires-clause-point g c =
+    let cs = c.in-Store.coordinates.items in
+    let fits = subst (λ (a : Stmt). StatementFits (own_of c.args.piece.now) (space_of c.args.state.now) c.args.symbols.now.room (statement_of a) (length c.args.symbols.now.bound)) c.in-Store.is c.requires.fits in
+    subst (λ (n : ℕ). n ≤ c.args.state.now.point.room) (length-map cs coordinate_of ∙ ap length (sym c.deref-in-Store.ensures.value)) fits.1
+
+pub store-requires-clause-stack : goal.store-requires-clause-stack
+store-requires-clause-stack g c =
+    let cs = c.in-Store.coordinates.items in
+    let k = indices_in (term_of c.in-Store.value) in
+    let fits = subst (λ (a : Stmt). StatementFits (own_of c.args.piece.now) (space_of c.args.state.now) c.args.symbols.now.room (statement_of a) (length c.args.symbols.now.bound)) c.in-Store.is c.requires.fits in
+    subst (λ (n : ℕ). n + k ≤ c.args.state.now.stack.room) (sym (indices_mapped cs) ∙ ap indices_of_all (sym c.deref-in-Store.ensures.value)) fits.2
 
 pub store-requires-clause-narrow : goal.store-requires-clause-narrow
 store-requires-clause-narrow g c =

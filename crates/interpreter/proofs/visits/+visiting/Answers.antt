@@ -1,4 +1,4 @@
-use Rattle.std.proofs.Common.{◌≡◌, List, ℤ, [], ◌∷◌, ◌++◌, length, ◌≤◌, ◌+◌, ◌-◌, take, sym, ap, ◌∙◌, subst, rules, arith, w64, SFits, to_z, of_z, pos, ℕ, Err, ◌+ℤ◌, ◌≤ℤ◌, Option, Some}
+use Rattle.std.proofs.Common.{◌≡◌, List, ℤ, [], ◌∷◌, ◌++◌, length, ◌≤◌, ◌+◌, ◌-◌, take, drop, sym, ap, ◌∙◌, subst, rules, arith, w64, SFits, to_z, of_z, pos, ℕ, Err, ◌+ℤ◌, ◌≤ℤ◌, Option, Some}
 use Rattle.std.specs.Prelude.{flat_map}
 use Rattle.std.proofs.lemmas.Int.{ints, to_z-of_z}
 use Rattle.std.proofs.lemmas.Bool.{ltb-false}
@@ -15,7 +15,8 @@ use Rattle.interpreter.specs.States.{progress_of, EndsIn, IsAsLarge}
 use Rattle.interpreter.specs.Steps.{Progress, steps}
 use Rattle.interpreter.specs.Visits.{at_point, between, extended}
 use Rattle.interpreter.specs.Narrow.{SpanIsNarrow}
-use Rattle.interpreter.proofs.Pointwise.{actions-last}
+use Rattle.interpreter.specs.Buffers.Blocks.{limits_of}
+use Rattle.interpreter.proofs.Pointwise.{actions-last, keeps_more}
 use Rattle.interpreter.proofs.Shorts.{by_last}
 use Rattle.interpreter.proofs.Ending.{goes_on}
 use Rattle.interpreter.proofs.Steps.{stops_in}
@@ -34,17 +35,22 @@ visit_numbers-loop-number-preserved g t c =
     let l = c.loop-number in
     let z : ℤ = to_z w64 l.number-bits in
     let high = c.args.numbers.high in
-    let f : ℤ → List Action = λ y. flat_map act (extended s region (y ∷ c.args.point.now)) in
+    let rest = drop (length region + 1) c.args.state.now.point.items in
+    let f : ℤ → List Action = λ y. flat_map act (extended s region (y ∷ rest)) in
     let p = progress_of l.state in
     let whole : Option Progress = steps A (flat_map f (between c.args.numbers.low high)) (progress_of c.args.state.now) in
     let to_high : z ≤ℤ high = first_of (omega (arith, ints), grind (arith, ints)) in
-    let longer : c.deref.result.now ≡ z ∷ c.args.point.now = first_of (search rules, search (rules, to_z-of_z)) in
+    let longer : drop (length region) c.set.new.self.items ≡ z ∷ rest = c.set.ensures.from ∙ ap (λ (q : List ℤ). z ∷ q) l.invariant.kept.from in
     let go : Progress → Option Progress = steps A (flat_map f (between (z +ℤ pos 1) high)) in
     let next = turns_next A f z high p whole to_high l.invariant.run in
     let done : steps A (f z) p ≡ Some (progress_of c.visit_region.new.state) = ap (λ (q : List ℤ). steps A (flat_map act (extended s region q)) p) (sym longer) ∙ c.in_ok-visit_region.ensures.run in
     let later : whole ≡ steps A (flat_map f (between (z +ℤ pos 1) high)) (progress_of c.visit_region.new.state) = goes_on (steps A (f z) p) (progress_of c.visit_region.new.state) go whole next done in
     record {
-      large = record { limits = c.in_ok-visit_region.ensures.large.limits ∙ l.invariant.large.limits; given = c.in_ok-visit_region.ensures.large.given ∙ l.invariant.large.given };
+      large = record {
+        space = c.in_ok-visit_region.ensures.large.space ∙ ap (λ (n : ℕ). record { limits = limits_of l.state.memory; numbers = l.state.numbers.room; point = n; stack = l.state.stack.room }) c.set.ensures.room ∙ l.invariant.large.space;
+        given = c.in_ok-visit_region.ensures.large.given ∙ l.invariant.large.given;
+      };
+      kept = keeps_more (length region) c.args.state.now.point l.state.point c.set.new.self c.visit_region.new.state.point z l.invariant.kept c.set.ensures.from c.set.ensures.count c.in_ok-visit_region.ensures.kept;
       run = later ∙ ap (λ (y : ℤ). steps A (flat_map f (between y high)) (progress_of c.visit_region.new.state)) (omega (arith, ints));
     }
 
@@ -59,16 +65,17 @@ visit_numbers-returns-in_err-visit_region-clause-run g t c =
     let l = c.loop-number in
     let z : ℤ = to_z w64 l.number-bits in
     let high = c.args.numbers.high in
-    let f : ℤ → List Action = λ y. flat_map act (extended s region (y ∷ c.args.point.now)) in
+    let rest = drop (length region + 1) c.args.state.now.point.items in
+    let f : ℤ → List Action = λ y. flat_map act (extended s region (y ∷ rest)) in
     let p = progress_of l.state in
     let whole : Option Progress = steps A (flat_map f (between c.args.numbers.low high)) (progress_of c.args.state.now) in
     let to_high : z ≤ℤ high = first_of (omega (arith, ints), grind (arith, ints)) in
-    let longer : c.deref.result.now ≡ z ∷ c.args.point.now = first_of (search rules, search (rules, to_z-of_z)) in
+    let longer : drop (length region) c.set.new.self.items ≡ z ∷ rest = c.set.ensures.from ∙ ap (λ (q : List ℤ). z ∷ q) l.invariant.kept.from in
     let go : Progress → Option Progress = steps A (flat_map f (between (z +ℤ pos 1) high)) in
     let next = turns_next A f z high p whole to_high l.invariant.run in
     let e = err_from_is_err_and c.from_residual.result c.from_residual.ensures.1 in
     let later : List Action = flat_map f (between (z +ℤ pos 1) high) in
-    let o : Option Progress = steps A (flat_map act (extended s region c.deref.result.now)) p in
+    let o : Option Progress = steps A (flat_map act (extended s region (drop (length region) c.set.new.self.items))) p in
     let new : Progress = progress_of c.visit_region.new.state in
     let ended : EndsIn c.args.state.now.given.capacity (λ (_ : Unit {0}). new) (Err c.in_err-visit_region.field-0.0) o =
     subst (λ (n : ℕ). EndsIn n (λ (_ : Unit {0}). new) (Err c.in_err-visit_region.field-0.0) o) l.invariant.large.given c.in_err-visit_region.ensures.run in
@@ -86,16 +93,22 @@ visit_numbers-returns-in_ok-visit_region-clause-run g t c =
     let l = c.loop-number in
     let z : ℤ = to_z w64 l.number-bits in
     let high = c.args.numbers.high in
-    let f : ℤ → List Action = λ y. flat_map act (extended s region (y ∷ c.args.point.now)) in
+    let rest = drop (length region + 1) c.args.state.now.point.items in
+    let f : ℤ → List Action = λ y. flat_map act (extended s region (y ∷ rest)) in
     let p = progress_of l.state in
     let whole : Option Progress = steps A (flat_map f (between c.args.numbers.low high)) (progress_of c.args.state.now) in
     let to_high : z ≤ℤ high = first_of (omega (arith, ints), grind (arith, ints)) in
-    let longer : c.deref.result.now ≡ z ∷ c.args.point.now = first_of (search rules, search (rules, to_z-of_z)) in
+    let longer : drop (length region) c.set.new.self.items ≡ z ∷ rest = c.set.ensures.from ∙ ap (λ (q : List ℤ). z ∷ q) l.invariant.kept.from in
     let go : Progress → Option Progress = steps A (flat_map f (between (z +ℤ pos 1) high)) in
     let next = turns_next A f z high p whole to_high l.invariant.run in
     let done : steps A (f z) p ≡ Some (progress_of c.visit_region.new.state) = ap (λ (q : List ℤ). steps A (flat_map act (extended s region q)) p) (sym longer) ∙ c.in_ok-visit_region.ensures.run in
     let later : whole ≡ steps A (flat_map f (between (z +ℤ pos 1) high)) (progress_of c.visit_region.new.state) = goes_on (steps A (f z) p) (progress_of c.visit_region.new.state) go whole next done in
     later ∙ ap (λ (ys : List ℤ). steps A (flat_map f ys) (progress_of c.visit_region.new.state)) (between_none (z +ℤ pos 1) high (omega (arith, ints)))
+
+pub visit_numbers-returns-in_ok-visit_region-clause-kept : goal.visit_numbers-returns-in_ok-visit_region-clause-kept
+visit_numbers-returns-in_ok-visit_region-clause-kept g t c =
+    let l = c.loop-number in
+    keeps_more (length c.args.region.now) c.args.state.now.point l.state.point c.set.new.self c.visit_region.new.state.point (to_z w64 l.number-bits) l.invariant.kept c.set.ensures.from c.set.ensures.count c.in_ok-visit_region.ensures.kept
 
 pub visit_region-visit_numbers-requires : goal.visit_region-visit_numbers-requires
 visit_region-visit_numbers-requires g t c κs within =
@@ -103,7 +116,7 @@ visit_region-visit_numbers-requires g t c κs within =
     let long : 1 ≤ length r = omega (arith, ltb-false) in
     let short : length (take (length r - 1) r) + 1 ≡ length r = grind (arith, common_steps) in
     let P : Span1 → Type 0 = SpanIsNarrow (symbols_of c.args.walk.now.symbols.now) in
-    (first_of (search rules, omega arith, grind (arith, common_steps)), (search rules, (All-take P (length r - 1) r c.requires.region, (c.requires.visit, omega (arith, c.requires.short)))))
+    (first_of (search rules, omega arith, grind (arith, common_steps)), (search rules, (All-take P (length r - 1) r c.requires.region, (c.requires.visit, omega (arith, c.requires.long)))))
 
 pub visit_region-returns-in-len1-up-clause-run : goal.visit_region-returns-in-len1-up-clause-run
 visit_region-returns-in-len1-up-clause-run g t c =
@@ -113,7 +126,7 @@ visit_region-returns-in-len1-up-clause-run g t c =
     let s = symbols_of w.symbols.now in
     let act : List ℤ → List Action = at_point x w.visit in
     let r = c.args.region.now in
-    let point = c.args.point.now in
+    let point = drop (length r) c.args.state.now.point.items in
     let span : Span1 = c.span-item.result in
     let outer : List Span1 = take (length r - 1) r in
     let f : ℤ → List Action = λ y. flat_map act (extended s outer (y ∷ point)) in
@@ -123,6 +136,8 @@ visit_region-returns-in-len1-up-clause-run g t c =
     let high_fits : SFits w64 c.smallest.result = search rules in
     let low : to_z w64 (of_z w64 c.largest.result) ≡ largest s span.lower = to_z-of_z w64 c.largest.result low_fits ∙ c.largest.ensures in
     let high : to_z w64 (of_z w64 c.smallest.result) ≡ smallest s span.upper = to_z-of_z w64 c.smallest.result high_fits ∙ c.smallest.ensures in
-    let e : flat_map f (between (to_z w64 (of_z w64 c.largest.result)) (to_z w64 (of_z w64 c.smallest.result))) ≡ flat_map act (extended s r point) =
-    (λ i. flat_map f (between (low i) (high i))) ∙ sym (actions-last s act outer span point) ∙ ap (λ (xs : List Span1). flat_map act (extended s xs point)) (sym parts) in
+    let short : length outer + 1 ≡ length r = grind (arith, common_steps) in
+    let h : ℕ → ℤ → List Action = λ n y. flat_map act (extended s outer (y ∷ drop n c.args.state.now.point.items)) in
+    let e : flat_map (h (length outer + 1)) (between (to_z w64 (of_z w64 c.largest.result)) (to_z w64 (of_z w64 c.smallest.result))) ≡ flat_map act (extended s r point) =
+    (λ i. flat_map (h (short i)) (between (low i) (high i))) ∙ sym (actions-last s act outer span point) ∙ ap (λ (xs : List Span1). flat_map act (extended s xs point)) (sym parts) in
     subst (λ (xs : List Action). EndsIn c.args.state.now.given.capacity (λ _. progress_of c.visit_numbers.new.state) c.visit_numbers.result (steps A xs (progress_of c.args.state.now))) e c.visit_numbers.ensures.run

@@ -20,10 +20,10 @@ is_in_region-requires g c =
 pub returns-then-is_in_region-clause-run : goal.returns-then-is_in_region-clause-run
 returns-then-is_in_region-clause-run g c =
     let x = c.args.walk.now.piece.now in
-    let p = c.args.point.now in
+    let p = c.args.state.now.point.items in
     let cell = g.C.Cells.cell c.args.cells.now in
     let inside : is_in_region (symbols_of x.constants.now) x.group.now.region p ≡ true =
-    ap (λ (r : List Span1). is_in_region (symbols_of x.constants.now) r p) (sym c.as_slice-region.ensures) ∙ sym c.is_in_region.ensures ∙ c.if-is_in_region.true in
+    (λ i. is_in_region (symbols_of x.constants.now) (sym c.as_slice-region.ensures i) (sym c.as_slice-in-Publish.ensures i)) ∙ sym c.is_in_region.ensures ∙ c.if-is_in_region.true in
     let e : at_point x c.args.walk.now.visit p ≡ Give c.in-Publish.claim p ∷ [] =
     ap (λ (v : Visit). at_point x v p) c.in-Publish.is ∙ ap (λ (b : Bool). if b then Give c.in-Publish.claim p ∷ [] else []) inside in
     subst (λ (l : List Action). EndsIn c.args.state.now.given.capacity (λ _. progress_of c.give.new.state) c.give.result (steps (around x cell) l (progress_of c.args.state.now))) (sym e) (c.give.ensures.give cell)

@@ -1,0 +1,21 @@
+//! What watches the workers.
+
+/// What the workers of a crew tell of their pieces, each from its own thread. It hears which pieces, and nothing of their
+/// values.
+pub trait Gate: Sync {
+    /// A worker drew this piece, and goes on with it once this returns.
+    fn enter(&self, piece: u32);
+
+    /// A worker finished this piece, and draws the next once this returns.
+    fn leave(&self, piece: u32);
+}
+
+/// A gate that lets all workers pass.
+#[derive(Clone, Copy, Debug, Drop)]
+pub struct Unwatched;
+
+impl Gate for Unwatched {
+    fn enter(&self, _piece: u32) {}
+
+    fn leave(&self, _piece: u32) {}
+}
