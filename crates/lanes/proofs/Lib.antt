@@ -1,0 +1,2 @@
+pub mod OfVectors
+pub mod Wrapped

@@ -1,0 +1,5 @@
+use Rattle.lanes.proofs.OfVectors.{sums_u8}
+use Rattle.lanes.proofs.sums.SumVectorsU832.whole.Goals as goal
+
+pub returns : goal.returns
+returns c = sums_u8 c.args.at c.args.a.now c.args.b.now c.args.out.now c.requires.left c.requires.right c.requires.room c.type_inv.a c.type_inv.b

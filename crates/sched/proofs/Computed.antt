@@ -1,0 +1,18 @@
+-- Schedules written out, computed.
+use Rattle.std.proofs.Common.{refl}
+use Rattle.sched.specs.Worked.{RowsStand, TilesStand, OutsideStands, UpdatesStand, BlocksStand}
+
+pub rows_stand : RowsStand
+rows_stand = record { in_order = refl; parallel_rows = refl; columns = refl }
+
+pub tiles_stand : TilesStand
+tiles_stand = record { guard = refl; roundup = refl; shift = refl; one_piece = refl }
+
+pub outside_stands : OutsideStands
+outside_stands = record { guard = refl; shift = refl }
+
+pub updates_stand : UpdatesStand
+updates_stand = record { pure = refl; scattered = refl; parallel_refused = refl }
+
+pub blocks_stand : BlocksStand
+blocks_stand = record { guard = refl; shift = refl }

@@ -1,0 +1,12 @@
+pub mod Words
+pub mod Schedule
+pub mod View
+pub mod Reading
+pub mod Grammar
+pub mod Text
+pub mod Placing
+pub mod Subjects
+pub mod Numbers
+pub mod Standing
+pub mod Skeleton
+pub mod Worked

@@ -1,0 +1,312 @@
+-- What directives make of the loops of a function, and which rule they break.
+use Rattle.std.specs.Prelude.{◌≡◌, ℕ, Bool, true, false, not, ◌&&◌, ◌||◌, ◌==◌, nat_le, nat_lt, if◌then◌else◌, List, [], ◌∷◌, ◌++◌, ◌+◌, map, drop, find, position, slice_get, slice_set, Option, Some, None, Result, Ok, Err}
+use Rattle.std.specs.List.{flat_map, list_any, list_all}
+use Rattle.meaning.specs.Names.{same_name, is_among}
+use Rattle.sched.specs.declared.schedule.Split.{Split}
+use Rattle.sched.specs.declared.schedule.Tile.{Tile}
+use Rattle.sched.specs.declared.schedule.Tail.TheVariants as tails
+use Rattle.sched.specs.declared.placing.Mark.{Mark}
+use Rattle.sched.specs.declared.placing.Mark.TheVariants as mark
+use Rattle.sched.specs.declared.placing.Loop.{Loop}
+use Rattle.sched.specs.declared.placing.Subject.{Subject}
+use Rattle.sched.specs.declared.placing.Placed.{Placed}
+use Rattle.sched.specs.declared.error.Rule.{Rule}
+use Rattle.sched.specs.declared.error.Rule.TheVariants as rule
+use Rattle.sched.specs.declared.placing.Halt.{Halt}
+use Rattle.sched.specs.declared.placing.Halt.TheVariants as halt
+use Rattle.sched.specs.declared.error.SchedError.{SchedError}
+use Rattle.sched.specs.declared.error.SchedError.TheVariants as error
+use Rattle.std.specs.declared.vec.Vec.{Vec}
+use Rattle.std.specs.Global.{Global}
+use Rattle.sched.specs.Schedule.{ScheduledText, Schedule, DirectiveText, compute_root, compute_at, store_at, fold, split, tile, reorder, unroll, vectorize, parallel}
+
+-- what a schedule has to know of a function: its name, its variables, the reduction variables of its updates, the dimensions for
+-- which some update has no pure variable, and whether it has updates, is a root function, and is stored
+pub record SubjectText : Type 0 where
+  pub name : List ℕ
+  pub variables : List (List ℕ)
+  pub reductions : List (List ℕ)
+  pub scattered : List ℕ
+  pub has_updates : Bool
+  pub is_root : Bool
+  pub is_stored : Bool
+
+-- what directives have made of a function: its loops, the innermost first, its splits in the order of the text, and the names that are used up
+pub record PlacedText : Type 0 where
+  pub loops : List Loop
+  pub cuts : List Split
+  pub used : List (List ℕ)
+
+abbrev pub subject_of : Subject → SubjectText
+subject_of s = record { name = s.name; variables = s.variables.items; reductions = s.reductions.items; scattered = s.scattered.items; has_updates = s.has_updates; is_root = s.is_root; is_stored = s.is_stored }
+
+abbrev pub placed_of : Placed → PlacedText
+placed_of p = record { loops = p.loops.items; cuts = p.cuts.items; used = p.used.items }
+
+-- ---- names
+
+abbrev pub has_loop : List Loop → List ℕ → Bool
+has_loop loops x = list_any (λ l. same_name l.name x) loops
+
+-- the name is that of a loop or of a reduction variable
+abbrev pub is_known : SubjectText → List Loop → List ℕ → Bool
+is_known f loops x = has_loop loops x || is_among f.reductions x
+
+-- ---- splits
+
+-- a reduction variable, a name that is used already, or a factor out of 1 to 1024
+abbrev pub breaks_split : SubjectText → PlacedText → Split → Bool
+breaks_split f p s = is_among f.reductions s.whole || is_among p.used s.outer || is_among p.used s.inner || same_name s.outer s.inner || s.factor == 0 || nat_lt 1024 s.factor
+
+-- the inner loop takes the place of the loop, and the outer one stands directly outside it
+abbrev pub cut_loop : Split → Loop → List Loop
+cut_loop s l =
+    if same_name l.name s.whole
+    then record { name = s.inner; dimension = l.dimension; within = Some s.factor; mark = None } ∷ record { name = s.outer; dimension = l.dimension; within = None; mark = None } ∷ []
+    else l ∷ []
+
+-- a name that is used up stays used
+abbrev pub cut : Split → PlacedText → PlacedText
+cut s p = record { loops = flat_map (cut_loop s) p.loops; cuts = p.cuts ++ s ∷ []; used = p.used ++ s.outer ∷ s.inner ∷ [] }
+
+abbrev pub split_in : SubjectText → Split → PlacedText → Result PlacedText Rule
+split_in f s p =
+    if not (is_known f p.loops s.whole) then Err rule.UnknownName
+    else (if breaks_split f p s then Err rule.BadSplit else Ok (cut s p))
+
+-- ---- reorder
+
+-- some name stands twice
+abbrev pub has_double : List (List ℕ) → Bool
+has_double [] = false
+has_double (x ∷ xs) = is_among xs x || has_double xs
+
+abbrev pub loop_named : List Loop → List ℕ → Option Loop
+loop_named loops x = find (λ l. same_name l.name x) loops
+
+abbrev pub with_next : Option Loop → List Loop → List Loop
+with_next (Some l) ls = l ∷ ls
+with_next None ls = ls
+
+-- the loops of these names, in their order
+abbrev pub loops_named : List Loop → List (List ℕ) → List Loop
+loops_named loops [] = []
+loops_named loops (x ∷ xs) = with_next (loop_named loops x) (loops_named loops xs)
+
+abbrev pub or_next : Loop → List Loop → (List Loop → List Loop) → List Loop
+or_next l [] more = l ∷ more []
+or_next l (next ∷ others) more = next ∷ more others
+
+-- the places of the loops of these names are filled by the next ones in turn
+abbrev pub filled : List (List ℕ) → List Loop → List Loop → List Loop
+filled names next [] = []
+filled names next (l ∷ ls) = if is_among names l.name then or_next l next (λ others. filled names others ls) else l ∷ filled names next ls
+
+abbrev pub all_known : SubjectText → List Loop → List (List ℕ) → Bool
+all_known f loops names = list_all (is_known f loops) names
+
+abbrev pub any_reduction : SubjectText → List (List ℕ) → Bool
+any_reduction f names = list_any (is_among f.reductions) names
+
+abbrev pub reorder_in : SubjectText → List (List ℕ) → PlacedText → Result PlacedText Rule
+reorder_in f names p =
+    if not (all_known f p.loops names) then Err rule.UnknownName
+    else (if any_reduction f names || has_double names then Err rule.BadReorder
+    else Ok (record p { loops = filled names (loops_named p.loops names) p.loops }))
+
+-- ---- marks
+
+abbrev pub is_marked : Loop → Bool
+is_marked l = elim l.mark [ Some m ↦ true | None ↦ false ]
+
+-- the inner loop of a split with factor at most 64
+abbrev pub is_short : Loop → Bool
+is_short l = elim l.within [ Some n ↦ nat_le n 64 | None ↦ false ]
+
+-- some loop of this name is marked, or is not the inner loop of a split with factor at most 64
+abbrev pub breaks_mark : List Loop → List ℕ → Bool
+breaks_mark loops x = list_any (λ l. same_name l.name x && (is_marked l || not (is_short l))) loops
+
+abbrev pub is_scattered : SubjectText → Loop → Bool
+is_scattered f l = list_any (λ d. d == l.dimension) f.scattered
+
+-- some loop of this name is marked, or walks a dimension for which some update has no pure variable
+abbrev pub breaks_parallel : SubjectText → List Loop → List ℕ → Bool
+breaks_parallel f loops x = list_any (λ l. same_name l.name x && (is_marked l || is_scattered f l)) loops
+
+abbrev pub mark_loop : Mark → List ℕ → Loop → Loop
+mark_loop m x l = if same_name l.name x then record { name = l.name; dimension = l.dimension; within = l.within; mark = Some m } else l
+
+abbrev pub marked : Mark → List ℕ → PlacedText → PlacedText
+marked m x p = record p { loops = map (mark_loop m x) p.loops }
+
+-- unroll and vectorize
+abbrev pub mark_in : SubjectText → Mark → List ℕ → PlacedText → Result PlacedText Rule
+mark_in f m x p =
+    if not (is_known f p.loops x) then Err rule.UnknownName
+    else (if is_among f.reductions x || breaks_mark p.loops x then Err rule.BadMark else Ok (marked m x p))
+
+abbrev pub parallel_in : SubjectText → List ℕ → PlacedText → Result PlacedText Rule
+parallel_in f x p =
+    if not (is_known f p.loops x) then Err rule.UnknownName
+    else (if is_among f.reductions x || not f.is_root || breaks_parallel f p.loops x then Err rule.BadParallel else Ok (marked mark.Parallel x p))
+
+-- ---- directives, one after another
+
+abbrev pub and_next : Result PlacedText Rule → (PlacedText → Result PlacedText Rule) → Result PlacedText Rule
+and_next (Ok p) f = f p
+and_next (Err r) f = Err r
+
+abbrev pub x_split : Tile → Split
+x_split t = record { whole = t.x; outer = t.x_outer; inner = t.x_inner; factor = t.x_factor; tail = t.tail }
+
+abbrev pub y_split : Tile → Split
+y_split t = record { whole = t.y; outer = t.y_outer; inner = t.y_inner; factor = t.y_factor; tail = t.tail }
+
+-- both splits, and then the inner loops inside the outer ones
+abbrev pub tile_in : SubjectText → Tile → PlacedText → Result PlacedText Rule
+tile_in f t p = and_next (and_next (split_in f (x_split t) p) (split_in f (y_split t))) (reorder_in f (t.x_inner ∷ t.y_inner ∷ t.x_outer ∷ t.y_outer ∷ []))
+
+abbrev pub fold_in : SubjectText → List ℕ → PlacedText → Result PlacedText Rule
+fold_in f d p = if is_among f.variables d then Ok p else Err rule.UnknownName
+
+-- What one directive makes of a function. Where a function is computed and stored changes none of its loops.
+abbrev pub applied : SubjectText → DirectiveText → PlacedText → Result PlacedText Rule
+applied f compute_root p = Ok p
+applied f (compute_at h) p = Ok p
+applied f (store_at h) p = Ok p
+applied f (fold d) p = fold_in f d.dimension p
+applied f (split s) p = split_in f s p
+applied f (tile t) p = tile_in f t p
+applied f (reorder names) p = reorder_in f names p
+applied f (unroll x) p = mark_in f mark.Unrolled x p
+applied f (vectorize x) p = mark_in f mark.Vectorized x p
+applied f (parallel x) p = parallel_in f x p
+
+-- the variables as loops, of which the first walks this dimension
+abbrev pub starting : ℕ → List (List ℕ) → List Loop
+starting d [] = []
+starting d (x ∷ xs) = record { name = x; dimension = d; within = None; mark = None } ∷ starting (d + 1) xs
+
+-- before the first directive
+abbrev pub start : SubjectText → PlacedText
+start f = record { loops = starting 0 f.variables; cuts = []; used = f.variables ++ f.reductions }
+
+-- in the order of the text, up to the first that breaks a rule
+abbrev pub all_in : SubjectText → List DirectiveText → PlacedText → Result PlacedText Rule
+all_in f [] p = Ok p
+all_in f (d ∷ ds) p = and_next (applied f d p) (all_in f ds)
+
+-- ---- what is asked of the loops behind the last directive
+
+abbrev pub is_vectorized : Loop → Bool
+is_vectorized l = elim l.mark [ Some mark.Vectorized ↦ true | _ ↦ false ]
+
+abbrev pub is_parallel : Loop → Bool
+is_parallel l = elim l.mark [ Some mark.Parallel ↦ true | _ ↦ false ]
+
+-- some loop outside of a parallel one is not parallel
+abbrev pub has_parallel_inside : List Loop → Bool
+has_parallel_inside [] = false
+has_parallel_inside (l ∷ ls) = is_parallel l && not (list_all is_parallel ls) || has_parallel_inside ls
+
+-- some vectorised loop is not the innermost
+abbrev pub has_vectorized_outside : List Loop → Bool
+has_vectorized_outside loops = list_any is_vectorized (drop 1 loops)
+
+abbrev pub is_shifted : Split → Bool
+is_shifted s = elim s.tail [ tails.Shift ↦ true | tails.Guard ↦ false | tails.Roundup ↦ false ]
+
+-- the rule of the lowest number that the whole breaks: L4 and L5 by its marks, L8 by a shift in spite of updates, L10 by updates that are not stored
+abbrev pub end_fault : SubjectText → PlacedText → Option Rule
+end_fault f p =
+    if has_vectorized_outside p.loops then Some rule.BadMark
+    else (if has_parallel_inside p.loops then Some rule.BadParallel
+    else (if f.has_updates && list_any is_shifted p.cuts then Some rule.BadShift
+    else (if f.has_updates && not f.is_stored then Some rule.InlineUpdates else None)))
+
+-- ---- what a function that applies directives answers
+
+-- what is told, unless memory ran out
+abbrev pub Places : {X : Type 0} → Result X Halt → PlacedText → Result PlacedText Rule → Type 0
+Places (Ok x) new told = told ≡ Ok new
+Places (Err halt.Memory) new told = Unit {0}
+Places (Err (halt.Broken r)) new told = told ≡ Err r
+
+-- the dimension of a fold is one of the function
+abbrev pub Folds : {X : Type 0} → Result X Halt → Bool → Type 0
+Folds (Ok x) known = known ≡ true
+Folds (Err halt.Memory) known = ⊥
+Folds (Err (halt.Broken r)) known = (known ≡ false) × (r ≡ rule.UnknownName)
+
+-- ---- a whole schedule
+
+-- what becomes of all functions, or the rule that is broken and the name of the function
+abbrev pub Outcome : Type 0
+Outcome = Result (List PlacedText) (Rule × List ℕ)
+
+-- what becomes of the function of this number
+abbrev pub with_placed : List PlacedText → ℕ → List ℕ → Result PlacedText Rule → Outcome
+with_placed ps i x (Ok q) = Ok (slice_set ps i q)
+with_placed ps i x (Err r) = Err (r, x)
+
+abbrev pub placed_at : List PlacedText → ℕ → ScheduledText → Option Subject → Option PlacedText → Outcome
+placed_at ps i s (Some f) (Some p) = with_placed ps i s.function (all_in (subject_of f) s.directives p)
+placed_at ps i s _ _ = Err (rule.UnknownName, s.function)
+
+abbrev pub numbered : List Subject → ScheduledText → List PlacedText → Option ℕ → Outcome
+numbered fs s ps None = Err (rule.UnknownName, s.function)
+numbered fs s ps (Some i) = placed_at ps i s (slice_get fs i) (slice_get ps i)
+
+-- the directives are those of the function of this name
+abbrev pub scheduled_in : List Subject → ScheduledText → List PlacedText → Outcome
+scheduled_in fs s ps = numbered fs s ps (position (λ f. same_name f.name s.function) fs)
+
+abbrev pub and_then : Outcome → (List PlacedText → Outcome) → Outcome
+and_then (Ok ps) f = f ps
+and_then (Err e) f = Err e
+
+-- in the order of the text, up to the first directive that breaks a rule
+abbrev pub schedule_in : List Subject → Schedule → List PlacedText → Outcome
+schedule_in fs [] ps = Ok ps
+schedule_in fs (s ∷ ss) ps = and_then (scheduled_in fs s ps) (schedule_in fs ss)
+
+abbrev pub or_later : Option Rule → List ℕ → Option (Rule × List ℕ) → Option (Rule × List ℕ)
+or_later (Some r) x later = Some (r, x)
+or_later None x later = later
+
+-- the first function, in the order of declaration, of which the whole breaks a rule
+abbrev pub first_fault : List SubjectText → List PlacedText → Option (Rule × List ℕ)
+first_fault [] ps = None
+first_fault (f ∷ fs) [] = None
+first_fault (f ∷ fs) (p ∷ ps) = or_later (end_fault f p) f.name (first_fault fs ps)
+
+abbrev pub unless_fault : Option (Rule × List ℕ) → List PlacedText → Outcome
+unless_fault None ps = Ok ps
+unless_fault (Some e) ps = Err e
+
+-- what a schedule makes of these functions
+abbrev pub placing : List Subject → Schedule → Outcome
+placing fs schedule = and_then (schedule_in fs schedule (map start (map subject_of fs))) (λ ps. unless_fault (first_fault (map subject_of fs) ps) ps)
+
+-- the text has a compute_root of this function
+abbrev pub is_root_directive : DirectiveText → Bool
+is_root_directive compute_root = true
+is_root_directive d = false
+
+abbrev pub has_root : Schedule → List ℕ → Bool
+has_root schedule x = list_any (λ s. same_name s.function x && list_any is_root_directive s.directives) schedule
+
+-- what is told of all functions, unless memory ran out
+abbrev pub Arranges : {X : Type 0} → Result X SchedError → List PlacedText → Outcome → Type 0
+Arranges (Ok x) new told = told ≡ Ok new
+Arranges (Err error.Memory) new told = Unit {0}
+Arranges (Err (error.Broken r x)) new told = told ≡ Err (r, x)
+Arranges (Err (error.BadToken span)) new told = ⊥
+Arranges (Err (error.BadForm span)) new told = ⊥
+Arranges (Err (error.TooLarge span)) new told = ⊥
+
+-- the same where all functions are the value
+abbrev pub Arranged : Result (Vec Placed Global) SchedError → Outcome → Type 0
+Arranged (Ok v) told = told ≡ Ok (map placed_of v.items)
+Arranged (Err e) told = Arranges {X = ℕ} (Err e) [] told

@@ -1,0 +1,147 @@
+-- What stands at a place of a nest: the forms of loops and of blocks, as soon as the symbols in them are bound.
+use Rattle.std.specs.Prelude.{◌≡◌, ℕ, ◌+◌, ◌-◌, ◌%◌, ◌==◌, ℤ, pos, negsuc, ◌+ℤ◌, ◌-ℤ◌, Bool, true, false, not, ◌&&◌, ◌||◌, if◌then◌else◌, List, [], ◌∷◌, ◌++◌, find, reverse, Option, Some, None}
+use Rattle.std.specs.List.{flat_map, list_any, last_or}
+use Rattle.std.specs.Option.{option_map}
+use Rattle.std.specs.Ordering.{int_eq}
+use Rattle.lin.specs.Forms.{Form, number, combined, without}
+use Rattle.lin.specs.declared.form.Multiple.{Multiple}
+use Rattle.lin.specs.declared.span.Span1.{Span1}
+use Rattle.plan.specs.declared.stmt.Kind.{Kind}
+use Rattle.plan.specs.declared.stmt.Pick.{Pick}
+use Rattle.plan.specs.declared.stmt.Pick.TheVariants.{Min}
+use Rattle.meaning.specs.Names.{same_name, is_among}
+use Rattle.sched.specs.declared.schedule.Split.{Split}
+use Rattle.sched.specs.declared.schedule.Tail.{Tail}
+use Rattle.sched.specs.declared.schedule.Tail.TheVariants as tails
+use Rattle.sched.specs.Numbers.{Numbers, numbers_named, last_number}
+
+-- None where a form leaves the limits
+infixl 10 ◌>>=◌
+abbrev pub ◌>>=◌ : {A B : Type 0} → Option A → (A → Option B) → Option B
+(Some x) >>= f = f x
+None >>= f = None
+
+-- ---- steps down to a store
+
+pub data Step : Type 0 where
+  -- the turns of a loop over a span
+  Turns : (symbol : ℕ) (span : Span1) (kind : Kind) → Step
+  -- a symbol for the smallest or largest of some forms
+  Named : (symbol : ℕ) (pick : Pick) (forms : List Form) → Step
+  -- a guard: the one form is at most the other
+  Tested : (low high : Form) → Step
+
+-- ---- what stands at a place of a nest
+
+-- the form that a loop's number is
+pub record Known : Type 0 where
+  pub name : List ℕ
+  pub form : Form
+
+-- the forms of loops, also of those that were split; those of the first numbers of a split's blocks, under the name of the loop that
+-- was split; the symbols of the nest's loops; the next symbol; the steps so far, and further upper forms of the innermost loop
+pub record Standing : Type 0 where
+  pub known : List Known
+  pub starts : List Known
+  pub bound : List ℕ
+  pub next : ℕ
+  pub steps : List Step
+  pub limits : List Form
+
+abbrev pub form_named : List Known → List ℕ → Option Form
+form_named ks x = option_map (λ k. k.form) (find (λ k. same_name k.name x) ks)
+
+-- a number and a symbol
+abbrev pub counted_from : ℤ → ℕ → Form
+counted_from z s = record { constant = z; terms = record { symbol = s; factor = pos 1 } ∷ [] }
+
+abbrev pub alone : ℕ → Form
+alone s = counted_from (pos 0) s
+
+abbrev pub is_now : List ℕ → Form → Standing → Standing
+is_now x form st = record st { known = st.known ++ record { name = x; form = form } ∷ [] }
+
+abbrev pub starts_at : List ℕ → Form → Standing → Standing
+starts_at x form st = record st { starts = st.starts ++ record { name = x; form = form } ∷ [] }
+
+-- the next symbol is the smaller of a form and a number
+abbrev pub name_smaller : Form → ℤ → Standing → Standing
+name_smaller form z st = record st { next = st.next + 1; steps = st.steps ++ Named st.next Min (form ∷ number z ∷ []) ∷ [] }
+
+abbrev pub test : Form → ℤ → Standing → Standing
+test form z st = record st { steps = st.steps ++ Tested form (number z) ∷ [] }
+
+-- ---- splits
+
+-- the last number at which a full block begins
+abbrev pub room : Numbers → ℕ → ℤ
+room r n = last_number r -ℤ pos n +ℤ pos 1
+
+-- under `shift` the block begins no later than it has room
+abbrev pub begin_at : Tail → List ℕ → Form → ℤ → Standing → Standing
+begin_at tails.Shift x form room st = starts_at x (alone st.next) (name_smaller form room st)
+begin_at tails.Guard x form room st = starts_at x form st
+begin_at tails.Roundup x form room st = starts_at x form st
+
+abbrev pub begin_over : Split → Numbers → Option Form → Standing → Option Standing
+begin_over c r None st = Some st
+begin_over c r (Some outer) st =
+    combined (number r.low) (pos c.factor) outer >>= λ form. Some (begin_at c.tail c.whole form (room r c.factor) st)
+
+-- the first number of a block stands as soon as the outer loop does
+abbrev pub begin : Split → Numbers → Standing → Option Standing
+begin c r st = elim (form_named st.starts c.whole) [ Some form ↦ Some st | None ↦ begin_over c r (form_named st.known c.outer) st ]
+
+-- the last block of a guarded split is not full
+abbrev pub is_guarded : Split → Numbers → Bool
+is_guarded c r = elim c.tail [ tails.Guard ↦ (c.factor == 0) || not (r.count % c.factor == 0) | tails.Roundup ↦ false | tails.Shift ↦ false ]
+
+abbrev pub last_term : Form → Option Multiple
+last_term form = last_or None form.terms
+
+-- the last symbol of the form is that of a loop of the nest, and counts once
+abbrev pub innermost : List ℕ → Form → Option ℕ
+innermost bound form = elim (last_term form) [ Some t ↦ if list_any (λ s. s == t.symbol) bound && int_eq t.factor (pos 1) then Some t.symbol else None | None ↦ None ]
+
+-- a further upper form of the innermost loop
+abbrev pub keep_by_loop : List ℕ → Form → ℤ → ℕ → Standing → Option Standing
+keep_by_loop x form last s st = combined (number last) (negsuc 0) (without form s) >>= λ limit. Some (is_now x form (record st { limits = st.limits ++ limit ∷ [] }))
+
+-- a guard, and a let behind it that tells bounds what it says
+abbrev pub keep_by_guard : List ℕ → Form → ℤ → Standing → Standing
+keep_by_guard x form last st = is_now x (alone st.next) (name_smaller form last (test form last st))
+
+-- a number within the loop that was split: by a further upper form of the innermost loop, or by a guard and a let behind it
+abbrev pub keep_within : List ℕ → Form → ℤ → Standing → Option ℕ → Option Standing
+keep_within x form last st (Some s) = keep_by_loop x form last s st
+keep_within x form last st None = Some (keep_by_guard x form last st)
+
+-- the position in the loop that was split; no guard stands over the grid alone in the head
+abbrev pub put_together : Bool → Split → Numbers → Form → Standing → Option Standing
+put_together in_head c r form st =
+    if not (is_guarded c r) then Some (is_now c.whole form st)
+    else (if in_head then Some st else keep_within c.whole form (last_number r) st (innermost st.bound form))
+
+abbrev pub join_over : Bool → Split → Numbers → Option Form → Option Form → Standing → Option Standing
+join_over in_head c r (Some start) (Some inner) st = combined start (pos 1) inner >>= λ form. put_together in_head c r form st
+join_over in_head c r _ _ st = Some st
+
+-- the position stands as soon as the block's first number and the inner loop do
+abbrev pub join : Bool → Split → Numbers → Standing → Option Standing
+join in_head c r st = elim (form_named st.known c.whole) [ Some form ↦ Some st | None ↦ join_over in_head c r (form_named st.starts c.whole) (form_named st.known c.inner) st ]
+
+-- whatever stands now is named, guarded and put together
+abbrev pub settle : Bool → List Numbers → List Split → Standing → Option Standing
+settle in_head rs [] st = Some st
+settle in_head rs (c ∷ cs) st = let r = numbers_named rs c.whole in begin c r st >>= λ begun. join in_head c r begun >>= settle in_head rs cs
+
+-- ---- splits, in the order in which what they make stands
+
+-- the splits of these loops and of what these make
+abbrev pub cuts_of : List Split → List (List ℕ) → List Split
+cuts_of [] names = []
+cuts_of (c ∷ cs) names = if is_among names c.whole then c ∷ cuts_of cs (names ++ c.outer ∷ c.inner ∷ []) else cuts_of cs names
+
+-- variable by variable, later splits first, so that a split's own loops come before it
+abbrev pub cuts_by_variable : List Split → List (List ℕ) → List Split
+cuts_by_variable cs xs = flat_map (λ x. reverse (cuts_of cs (x ∷ []))) xs

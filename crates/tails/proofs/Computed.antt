@@ -1,0 +1,81 @@
+-- The tests of split loops, computed.
+use Rattle.std.proofs.Common.{refl}
+use Rattle.tails.specs.Worked.{TenIsCut, CutsAreNested, TilesAreCut, ClaimsAreMade}
+
+pub ten_is_cut : TenIsCut
+ten_is_cut = record {
+  guard = refl;
+  guard_once = refl;
+  not_eleven = refl;
+  gap = refl;
+  too_few = refl;
+  too_early = refl;
+  overlap = refl;
+  twice = refl;
+  roundup = refl;
+  roundup_once = refl;
+  no_turn = refl;
+  shift = refl;
+  shift_twice = refl;
+  shift_more = refl;
+  shift_too_far = refl;
+  shift_by_largest = refl;
+  shift_gap = refl;
+  shift_other_order = refl;
+  shift_outside = refl;
+  inner_outside = refl;
+  inner_outside_once = refl;
+  guard_too_small = refl;
+  let_too_small = refl;
+  guard_is_wide = refl;
+  unused_loop = refl;
+  unused_loop_twice = refl;
+  unused_guard = refl;
+}
+
+pub cuts_are_nested : CutsAreNested
+cuts_are_nested = record { ones_cover = refl; ones_once = refl; ones_outside_once = refl; twice_cut = refl }
+
+pub tiles_are_cut : TilesAreCut
+tiles_are_cut = record {
+  guard = refl;
+  guard_once = refl;
+  roundup = refl;
+  shift = refl;
+  shift_once = refl;
+  shift_too_far = refl;
+  exchanged = refl;
+  diagonal = refl;
+  spine = refl;
+  with_let = refl;
+  let_is_dropped = refl;
+  with_guard = refl;
+  guard_is_shown = refl;
+  guard_is_not_shown = refl;
+  twice_stored = refl;
+}
+
+pub claims_are_made : ClaimsAreMade
+claims_are_made = record {
+  guard = refl;
+  guard_wide = refl;
+  guard_early = refl;
+  guard_few = refl;
+  guard_gap = refl;
+  wider = refl;
+  no_place = refl;
+  folded = refl;
+  swapped = refl;
+  swapped_small = refl;
+  swapped_let = refl;
+  swapped_wide = refl;
+  shift = refl;
+  shift_more = refl;
+  shift_less = refl;
+  shift_largest = refl;
+  shift_gap = refl;
+  shift_whole = refl;
+  roundup = refl;
+  plain = refl;
+  no_loop = refl;
+}

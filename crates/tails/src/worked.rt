@@ -1,0 +1,25 @@
+//! Split loops written out: what they visit, and what they do not.
+
+ghost use Rattle.tails.specs.Worked.{ClaimsAreMade, CutsAreNested, TenIsCut, TilesAreCut};
+
+/// Ten numbers split by four, with each tail and in each order of the loops: the tests say yes where each number is visited, and
+/// where none is met twice; a gap, a block too few, a tail that ends too early, a block moved too far and a guard that is too
+/// small are told.
+pub fn ten_is_cut()
+    ensures { TenIsCut }
+{}
+
+/// Blocks of one number, and blocks that are cut again.
+pub fn cuts_are_nested()
+    ensures { CutsAreNested }
+{}
+
+/// Tiles, a piece each, with each tail.
+pub fn tiles_are_cut()
+    ensures { TilesAreCut }
+{}
+
+/// Claims of nests of split loops, plan by plan and with one number altered: those that are made are taken.
+pub fn claims_are_made()
+    ensures { ClaimsAreMade }
+{}
