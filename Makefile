@@ -39,9 +39,11 @@ test:
 	RT_JOBS=$${RT_JOBS:-$$(nproc)} rt ci; \
 	python3 tests/run.py crates/stencil/out/stencil
 
-# How long the proved program takes for `check` and `run` of plans with a piece a row, and for `plain`.
+# How long the proved program takes for `check` and `run` of plans with a piece a row, and for `plain`; and for `check` of plans
+# that are long, or have many pieces or cells.
 bench: out/stencil
 	python3 bench/rows.py out/stencil
+	python3 bench/checks.py out/stencil
 
 # Tries every wrong body. It takes some hours.
 wrong-bodies:

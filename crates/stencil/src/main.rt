@@ -1,51 +1,19 @@
 //! The program over the real files and streams. Without words it runs one algorithm from standard input to standard output.
 #![tactic(auto)]
 
-use std::alloc::Global;
-use std::io::{BufReader, BufWriter, Error, ErrorKind, Read};
+mod system;
+
+use crate::system::SystemFiles;
+use std::io::{BufReader, BufWriter, Error, ErrorKind};
 use std::process::ExitCode;
 use std::sync::Wait;
 use std::thread::Threads;
-use std::{env, fs, io};
+use std::{env, io};
 use tool::pipeline::Fault;
-use tool::{FileError, Files, status, tool};
+use tool::{status, tool};
 
 // The status of a command line fault.
 const MISUSED: u8 = 2;
-
-/// The files of the system.
-#[derive(Drop)]
-struct SystemFiles<'a> {
-    rt: &'a HostRuntime,
-}
-
-fn file_error(error: &Error) -> FileError {
-    match error.kind() {
-        ErrorKind::OutOfMemory => FileError::Memory,
-        _ => FileError::Device,
-    }
-}
-
-impl Files for SystemFiles<'_> {
-    fn get(&mut self, alloc: Global, name: &str) -> Result<Vec<u8>, FileError> {
-        let mut bytes = Vec::new(alloc);
-        let read = match fs::open(self.rt, name) {
-            Ok(mut file) => file.read_to_end(&mut bytes),
-            Err(error) => Err(error),
-        };
-        match read {
-            Ok(_) => Ok(bytes),
-            Err(error) => Err(file_error(&error)),
-        }
-    }
-
-    fn put(&mut self, name: &str, bytes: &[u8]) -> Result<(), FileError> {
-        match fs::write(self.rt, name, bytes) {
-            Ok(()) => Ok(()),
-            Err(error) => Err(file_error(&error)),
-        }
-    }
-}
 
 /// Runs the program on the words after its name. The second handle is the same one, as the right to start threads and to
 /// wait for them.

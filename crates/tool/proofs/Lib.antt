@@ -1,8 +1,9 @@
+pub mod Crews
 pub mod Decimals
 pub mod OrderWords
 pub mod Turns
-mod PlainWays
-mod PlanWays
+mod Between
+mod Failures
 mod Samples
 mod Ways
 mod Kept

@@ -8,14 +8,14 @@ use Rattle.clap.specs.Words.{IsAmong, Text, fault_of, first_value, is_simple, is
 use Rattle.clap.proofs.OnLiterals.{clap_on_literals}
 use Rattle.clap.proofs.WalkLemmas.{first_value-rows}
 use Rattle.tool.specs.Answer.{WordsAnswer}
-use Rattle.tool.specs.Asked.{AskedWay, File}
-use Rattle.tool.specs.Line.{FailsFor, all_three, both as both_words, check_in, line, picture_in, replay_in, run_in, with_order}
+use Rattle.tool.specs.Asked.{AskedWay}
+use Rattle.tool.specs.Line.{FailsFor, all_three, both as both_words, check_in, line, by_workers, picture_in, replay_in, run_in, with_order, workers_in}
 
 pub picture_as : (way : AskedWay) (f : Found) → picture_in way (rows_of f) ≡ all_three way (first_value f (codes "ALG")) (first_value f (codes "IN")) (first_value f (codes "OUT"))
 picture_as way f = rw (first_value-rows f (codes "ALG"), first_value-rows f (codes "IN"), first_value-rows f (codes "OUT")) refl
 
-pub run_as : (f : Found) → run_in (rows_of f) ≡ option_and_then (λ plan. picture_in (File plan) (rows_of f)) (first_value f (codes "PLAN"))
-run_as f = rw (first_value-rows f (codes "PLAN")) refl
+pub run_as : (f : Found) → run_in (rows_of f) ≡ option_and_then (λ plan. by_workers plan (workers_in (first_value f (codes "workers"))) (rows_of f)) (first_value f (codes "PLAN"))
+run_as f = rw (first_value-rows f (codes "PLAN"), first_value-rows f (codes "workers")) refl
 
 pub check_as : (f : Found) → check_in (rows_of f) ≡ both_words (first_value f (codes "ALG")) (first_value f (codes "PLAN"))
 check_as f = rw (first_value-rows f (codes "ALG"), first_value-rows f (codes "PLAN")) refl

@@ -1,4 +1,5 @@
 -- What is asked for.
+use Rattle.std.specs.Prelude.{ℕ}
 use Rattle.clap.specs.Words.{Text}
 use Rattle.tool.specs.declared.request.Way.{Way}
 use Rattle.tool.specs.declared.request.Way.TheVariants as way
@@ -8,10 +9,10 @@ use Rattle.tool.specs.declared.request.ReplayRequest.{ReplayRequest}
 use Rattle.tool.specs.declared.request.Request.{Request}
 use Rattle.tool.specs.declared.request.Request.TheVariants as request
 
--- how a picture is computed: by the definitions alone, or by the plan of a file
+-- how a picture is computed: by the definitions alone, or by the plan of a file, in the hands of so many workers
 pub data AskedWay : Type 0 where
   Plain : AskedWay
-  File : (plan : Text) → AskedWay
+  File : (plan : Text) (workers : ℕ) → AskedWay
 
 -- how a picture is computed, and the names of three files
 pub record AskedPicture : Type 0 where
@@ -38,7 +39,7 @@ pub data Asked : Type 0 where
 
 abbrev pub way_asked : Way → AskedWay
 way_asked way.Plain = Plain
-way_asked (way.File plan) = File plan.now
+way_asked (way.File plan workers) = File plan.now workers
 
 abbrev pub picture_asked : PictureRequest → AskedPicture
 picture_asked r = record { way = way_asked r.way; algorithm = r.algorithm.now; input = r.input.now; output = r.output.now }

@@ -10,3 +10,4 @@ pub mod Checks
 pub mod Replays
 pub mod Status
 pub mod Worked
+pub mod Workers

@@ -1,10 +1,11 @@
 -- The command line: the words that it takes, and what they ask for.
-use Rattle.std.specs.Prelude.{◌≡◌, ◌≢◌, ◌⊎◌, List, [], Option, None, Some, true, codes, option_and_then, option_map, if◌then◌else◌}
+use Rattle.std.specs.Prelude.{◌≡◌, ◌≢◌, ◌⊎◌, ℕ, List, [], Option, None, Some, true, codes, option_and_then, option_map, if◌then◌else◌}
 use Rattle.std.specs.Str.{bytes_eq}
 use Rattle.clap.specs.declared.error.kind.ErrorKind.{ErrorKind}
-use Rattle.clap.specs.declared.error.kind.ErrorKind.TheVariants.{DisplayHelp, MissingSubcommand}
+use Rattle.clap.specs.declared.error.kind.ErrorKind.TheVariants.{DisplayHelp, ValueValidation}
 use Rattle.clap.specs.declared.error.Error.{Error}
 use Rattle.clap.specs.Words.{App, HasKind, IsAmong, Row, Rule, Text, fault_of, first_of, kind_of, new_app, new_rule, subcommand_of, with_rule, with_subcommand}
+use Rattle.tool.specs.Workers.{workers_spelled}
 use Rattle.tool.specs.Asked.{AskedWay, Plain, File, AskedCheck, Asked, Picture, Check, Replay}
 
 -- a word that has to be there, under a name
@@ -23,8 +24,15 @@ program = record (new_app (codes "stencil")) { top = record ((new_app (codes "st
 abbrev pub check_line : App
 check_line = with_rule (with_rule (new_app (codes "check")) (needed (codes "ALG"))) (needed (codes "PLAN"))
 
+-- --workers N, which may be left out
+abbrev pub workers_rule : Rule
+workers_rule = record (new_rule (codes "workers")) { long = Some (codes "workers"); value_names = 1 }
+
+abbrev pub named_run_line : App
+named_run_line = with_rule (with_rule (with_rule (with_rule (new_app (codes "run")) (needed (codes "ALG"))) (needed (codes "PLAN"))) (needed (codes "IN"))) (needed (codes "OUT"))
+
 abbrev pub run_line : App
-run_line = with_rule (with_rule (with_rule (with_rule (new_app (codes "run")) (needed (codes "ALG"))) (needed (codes "PLAN"))) (needed (codes "IN"))) (needed (codes "OUT"))
+run_line = with_rule named_run_line workers_rule
 
 abbrev pub replay_line : App
 replay_line = with_rule (with_rule (with_rule (with_rule (new_app (codes "replay")) (needed (codes "ALG"))) (needed (codes "PLAN"))) (needed (codes "IN"))) (needed (codes "ORDER"))
@@ -45,8 +53,18 @@ all_three way _ _ _ = None
 abbrev pub picture_in : AskedWay → List Row → Option Asked
 picture_in way rows = all_three way (first_of (codes "ALG") rows) (first_of (codes "IN") rows) (first_of (codes "OUT") rows)
 
+-- how many workers there are: one, where nothing is said
+abbrev pub workers_in : Option Text → Option ℕ
+workers_in None = Some 1
+workers_in (Some text) = workers_spelled text
+
+-- by a plan and so many workers, where both are known
+abbrev pub by_workers : Text → Option ℕ → List Row → Option Asked
+by_workers plan None rows = None
+by_workers plan (Some workers) rows = picture_in (File plan workers) rows
+
 abbrev pub run_in : List Row → Option Asked
-run_in rows = option_and_then (λ plan. picture_in (File plan) rows) (first_of (codes "PLAN") rows)
+run_in rows = option_and_then (λ plan. by_workers plan (workers_in (first_of (codes "workers") rows)) rows) (first_of (codes "PLAN") rows)
 
 abbrev pub both : Option Text → Option Text → Option AskedCheck
 both (Some algorithm) (Some plan) = Some (record { algorithm = algorithm; plan = plan })
@@ -83,10 +101,10 @@ AsksFor words a = (fault_of line words ≡ []) × (asked words ≡ Some a)
 abbrev pub AsksHelp : List Text → Type 0
 AsksHelp words = IsAmong DisplayHelp (fault_of line words)
 
--- something is wrong with the words, or they name no command
+-- something is wrong with the words, or no number of workers is spelled
 abbrev pub IsMisuse : List Text → Type 0
 IsMisuse words = ((kind : ErrorKind) × (kind ≢ DisplayHelp) × IsAmong kind (fault_of line words)) ⊎ (asked words ≡ None)
 
--- why the words ask for no command: memory ran out, they ask for help or are a fault, or they name no command
+-- why the words ask for no command: memory ran out, they ask for help or are a fault, or no number of workers is spelled
 abbrev pub FailsFor : List Text → Error → Type 0
-FailsFor words e = HasKind (fault_of line words) e ⊎ ((kind_of e ≡ MissingSubcommand) × (asked words ≡ None))
+FailsFor words e = HasKind (fault_of line words) e ⊎ ((kind_of e ≡ ValueValidation) × (asked words ≡ None))

@@ -12,8 +12,8 @@ use Rattle.pnm.specs.Text.{text_of}
 use Rattle.tool.specs.declared.pipeline.fault.Fault.{Fault}
 use Rattle.tool.specs.declared.pipeline.fault.Fault.TheVariants.{Memory, Image}
 use Rattle.tool.specs.Pipeline.Texts.{IsImageRefused, IsTextRefused}
-use Rattle.tool.specs.Pipeline.ByPlan.{HasPlan, IsFileRefused}
-use Rattle.tool.specs.Pipeline.WithoutPlan.{IsBudgetSpent}
+use Rattle.tool.specs.Pipeline.PlanFiles.{HasPlan, IsFileRefused}
+use Rattle.tool.specs.Pipeline.Pictures.{IsBudgetSpent, IsLeft}
 use Rattle.tool.specs.Asked.{AskedWay, Plain, File, AskedPicture}
 use Rattle.tool.specs.Files.{Contents, Holds, Puts, SameFiles, SameOthers}
 
@@ -38,17 +38,18 @@ IsPlanFault files name a fault = IsOfDevice fault ⊎ ((bytes : List ℕ) × Hol
 -- an algorithm's picture can be computed this way: by a file where it is that of a plan that the checker accepts
 abbrev pub IsReady : Contents → AskedWay → Algorithm → Type 0
 IsReady files Plain a = ⊤
-IsReady files (File name) a = HasPlanFile files name a
+IsReady files (File name n) a = HasPlanFile files name a
 
 -- why it can't
 abbrev pub IsUnready : Contents → AskedWay → Algorithm → Fault → Type 0
 IsUnready files Plain a fault = ⊥
-IsUnready files (File name) a fault = IsPlanFault files name a fault
+IsUnready files (File name n) a fault = IsPlanFault files name a fault
 
--- why it was not computed: some pixel takes too many evaluations; by the plan of a file there is no reason but want of memory
+-- why it was not computed: some pixel takes too many evaluations; by the plan of a file there is no reason but want of memory,
+-- and with more workers than one that a piece was left unfinished
 abbrev pub IsStopped : AskedWay → Algorithm → List ℕ → Fault → Type 0
 IsStopped Plain a samples fault = IsBudgetSpent a samples fault
-IsStopped (File name) a samples fault = fault ≡ Memory
+IsStopped (File name n) a samples fault = IsLeft n fault
 
 -- ---- what is done
 

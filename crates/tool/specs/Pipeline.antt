@@ -1,5 +1,5 @@
 pub mod Faults
 pub mod Images
 pub mod Texts
-pub mod WithoutPlan
-pub mod ByPlan
+pub mod PlanFiles
+pub mod Pictures

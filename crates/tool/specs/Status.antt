@@ -3,7 +3,7 @@ use Rattle.std.specs.Prelude.{ℕ}
 use Rattle.pnm.specs.declared.error.PnmError.{PnmError}
 use Rattle.pnm.specs.declared.error.PnmError.TheVariants as image
 use Rattle.tool.specs.declared.pipeline.fault.Fault.{Fault}
-use Rattle.tool.specs.declared.pipeline.fault.Fault.TheVariants.{Memory, Algo, Plan, Form, Limit, Order, Image, Budget}
+use Rattle.tool.specs.declared.pipeline.fault.Fault.TheVariants.{Memory, Algo, Plan, Form, Limit, Order, Image, Budget, Unfinished}
 use Rattle.tool.specs.declared.device.FileError.{FileError}
 use Rattle.tool.specs.declared.device.FileError.TheVariants as file
 
@@ -23,6 +23,7 @@ status_of (Form line) = 3
 status_of (Limit line) = 3
 status_of Order = 3
 status_of Budget = 3
+status_of (Unfinished piece) = 6
 
 -- a file's error as a refusal
 abbrev pub fault_of : FileError → Fault

@@ -1,5 +1,5 @@
 -- Words written out, and what they ask for.
-use Rattle.std.specs.Prelude.{[], ◌∷◌, codes}
+use Rattle.std.specs.Prelude.{ℕ, List, [], ◌∷◌, codes}
 use Rattle.tool.specs.Asked.{Plain, File, Picture, Check, Replay}
 use Rattle.tool.specs.Line.{AsksFor, AsksHelp, IsMisuse}
 
@@ -11,7 +11,13 @@ PlainWithNames = AsksFor (codes "plain" ∷ codes "a.alg" ∷ codes "b.pgm" ∷ 
 abbrev pub RunWithNames : Type 0
 RunWithNames =
     AsksFor (codes "run" ∷ codes "a.alg" ∷ codes "p.plan" ∷ codes "b.pgm" ∷ codes "c.pgm" ∷ [])
-    (Picture (record { way = File (codes "p.plan"); algorithm = codes "a.alg"; input = codes "b.pgm"; output = codes "c.pgm" }))
+    (Picture (record { way = File (codes "p.plan") 1; algorithm = codes "a.alg"; input = codes "b.pgm"; output = codes "c.pgm" }))
+
+-- the same with as many workers as there may be
+abbrev pub RunWithWorkers : Type 0
+RunWithWorkers =
+    AsksFor (codes "run" ∷ codes "a.alg" ∷ codes "p.plan" ∷ codes "b.pgm" ∷ codes "c.pgm" ∷ codes "--workers" ∷ codes "64" ∷ [])
+    (Picture (record { way = File (codes "p.plan") 64; algorithm = codes "a.alg"; input = codes "b.pgm"; output = codes "c.pgm" }))
 
 abbrev pub CheckWithNames : Type 0
 CheckWithNames = AsksFor (codes "check" ∷ codes "a.alg" ∷ codes "p.plan" ∷ []) (Check (record { algorithm = codes "a.alg"; plan = codes "p.plan" }))
@@ -29,3 +35,10 @@ abbrev pub MisusedWords : Type 0
 MisusedWords = IsMisuse (codes "paint" ∷ codes "a.alg" ∷ codes "b.pgm" ∷ codes "c.pgm" ∷ [])
     × IsMisuse (codes "plain" ∷ codes "a.alg" ∷ codes "b.pgm" ∷ [])
     × IsMisuse (codes "plain" ∷ codes "a.alg" ∷ codes "b.pgm" ∷ codes "c.pgm" ∷ codes "d.pgm" ∷ [])
+
+-- no worker, one too many, and numbers with a zero or a sign before them
+abbrev pub IsNoCrew : List ℕ → Type 0
+IsNoCrew text = IsMisuse (codes "run" ∷ codes "a.alg" ∷ codes "p.plan" ∷ codes "b.pgm" ∷ codes "c.pgm" ∷ codes "--workers" ∷ text ∷ [])
+
+abbrev pub MisusedWorkers : Type 0
+MisusedWorkers = IsNoCrew (codes "0") × (IsNoCrew (codes "65") × (IsNoCrew (codes "01") × (IsNoCrew (codes "+1") × IsNoCrew [])))

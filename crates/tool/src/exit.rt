@@ -7,8 +7,8 @@ use crate::pipeline::Fault;
 use pnm::PnmError;
 
 /// The exit status after a refusal: 1 where the checker refuses, 3 where an input is refused or a pixel takes too many
-/// evaluations, 4 where memory runs out, and 5 where a file or a stream can't be opened, read or written. After none it is 0,
-/// and 2 after a fault of the command line.
+/// evaluations, 4 where memory runs out, 5 where a file or a stream can't be opened, read or written, and 6 where workers left
+/// a piece unfinished. After none it is 0, and 2 after a fault of the command line.
 pub fn status(fault: &Fault) -> u8
     ensures { result ≡ status_of fault.now }
 {
@@ -19,5 +19,6 @@ pub fn status(fault: &Fault) -> u8
         Fault::Memory | Fault::Image(PnmError::Memory) => 4,
         Fault::Image(PnmError::Device) => 5,
         Fault::Image(_) => 3,
+        Fault::Unfinished { .. } => 6,
     }
 }

@@ -12,6 +12,7 @@ mod program;
 mod replay;
 mod request;
 mod words;
+mod workers;
 
 pub use device::{FileError, Files};
 pub use exit::status;

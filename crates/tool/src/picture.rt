@@ -13,7 +13,7 @@ ghost use Rattle.tool.specs.Means.{AreMeans, IsHalted, algo_meant};
 ghost use Rattle.tool.specs.Pictures.{IsDone, IsImageFault, IsRefused, IsTextFault, IsUnready};
 
 use crate::device::Files;
-use crate::pipeline::{Fault, plain_picture, plan_picture, read_algorithm, read_inputs};
+use crate::pipeline::{Fault, crew_picture, plain_picture, read_algorithm, read_inputs};
 use crate::plan_command::plan_in;
 use crate::request::{PictureRequest, Way};
 use algo::{Algo, Inputs};
@@ -30,8 +30,11 @@ use std::thread::Threads;
 enum Means<'a> {
     /// The algorithm's definitions.
     Definitions(&'a Algo),
-    /// The plan of a file, which the checker has accepted.
-    File(Checked<'a>),
+    /// The plan of a file, which the checker has accepted, in the hands of so many workers.
+    File {
+        checked: Checked<'a>,
+        workers: usize,
+    },
 }
 
 /// Reads the text of an algorithm file.
@@ -60,7 +63,10 @@ fn means_of<'a, T: Threads + Sync, F: Files>(
 {
     match way {
         Way::Plain => Ok(Means::Definitions(algo)),
-        Way::File(name) => Ok(Means::File(plan_in(rt, alloc, files, algo, name)?)),
+        Way::File { plan, workers } => {
+            let checked = plan_in(rt, alloc, files, algo, plan)?;
+            Ok(Means::File { checked, workers })
+        }
     }
 }
 
@@ -87,7 +93,7 @@ fn computed<T: Threads + Wait + Sync>(
 {
     match means {
         Means::Definitions(algo) => plain_picture(rt, alloc, algo, inputs),
-        Means::File(checked) => plan_picture(alloc, checked, inputs),
+        Means::File { checked, workers } => crew_picture(rt, alloc, checked, inputs, *workers),
     }
 }
 
@@ -112,7 +118,7 @@ fn picture_file<T: Threads + Wait + Sync>(
 }
 
 /// Writes the picture that an algorithm says of an image: by its definitions alone, in as many threads as serve; or by the
-/// plan of a file, which is checked and computed by one worker.
+/// plan of a file, which is checked and computed by the workers that are asked for.
 ///
 /// The algorithm's file is read, its text and its plan are checked, the image is read, and the picture is written last,
 /// after everything else has succeeded.

@@ -7,9 +7,9 @@ mod laws;
 mod reading;
 mod without_plan;
 
-pub use by_plan::{check_plan, plan_picture, run_over};
+pub use by_plan::{check_plan, crew_picture, plan_picture, run_between, run_over};
 pub use fault::Fault;
 pub use reading::{read_algorithm, read_inputs};
-pub use without_plan::{plain_over, plain_picture};
+pub use without_plan::{plain_between, plain_over, plain_picture};
 /// What replays the steps of a checked plan.
 pub use steps::{State, replay};

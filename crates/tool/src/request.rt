@@ -5,8 +5,13 @@
 pub enum Way<'a> {
     /// By the algorithm's definitions alone, each pixel within a budget.
     Plain,
-    /// By the plan of the file of this name.
-    File(&'a str),
+    /// By the plan of a file, in the hands of so many workers.
+    File {
+        /// The plan file.
+        plan: &'a str,
+        /// How many workers there are, from 1 to 64.
+        workers: usize,
+    },
 }
 
 /// A picture that is asked for: how it is computed, and the names of three files.

@@ -1,12 +1,13 @@
 //! The words of the command line.
 
 ghost use Rattle.std.specs.Prelude.{◌≡◌, false, map, option_and_then, option_map, IfOk, MatchResult};
-ghost use Rattle.clap.specs.Words.{app_of, found_of, rows_of, rule_of, subcommand_rows_of};
+ghost use Rattle.clap.specs.Words.{app_of, first_value, found_of, rows_of, rule_of, subcommand_rows_of};
 ghost use Rattle.clap.specs.declared.builder.command.Command.TheViews.{out-Command};
 ghost use Rattle.tool.specs.Asked.{asked_by, check_asked, way_asked};
-ghost use Rattle.tool.specs.Line.{AsksFor, FailsFor, asked_of_command, check_in, check_line, line, needed, picture_in, picture_line, planless, replay_in, replay_line, run_in, run_line};
+ghost use Rattle.tool.specs.Line.{AsksFor, FailsFor, asked_of_command, check_in, check_line, line, named_run_line, needed, picture_in, picture_line, planless, replay_in, replay_line, run_in, run_line, workers_in, workers_rule};
 
 use crate::request::{CheckRequest, PictureRequest, ReplayRequest, Request, Way};
+use crate::workers::workers_spelled;
 use clap::error::ErrorKind;
 use clap::{Arg, ArgMatches, Command, Error};
 use std::alloc::{AllocError, Global};
@@ -29,12 +30,28 @@ const OUTPUT: &str = "OUT";
 
 const ORDER: &str = "ORDER";
 
+const WORKERS: &str = "workers";
+
+// What is told where the words are as they are wanted, but for the number of workers.
+const NO_WORKERS: &str = "'--workers <N>' takes a decimal number from 1 to 64";
+
 /// A word that has to be there.
 fn word<'a>(alloc: Global, name: &'a str, help: &'a str) -> Arg<'a>
     ensures rule { rule_of result ≡ needed name.entry.now }
     ensures local { result.global ≡ false }
 {
     Arg::new(alloc, name).required(true).help(help)
+}
+
+/// How many workers there are, which may be left out.
+fn workers_described<'a>(alloc: Global) -> Arg<'a>
+    ensures rule { rule_of result ≡ workers_rule }
+    ensures local { result.global ≡ false }
+{
+    Arg::new(alloc, WORKERS)
+        .long(WORKERS)
+        .value_name("N")
+        .help("How many workers compute, from 1 to 64; 1 if left out")
 }
 
 /// A command that writes a picture.
@@ -63,8 +80,9 @@ fn check_described<'a>(alloc: Global) -> Result<Command<'a>, AllocError>
         .arg(word(alloc, PLAN, "The plan file"))
 }
 
-fn run_described<'a>(alloc: Global) -> Result<Command<'a>, AllocError>
-    ensures line { IfOk result (λ command. app_of command ≡ run_line) }
+/// The command that computes a picture by a plan, and the files that it names.
+fn named_run_described<'a>(alloc: Global) -> Result<Command<'a>, AllocError>
+    ensures line { IfOk result (λ command. app_of command ≡ named_run_line) }
     ensures local { IfOk result (λ command. (out-Command command).has_globals ≡ false) }
 {
     Command::new(alloc, RUN)
@@ -73,6 +91,13 @@ fn run_described<'a>(alloc: Global) -> Result<Command<'a>, AllocError>
         .arg(word(alloc, PLAN, "The plan file"))?
         .arg(word(alloc, INPUT, "The image, a PGM or PPM file"))?
         .arg(word(alloc, OUTPUT, "Where the picture is written"))
+}
+
+fn run_described<'a>(alloc: Global) -> Result<Command<'a>, AllocError>
+    ensures line { IfOk result (λ command. app_of command ≡ run_line) }
+    ensures local { IfOk result (λ command. (out-Command command).has_globals ≡ false) }
+{
+    named_run_described(alloc)?.arg(workers_described(alloc))
 }
 
 fn replay_described<'a>(alloc: Global) -> Result<Command<'a>, AllocError>
@@ -135,11 +160,22 @@ fn picture_found<'a>(way: Way<'a>, matches: &ArgMatches<'a>) -> Option<Request<'
     }))
 }
 
+/// How many workers the words ask for: one, where they say nothing.
+fn workers_found(matches: &ArgMatches<'_>) -> Option<usize>
+    ensures { result ≡ workers_in (first_value (found_of matches.now) WORKERS.now) }
+{
+    match matches.get_str(WORKERS) {
+        None => Some(1),
+        Some(text) => workers_spelled(text),
+    }
+}
+
 fn run_found<'a>(matches: &ArgMatches<'a>) -> Option<Request<'a>>
     ensures { option_map asked_by result ≡ run_in (rows_of (found_of matches.now)) }
 {
     let plan = matches.get_str(PLAN)?;
-    picture_found(Way::File(plan), matches)
+    let workers = workers_found(matches)?;
+    picture_found(Way::File { plan, workers }, matches)
 }
 
 fn check_found<'a>(matches: &ArgMatches<'a>) -> Option<CheckRequest<'a>>
@@ -200,6 +236,6 @@ pub(crate) fn read_words<'a>(alloc: Global, words: &'a [&'a str]) -> Result<Requ
     let matches = command.try_get_matches_from_mut(words)?;
     match request_found(&matches) {
         Some(request) => Ok(request),
-        None => Err(command.error(ErrorKind::MissingSubcommand, "a command is missing")?),
+        None => Err(command.error(ErrorKind::ValueValidation, NO_WORKERS)?),
     }
 }

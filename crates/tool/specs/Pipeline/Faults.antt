@@ -10,7 +10,9 @@ use Rattle.plain.specs.declared.error.PlainError.TheVariants as plain
 use Rattle.pnm.specs.declared.error.PnmError.{PnmError}
 use Rattle.pnm.specs.declared.error.PnmError.TheVariants as image
 use Rattle.tool.specs.declared.pipeline.fault.Fault.{Fault}
-use Rattle.tool.specs.declared.pipeline.fault.Fault.TheVariants.{Memory, Algo, Plan, Image, Form, Limit, Budget}
+use Rattle.crew.specs.declared.running.RunError.{RunError}
+use Rattle.crew.specs.declared.running.RunError.TheVariants as run
+use Rattle.tool.specs.declared.pipeline.fault.Fault.TheVariants.{Memory, Algo, Plan, Image, Form, Limit, Budget, Unfinished}
 
 abbrev pub text_fault : AlgoError → Fault
 text_fault text.Memory = Memory
@@ -32,3 +34,7 @@ image_fault e = Image e
 abbrev pub plain_fault : PlainError → Fault
 plain_fault plain.Memory = Memory
 plain_fault plain.Budget = Budget
+
+abbrev pub run_fault : RunError → Fault
+run_fault run.Memory = Memory
+run_fault (run.Unfinished piece) = Unfinished piece

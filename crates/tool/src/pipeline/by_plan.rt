@@ -1,6 +1,6 @@
 //! From an algorithm's text, a plan file and an image file to the picture, by that plan and one worker.
 
-ghost use Rattle.std.specs.Prelude.{◌≡◌, ◌⊎◌, true, false, IfErr, IfOk, IsErrOf, OnOk};
+ghost use Rattle.std.specs.Prelude.{◌≡◌, ◌⊎◌, true, false, Some, IfErr, IfOk, IsErrOf, OnOk};
 ghost use Rattle.algo.specs.View.{algorithm_of, picture_said, samples_of, IsFor};
 ghost use Rattle.checked_plan.specs.View.{algorithm_checked};
 ghost use Rattle.meaning.specs.Image.View.{image_of};
@@ -8,19 +8,25 @@ ghost use Rattle.pnm.specs.declared.error.PnmError.TheVariants.{Device};
 ghost use Rattle.pnm.specs.Source.{IsEndless};
 ghost use Rattle.tool.specs.declared.pipeline.fault.Fault.{Fault as FaultOf};
 ghost use Rattle.tool.specs.declared.pipeline.fault.Fault.TheVariants.{Memory};
-ghost use Rattle.tool.specs.Pipeline.ByPlan.{IsAccepted, IsFileRefused, IsRun, IsRunRefused};
+ghost use Rattle.tool.specs.Pipeline.Pictures.{IsDone, IsLeft, IsRefused};
+ghost use Rattle.tool.specs.Pipeline.PlanFiles.{IsAccepted, IsFileRefused};
 
 use crate::pipeline::fault::Fault;
 use crate::pipeline::reading::{inputs_from, read_algorithm};
 use algo::{Algo, Inputs};
 use audit::check;
 use checked_plan::Checked;
+use crew::{Unwatched, can_run, run};
 use meaning::image::Image;
 use pnm::{Sink, Source, Watched, write_to};
 use std::alloc::Global;
 use std::io::{Read, Write};
+use std::sync::Wait;
 use std::thread::Threads;
 use steps::picture;
+
+/// The most workers that compute at once.
+const MOST_WORKERS: usize = 64;
 
 /// Reads a plan file and has the plan checked against its algorithm.
 ///
@@ -53,9 +59,44 @@ pub fn plan_picture(alloc: Global, checked: &Checked<'_>, inputs: &Inputs) -> Re
     Ok(picture(alloc, checked, inputs)?)
 }
 
-/// The way from a text, a plan file and an image to the picture, between a source and a sink that remember whether they
-/// have failed.
-fn run_between<T: Threads + Sync, S: Source, K: Sink>(
+/// The picture that the algorithm says of an input, computed by the pieces of a checked plan in the hands of so many workers:
+/// in the caller's thread and in threads that are started through `rt`. Fewer than one are one, and more than 64 are 64. Where
+/// workers can't share the plan's cells one computes all.
+///
+/// # Errors
+/// `Memory` where memory runs out, which is before the first worker starts; `Unfinished` where workers left a piece
+/// unfinished.
+pub fn crew_picture<T: Threads + Wait + Sync>(
+    rt: &T,
+    alloc: Global,
+    checked: &Checked<'_>,
+    inputs: &Inputs,
+    workers: usize,
+) -> Result<Image, Fault>
+    requires { IsFor checked.now.algo.now inputs.now }
+    ensures picture { IfOk result (λ image. image_of image ≡ picture_said (algorithm_checked checked.now) (samples_of inputs.now)) }
+    ensures refused { IfErr result (IsLeft workers) }
+{
+    if workers <= 1 || !can_run(checked) {
+        return plan_picture(alloc, checked, inputs);
+    }
+    Ok(run(
+        rt,
+        alloc,
+        checked,
+        inputs,
+        workers.min(MOST_WORKERS),
+        &Unwatched,
+    )?)
+}
+
+/// Does what `run_over` does, between a source and a sink that tell whether they have failed: `Image(Device)` is answered
+/// exactly where one of them has, but for a source that never ends.
+///
+/// # Errors
+/// The first refusal in this order: of the text, of the plan file, of the image, and of the writer. Nothing is written
+/// before all else has succeeded, and writing takes no memory.
+pub fn run_between<T: Threads + Sync, S: Source, K: Sink>(
     rt: &T,
     alloc: Global,
     text: &str,
@@ -65,8 +106,8 @@ fn run_between<T: Threads + Sync, S: Source, K: Sink>(
 ) -> Result<(), Fault>
     requires source { S.has_failed source.old ≡ false }
     requires sink { K.has_failed sink.old ≡ false }
-    ensures done { OnOk result (IsRun text.now file.now (S.remaining source.old) (S.remaining source.new) (K.contents sink.old) (K.contents sink.new)) }
-    ensures refused { IfErr result (IsRunRefused text.now file.now (S.remaining source.old) (S.remaining source.new) (K.contents sink.old) (K.contents sink.new)) }
+    ensures done { OnOk result (IsDone text.now (Some file.now) (S.remaining source.old) (S.remaining source.new) (K.contents sink.old) (K.contents sink.new)) }
+    ensures refused { IfErr result (IsRefused text.now (Some file.now) (S.remaining source.old) (S.remaining source.new) (K.contents sink.old) (K.contents sink.new)) }
     ensures failed { (S.has_failed source.new ≡ true) ⊎ (K.has_failed sink.new ≡ true) → IsErrOf result (FaultOf.Image Device) }
     ensures device { IsErrOf result (FaultOf.Image Device) → ((S.has_failed source.new ≡ true) ⊎ (K.has_failed sink.new ≡ true)) ⊎ IsEndless (S.remaining source.old) (S.remaining source.new) }
     ensures same_source { S.identity source.new ≡ S.identity source.old }
@@ -93,8 +134,8 @@ pub fn run_over<T: Threads + Sync, R: Read, W: Write>(
     input: &mut R,
     output: &mut W,
 ) -> Result<(), Fault>
-    ensures done { OnOk result (IsRun text.now file.now (R.remaining input.old) (R.remaining input.new) (W.contents output.old) (W.contents output.new)) }
-    ensures refused { IfErr result (IsRunRefused text.now file.now (R.remaining input.old) (R.remaining input.new) (W.contents output.old) (W.contents output.new)) }
+    ensures done { OnOk result (IsDone text.now (Some file.now) (R.remaining input.old) (R.remaining input.new) (W.contents output.old) (W.contents output.new)) }
+    ensures refused { IfErr result (IsRefused text.now (Some file.now) (R.remaining input.old) (R.remaining input.new) (W.contents output.old) (W.contents output.new)) }
 {
     let mut source = Watched {
         device: input,

@@ -2,10 +2,11 @@
 
 ghost use Rattle.std.specs.Prelude.{◌≡◌};
 ghost use Rattle.tool.specs.declared.pipeline.fault.Fault.TheVariants.{Memory as OutOfMemory};
-ghost use Rattle.tool.specs.Pipeline.Faults.{image_fault, plain_fault, plan_fault, read_fault, text_fault};
+ghost use Rattle.tool.specs.Pipeline.Faults.{image_fault, plain_fault, plan_fault, read_fault, run_fault, text_fault};
 
 use algo::{AlgoError, Code};
 use audit::{CheckError, K};
+use crew::RunError;
 use plain::PlainError;
 use pnm::PnmError;
 use spelling::lines::TextError;
@@ -40,6 +41,9 @@ pub enum Fault {
     /// P1: a pixel takes more evaluations than the budget allows.
     #[error("P1")]
     Budget,
+    /// U1: workers left a piece unfinished.
+    #[error("U1 piece {piece}")]
+    Unfinished { piece: u32 },
 }
 
 impl From<AllocError> for Fault {
@@ -102,6 +106,17 @@ impl From<PlainError> for Fault {
         match e {
             PlainError::Memory => Fault::Memory,
             PlainError::Budget => Fault::Budget,
+        }
+    }
+}
+
+impl From<RunError> for Fault {
+    ghost from_gives = { λ e f. f ≡ run_fault e };
+
+    fn from(e: RunError) -> Fault {
+        match e {
+            RunError::Memory => Fault::Memory,
+            RunError::Unfinished(piece) => Fault::Unfinished { piece },
         }
     }
 }

@@ -1,12 +1,12 @@
 //! From an algorithm's text and an image file to the picture, each pixel by the definitions alone, without any plan.
 
-ghost use Rattle.std.specs.Prelude.{◌≡◌, ◌⊎◌, true, false, IfErr, IfOk, IsErrOf, OnOk};
+ghost use Rattle.std.specs.Prelude.{◌≡◌, ◌⊎◌, true, false, None, IfErr, IfOk, IsErrOf, OnOk};
 ghost use Rattle.algo.specs.View.{algorithm_of, picture_said, samples_of, IsFor};
 ghost use Rattle.meaning.specs.Image.View.{image_of};
 ghost use Rattle.pnm.specs.declared.error.PnmError.TheVariants.{Device};
 ghost use Rattle.pnm.specs.Source.{IsEndless};
 ghost use Rattle.tool.specs.declared.pipeline.fault.Fault.{Fault as FaultOf};
-ghost use Rattle.tool.specs.Pipeline.WithoutPlan.{IsBudgetSpent, IsPlainDone, IsPlainRefused};
+ghost use Rattle.tool.specs.Pipeline.Pictures.{IsBudgetSpent, IsDone, IsRefused};
 
 use crate::pipeline::fault::Fault;
 use crate::pipeline::reading::{inputs_from, read_algorithm};
@@ -38,9 +38,13 @@ pub fn plain_picture<T: Threads + Sync>(
     Ok(plain::image(rt, alloc, algo, inputs, BUDGET)?)
 }
 
-/// The way from a text and an image to the plain picture, between a source and a sink that remember whether they have
-/// failed.
-fn plain_between<T: Threads + Sync, S: Source, K: Sink>(
+/// Does what `plain_over` does, between a source and a sink that tell whether they have failed: `Image(Device)` is answered
+/// exactly where one of them has, but for a source that never ends.
+///
+/// # Errors
+/// The first refusal in this order: of the text, of the image, of a pixel that takes more than 2^32 evaluations, and of the
+/// writer. Nothing is written before all else has succeeded, and writing takes no memory.
+pub fn plain_between<T: Threads + Sync, S: Source, K: Sink>(
     rt: &T,
     alloc: Global,
     text: &str,
@@ -49,8 +53,8 @@ fn plain_between<T: Threads + Sync, S: Source, K: Sink>(
 ) -> Result<(), Fault>
     requires source { S.has_failed source.old ≡ false }
     requires sink { K.has_failed sink.old ≡ false }
-    ensures done { OnOk result (IsPlainDone text.now (S.remaining source.old) (S.remaining source.new) (K.contents sink.old) (K.contents sink.new)) }
-    ensures refused { IfErr result (IsPlainRefused text.now (S.remaining source.old) (S.remaining source.new) (K.contents sink.old) (K.contents sink.new)) }
+    ensures done { OnOk result (IsDone text.now None (S.remaining source.old) (S.remaining source.new) (K.contents sink.old) (K.contents sink.new)) }
+    ensures refused { IfErr result (IsRefused text.now None (S.remaining source.old) (S.remaining source.new) (K.contents sink.old) (K.contents sink.new)) }
     ensures failed { (S.has_failed source.new ≡ true) ⊎ (K.has_failed sink.new ≡ true) → IsErrOf result (FaultOf.Image Device) }
     ensures device { IsErrOf result (FaultOf.Image Device) → ((S.has_failed source.new ≡ true) ⊎ (K.has_failed sink.new ≡ true)) ⊎ IsEndless (S.remaining source.old) (S.remaining source.new) }
     ensures same_source { S.identity source.new ≡ S.identity source.old }
@@ -74,8 +78,8 @@ pub fn plain_over<T: Threads + Sync, R: Read, W: Write>(
     input: &mut R,
     output: &mut W,
 ) -> Result<(), Fault>
-    ensures done { OnOk result (IsPlainDone text.now (R.remaining input.old) (R.remaining input.new) (W.contents output.old) (W.contents output.new)) }
-    ensures refused { IfErr result (IsPlainRefused text.now (R.remaining input.old) (R.remaining input.new) (W.contents output.old) (W.contents output.new)) }
+    ensures done { OnOk result (IsDone text.now None (R.remaining input.old) (R.remaining input.new) (W.contents output.old) (W.contents output.new)) }
+    ensures refused { IfErr result (IsRefused text.now None (R.remaining input.old) (R.remaining input.new) (W.contents output.old) (W.contents output.new)) }
 {
     let mut source = Watched {
         device: input,

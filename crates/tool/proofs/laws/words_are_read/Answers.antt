@@ -1,6 +1,8 @@
-use Rattle.std.proofs.Common.{refl, inl}
+use Rattle.std.proofs.Common.{refl, inl, inr}
 use Rattle.clap.specs.declared.error.kind.ErrorKind.TheVariants.{MissingRequiredArgument, UnknownArgument}
+use Rattle.std.specs.Fmt.{digits}
 use Rattle.clap.proofs.OnLiterals.{clap_on_literals}
+use Rattle.tool.specs.Workers.{workers_spelled}
 use Rattle.tool.proofs.laws.words_are_read.Goals as goal
 
 pub returns-clause-plain : goal.returns-clause-plain
@@ -10,6 +12,10 @@ returns-clause-plain c = (refl, refl)
 pub returns-clause-run : goal.returns-clause-run
 unfolding clap_on_literals
 returns-clause-run c = (refl, refl)
+
+pub returns-clause-workers : goal.returns-clause-workers
+unfolding clap_on_literals digits workers_spelled
+returns-clause-workers c = (refl, refl)
 
 pub returns-clause-check : goal.returns-clause-check
 unfolding clap_on_literals
@@ -26,3 +32,7 @@ returns-clause-help c = (inl refl, inl refl, inl refl)
 pub returns-clause-misuse : goal.returns-clause-misuse
 unfolding clap_on_literals
 returns-clause-misuse c = (inl (UnknownArgument, (λ e. cc e), inl refl), inl (MissingRequiredArgument, (λ e. cc e), inl refl), inl (UnknownArgument, (λ e. cc e), inl refl))
+
+pub returns-clause-crews : goal.returns-clause-crews
+unfolding clap_on_literals digits workers_spelled
+returns-clause-crews c = (inr refl, (inr refl, (inr refl, (inr refl, inr refl))))

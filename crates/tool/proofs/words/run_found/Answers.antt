@@ -5,5 +5,8 @@ use Rattle.tool.proofs.words.run_found.Goals as goal
 pub returns-in_err-plan : goal.returns-in_err-plan
 returns-in_err-plan c = rw (c.from_residual.ensures, run_as _, ← c.in_err-plan.ensures) refl
 
+pub returns-in_err-workers : goal.returns-in_err-workers
+returns-in_err-workers c = rw (c.from_residual-in_err-workers.ensures, run_as _, ← c.in_ok-plan.ensures, ← c.in_err-workers.ensures) refl
+
 pub returns : goal.returns
-returns c = rw (run_as _, ← c.in_ok-plan.ensures) c.picture_found.ensures
+returns c = rw (run_as _, ← c.in_ok-plan.ensures, ← c.in_ok-workers.ensures) c.picture_found.ensures

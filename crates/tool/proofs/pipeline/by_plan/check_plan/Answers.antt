@@ -1,8 +1,8 @@
 use Rattle.std.proofs.lemmas.Result.{err_from_is_err_and}
 use Rattle.algo.specs.View.{algorithm_of}
 use Rattle.tool.specs.Pipeline.Faults.{plan_fault}
-use Rattle.tool.specs.Pipeline.ByPlan.{IsFileRefused}
-use Rattle.tool.proofs.PlanWays.{refuses_plan}
+use Rattle.tool.specs.Pipeline.PlanFiles.{IsFileRefused}
+use Rattle.tool.proofs.Between.{refuses_plan}
 use Rattle.tool.proofs.Ways.{told}
 use Rattle.tool.proofs.pipeline.by_plan.check_plan.Goals as goal
 

@@ -1,8 +1,8 @@
 use Rattle.std.proofs.lemmas.Result.{err_from_is_err_and}
 use Rattle.algo.specs.View.{algorithm_of, samples_of}
 use Rattle.tool.specs.Pipeline.Faults.{plain_fault}
-use Rattle.tool.specs.Pipeline.WithoutPlan.{IsBudgetSpent}
-use Rattle.tool.proofs.PlainWays.{refuses_pixel}
+use Rattle.tool.specs.Pipeline.Pictures.{IsBudgetSpent}
+use Rattle.tool.proofs.Between.{refuses_pixel}
 use Rattle.tool.proofs.Ways.{told}
 use Rattle.tool.proofs.pipeline.without_plan.plain_picture.Goals as goal
 

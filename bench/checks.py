@@ -1,0 +1,92 @@
+#!/usr/bin/env python3
+"""Measures `check` of plans that are long, have many pieces or cells, or ask much of bounds: seconds and peak memory.
+
+usage: checks.py PROGRAM
+"""
+import os
+import subprocess
+import sys
+import tempfile
+import time
+
+ALGORITHM = "pipeline inc; input in u8 [{w}, {h}]; func out u8 (x, y) = in[x, y] + 1u8; output out [{w}, {h}];"
+HEAD = "plan 1 inc\ninput in u8 [{w},{h}]\noutput out u8 [{w},{h}]\n"
+STORE = "store b0 0 x={x} y={y} (in[x,y]+1u8)\n"
+
+
+def flat_stores(count):
+    """One piece of `count` points in a row, each stored by a line of its own, behind a nest that stores them all."""
+    lines = "".join(STORE.format(x=i % 8192, y=0) for i in range(count))
+    text = HEAD + (
+        "group 0 out [0:{r};0:0] grid 1\nalloc b0 out [0#{w};0#1]\nfor s1 0:{r} serial\n"
+        "store b0 0 x=0+1*s1 y=0 (in[x,y]+1u8)\nend\n" + lines + "publish @0\ncert\nown 0 [0:{r};0:0]\n"
+        "claim 0 {line} b0 out 0 [0:{r};0:0]\nend\n"
+    )
+    return ALGORITHM, text.format(w=8192, h=1, r=8191, line=8), 8192, 1
+
+
+def pieces(side_w, side_h):
+    """A piece for each point."""
+    text = HEAD + (
+        "group 0 out [0:{r};0:{b}] grid {w} {h}\nalloc b0 out [0+1*s0#1;0+1*s1#1]\n"
+        "store b0 0 x=0+1*s0 y=0+1*s1 (in[x,y]+1u8)\npublish @0\ncert\n"
+        "own 0 [0+1*s0:0+1*s0;0+1*s1:0+1*s1]\nclaim 0 6 b0 out 0 [0+1*s0:0+1*s0;0+1*s1:0+1*s1]\nend\n"
+    )
+    return ALGORITHM, text.format(w=side_w, h=side_h, r=side_w - 1, b=side_h - 1), side_w, side_h
+
+
+def rows_of(side):
+    """A piece for each row of a square."""
+    text = HEAD + (
+        "group 0 out [0:{r};0:{r}] grid {h}\nalloc b0 out [0#{w};0+1*s0#1]\nfor s1 0+1*s0:0+1*s0 serial\n"
+        "for s2 0:{r} serial\nstore b0 0 x=0+1*s2 y=0+1*s1 (in[x,y]+1u8)\nend\nend\npublish @0\ncert\n"
+        "own 0 [0:{r};0+1*s0:0+1*s0]\nclaim 0 10 b0 out 0 [0:{r};0+1*s0:0+1*s0]\nend\n"
+    )
+    return ALGORITHM, text.format(w=side, h=side, r=side - 1), side, side
+
+
+def empty_loops(count):
+    """A nest of loops that hold nothing but one another, before the pixels are stored."""
+    loops = "".join(f"for s{i + 1} 0:0 serial\n" for i in range(count))
+    text = HEAD + (
+        "group 0 out [0:1;0:9] grid 1\nalloc b0 out [0#2;0#10]\n" + loops + "end\n" * count + "for s{a} 0:9 serial\n"
+        "for s{b} 0:1 serial\nstore b0 0 x=0+1*s{b} y=0+1*s{a} (in[x,y]+1u8)\nend\nend\npublish @0\ncert\n"
+        "own 0 [0:1;0:9]\nclaim 0 {line} b0 out 0 [0:1;0:9]\nend\n"
+    )
+    return ALGORITHM, text.format(w=2, h=10, a=count + 1, b=count + 2, line=10 + 2 * count), 2, 10
+
+
+PLANS = {
+    "2,000 flat stores": lambda: flat_stores(2000),
+    "65,000 flat stores": lambda: flat_stores(65000),
+    "65,536 pieces of a cell": lambda: pieces(256, 256),
+    "2^20 pieces of a cell": lambda: pieces(1024, 1024),
+    "2^24 cells in 4096 pieces": lambda: rows_of(4096),
+    "200 nested empty loops": lambda: empty_loops(200),
+}
+
+
+def measured(words):
+    """What a run prints, its status, its seconds and its peak memory in bytes."""
+    start = time.monotonic()
+    process = subprocess.Popen(words, stdout=subprocess.PIPE, stderr=subprocess.STDOUT, text=True)
+    said = process.stdout.read().strip()
+    _, status, usage = os.wait4(process.pid, 0)
+    return said, os.waitstatus_to_exitcode(status), time.monotonic() - start, usage.ru_maxrss * 1024
+
+
+def main():
+    program = os.path.abspath(sys.argv[1])
+    with tempfile.TemporaryDirectory() as folder:
+        for name, made in PLANS.items():
+            algorithm, plan, width, height = made()
+            for file, text in (("a.alg", algorithm.format(w=width, h=height)), ("a.plan", plan)):
+                with open(os.path.join(folder, file), "w", encoding="ascii") as it:
+                    it.write(text)
+            words = [program, "check", *(os.path.join(folder, it) for it in ("a.alg", "a.plan"))]
+            said, status, seconds, memory = measured(words)
+            print(f"check {name}: {seconds:.2f} s, {memory / 2**20:.0f} MiB: {said} (status {status})", flush=True)
+
+
+if __name__ == "__main__":
+    main()
