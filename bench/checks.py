@@ -15,22 +15,22 @@ STORE = "store b0 0 x={x} y={y} (in[x,y]+1u8)\n"
 
 
 def flat_stores(count):
-    """One piece of `count` points in a row, each stored by a line of its own, behind a nest that stores them all."""
+    """One piece of 8192 points, with `count` stores of a line each before the nest that stores them all."""
     lines = "".join(STORE.format(x=i % 8192, y=0) for i in range(count))
     text = HEAD + (
-        "group 0 out [0:{r};0:0] grid 1\nalloc b0 out [0#{w};0#1]\nfor s1 0:{r} serial\n"
-        "store b0 0 x=0+1*s1 y=0 (in[x,y]+1u8)\nend\n" + lines + "publish @0\ncert\nown 0 [0:{r};0:0]\n"
+        "group 0 out [0:{r};0:0] grid 1\nalloc b0 out [0#{w};0#1]\n" + lines + "for s1 0:0 serial\nfor s2 0:{r} serial\n"
+        "store b0 0 x=0+1*s2 y=0+1*s1 (in[x,y]+1u8)\nend\nend\npublish @0\ncert\nown 0 [0:{r};0:0]\n"
         "claim 0 {line} b0 out 0 [0:{r};0:0]\nend\n"
     )
-    return ALGORITHM, text.format(w=8192, h=1, r=8191, line=8), 8192, 1
+    return ALGORITHM, text.format(w=8192, h=1, r=8191, line=10 + count), 8192, 1
 
 
 def pieces(side_w, side_h):
     """A piece for each point."""
     text = HEAD + (
-        "group 0 out [0:{r};0:{b}] grid {w} {h}\nalloc b0 out [0+1*s0#1;0+1*s1#1]\n"
-        "store b0 0 x=0+1*s0 y=0+1*s1 (in[x,y]+1u8)\npublish @0\ncert\n"
-        "own 0 [0+1*s0:0+1*s0;0+1*s1:0+1*s1]\nclaim 0 6 b0 out 0 [0+1*s0:0+1*s0;0+1*s1:0+1*s1]\nend\n"
+        "group 0 out [0:{r};0:{b}] grid {w} {h}\nalloc b0 out [0+1*s0#1;0+1*s1#1]\nfor s2 0+1*s1:0+1*s1 serial\n"
+        "for s3 0+1*s0:0+1*s0 serial\nstore b0 0 x=0+1*s3 y=0+1*s2 (in[x,y]+1u8)\nend\nend\npublish @0\ncert\n"
+        "own 0 [0+1*s0:0+1*s0;0+1*s1:0+1*s1]\nclaim 0 10 b0 out 0 [0+1*s0:0+1*s0;0+1*s1:0+1*s1]\nend\n"
     )
     return ALGORITHM, text.format(w=side_w, h=side_h, r=side_w - 1, b=side_h - 1), side_w, side_h
 
