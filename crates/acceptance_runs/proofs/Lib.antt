@@ -2,3 +2,4 @@ mod Blocks
 mod Near
 pub mod Filling
 pub mod Values
+pub mod Points
