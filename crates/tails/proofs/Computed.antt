@@ -1,6 +1,7 @@
 -- The tests of split loops, computed.
 use Rattle.std.proofs.Common.{refl}
 use Rattle.tails.specs.Worked.{TenIsCut, CutsAreNested, TilesAreCut, ClaimsAreMade}
+use Rattle.tails.specs.WorkedUpdates.{UpdatesAreInTurn}
 
 pub ten_is_cut : TenIsCut
 ten_is_cut = record {
@@ -78,4 +79,35 @@ claims_are_made = record {
   roundup = refl;
   plain = refl;
   no_loop = refl;
+}
+
+pub updates_are_in_turn : UpdatesAreInTurn
+updates_are_in_turn = record {
+  piece = refl;
+  piece_made = refl;
+  piece_wide = refl;
+  piece_few = refl;
+  piece_many = refl;
+  inner = refl;
+  inner_made = refl;
+  inner_wide = refl;
+  inner_few = refl;
+  inner_twice = refl;
+  twice_made = refl;
+  between = refl;
+  between_made = refl;
+  between_named = refl;
+  between_split = refl;
+  outside = refl;
+  outside_twice = refl;
+  guarded = refl;
+  guarded_made = refl;
+  guarded_small = refl;
+  guarded_left_out = refl;
+  two = refl;
+  two_exchanged = refl;
+  two_missing = refl;
+  found = refl;
+  found_made = refl;
+  found_twice = refl;
 }

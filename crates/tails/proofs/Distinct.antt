@@ -57,7 +57,7 @@ outer_all P bs s t k (f ∷ fs) h a =
     let b = and_parts (is_outer bs f) (list_all (is_outer bs) fs) h in
     (subst P (sym (outer_value bs s t k f b.0)) a.0, outer_all P bs s t k fs b.1 a.1)
 
-keeps_more : (b : Binder) (bs : List Binder) (i : ℕ) (s t : Symbols) (z : ℤ) (flag : Bool) → ((j : ℕ) → binds j b ≡ (j == i)) → Keeps bs (bind s i z flag) t → Keeps (b ∷ bs) s t
+pub keeps_more : (b : Binder) (bs : List Binder) (i : ℕ) (s t : Symbols) (z : ℤ) (flag : Bool) → ((j : ℕ) → binds j b ≡ (j == i)) → Keeps bs (bind s i z flag) t → Keeps (b ∷ bs) s t
 keeps_more b bs i s t z flag is k j h =
     k j (or_right (binds j b) (list_any (binds j) bs) h) ∙ bind_beside s i z flag j (sym (is j) ∙ or_left (binds j b) (list_any (binds j) bs) h)
 

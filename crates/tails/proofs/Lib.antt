@@ -1,14 +1,28 @@
+pub mod Advanced
+pub mod Alike
 pub mod Blocks
 pub mod Chosen
 mod Computed
+pub mod Counting
 pub mod Covering
 pub mod Distinct
+pub mod Factors
+pub mod Lists
+pub mod Functions
+pub mod Joined
 pub mod Lets
 pub mod Loops
 mod Made
 pub mod Once
+pub mod Pairing
 pub mod Pairs
+pub mod Picking
 pub mod Reaching
+pub mod Reducing
+pub mod Spelling
+pub mod Splitting
+pub mod Stepping
+pub mod Stores
 pub mod Spines
 pub mod Taken
 pub mod Values

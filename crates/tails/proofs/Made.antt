@@ -29,7 +29,9 @@ use Rattle.tails.specs.Steps.{Spine, spine_of, binder, along, binds, Keeps}
 use Rattle.tails.specs.Moves.{is_outer}
 use Rattle.tails.specs.Maps.{is_scoped, covers}
 use Rattle.tails.specs.Laws.{point_at}
-use Rattle.tails.specs.Nests.{form_of, index_form, is_apart, is_fixed_place, is_split, makes_split, if_new, SplitNestsAreRight, PlainNestsAreTaken}
+use Rattle.tails.specs.Apart.{form_of, index_form, is_apart, is_fixed_place}
+use Rattle.tails.specs.Nests.{is_split, makes_split, makes_by, SplitNestsAreRight, PlainNestsAreTaken}
+use Rattle.tails.proofs.Advanced.{spine_turn, update_made}
 use Rattle.tails.proofs.Lets.{outer_value}
 use Rattle.tails.proofs.Walk.{outer_picked, respects_back, respects_both, any_forward}
 use Rattle.tails.proofs.Distinct.{outer_all, walked}
@@ -181,20 +183,27 @@ split_nests_right plain given rules domain suited counts = record {
         | inl k ↦ (plain given rules domain suited counts).made bs c from places a s k r
         | inr k ↦ by_split bs c from places a s r k
       ];
-  in_turn = λ bs c a s h r. (plain given rules domain suited counts).in_turn bs c a s h r;
+  in_turn = λ bs c a s h r.
+      elim (or_cases ((plain_nests given.outline rules domain).is_in_turn bs c a) _ h) [
+        | inl k ↦ (plain given rules domain suited counts).in_turn bs c a s k r
+        | inr k ↦ (let claim = given.outline.claim c in
+            spine_turn given rules domain suited counts bs s r claim (spine_of a claim.buffer) (actions given.outline.setting a) (way given.outline.setting claim.buffer claim.function a) k)
+      ];
 }
   where
     by_split : (bs : List Binder) (c : ℕ) (from : Option ℕ) (places : List Places) (a : Statement) (s : Symbols) → Respects bs s →
-        if_new from (makes_split given.outline.setting rules bs (given.outline.claim c) places (spine_of a (given.outline.claim c).buffer)) ≡ true → MeantAt given (Made c from places a) s
+        makes_by given.outline.setting rules domain bs (given.outline.claim c) from places (spine_of a (given.outline.claim c).buffer) ≡ true → MeantAt given (Made c from places a) s
     by_split bs c None places a s r k =
         let claim = given.outline.claim c in
         split_made given rules suited counts.none bs s r claim places (spine_of a claim.buffer) (actions given.outline.setting a) (way given.outline.setting claim.buffer claim.function a) k
-    by_split bs c (Some j) places a s r k = absurd (cc k)
+    by_split bs c (Some j) places a s r k =
+        let claim = given.outline.claim c in
+        update_made given rules domain suited counts bs s r claim j places (spine_of a claim.buffer) (actions given.outline.setting a) (way given.outline.setting claim.buffer claim.function a) k
 
 pub plain_nests_taken : PlainNestsAreTaken
 plain_nests_taken outline rules domain = record {
   made = λ bs c from places a h. left_true ((plain_nests outline rules domain).is_made bs c from places a) _ h;
-  in_turn = λ bs c a h. h;
+  in_turn = λ bs c a h. left_true ((plain_nests outline rules domain).is_in_turn bs c a) _ h;
 }
   where
     left_true : (v w : Bool) → v ≡ true → (v || w) ≡ true

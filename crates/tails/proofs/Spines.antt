@@ -9,6 +9,7 @@ use Rattle.plan.specs.declared.stmt.Pick.TheVariants.{Min, Max}
 use Rattle.plan.specs.Plan.{Statement, Seq, For, Let, First, Guard, Alloc, Fetch, Store, Publish, Statements, Empty, Then}
 use Rattle.plan.specs.Symbols.{Symbols, bind, form_value, largest, turns}
 use Rattle.plan.specs.Semantics.Actions.{Setting, Action, Allot, Take, Put, Change, Give, actions, block_actions, after}
+use Rattle.soundness.specs.Origins.{Given}
 use Rattle.soundness.specs.Claims.{In, changes, block_changes, written}
 use Rattle.soundness.specs.Obligations.{picked}
 use Rattle.soundness.proofs.Learned.{Spares}
@@ -19,6 +20,8 @@ use Rattle.soundness.proofs.Written.{in_append_left, in_append_right, written_ap
 use Rattle.tails.specs.Steps.{Turns, Named, Tested, Spine, beyond, past, spine_of, block_spine}
 use Rattle.tails.specs.Maps.{visited}
 use Rattle.tails.specs.Laws.{point_at}
+use Rattle.tails.specs.Turns.{done_at}
+use Rattle.tails.proofs.Counting.{Like, like_turns, like_if, like_behind, like_before}
 
 module _ (setting : Setting) (b : ℕ) (f : List ℕ) where
   spares_fills : (xs : List Action) → Spares b xs → Fills b f xs
@@ -35,11 +38,13 @@ module _ (setting : Setting) (b : ℕ) (f : List ℕ) where
   Owns (Store c k at e) = (c == b) ≡ true
   Owns _ = ⊥
 
-  -- where the line fills the buffer so does all, and where it writes a point at each of its turns all those are written
+  -- where the line fills the buffer so does all, and where it writes a point at each of its turns all those are written; and all takes a
+  -- point on as the line at the turns of the steps does
   pub record IsWay (n : Spine) (todo : Symbols → List Action) : Type 0 where
     pub own : Owns n.line
     pub fills : ((t : Symbols) → Fills b f (actions setting n.line t)) → (s : Symbols) → Fills b f (todo s)
     pub writes : (fs : List Form) → ((u : Symbols) → In (point_at fs u) (written b (actions setting n.line u))) → (s : Symbols) (q : List ℤ) → In q (visited n.steps fs s) → In q (written b (todo s))
+    pub takes : (given : Given) (p : List ℤ) (s : Symbols) → Like given b p (todo s) (done_at (actions setting n.line) n.steps s)
 
   abbrev pub IsWayOf : Option Spine → (Symbols → List Action) → Type 0
   IsWayOf None todo = Unit {0}
@@ -54,6 +59,9 @@ module _ (setting : Setting) (b : ℕ) (f : List ℕ) where
         let g : ℤ → List (List ℤ) = λ z. visited n.steps fs (bind s i z (int_le z (largest s x.lower))) in
         let at = in_flat g q (turns s x) m in
         written_turns b q (λ z. actions setting body (bind s i z (int_le z (largest s x.lower)))) at.0 (turns s x) at.1 (h.writes fs k (bind s i at.0 (int_le at.0 (largest s x.lower))) q at.2);
+    takes = λ given p s.
+        like_turns given b p (λ z. actions setting body (bind s i z (int_le z (largest s x.lower)))) (λ z. done_at (actions setting n.line) n.steps (bind s i z (int_le z (largest s x.lower)))) (turns s x)
+        (λ z. h.takes given p (bind s i z (int_le z (largest s x.lower))));
   }
 
   in_either : (v : Bool) (q : List ℤ) (xs : List (List ℤ)) (ys : List Action) → (In q xs → In q (written b ys)) → In q (if v then xs else []) → In q (written b (if v then ys else []))
@@ -70,6 +78,7 @@ module _ (setting : Setting) (b : ℕ) (f : List ℕ) where
     own = h.own;
     fills = λ k s. fills_either (int_le (form_value low s) (form_value high s)) (actions setting body s) (h.fills k s);
     writes = λ fs k s q m. in_either (int_le (form_value low s) (form_value high s)) q (visited n.steps fs s) (actions setting body s) (h.writes fs k s q) m;
+    takes = λ given p s. like_if given b p (int_le (form_value low s) (form_value high s)) (actions setting body s) (done_at (actions setting n.line) n.steps s) (h.takes given p s);
   }
 
   way_let : (i : ℕ) (pick : Pick) (ls : List Form) (rest : Statements) (o : Option Spine) → IsWayOf o (block_actions setting rest) → IsWayOf (beyond (Named i pick ls) o) (block_actions setting (Then (Let i pick ls) rest))
@@ -78,11 +87,13 @@ module _ (setting : Setting) (b : ℕ) (f : List ℕ) where
     own = h.own;
     fills = λ k s. h.fills k (bind s i (picked Min ls s) true);
     writes = λ fs k s q m. h.writes fs k (bind s i (picked Min ls s) true) q m;
+    takes = λ given p s. h.takes given p (bind s i (picked Min ls s) true);
   }
   way_let i Max ls rest (Some n) h = record {
     own = h.own;
     fills = λ k s. h.fills k (bind s i (picked Max ls s) true);
     writes = λ fs k s q m. h.writes fs k (bind s i (picked Max ls s) true) q m;
+    takes = λ given p s. h.takes given p (bind s i (picked Max ls s) true);
   }
 
   way_line : (v : Bool) (a : Statement) → (v ≡ true → Owns a) → IsWayOf (if v then Some (record { steps = []; line = a }) else None) (actions setting a)
@@ -90,6 +101,7 @@ module _ (setting : Setting) (b : ℕ) (f : List ℕ) where
     own = h refl;
     fills = λ k s. k s;
     writes = λ fs k s q m. elim m [ inl e ↦ subst (λ p. In p (written b (actions setting a s))) (sym e) (k s) | inr none ↦ absurd none ];
+    takes = λ given p s i j t. t;
   }
   way_line false a h = tt
 
@@ -104,6 +116,8 @@ module _ (setting : Setting) (b : ℕ) (f : List ℕ) where
     writes = λ fs k s q m.
         subst (In q) (sym (written_append b (actions setting a s) (block_actions setting rest (after a s))))
         (in_append_left q (written b (actions setting a s)) (written b (block_actions setting rest (after a s))) (h.writes fs k s q m));
+    takes = λ given p s.
+        like_behind given b p (actions setting a s) (block_actions setting rest (after a s)) (done_at (actions setting n.line) n.steps s) (h.takes given p s) (leaves_block setting rest (after a s) b e);
   }
 
   -- a later one, where the first leaves it alone and binds nothing
@@ -118,6 +132,9 @@ module _ (setting : Setting) (b : ℕ) (f : List ℕ) where
         subst (In q) (sym (written_append b (actions setting a s) (block_actions setting rest (after a s))))
         (in_append_right q (written b (actions setting a s)) (written b (block_actions setting rest (after a s)))
         (subst (λ t. In q (written b (block_actions setting rest t))) (sym (same s)) (h.writes fs k s q m)));
+    takes = λ given p s.
+        like_before given b p (actions setting a s) (block_actions setting rest (after a s)) (done_at (actions setting n.line) n.steps s) (leaves setting a s b e)
+        (subst (λ t. Like given b p (block_actions setting rest (after a s)) (done_at (actions setting n.line) n.steps t)) (same s) (h.takes given p (after a s)));
   }
 
   way_past : (a : Statement) (rest : Statements) → changes a b ≡ false → (o : Option Spine) → IsWayOf o (block_actions setting rest) → IsWayOf (past a o) (block_actions setting (Then a rest))

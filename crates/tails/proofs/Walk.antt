@@ -106,7 +106,7 @@ flat_has f y x (z ∷ zs) (inr m) h = in_right y (f z) (flat_map f zs) (flat_has
 pub point_same : (fs : List Form) (s t : Symbols) → ((i : ℕ) → t.value i ≡ s.value i) → point_at fs t ≡ point_at fs s
 point_same fs s t same = λ k. map (λ f. value_of f (λ j. same j k)) fs
 
-forms_same : (bs : List Binder) (s t : Symbols) → Keeps bs s t → (fs : List Form) → list_all (is_outer bs) fs ≡ true → map (λ f. form_value f t) fs ≡ map (λ f. form_value f s) fs
+pub forms_same : (bs : List Binder) (s t : Symbols) → Keeps bs s t → (fs : List Form) → list_all (is_outer bs) fs ≡ true → map (λ f. form_value f t) fs ≡ map (λ f. form_value f s) fs
 forms_same bs s t k [] h = refl
 forms_same bs s t k (f ∷ fs) h =
     let a = and_parts (is_outer bs f) (list_all (is_outer bs) fs) h in

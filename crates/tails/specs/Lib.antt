@@ -2,7 +2,16 @@ pub mod Steps
 pub mod Moves
 pub mod Maps
 pub mod Laws
+pub mod Apart
+pub mod Domains
+pub mod Updates
 pub mod Nests
 pub mod Turns
 pub mod View
+pub mod Held
+pub mod Ready
+pub mod States
+pub mod SplitMaps
 pub mod Worked
+pub mod WorkedUpdates
+pub mod Shown

@@ -1,42 +1,22 @@
--- The test that a nest of split loops makes a claim of a pure definition, beside the test of plain nests.
-use Rattle.std.specs.Prelude.{◌≡◌, ℕ, zero, ◌==◌, ◌||◌, ◌&&◌, Bool, true, false, not, List, ◌++◌, map, Option, Some, None, pos}
-use Rattle.std.specs.List.{list_any, list_all}
-use Rattle.lin.specs.Forms.{Form, number}
+-- The tests that a nest of split loops makes a claim, or does an update's steps in turn, beside the tests of plain nests.
+use Rattle.std.specs.Prelude.{◌≡◌, ℕ, zero, ◌==◌, ◌||◌, ◌&&◌, Bool, true, false, List, ◌++◌, map, Option, Some, None}
+use Rattle.std.specs.List.{list_all}
 use Rattle.lin.specs.Search.{is_empty}
 use Rattle.meaning.specs.Algorithm.{Range}
 use Rattle.meaning.specs.Names.{same_name}
 use Rattle.plan.specs.declared.stmt.Places.{Places}
-use Rattle.plan.specs.declared.stmt.Places.TheVariants.{From, Folded}
-use Rattle.plan.specs.Plan.{Index, At, Found, Coordinate, Statement, Store}
+use Rattle.plan.specs.Plan.{Statement, Store}
 use Rattle.plan.specs.Semantics.Actions.{Setting}
 use Rattle.plan.specs.Certificate.Certificate.{Claim}
 use Rattle.soundness.specs.Origins.{Outline, Given}
-use Rattle.soundness.specs.Obligations.{Binder, Ranged, Picked, Passed, Rules, Suited, is_form}
+use Rattle.soundness.specs.Obligations.{Binder, Rules, Suited, is_form}
 use Rattle.soundness.specs.Shown.{are_seated, Nests, AreRightNests}
 use Rattle.soundness.specs.Nests.Laws.{Counts}
 use Rattle.soundness.specs.Nests.Tests.{left_of, over_of, known_span, plain_nests}
-use Rattle.tails.specs.Steps.{Step, Spine, spine_of, along, binds}
-use Rattle.tails.specs.Moves.{is_outer}
+use Rattle.tails.specs.Steps.{Step, Spine, spine_of, along}
 use Rattle.tails.specs.Maps.{covers}
-
--- what a coordinate is, where it is a form
-abbrev pub index_form : Index → Form
-index_form (At l) = l
-index_form (Found e) = number (pos 0)
-
-abbrev pub form_of : Coordinate → Form
-form_of c = index_form c.index
-
--- what is bound around the steps has none of their symbols
-abbrev pub is_apart : List Binder → Binder → Bool
-is_apart steps (Ranged i x) = not (list_any (binds i) steps) && (list_all (is_outer steps) x.lower && list_all (is_outer steps) x.upper)
-is_apart steps (Picked i pick ls) = not (list_any (binds i) steps) && list_all (is_outer steps) ls
-is_apart steps (Passed low high) = is_outer steps low && is_outer steps high
-
--- the places are not folded, and where they begin has none either
-abbrev pub is_fixed_place : List Binder → Places → Bool
-is_fixed_place steps (From l n) = is_outer steps l
-is_fixed_place steps (Folded n) = false
+use Rattle.tails.specs.Apart.{form_of, is_apart, is_fixed_place}
+use Rattle.tails.specs.Updates.{makes_update, is_in_steps}
 
 module _ (setting : Setting) (rules : Rules) where
   -- the steps round a store of the function's pure definition: its coordinates reach the claim's region, and have places
@@ -53,19 +33,25 @@ module _ (setting : Setting) (rules : Rules) where
   makes_split bs claim places None = false
   makes_split bs claim places (Some n) = is_split bs claim places n.steps n.line
 
--- where the claim goes on from nothing
-abbrev pub if_new : Option ℕ → Bool → Bool
-if_new None test = test
-if_new (Some k) test = false
+-- the claim is made from nothing, or from the definition before it
+abbrev pub makes_by : Setting → Rules → (List ℕ → ℕ → Option (List Range)) → List Binder → Claim → Option ℕ → List Places → Option Spine → Bool
+makes_by setting rules domain bs claim None places o = makes_split setting rules bs claim places o
+makes_by setting rules domain bs claim (Some k) places o = makes_update setting rules domain bs claim k o
+
+-- tests of nests, and those of split ones beside them
+abbrev pub with_split : Outline → Rules → (List ℕ → ℕ → Option (List Range)) → Nests → Nests
+with_split outline rules domain nests = record {
+  is_made = λ bs c from places a.
+      nests.is_made bs c from places a
+      || makes_by outline.setting rules domain bs (outline.claim c) from places (spine_of a (outline.claim c).buffer);
+  is_in_turn = λ bs c a.
+      nests.is_in_turn bs c a
+      || is_in_steps outline.setting rules domain bs (outline.claim c) (spine_of a (outline.claim c).buffer);
+}
 
 -- the tests of plain nests and of split ones
 abbrev pub split_nests : Outline → Rules → (List ℕ → ℕ → Option (List Range)) → Nests
-split_nests outline rules domain = record {
-  is_made = λ bs c from places a.
-      (plain_nests outline rules domain).is_made bs c from places a
-      || if_new from (makes_split outline.setting rules bs (outline.claim c) places (spine_of a (outline.claim c).buffer));
-  is_in_turn = λ bs c a. (plain_nests outline rules domain).is_in_turn bs c a;
-}
+split_nests outline rules domain = with_split outline rules domain (plain_nests outline rules domain)
 
 -- what the tests say yes to is so, whatever the symbols stand for
 abbrev pub SplitNestsAreRight : Type 0

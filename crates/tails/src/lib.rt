@@ -1,6 +1,24 @@
 //! Which points the turns of split loops visit, and how often.
 #![tactic(auto)]
 
+mod apart;
+mod choosing;
 pub mod descent;
+mod domains;
+mod forms;
+mod guarded;
+mod guards;
 pub mod laws;
+pub mod maps;
+mod moves;
+mod naming;
+pub mod nests;
+mod pending;
+mod reduction;
+mod regions;
+pub mod shown;
+mod sides;
+pub mod spans;
+mod turns;
+mod updates;
 pub mod worked;
