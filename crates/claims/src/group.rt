@@ -16,6 +16,7 @@ use plan::Plan;
 use plan::certificate::Cert;
 use rules::nests::PlainNests;
 use std::alloc::{AllocError, Global};
+use tails::nests::SplitNests;
 
 /// What is asked after: an algorithm, and a plan with its certificate.
 #[derive(Clone, Copy, Drop)]
@@ -34,10 +35,16 @@ fn unmet_part(
 ) -> Result<Option<Flaw>, AllocError>
     ensures { IfOk result (λ flaw. flaw ≡ unmet_in bounds.now.bounds part) }
 {
-    let nests = PlainNests {
+    let plain = PlainNests {
         outlined: bounds.bounds.outlined,
         algo: bounds.bounds.algo,
         bounds,
+    };
+    let nests = SplitNests {
+        outlined: bounds.bounds.outlined,
+        algo: bounds.bounds.algo,
+        bounds,
+        others: &plain,
     };
     first_unmet(alloc, bounds.bounds.outlined, bounds, &nests, part)
 }

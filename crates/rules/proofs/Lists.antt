@@ -13,7 +13,9 @@ use Rattle.plan.specs.Lines.{lines, block_lines}
 use Rattle.plan.specs.Lists.{list_statements}
 use Rattle.plan.specs.Plan.{Statement, Statements, Empty, Then, block}
 use Rattle.plan.specs.View.{statement_of}
-use Rattle.rules.specs.Widths.Widths.{told, first_told}
+use Rattle.soundness.specs.Obligations.{Binder, Rules}
+use Rattle.rules.specs.Widths.Widths.{told, first_told, binders_after, wide_lines, block_wide_lines}
+use Rattle.rules.proofs.Blocks.{rest_from}
 
 pub more_binders : (bs : List BinderHeld) (b : BinderHeld) → binders_of (bs ++ b ∷ []) ≡ binder_of b ∷ binders_of bs
 more_binders [] b = refl
@@ -112,3 +114,28 @@ module _ (of_one : ℕ → Statement → List ℕ) (of_block : ℕ → Statement
         later ∙ later_told next k count (lines (statement_of x)) begins counted ∙ ap told (omega (arith, more)),
         next_lines n xs i x h is e (found_none (of_one k (statement_of x)) o first none),
       )
+
+-- the lines of a block from one of its statements on, after the binders there
+module _ (R : Rules) where
+  wide_from : (bs : List Binder) (n : ℕ) (xs : List Stmt) (i : ℕ) (x : Stmt) → i < length xs → x ≡ get_or xs i x →
+      block_wide_lines R bs n (block (list_statements (drop i xs)))
+      ≡ wide_lines R bs n (statement_of x) ++ block_wide_lines R (binders_after (statement_of x) bs) (n + lines (statement_of x)) (block (list_statements (drop (i + 1) xs)))
+  wide_from bs n xs i x h is = ap (λ (l : List Stmt). block_wide_lines R bs n (block (list_statements l))) (rest_from xs i x h is)
+
+  -- that statement has the first
+  pub wide_here : (bs : List Binder) (n : ℕ) (xs : List Stmt) (i : ℕ) (x : Stmt) (o : Option ℕ) (all : List ℕ) → i < length xs → x ≡ get_or xs i x →
+      all ≡ block_wide_lines R bs n (block (list_statements (drop i xs))) → o ≡ first_told (wide_lines R bs n (statement_of x)) → true ≡ is_some o →
+      o ≡ first_told all
+  wide_here bs n xs i x o all h is e first some =
+      first_found (wide_lines R bs n (statement_of x)) _ o first some ∙ ap first_told (sym (e ∙ wide_from bs n xs i x h is))
+
+  -- it has none
+  pub wide_later : (bs after : List Binder) (n : ℕ) (xs : List Stmt) (i : ℕ) (x : Stmt) (o : Option ℕ) (all : List ℕ) → i < length xs → x ≡ get_or xs i x →
+      all ≡ block_wide_lines R bs n (block (list_statements (drop i xs))) → o ≡ first_told (wide_lines R bs n (statement_of x)) → false ≡ is_some o →
+      after ≡ binders_after (statement_of x) bs →
+      all ≡ block_wide_lines R after (n + lines (statement_of x)) (block (list_statements (drop (i + 1) xs)))
+  wide_later bs after n xs i x o all h is e first none same =
+      let rest = block (list_statements (drop (i + 1) xs)) in
+      e ∙ wide_from bs n xs i x h is
+      ∙ ap (λ (l : List ℕ). l ++ block_wide_lines R (binders_after (statement_of x) bs) (n + lines (statement_of x)) rest) (found_none (wide_lines R bs n (statement_of x)) o first none)
+      ∙ ap (λ (b : List Binder). block_wide_lines R b (n + lines (statement_of x)) rest) (sym same)

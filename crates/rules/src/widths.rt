@@ -1,6 +1,7 @@
-//! Whether stores' coordinates, and the symbols that other forms name, are shown to be small numbers.
+//! Whether stores' coordinates, and the symbols that other forms name, are shown to be small numbers, and unrolled loops short.
 
 mod near;
+mod short;
 mod storing;
 mod widths;
 

@@ -6,17 +6,17 @@ use Rattle.std.proofs.lemmas.Bool.{false≢true}
 use Rattle.std.proofs.lemmas.List.{append-nil, length-map}
 use Rattle.std.proofs.lemmas.List.Elements.{recursion_from_All, All-from_recursion}
 use Rattle.plan.specs.declared.stmt.Stmt.{Stmt, Seq' as Block, For' as Loop, Let as Naming, First' as AtFirst, Guard' as Where, Alloc as Allocation, Fetch as Fetching, Store as Storing, Publish as Publishing}
-use Rattle.plan.specs.Plan.{Statement, Seq, For, Let, First, Guard, Alloc, Fetch, Store, Publish, Plan, block}
+use Rattle.plan.specs.Plan.{Plan, block}
 use Rattle.plan.specs.Lists.{list_statements}
 use Rattle.plan.specs.Symbols.{Symbols}
 use Rattle.plan.specs.View.{statement_of}
-use Rattle.plan.specs.Semantics.Actions.{after}
 use Rattle.plan.specs.Certificate.Cells.{Cell}
 use Rattle.headline.specs.Fetched.{fetched_cells, block_fetched_cells}
 use Rattle.headline.specs.Numbers.{cell_number, is_cell}
 use Rattle.headline.proofs.Parts.{none_fetched}
 use Rattle.shares.specs.Shared.{LineIsShared, LinesAreShared}
 use Rattle.shares.specs.Layout.{AllCells}
+use Rattle.shares.proofs.Agreeing.{stays}
 
 pub ok_err : {A B : Type 0} {a : A} {b : B} → ◌≡◌ {A = Result A B} (Ok a) (Err b) → ⊥
 ok_err e = cc e
@@ -36,21 +36,21 @@ is_still (Fetching b g r) = false
 is_still (Storing b k at e) = true
 is_still (Publishing c) = true
 
-pub line_none : (p : Plan) (a : Stmt) (s : Symbols) → LineIsShared p (statement_of a) → is_still a ≡ true → fetched_cells (statement_of a) s ≡ []
-line_none p (Block shape all) s h still = absurd (false≢true still)
-line_none p (Loop i x kind q body) s h still = none_fetched (statement_of (Loop i x kind q body)) s h
-line_none p (Naming i pick forms) s h still = absurd h
-line_none p (AtFirst i q a r b) s h still = none_fetched (statement_of (AtFirst i q a r b)) s h
-line_none p (Where low high q body) s h still = none_fetched (statement_of (Where low high q body)) s h
-line_none p (Allocation b f places) s h still = refl
-line_none p (Fetching b g r) s h still = absurd (false≢true still)
-line_none p (Storing b k at e) s h still = refl
-line_none p (Publishing c) s h still = refl
+pub line_none : (p : Plan) (grid : List ℕ) (a : Stmt) (s : Symbols) → LineIsShared p grid (statement_of a) → is_still a ≡ true → fetched_cells (statement_of a) s ≡ []
+line_none p grid (Block shape all) s h still = absurd (false≢true still)
+line_none p grid (Loop i x kind q body) s h still = none_fetched (statement_of (Loop i x kind q body)) s h
+line_none p grid (Naming i pick forms) s h still = refl
+line_none p grid (AtFirst i q a r b) s h still = none_fetched (statement_of (AtFirst i q a r b)) s h
+line_none p grid (Where low high q body) s h still = none_fetched (statement_of (Where low high q body)) s h
+line_none p grid (Allocation b f places) s h still = refl
+line_none p grid (Fetching b g r) s h still = absurd (false≢true still)
+line_none p grid (Storing b k at e) s h still = refl
+line_none p grid (Publishing c) s h still = refl
 
 -- what such a line leaves
-pub still_line : (p : Plan) (a : Stmt) (s : Symbols) (old : List ℕ) → LineIsShared p (statement_of a) → is_still a ≡ true → (old ≡ old ++ map (cell_number p) (fetched_cells (statement_of a) s)) × AllCells p (fetched_cells (statement_of a) s)
-still_line p a s old h still =
-    let none = line_none p a s h still in
+pub still_line : (p : Plan) (grid : List ℕ) (a : Stmt) (s : Symbols) (old : List ℕ) → LineIsShared p grid (statement_of a) → is_still a ≡ true → (old ≡ old ++ map (cell_number p) (fetched_cells (statement_of a) s)) × AllCells p (fetched_cells (statement_of a) s)
+still_line p grid a s old h still =
+    let none = line_none p grid a s h still in
     (sym (ap (λ (xs : List Cell). old ++ map (cell_number p) xs) none ∙ append-nil old), none_cells p (fetched_cells (statement_of a) s) none)
 
 -- ---- parts of lists of cells
@@ -76,37 +76,25 @@ parts_counted p old now line later whole e =
     let n = ap length e in
     omega (arith, a, b, k, l, m, n)
 
--- a line names nothing for the lines after it
-pub stays : (p : Plan) (a : Statement) (s : Symbols) → LineIsShared p a → after a s ≡ s
-stays p (Seq all) s h = refl
-stays p (For i x kind body) s h = refl
-stays p (Let i pick forms) s h = absurd h
-stays p (First i a b) s h = refl
-stays p (Guard low high body) s h = refl
-stays p (Alloc b f places) s h = refl
-stays p (Fetch b g r) s h = refl
-stays p (Store b k at e) s h = refl
-stays p (Publish c) s h = refl
-
 abbrev pub cells_in : List Stmt → Symbols → List Cell
 cells_in xs s = block_fetched_cells (block (list_statements xs)) s
 
-abbrev pub AreLines : Plan → List Stmt → Type 0
-AreLines p xs = LinesAreShared p (block (list_statements xs))
+abbrev pub AreLines : Plan → List ℕ → List Stmt → Type 0
+AreLines p grid xs = LinesAreShared p grid (block (list_statements xs))
 
-pub next_lines : (p : Plan) (xs : List Stmt) (i : ℕ) (d : Stmt) → i < length xs → AreLines p (drop i xs) → LineIsShared p (statement_of (get_or xs i d)) × AreLines p (drop (i + 1) xs)
-next_lines p xs i d less h =
+pub next_lines : (p : Plan) (grid : List ℕ) (xs : List Stmt) (i : ℕ) (d : Stmt) → i < length xs → AreLines p grid (drop i xs) → LineIsShared p grid (statement_of (get_or xs i d)) × AreLines p grid (drop (i + 1) xs)
+next_lines p grid xs i d less h =
     let one : suc i ≡ i + 1 = omega arith in
-    let both = subst (AreLines p) (drop-cons xs i d less) h in
-    (both.0, subst (λ (n : ℕ). AreLines p (drop n xs)) one both.1)
+    let both = subst (AreLines p grid) (drop-cons xs i d less) h in
+    (both.0, subst (λ (n : ℕ). AreLines p grid (drop n xs)) one both.1)
 
-pub next_cells : (p : Plan) (xs : List Stmt) (i : ℕ) (d : Stmt) (s : Symbols) → i < length xs → AreLines p (drop i xs) → cells_in (drop i xs) s ≡ fetched_cells (statement_of (get_or xs i d)) s ++ cells_in (drop (i + 1) xs) s
-next_cells p xs i d s less h =
+pub next_cells : (p : Plan) (grid : List ℕ) (xs : List Stmt) (i : ℕ) (d : Stmt) (s : Symbols) → i < length xs → AreLines p grid (drop i xs) → cells_in (drop i xs) s ≡ fetched_cells (statement_of (get_or xs i d)) s ++ cells_in (drop (i + 1) xs) s
+next_cells p grid xs i d s less h =
     let one : suc i ≡ i + 1 = omega arith in
     let a = statement_of (get_or xs i d) in
-    let line = (next_lines p xs i d less h).0 in
+    let both = subst (AreLines p grid) (drop-cons xs i d less) h in
     ap (λ (ys : List Stmt). cells_in ys s) (drop-cons xs i d less)
-    ∙ ap (λ (t : Symbols). fetched_cells a s ++ block_fetched_cells (block (list_statements (drop (suc i) xs))) t) (stays p a s line)
+    ∙ ap (λ (cells : List Cell). fetched_cells a s ++ cells) (stays p grid a (block (list_statements (drop (suc i) xs))) s both.0 both.1)
     ∙ ap (λ (n : ℕ). fetched_cells a s ++ cells_in (drop n xs) s) one
 
 pub no_lines : (xs : List Stmt) (i : ℕ) (s : Symbols) → length xs ≡ i → cells_in (drop i xs) s ≡ []

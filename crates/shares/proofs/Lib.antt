@@ -7,6 +7,7 @@ pub mod Groups
 pub mod Known
 pub mod Seated
 pub mod Apart
+pub mod Agreeing
 pub mod Fetching
 pub mod Needing
 pub mod Told

@@ -1,5 +1,5 @@
 -- What is known of a piece of a plan whose shares can be told.
-use Rattle.std.proofs.Common.{◌≡◌, ℕ, ◌+◌, ◌<◌, ◌≤◌, List, [], ◌∷◌, length, map, arith, ap, refl, sym, ◌∙◌, subst, Option, Some, None, get_or, Bool, cond, Vec, Bor, Global}
+use Rattle.std.proofs.Common.{◌≡◌, ℕ, suc, ◌+◌, ◌/◌, ◌<◌, ◌≤◌, List, [], ◌∷◌, length, map, arith, ap, refl, sym, ◌∙◌, subst, Option, Some, None, get_or, Bool, cond, Vec, Bor, Global}
 use Rattle.std.specs.Prelude.{All, IsTrue, ◌↔◌, slice_get, filter, ℤ, MatchOption}
 use Rattle.std.specs.List.{AllByRecursion}
 use Rattle.std.proofs.lemmas.List.{length-map}
@@ -9,7 +9,7 @@ use Rattle.plan.specs.Plan.{Group, Plan}
 use Rattle.plan.specs.Symbols.{Symbols, points}
 use Rattle.plan.specs.View.{plan_of, group_of}
 use Rattle.plan.specs.Certificate.Certificate.{Certificate, certificate_of}
-use Rattle.plan.specs.Certificate.Cells.{Piece, Cell, cell, cells, pieces, no_symbols, grid_symbols, own_region, own_points, points_within, is_in_region}
+use Rattle.plan.specs.Certificate.Cells.{Piece, Cell, cell, cells, pieces, no_symbols, grid_point, grid_symbols, own_region, own_points, points_within, is_in_region}
 use Rattle.headline.specs.Numbers.{cell_number, has_point, is_cell, group_region, point_rank, HaveEnds}
 use Rattle.headline.specs.Work.{of_piece, own_cells, group_own}
 use Rattle.headline.proofs.Places.{piece_from}
@@ -66,6 +66,10 @@ module _ (p : Plan) (c : Certificate) (n : ℕ) (g : Group) (at : slice_get p.gr
 
 -- ---- a piece
 
+point_long : (ms : List ℕ) (n : ℕ) → length (grid_point ms n) ≡ length ms
+point_long [] n = refl
+point_long (m ∷ ms) n = ap suc (point_long ms (n / m))
+
 module _ (x : Layout) (ready : IsLayout x) (n : ℕ) (s : Seat) (less : n < length x.seats.items) (is : s ≡ get_or x.seats.items n s) where
   abbrev P : Plan
   P = plan_of x.plan.now
@@ -78,6 +82,11 @@ module _ (x : Layout) (ready : IsLayout x) (n : ℕ) (s : Seat) (less : n < leng
 
   pub group_at : (g : Group) × (slice_get P.groups s.group ≡ Some g)
   group_at = let k = piece_from P n (piece_of s) piece_is in (k.g, k.group)
+
+  -- a coordinate for each of the grid's counts
+  pub at_long : length s.at.items ≡ length group_at.0.grid
+  unfolding group_at
+  at_long = let k = piece_from P n (piece_of s) piece_is in ap (λ (j : Piece). length j.at) k.is ∙ point_long k.g.grid k.k
 
   pub group_within : s.group < length x.grounds.items
   group_within =

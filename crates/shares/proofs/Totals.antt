@@ -1,18 +1,18 @@
 -- What fetch lines count in all.
-use Rattle.std.proofs.Common.{◌≡◌, ℕ, zero, suc, ◌+◌, ◌<◌, ◌≤◌, ◌^◌, List, [], ◌∷◌, ◌++◌, length, length-append, map, take, get_or, Bool, true, false, arith, ap, refl, sym, ◌∙◌, subst, Option, Some, None}
+use Rattle.std.proofs.Common.{◌≡◌, ℕ, zero, suc, ◌+◌, ◌<◌, ◌≤◌, List, [], ◌∷◌, ◌++◌, length, length-append, map, take, get_or, Bool, true, false, arith, ap, refl, sym, ◌∙◌, Option, Some}
 use Rattle.std.specs.Prelude.{◌==◌, sum_by, slice_get, if◌then◌else◌, All}
 use Rattle.std.specs.List.{AllByRecursion}
 use Rattle.std.proofs.lemmas.Bool.Decides.{nat_tests}
 use Rattle.std.proofs.lemmas.List.{length-map, take_all}
 use Rattle.std.proofs.lemmas.List.Elements.{All-from_recursion}
 use Rattle.std.proofs.lemmas.List.Sums.{sum_by-cons, sum_by-append, sum_by_more, sum_by-take-le}
-use Rattle.lin.specs.declared.span.Span1.{Span1}
 use Rattle.plan.specs.Plan.{Statement, Seq, For, Let, First, Guard, Alloc, Fetch, Store, Publish, Statements, Empty, Then, Group, Plan}
 use Rattle.plan.specs.Lines.{lines, body_line}
-use Rattle.plan.specs.Symbols.{Symbols, points}
+use Rattle.plan.specs.Symbols.{points}
 use Rattle.plan.specs.Semantics.Actions.{after}
 use Rattle.plan.specs.Certificate.Certificate.{Certificate}
 use Rattle.plan.specs.Certificate.Cells.{Piece, Cell, cell, grid_symbols, pieces}
+use Rattle.outline.specs.Forms.{grid_symbols as grid_names}
 use Rattle.headline.specs.Fetched.{fetched_cells, block_fetched_cells}
 use Rattle.headline.specs.Numbers.{cell_number}
 use Rattle.headline.specs.Work.{of_piece, cells_fetched, group_fetched}
@@ -23,7 +23,7 @@ use Rattle.shares.specs.Counts.{FetchLine, fetch_lines, block_fetch_lines, fetch
 use Rattle.shares.specs.Has.{fetched_before, AreFew}
 use Rattle.shares.specs.Layout.{fetched_list}
 use Rattle.shares.specs.Shared.{AreShared, IsLike, LineIsShared, LinesAreShared}
-use Rattle.shares.proofs.Fetching.{stays}
+use Rattle.shares.proofs.Agreeing.{stays}
 use Rattle.shares.proofs.Groups.{get_some, some_same}
 use Rattle.shares.proofs.Seated.{named_group}
 
@@ -65,31 +65,31 @@ left_out b n e = rw e refl
 
 module _ (p : Plan) (n : ℕ) (j : Piece) where
   mutual
-    lines_here : (a : Statement) (line : ℕ) → (n == j.group) ≡ true → LineIsShared p a → by j (fetch_lines n a line) ≡ length (fetched_cells a (grid_symbols j.at))
-    lines_here (Seq all) line e h = block_here all line e h
-    lines_here (For i x kind body) line e h = sym (ap length (none_fetched (For i x kind body) (grid_symbols j.at) h))
-    lines_here (Let i pick forms) line e h = absurd h
-    lines_here (First i a b) line e h = sym (ap length (none_fetched (First i a b) (grid_symbols j.at) h))
-    lines_here (Guard low high body) line e h = sym (ap length (none_fetched (Guard low high body) (grid_symbols j.at) h))
-    lines_here (Alloc b f places) line e h = refl
-    lines_here (Fetch b g region) line e h =
+    lines_here : (grid : List ℕ) (a : Statement) (line : ℕ) → (n == j.group) ≡ true → LineIsShared p grid a → by j (fetch_lines n a line) ≡ length (fetched_cells a (grid_symbols j.at))
+    lines_here grid (Seq all) line e h = block_here grid all line e h
+    lines_here grid (For i x kind body) line e h = sym (ap length (none_fetched (For i x kind body) (grid_symbols j.at) h))
+    lines_here grid (Let i pick forms) line e h = refl
+    lines_here grid (First i a b) line e h = sym (ap length (none_fetched (First i a b) (grid_symbols j.at) h))
+    lines_here grid (Guard low high body) line e h = sym (ap length (none_fetched (Guard low high body) (grid_symbols j.at) h))
+    lines_here grid (Alloc b f places) line e h = refl
+    lines_here grid (Fetch b g region) line e h =
         let count = length (points (grid_symbols j.at) region) in
         let one = sum_by-cons (λ x. cells_by x j) (record { line = line; group = n; region = region }) [] in
         let is = chosen (n == j.group) count e in
         let row = length-map (points (grid_symbols j.at) region) (cell g) in
         omega (arith, one, is, row)
-    lines_here (Store b k at v) line e h = refl
-    lines_here (Publish c) line e h = refl
+    lines_here grid (Store b k at v) line e h = refl
+    lines_here grid (Publish c) line e h = refl
 
-    block_here : (all : Statements) (line : ℕ) → (n == j.group) ≡ true → LinesAreShared p all → by j (block_fetch_lines n all line) ≡ length (block_fetched_cells all (grid_symbols j.at))
-    block_here Empty line e h = refl
-    block_here (Then a rest) line e h =
+    block_here : (grid : List ℕ) (all : Statements) (line : ℕ) → (n == j.group) ≡ true → LinesAreShared p grid all → by j (block_fetch_lines n all line) ≡ length (block_fetched_cells all (grid_symbols j.at))
+    block_here grid Empty line e h = refl
+    block_here grid (Then a rest) line e h =
         let s = grid_symbols j.at in
         let whole = sum_by-append (λ x. cells_by x j) (fetch_lines n a line) (block_fetch_lines n rest (line + lines a)) in
-        let first = lines_here a line e h.0 in
-        let more = block_here rest (line + lines a) e h.1 in
+        let first = lines_here grid a line e h.0 in
+        let more = block_here grid rest (line + lines a) e h.1 in
         let long = length-append (fetched_cells a s) (block_fetched_cells rest (after a s)) in
-        let same = ap (λ (t : Symbols). length (block_fetched_cells rest t)) (stays p a s h.0) in
+        let same = ap (λ (cells : List Cell). length cells) (stays p grid a rest s h.0 h.1) in
         omega (arith, whole, first, more, long, same)
 
   mutual
@@ -131,12 +131,12 @@ module _ (p : Plan) (j : Piece) where
       let more = groups_past (k + 1) gs (omega (arith, past)) in
       omega (arith, whole, first, more)
 
-  groups_here : (k : ℕ) (gs : List Group) (m : ℕ) (g : Group) → ((i : ℕ) (h : Group) → slice_get gs i ≡ Some h → LineIsShared p h.body) → j.group ≡ k + m → slice_get gs m ≡ Some g →
+  groups_here : (k : ℕ) (gs : List Group) (m : ℕ) (g : Group) → ((i : ℕ) (h : Group) → slice_get gs i ≡ Some h → LineIsShared p (grid_names (length h.grid)) h.body) → j.group ≡ k + m → slice_get gs m ≡ Some g →
       by j (fetch_lines_from p k gs) ≡ length (fetched_cells g.body (grid_symbols j.at))
   groups_here k [] m g all e at = absurd (cc at)
   groups_here k (x ∷ xs) zero g all e at =
       let whole = sum_by-append (λ x. cells_by x j) (fetch_lines k x.body (body_line p k)) (fetch_lines_from p (k + 1) xs) in
-      let first = lines_here p k j x.body (body_line p k) (same_number k j.group (omega (arith, e))) (all 0 x refl) in
+      let first = lines_here p k j (grid_names (length x.grid)) x.body (body_line p k) (same_number k j.group (omega (arith, e))) (all 0 x refl) in
       let more = groups_past (k + 1) xs (omega (arith, e)) in
       let same = ap (λ (h : Group). length (fetched_cells h.body (grid_symbols j.at))) (some_same x g at) in
       omega (arith, whole, first, more, same)
@@ -193,24 +193,24 @@ limited_append [] ys h k = k
 limited_append (x ∷ xs) ys h k = (h.0, limited_append xs ys h.1 k)
 
 mutual
-  limited_lines : (p : Plan) (n : ℕ) (a : Statement) (line : ℕ) → LineIsShared p a → AllByRecursion (λ x. IsLimited x.region) (fetch_lines n a line)
-  limited_lines p n (Seq all) line h = limited_block p n all line h
-  limited_lines p n (For i x kind body) line h = tt
-  limited_lines p n (Let i pick forms) line h = tt
-  limited_lines p n (First i a b) line h = tt
-  limited_lines p n (Guard low high body) line h = tt
-  limited_lines p n (Alloc b f places) line h = tt
-  limited_lines p n (Fetch b g region) line h = ((named_group (slice_get p.groups g) (λ x. IsLike region (length x.region)) h).2.0, tt)
-  limited_lines p n (Store b k at v) line h = tt
-  limited_lines p n (Publish c) line h = tt
+  limited_lines : (p : Plan) (grid : List ℕ) (n : ℕ) (a : Statement) (line : ℕ) → LineIsShared p grid a → AllByRecursion (λ x. IsLimited x.region) (fetch_lines n a line)
+  limited_lines p grid n (Seq all) line h = limited_block p grid n all line h
+  limited_lines p grid n (For i x kind body) line h = tt
+  limited_lines p grid n (Let i pick forms) line h = tt
+  limited_lines p grid n (First i a b) line h = tt
+  limited_lines p grid n (Guard low high body) line h = tt
+  limited_lines p grid n (Alloc b f places) line h = tt
+  limited_lines p grid n (Fetch b g region) line h = ((named_group (slice_get p.groups g) (λ x. IsLike region (length x.region)) h.0).2.0, tt)
+  limited_lines p grid n (Store b k at v) line h = tt
+  limited_lines p grid n (Publish c) line h = tt
 
-  limited_block : (p : Plan) (n : ℕ) (all : Statements) (line : ℕ) → LinesAreShared p all → AllByRecursion (λ x. IsLimited x.region) (block_fetch_lines n all line)
-  limited_block p n Empty line h = tt
-  limited_block p n (Then a rest) line h = limited_append (fetch_lines n a line) (block_fetch_lines n rest (line + lines a)) (limited_lines p n a line h.0) (limited_block p n rest (line + lines a) h.1)
+  limited_block : (p : Plan) (grid : List ℕ) (n : ℕ) (all : Statements) (line : ℕ) → LinesAreShared p grid all → AllByRecursion (λ x. IsLimited x.region) (block_fetch_lines n all line)
+  limited_block p grid n Empty line h = tt
+  limited_block p grid n (Then a rest) line h = limited_append (fetch_lines n a line) (block_fetch_lines n rest (line + lines a)) (limited_lines p grid n a line h.0) (limited_block p grid n rest (line + lines a) h.1)
 
-limited_groups : (p : Plan) (k : ℕ) (gs : List Group) → ((i : ℕ) (h : Group) → slice_get gs i ≡ Some h → LineIsShared p h.body) → AllByRecursion (λ x. IsLimited x.region) (fetch_lines_from p k gs)
+limited_groups : (p : Plan) (k : ℕ) (gs : List Group) → ((i : ℕ) (h : Group) → slice_get gs i ≡ Some h → LineIsShared p (grid_names (length h.grid)) h.body) → AllByRecursion (λ x. IsLimited x.region) (fetch_lines_from p k gs)
 limited_groups p k [] all = tt
-limited_groups p k (g ∷ gs) all = limited_append (fetch_lines k g.body (body_line p k)) (fetch_lines_from p (k + 1) gs) (limited_lines p k g.body (body_line p k) (all 0 g refl)) (limited_groups p (k + 1) gs (λ i h. all (suc i) h))
+limited_groups p k (g ∷ gs) all = limited_append (fetch_lines k g.body (body_line p k)) (fetch_lines_from p (k + 1) gs) (limited_lines p (grid_names (length g.grid)) k g.body (body_line p k) (all 0 g refl)) (limited_groups p (k + 1) gs (λ i h. all (suc i) h))
 
 pub lines_limited : (p : Plan) (c : Certificate) → AreShared p c → All (λ x. IsLimited x.region) (plan_fetch_lines p)
 lines_limited p c shared = All-from_recursion (λ (x : FetchLine). IsLimited x.region) (plan_fetch_lines p) (limited_groups p 0 p.groups (λ i h e. (shared.groups i h e).body))

@@ -6,6 +6,7 @@ ghost use Rattle.plan.specs.Lists.{list_statements};
 ghost use Rattle.plan.specs.Symbols.{points};
 ghost use Rattle.plan.specs.View.{plan_of, statement_of};
 ghost use Rattle.plan.specs.Certificate.Cells.{cell, grid_symbols};
+ghost use Rattle.outline.specs.Forms.{grid_symbols as grid_names};
 ghost use Rattle.headline.specs.Fetched.{fetched_cells, block_fetched_cells};
 ghost use Rattle.headline.specs.Numbers.{cell_number};
 ghost use Rattle.shares.specs.declared.stop.Stop.TheVariants.{Unserved, Large};
@@ -74,7 +75,7 @@ fn fetch_line(
     fetched: &mut Vec<u32>,
 ) -> Result<(), Stop>
     requires layout { IsLayout layout.now }
-    requires line { LineIsShared (plan_of layout.now.plan.now) (statement_of stmt.now) }
+    requires line { LineIsShared (plan_of layout.now.plan.now) (grid_names (length at.now)) (statement_of stmt.now) }
     requires at { IsSmall at.now }
     requires room { length fetched.old.items ≤ room }
     ensures cells { OnOk result (fetched.new.items ≡ fetched.old.items ++ map (cell_number (plan_of layout.now.plan.now)) (fetched_cells (statement_of stmt.now) (grid_symbols at.now))) }
@@ -112,7 +113,7 @@ fn fetch_lines(
     fetched: &mut Vec<u32>,
 ) -> Result<(), Stop>
     requires layout { IsLayout layout.now }
-    requires lines { LinesAreShared (plan_of layout.now.plan.now) (block (list_statements all.now)) }
+    requires lines { LinesAreShared (plan_of layout.now.plan.now) (grid_names (length at.now)) (block (list_statements all.now)) }
     requires at { IsSmall at.now }
     requires room { length fetched.old.items ≤ room }
     ensures cells { OnOk result (fetched.new.items ≡ fetched.old.items ++ map (cell_number (plan_of layout.now.plan.now)) (block_fetched_cells (block (list_statements all.now)) (grid_symbols at.now))) }

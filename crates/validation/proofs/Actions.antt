@@ -1,6 +1,6 @@
 -- What a group's body without flaws does stores definitions.
 use Rattle.std.proofs.Common.{◌≡◌, ℕ, zero, suc, List, [], ◌∷◌, ◌++◌, take, drop, map, length, Bool, true, false, refl, sym, ap, ◌∙◌, subst}
-use Rattle.std.specs.Prelude.{◌&&◌, not, slice_get, ℤ, flat_map, int_le}
+use Rattle.std.specs.Prelude.{◌&&◌, not, slice_get, ℤ, flat_map, if◌then◌else◌, int_le}
 use Rattle.std.specs.List.{list_all}
 use Rattle.std.proofs.lemmas.Bool.{false≢true}
 use Rattle.tree.specs.Term.{Term, Terms, Call}
@@ -8,7 +8,7 @@ use Rattle.tree.specs.Substitution.{with_calls}
 use Rattle.meaning.specs.Algorithm.{Algorithm}
 use Rattle.meaning.specs.Conditions.{is_variable, names_in}
 use Rattle.plan.specs.Plan.{Index, At, Found, Coordinate, Statement, Seq, For, Let, First, Guard, Alloc, Fetch, Store, Publish, Statements, Empty, Then, Group, Plan}
-use Rattle.plan.specs.Symbols.{Symbols, bind, largest, turns, points}
+use Rattle.plan.specs.Symbols.{Symbols, bind, form_value, largest, turns, points}
 use Rattle.plan.specs.Certificate.Certificate.{Certificate}
 use Rattle.plan.specs.Semantics.Actions.{Action, Take, Put, Give, Target, index_target, target, fixed, are_fixed, action_for, store_action, stored, actions, block_actions, after as symbols_after}
 use Rattle.plan.specs.Semantics.Run.{Source, Input, ByClaim, Unknown}
@@ -20,13 +20,10 @@ use Rattle.soundness.proofs.Refines.{and_parts}
 use Rattle.meaning.specs.Inlining.PutIn.{put_in}
 use Rattle.validation.specs.Stored.Definitions.{Parts, Definition, parts_named, function_in, stored_in}
 use Rattle.validation.specs.Stored.Stored.{are_for, has_names, name_read, as_read, is_put_in, is_left, are_left, is_defined}
-use Rattle.validation.specs.Groups.Lines.{Here, before, after, in_loop, is_empty, flaws, block_flaws}
+use Rattle.validation.specs.Groups.Lines.{Here, before, after, in_later, in_loop, inside, is_empty, flaws, block_flaws}
 use Rattle.validation.proofs.Allotted.{drop_end}
 use Rattle.validation.proofs.Flawless.{none_in}
 use Rattle.validation.proofs.Stores.{take_end, all_for, mapped_parts, StoreIsFine, store_fine, pure_store, step_is, put_is, named_same, named_parts}
-
-some_flaw : {A : Type 0} {x : A} {xs : List A} → x ∷ xs ≡ [] → ⊥
-some_flaw h = cc
 
 not_true : (b : Bool) → not b ≡ true → b ≡ false
 not_true true h = absurd (false≢true h)
@@ -53,6 +50,10 @@ module _ (a : Algorithm) (p : Plan) (c : Certificate) (g : Group) (o : Outline) 
   joined : (xs ys : List Action) → AreDefinitions a put G xs → AreDefinitions a put G ys → AreDefinitions a put G (xs ++ ys)
   joined [] ys h k = k
   joined (x ∷ xs) ys h k = (h.0, joined xs ys h.1 k)
+
+  chosen : (v : Bool) (xs ys : List Action) → AreDefinitions a put G xs → AreDefinitions a put G ys → AreDefinitions a put G (if v then xs else ys)
+  chosen true xs ys h k = h
+  chosen false xs ys h k = k
 
   repeated : (f : ℤ → List Action) (zs : List ℤ) → ((z : ℤ) → AreDefinitions a put G (f z)) → AreDefinitions a put G (flat_map f zs)
   repeated f [] h = tt
@@ -148,8 +149,11 @@ module _ (a : Algorithm) (p : Plan) (c : Certificate) (g : Group) (o : Outline) 
     defined (For i x kind body) here s h =
         repeated (λ z. actions o.setting body (bind s i z (int_le z (largest s x.lower)))) (turns s x) (λ z. defined body (in_loop i here) (bind s i z (int_le z (largest s x.lower))) (none_in _ _ h).1)
     defined (Let i pick ls) here s h = tt
-    defined (First i t r) here s h = absurd (some_flaw h)
-    defined (Guard low high body) here s h = absurd (some_flaw h)
+    defined (First i t r) here s h =
+        let k = none_in _ _ (none_in _ _ h).1 in
+        chosen (s.first i) (actions o.setting t s) (actions o.setting r s) (defined t (inside here) s k.0) (defined r (in_later t here) s k.1)
+    defined (Guard low high body) here s h =
+        chosen (int_le (form_value low s) (form_value high s)) (actions o.setting body s) [] (defined body (inside here) s (none_in _ _ h).1) tt
     defined (Alloc b f places) here s h = (tt, tt)
     defined (Fetch b k region) here s h = taken b (o.setting.group_function k) (points s region)
     defined (Store b k at e) here s h = (store_defined s b k at e (store_fine a p o c g here b k at e h), tt)

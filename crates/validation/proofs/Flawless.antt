@@ -1,11 +1,12 @@
 -- Lines without flaws.
 use Rattle.std.proofs.Common.{◌≡◌, ℕ, zero, suc, ◌+◌, ◌≤◌, List, [], ◌∷◌, ◌++◌, take, length, Bool, true, false, Option, Some, None, refl, sym, ap, ◌∙◌, subst, arith}
-use Rattle.std.specs.Prelude.{◌&&◌, ◌||◌, ◌==◌, ◌^◌, not, nat_le, slice_get}
+use Rattle.std.specs.Prelude.{◌&&◌, ◌||◌, ◌==◌, ◌^◌, not, nat_le, slice_get, MatchOption}
 use Rattle.std.specs.List.{list_all, list_any}
-use Rattle.outline.specs.Forms.{spans_are_over, spans_are_within_limits, is_listed}
+use Rattle.outline.specs.Forms.{is_over, are_over, spans_are_over, are_within_limits, spans_are_within_limits, is_listed, grid_symbols}
 use Rattle.std.proofs.lemmas.Bool.{false≢true}
 use Rattle.std.proofs.lemmas.Bool.Decides.{nat_tests}
 use Rattle.lin.specs.Forms.{Form}
+use Rattle.lin.specs.declared.form.Multiple.{Multiple}
 use Rattle.meaning.specs.Algorithm.{Algorithm}
 use Rattle.meaning.specs.Names.{same_name}
 use Rattle.meaning.proofs.Cases.{same_name_is}
@@ -13,19 +14,21 @@ use Rattle.lin.specs.declared.span.Span1.{Span1}
 use Rattle.plan.specs.Plan.{Statement, Seq, For, Let, First, Guard, Alloc, Fetch, Store, Publish, Statements, Empty, Then, Group, Plan}
 use Rattle.plan.specs.Lines.{group_line}
 use Rattle.plan.specs.Certificate.Certificate.{Claim, Certificate}
-use Rattle.plan.specs.Certificate.Cells.{piece_count}
+use Rattle.plan.specs.Certificate.Cells.{piece_count, own_region}
 use Rattle.soundness.specs.Origins.{Outline}
 use Rattle.soundness.specs.Given.{claim_or_none, outline_of}
+use Rattle.soundness.specs.Obligations.{form_has, span_has}
 use Rattle.soundness.proofs.Refines.{and_parts, eq_true}
 use Rattle.headline.specs.Numbers.{HaveEnds}
-use Rattle.headline.specs.Sound.{publishes, block_publishes, PublishesLast, BlockPublishesLast, binds, block_binds, IsPublished}
+use Rattle.headline.specs.Sound.{publishes, block_publishes, PublishesLast, BlockPublishesLast, binds, block_binds, region_has, IsPublished}
 use Rattle.outline.specs.Flaws.{line_told}
 use Rattle.validation.specs.Groups.Sizes.{more, cell_count, is_extent}
 use Rattle.validation.specs.Stored.Sizes.{counted}
 use Rattle.validation.specs.Stored.Definitions.{parts_named, has_variables}
 use Rattle.validation.specs.declared.stored.lines.GroupLines.{GroupLines}
 use Rattle.validation.specs.Stored.Stored.{has_line}
-use Rattle.validation.specs.Groups.Lines.{Here, line_flaws, is_claim_of, before, after, in_loop, is_empty, flaws, block_flaws, group_line_flaws, group_flaws, groups_flaws, flaws_of_groups, start}
+use Rattle.validation.specs.Certificate.Clear.{IsRegion, EachHasOwn}
+use Rattle.validation.specs.Groups.Lines.{Here, line_flaws, is_claim_of, is_new, is_one_of, before, after, in_later, in_loop, inside, is_empty, flaws, block_flaws, group_line_flaws, group_flaws, groups_flaws, flaws_of_groups, start}
 
 some_flaw : {A : Type 0} {x : A} {xs : List A} → x ∷ xs ≡ [] → ⊥
 some_flaw h = cc
@@ -66,6 +69,18 @@ claim_is : (lines : GroupLines) (o : Option Claim) (name : List ℕ) → is_clai
 claim_is lines None name h = absurd (false≢true h)
 claim_is lines (Some c) name h = same_name_is c.function name (and_parts (has_line lines c.line) (same_name c.function name) h).1
 
+either : (b d : Bool) (P : Type 0) → (b || d) ≡ true → (b ≡ true → P) → (d ≡ true → P) → P
+either true d P h f g = f refl
+either false d P h f g = g h
+
+one_more : (i j : ℕ) (xs : List ℕ) → is_one_of xs i ≡ true → is_one_of (xs ++ j ∷ []) i ≡ true
+one_more i j [] h = absurd (false≢true h)
+one_more i j (x ∷ xs) h = by (x == i) h (λ k. one_more i j xs k)
+  where
+    by : (v : Bool) → (v || is_one_of xs i) ≡ true → (is_one_of xs i ≡ true → is_one_of (xs ++ j ∷ []) i ≡ true) → (v || is_one_of (xs ++ j ∷ []) i) ≡ true
+    by true k f = refl
+    by false k f = f k
+
 module _ (a : Algorithm) (p : Plan) (c : Certificate) (g : Group) (o : Outline) where
   -- a line that is not the group's last does not publish
   mutual
@@ -73,8 +88,12 @@ module _ (a : Algorithm) (p : Plan) (c : Certificate) (g : Group) (o : Outline) 
     not_last (Seq all) here l h = block_not_last all here l h
     not_last (For i x kind body) here l h = not_last body (in_loop i here) refl (none_in _ _ h).1
     not_last (Let i pick ls) here l h = refl
-    not_last (First i s t) here l h = absurd (some_flaw h)
-    not_last (Guard low high body) here l h = absurd (some_flaw h)
+    not_last (First i s t) here l h =
+        let k = none_in _ _ (none_in _ _ h).1 in
+        let first = not_last s (inside here) refl k.0 in
+        let others = not_last t (in_later s here) refl k.1 in
+        λ j. first j || others j
+    not_last (Guard low high body) here l h = not_last body (inside here) refl (none_in _ _ h).1
     not_last (Alloc b f places) here l h = refl
     not_last (Fetch b k region) here l h = refl
     not_last (Store b k at e) here l h = refl
@@ -97,8 +116,13 @@ module _ (a : Algorithm) (p : Plan) (c : Certificate) (g : Group) (o : Outline) 
     last_is (Seq all) here h t = block_last_is all here h t
     last_is (For i x kind body) here h t = absurd (not_both (not_last body (in_loop i here) refl (none_in _ _ h).1) t)
     last_is (Let i pick ls) here h t = absurd (false≢true t)
-    last_is (First i s r) here h t = absurd (some_flaw h)
-    last_is (Guard low high body) here h t = absurd (some_flaw h)
+    last_is (First i s r) here h t =
+        let k = none_in _ _ (none_in _ _ h).1 in
+        let first = not_last s (inside here) refl k.0 in
+        let others = not_last r (in_later s here) refl k.1 in
+        let none : (publishes s || publishes r) ≡ false = λ j. first j || others j in
+        absurd (not_both none t)
+    last_is (Guard low high body) here h t = absurd (not_both (not_last body (inside here) refl (none_in _ _ h).1) t)
     last_is (Alloc b f places) here h t = absurd (false≢true t)
     last_is (Fetch b k region) here h t = absurd (false≢true t)
     last_is (Store b k at e) here h t = absurd (false≢true t)
@@ -112,26 +136,84 @@ module _ (a : Algorithm) (p : Plan) (c : Certificate) (g : Group) (o : Outline) 
         let first = not_last s (before false here) (and_false_right here.last) k.0 in
         (first, block_last_is (Then r rest) (after s here) k.1 (sym (ap (λ b. b || block_publishes (Then r rest)) first) ∙ t))
 
-  -- no line binds a name
-  mutual
-    pub no_binds : (s : Statement) (here : Here) → flaws a p c g o s here ≡ [] → (i : ℕ) → binds s i ≡ false
-    no_binds (Seq all) here h i = block_no_binds all here h i
-    no_binds (For j x kind body) here h i = refl
-    no_binds (Let j pick ls) here h i = absurd (some_flaw h)
-    no_binds (First j s r) here h i = refl
-    no_binds (Guard low high body) here h i = refl
-    no_binds (Alloc b f places) here h i = refl
-    no_binds (Fetch b k region) here h i = refl
-    no_binds (Store b k at e) here h i = refl
-    no_binds (Publish k) here h i = refl
+  -- a line outside of loops, arms and guards binds no symbol of those in scope where its group begins
+  abbrev Stay : List ℕ → Here → Type 0
+  Stay outer here = (i : ℕ) → is_one_of outer i ≡ true → is_one_of here.symbols i ≡ true
 
-    block_no_binds : (s : Statements) (here : Here) → block_flaws a p c g o s here ≡ [] → (i : ℕ) → block_binds s i ≡ false
-    block_no_binds Empty here h i = refl
-    block_no_binds (Then s rest) here h i =
+  new_is_none : (outer : List ℕ) (here : Here) → Stay outer here → (i : ℕ) → is_new here.symbols i ≡ true → (v : Bool) → is_one_of outer i ≡ v → v ≡ false
+  new_is_none outer here stay i new false e = refl
+  new_is_none outer here stay i new true e = let k : is_new here.symbols i ≡ false = ap not (stay i e) in absurd (not_both k new)
+
+  stay_one : (outer : List ℕ) (s : Statement) (here : Here) → Stay outer here → Stay outer (after s here)
+  stay_one outer (Let j pick ls) here stay i e = one_more i j here.symbols (stay i e)
+  stay_one outer (Seq all) here stay i e = stay i e
+  stay_one outer (For j x kind body) here stay i e = stay i e
+  stay_one outer (First j s r) here stay i e = stay i e
+  stay_one outer (Guard low high body) here stay i e = stay i e
+  stay_one outer (Alloc b f places) here stay i e = stay i e
+  stay_one outer (Fetch b k region) here stay i e = stay i e
+  stay_one outer (Store b k at x) here stay i e = stay i e
+  stay_one outer (Publish k) here stay i e = stay i e
+
+  mutual
+    pub bound_is_new : (outer : List ℕ) (s : Statement) (here : Here) → Stay outer here → flaws a p c g o s here ≡ [] → (i : ℕ) → binds s i ≡ true → is_one_of outer i ≡ false
+    bound_is_new outer (Seq all) here stay h i t = block_bound_is_new outer all here stay h i t
+    bound_is_new outer (For j x kind body) here stay h i t = absurd (false≢true t)
+    bound_is_new outer (Let j pick ls) here stay h i t =
+        let names = (fine here.line (is_new here.symbols j && are_over here.symbols ls) (are_within_limits ls) true (is_listed ls) h).names in
+        let new = (and_parts (is_new here.symbols j) (are_over here.symbols ls) names).0 in
+        new_is_none outer here stay i (subst (λ n. is_new here.symbols n ≡ true) (eq_true j i t) new) (is_one_of outer i) refl
+    bound_is_new outer (First j s r) here stay h i t = absurd (false≢true t)
+    bound_is_new outer (Guard low high body) here stay h i t = absurd (false≢true t)
+    bound_is_new outer (Alloc b f places) here stay h i t = absurd (false≢true t)
+    bound_is_new outer (Fetch b k region) here stay h i t = absurd (false≢true t)
+    bound_is_new outer (Store b k at e) here stay h i t = absurd (false≢true t)
+    bound_is_new outer (Publish k) here stay h i t = absurd (false≢true t)
+
+    block_bound_is_new : (outer : List ℕ) (s : Statements) (here : Here) → Stay outer here → block_flaws a p c g o s here ≡ [] → (i : ℕ) → block_binds s i ≡ true → is_one_of outer i ≡ false
+    block_bound_is_new outer Empty here stay h i t = absurd (false≢true t)
+    block_bound_is_new outer (Then s rest) here stay h i t =
         let k = none_in _ _ h in
-        let first = no_binds s (before (is_empty rest) here) k.0 i in
-        let others = block_no_binds rest (after s here) k.1 i in
-        λ j. first j || others j
+        either (binds s i) (block_binds rest i) (is_one_of outer i ≡ false) t
+        (λ first. bound_is_new outer s (before (is_empty rest) here) stay k.0 i first)
+        (λ later. block_bound_is_new outer rest (after s here) (stay_one outer s here stay) k.1 i later)
+
+-- ---- symbols that stand nowhere in a region
+
+module _ (symbols : List ℕ) (i : ℕ) (new : is_one_of symbols i ≡ false) where
+  other_symbol : (j : ℕ) (v : Bool) → (j == i) ≡ v → is_one_of symbols j ≡ true → v ≡ false
+  other_symbol j false e m = refl
+  other_symbol j true e m = absurd (not_both new (subst (λ n. is_one_of symbols n ≡ true) (eq_true j i e) m))
+
+  terms_free : (ts : List Multiple) → list_all (λ t. is_one_of symbols t.symbol) ts ≡ true → list_any (λ t. t.symbol == i) ts ≡ false
+  terms_free [] h = refl
+  terms_free (t ∷ ts) h =
+      let k = and_parts (is_one_of symbols t.symbol) (list_all (λ u. is_one_of symbols u.symbol) ts) h in
+      let first = other_symbol t.symbol (t.symbol == i) refl k.0 in
+      let others = terms_free ts k.1 in
+      λ j. first j || others j
+
+  forms_free : (fs : List Form) → are_over symbols fs ≡ true → list_any (form_has i) fs ≡ false
+  forms_free [] h = refl
+  forms_free (f ∷ fs) h =
+      let k = and_parts (is_over symbols f) (are_over symbols fs) h in
+      let first = terms_free f.terms k.0 in
+      let others = forms_free fs k.1 in
+      λ j. first j || others j
+
+  spans_free : (xs : List Span1) → spans_are_over symbols xs ≡ true → list_any (span_has i) xs ≡ false
+  spans_free [] h = refl
+  spans_free (x ∷ xs) h =
+      let k = and_parts (are_over symbols x.lower && are_over symbols x.upper) (spans_are_over symbols xs) h in
+      let ends = and_parts (are_over symbols x.lower) (are_over symbols x.upper) k.0 in
+      let low = forms_free x.lower ends.0 in
+      let high = forms_free x.upper ends.1 in
+      let others = spans_free xs k.1 in
+      λ j. (low j || high j) || others j
+
+own_is_free : (count grid : ℕ) (own : Option (List Span1)) (i : ℕ) → MatchOption own ⊥ (IsRegion count grid) → is_one_of (grid_symbols grid) i ≡ false → region_has own i ≡ false
+own_is_free count grid None i h new = refl
+own_is_free count grid (Some xs) i h new = spans_free (grid_symbols grid) i new xs h.symbols
 
 -- ---- regions and groups
 
@@ -177,8 +259,8 @@ module _ (a : Algorithm) (p : Plan) (c : Certificate) where
   pub body_fine : (n : ℕ) (g : Group) (f : GroupIsFine n g) → flaws a p c g (outline_of p c n g) g.body (start f.line g) ≡ []
   body_fine n g f = (none_in (group_line_flaws a f.line (take n p.groups) g f.cells f.pieces) (flaws a p c g (outline_of p c n g) g.body (start f.line g)) f.none).1
 
-  pub published : flaws_of_groups a p c ≡ [] → (n : ℕ) (g : Group) → slice_get p.groups n ≡ Some g → IsPublished p c n g
-  published h n g at =
+  pub published : flaws_of_groups a p c ≡ [] → EachHasOwn p c → (n : ℕ) (g : Group) → slice_get p.groups n ≡ Some g → IsPublished p c n g
+  published h owned n g at =
       let f = group_fine h n g at in
       let k = none_in (group_line_flaws a f.line (take n p.groups) g f.cells f.pieces) (flaws a p c g (outline_of p c n g) g.body (start f.line g)) f.none in
       let few = nat_le f.cells (2 ^ 24) && (nat_le f.pieces (2 ^ 20) && publishes g.body) in
@@ -191,5 +273,6 @@ module _ (a : Algorithm) (p : Plan) (c : Certificate) where
       record {
         ends = ends_are g.region one.0;
         last = last_is a p c g (outline_of p c n g) g.body (start f.line g) k.1 three.1;
-        apart = λ i b. absurd (not_both (no_binds a p c g (outline_of p c n g) g.body (start f.line g) k.1 i) b);
+        apart = λ i b. own_is_free (length g.region) (length g.grid) (own_region c.own n) i (owned n g at)
+            (bound_is_new a p c g (outline_of p c n g) (grid_symbols (length g.grid)) g.body (start f.line g) (λ j e. e) k.1 i b);
       }

@@ -19,12 +19,9 @@ use Rattle.validation.specs.Stored.Definitions.{Parts, Definition, parts_named, 
 use Rattle.validation.specs.Stored.Alike.{same_term}
 use Rattle.validation.specs.Stored.Stored.{as_read, is_put_in, is_left, are_left, is_defined}
 use Rattle.validation.specs.Groups.Free.{DefinitionIsFree, IsFree, IsFreeBlock}
-use Rattle.validation.specs.Groups.Lines.{Here, before, after, in_loop, is_empty, flaws, block_flaws}
+use Rattle.validation.specs.Groups.Lines.{Here, before, after, in_later, in_loop, inside, is_empty, flaws, block_flaws}
 use Rattle.validation.proofs.Flawless.{none_in}
 use Rattle.validation.proofs.Stores.{StoreIsFine, store_fine, pure_is, step_is, named_same, named_parts}
-
-some_flaw : {A : Type 0} {x : A} {xs : List A} → x ∷ xs ≡ [] → ⊥
-some_flaw h = cc
 
 not_true : (b : Bool) → not b ≡ true → b ≡ false
 not_true true h = absurd (false≢true h)
@@ -91,8 +88,9 @@ module _ (a : Algorithm) (p : Plan) (o : Outline) where
       is_free (Seq all) here h = block_is_free all here h
       is_free (For i x kind body) here h = is_free body (in_loop i here) (none_in _ _ h).1
       is_free (Let i pick ls) here h = tt
-      is_free (First i s r) here h = absurd (some_flaw h)
-      is_free (Guard low high body) here h = absurd (some_flaw h)
+      is_free (First i s r) here h =
+          let k = none_in _ _ (none_in _ _ h).1 in (is_free s (inside here) k.0, is_free r (in_later s here) k.1)
+      is_free (Guard low high body) here h = is_free body (inside here) (none_in _ _ h).1
       is_free (Alloc b f places) here h = tt
       is_free (Fetch b k region) here h = tt
       is_free (Store b k at e) here h = store_free b k at e (store_fine a p o c g here b k at e h)

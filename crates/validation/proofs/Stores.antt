@@ -19,13 +19,10 @@ use Rattle.meaning.specs.Inlining.PutIn.{put_in, calls_updates}
 use Rattle.validation.specs.Stored.Definitions.{Parts, parts_of, Definition, Pure, Step, parts_named, definition_in, function_in, stored_in}
 use Rattle.validation.specs.Stored.Alike.{same_term}
 use Rattle.validation.specs.Stored.Stored.{are_for, has_names, as_read, is_put_in, is_defined}
-use Rattle.validation.specs.Groups.Lines.{Here, before, after, in_loop, is_empty, flaws, block_flaws, definition_of, definition_is_named, definition_is_stored, store_is_small}
+use Rattle.validation.specs.Groups.Lines.{Here, before, after, in_later, in_loop, inside, is_empty, flaws, block_flaws, definition_of, definition_is_named, definition_is_stored, store_is_small}
 use Rattle.validation.proofs.Allotted.{drop_end}
 use Rattle.validation.proofs.Same.{term_is}
 use Rattle.validation.proofs.Flawless.{fine, none_in}
-
-some_flaw : {A : Type 0} {x : A} {xs : List A} → x ∷ xs ≡ [] → ⊥
-some_flaw h = cc
 
 pub take_end : {A : Type 0} (xs : List A) (i : ℕ) → length xs ≤ i → take i xs ≡ xs
 take_end [] zero h = refl
@@ -151,8 +148,12 @@ module _ (a : Algorithm) (p : Plan) (c : Certificate) (g : Group) (o : Outline) 
     covered (Seq all) here h = block_covered all here h
     covered (For i x kind body) here h = covered body (in_loop i here) (none_in _ _ h).1
     covered (Let i pick ls) here h = refl
-    covered (First i s r) here h = absurd (some_flaw h)
-    covered (Guard low high body) here h = absurd (some_flaw h)
+    covered (First i s r) here h =
+        let k = none_in _ _ (none_in _ _ h).1 in
+        let first = covered s (inside here) k.0 in
+        let others = covered r (in_later s here) k.1 in
+        λ j. first j && others j
+    covered (Guard low high body) here h = covered body (inside here) (none_in _ _ h).1
     covered (Alloc b f places) here h = refl
     covered (Fetch b k region) here h = refl
     covered (Store b k at e) here h = store_covered b k at e (store_fine a p o c g here b k at e h)

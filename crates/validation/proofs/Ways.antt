@@ -6,7 +6,7 @@ use Rattle.plan.specs.Plan.{Statement, Seq, For, Let, First, Guard, Alloc, Fetch
 use Rattle.plan.specs.Lines.{lines}
 use Rattle.validation.specs.declared.certificate.placing.Way.{Way}
 use Rattle.validation.specs.declared.certificate.placing.Way.TheVariants.{Ends, Within, Past}
-use Rattle.validation.specs.Groups.Lines.{buffers_after}
+use Rattle.validation.specs.Groups.Lines.{buffers_after, symbols_after}
 use Rattle.validation.specs.Certificate.Placing.{Spot, in_loop, past, ends_at, in_body, spot_at, block_spot_at}
 use Rattle.validation.specs.Certificate.Ways.{IsWay}
 
@@ -84,7 +84,18 @@ take_one zero bs b h = refl
 take_one (suc n) [] b h = absurd (omega (arith, h))
 take_one (suc n) (c ∷ bs) b h = ap (λ (xs : List ℕ). c ∷ xs) (take_one n bs b (omega (arith, h)))
 
--- the buffers of the outer blocks stay
+-- the symbols and the buffers of the outer blocks stay
+pub outer_symbols_stay : (a : Statement) (n : ℕ) (xs : List ℕ) → n ≤ length xs → take n (symbols_after a xs) ≡ take n xs
+outer_symbols_stay (Let i pick ls) n xs h = take_one n xs i h
+outer_symbols_stay (Seq all) n xs h = refl
+outer_symbols_stay (For i x kind body) n xs h = refl
+outer_symbols_stay (First i a b) n xs h = refl
+outer_symbols_stay (Guard low high body) n xs h = refl
+outer_symbols_stay (Alloc b f places) n xs h = refl
+outer_symbols_stay (Fetch b g region) n xs h = refl
+outer_symbols_stay (Store b k at e) n xs h = refl
+outer_symbols_stay (Publish c) n xs h = refl
+
 pub outer_stay : (a : Statement) (n : ℕ) (bs : List ℕ) → n ≤ length bs → take n (buffers_after a bs) ≡ take n bs
 outer_stay (Alloc b f places) n bs h = take_one n bs b h
 outer_stay (Seq all) n bs h = refl

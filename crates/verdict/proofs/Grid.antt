@@ -8,7 +8,7 @@ use Rattle.plan.specs.Certificate.Cells.{piece_count, grid_point, grid_value, gr
 use Rattle.soundness.specs.Obligations.{Binder, Ranged, Picked, Passed, Lies, Respects}
 use Rattle.soundness.specs.Binders.View.{grid_binders, grid_from, grid_span}
 
-respects_both : (bs cs : List Binder) (s : Symbols) → Respects bs s → Respects cs s → Respects (bs ++ cs) s
+pub respects_both : (bs cs : List Binder) (s : Symbols) → Respects bs s → Respects cs s → Respects (bs ++ cs) s
 respects_both [] cs s h k = k
 respects_both (Ranged i x ∷ bs) cs s h k = (h.0, respects_both bs cs s h.1 k)
 respects_both (Picked i pick ls ∷ bs) cs s h k = (h.0, respects_both bs cs s h.1 k)

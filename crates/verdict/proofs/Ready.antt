@@ -97,7 +97,7 @@ module _ (laws : Laws) (a : Algorithm) (p : Plan) (c : Certificate) (w : IsAlgor
 
   lines : (n : ℕ) (g : Group) → slice_get p.groups n ≡ Some g → HasLines a p c n g
   lines n g e = record {
-    published = laws.published a p c accepted.groups n g e;
+    published = laws.published a p c accepted.groups clear.own n g e;
     covered = laws.covered a p c accepted.groups n g e;
     definitions = λ samples s. subst (λ (stored : List Bool). AreDefinitions a (put_in a stored) (given_of a samples (outline_of p c n g)) (actions (setting_of p c n g) g.body s))
         (same_stored a p) (laws.definitions a p c accepted.groups n g e samples s);

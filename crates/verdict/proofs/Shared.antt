@@ -5,8 +5,10 @@ use Rattle.std.specs.List.{list_all, AllByRecursion}
 use Rattle.std.proofs.lemmas.Bool.{false≢true}
 use Rattle.std.proofs.lemmas.List.Elements.{All-from_recursion}
 use Rattle.std.proofs.lemmas.Option.{slice_get_cases}
+use Rattle.lin.specs.Forms.{Form}
 use Rattle.lin.specs.declared.span.Span1.{Span1}
 use Rattle.meaning.specs.Algorithm.{Algorithm}
+use Rattle.plan.specs.declared.stmt.Pick.{Pick}
 use Rattle.plan.specs.Plan.{Statement, Seq, For, Let, First, Guard, Alloc, Fetch, Store, Publish, Statements, Empty, Then, Group, Plan}
 use Rattle.plan.specs.declared.certificate.cert.Need.{Need}
 use Rattle.plan.specs.Certificate.Certificate.{Certificate}
@@ -16,19 +18,20 @@ use Rattle.soundness.specs.Origins.{Outline}
 use Rattle.soundness.specs.Given.{outline_of}
 use Rattle.soundness.proofs.Refines.{and_parts, eq_true}
 use Rattle.headline.specs.Fetched.{fetches, block_fetches}
-use Rattle.outline.specs.Forms.{spans_are_within_limits}
+use Rattle.outline.specs.Forms.{are_over, spans_are_over, are_within_limits, spans_are_within_limits, is_listed, grid_symbols}
 use Rattle.shares.specs.declared.boxes.Side.{Side}
 use Rattle.shares.specs.Boxes.{side, sides}
 use Rattle.shares.specs.Shared.{IsLike, LineIsShared, LinesAreShared, NeedIsShared}
 use Rattle.validation.specs.Certificate.Clear.{IsRegion}
 use Rattle.validation.specs.Groups.Sizes.{is_extent, extent_of}
 use Rattle.validation.specs.Stored.Definitions.{Parts, parts_named, has_variables}
-use Rattle.validation.specs.Groups.Lines.{Here, before, after, in_loop, is_empty, may_precede, flaws, block_flaws, flaws_of_groups, start}
-use Rattle.validation.proofs.Flawless.{ends_are, none_in, group_fine, body_fine}
+use Rattle.validation.specs.Groups.Lines.{Here, before, after, in_later, in_loop, inside, is_empty, is_new, may_precede, flaws, block_flaws, flaws_of_groups, start}
+use Rattle.validation.proofs.Flawless.{ends_are, fine, none_in, group_fine, body_fine}
 use Rattle.verdict.specs.Clear.{PlansAreShared}
+use Rattle.verdict.proofs.Size.{AreAmong, among_after, none_of_few}
 use Rattle.verdict.proofs.Lists.{lt_true, spans_limited, looked_up}
 use Rattle.verdict.proofs.Small.{extent, count_is, line_fine, plans_small}
-use Rattle.verdict.proofs.Near.{fetch_fine}
+use Rattle.verdict.proofs.Near.{fetch_fine, new_symbol}
 use Rattle.verdict.proofs.Apart.{grids_small}
 
 -- ---- regions
@@ -56,9 +59,6 @@ need_like n (Some g) (Some q) h = like (length q.grid) (length g.grid) n.region 
 
 -- ---- lines
 
-some_flaw : {A : Type 0} {x : A} {xs : List A} → x ∷ xs ≡ [] → ⊥
-some_flaw h = cc
-
 left_false : (b c : Bool) → b ≡ false → (b && c) ≡ false
 left_false b c h = ap (λ x. x && c) h
 
@@ -74,8 +74,12 @@ module _ (a : Algorithm) (p : Plan) (c : Certificate) (g : Group) (o : Outline) 
     no_fetch (Seq all) here l h = block_no_fetch all here l h
     no_fetch (For i x kind body) here l h = no_fetch body (in_loop i here) refl (none_in _ _ h).1
     no_fetch (Let i pick ls) here l h = refl
-    no_fetch (First i s r) here l h = absurd (some_flaw h)
-    no_fetch (Guard low high body) here l h = absurd (some_flaw h)
+    no_fetch (First i s r) here l h =
+        let k = none_in _ _ (none_in _ _ h).1 in
+        let first = no_fetch s (inside here) refl k.0 in
+        let others = no_fetch r (in_later s here) refl k.1 in
+        λ j. first j || others j
+    no_fetch (Guard low high body) here l h = no_fetch body (inside here) refl (none_in _ _ h).1
     no_fetch (Alloc b f places) here l h = refl
     no_fetch (Fetch b k region) here l h = absurd (false≢true (sym l ∙ (fetch_fine a p c g o b k region here h).fetching))
     no_fetch (Store b k at e) here l h = refl
@@ -108,27 +112,42 @@ module _ (a : Algorithm) (p : Plan) (c : Certificate) (none : flaws_of_groups a 
   abbrev o : Outline
   o = outline_of p c n g
 
-  fetch_shared : (b k : ℕ) (region : List Span1) (here : Here) → flaws a p c g o (Fetch b k region) here ≡ [] → LineIsShared p (Fetch b k region)
-  fetch_shared b k region here h = let f = fetch_fine a p c g o b k region here h in fetched_like a p c none n g k region f.group f.variables f.limits
+  abbrev grid : List ℕ
+  grid = grid_symbols (length g.grid)
+
+  fetch_shared : (b k : ℕ) (region : List Span1) (here : Here) → flaws a p c g o (Fetch b k region) here ≡ [] → LineIsShared p grid (Fetch b k region)
+  fetch_shared b k region here h = let f = fetch_fine a p c g o b k region here h in (fetched_like a p c none n g k region f.group f.variables f.limits, f.symbols)
+
+  -- a line `let` has a new symbol, so none of the grid's
+  let_shared : (i : ℕ) (pick : Pick) (ls : List Form) (here : Here) → AreAmong grid here.symbols → flaws a p c g o (Let i pick ls) here ≡ [] → LineIsShared p grid (Let i pick ls)
+  let_shared i pick ls here among h =
+      let f = fine here.line (is_new here.symbols i && are_over here.symbols ls) (are_within_limits ls) true (is_listed ls) h in
+      none_of_few grid here.symbols among i (new_symbol here.symbols i (and_parts (is_new here.symbols i) (are_over here.symbols ls) f.names).0)
 
   split : (s : Statement) (rest : Statements) (here : Here) → block_flaws a p c g o (Then s rest) here ≡ [] → (flaws a p c g o s (before (is_empty rest) here) ≡ []) × (block_flaws a p c g o rest (after s here) ≡ [])
   split s rest here h = none_in (flaws a p c g o s (before (is_empty rest) here)) (block_flaws a p c g o rest (after s here)) h
 
   mutual
-    pub line_shared : (s : Statement) (here : Here) → flaws a p c g o s here ≡ [] → LineIsShared p s
-    line_shared (Seq all) here h = block_shared all here h
-    line_shared (For i x kind body) here h = no_fetch a p c g o body (in_loop i here) refl (none_in _ _ h).1
-    line_shared (Let i pick ls) here h = absurd (some_flaw h)
-    line_shared (First i s r) here h = absurd (some_flaw h)
-    line_shared (Guard low high body) here h = absurd (some_flaw h)
-    line_shared (Alloc b f places) here h = refl
-    line_shared (Fetch b k region) here h = fetch_shared b k region here h
-    line_shared (Store b k at e) here h = refl
-    line_shared (Publish k) here h = refl
+    pub line_shared : (s : Statement) (here : Here) → AreAmong grid here.symbols → flaws a p c g o s here ≡ [] → LineIsShared p grid s
+    line_shared (Seq all) here among h = block_shared all here among h
+    line_shared (For i x kind body) here among h = no_fetch a p c g o body (in_loop i here) refl (none_in _ _ h).1
+    line_shared (Let i pick ls) here among h = let_shared i pick ls here among h
+    line_shared (First i s r) here among h =
+        let k = none_in _ _ (none_in _ _ h).1 in
+        let first = no_fetch a p c g o s (inside here) refl k.0 in
+        let others = no_fetch a p c g o r (in_later s here) refl k.1 in
+        λ j. first j || others j
+    line_shared (Guard low high body) here among h = no_fetch a p c g o body (inside here) refl (none_in _ _ h).1
+    line_shared (Alloc b f places) here among h = refl
+    line_shared (Fetch b k region) here among h = fetch_shared b k region here h
+    line_shared (Store b k at e) here among h = refl
+    line_shared (Publish k) here among h = refl
 
-    block_shared : (all : Statements) (here : Here) → block_flaws a p c g o all here ≡ [] → LinesAreShared p all
-    block_shared Empty here h = tt
-    block_shared (Then s rest) here h = let k = split s rest here h in (line_shared s (before (is_empty rest) here) k.0, block_shared rest (after s here) k.1)
+    block_shared : (all : Statements) (here : Here) → AreAmong grid here.symbols → block_flaws a p c g o all here ≡ [] → LinesAreShared p grid all
+    block_shared Empty here among h = tt
+    block_shared (Then s rest) here among h =
+        let k = split s rest here h in
+        (line_shared s (before (is_empty rest) here) among k.0, block_shared rest (after s here) (λ i m. among_after s here.symbols i (among i m)) k.1)
 
 -- ---- plans
 
@@ -145,7 +164,7 @@ plans_shared a p c none clear =
             extents = All-from_recursion (λ (x : Side). x.count ≤ 8192) (sides no_symbols g.region) (few_sides g.region l.extents);
             grid = grids_small a p c none n g at;
             own = own_like (length g.region) (length g.grid) (own_region c.own n) (clear.own n g at);
-            body = line_shared a p c none n g g.body (start f.line g) (body_fine a p c n g f);
+            body = line_shared a p c none n g g.body (start f.line g) (λ i m. m) (body_fine a p c n g f);
           };
       needs = All-from_recursion (NeedIsShared p) c.needs (looked_up (NeedIsShared p) c.needs (λ i m at. need_like m (slice_get p.groups m.group) (slice_get p.groups m.needed) (clear.needs i m at)));
       cells = small.cells;

@@ -18,7 +18,7 @@ use Rattle.soundness.specs.Shown.{is_within, are_within, Nests, shows, is_shown,
 use Rattle.soundness.proofs.Refines.{and_parts, name_refl}
 use Rattle.soundness.specs.Nests.Laws.{domains_of}
 use Rattle.soundness.specs.Nests.Plain.{SaysSame, is_small, PlainNestsAreAccepted}
-use Rattle.soundness.specs.Nests.Tests.{plain_nests}
+use Rattle.tails.specs.Nests.{PlainNestsAreTaken, split_nests}
 use Rattle.verdict.specs.Shown.Plain.{AreInside, IsOfNest, IsOfFetch, IsOfUpdate, IsPlainClaim, IsPlain, IsPlainBlock, PlainIsShown, PlainIsAccepted}
 use Rattle.soundness.specs.Binders.View.{grid_binders}
 use Rattle.verdict.proofs.Bools.{both, all_both, all_in, any_has, all_have, and_false, when}
@@ -28,9 +28,9 @@ use Rattle.verdict.proofs.Loads.{places_shown, store_shown}
 name_same : (m n : List ℕ) → m ≡ n → same_name m n ≡ true
 name_same m n e = ap (same_name m) (sym e) ∙ name_refl m
 
-module _ (accepted : PlainNestsAreAccepted) (rules : Rules) (a : Algorithm) (outline : Outline) (same : SaysSame rules) where
+module _ (accepted : PlainNestsAreAccepted) (taken : PlainNestsAreTaken) (rules : Rules) (a : Algorithm) (outline : Outline) (same : SaysSame rules) where
   abbrev tests : Nests
-  tests = plain_nests outline rules (domains_of a)
+  tests = split_nests outline rules (domains_of a)
 
   abbrev test : Obligation → Bool
   test = is_shown rules tests
@@ -94,7 +94,7 @@ module _ (accepted : PlainNestsAreAccepted) (rules : Rules) (a : Algorithm) (out
         let named = name_same (outline.setting.buffer_function is.buffer) claim.function is.plain.function in
         asked places false e (d.written ∙ when (is.buffer == claim.buffer) (same_name (outline.setting.buffer_function is.buffer) claim.function) named)
         (d.updated ∙ ap (λ v. if v then same_name (outline.setting.buffer_function is.buffer) claim.function && false else true) d.changed ∙ and_false (same_name (outline.setting.buffer_function is.buffer) claim.function))
-        ((accepted outline rules (domains_of a) same known.binders c places b is.loops).nest is.buffer is.at is.value is.nest is.plain) refl
+        ((taken outline rules (domains_of a)).made known.binders c None places b ((accepted outline rules (domains_of a) same known.binders c places b is.loops).nest is.buffer is.at is.value is.nest is.plain)) refl
 
     of_fetch : (places : List Places) → places_of known.buffers claim.buffer ≡ Some places → IsOfFetch rules a outline known.binders places b claim → Asked
     of_fetch places e is =
@@ -102,7 +102,7 @@ module _ (accepted : PlainNestsAreAccepted) (rules : Rules) (a : Algorithm) (out
         let named = name_same (outline.setting.group_function is.group) claim.function is.plain.function in
         asked places false e (d.written ∙ when (is.buffer == claim.buffer) (same_name (outline.setting.group_function is.group) claim.function) named)
         (d.updated ∙ ap (λ v. if v then false else true) d.changed)
-        ((accepted outline rules (domains_of a) same known.binders c places b []).fetch is.buffer is.group is.region is.nest is.plain) refl
+        ((taken outline rules (domains_of a)).made known.binders c None places b ((accepted outline rules (domains_of a) same known.binders c places b []).fetch is.buffer is.group is.region is.nest is.plain)) refl
 
     abbrev lies_in : ℕ → Obligation
     lies_in d = obligation outline rules NotMade (rules.claim_line c) known (Inside (region_of outline rules c) (region_of outline rules d))
@@ -126,9 +126,9 @@ module _ (accepted : PlainNestsAreAccepted) (rules : Rules) (a : Algorithm) (out
         let before : claim.definition - 1 ≡ is.update = omega (arith, defined) in
         asked places true e (d.written ∙ when (is.buffer == claim.buffer) (same_name (outline.setting.buffer_function is.buffer) claim.function) named)
         (d.updated ∙ when (is.buffer == claim.buffer) (same_name (outline.setting.buffer_function is.buffer) claim.function && true) (both _ true named refl))
-        (ap (λ k. tests.is_made known.binders c (Some k) places b) before ∙ yes.0)
+        (ap (λ k. tests.is_made known.binders c (Some k) places b) before ∙ (taken outline rules (domains_of a)).made known.binders c (Some is.update) places b yes.0)
         (both (list_any (λ d. follows outline rules d c) known.own) _ is.before
-        (both (tests.is_in_turn known.binders c b) _ yes.1 (all_inside known.own is.inside)))
+        (both (tests.is_in_turn known.binders c b) _ ((taken outline rules (domains_of a)).in_turn known.binders c b yes.1) (all_inside known.own is.inside)))
 
     pub claim_asked : IsPlainClaim rules a outline known b c → Asked
     claim_asked is = of is.made
@@ -170,14 +170,14 @@ module _ (accepted : PlainNestsAreAccepted) (rules : Rules) (a : Algorithm) (out
         (all_both test (flat_map (claim_obligations outline rules line last known b) next) (block_obligations outline rules rest (line + lines b) (onwards outline rules b next known))
         (claims_asked line last known b next h.1) (block_shown rest (line + lines b) (onwards outline rules b next known) h.2))
 
-pub plain_is_shown : PlainNestsAreAccepted → PlainIsShown
-plain_is_shown accepted rules a outline same b line known h = plain_shown accepted rules a outline same b line known h
+pub plain_is_shown : PlainNestsAreAccepted → PlainNestsAreTaken → PlainIsShown
+plain_is_shown accepted taken rules a outline same b line known h = plain_shown accepted taken rules a outline same b line known h
 
-pub plain_is_accepted : PlainNestsAreAccepted → PlainIsAccepted
-plain_is_accepted accepted rules a p c same is = record {
+pub plain_is_accepted : PlainNestsAreAccepted → PlainNestsAreTaken → PlainIsAccepted
+plain_is_accepted accepted taken rules a p c same is = record {
   head = is.head;
   lines = is.lines;
-  shown = λ n g e. plain_shown accepted (rules n) a (outline_of p c n g) (same n) g.body (body_line p n) (start (grid_binders g.grid)) (is.plain n g e);
+  shown = λ n g e. plain_shown accepted taken (rules n) a (outline_of p c n g) (same n) g.body (body_line p n) (start (grid_binders g.grid)) (is.plain n g e);
   cells = is.cells;
   lists = is.lists;
   output = is.output;

@@ -1,6 +1,6 @@
 -- How large a form over near symbols is.
-use Rattle.std.proofs.Common.{◌≡◌, ℕ, ◌+◌, ◌*◌, ◌^◌, ◌<◌, Bool, true, false, List, [], ◌∷◌, length, refl, subst, arith}
-use Rattle.std.specs.Prelude.{ℤ, ◌+ℤ◌, ◌*ℤ◌, ◌==◌, ◌||◌}
+use Rattle.std.proofs.Common.{◌≡◌, ℕ, ◌+◌, ◌*◌, ◌^◌, ◌<◌, Bool, true, false, List, [], ◌∷◌, ◌++◌, length, refl, subst, arith}
+use Rattle.std.specs.Prelude.{ℤ, ◌+ℤ◌, ◌*ℤ◌, ◌==◌, ◌||◌, ◌&&◌}
 use Rattle.std.specs.List.{AllByRecursion, list_any, list_all}
 use Rattle.std.proofs.lemmas.Int.{ints}
 use Rattle.std.proofs.lemmas.List.Elements.{All-from_recursion}
@@ -9,11 +9,13 @@ use Rattle.lin.specs.declared.form.Multiple.{Multiple}
 use Rattle.lin.specs.declared.span.Span1.{Span1}
 use Rattle.lin.proofs.Limits.{within_limits-terms, within_limits-constant, within_limits-few}
 use Rattle.lin.proofs.Machine.{product_within, sum_within}
+use Rattle.plan.specs.Plan.{Statement, Seq, For, Let, First, Guard, Alloc, Fetch, Store, Publish}
 use Rattle.plan.specs.Symbols.{Symbols, form_value}
 use Rattle.soundness.specs.Obligations.{form_has, span_has}
 use Rattle.soundness.proofs.Forms.{rec_weaker}
 use Rattle.soundness.proofs.Refines.{and_parts, eq_true}
 use Rattle.interpreter.specs.Narrow.{IsNumber, FormIsNarrow, SpanIsNarrow, RegionIsNarrow}
+use Rattle.validation.specs.Groups.Lines.{symbols_after}
 use Rattle.verdict.specs.Bounded.Near.{is_over, FormStands, SpanStands}
 
 -- the symbol is one of these
@@ -69,18 +71,90 @@ module _ (symbols : List ℕ) (s : Symbols) (near : AreNear symbols s) where
   pub region_narrow : (xs : List Span1) → AllByRecursion (SpanStands symbols) xs → RegionIsNarrow s xs
   region_narrow xs h = All-from_recursion (SpanIsNarrow s) xs (rec_weaker (SpanStands symbols) (SpanIsNarrow s) span_narrow xs h)
 
--- ---- symbols that stand nowhere
+-- ---- symbols of forms
 
--- all symbols of the span are among these
+-- all symbols of the forms, or of the span, are among these
+abbrev pub FormsAreOver : List ℕ → List Form → Type 0
+FormsAreOver symbols fs = AllByRecursion (λ f. is_over symbols f ≡ true) fs
+
 pub record IsOver (symbols : List ℕ) (x : Span1) : Type 0 where
-  pub lower : AllByRecursion (λ f. is_over symbols f ≡ true) x.lower
-  pub upper : AllByRecursion (λ f. is_over symbols f ≡ true) x.upper
+  pub lower : FormsAreOver symbols x.lower
+  pub upper : FormsAreOver symbols x.upper
+
+pub forms_over_of : (symbols : List ℕ) (fs : List Form) → AllByRecursion (FormStands symbols) fs → FormsAreOver symbols fs
+forms_over_of symbols fs h = rec_weaker (FormStands symbols) (λ f. is_over symbols f ≡ true) (λ f k. k.over) fs h
 
 pub over_of : (symbols : List ℕ) (x : Span1) → SpanStands symbols x → IsOver symbols x
-over_of symbols x h = record {
-  lower = rec_weaker (FormStands symbols) (λ f. is_over symbols f ≡ true) (λ f k. k.over) x.lower h.lower;
-  upper = rec_weaker (FormStands symbols) (λ f. is_over symbols f ≡ true) (λ f k. k.over) x.upper h.upper;
-}
+over_of symbols x h = record { lower = forms_over_of symbols x.lower h.lower; upper = forms_over_of symbols x.upper h.upper }
+
+-- ---- more symbols
+
+-- each of the few symbols is one of the many
+abbrev pub AreAmong : List ℕ → List ℕ → Type 0
+AreAmong few many = (i : ℕ) → is_one i few ≡ true → is_one i many ≡ true
+
+and_both : (v w : Bool) → v ≡ true → w ≡ true → (v && w) ≡ true
+and_both true w h k = k
+and_both false w h k = absurd (cc h)
+
+module _ (few many : List ℕ) (among : AreAmong few many) where
+  pub form_over : (f : Form) → is_over few f ≡ true → is_over many f ≡ true
+  form_over f h = go f.terms h
+    where
+      go : (ts : List Multiple) → list_all (λ (t : Multiple). is_one t.symbol few) ts ≡ true → list_all (λ (t : Multiple). is_one t.symbol many) ts ≡ true
+      go [] k = refl
+      go (t ∷ ts) k =
+          let p = and_parts (is_one t.symbol few) (list_all (λ (u : Multiple). is_one u.symbol few) ts) k in
+          and_both (is_one t.symbol many) (list_all (λ (u : Multiple). is_one u.symbol many) ts) (among t.symbol p.0) (go ts p.1)
+
+  pub forms_over : (fs : List Form) → FormsAreOver few fs → FormsAreOver many fs
+  forms_over fs h = rec_weaker (λ f. is_over few f ≡ true) (λ f. is_over many f ≡ true) form_over fs h
+
+  pub span_over : (x : Span1) → IsOver few x → IsOver many x
+  span_over x h = record { lower = forms_over x.lower h.lower; upper = forms_over x.upper h.upper }
+
+  pub form_wider : (f : Form) → FormStands few f → FormStands many f
+  form_wider f h = record { over = form_over f h.over; limits = h.limits }
+
+  pub span_wider : (x : Span1) → SpanStands few x → SpanStands many x
+  span_wider x h = record {
+    lower = rec_weaker (FormStands few) (FormStands many) form_wider x.lower h.lower;
+    upper = rec_weaker (FormStands few) (FormStands many) form_wider x.upper h.upper;
+  }
+
+  -- what is none of the many is none of the few
+  pub none_of_few : (i : ℕ) → is_one i many ≡ false → is_one i few ≡ false
+  none_of_few i new = of (is_one i few) refl
+    where
+      of : (v : Bool) → is_one i few ≡ v → v ≡ false
+      of false e = refl
+      of true e = let one = among i e in absurd (cc (one, new))
+
+one_more : (j i : ℕ) (symbols : List ℕ) → is_one j symbols ≡ true → is_one j (symbols ++ i ∷ []) ≡ true
+one_more j i [] h = absurd (cc h)
+one_more j i (x ∷ xs) h = of (x == j) h (one_more j i xs)
+  where
+    of : (v : Bool) → (v || is_one j xs) ≡ true → (is_one j xs ≡ true → is_one j (xs ++ i ∷ []) ≡ true) → (v || is_one j (xs ++ i ∷ [])) ≡ true
+    of true h rest = refl
+    of false h rest = rest h
+
+-- a symbol more at the end
+pub among_more : (i : ℕ) (symbols : List ℕ) → AreAmong symbols (symbols ++ i ∷ [])
+among_more i symbols j h = one_more j i symbols h
+
+-- those in scope before a statement are in scope behind it
+pub among_after : (a : Statement) (symbols : List ℕ) → AreAmong symbols (symbols_after a symbols)
+among_after (Seq all) symbols i h = h
+among_after (For j x kind body) symbols i h = h
+among_after (Let j pick forms) symbols i h = one_more i j symbols h
+among_after (First j a b) symbols i h = h
+among_after (Guard low high body) symbols i h = h
+among_after (Alloc b f places) symbols i h = h
+among_after (Fetch b g region) symbols i h = h
+among_after (Store b k at e) symbols i h = h
+among_after (Publish c) symbols i h = h
+
+-- ---- symbols that stand nowhere
 
 pub or_none : (v w : Bool) → v ≡ false → w ≡ false → (v || w) ≡ false
 or_none true w h k = absurd (cc h)
@@ -100,7 +174,7 @@ module _ (i : ℕ) (symbols : List ℕ) (new : is_one i symbols ≡ false) where
           let p = and_parts (is_one t.symbol symbols) (list_all (λ (u : Multiple). is_one u.symbol symbols) ts) k in
           or_none (t.symbol == i) (list_any (λ (u : Multiple). u.symbol == i) ts) (apart t.symbol (t.symbol == i) refl p.0) (go ts p.1)
 
-  forms_free : (fs : List Form) → AllByRecursion (λ f. is_over symbols f ≡ true) fs → list_any (form_has i) fs ≡ false
+  pub forms_free : (fs : List Form) → FormsAreOver symbols fs → list_any (form_has i) fs ≡ false
   forms_free [] h = refl
   forms_free (f ∷ fs) h = or_none (form_has i f) (list_any (form_has i) fs) (form_free f h.0) (forms_free fs h.1)
 

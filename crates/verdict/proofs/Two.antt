@@ -36,6 +36,7 @@ use Rattle.plan.specs.Lines.{body_line}
 use Rattle.soundness.specs.Binders.View.{grid_binders}
 use Rattle.verdict.specs.Shown.Wide.{stored_in, HasHead, HasLines, HasOutput}
 use Rattle.verdict.specs.Shown.Worked.{of_input, of_calls, two, f_group, out_group, here, both, of_cells, two_plan, two_certificate, two_rules, TwoIsAccepted}
+use Rattle.tails.specs.Nests.{PlainNestsAreTaken}
 use Rattle.verdict.proofs.ShownPlain.{plain_is_accepted}
 use Rattle.verdict.proofs.Stores.{all_defined}
 
@@ -335,10 +336,10 @@ all_narrow (suc (suc n)) g e = absurd (cc e)
 is_plain : IsPlainPlan two_rules two two_plan two_certificate
 is_plain = record { head = head; lines = lines; plain = plain; windows = refl; numbers = all_narrow; cells = cells_are; lists = lists; output = output }
 
-pub two_accepted : PlainNestsAreAccepted → FormsAreAtMostThemselves → TwoIsAccepted
-two_accepted accepted same = record {
+pub two_accepted : PlainNestsAreAccepted → PlainNestsAreTaken → FormsAreAtMostThemselves → TwoIsAccepted
+two_accepted accepted taken same = record {
   plain = is_plain;
-  accepted = plain_is_accepted accepted two_rules two two_plan two_certificate (λ n bs f h. same (map (binding_of bs) (range_with_len 0 8)) f h) is_plain;
+  accepted = plain_is_accepted accepted taken two_rules two two_plan two_certificate (λ n bs f h. same (map (binding_of bs) (range_with_len 0 8)) f h) is_plain;
   wide = refl;
   left_out = refl;
   too_many = refl;

@@ -1,6 +1,6 @@
 -- All forms that a piece comes to are narrow.
-use Rattle.std.proofs.Common.{◌≡◌, ℕ, zero, suc, ◌+◌, ◌/◌, ◌^◌, ◌<◌, ◌≤◌, Bool, true, false, List, [], ◌∷◌, ◌++◌, length, Option, Some, None, refl, sym, subst, arith}
-use Rattle.std.specs.Prelude.{ℤ, pos, neg_ℤ, ◌==◌, ◌||◌, ◌&&◌, ◌-◌, ◌≤ℤ◌, if◌then◌else◌, int_le, MatchOption}
+use Rattle.std.proofs.Common.{◌≡◌, ℕ, zero, suc, ◌+◌, ◌/◌, ◌^◌, ◌<◌, ◌≤◌, Bool, true, false, List, [], ◌∷◌, ◌++◌, length, Option, Some, None, refl, sym, ◌∙◌, subst, arith}
+use Rattle.std.specs.Prelude.{ℤ, pos, neg_ℤ, ◌==◌, ◌||◌, ◌&&◌, not, ◌-◌, ◌≤ℤ◌, if◌then◌else◌, int_le, MatchOption}
 use Rattle.std.specs.List.{AllByRecursion, list_any, list_all, range_with_len}
 use Rattle.std.proofs.Math.Nat.{div-le_self, mod-add-div}
 use Rattle.std.proofs.lemmas.Bool.Decides.{nat_tests}
@@ -11,25 +11,28 @@ use Rattle.lin.specs.declared.form.Multiple.{Multiple}
 use Rattle.lin.specs.declared.span.Span1.{Span1}
 use Rattle.plan.specs.declared.stmt.Places.{Places}
 use Rattle.plan.specs.declared.stmt.Places.TheVariants.{From, Folded}
+use Rattle.plan.specs.declared.stmt.Pick.{Pick}
+use Rattle.plan.specs.declared.stmt.Pick.TheVariants.{Min, Max}
 use Rattle.plan.specs.Plan.{Index, At, Found, Coordinate, Statement, Seq, For, Let, First, Guard, Alloc, Fetch, Store, Publish, Statements, Empty, Then, Group}
 use Rattle.plan.specs.Symbols.{Symbols, bind, form_value, largest, turns}
 use Rattle.plan.specs.Certificate.Cells.{grid_point, grid_symbols, grid_value, group_pieces, no_symbols, own_region}
 use Rattle.plan.specs.Certificate.Certificate.{Certificate}
 use Rattle.plan.specs.Semantics.Actions.{after}
 use Rattle.soundness.specs.Claims.{In}
-use Rattle.soundness.specs.Obligations.{Binder, Ranged, Picked, Passed, Lies, Respects, Rules, Suited, binder_has, exactly, span_has}
+use Rattle.soundness.specs.Obligations.{Binder, Ranged, Picked, Passed, picked, Lies, Respects, Rules, Suited, binder_has, exactly, form_has, span_has}
 use Rattle.soundness.specs.Shown.{is_within}
 use Rattle.soundness.specs.Origins.{Given}
-use Rattle.soundness.proofs.Forms.{rec_weaker, turn_lies, lies_on, respects_on}
+use Rattle.soundness.proofs.Forms.{turn_lies, lies_on, picked_same, respects_on}
 use Rattle.soundness.proofs.Refines.{and_parts, eq_refl}
 use Rattle.soundness.specs.Binders.View.{grid_binders, grid_from, grid_span}
 use Rattle.interpreter.specs.Narrow.{FormIsNarrow, SpanIsNarrow, RegionIsNarrow, PlacesAreNarrow, IndexIsNarrow, StatementIsNarrow, BlockIsNarrow, OwnIsNarrow, PieceIsNarrow}
 use Rattle.headline.proofs.Members.{in_of}
 use Rattle.plan.specs.Lines.{lines}
-use Rattle.rules.specs.Widths.Widths.{alone, are_near_places, block_wide_lines, from_to, is_i32, is_near, is_near_form, is_near_span, line_unless, or_line, store_lines, wide_lines}
-use Rattle.verdict.proofs.Grid.{grid_respected}
+use Rattle.rules.specs.Widths.Widths.{alone, are_near_places, binders_after, block_wide_lines, from_to, is_i32, is_near, is_near_form, has_few_turns, is_near_span, line_unless, or_line, store_lines, wide_lines}
+use Rattle.validation.specs.Groups.Lines.{symbols_after}
+use Rattle.verdict.proofs.Grid.{grid_respected, respects_both}
 use Rattle.verdict.specs.Bounded.Near.{is_over, FormStands, SpanStands, PlacesStand, IndexStands, HasForms, HasFormsInBlock, grid_numbers, GroupIsNear, NearIsNarrow}
-use Rattle.verdict.proofs.Size.{is_one, AreNear, TermsAreNear, form_is_narrow, region_narrow, or_none, IsOver, over_of, span_free, symbol_free}
+use Rattle.verdict.proofs.Size.{is_one, AreNear, TermsAreNear, form_is_narrow, region_narrow, AreAmong, among_more, FormsAreOver, IsOver, forms_over_of, over_of, form_over, forms_over, span_over, or_none, form_free, forms_free, span_free, symbol_free}
 
 -- ---- one symbol more
 
@@ -48,56 +51,31 @@ or_second : (v w : Bool) → w ≡ true → (v || w) ≡ true
 or_second true w h = refl
 or_second false w h = h
 
-and_both : (v w : Bool) → v ≡ true → w ≡ true → (v && w) ≡ true
-and_both true w h k = k
-and_both false w h k = absurd (cc h)
-
-one_more : (j i : ℕ) (symbols : List ℕ) → is_one j symbols ≡ true → is_one j (symbols ++ i ∷ []) ≡ true
-one_more j i [] h = absurd (cc h)
-one_more j i (x ∷ xs) h = of (x == j) h (one_more j i xs)
-  where
-    of : (v : Bool) → (v || is_one j xs) ≡ true → (is_one j xs ≡ true → is_one j (xs ++ i ∷ []) ≡ true) → (v || is_one j (xs ++ i ∷ [])) ≡ true
-    of true h rest = refl
-    of false h rest = rest h
-
 one_last : (i : ℕ) (symbols : List ℕ) → is_one i (symbols ++ i ∷ []) ≡ true
 one_last i [] = or_first (i == i) false (eq_refl i)
 one_last i (x ∷ xs) = or_second (x == i) (is_one i (xs ++ i ∷ [])) (one_last i xs)
 
-over_more : (i : ℕ) (symbols : List ℕ) (f : Form) → is_over symbols f ≡ true → is_over (symbols ++ i ∷ []) f ≡ true
-over_more i symbols f h = go f.terms h
-  where
-    go : (ts : List Multiple) → list_all (λ (t : Multiple). is_one t.symbol symbols) ts ≡ true → list_all (λ (t : Multiple). is_one t.symbol (symbols ++ i ∷ [])) ts ≡ true
-    go [] k = refl
-    go (t ∷ ts) k =
-        let p = and_parts (is_one t.symbol symbols) (list_all (λ (u : Multiple). is_one u.symbol symbols) ts) k in
-        and_both (is_one t.symbol (symbols ++ i ∷ [])) (list_all (λ (u : Multiple). is_one u.symbol (symbols ++ i ∷ [])) ts) (one_more t.symbol i symbols p.0) (go ts p.1)
-
-span_more : (i : ℕ) (symbols : List ℕ) (x : Span1) → IsOver symbols x → IsOver (symbols ++ i ∷ []) x
-span_more i symbols x h = record {
-  lower = rec_weaker (λ f. is_over symbols f ≡ true) (λ f. is_over (symbols ++ i ∷ []) f ≡ true) (over_more i symbols) x.lower h.lower;
-  upper = rec_weaker (λ f. is_over symbols f ≡ true) (λ f. is_over (symbols ++ i ∷ []) f ≡ true) (over_more i symbols) x.upper h.upper;
-}
-
--- the binders are loops and symbols of the grid, over these symbols
+-- the binders are of these symbols, and over them
 abbrev AreOver : List ℕ → List Binder → Type 0
 AreOver symbols [] = Unit {0}
 AreOver symbols (Ranged i x ∷ bs) = (is_one i symbols ≡ true) × IsOver symbols x × AreOver symbols bs
-AreOver symbols (Picked i pick ls ∷ bs) = ⊥
-AreOver symbols (Passed low high ∷ bs) = ⊥
+AreOver symbols (Picked i pick ls ∷ bs) = (is_one i symbols ≡ true) × FormsAreOver symbols ls × AreOver symbols bs
+AreOver symbols (Passed low high ∷ bs) = (is_over symbols low ≡ true) × (is_over symbols high ≡ true) × AreOver symbols bs
 
-binders_more : (i : ℕ) (symbols : List ℕ) (bs : List Binder) → AreOver symbols bs → AreOver (symbols ++ i ∷ []) bs
-binders_more i symbols [] h = tt
-binders_more i symbols (Ranged j x ∷ bs) h = (one_more j i symbols h.0, span_more i symbols x h.1, binders_more i symbols bs h.2)
-binders_more i symbols (Picked j pick ls ∷ bs) h = absurd h
-binders_more i symbols (Passed low high ∷ bs) h = absurd h
+binders_over : (few many : List ℕ) → AreAmong few many → (bs : List Binder) → AreOver few bs → AreOver many bs
+binders_over few many among [] h = tt
+binders_over few many among (Ranged j x ∷ bs) h = (among j h.0, span_over few many among x h.1, binders_over few many among bs h.2)
+binders_over few many among (Picked j pick ls ∷ bs) h = (among j h.0, forms_over few many among ls h.1, binders_over few many among bs h.2)
+binders_over few many among (Passed low high ∷ bs) h = (form_over few many among low h.0, form_over few many among high h.1, binders_over few many among bs h.2)
 
 binders_free : (i : ℕ) (symbols : List ℕ) → is_one i symbols ≡ false → (bs : List Binder) → AreOver symbols bs → list_any (binder_has i) bs ≡ false
 binders_free i symbols new [] h = refl
 binders_free i symbols new (Ranged j x ∷ bs) h =
     or_none ((j == i) || span_has i x) (list_any (binder_has i) bs) (or_none (j == i) (span_has i x) (symbol_free i symbols new j h.0) (span_free i symbols new x h.1)) (binders_free i symbols new bs h.2)
-binders_free i symbols new (Picked j pick ls ∷ bs) h = absurd h
-binders_free i symbols new (Passed low high ∷ bs) h = absurd h
+binders_free i symbols new (Picked j pick ls ∷ bs) h =
+    or_none ((j == i) || list_any (form_has i) ls) (list_any (binder_has i) bs) (or_none (j == i) (list_any (form_has i) ls) (symbol_free i symbols new j h.0) (forms_free i symbols new ls h.1)) (binders_free i symbols new bs h.2)
+binders_free i symbols new (Passed low high ∷ bs) h =
+    or_none (form_has i low || form_has i high) (list_any (binder_has i) bs) (or_none (form_has i low) (form_has i high) (form_free i symbols new low h.0) (form_free i symbols new high h.1)) (binders_free i symbols new bs h.2)
 
 -- ---- lists of lines
 
@@ -109,7 +87,7 @@ some_line : (line : ℕ) (ns : List ℕ) → or_line line ns ≡ [] → ⊥
 some_line line [] h = absurd (cc h)
 some_line line (n ∷ ns) h = absurd (cc h)
 
--- where a loop over such ends has no line told, the ends are near, and its body has none
+-- where lines with a body have no line told, what is asked of their own forms holds, and the body has none
 near_ends : (v : Bool) (line : ℕ) (some inside : List ℕ) → (if v then inside else or_line line some) ≡ [] → (v ≡ true) × (inside ≡ [])
 near_ends true line some inside h = (refl, h)
 near_ends false line some inside h = absurd (some_line line some h)
@@ -134,8 +112,8 @@ in_range a (suc n) j low high = starts a j (a == j) (is_one j (range_with_len (a
 over_append : (symbols : List ℕ) (bs cs : List Binder) → AreOver symbols bs → AreOver symbols cs → AreOver symbols (bs ++ cs)
 over_append symbols [] cs h k = k
 over_append symbols (Ranged j x ∷ bs) cs h k = (h.0, h.1, over_append symbols bs cs h.2 k)
-over_append symbols (Picked j pick ls ∷ bs) cs h k = absurd h
-over_append symbols (Passed low high ∷ bs) cs h k = absurd h
+over_append symbols (Picked j pick ls ∷ bs) cs h k = (h.0, h.1, over_append symbols bs cs h.2 k)
+over_append symbols (Passed low high ∷ bs) cs h k = (h.0, h.1, over_append symbols bs cs h.2 k)
 
 grid_over : (i : ℕ) (ns symbols : List ℕ) → ((j : ℕ) → i ≤ j → j < i + length ns → is_one j symbols ≡ true) → AreOver symbols (grid_from i ns)
 grid_over i [] symbols h = tt
@@ -163,7 +141,7 @@ module _ (given : Given) (rules : Rules) (c : Certificate) (n : ℕ) (g : Group)
     respects : Respects bs s
     near : AreNear (grid_numbers g.grid) s
     over : AreOver symbols bs
-    grid : (i : ℕ) → is_one i (grid_numbers g.grid) ≡ true → is_one i symbols ≡ true
+    grid : AreAmong (grid_numbers g.grid) symbols
 
   -- what is shown to lie between two numbers does
   between : (bs : List Binder) (f : Form) (low high : ℤ) (s : Symbols) → is_within rules bs (exactly f) (from_to low high) ≡ true → Respects bs s → (low ≤ℤ form_value f s) × (form_value f s ≤ℤ high)
@@ -185,11 +163,14 @@ module _ (given : Given) (rules : Rules) (c : Certificate) (n : ℕ) (g : Group)
         let k = and_parts (is_near rules bs t.symbol) (list_all (λ (u : Multiple). is_near rules bs u.symbol) ts) h in
         (index_near t.symbol bs s k.0 r, terms_near ts k.1)
 
+    form_near : (symbols : List ℕ) (f : Form) → FormStands symbols f → is_near_form rules bs f ≡ true → FormIsNarrow s f
+    form_near symbols f h k = form_is_narrow s f h.limits (terms_near f.terms k)
+
     forms_near : (symbols : List ℕ) (fs : List Form) → AllByRecursion (FormStands symbols) fs → list_all (is_near_form rules bs) fs ≡ true → AllByRecursion (FormIsNarrow s) fs
     forms_near symbols [] h k = tt
     forms_near symbols (f ∷ fs) h k =
         let p = and_parts (is_near_form rules bs f) (list_all (is_near_form rules bs) fs) k in
-        (form_is_narrow s f h.0.limits (terms_near f.terms p.0), forms_near symbols fs h.1 p.1)
+        (form_near symbols f h.0 p.0, forms_near symbols fs h.1 p.1)
 
     span_near : (symbols : List ℕ) (x : Span1) → SpanStands symbols x → is_near_span rules bs x ≡ true → SpanIsNarrow s x
     span_near symbols x h k =
@@ -205,7 +186,7 @@ module _ (given : Given) (rules : Rules) (c : Certificate) (n : ℕ) (g : Group)
         let p = and_parts (is_near_span rules bs x) (list_all (is_near_span rules bs) xs) k in (span_near symbols x h.0 p.0, spans_near symbols xs h.1 p.1)
 
     place_near : (symbols : List ℕ) (a : Places) → PlacesStand symbols a → are_near_places rules bs a ≡ true → PlacesAreNarrow s a
-    place_near symbols (From l n) h k = form_is_narrow s l h.limits (terms_near l.terms k)
+    place_near symbols (From l n) h k = form_near symbols l h k
     place_near symbols (Folded n) h k = tt
 
     places_near : (symbols : List ℕ) (xs : List Places) → AllByRecursion (PlacesStand symbols) xs → list_all (are_near_places rules bs) xs ≡ true → AllByRecursion (PlacesAreNarrow s) xs
@@ -225,31 +206,57 @@ module _ (given : Given) (rules : Rules) (c : Certificate) (n : ℕ) (g : Group)
     indices_small symbols (c ∷ cs) h k =
         let p = and_parts (is_i32 rules bs c.index) (list_all (λ d. is_i32 rules bs d.index) cs) k in (index_small symbols c.index h.0 p.0, indices_small symbols cs h.1 p.1)
 
+  -- a new symbol is bound, and its binder holds
+  bound : (i : ℕ) (symbols : List ℕ) (b : Binder) (bs : List Binder) (s : Symbols) (z : ℤ) (first : Bool) → Here symbols bs s → is_one i symbols ≡ false →
+      Respects (b ∷ []) (bind s i z first) → AreOver (symbols ++ i ∷ []) (b ∷ []) → Here (symbols ++ i ∷ []) (b ∷ bs) (bind s i z first)
+  bound i symbols b bs s z first h new holds over = record {
+    respects = respects_both (b ∷ []) bs (bind s i z first) holds (respects_on s i z first bs (binders_free i symbols new bs h.over) h.respects);
+    near = λ j k. subst (IsWithin (2 ^ 39)) (sym (other_value s i z first j (symbol_free i symbols new j (h.grid j k)))) (h.near j k);
+    over = over_append (symbols ++ i ∷ []) (b ∷ []) bs over (binders_over symbols (symbols ++ i ∷ []) (among_more i symbols) bs h.over);
+    grid = λ j k. among_more i symbols j (h.grid j k);
+  }
+
+  own_value : (s : Symbols) (i : ℕ) (z : ℤ) (first : Bool) → (bind s i z first).value i ≡ z
+  own_value s i z first = rw (eq_refl i) refl
+
   turn : (i : ℕ) (x : Span1) (symbols : List ℕ) (bs : List Binder) (s : Symbols) (z : ℤ) (b : Bool) → Here symbols bs s → SpanStands symbols x → is_one i symbols ≡ false →
       In z (turns s x) → Here (symbols ++ i ∷ []) (Ranged i x ∷ bs) (bind s i z b)
   turn i x symbols bs s z b h stands new m =
       let over = over_of symbols x stands in
-      let free = span_free i symbols new x over in
-      let t : Symbols = bind s i z b in
-      let here : t.value i ≡ z = rw (eq_refl i) refl in
-      let lies : Lies t x (t.value i) = subst (Lies t x) (sym here) (lies_on s i z b x z free (turn_lies s x z m)) in
-      record {
-        respects = (lies, respects_on s i z b bs (binders_free i symbols new bs h.over) h.respects);
-        near = λ j k. subst (IsWithin (2 ^ 39)) (sym (other_value s i z b j (symbol_free i symbols new j (h.grid j k)))) (h.near j k);
-        over = (one_last i symbols, span_more i symbols x over, binders_more i symbols bs h.over);
-        grid = λ j k. one_more j i symbols (h.grid j k);
-      }
+      let lies : Lies (bind s i z b) x ((bind s i z b).value i) =
+      subst (Lies (bind s i z b) x) (sym (own_value s i z b)) (lies_on s i z b x z (span_free i symbols new x over) (turn_lies s x z m)) in
+      bound i symbols (Ranged i x) bs s z b h new (lies, tt) (one_last i symbols, span_over symbols (symbols ++ i ∷ []) (among_more i symbols) x over, tt)
 
-  after_same : (a : Statement) (symbols : List ℕ) (s : Symbols) → HasForms a symbols → after a s ≡ s
-  after_same (Seq all) symbols s h = refl
-  after_same (For i x kind body) symbols s h = refl
-  after_same (Let i pick forms) symbols s h = absurd h
-  after_same (First i a b) symbols s h = refl
-  after_same (Guard low high body) symbols s h = refl
-  after_same (Alloc b f places) symbols s h = refl
-  after_same (Fetch b k region) symbols s h = refl
-  after_same (Store b k at e) symbols s h = refl
-  after_same (Publish k) symbols s h = refl
+  -- behind a line `let`
+  behind_let : (i : ℕ) (pick : Pick) (ls : List Form) (symbols : List ℕ) (bs : List Binder) (s : Symbols) → Here symbols bs s → AllByRecursion (FormStands symbols) ls → is_one i symbols ≡ false →
+      Here (symbols ++ i ∷ []) (Picked i pick ls ∷ bs) (bind s i (picked pick ls s) true)
+  behind_let i pick ls symbols bs s h stand new =
+      let over = forms_over_of symbols ls stand in
+      let z = picked pick ls s in
+      let holds : (bind s i z true).value i ≡ picked pick ls (bind s i z true) = own_value s i z true ∙ sym (picked_same s i z true pick ls (forms_free i symbols new ls over)) in
+      bound i symbols (Picked i pick ls) bs s z true h new (holds, tt) (one_last i symbols, forms_over symbols (symbols ++ i ∷ []) (among_more i symbols) ls over, tt)
+
+  -- inside a guard that holds
+  inside_guard : (low high : Form) (symbols : List ℕ) (bs : List Binder) (s : Symbols) → Here symbols bs s → FormStands symbols low → FormStands symbols high →
+      int_le (form_value low s) (form_value high s) ≡ true → Here symbols (Passed low high ∷ bs) s
+  inside_guard low high symbols bs s h l u e =
+      record { respects = (at_most (form_value low s) (form_value high s) e, h.respects); near = h.near; over = (l.over, u.over, h.over); grid = h.grid }
+    where
+      at_most : (a b : ℤ) → int_le a b ≡ true → a ≤ℤ b
+      at_most a b e = grind (arith, ints)
+
+  -- behind a statement of a block
+  behind : (a : Statement) (symbols : List ℕ) (bs : List Binder) (s : Symbols) → Here symbols bs s → HasForms a symbols → Here (symbols_after a symbols) (binders_after a bs) (after a s)
+  behind (Seq all) symbols bs s h k = h
+  behind (For i x kind body) symbols bs s h k = h
+  behind (Let i Min ls) symbols bs s h k = behind_let i Min ls symbols bs s h k.0 k.1
+  behind (Let i Max ls) symbols bs s h k = behind_let i Max ls symbols bs s h k.0 k.1
+  behind (First i a b) symbols bs s h k = h
+  behind (Guard low high body) symbols bs s h k = h
+  behind (Alloc b f places) symbols bs s h k = h
+  behind (Fetch b j region) symbols bs s h k = h
+  behind (Store b j at e) symbols bs s h k = h
+  behind (Publish j) symbols bs s h k = h
 
   none_near : AreNear [] no_symbols
   none_near i h = absurd (cc h)
@@ -264,14 +271,25 @@ module _ (given : Given) (rules : Rules) (c : Certificate) (n : ℕ) (g : Group)
     narrow : (a : Statement) (symbols : List ℕ) (bs : List Binder) (line : ℕ) (s : Symbols) → Here symbols bs s → HasForms a symbols → wide_lines rules bs line a ≡ [] → StatementIsNarrow Own a s
     narrow (Seq all) symbols bs line s h k f = narrow_block all symbols bs line s h k f
     narrow (For i x kind body) symbols bs line s h k f =
-        let near = near_ends (is_near_span rules bs x) line (store_lines (line + 1) body) (wide_lines rules (Ranged i x ∷ bs) (line + 1) body) f in (
+        let short = line_unless (has_few_turns rules bs x kind) line in
+        let near = near_ends (is_near_span rules bs x) line (store_lines (line + 1) body) (short ++ wide_lines rules (Ranged i x ∷ bs) (line + 1) body) f in
+        let inner = none_both short (wide_lines rules (Ranged i x ∷ bs) (line + 1) body) near.1 in (
           span_near bs s h.respects symbols x k.0 near.0,
           (λ z m. narrow body (symbols ++ i ∷ []) (Ranged i x ∷ bs) (line + 1) (bind s i z (int_le z (largest s x.lower)))
-              (turn i x symbols bs s z (int_le z (largest s x.lower)) h k.0 k.1 (in_of (turns s x) z m)) k.2 near.1),
+              (turn i x symbols bs s z (int_le z (largest s x.lower)) h k.0 k.1 (in_of (turns s x) z m)) k.2 inner.1),
         )
-    narrow (Let i pick forms) symbols bs line s h k f = absurd k
-    narrow (First i a b) symbols bs line s h k f = absurd k
-    narrow (Guard low high body) symbols bs line s h k f = absurd k
+    narrow (Let i pick ls) symbols bs line s h k f =
+        All-from_recursion (FormIsNarrow s) ls (forms_near bs s h.respects symbols ls k.0 (none_unless (list_all (is_near_form rules bs) ls) line f))
+    narrow (First i a b) symbols bs line s h k f =
+        let parts = none_both (wide_lines rules bs (line + 1) a) (wide_lines rules bs (line + 2 + lines a) b) f in
+        ((λ e. narrow a symbols bs (line + 1) s h k.0 parts.0), (λ e. narrow b symbols bs (line + 2 + lines a) s h k.1 parts.1))
+    narrow (Guard low high body) symbols bs line s h k f =
+        let near = near_ends (is_near_form rules bs low && is_near_form rules bs high) line (store_lines (line + 1) body) (wide_lines rules (Passed low high ∷ bs) (line + 1) body) f in
+        let both = and_parts (is_near_form rules bs low) (is_near_form rules bs high) near.0 in (
+          form_near bs s h.respects symbols low k.0 both.0,
+          form_near bs s h.respects symbols high k.1 both.1,
+          (λ e. narrow body symbols (Passed low high ∷ bs) (line + 1) s (inside_guard low high symbols bs s h k.0 k.1 e) k.2 near.1),
+        )
     narrow (Alloc b g places) symbols bs line s h k f =
         All-from_recursion (PlacesAreNarrow s) places (places_near bs s h.respects symbols places k (none_unless (list_all (are_near_places rules bs) places) line f))
     narrow (Fetch b j region) symbols bs line s h k f =
@@ -283,9 +301,8 @@ module _ (given : Given) (rules : Rules) (c : Certificate) (n : ℕ) (g : Group)
     narrow_block : (all : Statements) (symbols : List ℕ) (bs : List Binder) (line : ℕ) (s : Symbols) → Here symbols bs s → HasFormsInBlock all symbols → block_wide_lines rules bs line all ≡ [] → BlockIsNarrow Own all s
     narrow_block Empty symbols bs line s h k f = tt
     narrow_block (Then a rest) symbols bs line s h k f =
-        let parts = none_both (wide_lines rules bs line a) (block_wide_lines rules bs (line + lines a) rest) f in
-        let later = parts.1 in
-        (narrow a symbols bs line s h k.0 parts.0, subst (BlockIsNarrow Own rest) (sym (after_same a symbols s k.0)) (narrow_block rest symbols bs (line + lines a) s h k.1 later))
+        let parts = none_both (wide_lines rules bs line a) (block_wide_lines rules (binders_after a bs) (line + lines a) rest) f in
+        (narrow a symbols bs line s h k.0 parts.0, narrow_block rest (symbols_after a symbols) (binders_after a bs) (line + lines a) (after a s) (behind a symbols bs s h k.0) k.1 parts.1)
 
   pub piece_narrow : (k : ℕ) → k < group_pieces g → PieceIsNarrow c n g (grid_point g.grid k)
   piece_narrow k less =

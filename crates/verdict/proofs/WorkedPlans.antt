@@ -11,7 +11,7 @@ use Rattle.orders.specs.Work.{HasSoundLists, OwnIsInTable, OwnIsApart, OwnIsWhol
 use Rattle.headline.specs.Numbers.{is_cell, has_point}
 use Rattle.headline.proofs.Members.{in_of}
 use Rattle.soundness.specs.Binders.View.{grid_binders}
-use Rattle.soundness.specs.Nests.Shown.{IsShown}
+use Rattle.tails.specs.Shown.{IsShown}
 use Rattle.rules.specs.Bounding.Rules.{rules_of}
 use Rattle.rules.specs.Widths.Widths.{wide_lines}
 use Rattle.outline.specs.Refusals.Codes.{is_before, number_of}

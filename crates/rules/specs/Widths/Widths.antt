@@ -1,14 +1,17 @@
--- The numbers that stores' coordinates may have, and those of the symbols that other forms name.
-use Rattle.std.specs.Prelude.{ℕ, ◌+◌, ◌-◌, ◌^◌, ◌&&◌, min, Bool, true, false, if◌then◌else◌, List, [], ◌∷◌, ◌++◌, Option, Some, None, ℤ, pos, neg_ℤ}
+-- The numbers that stores' coordinates may have, those of the symbols that other forms name, and the turns of unrolled loops.
+use Rattle.std.specs.Prelude.{ℕ, ◌+◌, ◌-◌, ◌^◌, ◌&&◌, ◌||◌, min, Bool, true, false, not, if◌then◌else◌, List, [], ◌∷◌, ◌++◌, Option, Some, None, ℤ, pos, neg_ℤ}
 use Rattle.std.specs.List.{list_all}
 use Rattle.lin.specs.Forms.{Form, number}
 use Rattle.lin.specs.declared.span.Span1.{Span1}
+use Rattle.plan.specs.declared.stmt.Kind.{Kind}
+use Rattle.plan.specs.declared.stmt.Kind.TheVariants.{Serial, Unroll, Vector}
 use Rattle.plan.specs.declared.stmt.Places.{Places}
 use Rattle.plan.specs.declared.stmt.Places.TheVariants.{From, Folded}
 use Rattle.plan.specs.Plan.{Index, At, Found, Statement, Seq, For, Let, First, Guard, Alloc, Fetch, Store, Publish, Statements, Empty, Then}
 use Rattle.plan.specs.Lines.{lines}
-use Rattle.soundness.specs.Obligations.{Binder, Ranged, Passed, Rules, exactly}
+use Rattle.soundness.specs.Obligations.{Binder, Ranged, Picked, Passed, Rules, exactly}
 use Rattle.soundness.specs.Shown.{is_within}
+use Rattle.soundness.specs.Nests.Tests.{is_short}
 
 -- from one number to another
 abbrev pub from_to : ℤ → ℤ → Span1
@@ -25,6 +28,17 @@ coordinate_span = from_to (neg_ℤ (pos (2 ^ 31))) (pos (2 ^ 31 - 1))
 -- the form that is the symbol alone
 abbrev pub alone : ℕ → Form
 alone i = record { constant = pos 0; terms = record { symbol = i; factor = pos 1 } ∷ [] }
+
+-- the binders behind a statement of a block
+abbrev pub binders_after : Statement → List Binder → List Binder
+binders_after (Let i pick ls) bs = Picked i pick ls ∷ bs
+binders_after _ bs = bs
+
+-- the turns of the loop are written out
+abbrev pub is_unrolled : Kind → Bool
+is_unrolled Serial = false
+is_unrolled Unroll = true
+is_unrolled Vector = false
 
 -- the line, unless the test holds
 abbrev pub line_unless : Bool → ℕ → List ℕ
@@ -74,16 +88,25 @@ module _ (rules : Rules) where
   is_i32 bs (At l) = is_within rules bs (exactly l) coordinate_span
   is_i32 bs (Found e) = true
 
+  -- a loop that is unrolled is shown to have 64 turns at most
+  abbrev pub has_few_turns : List Binder → Span1 → Kind → Bool
+  has_few_turns bs x kind = not (is_unrolled kind) || is_short rules bs x 64
+
   abbrev mutual
     -- of a statement that begins at the line, the lines with a number that is not shown to be small: stores with a coordinate
-    -- that is not shown to be an i32, and lines with a symbol that is not shown to be near; a loop over such ends is told at the
-    -- stores inside it, which are all that is asked there, or by itself where it has none
+    -- that is not shown to be an i32, lines with a symbol that is not shown to be near, and unrolled loops that are not shown to
+    -- have few turns; a loop or a guard over such symbols is told at the stores inside it, which are all that is asked there, or
+    -- by itself where it has none
     pub wide_lines : List Binder → ℕ → Statement → List ℕ
     wide_lines bs line (Seq all) = block_wide_lines bs line all
-    wide_lines bs line (For i x kind body) = if is_near_span bs x then wide_lines (Ranged i x ∷ bs) (line + 1) body else or_line line (store_lines (line + 1) body)
-    wide_lines bs line (Let i pick ls) = []
+    wide_lines bs line (For i x kind body) =
+        if is_near_span bs x then line_unless (has_few_turns bs x kind) line ++ wide_lines (Ranged i x ∷ bs) (line + 1) body
+        else or_line line (store_lines (line + 1) body)
+    wide_lines bs line (Let i pick ls) = line_unless (list_all (is_near_form bs) ls) line
     wide_lines bs line (First i a b) = wide_lines bs (line + 1) a ++ wide_lines bs (line + 2 + lines a) b
-    wide_lines bs line (Guard low high body) = wide_lines (Passed low high ∷ bs) (line + 1) body
+    wide_lines bs line (Guard low high body) =
+        if is_near_form bs low && is_near_form bs high then wide_lines (Passed low high ∷ bs) (line + 1) body
+        else or_line line (store_lines (line + 1) body)
     wide_lines bs line (Alloc b f places) = line_unless (list_all (are_near_places bs) places) line
     wide_lines bs line (Fetch b g region) = line_unless (list_all (is_near_span bs) region) line
     wide_lines bs line (Store b k at e) = line_unless (list_all (λ c. is_i32 bs c.index) at) line
@@ -91,7 +114,7 @@ module _ (rules : Rules) where
 
     pub block_wide_lines : List Binder → ℕ → Statements → List ℕ
     block_wide_lines bs line Empty = []
-    block_wide_lines bs line (Then a rest) = wide_lines bs line a ++ block_wide_lines bs (line + lines a) rest
+    block_wide_lines bs line (Then a rest) = wide_lines bs line a ++ block_wide_lines (binders_after a bs) (line + lines a) rest
 
 -- lines past 2^32 - 1 are told as that
 abbrev pub told : ℕ → ℕ

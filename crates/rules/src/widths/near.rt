@@ -68,7 +68,7 @@ fn is_near_form<B: Bounds>(
 }
 
 /// Whether each symbol of the forms is shown to be near.
-fn are_near_forms<B: Bounds>(
+pub(crate) fn are_near_forms<B: Bounds>(
     alloc: Global,
     bounds: &B,
     binders: &[Binder<'_>],
@@ -82,6 +82,23 @@ fn are_near_forms<B: Bounds>(
         }
     }
     Ok(true)
+}
+
+/// Whether each symbol of both forms of a guard is shown to be near.
+pub(crate) fn is_near_guard<B: Bounds>(
+    alloc: Global,
+    bounds: &B,
+    binders: &[Binder<'_>],
+    low: &Lin,
+    high: &Lin,
+) -> Result<bool, AllocError>
+    ensures { IfOk result (λ yes. yes ≡ (is_near_form (B.rules bounds.now) (binders_of binders.now) low.now && is_near_form (B.rules bounds.now) (binders_of binders.now) high.now)) }
+{
+    if is_near_form(alloc, bounds, binders, low)? {
+        is_near_form(alloc, bounds, binders, high)
+    } else {
+        Ok(false)
+    }
 }
 
 /// Whether each symbol of the span is shown to be near.

@@ -3,9 +3,10 @@ use Rattle.std.specs.Prelude.{ℕ, zero, suc, ◌-◌, ◌==◌, nat_lt, if◌th
 use Rattle.plan.specs.Plan.{Statement, Seq, For, Let, First, Guard, Alloc, Fetch, Store, Publish, Statements, Empty, Then, Group}
 use Rattle.plan.specs.Lines.{lines, group_lines}
 use Rattle.outline.specs.Forms.{grid_symbols}
-use Rattle.validation.specs.Groups.Lines.{buffers_after}
+use Rattle.validation.specs.Groups.Lines.{buffers_after, symbols_after}
 
--- where a statement stands: the symbols of the grid and of the loops round it, the innermost last, and the buffers in scope
+-- where a statement stands: the symbols of the grid, of the loops round it and of lines `let` before it, the innermost last, and
+-- the buffers in scope
 pub record Spot : Type 0 where
   pub symbols : List ℕ
   pub buffers : List ℕ
@@ -16,7 +17,7 @@ in_loop i x = record { symbols = x.symbols ++ i ∷ []; buffers = x.buffers }
 
 -- behind a statement that stands there
 abbrev pub past : Statement → Spot → Spot
-past a x = record { symbols = x.symbols; buffers = buffers_after a x.buffers }
+past a x = record { symbols = symbols_after a x.symbols; buffers = buffers_after a x.buffers }
 
 -- the line is the one that ends a statement
 abbrev pub ends_at : Spot → ℕ → ℕ → Option Spot
@@ -43,7 +44,7 @@ abbrev mutual
   spot_at (Seq all) x k = block_spot_at all x k
   spot_at (For i span kind body) x zero = None
   spot_at (For i span kind body) x (suc k) = in_body (lines body) k (spot_at body (in_loop i x) k) x
-  spot_at (Let i pick forms) x k = ends_at x 0 k
+  spot_at (Let i pick forms) x k = ends_at (past (Let i pick forms) x) 0 k
   spot_at (First i a b) x zero = None
   spot_at (First i a b) x (suc k) = if nat_lt k (lines a) then spot_at a x k else later_at (lines b) (λ j. spot_at b x j) x (k - lines a)
   spot_at (Guard low high body) x zero = None

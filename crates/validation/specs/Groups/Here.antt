@@ -5,4 +5,13 @@ use Rattle.validation.specs.declared.groups.here.Here.{Here as HereHeld}
 use Rattle.validation.specs.declared.stored.lines.GroupLines.{GroupLines}
 
 abbrev pub here_of : GroupLines → HereHeld → Bool → Here
-here_of group h last = record { group = group; line = h.line; symbols = h.symbols.items; buffers = h.buffers.items; used = h.used; fetching = h.fetching; last = last }
+here_of group h last = record {
+  group = group;
+  line = h.line;
+  symbols = h.symbols.items;
+  loops = h.loops.items;
+  buffers = h.buffers.items;
+  used = h.used;
+  fetching = h.fetching;
+  last = last;
+}

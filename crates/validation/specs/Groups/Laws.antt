@@ -13,12 +13,13 @@ use Rattle.meaning.specs.Inlining.PutIn.{put_in}
 use Rattle.headline.specs.Sound.{IsPublished}
 use Rattle.validation.specs.Stored.Definitions.{stored_in}
 use Rattle.validation.specs.Groups.Free.{IsFree}
+use Rattle.validation.specs.Certificate.Clear.{EachHasOwn}
 use Rattle.validation.specs.Groups.Lines.{flaws_of_groups}
 
--- each group has a region with ends, and its last line publishes its own cells
+-- each group has a region with ends, and its last line publishes its own cells, where these are told in symbols of its grid
 abbrev pub GroupsArePublished : Type 0
 GroupsArePublished =
-    (a : Algorithm) (p : Plan) (c : Certificate) → flaws_of_groups a p c ≡ [] → (n : ℕ) (g : Group) → slice_get p.groups n ≡ Some g → IsPublished p c n g
+    (a : Algorithm) (p : Plan) (c : Certificate) → flaws_of_groups a p c ≡ [] → EachHasOwn p c → (n : ℕ) (g : Group) → slice_get p.groups n ≡ Some g → IsPublished p c n g
 
 -- stores of pure definitions have forms alone
 abbrev pub BodiesAreCovered : Type 0

@@ -29,12 +29,14 @@ use Rattle.validation.specs.declared.stored.lines.GroupLines.{GroupLines}
 abbrev pub line_flaws : ℕ → Bool → Bool → Bool → Bool → List Flaw
 line_flaws line named within defined limited = unless named 2 line ++ (unless within 3 line ++ (unless defined 12 line ++ unless limited 14 line))
 
--- where a statement stands: the lines of its group, its line, the symbols and buffers in scope, the places of buffers of earlier
--- lines, whether lines `fetch` may still come, and whether it is the last of its group
+-- where a statement stands: the lines of its group, its line, the symbols in scope, those of them that loops around it have, the
+-- buffers in scope, the places of buffers of earlier lines, whether lines `fetch` may still come, and whether it is the last of
+-- its group
 pub record Here : Type 0 where
   pub group : GroupLines
   pub line : ℕ
   pub symbols : List ℕ
+  pub loops : List ℕ
   pub buffers : List ℕ
   pub used : ℕ
   pub fetching : Bool
@@ -46,7 +48,42 @@ on line n = line_told (line + n)
 
 -- inside a loop over the symbol
 abbrev pub in_loop : ℕ → Here → Here
-in_loop i here = record { group = here.group; line = on here.line 1; symbols = here.symbols ++ i ∷ []; buffers = here.buffers; used = here.used; fetching = false; last = false }
+in_loop i here = record {
+  group = here.group;
+  line = on here.line 1;
+  symbols = here.symbols ++ i ∷ [];
+  loops = here.loops ++ i ∷ [];
+  buffers = here.buffers;
+  used = here.used;
+  fetching = false;
+  last = false;
+}
+
+-- inside a guard, or the part for a first turn
+abbrev pub inside : Here → Here
+inside here = record {
+  group = here.group;
+  line = on here.line 1;
+  symbols = here.symbols;
+  loops = here.loops;
+  buffers = here.buffers;
+  used = here.used;
+  fetching = false;
+  last = false;
+}
+
+-- inside the part for other turns, behind that for the first
+abbrev pub in_later : Statement → Here → Here
+in_later a here = record {
+  group = here.group;
+  line = on here.line (lines a + 2);
+  symbols = here.symbols;
+  loops = here.loops;
+  buffers = here.buffers;
+  used = more here.used (allotted a);
+  fetching = false;
+  last = false;
+}
 
 -- at a statement of a block with others behind it
 abbrev pub is_empty : Statements → Bool
@@ -54,7 +91,21 @@ is_empty Empty = true
 is_empty (Then a rest) = false
 
 abbrev pub before : Bool → Here → Here
-before none_behind here = record { group = here.group; line = here.line; symbols = here.symbols; buffers = here.buffers; used = here.used; fetching = here.fetching; last = here.last && none_behind }
+before none_behind here = record {
+  group = here.group;
+  line = here.line;
+  symbols = here.symbols;
+  loops = here.loops;
+  buffers = here.buffers;
+  used = here.used;
+  fetching = here.fetching;
+  last = here.last && none_behind;
+}
+
+-- the symbols in scope behind a statement
+abbrev pub symbols_after : Statement → List ℕ → List ℕ
+symbols_after (Let i pick ls) symbols = symbols ++ i ∷ []
+symbols_after _ symbols = symbols
 
 -- the buffers in scope behind a statement
 abbrev pub buffers_after : Statement → List ℕ → List ℕ
@@ -83,21 +134,26 @@ abbrev pub after : Statement → Here → Here
 after a here = record {
   group = here.group;
   line = on here.line (lines a);
-  symbols = here.symbols;
+  symbols = symbols_after a here.symbols;
+  loops = here.loops;
   buffers = buffers_after a here.buffers;
   used = more here.used (allotted a);
   fetching = here.fetching && may_precede a;
   last = here.last;
 }
 
-abbrev pub is_serial : Kind → Bool
-is_serial Serial = true
-is_serial Unroll = false
-is_serial Vector = false
+-- the turns of the loop come one after another
+abbrev pub is_in_turns : Kind → Bool
+is_in_turns Serial = true
+is_in_turns Unroll = true
+is_in_turns Vector = false
 
--- the symbol is not bound yet
+-- the symbol is one of these, or none of them
+abbrev pub is_one_of : List ℕ → ℕ → Bool
+is_one_of symbols i = list_any (λ s. s == i) symbols
+
 abbrev pub is_new : List ℕ → ℕ → Bool
-is_new symbols i = not (list_any (λ s. s == i) symbols)
+is_new symbols i = not (is_one_of symbols i)
 
 -- places of one coordinate: the origin's symbols, its limits, and that they are not folded
 abbrev pub place_is_over : List ℕ → Places → Bool
@@ -131,12 +187,14 @@ module _ (a : Algorithm) (p : Plan) (c : Certificate) (g : Group) (outline : Out
   fetch_is_named here b h region =
       list_any (λ x. x == b) here.buffers && (nat_lt h (length p.groups)
       && (same_name (outline.setting.group_function h) (outline.setting.buffer_function b)
-      && (has_variables (parts_named a (outline.setting.group_function h)) (length region)
-      && spans_are_over (grid_symbols (length g.grid)) region)))
+      && (has_variables (parts_named a (outline.setting.group_function h)) (length region) && spans_are_over here.symbols region)))
+
+  -- before loops, choices, guards and stores, and by symbols of the grid: what is fetched by way of lines `let` is not decided
+  abbrev pub fetch_is_taken : Here → List Span1 → Bool
+  fetch_is_taken here region = here.fetching && (have_ends region && spans_are_over (grid_symbols (length g.grid)) region)
 
   abbrev pub fetch_flaws : Here → ℕ → ℕ → List Span1 → List Flaw
-  fetch_flaws here b h region =
-      line_flaws here.line (fetch_is_named here b h region) (spans_are_within_limits region) true (here.fetching && have_ends region)
+  fetch_flaws here b h region = line_flaws here.line (fetch_is_named here b h region) (spans_are_within_limits region) true (fetch_is_taken here region)
 
   -- the definition is known, and the store's variables, symbols and calls are
   abbrev pub definition_is_named : Option Definition → Here → ℕ → List Coordinate → Term → Bool
@@ -179,11 +237,12 @@ module _ (a : Algorithm) (p : Plan) (c : Certificate) (g : Group) (outline : Out
         (is_new here.symbols i && (are_over here.symbols x.lower && are_over here.symbols x.upper))
         (are_within_limits x.lower && are_within_limits x.upper)
         true
-        (is_serial kind && (is_listed x.lower && is_listed x.upper))
+        (is_in_turns kind && (is_listed x.lower && is_listed x.upper))
         ++ flaws body (in_loop i here)
-    flaws (Let i pick ls) here = line_flaws here.line true true true false
-    flaws (First i a b) here = line_flaws here.line true true true false
-    flaws (Guard low high body) here = line_flaws here.line true true true false
+    flaws (Let i pick ls) here = line_flaws here.line (is_new here.symbols i && are_over here.symbols ls) (are_within_limits ls) true (is_listed ls)
+    flaws (First i a b) here = line_flaws here.line (is_one_of here.loops i) true true true ++ (flaws a (inside here) ++ flaws b (in_later a here))
+    flaws (Guard low high body) here =
+        line_flaws here.line (is_over here.symbols low && is_over here.symbols high) (is_within_limits low && is_within_limits high) true true ++ flaws body (inside here)
     flaws (Alloc b f places) here = alloc_flaws here f places
     flaws (Fetch b h region) here = fetch_flaws here b h region
     flaws (Store b k at e) here = store_flaws here b k at e
@@ -211,7 +270,16 @@ lines_from line g = record { first = line; behind = on line (group_lines g) }
 
 -- where a group's body begins
 abbrev pub start : ℕ → Group → Here
-start line g = record { group = lines_from line g; line = on line 1; symbols = grid_symbols (length g.grid); buffers = []; used = 0; fetching = true; last = true }
+start line g = record {
+  group = lines_from line g;
+  line = on line 1;
+  symbols = grid_symbols (length g.grid);
+  loops = [];
+  buffers = [];
+  used = 0;
+  fetching = true;
+  last = true;
+}
 
 module _ (a : Algorithm) (p : Plan) (c : Certificate) where
   -- the flaws of the lines of the group of this number, whose line is told so, where groups up to it have so many cells and pieces

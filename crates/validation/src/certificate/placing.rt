@@ -61,15 +61,13 @@ fn way_in(stmt: &Stmt, left: u64, spot: &mut Spot) -> Result<Way, AllocError>
             way => Ok(way),
         },
         Stmt::Guard { body, .. } => way_in_guard(body, left, spot),
-        Stmt::Alloc { .. } => way_in_alloc(stmt, left, spot),
-        Stmt::Let { .. } | Stmt::Fetch { .. } | Stmt::Store { .. } | Stmt::Publish { .. } => Ok(
-            way_from_line(left),
-        ),
+        Stmt::Alloc { .. } | Stmt::Let { .. } => way_past(stmt, left, spot),
+        Stmt::Fetch { .. } | Stmt::Store { .. } | Stmt::Publish { .. } => Ok(way_from_line(left)),
     }
 }
 
-/// The same for a line `alloc`.
-fn way_in_alloc(stmt: &Stmt, left: u64, spot: &mut Spot) -> Result<Way, AllocError>
+/// The same for a line behind which more is in scope.
+fn way_past(stmt: &Stmt, left: u64, spot: &mut Spot) -> Result<Way, AllocError>
     ensures { IfOk result (λ way. IsWay 1 (ends_at (past (statement_of stmt.now) (spot_of spot.old)) 0 left) left (spot_of spot.old) (spot_of spot.new) way) }
 {
     match left.checked_sub(1) {
@@ -144,7 +142,8 @@ fn way_in_later(later: &Stmt, left: u64, spot: &mut Spot) -> Result<Way, AllocEr
 fn way_in_block(all: &[Stmt], left: u64, spot: &mut Spot) -> Result<Way, AllocError>
     ensures { IfOk result (λ way. IsWayInBlock (block (list_statements all.now)) left (spot_of spot.old) (spot_of spot.new) way) }
 {
-    let outer = spot.buffers.len();
+    let symbols = spot.symbols.len();
+    let buffers = spot.buffers.len();
     let mut left = left;
     for stmt in all {
         match way_in(stmt, left, spot)? {
@@ -153,7 +152,8 @@ fn way_in_block(all: &[Stmt], left: u64, spot: &mut Spot) -> Result<Way, AllocEr
         }
         spot.pass(stmt)?;
     }
-    spot.buffers.truncate(outer);
+    spot.symbols.truncate(symbols);
+    spot.buffers.truncate(buffers);
     Ok(Way::Past(left))
 }
 

@@ -10,7 +10,8 @@ use outline::forms::grid_symbols;
 use plan::{Group, Stmt};
 use std::alloc::{AllocError, Global};
 
-/// Where a statement stands: the symbols of the grid and of the loops round it, the innermost last, and the buffers in scope.
+/// Where a statement stands: the symbols of the grid, of the loops round it and of lines `let` before it, the innermost last, and
+/// the buffers in scope.
 #[derive(Drop)]
 pub(crate) struct Spot {
     pub symbols: Vec<Sym>,
@@ -40,8 +41,10 @@ impl Spot {
     pub(crate) fn pass(&mut self, stmt: &Stmt) -> Result<(), AllocError>
         ensures { OnOk result (spot_of self.new ≡ past (statement_of stmt.now) (spot_of self.old)) }
     {
-        if let Stmt::Alloc { buffer, .. } = stmt {
-            self.buffers.push(*buffer)?;
+        match stmt {
+            Stmt::Alloc { buffer, .. } => self.buffers.push(*buffer)?,
+            Stmt::Let { symbol, .. } => self.symbols.push(*symbol)?,
+            _ => {}
         }
         Ok(())
     }

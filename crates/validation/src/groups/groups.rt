@@ -137,11 +137,12 @@ fn lines_from(line: u32, group: &Group) -> GroupLines
 
 /// Where the body of a group begins, behind its line.
 fn start(line: u32, grid: Vec<Sym>, alloc: Global) -> Here
-    ensures { (group : GroupLines) → here_of group result true ≡ record { group = group; line = on line 1; symbols = grid.items; buffers = []; used = 0; fetching = true; last = true } }
+    ensures { (group : GroupLines) → here_of group result true ≡ record { group = group; line = on line 1; symbols = grid.items; loops = []; buffers = []; used = 0; fetching = true; last = true } }
 {
     Here {
         line: line.saturating_add(1),
         symbols: grid,
+        loops: Vec::new(alloc),
         buffers: Vec::new(alloc),
         used: 0,
         fetching: true,

@@ -6,19 +6,20 @@ ghost use Rattle.plan.specs.Lists.{list_statements};
 ghost use Rattle.plan.specs.Plan.{block};
 ghost use Rattle.validation.specs.Groups.Here.{here_of};
 ghost use Rattle.validation.specs.declared.stored.lines.GroupLines.{GroupLines};
-ghost use Rattle.validation.specs.Groups.Lines.{after, in_loop, may_precede, may_all_precede};
+ghost use Rattle.validation.specs.Groups.Lines.{after, in_later, in_loop, inside, may_precede, may_all_precede};
 
 use crate::groups::sizes::allotted;
 use lin::Sym;
 use plan::Stmt;
 use std::alloc::AllocError;
 
-/// Where a statement stands: its line, the symbols and buffers in scope, the places of buffers of earlier lines, and
-/// whether lines `fetch` may still come.
+/// Where a statement stands: its line, the symbols in scope, those of them that loops around it have, the buffers in scope, the
+/// places of buffers of earlier lines, and whether lines `fetch` may still come.
 #[derive(Drop)]
 pub(crate) struct Here {
     pub line: u32,
     pub symbols: Vec<Sym>,
+    pub loops: Vec<Sym>,
     pub buffers: Vec<u32>,
     pub used: u64,
     pub fetching: bool,
@@ -57,9 +58,24 @@ impl Here {
         Ok(Here {
             line: self.line,
             symbols: self.symbols.clone()?,
+            loops: self.loops.clone()?,
             buffers: self.buffers.clone()?,
             used: self.used,
             fetching: self.fetching,
+        })
+    }
+
+    /// Inside a guard that stands here, or the part for a first turn.
+    pub(crate) fn inside(&self) -> Result<Here, AllocError>
+        ensures { IfOk result (λ inner. (group : GroupLines) (last : Bool) → here_of group inner false ≡ inside (here_of group self.now last)) }
+    {
+        Ok(Here {
+            line: self.line.saturating_add(1),
+            symbols: self.symbols.clone()?,
+            loops: self.loops.clone()?,
+            buffers: self.buffers.clone()?,
+            used: self.used,
+            fetching: false,
         })
     }
 
@@ -67,23 +83,33 @@ impl Here {
     pub(crate) fn in_loop(&self, symbol: Sym) -> Result<Here, AllocError>
         ensures { IfOk result (λ inner. (group : GroupLines) (last : Bool) → here_of group inner false ≡ in_loop symbol (here_of group self.now last)) }
     {
-        let mut symbols = self.symbols.clone()?;
-        symbols.push(symbol)?;
-        Ok(Here {
-            line: self.line.saturating_add(1),
-            symbols,
-            buffers: self.buffers.clone()?,
-            used: self.used,
-            fetching: false,
-        })
+        let mut inner = self.inside()?;
+        inner.symbols.push(symbol)?;
+        inner.loops.push(symbol)?;
+        Ok(inner)
+    }
+
+    /// Inside the part for other turns, behind that for a first turn that stands here.
+    pub(crate) fn in_later(&self, first: &Stmt) -> Result<Here, AllocError>
+        ensures { IfOk result (λ inner. (group : GroupLines) (last : Bool) → here_of group inner false ≡ in_later (statement_of first.now) (here_of group self.now last)) }
+    {
+        let mut inner = self.inside()?;
+        inner.line = inner
+            .line
+            .saturating_add(first.line_count())
+            .saturating_add(1);
+        inner.used = inner.used.saturating_add(allotted(first));
+        Ok(inner)
     }
 
     /// Goes on behind a statement that stands here.
     pub(crate) fn pass(&mut self, stmt: &Stmt) -> Result<(), AllocError>
         ensures { OnOk result ((group : GroupLines) (last : Bool) → here_of group self.new last ≡ after (statement_of stmt.now) (here_of group self.old last)) }
     {
-        if let Stmt::Alloc { buffer, .. } = stmt {
-            self.buffers.push(*buffer)?;
+        match stmt {
+            Stmt::Alloc { buffer, .. } => self.buffers.push(*buffer)?,
+            Stmt::Let { symbol, .. } => self.symbols.push(*symbol)?,
+            _ => {}
         }
         self.line = self.line.saturating_add(stmt.line_count());
         self.used = self.used.saturating_add(allotted(stmt));

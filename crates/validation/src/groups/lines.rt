@@ -1,21 +1,22 @@
 //! The first flaw of a group's lines.
 
-ghost use Rattle.std.specs.Prelude.{◌≡◌, ◌&&◌, ◌||◌, ◌==◌, not, ◌+◌, ◌<◌, drop, ◌^◌, nat_le, nat_lt, length, true, IfOk, map, slice_get};
+ghost use Rattle.std.specs.Prelude.{◌≡◌, ◌&&◌, ◌||◌, ◌==◌, not, ◌+◌, ◌++◌, ◌<◌, drop, ◌^◌, nat_le, nat_lt, length, Bool, true, IfOk, map, slice_get};
 ghost use Rattle.std.specs.List.{list_all, list_any};
 ghost use Rattle.std.specs.Option.{option_map};
 ghost use Rattle.tree.specs.Term.{term_of};
 ghost use Rattle.algo.specs.View.{algorithm_of};
 ghost use Rattle.plan.specs.Lists.{list_statements};
-ghost use Rattle.plan.specs.Plan.{block};
+ghost use Rattle.plan.specs.Plan.{Guard, block};
 ghost use Rattle.plan.specs.View.{coordinate_of, statement_of};
-ghost use Rattle.outline.specs.Forms.{are_over, are_within_limits, is_listed};
+ghost use Rattle.lin.specs.Forms.{is_within_limits as is_limited};
+ghost use Rattle.outline.specs.Forms.{are_over, are_within_limits, is_listed, is_over as form_is_over};
 ghost use Rattle.outline.specs.Flaws.{first_of, told};
 ghost use Rattle.outline.specs.View.{certificate_in, group_in, outline_in, plan_in};
 ghost use Rattle.validation.specs.Stored.Definitions.{definition_held, function_in, has_variables as known_with, parts_named};
 ghost use Rattle.validation.specs.Groups.Sizes.{more, places_count};
 ghost use Rattle.validation.specs.Stored.Sizes.{is_small};
 ghost use Rattle.validation.specs.Groups.Here.{here_of};
-ghost use Rattle.validation.specs.Groups.Lines.{alloc_flaws, block_flaws, definition_is_named, definition_is_stored, fetch_flaws, fetch_is_named, flaws, is_claim_of, is_empty, is_new, is_serial, is_straight, line_flaws, place_is_over, place_is_within, publish_flaws, store_flaws};
+ghost use Rattle.validation.specs.Groups.Lines.{alloc_flaws, block_flaws, definition_is_named, definition_is_stored, fetch_flaws, fetch_is_named, fetch_is_taken, flaws, in_later, inside, is_claim_of, is_empty, is_in_turns, is_new, is_one_of, is_straight, line_flaws, place_is_over, place_is_within, publish_flaws, store_flaws};
 ghost use Rattle.validation.specs.Stored.Stored.{index_is_over, index_is_small, index_is_within};
 
 use crate::among::is_among;
@@ -26,7 +27,7 @@ use crate::stored::{
     is_defined, is_known, is_small,
 };
 use algo::scoping::same_name;
-use lin::{Span1, Sym};
+use lin::{Forms, Lin, Span1, Sym};
 use outline::forms::{
     are_over, are_within_limits, have_ends, is_listed, is_over, spans_are_over,
     spans_are_within_limits,
@@ -64,7 +65,7 @@ pub(crate) fn line_flaw(
 
 /// Whether a symbol is one of these.
 fn is_bound(symbols: &[Sym], symbol: Sym) -> bool
-    ensures { result ≡ list_any (λ s. s == symbol) symbols.now }
+    ensures { result ≡ is_one_of symbols.now symbol }
 {
     symbols.iter().any(|one| *one == symbol)
 }
@@ -76,13 +77,13 @@ fn is_new(symbols: &[Sym], symbol: Sym) -> bool
     !is_bound(symbols, symbol)
 }
 
-/// Whether the turns of the loop are run one after another.
-fn is_serial(kind: Kind) -> bool
-    ensures { result ≡ is_serial kind }
+/// Whether the turns of the loop come one after another.
+fn is_in_turns(kind: Kind) -> bool
+    ensures { result ≡ is_in_turns kind }
 {
     match kind {
-        Kind::Serial => true,
-        Kind::Unroll | Kind::Vector => false,
+        Kind::Serial | Kind::Unroll => true,
+        Kind::Vector => false,
     }
 }
 
@@ -92,7 +93,7 @@ fn loop_flaw(here: &Here, symbol: Sym, span: &Span1, kind: Kind) -> Option<Flaw>
         (is_new here.now.symbols.items symbol && (are_over here.now.symbols.items span.now.lower && are_over here.now.symbols.items span.now.upper))
         (are_within_limits span.now.lower && are_within_limits span.now.upper)
         true
-        (is_serial kind && (is_listed span.now.lower && is_listed span.now.upper))) }
+        (is_in_turns kind && (is_listed span.now.lower && is_listed span.now.upper))) }
 {
     let lower = span.lower.as_slice();
     let upper = span.upper.as_slice();
@@ -100,8 +101,40 @@ fn loop_flaw(here: &Here, symbol: Sym, span: &Span1, kind: Kind) -> Option<Flaw>
         && are_over(&here.symbols, lower)
         && are_over(&here.symbols, upper);
     let within = are_within_limits(lower) && are_within_limits(upper);
-    let limited = is_serial(kind) && is_listed(&span.lower) && is_listed(&span.upper);
+    let limited = is_in_turns(kind) && is_listed(&span.lower) && is_listed(&span.upper);
     line_flaw(here.line, named, within, true, limited)
+}
+
+/// The flaw of a line `let`.
+fn let_flaw(here: &Here, symbol: Sym, forms: &Forms) -> Option<Flaw>
+    ensures { told result ≡ first_of (line_flaws here.now.line
+        (is_new here.now.symbols.items symbol && are_over here.now.symbols.items forms.now)
+        (are_within_limits forms.now)
+        true
+        (is_listed forms.now)) }
+{
+    let all = forms.as_slice();
+    let named = is_new(&here.symbols, symbol) && are_over(&here.symbols, all);
+    line_flaw(
+        here.line,
+        named,
+        are_within_limits(all),
+        true,
+        is_listed(forms),
+    )
+}
+
+/// The flaw of a line `guard`.
+fn guard_flaw(here: &Here, low: &Lin, high: &Lin) -> Option<Flaw>
+    ensures { told result ≡ first_of (line_flaws here.now.line
+        (form_is_over here.now.symbols.items low.now && form_is_over here.now.symbols.items high.now)
+        (is_limited low.now && is_limited high.now)
+        true
+        true) }
+{
+    let named = is_over(&here.symbols, low) && is_over(&here.symbols, high);
+    let within = low.is_within_limits() && high.is_within_limits();
+    line_flaw(here.line, named, within, true, true)
 }
 
 /// Whether the symbols of the origin, if the places have one, are among these.
@@ -204,7 +237,7 @@ fn fetch_is_named(
         && is_group(ground, group)
         && same_name(function, ground.outlined.buffer_function(buffer))
         && has_variables(ground.algo, function, region.len())
-        && spans_are_over(ground.grid, region)
+        && spans_are_over(&here.symbols, region)
 }
 
 /// Whether there is a group of this number.
@@ -212,6 +245,14 @@ fn is_group(ground: Ground<'_, '_>, group: u64) -> bool
     ensures { result ≡ nat_lt group (length (plan_in ground.entry.outlined.now).groups) }
 {
     group < ground.outlined.plan().groups.len() as u64
+}
+
+/// Whether what a line `fetch` fetches is decided: it stands before loops, choices, guards and stores, and its region is told in
+/// symbols of the grid.
+fn fetch_is_taken(ground: Ground<'_, '_>, here: &Here, region: &[Span1]) -> bool
+    ensures { result ≡ fetch_is_taken (algorithm_of ground.entry.algo.now) (plan_in ground.entry.outlined.now) (certificate_in ground.entry.outlined.now) (group_in ground.entry.outlined.now) (outline_in ground.entry.outlined.now) (here_of ground.entry.lines here.now true) region.now }
+{
+    here.fetching && have_ends(region) && spans_are_over(ground.grid, region)
 }
 
 /// The flaw of a line `fetch`.
@@ -231,7 +272,7 @@ fn fetch_flaw(
         named,
         within,
         true,
-        here.fetching && have_ends(region),
+        fetch_is_taken(ground, here, region),
     )
 }
 
@@ -456,9 +497,20 @@ pub(crate) fn stmt_flaw(
             let inner = here.in_loop(*symbol)?;
             stmt_flaw(alloc, ground, body, &inner, false)
         }
-        Stmt::Let { .. } | Stmt::First { .. } | Stmt::Guard { .. } => Ok(line_flaw(
-            here.line, true, true, true, false,
-        )),
+        Stmt::Let { symbol, forms, .. } => Ok(let_flaw(here, *symbol, forms)),
+        Stmt::First {
+            symbol,
+            first,
+            later,
+        } => {
+            let flaw = first_part_flaw(alloc, ground, *symbol, first, here)?;
+            if flaw.is_some() {
+                return Ok(flaw);
+            }
+            let other = here.in_later(first)?;
+            stmt_flaw(alloc, ground, later, &other, false)
+        }
+        Stmt::Guard { low, high, body } => guarded_flaw(alloc, ground, low, high, body, here),
         Stmt::Alloc {
             function,
             places,
@@ -485,6 +537,45 @@ pub(crate) fn stmt_flaw(
         ),
         Stmt::Publish { claim } => Ok(publish_flaw(ground, here, last, *claim)),
     }
+}
+
+/// The first flaw of the lines of a guard.
+#[cycle(walk)]
+fn guarded_flaw(
+    alloc: Global,
+    ground: Ground<'_, '_>,
+    low: &Lin,
+    high: &Lin,
+    body: &Stmt,
+    here: &Here,
+) -> Result<Option<Flaw>, AllocError>
+    ensures { (last : Bool) → IfOk result (λ flaw. told flaw ≡ first_of (flaws (algorithm_of ground.entry.algo.now) (plan_in ground.entry.outlined.now) (certificate_in ground.entry.outlined.now) (group_in ground.entry.outlined.now) (outline_in ground.entry.outlined.now) (Guard low.now high.now (statement_of body.now)) (here_of ground.entry.lines here.now last))) }
+{
+    let flaw = guard_flaw(here, low, high);
+    if flaw.is_some() {
+        return Ok(flaw);
+    }
+    let inner = here.inside()?;
+    stmt_flaw(alloc, ground, body, &inner, false)
+}
+
+/// The first flaw of a line `first` and of the lines of its part for the first turn.
+#[cycle(walk)]
+fn first_part_flaw(
+    alloc: Global,
+    ground: Ground<'_, '_>,
+    symbol: Sym,
+    first: &Stmt,
+    here: &Here,
+) -> Result<Option<Flaw>, AllocError>
+    ensures { (last : Bool) → IfOk result (λ flaw. told flaw ≡ first_of (line_flaws here.now.line (is_one_of here.now.loops.items symbol) true true true ++ flaws (algorithm_of ground.entry.algo.now) (plan_in ground.entry.outlined.now) (certificate_in ground.entry.outlined.now) (group_in ground.entry.outlined.now) (outline_in ground.entry.outlined.now) (statement_of first.now) (inside (here_of ground.entry.lines here.now last)))) }
+{
+    let flaw = line_flaw(here.line, is_bound(&here.loops, symbol), true, true, true);
+    if flaw.is_some() {
+        return Ok(flaw);
+    }
+    let inner = here.inside()?;
+    stmt_flaw(alloc, ground, first, &inner, false)
 }
 
 /// The first flaw of the lines of a block's statements.

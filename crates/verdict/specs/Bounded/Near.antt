@@ -13,6 +13,7 @@ use Rattle.soundness.specs.Origins.{Given}
 use Rattle.interpreter.specs.Narrow.{PieceIsNarrow}
 use Rattle.rules.specs.Widths.Widths.{wide_lines}
 use Rattle.soundness.specs.Binders.View.{grid_binders}
+use Rattle.validation.specs.Groups.Lines.{symbols_after}
 
 -- all symbols of the form are among these
 abbrev pub is_over : List ℕ → Form → Bool
@@ -36,15 +37,15 @@ abbrev pub IndexStands : List ℕ → Index → Type 0
 IndexStands symbols (At l) = FormStands symbols l
 IndexStands symbols (Found e) = Unit {0}
 
--- all forms of the statement stand, over the symbols in scope, and each loop has a new symbol; lines that bind symbols otherwise are
--- none
+-- all forms of the statement stand, over the symbols in scope; each loop has a new symbol, which is in scope inside it, and each
+-- line `let` one that is in scope behind it, in the rest of its block
 abbrev mutual
   pub HasForms : Statement → List ℕ → Type 0
   HasForms (Seq all) symbols = HasFormsInBlock all symbols
   HasForms (For i x kind body) symbols = SpanStands symbols x × (list_any (λ s. s == i) symbols ≡ false) × HasForms body (symbols ++ i ∷ [])
-  HasForms (Let i pick forms) symbols = ⊥
-  HasForms (First i a b) symbols = ⊥
-  HasForms (Guard low high body) symbols = ⊥
+  HasForms (Let i pick forms) symbols = AllByRecursion (FormStands symbols) forms × (list_any (λ s. s == i) symbols ≡ false)
+  HasForms (First i a b) symbols = HasForms a symbols × HasForms b symbols
+  HasForms (Guard low high body) symbols = FormStands symbols low × FormStands symbols high × HasForms body symbols
   HasForms (Alloc b f places) symbols = AllByRecursion (PlacesStand symbols) places
   HasForms (Fetch b g region) symbols = AllByRecursion (SpanStands symbols) region
   HasForms (Store b k at e) symbols = AllByRecursion (λ c. IndexStands symbols c.index) at
@@ -52,7 +53,7 @@ abbrev mutual
 
   pub HasFormsInBlock : Statements → List ℕ → Type 0
   HasFormsInBlock Empty symbols = Unit {0}
-  HasFormsInBlock (Then a rest) symbols = HasForms a symbols × HasFormsInBlock rest symbols
+  HasFormsInBlock (Then a rest) symbols = HasForms a symbols × HasFormsInBlock rest (symbols_after a symbols)
 
 -- the symbols of a grid
 abbrev pub grid_numbers : List ℕ → List ℕ

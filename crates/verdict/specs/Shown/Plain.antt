@@ -20,7 +20,7 @@ use Rattle.soundness.specs.Shown.{is_within, are_within, are_seated, all_shown, 
 use Rattle.soundness.specs.Nests.Laws.{domains_of}
 use Rattle.soundness.specs.Nests.Nest.{Loop, nest_of}
 use Rattle.soundness.specs.Nests.Plain.{SaysSame, is_small, is_straight, IsPlainNest, IsPlainFetch, IsPlainUpdate}
-use Rattle.soundness.specs.Nests.Tests.{plain_nests}
+use Rattle.tails.specs.Nests.{split_nests}
 use Rattle.headline.specs.Numbers.{is_cell}
 use Rattle.headline.specs.Theorem.{HasSoundCells}
 use Rattle.headline.specs.Work.{cells_fetched, work_of}
@@ -158,7 +158,7 @@ module _ (rules : Rules) (a : Algorithm) (outline : Outline) where
 abbrev pub PlainIsShown : Type 0
 PlainIsShown =
     (rules : Rules) (a : Algorithm) (outline : Outline) → SaysSame rules → (b : Statement) (line : ℕ) (known : Known) →
-    IsPlain rules a outline b line known → all_shown rules (plain_nests outline rules (domains_of a)) (obligations outline rules b line known) ≡ true
+    IsPlain rules a outline b line known → all_shown rules (split_nests outline rules (domains_of a)) (obligations outline rules b line known) ≡ true
 
 -- a plain plan: without windows, each group's lines in plain form, and whatever else is asked, which is exact
 pub record IsPlainPlan (rules : ℕ → Rules) (a : Algorithm) (p : Plan) (c : Certificate) : Type 0 where

@@ -10,8 +10,8 @@ use meaning::inlining::laws::{definitions_stay, put_in_keeps_the_value};
 use soundness::laws::shown_is_sound;
 use soundness::nests::laws::{
     domains_are_counted, forms_are_at_most_themselves, plain_nests_are_accepted,
-    plain_nests_are_right,
 };
+use tails::laws::{plain_nests_are_taken, split_nests_are_right};
 
 /// A plan that is accepted by rules that hold is right: on every input, in every order of steps. So is
 /// its work: each piece's private run gives right values.
@@ -24,7 +24,7 @@ pub fn accepted_is_right()
     output_is_there();
     pieces_are_numbered();
     shown_is_sound();
-    plain_nests_are_right();
+    split_nests_are_right();
     domains_are_counted();
     definitions_stay();
     put_in_keeps_the_value();
@@ -43,6 +43,7 @@ pub fn plain_plans_are_accepted()
     ensures plans { PlainIsAccepted }
 {
     plain_nests_are_accepted();
+    plain_nests_are_taken();
 }
 
 /// A plan of two groups, of which the second fetches what the first computes, is in plain form and
@@ -51,6 +52,7 @@ pub fn two_is_accepted()
     ensures { TwoIsAccepted }
 {
     plain_nests_are_accepted();
+    plain_nests_are_taken();
     forms_are_at_most_themselves();
 }
 

@@ -1,17 +1,19 @@
-use Rattle.std.proofs.Common.{◌∙◌, ◌++◌, ◌<◌, ℕ, List, [], sym, ap, subst, map, length, arith, Some, Option, Err}
+use Rattle.std.proofs.Common.{◌≡◌, ◌∙◌, ◌++◌, ◌<◌, ℕ, List, [], sym, ap, subst, map, length, arith, Some, Option, Err}
 use Rattle.std.proofs.lemmas.List.{length-map}
 use Rattle.plan.specs.Plan.{Group, Plan}
 use Rattle.plan.specs.declared.plan.Group.{Group as CodeGroup}
 use Rattle.plan.specs.View.{plan_of, group_of, statement_of}
 use Rattle.plan.specs.Certificate.Cells.{Cell, Piece, grid_symbols}
+use Rattle.outline.specs.Forms.{grid_symbols as grid_names}
 use Rattle.headline.specs.Fetched.{fetched_cells}
 use Rattle.headline.specs.Numbers.{cell_number}
 use Rattle.headline.specs.Work.{of_piece, cells_fetched, group_fetched}
 use Rattle.shares.specs.Seats.{piece_of}
 use Rattle.shares.specs.Layout.{AllCells, PieceFetchesCells}
+use Rattle.shares.specs.Shared.{LineIsShared}
 use Rattle.shares.proofs.Counting.{fetch_stops}
-use Rattle.shares.proofs.Groups.{get_mapped}
-use Rattle.shares.proofs.Seated.{piece_is, group_at, group_listed}
+use Rattle.shares.proofs.Groups.{get_mapped, some_same}
+use Rattle.shares.proofs.Seated.{piece_is, group_at, group_listed, at_long}
 use Rattle.shares.proofs.fetched.fetched_of.Goals as goal
 
 pub index-group-requires : goal.index-group-requires
@@ -30,7 +32,9 @@ fetch_line-requires-clause-line c =
     let k = group_at x c.requires.layout c.args.piece s c.requires.piece c.index-seat.ensures in
     let less : s.group < length x.plan.now.groups.items = group_listed x c.requires.layout c.args.piece s c.requires.piece c.index-seat.ensures in
     let at = get_mapped group_of x.plan.now.groups.items s.group d less ∙ ap (λ (y : CodeGroup). Some (group_of y)) (sym c.index-group.ensures) in
-    (c.requires.layout.shared.groups s.group (group_of d) at).body
+    let same : k.0 ≡ group_of d = some_same k.0 (group_of d) (sym k.1 ∙ at) in
+    let long = ap length c.deref.ensures.value ∙ at_long x c.requires.layout c.args.piece s c.requires.piece c.index-seat.ensures ∙ ap (λ (g : Group). length g.grid) same in
+    subst (λ (count : ℕ). LineIsShared p (grid_names count) (statement_of d.body)) (sym long) (c.requires.layout.shared.groups s.group (group_of d) at).body
 
 pub returns-in-Ok-clause-list : goal.returns-in-Ok-clause-list
 returns-in-Ok-clause-list c =

@@ -18,8 +18,8 @@ way_in-returns-in-Seq t c =
     ap (λ (l : List Stmt). Seq (block (list_statements l))) c.deref.ensures.value ∙ sym (statement_of-seq c.in-Seq.all) ∙ ap statement_of (sym c.in-Seq.is) in
     subst (λ (s : Statement). IfOk c.way_in_block.result (λ way. IsWayIn s c.args.left (spot_of c.args.spot.now) (spot_of c.way_in_block.new.spot) way)) e c.way_in_block.ensures
 
-pub way_in-returns-in-Let : goal.way_in-returns-in-Let
-way_in-returns-in-Let t c =
+pub way_in-returns-in-Fetch : goal.way_in-returns-in-Fetch
+way_in-returns-in-Fetch t c =
     let k = c.args.left in
     let old = spot_of c.args.spot.now in
     let one : lines (statement_of c.args.stmt.now) ≡ 1 = first_of (search rules, grind (arith, common_steps)) in

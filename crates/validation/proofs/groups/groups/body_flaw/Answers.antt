@@ -21,7 +21,7 @@ returns c =
     let symbols : c.in_ok-grid_symbols.field-0.items ≡ grid_symbols (length g.grid) = first_of (search rules, grind (arith, common_steps)) in
     let here : here_of c.lines_from.result c.start-here.result true ≡ start line g =
     c.start-here.ensures c.lines_from.result
-    ∙ (λ j. record { group = lines j; line = on line 1; symbols = symbols j; buffers = []; used = 0; fetching = true; last = true }) in
+    ∙ (λ j. record { group = lines j; line = on line 1; symbols = symbols j; loops = []; buffers = []; used = 0; fetching = true; last = true }) in
     subst (λ (x : Option Flaw). IfOk c.stmt_flaw.result (λ flaw. told flaw ≡ x))
     (λ j. the_first (flaws a (plan_in o) (certificate_in o) g (outline_in o) (c.body.ensures j) (here j)))
     c.stmt_flaw.ensures

@@ -1,15 +1,16 @@
-use Rattle.std.proofs.Common.{◌≡◌, ◌+◌, drop, ap, sym, ◌∙◌, subst, Bool, true, Option}
+use Rattle.std.proofs.Common.{◌≡◌, ◌+◌, ◌++◌, List, ℕ, append_assoc, drop, ap, sym, ◌∙◌, subst, Bool, true, false, Option}
 use Rattle.std.specs.Prelude.{IfOk, map, ◌&&◌}
 use Rattle.algo.specs.View.{algorithm_of}
 use Rattle.plan.specs.declared.stmt.Stmt.{Stmt}
-use Rattle.plan.specs.Plan.{Statement, block}
+use Rattle.lin.specs.Forms.{is_within_limits}
+use Rattle.plan.specs.Plan.{Statement, Guard, block}
 use Rattle.plan.specs.Lists.{list_statements}
 use Rattle.plan.specs.View.{statement_of, coordinate_of}
 use Rattle.outline.specs.Flaws.{Flaw, first_of, told}
-use Rattle.outline.specs.Forms.{are_over, are_within_limits, is_listed}
+use Rattle.outline.specs.Forms.{is_over, are_over, are_within_limits, is_listed}
 use Rattle.outline.specs.View.{certificate_in, group_in, outline_in, plan_in}
 use Rattle.validation.specs.Groups.Here.{here_of}
-use Rattle.validation.specs.Groups.Lines.{Here, flaws, block_flaws, line_flaws, before, after, in_loop, is_empty, is_new, is_serial, store_flaws}
+use Rattle.validation.specs.Groups.Lines.{Here, flaws, block_flaws, line_flaws, before, after, in_later, in_loop, inside, is_empty, is_new, is_one_of, is_in_turns, store_flaws}
 use Rattle.tree.specs.Term.{term_of}
 use Rattle.validation.proofs.Rows.{at_seq}
 use Rattle.validation.proofs.Walk.{first_found, first_none, block_step, store_anyhow}
@@ -64,7 +65,7 @@ stmt_flaw-returns-then-is_some t c =
     let symbols = c.args.here.now.symbols.items in
     let h = here_of c.args.ground.lines c.args.here.now c.args.last in
     first_found c.loop_flaw-flaw.result
-    (line_flaws c.args.here.now.line (is_new symbols i && (are_over symbols x.lower && are_over symbols x.upper)) (are_within_limits x.lower && are_within_limits x.upper) true (is_serial c.in-For.kind && (is_listed x.lower && is_listed x.upper)))
+    (line_flaws c.args.here.now.line (is_new symbols i && (are_over symbols x.lower && are_over symbols x.upper)) (are_within_limits x.lower && are_within_limits x.upper) true (is_in_turns c.in-For.kind && (is_listed x.lower && is_listed x.upper)))
     (flaws a (plan_in o) (certificate_in o) (group_in o) (outline_in o) (statement_of c.in-For.body.value) (in_loop i h))
     (sym c.is_some.ensures ∙ c.if-is_some.true) c.loop_flaw-flaw.ensures
     ∙ ap (λ (s : Stmt). first_of (flaws a (plan_in o) (certificate_in o) (group_in o) (outline_in o) (statement_of s) h)) (sym c.in-For.is)
@@ -85,7 +86,7 @@ stmt_flaw-returns-in_ok-inner-in-For t c =
     let i = c.in-For.symbol in
     let symbols = c.args.here.now.symbols.items in
     let h = here_of c.args.ground.lines c.args.here.now c.args.last in
-    let own = line_flaws c.args.here.now.line (is_new symbols i && (are_over symbols x.lower && are_over symbols x.upper)) (are_within_limits x.lower && are_within_limits x.upper) true (is_serial c.in-For.kind && (is_listed x.lower && is_listed x.upper)) in
+    let own = line_flaws c.args.here.now.line (is_new symbols i && (are_over symbols x.lower && are_over symbols x.upper)) (are_within_limits x.lower && are_within_limits x.upper) true (is_in_turns c.in-For.kind && (is_listed x.lower && is_listed x.upper)) in
     let inside = flaws a (plan_in o) (certificate_in o) (group_in o) (outline_in o) (statement_of c.in-For.body.value) (in_loop i h) in
     let behind = sym (first_none c.loop_flaw-flaw.result own inside (sym c.is_some.ensures ∙ c.if-is_some.false) c.loop_flaw-flaw.ensures)
     ∙ ap (λ (s : Stmt). first_of (flaws a (plan_in o) (certificate_in o) (group_in o) (outline_in o) (statement_of s) h)) (sym c.in-For.is) in
@@ -104,3 +105,97 @@ stmt_flaw-returns-in-Store t c =
     ∙ ap first_of (store_anyhow a (plan_in o) (certificate_in o) (group_in o) (outline_in o) c.args.ground.lines c.args.here.now c.args.last c.in-Store.buffer c.in-Store.definition (map coordinate_of c.in-Store.coordinates.items) e)
     ∙ ap (λ (s : Stmt). first_of (flaws a (plan_in o) (certificate_in o) (group_in o) (outline_in o) (statement_of s) h)) (sym c.in-Store.is))
     c.store_flaw.ensures
+
+pub stmt_flaw-returns-in-Guard : goal.stmt_flaw-returns-in-Guard
+stmt_flaw-returns-in-Guard t c =
+    let a = algorithm_of c.args.ground.algo.now in
+    let o = c.args.ground.outlined.now in
+    let h = here_of c.args.ground.lines c.args.here.now c.args.last in
+    subst (λ (s : Statement). IfOk c.guarded_flaw.result (λ flaw. told flaw ≡ first_of (flaws a (plan_in o) (certificate_in o) (group_in o) (outline_in o) s h)))
+    ((λ j. Guard c.in-Guard.low c.in-Guard.high (statement_of (c.deref-in-Guard.ensures j))) ∙ ap statement_of (sym c.in-Guard.is))
+    (c.guarded_flaw.ensures c.args.last)
+
+pub guarded_flaw-returns-then-is_some : goal.guarded_flaw-returns-then-is_some
+guarded_flaw-returns-then-is_some t c = λ last.
+    let a = algorithm_of c.args.ground.algo.now in
+    let o = c.args.ground.outlined.now in
+    let symbols = c.args.here.now.symbols.items in
+    let low = c.args.low.now in
+    let high = c.args.high.now in
+    let h = here_of c.args.ground.lines c.args.here.now last in
+    first_found c.guard_flaw-flaw.result
+    (line_flaws c.args.here.now.line (is_over symbols low && is_over symbols high) (is_within_limits low && is_within_limits high) true true)
+    (flaws a (plan_in o) (certificate_in o) (group_in o) (outline_in o) (statement_of c.args.body.now) (inside h))
+    (sym c.is_some.ensures ∙ c.if-is_some.true) c.guard_flaw-flaw.ensures
+
+pub guarded_flaw-returns : goal.guarded_flaw-returns
+guarded_flaw-returns t c = λ last.
+    let a = algorithm_of c.args.ground.algo.now in
+    let o = c.args.ground.outlined.now in
+    let symbols = c.args.here.now.symbols.items in
+    let low = c.args.low.now in
+    let high = c.args.high.now in
+    let h = here_of c.args.ground.lines c.args.here.now last in
+    let own = line_flaws c.args.here.now.line (is_over symbols low && is_over symbols high) (is_within_limits low && is_within_limits high) true true in
+    let behind = sym (first_none c.guard_flaw-flaw.result own (flaws a (plan_in o) (certificate_in o) (group_in o) (outline_in o) (statement_of c.args.body.now) (inside h))
+    (sym c.is_some.ensures ∙ c.if-is_some.false) c.guard_flaw-flaw.ensures) in
+    subst (λ (x : Option Flaw). IfOk c.stmt_flaw.result (λ flaw. told flaw ≡ x))
+    ((λ j. first_of (flaws a (plan_in o) (certificate_in o) (group_in o) (outline_in o) (statement_of c.args.body.now) (c.in_ok-inner.ensures c.args.ground.lines last j))) ∙ behind)
+    c.stmt_flaw.ensures
+
+pub first_part_flaw-returns-then-is_some : goal.first_part_flaw-returns-then-is_some
+first_part_flaw-returns-then-is_some t c = λ last.
+    let a = algorithm_of c.args.ground.algo.now in
+    let o = c.args.ground.outlined.now in
+    let h = here_of c.args.ground.lines c.args.here.now last in
+    first_found c.line_flaw-flaw.result
+    (line_flaws c.args.here.now.line (is_one_of c.args.here.now.loops.items c.args.symbol) true true true)
+    (flaws a (plan_in o) (certificate_in o) (group_in o) (outline_in o) (statement_of c.args.first.now) (inside h))
+    (sym c.is_some.ensures ∙ c.if-is_some.true)
+    (c.line_flaw-flaw.ensures ∙ ap (λ (b : Bool). first_of (line_flaws c.args.here.now.line b true true true)) (c.is_bound.ensures ∙ ap (λ (xs : List ℕ). is_one_of xs c.args.symbol) c.deref.ensures.value))
+
+pub first_part_flaw-returns : goal.first_part_flaw-returns
+first_part_flaw-returns t c = λ last.
+    let a = algorithm_of c.args.ground.algo.now in
+    let o = c.args.ground.outlined.now in
+    let h = here_of c.args.ground.lines c.args.here.now last in
+    let own = line_flaws c.args.here.now.line (is_one_of c.args.here.now.loops.items c.args.symbol) true true true in
+    let behind = sym (first_none c.line_flaw-flaw.result own (flaws a (plan_in o) (certificate_in o) (group_in o) (outline_in o) (statement_of c.args.first.now) (inside h))
+    (sym c.is_some.ensures ∙ c.if-is_some.false)
+    (c.line_flaw-flaw.ensures ∙ ap (λ (b : Bool). first_of (line_flaws c.args.here.now.line b true true true)) (c.is_bound.ensures ∙ ap (λ (xs : List ℕ). is_one_of xs c.args.symbol) c.deref.ensures.value))) in
+    subst (λ (x : Option Flaw). IfOk c.stmt_flaw.result (λ flaw. told flaw ≡ x))
+    ((λ j. first_of (flaws a (plan_in o) (certificate_in o) (group_in o) (outline_in o) (statement_of c.args.first.now) (c.in_ok-inner.ensures c.args.ground.lines last j))) ∙ behind)
+    c.stmt_flaw.ensures
+
+pub stmt_flaw-returns-then-is_some-2 : goal.stmt_flaw-returns-then-is_some-2
+stmt_flaw-returns-then-is_some-2 t c =
+    let a = algorithm_of c.args.ground.algo.now in
+    let o = c.args.ground.outlined.now in
+    let h = here_of c.args.ground.lines c.args.here.now c.args.last in
+    let first = statement_of c.in-First.first.value in
+    let own = line_flaws c.args.here.now.line (is_one_of c.args.here.now.loops.items c.in-First.symbol) true true true in
+    let arm = flaws a (plan_in o) (certificate_in o) (group_in o) (outline_in o) first (inside h) in
+    let other = flaws a (plan_in o) (certificate_in o) (group_in o) (outline_in o) (statement_of c.in-First.later.value) (in_later first h) in
+    first_found c.in_ok-flaw-in-First.flaw (own ++ arm) other (sym c.is_some-in-First.ensures ∙ c.if-is_some-2.true)
+    (c.in_ok-flaw-in-First.ensures c.args.last ∙ (λ j. first_of (own ++ flaws a (plan_in o) (certificate_in o) (group_in o) (outline_in o) (statement_of (c.deref-in-First.ensures j)) (inside h))))
+    ∙ ap first_of (append_assoc own arm other)
+    ∙ ap (λ (s : Stmt). first_of (flaws a (plan_in o) (certificate_in o) (group_in o) (outline_in o) (statement_of s) h)) (sym c.in-First.is)
+
+pub stmt_flaw-returns-in_ok-other-in-First : goal.stmt_flaw-returns-in_ok-other-in-First
+stmt_flaw-returns-in_ok-other-in-First t c =
+    let a = algorithm_of c.args.ground.algo.now in
+    let o = c.args.ground.outlined.now in
+    let h = here_of c.args.ground.lines c.args.here.now c.args.last in
+    let first = statement_of c.in-First.first.value in
+    let own = line_flaws c.args.here.now.line (is_one_of c.args.here.now.loops.items c.in-First.symbol) true true true in
+    let arm = flaws a (plan_in o) (certificate_in o) (group_in o) (outline_in o) first (inside h) in
+    let other = flaws a (plan_in o) (certificate_in o) (group_in o) (outline_in o) (statement_of c.in-First.later.value) (in_later first h) in
+    let behind = sym (first_none c.in_ok-flaw-in-First.flaw (own ++ arm) other (sym c.is_some-in-First.ensures ∙ c.if-is_some-2.false)
+    (c.in_ok-flaw-in-First.ensures c.args.last ∙ (λ j. first_of (own ++ flaws a (plan_in o) (certificate_in o) (group_in o) (outline_in o) (statement_of (c.deref-in-First.ensures j)) (inside h)))))
+    ∙ ap first_of (append_assoc own arm other)
+    ∙ ap (λ (s : Stmt). first_of (flaws a (plan_in o) (certificate_in o) (group_in o) (outline_in o) (statement_of s) h)) (sym c.in-First.is) in
+    subst (λ (x : Option Flaw). IfOk c.stmt_flaw-in-First.result (λ flaw. told flaw ≡ x))
+    ((λ j. first_of (flaws a (plan_in o) (certificate_in o) (group_in o) (outline_in o) (statement_of (c.deref-in-First-3.ensures j)) (c.in_ok-other-in-First.ensures c.args.ground.lines c.args.last j)))
+    ∙ (λ j. first_of (flaws a (plan_in o) (certificate_in o) (group_in o) (outline_in o) (statement_of c.in-First.later.value) (in_later (statement_of (c.deref-in-First-2.ensures j)) h)))
+    ∙ behind)
+    c.stmt_flaw-in-First.ensures
