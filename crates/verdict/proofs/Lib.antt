@@ -20,4 +20,11 @@ pub mod Lists
 pub mod Near
 pub mod Shared
 pub mod Small
+pub mod Listed
+pub mod Tested
+pub mod Inc
+pub mod NearPlan
+pub mod ScanPlan
+pub mod HistPlan
+pub mod BlocksPlan
 pub mod WorkedPlans

@@ -1,6 +1,6 @@
 -- All forms that a piece comes to are narrow.
 use Rattle.std.proofs.Common.{◌≡◌, ℕ, zero, suc, ◌+◌, ◌/◌, ◌^◌, ◌<◌, ◌≤◌, Bool, true, false, List, [], ◌∷◌, ◌++◌, length, Option, Some, None, refl, sym, ◌∙◌, subst, arith}
-use Rattle.std.specs.Prelude.{ℤ, pos, neg_ℤ, ◌==◌, ◌||◌, ◌&&◌, not, ◌-◌, ◌≤ℤ◌, if◌then◌else◌, int_le, MatchOption}
+use Rattle.std.specs.Prelude.{ℤ, pos, neg_ℤ, ◌==◌, ◌||◌, ◌&&◌, ◌-◌, ◌≤ℤ◌, if◌then◌else◌, int_le, MatchOption}
 use Rattle.std.specs.List.{AllByRecursion, list_any, list_all, range_with_len}
 use Rattle.std.proofs.Math.Nat.{div-le_self, mod-add-div}
 use Rattle.std.proofs.lemmas.Bool.Decides.{nat_tests}

@@ -2,6 +2,7 @@ pub mod Shown
 pub mod Bounded
 pub mod Accepted
 pub mod Clear
+pub mod Examples
 pub mod Faults
 pub mod Laws
 pub mod Plain

@@ -10,7 +10,7 @@ use Rattle.plan.specs.Certificate.Certificate.{Certificate}
 use Rattle.plan.specs.Semantics.Worked.{symbol, between, constants, is, loop, load}
 use Rattle.verdict.specs.Accepted.{IsAccepted}
 use Rattle.verdict.specs.Faults.{IsFault}
-use Rattle.verdict.specs.Shown.Worked.{both, f_group, here, out_group, two, two_certificate, two_plan}
+use Rattle.verdict.specs.Shown.Worked.{both, f_group, here, two, two_certificate, two_plan}
 
 -- the own region of the first group, whose line is 19, is another
 abbrev pub with_own : Span1 → Certificate

@@ -3,5 +3,6 @@
 
 pub mod bounded;
 pub mod clear;
+pub mod examples;
 pub mod laws;
 pub mod shown;

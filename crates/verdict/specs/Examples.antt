@@ -1,0 +1,5 @@
+pub mod Blocks
+pub mod Hist
+pub mod Inc
+pub mod Near
+pub mod Scan
