@@ -4,3 +4,9 @@ pub mod Complete
 pub mod Texts
 pub mod Placings
 pub mod Computed
+pub mod Functions
+pub mod Counts
+pub mod Deciding
+pub mod Following
+pub mod Telling
+pub mod Ending

@@ -1,7 +1,7 @@
 -- Loops over the loops of a function, turn by turn.
 use Rattle.std.proofs.Common.{◌≡◌, ℕ, zero, suc, ◌+◌, ◌<◌, ◌≤◌, Bool, true, false, ◌&&◌, ◌||◌, List, [], ◌∷◌, length, map, drop, drop-cons, add-one, get_or, Some, None, Result, Ok, Err, refl, sym, ap, ◌∙◌, arith}
 use Rattle.std.specs.Prelude.{slice_get, slice_set, position}
-use Rattle.std.specs.List.{list_any}
+use Rattle.std.specs.List.{list_any, position_or_len}
 use Rattle.meaning.specs.Names.{is_among, same_name}
 use Rattle.sched.specs.declared.schedule.Directive.{Directive}
 use Rattle.sched.specs.declared.error.Rule.{Rule}
@@ -11,7 +11,8 @@ use Rattle.sched.specs.declared.placing.Placed.{Placed}
 use Rattle.sched.specs.declared.schedule.Scheduled.{Scheduled}
 use Rattle.sched.specs.Schedule.{ScheduledText}
 use Rattle.sched.specs.View.{directive_of, scheduled_of}
-use Rattle.sched.specs.Placing.{SubjectText, PlacedText, Outcome, subject_of, placed_of, with_placed, is_root_directive, has_root, and_then, scheduled_in, schedule_in, loop_named, loops_named, or_next, filled, and_next, applied, all_in}
+use Rattle.sched.specs.Subjects.{is_home_directive, has_home}
+use Rattle.sched.specs.Placing.{SubjectText, PlacedText, Outcome, subject_of, placed_of, with_placed, is_root_directive, has_root, and_then, scheduled_in, schedule_in, loop_named, loops_named, filled, and_next, applied, all_in}
 
 -- the loop of the next name comes next
 pub named_next : (loops : List Loop) (names : List (List ℕ)) (i : ℕ) (d : List ℕ) (l : Loop) → i < length names → loop_named loops (get_or names i d) ≡ Some l → loops_named loops (drop i names) ≡ l ∷ loops_named loops (drop (i + 1) names)
@@ -40,7 +41,7 @@ pub all_next : (f : SubjectText) (ds : List Directive) (i : ℕ) (d : Directive)
 all_next f ds i d p lt = rw (drop-cons ds i d lt, add-one) refl
 
 -- the directives of the next function are applied
-pub schedule_next : (fs : List Subject) (ss : List Scheduled) (i : ℕ) (d : Scheduled) (ps : List PlacedText) → i < length ss → schedule_in fs (map scheduled_of (drop i ss)) ps ≡ and_then (scheduled_in fs (scheduled_of (get_or ss i d)) ps) (schedule_in fs (map scheduled_of (drop (i + 1) ss)))
+pub schedule_next : (fs : List SubjectText) (ss : List Scheduled) (i : ℕ) (d : Scheduled) (ps : List PlacedText) → i < length ss → schedule_in fs (map scheduled_of (drop i ss)) ps ≡ and_then (scheduled_in fs (scheduled_of (get_or ss i d)) ps) (schedule_in fs (map scheduled_of (drop (i + 1) ss)))
 schedule_next fs ss i d ps lt = rw (drop-cons ss i d lt, add-one) refl
 
 -- ---- what was made of the functions so far, by number
@@ -50,12 +51,12 @@ get_placed [] i p lt is = absurd (omega (arith, lt))
 get_placed (x ∷ xs) zero p lt is = ap (λ (y : Placed). Some (placed_of y)) (sym is)
 get_placed (x ∷ xs) (suc i) p lt is = get_placed xs i p (omega (arith, lt)) is
 
-get_subject : (fs : List Subject) (i : ℕ) (f : Subject) → i < length fs → f ≡ get_or fs i f → slice_get fs i ≡ Some f
+get_subject : (fs : List Subject) (i : ℕ) (f : Subject) → i < length fs → f ≡ get_or fs i f → slice_get (map subject_of fs) i ≡ Some (subject_of f)
 get_subject [] i f lt is = absurd (omega (arith, lt))
-get_subject (x ∷ xs) zero f lt is = ap (λ (y : Subject). Some y) (sym is)
+get_subject (x ∷ xs) zero f lt is = ap (λ (y : Subject). Some (subject_of y)) (sym is)
 get_subject (x ∷ xs) (suc i) f lt is = get_subject xs i f (omega (arith, lt)) is
 
-pub none_subject : (xs : List Subject) (i : ℕ) → length xs ≤ i → slice_get xs i ≡ None
+pub none_subject : (xs : List Subject) (i : ℕ) → length xs ≤ i → slice_get (map subject_of xs) i ≡ None
 none_subject [] zero le = refl
 none_subject [] (suc i) le = refl
 none_subject (x ∷ xs) zero le = absurd (omega (arith, le))
@@ -76,16 +77,28 @@ set_placed (x ∷ xs) (suc i) y = ap (λ (v : List PlacedText). placed_of x ∷ 
 abbrev done : List PlacedText → Outcome
 done ps = Ok ps
 
+-- the number of a function is that of what is known of it
+seen_before : (fs : List Subject) (x : List ℕ) → position_or_len (λ f. same_name f.name x) (map subject_of fs) ≡ position_or_len (λ f. same_name f.name x) fs
+seen_before [] x = refl
+seen_before (f ∷ fs) x = rw (seen_before fs x) refl
+
+as_many : (fs : List Subject) → length (map subject_of fs) ≡ length fs
+as_many [] = refl
+as_many (f ∷ fs) = rw (as_many fs) refl
+
+pub position_seen : (fs : List Subject) (x : List ℕ) → position (λ f. same_name f.name x) (map subject_of fs) ≡ position (λ f. same_name f.name x) fs
+position_seen fs x = rw (seen_before fs x, as_many fs) refl
+
 -- what becomes of the function of the number at which the name stands
-module _ (fs : List Subject) (s : ScheduledText) (xs : List Placed) (i : ℕ) (f : Subject) (p : Placed) (named : Some i ≡ position (λ g. same_name g.name s.function) fs)
+module _ (fs : List Subject) (s : ScheduledText) (xs : List Placed) (i : ℕ) (f : Subject) (p : Placed) (named : Some i ≡ position (λ g. same_name g.name s.function) (map subject_of fs))
     (few : i < length fs) (is : f ≡ get_or fs i f) (within : i < length xs) (was : p ≡ get_or xs i p) where
-  told : (r : Result PlacedText Rule) → all_in (subject_of f) s.directives (placed_of p) ≡ r → scheduled_in fs s (map placed_of xs) ≡ with_placed (map placed_of xs) i s.function r
+  told : (r : Result PlacedText Rule) → all_in (subject_of f) s.directives (placed_of p) ≡ r → scheduled_in (map subject_of fs) s (map placed_of xs) ≡ with_placed (map placed_of xs) i s.function r
   told r h = rw (sym named, get_subject fs i f few is, get_placed xs i p within was, h) refl
 
-  pub placed_so : (q : Placed) → all_in (subject_of f) s.directives (placed_of p) ≡ Ok (placed_of q) → scheduled_in fs s (map placed_of xs) ≡ Ok (map placed_of (slice_set xs i q))
+  pub placed_so : (q : Placed) → all_in (subject_of f) s.directives (placed_of p) ≡ Ok (placed_of q) → scheduled_in (map subject_of fs) s (map placed_of xs) ≡ Ok (map placed_of (slice_set xs i q))
   placed_so q h = told (Ok (placed_of q)) h ∙ ap done (set_placed xs i q)
 
-  pub refused_so : (r : Rule) → all_in (subject_of f) s.directives (placed_of p) ≡ Err r → scheduled_in fs s (map placed_of xs) ≡ Err (r, s.function)
+  pub refused_so : (r : Rule) → all_in (subject_of f) s.directives (placed_of p) ≡ Err r → scheduled_in (map subject_of fs) s (map placed_of xs) ≡ Err (r, s.function)
   refused_so r h = told (Err r) h
 
 -- ---- compute_root
@@ -97,3 +110,13 @@ root_among (d ∷ ds) = ap (λ (b : Bool). is_root_directive (directive_of d) ||
 pub root_told : (ss : List Scheduled) (x : List ℕ) → has_root (map scheduled_of ss) x ≡ list_any (λ s. same_name s.function x && list_any (λ d. is_root_directive (directive_of d)) s.directives.items) ss
 root_told [] x = refl
 root_told (s ∷ ss) x = rw (root_among s.directives.items, root_told ss x) refl
+
+-- ---- compute_at
+
+home_among : (ds : List Directive) → list_any is_home_directive (map directive_of ds) ≡ list_any (λ d. is_home_directive (directive_of d)) ds
+home_among [] = refl
+home_among (d ∷ ds) = ap (λ (b : Bool). is_home_directive (directive_of d) || b) (home_among ds)
+
+pub home_told : (ss : List Scheduled) (x : List ℕ) → has_home (map scheduled_of ss) x ≡ list_any (λ s. same_name s.function x && list_any (λ d. is_home_directive (directive_of d)) s.directives.items) ss
+home_told [] x = refl
+home_told (s ∷ ss) x = rw (home_among s.directives.items, home_told ss x) refl

@@ -6,6 +6,8 @@ pub mod Grammar
 pub mod Text
 pub mod Placing
 pub mod Subjects
+pub mod Rules
+pub mod Legal
 pub mod Numbers
 pub mod Standing
 pub mod Skeleton

@@ -1,28 +1,23 @@
 -- The numbers of a function's loops over its region, and how many pieces its parallel loops make.
-use Rattle.std.specs.Prelude.{ℕ, ◌-◌, ◌+◌, ◌/◌, ◌==◌, nat_lt, ℤ, pos, ◌+ℤ◌, ◌-ℤ◌, Bool, ◌&&◌, ◌||◌, if◌then◌else◌, List, [], ◌∷◌, ◌++◌, map, filter, find, Some, None}
+use Rattle.std.specs.Prelude.{ℕ, ◌-◌, ◌+◌, ◌/◌, ◌==◌, nat_lt, ℤ, pos, ◌+ℤ◌, ◌-ℤ◌, Bool, ◌&&◌, ◌||◌, if◌then◌else◌, List, [], ◌∷◌, ◌++◌, map, filter, find, Option, Some, None}
 use Rattle.std.specs.List.{list_any}
 use Rattle.meaning.specs.Names.{same_name}
 use Rattle.sched.specs.declared.schedule.Split.{Split}
 use Rattle.sched.specs.declared.placing.Loop.{Loop}
+use Rattle.sched.specs.declared.numbers.Extent.{Extent}
+use Rattle.sched.specs.declared.numbers.Numbers.{Numbers}
 use Rattle.sched.specs.Placing.{is_parallel, is_shifted}
-
--- one dimension of a region: so many numbers from the lowest on
-pub record Extent : Type 0 where
-  pub low : ℤ
-  pub count : ℕ
-
--- the numbers of a loop
-pub record Numbers : Type 0 where
-  pub name : List ℕ
-  pub low : ℤ
-  pub count : ℕ
 
 -- how many blocks of n numbers hold so many
 abbrev pub blocks : ℕ → ℕ → ℕ
 blocks count n = if (count == 0) || (n == 0) then 0 else (count - 1) / n + 1
 
+abbrev pub numbers_found : List Numbers → List ℕ → Option Numbers
+numbers_found rs x = find (λ r. same_name r.name x) rs
+
+-- no numbers where there is no loop of this name
 abbrev pub numbers_named : List Numbers → List ℕ → Numbers
-numbers_named rs x = elim (find (λ r. same_name r.name x) rs) [ Some r ↦ r | None ↦ record { name = x; low = pos 0; count = 0 } ]
+numbers_named rs x = elim (numbers_found rs x) [ Some r ↦ r | None ↦ record { name = x; low = pos 0; count = 0 } ]
 
 abbrev pub last_number : Numbers → ℤ
 last_number r = r.low +ℤ pos r.count -ℤ pos 1

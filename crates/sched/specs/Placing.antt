@@ -2,6 +2,7 @@
 use Rattle.std.specs.Prelude.{◌≡◌, ℕ, Bool, true, false, not, ◌&&◌, ◌||◌, ◌==◌, nat_le, nat_lt, if◌then◌else◌, List, [], ◌∷◌, ◌++◌, ◌+◌, map, drop, find, position, slice_get, slice_set, Option, Some, None, Result, Ok, Err}
 use Rattle.std.specs.List.{flat_map, list_any, list_all}
 use Rattle.meaning.specs.Names.{same_name, is_among}
+use Rattle.sched.specs.declared.schedule.Home.{Home}
 use Rattle.sched.specs.declared.schedule.Split.{Split}
 use Rattle.sched.specs.declared.schedule.Tile.{Tile}
 use Rattle.sched.specs.declared.schedule.Tail.TheVariants as tails
@@ -20,14 +21,16 @@ use Rattle.std.specs.declared.vec.Vec.{Vec}
 use Rattle.std.specs.Global.{Global}
 use Rattle.sched.specs.Schedule.{ScheduledText, Schedule, DirectiveText, compute_root, compute_at, store_at, fold, split, tile, reorder, unroll, vectorize, parallel}
 
--- what a schedule has to know of a function: its name, its variables, the reduction variables of its updates, the dimensions for
--- which some update has no pure variable, and whether it has updates, is a root function, and is stored
+-- what a schedule has to know of a function: the names of all functions, its name, its variables, the reduction variables of its updates, the dimensions for
+-- which some update has no pure variable, how many updates it has, and whether it is the output, a root function, and stored
 pub record SubjectText : Type 0 where
+  pub functions : List (List ℕ)
   pub name : List ℕ
   pub variables : List (List ℕ)
   pub reductions : List (List ℕ)
   pub scattered : List ℕ
-  pub has_updates : Bool
+  pub updates : ℕ
+  pub is_output : Bool
   pub is_root : Bool
   pub is_stored : Bool
 
@@ -38,7 +41,7 @@ pub record PlacedText : Type 0 where
   pub used : List (List ℕ)
 
 abbrev pub subject_of : Subject → SubjectText
-subject_of s = record { name = s.name; variables = s.variables.items; reductions = s.reductions.items; scattered = s.scattered.items; has_updates = s.has_updates; is_root = s.is_root; is_stored = s.is_stored }
+subject_of s = record { functions = s.functions.items; name = s.name; variables = s.variables.items; reductions = s.reductions.items; scattered = s.scattered.items; updates = s.updates; is_output = s.is_output; is_root = s.is_root; is_stored = s.is_stored }
 
 abbrev pub placed_of : Placed → PlacedText
 placed_of p = record { loops = p.loops.items; cuts = p.cuts.items; used = p.used.items }
@@ -167,14 +170,18 @@ y_split t = record { whole = t.y; outer = t.y_outer; inner = t.y_inner; factor =
 abbrev pub tile_in : SubjectText → Tile → PlacedText → Result PlacedText Rule
 tile_in f t p = and_next (and_next (split_in f (x_split t) p) (split_in f (y_split t))) (reorder_in f (t.x_inner ∷ t.y_inner ∷ t.x_outer ∷ t.y_outer ∷ []))
 
+-- the loop at which a function is computed or stored is one of a function; which one is asked of the whole text
+abbrev pub home_in : SubjectText → Home → PlacedText → Result PlacedText Rule
+home_in f h p = if is_among f.functions h.function then Ok p else Err rule.UnknownName
+
 abbrev pub fold_in : SubjectText → List ℕ → PlacedText → Result PlacedText Rule
 fold_in f d p = if is_among f.variables d then Ok p else Err rule.UnknownName
 
 -- What one directive makes of a function. Where a function is computed and stored changes none of its loops.
 abbrev pub applied : SubjectText → DirectiveText → PlacedText → Result PlacedText Rule
 applied f compute_root p = Ok p
-applied f (compute_at h) p = Ok p
-applied f (store_at h) p = Ok p
+applied f (compute_at h) p = home_in f h p
+applied f (store_at h) p = home_in f h p
 applied f (fold d) p = fold_in f d.dimension p
 applied f (split s) p = split_in f s p
 applied f (tile t) p = tile_in f t p
@@ -217,13 +224,16 @@ has_vectorized_outside loops = list_any is_vectorized (drop 1 loops)
 abbrev pub is_shifted : Split → Bool
 is_shifted s = elim s.tail [ tails.Shift ↦ true | tails.Guard ↦ false | tails.Roundup ↦ false ]
 
+abbrev pub has_updates : SubjectText → Bool
+has_updates f = nat_lt 0 f.updates
+
 -- the rule of the lowest number that the whole breaks: L4 and L5 by its marks, L8 by a shift in spite of updates, L10 by updates that are not stored
 abbrev pub end_fault : SubjectText → PlacedText → Option Rule
 end_fault f p =
     if has_vectorized_outside p.loops then Some rule.BadMark
     else (if has_parallel_inside p.loops then Some rule.BadParallel
-    else (if f.has_updates && list_any is_shifted p.cuts then Some rule.BadShift
-    else (if f.has_updates && not f.is_stored then Some rule.InlineUpdates else None)))
+    else (if has_updates f && list_any is_shifted p.cuts then Some rule.BadShift
+    else (if has_updates f && not f.is_stored then Some rule.InlineUpdates else None)))
 
 -- ---- what a function that applies directives answers
 
@@ -233,11 +243,11 @@ Places (Ok x) new told = told ≡ Ok new
 Places (Err halt.Memory) new told = Unit {0}
 Places (Err (halt.Broken r)) new told = told ≡ Err r
 
--- the dimension of a fold is one of the function
-abbrev pub Folds : {X : Type 0} → Result X Halt → Bool → Type 0
-Folds (Ok x) known = known ≡ true
-Folds (Err halt.Memory) known = ⊥
-Folds (Err (halt.Broken r)) known = (known ≡ false) × (r ≡ rule.UnknownName)
+-- a name must be known, and is refused where it is not
+abbrev pub Knows : {X : Type 0} → Result X Halt → Bool → Type 0
+Knows (Ok x) known = known ≡ true
+Knows (Err halt.Memory) known = ⊥
+Knows (Err (halt.Broken r)) known = (known ≡ false) × (r ≡ rule.UnknownName)
 
 -- ---- a whole schedule
 
@@ -250,16 +260,16 @@ abbrev pub with_placed : List PlacedText → ℕ → List ℕ → Result PlacedT
 with_placed ps i x (Ok q) = Ok (slice_set ps i q)
 with_placed ps i x (Err r) = Err (r, x)
 
-abbrev pub placed_at : List PlacedText → ℕ → ScheduledText → Option Subject → Option PlacedText → Outcome
-placed_at ps i s (Some f) (Some p) = with_placed ps i s.function (all_in (subject_of f) s.directives p)
+abbrev pub placed_at : List PlacedText → ℕ → ScheduledText → Option SubjectText → Option PlacedText → Outcome
+placed_at ps i s (Some f) (Some p) = with_placed ps i s.function (all_in f s.directives p)
 placed_at ps i s _ _ = Err (rule.UnknownName, s.function)
 
-abbrev pub numbered : List Subject → ScheduledText → List PlacedText → Option ℕ → Outcome
+abbrev pub numbered : List SubjectText → ScheduledText → List PlacedText → Option ℕ → Outcome
 numbered fs s ps None = Err (rule.UnknownName, s.function)
 numbered fs s ps (Some i) = placed_at ps i s (slice_get fs i) (slice_get ps i)
 
 -- the directives are those of the function of this name
-abbrev pub scheduled_in : List Subject → ScheduledText → List PlacedText → Outcome
+abbrev pub scheduled_in : List SubjectText → ScheduledText → List PlacedText → Outcome
 scheduled_in fs s ps = numbered fs s ps (position (λ f. same_name f.name s.function) fs)
 
 abbrev pub and_then : Outcome → (List PlacedText → Outcome) → Outcome
@@ -267,7 +277,7 @@ and_then (Ok ps) f = f ps
 and_then (Err e) f = Err e
 
 -- in the order of the text, up to the first directive that breaks a rule
-abbrev pub schedule_in : List Subject → Schedule → List PlacedText → Outcome
+abbrev pub schedule_in : List SubjectText → Schedule → List PlacedText → Outcome
 schedule_in fs [] ps = Ok ps
 schedule_in fs (s ∷ ss) ps = and_then (scheduled_in fs s ps) (schedule_in fs ss)
 
@@ -286,8 +296,8 @@ unless_fault None ps = Ok ps
 unless_fault (Some e) ps = Err e
 
 -- what a schedule makes of these functions
-abbrev pub placing : List Subject → Schedule → Outcome
-placing fs schedule = and_then (schedule_in fs schedule (map start (map subject_of fs))) (λ ps. unless_fault (first_fault (map subject_of fs) ps) ps)
+abbrev pub placing : List SubjectText → Schedule → Outcome
+placing fs schedule = and_then (schedule_in fs schedule (map start fs)) (λ ps. unless_fault (first_fault fs ps) ps)
 
 -- the text has a compute_root of this function
 abbrev pub is_root_directive : DirectiveText → Bool
@@ -305,6 +315,7 @@ Arranges (Err (error.Broken r x)) new told = told ≡ Err (r, x)
 Arranges (Err (error.BadToken span)) new told = ⊥
 Arranges (Err (error.BadForm span)) new told = ⊥
 Arranges (Err (error.TooLarge span)) new told = ⊥
+Arranges (Err error.UnfitNames) new told = ⊥
 
 -- the same where all functions are the value
 abbrev pub Arranged : Result (Vec Placed Global) SchedError → Outcome → Type 0

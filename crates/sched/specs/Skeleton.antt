@@ -11,10 +11,11 @@ use Rattle.sched.specs.declared.schedule.Split.{Split}
 use Rattle.sched.specs.declared.placing.Mark.{Mark}
 use Rattle.sched.specs.declared.placing.Mark.TheVariants as mark
 use Rattle.sched.specs.declared.placing.Loop.{Loop}
-use Rattle.sched.specs.Numbers.{Extent}
+use Rattle.sched.specs.declared.numbers.Extent.{Extent}
+use Rattle.sched.specs.declared.numbers.Numbers.{Numbers}
 use Rattle.sched.specs.Placing.{PlacedText, is_parallel, is_vectorized}
 use Rattle.sched.specs.Subjects.{lacks}
-use Rattle.sched.specs.Numbers.{Numbers, numbers_named, last_number, loop_numbers, parallel_loops, piece_counts}
+use Rattle.sched.specs.Numbers.{numbers_named, last_number, loop_numbers, parallel_loops, piece_counts}
 use Rattle.sched.specs.Standing.{◌>>=◌, Step, Turns, Known, Standing, form_named, counted_from, alone, is_now, settle, cuts_by_variable}
 
 -- ---- loops of a nest

@@ -13,7 +13,8 @@ use Rattle.meaning.specs.Names.{same_name, is_among}
 use Rattle.sched.specs.declared.schedule.Split.{Split}
 use Rattle.sched.specs.declared.schedule.Tail.{Tail}
 use Rattle.sched.specs.declared.schedule.Tail.TheVariants as tails
-use Rattle.sched.specs.Numbers.{Numbers, numbers_named, last_number}
+use Rattle.sched.specs.declared.numbers.Numbers.{Numbers}
+use Rattle.sched.specs.Numbers.{numbers_named, last_number}
 
 -- None where a form leaves the limits
 infixl 10 ◌>>=◌

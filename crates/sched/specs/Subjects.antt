@@ -1,9 +1,16 @@
--- What the updates of a function say of its dimensions.
-use Rattle.std.specs.Prelude.{ℕ, ◌+◌, Bool, true, false, not, if◌then◌else◌, List, [], ◌∷◌, map, Option, Some, None, slice_get}
-use Rattle.std.specs.List.{flat_map, list_any}
+-- What an algorithm says of its functions, as far as a schedule has to know it.
+use Rattle.std.specs.Prelude.{◌≡◌, ℕ, ◌+◌, Bool, true, false, not, ◌&&◌, ◌||◌, nat_le, nat_lt, if◌then◌else◌, List, [], ◌∷◌, length, map, Option, Some, None, Result, Ok, Err, slice_get}
+use Rattle.std.specs.List.{flat_map, list_any, list_all}
 use Rattle.tree.specs.Term.{Term}
-use Rattle.meaning.specs.Algorithm.{Range, Change}
+use Rattle.meaning.specs.Algorithm.{Range, Change, Function, Algorithm}
+use Rattle.meaning.specs.Names.{same_name}
 use Rattle.meaning.specs.Conditions.{is_variable}
+use Rattle.sched.specs.Schedule.{DirectiveText, compute_at, Schedule}
+use Rattle.sched.specs.declared.error.SchedError.{SchedError}
+use Rattle.sched.specs.declared.subject.Placement.{Placement}
+use Rattle.sched.specs.Placing.{SubjectText, Outcome, Arranges, placed_of, placing, has_root}
+
+-- ---- updates
 
 abbrev pub range_names : List Range → List (List ℕ)
 range_names ds = map (λ d. d.variable) ds
@@ -24,3 +31,59 @@ lacks x d u = not (is_pure x (slice_get u.at d))
 abbrev pub scattered_from : List Change → ℕ → List (List ℕ) → List ℕ
 scattered_from us d [] = []
 scattered_from us d (x ∷ xs) = if list_any (lacks x d) us then d ∷ scattered_from us (d + 1) xs else scattered_from us (d + 1) xs
+
+-- ---- functions
+
+abbrev pub is_output : Algorithm → List ℕ → Bool
+is_output a x = same_name a.output x
+
+-- it is computed wholly before its consumers: the output, and whatever the text says so of
+abbrev pub is_root : Algorithm → Schedule → List ℕ → Bool
+is_root a s x = is_output a x || has_root s x
+
+abbrev pub is_home_directive : DirectiveText → Bool
+is_home_directive (compute_at h) = true
+is_home_directive d = false
+
+-- the text has a compute_at of this function
+abbrev pub has_home : Schedule → List ℕ → Bool
+has_home schedule x = list_any (λ s. same_name s.function x && list_any is_home_directive s.directives) schedule
+
+-- what a schedule has to know of the function
+abbrev pub subject_said : Algorithm → Schedule → Function → SubjectText
+subject_said a s f = record {
+  functions = map (λ g. g.name) a.functions;
+  name = f.name;
+  variables = f.variables;
+  reductions = reductions_of f.changes;
+  scattered = scattered_from f.changes 0 f.variables;
+  updates = length f.changes;
+  is_output = is_output a f.name;
+  is_root = is_root a s f.name;
+  is_stored = is_root a s f.name || has_home s f.name;
+}
+
+-- What a schedule makes of an algorithm's functions, or the rule of L1 to L5, L8 and L10 that it breaks, and of which function.
+abbrev pub legal_places : Algorithm → Schedule → Outcome
+legal_places a s = placing (map (subject_said a s) a.functions) s
+
+-- what is told of all functions, unless memory ran out
+abbrev pub Made : Result Placement SchedError → Outcome → Type 0
+Made (Ok p) told = told ≡ Ok (map placed_of p.functions.items)
+Made (Err e) told = Arranges {X = ℕ} (Err e) [] told
+
+-- ---- names
+
+-- at most 16 bytes of ASCII
+abbrev pub is_name : List ℕ → Bool
+is_name text = nat_le (length text) 16 && list_all (λ b. nat_lt b 128) text
+
+abbrev pub has_range_names : Change → Bool
+has_range_names u = list_all is_name (range_names u.ranges)
+
+abbrev pub has_own_names : Function → Bool
+has_own_names f = is_name f.name && list_all is_name f.variables && list_all has_range_names f.changes
+
+-- the functions, their variables and their reduction variables have names that a schedule's text could give
+abbrev pub has_names : Algorithm → Bool
+has_names a = list_all has_own_names a.functions

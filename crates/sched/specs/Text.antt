@@ -53,6 +53,7 @@ IsRefused text (error.BadToken span) = IsBadAt text span × ((s : Schedule) → 
 IsRefused text (error.BadForm span) = BadFormAt text span
 IsRefused text (error.TooLarge span) = TooLongAt text span ⊎ LongNameAt text span
 IsRefused text (error.Broken rule function) = ⊥
+IsRefused text error.UnfitNames = ⊥
 
 -- a refusal of the text's bytes as one of its form
 abbrev pub token_refusal : TokenError → SchedError

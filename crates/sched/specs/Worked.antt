@@ -14,7 +14,7 @@ use Rattle.sched.specs.declared.schedule.Tail.TheVariants.{Guard, Roundup, Shift
 use Rattle.sched.specs.declared.error.Rule.{Rule}
 use Rattle.sched.specs.declared.error.Rule.TheVariants as rule
 use Rattle.sched.specs.Standing.{Step, Turns, Named, Tested}
-use Rattle.sched.specs.Numbers.{Extent}
+use Rattle.sched.specs.declared.numbers.Extent.{Extent}
 use Rattle.sched.specs.Schedule.{DirectiveText, split, tile, reorder, parallel}
 use Rattle.sched.specs.Placing.{SubjectText, PlacedText, start, all_in}
 use Rattle.sched.specs.Subjects.{reductions_of, scattered_from}
@@ -46,11 +46,13 @@ function_over variables changes = record { name = codes "out"; ty = U8; variable
 -- the output
 abbrev pub subject_over : Function → SubjectText
 subject_over f = record {
+  functions = f.name ∷ [];
   name = f.name;
   variables = f.variables;
   reductions = reductions_of f.changes;
   scattered = scattered_from f.changes 0 f.variables;
-  has_updates = true;
+  updates = 1;
+  is_output = true;
   is_root = true;
   is_stored = true;
 }

@@ -76,6 +76,9 @@ pub enum SchedError {
     TooLarge(Span),
     /// L1 to L12: the rule that is broken, and the name of the function.
     Broken(Rule, Name),
+    /// The algorithm has a function, a variable or a reduction variable whose name no text could give: one of more than
+    /// 16 bytes, or with bytes that are no ASCII. An algorithm that was read from a text has none.
+    UnfitNames,
 }
 
 impl From<AllocError> for SchedError {

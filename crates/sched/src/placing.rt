@@ -8,7 +8,7 @@ ghost use Rattle.meaning.specs.Names.{is_among, same_name};
 ghost use Rattle.sched.specs.Placing as spec;
 
 use crate::error::{Rule, SchedError};
-use crate::schedule::{Directive, Fold, Sched, Scheduled, Split, Tail, Tile};
+use crate::schedule::{Directive, Fold, Home, Sched, Scheduled, Split, Tail, Tile};
 use std::alloc::{AllocError, AllocFailed, Global};
 use tree::token::Name;
 
@@ -34,17 +34,30 @@ pub struct Loop {
 /// What a schedule has to know of a function.
 #[derive(Drop)]
 pub struct Subject {
+    /// The names of all functions.
+    pub functions: Vec<Name>,
     pub name: Name,
     pub variables: Vec<Name>,
     /// The reduction variables of its updates.
     pub reductions: Vec<Name>,
     /// The dimensions for which some update has no pure variable.
     pub scattered: Vec<usize>,
-    pub has_updates: bool,
+    /// How many updates it has.
+    pub updates: usize,
+    pub is_output: bool,
     /// The output, or a function with a `compute_root` somewhere in the text (`has_root`).
     pub is_root: bool,
     /// A root function, or one that is computed at a loop.
     pub is_stored: bool,
+}
+
+impl Subject {
+    /// Whether a pure definition is not all that it has.
+    pub fn has_updates(&self) -> bool
+        ensures { result ≡ spec.has_updates (spec.subject_of self.now) }
+    {
+        self.updates > 0
+    }
 }
 
 /// What directives have made of a function.
@@ -251,7 +264,8 @@ impl Loop {
         matches!(self.mark, Some(Mark::Vectorized))
     }
 
-    fn is_parallel(&self) -> bool
+    /// Whether each of its turns is a piece of its own.
+    pub fn is_parallel(&self) -> bool
         ensures { result ≡ spec.is_parallel self.now }
     {
         matches!(self.mark, Some(Mark::Parallel))
@@ -380,7 +394,8 @@ impl Placed {
         ensures { spec.Places result (spec.placed_of self.new) (spec.applied (spec.subject_of subject.now) (directive_of directive.now) (spec.placed_of self.old)) }
     {
         match directive {
-            Directive::ComputeRoot | Directive::ComputeAt(_) | Directive::StoreAt(_) => Ok(()),
+            Directive::ComputeRoot => Ok(()),
+            Directive::ComputeAt(home) | Directive::StoreAt(home) => has_place(subject, home),
             Directive::Fold(fold) => folds(subject, fold),
             Directive::Split(split) => self.split(alloc, subject, split),
             Directive::Tile(tile) => self.tile(alloc, subject, tile),
@@ -408,7 +423,7 @@ fn any_vectorized(loops: &[Loop]) -> bool
     loops.iter().any(|one| one.is_vectorized())
 }
 
-fn is_shifted(split: &Split) -> bool
+pub(crate) fn is_shifted(split: &Split) -> bool
     ensures { result ≡ spec.is_shifted split.now }
 {
     match split.tail {
@@ -433,9 +448,9 @@ pub fn end_fault(subject: &Subject, placed: &Placed) -> Option<Rule>
         Some(Rule::BadMark)
     } else if has_parallel_inside(&placed.loops) {
         Some(Rule::BadParallel)
-    } else if subject.has_updates && has_shift(&placed.cuts) {
+    } else if subject.has_updates() && has_shift(&placed.cuts) {
         Some(Rule::BadShift)
-    } else if subject.has_updates && !subject.is_stored {
+    } else if subject.has_updates() && !subject.is_stored {
         Some(Rule::InlineUpdates)
     } else {
         None
@@ -467,9 +482,20 @@ fn marked_loops(
     Ok(marked)
 }
 
+// The loop at which a function is computed or stored must be one of a function.
+fn has_place(subject: &Subject, home: &Home) -> Result<(), Halt>
+    ensures { spec.Knows result (is_among subject.now.functions.items home.now.function) }
+{
+    if is_among(&subject.functions, &home.function) {
+        Ok(())
+    } else {
+        Err(Halt::Broken(Rule::UnknownName))
+    }
+}
+
 // The dimension of a fold must be one of the function.
 fn folds(subject: &Subject, fold: &Fold) -> Result<(), Halt>
-    ensures { spec.Folds result (is_among subject.now.variables.items fold.now.dimension) }
+    ensures { spec.Knows result (is_among subject.now.variables.items fold.now.dimension) }
 {
     if is_among(&subject.variables, &fold.dimension) {
         Ok(())
@@ -535,7 +561,7 @@ pub fn apply_all(
 
 // The number of the function of this name, counted from 0.
 fn number_of(subjects: &[Subject], name: &Name) -> Option<usize>
-    ensures { result ≡ position (λ f. same_name f.name name.now) subjects.now }
+    ensures { result ≡ position (λ f. same_name f.name name.now) (map spec.subject_of subjects.now) }
 {
     subjects
         .iter()
@@ -550,7 +576,7 @@ fn apply_to(
     placed: &mut [Placed],
     scheduled: &Scheduled,
 ) -> Result<(), SchedError>
-    ensures { spec.Arranges result (map spec.placed_of placed.new) (spec.scheduled_in subjects.now (scheduled_of scheduled.now) (map spec.placed_of placed.old)) }
+    ensures { spec.Arranges result (map spec.placed_of placed.new) (spec.scheduled_in (map spec.subject_of subjects.now) (scheduled_of scheduled.now) (map spec.placed_of placed.old)) }
 {
     let Some(number) = number_of(subjects, &scheduled.function) else {
         return Err(SchedError::Broken(Rule::UnknownName, scheduled.function));
@@ -581,7 +607,7 @@ fn apply_schedule(
     placed: &mut [Placed],
     functions: &[Scheduled],
 ) -> Result<(), SchedError>
-    ensures { spec.Arranges result (map spec.placed_of placed.new) (spec.schedule_in subjects.now (map scheduled_of functions.now) (map spec.placed_of placed.old)) }
+    ensures { spec.Arranges result (map spec.placed_of placed.new) (spec.schedule_in (map spec.subject_of subjects.now) (map scheduled_of functions.now) (map spec.placed_of placed.old)) }
 {
     for scheduled in functions {
         apply_to(alloc, subjects, placed, scheduled)?;
@@ -652,7 +678,7 @@ fn is_root_directive(directive: &Directive) -> bool
 /// lowest; a name of no function is L1 with that name), and then, function by function, L4, L5, L8 and L10 by
 /// `end_fault`. `Memory`.
 pub fn place(alloc: Global, subjects: &[Subject], sched: &Sched) -> Result<Vec<Placed>, SchedError>
-    ensures { spec.Arranged result (spec.placing subjects.now (schedule_of sched.now)) }
+    ensures { spec.Arranged result (spec.placing (map spec.subject_of subjects.now) (schedule_of sched.now)) }
 {
     let mut placed = starts(alloc, subjects)?;
     apply_schedule(alloc, subjects, &mut placed, &sched.functions)?;

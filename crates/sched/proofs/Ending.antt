@@ -1,0 +1,131 @@
+-- What a schedule breaks behind its last directive, and what is told of it.
+use Rattle.std.proofs.Common.{◌≡◌, ◌⊎◌, inl, inr, ℕ, zero, suc, ◌<◌, Bool, true, false, List, [], ◌∷◌, map, Option, Some, None, Result, Ok, Err, refl, sym, ap, subst, arith}
+use Rattle.std.specs.Prelude.{Decides, slice_get, if◌then◌else◌, IfOk, IfErr, ◌&&◌, not}
+use Rattle.std.specs.List.{list_any}
+use Rattle.std.proofs.lemmas.Bool.{false≢true}
+use Rattle.meaning.specs.Algorithm.{Function, Algorithm}
+use Rattle.meaning.specs.Conditions.{AreDistinct}
+use Rattle.sched.specs.declared.error.Rule.{Rule}
+use Rattle.sched.specs.declared.error.Rule.TheVariants as rule
+use Rattle.sched.specs.declared.error.SchedError.{SchedError}
+use Rattle.sched.specs.declared.error.SchedError.TheVariants as error
+use Rattle.sched.specs.declared.subject.Placement.{Placement}
+use Rattle.sched.specs.Schedule.{Schedule}
+use Rattle.sched.specs.Placing.{SubjectText, PlacedText, Outcome, has_vectorized_outside, has_parallel_inside, has_updates, is_shifted, start, placed_of, end_fault, and_then, schedule_in, or_later, first_fault, unless_fault}
+use Rattle.sched.specs.Subjects.{subject_said, legal_places, Made}
+use Rattle.sched.specs.Rules.{EndBreaks, IsLowest, number_of, IsVectorizedOutside, IsParallelInside, IsShiftedUpdate, IsInlineUpdate}
+use Rattle.sched.specs.Legal.{said, loops_after, IsBrokenNow, IsBrokenBehind, IsLegal, IsRefused, loops_of}
+use Rattle.sched.proofs.Deciding.{vectorized_outside_decides, inside_decides, shifted_update_decides, inline_update_decides}
+use Rattle.sched.proofs.Telling.{Told, text_told, followed, broken_now}
+
+module _ (a : Algorithm) (s : Schedule) where
+  -- ---- of one function
+
+  module _ (f : Function) (p : PlacedText) where
+    -- the rule of the lowest number that is broken, if any is
+    abbrev pub End : Option Rule → Type 0
+    End (Some r) = IsLowest (EndBreaks a s f p) r
+    End None = (r : Rule) → ¬ EndBreaks a s f p r
+
+    below : (r : Rule) → (4 < number_of r → ¬ IsVectorizedOutside p) → (5 < number_of r → ¬ IsParallelInside p) → (8 < number_of r → ¬ IsShiftedUpdate f p) → (10 < number_of r → ¬ IsInlineUpdate a s f) → (q : Rule) → number_of q < number_of r → ¬ EndBreaks a s f p q
+    below r v i u l rule.UnknownName lt h = h
+    below r v i u l rule.BadSplit lt h = h
+    below r v i u l rule.BadReorder lt h = h
+    below r v i u l rule.BadMark lt h = v lt h
+    below r v i u l rule.BadParallel lt h = i lt h
+    below r v i u l rule.BadShift lt h = u lt h
+    below r v i u l rule.InlineUpdates lt h = l lt h
+
+    none : ¬ IsVectorizedOutside p → ¬ IsParallelInside p → ¬ IsShiftedUpdate f p → ¬ IsInlineUpdate a s f → (q : Rule) → ¬ EndBreaks a s f p q
+    none v i u l rule.UnknownName h = h
+    none v i u l rule.BadSplit h = h
+    none v i u l rule.BadReorder h = h
+    none v i u l rule.BadMark h = v h
+    none v i u l rule.BadParallel h = i h
+    none v i u l rule.BadShift h = u h
+    none v i u l rule.InlineUpdates h = l h
+
+    by_tests : (b c d e : Bool) → Decides b (IsVectorizedOutside p) → Decides c (IsParallelInside p) → Decides d (IsShiftedUpdate f p) → Decides e (IsInlineUpdate a s f) →
+        End (if b then Some rule.BadMark else (if c then Some rule.BadParallel else (if d then Some rule.BadShift else (if e then Some rule.InlineUpdates else None))))
+    by_tests true c d e v i u l = (v.0 refl, below rule.BadMark (λ lt. absurd (omega (arith, lt))) (λ lt. absurd (omega (arith, lt))) (λ lt. absurd (omega (arith, lt))) (λ lt. absurd (omega (arith, lt))))
+    by_tests false true d e v i u l = (i.0 refl, below rule.BadParallel (λ lt h. false≢true (v.1 h)) (λ lt. absurd (omega (arith, lt))) (λ lt. absurd (omega (arith, lt))) (λ lt. absurd (omega (arith, lt))))
+    by_tests false false true e v i u l = (u.0 refl, below rule.BadShift (λ lt h. false≢true (v.1 h)) (λ lt h. false≢true (i.1 h)) (λ lt. absurd (omega (arith, lt))) (λ lt. absurd (omega (arith, lt))))
+    by_tests false false false true v i u l = (l.0 refl, below rule.InlineUpdates (λ lt h. false≢true (v.1 h)) (λ lt h. false≢true (i.1 h)) (λ lt h. false≢true (u.1 h)) (λ lt. absurd (omega (arith, lt))))
+    by_tests false false false false v i u l = none (λ h. false≢true (v.1 h)) (λ h. false≢true (i.1 h)) (λ h. false≢true (u.1 h)) (λ h. false≢true (l.1 h))
+
+    end_told : End (end_fault (subject_said a s f) p)
+    end_told =
+        let subject = subject_said a s f in
+        by_tests (has_vectorized_outside p.loops) (has_parallel_inside p.loops) (has_updates subject && list_any is_shifted p.cuts) (has_updates subject && not subject.is_stored)
+        (vectorized_outside_decides a s f p) (inside_decides p) (shifted_update_decides a s f p) (inline_update_decides a s f)
+
+  -- ---- of the first function that breaks one
+
+  module _ (loops : Function → PlacedText) where
+    abbrev Faults : List Function → Option (Rule × List ℕ) → Type 0
+    Faults fs None = (k : ℕ) (g : Function) (q : Rule) → slice_get fs k ≡ Some g → ¬ EndBreaks a s g (loops g) q
+    Faults fs (Some e) = (k : ℕ) × (g : Function) × (slice_get fs k ≡ Some g) × IsLowest (EndBreaks a s g (loops g)) e.0 × ((j : ℕ) (h : Function) (q : Rule) → j < k → slice_get fs j ≡ Some h → ¬ EndBreaks a s h (loops h) q) × (g.name ≡ e.1)
+
+    some_is : (f g : Function) → Some f ≡ Some g → f ≡ g
+    some_is f g e = cc
+
+    none_first : (f : Function) (fs : List Function) (n : ℕ) → ((r : Rule) → ¬ EndBreaks a s f (loops f) r) → ((j : ℕ) (h : Function) (q : Rule) → j < n → slice_get fs j ≡ Some h → ¬ EndBreaks a s h (loops h) q) → (j : ℕ) (h : Function) (q : Rule) → j < suc n → slice_get (f ∷ fs) j ≡ Some h → ¬ EndBreaks a s h (loops h) q
+    none_first f fs n never more zero h q lt at broken = never q (subst (λ (g : Function). EndBreaks a s g (loops g) q) (sym (some_is f h at)) broken)
+    none_first f fs n never more (suc j) h q lt at broken = more j h q (omega (arith, lt)) at broken
+
+    none_ever : (f : Function) (fs : List Function) → ((r : Rule) → ¬ EndBreaks a s f (loops f) r) → ((j : ℕ) (h : Function) (q : Rule) → slice_get fs j ≡ Some h → ¬ EndBreaks a s h (loops h) q) → (j : ℕ) (h : Function) (q : Rule) → slice_get (f ∷ fs) j ≡ Some h → ¬ EndBreaks a s h (loops h) q
+    none_ever f fs never more zero h q at broken = never q (subst (λ (g : Function). EndBreaks a s g (loops g) q) (sym (some_is f h at)) broken)
+    none_ever f fs never more (suc j) h q at broken = more j h q at broken
+
+    faults_next : (f : Function) (fs : List Function) (o : Option Rule) (later : Option (Rule × List ℕ)) → End f (loops f) o → Faults fs later → Faults (f ∷ fs) (or_later o f.name later)
+    faults_next f fs (Some r) later told more = (0, f, refl, told, λ j h q lt at broken. absurd (omega (arith, lt)), refl)
+    faults_next f fs None None told more = none_ever f fs told more
+    faults_next f fs None (Some e) told more = (suc more.0, more.1, more.2, more.3, none_first f fs more.0 told more.4, more.5)
+
+    faults : (fs : List Function) → Faults fs (first_fault (map (subject_said a s) fs) (map loops fs))
+    faults [] = λ k g q at. absurd (cc)
+    faults (f ∷ fs) = faults_next f fs (end_fault (subject_said a s f) (loops f)) (first_fault (map (subject_said a s) fs) (map loops fs)) (end_told f (loops f)) (faults fs)
+
+  -- ---- of the whole
+
+  abbrev pub Whole : Outcome → Type 0
+  Whole (Ok ps) = IsLegal a s × (ps ≡ loops_of a s)
+  Whole (Err e) = IsBrokenNow a s e.0 e.1 ⊎ IsBrokenBehind a s e.0 e.1
+
+  abbrev subjects : List SubjectText
+  subjects = map (subject_said a s) a.functions
+
+  started : (fs : List Function) → map start (map (subject_said a s) fs) ≡ map (loops_after []) fs
+  started [] = refl
+  started (f ∷ fs) = ap (λ (ps : List PlacedText). loops_after [] f ∷ ps) (started fs)
+
+  behind : Told a s [] (said s) (Ok (loops_of a s)) → (o : Option (Rule × List ℕ)) → Faults (loops_after (said s)) a.functions o → Whole (unless_fault o (loops_of a s))
+  behind told None h = (record { followed = followed a s told.1; whole = h }, refl)
+  behind told (Some e) h = inr (record {
+    followed = followed a s told.1;
+    number = h.0;
+    function = h.1;
+    declared = h.2;
+    broken = h.3;
+    first = h.4;
+    named = h.5;
+  })
+
+  whole_by : (o : Outcome) → Told a s [] (said s) o → Whole (and_then o (λ ps. unless_fault (first_fault subjects ps) ps))
+  whole_by (Err e) told = inl (broken_now a s e.0 e.1 told)
+  whole_by (Ok ps) told =
+      let all = behind (refl, told.1) (first_fault subjects (loops_of a s)) (faults (loops_after (said s)) a.functions) in
+      subst (λ (ps : List PlacedText). Whole (unless_fault (first_fault subjects ps) ps)) (sym told.0) all
+
+  whole_told : AreDistinct (a.input ∷ map (λ f. f.name) a.functions) → Whole (legal_places a s)
+  whole_told distinct = whole_by (schedule_in subjects s (map start subjects)) (text_told a s distinct s [] (map start subjects) (started a.functions))
+
+  pub made_told : AreDistinct (a.input ∷ map (λ f. f.name) a.functions) → (r : Result Placement SchedError) → Made r (legal_places a s) →
+      IfOk r (λ p. IsLegal a s) × IfOk r (λ p. map placed_of p.functions.items ≡ loops_of a s) × IfErr r (IsRefused a s)
+  made_told distinct (Ok p) made = let w : Whole (Ok (map placed_of p.functions.items)) = subst Whole made (whole_told distinct) in (w.0, w.1, tt)
+  made_told distinct (Err error.Memory) made = (tt, tt, tt)
+  made_told distinct (Err (error.Broken r x)) made = let w : Whole (Err (r, x)) = subst Whole made (whole_told distinct) in (tt, tt, w)
+  made_told distinct (Err (error.BadToken span)) made = absurd made
+  made_told distinct (Err (error.BadForm span)) made = absurd made
+  made_told distinct (Err (error.TooLarge span)) made = absurd made
+  made_told distinct (Err error.UnfitNames) made = absurd made
