@@ -1,5 +1,5 @@
 -- What a schedule breaks behind its last directive, and what is told of it.
-use Rattle.std.proofs.Common.{◌≡◌, ◌⊎◌, inl, inr, ℕ, zero, suc, ◌<◌, Bool, true, false, List, [], ◌∷◌, map, Option, Some, None, Result, Ok, Err, refl, sym, ap, subst, arith}
+use Rattle.std.proofs.Common.{◌≡◌, ◌∙◌, ◌⊎◌, inl, inr, ℕ, zero, suc, ◌<◌, Bool, true, false, List, [], ◌∷◌, map, Option, Some, None, Result, Ok, Err, refl, sym, ap, subst, arith}
 use Rattle.std.specs.Prelude.{Decides, slice_get, if◌then◌else◌, IfOk, IfErr, ◌&&◌, not}
 use Rattle.std.specs.List.{list_any}
 use Rattle.std.proofs.lemmas.Bool.{false≢true}
@@ -11,10 +11,10 @@ use Rattle.sched.specs.declared.error.SchedError.{SchedError}
 use Rattle.sched.specs.declared.error.SchedError.TheVariants as error
 use Rattle.sched.specs.declared.subject.Placement.{Placement}
 use Rattle.sched.specs.Schedule.{Schedule}
-use Rattle.sched.specs.Placing.{SubjectText, PlacedText, Outcome, has_vectorized_outside, has_parallel_inside, has_updates, is_shifted, start, placed_of, end_fault, and_then, schedule_in, or_later, first_fault, unless_fault}
-use Rattle.sched.specs.Subjects.{subject_said, legal_places, Made}
+use Rattle.sched.specs.Placing.{SubjectText, PlacedText, has_vectorized_outside, has_parallel_inside, has_updates, is_shifted, start, placed_of, end_fault, or_later, first_fault}
+use Rattle.sched.specs.Subjects.{subject_said, places, Follows}
 use Rattle.sched.specs.Rules.{EndBreaks, IsLowest, number_of, IsVectorizedOutside, IsParallelInside, IsShiftedUpdate, IsInlineUpdate}
-use Rattle.sched.specs.Legal.{said, loops_after, IsBrokenNow, IsBrokenBehind, IsLegal, IsRefused, loops_of}
+use Rattle.sched.specs.Legal.{said, loops_after, IsBrokenBehind, IsFault, IsLegal, IsRefused, loops_of}
 use Rattle.sched.proofs.Deciding.{vectorized_outside_decides, inside_decides, shifted_update_decides, inline_update_decides}
 use Rattle.sched.proofs.Telling.{Told, text_told, followed, broken_now}
 
@@ -88,10 +88,6 @@ module _ (a : Algorithm) (s : Schedule) where
 
   -- ---- of the whole
 
-  abbrev pub Whole : Outcome → Type 0
-  Whole (Ok ps) = IsLegal a s × (ps ≡ loops_of a s)
-  Whole (Err e) = IsBrokenNow a s e.0 e.1 ⊎ IsBrokenBehind a s e.0 e.1
-
   abbrev subjects : List SubjectText
   subjects = map (subject_said a s) a.functions
 
@@ -99,9 +95,9 @@ module _ (a : Algorithm) (s : Schedule) where
   started [] = refl
   started (f ∷ fs) = ap (λ (ps : List PlacedText). loops_after [] f ∷ ps) (started fs)
 
-  behind : Told a s [] (said s) (Ok (loops_of a s)) → (o : Option (Rule × List ℕ)) → Faults (loops_after (said s)) a.functions o → Whole (unless_fault o (loops_of a s))
-  behind told None h = (record { followed = followed a s told.1; whole = h }, refl)
-  behind told (Some e) h = inr (record {
+  behind : Told a s [] (said s) (Ok (loops_of a s)) → (o : Option (Rule × List ℕ)) → Faults (loops_after (said s)) a.functions o → IsFault a s o
+  behind told None h = record { followed = followed a s told.1; whole = h }
+  behind told (Some e) h = record {
     followed = followed a s told.1;
     number = h.0;
     function = h.1;
@@ -109,23 +105,31 @@ module _ (a : Algorithm) (s : Schedule) where
     broken = h.3;
     first = h.4;
     named = h.5;
-  })
+  }
 
-  whole_by : (o : Outcome) → Told a s [] (said s) o → Whole (and_then o (λ ps. unless_fault (first_fault subjects ps) ps))
-  whole_by (Err e) told = inl (broken_now a s e.0 e.1 told)
-  whole_by (Ok ps) told =
-      let all = behind (refl, told.1) (first_fault subjects (loops_of a s)) (faults (loops_after (said s)) a.functions) in
-      subst (λ (ps : List PlacedText). Whole (unless_fault (first_fault subjects ps) ps)) (sym told.0) all
+  places_told : AreDistinct (a.input ∷ map (λ f. f.name) a.functions) → Told a s [] (said s) (places a s)
+  places_told distinct = text_told a s distinct s [] (map start subjects) (started a.functions)
 
-  whole_told : AreDistinct (a.input ∷ map (λ f. f.name) a.functions) → Whole (legal_places a s)
-  whole_told distinct = whole_by (schedule_in subjects s (map start subjects)) (text_told a s distinct s [] (map start subjects) (started a.functions))
+  fault_told : (ps : List PlacedText) (o : Option (Rule × List ℕ)) → Told a s [] (said s) (Ok ps) → o ≡ first_fault subjects ps → IsFault a s o × (ps ≡ loops_of a s)
+  fault_told ps o told is =
+      let same : o ≡ first_fault subjects (loops_of a s) = is ∙ ap (first_fault subjects) told.0 in
+      (subst (IsFault a s) (sym same) (behind (refl, told.1) (first_fault subjects (loops_of a s)) (faults (loops_after (said s)) a.functions)), told.0)
 
-  pub made_told : AreDistinct (a.input ∷ map (λ f. f.name) a.functions) → (r : Result Placement SchedError) → Made r (legal_places a s) →
-      IfOk r (λ p. IsLegal a s) × IfOk r (λ p. map placed_of p.functions.items ≡ loops_of a s) × IfErr r (IsRefused a s)
-  made_told distinct (Ok p) made = let w : Whole (Ok (map placed_of p.functions.items)) = subst Whole made (whole_told distinct) in (w.0, w.1, tt)
-  made_told distinct (Err error.Memory) made = (tt, tt, tt)
-  made_told distinct (Err (error.Broken r x)) made = let w : Whole (Err (r, x)) = subst Whole made (whole_told distinct) in (tt, tt, w)
-  made_told distinct (Err (error.BadToken span)) made = absurd made
-  made_told distinct (Err (error.BadForm span)) made = absurd made
-  made_told distinct (Err (error.TooLarge span)) made = absurd made
-  made_told distinct (Err error.UnfitNames) made = absurd made
+  pub followed_told : AreDistinct (a.input ∷ map (λ f. f.name) a.functions) → (r : Result Placement SchedError) → Follows a s r →
+      IfOk r (λ p. IsFault a s p.fault) × IfOk r (λ p. map placed_of p.functions.items ≡ loops_of a s) × IfErr r (IsRefused a s)
+  followed_told distinct (Ok p) made =
+      let told = fault_told (map placed_of p.functions.items) p.fault (subst (Told a s [] (said s)) made.0 (places_told distinct)) made.1 in
+      (told.0, told.1, tt)
+  followed_told distinct (Err error.Memory) made = (tt, tt, tt)
+  followed_told distinct (Err (error.Broken r x)) made = (tt, tt, inl (broken_now a s r x (subst (Told a s [] (said s)) made (places_told distinct))))
+  followed_told distinct (Err (error.BadToken span)) made = absurd made
+  followed_told distinct (Err (error.BadForm span)) made = absurd made
+  followed_told distinct (Err (error.TooLarge span)) made = absurd made
+  followed_told distinct (Err error.UnfitNames) made = absurd made
+
+-- a rule that is broken behind the last directive
+pub fault_refused : (a : Algorithm) (s : Schedule) (o : Option (Rule × List ℕ)) (r : Rule) (x : List ℕ) → IsFault a s o → o ≡ Some (r, x) → IsRefused a s (error.Broken r x)
+fault_refused a s o r x h is = inr (subst (IsFault a s) is h)
+
+pub fault_legal : (a : Algorithm) (s : Schedule) (o : Option (Rule × List ℕ)) → IsFault a s o → o ≡ None → IsLegal a s
+fault_legal a s o h is = subst (IsFault a s) is h

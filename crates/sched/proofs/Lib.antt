@@ -10,3 +10,6 @@ pub mod Deciding
 pub mod Following
 pub mod Telling
 pub mod Ending
+pub mod Skeletons
+pub mod Nests
+pub mod Updates

@@ -1,5 +1,5 @@
 -- When a schedule keeps the rules of one directive after another and of functions with updates, and what a refusal says.
-use Rattle.std.specs.Prelude.{◌≡◌, ◌⊎◌, ℕ, ◌<◌, false, if◌then◌else◌, List, [], ◌∷◌, map, take, Any, Some, slice_get}
+use Rattle.std.specs.Prelude.{◌≡◌, ◌⊎◌, ℕ, ◌<◌, false, if◌then◌else◌, List, [], ◌∷◌, map, take, Any, Option, Some, None, slice_get}
 use Rattle.std.specs.List.{flat_map}
 use Rattle.meaning.specs.Algorithm.{Function, Algorithm}
 use Rattle.meaning.specs.Names.{same_name}
@@ -85,6 +85,11 @@ pub record IsBrokenBehind (a : Algorithm) (s : Schedule) (r : Rule) (x : List �
 pub record IsLegal (a : Algorithm) (s : Schedule) : Type 0 where
   pub followed : IsFollowed a s
   pub whole : (k : ℕ) (f : Function) (q : Rule) → slice_get a.functions k ≡ Some f → ¬ Spoils a s f q
+
+-- no function breaks a rule behind the last directive; or this is the first that does, and the rule
+abbrev pub IsFault : Algorithm → Schedule → Option (Rule × List ℕ) → Type 0
+IsFault a s None = IsLegal a s
+IsFault a s (Some e) = IsBrokenBehind a s e.0 e.1
 
 -- the loops of all functions behind the last directive
 abbrev pub loops_of : Algorithm → Schedule → List PlacedText

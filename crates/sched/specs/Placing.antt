@@ -295,9 +295,13 @@ abbrev pub unless_fault : Option (Rule × List ℕ) → List PlacedText → Outc
 unless_fault None ps = Ok ps
 unless_fault (Some e) ps = Err e
 
--- what a schedule makes of these functions
+-- what the directives of a schedule make of these functions
+abbrev pub following : List SubjectText → Schedule → Outcome
+following fs schedule = schedule_in fs schedule (map start fs)
+
+-- the same where the whole breaks no rule either
 abbrev pub placing : List SubjectText → Schedule → Outcome
-placing fs schedule = and_then (schedule_in fs schedule (map start fs)) (λ ps. unless_fault (first_fault fs ps) ps)
+placing fs schedule = and_then (following fs schedule) (λ ps. unless_fault (first_fault fs ps) ps)
 
 -- the text has a compute_root of this function
 abbrev pub is_root_directive : DirectiveText → Bool

@@ -8,7 +8,7 @@ use Rattle.meaning.specs.Conditions.{is_variable}
 use Rattle.sched.specs.Schedule.{DirectiveText, compute_at, Schedule}
 use Rattle.sched.specs.declared.error.SchedError.{SchedError}
 use Rattle.sched.specs.declared.subject.Placement.{Placement}
-use Rattle.sched.specs.Placing.{SubjectText, Outcome, Arranges, placed_of, placing, has_root}
+use Rattle.sched.specs.Placing.{SubjectText, Outcome, Arranges, placed_of, following, first_fault, has_root}
 
 -- ---- updates
 
@@ -63,14 +63,14 @@ subject_said a s f = record {
   is_stored = is_root a s f.name || has_home s f.name;
 }
 
--- What a schedule makes of an algorithm's functions, or the rule of L1 to L5, L8 and L10 that it breaks, and of which function.
-abbrev pub legal_places : Algorithm → Schedule → Outcome
-legal_places a s = placing (map (subject_said a s) a.functions) s
+-- what a schedule's directives make of an algorithm's functions, or the rule of L1 to L5 that one of them breaks, and of which function
+abbrev pub places : Algorithm → Schedule → Outcome
+places a s = following (map (subject_said a s) a.functions) s
 
--- what is told of all functions, unless memory ran out
-abbrev pub Made : Result Placement SchedError → Outcome → Type 0
-Made (Ok p) told = told ≡ Ok (map placed_of p.functions.items)
-Made (Err e) told = Arranges {X = ℕ} (Err e) [] told
+-- what is told of all functions, unless memory ran out: what the directives make of them, and the first that breaks a rule behind these
+abbrev pub Follows : Algorithm → Schedule → Result Placement SchedError → Type 0
+Follows a s (Ok p) = (places a s ≡ Ok (map placed_of p.functions.items)) × (p.fault ≡ first_fault (map (subject_said a s) a.functions) (map placed_of p.functions.items))
+Follows a s (Err e) = Arranges {X = ℕ} (Err e) [] (places a s)
 
 -- ---- names
 

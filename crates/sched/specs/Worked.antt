@@ -1,5 +1,6 @@
 -- Schedules written out: the loops of the functions that they place.
 use Rattle.std.specs.Prelude.{◌≡◌, ℕ, true, List, [], ◌∷◌, map, Option, Some, None, Result, Ok, Err, ℤ, pos, negsuc, codes}
+use Rattle.std.specs.Option.{option_map}
 use Rattle.numeric.specs.declared.ty.Ty.TheVariants.{U8, I32}
 use Rattle.tree.specs.Term.{Term, Number, Name}
 use Rattle.lin.specs.Forms.{Form, number}
@@ -13,7 +14,9 @@ use Rattle.sched.specs.declared.schedule.Tail.{Tail}
 use Rattle.sched.specs.declared.schedule.Tail.TheVariants.{Guard, Roundup, Shift}
 use Rattle.sched.specs.declared.error.Rule.{Rule}
 use Rattle.sched.specs.declared.error.Rule.TheVariants as rule
-use Rattle.sched.specs.Standing.{Step, Turns, Named, Tested}
+use Rattle.sched.specs.declared.skeleton.Step.{Step}
+use Rattle.sched.specs.declared.skeleton.Step.TheVariants.{Turns, Named, Tested}
+use Rattle.sched.specs.declared.skeleton.Known.{Known}
 use Rattle.sched.specs.declared.numbers.Extent.{Extent}
 use Rattle.sched.specs.Schedule.{DirectiveText, split, tile, reorder, parallel}
 use Rattle.sched.specs.Placing.{SubjectText, PlacedText, start, all_in}
@@ -62,8 +65,25 @@ skeleton_of f region (Ok p) = skeleton f p region
 skeleton_of f region (Err r) = None
 
 -- what the directives make of the loops over the region
-abbrev pub made : Function → List Extent → List DirectiveText → Option SkeletonText
-made f region ds = skeleton_of f region (all_in (subject_over f) ds (start (subject_over f)))
+abbrev pub skeleton_made : Function → List Extent → List DirectiveText → Option SkeletonText
+skeleton_made f region ds = skeleton_of f region (all_in (subject_over f) ds (start (subject_over f)))
+
+-- of that the grid of its pieces, the lets over the grid, and the nests
+pub record Shape : Type 0 where
+  pub grid : List ℕ
+  pub head : List Step
+  pub nests : List NestText
+
+abbrev pub made : Function → List Extent → List DirectiveText → Option Shape
+made f region ds = option_map (λ s. record { grid = s.grid; head = s.head; nests = s.nests }) (skeleton_made f region ds)
+
+-- and what stands over the grid: the forms of loops and of the first numbers of blocks
+pub record Ground : Type 0 where
+  pub known : List Known
+  pub starts : List Known
+
+abbrev pub stood : Function → List Extent → List DirectiveText → Option Ground
+stood f region ds = option_map (λ s. record { known = s.known; starts = s.starts }) (skeleton_made f region ds)
 
 abbrev pub from_zero : ℕ → Extent
 from_zero count = record { low = pos 0; count = count }
@@ -91,7 +111,10 @@ turns i last limits = Turns i (record { lower = number (pos 0) ∷ []; upper = n
 abbrev pub nest : List Step → List Form → NestText
 nest steps at = record { steps = steps; at = map Some at }
 
-abbrev pub whole : List ℕ → List Step → List NestText → Option SkeletonText
+abbrev pub is : List ℕ → Form → Known
+is v form = record { name = v; form = form }
+
+abbrev pub whole : List ℕ → List Step → List NestText → Option Shape
 whole grid head nests = Some (record { grid = grid; head = head; nests = nests })
 
 -- ---- row by row
@@ -128,6 +151,11 @@ pub record TilesStand : Type 0 where
   pub one_piece : made plane wide (tiled Guard ∷ []) ≡ whole (1 ∷ []) []
       (nest (turns 1 2 [] ∷ turns 2 1 [] ∷ turns 3 1 (plus (pos 4) (negsuc 1) 1 ∷ []) ∷ turns 4 3 (plus (pos 5) (negsuc 3) 2 ∷ []) ∷ [])
       (sum (pos 0) (pos 4) 2 (pos 1) 4 ∷ sum (pos 0) (pos 2) 1 (pos 1) 3 ∷ []) ∷ [])
+  pub guard_blocks : stood plane wide (in_pieces Guard) ≡ Some (record {
+    known = is xo (counted 0) ∷ is yo (counted 1) ∷ [];
+    starts = is x (plus (pos 0) (pos 4) 0) ∷ is y (plus (pos 0) (pos 2) 1) ∷ [];
+  })
+  pub shift_blocks : stood plane wide (in_pieces Shift) ≡ Some (record { known = is xo (counted 0) ∷ is yo (counted 1) ∷ []; starts = is x (counted 2) ∷ is y (counted 3) ∷ [] })
 
 -- ---- the inner loop outside
 
@@ -171,7 +199,7 @@ xoo = codes "xoo"
 abbrev pub xoi : List ℕ
 xoi = codes "xoi"
 
--- ten points in blocks of two, and the five blocks in pairs
+-- ten points in blocks of two, and the five blocks in pairs; where the pairs are rounded up, there is a sixth block to guard from
 pub record BlocksStand : Type 0 where
   pub guard : made line (from_zero 10 ∷ []) (halved x xo xi 2 Guard ∷ halved xo xoo xoi 2 Guard ∷ []) ≡ whole (1 ∷ []) []
       (nest (turns 1 2 [] ∷ turns 2 1 (plus (pos 4) (negsuc 1) 1 ∷ []) ∷ turns 3 1 [] ∷ [])
@@ -179,3 +207,10 @@ pub record BlocksStand : Type 0 where
   pub shift : made line (from_zero 10 ∷ []) (halved x xo xi 2 Guard ∷ halved xo xoo xoi 2 Shift ∷ []) ≡ whole (1 ∷ []) []
       (nest (turns 1 2 [] ∷ Named 2 Min (plus (pos 0) (pos 2) 1 ∷ number (pos 3) ∷ []) ∷ turns 3 1 [] ∷ turns 4 1 [] ∷ [])
       (record { constant = pos 0; terms = record { symbol = 2; factor = pos 2 } ∷ record { symbol = 3; factor = pos 2 } ∷ record { symbol = 4; factor = pos 1 } ∷ [] } ∷ []) ∷ [])
+  pub roundup : made line (from_zero 10 ∷ []) (halved x xo xi 2 Guard ∷ halved xo xoo xoi 2 Roundup ∷ []) ≡ whole (1 ∷ []) []
+      (nest (turns 1 2 [] ∷ turns 2 1 [] ∷ turns 3 1 (sum (pos 9) (negsuc 3) 1 (negsuc 1) 2 ∷ []) ∷ [])
+      (record { constant = pos 0; terms = record { symbol = 1; factor = pos 4 } ∷ record { symbol = 2; factor = pos 2 } ∷ record { symbol = 3; factor = pos 1 } ∷ [] } ∷ []) ∷ [])
+  pub blocks_of_pairs : stood line (from_zero 10 ∷ []) (halved x xo xi 2 Guard ∷ halved xo xoo xoi 2 Roundup ∷ parallel xoi ∷ parallel xoo ∷ []) ≡ Some (record {
+    known = is xoi (counted 0) ∷ is xoo (counted 1) ∷ is xo (sum (pos 0) (pos 1) 0 (pos 2) 1) ∷ [];
+    starts = is xo (plus (pos 0) (pos 2) 1) ∷ is x (sum (pos 0) (pos 2) 0 (pos 4) 1) ∷ [];
+  })

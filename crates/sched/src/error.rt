@@ -63,6 +63,25 @@ pub enum Rule {
     InlineUpdates,
 }
 
+impl Rule {
+    ghost use Rattle.sched.specs.Rules.{number_of};
+
+    /// The number of its code: 3 of L3.
+    pub fn number(self) -> u32
+        ensures { result ≡ number_of self }
+    {
+        match self {
+            Rule::UnknownName => 1,
+            Rule::BadSplit => 2,
+            Rule::BadReorder => 3,
+            Rule::BadMark => 4,
+            Rule::BadParallel => 5,
+            Rule::BadShift => 8,
+            Rule::InlineUpdates => 10,
+        }
+    }
+}
+
 /// Why a schedule was refused.
 #[derive(Clone, Copy, Debug, PartialEq, Eq, Drop)]
 pub enum SchedError {

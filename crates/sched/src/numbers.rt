@@ -44,7 +44,7 @@ fn numbers_found(numbers: &[Numbers], name: &Name) -> Option<Numbers>
         .find(|one| one.name.as_str() == name.as_str())
 }
 
-fn numbers_named(numbers: &[Numbers], name: &Name) -> Numbers
+pub(crate) fn numbers_named(numbers: &[Numbers], name: &Name) -> Numbers
     ensures { result ≡ spec.numbers_named numbers.now name.now }
 {
     match numbers_found(numbers, name) {

@@ -258,7 +258,7 @@ impl Loop {
         }
     }
 
-    fn is_vectorized(&self) -> bool
+    pub(crate) fn is_vectorized(&self) -> bool
         ensures { result ≡ spec.is_vectorized self.now }
     {
         matches!(self.mark, Some(Mark::Vectorized))
@@ -615,8 +615,8 @@ fn apply_schedule(
     Ok(())
 }
 
-// The first function, in the order of declaration, of which the whole breaks a rule.
-fn first_fault(subjects: &[Subject], placed: &[Placed]) -> Option<(Rule, Name)>
+/// The first function, in the order of declaration, of which the whole breaks a rule of `end_fault`, with that rule.
+pub fn first_fault(subjects: &[Subject], placed: &[Placed]) -> Option<(Rule, Name)>
     ensures { result ≡ spec.first_fault (map spec.subject_of subjects.now) (map spec.placed_of placed.now) }
 {
     let [subject, others @ ..] = subjects else {
@@ -671,17 +671,28 @@ fn is_root_directive(directive: &Directive) -> bool
     matches!(directive, Directive::ComputeRoot)
 }
 
-/// What a schedule makes of the loops of these functions, which stand in the order of their declaration.
+/// What the directives of a schedule make of the loops of these functions, which stand in the order of their declaration.
 ///
 /// # Errors
-/// `Broken` with the function's name: first the first directive of the text that breaks one of L1 to L5 (of several the
-/// lowest; a name of no function is L1 with that name), and then, function by function, L4, L5, L8 and L10 by
+/// `Broken` with the function's name: the first directive of the text that breaks one of L1 to L5 (of several the lowest; a
+/// name of no function is L1 with that name). `Memory`.
+pub fn follow(alloc: Global, subjects: &[Subject], sched: &Sched) -> Result<Vec<Placed>, SchedError>
+    ensures { spec.Arranged result (spec.following (map spec.subject_of subjects.now) (schedule_of sched.now)) }
+{
+    let mut placed = starts(alloc, subjects)?;
+    apply_schedule(alloc, subjects, &mut placed, &sched.functions)?;
+    Ok(placed)
+}
+
+/// The same where the whole breaks no rule either.
+///
+/// # Errors
+/// `Broken` with the function's name: first as `follow` answers, and then, function by function, L4, L5, L8 and L10 by
 /// `end_fault`. `Memory`.
 pub fn place(alloc: Global, subjects: &[Subject], sched: &Sched) -> Result<Vec<Placed>, SchedError>
     ensures { spec.Arranged result (spec.placing (map spec.subject_of subjects.now) (schedule_of sched.now)) }
 {
-    let mut placed = starts(alloc, subjects)?;
-    apply_schedule(alloc, subjects, &mut placed, &sched.functions)?;
+    let placed = follow(alloc, subjects, sched)?;
     match first_fault(subjects, &placed) {
         Some((rule, function)) => Err(SchedError::Broken(rule, function)),
         None => Ok(placed),

@@ -7,11 +7,11 @@ ghost use Rattle.algo.specs.Parts.{change_of, function_of, range_of};
 ghost use Rattle.algo.specs.View.{algorithm_of};
 ghost use Rattle.sched.specs.View.{directive_of, schedule_of};
 ghost use Rattle.sched.specs.Placing.{subject_of, placed_of};
-ghost use Rattle.sched.specs.Legal.{IsLegal, IsRefused, loops_of};
+ghost use Rattle.sched.specs.Legal.{IsFault, IsLegal, IsRefused, loops_of};
 ghost use Rattle.sched.specs.Subjects as spec;
 
-use crate::error::SchedError;
-use crate::placing::{Placed, Subject, has_root, place};
+use crate::error::{Rule, SchedError};
+use crate::placing::{Placed, Subject, first_fault, follow, has_root};
 use crate::schedule::{Directive, Sched, Scheduled};
 use algo::scoping::is_variable;
 use algo::{Algo, Function, Range, Update};
@@ -21,7 +21,12 @@ use tree::token::{MAX_NAME, Name};
 /// What a schedule makes of an algorithm: one entry a function, in the order of declaration.
 #[derive(Drop)]
 pub struct Placement {
+    /// What the schedule has to know of each function.
+    pub subjects: Vec<Subject>,
     pub functions: Vec<Placed>,
+    /// The first function, in the order of declaration, of which the whole breaks a rule that asks for no region, and the
+    /// lowest such rule.
+    pub fault: Option<(Rule, Name)>,
 }
 
 // At most 16 bytes of ASCII.
@@ -78,7 +83,7 @@ pub fn has_names(algo: &Algo) -> bool
 }
 
 #[tactic(auto, using(crate::proofs::Functions::name_is_ascii, crate::proofs::Functions::name_is_short))]
-fn name_of(text: &str) -> Name
+pub(crate) fn name_of(text: &str) -> Name
     requires { spec.is_name text.now ≡ true }
     ensures { result ≡ text.now }
 {
@@ -144,7 +149,7 @@ fn reductions(alloc: Global, updates: &[Update]) -> Result<Vec<Name>, AllocError
 
 // Whether the update's left index for this dimension is not the variable alone.
 #[tactic(auto, using(crate::proofs::Functions::index_found, crate::proofs::Functions::index_missing))]
-fn lacks(update: &Update, dimension: usize, variable: &str) -> bool
+pub(crate) fn lacks(update: &Update, dimension: usize, variable: &str) -> bool
     ensures { result ≡ spec.lacks variable.now dimension (change_of update.now) }
 {
     match update.at.get(dimension) {
@@ -270,22 +275,27 @@ fn subjects(alloc: Global, algo: &Algo, sched: &Sched) -> Result<Vec<Subject>, A
 // What a schedule makes of an algorithm's functions, whose names could stand in its text.
 fn arranged(alloc: Global, algo: &Algo, sched: &Sched) -> Result<Placement, SchedError>
     requires { spec.has_names (algorithm_of algo.now) ≡ true }
-    ensures { spec.Made result (spec.legal_places (algorithm_of algo.now) (schedule_of sched.now)) }
+    ensures { spec.Follows (algorithm_of algo.now) (schedule_of sched.now) result }
 {
     let subjects = subjects(alloc, algo, sched)?;
-    let functions = place(alloc, &subjects, sched)?;
-    Ok(Placement { functions })
+    let functions = follow(alloc, &subjects, sched)?;
+    let fault = first_fault(&subjects, &functions);
+    Ok(Placement {
+        subjects,
+        functions,
+        fault,
+    })
 }
 
-/// What a schedule makes of an algorithm's functions, where it keeps the rules of one directive after another (L1 to L5) and
-/// those of the whole that ask for no region: L4 (innermost), L5 (outermost), L8 (`shift` in spite of updates) and L10.
+/// What a schedule's directives make of an algorithm's functions, where none of them breaks one of L1 to L5; and the first
+/// function that breaks a rule behind the last directive: L4 (innermost), L5 (outermost), L8 (`shift` in spite of updates)
+/// and L10, which ask for no region.
 ///
 /// # Errors
-/// `Broken` with the function's name: first the first directive of the text that breaks one of L1 to L5 (of several the
-/// lowest; a name of no function is L1 with that name), and then, function by function in the order of declaration, the rule
-/// of the lowest number that the whole breaks. `UnfitNames` and `Memory`.
-pub fn placed(alloc: Global, algo: &Algo, sched: &Sched) -> Result<Placement, SchedError>
-    ensures legal { IfOk result (λ p. IsLegal (algorithm_of algo.now) (schedule_of sched.now)) }
+/// `Broken` with the function's name: the first directive of the text that breaks one of L1 to L5 (of several the lowest; a
+/// name of no function is L1 with that name). `UnfitNames` and `Memory`.
+pub fn followed(alloc: Global, algo: &Algo, sched: &Sched) -> Result<Placement, SchedError>
+    ensures fault { IfOk result (λ p. IsFault (algorithm_of algo.now) (schedule_of sched.now) p.fault) }
     ensures loops { IfOk result (λ p. map placed_of p.functions.items ≡ loops_of (algorithm_of algo.now) (schedule_of sched.now)) }
     ensures refused { IfErr result (IsRefused (algorithm_of algo.now) (schedule_of sched.now)) }
 {
@@ -294,4 +304,21 @@ pub fn placed(alloc: Global, algo: &Algo, sched: &Sched) -> Result<Placement, Sc
     }
     algo.is_well_formed();
     arranged(alloc, algo, sched)
+}
+
+/// The same where no function breaks such a rule.
+///
+/// # Errors
+/// `Broken` with the function's name: first as `followed` answers, and then, function by function in the order of
+/// declaration, the rule of the lowest number that the whole breaks. `UnfitNames` and `Memory`.
+pub fn placed(alloc: Global, algo: &Algo, sched: &Sched) -> Result<Placement, SchedError>
+    ensures legal { IfOk result (λ p. IsLegal (algorithm_of algo.now) (schedule_of sched.now)) }
+    ensures loops { IfOk result (λ p. map placed_of p.functions.items ≡ loops_of (algorithm_of algo.now) (schedule_of sched.now)) }
+    ensures refused { IfErr result (IsRefused (algorithm_of algo.now) (schedule_of sched.now)) }
+{
+    let placement = followed(alloc, algo, sched)?;
+    match placement.fault {
+        Some((rule, function)) => Err(SchedError::Broken(rule, function)),
+        None => Ok(placement),
+    }
 }

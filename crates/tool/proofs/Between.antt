@@ -25,7 +25,7 @@ use Rattle.pnm.specs.Reading.{wanted_of}
 use Rattle.pnm.specs.Source.{ReadsFile, Sends}
 use Rattle.pnm.specs.Text.{text_of}
 use Rattle.tool.specs.declared.pipeline.fault.Fault.{Fault}
-use Rattle.tool.specs.declared.pipeline.fault.Fault.TheVariants.{Memory, Algo, Plan, Form, Limit, Order, Image, Budget, Unfinished}
+use Rattle.tool.specs.declared.pipeline.fault.Fault.TheVariants.{Memory, Algo, Schedule, Rule, Names, Plan, Form, Limit, Order, Image, Budget, Unfinished}
 use Rattle.tool.specs.Pipeline.Faults.{image_fault, plain_fault, plan_fault, read_fault}
 use Rattle.tool.specs.Pipeline.Texts.{IsImageRefused, IsTextRefused}
 use Rattle.tool.specs.Pipeline.PlanFiles.{IsFileRefused}
@@ -51,6 +51,9 @@ module _ (text : List ℕ) (read held : Option (List ℕ)) where
   pub text_refused : (plan : PlanText) (fault : Fault) → IsTextRefused text fault → IsRefused text plan read read held held fault
   text_refused plan Memory h = (([], Consumes-nil read), Keeps-refl held)
   text_refused plan (Algo code span) h = (h, (Keeps-refl read, Keeps-refl held))
+  text_refused plan (Schedule code span) h = absurd h
+  text_refused plan (Rule rule function) h = absurd h
+  text_refused plan Names h = absurd h
   text_refused plan (Plan code line) h = absurd h
   text_refused plan (Form line) h = absurd h
   text_refused plan (Limit line) h = absurd h
@@ -62,6 +65,9 @@ module _ (text : List ℕ) (read held : Option (List ℕ)) where
   pub file_refused : (file : List ℕ) (a : Algorithm) (fault : Fault) → IsAlgorithmText text a → IsFileRefused a file fault → IsRefused text (Some file) read read held held fault
   file_refused file a Memory said h = (([], Consumes-nil read), Keeps-refl held)
   file_refused file a (Algo code span) said h = absurd h
+  file_refused file a (Schedule code span) said h = absurd h
+  file_refused file a (Rule rule function) said h = absurd h
+  file_refused file a Names said h = absurd h
   file_refused file a (Plan code line) said h = (record { algorithm = a; is_text = said; refused = h }, (Keeps-refl read, Keeps-refl held))
   file_refused file a (Form line) said h = (record { algorithm = a; is_text = said; refused = h }, (Keeps-refl read, Keeps-refl held))
   file_refused file a (Limit line) said h = (record { algorithm = a; is_text = said; refused = h }, (Keeps-refl read, Keeps-refl held))
@@ -75,6 +81,9 @@ module _ (text : List ℕ) (plan : PlanText) (a : Algorithm) (said : IsAlgorithm
   pub image_refused : (fault : Fault) → IsImageRefused (input_frame a) read left fault → IsRefused text plan read left held held fault
   image_refused Memory h = (h, Keeps-refl held)
   image_refused (Algo code span) h = absurd h
+  image_refused (Schedule code span) h = absurd h
+  image_refused (Rule rule function) h = absurd h
+  image_refused Names h = absurd h
   image_refused (Plan code line) h = absurd h
   image_refused (Form line) h = absurd h
   image_refused (Limit line) h = absurd h
@@ -103,6 +112,9 @@ pub pixel_refused : (text : List ℕ) (a : Algorithm) (said : IsAlgorithmText te
     (reads : ReadsFile (wanted_of (input_frame a)) read left samples) (fault : Fault) → IsBudgetSpent a samples fault → IsRefused text None read left held held fault
 pixel_refused text a said read left held samples reads Memory h = ((reads.bytes, reads.takes), Keeps-refl held)
 pixel_refused text a said read left held samples reads (Algo code span) h = absurd h
+pixel_refused text a said read left held samples reads (Schedule code span) h = absurd h
+pixel_refused text a said read left held samples reads (Rule rule function) h = absurd h
+pixel_refused text a said read left held samples reads Names h = absurd h
 pixel_refused text a said read left held samples reads (Plan code line) h = absurd h
 pixel_refused text a said read left held samples reads (Image e) h = absurd h
 pixel_refused text a said read left held samples reads (Form line) h = absurd h

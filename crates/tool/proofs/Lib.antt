@@ -3,6 +3,7 @@ pub mod Decimals
 pub mod OrderWords
 pub mod Turns
 mod Between
+mod Compiled
 mod Failures
 mod Samples
 mod Ways

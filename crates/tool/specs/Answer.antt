@@ -3,11 +3,12 @@ use Rattle.std.specs.Prelude.{◌≡◌, ◌⊎◌, ℕ, List, Option, Some, Res
 use Rattle.clap.specs.Words.{Text}
 use Rattle.tool.specs.declared.pipeline.fault.Fault.{Fault}
 use Rattle.tool.specs.Pipeline.Pictures as streams
-use Rattle.tool.specs.Asked.{Asked, Picture, Check, Replay}
+use Rattle.tool.specs.Asked.{Asked, Picture, Compile, Check, Replay}
 use Rattle.tool.specs.Checks.{IsChecked, IsCheckRefused}
 use Rattle.tool.specs.Replays.{IsReplayed, IsReplayRefused}
 use Rattle.tool.specs.Files.{Contents, SameFiles}
 use Rattle.tool.specs.Line.{AsksFor, AsksHelp, IsMisuse}
+use Rattle.tool.specs.Compiles as compiling
 use Rattle.tool.specs.Pictures.{IsDone, IsRefused}
 use Rattle.tool.specs.Status.{status_of}
 
@@ -25,6 +26,7 @@ StreamsAnswer text file read left held holds status =
 -- what came of this command
 abbrev pub Ends : Contents → Contents → Asked → Result (Unit {0}) Fault → Type 0
 Ends old new (Picture a) outcome = MatchResult outcome (λ _. IsDone old new a) (IsRefused old new a)
+Ends old new (Compile a) outcome = MatchResult outcome (λ _. compiling.IsDone old new a) (compiling.IsRefused old new a)
 Ends old new (Check a) outcome = SameFiles old new × MatchResult outcome (λ _. IsChecked old a) (IsCheckRefused old a)
 Ends old new (Replay a) outcome = SameFiles old new × MatchResult outcome (λ _. IsReplayed old a) (IsReplayRefused old a)
 

@@ -4,6 +4,7 @@ use Rattle.clap.specs.Words.{Text}
 use Rattle.tool.specs.declared.request.Way.{Way}
 use Rattle.tool.specs.declared.request.Way.TheVariants as way
 use Rattle.tool.specs.declared.request.PictureRequest.{PictureRequest}
+use Rattle.tool.specs.declared.request.CompileRequest.{CompileRequest}
 use Rattle.tool.specs.declared.request.CheckRequest.{CheckRequest}
 use Rattle.tool.specs.declared.request.ReplayRequest.{ReplayRequest}
 use Rattle.tool.specs.declared.request.Request.{Request}
@@ -21,6 +22,12 @@ pub record AskedPicture : Type 0 where
   pub input : Text
   pub output : Text
 
+-- a schedule to be compiled, by the names of three files
+pub record AskedCompile : Type 0 where
+  pub algorithm : Text
+  pub schedule : Text
+  pub plan : Text
+
 -- a plan to be checked, by the names of two files
 pub record AskedCheck : Type 0 where
   pub algorithm : Text
@@ -34,6 +41,7 @@ pub record AskedReplay : Type 0 where
 
 pub data Asked : Type 0 where
   Picture : AskedPicture → Asked
+  Compile : AskedCompile → Asked
   Check : AskedCheck → Asked
   Replay : AskedReplay → Asked
 
@@ -44,6 +52,9 @@ way_asked (way.File plan workers) = File plan.now workers
 abbrev pub picture_asked : PictureRequest → AskedPicture
 picture_asked r = record { way = way_asked r.way; algorithm = r.algorithm.now; input = r.input.now; output = r.output.now }
 
+abbrev pub compile_asked : CompileRequest → AskedCompile
+compile_asked r = record { algorithm = r.algorithm.now; schedule = r.schedule.now; plan = r.plan.now }
+
 abbrev pub check_asked : CheckRequest → AskedCheck
 check_asked r = record { algorithm = r.algorithm.now; plan = r.plan.now }
 
@@ -52,5 +63,6 @@ replay_asked r = record { check = check_asked r.check; input = r.input.now; orde
 
 abbrev pub asked_by : Request → Asked
 asked_by (request.Picture r) = Picture (picture_asked r)
+asked_by (request.Compile r) = Compile (compile_asked r)
 asked_by (request.Check r) = Check (check_asked r)
 asked_by (request.Replay r) = Replay (replay_asked r)

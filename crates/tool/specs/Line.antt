@@ -6,7 +6,7 @@ use Rattle.clap.specs.declared.error.kind.ErrorKind.TheVariants.{DisplayHelp, Va
 use Rattle.clap.specs.declared.error.Error.{Error}
 use Rattle.clap.specs.Words.{App, HasKind, IsAmong, Row, Rule, Text, fault_of, first_of, kind_of, new_app, new_rule, subcommand_of, with_rule, with_subcommand}
 use Rattle.tool.specs.Workers.{workers_spelled}
-use Rattle.tool.specs.Asked.{AskedWay, Plain, File, AskedCheck, Asked, Picture, Check, Replay}
+use Rattle.tool.specs.Asked.{AskedWay, Plain, File, AskedCheck, Asked, Picture, Compile, Check, Replay}
 
 -- a word that has to be there, under a name
 abbrev pub needed : Text → Rule
@@ -19,6 +19,10 @@ picture_line name = with_rule (with_rule (with_rule (new_app name) (needed (code
 -- stencil COMMAND, where the words begin with the command
 abbrev pub program : App
 program = record (new_app (codes "stencil")) { top = record ((new_app (codes "stencil")).top) { no_binary_name = true; subcommand_required = true } }
+
+-- compile ALG SCHED PLAN
+abbrev pub compile_line : App
+compile_line = with_rule (with_rule (with_rule (new_app (codes "compile")) (needed (codes "ALG"))) (needed (codes "SCHED"))) (needed (codes "PLAN"))
 
 -- the words of the commands that take a plan file
 abbrev pub check_line : App
@@ -37,9 +41,9 @@ run_line = with_rule named_run_line workers_rule
 abbrev pub replay_line : App
 replay_line = with_rule (with_rule (with_rule (with_rule (new_app (codes "replay")) (needed (codes "ALG"))) (needed (codes "PLAN"))) (needed (codes "IN"))) (needed (codes "ORDER"))
 
--- the command without a plan, and with it those that take a plan file
+-- the commands that take no plan file, and with them those that take one
 abbrev pub planless : App
-planless = with_subcommand program (picture_line (codes "plain")).top
+planless = with_subcommand (with_subcommand program (picture_line (codes "plain")).top) compile_line.top
 
 abbrev pub line : App
 line = with_subcommand (with_subcommand (with_subcommand planless check_line.top) run_line.top) replay_line.top
@@ -52,6 +56,15 @@ all_three way _ _ _ = None
 -- the words for the algorithm, the image and the picture
 abbrev pub picture_in : AskedWay → List Row → Option Asked
 picture_in way rows = all_three way (first_of (codes "ALG") rows) (first_of (codes "IN") rows) (first_of (codes "OUT") rows)
+
+-- a schedule, where all three names are there
+abbrev pub to_compile : Option Text → Option Text → Option Text → Option Asked
+to_compile (Some algorithm) (Some schedule) (Some plan) = Some (Compile (record { algorithm = algorithm; schedule = schedule; plan = plan }))
+to_compile _ _ _ = None
+
+-- the words for the algorithm, the schedule and the plan
+abbrev pub compile_in : List Row → Option Asked
+compile_in rows = to_compile (first_of (codes "ALG") rows) (first_of (codes "SCHED") rows) (first_of (codes "PLAN") rows)
 
 -- how many workers there are: one, where nothing is said
 abbrev pub workers_in : Option Text → Option ℕ
@@ -85,9 +98,10 @@ replay_in rows = option_and_then (λ check. with_order check (first_of (codes "I
 abbrev pub asked_of_command : Text × List Row → Option Asked
 asked_of_command command =
     if bytes_eq command.0 (codes "plain") then picture_in Plain command.1
+    else (if bytes_eq command.0 (codes "compile") then compile_in command.1
     else (if bytes_eq command.0 (codes "run") then run_in command.1
     else (if bytes_eq command.0 (codes "check") then option_map Check (check_in command.1)
-    else (if bytes_eq command.0 (codes "replay") then replay_in command.1 else None)))
+    else (if bytes_eq command.0 (codes "replay") then replay_in command.1 else None))))
 
 -- what the words ask for
 abbrev pub asked : List Text → Option Asked

@@ -3,3 +3,4 @@ pub mod Images
 pub mod Texts
 pub mod PlanFiles
 pub mod Pictures
+pub mod Compiling

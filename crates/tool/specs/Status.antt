@@ -3,7 +3,7 @@ use Rattle.std.specs.Prelude.{ℕ}
 use Rattle.pnm.specs.declared.error.PnmError.{PnmError}
 use Rattle.pnm.specs.declared.error.PnmError.TheVariants as image
 use Rattle.tool.specs.declared.pipeline.fault.Fault.{Fault}
-use Rattle.tool.specs.declared.pipeline.fault.Fault.TheVariants.{Memory, Algo, Plan, Form, Limit, Order, Image, Budget, Unfinished}
+use Rattle.tool.specs.declared.pipeline.fault.Fault.TheVariants.{Memory, Algo, Schedule, Rule, Names, Plan, Form, Limit, Order, Image, Budget, Unfinished}
 use Rattle.tool.specs.declared.device.FileError.{FileError}
 use Rattle.tool.specs.declared.device.FileError.TheVariants as file
 
@@ -17,6 +17,9 @@ image_status _ = 3
 abbrev pub status_of : Fault → ℕ
 status_of Memory = 4
 status_of (Algo code span) = 3
+status_of (Schedule code span) = 3
+status_of (Rule rule function) = 3
+status_of Names = 3
 status_of (Plan code line) = 1
 status_of (Image e) = image_status e
 status_of (Form line) = 3

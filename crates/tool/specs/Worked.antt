@@ -1,13 +1,13 @@
 -- Words written out, and what they ask for.
 use Rattle.std.specs.Prelude.{ℕ, List, [], ◌∷◌, codes}
-use Rattle.tool.specs.Asked.{Plain, File, Picture, Check, Replay}
+use Rattle.tool.specs.Asked.{Plain, File, Picture, Compile, Check, Replay}
 use Rattle.tool.specs.Line.{AsksFor, AsksHelp, IsMisuse}
 
 -- three names behind `plain`
 abbrev pub PlainWithNames : Type 0
 PlainWithNames = AsksFor (codes "plain" ∷ codes "a.alg" ∷ codes "b.pgm" ∷ codes "c.pgm" ∷ []) (Picture (record { way = Plain; algorithm = codes "a.alg"; input = codes "b.pgm"; output = codes "c.pgm" }))
 
--- four behind `run`, two behind `check`, and four behind `replay`
+-- four behind `run`, three behind `compile`, two behind `check`, and four behind `replay`
 abbrev pub RunWithNames : Type 0
 RunWithNames =
     AsksFor (codes "run" ∷ codes "a.alg" ∷ codes "p.plan" ∷ codes "b.pgm" ∷ codes "c.pgm" ∷ [])
@@ -18,6 +18,11 @@ abbrev pub RunWithWorkers : Type 0
 RunWithWorkers =
     AsksFor (codes "run" ∷ codes "a.alg" ∷ codes "p.plan" ∷ codes "b.pgm" ∷ codes "c.pgm" ∷ codes "--workers" ∷ codes "64" ∷ [])
     (Picture (record { way = File (codes "p.plan") 64; algorithm = codes "a.alg"; input = codes "b.pgm"; output = codes "c.pgm" }))
+
+abbrev pub CompileWithNames : Type 0
+CompileWithNames =
+    AsksFor (codes "compile" ∷ codes "a.alg" ∷ codes "s.sched" ∷ codes "p.plan" ∷ [])
+    (Compile (record { algorithm = codes "a.alg"; schedule = codes "s.sched"; plan = codes "p.plan" }))
 
 abbrev pub CheckWithNames : Type 0
 CheckWithNames = AsksFor (codes "check" ∷ codes "a.alg" ∷ codes "p.plan" ∷ []) (Check (record { algorithm = codes "a.alg"; plan = codes "p.plan" }))

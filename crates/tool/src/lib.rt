@@ -11,6 +11,7 @@ mod plan_command;
 mod program;
 mod replay;
 mod request;
+mod schedule_command;
 mod words;
 mod workers;
 

@@ -2,14 +2,18 @@
 //! are made of.
 
 mod by_plan;
+mod compiling;
 mod fault;
 mod laws;
 mod reading;
+mod rule;
 mod without_plan;
 
 pub use by_plan::{check_plan, crew_picture, plan_picture, run_between, run_over};
+pub use compiling::{compile, read_schedule};
 pub use fault::Fault;
 pub use reading::{read_algorithm, read_inputs};
+pub use rule::BrokenRule;
 pub use without_plan::{plain_between, plain_over, plain_picture};
 /// What replays the steps of a checked plan.
 pub use steps::{State, replay};

@@ -16,6 +16,7 @@ use crate::pipeline::{Fault, run_over};
 use crate::plan_command::check_command;
 use crate::replay::replay_command;
 use crate::request::Request;
+use crate::schedule_command::compile_command;
 use crate::words::read_words;
 use clap::Error;
 use clap::error::ErrorKind;
@@ -126,6 +127,7 @@ fn command<T: Threads + Wait + Sync, F: Files, W: Write>(
 {
     match request {
         Request::Picture(asked) => picture_command(rt, alloc, files, asked),
+        Request::Compile(asked) => compile_command(rt, alloc, files, asked),
         Request::Check(asked) => check_command(rt, alloc, files, out, asked),
         Request::Replay(asked) => replay_command(rt, alloc, files, out, asked),
     }

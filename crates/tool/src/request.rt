@@ -27,6 +27,17 @@ pub struct PictureRequest<'a> {
     pub output: &'a str,
 }
 
+/// A schedule that is to be compiled: the names of three files.
+#[derive(Clone, Copy, Debug, Drop)]
+pub struct CompileRequest<'a> {
+    /// The algorithm's text.
+    pub algorithm: &'a str,
+    /// The schedule's text.
+    pub schedule: &'a str,
+    /// Where the plan file is written.
+    pub plan: &'a str,
+}
+
 /// A plan that is to be checked: the names of two files.
 #[derive(Clone, Copy, Debug, Drop)]
 pub struct CheckRequest<'a> {
@@ -52,6 +63,8 @@ pub struct ReplayRequest<'a> {
 pub enum Request<'a> {
     /// A picture.
     Picture(PictureRequest<'a>),
+    /// The plan file of a schedule.
+    Compile(CompileRequest<'a>),
     /// What the checker says of a plan.
     Check(CheckRequest<'a>),
     /// What comes of an order of steps.

@@ -4,15 +4,17 @@ ghost use Rattle.std.specs.Prelude.{◌≡◌, false, map, option_and_then, opti
 ghost use Rattle.clap.specs.Words.{app_of, first_value, found_of, rows_of, rule_of, subcommand_rows_of};
 ghost use Rattle.clap.specs.declared.builder.command.Command.TheViews.{out-Command};
 ghost use Rattle.tool.specs.Asked.{asked_by, check_asked, way_asked};
-ghost use Rattle.tool.specs.Line.{AsksFor, FailsFor, asked_of_command, check_in, check_line, line, named_run_line, needed, picture_in, picture_line, planless, replay_in, replay_line, run_in, run_line, workers_in, workers_rule};
+ghost use Rattle.tool.specs.Line.{AsksFor, FailsFor, asked_of_command, check_in, check_line, compile_in, compile_line, line, named_run_line, needed, picture_in, picture_line, planless, replay_in, replay_line, run_in, run_line, workers_in, workers_rule};
 
-use crate::request::{CheckRequest, PictureRequest, ReplayRequest, Request, Way};
+use crate::request::{CheckRequest, CompileRequest, PictureRequest, ReplayRequest, Request, Way};
 use crate::workers::workers_spelled;
 use clap::error::ErrorKind;
 use clap::{Arg, ArgMatches, Command, Error};
 use std::alloc::{AllocError, Global};
 
 const PLAIN: &str = "plain";
+
+const COMPILE: &str = "compile";
 
 const CHECK: &str = "check";
 
@@ -21,6 +23,8 @@ const RUN: &str = "run";
 const REPLAY: &str = "replay";
 
 const ALGORITHM: &str = "ALG";
+
+const SCHEDULE: &str = "SCHED";
 
 const PLAN: &str = "PLAN";
 
@@ -70,6 +74,17 @@ fn picture_described<'a>(
         .arg(word(alloc, OUTPUT, "Where the picture is written"))
 }
 
+fn compile_described<'a>(alloc: Global) -> Result<Command<'a>, AllocError>
+    ensures line { IfOk result (λ command. app_of command ≡ compile_line) }
+    ensures local { IfOk result (λ command. (out-Command command).has_globals ≡ false) }
+{
+    Command::new(alloc, COMPILE)
+        .about("Compile a schedule to a plan file")
+        .arg(word(alloc, ALGORITHM, "The algorithm's text"))?
+        .arg(word(alloc, SCHEDULE, "The schedule's text"))?
+        .arg(word(alloc, PLAN, "Where the plan file is written"))
+}
+
 fn check_described<'a>(alloc: Global) -> Result<Command<'a>, AllocError>
     ensures line { IfOk result (λ command. app_of command ≡ check_line) }
     ensures local { IfOk result (λ command. (out-Command command).has_globals ≡ false) }
@@ -116,7 +131,7 @@ fn replay_described<'a>(alloc: Global) -> Result<Command<'a>, AllocError>
         ))
 }
 
-/// The program's line with the command that takes no plan file.
+/// The program's line with the commands that take no plan file.
 fn planless_described<'a>(alloc: Global) -> Result<Command<'a>, AllocError>
     ensures line { IfOk result (λ command. app_of command ≡ planless) }
     ensures local { IfOk result (λ command. (out-Command command).has_globals ≡ false) }
@@ -126,11 +141,13 @@ fn planless_described<'a>(alloc: Global) -> Result<Command<'a>, AllocError>
         PLAIN,
         "Write the picture, computed by the definitions alone",
     )?;
+    let compile = compile_described(alloc)?;
     Command::new(alloc, "stencil")
         .about("Compile, check and run integer image pipelines")
         .no_binary_name(true)
         .subcommand_required(true)
-        .subcommand(plain)
+        .subcommand(plain)?
+        .subcommand(compile)
 }
 
 fn described<'a>(alloc: Global) -> Result<Command<'a>, AllocError>
@@ -170,6 +187,19 @@ fn workers_found(matches: &ArgMatches<'_>) -> Option<usize>
     }
 }
 
+fn compile_found<'a>(matches: &ArgMatches<'a>) -> Option<Request<'a>>
+    ensures { option_map asked_by result ≡ compile_in (rows_of (found_of matches.now)) }
+{
+    let algorithm = matches.get_str(ALGORITHM)?;
+    let schedule = matches.get_str(SCHEDULE)?;
+    let plan = matches.get_str(PLAN)?;
+    Some(Request::Compile(CompileRequest {
+        algorithm,
+        schedule,
+        plan,
+    }))
+}
+
 fn run_found<'a>(matches: &ArgMatches<'a>) -> Option<Request<'a>>
     ensures { option_map asked_by result ≡ run_in (rows_of (found_of matches.now)) }
 {
@@ -205,6 +235,8 @@ fn request_named<'a>(name: &str, matches: &ArgMatches<'a>) -> Option<Request<'a>
 {
     if name == PLAIN {
         picture_found(Way::Plain, matches)
+    } else if name == COMPILE {
+        compile_found(matches)
     } else if name == RUN {
         run_found(matches)
     } else if name == CHECK {

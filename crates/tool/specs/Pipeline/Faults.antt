@@ -1,6 +1,15 @@
 -- Refusals of the crates below as refusals of the program.
+use Rattle.std.specs.Prelude.{ℕ}
 use Rattle.algo.specs.declared.error.AlgoError.{AlgoError}
 use Rattle.algo.specs.declared.error.AlgoError.TheVariants as text
+use Rattle.algo.specs.declared.error.Code.TheVariants.{BadToken, BadForm, TooLarge}
+use Rattle.sched.specs.declared.error.SchedError.{SchedError}
+use Rattle.sched.specs.declared.error.SchedError.TheVariants as schedule
+use Rattle.sched.specs.Rules.{number_of as directive_number}
+use Rattle.lower.specs.declared.error.LowerError.{LowerError}
+use Rattle.lower.specs.declared.error.LowerError.TheVariants as lowering
+use Rattle.lower.specs.Rules.{number_of as region_number}
+use Rattle.outline.specs.declared.refusals.code.K.TheVariants.{K14}
 use Rattle.spelling.specs.declared.lines.error.TextError.{TextError}
 use Rattle.spelling.specs.declared.lines.error.TextError.TheVariants as read
 use Rattle.audit.specs.declared.refusal.CheckError.{CheckError}
@@ -10,13 +19,33 @@ use Rattle.plain.specs.declared.error.PlainError.TheVariants as plain
 use Rattle.pnm.specs.declared.error.PnmError.{PnmError}
 use Rattle.pnm.specs.declared.error.PnmError.TheVariants as image
 use Rattle.tool.specs.declared.pipeline.fault.Fault.{Fault}
+use Rattle.tool.specs.declared.pipeline.rule.BrokenRule.{BrokenRule}
+use Rattle.tool.specs.declared.pipeline.rule.BrokenRule.TheVariants.{Directive, Region}
 use Rattle.crew.specs.declared.running.RunError.{RunError}
 use Rattle.crew.specs.declared.running.RunError.TheVariants as run
-use Rattle.tool.specs.declared.pipeline.fault.Fault.TheVariants.{Memory, Algo, Plan, Image, Form, Limit, Budget, Unfinished}
+use Rattle.tool.specs.declared.pipeline.fault.Fault.TheVariants.{Memory, Algo, Schedule, Rule, Names, Plan, Image, Form, Limit, Budget, Unfinished}
 
 abbrev pub text_fault : AlgoError → Fault
 text_fault text.Memory = Memory
 text_fault (text.Refused code span) = Algo code span
+
+abbrev pub schedule_fault : SchedError → Fault
+schedule_fault schedule.Memory = Memory
+schedule_fault (schedule.BadToken span) = Schedule BadToken span
+schedule_fault (schedule.BadForm span) = Schedule BadForm span
+schedule_fault (schedule.TooLarge span) = Schedule TooLarge span
+schedule_fault (schedule.Broken rule function) = Rule (Directive rule) function
+schedule_fault schedule.UnfitNames = Names
+
+abbrev pub lower_fault : LowerError → Fault
+lower_fault lowering.Memory = Memory
+lower_fault (lowering.Schedule error) = schedule_fault error
+lower_fault (lowering.Broken rule function) = Rule (Region rule) function
+
+-- the number of a rule of schedules
+abbrev pub rule_number : BrokenRule → ℕ
+rule_number (Directive rule) = directive_number rule
+rule_number (Region rule) = region_number rule
 
 abbrev pub read_fault : TextError → Fault
 read_fault read.Memory = Memory
@@ -26,6 +55,12 @@ read_fault (read.Limit line) = Limit line
 abbrev pub plan_fault : CheckError → Fault
 plan_fault plan.Memory = Memory
 plan_fault (plan.Refused code line) = Plan code line
+
+-- a plan file that was written by the compiler and is not read passes a limit
+abbrev pub limit_fault : Fault → Fault
+limit_fault (Form line) = Plan K14 line
+limit_fault (Limit line) = Plan K14 line
+limit_fault fault = fault
 
 abbrev pub image_fault : PnmError → Fault
 image_fault image.Memory = Memory

@@ -2,17 +2,20 @@
 
 ghost use Rattle.std.specs.Prelude.{◌≡◌};
 ghost use Rattle.tool.specs.declared.pipeline.fault.Fault.TheVariants.{Memory as OutOfMemory};
-ghost use Rattle.tool.specs.Pipeline.Faults.{image_fault, plain_fault, plan_fault, read_fault, run_fault, text_fault};
+ghost use Rattle.tool.specs.Pipeline.Faults.{image_fault, lower_fault, plain_fault, plan_fault, read_fault, run_fault, schedule_fault, text_fault};
 
+use crate::pipeline::rule::BrokenRule;
 use algo::{AlgoError, Code};
 use audit::{CheckError, K};
 use crew::RunError;
+use lower::LowerError;
 use plain::PlainError;
 use pnm::PnmError;
+use sched::SchedError;
 use spelling::lines::TextError;
 use std::alloc::AllocError;
 use thiserror::Error;
-use tree::token::Span;
+use tree::token::{Name, Span};
 
 /// A refusal: its code and where it stands. It prints as the program tells it, behind its own name.
 #[derive(Debug, Drop, Error)]
@@ -23,9 +26,18 @@ pub enum Fault {
     /// A text is no algorithm: the code of what it breaks, and the bytes at which.
     #[error("{code} bytes {}..{}", .span.start, .span.end)]
     Algo { code: Code, span: Span },
+    /// A text is no schedule: the code of what it breaks, and the bytes at which.
+    #[error("{code} bytes {}..{}", .span.start, .span.end)]
+    Schedule { code: Code, span: Span },
+    /// A schedule breaks a rule: which one, and the name of the function.
+    #[error("L{} {}", .rule.number(), .function.as_str())]
+    Rule { rule: BrokenRule, function: Name },
+    /// An algorithm has a name that no schedule's text could give. One that was read from a text has none.
+    #[error("L1")]
+    Names,
     /// A plan is refused: the code, and the line of its text at which.
     #[error("K{} line {line}", .code.number())]
-    Plan { code: K, line: u32 },
+    Plan { code: K, line: usize },
     /// N1: a line of a plan file is not as it is written for any plan, or the file ends before the line is whole.
     #[error("N1 line {line}")]
     Form { line: usize },
@@ -65,6 +77,48 @@ impl From<AlgoError> for Fault {
     }
 }
 
+impl From<SchedError> for Fault {
+    ghost from_gives = { λ e f. f ≡ schedule_fault e };
+
+    fn from(e: SchedError) -> Fault {
+        match e {
+            SchedError::Memory => Fault::Memory,
+            SchedError::BadToken(span) => Fault::Schedule {
+                code: Code::BadToken,
+                span,
+            },
+            SchedError::BadForm(span) => Fault::Schedule {
+                code: Code::BadForm,
+                span,
+            },
+            SchedError::TooLarge(span) => Fault::Schedule {
+                code: Code::TooLarge,
+                span,
+            },
+            SchedError::Broken(rule, function) => Fault::Rule {
+                rule: BrokenRule::Directive(rule),
+                function,
+            },
+            SchedError::UnfitNames => Fault::Names,
+        }
+    }
+}
+
+impl From<LowerError> for Fault {
+    ghost from_gives = { λ e f. f ≡ lower_fault e };
+
+    fn from(e: LowerError) -> Fault {
+        match e {
+            LowerError::Memory => Fault::Memory,
+            LowerError::Schedule(error) => Fault::from(error),
+            LowerError::Broken(rule, function) => Fault::Rule {
+                rule: BrokenRule::Region(rule),
+                function,
+            },
+        }
+    }
+}
+
 impl From<TextError> for Fault {
     ghost from_gives = { λ e f. f ≡ read_fault e };
 
@@ -83,7 +137,10 @@ impl From<CheckError> for Fault {
     fn from(e: CheckError) -> Fault {
         match e {
             CheckError::Memory => Fault::Memory,
-            CheckError::Refused(code, line) => Fault::Plan { code, line },
+            CheckError::Refused(code, line) => Fault::Plan {
+                code,
+                line: line as usize,
+            },
         }
     }
 }

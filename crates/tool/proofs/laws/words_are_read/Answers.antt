@@ -17,6 +17,10 @@ pub returns-clause-workers : goal.returns-clause-workers
 unfolding clap_on_literals digits workers_spelled
 returns-clause-workers c = (refl, refl)
 
+pub returns-clause-compile : goal.returns-clause-compile
+unfolding clap_on_literals
+returns-clause-compile c = (refl, refl)
+
 pub returns-clause-check : goal.returns-clause-check
 unfolding clap_on_literals
 returns-clause-check c = (refl, refl)

@@ -1,0 +1,93 @@
+//! Spans and regions of numbers and forms.
+
+use crate::error::Stop;
+use lin::{Forms, Lin, Multiple, Region, Scope, Span1};
+use sched::Extent;
+use std::alloc::{AllocError, Global};
+
+/// The list of one form.
+pub(crate) fn one_form(alloc: Global, form: Lin) -> Result<Forms, AllocError> {
+    let mut forms = Forms::new(alloc);
+    forms.push(form)?;
+    Ok(forms)
+}
+
+/// The span of a form alone.
+pub(crate) fn exactly(alloc: Global, form: &Lin) -> Result<Span1, AllocError> {
+    let lower = one_form(alloc, form.copy(alloc)?)?;
+    let upper = one_form(alloc, form.copy(alloc)?)?;
+    Ok(Span1 { lower, upper })
+}
+
+/// The span of these numbers and those between them.
+pub(crate) fn between(alloc: Global, low: i64, high: i64) -> Result<Span1, AllocError> {
+    let lower = one_form(alloc, Lin::number(alloc, low))?;
+    let upper = one_form(alloc, Lin::number(alloc, high))?;
+    Ok(Span1 { lower, upper })
+}
+
+/// The span without forms, which holds every number.
+pub(crate) fn anything(alloc: Global) -> Span1 {
+    Span1 {
+        lower: Forms::new(alloc),
+        upper: Forms::new(alloc),
+    }
+}
+
+/// The last number of an extent; one below the first where it has none.
+pub(crate) fn last_of(extent: &Extent) -> i64 {
+    i64::from(extent.low) + i64::from(extent.count) - 1
+}
+
+/// All numbers of the extent.
+pub(crate) fn whole(alloc: Global, extent: &Extent) -> Result<Span1, AllocError> {
+    between(alloc, i64::from(extent.low), last_of(extent))
+}
+
+/// A number and a multiple of a form.
+pub(crate) fn multiple_from(alloc: Global, low: i64, factor: i64, form: &Lin) -> Result<Lin, Stop> {
+    Ok(Lin::number(alloc, low).plus_multiple(alloc, factor, form)?)
+}
+
+/// The form and a number more.
+pub(crate) fn raised(alloc: Global, form: &Lin, by: i64) -> Result<Lin, Stop> {
+    multiple_from(alloc, by, 1, form)
+}
+
+// The region of one span.
+fn alone(alloc: Global, span: &Span1) -> Result<Region, AllocError> {
+    let mut region = Region::new(alloc);
+    region.push(span.copy(alloc)?)?;
+    Ok(region)
+}
+
+/// Whether each number of a span is shown to be one of another.
+pub(crate) fn is_inside(
+    alloc: Global,
+    scope: &Scope,
+    inner: &Span1,
+    outer: &Span1,
+) -> Result<bool, AllocError> {
+    let inner = alone(alloc, inner)?;
+    let outer = alone(alloc, outer)?;
+    scope.inside(alloc, &inner, &outer)
+}
+
+// The term by a divisor of its factor.
+fn divided_term(term: &Multiple, divisor: i64) -> i64 {
+    term.factor.checked_div_euclid(divisor).unwrap_or(0)
+}
+
+/// The form by a divisor, rounded down; none where a factor is no multiple of it.
+pub(crate) fn divided(alloc: Global, form: &Lin, divisor: i64) -> Result<Option<Lin>, Stop> {
+    let constant = form.constant().checked_div_euclid(divisor).unwrap_or(0);
+    let mut made = Lin::number(alloc, constant);
+    for term in form.terms() {
+        if term.factor.checked_rem_euclid(divisor) != Some(0) {
+            return Ok(None);
+        }
+        let symbol = Lin::symbol(alloc, term.symbol)?;
+        made = made.plus_multiple(alloc, divided_term(term, divisor), &symbol)?;
+    }
+    Ok(Some(made))
+}

@@ -1,0 +1,212 @@
+//! The rules of schedules that ask what a function's loops run over.
+
+use crate::calls::{Call, calls_of};
+use crate::definitions::{Formula, Stored};
+use crate::error::{RegionRule, Stop};
+use crate::forms::{between, is_inside, whole};
+use crate::regions::{Laid, counts};
+use crate::scopes::{Around, around_store, interval};
+use algo::Algo;
+use sched::{has_short_shift, loop_numbers};
+use std::alloc::{AllocError, Global};
+use tree::Expr;
+use tree::token::Name;
+
+/// The most shared cells of all root functions.
+const MOST_CELLS: u64 = 1 << 24;
+
+/// The most pieces of all root functions.
+const MOST_PIECES: u64 = 1 << 20;
+
+/// What the root functions so far have together.
+#[derive(Clone, Copy, Drop)]
+struct Totals {
+    cells: u64,
+    pieces: u64,
+}
+
+fn product(counts: &[u32]) -> u64 {
+    let mut product: u64 = 1;
+    for count in counts {
+        product = product.saturating_mul(u64::from(*count));
+    }
+    product
+}
+
+fn cells_of(laid: &Laid) -> u64 {
+    let mut cells: u64 = 1;
+    for extent in &laid.region {
+        cells = cells.saturating_mul(u64::from(extent.count));
+    }
+    cells
+}
+
+impl Totals {
+    fn add(&mut self, laid: &Laid) {
+        self.cells = self.cells.saturating_add(cells_of(laid));
+        self.pieces = self.pieces.saturating_add(product(&laid.skeleton.grid));
+    }
+
+    fn pass_limits(&self) -> bool {
+        self.cells > MOST_CELLS || self.pieces > MOST_PIECES
+    }
+}
+
+fn has_shifted_little(alloc: Global, stored: &Stored<'_>, laid: &Laid) -> Result<bool, AllocError> {
+    let cuts = &stored.placed.cuts;
+    let numbers = loop_numbers(alloc, &stored.subject.variables, cuts, &laid.region)?;
+    Ok(has_short_shift(&numbers, cuts))
+}
+
+// Whether each index of a call of the input is shown to lie on its extents.
+fn is_on_input(alloc: Global, algo: &Algo, around: &Around<'_>, at: &[Expr]) -> Result<bool, Stop> {
+    for (index, extent) in at.iter().zip(algo.input().shape.extents.iter()) {
+        let span = interval(alloc, algo, around, index)?;
+        let extents = between(alloc, 0, i64::from(*extent) - 1)?;
+        if !is_inside(alloc, &around.scope, &span, &extents)? {
+            return Ok(false);
+        }
+    }
+    Ok(true)
+}
+
+// Whether an update's call of its own function is shown to lie in the region, where its left index is not the variable.
+fn is_in_region(
+    alloc: Global,
+    algo: &Algo,
+    around: &Around<'_>,
+    formula: &Formula,
+    laid: &Laid,
+    at: &[Expr],
+) -> Result<bool, Stop> {
+    for (place, (index, extent)) in at.iter().zip(laid.region.iter()).enumerate() {
+        if counts(Some(formula), place) {
+            let span = interval(alloc, algo, around, index)?;
+            let extents = whole(alloc, extent)?;
+            if !is_inside(alloc, &around.scope, &span, &extents)? {
+                return Ok(false);
+            }
+        }
+    }
+    Ok(true)
+}
+
+fn are_bounded(
+    alloc: Global,
+    algo: &Algo,
+    around: &Around<'_>,
+    formula: &Formula,
+    laid: &Laid,
+    own: &Name,
+    calls: &[Call<'_>],
+) -> Result<bool, Stop> {
+    for call in calls {
+        let is_bounded = if call.name == algo.input().name.as_str() {
+            is_on_input(alloc, algo, around, call.at)?
+        } else if call.name == own.as_str() {
+            is_in_region(alloc, algo, around, formula, laid, call.at)?
+        } else {
+            true
+        };
+        if !is_bounded {
+            return Ok(false);
+        }
+    }
+    Ok(true)
+}
+
+// Whether each index of the input and of the function itself is shown to lie where it may.
+fn is_bounded(
+    alloc: Global,
+    algo: &Algo,
+    stored: &Stored<'_>,
+    formulas: &[Formula],
+    laid: &Laid,
+) -> Result<bool, Stop> {
+    for (definition, formula) in formulas.iter().enumerate() {
+        let Some(nest) = laid.skeleton.nests.get(definition) else {
+            return Ok(false);
+        };
+        let around = around_store(
+            alloc,
+            algo,
+            stored,
+            &laid.skeleton,
+            nest,
+            formula,
+            definition,
+        )?;
+        let calls = calls_of(alloc, formula)?;
+        let own = &stored.subject.name;
+        if !are_bounded(alloc, algo, &around, formula, laid, own, &calls)? {
+            return Ok(false);
+        }
+    }
+    Ok(true)
+}
+
+// The rule of the lowest number that a function of this region breaks.
+fn fault_within(
+    alloc: Global,
+    algo: &Algo,
+    stored: &Stored<'_>,
+    formulas: &[Formula],
+    laid: &Laid,
+    totals: Totals,
+) -> Result<Option<RegionRule>, AllocError> {
+    if has_shifted_little(alloc, stored, laid)? {
+        return Ok(Some(RegionRule::ShortShift));
+    }
+    if totals.pass_limits() {
+        return Ok(Some(RegionRule::TooLarge));
+    }
+    match is_bounded(alloc, algo, stored, formulas, laid) {
+        Ok(true) => Ok(None),
+        Ok(false) | Err(Stop::Limit) => Ok(Some(RegionRule::Unbounded)),
+        Err(Stop::Memory) => Err(AllocError),
+    }
+}
+
+// The rule that a function breaks. Where some function is too large, no region of another one is missed.
+fn fault_of(
+    alloc: Global,
+    algo: &Algo,
+    stored: &Stored<'_>,
+    laid: &Option<Laid>,
+    has_large: bool,
+    totals: &mut Totals,
+) -> Result<Option<RegionRule>, AllocError> {
+    let Some(formulas) = &stored.formulas else {
+        return Ok(Some(RegionRule::TooLarge));
+    };
+    let Some(laid) = laid else {
+        return Ok(if has_large {
+            None
+        } else {
+            Some(RegionRule::Unbounded)
+        });
+    };
+    totals.add(laid);
+    fault_within(alloc, algo, stored, formulas, laid, *totals)
+}
+
+/// The first of so many functions, in the order of declaration, that breaks a rule, with the rule of the lowest number.
+pub(crate) fn first_fault(
+    alloc: Global,
+    algo: &Algo,
+    stored: &[Stored<'_>],
+    laid: &[Option<Laid>],
+    count: usize,
+) -> Result<Option<(RegionRule, Name)>, AllocError> {
+    let has_large = stored.iter().any(|one| one.formulas.is_none());
+    let mut totals = Totals {
+        cells: 0,
+        pieces: 0,
+    };
+    for (one, laid) in stored.iter().zip(laid.iter()).take(count) {
+        if let Some(rule) = fault_of(alloc, algo, one, laid, has_large, &mut totals)? {
+            return Ok(Some((rule, one.subject.name)));
+        }
+    }
+    Ok(None)
+}

@@ -1,0 +1,171 @@
+//! From an algorithm and a schedule to a plan and its certificate.
+
+ghost use Rattle.std.specs.Prelude.{IfOk, IfErr};
+ghost use Rattle.algo.specs.View.{algorithm_of};
+ghost use Rattle.sched.specs.View.{schedule_of};
+ghost use Rattle.sched.specs.Legal.{IsLegal};
+ghost use Rattle.lower.specs.Refused.{Answers, IsRefused, IsUnplanned};
+
+use crate::definitions::{Stored, stored_functions};
+use crate::error::{LowerError, RegionRule, Stop};
+use crate::fetching::Root;
+use crate::group::{Beginning, group_of};
+use crate::legality::first_fault;
+use crate::regions::{Laid, laid_functions};
+use algo::{Algo, Port};
+use plan::certificate::Cert;
+use plan::{Declaration, Group, Plan};
+use sched::{Placement, Sched, SchedError, followed};
+use std::alloc::{AllocError, Global};
+use tree::token::Name;
+
+/// The line of the first group of a plan.
+const FIRST_GROUP: u64 = 4;
+
+/// A plan and its certificate.
+#[derive(Drop)]
+pub struct Lowered {
+    pub plan: Plan,
+    pub certificate: Cert,
+}
+
+fn declaration(alloc: Global, port: &Port) -> Result<Declaration, AllocError> {
+    let mut extents = Vec::new(alloc);
+    for extent in &port.shape.extents {
+        extents.push(u64::from(*extent))?;
+    }
+    Ok(Declaration {
+        name: port.name.clone()?,
+        ty: port.shape.ty,
+        extents,
+    })
+}
+
+// The stored functions that have a region and definitions.
+fn roots_of<'a>(
+    alloc: Global,
+    stored: &'a [Stored<'a>],
+    laid: &'a [Option<Laid>],
+) -> Result<Vec<Root<'a>>, AllocError> {
+    let mut roots = Vec::new(alloc);
+    for (one, laid) in stored.iter().zip(laid.iter()) {
+        if let (Some(formulas), Some(laid)) = (&one.formulas, laid) {
+            roots.push(Root {
+                stored: one,
+                formulas,
+                laid,
+            })?;
+        }
+    }
+    Ok(roots)
+}
+
+fn empty_certificate(alloc: Global) -> Cert {
+    Cert {
+        own: Vec::new(alloc),
+        needs: Vec::new(alloc),
+        claims: Vec::new(alloc),
+        windows: Vec::new(alloc),
+    }
+}
+
+// The groups of all root functions, in the order of declaration, and the certificate.
+fn groups_of(
+    alloc: Global,
+    algo: &Algo,
+    roots: &[Root<'_>],
+) -> Result<(Vec<Group>, Cert), LowerError>
+    ensures { IfErr result IsUnplanned }
+{
+    let mut groups = Vec::new(alloc);
+    let mut certificate = empty_certificate(alloc);
+    let mut line = FIRST_GROUP;
+    for (number, root) in roots.iter().enumerate() {
+        let beginning = Beginning {
+            number,
+            line,
+            claim: u32::try_from(certificate.claims.len()).unwrap_or(u32::MAX),
+        };
+        let mut made = match group_of(alloc, algo, roots, root, beginning) {
+            Ok(made) => made,
+            Err(Stop::Memory) => return Err(LowerError::Memory),
+            Err(Stop::Limit) => {
+                return Err(LowerError::Broken(RegionRule::Unbounded, root.stored.subject.name));
+            }
+        };
+        line = made.line;
+        groups.push(made.group)?;
+        certificate.own.push(made.own)?;
+        certificate.needs.append(&mut made.needs)?;
+        certificate.claims.append(&mut made.claims)?;
+    }
+    Ok((groups, certificate))
+}
+
+// How many stored functions stand before the one of this name, in the order of declaration.
+fn stored_before(placement: &Placement, name: &Name) -> usize {
+    let mut count: usize = 0;
+    for subject in &placement.subjects {
+        if subject.name.as_str() == name.as_str() {
+            return count;
+        }
+        if subject.is_stored {
+            count = count.saturating_add(1);
+        }
+    }
+    count
+}
+
+// How many stored functions are asked what they break: those before the first that breaks a rule which asks for no region.
+fn asked(placement: &Placement, stored: usize) -> usize {
+    match &placement.fault {
+        Some((_, name)) => stored_before(placement, name),
+        None => stored,
+    }
+}
+
+// The plan of roots that break no rule.
+fn planned(alloc: Global, algo: &Algo, roots: &[Root<'_>]) -> Result<Lowered, LowerError>
+    ensures { IfErr result IsUnplanned }
+{
+    let (groups, certificate) = groups_of(alloc, algo, roots)?;
+    let plan = Plan {
+        name: String::from_str(alloc, algo.name())?,
+        input: declaration(alloc, algo.input())?,
+        output: declaration(alloc, algo.output())?,
+        groups,
+    };
+    Ok(Lowered { plan, certificate })
+}
+
+// The plan of a placement, unless some function breaks a rule: the first, in the order of declaration, is told.
+fn plan_placed(alloc: Global, algo: &Algo, placement: &Placement) -> Result<Lowered, LowerError>
+    ensures { Answers placement.now.fault result }
+{
+    let stored = stored_functions(alloc, algo, placement)?;
+    let laid = laid_functions(alloc, algo, &stored)?;
+    let count = asked(placement, stored.len());
+    if let Some((rule, name)) = first_fault(alloc, algo, &stored, &laid, count)? {
+        return Err(LowerError::Broken(rule, name));
+    }
+    if let Some((rule, name)) = placement.fault {
+        return Err(LowerError::Schedule(SchedError::Broken(rule, name)));
+    }
+    let roots = roots_of(alloc, &stored, &laid)?;
+    planned(alloc, algo, &roots)
+}
+
+/// The plan that a schedule makes of an algorithm, and its certificate: one group for each root function in the order of
+/// declaration, whose pieces are the turns of its parallel loops. The plan is not checked here.
+///
+/// # Errors
+/// `Schedule` with the first directive that breaks one of L1 to L5, as `sched::followed` tells it. Then, function by function
+/// in the order of declaration, the lowest rule that the function breaks: `Schedule` with L4, L5, L8 or L10, `Broken` with L8
+/// over fewer points than the factor, L11 or L12. `Memory`.
+pub fn lower(alloc: Global, algo: &Algo, sched: &Sched) -> Result<Lowered, LowerError>
+    ensures legal { IfOk result (λ _. IsLegal (algorithm_of algo.now) (schedule_of sched.now)) }
+    ensures refused { IfErr result (IsRefused (algorithm_of algo.now) (schedule_of sched.now)) }
+{
+    let placement = followed(alloc, algo, sched)?;
+    plan_placed(alloc, algo, &placement)
+}

@@ -1,0 +1,53 @@
+//! The command that compiles a schedule to a plan file.
+
+ghost use Rattle.std.specs.Prelude.{IfErr, IfOk, OnOk};
+ghost use Rattle.sched.specs.View.{schedule_of};
+ghost use Rattle.tool.specs.Asked.{compile_asked};
+ghost use Rattle.tool.specs.Compiles.{HasScheduleFile, IsDone, IsRefused, IsScheduleFault};
+ghost use Rattle.tool.specs.Files.{SameFiles};
+
+use crate::device::Files;
+use crate::picture::algorithm_in;
+use crate::pipeline::{Fault, compile, read_schedule};
+use crate::request::CompileRequest;
+use pnm::PnmError;
+use sched::Sched;
+use std::alloc::Global;
+use std::str;
+use std::thread::Threads;
+
+/// Reads a schedule's file.
+fn schedule_in<F: Files>(alloc: Global, files: &mut F, name: &str) -> Result<Sched, Fault>
+    ensures same { SameFiles (F.contents files.old) (F.contents files.new) }
+    ensures said { IfOk result (λ sched. HasScheduleFile (F.contents files.old) name.now (schedule_of sched)) }
+    ensures refused { IfErr result (IsScheduleFault (F.contents files.old) name.now) }
+{
+    let bytes = files.get(alloc, name)?;
+    match str::from_utf8(bytes.as_slice()) {
+        Ok(text) => read_schedule(alloc, text),
+        Err(_) => Err(Fault::Image(PnmError::Device)),
+    }
+}
+
+/// Compiles a schedule to a plan file, which is checked against the algorithm and written last, after everything else has
+/// succeeded.
+///
+/// # Errors
+/// The first refusal: of the algorithm's text, of the schedule's, of the schedule for the algorithm, and of the plan by the
+/// checker; a text that is not UTF-8 is one of the device.
+pub(crate) fn compile_command<T: Threads + Sync, F: Files>(
+    rt: &T,
+    alloc: Global,
+    files: &mut F,
+    request: &CompileRequest<'_>,
+) -> Result<(), Fault>
+    ensures done { OnOk result (IsDone (F.contents files.old) (F.contents files.new) (compile_asked request.now)) }
+    ensures refused { IfErr result (IsRefused (F.contents files.old) (F.contents files.new) (compile_asked request.now)) }
+{
+    let text = files.get(alloc, request.algorithm)?;
+    let algo = algorithm_in(alloc, text.as_slice())?;
+    let sched = schedule_in(alloc, files, request.schedule)?;
+    let file = compile(rt, alloc, &algo, &sched)?;
+    files.put(request.plan, file.as_bytes())?;
+    Ok(())
+}

@@ -1,0 +1,194 @@
+#!/usr/bin/env python3
+"""Compiles random schedules of the algorithms in tests/schedules/ on a built program, and compares the pictures.
+
+    python3 tests/schedules.py PROGRAM [COUNT [SEED]]
+
+Half of the schedules split each dimension at most once and no inner loop of a split is parallel: of these each one that
+keeps the rules of schedules has to be compiled. The others split loops again and make any outermost loops parallel: what is
+compiled of them has to be right, and what the checker refuses is counted by its code. A plan that was compiled is checked
+again, run by one worker and by three, and its picture is that of `plain`.
+"""
+
+import random
+import re
+import subprocess
+import sys
+import tempfile
+from collections import Counter
+from concurrent.futures import ThreadPoolExecutor
+from dataclasses import dataclass, field
+from pathlib import Path
+
+ALGORITHMS = Path(__file__).resolve().parent / "schedules"
+FACTORS = [1, 2, 2, 3, 4, 4, 5, 7, 8]
+TAILS = ["guard", "roundup", "shift"]
+
+
+@dataclass
+class Function:
+    """A function of an algorithm, as its text declares it."""
+
+    name: str
+    variables: list
+
+
+@dataclass
+class Loops:
+    """The loops of a function while directives are made up for it, the innermost first."""
+
+    names: list
+    inner: dict = field(default_factory=dict)
+    directives: list = field(default_factory=list)
+
+
+def functions(text):
+    """The functions of an algorithm's text, in the order of declaration."""
+    found = re.findall(r"\bfunc\s+(\w+)\s+\w+\s*\(([^)]*)\)", text)
+    return [Function(name, [one.strip() for one in variables.split(",")]) for name, variables in found]
+
+
+def raster(text, chance):
+    """A PGM or PPM file for the input of an algorithm."""
+    extents = [int(one) for one in re.search(r"\binput\s+\w+\s+u8\s*\[([^\]]*)\]", text)[1].split(",")]
+    width, height, channels = (extents + [1, 1])[:3] if len(extents) < 3 else extents
+    samples = bytes(chance.randrange(256) for _ in range(width * height * channels))
+    return b"%s\n%d %d\n255\n" % (b"P6" if len(extents) == 3 else b"P5", width, height) + samples
+
+
+# ---- schedules ----
+
+
+def split(chance, loops, candidates, fresh):
+    """Splits one of the candidates."""
+    name = chance.choice(candidates)
+    number = next(fresh)
+    outer, inner = f"outer{number}", f"inner{number}"
+    factor, tail = chance.choice(FACTORS), chance.choice(TAILS)
+    loops.directives.append(f"split({name}, {outer}, {inner}, {factor}, {tail})")
+    place = loops.names.index(name)
+    loops.names[place:place + 1] = [inner, outer]
+    loops.inner.pop(name, None)
+    loops.inner[inner] = factor
+
+
+def reorder(chance, loops):
+    """Changes the places of some loops."""
+    some = chance.sample(loops.names, chance.randint(2, len(loops.names)))
+    places = sorted(loops.names.index(name) for name in some)
+    for place, name in zip(places, some):
+        loops.names[place] = name
+    loops.directives.append("reorder(" + ", ".join(some) + ")")
+
+
+def outermost(loops, core):
+    """The loops that may be parallel, the outermost first."""
+    found = []
+    for name in reversed(loops.names):
+        if core and name in loops.inner:
+            break
+        found.append(name)
+    return found
+
+
+def directives(chance, function, is_output, core, fresh):
+    """Directives for a function; none of them leaves it to be put in."""
+    loops = Loops(list(function.variables))
+    is_root = is_output or chance.random() < 0.75
+    if is_root and not is_output:
+        loops.directives.append("compute_root()")
+    for _ in range(3):
+        candidates = [one for one in loops.names if not core or one in function.variables]
+        if candidates and chance.random() < 0.5:
+            split(chance, loops, candidates, fresh)
+    if len(loops.names) > 1 and chance.random() < 0.6:
+        reorder(chance, loops)
+    marked = set()
+    if is_root and chance.random() < 0.6:
+        marked = set(outermost(loops, core)[:chance.randint(1, len(loops.names))])
+        loops.directives += [f"parallel({name})" for name in loops.names if name in marked]
+    loops.directives += [f"unroll({name})" for name in loops.inner if name not in marked and chance.random() < 0.15]
+    return loops.directives
+
+
+def schedule(chance, text, core):
+    """A random schedule of an algorithm."""
+    fresh = iter(range(1, 1000))
+    declared = functions(text)
+    parts = []
+    for function in declared:
+        made = directives(chance, function, function is declared[-1], core, fresh)
+        if made:
+            parts.append(function.name + "." + ".".join(made) + ";")
+    chance.shuffle(parts)
+    return " ".join(parts)
+
+
+# ---- runs ----
+
+
+def run(program, folder, *words):
+    """One run of the program."""
+    return subprocess.run([program, *words], cwd=folder, capture_output=True, timeout=120)
+
+
+def plain_picture(program, text, image):
+    """The picture that the algorithm says of an image."""
+    with tempfile.TemporaryDirectory() as folder:
+        Path(folder, "a.alg").write_text(text)
+        Path(folder, "in").write_bytes(image)
+        told = run(program, folder, "plain", "a.alg", "in", "out")
+        if told.returncode != 0:
+            raise SystemExit(f"plain: {told.stderr.decode().strip()}: {text}")
+        return Path(folder, "out").read_bytes()
+
+
+def outcome(program, text, image, picture, made, core):
+    """What came of a schedule, and whether that is right."""
+    with tempfile.TemporaryDirectory() as folder:
+        Path(folder, "a.alg").write_text(text)
+        Path(folder, "a.sched").write_text(made)
+        Path(folder, "in").write_bytes(image)
+        told = run(program, folder, "compile", "a.alg", "a.sched", "a.plan")
+        if told.returncode != 0 or told.stdout or told.stderr:
+            code = told.stderr.decode().split()[1:2] or ["nothing"]
+            is_right = not Path(folder, "a.plan").exists() and (
+                (told.returncode == 3 and code[0][0] == "L")
+                or (told.returncode == 1 and code[0][0] == "K" and (not core or code[0] == "K14")))
+            return code[0], is_right
+        if run(program, folder, "check", "a.alg", "a.plan").returncode != 0:
+            return "compiled, not accepted", False
+        for workers in ("1", "3"):
+            told = run(program, folder, "run", "a.alg", "a.plan", "in", "out", "--workers", workers)
+            if told.returncode != 0 or Path(folder, "out").read_bytes() != picture:
+                return f"another picture by {workers}", False
+        return "compiled", True
+
+
+def main():
+    program, count, seed = str(Path(sys.argv[1]).resolve()), int((sys.argv + ["", "500"])[2] or 500), 1
+    if len(sys.argv) > 3:
+        seed = int(sys.argv[3])
+    chance = random.Random(seed)
+    texts = [path.read_text() for path in sorted(ALGORITHMS.glob("*.alg"))]
+    images = [raster(text, chance) for text in texts]
+    pictures = [plain_picture(program, text, image) for text, image in zip(texts, images)]
+    tries = []
+    for number in range(count):
+        which = chance.randrange(len(texts))
+        core = number % 2 == 0
+        tries.append((texts[which], images[which], pictures[which], schedule(chance, texts[which], core), core))
+    with ThreadPoolExecutor() as pool:
+        found = list(pool.map(lambda one: outcome(program, *one), tries))
+    for (code, is_right), (text, _, _, made, core) in zip(found, tries):
+        if not is_right:
+            print(f"{code}: {made}\n    {text.strip()}")
+    for is_core, kind in ((True, "split once"), (False, "split again")):
+        told = Counter(code for (code, _), one in zip(found, tries) if one[4] == is_core)
+        print(f"{kind}: " + ", ".join(f"{code} {n}" for code, n in sorted(told.items())))
+    failed = sum(not is_right for _, is_right in found)
+    print(f"{len(found) - failed} passed, {failed} failed")
+    sys.exit(1 if failed else 0)
+
+
+if __name__ == "__main__":
+    main()
