@@ -166,15 +166,27 @@ fn all_moved(alloc: Global, by: &Lin, forms: &[Lin]) -> Result<Vec<Lin>, Stop> {
     Ok(made)
 }
 
+// The last number, where it cuts what a piece owns.
+fn own_last(own: &Numbers, cut: &Split) -> Option<i64> {
+    if is_uneven(own, cut) {
+        Some(last_of(own))
+    } else {
+        None
+    }
+}
+
+// The last number, where it cuts what claims speak of: not where blocks are computed past the end.
+fn claim_last(own: &Numbers, cut: &Split) -> Option<i64> {
+    match cut.tail {
+        Tail::Guard | Tail::Shift => own_last(own, cut),
+        Tail::Roundup => None,
+    }
+}
+
 // With the last number of a loop, where that counts.
-fn with_last(
-    alloc: Global,
-    limits: Vec<Lin>,
-    counts: bool,
-    last: i64,
-) -> Result<Vec<Lin>, AllocError> {
+fn with_last(alloc: Global, limits: Vec<Lin>, last: Option<i64>) -> Result<Vec<Lin>, AllocError> {
     let mut limits = limits;
-    if counts {
+    if let Some(last) = last {
         limits.push(Lin::number(alloc, last))?;
     }
     Ok(limits)
@@ -231,15 +243,12 @@ fn blocks_of(
 ) -> Result<Part, Stop> {
     let own = numbers_named(lay.numbers, &cut.whole);
     let factor = factor_of(cut);
-    let low = low_of(&own);
-    let block_end = low.saturating_add(factor.saturating_sub(1));
-    let is_uneven = is_uneven(&own, cut);
-    let is_cut = is_uneven && cut.tail != Tail::Roundup;
-    let start = multiple_from(alloc, low, factor, &outer.start)?;
+    let block_end = low_of(&own).saturating_add(factor.saturating_sub(1));
+    let start = multiple_from(alloc, low_of(&own), factor, &outer.start)?;
     let own_limits = all_stepped(alloc, block_end, factor, &outer.own_limits)?;
-    let own_limits = with_last(alloc, own_limits, is_uneven, last_of(&own))?;
+    let own_limits = with_last(alloc, own_limits, own_last(&own, cut))?;
     let claim_limits = all_stepped(alloc, block_end, factor, &outer.claim_limits)?;
-    let claim_limits = with_last(alloc, claim_limits, is_cut, last_of(&own))?;
+    let claim_limits = with_last(alloc, claim_limits, claim_last(&own, cut))?;
     let origin = origin_over(alloc, lay, cut, &own, outer)?;
     let inner_end = end_of(lay.numbers, &cut.inner, rest);
     Ok(Part::Block(Block {
@@ -252,19 +261,33 @@ fn blocks_of(
     }))
 }
 
+// Whether more numbers are visited of a loop than it has.
+fn overruns(lay: &Lay<'_>, name: &Name, cuts: &[Split]) -> bool {
+    end_of(lay.numbers, name, cuts) > last_of(&numbers_named(lay.numbers, name))
+}
+
+// Whether a guard keeps the numbers of a split loop within it.
+fn is_guarded(lay: &Lay<'_>, cut: &Split, rest: &[Split], own: &Numbers) -> bool {
+    cut.tail == Tail::Guard
+        && (is_uneven(own, cut)
+            || overruns(lay, &cut.outer, rest)
+            || overruns(lay, &cut.inner, rest))
+}
+
 // Where a piece begins to visit a part of one block. A guard over the grid alone has a let behind it, which no form tells.
 fn origin_within(
     alloc: Global,
     lay: &Lay<'_>,
     cut: &Split,
-    own: &Numbers,
+    rest: &[Split],
     outer: &Block,
     inner: &Block,
 ) -> Result<Option<Lin>, Stop> {
-    if cut.tail == Tail::Guard && is_uneven(own, cut) {
+    let own = numbers_named(lay.numbers, &cut.whole);
+    if is_guarded(lay, cut, rest, &own) {
         return Ok(None);
     }
-    match (origin_over(alloc, lay, cut, own, outer)?, &inner.origin) {
+    match (origin_over(alloc, lay, cut, &own, outer)?, &inner.origin) {
         (Some(begun), Some(origin)) => {
             let made = begun.plus_multiple(alloc, 1, origin)?;
             Ok(Some(made))
@@ -273,24 +296,45 @@ fn origin_within(
     }
 }
 
+// The further upper ends of a part of one block: those of the part, those of the blocks, and the last number where that counts.
+fn limits_within(
+    alloc: Global,
+    base: &Lin,
+    inner: &[Lin],
+    blocks: Vec<Lin>,
+    last: Option<i64>,
+) -> Result<Vec<Lin>, Stop> {
+    let mut limits = all_moved(alloc, base, inner)?;
+    let mut blocks = blocks;
+    limits.append(&mut blocks)?;
+    Ok(with_last(alloc, limits, last)?)
+}
+
 // A part of one block of a split loop.
 fn block_within(
     alloc: Global,
     lay: &Lay<'_>,
     cut: &Split,
+    rest: &[Split],
     outer: &Block,
     inner: &Block,
 ) -> Result<Part, Stop> {
     let own = numbers_named(lay.numbers, &cut.whole);
-    let is_uneven = is_uneven(&own, cut);
-    let is_cut = is_uneven && cut.tail != Tail::Roundup;
-    let base = multiple_from(alloc, low_of(&own), factor_of(cut), &outer.start)?;
+    let factor = factor_of(cut);
+    let block_end = low_of(&own).saturating_add(factor.saturating_sub(1));
+    let base = multiple_from(alloc, low_of(&own), factor, &outer.start)?;
     let start = base.plus_multiple(alloc, 1, &inner.start)?;
-    let own_limits = all_moved(alloc, &base, &inner.own_limits)?;
-    let own_limits = with_last(alloc, own_limits, is_uneven, last_of(&own))?;
-    let claim_limits = all_moved(alloc, &base, &inner.claim_limits)?;
-    let claim_limits = with_last(alloc, claim_limits, is_cut, last_of(&own))?;
-    let origin = origin_within(alloc, lay, cut, &own, outer, inner)?;
+    let blocks = all_stepped(alloc, block_end, factor, &outer.own_limits)?;
+    let own_limits = limits_within(alloc, &base, &inner.own_limits, blocks, own_last(&own, cut))?;
+    let blocks = all_stepped(alloc, block_end, factor, &outer.claim_limits)?;
+    let claim_limits = limits_within(
+        alloc,
+        &base,
+        &inner.claim_limits,
+        blocks,
+        claim_last(&own, cut),
+    )?;
+    let origin = origin_within(alloc, lay, cut, rest, outer, inner)?;
     Ok(Part::Block(Block {
         start,
         length: inner.length,
@@ -315,7 +359,7 @@ fn joined(
         (Part::Block(outer), Part::Whole) => blocks_of(alloc, lay, cut, rest, outer),
         (Part::Block(outer), Part::Block(inner)) => {
             if outer.length == 1 {
-                block_within(alloc, lay, cut, outer, inner)
+                block_within(alloc, lay, cut, rest, outer, inner)
             } else {
                 Ok(Part::Scattered)
             }
