@@ -50,7 +50,7 @@ def functions(text):
 def raster(text, chance):
     """A PGM or PPM file for the input of an algorithm."""
     extents = [int(one) for one in re.search(r"\binput\s+\w+\s+u8\s*\[([^\]]*)\]", text)[1].split(",")]
-    width, height, channels = (extents + [1, 1])[:3] if len(extents) < 3 else extents
+    width, height, channels = (extents + [1, 1])[:3]
     samples = bytes(chance.randrange(256) for _ in range(width * height * channels))
     return b"%s\n%d %d\n255\n" % (b"P6" if len(extents) == 3 else b"P5", width, height) + samples
 
@@ -165,9 +165,9 @@ def outcome(program, text, image, picture, made, core):
 
 
 def main():
-    program, count, seed = str(Path(sys.argv[1]).resolve()), int((sys.argv + ["", "500"])[2] or 500), 1
-    if len(sys.argv) > 3:
-        seed = int(sys.argv[3])
+    program = str(Path(sys.argv[1]).resolve())
+    count = int(sys.argv[2]) if len(sys.argv) > 2 else 500
+    seed = int(sys.argv[3]) if len(sys.argv) > 3 else 1
     chance = random.Random(seed)
     texts = [path.read_text() for path in sorted(ALGORITHMS.glob("*.alg"))]
     images = [raster(text, chance) for text in texts]

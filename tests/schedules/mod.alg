@@ -1,3 +1,4 @@
+# Remainders as coordinates.
 pipeline mod;
 input in u8 [8, 6];
 func f u8 (x, y) = in[x % 8, y % 6];

@@ -1,3 +1,4 @@
+# A running sum along a line.
 pipeline scan;
 input in u8 [9];
 func s u8 (x) = in[clamp(x, 0, 8)];
