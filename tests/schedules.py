@@ -7,6 +7,10 @@ Half of the schedules split each dimension at most once and no inner loop of a s
 keeps the rules of schedules has to be compiled. The others split loops again and make any outermost loops parallel: what is
 compiled of them has to be right, and what the checker refuses is counted by its code. A plan that was compiled is checked
 again, run by one worker and by three, and its picture is that of `plain`.
+
+What is made up breaks L5, L8 and L10 alone, and a refusal by one of them is taken only where the schedule's text gives cause:
+an update and a parallel loop, `shift` (over fewer points than the factor, where the text tells how many), an update that is
+not stored. Any other rule that is told is a failure, and so is a plan of a schedule whose text breaks one.
 """
 
 import random
@@ -123,6 +127,55 @@ def schedule(chance, text, core):
     return " ".join(parts)
 
 
+# ---- what the text breaks ----
+
+
+def directives_of(made, function):
+    """The directives that a random schedule has of a function."""
+    for statement in made.split("; "):
+        name, _, rest = statement.rstrip(";").partition(".")
+        if name == function:
+            return rest
+    return ""
+
+
+def has_updates(text, function):
+    """Whether an algorithm's text has an update of a function."""
+    return re.search(rf"\bupdate\s+{function}\b", text) is not None
+
+
+def is_stored(text, made, function):
+    """Whether a function is the output or has a `compute_root`."""
+    return re.search(rf"\boutput\s+{function}\b", text) is not None or "compute_root()" in directives_of(made, function)
+
+
+def is_short(text, made, function):
+    """Whether `shift` may go over fewer points than its factor; of the output's variables the text tells how many there are."""
+    cuts = re.findall(r"split\((\w+), \w+, \w+, (\d+), shift\)", directives_of(made, function))
+    variables = next((one.variables for one in functions(text) if one.name == function), [])
+    output = re.search(rf"\boutput\s+{function}\s*\[([^\]]*)\]", text)
+    extents = dict(zip(variables, map(int, output[1].split(",")))) if output else {}
+    return any(extents.get(name, 0) < int(factor) for name, factor in cuts)
+
+
+def has_cause(text, made, code, function):
+    """Whether a schedule's text gives cause to refuse a function by a rule."""
+    said = directives_of(made, function)
+    if code == "L5":
+        return has_updates(text, function) and "parallel(" in said
+    if code == "L8":
+        return ("shift" in said and has_updates(text, function)) or is_short(text, made, function)
+    return code == "L10" and has_updates(text, function) and not is_stored(text, made, function)
+
+
+def breaks_rule(text, made):
+    """Whether a schedule surely breaks L8 or L10."""
+    return any(
+        has_updates(text, one.name)
+        and ("shift" in directives_of(made, one.name) or not is_stored(text, made, one.name))
+        for one in functions(text))
+
+
 # ---- runs ----
 
 
@@ -150,11 +203,13 @@ def outcome(program, text, image, picture, made, core):
         Path(folder, "in").write_bytes(image)
         told = run(program, folder, "compile", "a.alg", "a.sched", "a.plan")
         if told.returncode != 0 or told.stdout or told.stderr:
-            code = told.stderr.decode().split()[1:2] or ["nothing"]
+            code, place = (told.stderr.decode().split() + ["", "", ""])[1:3]
             is_right = not Path(folder, "a.plan").exists() and (
-                (told.returncode == 3 and code[0][0] == "L")
-                or (told.returncode == 1 and code[0][0] == "K" and (not core or code[0] == "K14")))
-            return code[0], is_right
+                (told.returncode == 3 and has_cause(text, made, code, place))
+                or (told.returncode == 1 and code[:1] == "K" and (not core or code == "K14")))
+            return code, is_right
+        if breaks_rule(text, made):
+            return "compiled, against a rule", False
         if run(program, folder, "check", "a.alg", "a.plan").returncode != 0:
             return "compiled, not accepted", False
         for workers in ("1", "3"):
