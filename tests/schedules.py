@@ -110,6 +110,9 @@ def directives(chance, function, is_output, core, fresh):
     if is_root and chance.random() < 0.6:
         marked = set(outermost(loops, core)[:chance.randint(1, len(loops.names))])
         loops.directives += [f"parallel({name})" for name in loops.names if name in marked]
+    if loops.names[0] in loops.inner and loops.names[0] not in marked and chance.random() < 0.3:
+        marked.add(loops.names[0])
+        loops.directives.append(f"vectorize({loops.names[0]})")
     loops.directives += [f"unroll({name})" for name in loops.inner if name not in marked and chance.random() < 0.15]
     return loops.directives
 

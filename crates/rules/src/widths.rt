@@ -1,4 +1,4 @@
-//! Whether stores' coordinates, and the symbols that other forms name, are shown to be small numbers, and unrolled loops short.
+//! Whether stores' coordinates, and the symbols that other forms name, are shown to be small numbers, and marked loops short.
 
 mod near;
 mod short;

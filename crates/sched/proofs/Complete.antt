@@ -34,7 +34,7 @@ keyword_reads word.Split rest h = refl
 keyword_reads word.Tile rest h = refl
 keyword_reads word.Reorder rest h = refl
 keyword_reads word.Unroll rest h = refl
-keyword_reads word.Vectorize rest h = absurd cc
+keyword_reads word.Vectorize rest h = refl
 keyword_reads word.Parallel rest h = refl
 
 tail_reads : (t : Tail) (rest : List Token) → tail (tail_then t rest) ≡ Ok (t, rest)

@@ -9,6 +9,7 @@ use Rattle.sched.specs.declared.placing.Loop.{Loop}
 use Rattle.sched.specs.declared.numbers.Numbers.{Numbers}
 use Rattle.sched.specs.declared.skeleton.Step.{Step}
 use Rattle.sched.specs.declared.skeleton.Known.{Known}
+use Rattle.sched.specs.declared.skeleton.Within.{Within}
 use Rattle.sched.specs.declared.nest.Turning.{Turning}
 use Rattle.sched.specs.Placing.{is_parallel}
 use Rattle.sched.specs.Numbers.{numbers_named, parallel_loops}
@@ -51,7 +52,7 @@ pub variable_at_next : (b : BodyText) (xs : List (List ℕ)) (ks : List Known) (
 variable_at_next b xs ks i d lt h = rw (drop-cons xs i d lt, add-one, h) refl
 
 -- the next split is settled
-pub settle_next : (h : Bool) (rs : List Numbers) (all cs : List Split) (st : StandingText) (i : ℕ) (d : Split) → i < length cs →
+pub settle_next : (h : Within) (rs : List Numbers) (all cs : List Split) (st : StandingText) (i : ℕ) (d : Split) → i < length cs →
     settle_some h rs all (drop i cs) st ≡ (begin (get_or cs i d) (numbers_named rs (get_or cs i d).whole) st >>= λ begun. join h (is_guarded rs all (get_or cs i d)) (get_or cs i d) (numbers_named rs (get_or cs i d).whole) begun >>= settle_some h rs all (drop (i + 1) cs))
 settle_next h rs all cs st i d lt = rw (drop-cons cs i d lt, add-one i) refl
 

@@ -20,6 +20,8 @@ use Rattle.sched.specs.Numbers.{numbers_named, last_number, loop_numbers, parall
 use Rattle.sched.specs.declared.skeleton.Step.{Step}
 use Rattle.sched.specs.declared.skeleton.Step.TheVariants.{Turns}
 use Rattle.sched.specs.declared.skeleton.Known.{Known}
+use Rattle.sched.specs.declared.skeleton.Within.{Within}
+use Rattle.sched.specs.declared.skeleton.Within.TheVariants as within
 use Rattle.sched.specs.declared.skeleton.SkeletonError.{SkeletonError}
 use Rattle.sched.specs.declared.skeleton.SkeletonError.TheVariants as error
 use Rattle.sched.specs.declared.nest.Turning.{Turning}
@@ -54,9 +56,15 @@ enter x st = is_now x (alone st.next) (record st { bound = st.bound ++ st.next �
 abbrev pub leave : List Step → ℕ → Turning → StandingText → StandingText
 leave steps s t inside = record inside { steps = steps ++ Turns s (span t.low t.last inside.limits) t.kind ∷ inside.steps; limits = [] }
 
+-- inside a loop of the nest
+abbrev pub inside : Kind → Within
+inside Serial = within.Nest
+inside Unroll = within.Nest
+inside Vector = within.Lanes
+
 -- a loop, and inside it what stands by it
 abbrev pub turn : List Numbers → List Split → Turning → StandingText → Option StandingText
-turn rs cs t st = settle false rs cs (enter t.name st) >>= λ inside. Some (leave st.steps st.next t inside)
+turn rs cs t st = settle (inside t.kind) rs cs (enter t.name st) >>= λ turned. Some (leave st.steps st.next t turned)
 
 -- each inside the one before
 abbrev pub turn_all : List Numbers → List Split → List Turning → StandingText → Option StandingText
@@ -131,7 +139,7 @@ begun next st = record st { next = next; steps = [] }
 abbrev pub nest_in : List (List ℕ) → PlacedText → List Numbers → BodyText → StandingText → Option StandingText
 nest_in xs p rs b st =
     let cs = cuts_by_variable p.cuts (kept_from b 0 xs) in
-    settle false rs cs st >>= turn_all rs cs (nest_turns b rs p.loops)
+    settle within.Nest rs cs st >>= turn_all rs cs (nest_turns b rs p.loops)
 
 abbrev pub nest_of : List (List ℕ) → BodyText → StandingText → NestText
 nest_of xs b st = record { steps = st.steps; at = variables_at b 0 xs st.known ++ ranges_at b.ranges st.known }
@@ -165,7 +173,7 @@ over_grid rs p = record { known = grid_forms rs 0 (parallel_loops p.loops); star
 abbrev pub skeleton_in : List (List ℕ) → List BodyText → PlacedText → List Extent → Option SkeletonText
 skeleton_in xs bs p region =
     let rs = loop_numbers xs p.cuts region in
-    settle true rs (cuts_by_variable p.cuts xs) (over_grid rs p) >>= λ head.
+    settle within.Grid rs (cuts_by_variable p.cuts xs) (over_grid rs p) >>= λ head.
     nests_in xs p rs head bs head.next >>= λ nests.
     Some (record { grid = piece_counts rs p.loops; head = head.steps; nests = nests; known = head.known; starts = head.starts })
 

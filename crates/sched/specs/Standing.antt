@@ -17,6 +17,8 @@ use Rattle.sched.specs.declared.skeleton.Step.{Step}
 use Rattle.sched.specs.declared.skeleton.Step.TheVariants.{Named, Tested}
 use Rattle.sched.specs.declared.skeleton.Known.{Known}
 use Rattle.sched.specs.declared.skeleton.Standing.{Standing}
+use Rattle.sched.specs.declared.skeleton.Within.{Within}
+use Rattle.sched.specs.declared.skeleton.Within.TheVariants as within
 use Rattle.sched.specs.declared.skeleton.SkeletonError.{SkeletonError}
 use Rattle.sched.specs.declared.skeleton.SkeletonError.TheVariants as error
 use Rattle.sched.specs.Numbers.{numbers_named, last_number}
@@ -125,34 +127,41 @@ keep_by_loop x form last s st = combined (number last) (negsuc 0) (without form 
 abbrev pub keep_by_guard : List ℕ → Form → ℤ → StandingText → StandingText
 keep_by_guard x form last st = is_now x (alone st.next) (name_smaller form last (test form last st))
 
--- a number within the loop that was split: by a further upper form of the innermost loop, or by a guard and a let behind it
-abbrev pub keep_within : List ℕ → Form → ℤ → StandingText → Option ℕ → Option StandingText
-keep_within x form last st (Some s) = keep_by_loop x form last s st
-keep_within x form last st None = Some (keep_by_guard x form last st)
+-- a guard alone
+abbrev pub keep_by_test : List ℕ → Form → ℤ → StandingText → StandingText
+keep_by_test x form last st = is_now x form (test form last st)
 
--- the position in the loop that was split; no guard stands over the grid alone in the head
-abbrev pub put_together : Bool → Bool → Split → Numbers → Form → StandingText → Option StandingText
-put_together in_head guarded c r form st =
-    if not guarded then Some (is_now c.whole form st)
-    else (if in_head then Some st else keep_within c.whole form (last_number r) st (innermost st.bound form))
+-- a number within the loop that was split: by a further upper form of the innermost loop, or by a guard with a let behind it, but
+-- that no let stands in a vectorised loop; over the grid alone neither stands
+abbrev pub keep_within : Within → List ℕ → Form → ℤ → StandingText → Option ℕ → Option StandingText
+keep_within within.Grid x form last st s = Some st
+keep_within within.Nest x form last st (Some s) = keep_by_loop x form last s st
+keep_within within.Nest x form last st None = Some (keep_by_guard x form last st)
+keep_within within.Lanes x form last st (Some s) = keep_by_loop x form last s st
+keep_within within.Lanes x form last st None = Some (keep_by_test x form last st)
 
-abbrev pub join_over : Bool → Bool → Split → Numbers → Option Form → Option Form → StandingText → Option StandingText
-join_over in_head guarded c r (Some start) (Some inner) st = combined start (pos 1) inner >>= λ form. put_together in_head guarded c r form st
-join_over in_head guarded c r _ _ st = Some st
+-- the position in the loop that was split
+abbrev pub put_together : Within → Bool → Split → Numbers → Form → StandingText → Option StandingText
+put_together w guarded c r form st =
+    if not guarded then Some (is_now c.whole form st) else keep_within w c.whole form (last_number r) st (innermost st.bound form)
+
+abbrev pub join_over : Within → Bool → Split → Numbers → Option Form → Option Form → StandingText → Option StandingText
+join_over w guarded c r (Some start) (Some inner) st = combined start (pos 1) inner >>= λ form. put_together w guarded c r form st
+join_over w guarded c r _ _ st = Some st
 
 -- the position stands as soon as the block's first number and the inner loop do
-abbrev pub join : Bool → Bool → Split → Numbers → StandingText → Option StandingText
-join in_head guarded c r st = elim (form_named st.known c.whole) [ Some form ↦ Some st | None ↦ join_over in_head guarded c r (form_named st.starts c.whole) (form_named st.known c.inner) st ]
+abbrev pub join : Within → Bool → Split → Numbers → StandingText → Option StandingText
+join w guarded c r st = elim (form_named st.known c.whole) [ Some form ↦ Some st | None ↦ join_over w guarded c r (form_named st.starts c.whole) (form_named st.known c.inner) st ]
 
 -- whatever stands by some of all the splits is named, guarded and put together
-abbrev pub settle_some : Bool → List Numbers → List Split → List Split → StandingText → Option StandingText
-settle_some in_head rs all [] st = Some st
-settle_some in_head rs all (c ∷ cs) st =
-    let r = numbers_named rs c.whole in begin c r st >>= λ begun. join in_head (is_guarded rs all c) c r begun >>= settle_some in_head rs all cs
+abbrev pub settle_some : Within → List Numbers → List Split → List Split → StandingText → Option StandingText
+settle_some w rs all [] st = Some st
+settle_some w rs all (c ∷ cs) st =
+    let r = numbers_named rs c.whole in begin c r st >>= λ begun. join w (is_guarded rs all c) c r begun >>= settle_some w rs all cs
 
 -- and by all of them
-abbrev pub settle : Bool → List Numbers → List Split → StandingText → Option StandingText
-settle in_head rs cs st = settle_some in_head rs cs cs st
+abbrev pub settle : Within → List Numbers → List Split → StandingText → Option StandingText
+settle w rs cs st = settle_some w rs cs cs st
 
 -- ---- splits, in the order in which what they make stands
 

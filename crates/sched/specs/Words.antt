@@ -28,7 +28,7 @@ abbrev pub is_offered : Keyword → Bool
 is_offered word.ComputeAt = false
 is_offered word.StoreAt = false
 is_offered word.Fold = false
-is_offered word.Vectorize = false
+is_offered word.Vectorize = true
 is_offered word.ComputeRoot = true
 is_offered word.Split = true
 is_offered word.Tile = true

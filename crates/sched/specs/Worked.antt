@@ -5,7 +5,7 @@ use Rattle.numeric.specs.declared.ty.Ty.TheVariants.{U8, I32}
 use Rattle.tree.specs.Term.{Term, Number, Name}
 use Rattle.lin.specs.Forms.{Form, number}
 use Rattle.lin.specs.declared.span.Span1.{Span1}
-use Rattle.plan.specs.declared.stmt.Kind.TheVariants.{Serial}
+use Rattle.plan.specs.declared.stmt.Kind.TheVariants.{Serial, Vector}
 use Rattle.plan.specs.declared.stmt.Pick.TheVariants.{Min}
 use Rattle.meaning.specs.Algorithm.{Range, Change, Function}
 use Rattle.sched.specs.declared.schedule.Split.{Split}
@@ -18,7 +18,7 @@ use Rattle.sched.specs.declared.skeleton.Step.{Step}
 use Rattle.sched.specs.declared.skeleton.Step.TheVariants.{Turns, Named, Tested}
 use Rattle.sched.specs.declared.skeleton.Known.{Known}
 use Rattle.sched.specs.declared.numbers.Extent.{Extent}
-use Rattle.sched.specs.Schedule.{DirectiveText, split, tile, reorder, parallel}
+use Rattle.sched.specs.Schedule.{DirectiveText, split, tile, reorder, vectorize, parallel}
 use Rattle.sched.specs.Placing.{SubjectText, PlacedText, start, all_in}
 use Rattle.sched.specs.Subjects.{reductions_of, scattered_from}
 use Rattle.sched.specs.Skeleton.{SkeletonText, NestText, skeleton}
@@ -170,6 +170,38 @@ pub record OutsideStands : Type 0 where
   pub shift : made line (from_zero 10 ∷ []) (halved x xo xi 4 Shift ∷ reorder (xo ∷ xi ∷ []) ∷ []) ≡ whole (1 ∷ []) []
       (nest (turns 1 3 [] ∷ turns 2 2 [] ∷ Named 3 Min (plus (pos 0) (pos 4) 2 ∷ number (pos 6) ∷ []) ∷ []) (sum (pos 0) (pos 1) 1 (pos 1) 3 ∷ []) ∷ [])
 
+-- ---- vectorised loops
+
+abbrev pub lanes : ℕ → ℕ → List Form → Step
+lanes i last limits = Turns i (record { lower = number (pos 0) ∷ []; upper = number (pos last) ∷ limits }) Vector
+
+abbrev pub in_lanes : Tail → List DirectiveText
+in_lanes t = halved x xo xi 4 t ∷ vectorize xi ∷ []
+
+-- the outer loop of a split is split again, and its inner loop vectorised: a guard without a let stands in that
+abbrev pub a : List ℕ
+a = codes "a"
+
+abbrev pub b : List ℕ
+b = codes "b"
+
+abbrev pub blocks_in_lanes : List DirectiveText
+blocks_in_lanes = halved x xo xi 3 Guard ∷ halved xo a b 2 Roundup ∷ reorder (b ∷ xi ∷ a ∷ []) ∷ vectorize b ∷ []
+
+abbrev pub position : Form
+position = record { constant = pos 0; terms = record { symbol = 1; factor = pos 6 } ∷ record { symbol = 2; factor = pos 1 } ∷ record { symbol = 3; factor = pos 3 } ∷ [] }
+
+-- ten points
+pub record LanesStand : Type 0 where
+  pub guard : made line (from_zero 10 ∷ []) (in_lanes Guard) ≡ whole (1 ∷ []) []
+      (nest (turns 1 2 [] ∷ lanes 2 3 (plus (pos 9) (negsuc 3) 1 ∷ []) ∷ []) (sum (pos 0) (pos 4) 1 (pos 1) 2 ∷ []) ∷ [])
+  pub roundup : made line (from_zero 10 ∷ []) (in_lanes Roundup) ≡ whole (1 ∷ []) []
+      (nest (turns 1 2 [] ∷ lanes 2 3 [] ∷ []) (sum (pos 0) (pos 4) 1 (pos 1) 2 ∷ []) ∷ [])
+  pub shift : made line (from_zero 10 ∷ []) (in_lanes Shift) ≡ whole (1 ∷ []) []
+      (nest (turns 1 2 [] ∷ Named 2 Min (plus (pos 0) (pos 4) 1 ∷ number (pos 6) ∷ []) ∷ lanes 3 3 [] ∷ []) (sum (pos 0) (pos 1) 2 (pos 1) 3 ∷ []) ∷ [])
+  pub outer_blocks : made line (from_zero 10 ∷ []) blocks_in_lanes ≡ whole (1 ∷ []) []
+      (nest (turns 1 1 [] ∷ turns 2 2 [] ∷ lanes 3 1 [] ∷ Tested position (number (pos 9)) ∷ []) (position ∷ []) ∷ [])
+
 -- ---- updates
 
 abbrev pub r : List ℕ
@@ -189,6 +221,9 @@ pub record UpdatesStand : Type 0 where
   pub scattered : made (function_over (x ∷ []) (over_three (Name r ∷ []) ∷ [])) (from_zero 4 ∷ []) (halved x xo xi 3 Guard ∷ []) ≡ whole (1 ∷ []) []
       (nest (turns 1 1 [] ∷ turns 2 2 (plus (pos 3) (negsuc 2) 1 ∷ []) ∷ []) (sum (pos 0) (pos 3) 1 (pos 1) 2 ∷ [])
       ∷ record { steps = turns 3 2 [] ∷ []; at = None ∷ Some (counted 3) ∷ [] } ∷ [])
+  pub lanes_inside : made (function_over (x ∷ []) (over_three (Name x ∷ []) ∷ [])) (from_zero 4 ∷ []) (in_lanes Guard) ≡ whole (1 ∷ []) []
+      (nest (turns 1 0 [] ∷ lanes 2 3 [] ∷ []) (sum (pos 0) (pos 4) 1 (pos 1) 2 ∷ [])
+      ∷ nest (turns 3 0 [] ∷ turns 4 2 [] ∷ lanes 5 3 [] ∷ []) (sum (pos 0) (pos 4) 3 (pos 1) 5 ∷ counted 4 ∷ []) ∷ [])
   pub parallel_refused : all_in (subject_over (function_over (x ∷ []) (over_three (Name r ∷ []) ∷ []))) (parallel x ∷ []) (start (subject_over (function_over (x ∷ []) (over_three (Name r ∷ []) ∷ [])))) ≡ Err rule.BadParallel
 
 -- ---- blocks that are split again

@@ -59,12 +59,13 @@ impl Keyword {
         ensures { result ≡ spec.is_offered self }
     {
         match self {
-            Keyword::ComputeAt | Keyword::StoreAt | Keyword::Fold | Keyword::Vectorize => false,
+            Keyword::ComputeAt | Keyword::StoreAt | Keyword::Fold => false,
             Keyword::ComputeRoot
             | Keyword::Split
             | Keyword::Tile
             | Keyword::Reorder
             | Keyword::Unroll
+            | Keyword::Vectorize
             | Keyword::Parallel => true,
         }
     }

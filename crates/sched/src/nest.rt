@@ -11,7 +11,9 @@ ghost use Rattle.sched.specs.Skeleton as spec;
 use crate::numbers::{Extent, Numbers, loop_numbers, numbers_named, piece_counts};
 use crate::placing::{Loop, Mark, Placed};
 use crate::schedule::Split;
-use crate::skeleton::{Known, SkeletonError, Standing, Step, counted_from, form_of, is_guarded};
+use crate::skeleton::{
+    Known, SkeletonError, Standing, Step, Within, counted_from, form_of, is_guarded,
+};
 use lin::{Forms, Lin, Span1};
 use plan::Kind;
 use std::alloc::{AllocError, Global};
@@ -71,6 +73,15 @@ fn kind_of(mark: Option<Mark>) -> Kind
     }
 }
 
+fn inside(kind: Kind) -> Within
+    ensures { result ≡ spec.inside kind }
+{
+    match kind {
+        Kind::Serial | Kind::Unroll => Within::Nest,
+        Kind::Vector => Within::Lanes,
+    }
+}
+
 fn loop_turning(numbers: &[Numbers], one: &Loop) -> Turning
     ensures { result ≡ spec.loop_turning numbers.now one.now }
 {
@@ -116,17 +127,17 @@ impl Standing {
     fn settle(
         &mut self,
         alloc: Global,
-        in_head: bool,
+        within: Within,
         numbers: &[Numbers],
         cuts: &[Split],
     ) -> Result<(), SkeletonError>
-        ensures { Builds result (standing_of self.new) (standing.settle in_head numbers.now cuts.now (standing_of self.old)) }
+        ensures { Builds result (standing_of self.new) (standing.settle within numbers.now cuts.now (standing_of self.old)) }
     {
         for cut in cuts {
             let own = numbers_named(numbers, &cut.whole);
             self.begin(alloc, cut, &own)?;
             let guarded = is_guarded(numbers, cuts, cut);
-            self.join(alloc, in_head, guarded, cut, &own)?;
+            self.join(alloc, within, guarded, cut, &own)?;
         }
         Ok(())
     }
@@ -183,7 +194,7 @@ impl Standing {
     {
         let symbol = self.next;
         let steps = self.enter(alloc, turning.name)?;
-        self.settle(alloc, false, numbers, cuts)?;
+        self.settle(alloc, inside(turning.kind), numbers, cuts)?;
         self.leave(alloc, steps, symbol, turning)?;
         Ok(())
     }
@@ -439,7 +450,7 @@ impl Standing {
         let own = kept(alloc, body, variables)?;
         let cuts = cuts_by_variable(alloc, &placed.cuts, &own)?;
         let turnings = nest_turns(alloc, body, numbers, &placed.loops)?;
-        self.settle(alloc, false, numbers, &cuts)?;
+        self.settle(alloc, Within::Nest, numbers, &cuts)?;
         self.turn_all(alloc, numbers, &cuts, &turnings)
     }
 }
@@ -526,7 +537,7 @@ pub fn skeleton_over(
     let grid = piece_counts(alloc, &numbers, &placed.loops)?;
     let cuts = cuts_by_variable(alloc, &placed.cuts, variables)?;
     let mut head = over_grid(alloc, &numbers, placed, &grid)?;
-    head.settle(alloc, true, &numbers, &cuts)?;
+    head.settle(alloc, Within::Grid, &numbers, &cuts)?;
     let nests = nests_in(alloc, variables, placed, &numbers, &head, bodies)?;
     Ok(Skeleton {
         grid,

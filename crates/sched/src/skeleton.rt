@@ -35,6 +35,17 @@ pub enum Step {
     },
 }
 
+/// What loops, lets and guards stand in.
+#[derive(Clone, Copy, Drop)]
+pub(crate) enum Within {
+    /// The grid alone.
+    Grid,
+    /// A nest.
+    Nest,
+    /// A vectorised loop of a nest: no let stands in it.
+    Lanes,
+}
+
 /// The form that a loop's number is.
 #[derive(Drop)]
 pub struct Known {
@@ -345,58 +356,81 @@ impl Standing {
         self.learn(name, within)
     }
 
-    // A number within the loop that was split.
-    fn keep_within(
+    // By a guard alone.
+    fn keep_by_test(
         &mut self,
         alloc: Global,
         name: Name,
         form: Lin,
         last: i64,
+    ) -> Result<(), AllocError>
+        ensures { IfOk result (λ _. spec.standing_of self.new ≡ spec.keep_by_test name form last (spec.standing_of self.old)) }
+    {
+        let tested = form.copy(alloc)?;
+        self.test(alloc, tested, last)?;
+        self.learn(name, form)
+    }
+
+    // A number within the loop that was split.
+    fn keep_within(
+        &mut self,
+        alloc: Global,
+        within: Within,
+        name: Name,
+        form: Lin,
+        last: i64,
     ) -> Result<(), SkeletonError>
         ensures { spec.Builds result (spec.standing_of self.new)
-            (spec.keep_within name form last (spec.standing_of self.old) (spec.innermost self.old.bound.items form)) }
+            (spec.keep_within within name form last (spec.standing_of self.old) (spec.innermost self.old.bound.items form)) }
     {
-        match innermost(&self.bound, &form) {
-            Some(symbol) => self.keep_by_loop(alloc, name, form, last, symbol),
-            None => {
-                self.keep_by_guard(alloc, name, form, last)?;
-                Ok(())
-            }
+        match within {
+            Within::Grid => Ok(()),
+            Within::Nest => match innermost(&self.bound, &form) {
+                Some(symbol) => self.keep_by_loop(alloc, name, form, last, symbol),
+                None => {
+                    self.keep_by_guard(alloc, name, form, last)?;
+                    Ok(())
+                }
+            },
+            Within::Lanes => match innermost(&self.bound, &form) {
+                Some(symbol) => self.keep_by_loop(alloc, name, form, last, symbol),
+                None => {
+                    self.keep_by_test(alloc, name, form, last)?;
+                    Ok(())
+                }
+            },
         }
     }
 
-    // The position in the loop that was split; no guard stands over the grid alone in the head.
+    // The position in the loop that was split.
     fn put_together(
         &mut self,
         alloc: Global,
-        in_head: bool,
+        within: Within,
         guarded: bool,
         cut: &Split,
         numbers: &Numbers,
         form: Lin,
     ) -> Result<(), SkeletonError>
-        ensures { spec.Builds result (spec.standing_of self.new) (spec.put_together in_head guarded cut.now numbers.now form (spec.standing_of self.old)) }
+        ensures { spec.Builds result (spec.standing_of self.new) (spec.put_together within guarded cut.now numbers.now form (spec.standing_of self.old)) }
     {
         if !guarded {
             self.learn(cut.whole, form)?;
             return Ok(());
         }
-        if in_head {
-            return Ok(());
-        }
-        self.keep_within(alloc, cut.whole, form, numbers.last())
+        self.keep_within(alloc, within, cut.whole, form, numbers.last())
     }
 
     // The position stands as soon as the block's first number and the inner loop do.
     pub(crate) fn join(
         &mut self,
         alloc: Global,
-        in_head: bool,
+        within: Within,
         guarded: bool,
         cut: &Split,
         numbers: &Numbers,
     ) -> Result<(), SkeletonError>
-        ensures { spec.Builds result (spec.standing_of self.new) (spec.join in_head guarded cut.now numbers.now (spec.standing_of self.old)) }
+        ensures { spec.Builds result (spec.standing_of self.new) (spec.join within guarded cut.now numbers.now (spec.standing_of self.old)) }
     {
         if form_named(&self.known, &cut.whole).is_some() {
             return Ok(());
@@ -408,6 +442,6 @@ impl Standing {
             return Ok(());
         };
         let form = start.plus_multiple(alloc, 1, &inner)?;
-        self.put_together(alloc, in_head, guarded, cut, numbers, form)
+        self.put_together(alloc, within, guarded, cut, numbers, form)
     }
 }

@@ -1,6 +1,6 @@
 //! Schedules written out: the loops of the functions that they place.
 
-ghost use Rattle.sched.specs.Worked.{BlocksStand, OutsideStands, RowsStand, TilesStand, UpdatesStand};
+ghost use Rattle.sched.specs.Worked.{BlocksStand, LanesStand, OutsideStands, RowsStand, TilesStand, UpdatesStand};
 
 /// Two by ten points: row by row, a piece each row, and column by column.
 pub fn rows_stand()
@@ -17,8 +17,14 @@ pub fn outside_stands()
     ensures { OutsideStands }
 {}
 
+/// Ten points split by four with the inner loop vectorised, with each tail; and where a vectorised loop turns over blocks, a guard
+/// without a let in it.
+pub fn lanes_stand()
+    ensures { LanesStand }
+{}
+
 /// An update's reduction loop stands inside its pure loops, and the loops of a dimension that it has no pure variable for are left
-/// out.
+/// out. A vectorised loop stands inside the reduction loop.
 pub fn updates_stand()
     ensures { UpdatesStand }
 {}

@@ -21,7 +21,7 @@ use Rattle.soundness.specs.Obligations.{form_has, span_has}
 use Rattle.soundness.proofs.Refines.{and_parts, eq_true}
 use Rattle.headline.specs.Numbers.{HaveEnds}
 use Rattle.headline.specs.Sound.{publishes, block_publishes, PublishesLast, BlockPublishesLast, binds, block_binds, region_has, IsPublished}
-use Rattle.outline.specs.Flaws.{line_told}
+use Rattle.outline.specs.Flaws.{line_told, unless}
 use Rattle.validation.specs.Groups.Sizes.{more, cell_count, is_extent}
 use Rattle.validation.specs.Stored.Sizes.{counted}
 use Rattle.validation.specs.Stored.Definitions.{parts_named, has_variables}
@@ -46,6 +46,14 @@ fine line true true true false h = absurd (some_flaw h)
 fine line true true false m h = absurd (some_flaw h)
 fine line true false d m h = absurd (some_flaw h)
 fine line false w d m h = absurd (some_flaw h)
+
+-- nor does a line of a loop
+pub fine_loop : (line : ℕ) (n w v m : Bool) → (unless n 2 line ++ (unless w 3 line ++ (unless v 13 line ++ unless m 14 line))) ≡ [] → IsFine n w v m
+fine_loop line true true true true h = record { names = refl; forms = refl; definition = refl; limits = refl }
+fine_loop line true true true false h = absurd (some_flaw h)
+fine_loop line true true false m h = absurd (some_flaw h)
+fine_loop line true false v m h = absurd (some_flaw h)
+fine_loop line false w v m h = absurd (some_flaw h)
 
 pub none_in : {A : Type 0} (xs ys : List A) → xs ++ ys ≡ [] → (xs ≡ []) × (ys ≡ [])
 none_in [] ys h = (refl, h)

@@ -22,3 +22,4 @@ pub mod Products
 pub mod GroupsRowed
 pub mod Stores
 pub mod Walk
+pub mod Lanes

@@ -3,6 +3,7 @@
 mod ends;
 mod groups;
 mod here;
+mod lanes;
 pub mod laws;
 mod lines;
 mod sizes;

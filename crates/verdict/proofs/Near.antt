@@ -21,8 +21,9 @@ use Rattle.verdict.specs.Bounded.Near.{FormStands, SpanStands, PlacesStand, Inde
 use Rattle.validation.specs.Certificate.Clear.{IsRegion}
 use Rattle.validation.specs.Stored.Definitions.{Definition, parts_named, has_variables, function_in}
 use Rattle.validation.specs.Stored.Stored.{has_names, is_named, is_known, index_is_over, index_is_within, index_is_known, is_call}
-use Rattle.validation.specs.Groups.Lines.{Here, before, after, in_loop, inside, in_later, is_empty, is_in_turns, is_new, may_precede, place_is_over, place_is_within, fetch_is_named, fetch_is_taken, definition_is_named, definition_is_stored, definition_of, store_is_small, flaws, block_flaws, start}
-use Rattle.validation.proofs.Flawless.{fine, none_in, group_fine, body_fine}
+use Rattle.validation.specs.Groups.Lanes.{fits_mark}
+use Rattle.validation.specs.Groups.Lines.{Here, before, after, in_loop, inside, in_later, is_empty, is_new, may_precede, place_is_over, place_is_within, fetch_is_named, fetch_is_taken, definition_is_named, definition_is_stored, definition_of, store_is_small, flaws, block_flaws, start}
+use Rattle.validation.proofs.Flawless.{fine, fine_loop, none_in, group_fine, body_fine}
 use Rattle.verdict.specs.Clear.{GroupsAreNear}
 use Rattle.verdict.proofs.Size.{AreAmong, among_after, span_wider}
 use Rattle.verdict.proofs.Small.{line_fine, pieces_few}
@@ -125,7 +126,7 @@ module _ (a : Algorithm) (p : Plan) (c : Certificate) (g : Group) (o : Outline) 
     has_forms (For i x kind body) here outer h =
         let k = none_in _ _ h in
         let over = are_over here.symbols x.lower && are_over here.symbols x.upper in
-        let f = fine here.line (is_new here.symbols i && over) (are_within_limits x.lower && are_within_limits x.upper) true (is_in_turns kind && (is_listed x.lower && is_listed x.upper)) k.0 in
+        let f = fine_loop here.line (is_new here.symbols i && over) (are_within_limits x.lower && are_within_limits x.upper) (fits_mark o.setting.dimensions i kind body) (is_listed x.lower && is_listed x.upper) k.0 in
         let names = and_parts (is_new here.symbols i) over f.names in
         (span_stands here.symbols x names.1 f.forms, new_symbol here.symbols i names.0, has_forms body (in_loop i here) (λ t. absurd (false≢true t)) k.1)
     has_forms (Let i pick ls) here outer h =

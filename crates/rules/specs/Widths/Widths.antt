@@ -1,4 +1,4 @@
--- The numbers that stores' coordinates may have, those of the symbols that other forms name, and the turns of unrolled loops.
+-- The numbers that stores' coordinates may have, those of the symbols that other forms name, and the turns of marked loops.
 use Rattle.std.specs.Prelude.{ℕ, ◌+◌, ◌-◌, ◌^◌, ◌&&◌, ◌||◌, min, Bool, true, false, not, if◌then◌else◌, List, [], ◌∷◌, ◌++◌, Option, Some, None, ℤ, pos, neg_ℤ}
 use Rattle.std.specs.List.{list_all}
 use Rattle.lin.specs.Forms.{Form, number}
@@ -34,11 +34,11 @@ abbrev pub binders_after : Statement → List Binder → List Binder
 binders_after (Let i pick ls) bs = Picked i pick ls ∷ bs
 binders_after _ bs = bs
 
--- the turns of the loop are written out
-abbrev pub is_unrolled : Kind → Bool
-is_unrolled Serial = false
-is_unrolled Unroll = true
-is_unrolled Vector = false
+-- the loop is marked: its turns are written out, or are lanes
+abbrev pub is_marked : Kind → Bool
+is_marked Serial = false
+is_marked Unroll = true
+is_marked Vector = true
 
 -- the line, unless the test holds
 abbrev pub line_unless : Bool → ℕ → List ℕ
@@ -88,13 +88,13 @@ module _ (rules : Rules) where
   is_i32 bs (At l) = is_within rules bs (exactly l) coordinate_span
   is_i32 bs (Found e) = true
 
-  -- a loop that is unrolled is shown to have 64 turns at most
+  -- a marked loop is shown to have 64 turns at most
   abbrev pub has_few_turns : List Binder → Span1 → Kind → Bool
-  has_few_turns bs x kind = not (is_unrolled kind) || is_short rules bs x 64
+  has_few_turns bs x kind = not (is_marked kind) || is_short rules bs x 64
 
   abbrev mutual
     -- of a statement that begins at the line, the lines with a number that is not shown to be small: stores with a coordinate
-    -- that is not shown to be an i32, lines with a symbol that is not shown to be near, and unrolled loops that are not shown to
+    -- that is not shown to be an i32, lines with a symbol that is not shown to be near, and marked loops that are not shown to
     -- have few turns; a loop or a guard over such symbols is told at the stores inside it, which are all that is asked there, or
     -- by itself where it has none
     pub wide_lines : List Binder → ℕ → Statement → List ℕ

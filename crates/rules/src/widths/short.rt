@@ -1,25 +1,25 @@
-//! Whether loops that are unrolled are shown to have few turns.
+//! Whether marked loops are shown to have few turns.
 
 ghost use Rattle.std.specs.Prelude.{◌≡◌, IfOk};
 ghost use Rattle.soundness.specs.Binders.View.{binders_of};
 ghost use Rattle.soundness.specs.Nests.Tests.{is_short};
-ghost use Rattle.rules.specs.Widths.Widths.{has_few_turns, is_unrolled};
+ghost use Rattle.rules.specs.Widths.Widths.{has_few_turns, is_marked};
 
 use lin::Span1;
 use plan::{Kind, Places};
 use soundness::binders::{Binder, Bounds};
 use std::alloc::{AllocError, Global};
 
-/// The most turns of a loop that is unrolled.
+/// The most turns of a marked loop.
 const MOST_TURNS: u64 = 64;
 
-/// Whether the turns of the loop are written out.
-fn is_unrolled(kind: Kind) -> bool
-    ensures { result ≡ is_unrolled kind }
+/// Whether the loop is marked: its turns are written out, or are lanes.
+fn is_marked(kind: Kind) -> bool
+    ensures { result ≡ is_marked kind }
 {
     match kind {
-        Kind::Unroll => true,
-        Kind::Serial | Kind::Vector => false,
+        Kind::Unroll | Kind::Vector => true,
+        Kind::Serial => false,
     }
 }
 
@@ -42,7 +42,7 @@ fn is_short<B: Bounds>(
     Ok(false)
 }
 
-/// Whether a loop is shown to have few turns, if it is unrolled.
+/// Whether a loop is shown to have few turns, if it is marked.
 pub(crate) fn has_few_turns<B: Bounds>(
     alloc: Global,
     bounds: &B,
@@ -52,7 +52,7 @@ pub(crate) fn has_few_turns<B: Bounds>(
 ) -> Result<bool, AllocError>
     ensures { IfOk result (λ yes. yes ≡ has_few_turns (B.rules bounds.now) (binders_of binders.now) span.now kind) }
 {
-    if is_unrolled(kind) {
+    if is_marked(kind) {
         is_short(alloc, bounds, binders, span, MOST_TURNS)
     } else {
         Ok(true)

@@ -1,4 +1,4 @@
-//! The first line with a coordinate or a symbol that may be too large, or with an unrolled loop that may be too long.
+//! The first line with a coordinate or a symbol that may be too large, or with a marked loop that may be too long.
 
 ghost use Rattle.std.specs.Prelude.{◌≡◌, ◌+◌, ◌∷◌, ◌++◌, ℕ, IfOk, OnOk, Some};
 ghost use Rattle.plan.specs.Lists.{list_statements};
@@ -69,7 +69,7 @@ fn stored_or(line: u32, body: &Stmt) -> u32
 /// The first line, in the order of the text, of a statement that begins at a line, with a number that is not shown to be small:
 /// a store of which a coordinate is not shown to be an i32, or a line with a symbol that is not shown to be at most 2^39 from 0.
 /// A loop whose ends have such a symbol, or a guard, is told at the first store inside it, or by itself where it has none. A loop
-/// that is unrolled is told where it is not shown to have at most 64 turns. Lines are told up to the greatest `u32`.
+/// that is marked is told where it is not shown to have at most 64 turns. Lines are told up to the greatest `u32`.
 ///
 /// # Errors
 /// `AllocError` where memory runs out.

@@ -7,7 +7,6 @@ use Rattle.lin.specs.declared.span.Span1.{Span1}
 use Rattle.meaning.specs.Algorithm.{Algorithm}
 use Rattle.meaning.specs.Names.{same_name}
 use Rattle.plan.specs.declared.stmt.Kind.{Kind}
-use Rattle.plan.specs.declared.stmt.Kind.TheVariants.{Serial, Unroll, Vector}
 use Rattle.plan.specs.declared.stmt.Places.{Places}
 use Rattle.plan.specs.declared.stmt.Places.TheVariants.{From, Folded}
 use Rattle.plan.specs.Plan.{Coordinate, Statement, Seq, For, Let, First, Guard, Alloc, Fetch, Store, Publish, Statements, Empty, Then, Group, Plan}
@@ -19,6 +18,7 @@ use Rattle.soundness.specs.Given.{outline_of}
 use Rattle.headline.specs.Sound.{publishes}
 use Rattle.outline.specs.Forms.{is_over, are_over, spans_are_over, are_within_limits, spans_are_within_limits, is_listed, have_ends, grid_symbols}
 use Rattle.outline.specs.Flaws.{Flaw, unless, line_told}
+use Rattle.validation.specs.Groups.Lanes.{fits_mark}
 use Rattle.validation.specs.Groups.Sizes.{more, places_count, allotted, cell_count, is_extent}
 use Rattle.validation.specs.Stored.Sizes.{counted, is_small}
 use Rattle.validation.specs.Stored.Definitions.{parts_named, Definition, definition_in, function_in, has_variables}
@@ -142,12 +142,6 @@ after a here = record {
   last = here.last;
 }
 
--- the turns of the loop come one after another
-abbrev pub is_in_turns : Kind → Bool
-is_in_turns Serial = true
-is_in_turns Unroll = true
-is_in_turns Vector = false
-
 -- the symbol is one of these, or none of them
 abbrev pub is_one_of : List ℕ → ℕ → Bool
 is_one_of symbols i = list_any (λ s. s == i) symbols
@@ -174,6 +168,14 @@ is_claim_of group None name = false
 is_claim_of group (Some c) name = has_line group c.line && same_name c.function name
 
 module _ (a : Algorithm) (p : Plan) (c : Certificate) (g : Group) (outline : Outline) where
+  -- the flaws of a line `for`, the lowest code first: names (K2), forms (K3), a vector's body (K13), limits (K14)
+  abbrev pub loop_flaws : Here → ℕ → Span1 → Kind → Statement → List Flaw
+  loop_flaws here i x kind body =
+      unless (is_new here.symbols i && (are_over here.symbols x.lower && are_over here.symbols x.upper)) 2 here.line
+      ++ (unless (are_within_limits x.lower && are_within_limits x.upper) 3 here.line
+      ++ (unless (fits_mark outline.setting.dimensions i kind body) 13 here.line
+      ++ unless (is_listed x.lower && is_listed x.upper) 14 here.line))
+
   abbrev pub alloc_flaws : Here → List ℕ → List Places → List Flaw
   alloc_flaws here f places =
       line_flaws here.line
@@ -232,13 +234,7 @@ module _ (a : Algorithm) (p : Plan) (c : Certificate) (g : Group) (outline : Out
     -- the flaws of a statement's lines
     pub flaws : Statement → Here → List Flaw
     flaws (Seq all) here = block_flaws all here
-    flaws (For i x kind body) here =
-        line_flaws here.line
-        (is_new here.symbols i && (are_over here.symbols x.lower && are_over here.symbols x.upper))
-        (are_within_limits x.lower && are_within_limits x.upper)
-        true
-        (is_in_turns kind && (is_listed x.lower && is_listed x.upper))
-        ++ flaws body (in_loop i here)
+    flaws (For i x kind body) here = loop_flaws here i x kind body ++ flaws body (in_loop i here)
     flaws (Let i pick ls) here = line_flaws here.line (is_new here.symbols i && are_over here.symbols ls) (are_within_limits ls) true (is_listed ls)
     flaws (First i a b) here = line_flaws here.line (is_one_of here.loops i) true true true ++ (flaws a (inside here) ++ flaws b (in_later a here))
     flaws (Guard low high body) here =

@@ -16,11 +16,12 @@ ghost use Rattle.validation.specs.Stored.Definitions.{definition_held, function_
 ghost use Rattle.validation.specs.Groups.Sizes.{more, places_count};
 ghost use Rattle.validation.specs.Stored.Sizes.{is_small};
 ghost use Rattle.validation.specs.Groups.Here.{here_of};
-ghost use Rattle.validation.specs.Groups.Lines.{alloc_flaws, block_flaws, definition_is_named, definition_is_stored, fetch_flaws, fetch_is_named, fetch_is_taken, flaws, in_later, inside, is_claim_of, is_empty, is_in_turns, is_new, is_one_of, is_straight, line_flaws, place_is_over, place_is_within, publish_flaws, store_flaws};
+ghost use Rattle.validation.specs.Groups.Lines.{alloc_flaws, block_flaws, definition_is_named, definition_is_stored, fetch_flaws, fetch_is_named, fetch_is_taken, flaws, in_later, inside, is_claim_of, is_empty, is_new, is_one_of, is_straight, line_flaws, loop_flaws, place_is_over, place_is_within, publish_flaws, store_flaws};
 ghost use Rattle.validation.specs.Stored.Stored.{index_is_over, index_is_small, index_is_within};
 
 use crate::among::is_among;
 use crate::groups::here::Here;
+use crate::groups::lanes::fits_mark;
 use crate::groups::sizes::places_count;
 use crate::stored::{
     Defined, Ground, definition_of, has_names, has_variables, indices_are_known, indices_are_small,
@@ -77,32 +78,34 @@ fn is_new(symbols: &[Sym], symbol: Sym) -> bool
     !is_bound(symbols, symbol)
 }
 
-/// Whether the turns of the loop come one after another.
-fn is_in_turns(kind: Kind) -> bool
-    ensures { result ≡ is_in_turns kind }
-{
-    match kind {
-        Kind::Serial | Kind::Unroll => true,
-        Kind::Vector => false,
-    }
-}
-
 /// The flaw of a line `for`.
-fn loop_flaw(here: &Here, symbol: Sym, span: &Span1, kind: Kind) -> Option<Flaw>
-    ensures { told result ≡ first_of (line_flaws here.now.line
-        (is_new here.now.symbols.items symbol && (are_over here.now.symbols.items span.now.lower && are_over here.now.symbols.items span.now.upper))
-        (are_within_limits span.now.lower && are_within_limits span.now.upper)
-        true
-        (is_in_turns kind && (is_listed span.now.lower && is_listed span.now.upper))) }
+fn loop_flaw(
+    ground: Ground<'_, '_>,
+    here: &Here,
+    symbol: Sym,
+    span: &Span1,
+    kind: Kind,
+    body: &Stmt,
+) -> Option<Flaw>
+    ensures { told result ≡ first_of (loop_flaws (algorithm_of ground.entry.algo.now) (plan_in ground.entry.outlined.now) (certificate_in ground.entry.outlined.now) (group_in ground.entry.outlined.now) (outline_in ground.entry.outlined.now) (here_of ground.entry.lines here.now true) symbol span.now kind (statement_of body.now)) }
 {
     let lower = span.lower.as_slice();
     let upper = span.upper.as_slice();
+    let line = here.line;
     let named = is_new(&here.symbols, symbol)
         && are_over(&here.symbols, lower)
         && are_over(&here.symbols, upper);
-    let within = are_within_limits(lower) && are_within_limits(upper);
-    let limited = is_in_turns(kind) && is_listed(&span.lower) && is_listed(&span.upper);
-    line_flaw(here.line, named, within, true, limited)
+    if !named {
+        Some(Flaw { code: K::K2, line })
+    } else if !(are_within_limits(lower) && are_within_limits(upper)) {
+        Some(Flaw { code: K::K3, line })
+    } else if !fits_mark(ground.outlined, symbol, kind, body) {
+        Some(Flaw { code: K::K13, line })
+    } else if !(is_listed(&span.lower) && is_listed(&span.upper)) {
+        Some(Flaw { code: K::K14, line })
+    } else {
+        None
+    }
 }
 
 /// The flaw of a line `let`.
@@ -490,7 +493,7 @@ pub(crate) fn stmt_flaw(
             kind,
             body,
         } => {
-            let flaw = loop_flaw(here, *symbol, span, *kind);
+            let flaw = loop_flaw(ground, here, *symbol, span, *kind, body);
             if flaw.is_some() {
                 return Ok(flaw);
             }

@@ -7,10 +7,10 @@ use Rattle.plan.specs.Plan.{Statement, Guard, block}
 use Rattle.plan.specs.Lists.{list_statements}
 use Rattle.plan.specs.View.{statement_of, coordinate_of}
 use Rattle.outline.specs.Flaws.{Flaw, first_of, told}
-use Rattle.outline.specs.Forms.{is_over, are_over, are_within_limits, is_listed}
+use Rattle.outline.specs.Forms.{is_over}
 use Rattle.outline.specs.View.{certificate_in, group_in, outline_in, plan_in}
 use Rattle.validation.specs.Groups.Here.{here_of}
-use Rattle.validation.specs.Groups.Lines.{Here, flaws, block_flaws, line_flaws, before, after, in_later, in_loop, inside, is_empty, is_new, is_one_of, is_in_turns, store_flaws}
+use Rattle.validation.specs.Groups.Lines.{Here, flaws, block_flaws, line_flaws, before, after, in_later, in_loop, inside, is_empty, is_new, is_one_of, loop_flaws, store_flaws}
 use Rattle.tree.specs.Term.{term_of}
 use Rattle.validation.proofs.Rows.{at_seq}
 use Rattle.validation.proofs.Walk.{first_found, first_none, block_step, store_anyhow}
@@ -62,12 +62,12 @@ stmt_flaw-returns-then-is_some t c =
     let o = c.args.ground.outlined.now in
     let x = c.in-For.span in
     let i = c.in-For.symbol in
-    let symbols = c.args.here.now.symbols.items in
     let h = here_of c.args.ground.lines c.args.here.now c.args.last in
     first_found c.loop_flaw-flaw.result
-    (line_flaws c.args.here.now.line (is_new symbols i && (are_over symbols x.lower && are_over symbols x.upper)) (are_within_limits x.lower && are_within_limits x.upper) true (is_in_turns c.in-For.kind && (is_listed x.lower && is_listed x.upper)))
+    (loop_flaws a (plan_in o) (certificate_in o) (group_in o) (outline_in o) h i x c.in-For.kind (statement_of c.in-For.body.value))
     (flaws a (plan_in o) (certificate_in o) (group_in o) (outline_in o) (statement_of c.in-For.body.value) (in_loop i h))
-    (sym c.is_some.ensures ∙ c.if-is_some.true) c.loop_flaw-flaw.ensures
+    (sym c.is_some.ensures ∙ c.if-is_some.true)
+    (c.loop_flaw-flaw.ensures ∙ (λ j. first_of (loop_flaws a (plan_in o) (certificate_in o) (group_in o) (outline_in o) h i x c.in-For.kind (statement_of (c.deref-in-For.ensures j)))))
     ∙ ap (λ (s : Stmt). first_of (flaws a (plan_in o) (certificate_in o) (group_in o) (outline_in o) (statement_of s) h)) (sym c.in-For.is)
 
 pub stmt_flaw-returns-in-Seq : goal.stmt_flaw-returns-in-Seq
@@ -84,14 +84,14 @@ stmt_flaw-returns-in_ok-inner-in-For t c =
     let o = c.args.ground.outlined.now in
     let x = c.in-For.span in
     let i = c.in-For.symbol in
-    let symbols = c.args.here.now.symbols.items in
     let h = here_of c.args.ground.lines c.args.here.now c.args.last in
-    let own = line_flaws c.args.here.now.line (is_new symbols i && (are_over symbols x.lower && are_over symbols x.upper)) (are_within_limits x.lower && are_within_limits x.upper) true (is_in_turns c.in-For.kind && (is_listed x.lower && is_listed x.upper)) in
+    let own = loop_flaws a (plan_in o) (certificate_in o) (group_in o) (outline_in o) h i x c.in-For.kind (statement_of c.in-For.body.value) in
     let inside = flaws a (plan_in o) (certificate_in o) (group_in o) (outline_in o) (statement_of c.in-For.body.value) (in_loop i h) in
-    let behind = sym (first_none c.loop_flaw-flaw.result own inside (sym c.is_some.ensures ∙ c.if-is_some.false) c.loop_flaw-flaw.ensures)
+    let behind = sym (first_none c.loop_flaw-flaw.result own inside (sym c.is_some.ensures ∙ c.if-is_some.false)
+    (c.loop_flaw-flaw.ensures ∙ (λ j. first_of (loop_flaws a (plan_in o) (certificate_in o) (group_in o) (outline_in o) h i x c.in-For.kind (statement_of (c.deref-in-For.ensures j))))))
     ∙ ap (λ (s : Stmt). first_of (flaws a (plan_in o) (certificate_in o) (group_in o) (outline_in o) (statement_of s) h)) (sym c.in-For.is) in
     subst (λ (x : Option Flaw). IfOk c.stmt_flaw.result (λ flaw. told flaw ≡ x))
-    ((λ j. first_of (flaws a (plan_in o) (certificate_in o) (group_in o) (outline_in o) (statement_of (c.deref-in-For.ensures j)) (c.in_ok-inner-in-For.ensures c.args.ground.lines c.args.last j))) ∙ behind)
+    ((λ j. first_of (flaws a (plan_in o) (certificate_in o) (group_in o) (outline_in o) (statement_of (c.deref-in-For-2.ensures j)) (c.in_ok-inner-in-For.ensures c.args.ground.lines c.args.last j))) ∙ behind)
     c.stmt_flaw.ensures
 
 pub stmt_flaw-returns-in-Store : goal.stmt_flaw-returns-in-Store
