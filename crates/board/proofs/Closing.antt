@@ -1,17 +1,41 @@
 -- What the words are once the table is closed.
 use Rattle.std.proofs.Common.{◌≡◌, ℕ, ◌+◌, ◌<◌, ℤ, List, map, length, get_or, false, sym, ap, ◌∙◌, subst, ⊎_elim, arith}
-use Rattle.std.specs.Prelude.{slice_index}
+use Rattle.std.specs.Prelude.{slice_index, Contains}
+use mathlib.Core.Logic.{dite}
+use mathlib.Core.Option.{some, some-injective}
+use native.Mathlib.Decide.{ℕ_discrete}
+use lib.ListN.{get_elem?}
 use Rattle.atomic_table.specs.Table.{State, Final, Seen}
 use Rattle.board.specs.Layout.{Layout, pieces_of, own_cell, samples_in, shown_cell, value_at, IsSound, ShowsSamples, picture_of}
 use Rattle.board.specs.declared.view.View.{View}
 use Rattle.board.specs.Words.{flag, cell, cell_place, bits_of, word_of}
-use Rattle.board.specs.Rule.{IsFinished, Kept}
+use Rattle.board.specs.Rule.{IsDrawn, IsFinished, Kept}
+use Rattle.board.specs.Views.{IsDone}
 use Rattle.board.specs.Seats.{KnowsAll}
 use Rattle.meaning.specs.Image.Raster.{natural}
 use Rattle.std.specs.List.{range_with_len}
 use Rattle.std.proofs.lemmas.List.FromFn.{fill_by_all, get_or-map-range_with_len, length-map-range_with_len}
 use Rattle.board.proofs.Parts.{IsParted}
+use Rattle.board.proofs.Sums.{sum_two}
 use Rattle.board.proofs.Samples.{sample_bits}
+
+-- where one seat stands for all, all pieces are drawn and it has finished what was drawn, it knows each piece
+pub done_knows : (plan : Layout) (values : List ℤ) (words : List ℕ) (views : List View) (id : ℕ) (v : View) → Kept plan values words views → get_elem? views id ≡ some v → v.spent ≡ false → IsDone v
+    → KnowsAll plan v
+done_knows plan values words views id v r at active done j in_range =
+    let g = r.each_view id v at active in
+    let all = g.none_left done.drawn in
+    by_whom (r.each_drawn j in_range (omega (arith, all, in_range)))
+  where
+    by_whom : IsDrawn views j → Contains v.known j
+    by_whom (k, u, there, alive, has) = dite (ℕ_discrete k id)
+        (λ is. done.finished j (subst (λ (x : View). Contains x.drawn j) (some-injective u v (sym there ∙ ap (λ n. get_elem? views n) is ∙ at)) has))
+        (λ other.
+        let two = sum_two (λ (x : View). x.seats) views k id u v other there at in
+        let itself = (r.each_view k u there alive).itself in
+        let most = r.whole in
+        let mine = done.seats in
+        absurd (omega (arith, two, itself, most, mine)))
 
 module _ (plan : Layout) (values : List ℤ) (id : ℕ) (v : View) (items slots : List ℕ) where
   abbrev pub Ended : Type 0
@@ -22,6 +46,10 @@ module _ (plan : Layout) (values : List ℤ) (id : ℕ) (v : View) (items slots 
   ended_flags (s, seen, same, homes, slots_are) active all j in_range =
       let g = seen.0.each_view id v seen.1 active in
       subst (λ (ws : List ℕ). slice_index ws (1 + j) ≡ 1) same (g.known j (all j in_range)).1
+
+  -- the seat that has done all knows all pieces
+  pub ended_done : Ended → v.spent ≡ false → IsDone v → KnowsAll plan v
+  ended_done (s, seen, same, homes, slots_are) active done = done_knows plan values s.words s.views id v seen.0 seen.1 active done
 
   -- where all flags are set, each cell has its value
   pub ended_cells : Ended → IsParted plan → ((j : ℕ) → j < pieces_of plan → slice_index items (1 + j) ≡ 1) → (c : ℕ) → c < plan.cells → slice_index items (cell_place plan c) ≡ word_of (value_at values c)

@@ -12,14 +12,14 @@ use Rattle.board.specs.Layout.{Layout, pieces_of, own_of, own_cell, value_at}
 use Rattle.board.specs.declared.view.View.{View}
 use Rattle.board.specs.Words.{word_count, cell_place, counter, flag, cell, own_word, word_of}
 use Rattle.board.specs.Views.{first_view, spent_view, drew, found_none, knowing, after_put, splitter, split_off, joined, Knows, IsIdle, IsWorking, next_after, seats_in}
-use Rattle.board.specs.Rule.{IsSet, IsFinished, IsUntouched, IsBegun, Grounds, IsAtWork, seats_of, Kept}
+use Rattle.board.specs.Rule.{IsSet, IsFinished, IsUntouched, IsBegun, Grounds, IsAtWork, IsDrawn, seats_of, Kept}
 use Rattle.board.specs.Seats.{IsKnownCell}
 use Rattle.board.specs.Steps.{Sat, Draws, Asks, Looks, Puts, Finishes}
 use Rattle.std.proofs.lemmas.List.{length-replicate}
 use Rattle.std.proofs.lemmas.List.Sums.{sum_by_push}
-use Rattle.std.proofs.lemmas.List.Elements.{Contains-append_left, Contains-append_cases}
+use Rattle.std.proofs.lemmas.List.Elements.{Contains-append_left, Contains-append_right, Contains-append_cases}
 use Rattle.board.proofs.Parts.{IsParted}
-use Rattle.board.proofs.Sums.{sum_at, sum_one, sum_two}
+use Rattle.board.proofs.Sums.{before_end, set_here, set_there, sum_at, sum_one, sum_two}
 use Rattle.board.proofs.Words.{counter-draw, flag-draw, cell-draw, counter-finish, flag-finish, flag-finish_other, cell-finish, counter-put, flag-put, cell-put, cell-put_other}
 
 off : {A : Type 0} {b : Bool} → b ≡ true → b ≡ false → A
@@ -75,6 +75,17 @@ split_counts false n some_left = omega arith
 some_same : {A : Type 0} {a b : A} → Some a ≡ Some b → a ≡ b
 some_same e = cc
 
+abbrev stands_for : View → ℕ
+stands_for v = v.seats
+
+-- what was drawn stays drawn where a seat's new view has drawn all that its old one had
+drawn_after : (views : List View) (id : ℕ) (v w : View) → get_elem? views id ≡ some v → w.spent ≡ false → ((j : ℕ) → Contains v.drawn j → Contains w.drawn j)
+    → (j : ℕ) → IsDrawn views j → IsDrawn (set views id w) j
+drawn_after views id v w at active more j (k, u, there, alive, has) = dite (ℕ_discrete k id)
+    (λ is. let same : u ≡ v = some-injective u v (sym there ∙ ap (λ n. get_elem? views n) is ∙ at) in
+    (id, w, set_here views id v w at, active, more j (subst (λ (x : View). Contains x.drawn j) same has)))
+    (λ other. (k, u, set_there views id k u w other there, alive, has))
+
 module _ (plan : Layout) (values : List ℤ) where
   abbrev Rule : State ℕ View → Type 0
   Rule s = Kept plan values s.words s.views
@@ -104,6 +115,7 @@ module _ (plan : Layout) (values : List ℤ) where
     last = λ j e. let p = g.last j e in let below = p.1 in (p.0, omega arith, ⊎_elim (λ (k : Knows u j). inl k) (λ (b : IsBegun plan values words j u.puts). inr (work j e p.0 b)) p.2);
     none_left = λ e. let p = g.none_left e in omega arith;
     in_order = λ a b. order a b ∙ g.in_order a b;
+    itself = g.itself;
   }
 
   views_after : (words' : List ℕ) (views : List View) (id : ℕ) (w : View) → ((k : ℕ) (u : View) → k ≢ id → get_elem? views k ≡ some u → u.spent ≡ false → Ground words' u) → (w.spent ≡ false → Ground words' w)
@@ -132,22 +144,44 @@ module _ (plan : Layout) (values : List ℤ) where
       → (k : ℕ) (u : View) (j : ℕ) → k ≢ id → get_elem? views k ≡ some u → IsAtWork words w j → IsAtWork words u j → ⊥
   same_work words views id v w at active same old k u j other there mine theirs = other (old k id u v j there at theirs (active, sym same ∙ mine.1, mine.2))
 
-  -- a step that changes no word
-  still : (words : List ℕ) (views : List View) (id : ℕ) (v w : View) → Kept plan values words views → get_elem? views id ≡ some v → v.spent ≡ false → w.last ≡ v.last → seats_in w ≤ seats_in v → Ground words w
-      → Kept plan values words (set views id w)
-  still words views id v w r at active same count grounds =
+  -- what the rule says of the views, but for who has drawn which pieces
+  record Held (words : List ℕ) (views : List View) : Type 0 where
+    each_view : (seat : ℕ) (v : View) → get_elem? views seat ≡ some v → v.spent ≡ false → Ground words v
+    apart : Apart words views
+    seats_left : seats_of views ≤ 64
+    draws_left : counter words + seats_of views ≤ pieces_of plan + 64
+
+  held : (words : List ℕ) (views : List View) (id : ℕ) (v w : View) → Kept plan values words views → get_elem? views id ≡ some v → v.spent ≡ false → w.last ≡ v.last → seats_in w ≤ seats_in v → Ground words w
+      → Held words (set views id w)
+  held words views id v w r at active same count grounds =
       let total = sum_at seats_in views id v w at in
       let left = r.seats_left in
       let draws = r.draws_left in
+      record {
+        each_view = views_after words views id w (λ k u _ e a. r.each_view k u e a) (λ _. grounds);
+        apart = apart_after words words views id w (λ k u j _ x. x) (same_work words views id v w at active same r.apart) r.apart;
+        seats_left = omega arith;
+        draws_left = omega arith;
+      }
+
+  -- a step that changes no word, after which the seat has drawn what it had drawn, and stands for as many
+  still : (words : List ℕ) (views : List View) (id : ℕ) (v w : View) → Kept plan values words views → get_elem? views id ≡ some v → v.spent ≡ false → w.last ≡ v.last → seats_in w ≤ seats_in v → Ground words w
+      → w.spent ≡ false → w.drawn ≡ v.drawn → w.seats ≡ v.seats → Kept plan values words (set views id w)
+  still words views id v w r at active same count grounds alive drawn seats =
+      let h = held words views id v w r at active same count grounds in
+      let total = sum_at stands_for views id v w at in
+      let most = r.whole in
       record {
         size = r.size;
         each_cell = r.each_cell;
         each_flag = r.each_flag;
         undrawn = r.undrawn;
-        each_view = views_after words views id w (λ k u _ e a. r.each_view k u e a) (λ _. grounds);
-        apart = apart_after words words views id w (λ k u j _ x. x) (same_work words views id v w at active same r.apart) r.apart;
-        seats_left = omega arith;
-        draws_left = omega arith;
+        each_view = h.each_view;
+        apart = h.apart;
+        seats_left = h.seats_left;
+        draws_left = h.draws_left;
+        each_drawn = λ j lt below. drawn_after views id v w at alive (λ k c. subst (λ (ds : List ℕ). Contains ds k) (sym drawn) c) j (r.each_drawn j lt below);
+        whole = omega (arith, total, most, seats);
       }
 
   unmoved : (s : State ℕ View) (i id : ℕ) (carried : List (ℕ × ℕ)) (w : View) → Kept plan values s.words (set s.views id w) → Rule (stepped s i (get_or s.words i 0) id carried w keeps)
@@ -160,13 +194,14 @@ module _ (plan : Layout) (values : List ℤ) where
     last = λ k e. let p = g.last k e in (p.0, p.1, ⊎_elim (λ (old : Knows v k). inl (knows_tail j v.known k old)) (λ (b : IsBegun plan values words k v.puts). inr b) p.2);
     none_left = g.none_left;
     in_order = g.in_order;
+    itself = g.itself;
   }
 
   -- a seat at work has not finished its piece
   working_begun : (words : List ℕ) (v : View) (j puts : ℕ) → Ground words v → IsWorking v j puts → IsBegun plan values words j puts
   working_begun words v j puts g at_work = ⊎_elim (λ (k : Knows v j). absurd (at_work.2 k)) (λ (b : IsBegun plan values words j v.puts). subst (λ (n : ℕ). IsBegun plan values words j n) at_work.1 b) (g.last j at_work.0).2
 
-  pub asks : (slots id : ℕ) (me : Sat) (j : ℕ) → me.0.spent ≡ false → j < pieces_of plan → Allows Rule slots id me (1 + j) (λ n. n) (Asks (step slots (1 + j) 0 0 none) me)
+  pub asks : (slots id : ℕ) (me : Sat) (j : ℕ) → me.0.spent ≡ false → j < pieces_of plan → Allows Rule slots id me (1 + j) (λ n. n) (Asks plan values (step slots (1 + j) 0 0 none) me)
   asks slots id me j active in_range s r _ at _ =
       let g = r.each_view id me.0 at active in
       ⊎_elim
@@ -174,29 +209,31 @@ module _ (plan : Layout) (values : List ℤ) where
         me.0,
         keeps,
         tt,
-        unmoved s (1 + j) id me.1 me.0 (still s.words s.views id me.0 me.0 r at active refl (omega arith) g),
+        unmoved s (1 + j) id me.1 me.0 (still s.words s.views id me.0 me.0 r at active refl (omega arith) g active refl refl),
         λ k e. let same : k ≡ j = omega arith in (
           inl (unset, refl),
           (λ knows. let one = (g.known k knows).1 in let here = ap (λ n. flag s.words n) same in absurd (omega arith)),
-          λ m puts w. w,
+          (λ m puts w. w),
+          λ _. (s.words, s.views, id, r, at, ap (λ n. flag s.words n) same ∙ unset),
         ),
       ))
       (λ (done : IsFinished plan values s.words j). (
         knowing me.0 j,
         keeps,
         tt,
-        unmoved s (1 + j) id me.1 (knowing me.0 j) (still s.words s.views id me.0 (knowing me.0 j) r at active refl (omega arith) (knowing_grounds s.words me.0 j in_range done.0 g)),
+        unmoved s (1 + j) id me.1 (knowing me.0 j) (still s.words s.views id me.0 (knowing me.0 j) r at active refl (omega arith) (knowing_grounds s.words me.0 j in_range done.0 g) active refl refl),
         λ k e. let same : j ≡ k = omega arith in (
           inr (done.0, ap (λ (n : ℕ). (knowing me.0 n, me.1)) same),
           (λ knows. done.0),
-          λ m puts w. (
+          (λ m puts w. (
             w.0,
             w.1,
             λ c. ⊎_elim
                 (λ (is : j ≡ m). let b = (working_begun s.words me.0 m puts g w).unfinished in let set_here : flag s.words m ≡ 1 = ap (λ n. flag s.words n) (sym is) ∙ done.0 in absurd (omega arith))
                 (λ (old : Contains me.0.known m). w.2 old)
                 (knows_cases j me.0.known m c),
-          ),
+          )),
+          λ zero. let one = done.0 in absurd (omega (arith, zero, one)),
         ),
       ))
       (r.each_flag j in_range)
@@ -216,7 +253,7 @@ module _ (plan : Layout) (values : List ℤ) where
         me.0,
         keeps,
         tt,
-        unmoved s (1 + pieces_of plan + c) id me.1 me.0 (still s.words s.views id me.0 me.0 r at active refl (omega arith) g),
+        unmoved s (1 + pieces_of plan + c) id me.1 me.0 (still s.words s.views id me.0 me.0 r at active refl (omega arith) g active refl refl),
         (refl, λ d e. let same : c ≡ d = omega arith in subst (λ (n : ℕ). cell plan s.words c ≡ word_of (value_at values n)) same found),
       )
 
@@ -235,8 +272,9 @@ module _ (plan : Layout) (values : List ℤ) where
       → Ground (set words 0 (counter words + 1)) w
       → ((k : ℕ) (u : View) (j : ℕ) → k ≢ id → get_elem? views k ≡ some u → IsAtWork (set words 0 (counter words + 1)) w j → IsAtWork (set words 0 (counter words + 1)) u j → ⊥)
       → seats_of (set views id w) ≤ 64 → counter words + 1 + seats_of (set views id w) ≤ pieces_of plan + 64
+      → ((j : ℕ) → j < pieces_of plan → j < counter words + 1 → IsDrawn (set views id w) j) → w.seats ≡ v.seats
       → Kept plan values (set words 0 (counter words + 1)) (set views id w)
-  counted words views id v w r at active more grounds mine left draws =
+  counted words views id v w r at active more grounds mine left draws drawn seats =
       let next : ℕ = counter words + 1 in
       let words' : List ℕ = set words 0 next in
       let size = r.size in
@@ -260,6 +298,8 @@ module _ (plan : Layout) (values : List ℤ) where
         apart = apart_after words words' views id w (λ k u j _ x. (x.0, x.1, sym (flags j) ∙ x.2)) mine r.apart;
         seats_left = left;
         draws_left = omega arith;
+        each_drawn = λ j lt below. drawn j lt (omega arith);
+        whole = let total = sum_at stands_for views id v w at in let most = r.whole in omega (arith, total, most, seats);
       }
 
   -- the next piece comes after the last
@@ -289,10 +329,15 @@ module _ (plan : Layout) (values : List ℤ) where
             (below, omega arith, inr (fresh_begun words words' n (flags n) (λ i _. cells (own_cell plan n i)) (r.undrawn n below (omega arith))));
         none_left = λ e. off e more;
         in_order = λ _ _. count;
+        itself = g.itself;
       })
       (λ k u j other e mine theirs. let is : n ≡ j = some_same mine.1 in let p = (r.each_view k u e theirs.0).last j theirs.1 in let q = p.1 in omega arith)
       (omega arith)
       (omega arith)
+      (λ j lt upto. dite (ℕ_discrete j n)
+      (λ is. (id, w, set_here views id v w at, active, subst (λ (m : ℕ). Contains (n ∷ v.drawn) m) (sym is) (knows_head n v.drawn)))
+      (λ other. drawn_after views id v w at active (λ k c. knows_tail n v.drawn k c) j (r.each_drawn j lt (omega arith))))
+      refl
 
   draws_none : (words : List ℕ) (views : List View) (id : ℕ) (v : View) → Kept plan values words views → get_elem? views id ≡ some v → v.spent ≡ false → v.none_left ≡ false → pieces_of plan ≤ counter words
       → Kept plan values (set words 0 (counter words + 1)) (set views id (found_none v))
@@ -317,10 +362,13 @@ module _ (plan : Layout) (values : List ℤ) where
         last = λ j e. let p = g.last j e in let q = p.1 in (p.0, omega arith, ⊎_elim (λ (k : Knows v j). inl k) (λ (b : IsBegun plan values words j v.puts). inr (begun_stays words words' j v.puts (flags j) (λ i _. cells (own_cell plan j i)) b)) p.2);
         none_left = λ _. omega arith;
         in_order = λ _ e. absurd (true≢false e);
+        itself = g.itself;
       })
       (λ k u j other e mine theirs. same_work words views id v w at active refl r.apart k u j other e (mine.0, mine.1, sym (flags j) ∙ mine.2) (theirs.0, theirs.1, sym (flags j) ∙ theirs.2))
       (omega arith)
       (omega arith)
+      (λ j lt _. drawn_after views id v w at active (λ k c. c) j (r.each_drawn j lt (omega arith)))
+      refl
 
   pub draws : (slots id : ℕ) (me : Sat) → IsParted plan → me.0.spent ≡ false → me.0.none_left ≡ false
       → Allows Rule slots id me 0 (λ n. (n + 1) % 2 ^ 64) (Draws plan values (step slots 0 1 0 none) me)
@@ -427,6 +475,7 @@ module _ (plan : Layout) (values : List ℤ) where
                     );
                 none_left = λ e. let p = put_grounds.none_left e in omega arith;
                 in_order = λ a b. count ∙ put_grounds.in_order a b;
+                itself = put_grounds.itself;
               });
           apart = apart_after words put_words views id (after_put v)
               (λ k u m e x. let h = ((r.each_view k u e x.0).last m x.1).0 in (x.0, x.1, sym (flags_put m h) ∙ x.2))
@@ -435,6 +484,8 @@ module _ (plan : Layout) (values : List ℤ) where
               r.apart;
           seats_left = omega arith;
           draws_left = omega arith;
+          each_drawn = λ k lt below. drawn_after views id v (after_put v) at active (λ m c. c) k (r.each_drawn k lt (omega arith));
+          whole = let sum = sum_at stands_for views id v (after_put v) at in let most = r.whole in omega (arith, sum, most);
         }
 
   pub puts_one : (slots id : ℕ) (me : Sat) (j puts c n : ℕ) → IsParted plan → me.0.spent ≡ false → IsWorking me.0 j puts → puts < length (own_of plan j) → own_cell plan j puts ≡ c → n ≡ word_of (value_at values c)
@@ -520,6 +571,7 @@ module _ (plan : Layout) (values : List ℤ) where
                     subst (λ (n : ℕ). (n < pieces_of plan) × (n < counter done_words) × (Knows (knowing v j) n ⊎ IsBegun plan values done_words n v.puts)) is (done_in_range, omega arith, inl (knows_head j v.known));
                 none_left = λ e. let p = done_grounds.none_left e in omega arith;
                 in_order = λ a b. count ∙ done_grounds.in_order a b;
+                itself = done_grounds.itself;
               });
           apart = apart_after words done_words views id (knowing v j)
               (λ k u m e x. (x.0, x.1, still_unfinished m x.2))
@@ -527,6 +579,8 @@ module _ (plan : Layout) (values : List ℤ) where
               r.apart;
           seats_left = omega arith;
           draws_left = omega arith;
+          each_drawn = λ k lt under. drawn_after views id v (knowing v j) at active (λ m c. c) k (r.each_drawn k lt (omega arith));
+          whole = let sum = sum_at stands_for views id v (knowing v j) at in let most = r.whole in omega (arith, sum, most);
         }
 
   pub finishes : (slots id : ℕ) (me : Sat) (j : ℕ) → me.0.spent ≡ false → IsWorking me.0 j (length (own_of plan j)) → Allows Rule slots id me (1 + j) (λ _. 1) (λ _. Finishes (step slots (1 + j) 1 0 none) me 1)
@@ -562,12 +616,17 @@ module _ (plan : Layout) (values : List ℤ) where
       let left = r.seats_left in
       let draws = r.draws_left in
       let fewer : seats_in (splitter v) + seats_in (split_off v) ≤ seats_in v = rw active (split_counts v.none_left v.allowance some_left) in
-      let ground : (n : ℕ) → (n ≡ 63 → v.none_left ≡ false → ⊥) → Ground s.words (record v { allowance = n }) = λ n less. record {
+      let own = g.itself in
+      let ground : (n seats : ℕ) (drawn : List ℕ) → (n ≡ 63 → v.none_left ≡ false → ⊥) → n < seats → Ground s.words (record v { allowance = n; drawn = drawn; seats = seats }) = λ n seats drawn less itself. record {
         known = g.known;
         last = g.last;
         none_left = g.none_left;
         in_order = λ a b. absurd (less a b);
+        itself = itself;
       } in
+      let all = sum_at stands_for s.views id v (splitter v) at in
+      let all_too = sum_by_push stands_for views (split_off v) in
+      let whole = r.whole in
       record {
         size = r.size;
         each_cell = r.each_cell;
@@ -575,13 +634,17 @@ module _ (plan : Layout) (values : List ℤ) where
         undrawn = r.undrawn;
         each_view = λ k u e a. ⊎_elim
             (λ (old : get_elem? views k ≡ some u). views_after s.words s.views id (splitter v) (λ i x _. r.each_view i x)
-            (λ _. ground (v.allowance - 1) (λ full more. let whole = seats_in-drawing v active more in omega arith)) k u old a)
-            (λ (new : split_off v ≡ u). subst (λ (x : View). Ground s.words x) new (ground 0 (λ none_left _. omega arith)))
+            (λ _. ground (v.allowance - 1) (v.seats - 1) v.drawn (λ full more. let all_of_them = seats_in-drawing v active more in omega arith) (omega arith)) k u old a)
+            (λ (new : split_off v ≡ u). subst (λ (x : View). Ground s.words x) new (ground 0 1 [] (λ none_left _. omega arith) (omega arith)))
             (at_snoc views (split_off v) u k e);
         apart = at_snoc_apart s.words views (split_off v) (λ j w. at_rest s.words v j g idle w)
             (apart_after s.words s.words s.views id (splitter v) (λ k u j _ x. x) (λ k u j _ _ w _. at_rest s.words v j g idle w) r.apart);
         seats_left = omega arith;
         draws_left = omega arith;
+        each_drawn = λ j lt below.
+            let h = drawn_after s.views id v (splitter v) at active (λ k c. c) j (r.each_drawn j lt below) in
+            (h.0, h.1, before_end views (split_off v ∷ []) h.0 h.1 h.2, h.3, h.4);
+        whole = omega (arith, all, all_too, whole, own);
       }
 
   -- join
@@ -591,7 +654,22 @@ module _ (plan : Layout) (values : List ℤ) where
     last = λ j e. let p = g.last j e in (p.0, p.1, inl (Contains-append_left v.known w.known j (idle j e)));
     none_left = λ e. ⊎_elim (λ (a : v.none_left ≡ true). g.none_left a) (λ (b : w.none_left ≡ true). h.none_left b) (one_or_other v.none_left w.none_left e);
     in_order = λ a b. g.in_order a (neither v.none_left w.none_left b);
+    itself = let own = g.itself in omega (arith, own);
   }
+
+  -- what either seat had drawn the joined one has
+  drawn_joined : (views : List View) (id other : ℕ) (v w : View) (j : ℕ) → get_elem? views id ≡ some v → get_elem? views other ≡ some w → id ≢ other → v.spent ≡ false
+      → IsDrawn views j → IsDrawn (set (set views id (joined v w)) other spent_view) j
+  drawn_joined views id other v w j at there apart active (k, u, e, alive, has) =
+      let both : List View = set views id (joined v w) in
+      let here : get_elem? (set both other spent_view) id ≡ some (joined v w) = set_there both other id (joined v w) spent_view apart (set_here views id v (joined v w) at) in
+      dite (ℕ_discrete k id)
+      (λ is. let same : u ≡ v = some-injective u v (sym e ∙ ap (λ n. get_elem? views n) is ∙ at) in
+      (id, joined v w, here, active, Contains-append_left v.drawn w.drawn j (subst (λ (x : View). Contains x.drawn j) same has)))
+      (λ not_id. dite (ℕ_discrete k other)
+      (λ is. let same : u ≡ w = some-injective u w (sym e ∙ ap (λ n. get_elem? views n) is ∙ there) in
+      (id, joined v w, here, active, Contains-append_right v.drawn w.drawn j (subst (λ (x : View). Contains x.drawn j) same has)))
+      (λ not_other. (k, u, set_there both other k u spent_view not_other (set_there views id k u (joined v w) not_id e), alive, has)))
 
   seats_in-joined : (v w : View) → v.spent ≡ false → seats_in (joined v w) ≤ seats_in v
   seats_in-joined v w active = rw active (or_counts v.none_left w.none_left v.allowance)
@@ -605,7 +683,11 @@ module _ (plan : Layout) (values : List ℤ) where
       let views : List View = set s.views id (joined v w) in
       let g = r.each_view id v at active in
       let h = r.each_view other w was active_too in
-      let one : Kept plan values s.words views = still s.words s.views id v (joined v w) r at active refl (seats_in-joined v w active) (joined_grounds s.words v w idle g h) in
+      let one : Held s.words views = held s.words s.views id v (joined v w) r at active refl (seats_in-joined v w active) (joined_grounds s.words v w idle g h) in
+      let here : get_elem? views id ≡ some (joined v w) = set_here s.views id v (joined v w) at in
+      let all = sum_at stands_for s.views id v (joined v w) at in
+      let all_too = sum_at stands_for views other w spent_view there in
+      let whole = r.whole in
       let total = sum_at seats_in views other w spent_view there in
       let gone = seats_in-spent spent_view refl in
       let left = one.seats_left in
@@ -619,6 +701,8 @@ module _ (plan : Layout) (values : List ℤ) where
         apart = apart_after s.words s.words views other spent_view (λ k u j _ x. x) (λ k u j _ _ x _. absurd (true≢false x.0)) one.apart;
         seats_left = omega arith;
         draws_left = omega arith;
+        each_drawn = λ j lt below. drawn_joined s.views id other v w j at was (λ e. apart (sym e)) active (r.each_drawn j lt below);
+        whole = omega (arith, all, all_too, whole);
       }
 
   -- open: all words are 0, and there is one view
@@ -644,10 +728,13 @@ module _ (plan : Layout) (values : List ℤ) where
           last = λ j e. absurd (none_last e);
           none_left = λ e. absurd (true≢false (sym e));
           in_order = λ _ _. none_drawn;
+          itself = omega arith;
         };
         apart = λ one two v w j e d _ _. alone one two v w e d;
         seats_left = omega arith;
         draws_left = omega arith;
+        each_drawn = λ j _ below. absurd (omega (arith, below, none_drawn));
+        whole = omega arith;
       }
     where
       only : (k : ℕ) (v : View) → get_elem? (first_view ∷ []) k ≡ some v → first_view ≡ v

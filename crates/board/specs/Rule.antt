@@ -1,5 +1,5 @@
 -- The rule of a board's table: what holds of its words and of all seats' views between any two steps.
-use Rattle.std.specs.Prelude.{◌≡◌, ℕ, ◌+◌, ◌<◌, ◌≤◌, true, false, ◌⊎◌, ℤ, List, length, slice_index, Some, sum_by}
+use Rattle.std.specs.Prelude.{◌≡◌, ℕ, ◌+◌, ◌<◌, ◌≤◌, true, false, ◌⊎◌, ℤ, List, length, slice_index, Contains, Some, sum_by}
 use mathlib.Core.Option.{some}
 use lib.ListN.{get_elem?}
 use Rattle.board.specs.Layout.{Layout, pieces_of, own_of, value_at}
@@ -44,6 +44,8 @@ module _ (plan : Layout) (values : List ℤ) (words : List ℕ) where
     pub none_left : v.none_left ≡ true → pieces_of plan ≤ counter words
     -- while it may still split off 63 seats, it has drawn all that is drawn
     pub in_order : v.allowance ≡ 63 → v.none_left ≡ false → counter words ≡ next_after v.last
+    -- it stands for itself, besides those that it may still split off
+    pub itself : v.allowance < v.seats
 
 -- the seat has drawn piece j last, and has not finished it
 abbrev pub IsAtWork : List ℕ → View → ℕ → Type 0
@@ -52,6 +54,14 @@ IsAtWork words v j = (v.spent ≡ false) × (v.last ≡ Some j) × (flag words j
 -- all seats together: those still to be split off, and those that may draw
 abbrev pub seats_of : List View → ℕ
 seats_of views = sum_by seats_in views
+
+-- how many seats all views stand for
+abbrev pub all_seats : List View → ℕ
+all_seats views = sum_by (λ v. v.seats) views
+
+-- some seat, or one joined to it, has drawn piece j
+abbrev pub IsDrawn : List View → ℕ → Type 0
+IsDrawn views j = (seat : ℕ) × (v : View) × (get_elem? views seat ≡ some v) × (v.spent ≡ false) × Contains v.drawn j
 
 -- The rule. A view that `join` left is spent, and says nothing
 pub record Kept (plan : Layout) (values : List ℤ) (words : List ℕ) (views : List View) : Type 0 where
@@ -65,6 +75,8 @@ pub record Kept (plan : Layout) (values : List ℤ) (words : List ℕ) (views : 
   pub apart : (one two : ℕ) (v w : View) (j : ℕ) → get_elem? views one ≡ some v → get_elem? views two ≡ some w → IsAtWork words v j → IsAtWork words w j → one ≡ two
   pub seats_left : seats_of views ≤ 64
   pub draws_left : counter words + seats_of views ≤ pieces_of plan + 64
+  pub each_drawn : (j : ℕ) → j < pieces_of plan → j < counter words → IsDrawn views j
+  pub whole : all_seats views ≤ 64
 
 -- The step met a table that keeps the rule, in which the seat had this view, and P held of its words
 abbrev pub AtStep : Layout → List ℤ → View → (List ℕ → Type 0) → Type 0

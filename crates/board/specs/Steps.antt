@@ -3,7 +3,7 @@ use Rattle.std.specs.Prelude.{◌≡◌, ℕ, ◌<◌, ◌≤◌, ◌⊎◌, ℤ
 use Rattle.atomic_table.specs.Table.{Me, Step}
 use Rattle.board.specs.Layout.{Layout, pieces_of, value_at}
 use Rattle.board.specs.declared.view.View.{View}
-use Rattle.board.specs.Words.{counter, flag_place, cell_place, word_of}
+use Rattle.board.specs.Words.{counter, flag, flag_place, cell_place, word_of}
 use Rattle.board.specs.Views.{Knows, IsWorking, drew, found_none, knowing, after_put, next_after}
 use Rattle.board.specs.Rule.{AtStep}
 
@@ -17,10 +17,11 @@ Draws plan values st m found m' =
     × (pieces_of plan ≤ found → (m' ≡ (found_none m.0, m.1)) × (m.0.allowance ≡ 63 → pieces_of plan ≤ next_after m.0.last) × AtStep plan values m.0 (λ words. pieces_of plan ≤ counter words))
 
 -- ask about piece j: its flag is set and it is known from now on, or it is not and nothing changes. A known piece is always found
-abbrev pub Asks : Step ℕ → Sat → ℕ → Sat → Type 0
-Asks st m found m' = (j : ℕ) → st.word ≡ flag_place j
+abbrev pub Asks : Layout → List ℤ → Step ℕ → Sat → ℕ → Sat → Type 0
+Asks plan values st m found m' = (j : ℕ) → st.word ≡ flag_place j
     → (((found ≡ 0) × (m' ≡ m)) ⊎ ((found ≡ 1) × (m' ≡ (knowing m.0 j, m.1)))) × (Knows m.0 j → found ≡ 1)
     × ((k puts : ℕ) → IsWorking m.0 k puts → IsWorking m'.0 k puts)
+    × (found ≡ 0 → AtStep plan values m.0 (λ words. flag words j ≡ 0))
 
 -- look at cell c: its value
 abbrev pub Looks : Layout → List ℤ → Step ℕ → Sat → ℕ → Sat → Type 0

@@ -1,7 +1,7 @@
 //! The board.
 
 ghost use Rattle.std.specs.Slots.{slots_items, slots_len, IsFull};
-ghost use Rattle.std.specs.Prelude.{◌≡◌, ◌≢◌, ℕ, ◌+◌, ◌^◌, ◌<◌, ◌≤◌, ◌↔◌, true, false, length, map, slice_index, IfSome, IfNone, IfOk, IfErr, IsOk, IsTrue, MatchBool};
+ghost use Rattle.std.specs.Prelude.{◌≡◌, ◌≢◌, ℕ, ◌+◌, ◌^◌, ◌<◌, ◌≤◌, ◌↔◌, true, false, length, map, slice_index, IfSome, IfNone, IfOk, IfErr, IsOk, IsTrue, MatchBool, ⊤};
 ghost use Rattle.std.specs.List.{range_with_len};
 ghost use Rattle.meaning.specs.Image.View.{image_of};
 ghost use Rattle.board.specs.Words.{bits_of};
@@ -49,9 +49,9 @@ impl<J: Run> Model for Board<J> {
 }
 
 impl<J: Run> Board<J> {
-    ghost use Rattle.board.specs.Views.{first_view, drew, found_none, knowing, after_put, next_after, splitter, split_off, joined, Knows, IsIdle};
+    ghost use Rattle.board.specs.Views.{first_view, drew, found_none, knowing, after_put, next_after, splitter, split_off, joined, Knows, IsDone, IsIdle};
     ghost use Rattle.board.specs.Seats.{Task, place, seeing, task, IsTicketOf, IsKnownCell, KnowsAll, IsFirstUnfinished};
-    ghost use Rattle.board.specs.Words.{counter, cell};
+    ghost use Rattle.board.specs.Words.{counter, cell, flag};
     ghost use Rattle.board.specs.Rule.{AtStep};
 
     /// A board with nothing drawn, and its first seat, which may split off 63 more.
@@ -112,18 +112,19 @@ impl<J: Run> Board<J> {
         None
     }
 
-    /// Whether a piece is finished. If so, the seat knows it from now on.
+    /// Whether a piece is finished. If so, the seat knows it from now on; if not, its flag was not set when it was read.
     pub fn ask(&self, seat: &mut BoardSeat, piece: u32) -> bool
         requires board { seat.old.board ≡ self.now }
         requires piece { piece < pieces_of J.layout }
         ensures answer { MatchBool result (seat.new ≡ seeing seat.old (knowing seat.old.view piece)) (seat.new ≡ seat.old) }
         ensures yes { IsTrue result → Knows seat.new.view piece }
+        ensures no { MatchBool result ⊤ (AtStep J.layout J.values seat.old.view (λ words. flag words piece ≡ 0)) }
         ensures known { Knows seat.old.view piece → IsTrue result }
         ensures more { (j : ℕ) → Knows seat.old.view j → Knows seat.new.view j }
         ensures ticket { (t : Task) → IsTicketOf J.layout seat.old.view t → IsTicketOf J.layout seat.new.view t }
     {
         let flag = 1 + piece as usize;
-        self.table.shared.load::<Ask>(&mut seat.seat, flag) == 1
+        self.table.shared.load::<Ask<J>>(&mut seat.seat, flag) == 1
     }
 
     /// The bits of the value of a cell of a known piece.
@@ -199,7 +200,7 @@ impl<J: Run> Board<J> {
         })
     }
 
-    /// Adds what another seat knows.
+    /// Adds what another seat knows. The seat stands for both from now on, and for the pieces that both drew.
     pub fn join(&self, seat: &mut BoardSeat, other: BoardSeat)
         requires board { (seat.old.board ≡ self.now) × (other.board ≡ self.now) }
         requires idle { IsIdle seat.old.view × IsIdle other.view }
@@ -214,11 +215,13 @@ impl<J: Run> Board<J> {
         seat.none_left = seat.none_left || none_left;
     }
 
-    /// The picture, or the first piece that is not finished.
+    /// The picture, or the first piece that is not finished. It is the picture where the seat knows all pieces, and so where all
+    /// other seats are joined to it, all pieces are drawn, and it knows all that they drew.
     pub fn close(self, seat: BoardSeat) -> Result<Image, Unfinished>
         requires { seat.board ≡ self }
         ensures picture { IfOk result (λ image. image_of image ≡ picture_of J.layout J.values) }
         ensures all_known { KnowsAll J.layout seat.view → IsOk result }
+        ensures done { IsDone seat.view → IsOk result }
         ensures unfinished { IfErr result (λ e. AtStep J.layout J.values seat.view (λ words. IsFirstUnfinished J.layout words e.0)) }
     {
         let Board {

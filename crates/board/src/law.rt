@@ -49,12 +49,14 @@ impl<J: Run> Play<u8, View> for Draw<J> {
 }
 
 /// The step of `ask`.
-pub struct Ask;
+pub struct Ask<J> {
+    run: PhantomData<J>,
+}
 
-impl Play<u8, View> for Ask {
+impl<J: Run> Play<u8, View> for Ask<J> {
     ghost use Rattle.board.specs.Steps.{Asks};
 
-    ghost then = { Asks };
+    ghost then = { Asks J.layout J.values };
 }
 
 /// The step of `look`.

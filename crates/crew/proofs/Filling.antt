@@ -1,11 +1,12 @@
 -- How a seat's view goes while it fills a piece.
-use Rattle.std.proofs.Common.{◌≡◌, ℕ, zero, suc, ◌+◌, ◌<◌, ◌∙◌, List, [], ◌∷◌, Some, ℤ, map, length, get_or, pos, refl, ap, sym, subst, arith}
+use Rattle.std.proofs.Common.{◌≡◌, ◌⊎◌, inl, inr, ℕ, zero, suc, ◌+◌, ◌<◌, ◌∙◌, List, [], ◌∷◌, ℤ, map, length, get_or, pos, refl, ap, sym, subst, arith}
 use Rattle.std.specs.Prelude.{Contains, slice_index}
 use Rattle.std.proofs.lemmas.List.{get_or-map, length-map}
 use Rattle.std.proofs.lemmas.Option.{same_Some}
 use Rattle.board.specs.declared.view.View.{View}
-use Rattle.board.specs.Views.{after_put, knowing, completed, IsIdle}
+use Rattle.board.specs.Views.{after_put, drew, knowing, completed, HasFinished, IsIdle, Knows}
 use Rattle.board.specs.Seats.{Place, Task, seeing, task}
+use Rattle.crew.specs.Learning.{HasLearned}
 
 -- the view with this many puts
 abbrev pub with_puts : View → ℕ → View
@@ -29,9 +30,22 @@ value_there f values own i is inside =
     let l : i < length own = (let m = length-map own f in subst (λ n. i < n) (ap (λ (xs : List ℤ). length xs) is ∙ m) inside) in
     ap (λ (xs : List ℤ). get_or xs i (pos 0)) is ∙ get_or-map f own i 0 (pos 0) l
 
--- once the piece drawn last is completed, the seat is idle
-pub idle_again : (s t : Place) (j n : ℕ) → s.view.last ≡ Some j → t ≡ seeing s (completed s.view j n) → IsIdle t.view
-idle_again s t j n last is = subst (λ (p : Place). IsIdle p.view) (sym is) (λ i e. let same : j ≡ i = same_Some j i (sym last ∙ e) in (0, omega arith, same))
+list_cases : (x : ℕ) (xs : List ℕ) (y : ℕ) → Contains (x ∷ xs) y → (x ≡ y) ⊎ Contains xs y
+list_cases x xs y c = at c.0 c.1 c.2
+  where
+    at : (k : ℕ) → k < length (x ∷ xs) → get_or (x ∷ xs) k y ≡ y → (x ≡ y) ⊎ Contains xs y
+    at zero lt e = inl e
+    at (suc k) lt e = inr (k, omega (arith, lt), e)
+
+-- once the piece that was drawn is finished, the seat is idle, and has finished all if it had
+pub idle_filled : (v w : View) (j : ℕ) → HasLearned (drew v j) w → Knows w j → IsIdle w
+idle_filled v w j learned known = λ i e. subst (λ (n : ℕ). Knows w n) (same_Some j i (sym learned.last ∙ e)) known
+
+pub finished_filled : (v w : View) (j : ℕ) → HasLearned (drew v j) w → Knows w j → HasFinished v → HasFinished w
+finished_filled v w j learned known before = λ i h. elim (list_cases j v.drawn i (subst (λ (ds : List ℕ). Contains ds i) learned.drawn h)) [
+  | inl same ↦ subst (λ (n : ℕ). Knows w n) same known
+  | inr old ↦ learned.more i (before i old)
+]
 
 -- what stands at a place does not depend on what stands for none
 pub same_there : (xs : List ℕ) (k d e : ℕ) → k < length xs → get_or xs k d ≡ get_or xs k e

@@ -9,8 +9,10 @@ pub mod Owners
 pub mod Points
 pub mod Filling
 pub mod Private
+pub mod Learnt
 pub mod Left
 pub mod Most
+pub mod Suited
 pub mod Scratches
 mod Shared
 pub mod Runs

@@ -17,3 +17,7 @@ one_list_more lists i most new list before is le here j lt = elim (cases_lt j i)
 
 pub all_lists : (lists : ℕ → List ℕ) (i count end most : ℕ) → count ≡ end → end ≤ i → IsMostBefore lists i most → IsMostBefore lists count most
 all_lists lists i count end most is past before j lt = before j (omega (arith, lt, is, past))
+
+-- the longest so far is no longer than what none of all lists is longer than
+abbrev pub IsLeastBefore : (ℕ → List ℕ) → ℕ → ℕ → Type 0
+IsLeastBefore lists count most = (n : ℕ) → IsMostBefore lists count n → most ≤ n

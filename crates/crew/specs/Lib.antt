@@ -1,3 +1,5 @@
+pub mod Crews
+pub mod Learning
 pub mod Opening
 pub mod Private
 pub mod Refusals

@@ -1,8 +1,7 @@
 -- What the workers of a crew have before they begin, and what they know once they come back.
-use Rattle.std.specs.Prelude.{◌≡◌, ℕ, List, true}
+use Rattle.std.specs.Prelude.{◌≡◌, ℕ, List, true, sum_by}
 use Rattle.atomic_table.specs.Seated.{TableId}
-use Rattle.board.specs.declared.view.View.{View}
-use Rattle.board.specs.Views.{IsIdle, Knows}
+use Rattle.board.specs.Views.{HasFinished, IsIdle}
 use Rattle.checked_plan.specs.declared.checked.Checked.{Checked}
 use Rattle.interpreter.specs.declared.scratch.Scratch.{Scratch}
 use Rattle.crew.specs.Private.{HasRoom}
@@ -12,6 +11,7 @@ use Rattle.crew.specs.declared.workers.Worker.{Worker}
 pub record IsReady (table : TableId) (x : Checked) (count : ℕ) (suffices : List Scratch → Type 0) (w : Worker) : Type 0 where
   pub board : w.seat.board ≡ table
   pub idle : IsIdle w.seat.view
+  pub finished : HasFinished w.seat.view
   pub scratches : suffices w.desk.scratches.items
   pub room : HasRoom x count w.desk.looked
 
@@ -19,8 +19,9 @@ pub record IsReady (table : TableId) (x : Checked) (count : ℕ) (suffices : Lis
 pub record HasDrawnAll (table : TableId) (w : Worker) : Type 0 where
   pub board : w.seat.board ≡ table
   pub idle : IsIdle w.seat.view
+  pub finished : HasFinished w.seat.view
   pub drawn : w.seat.view.none_left ≡ true
 
--- the first seat knows all that the second knows
-abbrev pub KnowsOf : View → View → Type 0
-KnowsOf v w = (j : ℕ) → Knows w j → Knows v j
+-- how many of the board's seats these workers stand for
+abbrev pub seats_held : List Worker → ℕ
+seats_held ws = sum_by (λ w. w.seat.view.seats) ws

@@ -12,3 +12,5 @@ mod workers;
 pub use gate::{Gate, Unwatched};
 pub use runnable::can_run;
 pub use running::{RunError, run};
+pub use values::{Desk, Pieces};
+pub use worker::{try_piece, work};

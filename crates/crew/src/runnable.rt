@@ -1,6 +1,6 @@
 //! Which plans workers can run.
 
-ghost use Rattle.std.specs.Prelude.{◌≡◌, ◌≤◌, IsTrue, length, map};
+ghost use Rattle.std.specs.Prelude.{◌≡◌, ◌≤◌, ℕ, IsTrue, length, map};
 ghost use Rattle.std.specs.List.{AllByRecursion};
 ghost use Rattle.crew.specs.Opening.Layouts.{layout_of};
 ghost use Rattle.board.specs.Layout.{pieces_of};
@@ -20,6 +20,7 @@ use plan::{Group, Plan};
 fn at_least(most: usize, cells: &[u32]) -> usize
     ensures most { most ≤ result }
     ensures cells { length cells.now ≤ result }
+    ensures least { (n : ℕ) → most ≤ n → length cells.now ≤ n → result ≤ n }
 {
     if most < cells.len() {
         cells.len()
@@ -42,7 +43,8 @@ pub(crate) fn most_own(checked: &Checked<'_>) -> usize
 
 /// How many cells a piece fetches at most.
 pub(crate) fn most_fetched(checked: &Checked<'_>) -> usize
-    ensures { IsMostFetched checked.now (pieces_of (layout_of checked.now)) result }
+    ensures most { IsMostFetched checked.now (pieces_of (layout_of checked.now)) result }
+    ensures least { (n : ℕ) → IsMostFetched checked.now (pieces_of (layout_of checked.now)) n → result ≤ n }
 {
     own_is_of_work();
     let mut most = 0;
@@ -54,14 +56,16 @@ pub(crate) fn most_fetched(checked: &Checked<'_>) -> usize
 
 /// Whether a number is an `i32`.
 fn is_index(number: i64) -> bool
-    ensures { IsTrue result → IsOf I32 number }
+    ensures yes { IsTrue result → IsOf I32 number }
+    ensures no { IsOf I32 number → IsTrue result }
 {
     wrap(Ty::I32, number) == number
 }
 
 /// Whether the ends of spans are `i32` values.
 fn have_index_ends(region: &[Span1]) -> bool
-    ensures { IsTrue result → AllByRecursion HasIndexEnds region.now }
+    ensures yes { IsTrue result → AllByRecursion HasIndexEnds region.now }
+    ensures no { AllByRecursion HasIndexEnds region.now → IsTrue result }
 {
     match region {
         [] => true,
@@ -73,7 +77,8 @@ fn have_index_ends(region: &[Span1]) -> bool
 
 /// Whether the coordinates of the groups' cells are `i32` values.
 fn have_indices(groups: &[Group]) -> bool
-    ensures { IsTrue result → HaveIndices (map group_of groups.now) }
+    ensures yes { IsTrue result → HaveIndices (map group_of groups.now) }
+    ensures no { HaveIndices (map group_of groups.now) → IsTrue result }
 {
     match groups {
         [] => true,
@@ -86,7 +91,8 @@ fn have_indices(groups: &[Group]) -> bool
 ///
 /// The time is linear in the groups.
 pub(crate) fn is_runnable(plan: &Plan, most: usize) -> bool
-    ensures { IsTrue result → IsRunnable (plan_of plan.now).groups most }
+    ensures yes { IsTrue result → IsRunnable (plan_of plan.now).groups most }
+    ensures no { IsRunnable (plan_of plan.now).groups most → IsTrue result }
 {
     most == 0 || have_indices(plan.groups.as_slice())
 }
@@ -96,7 +102,8 @@ pub(crate) fn is_runnable(plan: &Plan, most: usize) -> bool
 ///
 /// The time is linear in the groups and the pieces. It takes no memory.
 pub fn can_run(checked: &Checked<'_>) -> bool
-    ensures { IsTrue result → IsForWorkers checked.now }
+    ensures yes { IsTrue result → IsForWorkers checked.now }
+    ensures no { IsForWorkers checked.now → IsTrue result }
 {
     is_runnable(checked.plan(), most_fetched(checked))
 }

@@ -1,13 +1,15 @@
 //! The run of a checked plan by a crew.
 
-ghost use Rattle.std.specs.Prelude.{◌≡◌, ◌≤◌, IfErr, IfOk};
+ghost use Rattle.std.specs.Prelude.{◌≡◌, ◌≤◌, IfErr, IfNone, IfOk, IfSome};
 ghost use Rattle.algo.specs.View.{picture_of, picture_said, samples_of, IsFor};
 ghost use Rattle.checked_plan.specs.View.{algorithm_checked, plan_checked};
 ghost use Rattle.board.specs.Layout.{pieces_of};
 ghost use Rattle.board.specs.Seats.{place};
 ghost use Rattle.board.specs.Views.{first_view};
 ghost use Rattle.crew.specs.Opening.Layouts.{layout_of, values_of};
-ghost use Rattle.crew.specs.Private.{CanRun, IsMostFetched, IsRunnable};
+ghost use Rattle.board.specs.Views.{IsDone};
+ghost use Rattle.crew.specs.Crews.{ArePieces};
+ghost use Rattle.crew.specs.Private.{CanRun, IsForWorkers, IsMostFetched, IsRunnable};
 ghost use Rattle.crew.specs.Refusals.{HasWorked, IsRunRefused};
 ghost use Rattle.crew.specs.declared.running.RunError.TheVariants.{Memory as OutOfMemory};
 ghost use Rattle.meaning.specs.Image.View.{image_of};
@@ -58,6 +60,7 @@ fn pieces_on<'a, J: Run>(checked: &'a Checked<'a>, inputs: &'a Inputs, most: usi
     requires runnable { IsRunnable (plan_checked checked.now).groups most }
     ensures ready { CanRun J.layout J.values result.checked.now (picture_of result.inputs.now) result.most }
     ensures same { result.checked.now ≡ checked.now }
+    ensures inputs { result.inputs.now ≡ inputs.now }
 {
     own_is_of_work();
     works_are_sound();
@@ -75,8 +78,29 @@ fn pieces_on<'a, J: Run>(checked: &'a Checked<'a>, inputs: &'a Inputs, most: usi
     }
 }
 
+impl<'a> Pieces<'a> {
+    /// The pieces of a checked plan on an input of its algorithm, none where workers cannot run them.
+    ///
+    /// It takes no memory. The time is linear in the groups and the pieces.
+    pub fn of<J: Run>(checked: &'a Checked<'a>, inputs: &'a Inputs) -> Option<Pieces<'a>>
+        requires layout { J.layout ≡ layout_of checked.now }
+        requires values { J.values ≡ values_of checked.now inputs.now }
+        requires input { IsFor checked.now.algo.now inputs.now }
+        ensures ready { IfSome result (ArePieces J.layout J.values) }
+        ensures same { IfSome result (λ pieces. (pieces.checked.now ≡ checked.now) × (pieces.inputs.now ≡ inputs.now)) }
+        ensures none { IfNone result (IsForWorkers checked.now → ⊥) }
+    {
+        let most = most_fetched(checked);
+        if is_runnable(checked.plan(), most) {
+            Some(pieces_on::<J>(checked, inputs, most))
+        } else {
+            None
+        }
+    }
+}
+
 /// The work of so many workers at a board that was just opened, whose first seat comes back with what all know: that all
-/// pieces are drawn, and which are finished. All memory is taken before the first worker starts.
+/// pieces are drawn, and that all are finished. All memory is taken before the first worker starts.
 fn work_on<J: Run + Send + Sync, R: Threads + Wait + Sync, G: Gate>(
     rt: &R,
     alloc: Global,
@@ -104,6 +128,35 @@ fn work_on<J: Run + Send + Sync, R: Threads + Wait + Sync, G: Gate>(
     Ok(united(board, crew))
 }
 
+/// The first seat of a board that was just opened, once workers have done all there is to do, where they can run the plan, and
+/// else as it is.
+fn work_if_runnable<J: Run + Send + Sync, R: Threads + Wait + Sync, G: Gate>(
+    rt: &R,
+    alloc: Global,
+    board: &Board<J>,
+    first: BoardSeat,
+    checked: &Checked<'_>,
+    inputs: &Inputs,
+    workers: usize,
+    gate: &G,
+) -> Result<BoardSeat, AllocError>
+    requires layout { J.layout ≡ layout_of checked.now }
+    requires values { J.values ≡ values_of checked.now inputs.now }
+    requires input { IsFor checked.now.algo.now inputs.now }
+    requires seat { first ≡ place board.now first_view }
+    requires workers { (1 ≤ workers) × (workers ≤ 64) }
+    ensures board { IfOk result (λ seat. seat.board ≡ first.board) }
+    ensures done { IfOk result (λ seat. IsForWorkers checked.now → IsDone seat.view) }
+{
+    let most = most_fetched(checked);
+    if is_runnable(checked.plan(), most) {
+        return work_on(
+            rt, alloc, board, first, checked, inputs, most, workers, gate,
+        );
+    }
+    Ok(first)
+}
+
 /// The run, on a board for this checked plan and this input.
 fn run_on<J: Run + Send + Sync, G: Gate, R: Threads + Wait + Sync>(
     rt: &R,
@@ -122,13 +175,8 @@ fn run_on<J: Run + Send + Sync, G: Gate, R: Threads + Wait + Sync>(
 {
     own_is_of_work();
     pictures_are_said();
-    let most = most_fetched(checked);
-    let (board, mut seat) = open::<J>(alloc, checked, inputs)?;
-    if is_runnable(checked.plan(), most) {
-        seat = work_on(
-            rt, alloc, &board, seat, checked, inputs, most, workers, gate,
-        )?;
-    }
+    let (board, first) = open::<J>(alloc, checked, inputs)?;
+    let seat = work_if_runnable(rt, alloc, &board, first, checked, inputs, workers, gate)?;
     match board.close(seat) {
         Ok(image) => Ok(image),
         Err(Unfinished(piece)) => Err(RunError::Unfinished(piece)),
@@ -144,7 +192,7 @@ fn run_on<J: Run + Send + Sync, G: Gate, R: Threads + Wait + Sync>(
 /// The gate hears of each piece from the worker that drew it, after the draw and after it is finished. The worker goes on once
 /// the gate's call returns.
 ///
-/// No worker starts, and all pieces stay unfinished, where `can_run` says no.
+/// No worker starts, and all pieces stay unfinished, where `can_run` says no. Where it says yes no piece does.
 ///
 /// The board takes 8 bytes for each piece and each cell (twice as much while it opens), and keeps the own cells and the
 /// cells of the picture, 4 bytes each, and the picture's samples, 2 bytes each. For each coordinate of a group's region
@@ -156,7 +204,7 @@ fn run_on<J: Run + Send + Sync, G: Gate, R: Threads + Wait + Sync>(
 ///
 /// # Errors
 /// `Memory` where memory runs out, which is before the first worker starts. `Unfinished` with the lowest piece that is not
-/// finished.
+/// finished, and only where `can_run` says no.
 pub fn run<G: Gate, R: Threads + Wait + Sync>(
     rt: &R,
     alloc: Global,

@@ -18,7 +18,7 @@ use tree::Value;
 
 /// The memory of one worker: that of the private runs of each group's pieces, and what it has looked at.
 #[derive(Drop)]
-pub(crate) struct Desk<'a> {
+pub struct Desk<'a> {
     pub(crate) scratches: Vec<Scratch>,
     pub(crate) looked: LookedCells<'a>,
 }
@@ -97,10 +97,10 @@ impl Cells for Told<'_, '_> {
 
 /// The pieces of a checked plan on an input, and the number of cells that none owns more of.
 #[derive(Clone, Copy, Drop)]
-pub(crate) struct Pieces<'a> {
-    pub checked: &'a Checked<'a>,
-    pub inputs: &'a Inputs,
-    pub most: usize,
+pub struct Pieces<'a> {
+    pub(crate) checked: &'a Checked<'a>,
+    pub(crate) inputs: &'a Inputs,
+    pub(crate) most: usize,
 }
 
 impl<J: Run> PrivateRuns<J> for Pieces<'_> {

@@ -1,15 +1,18 @@
 //! The workers of a crew, each with a seat at the board and a desk.
 
-ghost use Rattle.std.specs.Prelude.{◌≡◌, ◌<◌, ◌≤◌, true, length, vec_len, All, Contains, IfOk};
+ghost use Rattle.std.specs.Prelude.{◌≡◌, ◌<◌, ◌≤◌, length, vec_len, All, IfOk};
 ghost use Rattle.board.specs.Layout.{pieces_of};
 ghost use Rattle.board.specs.Seats.{place};
-ghost use Rattle.board.specs.Views.{first_view};
+ghost use Rattle.board.specs.Views.{first_view, IsDone};
+ghost use Rattle.crew.specs.Crews.{ArePieces, IsDeskFor};
+ghost use Rattle.crew.specs.Opening.Layouts.{layout_of};
 ghost use Rattle.crew.specs.Private.{HasRoom, IsMostFetched};
-ghost use Rattle.crew.specs.Workers.{HasDrawnAll, IsReady, KnowsOf};
+ghost use Rattle.crew.specs.Workers.{seats_held, HasDrawnAll, IsReady};
 
 use crate::gate::Gate;
-use crate::values::{Desk, PrivateRuns};
-use crate::worker::work;
+use crate::runnable::most_fetched;
+use crate::values::{Desk, Pieces, PrivateRuns};
+use crate::worker::draw_and_fill;
 use board::{Board, BoardSeat, Run};
 use checked_plan::output::PlanCells;
 use piece::LookedCells;
@@ -42,6 +45,27 @@ fn desk_for<'a, J: Run, P: PrivateRuns<J>>(
     Ok(Desk { scratches, looked })
 }
 
+impl<'a> Desk<'a> {
+    /// A desk with all the memory that one worker takes for the pieces, whose cells are numbered by `cells`: the private runs of
+    /// all groups, and the bits of the cells that a piece fetches.
+    ///
+    /// # Errors
+    /// `AllocError` where memory runs out.
+    pub fn new<J: Run>(
+        alloc: Global,
+        pieces: &Pieces<'_>,
+        cells: &'a PlanCells<'a>,
+    ) -> Result<Desk<'a>, AllocError>
+        requires layout { J.layout ≡ layout_of pieces.now.checked.now }
+        requires pieces { ArePieces J.layout J.values pieces.now }
+        requires cells { cells.now.checked.now ≡ pieces.now.checked.now }
+        ensures { IfOk result (IsDeskFor J.layout pieces.now) }
+    {
+        let most = most_fetched(pieces.checked);
+        desk_for::<J, Pieces<'_>>(alloc, pieces, cells, most)
+    }
+}
+
 /// So many workers, of whom one has the first seat. All memory that they take is taken here.
 pub(crate) fn hire<'a, J: Run, P: PrivateRuns<J>>(
     alloc: Global,
@@ -58,6 +82,7 @@ pub(crate) fn hire<'a, J: Run, P: PrivateRuns<J>>(
     requires most { IsMostFetched (P.plan runs.now) (pieces_of J.layout) most }
     requires count { (1 ≤ count) × (count ≤ 64) }
     ensures count { IfOk result (λ workers. vec_len workers ≡ count) }
+    ensures seats { IfOk result (λ workers. seats_held workers.items ≡ 64) }
     ensures ready { IfOk result (λ workers. All (IsReady board.now (P.plan runs.now) (pieces_of J.layout) (P.suffices runs.now)) workers.items) }
 {
     let mut workers = Vec::with_capacity(alloc, count)?;
@@ -84,9 +109,10 @@ fn work_at<J: Run, P: PrivateRuns<J>, R: Wait, G: Gate>(
 )
     requires runs { P.gives runs.now }
     requires ready { IsReady board.now (P.plan runs.now) (pieces_of J.layout) (P.suffices runs.now) worker.old }
-    ensures { HasDrawnAll board.now worker.new }
+    ensures drawn { HasDrawnAll board.now worker.new }
+    ensures seats { worker.new.seat.view.seats ≡ worker.old.seat.view.seats }
 {
-    work(
+    draw_and_fill(
         rt,
         alloc,
         board,
@@ -108,23 +134,24 @@ pub(crate) fn work_all<
     requires some { 0 < length workers.old }
     requires runs { P.gives runs.now }
     requires ready { All (IsReady board.now (P.plan runs.now) (pieces_of J.layout) (P.suffices runs.now)) workers.old }
-    ensures { All (HasDrawnAll board.now) workers.new }
+    ensures drawn { All (HasDrawnAll board.now) workers.new }
+    ensures seats { seats_held workers.new ≡ seats_held workers.old }
 {
     let turn = move |_: usize, worker: &mut Worker<'_>|
         requires { P.gives runs.now × IsReady board.now (P.plan runs.now) (pieces_of J.layout) (P.suffices runs.now) worker.now }
-        ensures { HasDrawnAll board.entry.now worker.exit.now }
+        ensures { HasDrawnAll board.entry.now worker.exit.now × (worker.exit.now.seat.view.seats ≡ worker.entry.now.seat.view.seats) }
     { work_at(rt, alloc, board, runs, gate, worker) };
     let count = workers.len();
     for_each_mut(rt, workers, count, &turn);
 }
 
-/// The seats of all workers in one, which knows what each of them knows.
+/// The seats of all workers in one, which stands for all seats of the board, and knows all that was drawn.
 pub(crate) fn united<J: Run>(board: &Board<J>, mut workers: Vec<Worker<'_>>) -> BoardSeat
     requires some { 0 < vec_len workers }
     requires drawn { All (HasDrawnAll board.now) workers.items }
+    requires seats { seats_held workers.items ≡ 64 }
     ensures board { result.board ≡ board.now }
-    ensures drawn { result.view.none_left ≡ true }
-    ensures known { All (λ worker. KnowsOf result.view worker.seat.view) workers.entry.items }
+    ensures done { IsDone result.view }
 {
     let Some(last) = workers.pop() else {
         unreachable!()

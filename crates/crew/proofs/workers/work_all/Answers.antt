@@ -1,4 +1,4 @@
-use Rattle.std.proofs.Common.{sym, subst, arith}
+use Rattle.std.proofs.Common.{◌∙◌, ap, sym, subst, arith}
 use contract.Lifetimes.{Lfts}
 use denote.Param.{param}
 use denote.Exit.{no}
@@ -8,6 +8,8 @@ use Rattle.board.specs.Layout.{pieces_of}
 use Rattle.crew.specs.contracts.workers.work_all.{J-row, P-row, R-row, G-row}
 use Rattle.crew.proofs.Shared.{worker_send}
 use Rattle.crew.specs.Workers.{HasDrawnAll, IsReady}
+use Rattle.crew.specs.declared.workers.Worker.{Worker}
+use Rattle.crew.proofs.Joining.{same_held}
 use Rattle.crew.proofs.workers.work_all.Given.{Over}
 use Rattle.crew.proofs.workers.work_all.Lts.{impl_arg-0-0, impl_arg-0-1, impl_arg-0-2, impl_arg-0-3}
 use Rattle.crew.proofs.workers.work_all.Goals as goal
@@ -42,7 +44,12 @@ for_each_mut-requires-clause-accepts g c = λ κs within i p lt e. (
   ),
 )
 
-pub returns : goal.returns
-returns g c = λ k d lt.
+pub returns-clause-drawn : goal.returns-clause-drawn
+returns-clause-drawn g c = λ k d lt.
     let at = (c.for_each_mut.ensures k d (omega (arith, lt))).1 in
-    subst (HasDrawnAll c.args.board.now) at.left at.call
+    subst (HasDrawnAll c.args.board.now) at.left at.call.0
+
+pub returns-clause-seats : goal.returns-clause-seats
+returns-clause-seats g c = same_held c.for_each_mut.new.s c.args.workers.now c.for_each_mut.auto.s (λ k d lt.
+    let at = (c.for_each_mut.ensures k d (omega (arith, lt))).1 in
+    sym (ap (λ (w : Worker). w.seat.view.seats) at.left) ∙ at.call.1 ∙ ap (λ (w : Worker). w.seat.view.seats) at.argument_is)

@@ -6,9 +6,10 @@ use Rattle.meaning.specs.Image.Raster.{natural}
 use Rattle.board.specs.Layout.{Layout, pieces_of, samples_in, shown_cell, value_at}
 use Rattle.board.specs.Words.{bits_of, word_of}
 use Rattle.board.specs.Seats.{Place, KnowsAll}
+use Rattle.board.specs.Views.{IsDone}
 use Rattle.board.proofs.Parts.{parted}
 use Rattle.board.proofs.Samples.{sample_bits}
-use Rattle.board.proofs.Closing.{ended_flags, ended_cells, shown_at, shown_count, shows}
+use Rattle.board.proofs.Closing.{ended_done, ended_flags, ended_cells, shown_at, shown_count, shows}
 use Rattle.board.proofs.board.Board.close.Goals as goal
 
 pub free-requires : goal.free-requires
@@ -25,6 +26,17 @@ returns-in-Some-clause-all_known g c all =
     let first = c.in-Some.ensures.some in
     let below = first.0 in
     absurd (first.1 (ended_flags _ (g.J.Run.values) _ c.seat.inside.seat.me.0 _ _ c.close_with-closed.ensures.values.2 c.seat.invariant.1 knows c.in-Some.piece (omega arith)))
+
+pub returns-in-Some-clause-done : goal.returns-in-Some-clause-done
+returns-in-Some-clause-done g c done =
+    let plan : Layout = g.J.Run.layout in
+    let is_done = subst (λ (p : Place). IsDone p.view) (sym c.seat.view_is) done in
+    let ended = c.close_with-closed.ensures.values.2 in
+    let knows = ended_done _ (g.J.Run.values) _ c.seat.inside.seat.me.0 _ _ ended c.seat.invariant.1 is_done in
+    let pieces : c.len-pieces.result ≡ pieces_of plan = c.len-pieces.ensures ∙ ap length c.self.invariant.0 in
+    let first = c.in-Some.ensures.some in
+    let below = first.0 in
+    absurd (first.1 (ended_flags _ (g.J.Run.values) _ c.seat.inside.seat.me.0 _ _ ended c.seat.invariant.1 knows c.in-Some.piece (omega arith)))
 
 pub show-requires-clause-set : goal.show-requires-clause-set
 show-requires-clause-set g c k lt =
