@@ -33,8 +33,8 @@ numbers-loop-index-init g t c =
       behind = record { more = []; items = sym (append-nil c.args.stack.now.items); room = refl; found = refl };
     }
 
-pub numbers-evaluate-requires : goal.numbers-evaluate-requires
-numbers-evaluate-requires g t c κs within =
+pub numbers-operand-requires : goal.numbers-operand-requires
+numbers-operand-requires g t c κs within =
     let more = left_more c.args.at.now c.loop-index.index-index c.index-item.result c.loop-index-test.true c.index-item.is in
     (first_of (search (rules, the_lemmas), omega arith), (search rules, omega (arith, more, c.loop-index.invariant.room)))
 
@@ -42,12 +42,12 @@ pub numbers-returns-in_default-clause-found : goal.numbers-returns-in_default-cl
 numbers-returns-in_default-clause-found g t c =
     let vs = g.R.Reader.variables c.args.reader.now in
     let look = g.R.Reader.look c.args.reader.now in
-    missing vs look c.args.at.now c.loop-index.index-index c.index-item.result c.loop-index-test.true c.index-item.is (sym c.evaluate.ensures.value ∙ c.in_default.is)
+    missing vs look c.args.at.now c.loop-index.index-index c.index-item.result c.loop-index-test.true c.index-item.is (sym c.operand.ensures.value ∙ c.in_default.is)
 
 pub numbers-push-requires : goal.numbers-push-requires
 numbers-push-requires g t c =
     let more = left_more c.args.at.now c.loop-index.index-index c.index-item.result c.loop-index-test.true c.index-item.is in
-    subst (λ (r : Listed). length r.items < r.room) (sym c.evaluate.ensures.stack) (omega (arith, more, c.loop-index.invariant.room))
+    subst (λ (r : Listed). length r.items < r.room) (sym c.operand.ensures.stack) (omega (arith, more, c.loop-index.invariant.room))
 
 pub numbers-loop-index-preserved : goal.numbers-loop-index-preserved
 numbers-loop-index-preserved g t c =
@@ -63,7 +63,7 @@ numbers-loop-index-preserved g t c =
     let n : ℤ = to_z w64 (of_z w64 v.number) in
     let more = left_more at i e c.loop-index-test.true c.index-item.is in
     let pushed : c.push.new.self ≡ record { items = l.stack.items ++ n ∷ []; room = l.stack.room } =
-    c.push.ensures ∙ ap (λ (r : Listed). record { items = r.items ++ n ∷ []; room = r.room }) c.evaluate.ensures.stack in
+    c.push.ensures ∙ ap (λ (r : Listed). record { items = r.items ++ n ∷ []; room = r.room }) c.operand.ensures.stack in
     let long = length-append l.stack.items (n ∷ []) in
     record {
       room = subst (λ (r : Listed). length r.items + left at (i + 1) ≤ r.room) (sym pushed) (omega (arith, more, long, l.invariant.room));
@@ -71,6 +71,6 @@ numbers-loop-index-preserved g t c =
         more = h.more ++ n ∷ [];
         items = ap (λ (r : Listed). r.items) pushed ∙ ap (λ (q : List ℤ). q ++ n ∷ []) h.items ∙ append_assoc c.args.stack.now.items h.more (n ∷ []);
         room = ap (λ (r : Listed). r.room) pushed ∙ h.room;
-        found = one_more vs look at i e h.more (h.more ++ n ∷ []) v n c.loop-index-test.true c.index-item.is h.found (sym c.evaluate.ensures.value ∙ c.in-Some.is) refl (to_z-of_z w64 v.number fits);
+        found = one_more vs look at i e h.more (h.more ++ n ∷ []) v n c.loop-index-test.true c.index-item.is h.found (sym c.operand.ensures.value ∙ c.in-Some.is) refl (to_z-of_z w64 v.number fits);
       };
     }
