@@ -38,7 +38,8 @@ test:
 	for it in crates/*/must-fail/*.edit; do grep -qxF $$it must-fail.txt || mv $$it $${it%.edit}.md; done; \
 	RT_JOBS=$${RT_JOBS:-$$(nproc)} rt ci; \
 	python3 tests/run.py crates/stencil/out/stencil; \
-	python3 tests/schedules.py crates/stencil/out/stencil
+	python3 tests/schedules.py crates/stencil/out/stencil; \
+	python3 tests/pages.py crates/stencil/out/stencil
 
 # How long the proved program takes for `check` and `run` of plans with a piece a row, and for `plain`; and for `check` of plans
 # that are long, or have many pieces or cells.
