@@ -5,6 +5,7 @@ use Rattle.lower.specs.declared.error.RegionRule.TheVariants as rule
 
 -- the number of a rule's code
 abbrev pub number_of : RegionRule → ℕ
+number_of rule.OutsideUse = 6
 number_of rule.ShortShift = 8
 number_of rule.TooLarge = 11
 number_of rule.Unbounded = 12

@@ -15,6 +15,8 @@ use tree::token::Name;
 /// A rule of schedules that asks what a function's loops run over.
 #[derive(Clone, Copy, Debug, PartialEq, Eq, Drop)]
 pub enum RegionRule {
+    /// L6: a function that is computed at a loop is used outside of it, or in a definition that lacks it.
+    OutsideUse,
     /// L8: a split with `shift` over fewer points than its factor.
     ShortShift,
     /// L11: an expression with calls put in, or the shared cells or pieces of all root functions so far, pass their limit.
@@ -30,6 +32,7 @@ impl RegionRule {
         ensures { result ≡ number_of self }
     {
         match self {
+            RegionRule::OutsideUse => 6,
             RegionRule::ShortShift => 8,
             RegionRule::TooLarge => 11,
             RegionRule::Unbounded => 12,

@@ -4,14 +4,15 @@ use crate::calls::{Call, calls_of};
 use crate::definitions::{Formula, Stored};
 use crate::error::Stop;
 use crate::forms::{between, divided, is_inside, last_of, one_form, raised, whole};
+use crate::inner::Inner;
 use crate::regions::{Laid, symbols_from};
-use crate::scopes::{around_store, grid_scope, interval};
+use crate::scopes::{Around, around_in, grid_scope, head_scope, interval};
 use algo::Algo;
 use bounds::projection::project_span;
 use lin::{Forms, Lin, Region, Scope, Span1, Sym};
 use numeric::Ty;
 use plan::Places;
-use sched::{Extent, Loop, Mark, Split};
+use sched::{Extent, Loop, Mark, Nest, Split};
 use std::alloc::{AllocError, Global};
 use tree::token::Name;
 
@@ -37,7 +38,7 @@ pub(crate) struct Fetched {
 
 /// The calls of a function in one definition, with what is known around them.
 #[derive(Drop)]
-struct Site {
+pub(crate) struct Site {
     scope: Scope,
     calls: Vec<Region>,
 }
@@ -55,35 +56,24 @@ fn call_spans(
     alloc: Global,
     algo: &Algo,
     user: &Root<'_>,
+    outer: &Scope,
+    nest: &Nest,
     definition: usize,
-    calls: &[Call<'_>],
     callee: &str,
 ) -> Result<Option<Site>, Stop> {
-    let (Some(nest), Some(formula)) = (
-        user.laid.skeleton.nests.get(definition),
-        user.formulas.get(definition),
-    ) else {
+    let Some(formula) = user.formulas.get(definition) else {
         return Ok(None);
     };
-    let skeleton = &user.laid.skeleton;
-    let around = around_store(
-        alloc,
-        algo,
-        user.stored,
-        skeleton,
-        nest,
-        formula,
-        definition,
-    )?;
+    let calls = calls_of(alloc, formula)?;
+    let around = around_in(alloc, algo, user.stored, outer, nest, formula, definition)?;
     let mut found = Vec::new(alloc);
-    for call in calls {
+    for call in &calls {
         if call.name == callee {
-            let mut spans = Region::new(alloc);
-            for index in call.at {
-                spans.push(interval(alloc, algo, &around, index)?)?;
-            }
-            found.push(spans)?;
+            found.push(spans_of(alloc, algo, &around, call)?)?;
         }
+    }
+    if found.is_empty() {
+        return Ok(None);
     }
     Ok(Some(Site {
         scope: around.scope,
@@ -91,16 +81,73 @@ fn call_spans(
     }))
 }
 
-// The definitions that call the function.
-fn sites_of(alloc: Global, algo: &Algo, user: &Root<'_>, callee: &str) -> Result<Vec<Site>, Stop> {
-    let mut sites = Vec::new(alloc);
-    for (definition, formula) in user.formulas.iter().enumerate() {
-        let calls = calls_of(alloc, formula)?;
-        if let Some(site) = call_spans(alloc, algo, user, definition, &calls, callee)? {
-            if !site.calls.is_empty() {
+// What the indices of a call stay within.
+fn spans_of(
+    alloc: Global,
+    algo: &Algo,
+    around: &Around<'_>,
+    call: &Call<'_>,
+) -> Result<Region, Stop> {
+    let mut spans = Region::new(alloc);
+    for index in call.at {
+        spans.push(interval(alloc, algo, around, index)?)?;
+    }
+    Ok(spans)
+}
+
+/// Adds the calls of a function in the nests of another one, or in that of one definition, inside of other symbols.
+pub(crate) fn add_sites(
+    alloc: Global,
+    algo: &Algo,
+    user: &Root<'_>,
+    outer: &Scope,
+    nests: &[Nest],
+    only: Option<usize>,
+    callee: &str,
+    sites: &mut Vec<Site>,
+) -> Result<(), Stop> {
+    for (definition, nest) in nests.iter().enumerate() {
+        if only.is_none() || only == Some(definition) {
+            if let Some(site) = call_spans(alloc, algo, user, outer, nest, definition, callee)? {
                 sites.push(site)?;
             }
         }
+    }
+    Ok(())
+}
+
+// The calls of the function in a group: in the nests of its own function, and of those that are computed inside.
+fn sites_of(
+    alloc: Global,
+    algo: &Algo,
+    user: &Root<'_>,
+    inners: &[Inner<'_>],
+    callee: &str,
+) -> Result<Vec<Site>, Stop> {
+    let mut sites = Vec::new(alloc);
+    let skeleton = &user.laid.skeleton;
+    let outer = head_scope(alloc, skeleton)?;
+    add_sites(
+        alloc,
+        algo,
+        user,
+        &outer,
+        &skeleton.nests,
+        None,
+        callee,
+        &mut sites,
+    )?;
+    for inner in inners {
+        add_sites(
+            alloc,
+            algo,
+            &inner.root,
+            &inner.scope,
+            &inner.nests,
+            None,
+            callee,
+            &mut sites,
+        )?;
     }
     Ok(sites)
 }
@@ -142,15 +189,21 @@ fn with_site(
     Ok(known)
 }
 
-// The span without the inner symbols; where there are none it stays as it is.
-fn freed(alloc: Global, scope: &Scope, inner: &[Sym], span: &Span1) -> Result<Span1, Stop> {
+/// The span without the inner symbols; where there are none it stays as it is.
+pub(crate) fn freed(
+    alloc: Global,
+    scope: &Scope,
+    inner: &[Sym],
+    span: &Span1,
+) -> Result<Span1, Stop> {
     if inner.is_empty() {
         return Ok(span.copy(alloc)?);
     }
     Ok(project_span(alloc, scope, inner, span)?)
 }
 
-fn needed_span(
+/// The union of what all calls need in a dimension.
+pub(crate) fn needed_span(
     alloc: Global,
     grid: &Scope,
     sites: &[Site],
@@ -231,8 +284,12 @@ fn count_from(
     Ok(least)
 }
 
-// The lower form from which on there are the fewest numbers, and how many.
-fn shortest(alloc: Global, grid: &Scope, span: &Span1) -> Result<Option<(usize, i64)>, AllocError> {
+/// The lower form from which on there are the fewest numbers, and how many.
+pub(crate) fn shortest(
+    alloc: Global,
+    grid: &Scope,
+    span: &Span1,
+) -> Result<Option<(usize, i64)>, AllocError> {
     let mut best: Option<(usize, i64)> = None;
     for (place, origin) in span.lower.as_slice().iter().enumerate() {
         if let Some(count) = count_from(alloc, grid, origin, span.upper.as_slice())? {
@@ -289,7 +346,8 @@ fn run_of(alloc: Global, origin: &Lin, count: i64) -> Result<Span1, Stop> {
     Ok(Span1 { lower, upper })
 }
 
-fn places_of(alloc: Global, origin: &Lin, count: i64) -> Result<Places, AllocError> {
+/// So many places from a form on.
+pub(crate) fn places_of(alloc: Global, origin: &Lin, count: i64) -> Result<Places, AllocError> {
     Ok(Places::From {
         origin: origin.copy(alloc)?,
         count: u64::try_from(count).unwrap_or(1),
@@ -426,15 +484,17 @@ fn pieces_of(alloc: Global, callee: &Root<'_>, region: &Region) -> Result<Region
     Ok(needed)
 }
 
-/// What a piece of one function fetches of another one; none where it calls that one nowhere.
+/// What a piece of one function fetches of another one, for itself and for what is computed inside its loops; none where
+/// that one is called nowhere.
 pub(crate) fn fetch_of(
     alloc: Global,
     algo: &Algo,
     user: &Root<'_>,
+    inners: &[Inner<'_>],
     callee: &Root<'_>,
 ) -> Result<Option<Fetched>, Stop> {
     let name = callee.stored.subject.name.as_str();
-    let sites = sites_of(alloc, algo, user, name)?;
+    let sites = sites_of(alloc, algo, user, inners, name)?;
     if sites.is_empty() {
         return Ok(None);
     }

@@ -4,11 +4,15 @@ use crate::blocks::{Dimension, dimensions};
 use crate::error::Stop;
 use crate::fetching::{Fetched, Root, fetch_of};
 use crate::forms::whole;
+use crate::inner::{Inner, Spot, inners_of, nests_at, root_at};
 use crate::loading::{Load, loaded};
+use crate::outline::{Line, statements_of};
+use crate::regions::symbols_from;
+use crate::renaming::{renamed, renamed_places, renamed_region, renamed_step};
 use crate::scopes::variables_of;
 use algo::Algo;
-use lin::{Lin, Region};
-use plan::certificate::{Claim, Need, Own};
+use lin::{Lin, Region, Sym};
+use plan::certificate::{Claim, Need, Own, Window};
 use plan::{Coordinate, Group, Index, Places, Stmt};
 use sched::{Nest, Step};
 use std::alloc::{AllocError, Global};
@@ -21,6 +25,7 @@ pub(crate) struct Made {
     pub own: Own,
     pub needs: Vec<Need>,
     pub claims: Vec<Claim>,
+    pub windows: Vec<Window>,
     /// The line behind the group's last one.
     pub line: u64,
 }
@@ -28,16 +33,58 @@ pub(crate) struct Made {
 /// What a piece does so far, and the claims of it.
 #[derive(Drop)]
 struct Body<'a> {
-    statements: Vec<Stmt>,
+    lines: Vec<Line>,
     /// The line of the next statement.
     line: u64,
     needs: Vec<Need>,
     claims: Vec<Claim>,
+    windows: Vec<Window>,
     /// By which claims functions are loaded.
     loads: Vec<Load<'a>>,
     /// The number of the next claim.
     next_claim: u32,
+    /// The number of the next buffer.
+    next_buffer: u32,
+    /// The next symbol.
+    next_symbol: Sym,
+    /// The buffers of the functions that are computed inside.
+    buffers: Vec<u32>,
+    /// What is still to do, the next last.
+    agenda: Vec<Task>,
 }
+
+/// The way down a nest.
+#[derive(Drop)]
+struct Walk {
+    host: Option<usize>,
+    definition: usize,
+    /// How many steps are behind.
+    depth: usize,
+    /// The symbols of the plan for those of the nest.
+    map: Vec<Sym>,
+}
+
+/// What is to do next.
+#[derive(Drop)]
+enum Task {
+    /// What stands behind so many steps, and then the next one.
+    Arrive(Walk),
+    /// The next step, or the store.
+    Go(Walk),
+    /// A line.
+    Line(Line),
+    /// The buffer of the function of this number.
+    Alloc(usize, Vec<Sym>),
+    /// The nests of the function of this number.
+    Inner(usize, Vec<Sym>),
+    /// The claim of a nest.
+    Claim(Option<usize>, usize, Vec<Sym>),
+    /// So many loads stay.
+    Forget(usize),
+}
+
+/// The most lines and claims of a piece, and places at which something may stand.
+const MOST_TASKS: u64 = 1 << 24;
 
 /// Where a group begins: its number among the groups, its line, and the number of its first claim.
 #[derive(Clone, Copy, Drop)]
@@ -48,10 +95,14 @@ pub(crate) struct Beginning {
 }
 
 impl<'a> Body<'a> {
-    fn push(&mut self, statement: Stmt) -> Result<(), AllocError> {
-        self.line = self.line.saturating_add(u64::from(statement.line_count()));
-        self.statements.push(statement)?;
+    fn push_line(&mut self, line: Line) -> Result<(), AllocError> {
+        self.line = self.line.saturating_add(1);
+        self.lines.push(line)?;
         Ok(())
+    }
+
+    fn push(&mut self, statement: Stmt) -> Result<(), AllocError> {
+        self.push_line(Line::Alone(statement))
     }
 
     // Claims what the statements so far have made of a buffer.
@@ -92,82 +143,42 @@ fn alloc_line(
     })
 }
 
-fn block_box(alloc: Global, block: Vec<Stmt>) -> Result<Box<Stmt>, AllocError> {
-    Ok(Box::new(alloc, Stmt::Seq(block))?)
-}
-
-fn alone(alloc: Global, statement: Stmt) -> Result<Vec<Stmt>, AllocError> {
-    let mut block = Vec::new(alloc);
-    block.push(statement)?;
-    Ok(block)
-}
-
-// The block inside of a step.
-fn within(alloc: Global, step: &Step, block: Vec<Stmt>) -> Result<Vec<Stmt>, AllocError> {
+// The line of a step.
+fn step_line(step: Step) -> Line {
     match step {
-        Step::Turns { symbol, span, kind } => {
-            let span = span.copy(alloc)?;
-            let body = block_box(alloc, block)?;
-            alone(
-                alloc,
-                Stmt::For {
-                    symbol: *symbol,
-                    span,
-                    kind: *kind,
-                    body,
-                },
-            )
-        }
-        Step::Tested { low, high } => {
-            let low = low.copy(alloc)?;
-            let high = high.copy(alloc)?;
-            let body = block_box(alloc, block)?;
-            alone(alloc, Stmt::Guard { low, high, body })
-        }
-        Step::Named { .. } => {
-            let mut longer = alone(alloc, let_line(alloc, step)?)?;
-            let mut block = block;
-            longer.append(&mut block)?;
-            Ok(longer)
-        }
-    }
-}
-
-// The line of a step that names a symbol.
-fn let_line(alloc: Global, step: &Step) -> Result<Stmt, AllocError> {
-    match step {
+        Step::Turns { symbol, span, kind } => Line::Loop { symbol, span, kind },
         Step::Named {
             symbol,
             pick,
             forms,
-        } => Ok(Stmt::Let {
-            symbol: *symbol,
-            pick: *pick,
-            forms: forms.copy(alloc)?,
+        } => Line::Alone(Stmt::Let {
+            symbol,
+            pick,
+            forms,
         }),
-        _ => Ok(Stmt::Seq(Vec::new(alloc))),
+        Step::Tested { low, high } => Line::Guard { low, high },
     }
 }
 
-// The statement inside of all steps, of which the first is the outermost.
-fn nested(alloc: Global, steps: &[Step], statement: Stmt) -> Result<Vec<Stmt>, AllocError> {
-    let mut block = alone(alloc, statement)?;
-    for step in steps.iter().rev() {
-        block = within(alloc, step, block)?;
+// The symbol that a step binds.
+fn bound_by(step: &Step) -> Option<Sym> {
+    match step {
+        Step::Turns { symbol, .. } | Step::Named { symbol, .. } => Some(*symbol),
+        Step::Tested { .. } => None,
     }
-    Ok(block)
 }
 
 // ---- stores
 
 fn index_of(
     alloc: Global,
+    map: &[Sym],
     form: &Option<Lin>,
     index: Option<&Expr>,
     loads: &[Load<'_>],
 ) -> Result<Index, Stop> {
     match (form, index) {
-        (Some(form), _) => Ok(Index::Form(form.copy(alloc)?)),
+        (Some(form), _) => Ok(Index::Form(renamed(alloc, map, form)?)),
         (None, Some(index)) => Ok(Index::Found(loaded(alloc, index, loads)?)),
         (None, None) => Err(Stop::Limit),
     }
@@ -175,6 +186,7 @@ fn index_of(
 
 fn coordinates_of(
     alloc: Global,
+    map: &[Sym],
     root: &Root<'_>,
     definition: usize,
     nest: &Nest,
@@ -192,7 +204,7 @@ fn coordinates_of(
         };
         coordinates.push(Coordinate {
             variable: String::from_str(alloc, variable)?,
-            index: index_of(alloc, form, index, loads)?,
+            index: index_of(alloc, map, form, index, loads)?,
         })?;
     }
     Ok(coordinates)
@@ -200,17 +212,19 @@ fn coordinates_of(
 
 fn store_line(
     alloc: Global,
+    map: &[Sym],
+    buffer: u32,
     root: &Root<'_>,
     definition: usize,
     nest: &Nest,
     loads: &[Load<'_>],
 ) -> Result<Stmt, Stop> {
-    let coordinates = coordinates_of(alloc, root, definition, nest, loads)?;
+    let coordinates = coordinates_of(alloc, map, root, definition, nest, loads)?;
     let Some(formula) = root.formulas.get(definition) else {
         return Err(Stop::Limit);
     };
     Ok(Stmt::Store {
-        buffer: 0,
+        buffer,
         definition: definition as u64,
         coordinates,
         value: loaded(alloc, &formula.value, loads)?,
@@ -254,9 +268,9 @@ fn places_of(alloc: Global, dimensions: Vec<Dimension>) -> Result<Vec<Places>, A
 // ---- the body
 
 // The lets over the grid.
-fn push_head(alloc: Global, body: &mut Body<'_>, head: &[Step]) -> Result<(), AllocError> {
+fn push_head(alloc: Global, body: &mut Body<'_>, map: &[Sym], head: &[Step]) -> Result<(), Stop> {
     for step in head {
-        body.push(let_line(alloc, step)?)?;
+        body.push_line(step_line(renamed_step(alloc, map, step)?))?;
     }
     Ok(())
 }
@@ -276,9 +290,8 @@ fn push_fetch<'a>(
     found: Fetched,
 ) -> Result<(), AllocError> {
     let name = callee.stored.subject.name.as_str();
-    let buffer = u32::try_from(body.needs.len())
-        .unwrap_or(u32::MAX)
-        .saturating_add(1);
+    let buffer = body.next_buffer;
+    body.next_buffer = buffer.saturating_add(1);
     let region = found.region.copy(alloc)?;
     body.push(alloc_line(alloc, buffer, name, found.places)?)?;
     body.push(Stmt::Fetch {
@@ -306,11 +319,12 @@ fn push_fetches<'a>(
     body: &mut Body<'a>,
     roots: &[Root<'a>],
     user: &Root<'a>,
+    inners: &[Inner<'a>],
     number: usize,
 ) -> Result<(), Stop> {
     for (group, callee) in roots.iter().enumerate() {
         if group != number {
-            if let Some(found) = fetch_of(alloc, algo, user, callee)? {
+            if let Some(found) = fetch_of(alloc, algo, user, inners, callee)? {
                 push_fetch(alloc, body, callee, number, group, found)?;
             }
         }
@@ -318,66 +332,272 @@ fn push_fetches<'a>(
     Ok(())
 }
 
-// The claims by which a definition loads; an update loads its own function by the claim of the definition before.
-fn loads_of<'a>(
-    alloc: Global,
-    body: &Body<'a>,
-    root: &Root<'a>,
-    before: Option<u32>,
-) -> Result<Vec<Load<'a>>, AllocError> {
-    let mut loads = Vec::from_slice(alloc, &body.loads)?;
-    if let Some(claim) = before {
-        loads.push(Load {
-            function: root.stored.subject.name.as_str(),
-            claim,
-        })?;
+// ---- nests
+
+// The symbols of the plan, with the one for a symbol that is bound.
+fn with_symbol(map: Vec<Sym>, symbol: Option<Sym>, name: Sym) -> Result<Vec<Sym>, AllocError> {
+    let mut map = map;
+    if let Some(symbol) = symbol {
+        for _skipped in map.len()..symbol {
+            map.push(0)?;
+        }
+        map.push(name)?;
     }
-    Ok(loads)
+    Ok(map)
 }
 
-// The nest of a definition, with its claim.
-fn push_nest<'a>(
-    alloc: Global,
-    body: &mut Body<'a>,
-    root: &Root<'a>,
-    definition: usize,
-    nest: &Nest,
-    region: Region,
-    before: Option<u32>,
-) -> Result<u32, Stop> {
-    let loads = loads_of(alloc, body, root, before)?;
-    let store = store_line(alloc, root, definition, nest, &loads)?;
-    for statement in nested(alloc, &nest.steps, store)? {
-        body.push(statement)?;
+fn prefix(alloc: Global, map: &[Sym], count: usize) -> Result<Vec<Sym>, AllocError> {
+    match map.get(..count) {
+        Some(first) => Vec::from_slice(alloc, first),
+        None => Vec::from_slice(alloc, map),
     }
-    let name = root.stored.subject.name.as_str();
-    Ok(body.claim(alloc, 0, name, definition as u64, region)?)
 }
 
-// The nests of all definitions, and the claim of the last.
-fn push_nests<'a>(
-    alloc: Global,
-    body: &mut Body<'a>,
-    root: &Root<'a>,
-    claimed: &Region,
-) -> Result<Option<u32>, Stop> {
-    let mut before = None;
-    for (definition, nest) in root.laid.skeleton.nests.iter().enumerate() {
-        let region = claimed.copy(alloc)?;
-        before = Some(push_nest(alloc, body, root, definition, nest, region, before)?);
-    }
-    Ok(before)
+/// A group's function, and those that are computed inside its loops.
+#[derive(Clone, Copy, Drop)]
+struct Cast<'b, 'a> {
+    root: &'b Root<'a>,
+    inners: &'b [Inner<'a>],
+    claimed: &'b Region,
 }
 
-fn begun<'a>(alloc: Global, beginning: Beginning) -> Body<'a> {
-    Body {
-        statements: Vec::new(alloc),
+// Adds what is to do at a place, the last first: the functions that are computed there, in the order of declaration.
+fn plan_inners(
+    alloc: Global,
+    cast: Cast<'_, '_>,
+    spot: Spot,
+    map: &[Sym],
+    agenda: &mut Vec<Task>,
+) -> Result<(), AllocError> {
+    for (number, inner) in cast.inners.iter().enumerate() {
+        if inner.home == spot {
+            let own = prefix(alloc, map, inner.scope.len())?;
+            agenda.push(Task::Inner(number, own))?;
+            if inner.store == spot {
+                let own = prefix(alloc, map, inner.scope.len())?;
+                agenda.push(Task::Alloc(number, own))?;
+            }
+        }
+    }
+    for (number, inner) in cast.inners.iter().enumerate() {
+        if inner.store == spot && inner.home != spot {
+            let own = prefix(alloc, map, map.len())?;
+            agenda.push(Task::Alloc(number, own))?;
+        }
+    }
+    Ok(())
+}
+
+fn arrive(
+    alloc: Global,
+    cast: Cast<'_, '_>,
+    walk: Walk,
+    agenda: &mut Vec<Task>,
+) -> Result<(), AllocError> {
+    let spot = Spot {
+        host: walk.host,
+        definition: Some(walk.definition),
+        depth: walk.depth,
+    };
+    let map = prefix(alloc, &walk.map, walk.map.len())?;
+    agenda.push(Task::Go(walk))?;
+    plan_inners(alloc, cast, spot, &map, agenda)
+}
+
+impl<'a> Body<'a> {
+    fn buffer_of(&self, host: Option<usize>) -> u32 {
+        match host {
+            None => 0,
+            Some(number) => match self.buffers.get(number) {
+                Some(buffer) => *buffer,
+                None => 0,
+            },
+        }
+    }
+
+    fn store(
+        &mut self,
+        alloc: Global,
+        cast: Cast<'_, 'a>,
+        walk: &Walk,
+        nest: &Nest,
+    ) -> Result<(), Stop> {
+        let root = root_at(cast.root, cast.inners, walk.host);
+        let buffer = self.buffer_of(walk.host);
+        let line = store_line(
+            alloc,
+            &walk.map,
+            buffer,
+            &root,
+            walk.definition,
+            nest,
+            &self.loads,
+        )?;
+        self.push(line)?;
+        Ok(())
+    }
+
+    fn take_step(&mut self, alloc: Global, walk: Walk, step: &Step) -> Result<(), Stop> {
+        let Walk {
+            host,
+            definition,
+            depth,
+            map,
+        } = walk;
+        let name = self.next_symbol;
+        let symbol = bound_by(step);
+        if symbol.is_some() {
+            self.next_symbol = name.saturating_add(1);
+        }
+        let map = with_symbol(map, symbol, name)?;
+        let line = step_line(renamed_step(alloc, &map, step)?);
+        if !matches!(step, Step::Named { .. }) {
+            self.agenda.push(Task::Line(Line::End))?;
+        }
+        self.push_line(line)?;
+        self.agenda.push(Task::Arrive(Walk {
+            host,
+            definition,
+            depth: depth.saturating_add(1),
+            map,
+        }))?;
+        Ok(())
+    }
+
+    fn go(&mut self, alloc: Global, cast: Cast<'_, 'a>, walk: Walk) -> Result<(), Stop> {
+        let nests = nests_at(cast.root, cast.inners, walk.host);
+        let Some(nest) = nests.get(walk.definition) else {
+            return Err(Stop::Limit);
+        };
+        match nest.steps.get(walk.depth) {
+            Some(step) => self.take_step(alloc, walk, step),
+            None => self.store(alloc, cast, &walk, nest),
+        }
+    }
+
+    fn alloc_inner(
+        &mut self,
+        alloc: Global,
+        cast: Cast<'_, 'a>,
+        number: usize,
+        map: &[Sym],
+    ) -> Result<(), Stop> {
+        let Some(inner) = cast.inners.get(number) else {
+            return Err(Stop::Limit);
+        };
+        let buffer = self.next_buffer;
+        self.next_buffer = buffer.saturating_add(1);
+        if let Some(slot) = self.buffers.get_mut(number) {
+            *slot = buffer;
+        }
+        let places = renamed_places(alloc, map, &inner.places)?;
+        let name = inner.root.stored.subject.name;
+        self.push(alloc_line(alloc, buffer, name.as_str(), places)?)?;
+        Ok(())
+    }
+
+    // Plans the nests of a function's definitions, each with its claim, the last first.
+    fn plan_nests(
+        &mut self,
+        alloc: Global,
+        host: Option<usize>,
+        count: usize,
+        map: &[Sym],
+    ) -> Result<(), AllocError> {
+        for definition in (0..count).rev() {
+            let own = prefix(alloc, map, map.len())?;
+            self.agenda.push(Task::Claim(host, definition, own))?;
+            self.agenda
+                .push(Task::Forget(self.loads.len().saturating_add(definition)))?;
+            let map = prefix(alloc, map, map.len())?;
+            self.agenda.push(Task::Arrive(Walk {
+                host,
+                definition,
+                depth: 0,
+                map,
+            }))?;
+        }
+        Ok(())
+    }
+
+    fn claim_nest(
+        &mut self,
+        alloc: Global,
+        cast: Cast<'_, 'a>,
+        host: Option<usize>,
+        definition: usize,
+        map: &[Sym],
+    ) -> Result<(), Stop> {
+        let root = root_at(cast.root, cast.inners, host);
+        let region = match host {
+            None => renamed_region(alloc, map, cast.claimed)?,
+            Some(number) => match cast.inners.get(number) {
+                Some(inner) => renamed_region(alloc, map, &inner.region)?,
+                None => return Err(Stop::Limit),
+            },
+        };
+        let buffer = self.buffer_of(host);
+        let function = root.stored.subject.name.as_str();
+        let claim = self.claim(alloc, buffer, function, definition as u64, region)?;
+        self.loads.push(Load { function, claim })?;
+        Ok(())
+    }
+
+    fn act(&mut self, alloc: Global, cast: Cast<'_, 'a>, task: Task) -> Result<(), Stop> {
+        match task {
+            Task::Arrive(walk) => Ok(arrive(alloc, cast, walk, &mut self.agenda)?),
+            Task::Go(walk) => self.go(alloc, cast, walk),
+            Task::Line(line) => Ok(self.push_line(line)?),
+            Task::Alloc(number, map) => self.alloc_inner(alloc, cast, number, &map),
+            Task::Inner(number, map) => {
+                let count = nests_at(cast.root, cast.inners, Some(number)).len();
+                Ok(self.plan_nests(alloc, Some(number), count, &map)?)
+            }
+            Task::Claim(host, definition, map) => {
+                self.claim_nest(alloc, cast, host, definition, &map)
+            }
+            Task::Forget(count) => {
+                self.loads.truncate(count);
+                Ok(())
+            }
+        }
+    }
+
+    // Does all that is to do.
+    fn work(&mut self, alloc: Global, cast: Cast<'_, 'a>) -> Result<(), Stop> {
+        for _turn in 0..MOST_TASKS {
+            match self.agenda.pop() {
+                Some(task) => self.act(alloc, cast, task)?,
+                None => return Ok(()),
+            }
+        }
+        Err(Stop::Limit)
+    }
+}
+
+fn begun<'a>(
+    alloc: Global,
+    beginning: Beginning,
+    symbols: usize,
+    inners: usize,
+) -> Result<Body<'a>, AllocError> {
+    let mut buffers = Vec::new(alloc);
+    for _inner in 0..inners {
+        buffers.push(0)?;
+    }
+    Ok(Body {
+        lines: Vec::new(alloc),
         line: beginning.line.saturating_add(1),
         needs: Vec::new(alloc),
         claims: Vec::new(alloc),
+        windows: Vec::new(alloc),
         loads: Vec::new(alloc),
         next_claim: beginning.claim,
-    }
+        next_buffer: 1,
+        next_symbol: symbols,
+        buffers,
+        agenda: Vec::new(alloc),
+    })
 }
 
 fn grid_of(alloc: Global, counts: &[u32]) -> Result<Vec<u64>, AllocError> {
@@ -388,33 +608,66 @@ fn grid_of(alloc: Global, counts: &[u32]) -> Result<Vec<u64>, AllocError> {
     Ok(grid)
 }
 
+// The symbols that stand over the grid, each for itself.
+fn over_grid(alloc: Global, root: &Root<'_>) -> Result<Vec<Sym>, AllocError> {
+    let skeleton = &root.laid.skeleton;
+    symbols_from(
+        alloc,
+        0,
+        skeleton.grid.len().saturating_add(skeleton.head.len()),
+    )
+}
+
 // What a piece of the group does.
 fn body_of<'a>(
     alloc: Global,
     algo: &Algo,
     roots: &[Root<'a>],
     root: &Root<'a>,
+    inners: &[Inner<'a>],
     dimensions: Vec<Dimension>,
     beginning: Beginning,
 ) -> Result<Body<'a>, Stop> {
     let claimed = claim_region(alloc, &dimensions)?;
-    let mut body = begun(alloc, beginning);
-    push_head(alloc, &mut body, &root.laid.skeleton.head)?;
+    let map = over_grid(alloc, root)?;
+    let mut body = begun(alloc, beginning, map.len(), inners.len())?;
+    push_head(alloc, &mut body, &map, &root.laid.skeleton.head)?;
     let places = places_of(alloc, dimensions)?;
     body.push(alloc_line(alloc, 0, root.stored.subject.name.as_str(), places)?)?;
-    push_fetches(alloc, algo, &mut body, roots, root, beginning.number)?;
-    match push_nests(alloc, &mut body, root, &claimed)? {
-        Some(claim) => body.push(Stmt::Publish { claim })?,
-        None => return Err(Stop::Limit),
-    }
+    push_fetches(
+        alloc,
+        algo,
+        &mut body,
+        roots,
+        root,
+        inners,
+        beginning.number,
+    )?;
+    let cast = Cast {
+        root,
+        inners,
+        claimed: &claimed,
+    };
+    let before = Spot {
+        host: None,
+        definition: None,
+        depth: 0,
+    };
+    plan_inners(alloc, cast, before, &map, &mut body.agenda)?;
+    body.work(alloc, cast)?;
+    body.plan_nests(alloc, None, root.formulas.len(), &map)?;
+    body.work(alloc, cast)?;
+    let claim = body.next_claim.saturating_sub(1);
+    body.push(Stmt::Publish { claim })?;
     Ok(body)
 }
 
-/// The group of a root function.
+/// The group of a root function, with those that are computed inside its loops.
 pub(crate) fn group_of<'a>(
     alloc: Global,
     algo: &Algo,
     roots: &[Root<'a>],
+    functions: &[Root<'a>],
     root: &Root<'a>,
     beginning: Beginning,
 ) -> Result<Made, Stop> {
@@ -423,13 +676,14 @@ pub(crate) fn group_of<'a>(
     let region = group_region(alloc, root)?;
     let function = String::from_str(alloc, root.stored.subject.name.as_str())?;
     let grid = grid_of(alloc, &root.laid.skeleton.grid)?;
-    let body = body_of(alloc, algo, roots, root, dimensions, beginning)?;
+    let inners = inners_of(alloc, algo, root, functions)?;
+    let body = body_of(alloc, algo, roots, root, &inners, dimensions, beginning)?;
     Ok(Made {
         group: Group {
             function,
             region,
             grid,
-            body: Stmt::Seq(body.statements),
+            body: Stmt::Seq(statements_of(alloc, body.lines)?),
         },
         own: Own {
             group: beginning.number as u64,
@@ -437,6 +691,7 @@ pub(crate) fn group_of<'a>(
         },
         needs: body.needs,
         claims: body.claims,
+        windows: body.windows,
         line: body.line,
     })
 }

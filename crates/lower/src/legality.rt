@@ -6,6 +6,7 @@ use crate::error::{RegionRule, Stop};
 use crate::forms::{between, is_inside, whole};
 use crate::regions::{Laid, counts};
 use crate::scopes::{Around, around_store, interval};
+use crate::uses::has_outside_use;
 use algo::Algo;
 use sched::{has_short_shift, loop_numbers};
 use std::alloc::{AllocError, Global};
@@ -157,7 +158,7 @@ fn fault_within(
     if has_shifted_little(alloc, stored, laid)? {
         return Ok(Some(RegionRule::ShortShift));
     }
-    if totals.pass_limits() {
+    if stored.subject.is_root && totals.pass_limits() {
         return Ok(Some(RegionRule::TooLarge));
     }
     match is_bounded(alloc, algo, stored, formulas, laid) {
@@ -186,7 +187,9 @@ fn fault_of(
             Some(RegionRule::Unbounded)
         });
     };
-    totals.add(laid);
+    if stored.subject.is_root {
+        totals.add(laid);
+    }
     fault_within(alloc, algo, stored, formulas, laid, *totals)
 }
 
@@ -204,6 +207,9 @@ pub(crate) fn first_fault(
         pieces: 0,
     };
     for (one, laid) in stored.iter().zip(laid.iter()).take(count) {
+        if has_outside_use(alloc, stored, one)? {
+            return Ok(Some((RegionRule::OutsideUse, one.subject.name)));
+        }
         if let Some(rule) = fault_of(alloc, algo, one, laid, has_large, &mut totals)? {
             return Ok(Some((rule, one.subject.name)));
         }

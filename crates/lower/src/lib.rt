@@ -8,13 +8,17 @@ mod error;
 mod fetching;
 mod forms;
 mod group;
+mod inner;
 mod legality;
 mod loading;
 mod lowering;
 mod names;
 mod nests;
+mod outline;
 mod regions;
+mod renaming;
 mod scopes;
+mod uses;
 
 pub use error::{LowerError, RegionRule};
 pub use lowering::{Lowered, lower};

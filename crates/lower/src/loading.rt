@@ -11,9 +11,9 @@ pub(crate) struct Load<'a> {
     pub claim: u32,
 }
 
-// The name by which the function is loaded; another name stays.
+// The name by which the function is loaded, by the last claim of it; another name stays.
 fn loaded_name(alloc: Global, name: &str, loads: &[Load<'_>]) -> Result<String, AllocError> {
-    for load in loads {
+    for load in loads.iter().rev() {
         if load.function == name {
             return format!(in alloc; "@{}", load.claim);
         }

@@ -12,6 +12,7 @@ use crate::fetching::Root;
 use crate::group::{Beginning, group_of};
 use crate::legality::first_fault;
 use crate::regions::{Laid, laid_functions};
+use crate::uses::uses_outside;
 use algo::{Algo, Port};
 use plan::certificate::Cert;
 use plan::{Declaration, Group, Plan};
@@ -21,6 +22,9 @@ use tree::token::Name;
 
 /// The line of the first group of a plan.
 const FIRST_GROUP: u64 = 4;
+
+/// The number of the rule that a use outside of a function's loop breaks.
+const OUTSIDE_USE: u32 = 6;
 
 /// A plan and its certificate.
 #[derive(Drop)]
@@ -41,20 +45,23 @@ fn declaration(alloc: Global, port: &Port) -> Result<Declaration, AllocError> {
     })
 }
 
-// The stored functions that have a region and definitions.
+// The stored functions that have a region and definitions: those that are root, or those that are computed inside loops.
 fn roots_of<'a>(
     alloc: Global,
     stored: &'a [Stored<'a>],
     laid: &'a [Option<Laid>],
+    is_root: bool,
 ) -> Result<Vec<Root<'a>>, AllocError> {
     let mut roots = Vec::new(alloc);
     for (one, laid) in stored.iter().zip(laid.iter()) {
         if let (Some(formulas), Some(laid)) = (&one.formulas, laid) {
-            roots.push(Root {
-                stored: one,
-                formulas,
-                laid,
-            })?;
+            if one.subject.is_root == is_root {
+                roots.push(Root {
+                    stored: one,
+                    formulas,
+                    laid,
+                })?;
+            }
         }
     }
     Ok(roots)
@@ -70,10 +77,11 @@ fn empty_certificate(alloc: Global) -> Cert {
 }
 
 // The groups of all root functions, in the order of declaration, and the certificate.
-fn groups_of(
+fn groups_of<'a>(
     alloc: Global,
     algo: &Algo,
-    roots: &[Root<'_>],
+    roots: &[Root<'a>],
+    functions: &[Root<'a>],
 ) -> Result<(Vec<Group>, Cert), LowerError>
     ensures { IfErr result IsUnplanned }
 {
@@ -86,7 +94,7 @@ fn groups_of(
             line,
             claim: u32::try_from(certificate.claims.len()).unwrap_or(u32::MAX),
         };
-        let mut made = match group_of(alloc, algo, roots, root, beginning) {
+        let mut made = match group_of(alloc, algo, roots, functions, root, beginning) {
             Ok(made) => made,
             Err(Stop::Memory) => return Err(LowerError::Memory),
             Err(Stop::Limit) => {
@@ -98,6 +106,7 @@ fn groups_of(
         certificate.own.push(made.own)?;
         certificate.needs.append(&mut made.needs)?;
         certificate.claims.append(&mut made.claims)?;
+        certificate.windows.append(&mut made.windows)?;
     }
     Ok((groups, certificate))
 }
@@ -125,10 +134,15 @@ fn asked(placement: &Placement, stored: usize) -> usize {
 }
 
 // The plan of roots that break no rule.
-fn planned(alloc: Global, algo: &Algo, roots: &[Root<'_>]) -> Result<Lowered, LowerError>
+fn planned<'a>(
+    alloc: Global,
+    algo: &Algo,
+    roots: &[Root<'a>],
+    functions: &[Root<'a>],
+) -> Result<Lowered, LowerError>
     ensures { IfErr result IsUnplanned }
 {
-    let (groups, certificate) = groups_of(alloc, algo, roots)?;
+    let (groups, certificate) = groups_of(alloc, algo, roots, functions)?;
     let plan = Plan {
         name: String::from_str(alloc, algo.name())?,
         input: declaration(alloc, algo.input())?,
@@ -149,10 +163,14 @@ fn plan_placed(alloc: Global, algo: &Algo, placement: &Placement) -> Result<Lowe
         return Err(LowerError::Broken(rule, name));
     }
     if let Some((rule, name)) = placement.fault {
+        if rule.number() > OUTSIDE_USE && uses_outside(alloc, &stored, &name)? {
+            return Err(LowerError::Broken(RegionRule::OutsideUse, name));
+        }
         return Err(LowerError::Schedule(SchedError::Broken(rule, name)));
     }
-    let roots = roots_of(alloc, &stored, &laid)?;
-    planned(alloc, algo, &roots)
+    let roots = roots_of(alloc, &stored, &laid, true)?;
+    let functions = roots_of(alloc, &stored, &laid, false)?;
+    planned(alloc, algo, &roots, &functions)
 }
 
 /// The plan that a schedule makes of an algorithm, and its certificate: one group for each root function in the order of

@@ -51,7 +51,8 @@ fn rest_of(names: &[Name], from: usize) -> &[Name] {
     }
 }
 
-fn bodies(
+/// What the nests of a function's definitions have to know of them.
+pub(crate) fn bodies(
     alloc: Global,
     stored: &Stored<'_>,
     formulas: &[Formula],

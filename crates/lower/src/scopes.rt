@@ -54,7 +54,12 @@ fn bind_step(alloc: Global, scope: &mut Scope, step: &Step) -> Result<(), AllocE
     }
 }
 
-fn bind_steps(alloc: Global, scope: &mut Scope, steps: &[Step]) -> Result<(), AllocError> {
+/// Binds the symbols of steps.
+pub(crate) fn bind_steps(
+    alloc: Global,
+    scope: &mut Scope,
+    steps: &[Step],
+) -> Result<(), AllocError> {
     for step in steps {
         bind_step(alloc, scope, step)?;
     }
@@ -71,10 +76,10 @@ pub(crate) fn grid_scope(alloc: Global, grid: &[u32]) -> Result<Scope, AllocErro
     Ok(scope)
 }
 
-fn scope_of(alloc: Global, skeleton: &Skeleton, steps: &[Step]) -> Result<Scope, AllocError> {
+/// What stands around all nests of a root function: the symbols of its grid, and the lets over them.
+pub(crate) fn head_scope(alloc: Global, skeleton: &Skeleton) -> Result<Scope, AllocError> {
     let mut scope = grid_scope(alloc, &skeleton.grid)?;
     bind_steps(alloc, &mut scope, &skeleton.head)?;
-    bind_steps(alloc, &mut scope, steps)?;
     Ok(scope)
 }
 
@@ -182,8 +187,24 @@ pub(crate) fn around_store<'a>(
     formula: &Formula,
     definition: usize,
 ) -> Result<Around<'a>, Stop> {
+    let outer = head_scope(alloc, skeleton)?;
+    around_in(alloc, algo, stored, &outer, nest, formula, definition)
+}
+
+/// The same of a nest inside of other symbols.
+pub(crate) fn around_in<'a>(
+    alloc: Global,
+    algo: &Algo,
+    stored: &Stored<'a>,
+    outer: &Scope,
+    nest: &Nest,
+    formula: &Formula,
+    definition: usize,
+) -> Result<Around<'a>, Stop> {
+    let mut scope = outer.copy(alloc)?;
+    bind_steps(alloc, &mut scope, &nest.steps)?;
     let left = Around {
-        scope: scope_of(alloc, skeleton, &nest.steps)?,
+        scope,
         variables: variables_of(alloc, stored.function, definition)?,
         coordinates: form_spans(alloc, &nest.at)?,
     };

@@ -27,9 +27,9 @@ use Rattle.sched.specs.Grammar.{behind_then, items_then, tail_then, home_then, f
 keyword_reads : (k : Keyword) (rest : List Token) → is_offered k ≡ true → keyword (name_then (keyword_text k) rest) ≡ Ok (k, rest)
 unfolding keyword keyword_named
 keyword_reads word.ComputeRoot rest h = refl
-keyword_reads word.ComputeAt rest h = absurd cc
-keyword_reads word.StoreAt rest h = absurd cc
-keyword_reads word.Fold rest h = absurd cc
+keyword_reads word.ComputeAt rest h = refl
+keyword_reads word.StoreAt rest h = refl
+keyword_reads word.Fold rest h = refl
 keyword_reads word.Split rest h = refl
 keyword_reads word.Tile rest h = refl
 keyword_reads word.Reorder rest h = refl

@@ -11,6 +11,7 @@ use Rattle.meaning.specs.Algorithm.{Range, Change, Function, Algorithm}
 use Rattle.meaning.specs.Names.{same_name, is_among}
 use Rattle.meaning.specs.Conditions.{is_variable}
 use Rattle.meaning.proofs.Cases.{name_same, same_name_is}
+use Rattle.sched.specs.declared.schedule.Home.{Home}
 use Rattle.sched.specs.declared.schedule.Split.{Split}
 use Rattle.sched.specs.declared.schedule.Tail.{Tail}
 use Rattle.sched.specs.declared.schedule.Tail.TheVariants as tails
@@ -18,9 +19,9 @@ use Rattle.sched.specs.declared.placing.Loop.{Loop}
 use Rattle.sched.specs.declared.placing.Mark.{Mark}
 use Rattle.sched.specs.declared.placing.Mark.TheVariants as mark
 use Rattle.sched.specs.Schedule.{DirectiveText, compute_root, compute_at, Schedule}
-use Rattle.sched.specs.Placing.{SubjectText, PlacedText, has_loop, is_known, all_known, any_reduction, breaks_split, has_double, is_marked, is_short, breaks_mark, is_scattered, breaks_parallel, is_vectorized, is_parallel, has_vectorized_outside, has_parallel_inside, is_shifted, has_updates, is_root_directive, has_root}
+use Rattle.sched.specs.Placing.{SubjectText, PlacedText, has_loop, is_known, all_known, any_reduction, breaks_split, has_double, is_marked, is_short, breaks_mark, is_scattered, breaks_parallel, is_vectorized, is_parallel, has_vectorized_outside, has_parallel_inside, is_shifted, has_updates, is_root_directive, has_root, is_flat, is_open, stands_open, stands_clear, stands_outside, is_home, has_home_in, breaks_home, is_outside, has_outside, has_storage, breaks_storage, breaks_fold}
 use Rattle.sched.specs.Subjects.{range_names, reductions_of, is_pure, lacks, scattered_from, is_output, is_root, is_home_directive, has_home, subject_said}
-use Rattle.sched.specs.Rules.{Says, IsRoot, IsComputeAt, IsStored, IsNoFunction, IsReduction, Scatters, IsScattered, IsMarked, IsShort, SomeLoop, IsNoLoop, IsBadLanes, IsTwice, IsVectorized, IsParallel, IsVectorizedOutside, IsParallelInside, IsShiftedUpdate, IsInlineUpdate}
+use Rattle.sched.specs.Rules.{Says, IsRoot, IsComputeAt, IsStored, IsNoFunction, IsReduction, Scatters, IsScattered, IsMarked, IsShort, SomeLoop, IsNoLoop, IsBadLanes, IsTwice, IsVectorized, IsParallel, IsVectorizedOutside, IsParallelInside, IsShiftedUpdate, IsInlineUpdate, StandsClear, IsFlat, IsHomeLoop, HasHome, IsBadHome, IsOutside, HasStorage, IsBadStorage, IsBadFold}
 
 -- ---- some element
 
@@ -330,3 +331,137 @@ inside_has (x ∷ xs) (suc i) (suc j) l m lt at to is differs = or_second (is_pa
 
 pub inside_decides : (p : PlacedText) → Decides (has_parallel_inside p.loops) (IsParallelInside p)
 inside_decides p = (inside_is p.loops, λ h. inside_has p.loops h.0 h.1 h.2 h.3 h.4 h.5 h.6 h.7 h.8)
+
+-- ---- loops inside which none is parallel
+
+flat_mark : (o : Option Mark) → Decides (elim o [ Some mark.Unrolled ↦ true | Some mark.Vectorized ↦ true | _ ↦ false ]) ((o ≡ Some mark.Unrolled) ⊎ (o ≡ Some mark.Vectorized))
+flat_mark (Some mark.Unrolled) = (λ e. inl refl, λ e. refl)
+flat_mark (Some mark.Vectorized) = (λ e. inr refl, λ e. refl)
+flat_mark (Some mark.Parallel) = (λ e. absurd (false≢true e), λ e. ⊎_elim (λ h. absurd (cc)) (λ h. absurd (cc)) e)
+flat_mark None = (λ e. absurd (false≢true e), λ e. ⊎_elim (λ h. absurd (cc)) (λ h. absurd (cc)) e)
+
+open_decides : (x : List ℕ) (l : Loop) → Decides (is_open x l) ((l.name ≡ x) × ¬ IsFlat l)
+open_decides x l = Decides-and (same_name l.name x) (not (is_flat l)) (name_decides l.name x) (Decides-not (is_flat l) (flat_mark l.mark))
+
+serial_decides : (l : Loop) → Decides (not (is_parallel l)) (¬ IsParallel l)
+serial_decides l = Decides-not (is_parallel l) (parallel_decides l)
+
+both_of : (a b : Bool) → (a && b) ≡ true → (a ≡ true) × (b ≡ true)
+both_of true b e = (refl, e)
+both_of false b e = absurd (false≢true e)
+
+and_of : (a b : Bool) → a ≡ true → b ≡ true → (a && b) ≡ true
+and_of true b e f = f
+and_of false b e f = absurd (false≢true e)
+
+some_loop : (l m : Loop) → Some l ≡ Some m → l ≡ m
+some_loop l m e = cc
+
+-- the first is not parallel, and none of the next ones
+none_before : (l : Loop) (ls : List Loop) (n : ℕ) → ¬ IsParallel l → ((j : ℕ) (m : Loop) → j < n → slice_get ls j ≡ Some m → ¬ IsParallel m) → (j : ℕ) (m : Loop) → j < suc n → slice_get (l ∷ ls) j ≡ Some m → ¬ IsParallel m
+none_before l ls n serial more zero m lt at is = serial (subst IsParallel (sym (some_loop l m at)) is)
+none_before l ls n serial more (suc j) m lt at is = more j m (omega (arith, lt)) at is
+
+clear_later : (P : Loop → Type 0) (l : Loop) (ls : List Loop) → ¬ IsParallel l → StandsClear P ls → StandsClear P (l ∷ ls)
+clear_later P l ls serial h = (suc h.0, h.1, h.2, h.3, none_before l ls h.0 serial h.4)
+
+clear_here : (P : Loop → Type 0) (l : Loop) (ls : List Loop) → P l → StandsClear P (l ∷ ls)
+clear_here P l ls h = (0, l, refl, h, λ j m lt. absurd (omega (arith, lt)))
+
+open_is : (x : List ℕ) (ls : List Loop) → stands_open x ls ≡ true → IsHomeLoop x ls
+open_is x [] e = absurd (false≢true e)
+open_is x (l ∷ ls) e = or_cases (is_open x l) (not (is_parallel l) && stands_open x ls) e
+    (λ h. clear_here (λ m. (m.name ≡ x) × ¬ IsFlat m) l ls ((open_decides x l).0 h))
+    (λ h. let both = both_of _ _ h in clear_later (λ m. (m.name ≡ x) × ¬ IsFlat m) l ls ((serial_decides l).0 both.0) (open_is x ls both.1))
+
+open_has : (x : List ℕ) (ls : List Loop) (i : ℕ) (l : Loop) → slice_get ls i ≡ Some l → (l.name ≡ x) × ¬ IsFlat l → ((j : ℕ) (m : Loop) → j < i → slice_get ls j ≡ Some m → ¬ IsParallel m) → stands_open x ls ≡ true
+open_has x [] i l at is serial = absurd (cc)
+open_has x (m ∷ ms) zero l at is serial = or_first (is_open x m) (not (is_parallel m) && stands_open x ms) ((open_decides x m).1 (subst (λ (n : Loop). (n.name ≡ x) × ¬ IsFlat n) (sym (some_loop m l at)) is))
+open_has x (m ∷ ms) (suc i) l at is serial = or_second (is_open x m) (not (is_parallel m) && stands_open x ms)
+    (and_of _ _ ((serial_decides m).1 (serial 0 m (omega arith) refl)) (open_has x ms i l at is (λ j n lt to. serial (suc j) n (omega (arith, lt)) to)))
+
+home_loop_decides : (x : List ℕ) (ls : List Loop) → Decides (stands_open x ls) (IsHomeLoop x ls)
+home_loop_decides x ls = (open_is x ls, λ h. open_has x ls h.0 h.1 h.2 h.3 h.4)
+
+clear_is : (x : List ℕ) (ls : List Loop) → stands_clear x ls ≡ true → StandsClear (λ l. l.name ≡ x) ls
+clear_is x [] e = absurd (false≢true e)
+clear_is x (l ∷ ls) e = or_cases (same_name l.name x) (not (is_parallel l) && stands_clear x ls) e
+    (λ h. clear_here (λ m. m.name ≡ x) l ls ((name_decides l.name x).0 h))
+    (λ h. let both = both_of _ _ h in clear_later (λ m. m.name ≡ x) l ls ((serial_decides l).0 both.0) (clear_is x ls both.1))
+
+clear_has : (x : List ℕ) (ls : List Loop) (i : ℕ) (l : Loop) → slice_get ls i ≡ Some l → l.name ≡ x → ((j : ℕ) (m : Loop) → j < i → slice_get ls j ≡ Some m → ¬ IsParallel m) → stands_clear x ls ≡ true
+clear_has x [] i l at is serial = absurd (cc)
+clear_has x (m ∷ ms) zero l at is serial = or_first (same_name m.name x) (not (is_parallel m) && stands_clear x ms) ((name_decides m.name x).1 (subst (λ (n : Loop). n.name ≡ x) (sym (some_loop m l at)) is))
+clear_has x (m ∷ ms) (suc i) l at is serial = or_second (same_name m.name x) (not (is_parallel m) && stands_clear x ms)
+    (and_of _ _ ((serial_decides m).1 (serial 0 m (omega arith) refl)) (clear_has x ms i l at is (λ j n lt to. serial (suc j) n (omega (arith, lt)) to)))
+
+outside_here : (x y : List ℕ) (l : Loop) (ls : List Loop) → ¬ IsParallel l → l.name ≡ x → StandsClear (λ m. m.name ≡ y) ls → IsOutside x y (l ∷ ls)
+outside_here x y l ls serial is h = (0, suc h.0, l, h.1, omega arith, refl, h.2, is, h.3, none_before l ls h.0 serial h.4)
+
+outside_later : (x y : List ℕ) (l : Loop) (ls : List Loop) → ¬ IsParallel l → IsOutside x y ls → IsOutside x y (l ∷ ls)
+outside_later x y l ls serial h = (suc h.0, suc h.1, h.2, h.3, omega (arith, h.4), h.5, h.6, h.7, h.8, none_before l ls h.1 serial h.9)
+
+outside_is : (x y : List ℕ) (ls : List Loop) → stands_outside x y ls ≡ true → IsOutside x y ls
+outside_is x y [] e = absurd (false≢true e)
+outside_is x y (l ∷ ls) e =
+    let both = both_of _ _ e in
+    let serial = (serial_decides l).0 both.0 in
+    or_cases (same_name l.name x && stands_clear y ls) (stands_outside x y ls) both.1
+    (λ h. let here = both_of _ _ h in outside_here x y l ls serial ((name_decides l.name x).0 here.0) (clear_is y ls here.1))
+    (λ h. outside_later x y l ls serial (outside_is x y ls h))
+
+outside_has : (x y : List ℕ) (ls : List Loop) (i j : ℕ) (l m : Loop) → i < j → slice_get ls i ≡ Some l → slice_get ls j ≡ Some m → l.name ≡ x → m.name ≡ y → ((k : ℕ) (n : Loop) → k < j → slice_get ls k ≡ Some n → ¬ IsParallel n) → stands_outside x y ls ≡ true
+outside_has x y [] i j l m lt at to is named serial = absurd (cc)
+outside_has x y (n ∷ ns) i zero l m lt at to is named serial = absurd (omega (arith, lt))
+outside_has x y (n ∷ ns) zero (suc j) l m lt at to is named serial = and_of _ _ ((serial_decides n).1 (serial 0 n (omega arith) refl))
+    (or_first (same_name n.name x && stands_clear y ns) (stands_outside x y ns)
+    (and_of _ _ ((name_decides n.name x).1 (subst (λ (o : Loop). o.name ≡ x) (sym (some_loop n l at)) is)) (clear_has y ns j m to named (λ k o less there. serial (suc k) o (omega (arith, less)) there))))
+outside_has x y (n ∷ ns) (suc i) (suc j) l m lt at to is named serial = and_of _ _ ((serial_decides n).1 (serial 0 n (omega arith) refl))
+    (or_second (same_name n.name x && stands_clear y ns) (stands_outside x y ns)
+    (outside_has x y ns i j l m (omega (arith, lt)) at to is named (λ k o less there. serial (suc k) o (omega (arith, less)) there)))
+
+outside_decides : (x y : List ℕ) (ls : List Loop) → Decides (stands_outside x y ls) (IsOutside x y ls)
+outside_decides x y ls = (outside_is x y ls, λ h. outside_has x y ls h.0 h.1 h.2 h.3 h.4 h.5 h.6 h.7 h.8 h.9)
+
+-- ---- where a function is computed and stored
+
+module _ (a : Algorithm) (s : Schedule) (f : Function) (loops : Function → PlacedText) where
+  homes_any : (h : Home) (gs : List Function) → has_home_in (subject_said a s f) h (map (subject_said a s) gs) (map loops gs) ≡ list_any (λ g. is_home (subject_said a s f) h (subject_said a s g) (loops g)) gs
+  homes_any h [] = refl
+  homes_any h (g ∷ gs) = ap (λ (b : Bool). is_home (subject_said a s f) h (subject_said a s g) (loops g) || b) (homes_any h gs)
+
+  one_home_decides : (h : Home) (g : Function) → Decides (is_home (subject_said a s f) h (subject_said a s g) (loops g)) (((g.name ≡ h.function) × IsStored a s g) × ((¬ (g.name ≡ f.name)) × IsHomeLoop h.turn (loops g).loops))
+  one_home_decides h g = Decides-and _ _ (Decides-and _ _ (name_decides g.name h.function) (stored_decides a s g))
+      (Decides-and _ _ (Decides-not _ (name_decides g.name f.name)) (home_loop_decides h.turn (loops g).loops))
+
+  home_decides : (h : Home) → Decides (has_home_in (subject_said a s f) h (map (subject_said a s) a.functions) (map loops a.functions)) (HasHome a s f loops h)
+  home_decides h = Decides-at _ _ (homes_any h a.functions) (any_decides (λ g. is_home (subject_said a s f) h (subject_said a s g) (loops g))
+      (λ g. ((g.name ≡ h.function) × IsStored a s g) × ((¬ (g.name ≡ f.name)) × IsHomeLoop h.turn (loops g).loops)) (one_home_decides h) a.functions)
+
+  pub bad_home_decides : Decides (breaks_home (map (subject_said a s) a.functions) (map loops a.functions) (subject_said a s f) (loops f)) (IsBadHome a s f loops)
+  bad_home_decides = Decides-or _ _ (Decides-and _ _ (root_decides a s f) (Decides-ltb 0 (length (loops f).homes)))
+      (Decides-or _ _ (Decides-ltb 1 (length (loops f).homes))
+      (any_decides (λ h. not (has_home_in (subject_said a s f) h (map (subject_said a s) a.functions) (map loops a.functions))) (λ h. ¬ HasHome a s f loops h) (λ h. Decides-not _ (home_decides h)) (loops f).homes))
+
+  outsides_any : (h w : Home) (gs : List Function) → has_outside h w (map (subject_said a s) gs) (map loops gs) ≡ list_any (λ g. is_outside h w (subject_said a s g) (loops g)) gs
+  outsides_any h w [] = refl
+  outsides_any h w (g ∷ gs) = ap (λ (b : Bool). is_outside h w (subject_said a s g) (loops g) || b) (outsides_any h w gs)
+
+  one_outside_decides : (h w : Home) (g : Function) → Decides (is_outside h w (subject_said a s g) (loops g)) ((g.name ≡ h.function) × IsOutside h.turn w.turn (loops g).loops)
+  one_outside_decides h w g = Decides-and _ _ (name_decides g.name h.function) (outside_decides h.turn w.turn (loops g).loops)
+
+  some_outside_decides : (h w : Home) → Decides (has_outside h w (map (subject_said a s) a.functions) (map loops a.functions)) (Any (λ g. (g.name ≡ h.function) × IsOutside h.turn w.turn (loops g).loops) a.functions)
+  some_outside_decides h w = Decides-at _ _ (outsides_any h w a.functions) (any_decides (λ g. is_outside h w (subject_said a s g) (loops g)) (λ g. (g.name ≡ h.function) × IsOutside h.turn w.turn (loops g).loops) (one_outside_decides h w) a.functions)
+
+  storage_decides : (w : Home) → Decides (has_storage (map (subject_said a s) a.functions) (map loops a.functions) (loops f) w) (HasStorage a f loops w)
+  storage_decides w = any_decides (λ h. same_name w.function h.function && has_outside h w (map (subject_said a s) a.functions) (map loops a.functions))
+      (λ h. (w.function ≡ h.function) × Any (λ g. (g.name ≡ h.function) × IsOutside h.turn w.turn (loops g).loops) a.functions)
+      (λ h. Decides-and _ _ (name_decides w.function h.function) (some_outside_decides h w)) (loops f).homes
+
+  pub bad_storage_decides : Decides (breaks_storage (map (subject_said a s) a.functions) (map loops a.functions) (loops f)) (IsBadStorage a f loops)
+  bad_storage_decides = Decides-or _ _ (Decides-ltb 1 (length (loops f).stores))
+      (any_decides (λ w. not (has_storage (map (subject_said a s) a.functions) (map loops a.functions) (loops f) w)) (λ w. ¬ HasStorage a f loops w) (λ w. Decides-not _ (storage_decides w)) (loops f).stores)
+
+pub bad_fold_decides : (p : PlacedText) → Decides (breaks_fold p) (IsBadFold p)
+bad_fold_decides p = Decides-or _ _ (Decides-and _ _ (Decides-ltb 0 (length p.folds)) (Decides-eqb (length p.stores) 0))
+    (any_decides (λ d. d.factor == 0) (λ d. d.factor ≡ 0) (λ d. Decides-eqb d.factor 0) p.folds)

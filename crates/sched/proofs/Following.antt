@@ -23,7 +23,10 @@ least rule.BadSplit = omega arith
 least rule.BadReorder = omega arith
 least rule.BadMark = omega arith
 least rule.BadParallel = omega arith
+least rule.BadHome = omega arith
+least rule.BadStorage = omega arith
 least rule.BadShift = omega arith
+least rule.BadFold = omega arith
 least rule.InlineUpdates = omega arith
 
 -- a step makes q, and no rule is broken; or this is the lowest that is
@@ -106,13 +109,13 @@ module _ (a : Algorithm) (s : Schedule) (f : Function) where
   step_told p compute_root k = (refl, no_root p)
   step_told p (compute_at h) k =
       let known = function_decides a h.function in
-      one_test (StepBreaks a s f p (compute_at h)) p (is_among F.functions h.function) known.0 known.1 (only_at p h)
+      one_test (StepBreaks a s f p (compute_at h)) (after p (compute_at h)) (is_among F.functions h.function) known.0 known.1 (only_at p h)
   step_told p (store_at h) k =
       let known = function_decides a h.function in
-      one_test (StepBreaks a s f p (store_at h)) p (is_among F.functions h.function) known.0 known.1 (only_store p h)
+      one_test (StepBreaks a s f p (store_at h)) (after p (store_at h)) (is_among F.functions h.function) known.0 known.1 (only_store p h)
   step_told p (fold_to d) k =
       let known = among_decides f.variables d.dimension in
-      one_test (StepBreaks a s f p (fold_to d)) p (is_among f.variables d.dimension) (λ e no. no (known.0 e)) (λ e h. false≢true (sym e ∙ known.1 h)) (only_fold p d)
+      one_test (StepBreaks a s f p (fold_to d)) (after p (fold_to d)) (is_among f.variables d.dimension) (λ e no. no (known.0 e)) (λ e h. false≢true (sym e ∙ known.1 h)) (only_fold p d)
   step_told p (split c) k = two_tests (StepBreaks a s f p (split c)) (cut c p) rule.BadSplit (not (is_known F p.loops c.whole)) (breaks_split F p c) (known_decides a s f p c.whole) (bad_split_decides a s f p c) (only_split p c)
   step_told p (tile t) k = absurd k
   step_told p (reorder xs) k = two_tests (StepBreaks a s f p (reorder xs)) (after p (reorder xs)) rule.BadReorder (not (all_known F p.loops xs)) (any_reduction F xs || has_double xs) (all_known_decides a s f p xs) (bad_reorder_decides a s f xs) (only_reorder p xs)

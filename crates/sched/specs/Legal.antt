@@ -59,7 +59,7 @@ IsFollowed a s = (k : ℕ) (e : Saying) (r : Rule) → ¬ BreaksAt a s k e r
 
 -- the function breaks the rule behind the last directive
 abbrev pub Spoils : Algorithm → Schedule → Function → Rule → Type 0
-Spoils a s f r = EndBreaks a s f (loops_after (said s) f) r
+Spoils a s f r = EndBreaks a s f (loops_after (said s)) r
 
 -- the first thing said that breaks one of L1 to L5 breaks this one, and it is said of the function of this name
 pub record IsBrokenNow (a : Algorithm) (s : Schedule) (r : Rule) (x : List ℕ) : Type 0 where

@@ -1,8 +1,9 @@
 -- What directives make of the loops of a function, and which rule they break.
-use Rattle.std.specs.Prelude.{◌≡◌, ℕ, Bool, true, false, not, ◌&&◌, ◌||◌, ◌==◌, nat_le, nat_lt, if◌then◌else◌, List, [], ◌∷◌, ◌++◌, ◌+◌, map, drop, find, position, slice_get, slice_set, Option, Some, None, Result, Ok, Err}
+use Rattle.std.specs.Prelude.{◌≡◌, ℕ, Bool, true, false, not, ◌&&◌, ◌||◌, ◌==◌, nat_le, nat_lt, if◌then◌else◌, List, [], ◌∷◌, ◌++◌, ◌+◌, length, map, drop, find, position, slice_get, slice_set, Option, Some, None, Result, Ok, Err}
 use Rattle.std.specs.List.{flat_map, list_any, list_all}
 use Rattle.meaning.specs.Names.{same_name, is_among}
 use Rattle.sched.specs.declared.schedule.Home.{Home}
+use Rattle.sched.specs.declared.schedule.Fold.{Fold}
 use Rattle.sched.specs.declared.schedule.Split.{Split}
 use Rattle.sched.specs.declared.schedule.Tile.{Tile}
 use Rattle.sched.specs.declared.schedule.Tail.TheVariants as tails
@@ -34,17 +35,21 @@ pub record SubjectText : Type 0 where
   pub is_root : Bool
   pub is_stored : Bool
 
--- what directives have made of a function: its loops, the innermost first, its splits in the order of the text, and the names that are used up
+-- what directives have made of a function: its loops, the innermost first, its splits in the order of the text, and the names that are used up; the loops at which
+-- it is computed and stored, and what its storage is folded to, in the order of the text
 pub record PlacedText : Type 0 where
   pub loops : List Loop
   pub cuts : List Split
   pub used : List (List ℕ)
+  pub homes : List Home
+  pub stores : List Home
+  pub folds : List Fold
 
 abbrev pub subject_of : Subject → SubjectText
 subject_of s = record { functions = s.functions.items; name = s.name; variables = s.variables.items; reductions = s.reductions.items; scattered = s.scattered.items; updates = s.updates; is_output = s.is_output; is_root = s.is_root; is_stored = s.is_stored }
 
 abbrev pub placed_of : Placed → PlacedText
-placed_of p = record { loops = p.loops.items; cuts = p.cuts.items; used = p.used.items }
+placed_of p = record { loops = p.loops.items; cuts = p.cuts.items; used = p.used.items; homes = p.homes.items; stores = p.stores.items; folds = p.folds.items }
 
 -- ---- names
 
@@ -70,7 +75,7 @@ cut_loop s l =
 
 -- a name that is used up stays used
 abbrev pub cut : Split → PlacedText → PlacedText
-cut s p = record { loops = flat_map (cut_loop s) p.loops; cuts = p.cuts ++ s ∷ []; used = p.used ++ s.outer ∷ s.inner ∷ [] }
+cut s p = record p { loops = flat_map (cut_loop s) p.loops; cuts = p.cuts ++ s ∷ []; used = p.used ++ s.outer ∷ s.inner ∷ [] }
 
 abbrev pub split_in : SubjectText → Split → PlacedText → Result PlacedText Rule
 split_in f s p =
@@ -172,17 +177,20 @@ tile_in f t p = and_next (and_next (split_in f (x_split t) p) (split_in f (y_spl
 
 -- the loop at which a function is computed or stored is one of a function; which one is asked of the whole text
 abbrev pub home_in : SubjectText → Home → PlacedText → Result PlacedText Rule
-home_in f h p = if is_among f.functions h.function then Ok p else Err rule.UnknownName
+home_in f h p = if is_among f.functions h.function then Ok (record p { homes = p.homes ++ h ∷ [] }) else Err rule.UnknownName
 
-abbrev pub fold_in : SubjectText → List ℕ → PlacedText → Result PlacedText Rule
-fold_in f d p = if is_among f.variables d then Ok p else Err rule.UnknownName
+abbrev pub store_in : SubjectText → Home → PlacedText → Result PlacedText Rule
+store_in f h p = if is_among f.functions h.function then Ok (record p { stores = p.stores ++ h ∷ [] }) else Err rule.UnknownName
+
+abbrev pub fold_in : SubjectText → Fold → PlacedText → Result PlacedText Rule
+fold_in f d p = if is_among f.variables d.dimension then Ok (record p { folds = p.folds ++ d ∷ [] }) else Err rule.UnknownName
 
 -- What one directive makes of a function. Where a function is computed and stored changes none of its loops.
 abbrev pub applied : SubjectText → DirectiveText → PlacedText → Result PlacedText Rule
 applied f compute_root p = Ok p
 applied f (compute_at h) p = home_in f h p
-applied f (store_at h) p = home_in f h p
-applied f (fold d) p = fold_in f d.dimension p
+applied f (store_at h) p = store_in f h p
+applied f (fold d) p = fold_in f d p
 applied f (split s) p = split_in f s p
 applied f (tile t) p = tile_in f t p
 applied f (reorder names) p = reorder_in f names p
@@ -197,7 +205,7 @@ starting d (x ∷ xs) = record { name = x; dimension = d; within = None; mark = 
 
 -- before the first directive
 abbrev pub start : SubjectText → PlacedText
-start f = record { loops = starting 0 f.variables; cuts = []; used = f.variables ++ f.reductions }
+start f = record { loops = starting 0 f.variables; cuts = []; used = f.variables ++ f.reductions; homes = []; stores = []; folds = [] }
 
 -- in the order of the text, up to the first that breaks a rule
 abbrev pub all_in : SubjectText → List DirectiveText → PlacedText → Result PlacedText Rule
@@ -227,13 +235,75 @@ is_shifted s = elim s.tail [ tails.Shift ↦ true | tails.Guard ↦ false | tail
 abbrev pub has_updates : SubjectText → Bool
 has_updates f = nat_lt 0 f.updates
 
--- the rule of the lowest number that the whole breaks: L4 and L5 by its marks, L8 by a shift in spite of updates, L10 by updates that are not stored
-abbrev pub end_fault : SubjectText → PlacedText → Option Rule
-end_fault f p =
+-- ---- where a function is computed and stored
+
+-- unrolled or vectorised
+abbrev pub is_flat : Loop → Bool
+is_flat l = elim l.mark [ Some mark.Unrolled ↦ true | Some mark.Vectorized ↦ true | _ ↦ false ]
+
+-- the loop has this name, and its turns are done one after another or are pieces of their own
+abbrev pub is_open : List ℕ → Loop → Bool
+is_open x l = same_name l.name x && not (is_flat l)
+
+-- such a loop is among them, and none inside it is parallel
+abbrev pub stands_open : List ℕ → List Loop → Bool
+stands_open x [] = false
+stands_open x (l ∷ ls) = is_open x l || (not (is_parallel l) && stands_open x ls)
+
+-- a loop of this name is among them, and none inside it is parallel
+abbrev pub stands_clear : List ℕ → List Loop → Bool
+stands_clear x [] = false
+stands_clear x (l ∷ ls) = same_name l.name x || (not (is_parallel l) && stands_clear x ls)
+
+-- the same of the second name, outside a loop of the first
+abbrev pub stands_outside : List ℕ → List ℕ → List Loop → Bool
+stands_outside x y [] = false
+stands_outside x y (l ∷ ls) = not (is_parallel l) && ((same_name l.name x && stands_clear y ls) || stands_outside x y ls)
+
+-- the stored function g, which is not f, has the loop
+abbrev pub is_home : SubjectText → Home → SubjectText → PlacedText → Bool
+is_home f h g p = (same_name g.name h.function && g.is_stored) && (not (same_name g.name f.name) && stands_open h.turn p.loops)
+
+-- some function has
+abbrev pub has_home_in : SubjectText → Home → List SubjectText → List PlacedText → Bool
+has_home_in f h [] ps = false
+has_home_in f h (g ∷ gs) [] = false
+has_home_in f h (g ∷ gs) (p ∷ ps) = is_home f h g p || has_home_in f h gs ps
+
+abbrev pub breaks_home : List SubjectText → List PlacedText → SubjectText → PlacedText → Bool
+breaks_home fs ps f p = (f.is_root && nat_lt 0 (length p.homes)) || (nat_lt 1 (length p.homes) || list_any (λ h. not (has_home_in f h fs ps)) p.homes)
+
+-- the function in which f is computed has the loop w outside of that
+abbrev pub is_outside : Home → Home → SubjectText → PlacedText → Bool
+is_outside h w g p = same_name g.name h.function && stands_outside h.turn w.turn p.loops
+
+-- some function has
+abbrev pub has_outside : Home → Home → List SubjectText → List PlacedText → Bool
+has_outside h w [] ps = false
+has_outside h w (g ∷ gs) [] = false
+has_outside h w (g ∷ gs) (p ∷ ps) = is_outside h w g p || has_outside h w gs ps
+
+-- f is computed inside the loop
+abbrev pub has_storage : List SubjectText → List PlacedText → PlacedText → Home → Bool
+has_storage fs ps p w = list_any (λ h. same_name w.function h.function && has_outside h w fs ps) p.homes
+
+abbrev pub breaks_storage : List SubjectText → List PlacedText → PlacedText → Bool
+breaks_storage fs ps p = nat_lt 1 (length p.stores) || list_any (λ w. not (has_storage fs ps p w)) p.stores
+
+abbrev pub breaks_fold : PlacedText → Bool
+breaks_fold p = (nat_lt 0 (length p.folds) && length p.stores == 0) || list_any (λ d. d.factor == 0) p.folds
+
+-- The rule of the lowest number that the whole breaks: L4 and L5 by its marks, L6, L7 and L9 by where it is computed and stored, L8 by a shift in spite of updates, L10 by
+-- updates that are not stored.
+abbrev pub end_fault : List SubjectText → List PlacedText → SubjectText → PlacedText → Option Rule
+end_fault fs ps f p =
     if has_vectorized_outside p.loops then Some rule.BadMark
     else (if has_parallel_inside p.loops then Some rule.BadParallel
+    else (if breaks_home fs ps f p then Some rule.BadHome
+    else (if breaks_storage fs ps p then Some rule.BadStorage
     else (if has_updates f && list_any is_shifted p.cuts then Some rule.BadShift
-    else (if has_updates f && not f.is_stored then Some rule.InlineUpdates else None)))
+    else (if breaks_fold p then Some rule.BadFold
+    else (if has_updates f && not f.is_stored then Some rule.InlineUpdates else None))))))
 
 -- ---- what a function that applies directives answers
 
@@ -242,12 +312,6 @@ abbrev pub Places : {X : Type 0} → Result X Halt → PlacedText → Result Pla
 Places (Ok x) new told = told ≡ Ok new
 Places (Err halt.Memory) new told = Unit {0}
 Places (Err (halt.Broken r)) new told = told ≡ Err r
-
--- a name must be known, and is refused where it is not
-abbrev pub Knows : {X : Type 0} → Result X Halt → Bool → Type 0
-Knows (Ok x) known = known ≡ true
-Knows (Err halt.Memory) known = ⊥
-Knows (Err (halt.Broken r)) known = (known ≡ false) × (r ≡ rule.UnknownName)
 
 -- ---- a whole schedule
 
@@ -285,11 +349,15 @@ abbrev pub or_later : Option Rule → List ℕ → Option (Rule × List ℕ) →
 or_later (Some r) x later = Some (r, x)
 or_later None x later = later
 
+-- the first function of these, which are some of all, of which the whole breaks a rule
+abbrev pub fault_among : List SubjectText → List PlacedText → List SubjectText → List PlacedText → Option (Rule × List ℕ)
+fault_among gs qs [] ps = None
+fault_among gs qs (f ∷ fs) [] = None
+fault_among gs qs (f ∷ fs) (p ∷ ps) = or_later (end_fault gs qs f p) f.name (fault_among gs qs fs ps)
+
 -- the first function, in the order of declaration, of which the whole breaks a rule
 abbrev pub first_fault : List SubjectText → List PlacedText → Option (Rule × List ℕ)
-first_fault [] ps = None
-first_fault (f ∷ fs) [] = None
-first_fault (f ∷ fs) (p ∷ ps) = or_later (end_fault f p) f.name (first_fault fs ps)
+first_fault fs ps = fault_among fs ps fs ps
 
 abbrev pub unless_fault : Option (Rule × List ℕ) → List PlacedText → Outcome
 unless_fault None ps = Ok ps

@@ -2,6 +2,7 @@
 use Rattle.std.specs.Prelude.{◌≡◌, ◌≢◌, ◌⊎◌, ℕ, ◌<◌, ◌≤◌, List, [], ◌∷◌, ◌++◌, length, drop, fold, Some, slice_get, All, Contains, Any}
 use Rattle.tree.specs.Term.{Name}
 use Rattle.meaning.specs.Algorithm.{Change, Function, Algorithm}
+use Rattle.sched.specs.declared.schedule.Home.{Home}
 use Rattle.sched.specs.declared.schedule.Tail.TheVariants as tails
 use Rattle.sched.specs.declared.placing.Loop.{Loop}
 use Rattle.sched.specs.declared.placing.Mark.{Mark}
@@ -55,6 +56,9 @@ steps_of d = d ∷ []
 -- what a step makes of a function's loops
 abbrev pub after : PlacedText → DirectiveText → PlacedText
 after p (split s) = cut s p
+after p (compute_at h) = record p { homes = p.homes ++ h ∷ [] }
+after p (store_at h) = record p { stores = p.stores ++ h ∷ [] }
+after p (fold_to d) = record p { folds = p.folds ++ d ∷ [] }
 after p (reorder xs) = record p { loops = filled xs (loops_named p.loops xs) p.loops }
 after p (unroll x) = marked mark.Unrolled x p
 after p (vectorize x) = marked mark.Vectorized x p
@@ -63,7 +67,7 @@ after p d = p
 
 -- a function's variables are its first loops, the first innermost; these and the reduction variables are used up
 abbrev pub first_loops : Function → PlacedText
-first_loops f = record { loops = starting 0 f.variables; cuts = []; used = f.variables ++ reductions_of f.changes }
+first_loops f = record { loops = starting 0 f.variables; cuts = []; used = f.variables ++ reductions_of f.changes; homes = []; stores = []; folds = [] }
 
 -- what these steps make of them, one after another
 abbrev pub made : Function → List DirectiveText → PlacedText
@@ -138,7 +142,10 @@ StepBreaks a s f p d rule.BadSplit = IsBadSplit f p d
 StepBreaks a s f p d rule.BadReorder = IsBadReorder f p d
 StepBreaks a s f p d rule.BadMark = IsBadMark f p d
 StepBreaks a s f p d rule.BadParallel = IsBadParallel a s f p d
+StepBreaks a s f p d rule.BadHome = ⊥
+StepBreaks a s f p d rule.BadStorage = ⊥
 StepBreaks a s f p d rule.BadShift = ⊥
+StepBreaks a s f p d rule.BadFold = ⊥
 StepBreaks a s f p d rule.InlineUpdates = ⊥
 
 -- ---- what the whole text breaks
@@ -157,6 +164,42 @@ IsVectorizedOutside p = Any IsVectorized (drop 1 p.loops)
 abbrev pub IsParallelInside : PlacedText → Type 0
 IsParallelInside p = (i j : ℕ) × (l m : Loop) × (i < j) × (slice_get p.loops i ≡ Some l) × (slice_get p.loops j ≡ Some m) × IsParallel l × ¬ IsParallel m
 
+-- a loop is so, and no loop inside it is parallel
+abbrev pub StandsClear : (Loop → Type 0) → List Loop → Type 0
+StandsClear P ls = (i : ℕ) × (l : Loop) × (slice_get ls i ≡ Some l) × P l × ((j : ℕ) (m : Loop) → j < i → slice_get ls j ≡ Some m → ¬ IsParallel m)
+
+-- unrolled or vectorised
+abbrev pub IsFlat : Loop → Type 0
+IsFlat l = (l.mark ≡ Some mark.Unrolled) ⊎ (l.mark ≡ Some mark.Vectorized)
+
+-- v is a loop of these, neither vectorised nor unrolled, and without a parallel loop inside it
+abbrev pub IsHomeLoop : List ℕ → List Loop → Type 0
+IsHomeLoop v ls = StandsClear (λ l. (l.name ≡ v) × ¬ IsFlat l) ls
+
+-- the loop at which f is computed is one of another function, which is stored
+abbrev pub HasHome : Algorithm → Schedule → Function → (Function → PlacedText) → Home → Type 0
+HasHome a s f loops h = Any (λ g. ((g.name ≡ h.function) × IsStored a s g) × ((¬ (g.name ≡ f.name)) × IsHomeLoop h.turn (loops g).loops)) a.functions
+
+-- L6: compute_at beside compute_root or on the output, or twice, or at what is no such loop
+abbrev pub IsBadHome : Algorithm → Schedule → Function → (Function → PlacedText) → Type 0
+IsBadHome a s f loops = (IsRoot a s f × (0 < length (loops f).homes)) ⊎ (1 < length (loops f).homes) ⊎ Any (λ h. ¬ HasHome a s f loops h) (loops f).homes
+
+-- w stands outside v, and no loop inside w is parallel
+abbrev pub IsOutside : List ℕ → List ℕ → List Loop → Type 0
+IsOutside v w ls = (i j : ℕ) × (l m : Loop) × (i < j) × (slice_get ls i ≡ Some l) × (slice_get ls j ≡ Some m) × (l.name ≡ v) × (m.name ≡ w) × ((k : ℕ) (n : Loop) → k < j → slice_get ls k ≡ Some n → ¬ IsParallel n)
+
+-- f is computed at a loop of the same function, which has the other loop outside of that one
+abbrev pub HasStorage : Algorithm → Function → (Function → PlacedText) → Home → Type 0
+HasStorage a f loops w = Any (λ h. (w.function ≡ h.function) × Any (λ g. (g.name ≡ h.function) × IsOutside h.turn w.turn (loops g).loops) a.functions) (loops f).homes
+
+-- L7: store_at twice, or without compute_at, on another function than that, not outside its loop, or with a parallel loop inside it
+abbrev pub IsBadStorage : Algorithm → Function → (Function → PlacedText) → Type 0
+IsBadStorage a f loops = (1 < length (loops f).stores) ⊎ Any (λ w. ¬ HasStorage a f loops w) (loops f).stores
+
+-- L9, as far as no region is asked: fold without store_at, so without sliding, or to no places
+abbrev pub IsBadFold : PlacedText → Type 0
+IsBadFold p = ((0 < length p.folds) × (length p.stores ≡ 0)) ⊎ Any (λ d. d.factor ≡ 0) p.folds
+
 -- L8: a split with shift of a function with updates
 abbrev pub IsShiftedUpdate : Function → PlacedText → Type 0
 IsShiftedUpdate f p = HasUpdates f × Any (λ c. c.tail ≡ tails.Shift) p.cuts
@@ -165,15 +208,18 @@ IsShiftedUpdate f p = HasUpdates f × Any (λ c. c.tail ≡ tails.Shift) p.cuts
 abbrev pub IsInlineUpdate : Algorithm → Schedule → Function → Type 0
 IsInlineUpdate a s f = HasUpdates f × ¬ IsStored a s f
 
--- the function breaks the rule, where these are its loops behind the last directive
-abbrev pub EndBreaks : Algorithm → Schedule → Function → PlacedText → Rule → Type 0
-EndBreaks a s f p rule.UnknownName = ⊥
-EndBreaks a s f p rule.BadSplit = ⊥
-EndBreaks a s f p rule.BadReorder = ⊥
-EndBreaks a s f p rule.BadMark = IsVectorizedOutside p
-EndBreaks a s f p rule.BadParallel = IsParallelInside p
-EndBreaks a s f p rule.BadShift = IsShiftedUpdate f p
-EndBreaks a s f p rule.InlineUpdates = IsInlineUpdate a s f
+-- the function breaks the rule, where these are the loops of all functions behind the last directive
+abbrev pub EndBreaks : Algorithm → Schedule → Function → (Function → PlacedText) → Rule → Type 0
+EndBreaks a s f loops rule.UnknownName = ⊥
+EndBreaks a s f loops rule.BadSplit = ⊥
+EndBreaks a s f loops rule.BadReorder = ⊥
+EndBreaks a s f loops rule.BadMark = IsVectorizedOutside (loops f)
+EndBreaks a s f loops rule.BadParallel = IsParallelInside (loops f)
+EndBreaks a s f loops rule.BadHome = IsBadHome a s f loops
+EndBreaks a s f loops rule.BadStorage = IsBadStorage a f loops
+EndBreaks a s f loops rule.BadShift = IsShiftedUpdate f (loops f)
+EndBreaks a s f loops rule.BadFold = IsBadFold (loops f)
+EndBreaks a s f loops rule.InlineUpdates = IsInlineUpdate a s f
 
 -- ---- the lowest number
 
@@ -183,7 +229,10 @@ number_of rule.BadSplit = 2
 number_of rule.BadReorder = 3
 number_of rule.BadMark = 4
 number_of rule.BadParallel = 5
+number_of rule.BadHome = 6
+number_of rule.BadStorage = 7
 number_of rule.BadShift = 8
+number_of rule.BadFold = 9
 number_of rule.InlineUpdates = 10
 
 -- of the rules that are broken, this has the lowest number

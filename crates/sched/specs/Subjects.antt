@@ -8,7 +8,7 @@ use Rattle.meaning.specs.Conditions.{is_variable}
 use Rattle.sched.specs.Schedule.{DirectiveText, compute_at, Schedule}
 use Rattle.sched.specs.declared.error.SchedError.{SchedError}
 use Rattle.sched.specs.declared.subject.Placement.{Placement}
-use Rattle.sched.specs.Placing.{SubjectText, Outcome, Arranges, placed_of, following, first_fault, has_root}
+use Rattle.sched.specs.Placing.{SubjectText, Outcome, Arranges, subject_of, placed_of, following, first_fault, has_root}
 
 -- ---- updates
 
@@ -69,7 +69,7 @@ places a s = following (map (subject_said a s) a.functions) s
 
 -- what is told of all functions, unless memory ran out: what the directives make of them, and the first that breaks a rule behind these
 abbrev pub Follows : Algorithm → Schedule → Result Placement SchedError → Type 0
-Follows a s (Ok p) = (places a s ≡ Ok (map placed_of p.functions.items)) × (p.fault ≡ first_fault (map (subject_said a s) a.functions) (map placed_of p.functions.items))
+Follows a s (Ok p) = (places a s ≡ Ok (map placed_of p.functions.items)) × (p.fault ≡ first_fault (map (subject_said a s) a.functions) (map placed_of p.functions.items)) × (map subject_of p.subjects.items ≡ map (subject_said a s) a.functions)
 Follows a s (Err e) = Arranges {X = ℕ} (Err e) [] (places a s)
 
 -- ---- names

@@ -25,9 +25,9 @@ tail_text end.Shift = codes "shift"
 
 -- which directives the compiler has
 abbrev pub is_offered : Keyword → Bool
-is_offered word.ComputeAt = false
-is_offered word.StoreAt = false
-is_offered word.Fold = false
+is_offered word.ComputeAt = true
+is_offered word.StoreAt = true
+is_offered word.Fold = true
 is_offered word.Vectorize = true
 is_offered word.ComputeRoot = true
 is_offered word.Split = true

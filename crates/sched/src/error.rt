@@ -57,8 +57,16 @@ pub enum Rule {
     /// L5: a parallel loop that is marked already, of a function that is not root, or of a dimension for which some
     /// update has no pure variable; or parallel loops that are not the outermost ones.
     BadParallel,
+    /// L6: a function that is computed at a loop, and is root, or has two such loops, or whose loop is none of another stored
+    /// function, or is one that is unrolled or vectorised or has a parallel loop inside it.
+    BadHome,
+    /// L7: a function that is stored at a loop, and is computed at none, or at none of that function, or is stored at two,
+    /// or whose loop does not stand outside the one at which it is computed, or has a parallel loop inside it.
+    BadStorage,
     /// L8: a split with `shift` of a function with updates.
     BadShift,
+    /// L9: a fold of a function that is stored at no loop, or to no places.
+    BadFold,
     /// L10: a function with updates that is not stored.
     InlineUpdates,
 }
@@ -76,7 +84,10 @@ impl Rule {
             Rule::BadReorder => 3,
             Rule::BadMark => 4,
             Rule::BadParallel => 5,
+            Rule::BadHome => 6,
+            Rule::BadStorage => 7,
             Rule::BadShift => 8,
+            Rule::BadFold => 9,
             Rule::InlineUpdates => 10,
         }
     }

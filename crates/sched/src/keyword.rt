@@ -59,8 +59,10 @@ impl Keyword {
         ensures { result ≡ spec.is_offered self }
     {
         match self {
-            Keyword::ComputeAt | Keyword::StoreAt | Keyword::Fold => false,
             Keyword::ComputeRoot
+            | Keyword::ComputeAt
+            | Keyword::StoreAt
+            | Keyword::Fold
             | Keyword::Split
             | Keyword::Tile
             | Keyword::Reorder

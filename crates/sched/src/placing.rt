@@ -1,6 +1,6 @@
 //! What directives make of the loops of a function.
 
-ghost use Rattle.std.specs.Prelude.{◌≡◌, ◌&&◌, IfOk, map, position};
+ghost use Rattle.std.specs.Prelude.{◌≡◌, ◌&&◌, ◌==◌, not, IfOk, map, position};
 ghost use Rattle.std.specs.List.{flat_map, list_any};
 ghost use Rattle.sched.specs.declared.placing.Halt.TheVariants.{Memory};
 ghost use Rattle.sched.specs.View.{directive_of, scheduled_of, schedule_of};
@@ -69,6 +69,12 @@ pub struct Placed {
     pub cuts: Vec<Split>,
     /// The names that no split may give to a loop any more.
     pub used: Vec<Name>,
+    /// The loops at which it is computed, in the order of the text.
+    pub homes: Vec<Home>,
+    /// The loops at which it is stored, in the order of the text.
+    pub stores: Vec<Home>,
+    /// What its storage is folded to, in the order of the text.
+    pub folds: Vec<Fold>,
 }
 
 /// Why directives were not applied.
@@ -258,6 +264,13 @@ impl Loop {
         }
     }
 
+    // Whether it is unrolled or vectorised.
+    fn is_flat(&self) -> bool
+        ensures { result ≡ spec.is_flat self.now }
+    {
+        matches!(self.mark, Some(Mark::Unrolled | Mark::Vectorized))
+    }
+
     pub(crate) fn is_vectorized(&self) -> bool
         ensures { result ≡ spec.is_vectorized self.now }
     {
@@ -389,14 +402,49 @@ impl Placed {
         Ok(())
     }
 
+    // A turn of the loop computes what it needs of the function. The loop must be one of a function; which one is asked of the
+    // whole text.
+    fn compute_at(&mut self, subject: &Subject, home: &Home) -> Result<(), Halt>
+        ensures { spec.Places result (spec.placed_of self.new) (spec.home_in (spec.subject_of subject.now) home.now (spec.placed_of self.old)) }
+    {
+        if !is_among(&subject.functions, &home.function) {
+            return Err(Halt::Broken(Rule::UnknownName));
+        }
+        self.homes.push(*home)?;
+        Ok(())
+    }
+
+    // A turn of the loop owns the function's storage.
+    fn store_at(&mut self, subject: &Subject, home: &Home) -> Result<(), Halt>
+        ensures { spec.Places result (spec.placed_of self.new) (spec.store_in (spec.subject_of subject.now) home.now (spec.placed_of self.old)) }
+    {
+        if !is_among(&subject.functions, &home.function) {
+            return Err(Halt::Broken(Rule::UnknownName));
+        }
+        self.stores.push(*home)?;
+        Ok(())
+    }
+
+    // The dimension of a fold must be one of the function.
+    fn fold(&mut self, subject: &Subject, fold: &Fold) -> Result<(), Halt>
+        ensures { spec.Places result (spec.placed_of self.new) (spec.fold_in (spec.subject_of subject.now) fold.now (spec.placed_of self.old)) }
+    {
+        if !is_among(&subject.variables, &fold.dimension) {
+            return Err(Halt::Broken(Rule::UnknownName));
+        }
+        self.folds.push(*fold)?;
+        Ok(())
+    }
+
     // Where a function is computed and stored changes none of its loops.
     fn apply(&mut self, alloc: Global, subject: &Subject, directive: &Directive) -> Result<(), Halt>
         ensures { spec.Places result (spec.placed_of self.new) (spec.applied (spec.subject_of subject.now) (directive_of directive.now) (spec.placed_of self.old)) }
     {
         match directive {
             Directive::ComputeRoot => Ok(()),
-            Directive::ComputeAt(home) | Directive::StoreAt(home) => has_place(subject, home),
-            Directive::Fold(fold) => folds(subject, fold),
+            Directive::ComputeAt(home) => self.compute_at(subject, home),
+            Directive::StoreAt(home) => self.store_at(subject, home),
+            Directive::Fold(fold) => self.fold(subject, fold),
             Directive::Split(split) => self.split(alloc, subject, split),
             Directive::Tile(tile) => self.tile(alloc, subject, tile),
             Directive::Reorder(names) => self.reorder(alloc, subject, names),
@@ -438,18 +486,174 @@ fn has_shift(cuts: &[Split]) -> bool
     cuts.iter().any(|split| is_shifted(split))
 }
 
-/// The rule of the lowest number that a function breaks behind the last directive: L4 where a vectorised loop is not the
-/// innermost, L5 where some loop outside of a parallel one is not parallel, L8 where it has updates and a split with
-/// `shift`, L10 where it has updates and is not stored.
-pub fn end_fault(subject: &Subject, placed: &Placed) -> Option<Rule>
-    ensures { result ≡ spec.end_fault (spec.subject_of subject.now) (spec.placed_of placed.now) }
+// Whether the turns of the loop of this name are done one after another, or are pieces of their own.
+fn is_open(one: &Loop, name: &Name) -> bool
+    ensures { result ≡ spec.is_open name.now one.now }
+{
+    one.name.as_str() == name.as_str() && !one.is_flat()
+}
+
+// Whether such a loop is among these, and none inside it is parallel.
+fn stands_open(loops: &[Loop], name: &Name) -> bool
+    ensures { result ≡ spec.stands_open name.now loops.now }
+{
+    match loops {
+        [] => false,
+        [first, rest @ ..] => {
+            is_open(first, name) || (!first.is_parallel() && stands_open(rest, name))
+        }
+    }
+}
+
+// Whether a loop of this name is among these, and none inside it is parallel.
+fn stands_clear(loops: &[Loop], name: &Name) -> bool
+    ensures { result ≡ spec.stands_clear name.now loops.now }
+{
+    match loops {
+        [] => false,
+        [first, rest @ ..] => {
+            first.name.as_str() == name.as_str()
+                || (!first.is_parallel() && stands_clear(rest, name))
+        }
+    }
+}
+
+// The same of the outer name, outside a loop of the inner one.
+fn stands_outside(loops: &[Loop], inner: &Name, outer: &Name) -> bool
+    ensures { result ≡ spec.stands_outside inner.now outer.now loops.now }
+{
+    match loops {
+        [] => false,
+        [first, rest @ ..] => {
+            !first.is_parallel()
+                && ((first.name.as_str() == inner.as_str() && stands_clear(rest, outer))
+                    || stands_outside(rest, inner, outer))
+        }
+    }
+}
+
+// Whether the function of this subject is stored, another one than the own, and has the loop.
+fn is_home(own: &Subject, home: &Home, subject: &Subject, placed: &Placed) -> bool
+    ensures { result ≡ spec.is_home (spec.subject_of own.now) home.now (spec.subject_of subject.now) (spec.placed_of placed.now) }
+{
+    (subject.name.as_str() == home.function.as_str() && subject.is_stored)
+        && (subject.name.as_str() != own.name.as_str() && stands_open(&placed.loops, &home.turn))
+}
+
+// Whether some function is so.
+fn has_home_in(own: &Subject, home: &Home, subjects: &[Subject], placed: &[Placed]) -> bool
+    ensures { result ≡ spec.has_home_in (spec.subject_of own.now) home.now (map spec.subject_of subjects.now) (map spec.placed_of placed.now) }
+{
+    let [subject, others @ ..] = subjects else {
+        return false;
+    };
+    let [first, rest @ ..] = placed else {
+        return false;
+    };
+    is_home(own, home, subject, first) || has_home_in(own, home, others, rest)
+}
+
+fn some_homeless(own: &Subject, homes: &[Home], subjects: &[Subject], placed: &[Placed]) -> bool
+    ensures { result ≡ list_any (λ h. not (spec.has_home_in (spec.subject_of own.now) h (map spec.subject_of subjects.now) (map spec.placed_of placed.now))) homes.now }
+{
+    homes
+        .iter()
+        .any(|home| !has_home_in(own, home, subjects, placed))
+}
+
+fn breaks_home(subjects: &[Subject], placed: &[Placed], subject: &Subject, own: &Placed) -> bool
+    ensures { result ≡ spec.breaks_home (map spec.subject_of subjects.now) (map spec.placed_of placed.now) (spec.subject_of subject.now) (spec.placed_of own.now) }
+{
+    (subject.is_root && own.homes.len() > 0)
+        || (own.homes.len() > 1 || some_homeless(subject, &own.homes, subjects, placed))
+}
+
+// Whether the function of this subject has the loop at which one is stored outside the one at which it is computed.
+fn is_outside(home: &Home, store: &Home, subject: &Subject, placed: &Placed) -> bool
+    ensures { result ≡ spec.is_outside home.now store.now (spec.subject_of subject.now) (spec.placed_of placed.now) }
+{
+    subject.name.as_str() == home.function.as_str()
+        && stands_outside(&placed.loops, &home.turn, &store.turn)
+}
+
+// Whether some function has.
+fn has_outside(home: &Home, store: &Home, subjects: &[Subject], placed: &[Placed]) -> bool
+    ensures { result ≡ spec.has_outside home.now store.now (map spec.subject_of subjects.now) (map spec.placed_of placed.now) }
+{
+    let [subject, others @ ..] = subjects else {
+        return false;
+    };
+    let [first, rest @ ..] = placed else {
+        return false;
+    };
+    is_outside(home, store, subject, first) || has_outside(home, store, others, rest)
+}
+
+// Whether it is computed at a loop of these that stands inside the one at which it is stored.
+fn some_inside(subjects: &[Subject], placed: &[Placed], homes: &[Home], store: &Home) -> bool
+    ensures { result ≡ list_any (λ h. same_name store.now.function h.function && spec.has_outside h store.now (map spec.subject_of subjects.now) (map spec.placed_of placed.now)) homes.now }
+{
+    homes.iter().any(|home| store.function.as_str() == home.function.as_str()
+        && has_outside(home, store, subjects, placed))
+}
+
+// Whether the function is computed inside the loop at which it is stored.
+fn has_storage(subjects: &[Subject], placed: &[Placed], own: &Placed, store: &Home) -> bool
+    ensures { result ≡ spec.has_storage (map spec.subject_of subjects.now) (map spec.placed_of placed.now) (spec.placed_of own.now) store.now }
+{
+    some_inside(subjects, placed, &own.homes, store)
+}
+
+fn some_unstored(subjects: &[Subject], placed: &[Placed], own: &Placed) -> bool
+    ensures { result ≡ list_any (λ w. not (spec.has_storage (map spec.subject_of subjects.now) (map spec.placed_of placed.now) (spec.placed_of own.now) w)) own.now.stores.items }
+{
+    own.stores
+        .iter()
+        .any(|store| !has_storage(subjects, placed, own, store))
+}
+
+fn breaks_storage(subjects: &[Subject], placed: &[Placed], own: &Placed) -> bool
+    ensures { result ≡ spec.breaks_storage (map spec.subject_of subjects.now) (map spec.placed_of placed.now) (spec.placed_of own.now) }
+{
+    own.stores.len() > 1 || some_unstored(subjects, placed, own)
+}
+
+fn some_empty(folds: &[Fold]) -> bool
+    ensures { result ≡ list_any (λ d. d.factor == 0) folds.now }
+{
+    folds.iter().any(|fold| fold.factor == 0)
+}
+
+fn breaks_fold(own: &Placed) -> bool
+    ensures { result ≡ spec.breaks_fold (spec.placed_of own.now) }
+{
+    (own.folds.len() > 0 && own.stores.len() == 0) || some_empty(&own.folds)
+}
+
+/// The rule of the lowest number that a function of these breaks behind the last directive: L4 where a vectorised loop is not
+/// the innermost, L5 where some loop outside of a parallel one is not parallel, L6 and L7 where it is computed or stored at no
+/// fitting loop, L8 where it has updates and a split with `shift`, L9 where it is folded and stored at no loop, L10 where it
+/// has updates and is not stored.
+pub fn end_fault(
+    subjects: &[Subject],
+    functions: &[Placed],
+    subject: &Subject,
+    placed: &Placed,
+) -> Option<Rule>
+    ensures { result ≡ spec.end_fault (map spec.subject_of subjects.now) (map spec.placed_of functions.now) (spec.subject_of subject.now) (spec.placed_of placed.now) }
 {
     if has_vectorized_outside(&placed.loops) {
         Some(Rule::BadMark)
     } else if has_parallel_inside(&placed.loops) {
         Some(Rule::BadParallel)
+    } else if breaks_home(subjects, functions, subject, placed) {
+        Some(Rule::BadHome)
+    } else if breaks_storage(subjects, functions, placed) {
+        Some(Rule::BadStorage)
     } else if subject.has_updates() && has_shift(&placed.cuts) {
         Some(Rule::BadShift)
+    } else if breaks_fold(placed) {
+        Some(Rule::BadFold)
     } else if subject.has_updates() && !subject.is_stored {
         Some(Rule::InlineUpdates)
     } else {
@@ -480,28 +684,6 @@ fn marked_loops(
         }
     }
     Ok(marked)
-}
-
-// The loop at which a function is computed or stored must be one of a function.
-fn has_place(subject: &Subject, home: &Home) -> Result<(), Halt>
-    ensures { spec.Knows result (is_among subject.now.functions.items home.now.function) }
-{
-    if is_among(&subject.functions, &home.function) {
-        Ok(())
-    } else {
-        Err(Halt::Broken(Rule::UnknownName))
-    }
-}
-
-// The dimension of a fold must be one of the function.
-fn folds(subject: &Subject, fold: &Fold) -> Result<(), Halt>
-    ensures { spec.Knows result (is_among subject.now.variables.items fold.now.dimension) }
-{
-    if is_among(&subject.variables, &fold.dimension) {
-        Ok(())
-    } else {
-        Err(Halt::Broken(Rule::UnknownName))
-    }
 }
 
 // Whether each name is that of a loop or of a reduction variable.
@@ -535,8 +717,14 @@ pub fn start(alloc: Global, subject: &Subject) -> Result<Placed, AllocError>
     for name in &subject.reductions {
         used.push(*name)?;
     }
-    let cuts = Vec::new(alloc);
-    Ok(Placed { loops, cuts, used })
+    Ok(Placed {
+        loops,
+        cuts: Vec::new(alloc),
+        used,
+        homes: Vec::new(alloc),
+        stores: Vec::new(alloc),
+        folds: Vec::new(alloc),
+    })
 }
 
 /// Applies the directives of one function in their order.
@@ -615,20 +803,32 @@ fn apply_schedule(
     Ok(())
 }
 
-/// The first function, in the order of declaration, of which the whole breaks a rule of `end_fault`, with that rule.
-pub fn first_fault(subjects: &[Subject], placed: &[Placed]) -> Option<(Rule, Name)>
-    ensures { result ≡ spec.first_fault (map spec.subject_of subjects.now) (map spec.placed_of placed.now) }
+// The first of these, which are some of all functions, of which the whole breaks a rule of `end_fault`, with that rule.
+fn fault_among(
+    subjects: &[Subject],
+    functions: &[Placed],
+    some: &[Subject],
+    placed: &[Placed],
+) -> Option<(Rule, Name)>
+    ensures { result ≡ spec.fault_among (map spec.subject_of subjects.now) (map spec.placed_of functions.now) (map spec.subject_of some.now) (map spec.placed_of placed.now) }
 {
-    let [subject, others @ ..] = subjects else {
+    let [subject, others @ ..] = some else {
         return None;
     };
     let [first, rest @ ..] = placed else {
         return None;
     };
-    match end_fault(subject, first) {
+    match end_fault(subjects, functions, subject, first) {
         Some(rule) => Some((rule, subject.name)),
-        None => first_fault(others, rest),
+        None => fault_among(subjects, functions, others, rest),
     }
+}
+
+/// The first function, in the order of declaration, of which the whole breaks a rule of `end_fault`, with that rule.
+pub fn first_fault(subjects: &[Subject], placed: &[Placed]) -> Option<(Rule, Name)>
+    ensures { result ≡ spec.first_fault (map spec.subject_of subjects.now) (map spec.placed_of placed.now) }
+{
+    fault_among(subjects, placed, subjects, placed)
 }
 
 fn starts(alloc: Global, subjects: &[Subject]) -> Result<Vec<Placed>, AllocError>
@@ -687,7 +887,7 @@ pub fn follow(alloc: Global, subjects: &[Subject], sched: &Sched) -> Result<Vec<
 /// The same where the whole breaks no rule either.
 ///
 /// # Errors
-/// `Broken` with the function's name: first as `follow` answers, and then, function by function, L4, L5, L8 and L10 by
+/// `Broken` with the function's name: first as `follow` answers, and then, function by function, L4 to L10 by
 /// `end_fault`. `Memory`.
 pub fn place(alloc: Global, subjects: &[Subject], sched: &Sched) -> Result<Vec<Placed>, SchedError>
     ensures { spec.Arranged result (spec.placing (map spec.subject_of subjects.now) (schedule_of sched.now)) }

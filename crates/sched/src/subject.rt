@@ -296,6 +296,7 @@ fn arranged(alloc: Global, algo: &Algo, sched: &Sched) -> Result<Placement, Sche
 /// name of no function is L1 with that name). `UnfitNames` and `Memory`.
 pub fn followed(alloc: Global, algo: &Algo, sched: &Sched) -> Result<Placement, SchedError>
     ensures fault { IfOk result (λ p. IsFault (algorithm_of algo.now) (schedule_of sched.now) p.fault) }
+    ensures subjects { IfOk result (λ p. map subject_of p.subjects.items ≡ map (spec.subject_said (algorithm_of algo.now) (schedule_of sched.now)) (algorithm_of algo.now).functions) }
     ensures loops { IfOk result (λ p. map placed_of p.functions.items ≡ loops_of (algorithm_of algo.now) (schedule_of sched.now)) }
     ensures refused { IfErr result (IsRefused (algorithm_of algo.now) (schedule_of sched.now)) }
 {
