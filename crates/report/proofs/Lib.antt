@@ -1,0 +1,12 @@
+mod Sums
+mod Places
+mod Named
+mod Bindings
+mod Ends
+mod Turns
+mod Tallies
+mod Acts
+mod Grids
+mod Pieces
+mod Rows
+mod Lines

@@ -1,0 +1,12 @@
+pub mod Actions
+pub mod Memory
+pub mod Costs
+pub mod Deeds
+pub mod Grid
+pub mod Counting
+pub mod Known
+pub mod Ranges
+pub mod Subject
+pub mod Tally
+pub mod Table
+pub mod View

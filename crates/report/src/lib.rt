@@ -1,0 +1,13 @@
+//! What a checked plan costs: the stores, private cells, fetched cells and pieces of each stored function.
+#![tactic(auto)]
+
+mod costs;
+mod counting;
+mod known;
+mod memory;
+mod ranges;
+mod subject;
+mod table;
+
+pub use costs::{Costs, FunctionCost, cost};
+pub use table::text;

@@ -1,0 +1,5 @@
+use Rattle.windows.proofs.Slid.{slid_is_meant}
+use Rattle.windows.proofs.laws.slid_is_meant.Goals as goal
+
+pub returns : goal.returns
+returns c = slid_is_meant
