@@ -6,7 +6,7 @@
 Half of the schedules split each dimension at most once and no inner loop of a split is parallel: of these each one that
 keeps the rules of schedules has to be compiled. The others split loops again and make any outermost loops parallel: what is
 compiled of them has to be right, and what the checker refuses is counted by its code. A plan that was compiled is checked
-again, run by one worker and by three, and its picture is that of `plain`.
+again, run by one worker and by three, those of the first 200 schedules by 2, 7 and 64 too, and its picture is that of `plain`.
 
 What is made up breaks L5, L8 and L10 alone, and a refusal by one of them is taken only where the schedule's text gives cause:
 an update and a parallel loop, `shift` (over fewer points than the factor, where the text tells how many), an update that is
@@ -26,6 +26,11 @@ from pathlib import Path
 ALGORITHMS = Path(__file__).resolve().parent / "schedules"
 FACTORS = [1, 2, 2, 3, 4, 4, 5, 7, 8]
 TAILS = ["guard", "roundup", "shift"]
+
+# The plans of the first so many schedules are run by each of these numbers of workers, the others by few.
+CREWS = 200
+WORKERS = ["1", "2", "3", "7", "64"]
+FEW = ["1", "3"]
 
 
 @dataclass
@@ -198,7 +203,7 @@ def plain_picture(program, text, image):
         return Path(folder, "out").read_bytes()
 
 
-def outcome(program, text, image, picture, made, core):
+def outcome(program, workers, text, image, picture, made, core):
     """What came of a schedule, and whether that is right."""
     with tempfile.TemporaryDirectory() as folder:
         Path(folder, "a.alg").write_text(text)
@@ -215,10 +220,10 @@ def outcome(program, text, image, picture, made, core):
             return "compiled, against a rule", False
         if run(program, folder, "check", "a.alg", "a.plan").returncode != 0:
             return "compiled, not accepted", False
-        for workers in ("1", "3"):
-            told = run(program, folder, "run", "a.alg", "a.plan", "in", "out", "--workers", workers)
-            if told.returncode != 0 or Path(folder, "out").read_bytes() != picture:
-                return f"another picture by {workers}", False
+        for count in workers:
+            told = run(program, folder, "run", "a.alg", "a.plan", "in", f"out{count}", "--workers", count)
+            if told.returncode != 0 or Path(folder, f"out{count}").read_bytes() != picture:
+                return f"another picture by {count}", False
         return "compiled", True
 
 
@@ -236,7 +241,8 @@ def main():
         core = number % 2 == 0
         tries.append((texts[which], images[which], pictures[which], schedule(chance, texts[which], core), core))
     with ThreadPoolExecutor() as pool:
-        found = list(pool.map(lambda one: outcome(program, *one), tries))
+        crews = [WORKERS if number < CREWS else FEW for number in range(count)]
+        found = list(pool.map(lambda crew, one: outcome(program, crew, *one), crews, tries))
     for (code, is_right), (text, _, _, made, core) in zip(found, tries):
         if not is_right:
             print(f"{code}: {made}\n    {text.strip()}")

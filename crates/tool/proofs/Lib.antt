@@ -3,6 +3,8 @@ pub mod Decimals
 pub mod OrderWords
 pub mod Turns
 mod Between
+mod Compared
+mod Comparisons
 mod Compiled
 mod Failures
 mod Samples
@@ -11,3 +13,4 @@ mod Kept
 mod Named
 mod Prepared
 mod Streams
+mod Schedules

@@ -2,20 +2,28 @@
 use Rattle.std.proofs.Common.{◌≡◌, ◌≢◌, ◌⊎◌, ◌∙◌, sym, refl, ℕ, List, Option, None, Some, option_and_then, option_map, true, codes, inl, inr, arith}
 use Rattle.clap.specs.declared.error.Error.{Error}
 use Rattle.clap.specs.declared.error.kind.ErrorKind.{ErrorKind}
-use Rattle.clap.specs.declared.error.kind.ErrorKind.TheVariants.{DisplayHelp, OutOfMemory}
+use Rattle.clap.specs.declared.error.kind.ErrorKind.TheVariants.{DisplayHelp, DisplayVersion, OutOfMemory}
 use Rattle.clap.specs.declared.parser.matches.Found.{Found}
-use Rattle.clap.specs.Words.{IsAmong, Text, fault_of, first_value, is_simple, is_simple_and_free, kind_of, rows_of}
+use Rattle.clap.specs.Words.{IsAmong, Text, fault_of, first_value, is_simple, is_simple_and_free, kind_of, matched_of, raw_values, rows_of}
 use Rattle.clap.proofs.OnLiterals.{clap_on_literals}
-use Rattle.clap.proofs.WalkLemmas.{first_value-rows}
+use Rattle.clap.proofs.WalkLemmas.{first_value-rows, raw_values-rows}
 use Rattle.tool.specs.Answer.{WordsAnswer}
 use Rattle.tool.specs.Asked.{AskedWay}
-use Rattle.tool.specs.Line.{FailsFor, all_three, both as both_words, check_in, compile_in, line, by_workers, picture_in, replay_in, run_in, to_compile, with_order, workers_in}
+use Rattle.tool.specs.Line.{FailsFor, all_three, both as both_words, check_in, compare_in, compile_in, line, by_workers, picture_in, replay_in, run_in, to_compare, to_compile, with_order, workers_in}
 
 pub picture_as : (way : AskedWay) (f : Found) → picture_in way (rows_of f) ≡ all_three way (first_value f (codes "ALG")) (first_value f (codes "IN")) (first_value f (codes "OUT"))
 picture_as way f = rw (first_value-rows f (codes "ALG"), first_value-rows f (codes "IN"), first_value-rows f (codes "OUT")) refl
 
 pub compile_as : (f : Found) → compile_in (rows_of f) ≡ to_compile (first_value f (codes "ALG")) (first_value f (codes "SCHED")) (first_value f (codes "PLAN"))
 compile_as f = rw (first_value-rows f (codes "ALG"), first_value-rows f (codes "SCHED"), first_value-rows f (codes "PLAN")) refl
+
+pub compare_as : (f : Found) → compare_in (rows_of f) ≡ to_compare (first_value f (codes "ALG")) (first_value f (codes "IN")) (option_map raw_values (matched_of f (codes "SCHED")))
+compare_as f = rw (first_value-rows f (codes "ALG"), first_value-rows f (codes "IN"), raw_values-rows f (codes "SCHED")) refl
+
+pub nothing_to_compare : (algorithm input : Option Text) → to_compare algorithm input None ≡ None
+nothing_to_compare None input = refl
+nothing_to_compare (Some a) None = refl
+nothing_to_compare (Some a) (Some i) = refl
 
 pub run_as : (f : Found) → run_in (rows_of f) ≡ option_and_then (λ plan. by_workers plan (workers_in (first_value f (codes "workers"))) (rows_of f)) (first_value f (codes "PLAN"))
 run_as f = rw (first_value-rows f (codes "PLAN"), first_value-rows f (codes "workers")) refl
@@ -41,17 +49,20 @@ line_is_simple = refl
 
 -- a kind among those of the words' fault
 among_answer : (words : List Text) (k : ErrorKind) (status : ℕ) → (k ≡ OutOfMemory → status ≡ 4)
-    → (k ≡ DisplayHelp → (status ≡ 0) ⊎ (status ≡ 5)) → (k ≢ OutOfMemory → k ≢ DisplayHelp → status ≡ 2)
+    → (k ≡ DisplayHelp → (status ≡ 0) ⊎ (status ≡ 5)) → (k ≡ DisplayVersion → (status ≡ 0) ⊎ (status ≡ 5))
+    → (k ≢ OutOfMemory → k ≢ DisplayHelp → k ≢ DisplayVersion → status ≡ 2)
     → IsAmong k (fault_of line words) → WordsAnswer words status
-among_answer words OutOfMemory status memory help misuse among = inr (inr (memory refl))
-among_answer words DisplayHelp status memory help misuse among = inl (help refl, among)
-among_answer words k status memory help misuse among =
-    inr (inl (misuse (λ e. cc e) (λ e. cc e), inl (k, (λ e. cc e), among)))
+among_answer words OutOfMemory status memory help version misuse among = inr (inr (memory refl))
+among_answer words DisplayHelp status memory help version misuse among = inl (help refl, inl among)
+among_answer words DisplayVersion status memory help version misuse among = inl (version refl, inr among)
+among_answer words k status memory help version misuse among =
+    inr (inl (misuse (λ e. cc e) (λ e. cc e) (λ e. cc e), inl (k, (λ e. cc e), (λ e. cc e), among)))
 
 pub answer_of : (words : List Text) (e : Error) (status : ℕ) → (kind_of e ≡ OutOfMemory → status ≡ 4)
-    → (kind_of e ≡ DisplayHelp → (status ≡ 0) ⊎ (status ≡ 5)) → (kind_of e ≢ OutOfMemory → kind_of e ≢ DisplayHelp → status ≡ 2)
+    → (kind_of e ≡ DisplayHelp → (status ≡ 0) ⊎ (status ≡ 5)) → (kind_of e ≡ DisplayVersion → (status ≡ 0) ⊎ (status ≡ 5))
+    → (kind_of e ≢ OutOfMemory → kind_of e ≢ DisplayHelp → kind_of e ≢ DisplayVersion → status ≡ 2)
     → FailsFor words e → WordsAnswer words status
-answer_of words e status memory help misuse (inl (inl none)) = inr (inr (memory none))
-answer_of words e status memory help misuse (inl (inr among)) = among_answer words (kind_of e) status memory help misuse among
-answer_of words e status memory help misuse (inr (missing, nothing)) =
-    inr (inl (misuse (λ h. cc (sym h ∙ missing)) (λ h. cc (sym h ∙ missing)), inr nothing))
+answer_of words e status memory help version misuse (inl (inl none)) = inr (inr (memory none))
+answer_of words e status memory help version misuse (inl (inr among)) = among_answer words (kind_of e) status memory help version misuse among
+answer_of words e status memory help version misuse (inr (missing, nothing)) =
+    inr (inl (misuse (λ h. cc (sym h ∙ missing)) (λ h. cc (sym h ∙ missing)) (λ h. cc (sym h ∙ missing)), inr nothing))

@@ -3,11 +3,12 @@ use Rattle.std.specs.Prelude.{◌≡◌, ◌⊎◌, ℕ, List, Option, Some, Res
 use Rattle.clap.specs.Words.{Text}
 use Rattle.tool.specs.declared.pipeline.fault.Fault.{Fault}
 use Rattle.tool.specs.Pipeline.Pictures as streams
-use Rattle.tool.specs.Asked.{Asked, Picture, Compile, Check, Replay}
+use Rattle.tool.specs.Asked.{Asked, Picture, Compile, Check, Cost, Replay, Compare}
 use Rattle.tool.specs.Checks.{IsChecked, IsCheckRefused}
+use Rattle.tool.specs.Compares.{IsCompared, IsCompareRefused}
 use Rattle.tool.specs.Replays.{IsReplayed, IsReplayRefused}
 use Rattle.tool.specs.Files.{Contents, SameFiles}
-use Rattle.tool.specs.Line.{AsksFor, AsksHelp, IsMisuse}
+use Rattle.tool.specs.Line.{AsksFor, AsksHelp, AsksVersion, IsMisuse}
 use Rattle.tool.specs.Compiles as compiling
 use Rattle.tool.specs.Pictures.{IsDone, IsRefused}
 use Rattle.tool.specs.Status.{status_of}
@@ -28,7 +29,9 @@ abbrev pub Ends : Contents → Contents → Asked → Result (Unit {0}) Fault �
 Ends old new (Picture a) outcome = MatchResult outcome (λ _. IsDone old new a) (IsRefused old new a)
 Ends old new (Compile a) outcome = MatchResult outcome (λ _. compiling.IsDone old new a) (compiling.IsRefused old new a)
 Ends old new (Check a) outcome = SameFiles old new × MatchResult outcome (λ _. IsChecked old a) (IsCheckRefused old a)
+Ends old new (Cost a) outcome = SameFiles old new × MatchResult outcome (λ _. IsChecked old a) (IsCheckRefused old a)
 Ends old new (Replay a) outcome = SameFiles old new × MatchResult outcome (λ _. IsReplayed old a) (IsReplayRefused old a)
+Ends old new (Compare a) outcome = SameFiles old new × MatchResult outcome (λ _. IsCompared old a) (IsCompareRefused old a)
 
 -- the words ask for something, and the status is that of what came of it
 pub record CommandEnds (words : List Text) (old new : Contents) (status : ℕ) : Type 0 where
@@ -38,10 +41,10 @@ pub record CommandEnds (words : List Text) (old new : Contents) (status : ℕ) :
   pub ends : Ends old new asked outcome
   pub answer : status ≡ status_after outcome
 
--- no command is run: the words ask for help, which may fail to be written, or are a fault, or there is no memory to read them
+-- no command is run: the words ask for help or the version, which may fail to be written, or are a fault, or there is no memory to read them
 abbrev pub WordsAnswer : List Text → ℕ → Type 0
 WordsAnswer words status =
-    (((status ≡ 0) ⊎ (status ≡ 5)) × AsksHelp words) ⊎ (((status ≡ 2) × IsMisuse words) ⊎ (status ≡ 4))
+    (((status ≡ 0) ⊎ (status ≡ 5)) × (AsksHelp words ⊎ AsksVersion words)) ⊎ (((status ≡ 2) × IsMisuse words) ⊎ (status ≡ 4))
 
 -- what the program does to the files, and its status, on words of which there is one or more
 abbrev pub CommandAnswers : List Text → Contents → Contents → ℕ → Type 0

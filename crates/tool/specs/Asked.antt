@@ -1,5 +1,5 @@
 -- What is asked for.
-use Rattle.std.specs.Prelude.{ℕ}
+use Rattle.std.specs.Prelude.{ℕ, List, map}
 use Rattle.clap.specs.Words.{Text}
 use Rattle.tool.specs.declared.request.Way.{Way}
 use Rattle.tool.specs.declared.request.Way.TheVariants as way
@@ -7,6 +7,7 @@ use Rattle.tool.specs.declared.request.PictureRequest.{PictureRequest}
 use Rattle.tool.specs.declared.request.CompileRequest.{CompileRequest}
 use Rattle.tool.specs.declared.request.CheckRequest.{CheckRequest}
 use Rattle.tool.specs.declared.request.ReplayRequest.{ReplayRequest}
+use Rattle.tool.specs.declared.request.CompareRequest.{CompareRequest}
 use Rattle.tool.specs.declared.request.Request.{Request}
 use Rattle.tool.specs.declared.request.Request.TheVariants as request
 
@@ -39,11 +40,19 @@ pub record AskedReplay : Type 0 where
   pub input : Text
   pub order : Text
 
+-- schedules whose pictures are compared with the plain one
+pub record AskedCompare : Type 0 where
+  pub algorithm : Text
+  pub input : Text
+  pub schedules : List Text
+
 pub data Asked : Type 0 where
   Picture : AskedPicture → Asked
   Compile : AskedCompile → Asked
   Check : AskedCheck → Asked
+  Cost : AskedCheck → Asked
   Replay : AskedReplay → Asked
+  Compare : AskedCompare → Asked
 
 abbrev pub way_asked : Way → AskedWay
 way_asked way.Plain = Plain
@@ -61,8 +70,13 @@ check_asked r = record { algorithm = r.algorithm.now; plan = r.plan.now }
 abbrev pub replay_asked : ReplayRequest → AskedReplay
 replay_asked r = record { check = check_asked r.check; input = r.input.now; order = r.order.now }
 
+abbrev pub compare_asked : CompareRequest → AskedCompare
+compare_asked r = record { algorithm = r.algorithm.now; input = r.input.now; schedules = map (λ name. name.now) r.schedules.items }
+
 abbrev pub asked_by : Request → Asked
 asked_by (request.Picture r) = Picture (picture_asked r)
 asked_by (request.Compile r) = Compile (compile_asked r)
 asked_by (request.Check r) = Check (check_asked r)
+asked_by (request.Cost r) = Cost (check_asked r)
 asked_by (request.Replay r) = Replay (replay_asked r)
+asked_by (request.Compare r) = Compare (compare_asked r)

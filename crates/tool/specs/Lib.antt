@@ -7,6 +7,7 @@ pub mod Line
 pub mod Means
 pub mod Pictures
 pub mod Checks
+pub mod Compares
 pub mod Compiles
 pub mod Replays
 pub mod Status

@@ -2,15 +2,20 @@
 use Rattle.std.specs.Prelude.{◌≡◌, ◌≢◌, ◌⊎◌, ℕ, List, [], Option, None, Some, true, codes, option_and_then, option_map, if◌then◌else◌}
 use Rattle.std.specs.Str.{bytes_eq}
 use Rattle.clap.specs.declared.error.kind.ErrorKind.{ErrorKind}
-use Rattle.clap.specs.declared.error.kind.ErrorKind.TheVariants.{DisplayHelp, ValueValidation}
+use Rattle.clap.specs.declared.error.kind.ErrorKind.TheVariants.{DisplayHelp, DisplayVersion, ValueValidation}
 use Rattle.clap.specs.declared.error.Error.{Error}
-use Rattle.clap.specs.Words.{App, HasKind, IsAmong, Row, Rule, Text, fault_of, first_of, kind_of, new_app, new_rule, subcommand_of, with_rule, with_subcommand}
+use Rattle.clap.specs.Lexer.{usize_max}
+use Rattle.clap.specs.Words.{App, HasKind, IsAmong, Row, Rule, Text, fault_of, all_of, first_of, kind_of, new_app, new_rule, subcommand_of, with_rule, with_subcommand}
 use Rattle.tool.specs.Workers.{workers_spelled}
-use Rattle.tool.specs.Asked.{AskedWay, Plain, File, AskedCheck, Asked, Picture, Compile, Check, Replay}
+use Rattle.tool.specs.Asked.{AskedWay, Plain, File, AskedCheck, Asked, Picture, Compile, Check, Cost, Replay, Compare}
 
 -- a word that has to be there, under a name
 abbrev pub needed : Text → Rule
 needed name = record (new_rule name) { required = true }
+
+-- words under a name, of which there has to be one
+abbrev pub several : Text → Rule
+several name = record (needed name) { range = Some (record { start_inclusive = 1; end_inclusive = usize_max }) }
 
 -- NAME ALG IN OUT
 abbrev pub picture_line : Text → App
@@ -18,15 +23,19 @@ picture_line name = with_rule (with_rule (with_rule (new_app name) (needed (code
 
 -- stencil COMMAND, where the words begin with the command
 abbrev pub program : App
-program = record (new_app (codes "stencil")) { top = record ((new_app (codes "stencil")).top) { no_binary_name = true; subcommand_required = true } }
+program = record (new_app (codes "stencil")) { top = record ((new_app (codes "stencil")).top) { has_version = true; no_binary_name = true; subcommand_required = true } }
 
 -- compile ALG SCHED PLAN
 abbrev pub compile_line : App
 compile_line = with_rule (with_rule (with_rule (new_app (codes "compile")) (needed (codes "ALG"))) (needed (codes "SCHED"))) (needed (codes "PLAN"))
 
--- the words of the commands that take a plan file
-abbrev pub check_line : App
-check_line = with_rule (with_rule (new_app (codes "check")) (needed (codes "ALG"))) (needed (codes "PLAN"))
+-- NAME ALG PLAN
+abbrev pub plan_line : Text → App
+plan_line name = with_rule (with_rule (new_app name) (needed (codes "ALG"))) (needed (codes "PLAN"))
+
+-- compare ALG IN SCHED..
+abbrev pub compare_line : App
+compare_line = with_rule (with_rule (with_rule (new_app (codes "compare")) (needed (codes "ALG"))) (needed (codes "IN"))) (several (codes "SCHED"))
 
 -- --workers N, which may be left out
 abbrev pub workers_rule : Rule
@@ -41,12 +50,16 @@ run_line = with_rule named_run_line workers_rule
 abbrev pub replay_line : App
 replay_line = with_rule (with_rule (with_rule (with_rule (new_app (codes "replay")) (needed (codes "ALG"))) (needed (codes "PLAN"))) (needed (codes "IN"))) (needed (codes "ORDER"))
 
--- the commands that take no plan file, and with them those that take one
+-- the commands that take no plan file, but for the one that compares schedules
 abbrev pub planless : App
 planless = with_subcommand (with_subcommand program (picture_line (codes "plain")).top) compile_line.top
 
+-- with it the commands that tell something of a plan file, and with them those that compute by one
+abbrev pub told : App
+told = with_subcommand (with_subcommand (with_subcommand planless compare_line.top) (plan_line (codes "check")).top) (plan_line (codes "cost")).top
+
 abbrev pub line : App
-line = with_subcommand (with_subcommand (with_subcommand planless check_line.top) run_line.top) replay_line.top
+line = with_subcommand (with_subcommand told run_line.top) replay_line.top
 
 -- a picture, where all three names are there
 abbrev pub all_three : AskedWay → Option Text → Option Text → Option Text → Option Asked
@@ -94,14 +107,27 @@ with_order check _ _ = None
 abbrev pub replay_in : List Row → Option Asked
 replay_in rows = option_and_then (λ check. with_order check (first_of (codes "IN") rows) (first_of (codes "ORDER") rows)) (check_in rows)
 
--- what a command of this name asks for
-abbrev pub asked_of_command : Text × List Row → Option Asked
-asked_of_command command =
+abbrev pub to_compare : Option Text → Option Text → Option (List Text) → Option Asked
+to_compare (Some algorithm) (Some input) (Some schedules) = Some (Compare (record { algorithm = algorithm; input = input; schedules = schedules }))
+to_compare _ _ _ = None
+
+-- the words for the algorithm, the image and the schedules
+abbrev pub compare_in : List Row → Option Asked
+compare_in rows = to_compare (first_of (codes "ALG") rows) (first_of (codes "IN") rows) (all_of (codes "SCHED") rows)
+
+-- what a command of this name asks for, of those that name so many files
+abbrev pub asked_of_one : Text × List Row → Option Asked
+asked_of_one command =
     if bytes_eq command.0 (codes "plain") then picture_in Plain command.1
     else (if bytes_eq command.0 (codes "compile") then compile_in command.1
     else (if bytes_eq command.0 (codes "run") then run_in command.1
     else (if bytes_eq command.0 (codes "check") then option_map Check (check_in command.1)
-    else (if bytes_eq command.0 (codes "replay") then replay_in command.1 else None))))
+    else (if bytes_eq command.0 (codes "cost") then option_map Cost (check_in command.1)
+    else (if bytes_eq command.0 (codes "replay") then replay_in command.1 else None)))))
+
+-- what a command of this name asks for
+abbrev pub asked_of_command : Text × List Row → Option Asked
+asked_of_command command = if bytes_eq command.0 (codes "compare") then compare_in command.1 else asked_of_one command
 
 -- what the words ask for
 abbrev pub asked : List Text → Option Asked
@@ -115,10 +141,15 @@ AsksFor words a = (fault_of line words ≡ []) × (asked words ≡ Some a)
 abbrev pub AsksHelp : List Text → Type 0
 AsksHelp words = IsAmong DisplayHelp (fault_of line words)
 
+-- or for the version
+abbrev pub AsksVersion : List Text → Type 0
+AsksVersion words = IsAmong DisplayVersion (fault_of line words)
+
 -- something is wrong with the words, or no number of workers is spelled
 abbrev pub IsMisuse : List Text → Type 0
-IsMisuse words = ((kind : ErrorKind) × (kind ≢ DisplayHelp) × IsAmong kind (fault_of line words)) ⊎ (asked words ≡ None)
+IsMisuse words =
+    ((kind : ErrorKind) × (kind ≢ DisplayHelp) × (kind ≢ DisplayVersion) × IsAmong kind (fault_of line words)) ⊎ (asked words ≡ None)
 
--- why the words ask for no command: memory ran out, they ask for help or are a fault, or no number of workers is spelled
+-- why the words ask for no command: memory ran out, they ask for help or the version or are a fault, or no number of workers is spelled
 abbrev pub FailsFor : List Text → Error → Type 0
 FailsFor words e = HasKind (fault_of line words) e ⊎ ((kind_of e ≡ ValueValidation) × (asked words ≡ None))

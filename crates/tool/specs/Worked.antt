@@ -1,13 +1,13 @@
 -- Words written out, and what they ask for.
 use Rattle.std.specs.Prelude.{ℕ, List, [], ◌∷◌, codes}
-use Rattle.tool.specs.Asked.{Plain, File, Picture, Compile, Check, Replay}
-use Rattle.tool.specs.Line.{AsksFor, AsksHelp, IsMisuse}
+use Rattle.tool.specs.Asked.{Plain, File, Picture, Compile, Check, Cost, Replay, Compare}
+use Rattle.tool.specs.Line.{AsksFor, AsksHelp, AsksVersion, IsMisuse}
 
 -- three names behind `plain`
 abbrev pub PlainWithNames : Type 0
 PlainWithNames = AsksFor (codes "plain" ∷ codes "a.alg" ∷ codes "b.pgm" ∷ codes "c.pgm" ∷ []) (Picture (record { way = Plain; algorithm = codes "a.alg"; input = codes "b.pgm"; output = codes "c.pgm" }))
 
--- four behind `run`, three behind `compile`, two behind `check`, and four behind `replay`
+-- four behind `run`, three behind `compile`, two behind `check` and `cost`, and four behind `replay`
 abbrev pub RunWithNames : Type 0
 RunWithNames =
     AsksFor (codes "run" ∷ codes "a.alg" ∷ codes "p.plan" ∷ codes "b.pgm" ∷ codes "c.pgm" ∷ [])
@@ -27,6 +27,15 @@ CompileWithNames =
 abbrev pub CheckWithNames : Type 0
 CheckWithNames = AsksFor (codes "check" ∷ codes "a.alg" ∷ codes "p.plan" ∷ []) (Check (record { algorithm = codes "a.alg"; plan = codes "p.plan" }))
 
+abbrev pub CostWithNames : Type 0
+CostWithNames = AsksFor (codes "cost" ∷ codes "a.alg" ∷ codes "p.plan" ∷ []) (Cost (record { algorithm = codes "a.alg"; plan = codes "p.plan" }))
+
+-- two names behind `compare`, and three schedules
+abbrev pub CompareWithNames : Type 0
+CompareWithNames =
+    AsksFor (codes "compare" ∷ codes "a.alg" ∷ codes "b.pgm" ∷ codes "s.sched" ∷ codes "t.sched" ∷ codes "s.sched" ∷ [])
+    (Compare (record { algorithm = codes "a.alg"; input = codes "b.pgm"; schedules = codes "s.sched" ∷ codes "t.sched" ∷ codes "s.sched" ∷ [] }))
+
 abbrev pub ReplayWithNames : Type 0
 ReplayWithNames =
     AsksFor (codes "replay" ∷ codes "a.alg" ∷ codes "p.plan" ∷ codes "b.pgm" ∷ codes "o.txt" ∷ [])
@@ -34,6 +43,10 @@ ReplayWithNames =
 
 abbrev pub HelpWords : Type 0
 HelpWords = AsksHelp (codes "--help" ∷ []) × AsksHelp (codes "help" ∷ []) × AsksHelp (codes "plain" ∷ codes "--help" ∷ [])
+
+-- words that ask for the version
+abbrev pub VersionWords : Type 0
+VersionWords = AsksVersion (codes "--version" ∷ []) × AsksVersion (codes "-V" ∷ [])
 
 -- an unknown command, and a name too few and too many
 abbrev pub MisusedWords : Type 0

@@ -6,14 +6,14 @@ ghost use Rattle.tool.specs.Status.{status_of};
 use crate::pipeline::Fault;
 use pnm::PnmError;
 
-/// The exit status after a refusal: 1 where the checker refuses, 3 where an input or a schedule is refused or a pixel takes
+/// The exit status after a refusal: 1 where the checker refuses or pictures differ, 3 where an input or a schedule is refused or a pixel takes
 /// too many evaluations, 4 where memory runs out, 5 where a file or a stream can't be opened, read or written, and 6 where
 /// workers left a piece unfinished. After none it is 0, and 2 after a fault of the command line.
 pub fn status(fault: &Fault) -> u8
     ensures { result ≡ status_of fault.now }
 {
     match fault {
-        Fault::Plan { .. } => 1,
+        Fault::Plan { .. } | Fault::Difference => 1,
         Fault::Algo { .. } | Fault::Budget => 3,
         Fault::Schedule { .. } | Fault::Rule { .. } | Fault::Names => 3,
         Fault::Form { .. } | Fault::Limit { .. } | Fault::Order => 3,

@@ -1,6 +1,6 @@
 //! Laws of the command line, each the contract of a function that does nothing.
 
-ghost use Rattle.tool.specs.Worked.{CheckWithNames, CompileWithNames, HelpWords, MisusedWords, MisusedWorkers, PlainWithNames, ReplayWithNames, RunWithNames, RunWithWorkers};
+ghost use Rattle.tool.specs.Worked.{CheckWithNames, CompareWithNames, CompileWithNames, CostWithNames, HelpWords, MisusedWords, MisusedWorkers, PlainWithNames, ReplayWithNames, RunWithNames, RunWithWorkers, VersionWords};
 
 /// What words that are written out ask for.
 pub fn words_are_read()
@@ -8,9 +8,12 @@ pub fn words_are_read()
     ensures run { RunWithNames }
     ensures workers { RunWithWorkers }
     ensures compile { CompileWithNames }
+    ensures compare { CompareWithNames }
     ensures check { CheckWithNames }
+    ensures cost { CostWithNames }
     ensures replay { ReplayWithNames }
     ensures help { HelpWords }
+    ensures version { VersionWords }
     ensures misuse { MisusedWords }
     ensures crews { MisusedWorkers }
 {}

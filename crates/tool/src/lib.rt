@@ -1,6 +1,7 @@
 //! The command line of `stencil`, over files and streams that the caller hands in.
 #![tactic(auto)]
 
+mod compare;
 mod device;
 mod exit;
 pub mod laws;

@@ -10,7 +10,7 @@ mod rule;
 mod without_plan;
 
 pub use by_plan::{check_plan, crew_picture, plan_picture, run_between, run_over};
-pub use compiling::{compile, read_schedule};
+pub use compiling::{compile, compile_checked, read_schedule};
 pub use fault::Fault;
 pub use reading::{read_algorithm, read_inputs};
 pub use rule::BrokenRule;

@@ -1,4 +1,4 @@
-//! The command that checks a plan file.
+//! The commands that check a plan file and tell something of the plan.
 
 ghost use Rattle.std.specs.Prelude.{◌≡◌, IfOk, IfErr, OnOk};
 ghost use Rattle.algo.specs.View.{algorithm_of};
@@ -16,6 +16,7 @@ use crate::request::CheckRequest;
 use algo::Algo;
 use checked_plan::Checked;
 use pnm::PnmError;
+use report::{cost, text};
 use std::alloc::Global;
 use std::io::Write;
 use std::str;
@@ -41,8 +42,17 @@ pub(crate) fn plan_in<'a, T: Threads + Sync, F: Files>(
     }
 }
 
+/// What is told of a plan that was accepted.
+#[derive(Clone, Copy, Debug, PartialEq, Eq, Drop)]
+pub(crate) enum Telling {
+    /// How many pieces and cells it has.
+    Counts,
+    /// What each stored function costs.
+    Costs,
+}
+
 /// Tells how many pieces and cells a checked plan has.
-fn tell<W: Write>(out: &mut W, checked: &Checked<'_>) -> Result<(), Fault>
+fn tell_counts<W: Write>(out: &mut W, checked: &Checked<'_>) -> Result<(), Fault>
     ensures { IfErr result IsOfDevice }
 {
     match writeln!(
@@ -56,23 +66,50 @@ fn tell<W: Write>(out: &mut W, checked: &Checked<'_>) -> Result<(), Fault>
     }
 }
 
-/// Checks the plan of a file against an algorithm, and tells how many pieces and cells it has.
+/// Tells what each stored function of a checked plan costs.
+fn tell_costs<W: Write>(alloc: Global, out: &mut W, checked: &Checked<'_>) -> Result<(), Fault>
+    ensures { IfErr result IsOfDevice }
+{
+    let costs = cost(alloc, checked)?;
+    let table = text(alloc, &costs)?;
+    match write!(out, "{table}") {
+        Ok(()) => flush(out),
+        Err(_) => Err(Fault::Image(PnmError::Device)),
+    }
+}
+
+fn tell<W: Write>(
+    alloc: Global,
+    out: &mut W,
+    checked: &Checked<'_>,
+    telling: Telling,
+) -> Result<(), Fault>
+    ensures { IfErr result IsOfDevice }
+{
+    match telling {
+        Telling::Counts => tell_counts(out, checked),
+        Telling::Costs => tell_costs(alloc, out, checked),
+    }
+}
+
+/// Checks the plan of a file against an algorithm, and tells how many pieces and cells it has, or what it costs.
 ///
 /// # Errors
 /// The first refusal: of the algorithm's text, then of the plan file; a text that is not UTF-8 is one of the device.
-pub(crate) fn check_command<T: Threads + Sync, F: Files, W: Write>(
+pub(crate) fn plan_command<T: Threads + Sync, F: Files, W: Write>(
     rt: &T,
     alloc: Global,
     files: &mut F,
     out: &mut W,
     request: &CheckRequest<'_>,
+    telling: Telling,
 ) -> Result<(), Fault>
     ensures same { SameFiles (F.contents files.old) (F.contents files.new) }
     ensures done { OnOk result (IsChecked (F.contents files.old) (check_asked request.now)) }
     ensures refused { IfErr result (IsCheckRefused (F.contents files.old) (check_asked request.now)) }
 {
-    let text = files.get(alloc, request.algorithm)?;
-    let algo = algorithm_in(alloc, text.as_slice())?;
+    let bytes = files.get(alloc, request.algorithm)?;
+    let algo = algorithm_in(alloc, bytes.as_slice())?;
     let checked = plan_in(rt, alloc, files, &algo, request.plan)?;
-    tell(out, &checked)
+    tell(alloc, out, &checked, telling)
 }

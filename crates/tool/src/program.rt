@@ -9,11 +9,12 @@ ghost use Rattle.pnm.specs.declared.error.PnmError.{PnmError};
 ghost use Rattle.tool.specs.Asked.{asked_by};
 ghost use Rattle.tool.specs.Answer.{CommandAnswers, Ends, StreamsAnswer, status_after};
 
+use crate::compare::compare_command;
 use crate::device::Files;
 use crate::exit::status;
 use crate::picture::picture_command;
 use crate::pipeline::{Fault, run_over};
-use crate::plan_command::check_command;
+use crate::plan_command::{Telling, plan_command};
 use crate::replay::replay_command;
 use crate::request::Request;
 use crate::schedule_command::compile_command;
@@ -77,10 +78,11 @@ fn increment<T: Threads + Sync, R: Read, W: Write>(
     flush(out)
 }
 
-fn print_help<W: Write>(help: &Error, out: &mut W) -> Result<(), Fault>
+/// Prints a text about the program: help, or the version.
+fn print_text<W: Write>(text: &Error, out: &mut W) -> Result<(), Fault>
     ensures { IfErr result (λ fault. fault ≡ Fault.Image PnmError.Device) }
 {
-    match write!(out, "{help}") {
+    match write!(out, "{text}") {
         Ok(()) => flush(out),
         Err(_) => Err(Fault::Image(PnmError::Device)),
     }
@@ -99,15 +101,16 @@ fn answer<E: Write>(outcome: Result<(), Fault>, err: &mut E) -> u8
     }
 }
 
-/// The status of words that ask for no command: help is printed, and a fault told.
+/// The status of words that ask for no command: help or the version is printed, and a fault told.
 fn answer_words<W: Write, E: Write>(error: &Error, out: &mut W, err: &mut E) -> u8
     ensures memory { kind_of error.now ≡ ErrorKind.OutOfMemory → result ≡ 4 }
     ensures help { kind_of error.now ≡ ErrorKind.DisplayHelp → (result ≡ 0) ⊎ (result ≡ 5) }
-    ensures misuse { kind_of error.now ≢ ErrorKind.OutOfMemory → kind_of error.now ≢ ErrorKind.DisplayHelp → result ≡ 2 }
+    ensures version { kind_of error.now ≡ ErrorKind.DisplayVersion → (result ≡ 0) ⊎ (result ≡ 5) }
+    ensures misuse { kind_of error.now ≢ ErrorKind.OutOfMemory → kind_of error.now ≢ ErrorKind.DisplayHelp → kind_of error.now ≢ ErrorKind.DisplayVersion → result ≡ 2 }
 {
     match error.kind() {
         ErrorKind::OutOfMemory => answer(Err(Fault::Memory), err),
-        ErrorKind::DisplayHelp => answer(print_help(error, out), err),
+        ErrorKind::DisplayHelp | ErrorKind::DisplayVersion => answer(print_text(error, out), err),
         _ => {
             let _ = write!(err, "{error}");
             MISUSED
@@ -128,8 +131,10 @@ fn command<T: Threads + Wait + Sync, F: Files, W: Write>(
     match request {
         Request::Picture(asked) => picture_command(rt, alloc, files, asked),
         Request::Compile(asked) => compile_command(rt, alloc, files, asked),
-        Request::Check(asked) => check_command(rt, alloc, files, out, asked),
+        Request::Check(asked) => plan_command(rt, alloc, files, out, asked, Telling::Counts),
+        Request::Cost(asked) => plan_command(rt, alloc, files, out, asked, Telling::Costs),
         Request::Replay(asked) => replay_command(rt, alloc, files, out, asked),
+        Request::Compare(asked) => compare_command(rt, alloc, files, out, asked),
     }
 }
 

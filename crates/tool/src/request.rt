@@ -58,8 +58,19 @@ pub struct ReplayRequest<'a> {
     pub order: &'a str,
 }
 
+/// Schedules whose pictures are compared with the plain one.
+#[derive(Debug, Drop)]
+pub struct CompareRequest<'a> {
+    /// The algorithm's text.
+    pub algorithm: &'a str,
+    /// The image.
+    pub input: &'a str,
+    /// The schedules' texts, in the order in which they are taken.
+    pub schedules: Vec<&'a str>,
+}
+
 /// What the words ask for.
-#[derive(Clone, Copy, Debug, Drop)]
+#[derive(Debug, Drop)]
 pub enum Request<'a> {
     /// A picture.
     Picture(PictureRequest<'a>),
@@ -67,6 +78,10 @@ pub enum Request<'a> {
     Compile(CompileRequest<'a>),
     /// What the checker says of a plan.
     Check(CheckRequest<'a>),
+    /// What a plan costs, where the checker accepts it.
+    Cost(CheckRequest<'a>),
     /// What comes of an order of steps.
     Replay(ReplayRequest<'a>),
+    /// How the pictures of schedules compare with the plain one, and what they cost.
+    Compare(CompareRequest<'a>),
 }

@@ -17,7 +17,11 @@ use std::str;
 use std::thread::Threads;
 
 /// Reads a schedule's file.
-fn schedule_in<F: Files>(alloc: Global, files: &mut F, name: &str) -> Result<Sched, Fault>
+pub(crate) fn schedule_in<F: Files>(
+    alloc: Global,
+    files: &mut F,
+    name: &str,
+) -> Result<Sched, Fault>
     ensures same { SameFiles (F.contents files.old) (F.contents files.new) }
     ensures said { IfOk result (λ sched. HasScheduleFile (F.contents files.old) name.now (schedule_of sched)) }
     ensures refused { IfErr result (IsScheduleFault (F.contents files.old) name.now) }

@@ -4,9 +4,11 @@ ghost use Rattle.std.specs.Prelude.{◌≡◌, false, map, option_and_then, opti
 ghost use Rattle.clap.specs.Words.{app_of, first_value, found_of, rows_of, rule_of, subcommand_rows_of};
 ghost use Rattle.clap.specs.declared.builder.command.Command.TheViews.{out-Command};
 ghost use Rattle.tool.specs.Asked.{asked_by, check_asked, way_asked};
-ghost use Rattle.tool.specs.Line.{AsksFor, FailsFor, asked_of_command, check_in, check_line, compile_in, compile_line, line, named_run_line, needed, picture_in, picture_line, planless, replay_in, replay_line, run_in, run_line, workers_in, workers_rule};
+ghost use Rattle.tool.specs.Line.{AsksFor, FailsFor, asked_of_command, asked_of_one, check_in, compare_in, compare_line, compile_in, compile_line, line, named_run_line, needed, picture_in, picture_line, plan_line, planless, replay_in, replay_line, run_in, run_line, several, to_compare, told, workers_in, workers_rule};
 
-use crate::request::{CheckRequest, CompileRequest, PictureRequest, ReplayRequest, Request, Way};
+use crate::request::{
+    CheckRequest, CompareRequest, CompileRequest, PictureRequest, ReplayRequest, Request, Way,
+};
 use crate::workers::workers_spelled;
 use clap::error::ErrorKind;
 use clap::{Arg, ArgMatches, Command, Error};
@@ -16,7 +18,11 @@ const PLAIN: &str = "plain";
 
 const COMPILE: &str = "compile";
 
+const COMPARE: &str = "compare";
+
 const CHECK: &str = "check";
+
+const COST: &str = "cost";
 
 const RUN: &str = "run";
 
@@ -36,6 +42,9 @@ const ORDER: &str = "ORDER";
 
 const WORKERS: &str = "workers";
 
+// What `--version` prints behind the program's name: its own version, and the toolchain's line.
+const VERSION: &str = "0.1.0 (rattle-kit-13f logic dac8208d650f15bf)";
+
 // What is told where the words are as they are wanted, but for the number of workers.
 const NO_WORKERS: &str = "'--workers <N>' takes a decimal number from 1 to 64";
 
@@ -45,6 +54,14 @@ fn word<'a>(alloc: Global, name: &'a str, help: &'a str) -> Arg<'a>
     ensures local { result.global ≡ false }
 {
     Arg::new(alloc, name).required(true).help(help)
+}
+
+/// Words of which there has to be one.
+fn several_words<'a>(alloc: Global, name: &'a str, help: &'a str) -> Arg<'a>
+    ensures rule { rule_of result ≡ several name.entry.now }
+    ensures local { result.global ≡ false }
+{
+    word(alloc, name, help).num_args(1..)
 }
 
 /// How many workers there are, which may be left out.
@@ -85,12 +102,28 @@ fn compile_described<'a>(alloc: Global) -> Result<Command<'a>, AllocError>
         .arg(word(alloc, PLAN, "Where the plan file is written"))
 }
 
-fn check_described<'a>(alloc: Global) -> Result<Command<'a>, AllocError>
-    ensures line { IfOk result (λ command. app_of command ≡ check_line) }
+fn compare_described<'a>(alloc: Global) -> Result<Command<'a>, AllocError>
+    ensures line { IfOk result (λ command. app_of command ≡ compare_line) }
     ensures local { IfOk result (λ command. (out-Command command).has_globals ≡ false) }
 {
-    Command::new(alloc, CHECK)
-        .about("Check a plan file")
+    Command::new(alloc, COMPARE)
+        .about("Compare the pictures of schedules with the plain one, and tell what they cost")
+        .arg(word(alloc, ALGORITHM, "The algorithm's text"))?
+        .arg(word(alloc, INPUT, "The image, a PGM or PPM file"))?
+        .arg(several_words(alloc, SCHEDULE, "The schedules' texts"))
+}
+
+/// A command that tells something of a plan file.
+fn plan_described<'a>(
+    alloc: Global,
+    name: &'a str,
+    about: &'a str,
+) -> Result<Command<'a>, AllocError>
+    ensures line { IfOk result (λ command. app_of command ≡ plan_line name.entry.now) }
+    ensures local { IfOk result (λ command. (out-Command command).has_globals ≡ false) }
+{
+    Command::new(alloc, name)
+        .about(about)
         .arg(word(alloc, ALGORITHM, "The algorithm's text"))?
         .arg(word(alloc, PLAN, "The plan file"))
 }
@@ -131,7 +164,7 @@ fn replay_described<'a>(alloc: Global) -> Result<Command<'a>, AllocError>
         ))
 }
 
-/// The program's line with the commands that take no plan file.
+/// The program's line with the commands that take no plan file, but for the one that compares schedules.
 fn planless_described<'a>(alloc: Global) -> Result<Command<'a>, AllocError>
     ensures line { IfOk result (λ command. app_of command ≡ planless) }
     ensures local { IfOk result (λ command. (out-Command command).has_globals ≡ false) }
@@ -144,22 +177,33 @@ fn planless_described<'a>(alloc: Global) -> Result<Command<'a>, AllocError>
     let compile = compile_described(alloc)?;
     Command::new(alloc, "stencil")
         .about("Compile, check and run integer image pipelines")
+        .version(VERSION)
         .no_binary_name(true)
         .subcommand_required(true)
         .subcommand(plain)?
         .subcommand(compile)
 }
 
+/// With them the commands that tell something of schedules and plans.
+fn told_described<'a>(alloc: Global) -> Result<Command<'a>, AllocError>
+    ensures line { IfOk result (λ command. app_of command ≡ told) }
+    ensures local { IfOk result (λ command. (out-Command command).has_globals ≡ false) }
+{
+    let compare = compare_described(alloc)?;
+    let check = plan_described(alloc, CHECK, "Check a plan file")?;
+    let cost = plan_described(alloc, COST, "Check a plan file and tell what it costs")?;
+    planless_described(alloc)?
+        .subcommand(compare)?
+        .subcommand(check)?
+        .subcommand(cost)
+}
+
 fn described<'a>(alloc: Global) -> Result<Command<'a>, AllocError>
     ensures { IfOk result (λ command. app_of command ≡ line) }
 {
-    let check = check_described(alloc)?;
     let run = run_described(alloc)?;
     let replay = replay_described(alloc)?;
-    planless_described(alloc)?
-        .subcommand(check)?
-        .subcommand(run)?
-        .subcommand(replay)
+    told_described(alloc)?.subcommand(run)?.subcommand(replay)
 }
 
 /// The picture that a command's words ask for.
@@ -229,9 +273,37 @@ fn replay_found<'a>(matches: &ArgMatches<'a>) -> Option<Request<'a>>
     }))
 }
 
-/// What the command of this name asks for with its words.
+/// Schedules to be compared, of these names.
+fn comparison_found<'a>(matches: &ArgMatches<'a>, schedules: Vec<&'a str>) -> Option<Request<'a>>
+    ensures { option_map asked_by result ≡ to_compare (first_value (found_of matches.now) ALGORITHM.now) (first_value (found_of matches.now) INPUT.now) (Some (map (λ name. name.now) schedules.entry.items)) }
+{
+    let algorithm = matches.get_str(ALGORITHM)?;
+    let input = matches.get_str(INPUT)?;
+    Some(Request::Compare(CompareRequest {
+        algorithm,
+        input,
+        schedules,
+    }))
+}
+
+fn compare_found<'a>(
+    alloc: Global,
+    matches: &ArgMatches<'a>,
+) -> Result<Option<Request<'a>>, AllocError>
+    ensures { IfOk result (λ found. option_map asked_by found ≡ compare_in (rows_of (found_of matches.now))) }
+{
+    match matches.get_strs(SCHEDULE) {
+        None => Ok(None),
+        Some(names) => {
+            let schedules = Vec::from_slice(alloc, names)?;
+            Ok(comparison_found(matches, schedules))
+        }
+    }
+}
+
+/// What the command of this name asks for with its words, where it names so many files.
 fn request_named<'a>(name: &str, matches: &ArgMatches<'a>) -> Option<Request<'a>>
-    ensures { option_map asked_by result ≡ asked_of_command (name.now, rows_of (found_of matches.now)) }
+    ensures { option_map asked_by result ≡ asked_of_one (name.now, rows_of (found_of matches.now)) }
 {
     if name == PLAIN {
         picture_found(Way::Plain, matches)
@@ -241,6 +313,8 @@ fn request_named<'a>(name: &str, matches: &ArgMatches<'a>) -> Option<Request<'a>
         run_found(matches)
     } else if name == CHECK {
         Some(Request::Check(check_found(matches)?))
+    } else if name == COST {
+        Some(Request::Cost(check_found(matches)?))
     } else if name == REPLAY {
         replay_found(matches)
     } else {
@@ -248,11 +322,31 @@ fn request_named<'a>(name: &str, matches: &ArgMatches<'a>) -> Option<Request<'a>
     }
 }
 
-fn request_found<'a>(matches: &ArgMatches<'a>) -> Option<Request<'a>>
-    ensures { option_map asked_by result ≡ option_and_then asked_of_command (subcommand_rows_of matches.now) }
+/// What the command of this name asks for with its words.
+fn request_of<'a>(
+    alloc: Global,
+    name: &str,
+    matches: &ArgMatches<'a>,
+) -> Result<Option<Request<'a>>, AllocError>
+    ensures { IfOk result (λ found. option_map asked_by found ≡ asked_of_command (name.now, rows_of (found_of matches.now))) }
 {
-    let (name, found) = matches.subcommand()?;
-    request_named(name, found)
+    if name == COMPARE {
+        compare_found(alloc, matches)
+    } else {
+        Ok(request_named(name, matches))
+    }
+}
+
+fn request_found<'a>(
+    alloc: Global,
+    matches: &ArgMatches<'a>,
+) -> Result<Option<Request<'a>>, AllocError>
+    ensures { IfOk result (λ found. option_map asked_by found ≡ option_and_then asked_of_command (subcommand_rows_of matches.now)) }
+{
+    match matches.subcommand() {
+        None => Ok(None),
+        Some((name, found)) => request_of(alloc, name, found),
+    }
 }
 
 /// What the words ask for. The words are those after the program's name.
@@ -266,7 +360,8 @@ pub(crate) fn read_words<'a>(alloc: Global, words: &'a [&'a str]) -> Result<Requ
 {
     let mut command = described(alloc)?;
     let matches = command.try_get_matches_from_mut(words)?;
-    match request_found(&matches) {
+    let found = request_found(alloc, &matches)?;
+    match found {
         Some(request) => Ok(request),
         None => Err(command.error(ErrorKind::ValueValidation, NO_WORKERS)?),
     }

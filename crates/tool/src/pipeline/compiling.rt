@@ -14,6 +14,7 @@ use crate::pipeline::by_plan::check_plan;
 use crate::pipeline::fault::Fault;
 use algo::Algo;
 use audit::K;
+use checked_plan::Checked;
 use lower::{Lowered, lower};
 use sched::Sched;
 use std::alloc::{AllocError, Global};
@@ -52,17 +53,39 @@ fn with_limit(fault: Fault) -> Fault
 }
 
 /// Has a compiled plan's file read and checked.
-fn accept<T: Threads + Sync>(rt: &T, alloc: Global, algo: &Algo, file: &str) -> Result<(), Fault>
+fn accept<'a, T: Threads + Sync>(
+    rt: &T,
+    alloc: Global,
+    algo: &'a Algo,
+    file: &str,
+) -> Result<Checked<'a>, Fault>
+    ensures checked { IfOk result (λ checked. checked.algo.now ≡ algo.now) }
     ensures accepted { OnOk result (HasPlan (algorithm_of algo.now) file.now) }
     ensures refused { IfErr result (IsUnaccepted (algorithm_of algo.now) file.now) }
 {
     match check_plan(rt, alloc, algo, file) {
-        Ok(checked) => {
-            drop(checked);
-            Ok(())
-        }
+        Ok(checked) => Ok(checked),
         Err(fault) => Err(with_limit(fault)),
     }
+}
+
+/// Compiles a schedule to a checked plan: what `compile` writes, read and checked.
+///
+/// # Errors
+/// Those of `compile`.
+pub fn compile_checked<'a, T: Threads + Sync>(
+    rt: &T,
+    alloc: Global,
+    algo: &'a Algo,
+    sched: &Sched,
+) -> Result<Checked<'a>, Fault>
+    ensures legal { OnOk result (IsLegal (algorithm_of algo.now) (schedule_of sched.now)) }
+    ensures checked { IfOk result (λ checked. checked.algo.now ≡ algo.now) }
+    ensures refused { IfErr result (IsNotCompiled (algorithm_of algo.now) (schedule_of sched.now)) }
+{
+    let lowered = lower(alloc, algo, sched)?;
+    let file = written(alloc, &lowered)?;
+    accept(rt, alloc, algo, file.as_str())
 }
 
 /// Compiles a schedule to a plan file, which is read and checked against the algorithm as any other.
@@ -82,6 +105,6 @@ pub fn compile<T: Threads + Sync>(
 {
     let lowered = lower(alloc, algo, sched)?;
     let file = written(alloc, &lowered)?;
-    accept(rt, alloc, algo, file.as_str())?;
+    drop(accept(rt, alloc, algo, file.as_str())?);
     Ok(file)
 }

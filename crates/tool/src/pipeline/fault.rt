@@ -56,6 +56,9 @@ pub enum Fault {
     /// U1: workers left a piece unfinished.
     #[error("U1 piece {piece}")]
     Unfinished { piece: u32 },
+    /// The picture of a schedule is not the plain one.
+    #[error("the pictures differ")]
+    Difference,
 }
 
 impl From<AllocError> for Fault {

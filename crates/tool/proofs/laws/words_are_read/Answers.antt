@@ -21,9 +21,17 @@ pub returns-clause-compile : goal.returns-clause-compile
 unfolding clap_on_literals
 returns-clause-compile c = (refl, refl)
 
+pub returns-clause-compare : goal.returns-clause-compare
+unfolding clap_on_literals
+returns-clause-compare c = (refl, refl)
+
 pub returns-clause-check : goal.returns-clause-check
 unfolding clap_on_literals
 returns-clause-check c = (refl, refl)
+
+pub returns-clause-cost : goal.returns-clause-cost
+unfolding clap_on_literals
+returns-clause-cost c = (refl, refl)
 
 pub returns-clause-replay : goal.returns-clause-replay
 unfolding clap_on_literals
@@ -33,9 +41,13 @@ pub returns-clause-help : goal.returns-clause-help
 unfolding clap_on_literals
 returns-clause-help c = (inl refl, inl refl, inl refl)
 
+pub returns-clause-version : goal.returns-clause-version
+unfolding clap_on_literals
+returns-clause-version c = (inl refl, inl refl)
+
 pub returns-clause-misuse : goal.returns-clause-misuse
 unfolding clap_on_literals
-returns-clause-misuse c = (inl (UnknownArgument, (λ e. cc e), inl refl), inl (MissingRequiredArgument, (λ e. cc e), inl refl), inl (UnknownArgument, (λ e. cc e), inl refl))
+returns-clause-misuse c = (inl (UnknownArgument, (λ e. cc e), (λ e. cc e), inl refl), inl (MissingRequiredArgument, (λ e. cc e), (λ e. cc e), inl refl), inl (UnknownArgument, (λ e. cc e), (λ e. cc e), inl refl))
 
 pub returns-clause-crews : goal.returns-clause-crews
 unfolding clap_on_literals digits workers_spelled

@@ -15,7 +15,7 @@ returns-in-Ok-clause-command g c = λ some. inl (record {
 })
 
 pub returns-in-Err-clause-command : goal.returns-in-Err-clause-command
-returns-in-Err-clause-command g c = λ some. inr (same_refl _, answer_of _ c.in-Err.error _ c.answer_words.ensures.memory c.answer_words.ensures.help c.answer_words.ensures.misuse c.in-Err.ensures)
+returns-in-Err-clause-command g c = λ some. inr (same_refl _, answer_of _ c.in-Err.error _ c.answer_words.ensures.memory c.answer_words.ensures.help c.answer_words.ensures.version c.answer_words.ensures.misuse c.in-Err.ensures)
 
 pub returns-then-is_empty-clause-streams : goal.returns-then-is_empty-clause-streams
 returns-then-is_empty-clause-streams g c = λ none. streams_answer _ _ c.increment.result _ c.increment.ensures.done c.increment.ensures.refused c.answer.ensures

@@ -1,7 +1,8 @@
-use Rattle.std.proofs.Common.{◌∙◌, ap, sym, subst, List, map, option_and_then, inl, inr}
+use Rattle.std.proofs.Common.{◌∙◌, ap, sym, subst, List, map, option_and_then, option_map, inl, inr}
 use Rattle.std.proofs.lemmas.Result.{err_from_is_err_and}
 use Rattle.clap.specs.Words.{App, HasKind, Text, fault_of, is_simple, is_simple_and_free, subcommand_of}
 use Rattle.tool.proofs.Named.{line_is_free, line_is_simple}
+use Rattle.tool.specs.Asked.{asked_by}
 use Rattle.tool.specs.Line.{asked_of_command}
 use Rattle.tool.proofs.words.read_words.Goals as goal
 
@@ -20,11 +21,11 @@ returns-in-Some c =
     let found_at : App → _ = λ app. option_and_then asked_of_command (subcommand_of app words) in
     let none = c.in_ok-matches.ensures.kinds (ap is_simple_and_free c.in_ok-command.ensures ∙ line_is_free) in
     let found = (c.in_ok-matches.ensures.ok.2 (ap is_simple c.in_ok-command.ensures ∙ line_is_simple)).1 in
-    (sym (ap fault_at c.in_ok-command.ensures) ∙ none, sym (ap found_at c.in_ok-command.ensures) ∙ sym (ap (option_and_then asked_of_command) found) ∙ sym c.in-Some.ensures)
+    (sym (ap fault_at c.in_ok-command.ensures) ∙ none, sym (ap found_at c.in_ok-command.ensures) ∙ sym (ap (option_and_then asked_of_command) found) ∙ sym (ap (option_map asked_by) (sym c.in-Some.is) ∙ c.in_ok-found.ensures))
 
 pub returns : goal.returns
 returns c =
     let words : List Text = map (λ word. word.now) c.args.words.now in
     let found_at : App → _ = λ app. option_and_then asked_of_command (subcommand_of app words) in
     let found = (c.in_ok-matches.ensures.ok.2 (ap is_simple c.in_ok-command.ensures ∙ line_is_simple)).1 in
-    inr (c.in_ok-error-in-None.ensures.kind, sym (ap found_at c.in_ok-command.ensures) ∙ sym (ap (option_and_then asked_of_command) found) ∙ sym c.in-None.ensures)
+    inr (c.in_ok-error-in-None.ensures.kind, sym (ap found_at c.in_ok-command.ensures) ∙ sym (ap (option_and_then asked_of_command) found) ∙ sym (ap (option_map asked_by) (sym c.in-None.is) ∙ c.in_ok-found.ensures))

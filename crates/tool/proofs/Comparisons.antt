@@ -1,0 +1,55 @@
+-- What comes of comparing all schedules.
+use Rattle.std.proofs.Common.{◌≡◌, inl, inr, ℕ, List, All, Result, Ok, Err}
+use Rattle.std.specs.Prelude.{IfErr, OnOk}
+use Rattle.clap.specs.Words.{Text}
+use Rattle.meaning.specs.Algorithm.{Algorithm}
+use Rattle.algo.specs.Parts.{input_frame}
+use Rattle.algo.specs.Refusal.{IsAlgorithmText}
+use Rattle.pnm.specs.Reading.{reading, wanted_of}
+use Rattle.tool.specs.declared.pipeline.fault.Fault.{Fault}
+use Rattle.tool.specs.Asked.{AskedCompare}
+use Rattle.tool.specs.Compares.{IsCompared, IsCompareRefused, IsLegalFile, IsRefusedAmong}
+use Rattle.tool.specs.Files.{Contents, Holds, SameFiles}
+use Rattle.tool.proofs.Schedules.{legal_before, unplanned_before}
+
+all_before : (files now : Contents) (al : Algorithm) (names : List Text) → SameFiles files now → All (IsLegalFile now al) names → All (IsLegalFile files al) names
+all_before files now al names same h = λ k d lt. legal_before files now al _ same (h k d lt)
+
+among_before : (files now : Contents) (al : Algorithm) (names : List Text) (fault : Fault) → SameFiles files now → IsRefusedAmong now al names fault → IsRefusedAmong files al names fault
+among_before files now al names fault same h = record {
+  place = h.place;
+  name = h.name;
+  named = h.named;
+  before = all_before files now al _ same h.before;
+  refused = unplanned_before files now al h.name fault same h.refused;
+}
+
+module _ (files now : Contents) (a : AskedCompare) (al : Algorithm) (text image samples : List ℕ) (same : SameFiles files now) (holds_text : Holds files a.algorithm text)
+    (is_text : IsAlgorithmText text al) (holds_image : Holds files a.input image) (is_image : reading (wanted_of (input_frame al)) image ≡ Ok samples) where
+  pub all_compared : (r : Result (Unit {0}) Fault) → OnOk r (All (IsLegalFile now al) a.schedules) → OnOk r (IsCompared files a)
+  all_compared (Ok u) h = record {
+    text = text;
+    algorithm = al;
+    image = image;
+    samples = samples;
+    holds_text = holds_text;
+    is_text = is_text;
+    holds_image = holds_image;
+    is_image = is_image;
+    schedules = all_before files now al a.schedules same h;
+  }
+  all_compared (Err e) h = tt
+
+  pub one_refused : (r : Result (Unit {0}) Fault) → IfErr r (IsRefusedAmong now al a.schedules) → IfErr r (IsCompareRefused files a)
+  one_refused (Ok u) h = tt
+  one_refused (Err e) h = inr (inr (inr (inr (record {
+    text = text;
+    algorithm = al;
+    image = image;
+    samples = samples;
+    holds_text = holds_text;
+    is_text = is_text;
+    holds_image = holds_image;
+    is_image = is_image;
+    refused = among_before files now al a.schedules e same h;
+  }))))

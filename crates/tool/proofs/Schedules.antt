@@ -1,0 +1,49 @@
+-- Schedules that are compared one after another.
+use Rattle.std.proofs.Common.{◌≡◌, ◌∙◌, ◌+◌, ◌<◌, ◌≤◌, ap, sym, subst, inl, inr, ℕ, List, [], ◌∷◌, All, Bor, Some, option_map, length, get_or, map, slice_get, take}
+use Rattle.std.proofs.lemmas.List.{length-map, take_all}
+use Rattle.std.proofs.lemmas.List.Elements.{All-append, All-cons, All-nil}
+use Rattle.std.proofs.lemmas.Option.{slice_get-get_or, slice_get-map}
+use Rattle.plain.proofs.Machine.{take_at}
+use Rattle.clap.specs.Words.{Text}
+use Rattle.meaning.specs.Algorithm.{Algorithm}
+use Rattle.tool.specs.declared.pipeline.fault.Fault.{Fault}
+use Rattle.tool.specs.Compares.{IsLegalFile, IsRefusedAmong, IsUnplanned}
+use Rattle.tool.specs.Files.{Contents, SameFiles}
+use Rattle.tool.proofs.Compiled.{schedule_before, schedule_fault_before}
+
+-- what a file is afterwards it was before
+pub legal_before : (a b : Contents) (al : Algorithm) (name : Text) → SameFiles a b → IsLegalFile b al name → IsLegalFile a al name
+legal_before a b al name same h = (h.0, schedule_before a b name h.0 same h.1, h.2)
+
+pub unplanned_before : (a b : Contents) (al : Algorithm) (name : Text) (fault : Fault) → SameFiles a b → IsUnplanned b al name fault → IsUnplanned a al name fault
+unplanned_before a b al name fault same (inl device) = inl device
+unplanned_before a b al name fault same (inr (inl h)) = inr (inl (schedule_fault_before a b name fault same h))
+unplanned_before a b al name fault same (inr (inr h)) = inr (inr (h.0, schedule_before a b name h.0 same h.1, h.2))
+
+module _ (files now : Contents) (al : Algorithm) (names : List (Bor (List ℕ))) (n : ℕ) (d : Bor (List ℕ)) (lt : n < length names) (same : SameFiles files now) where
+  abbrev pub texts : List Text
+  texts = map (λ name. name.now) names
+
+  this : slice_get texts n ≡ Some (get_or names n d).now
+  this = slice_get-map (λ name. name.now) names n ∙ ap (option_map (λ name. name.now)) (slice_get-get_or names n d lt)
+
+  -- the schedules up to this one
+  pub legal_next : All (IsLegalFile files al) (take n texts) → IsLegalFile now al (get_or names n d).now → All (IsLegalFile files al) (take (n + 1) texts)
+  legal_next before h =
+      subst (All (IsLegalFile files al)) (sym (take_at texts n _ this))
+      (All-append (IsLegalFile files al) (take n texts) ((get_or names n d).now ∷ []) before
+      (All-cons (IsLegalFile files al) _ [] (legal_before files now al _ same h) (All-nil (IsLegalFile files al))))
+
+  pub refused_among : (fault told : Fault) → All (IsLegalFile files al) (take n texts) → IsUnplanned now al (get_or names n d).now fault → told ≡ fault → IsRefusedAmong files al texts told
+  refused_among fault told before h e = record {
+    place = n;
+    name = (get_or names n d).now;
+    named = this;
+    before = before;
+    refused = subst (IsUnplanned files al (get_or names n d).now) (sym e) (unplanned_before files now al _ fault same h);
+  }
+
+-- all of them
+pub legal_whole : (files : Contents) (al : Algorithm) (names : List (Bor (List ℕ))) (n : ℕ) → length names ≤ n → All (IsLegalFile files al) (take n (map (λ name. name.now) names))
+    → All (IsLegalFile files al) (map (λ name. name.now) names)
+legal_whole files al names n le h = subst (All (IsLegalFile files al)) (take_all n _ (rw (length-map names (λ name. name.now)) le)) h

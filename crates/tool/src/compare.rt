@@ -1,0 +1,174 @@
+//! The command that compares the pictures of schedules with the plain one.
+
+ghost use Rattle.std.specs.Prelude.{◌≡◌, ◌⊎◌, ℕ, All, IfErr, IfOk, OnOk, map, true};
+ghost use Rattle.algo.specs.View.{algorithm_of, picture_said, samples_of, IsFor};
+ghost use Rattle.meaning.specs.Image.View.{image_of};
+ghost use Rattle.tool.specs.declared.compare.Comparison.{Comparison};
+ghost use Rattle.tool.specs.Asked.{compare_asked};
+ghost use Rattle.tool.specs.Compares.{IsCompared, IsCompareRefused, IsFirstDifference, IsLegalFile, IsRefusedAmong, IsUnplanned};
+ghost use Rattle.tool.specs.Files.{SameFiles};
+ghost use Rattle.tool.specs.Pictures.{IsOfDevice};
+
+use crate::device::Files;
+use crate::picture::{algorithm_in, image_in};
+use crate::pipeline::{Fault, compile_checked, plain_picture, plan_picture};
+use crate::program::flush;
+use crate::request::CompareRequest;
+use crate::schedule_command::schedule_in;
+use algo::{Algo, Inputs};
+use checked_plan::Checked;
+use meaning::image::Image;
+use pnm::PnmError;
+use report::{cost, text};
+use std::alloc::Global;
+use std::io::Write;
+use std::thread::Threads;
+
+/// How the samples of two pictures compare.
+#[derive(Clone, Copy, Debug, PartialEq, Eq, Drop)]
+enum Comparison {
+    /// They are the same.
+    Same,
+    /// The place, in raster order, of the first sample that is another.
+    DiffersAt(usize),
+}
+
+/// What schedules' pictures are compared with: the plain picture of an algorithm.
+#[derive(Clone, Copy, Drop)]
+struct Baseline<'a> {
+    algo: &'a Algo,
+    inputs: &'a Inputs,
+    picture: &'a Image,
+}
+
+fn compared(plain: &[u16], picture: &[u16]) -> Comparison
+    ensures same { result ≡ Comparison.Same → plain.now ≡ picture.now }
+    ensures differs { (place : ℕ) → result ≡ Comparison.DiffersAt place → IsFirstDifference place plain.now picture.now }
+{
+    let mut place = 0;
+    while place < plain.len() && place < picture.len() && plain[place] == picture[place] {
+        place += 1;
+    }
+    if place == plain.len() && place == picture.len() {
+        Comparison::Same
+    } else {
+        Comparison::DiffersAt(place)
+    }
+}
+
+/// Tells how a schedule's picture compares, and what its plan costs.
+fn tell<W: Write>(
+    alloc: Global,
+    out: &mut W,
+    name: &str,
+    comparison: Comparison,
+    checked: &Checked<'_>,
+) -> Result<(), Fault>
+    ensures { IfErr result IsOfDevice }
+{
+    let costs = cost(alloc, checked)?;
+    let table = text(alloc, &costs)?;
+    let told = match comparison {
+        Comparison::Same => write!(out, "{name} same\n{table}"),
+        Comparison::DiffersAt(place) => write!(out, "{name} differs at {place}\n{table}"),
+    };
+    match told {
+        Ok(()) => flush(out),
+        Err(_) => Err(Fault::Image(PnmError::Device)),
+    }
+}
+
+/// Compiles the schedule of a file, has one worker compute the picture by its plan, and tells how it compares.
+fn compare_schedule<T: Threads + Sync, F: Files, W: Write>(
+    rt: &T,
+    alloc: Global,
+    files: &mut F,
+    out: &mut W,
+    baseline: &Baseline<'_>,
+    name: &str,
+) -> Result<Comparison, Fault>
+    requires inputs { IsFor baseline.now.algo.now baseline.now.inputs.now }
+    requires picture { image_of baseline.now.picture.now ≡ picture_said (algorithm_of baseline.now.algo.now) (samples_of baseline.now.inputs.now) }
+    ensures same { SameFiles (F.contents files.old) (F.contents files.new) }
+    ensures picture { IfOk result (λ comparison. comparison ≡ Comparison.Same) }
+    ensures legal { OnOk result (IsLegalFile (F.contents files.old) (algorithm_of baseline.now.algo.now) name.now) }
+    ensures refused { IfErr result (IsUnplanned (F.contents files.old) (algorithm_of baseline.now.algo.now) name.now) }
+{
+    let sched = schedule_in(alloc, files, name)?;
+    let checked = compile_checked(rt, alloc, baseline.algo, &sched)?;
+    let image = plan_picture(alloc, &checked, baseline.inputs)?;
+    let comparison = compared(
+        baseline.picture.samples.as_slice(),
+        image.samples.as_slice(),
+    );
+    tell(alloc, out, name, comparison, &checked)?;
+    Ok(comparison)
+}
+
+/// Does so with each schedule in order.
+fn compare_schedules<T: Threads + Sync, F: Files, W: Write>(
+    rt: &T,
+    alloc: Global,
+    files: &mut F,
+    out: &mut W,
+    baseline: &Baseline<'_>,
+    names: &[&str],
+) -> Result<(), Fault>
+    requires inputs { IsFor baseline.now.algo.now baseline.now.inputs.now }
+    requires picture { image_of baseline.now.picture.now ≡ picture_said (algorithm_of baseline.now.algo.now) (samples_of baseline.now.inputs.now) }
+    ensures same { SameFiles (F.contents files.old) (F.contents files.new) }
+    ensures legal { OnOk result (All (IsLegalFile (F.contents files.old) (algorithm_of baseline.now.algo.now)) (map (λ name. name.now) names.now)) }
+    ensures refused { IfErr result (IsRefusedAmong (F.contents files.old) (algorithm_of baseline.now.algo.now) (map (λ name. name.now) names.now)) }
+{
+    let mut differs = false;
+    for name in names {
+        let comparison = compare_schedule(rt, alloc, files, out, baseline, name)?;
+        differs = differs || comparison != Comparison::Same;
+    }
+    if differs {
+        Err(Fault::Difference)
+    } else {
+        Ok(())
+    }
+}
+
+/// Compares the picture of each schedule, computed by one worker, with the plain picture of an image, and tells for each
+/// whether it is the same, and what its plan costs.
+///
+/// The algorithm's file is read, then the image, and the plain picture is computed; then the schedules are taken in the order
+/// given. What was told before a refusal stands.
+///
+/// # Errors
+/// The first refusal in this order; a text that is not UTF-8 is one of the device. `Difference` would be that a picture
+/// differs, which is never answered: each of them is what the algorithm says.
+pub(crate) fn compare_command<T: Threads + Sync, F: Files, W: Write>(
+    rt: &T,
+    alloc: Global,
+    files: &mut F,
+    out: &mut W,
+    request: &CompareRequest<'_>,
+) -> Result<(), Fault>
+    ensures same { SameFiles (F.contents files.old) (F.contents files.new) }
+    ensures done { OnOk result (IsCompared (F.contents files.old) (compare_asked request.now)) }
+    ensures refused { IfErr result (IsCompareRefused (F.contents files.old) (compare_asked request.now)) }
+{
+    let bytes = files.get(alloc, request.algorithm)?;
+    let algo = algorithm_in(alloc, bytes.as_slice())?;
+    let file = files.get(alloc, request.input)?;
+    let inputs = image_in(alloc, &algo, file.as_slice())?;
+    drop(file);
+    let picture = plain_picture(rt, alloc, &algo, &inputs)?;
+    let baseline = Baseline {
+        algo: &algo,
+        inputs: &inputs,
+        picture: &picture,
+    };
+    compare_schedules(
+        rt,
+        alloc,
+        files,
+        out,
+        &baseline,
+        request.schedules.as_slice(),
+    )
+}
