@@ -5,7 +5,8 @@
 
 A block ```console of a page is run, and so is an indented one that begins with a command: a line that begins with `$ ` is a
 command, and the lines behind it, up to the next one, are what it prints. The blocks of a page run one after another in a
-folder of their own, in which `examples` lies. Without names the pages are README.md and those of docs.
+folder of their own, in which `examples` lies. Without names the pages are README.md and those of docs, and what `explain`
+prints is compared with the page of codes.
 """
 
 import os
@@ -58,6 +59,17 @@ def run_page(program, page):
     return count, wrong
 
 
+def explained(program, page):
+    """The sections of the page of codes that `explain` prints otherwise, and how many there are."""
+    sections = re.findall(r"^### (\S+)\n\n(.*?)(?=^##|\Z)", page.read_text(), re.MULTILINE | re.DOTALL)
+    wrong = []
+    for code, text in sections:
+        told = subprocess.run([program, "explain", code], timeout=60, text=True, stdin=subprocess.DEVNULL, capture_output=True)
+        if (told.returncode, told.stdout, told.stderr) != (0, text.rstrip("\n") + "\n", ""):
+            wrong.append(f"{page.name}: explain {code}\n    wanted {text!r}\n    printed {told.stdout!r} {told.stderr!r}")
+    return len(sections), wrong
+
+
 def main():
     if len(sys.argv) < 2:
         raise SystemExit(__doc__)
@@ -66,6 +78,10 @@ def main():
     count, wrong = 0, []
     for page in pages:
         here, differs = run_page(program, page)
+        count += here
+        wrong += differs
+    if not sys.argv[2:]:
+        here, differs = explained(program, ROOT / "docs" / "CODES.md")
         count += here
         wrong += differs
     for line in wrong:

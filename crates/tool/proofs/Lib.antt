@@ -6,7 +6,9 @@ mod Between
 mod Compared
 mod Comparisons
 mod Compiled
+mod Explained
 mod Failures
+mod Formatted
 mod Samples
 mod Ways
 mod Kept

@@ -9,10 +9,16 @@ use Rattle.clap.proofs.OnLiterals.{clap_on_literals}
 use Rattle.clap.proofs.WalkLemmas.{first_value-rows, raw_values-rows}
 use Rattle.tool.specs.Answer.{WordsAnswer}
 use Rattle.tool.specs.Asked.{AskedWay}
-use Rattle.tool.specs.Line.{FailsFor, all_three, both as both_words, check_in, compare_in, compile_in, line, by_workers, picture_in, replay_in, run_in, to_compare, to_compile, with_order, workers_in}
+use Rattle.tool.specs.Line.{FailsFor, all_three, both as both_words, check_in, compare_in, compile_in, explain_in, format_in, line, by_workers, picture_in, replay_in, run_in, to_compare, to_compile, to_explain, to_format, with_order, workers_in}
 
 pub picture_as : (way : AskedWay) (f : Found) → picture_in way (rows_of f) ≡ all_three way (first_value f (codes "ALG")) (first_value f (codes "IN")) (first_value f (codes "OUT"))
 picture_as way f = rw (first_value-rows f (codes "ALG"), first_value-rows f (codes "IN"), first_value-rows f (codes "OUT")) refl
+
+pub format_as : (f : Found) → format_in (rows_of f) ≡ to_format (first_value f (codes "ALG")) (first_value f (codes "OUT"))
+format_as f = rw (first_value-rows f (codes "ALG"), first_value-rows f (codes "OUT")) refl
+
+pub explain_as : (f : Found) → explain_in (rows_of f) ≡ option_and_then to_explain (first_value f (codes "CODE"))
+explain_as f = rw (first_value-rows f (codes "CODE")) refl
 
 pub compile_as : (f : Found) → compile_in (rows_of f) ≡ to_compile (first_value f (codes "ALG")) (first_value f (codes "SCHED")) (first_value f (codes "PLAN"))
 compile_as f = rw (first_value-rows f (codes "ALG"), first_value-rows f (codes "SCHED"), first_value-rows f (codes "PLAN")) refl

@@ -1,16 +1,17 @@
 -- What the program does on its words, and the status that it answers.
-use Rattle.std.specs.Prelude.{◌≡◌, ◌⊎◌, ℕ, List, Option, Some, Result, Ok, Err, MatchResult}
+use Rattle.std.specs.Prelude.{◌≡◌, ◌⊎◌, ℕ, List, Option, Some, Result, Ok, Err, IfErr, MatchResult}
 use Rattle.clap.specs.Words.{Text}
 use Rattle.tool.specs.declared.pipeline.fault.Fault.{Fault}
 use Rattle.tool.specs.Pipeline.Pictures as streams
-use Rattle.tool.specs.Asked.{Asked, Picture, Compile, Check, Cost, Replay, Compare}
+use Rattle.tool.specs.Asked.{Asked, Picture, Format, Explain, Compile, Check, Cost, Replay, Compare}
 use Rattle.tool.specs.Checks.{IsChecked, IsCheckRefused}
 use Rattle.tool.specs.Compares.{IsCompared, IsCompareRefused}
 use Rattle.tool.specs.Replays.{IsReplayed, IsReplayRefused}
 use Rattle.tool.specs.Files.{Contents, SameFiles}
 use Rattle.tool.specs.Line.{AsksFor, AsksHelp, AsksVersion, IsMisuse}
 use Rattle.tool.specs.Compiles as compiling
-use Rattle.tool.specs.Pictures.{IsDone, IsRefused}
+use Rattle.tool.specs.Formats as formatting
+use Rattle.tool.specs.Pictures.{IsDone, IsOfDevice, IsRefused}
 use Rattle.tool.specs.Status.{status_of}
 
 -- 0 where a command is done, else the refusal's
@@ -27,19 +28,23 @@ StreamsAnswer text file read left held holds status =
 -- what came of this command
 abbrev pub Ends : Contents → Contents → Asked → Result (Unit {0}) Fault → Type 0
 Ends old new (Picture a) outcome = MatchResult outcome (λ _. IsDone old new a) (IsRefused old new a)
+Ends old new (Format a) outcome = MatchResult outcome (λ _. formatting.IsDone old new a) (formatting.IsRefused old new a)
+Ends old new (Explain code) outcome = SameFiles old new × IfErr outcome IsOfDevice
 Ends old new (Compile a) outcome = MatchResult outcome (λ _. compiling.IsDone old new a) (compiling.IsRefused old new a)
 Ends old new (Check a) outcome = SameFiles old new × MatchResult outcome (λ _. IsChecked old a) (IsCheckRefused old a)
 Ends old new (Cost a) outcome = SameFiles old new × MatchResult outcome (λ _. IsChecked old a) (IsCheckRefused old a)
 Ends old new (Replay a) outcome = SameFiles old new × MatchResult outcome (λ _. IsReplayed old a) (IsReplayRefused old a)
 Ends old new (Compare a) outcome = SameFiles old new × MatchResult outcome (λ _. IsCompared old a) (IsCompareRefused old a)
 
--- the words ask for something, and the status is that of what came of it
-pub record CommandEnds (words : List Text) (old new : Contents) (status : ℕ) : Type 0 where
-  pub asked : Asked
+-- this came of the command, and the status is that of it
+pub record HasEnded (old new : Contents) (asked : Asked) (status : ℕ) : Type 0 where
   pub outcome : Result (Unit {0}) Fault
-  pub asks : AsksFor words asked
   pub ends : Ends old new asked outcome
   pub answer : status ≡ status_after outcome
+
+-- the words ask for something, and the status is that of what came of it
+abbrev pub CommandEnds : List Text → Contents → Contents → ℕ → Type 0
+CommandEnds words old new status = (asked : Asked) × AsksFor words asked × HasEnded old new asked status
 
 -- no command is run: the words ask for help or the version, which may fail to be written, or are a fault, or there is no memory to read them
 abbrev pub WordsAnswer : List Text → ℕ → Type 0

@@ -4,6 +4,8 @@ use Rattle.clap.specs.Words.{Text}
 use Rattle.tool.specs.declared.request.Way.{Way}
 use Rattle.tool.specs.declared.request.Way.TheVariants as way
 use Rattle.tool.specs.declared.request.PictureRequest.{PictureRequest}
+use Rattle.tool.specs.declared.request.FormatRequest.{FormatRequest}
+use Rattle.tool.specs.declared.request.ExplainRequest.{ExplainRequest}
 use Rattle.tool.specs.declared.request.CompileRequest.{CompileRequest}
 use Rattle.tool.specs.declared.request.CheckRequest.{CheckRequest}
 use Rattle.tool.specs.declared.request.ReplayRequest.{ReplayRequest}
@@ -21,6 +23,11 @@ pub record AskedPicture : Type 0 where
   pub way : AskedWay
   pub algorithm : Text
   pub input : Text
+  pub output : Text
+
+-- an algorithm to be written in its canonical text, by the names of two files
+pub record AskedFormat : Type 0 where
+  pub algorithm : Text
   pub output : Text
 
 -- a schedule to be compiled, by the names of three files
@@ -48,6 +55,8 @@ pub record AskedCompare : Type 0 where
 
 pub data Asked : Type 0 where
   Picture : AskedPicture → Asked
+  Format : AskedFormat → Asked
+  Explain : Text → Asked
   Compile : AskedCompile → Asked
   Check : AskedCheck → Asked
   Cost : AskedCheck → Asked
@@ -60,6 +69,9 @@ way_asked (way.File plan workers) = File plan.now workers
 
 abbrev pub picture_asked : PictureRequest → AskedPicture
 picture_asked r = record { way = way_asked r.way; algorithm = r.algorithm.now; input = r.input.now; output = r.output.now }
+
+abbrev pub format_asked : FormatRequest → AskedFormat
+format_asked r = record { algorithm = r.algorithm.now; output = r.output.now }
 
 abbrev pub compile_asked : CompileRequest → AskedCompile
 compile_asked r = record { algorithm = r.algorithm.now; schedule = r.schedule.now; plan = r.plan.now }
@@ -75,6 +87,8 @@ compare_asked r = record { algorithm = r.algorithm.now; input = r.input.now; sch
 
 abbrev pub asked_by : Request → Asked
 asked_by (request.Picture r) = Picture (picture_asked r)
+asked_by (request.Format r) = Format (format_asked r)
+asked_by (request.Explain r) = Explain r.code.now
 asked_by (request.Compile r) = Compile (compile_asked r)
 asked_by (request.Check r) = Check (check_asked r)
 asked_by (request.Cost r) = Cost (check_asked r)

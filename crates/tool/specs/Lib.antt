@@ -3,6 +3,7 @@ pub mod Pipeline
 pub mod Answer
 pub mod Asked
 pub mod Files
+pub mod Formats
 pub mod Line
 pub mod Means
 pub mod Pictures

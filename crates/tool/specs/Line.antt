@@ -1,13 +1,14 @@
 -- The command line: the words that it takes, and what they ask for.
-use Rattle.std.specs.Prelude.{◌≡◌, ◌≢◌, ◌⊎◌, ℕ, List, [], Option, None, Some, true, codes, option_and_then, option_map, if◌then◌else◌}
+use Rattle.std.specs.Prelude.{◌≡◌, ◌≢◌, ◌⊎◌, ℕ, Bool, List, [], Option, None, Some, true, codes, option_and_then, option_map, filter, not, if◌then◌else◌}
 use Rattle.std.specs.Str.{bytes_eq}
 use Rattle.clap.specs.declared.error.kind.ErrorKind.{ErrorKind}
 use Rattle.clap.specs.declared.error.kind.ErrorKind.TheVariants.{DisplayHelp, DisplayVersion, ValueValidation}
 use Rattle.clap.specs.declared.error.Error.{Error}
 use Rattle.clap.specs.Lexer.{usize_max}
 use Rattle.clap.specs.Words.{App, HasKind, IsAmong, Row, Rule, Text, fault_of, all_of, first_of, kind_of, new_app, new_rule, subcommand_of, with_rule, with_subcommand}
+use Rattle.codes.specs.Codes.{is_code}
 use Rattle.tool.specs.Workers.{workers_spelled}
-use Rattle.tool.specs.Asked.{AskedWay, Plain, File, AskedCheck, Asked, Picture, Compile, Check, Cost, Replay, Compare}
+use Rattle.tool.specs.Asked.{AskedWay, Plain, File, AskedCheck, Asked, Picture, Format, Explain, Compile, Check, Cost, Replay, Compare}
 
 -- a word that has to be there, under a name
 abbrev pub needed : Text → Rule
@@ -28,6 +29,14 @@ program = record (new_app (codes "stencil")) { top = record ((new_app (codes "st
 -- compile ALG SCHED PLAN
 abbrev pub compile_line : App
 compile_line = with_rule (with_rule (with_rule (new_app (codes "compile")) (needed (codes "ALG"))) (needed (codes "SCHED"))) (needed (codes "PLAN"))
+
+-- format ALG OUT
+abbrev pub format_line : App
+format_line = with_rule (with_rule (new_app (codes "format")) (needed (codes "ALG"))) (needed (codes "OUT"))
+
+-- explain CODE
+abbrev pub explain_line : App
+explain_line = with_rule (new_app (codes "explain")) (needed (codes "CODE"))
 
 -- NAME ALG PLAN
 abbrev pub plan_line : Text → App
@@ -50,13 +59,17 @@ run_line = with_rule named_run_line workers_rule
 abbrev pub replay_line : App
 replay_line = with_rule (with_rule (with_rule (with_rule (new_app (codes "replay")) (needed (codes "ALG"))) (needed (codes "PLAN"))) (needed (codes "IN"))) (needed (codes "ORDER"))
 
--- the commands that take no plan file, but for the one that compares schedules
+-- the commands that write something of an algorithm alone
 abbrev pub planless : App
-planless = with_subcommand (with_subcommand program (picture_line (codes "plain")).top) compile_line.top
+planless = with_subcommand (with_subcommand program (picture_line (codes "plain")).top) format_line.top
 
--- with it the commands that tell something of a plan file, and with them those that compute by one
+-- with them those that take schedules
+abbrev pub scheduled : App
+scheduled = with_subcommand (with_subcommand planless compile_line.top) compare_line.top
+
+-- with them the commands that tell something of a code or a plan file, and with these those that compute by one
 abbrev pub told : App
-told = with_subcommand (with_subcommand (with_subcommand planless compare_line.top) (plan_line (codes "check")).top) (plan_line (codes "cost")).top
+told = with_subcommand (with_subcommand (with_subcommand scheduled explain_line.top) (plan_line (codes "check")).top) (plan_line (codes "cost")).top
 
 abbrev pub line : App
 line = with_subcommand (with_subcommand told run_line.top) replay_line.top
@@ -69,6 +82,23 @@ all_three way _ _ _ = None
 -- the words for the algorithm, the image and the picture
 abbrev pub picture_in : AskedWay → List Row → Option Asked
 picture_in way rows = all_three way (first_of (codes "ALG") rows) (first_of (codes "IN") rows) (first_of (codes "OUT") rows)
+
+-- an algorithm and where its canonical text goes, where both names are there
+abbrev pub to_format : Option Text → Option Text → Option Asked
+to_format (Some algorithm) (Some output) = Some (Format (record { algorithm = algorithm; output = output }))
+to_format _ _ = None
+
+-- the words for the algorithm and the text
+abbrev pub format_in : List Row → Option Asked
+format_in rows = to_format (first_of (codes "ALG") rows) (first_of (codes "OUT") rows)
+
+-- the code of a refusal
+abbrev pub to_explain : Text → Option Asked
+to_explain code = if is_code code then Some (Explain code) else None
+
+-- the word for it
+abbrev pub explain_in : List Row → Option Asked
+explain_in rows = option_and_then to_explain (first_of (codes "CODE") rows)
 
 -- a schedule, where all three names are there
 abbrev pub to_compile : Option Text → Option Text → Option Text → Option Asked
@@ -115,15 +145,21 @@ to_compare _ _ _ = None
 abbrev pub compare_in : List Row → Option Asked
 compare_in rows = to_compare (first_of (codes "ALG") rows) (first_of (codes "IN") rows) (all_of (codes "SCHED") rows)
 
--- what a command of this name asks for, of those that name so many files
+-- what a command of this name asks for, of those that take a plan file
+abbrev pub asked_of_plan : Text × List Row → Option Asked
+asked_of_plan command =
+    if bytes_eq command.0 (codes "run") then run_in command.1
+    else (if bytes_eq command.0 (codes "check") then option_map Check (check_in command.1)
+    else (if bytes_eq command.0 (codes "cost") then option_map Cost (check_in command.1)
+    else (if bytes_eq command.0 (codes "replay") then replay_in command.1 else None)))
+
+-- and of all that take so many words
 abbrev pub asked_of_one : Text × List Row → Option Asked
 asked_of_one command =
     if bytes_eq command.0 (codes "plain") then picture_in Plain command.1
-    else (if bytes_eq command.0 (codes "compile") then compile_in command.1
-    else (if bytes_eq command.0 (codes "run") then run_in command.1
-    else (if bytes_eq command.0 (codes "check") then option_map Check (check_in command.1)
-    else (if bytes_eq command.0 (codes "cost") then option_map Cost (check_in command.1)
-    else (if bytes_eq command.0 (codes "replay") then replay_in command.1 else None)))))
+    else (if bytes_eq command.0 (codes "format") then format_in command.1
+    else (if bytes_eq command.0 (codes "explain") then explain_in command.1
+    else (if bytes_eq command.0 (codes "compile") then compile_in command.1 else asked_of_plan command)))
 
 -- what a command of this name asks for
 abbrev pub asked_of_command : Text × List Row → Option Asked
@@ -132,6 +168,14 @@ asked_of_command command = if bytes_eq command.0 (codes "compare") then compare_
 -- what the words ask for
 abbrev pub asked : List Text → Option Asked
 asked words = option_and_then asked_of_command (subcommand_of line words)
+
+-- a word that does not ask for more of a refusal
+abbrev pub is_stated : Text → Bool
+is_stated word = not (bytes_eq word (codes "--explain"))
+
+-- the words without those that do, wherever they stand
+abbrev pub stated : List Text → List Text
+stated words = filter is_stated words
 
 -- nothing is wrong with the words, and they ask for this
 abbrev pub AsksFor : List Text → Asked → Type 0
@@ -145,11 +189,11 @@ AsksHelp words = IsAmong DisplayHelp (fault_of line words)
 abbrev pub AsksVersion : List Text → Type 0
 AsksVersion words = IsAmong DisplayVersion (fault_of line words)
 
--- something is wrong with the words, or no number of workers is spelled
+-- something is wrong with the words, or no number of workers is spelled, or no code
 abbrev pub IsMisuse : List Text → Type 0
 IsMisuse words =
     ((kind : ErrorKind) × (kind ≢ DisplayHelp) × (kind ≢ DisplayVersion) × IsAmong kind (fault_of line words)) ⊎ (asked words ≡ None)
 
--- why the words ask for no command: memory ran out, they ask for help or the version or are a fault, or no number of workers is spelled
+-- why the words ask for no command: memory ran out, they ask for help or the version or are a fault, or no number of workers or code is spelled
 abbrev pub FailsFor : List Text → Error → Type 0
 FailsFor words e = HasKind (fault_of line words) e ⊎ ((kind_of e ≡ ValueValidation) × (asked words ≡ None))

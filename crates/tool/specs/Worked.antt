@@ -1,11 +1,18 @@
 -- Words written out, and what they ask for.
-use Rattle.std.specs.Prelude.{ℕ, List, [], ◌∷◌, codes}
-use Rattle.tool.specs.Asked.{Plain, File, Picture, Compile, Check, Cost, Replay, Compare}
-use Rattle.tool.specs.Line.{AsksFor, AsksHelp, AsksVersion, IsMisuse}
+use Rattle.std.specs.Prelude.{◌≡◌, ℕ, List, [], ◌∷◌, codes}
+use Rattle.tool.specs.Asked.{Plain, File, Picture, Format, Explain, Compile, Check, Cost, Replay, Compare}
+use Rattle.tool.specs.Line.{AsksFor, AsksHelp, AsksVersion, IsMisuse, stated}
 
 -- three names behind `plain`
 abbrev pub PlainWithNames : Type 0
 PlainWithNames = AsksFor (codes "plain" ∷ codes "a.alg" ∷ codes "b.pgm" ∷ codes "c.pgm" ∷ []) (Picture (record { way = Plain; algorithm = codes "a.alg"; input = codes "b.pgm"; output = codes "c.pgm" }))
+
+-- two behind `format`, and a code behind `explain`
+abbrev pub FormatWithNames : Type 0
+FormatWithNames = AsksFor (codes "format" ∷ codes "a.alg" ∷ codes "b.alg" ∷ []) (Format (record { algorithm = codes "a.alg"; output = codes "b.alg" }))
+
+abbrev pub ExplainWithCode : Type 0
+ExplainWithCode = AsksFor (codes "explain" ∷ codes "K12" ∷ []) (Explain (codes "K12")) × IsMisuse (codes "explain" ∷ codes "K15" ∷ [])
 
 -- four behind `run`, three behind `compile`, two behind `check` and `cost`, and four behind `replay`
 abbrev pub RunWithNames : Type 0
@@ -40,6 +47,10 @@ abbrev pub ReplayWithNames : Type 0
 ReplayWithNames =
     AsksFor (codes "replay" ∷ codes "a.alg" ∷ codes "p.plan" ∷ codes "b.pgm" ∷ codes "o.txt" ∷ [])
     (Replay (record { check = record { algorithm = codes "a.alg"; plan = codes "p.plan" }; input = codes "b.pgm"; order = codes "o.txt" }))
+
+-- the word that asks for more of a refusal, before and behind the others
+abbrev pub ExplainedWords : Type 0
+ExplainedWords = stated (codes "--explain" ∷ codes "check" ∷ codes "a.alg" ∷ codes "p.plan" ∷ codes "--explain" ∷ []) ≡ codes "check" ∷ codes "a.alg" ∷ codes "p.plan" ∷ []
 
 abbrev pub HelpWords : Type 0
 HelpWords = AsksHelp (codes "--help" ∷ []) × AsksHelp (codes "help" ∷ []) × AsksHelp (codes "plain" ∷ codes "--help" ∷ [])

@@ -1,10 +1,12 @@
 //! Laws of the command line, each the contract of a function that does nothing.
 
-ghost use Rattle.tool.specs.Worked.{CheckWithNames, CompareWithNames, CompileWithNames, CostWithNames, HelpWords, MisusedWords, MisusedWorkers, PlainWithNames, ReplayWithNames, RunWithNames, RunWithWorkers, VersionWords};
+ghost use Rattle.tool.specs.Worked.{CheckWithNames, CompareWithNames, CompileWithNames, CostWithNames, ExplainWithCode, ExplainedWords, FormatWithNames, HelpWords, MisusedWords, MisusedWorkers, PlainWithNames, ReplayWithNames, RunWithNames, RunWithWorkers, VersionWords};
 
 /// What words that are written out ask for.
 pub fn words_are_read()
     ensures plain { PlainWithNames }
+    ensures format { FormatWithNames }
+    ensures explain { ExplainWithCode }
     ensures run { RunWithNames }
     ensures workers { RunWithWorkers }
     ensures compile { CompileWithNames }
@@ -12,6 +14,7 @@ pub fn words_are_read()
     ensures check { CheckWithNames }
     ensures cost { CostWithNames }
     ensures replay { ReplayWithNames }
+    ensures explained { ExplainedWords }
     ensures help { HelpWords }
     ensures version { VersionWords }
     ensures misuse { MisusedWords }

@@ -4,6 +4,7 @@
 mod compare;
 mod device;
 mod exit;
+mod explaining;
 pub mod laws;
 pub mod order;
 mod picture;
@@ -13,6 +14,7 @@ mod program;
 mod replay;
 mod request;
 mod schedule_command;
+mod text_command;
 mod words;
 mod workers;
 

@@ -1,28 +1,31 @@
 //! The program, but for its real files and streams.
 
-ghost use Rattle.std.specs.Prelude.{◌≡◌, ◌≢◌, ◌⊎◌, [], map, Some, IfErr, OnOk, IsErrOf};
+ghost use Rattle.std.specs.Prelude.{◌≡◌, ◌≢◌, ◌⊎◌, [], map, filter, Some, IfOk, IfErr, OnOk, IsErrOf};
 ghost use Rattle.std.specs.Io.KnownBytes.{Keeps};
 ghost use Rattle.clap.specs.Words.{kind_of};
 ghost use Rattle.tool.specs.Pipeline.Pictures.{IsDone, IsRefused};
 ghost use Rattle.tool.specs.declared.pipeline.fault.Fault.{Fault};
 ghost use Rattle.pnm.specs.declared.error.PnmError.{PnmError};
 ghost use Rattle.tool.specs.Asked.{asked_by};
-ghost use Rattle.tool.specs.Answer.{CommandAnswers, Ends, StreamsAnswer, status_after};
+ghost use Rattle.tool.specs.Line.{is_stated, stated};
+ghost use Rattle.tool.specs.Answer.{CommandAnswers, Ends, HasEnded, StreamsAnswer, status_after};
 
 use crate::compare::compare_command;
 use crate::device::Files;
 use crate::exit::status;
+use crate::explaining::{Detail, explain};
 use crate::picture::picture_command;
 use crate::pipeline::{Fault, run_over};
 use crate::plan_command::{Telling, plan_command};
 use crate::replay::replay_command;
 use crate::request::Request;
 use crate::schedule_command::compile_command;
+use crate::text_command::{explain_command, format_command};
 use crate::words::read_words;
 use clap::Error;
 use clap::error::ErrorKind;
 use pnm::PnmError;
-use std::alloc::Global;
+use std::alloc::{AllocError, Global};
 use std::io::{Read, Write};
 use std::sync::Wait;
 use std::thread::Threads;
@@ -51,6 +54,9 @@ end
 
 // The status of a command line fault.
 const MISUSED: u8 = 2;
+
+// The word that asks for more of a refusal.
+const EXPLAIN: &str = "--explain";
 
 /// Hands on what a writer holds back.
 pub(crate) fn flush<W: Write>(out: &mut W) -> Result<(), Fault>
@@ -89,14 +95,14 @@ fn print_text<W: Write>(text: &Error, out: &mut W) -> Result<(), Fault>
 }
 
 /// The status of what came of a command. A refusal is told in one line; where that can't be written the status stays.
-fn answer<E: Write>(outcome: Result<(), Fault>, err: &mut E) -> u8
-    ensures { result ≡ status_after outcome }
+fn answer<E: Write>(outcome: &Result<(), Fault>, err: &mut E) -> u8
+    ensures { result ≡ status_after outcome.now }
 {
     match outcome {
         Ok(()) => 0,
         Err(fault) => {
             let _ = writeln!(err, "stencil: {fault}");
-            status(&fault)
+            status(fault)
         }
     }
 }
@@ -109,8 +115,8 @@ fn answer_words<W: Write, E: Write>(error: &Error, out: &mut W, err: &mut E) -> 
     ensures misuse { kind_of error.now ≢ ErrorKind.OutOfMemory → kind_of error.now ≢ ErrorKind.DisplayHelp → kind_of error.now ≢ ErrorKind.DisplayVersion → result ≡ 2 }
 {
     match error.kind() {
-        ErrorKind::OutOfMemory => answer(Err(Fault::Memory), err),
-        ErrorKind::DisplayHelp | ErrorKind::DisplayVersion => answer(print_text(error, out), err),
+        ErrorKind::OutOfMemory => answer(&Err(Fault::Memory), err),
+        ErrorKind::DisplayHelp | ErrorKind::DisplayVersion => answer(&print_text(error, out), err),
         _ => {
             let _ = write!(err, "{error}");
             MISUSED
@@ -130,6 +136,8 @@ fn command<T: Threads + Wait + Sync, F: Files, W: Write>(
 {
     match request {
         Request::Picture(asked) => picture_command(rt, alloc, files, asked),
+        Request::Format(asked) => format_command(alloc, files, asked),
+        Request::Explain(asked) => explain_command(out, asked),
         Request::Compile(asked) => compile_command(rt, alloc, files, asked),
         Request::Check(asked) => plan_command(rt, alloc, files, out, asked, Telling::Counts),
         Request::Cost(asked) => plan_command(rt, alloc, files, out, asked, Telling::Costs),
@@ -138,7 +146,66 @@ fn command<T: Threads + Wait + Sync, F: Files, W: Write>(
     }
 }
 
-/// Runs the program on the words after its name, and answers its exit status. Pieces and pixels are computed in the caller's
+/// Does what is asked for, tells what came of it, and answers the status.
+fn carry_out<T: Threads + Wait + Sync, F: Files, W: Write, E: Write>(
+    rt: &T,
+    alloc: Global,
+    files: &mut F,
+    out: &mut W,
+    err: &mut E,
+    request: &Request<'_>,
+    detail: Detail,
+) -> u8
+    ensures { HasEnded (F.contents files.old) (F.contents files.new) (asked_by request.now) result }
+{
+    let outcome = command(rt, alloc, files, out, request);
+    let status = answer(&outcome, err);
+    explain(alloc, files, request, &outcome, detail, err);
+    status
+}
+
+/// The words without those that ask for more of a refusal.
+fn stated_words<'a>(alloc: Global, words: &[&'a str]) -> Result<Vec<&'a str>, AllocError>
+    ensures { IfOk result (λ kept. kept.items ≡ filter (λ word. is_stated word.now) words.now) }
+{
+    let mut kept = Vec::with_capacity(alloc, words.len())?;
+    for word in words {
+        if *word != EXPLAIN {
+            kept.push(*word)?;
+        }
+    }
+    Ok(kept)
+}
+
+/// How much is told where so many words ask for more.
+fn detail_for(asking: usize) -> Detail {
+    if asking == 0 {
+        Detail::Line
+    } else {
+        Detail::Explained
+    }
+}
+
+/// Runs the program on such words.
+fn tool_on<T: Threads + Wait + Sync, F: Files, W: Write, E: Write>(
+    rt: &T,
+    alloc: Global,
+    words: &[&str],
+    detail: Detail,
+    files: &mut F,
+    out: &mut W,
+    err: &mut E,
+) -> u8
+    ensures { CommandAnswers (map (λ word. word.now) words.now) (F.contents files.old) (F.contents files.new) result }
+{
+    match read_words(alloc, words) {
+        Ok(request) => carry_out(rt, alloc, files, out, err, &request, detail),
+        Err(error) => answer_words(&error, out, err),
+    }
+}
+
+/// Runs the program on the words after its name, and answers its exit status. A word `--explain`, wherever it stands, asks
+/// for more of a refusal than its line, and changes nothing else. Pieces and pixels are computed in the caller's
 /// thread and in threads that are started through `rt`; where none can be started the caller computes all.
 pub fn tool<T: Threads + Wait + Sync, F: Files, R: Read, W: Write, E: Write>(
     rt: &T,
@@ -153,13 +220,16 @@ pub fn tool<T: Threads + Wait + Sync, F: Files, R: Read, W: Write, E: Write>(
     ensures streams { words.now ≡ [] → StreamsAnswer INCREMENT.now INCREMENT_PLAN.now (R.remaining input.old) (R.remaining input.new) (W.contents out.old) (W.contents out.new) result }
     ensures kept { words.now ≡ [] → files.new ≡ files.old }
     ensures unread { words.now ≢ [] → input.new ≡ input.old }
-    ensures command { words.now ≢ [] → CommandAnswers (map (λ word. word.now) words.now) (F.contents files.old) (F.contents files.new) result }
+    ensures command { words.now ≢ [] → CommandAnswers (stated (map (λ word. word.now) words.now)) (F.contents files.old) (F.contents files.new) result }
 {
     if words.is_empty() {
-        return answer(increment(rt, alloc, input, out), err);
+        return answer(&increment(rt, alloc, input, out), err);
     }
-    match read_words(alloc, words) {
-        Ok(request) => answer(command(rt, alloc, files, out, &request), err),
-        Err(error) => answer_words(&error, out, err),
+    match stated_words(alloc, words) {
+        Ok(stated) => {
+            let detail = detail_for(words.len().saturating_sub(stated.len()));
+            tool_on(rt, alloc, stated.as_slice(), detail, files, out, err)
+        }
+        Err(_) => answer(&Err(Fault::Memory), err),
     }
 }

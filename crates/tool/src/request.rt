@@ -27,6 +27,15 @@ pub struct PictureRequest<'a> {
     pub output: &'a str,
 }
 
+/// An algorithm that is to be written in its canonical text: the names of two files.
+#[derive(Clone, Copy, Debug, Drop)]
+pub struct FormatRequest<'a> {
+    /// The algorithm's text.
+    pub algorithm: &'a str,
+    /// Where the canonical text is written.
+    pub output: &'a str,
+}
+
 /// A schedule that is to be compiled: the names of three files.
 #[derive(Clone, Copy, Debug, Drop)]
 pub struct CompileRequest<'a> {
@@ -69,11 +78,24 @@ pub struct CompareRequest<'a> {
     pub schedules: Vec<&'a str>,
 }
 
+/// A code that is to be explained.
+#[derive(Clone, Copy, Debug, Drop)]
+pub struct ExplainRequest<'a> {
+    /// The code of a refusal.
+    pub code: &'a str,
+    /// Its page.
+    pub page: &'static str,
+}
+
 /// What the words ask for.
 #[derive(Debug, Drop)]
 pub enum Request<'a> {
     /// A picture.
     Picture(PictureRequest<'a>),
+    /// The canonical text of an algorithm.
+    Format(FormatRequest<'a>),
+    /// What the code of a refusal means.
+    Explain(ExplainRequest<'a>),
     /// The plan file of a schedule.
     Compile(CompileRequest<'a>),
     /// What the checker says of a plan.

@@ -4,17 +4,25 @@ ghost use Rattle.std.specs.Prelude.{◌≡◌, false, map, option_and_then, opti
 ghost use Rattle.clap.specs.Words.{app_of, first_value, found_of, rows_of, rule_of, subcommand_rows_of};
 ghost use Rattle.clap.specs.declared.builder.command.Command.TheViews.{out-Command};
 ghost use Rattle.tool.specs.Asked.{asked_by, check_asked, way_asked};
-ghost use Rattle.tool.specs.Line.{AsksFor, FailsFor, asked_of_command, asked_of_one, check_in, compare_in, compare_line, compile_in, compile_line, line, named_run_line, needed, picture_in, picture_line, plan_line, planless, replay_in, replay_line, run_in, run_line, several, to_compare, told, workers_in, workers_rule};
+ghost use Rattle.tool.specs.Line.{AsksFor, FailsFor, asked_of_command, asked_of_one, asked_of_plan, check_in, compare_in, compare_line, compile_in, compile_line};
+ghost use Rattle.tool.specs.Line.{explain_in, explain_line, format_in, format_line, line, named_run_line, needed, picture_in, picture_line, plan_line, planless};
+ghost use Rattle.tool.specs.Line.{replay_in, replay_line, run_in, run_line, scheduled, several, to_compare, told, workers_in, workers_rule};
 
 use crate::request::{
-    CheckRequest, CompareRequest, CompileRequest, PictureRequest, ReplayRequest, Request, Way,
+    CheckRequest, CompareRequest, CompileRequest, ExplainRequest, FormatRequest, PictureRequest,
+    ReplayRequest, Request, Way,
 };
 use crate::workers::workers_spelled;
 use clap::error::ErrorKind;
 use clap::{Arg, ArgMatches, Command, Error};
+use codes::page;
 use std::alloc::{AllocError, Global};
 
 const PLAIN: &str = "plain";
+
+const FORMAT: &str = "format";
+
+const EXPLAIN: &str = "explain";
 
 const COMPILE: &str = "compile";
 
@@ -40,13 +48,16 @@ const OUTPUT: &str = "OUT";
 
 const ORDER: &str = "ORDER";
 
+const CODE: &str = "CODE";
+
 const WORKERS: &str = "workers";
 
 // What `--version` prints behind the program's name: its own version, and the toolchain's line.
 const VERSION: &str = "0.1.0 (rattle-kit-13f logic dac8208d650f15bf)";
 
-// What is told where the words are as they are wanted, but for the number of workers.
-const NO_WORKERS: &str = "'--workers <N>' takes a decimal number from 1 to 64";
+// What is told where the words are as they are wanted, but for the number of workers or the code.
+const NO_VALUE: &str =
+    "'--workers <N>' takes a decimal number from 1 to 64, and 'explain <CODE>' a code as K5";
 
 /// A word that has to be there.
 fn word<'a>(alloc: Global, name: &'a str, help: &'a str) -> Arg<'a>
@@ -89,6 +100,25 @@ fn picture_described<'a>(
         .arg(word(alloc, ALGORITHM, "The algorithm's text"))?
         .arg(word(alloc, INPUT, "The image, a PGM or PPM file"))?
         .arg(word(alloc, OUTPUT, "Where the picture is written"))
+}
+
+fn format_described<'a>(alloc: Global) -> Result<Command<'a>, AllocError>
+    ensures line { IfOk result (λ command. app_of command ≡ format_line) }
+    ensures local { IfOk result (λ command. (out-Command command).has_globals ≡ false) }
+{
+    Command::new(alloc, FORMAT)
+        .about("Write an algorithm in its canonical text")
+        .arg(word(alloc, ALGORITHM, "The algorithm's text"))?
+        .arg(word(alloc, OUTPUT, "Where the canonical text is written"))
+}
+
+fn explain_described<'a>(alloc: Global) -> Result<Command<'a>, AllocError>
+    ensures line { IfOk result (λ command. app_of command ≡ explain_line) }
+    ensures local { IfOk result (λ command. (out-Command command).has_globals ≡ false) }
+{
+    Command::new(alloc, EXPLAIN)
+        .about("Tell what the code of a refusal means, with an example and what mends it")
+        .arg(word(alloc, CODE, "The code, as K5"))
 }
 
 fn compile_described<'a>(alloc: Global) -> Result<Command<'a>, AllocError>
@@ -164,7 +194,7 @@ fn replay_described<'a>(alloc: Global) -> Result<Command<'a>, AllocError>
         ))
 }
 
-/// The program's line with the commands that take no plan file, but for the one that compares schedules.
+/// The program's line with the commands that write something of an algorithm alone.
 fn planless_described<'a>(alloc: Global) -> Result<Command<'a>, AllocError>
     ensures line { IfOk result (λ command. app_of command ≡ planless) }
     ensures local { IfOk result (λ command. (out-Command command).has_globals ≡ false) }
@@ -174,26 +204,38 @@ fn planless_described<'a>(alloc: Global) -> Result<Command<'a>, AllocError>
         PLAIN,
         "Write the picture, computed by the definitions alone",
     )?;
-    let compile = compile_described(alloc)?;
+    let format = format_described(alloc)?;
     Command::new(alloc, "stencil")
         .about("Compile, check and run integer image pipelines")
         .version(VERSION)
         .no_binary_name(true)
         .subcommand_required(true)
         .subcommand(plain)?
-        .subcommand(compile)
+        .subcommand(format)
 }
 
-/// With them the commands that tell something of schedules and plans.
+/// With them the commands that take schedules.
+fn scheduled_described<'a>(alloc: Global) -> Result<Command<'a>, AllocError>
+    ensures line { IfOk result (λ command. app_of command ≡ scheduled) }
+    ensures local { IfOk result (λ command. (out-Command command).has_globals ≡ false) }
+{
+    let compile = compile_described(alloc)?;
+    let compare = compare_described(alloc)?;
+    planless_described(alloc)?
+        .subcommand(compile)?
+        .subcommand(compare)
+}
+
+/// With them the commands that tell something of a code or a plan file.
 fn told_described<'a>(alloc: Global) -> Result<Command<'a>, AllocError>
     ensures line { IfOk result (λ command. app_of command ≡ told) }
     ensures local { IfOk result (λ command. (out-Command command).has_globals ≡ false) }
 {
-    let compare = compare_described(alloc)?;
+    let explain = explain_described(alloc)?;
     let check = plan_described(alloc, CHECK, "Check a plan file")?;
     let cost = plan_described(alloc, COST, "Check a plan file and tell what it costs")?;
-    planless_described(alloc)?
-        .subcommand(compare)?
+    scheduled_described(alloc)?
+        .subcommand(explain)?
         .subcommand(check)?
         .subcommand(cost)
 }
@@ -229,6 +271,22 @@ fn workers_found(matches: &ArgMatches<'_>) -> Option<usize>
         None => Some(1),
         Some(text) => workers_spelled(text),
     }
+}
+
+fn format_found<'a>(matches: &ArgMatches<'a>) -> Option<Request<'a>>
+    ensures { option_map asked_by result ≡ format_in (rows_of (found_of matches.now)) }
+{
+    let algorithm = matches.get_str(ALGORITHM)?;
+    let output = matches.get_str(OUTPUT)?;
+    Some(Request::Format(FormatRequest { algorithm, output }))
+}
+
+fn explain_found<'a>(matches: &ArgMatches<'a>) -> Option<Request<'a>>
+    ensures { option_map asked_by result ≡ explain_in (rows_of (found_of matches.now)) }
+{
+    let code = matches.get_str(CODE)?;
+    let page = page(code)?;
+    Some(Request::Explain(ExplainRequest { code, page }))
 }
 
 fn compile_found<'a>(matches: &ArgMatches<'a>) -> Option<Request<'a>>
@@ -301,15 +359,11 @@ fn compare_found<'a>(
     }
 }
 
-/// What the command of this name asks for with its words, where it names so many files.
-fn request_named<'a>(name: &str, matches: &ArgMatches<'a>) -> Option<Request<'a>>
-    ensures { option_map asked_by result ≡ asked_of_one (name.now, rows_of (found_of matches.now)) }
+/// What the command of this name asks for with its words, where it takes a plan file.
+fn planned_named<'a>(name: &str, matches: &ArgMatches<'a>) -> Option<Request<'a>>
+    ensures { option_map asked_by result ≡ asked_of_plan (name.now, rows_of (found_of matches.now)) }
 {
-    if name == PLAIN {
-        picture_found(Way::Plain, matches)
-    } else if name == COMPILE {
-        compile_found(matches)
-    } else if name == RUN {
+    if name == RUN {
         run_found(matches)
     } else if name == CHECK {
         Some(Request::Check(check_found(matches)?))
@@ -319,6 +373,23 @@ fn request_named<'a>(name: &str, matches: &ArgMatches<'a>) -> Option<Request<'a>
         replay_found(matches)
     } else {
         None
+    }
+}
+
+/// The same of all commands that take so many words.
+fn request_named<'a>(name: &str, matches: &ArgMatches<'a>) -> Option<Request<'a>>
+    ensures { option_map asked_by result ≡ asked_of_one (name.now, rows_of (found_of matches.now)) }
+{
+    if name == PLAIN {
+        picture_found(Way::Plain, matches)
+    } else if name == FORMAT {
+        format_found(matches)
+    } else if name == EXPLAIN {
+        explain_found(matches)
+    } else if name == COMPILE {
+        compile_found(matches)
+    } else {
+        planned_named(name, matches)
     }
 }
 
@@ -363,6 +434,6 @@ pub(crate) fn read_words<'a>(alloc: Global, words: &'a [&'a str]) -> Result<Requ
     let found = request_found(alloc, &matches)?;
     match found {
         Some(request) => Ok(request),
-        None => Err(command.error(ErrorKind::ValueValidation, NO_WORKERS)?),
+        None => Err(command.error(ErrorKind::ValueValidation, NO_VALUE)?),
     }
 }

@@ -71,3 +71,6 @@ returns-clause-refused g c =
     one_refused _ _ _ a c.in_ok-bytes.bytes.items c.in_ok-file.file.items samples (same_then _ _ _ c.get.ensures.same c.get-2.ensures.same) c.in_ok-bytes.ensures.bytes
     (subst IsText c.as_slice.ensures.value c.in_ok-algo.ensures.said) (held_before _ _ _ _ c.get.ensures.same c.in_ok-file.ensures.bytes)
     (subst IsImage c.as_slice-2.ensures.value c.in_ok-inputs.ensures.read) _ (subst Refused c.as_slice-3.ensures.value c.compare_schedules.ensures.refused)
+
+pub returns-clause-same : goal.returns-clause-same
+returns-clause-same g c = same_then _ _ _ (same_then _ _ _ c.get.ensures.same c.get-2.ensures.same) c.compare_schedules.ensures.same

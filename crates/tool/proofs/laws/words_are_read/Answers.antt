@@ -9,6 +9,14 @@ pub returns-clause-plain : goal.returns-clause-plain
 unfolding clap_on_literals
 returns-clause-plain c = (refl, refl)
 
+pub returns-clause-format : goal.returns-clause-format
+unfolding clap_on_literals
+returns-clause-format c = (refl, refl)
+
+pub returns-clause-explain : goal.returns-clause-explain
+unfolding clap_on_literals
+returns-clause-explain c = ((refl, refl), inr refl)
+
 pub returns-clause-run : goal.returns-clause-run
 unfolding clap_on_literals
 returns-clause-run c = (refl, refl)

@@ -1,0 +1,12 @@
+pub mod Lists
+pub mod Rows
+pub mod Lexing
+pub mod Derivations
+pub mod Said
+pub mod FileRules
+pub mod Unique
+pub mod Again
+pub mod Bounds
+pub mod Spellable
+pub mod Converse
+pub mod FileConverse

@@ -1,0 +1,4 @@
+pub mod Tokens
+pub mod Spacing
+pub mod Files
+pub mod Written

@@ -1,0 +1,219 @@
+//! What is told of a refusal behind its line, where it is asked for.
+
+ghost use Rattle.std.specs.Prelude.{◌≡◌, OnOk};
+ghost use Rattle.tool.specs.Files.{SameFiles};
+
+use crate::device::Files;
+use crate::pipeline::Fault;
+use crate::request::{Request, Way};
+use codes::page;
+use std::alloc::Global;
+use std::io::Write;
+use std::str;
+
+/// The most bytes of a line before the place that is marked, and of the marks.
+const MOST_MARKED: usize = 400;
+
+/// How much is told of a refusal.
+#[derive(Clone, Copy, Debug, PartialEq, Eq, Drop)]
+pub(crate) enum Detail {
+    /// Its line.
+    Line,
+    /// Where it stands in its file, what its code means and what usually mends it, too.
+    Explained,
+}
+
+/// Where in a text something is refused.
+#[derive(Clone, Copy, Debug, PartialEq, Eq, Drop)]
+enum Place {
+    /// Its bytes, the last one excluded.
+    Bytes { start: usize, end: usize },
+    /// Its line, counted from 1.
+    Line(usize),
+}
+
+/// A line of a text: its number, counted from 1, and its bytes, the last one excluded.
+#[derive(Clone, Copy, Debug, PartialEq, Eq, Drop)]
+struct Line {
+    number: usize,
+    start: usize,
+    end: usize,
+}
+
+/// The line in which a place begins; the last one where the place is behind the text.
+fn line_at(text: &[u8], place: Place) -> Line {
+    let mut line = Line {
+        number: 1,
+        start: 0,
+        end: text.len(),
+    };
+    for (index, byte) in text.iter().enumerate() {
+        if *byte == b'\n' {
+            let is_found = match place {
+                Place::Bytes { start, .. } => start <= index,
+                Place::Line(number) => number <= line.number,
+            };
+            if is_found {
+                line.end = index;
+                return line;
+            }
+            line.number = line.number.saturating_add(1);
+            line.start = index.saturating_add(1);
+        }
+    }
+    line
+}
+
+/// Which file a refusal is of, and where in it.
+fn place_of<'a>(request: &Request<'a>, fault: &Fault) -> Option<(&'a str, Place)> {
+    match fault {
+        Fault::Algo { span, .. } => Some((
+            algorithm_of(request)?,
+            Place::Bytes {
+                start: span.start,
+                end: span.end,
+            },
+        )),
+        Fault::Schedule { span, .. } => Some((
+            schedule_of(request)?,
+            Place::Bytes {
+                start: span.start,
+                end: span.end,
+            },
+        )),
+        Fault::Plan { line, .. } | Fault::Form { line } | Fault::Limit { line } => {
+            Some((plan_of(request)?, Place::Line(*line)))
+        }
+        _ => None,
+    }
+}
+
+/// The algorithm's file.
+fn algorithm_of<'a>(request: &Request<'a>) -> Option<&'a str> {
+    match request {
+        Request::Picture(asked) => Some(asked.algorithm),
+        Request::Format(asked) => Some(asked.algorithm),
+        Request::Compile(asked) => Some(asked.algorithm),
+        Request::Check(asked) | Request::Cost(asked) => Some(asked.algorithm),
+        Request::Replay(asked) => Some(asked.check.algorithm),
+        Request::Compare(asked) => Some(asked.algorithm),
+        Request::Explain(_) => None,
+    }
+}
+
+/// The schedule's file, where there is one.
+fn schedule_of<'a>(request: &Request<'a>) -> Option<&'a str> {
+    match request {
+        Request::Compile(asked) => Some(asked.schedule),
+        _ => None,
+    }
+}
+
+/// The plan file that is read.
+fn plan_of<'a>(request: &Request<'a>) -> Option<&'a str> {
+    match request {
+        Request::Picture(asked) => match asked.way {
+            Way::File { plan, .. } => Some(plan),
+            Way::Plain => None,
+        },
+        Request::Check(asked) | Request::Cost(asked) => Some(asked.plan),
+        Request::Replay(asked) => Some(asked.check.plan),
+        _ => None,
+    }
+}
+
+/// Puts a mark under each byte of a place, as far as it stands in the line.
+fn mark<E: Write>(line: Line, start: usize, end: usize, err: &mut E) {
+    let before = start.saturating_sub(line.start).min(MOST_MARKED);
+    let marked = end
+        .min(line.end)
+        .saturating_sub(start)
+        .clamp(1, MOST_MARKED);
+    let _ = writeln!(err, "{:before$}{:^<marked$}", "", "");
+}
+
+/// Shows the line of a text in which something is refused, with marks under the bytes.
+fn show<E: Write>(name: &str, text: &[u8], place: Place, err: &mut E) {
+    let line = line_at(text, place);
+    let Some(bytes) = text.get(line.start..line.end) else {
+        return;
+    };
+    let Ok(said) = str::from_utf8(bytes) else {
+        return;
+    };
+    let _ = writeln!(err, "{name}, line {}:", line.number);
+    let _ = writeln!(err, "{said}");
+    if let Place::Bytes { start, end } = place {
+        mark(line, start, end, err);
+    }
+}
+
+/// Tells of a code what it means and what mends it: the first and the last paragraph of its page.
+fn tell<E: Write>(page: &str, err: &mut E) {
+    let Some((meaning, rest)) = page.split_once("\n\n") else {
+        let _ = write!(err, "{page}");
+        return;
+    };
+    let mend = match rest.rsplit_once("\n\n") {
+        Some((_, last)) => last,
+        None => rest,
+    };
+    let _ = writeln!(err, "{meaning}");
+    let _ = write!(err, "{mend}");
+}
+
+/// Shows where in its file something is refused, where that can be read again.
+fn show_place<F: Files, E: Write>(
+    alloc: Global,
+    files: &mut F,
+    request: &Request<'_>,
+    fault: &Fault,
+    err: &mut E,
+)
+    ensures { SameFiles (F.contents files.old) (F.contents files.new) }
+{
+    let Some((name, place)) = place_of(request, fault) else {
+        return;
+    };
+    if name == "-" {
+        return;
+    }
+    if let Ok(text) = files.get(alloc, name) {
+        show(name, text.as_slice(), place, err);
+    }
+}
+
+/// The code with which the line of a refusal begins.
+fn code_in(line: &str) -> &str {
+    if let Some((code, _)) = line.split_once(' ') {
+        return code;
+    }
+    line
+}
+
+/// Tells what the code of a refusal means, and what usually mends it.
+fn tell_code<E: Write>(alloc: Global, fault: &Fault, err: &mut E) {
+    let mut line = String::new(alloc);
+    let _ = write!(line, "{fault}");
+    if let Some(page) = page(code_in(line.as_str())) {
+        tell(page, err);
+    }
+}
+
+/// Tells of a refusal where in its file it stands, what its code means, and what usually mends it, where that is asked for.
+pub(crate) fn explain<F: Files, E: Write>(
+    alloc: Global,
+    files: &mut F,
+    request: &Request<'_>,
+    outcome: &Result<(), Fault>,
+    detail: Detail,
+    err: &mut E,
+)
+    ensures same { SameFiles (F.contents files.old) (F.contents files.new) }
+    ensures done { OnOk outcome.now (files.new ≡ files.old) }
+{
+    if let (Err(fault), Detail::Explained) = (outcome, detail) {
+        show_place(alloc, files, request, fault, err);
+        tell_code(alloc, fault, err);
+    }
+}
