@@ -8,7 +8,7 @@ use Rattle.soundness.specs.Given.{outline_of}
 use Rattle.soundness.specs.Obligations.{obligations}
 use Rattle.soundness.specs.Shown.{start}
 use Rattle.soundness.specs.Nests.Laws.{domains_of}
-use Rattle.tails.specs.Nests.{split_nests}
+use Rattle.windows.specs.Nests.{slid_nests}
 use Rattle.outline.specs.Refusals.Codes.{least}
 use Rattle.outline.specs.declared.refusals.code.Flaw.{Flaw}
 use Rattle.algo.specs.View.{algorithm_of}
@@ -19,12 +19,12 @@ use Rattle.obligations.specs.declared.context.judge.Part.{Part}
 use Rattle.obligations.specs.declared.context.judge.Part.TheVariants.{Lines, Claims, Before}
 use Rattle.obligations.specs.Asked.{first_unmet}
 use Rattle.soundness.specs.Binders.View.{grid_binders}
-use Rattle.tails.specs.Shown.{IsShown}
+use Rattle.windows.specs.Shown.{IsShown}
 
 -- the first obligation of a group's lines, of this part and in the order of its statements, that is not shown
 abbrev pub unmet : Algorithm → Plan → Certificate → ℕ → Group → Part → Option Flaw
 unmet a p c n g part =
-    first_unmet (rules_of a p c n) (split_nests (outline_of p c n g) (rules_of a p c n) (domains_of a)) part
+    first_unmet (rules_of a p c n) (slid_nests (outline_of p c n g) (rules_of a p c n) (domains_of a)) part
     (obligations (outline_of p c n g) (rules_of a p c n) g.body (body_line p n) (start (grid_binders g.grid)))
 
 module _ (a : Algorithm) (p : Plan) (c : Certificate) where

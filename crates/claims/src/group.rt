@@ -5,6 +5,10 @@ ghost use Rattle.algo.specs.View.{algorithm_of};
 ghost use Rattle.plan.specs.Plan.{Group};
 ghost use Rattle.plan.specs.View.{plan_of};
 ghost use Rattle.plan.specs.Certificate.Certificate.{certificate_of};
+ghost use Rattle.soundness.specs.Nests.Laws.{domains_of};
+ghost use Rattle.outline.specs.View.{outline_in};
+ghost use Rattle.rules.specs.Bounding.View.{rules_in};
+ghost use Rattle.tails.specs.Nests.{split_nests};
 ghost use Rattle.claims.specs.First.{IsFirstIn, IsFirstInGroup, IsUnmetInGroup, unmet_in};
 
 use crate::group_bounds::GroupBounds;
@@ -15,8 +19,10 @@ use outline::refusals::{Flaw, K};
 use plan::Plan;
 use plan::certificate::Cert;
 use rules::nests::PlainNests;
+use soundness::binders::NestTests;
 use std::alloc::{AllocError, Global};
 use tails::nests::SplitNests;
+use windows::nests::SlidNests;
 
 /// What is asked after: an algorithm, and a plan with its certificate.
 #[derive(Clone, Copy, Drop)]
@@ -25,6 +31,25 @@ pub(crate) struct Asked<'a> {
     pub algo: &'a Algo,
     pub plan: &'a Plan,
     pub cert: &'a Cert,
+}
+
+/// The first of a group's obligations, in the order of its statements, that is asked after and not shown, by these tests of
+/// plain nests and of split ones, and by those of windows.
+fn unmet_with<'a, N: NestTests>(
+    alloc: Global,
+    bounds: &'a GroupBounds<'_>,
+    others: &'a N,
+    part: Part,
+) -> Result<Option<Flaw>, AllocError>
+    requires { N.nests others.now ≡ split_nests (outline_in bounds.now.bounds.outlined.now) (rules_in bounds.now.bounds) (domains_of (algorithm_of bounds.now.bounds.algo.now)) }
+    ensures { IfOk result (λ flaw. flaw ≡ unmet_in bounds.now.bounds part) }
+{
+    let nests = SlidNests {
+        outlined: bounds.bounds.outlined,
+        bounds,
+        others,
+    };
+    first_unmet(alloc, bounds.bounds.outlined, bounds, &nests, part)
 }
 
 /// The first of a group's obligations, in the order of its statements, that is asked after and not shown.
@@ -46,7 +71,7 @@ fn unmet_part(
         bounds,
         others: &plain,
     };
-    first_unmet(alloc, bounds.bounds.outlined, bounds, &nests, part)
+    unmet_with(alloc, bounds, &nests, part)
 }
 
 /// One of a group's flaws that is not told after this one: by halves, one at the first line that has any.

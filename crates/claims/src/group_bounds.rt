@@ -6,6 +6,7 @@ ghost use Rattle.algo.specs.View.{algorithm_of};
 ghost use Rattle.plan.specs.Lines.{certificate_line};
 ghost use Rattle.plan.specs.Certificate.Cells.{own_region};
 ghost use Rattle.soundness.specs.Given.{function_named};
+ghost use Rattle.soundness.specs.Obligations.{first_window};
 ghost use Rattle.soundness.specs.Binders.View.{grid_span};
 ghost use Rattle.outline.specs.View.{certificate_in, number_in, plan_in};
 ghost use Rattle.rules.specs.Bounding.Called.{update_count};
@@ -18,7 +19,7 @@ use lin::{Forms, Lin, Region, Span1};
 use obligations::context::Facts;
 use outline::Outlined;
 use plan::Places;
-use plan::certificate::Own;
+use plan::certificate::{Own, Window};
 use rules::bounding::PlanBounds;
 use soundness::binders::{Binder, Bounds};
 use std::alloc::{AllocError, Global};
@@ -90,6 +91,18 @@ fn update_count(functions: &IndexMap<String, Function>, name: &str) -> u64
         Some(function) => function.updates.len() as u64,
         None => 0,
     }
+}
+
+/// The place of the first window of a claim; how many there are, where none is of it.
+fn first_window(windows: &[Window], claim: u32) -> usize
+    ensures { result ≡ first_window windows.now claim }
+{
+    for (number, window) in windows.iter().enumerate() {
+        if window.claim == claim {
+            return number;
+        }
+    }
+    windows.len()
 }
 
 impl<'a> GroupBounds<'a> {
@@ -166,5 +179,10 @@ impl Facts for GroupBounds<'_> {
     fn claim_line(&self, claim: u32) -> u32 {
         let cert = self.bounds.outlined.cert();
         cert.claim_line(self.line, claim as usize)
+    }
+
+    fn window_line(&self, claim: u32) -> u32 {
+        let cert = self.bounds.outlined.cert();
+        cert.window_line(self.line, first_window(&cert.windows, claim))
     }
 }

@@ -107,7 +107,15 @@ Let each reduction loop run over its whole range, the loop of the last variable 
 ";
 
 const K8: &str =
-    "The buffer of a window does not hold what is needed of it. Windows are not taken yet: their lines are K14.
+    "The buffer of a window does not hold the rows that are needed of it, or no loop keeps the window.
+
+```console
+$ sed 's/%3/%2/; s/^window 0 s1 1 3/window 0 s1 1 2/' examples/slide.plan > a.plan
+$ stencil check examples/slide.alg a.plan
+stencil: K8 line 31
+```
+
+Give the buffer as many places as the span has rows, and the window the same number; the ends of the span must not fall from turn to turn. The claim's statement stands alone in the body of the window's loop.
 ";
 
 const K9: &str = "Two pieces own one cell.

@@ -9,3 +9,4 @@ pub mod Asking
 pub mod Walking
 pub mod Silent
 pub mod Earlier
+pub mod Kept

@@ -6,11 +6,9 @@ ghost use Rattle.plan.specs.Lines.{lines, block_lines};
 ghost use Rattle.plan.specs.Lists.{list_statements};
 ghost use Rattle.plan.specs.Plan.{block};
 ghost use Rattle.plan.specs.View.{statement_of};
-ghost use Rattle.soundness.specs.Obligations.{claim_obligations, earlier_obligations, follows, made, obligation, places_of, region_of, store_line, block_store_line, Inside, NotMade};
-ghost use Rattle.soundness.specs.Shown.{shows};
-ghost use Rattle.soundness.specs.Binders.View.{binders_of};
+ghost use Rattle.soundness.specs.Obligations.{claim_obligations, earlier_obligations, follows, obligation, region_of, store_line, block_store_line, Inside, NotMade};
 ghost use Rattle.outline.specs.View.{outline_in};
-ghost use Rattle.obligations.specs.Context.Around.{buffers_of, known_of};
+ghost use Rattle.obligations.specs.Context.Around.{known_of, windows_of};
 ghost use Rattle.obligations.specs.Around.{asked_by_claims, asked_of_updates};
 ghost use Rattle.obligations.specs.Asked.{first_unmet};
 
@@ -18,8 +16,10 @@ use crate::asked::{told, unless};
 use crate::context::{
     Facts, Judge, Known, are_within, follows, only_updates, only_writes, said_by,
 };
+use crate::windows::unmet_making;
 use outline::refusals::{Flaw, K};
 use plan::Stmt;
+use plan::certificate::Window;
 use soundness::binders::NestTests;
 use std::alloc::AllocError;
 
@@ -69,29 +69,6 @@ fn store_line_in<B: Facts, T: NestTests>(
         begin += stmt.line_count();
     }
     None
-}
-
-/// Whether a statement is shown to make a claim.
-fn is_made<B: Facts, T: NestTests>(
-    judge: &Judge<'_, B, T>,
-    stmt: &Stmt,
-    known: &Known<'_>,
-    claim: u32,
-) -> Result<bool, AllocError>
-    ensures { IfOk result (λ yes. yes ≡ shows (B.rules judge.now.bounds.now) (T.nests judge.now.tests.now) (binders_of known.now.binders.items) (made (outline_in judge.now.outlined.now) (B.rules judge.now.bounds.now) (places_of (buffers_of known.now.buffers.items) ((outline_in judge.now.outlined.now).claim claim).buffer) claim (statement_of stmt.now))) }
-{
-    let said = said_by(judge.outlined, claim);
-    let Some(places) = known.places_of(said.buffer) else {
-        return Ok(false);
-    };
-    let from = if only_updates(judge.outlined, stmt, said.buffer, said.function) {
-        Some(said.definition.saturating_sub(1))
-    } else {
-        None
-    };
-    judge
-        .tests
-        .is_made(judge.alloc, &known.binders, claim, from, places, stmt)
 }
 
 /// Whether a claim of this block is of the definition before.
@@ -192,10 +169,12 @@ fn unmet_earlier<B: Facts, T: NestTests>(
     }
 }
 
-/// What a claim asks of the statement that makes it, which stands from the one line to the other.
+/// What a claim asks of the statement that makes it, which stands from the one line to the other, in the body of a loop that
+/// keeps these windows.
 #[tactic(auto, using(crate::proofs::Unmet::one, crate::proofs::Unmet::alone, crate::proofs::Unmet::nothing, crate::proofs::Unmet::append, crate::proofs::Unmet::stops, crate::proofs::Unmet::goes))]
 fn unmet_claim<B: Facts, T: NestTests>(
     judge: &Judge<'_, B, T>,
+    kept: &[&Window],
     stmt: &Stmt,
     begin: u32,
     last: u32,
@@ -203,7 +182,7 @@ fn unmet_claim<B: Facts, T: NestTests>(
     claim: u32,
 ) -> Result<Option<Flaw>, AllocError>
     requires { begin + lines (statement_of stmt.now) < 2 ^ 32 }
-    ensures { IfOk result (λ flaw. flaw ≡ first_unmet (B.rules judge.now.bounds.now) (T.nests judge.now.tests.now) judge.now.part (claim_obligations (outline_in judge.now.outlined.now) (B.rules judge.now.bounds.now) begin last (known_of known.now []) (statement_of stmt.now) claim)) }
+    ensures { IfOk result (λ flaw. flaw ≡ first_unmet (B.rules judge.now.bounds.now) (T.nests judge.now.tests.now) judge.now.part (claim_obligations (outline_in judge.now.outlined.now) (B.rules judge.now.bounds.now) (windows_of kept.now) begin last (known_of known.now []) (statement_of stmt.now) claim)) }
 {
     let said = said_by(judge.outlined, claim);
     let line = judge.bounds.claim_line(claim);
@@ -211,16 +190,17 @@ fn unmet_claim<B: Facts, T: NestTests>(
     if let Some(flaw) = unless(judge.part, K::K6, line, alone) {
         return Ok(Some(flaw));
     }
-    let shown = is_made(judge, stmt, known, claim)?;
-    if let Some(flaw) = unless(judge.part, K::K6, line, shown) {
+    if let Some(flaw) = unmet_making(judge, kept, stmt, known, claim)? {
         return Ok(Some(flaw));
     }
     unmet_earlier(judge, stmt, begin, last, known, claim)
 }
 
-/// What claims ask of the statement that makes them, which stands from the one line to the other.
+/// What claims ask of the statement that makes them, which stands from the one line to the other, in the body of a loop that
+/// keeps these windows.
 pub(crate) fn unmet_claims<B: Facts, T: NestTests>(
     judge: &Judge<'_, B, T>,
+    kept: &[&Window],
     stmt: &Stmt,
     begin: u32,
     last: u32,
@@ -228,10 +208,10 @@ pub(crate) fn unmet_claims<B: Facts, T: NestTests>(
     next: &[u32],
 ) -> Result<Option<Flaw>, AllocError>
     requires { begin + lines (statement_of stmt.now) < 2 ^ 32 }
-    ensures { IfOk result (λ flaw. flaw ≡ first_unmet (B.rules judge.now.bounds.now) (T.nests judge.now.tests.now) judge.now.part (flat_map (claim_obligations (outline_in judge.now.outlined.now) (B.rules judge.now.bounds.now) begin last (known_of known.now []) (statement_of stmt.now)) next.now)) }
+    ensures { IfOk result (λ flaw. flaw ≡ first_unmet (B.rules judge.now.bounds.now) (T.nests judge.now.tests.now) judge.now.part (flat_map (claim_obligations (outline_in judge.now.outlined.now) (B.rules judge.now.bounds.now) (windows_of kept.now) begin last (known_of known.now []) (statement_of stmt.now)) next.now)) }
 {
     for claim in next {
-        if let Some(flaw) = unmet_claim(judge, stmt, begin, last, known, *claim)? {
+        if let Some(flaw) = unmet_claim(judge, kept, stmt, begin, last, known, *claim)? {
             return Ok(Some(flaw));
         }
     }

@@ -9,6 +9,7 @@ mod loads;
 mod spans;
 mod stores;
 mod walk;
+mod windows;
 
 pub use crate::context::{Facts, Part};
 pub use walk::first_unmet;

@@ -5,11 +5,11 @@ ghost use Rattle.plan.specs.Lines.{body_line, lines, block_lines};
 ghost use Rattle.plan.specs.Lists.{list_statements};
 ghost use Rattle.plan.specs.Plan.{block, Publish};
 ghost use Rattle.plan.specs.View.{statement_of};
-ghost use Rattle.soundness.specs.Obligations.{block_obligations, claim_obligations, has_symbol, obligation, obligations, within, from_each, Named, Undefined};
+ghost use Rattle.soundness.specs.Obligations.{block_obligations, claim_obligations, has_symbol, obligation, obligations, turn_obligations, within, from_each, Named, Undefined};
 ghost use Rattle.soundness.specs.Shown.{start};
 ghost use Rattle.soundness.specs.Binders.View.{binders_of, grid_binders};
 ghost use Rattle.outline.specs.View.{outline_in, group_in, number_in, plan_in};
-ghost use Rattle.obligations.specs.Context.Around.{known_of};
+ghost use Rattle.obligations.specs.Context.Around.{known_of, windows_of};
 ghost use Rattle.obligations.specs.Around.{IsLine};
 ghost use Rattle.obligations.specs.Asked.{first_unmet};
 
@@ -21,10 +21,12 @@ use crate::context::{
 };
 use crate::loads::is_usable;
 use crate::stores::unmet_store;
+use crate::windows::{kept_of, without};
 use lin::{Lin, Span1, Sym};
 use outline::Outlined;
 use outline::refusals::{Flaw, K};
 use plan::Stmt;
+use plan::certificate::Window;
 use soundness::binders::{Binder, NestTests};
 use std::alloc::{AllocError, Global};
 
@@ -124,21 +126,22 @@ fn unmet_loop<B: Facts, T: NestTests>(
     told(judge.part, K::K2, line, !stands)
 }
 
-/// What a statement that begins at the line asks for.
+/// What a statement that begins at the line asks for, where it is the body of a loop that keeps these windows.
 #[tactic(auto, using(crate::proofs::Unmet::one_apart, crate::proofs::Unmet::alone, crate::proofs::Unmet::nothing, crate::proofs::Unmet::append, crate::proofs::Unmet::stops, crate::proofs::Unmet::goes))]
 #[cycle(walking)]
 fn unmet_in<'a, B: Facts, T: NestTests>(
     judge: &Judge<'_, B, T>,
+    kept: &[&Window],
     stmt: &'a Stmt,
     line: u32,
     known: &Known<'a>,
     updating: &[Nest],
 ) -> Result<Option<Flaw>, AllocError>
     requires { line + lines (statement_of stmt.now) < 2 ^ 32 }
-    ensures { IfOk result (λ flaw. flaw ≡ first_unmet (B.rules judge.now.bounds.now) (T.nests judge.now.tests.now) judge.now.part (obligations (outline_in judge.now.outlined.now) (B.rules judge.now.bounds.now) (statement_of stmt.now) line (known_of known.now updating.now))) }
+    ensures { IfOk result (λ flaw. flaw ≡ first_unmet (B.rules judge.now.bounds.now) (T.nests judge.now.tests.now) judge.now.part (turn_obligations (outline_in judge.now.outlined.now) (B.rules judge.now.bounds.now) (windows_of kept.now) (statement_of stmt.now) line (known_of known.now updating.now))) }
 {
     match stmt {
-        Stmt::Seq(all) => unmet_in_block(judge, all, line, known.in_block(judge)?, updating),
+        Stmt::Seq(all) => unmet_in_block(judge, kept, all, line, known.in_block(judge)?, updating),
         Stmt::For {
             symbol,
             span,
@@ -149,15 +152,17 @@ fn unmet_in<'a, B: Facts, T: NestTests>(
                 return Ok(Some(flaw));
             }
             let inside = known.in_loop(judge, *symbol, span, body)?;
-            unmet_in(judge, body, line + 1, &inside, updating)
+            let kept = kept_of(judge, *symbol, body, line + 1)?;
+            unmet_in(judge, &kept, body, line + 1, &inside, updating)
         }
         Stmt::First { first, later, .. } => {
             let inside = known.in_block(judge)?;
-            if let Some(flaw) = unmet_in(judge, first, line + 1, &inside, updating)? {
+            if let Some(flaw) = unmet_in(judge, &[], first, line + 1, &inside, updating)? {
                 return Ok(Some(flaw));
             }
             unmet_in(
                 judge,
+                &[],
                 later,
                 line + 2 + first.line_count(),
                 &inside,
@@ -166,7 +171,7 @@ fn unmet_in<'a, B: Facts, T: NestTests>(
         }
         Stmt::Guard { low, high, body } => {
             let inside = known.in_guard(judge, low, high)?;
-            unmet_in(judge, body, line + 1, &inside, updating)
+            unmet_in(judge, &[], body, line + 1, &inside, updating)
         }
         _ => unmet_line(judge, stmt, line, known, updating),
     }
@@ -177,6 +182,7 @@ fn unmet_in<'a, B: Facts, T: NestTests>(
 #[cycle(walking)]
 fn unmet_at<'a, B: Facts, T: NestTests>(
     judge: &Judge<'_, B, T>,
+    kept: &[&Window],
     stmt: &'a Stmt,
     begin: u32,
     last: u32,
@@ -185,37 +191,40 @@ fn unmet_at<'a, B: Facts, T: NestTests>(
     next: &[u32],
 ) -> Result<Option<Flaw>, AllocError>
     requires { begin + lines (statement_of stmt.now) < 2 ^ 32 }
-    ensures { IfOk result (λ flaw. flaw ≡ first_unmet (B.rules judge.now.bounds.now) (T.nests judge.now.tests.now) judge.now.part (obligations (outline_in judge.now.outlined.now) (B.rules judge.now.bounds.now) (statement_of stmt.now) begin (within (outline_in judge.now.outlined.now) (B.rules judge.now.bounds.now) (statement_of stmt.now) next.now (known_of known.now updating.now)) ++ flat_map (claim_obligations (outline_in judge.now.outlined.now) (B.rules judge.now.bounds.now) begin last (known_of known.now updating.now) (statement_of stmt.now)) next.now)) }
+    ensures { IfOk result (λ flaw. flaw ≡ first_unmet (B.rules judge.now.bounds.now) (T.nests judge.now.tests.now) judge.now.part (obligations (outline_in judge.now.outlined.now) (B.rules judge.now.bounds.now) (statement_of stmt.now) begin (within (outline_in judge.now.outlined.now) (B.rules judge.now.bounds.now) (statement_of stmt.now) next.now (known_of known.now updating.now)) ++ flat_map (claim_obligations (outline_in judge.now.outlined.now) (B.rules judge.now.bounds.now) (windows_of kept.now) begin last (known_of known.now updating.now) (statement_of stmt.now)) next.now)) }
 {
     let nests = nests_within(judge, stmt, next, &known.own, updating)?;
-    if let Some(flaw) = unmet_in(judge, stmt, begin, known, &nests)? {
+    if let Some(flaw) = unmet_in(judge, &[], stmt, begin, known, &nests)? {
         return Ok(Some(flaw));
     }
-    unmet_claims(judge, stmt, begin, last, known, next)
+    unmet_claims(judge, kept, stmt, begin, last, known, next)
 }
 
-/// What a block's statements ask for, of which the first begins at the line.
+/// What a block's statements ask for, of which the first begins at the line, in a loop that keeps these windows.
 #[cycle(walking)]
 fn unmet_in_block<'a, B: Facts, T: NestTests>(
     judge: &Judge<'_, B, T>,
+    kept: &[&Window],
     all: &'a [Stmt],
     line: u32,
     known: Known<'a>,
     updating: &[Nest],
 ) -> Result<Option<Flaw>, AllocError>
     requires { line + block_lines (block (list_statements all.now)) < 2 ^ 32 }
-    ensures { IfOk result (λ flaw. flaw ≡ first_unmet (B.rules judge.now.bounds.now) (T.nests judge.now.tests.now) judge.now.part (block_obligations (outline_in judge.now.outlined.now) (B.rules judge.now.bounds.now) (block (list_statements all.now)) line (known_of known.entry updating.now))) }
+    ensures { IfOk result (λ flaw. flaw ≡ first_unmet (B.rules judge.now.bounds.now) (T.nests judge.now.tests.now) judge.now.part (block_obligations (outline_in judge.now.outlined.now) (B.rules judge.now.bounds.now) (windows_of kept.now) (block (list_statements all.now)) line (known_of known.entry updating.now))) }
 {
     let mut begin = line;
     let mut known = known;
+    let mut left = without(judge.alloc, &[], kept)?;
     for stmt in all {
         let end = begin + stmt.line_count();
         let last = end.saturating_sub(1);
         let next = judge.outlined.named(judge.alloc, u64::from(last))?;
-        if let Some(flaw) = unmet_at(judge, stmt, begin, last, &known, updating, &next)? {
+        if let Some(flaw) = unmet_at(judge, &left, stmt, begin, last, &known, updating, &next)? {
             return Ok(Some(flaw));
         }
         known = onwards(judge, stmt, &next, known)?;
+        left = without(judge.alloc, &next, &left)?;
         begin = end;
     }
     Ok(None)
@@ -267,5 +276,5 @@ pub fn first_unmet<B: Facts, T: NestTests>(
         claims: Vec::new(alloc),
         own: Vec::new(alloc),
     };
-    unmet_in(&judge, body, line, &known, &[])
+    unmet_in(&judge, &[], body, line, &known, &[])
 }

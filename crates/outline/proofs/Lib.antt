@@ -1,3 +1,5 @@
 pub mod Numerals
 pub mod Noted
 pub mod Ranges
+pub mod Blocks
+pub mod Named

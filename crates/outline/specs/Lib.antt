@@ -4,3 +4,4 @@ pub mod Rooms
 pub mod Claims
 pub mod Forms
 pub mod Flaws
+pub mod Kept

@@ -2,6 +2,7 @@
 #![tactic(auto)]
 
 pub mod forms;
+pub mod kept;
 mod loads;
 mod outline;
 pub mod refusals;

@@ -9,7 +9,7 @@ ghost use Rattle.outline.specs.Rooms.{AreNoted};
 use crate::loads::claim_of as claim_named;
 use crate::rooms::{Room, room_in, rooms_of};
 use crate::source::Source;
-use plan::certificate::{Cert, Claim};
+use plan::certificate::{Cert, Claim, Window};
 use plan::{Group, Places, Plan, Stmt};
 use std::alloc::{AllocError, Global};
 
@@ -53,6 +53,7 @@ impl<'a> Outlined<'a> {
     ghost use Rattle.plan.specs.View.{plan_of, group_of};
     ghost use Rattle.plan.specs.Certificate.Certificate.{certificate_of};
     ghost use Rattle.soundness.specs.Given.{claim_or_none};
+    ghost use Rattle.soundness.specs.Obligations.{is_member};
     ghost use Rattle.outline.specs.Rooms.{places_in};
     ghost use Rattle.outline.specs.View.{plan_in, certificate_in, number_in, group_in, outline_in, buffer_in, claim_held, source_held};
 
@@ -174,6 +175,24 @@ impl<'a> Outlined<'a> {
         ensures { IfOk result (λ claims. claims.items ≡ (outline_in self.now).named line) }
     {
         claims_at(alloc, &self.cert.claims, line)
+    }
+
+    /// Whether a claim is of the statement that ends at a line.
+    #[tactic(auto, using(crate::proofs::Named::is_named))]
+    pub fn is_named(&self, claim: u32, line: u64) -> bool
+        ensures { result ≡ is_member claim ((outline_in self.now).named line) }
+    {
+        match self.claim(claim) {
+            None => false,
+            Some(claim) => claim.line == line,
+        }
+    }
+
+    /// The windows of the certificate, of all groups.
+    pub fn windows(&self) -> &'a [Window]
+        ensures { result.now ≡ (outline_in self.now).windows }
+    {
+        self.cert.windows.as_slice()
     }
 
     /// What a name in a stored expression means.

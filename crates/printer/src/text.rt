@@ -114,13 +114,7 @@ fn gap_typed(operand: bool, next: Token) -> &'static str
 {
     match next {
         Token::Symbol(Symbol::LeftBracket) => " ",
-        Token::Symbol(Symbol::LeftParen) => {
-            if operand {
-                " "
-            } else {
-                ""
-            }
-        }
+        Token::Symbol(Symbol::LeftParen) => { if operand { " " } else { "" } }
         _ => gap_before(next),
     }
 }

@@ -195,10 +195,14 @@ turn_has s x z h l = let e = ends_hold s x z h l in turns_have s x _ _ z refl re
 
 module _ (given : Given) (rules : Rules) (suited : Suited given rules) (bs : List Binder) (s : Symbols) (r : Respects bs s) where
   abbrev no_nests : Nests
-  no_nests = record { is_made = λ ds c from places a. false; is_in_turn = λ ds c a. false }
+  no_nests = record { is_made = λ ds c from places a. false; is_in_turn = λ ds c a. false; is_slid = λ ds w c places a. false; is_held = λ ds w c places a. false }
 
   none_right : AreRightNests given no_nests
-  none_right = record { made = λ ds c from places a t h k. let no : false ≡ true = h in absurd (cc no); in_turn = λ ds c a t h k. let no : false ≡ true = h in absurd (cc no) }
+  none_right = record {
+    made = λ ds c from places a t h k. let no : false ≡ true = h in absurd (cc no);
+    in_turn = λ ds c a t h k. let no : false ≡ true = h in absurd (cc no);
+    slides = λ ds w c places a t h k l. let no : false ≡ true = h in absurd (cc no);
+  }
 
   pub all_inside : (xs ys : List Span1) → are_within rules bs xs ys ≡ true → (p : List ℤ) → LieIn s xs p → LieIn s ys p
   all_inside xs ys h p l = shown_meant given rules no_nests suited none_right (record { code = NotMade; line = 0; binders = bs; wanted = Inside xs ys }) h s r p l

@@ -1,7 +1,9 @@
 pub mod Calls
 pub mod Folds
 pub mod Forms
+pub mod Handing
 pub mod Hist
+pub mod Kept
 pub mod Learned
 pub mod Meant
 pub mod Ongoing
@@ -13,6 +15,7 @@ pub mod Scan
 pub mod ScanMeant
 pub mod Shown
 pub mod Slide
+pub mod Sliding
 pub mod Sound
 pub mod Stored
 pub mod Turns

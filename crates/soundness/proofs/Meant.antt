@@ -13,6 +13,7 @@ use Rattle.plan.specs.declared.stmt.Places.{Places}
 use Rattle.plan.specs.declared.stmt.Kind.{Kind}
 use Rattle.plan.specs.declared.stmt.Pick.{Pick}
 use Rattle.plan.specs.declared.stmt.Pick.TheVariants.{Min, Max}
+use Rattle.plan.specs.declared.certificate.cert.Window.{Window}
 use Rattle.plan.specs.Certificate.Certificate.{Claim}
 use Rattle.plan.specs.Plan.{Index, At, Found, Coordinate, Statement, Seq, For, Let, First, Guard, Alloc, Fetch, Store, Publish, Statements, Empty, Then}
 use Rattle.plan.specs.Symbols.{Symbols, bind, form_value, largest, turns, InRegion}
@@ -22,14 +23,18 @@ use Rattle.plan.specs.Semantics.Actions.{Action, Change, Target, Fixed, fixed, a
 use Rattle.plan.specs.Semantics.Memory.{place_in}
 use Rattle.plan.specs.Semantics.Found.{EachRead, EachTestRead, EachReadOfAll}
 use Rattle.plan.specs.Semantics.Run.{Source, Input, ByClaim, Unknown}
-use Rattle.soundness.specs.Origins.{Given, Reader, Plain, Within, matches, or_same, done_for, answer, target_point, left_variables, left_point, EachTargetRead}
+use Rattle.soundness.specs.Origins.{Given, windowed, Reader, Plain, Within, matches, or_same, done_for, answer, target_point, left_variables, left_point, EachTargetRead}
 use Rattle.soundness.specs.Claims.{In, function_of, choose_facts, is_updated, handed_on, left, changes, updates, block_updates, writes, written, ClearOf, Fact, Scope, buffer_of, status_after, InForce, SourceMayUse, MayUse, Earlier, Before, stable, keep, new_fact, more_rooms, onward, turn_symbols, in_turn, IsMade, AreMade, IsSoundAction, IsSound, IsSoundBlock}
-use Rattle.soundness.specs.Obligations.{Lies, LieIn, exactly, Respects, Buffer, Updating, Known, Rules, NotClaimed, NotMade, OutOfOrder, Named, Inside, InTurn, Obligation, is_member, places_of, span_has, binder_has, places_have, is_free, is_next, region_of, has_symbol, obligation, is_left, follows, nests_of, within, in_guard, in_block, in_loop, more_buffers, onwards, from_each, picked, seated, is_usable, serves, may_load, index_met, met, load_obligations, intervals, loads, loads_of_test, loads_of_all, index_span, variable_span, index_place, target_span, index_loads, coordinate_loads, claimed, store_obligations, made, store_line, earlier_obligations, claim_obligations, obligations, block_obligations, AreInTurn, begun, MeantAt, Meant, AllMeant, Suited, form_has, has_form, is_form, is_covered_line, is_covered, is_covered_block}
+use Rattle.soundness.specs.Around.{Lies, LieIn, Passed, picked, Respects, inside}
+use Rattle.soundness.specs.Obligations.{exactly, Buffer, Updating, Known, Rules, NotClaimed, NotMade, OutOfOrder, Named, Inside, InTurn, Obligation, is_member, window_of, without, kept_of, places_of, span_has, binder_has, places_have, is_free, is_next, region_of, has_symbol, obligation, is_left, follows, nests_of, within, in_guard, in_block, in_loop, more_buffers, onwards, from_each, seated, is_usable, serves, may_load, index_met, met, load_obligations, intervals, loads, loads_of_test, loads_of_all, index_span, variable_span, index_place, target_span, index_loads, coordinate_loads, claimed, store_obligations, made, slid, held, store_line, earlier_obligations, making_obligations, claim_obligations, turn_obligations, block_obligations, AreInTurn, begun, MeantAt, Meant, AllMeant, Suited, form_has, has_form, is_form, is_covered_line, is_covered, is_covered_block}
+use Rattle.soundness.specs.Handed.{IsHandedOn}
 use Rattle.soundness.proofs.Refines.{eq_true, eq_refl, name_true, number_refl, and_parts}
 use Rattle.soundness.proofs.Updates.{target_matches}
 use Rattle.soundness.proofs.Ongoing.{OnlySteps, only_steps, status_spared, turn_first, turn_rest, force_right, force_before, force_chosen, force_stable, force_keep, rooms_stay, force_left, some_before, turns_with}
 use Rattle.soundness.proofs.Sound.{or_left, or_right, leaves, writing}
 use Rattle.soundness.proofs.Turns.{in_append, in_flat, in_map}
+use Rattle.soundness.proofs.Kept.{in_filtered, member_of, claim_handed, rest_awaited, AreAwaited, AwaitedIn, none_awaited, AreCarried, first_carried, one_turn}
+use Rattle.soundness.proofs.Sliding.{sliding_is_made}
 use Rattle.soundness.proofs.Forms.{is_not, rec_left, rec_right, region_lies, lies_region, turn_lies, point_lies, lie_in_back, lies_on, picked_same, respects_on, rooms_same, none_of, filter_member, member_left, member_right, member_filter, pick_one}
 
 le_true : (a b : ℤ) → int_le a b ≡ true → a ≤ℤ b
@@ -475,15 +480,35 @@ module _ (given : Given) (rules : Rules) where
     covers = λ p r. covers_at first last known sc a c p st r (updates given.outline.setting a (given.outline.claim c).buffer (given.outline.claim c).function) (m p r).0 h;
   }
 
-  made_all : (first last : ℕ) (known : Known) (sc : Scope) (a : Statement) (cs : List ℕ) → Stands known sc → AllMeant given (flat_map (claim_obligations given.outline rules first last known a) cs) → AreMade given cs (actions given.outline.setting a sc.symbols) sc
-  made_all first last known sc a [] st h = tt
-  made_all first last known sc a (c ∷ cs) st h =
+  -- or it is made along a window, of what the turn before left
+  slid_from : (w : Window) (known : Known) (sc : Scope) (a : Statement) (c : ℕ) (o : Option (List Places)) → places_of known.buffers (given.outline.claim c).buffer ≡ o → Stands known sc →
+      writes given.outline.setting a (given.outline.claim c).buffer (given.outline.claim c).function ≡ true → IsHandedOn given w.symbol (inside w.symbol known.binders) c sc →
+      MeantAt given (held given.outline rules o w known.binders c a) sc.symbols → IsMade given c (actions given.outline.setting a sc.symbols) sc
+  slid_from w known sc a c None e st h handed m = absurd (cc m)
+  slid_from w known sc a c (Some places) e st h handed m =
+      sliding_is_made given w.symbol (inside w.symbol known.binders) c places a sc (m st.respects) handed (st.rooms (given.outline.claim c).buffer places e)
+      (writing given.outline.setting a sc.symbols (given.outline.claim c).buffer (given.outline.claim c).function h)
+
+  made_one : (first last : ℕ) (known : Known) (sc : Scope) (a : Statement) (c : ℕ) (o : Option Window) → Stands known sc →
+      writes given.outline.setting a (given.outline.claim c).buffer (given.outline.claim c).function ≡ true →
+      ((w : Window) → o ≡ Some w → IsHandedOn given w.symbol (inside w.symbol known.binders) c sc) →
+      AllMeant given (making_obligations given.outline rules o known a c ++ earlier_obligations given.outline rules first last known a c) →
+      IsMade given c (actions given.outline.setting a sc.symbols) sc
+  made_one first last known sc a c None st w handed h = made_from first last known sc a c (places_of known.buffers (given.outline.claim c).buffer) refl st w (h.0 sc.symbols st.respects) h.1
+  made_one first last known sc a c (Some along) st w handed h =
+      slid_from along known sc a c (places_of known.buffers (given.outline.claim c).buffer) refl st w (handed along refl) (h.1.0 sc.symbols st.respects)
+
+  made_all : (kept : List Window) (first last : ℕ) (known : Known) (sc : Scope) (a : Statement) (cs : List ℕ) → Stands known sc →
+      ((c : ℕ) → In c cs → (w : Window) → window_of kept c ≡ Some w → IsHandedOn given w.symbol (inside w.symbol known.binders) c sc) →
+      AllMeant given (flat_map (claim_obligations given.outline rules kept first last known a) cs) → AreMade given cs (actions given.outline.setting a sc.symbols) sc
+  made_all kept first last known sc a [] st handed h = tt
+  made_all kept first last known sc a (c ∷ cs) st handed h =
       let P = Meant given in
-      let xs = claim_obligations given.outline rules first last known a c in
-      let ys = flat_map (claim_obligations given.outline rules first last known a) cs in
+      let xs = claim_obligations given.outline rules kept first last known a c in
+      let ys = flat_map (claim_obligations given.outline rules kept first last known a) cs in
       let one = rec_left P xs ys h in (
-        made_from first last known sc a c (places_of known.buffers (given.outline.claim c).buffer) refl st (one.0 sc.symbols st.respects) (one.1.0 sc.symbols st.respects) one.1.1,
-        made_all first last known sc a cs st (rec_right P xs ys h),
+        made_one first last known sc a c (window_of kept c) st (one.0 sc.symbols st.respects) (handed c (inl refl)) one.1,
+        made_all kept first last known sc a cs st (λ d m. handed d (inr m)) (rec_right P xs ys h),
       )
 
   -- ---- from statement to statement
@@ -690,24 +715,6 @@ module _ (given : Given) (rules : Rules) where
         in_turn = turn_rest given c.buffer c.function c.definition on.done todo more on.in_turn;
       }
 
-  member_of : (d : ℕ) (ds : List ℕ) → In d ds → is_member d ds ≡ true
-  member_of d [] m = absurd m
-  member_of d (e ∷ ds) (inl same) = let is : (e == d) ≡ true = ap (λ n. n == d) (sym same) ∙ eq_refl d in rw is refl
-  member_of d (e ∷ ds) (inr m) = more (e == d) (member_of d ds m)
-    where
-      more : (v : Bool) → is_member d ds ≡ true → (v || is_member d ds) ≡ true
-      more true k = refl
-      more false k = k
-
-  in_filtered : {A : Type 0} (test : A → Bool) (x : A) (xs : List A) → In x (filter test xs) → In x xs × (test x ≡ true)
-  in_filtered test x [] m = absurd m
-  in_filtered test x (y ∷ ys) m = of (test y) refl m (in_filtered test x ys)
-    where
-      of : (v : Bool) → test y ≡ v → In x (if v then y ∷ filter test ys else filter test ys) → (In x (filter test ys) → In x ys × (test x ≡ true)) → In x (y ∷ ys) × (test x ≡ true)
-      of true t (inl e) rest = (inl e, ap test e ∙ t)
-      of true t (inr n) rest = let k = rest n in (inr k.0, k.1)
-      of false t n rest = let k = rest n in (inr k.0, k.1)
-
   meant_flat : {A : Type 0} (g : A → List Obligation) (x : A) (xs : List A) → In x xs → AllMeant given (flat_map g xs) → AllMeant given (g x)
   meant_flat g x [] m h = absurd m
   meant_flat g x (y ∷ ys) (inl e) h = subst (λ z. AllMeant given (g z)) (sym e) (rec_left (Meant given) (g y) (flat_map g ys) h)
@@ -722,6 +729,20 @@ module _ (given : Given) (rules : Rules) where
   has_room b c a known sc None e st m = absurd (cc m)
   has_room b c a known sc (Some places) e st m = let P : Option (List Room) → Type 0 = λ r. IsSome r in subst P (sym (st.rooms b places e)) refl
 
+  has_slid_room : (w : Window) (b : ℕ) (c : ℕ) (a : Statement) (known : Known) (sc : Scope) (o : Option (List Places)) → places_of known.buffers b ≡ o → Stands known sc →
+      MeantAt given (slid given.outline rules o w c a) sc.symbols → IsSome (sc.rooms b)
+  has_slid_room w b c a known sc None e st m = absurd (cc m)
+  has_slid_room w b c a known sc (Some places) e st m = let P : Option (List Room) → Type 0 = λ r. IsSome r in subst P (sym (st.rooms b places e)) refl
+
+  -- what is made has a buffer, whether along a window or not
+  making_room : (known : Known) (sc : Scope) (a : Statement) (c : ℕ) (o : Option Window) (more : List Obligation) → Stands known sc →
+      AllMeant given (making_obligations given.outline rules o known a c ++ more) →
+      IsSome (sc.rooms (given.outline.claim c).buffer) × AllMeant given more
+  making_room known sc a c None more st h =
+      (has_room (given.outline.claim c).buffer c a known sc (places_of known.buffers (given.outline.claim c).buffer) refl st (h.0 sc.symbols st.respects), h.1)
+  making_room known sc a c (Some w) more st h =
+      (has_slid_room w (given.outline.claim c).buffer c a known sc (places_of known.buffers (given.outline.claim c).buffer) refl st (h.0 sc.symbols st.respects), h.1.1)
+
   -- the obligations of a claim that goes on from the definition before
   earlier_meant : (first last : ℕ) (known : Known) (a : Statement) (c : ℕ) → (v : Bool) → v ≡ true →
       AllMeant given (if v then
@@ -735,9 +756,10 @@ module _ (given : Given) (rules : Rules) where
   earlier_meant first last known a c false e h = absurd (cc e)
 
   -- at the beginning of a nest all is as the claim before says
-  begins : (first last : ℕ) (known : Known) (sc : Scope) (a : Statement) (next : List ℕ) → Stands known sc → AllMeant given (flat_map (claim_obligations given.outline rules first last known a) next) →
+  begins : (kept : List Window) (first last : ℕ) (known : Known) (sc : Scope) (a : Statement) (next : List ℕ) → Stands known sc →
+      AllMeant given (flat_map (claim_obligations given.outline rules kept first last known a) next) →
       (u : Updating) → In u (nests_of given.outline rules a next known.own) → IsOngoing a u sc
-  begins first last known sc a next st h u m =
+  begins kept first last known sc a next st h u m =
       let one = in_flat (λ c. map (λ d. record { before = d; next = c }) (filter (λ d. follows given.outline rules d c) known.own)) u
       (filter (λ c. updates given.outline.setting a (given.outline.claim c).buffer (given.outline.claim c).function) next) m in
       let c : ℕ = one.0 in
@@ -757,14 +779,15 @@ module _ (given : Given) (rules : Rules) where
           let en = next_parts (given.outline.claim d).definition (given.outline.claim c).definition names.1 in
           let steps : given.steps (given.outline.claim d).function (given.outline.claim d).definition ≡ given.steps (given.outline.claim c).function ((given.outline.claim c).definition - 1) =
           ap (λ f. given.steps f (given.outline.claim d).definition) ef ∙ ap (given.steps (given.outline.claim c).function) (sym en) in
-          let own = meant_flat (claim_obligations given.outline rules first last known a) c next mc.0 h in
-          let earlier = earlier_meant first last known a c (updates given.outline.setting a (given.outline.claim c).buffer (given.outline.claim c).function) mc.1 own.1.1 in
+          let own = meant_flat (claim_obligations given.outline rules kept first last known a) c next mc.0 h in
+          let making = making_room known sc a c (window_of kept c) (earlier_obligations given.outline rules first last known a c) st own.1 in
+          let earlier = earlier_meant first last known a c (updates given.outline.setting a (given.outline.claim c).buffer (given.outline.claim c).function) mc.1 making.1 in
           let inside = meant_map (λ d. obligation given.outline rules NotMade (rules.claim_line c) known (Inside (region_of given.outline rules c) (region_of given.outline rules d))) d (filter (λ d. follows given.outline rules d c) known.own) chosen earlier.1 in (
             mc.1,
             record {
               buffer = eb;
               function = ef;
-              room = has_room (given.outline.claim c).buffer c a known sc (places_of known.buffers (given.outline.claim c).buffer) refl st (own.1.0 sc.symbols st.respects);
+              room = making.0;
               done = λ p. Some (given.steps (given.outline.claim c).function ((given.outline.claim c).definition - 1));
               in_force = λ p n near e.
                   let number : given.steps (given.outline.claim c).function ((given.outline.claim c).definition - 1) ≡ n = some_same _ n e in
@@ -790,11 +813,11 @@ module _ (given : Given) (rules : Rules) where
       (u : Updating) → In u known.updating →
       (block_updates given.outline.setting row (given.outline.claim u.next).buffer (given.outline.claim u.next).function ≡ true) × Ongoing u (block_actions given.outline.setting row sc.symbols) sc.symbols sc.rooms sc.facts
 
-  first_on : (line last : ℕ) (known : Known) (sc : Scope) (a : Statement) (rest : Statements) → Stands known sc → BlockIsOngoing (Then a rest) known sc →
-      AllMeant given (flat_map (claim_obligations given.outline rules line last known a) (given.outline.named last)) →
+  first_on : (kept : List Window) (line last : ℕ) (known : Known) (sc : Scope) (a : Statement) (rest : Statements) → Stands known sc → BlockIsOngoing (Then a rest) known sc →
+      AllMeant given (flat_map (claim_obligations given.outline rules kept line last known a) (given.outline.named last)) →
       (u : Updating) → In u (nests_of given.outline rules a (given.outline.named last) known.own) ⊎ In u known.updating → IsOngoing a u sc
-  first_on line last known sc a rest st on h u (inl m) = begins line last known sc a (given.outline.named last) st h u m
-  first_on line last known sc a rest st on h u (inr m) =
+  first_on kept line last known sc a rest st on h u (inl m) = begins kept line last known sc a (given.outline.named last) st h u m
+  first_on kept line last known sc a rest st on h u (inr m) =
       let k = on u m in
       let c = given.outline.claim u.next in (
         (and_parts (updates given.outline.setting a c.buffer c.function) (block_updates given.outline.setting rest c.buffer c.function) k.0).0,
@@ -916,8 +939,8 @@ module _ (given : Given) (rules : Rules) where
         of : (p : List ℤ) (m n : ℕ) → (v : Bool) → changes body c.buffer ≡ v → Handed v carried (stable given body sc.facts) u.before p m → status_after given c.buffer p todo (Some m) ≡ Some n →
             Handed v (handed_on given i body (left given body (line + 1) inner)) (stable given body sc.facts) u.before p n
         of p m n true e k on =
-            force_chosen given (λ h. given.outline.windowed i h.claim || is_updated given body h) u.before p n (left given body (line + 1) inner)
-            (λ h same. or_is (given.outline.windowed i h.claim) (is_updated given body h) (updated u body h eb ef e only same))
+            force_chosen given (λ h. windowed given.outline i h.claim || is_updated given body h) u.before p n (left given body (line + 1) inner)
+            (λ h same. or_is (windowed given.outline i h.claim) (is_updated given body h) (updated u body h eb ef e only same))
             (force_left given u.before c.buffer c.function eb ef body (line + 1) inner p m n only has (force_before given u.before p m carried (stable given body sc.facts) k) on)
         of p m n false e k on =
             let same : Some m ≡ Some n = sym (status_spared given c.buffer p todo (Some m) (leaves given.outline.setting body s c.buffer e)) ∙ on in
@@ -950,7 +973,8 @@ module _ (given : Given) (rules : Rules) where
       (or_both h2 (h3 || h4) (or_left h2 (h3 || all) r1)
       (or_both h3 h4 (or_left h3 all r2) (any_right test (nests_of given.outline rules a next known.own) known.updating (or_right h3 all r2)))))
 
-  is_new : (a : Statement) (line : ℕ) (next : List ℕ) (known : Known) (sc : Scope) → Stands known sc → AllMeant given (obligations given.outline rules a line (within given.outline rules a next known)) → IsNew a known
+  is_new : (a : Statement) (line : ℕ) (next : List ℕ) (known : Known) (sc : Scope) → Stands known sc →
+      AllMeant given (turn_obligations given.outline rules [] a line (within given.outline rules a next known)) → IsNew a known
   is_new (Let i pick ls) line next known sc st h = new_before i (from_each ls) (Let i pick ls) next known (is_not _ (h.0 sc.symbols st.respects))
   is_new (Seq all) line next known sc st h = tt
   is_new (For i x kind body) line next known sc st h = tt
@@ -963,53 +987,68 @@ module _ (given : Given) (rules : Rules) where
 
   module _ (suited : Suited given rules) where
     mutual
-      pub sound_where : (a : Statement) (line : ℕ) (known : Known) (sc : Scope) → is_covered given.outline.setting a ≡ true → Stands known sc → AreOngoing a known sc → AllMeant given (obligations given.outline rules a line known) → IsSound given a line sc
-      sound_where (Seq all) line known sc pure st on h = block_sound_where all line (in_block given.outline rules known) sc pure (block_stands known sc st) on h
-      sound_where (For i x kind body) line known sc pure st on h =
+      pub sound_where : (kept : List Window) (a : Statement) (line : ℕ) (known : Known) (sc : Scope) → is_covered given.outline.setting a ≡ true → Stands known sc → AreOngoing a known sc →
+          AwaitedIn given rules kept a line known.binders sc → AllMeant given (turn_obligations given.outline rules kept a line known) → IsSound given a line sc
+      sound_where kept (Seq all) line known sc pure st on kept_on h = block_sound_where kept all line (in_block given.outline rules known) sc pure (block_stands known sc st) on kept_on h
+      sound_where kept (For i x kind body) line known sc pure st on kept_on h =
           let new = is_not _ (h.0 sc.symbols st.respects) in
           turns_with
           (λ z c. IsSound given body (line + 1) (in_turn given (turn_symbols given sc.symbols i (largest sc.symbols x.lower) z) body sc c))
           (λ z c. handed_on given i body (left given body (line + 1) (in_turn given (turn_symbols given sc.symbols i (largest sc.symbols x.lower) z) body sc c)))
-          (λ c zs. (u : Updating) → In u known.updating → Turning i x body sc u c zs) (turns sc.symbols x) (choose_facts (is_updated given body) sc.facts)
-          (λ u m. turning_begins i x kind body sc u (on u m)) (λ z m rest c t. (
-            sound_where body (line + 1) (in_loop given.outline rules i x body known) (in_turn given (turn_symbols given sc.symbols i (largest sc.symbols x.lower) z) body sc c) pure
-                (turn_stands i x body known sc z c new st m) (λ u n. turning_now i x body known sc u c z rest new n (on u n).0 (on u n).1.buffer (on u n).1.function (on u n).1.room (t u n)) h.1,
-            (λ u n. turning_on i x body line sc u c z rest (on u n).0 (on u n).1.buffer (on u n).1.function (on u n).1.room (t u n)),
+          (λ c zs. ((u : Updating) → In u known.updating → Turning i x body sc u c zs) × AreCarried given rules i x known.binders sc body (line + 1) c zs) (turns sc.symbols x)
+          (choose_facts (is_updated given body) sc.facts)
+          ((λ u m. turning_begins i x kind body sc u (on u m)), first_carried given rules i x known.binders sc body (line + 1) (choose_facts (is_updated given body) sc.facts)) (λ z m rest c t.
+          let turn = one_turn given rules i x known.binders sc body (line + 1) z rest c t.1 in (
+            sound_where (kept_of given.outline rules i body (line + 1)) body (line + 1) (in_loop given.outline rules i x body known)
+                (in_turn given (turn_symbols given sc.symbols i (largest sc.symbols x.lower) z) body sc c) pure
+                (turn_stands i x body known sc z c new st m)
+                (λ u n. turning_now i x body known sc u c z rest new n (on u n).0 (on u n).1.buffer (on u n).1.function (on u n).1.room (t.0 u n)) turn.awaited h.1,
+            ((λ u n. turning_on i x body line sc u c z rest (on u n).0 (on u n).1.buffer (on u n).1.function (on u n).1.room (t.0 u n)), turn.next),
           ))
-      sound_where (Let i pick ls) line known sc pure st on h = tt
-      sound_where (First i a b) line known sc pure st on h =
+      sound_where kept (Let i pick ls) line known sc pure st on kept_on h = tt
+      sound_where kept (First i a b) line known sc pure st on kept_on h =
           let P = Meant given in
           let inner = in_block given.outline rules known in
           let both = and_parts (is_covered given.outline.setting a) (is_covered given.outline.setting b) pure in
-          let xs = obligations given.outline rules a (line + 1) inner in
-          let ys = obligations given.outline rules b (line + 2 + lines a) inner in (
-            (λ e. sound_where a (line + 1) inner sc both.0 (block_stands known sc st) (λ u m. in_first true i a b u sc e (on u m)) (rec_left P xs ys h)),
-            (λ e. sound_where b (line + 2 + lines a) inner sc both.1 (block_stands known sc st) (λ u m. in_first false i a b u sc e (on u m)) (rec_right P xs ys h)),
+          let xs = turn_obligations given.outline rules [] a (line + 1) inner in
+          let ys = turn_obligations given.outline rules [] b (line + 2 + lines a) inner in (
+            (λ e. sound_where [] a (line + 1) inner sc both.0 (block_stands known sc st) (λ u m. in_first true i a b u sc e (on u m))
+                (none_awaited given rules a (line + 1) known.binders sc) (rec_left P xs ys h)),
+            (λ e. sound_where [] b (line + 2 + lines a) inner sc both.1 (block_stands known sc st) (λ u m. in_first false i a b u sc e (on u m))
+                (none_awaited given rules b (line + 2 + lines a) known.binders sc) (rec_right P xs ys h)),
           )
-      sound_where (Guard low high body) line known sc pure st on h =
-          λ e. sound_where body (line + 1) (in_guard given.outline rules low high known) sc pure
-          (record { respects = (le_true (form_value low sc.symbols) (form_value high sc.symbols) e, st.respects); rooms = st.rooms; free = st.free; claims = st.claims; own = λ c n. absurd (cc n) }) (λ u m. in_guard_on low high body u sc e (on u m)) h
-      sound_where (Alloc b f places) line known sc pure st on h = st.free b (free_none (places_of known.buffers b) (h.0 sc.symbols st.respects))
-      sound_where (Fetch b g region) line known sc pure st on h =
+      sound_where kept (Guard low high body) line known sc pure st on kept_on h =
+          λ e. sound_where [] body (line + 1) (in_guard given.outline rules low high known) sc pure
+          (record { respects = (le_true (form_value low sc.symbols) (form_value high sc.symbols) e, st.respects); rooms = st.rooms; free = st.free; claims = st.claims; own = λ c n. absurd (cc n) })
+          (λ u m. in_guard_on low high body u sc e (on u m)) (none_awaited given rules body (line + 1) (Passed low high ∷ known.binders) sc) h
+      sound_where kept (Alloc b f places) line known sc pure st on kept_on h = st.free b (free_none (places_of known.buffers b) (h.0 sc.symbols st.respects))
+      sound_where kept (Fetch b g region) line known sc pure st on kept_on h =
           λ p m. seated_at b region p known sc (places_of known.buffers b) refl st (h.0 sc.symbols st.respects) (point_lies sc.symbols region p m)
-      sound_where (Store b k at e) line known sc pure st on h =
+      sound_where kept (Store b k at e) line known sc pure st on kept_on h =
           let n = given.outline.setting.dimensions b in
           store_at suited line known sc b (given.outline.setting.buffer_function b) k (take n at) (drop n at) (map (λ c. c.variable) at) e (ap (map (λ c. c.variable)) (sym (take-append-drop n at))) pure st (λ u m. (on u m).1) h
-      sound_where (Publish c) line known sc pure st on h =
+      sound_where kept (Publish c) line known sc pure st on kept_on h =
           λ p m. usable suited known sc c p st (h.0 sc.symbols st.respects) (lies_region sc.symbols (spans c) p (h.1.0 sc.symbols st.respects p (suited.owned sc.symbols p m)))
 
-      pub block_sound_where : (row : Statements) → (line : ℕ) (known : Known) (sc : Scope) → is_covered_block given.outline.setting row ≡ true → Stands known sc → BlockIsOngoing row known sc → AllMeant given (block_obligations given.outline rules row line known) → IsSoundBlock given row line sc
-      block_sound_where Empty line known sc pure st on h = tt
-      block_sound_where (Then a rest) line known sc pure st on h =
+      pub block_sound_where : (kept : List Window) (row : Statements) → (line : ℕ) (known : Known) (sc : Scope) → is_covered_block given.outline.setting row ≡ true → Stands known sc →
+          BlockIsOngoing row known sc → AreAwaited given rules kept row line known.binders sc →
+          AllMeant given (block_obligations given.outline rules kept row line known) → IsSoundBlock given row line sc
+      block_sound_where kept Empty line known sc pure st on kept_on h = tt
+      block_sound_where kept (Then a rest) line known sc pure st on kept_on h =
           let P = Meant given in
           let last = line + lines a - 1 in
+          let named = given.outline.named last in
           let both = and_parts (is_covered given.outline.setting a) (is_covered_block given.outline.setting rest) pure in
-          let xs = obligations given.outline rules a line (within given.outline rules a (given.outline.named last) known) in
-          let ys = flat_map (claim_obligations given.outline rules line last known a) (given.outline.named last) in
-          let zs = block_obligations given.outline rules rest (line + lines a) (onwards given.outline rules a (given.outline.named last) known) in (
-            sound_where a line (within given.outline rules a (given.outline.named last) known) sc both.0 (within_stands a (given.outline.named last) known sc st)
-                (λ u m. first_on line last known sc a rest st on (rec_left P ys zs (rec_right P xs (ys ++ zs) h)) u (in_append u (nests_of given.outline rules a (given.outline.named last) known.own) known.updating m)) (rec_left P xs (ys ++ zs) h),
-            made_all line last known sc a (given.outline.named last) st (rec_left P ys zs (rec_right P xs (ys ++ zs) h)),
-            block_sound_where rest (line + lines a) (onwards given.outline rules a (given.outline.named last) known) (onward given a line sc) both.1 (onward_stands a line known sc (is_new a line (given.outline.named last) known sc st (rec_left P xs (ys ++ zs) h)) st)
-                (λ u m. rest_on u a rest line known sc (is_new a line (given.outline.named last) known sc st (rec_left P xs (ys ++ zs) h)) m (on u m)) (rec_right P ys zs (rec_right P xs (ys ++ zs) h)),
+          let xs = turn_obligations given.outline rules [] a line (within given.outline rules a named known) in
+          let ys = flat_map (claim_obligations given.outline rules kept line last known a) named in
+          let zs = block_obligations given.outline rules (without named kept) rest (line + lines a) (onwards given.outline rules a named known) in
+          let here = rec_left P xs (ys ++ zs) h in
+          let claims = rec_left P ys zs (rec_right P xs (ys ++ zs) h) in
+          let new = is_new a line named known sc st here in (
+            sound_where [] a line (within given.outline rules a named known) sc both.0 (within_stands a named known sc st)
+                (λ u m. first_on kept line last known sc a rest st on claims u (in_append u (nests_of given.outline rules a named known.own) known.updating m))
+                (none_awaited given rules a line known.binders sc) here,
+            made_all kept line last known sc a named st (claim_handed given rules kept a rest line known.binders sc kept_on) claims,
+            block_sound_where (without named kept) rest (line + lines a) (onwards given.outline rules a named known) (onward given a line sc) both.1 (onward_stands a line known sc new st)
+                (λ u m. rest_on u a rest line known sc new m (on u m)) (rest_awaited given rules kept a rest line known.binders sc kept_on) (rec_right P ys zs (rec_right P xs (ys ++ zs) h)),
           )

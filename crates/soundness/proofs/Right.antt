@@ -196,4 +196,5 @@ pub plain_nests_right : PlainNestsAreRight
 plain_nests_right given rules domain suited counts = record {
   made = λ bs c from places a s h r. nest_made given rules domain suited counts bs s r (given.outline.claim c) (nest_of a (given.outline.claim c).buffer) from places (actions given.outline.setting a) (nest_visits given.outline.setting (given.outline.claim c).buffer a) h;
   in_turn = λ bs c a s h r. nest_turn given rules domain suited counts bs s r (given.outline.claim c) (nest_of a (given.outline.claim c).buffer) (actions given.outline.setting a) (nest_visits given.outline.setting (given.outline.claim c).buffer a) h;
+  slides = λ bs w c places a s h k r. let no : false ≡ true = h in absurd (cc no);
 }

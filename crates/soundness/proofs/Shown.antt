@@ -14,11 +14,12 @@ use Rattle.plan.specs.Symbols.{Symbols, form_value}
 use Rattle.plan.specs.Rooms.{room, seat, place}
 use Rattle.soundness.specs.Origins.{Given}
 use Rattle.soundness.specs.Right.{at_start}
-use Rattle.soundness.specs.Obligations.{Lies, LieIn, Binder, Respects, Rules, Wanted, Named, Seated, Inside, Made, InTurn, Obligation, MeantAt, Meant, AllMeant, Suited, obligations}
+use Rattle.soundness.specs.Obligations.{Lies, LieIn, Binder, Respects, Rules, Wanted, Named, Seated, Inside, Made, InTurn, Slid, Held, Obligation, MeantAt, Meant, AllMeant, Suited, obligations}
 use Rattle.soundness.specs.Shown.{raised, is_within, are_within, is_seated, are_seated, Nests, AreRightNests, shows, is_shown, all_shown, start, MeantIsSound, ShownIsMeant, ShownIsSound}
 use Rattle.soundness.proofs.Refines.{and_parts}
 use Rattle.soundness.proofs.Sound.{or_cases}
 use Rattle.soundness.proofs.Turns.{below_has, joined_some}
+use Rattle.soundness.proofs.Kept.{none_awaited}
 use Rattle.soundness.proofs.Meant.{sound_where}
 
 rem_low : (z : ℤ) (n : ℕ) → nat_lt 0 n ≡ true → pos 0 ≤ℤ int_rem_euclid z (pos n)
@@ -97,6 +98,9 @@ module _ (given : Given) (rules : Rules) (nests : Nests) (suited : Suited given 
   shows_meant bs (Inside xs ys) h s r = all_within rules bs s (λ a b k. suited.ordered bs a b s k r) xs ys h
   shows_meant bs (Made c from places a) h s r = right.made bs c from places a s h r
   shows_meant bs (InTurn c a) h s r = right.in_turn bs c a s h r
+  shows_meant bs (Slid w c places a) h s r = tt
+  shows_meant bs (Held w around c places a) h s r =
+      λ t. let k = and_parts (nests.is_slid around w c places a) (nests.is_held around w c places a) h in right.slides around w c places a s k.0 k.1 t
 
   pub shown_meant : (o : Obligation) → is_shown rules nests o ≡ true → Meant given o
   shown_meant o h = shows_meant o.binders o.wanted h
@@ -109,8 +113,8 @@ module _ (given : Given) (rules : Rules) (nests : Nests) (suited : Suited given 
 
 pub meant_is_sound : MeantIsSound
 meant_is_sound given rules body line grid s suited pure h r =
-    sound_where given rules suited body line (start grid) (at_start s) pure
-    (record { respects = r; rooms = λ b places e. absurd (cc e); free = λ b e. refl; claims = λ c n. absurd (cc n); own = λ c n. absurd (cc n) }) (λ u m. absurd m) h
+    sound_where given rules suited [] body line (start grid) (at_start s) pure
+    (record { respects = r; rooms = λ b places e. absurd (cc e); free = λ b e. refl; claims = λ c n. absurd (cc n); own = λ c n. absurd (cc n) }) (λ u m. absurd m) (none_awaited given rules body line grid (at_start s)) h
 
 pub shown_is_meant : ShownIsMeant
 shown_is_meant given rules nests os suited right h = all_shown_meant given rules nests suited right os h

@@ -10,7 +10,7 @@ use Rattle.plan.specs.Symbols.{Symbols, bind, clipped, smallest, rising, turns, 
 use Rattle.plan.specs.Rooms.{Room, place}
 use Rattle.plan.specs.Semantics.Actions.{Setting, Action, Allot, Take, Put, Change, Give, actions}
 use Rattle.plan.specs.Semantics.Memory.{place_in}
-use Rattle.soundness.specs.Origins.{Given}
+use Rattle.soundness.specs.Origins.{Given, windowed}
 use Rattle.soundness.specs.Claims.{In, written, WritesOnly, EachTurn, Fact, Scope, choose_facts, status_after, changes, stable, keep, advanced, is_written, is_updated, handed_on, left, in_turn, turn_symbols, IsSound, buffer_of, function_of, InFactRegion, InForce, Earlier, Before, IsMade}
 use Rattle.soundness.proofs.Learned.{point_refl}
 use Rattle.soundness.proofs.Turns.{each_turn}
@@ -163,8 +163,8 @@ module _ (given : Given) where
       in_append_right h (map (advanced given todo rooms) (choose_facts (is_written given a) hs)) (stable given a hs) (stable_has a h hs m e)
 
   -- a window's fact is handed on
-  pub handed_has : (i : ℕ) (body : Statement) (h : Fact) (hs : List Fact) → In h hs → given.outline.windowed i h.claim ≡ true → In h (handed_on given i body hs)
-  handed_has i body h hs m e = in_chosen (λ k. given.outline.windowed i k.claim || is_updated given body k) h hs m (ap (λ v. v || is_updated given body h) e)
+  pub handed_has : (i : ℕ) (body : Statement) (h : Fact) (hs : List Fact) → In h hs → windowed given.outline i h.claim ≡ true → In h (handed_on given i body hs)
+  handed_has i body h hs m e = in_chosen (λ k. windowed given.outline i k.claim || is_updated given body k) h hs m (ap (λ v. v || is_updated given body h) e)
 
   -- a loop whose turns need nothing of one another
   pub loop_sound : (i : ℕ) (x : Span1) (kind : Kind) (body : Statement) (line : ℕ) (sc : Scope) →

@@ -9,7 +9,7 @@ use Rattle.plan.specs.Semantics.Actions.{Setting, Action, Allot, Take, Put, Chan
 use Rattle.plan.specs.Semantics.Memory.{place_in}
 use Rattle.plan.specs.Semantics.Found.{EachRead}
 use Rattle.plan.specs.Semantics.Run.{Source, Input, ByClaim, Unknown}
-use Rattle.soundness.specs.Origins.{Given, Reader, Plain, Within, matches, done_for, answer, left_point, left_variables, right_variables, EachTargetRead}
+use Rattle.soundness.specs.Origins.{Given, windowed, Reader, Plain, Within, matches, done_for, answer, left_point, left_variables, right_variables, EachTargetRead}
 
 -- a member of a list
 abbrev pub In : {A : Type 0} → A → List A → Type 0
@@ -253,7 +253,7 @@ module _ (given : Given) where
 
   -- what a turn hands on to the next: the claims of the loop's windows, and those that the loop updates
   abbrev pub handed_on : ℕ → Statement → List Fact → List Fact
-  handed_on i body hs = choose_facts (λ h. given.outline.windowed i h.claim || is_updated body h) hs
+  handed_on i body hs = choose_facts (λ h. windowed given.outline i h.claim || is_updated body h) hs
 
   -- a store lies in its buffer and reads what claims in force say; a step of an update is one of its domain and comes where
   -- its turn is

@@ -1,6 +1,5 @@
 -- What an algorithm, an input, a plan and its certificate give.
 use Rattle.std.specs.Prelude.{ℕ, zero, suc, ◌==◌, ◌&&◌, Bool, true, false, if◌then◌else◌, List, [], ◌∷◌, length, Option, Some, None, ℤ, slice_get, int_le}
-use Rattle.std.specs.List.{list_any}
 use Rattle.tree.specs.declared.value.Value.{Value}
 use Rattle.tree.specs.Meaning.{typed}
 use Rattle.meaning.specs.Image.Raster.{is_within}
@@ -70,7 +69,7 @@ outline_of p c number g = record {
   source = source_of p.input.name (length c.claims);
   claim = λ k. claim_or_none (slice_get c.claims k);
   named = named_from 0 c.claims;
-  windowed = λ i k. list_any (λ w. (w.symbol == i) && (w.claim == k)) c.windows;
+  windows = c.windows;
 }
 
 module _ (a : Algorithm) (samples : List ℕ) where

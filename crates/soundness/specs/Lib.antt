@@ -1,10 +1,14 @@
+pub mod Around
 pub mod Claims
 pub mod Given
+pub mod Handed
 pub mod Obligations
 pub mod Origins
 pub mod Right
 pub mod Shown
+pub mod Sliding
 pub mod Stored
+pub mod Windowed
 pub mod Worked
 pub mod Binders
 pub mod Nests

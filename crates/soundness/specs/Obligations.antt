@@ -9,27 +9,19 @@ use Rattle.lin.specs.declared.span.Span1.{Span1}
 use Rattle.plan.specs.declared.stmt.Places.{Places}
 use Rattle.plan.specs.declared.stmt.Places.TheVariants.{From, Folded}
 use Rattle.plan.specs.Plan.{Index, At, Found, Coordinate, Statement, Seq, For, Let, First, Guard, Alloc, Fetch, Store, Publish, Statements, Empty, Then}
-use Rattle.plan.specs.declared.stmt.Pick.{Pick}
-use Rattle.plan.specs.declared.stmt.Pick.TheVariants.{Min, Max}
-use Rattle.plan.specs.Symbols.{Symbols, form_value, largest, smallest, InRegion}
+use Rattle.plan.specs.declared.certificate.cert.Window.{Window}
+use Rattle.plan.specs.Symbols.{Symbols, form_value, InRegion}
 use Rattle.plan.specs.Rooms.{room, place}
 use Rattle.plan.specs.Lines.{lines}
 use Rattle.plan.specs.Semantics.Actions.{Setting, Action, Change, Target, actions}
 use Rattle.plan.specs.Semantics.Run.{Source, Input, ByClaim, Unknown}
 use Rattle.soundness.specs.Origins.{Outline, Given, Reader, answer, matches, or_same}
-use Rattle.soundness.specs.Claims.{In, changes, updates, writes, written, ClearOf, status_after}
+use Rattle.soundness.specs.Claims.{In, changes, block_changes, is_update, updates, writes, written, ClearOf, status_after}
+use Rattle.soundness.specs.Around.{inside}
+use Rattle.soundness.specs.Sliding.{IsSliding}
+pub use Rattle.soundness.specs.Around.{Lies, LieIn, Binder, Ranged, Picked, Passed, picked, Respects}
 
--- ---- spans, and what is around a line
-
--- at least each lower form and at most each upper one
-abbrev pub Lies : Symbols → Span1 → ℤ → Type 0
-Lies s x z = AllByRecursion (λ l. form_value l s ≤ℤ z) x.lower × AllByRecursion (λ u. z ≤ℤ form_value u s) x.upper
-
-abbrev pub LieIn : Symbols → List Span1 → List ℤ → Type 0
-LieIn s [] [] = Unit {0}
-LieIn s [] (z ∷ zs) = ⊥
-LieIn s (x ∷ xs) [] = ⊥
-LieIn s (x ∷ xs) (z ∷ zs) = Lies s x z × LieIn s xs zs
+-- ---- spans
 
 -- the span of all numbers
 abbrev pub anything : Span1
@@ -42,22 +34,6 @@ from_each ls = record { lower = ls; upper = [] }
 -- the span of one number
 abbrev pub exactly : Form → Span1
 exactly f = record { lower = f ∷ []; upper = f ∷ [] }
-
--- a loop or a symbol of the grid with its span, a symbol for the smallest or largest of forms, or a guard that was passed
-pub data Binder : Type 0 where
-  Ranged : (symbol : ℕ) (span : Span1) → Binder
-  Picked : (symbol : ℕ) (pick : Pick) (forms : List Form) → Binder
-  Passed : (low high : Form) → Binder
-
-abbrev pub picked : Pick → List Form → Symbols → ℤ
-picked Min ls s = smallest s ls
-picked Max ls s = largest s ls
-
-abbrev pub Respects : List Binder → Symbols → Type 0
-Respects [] s = Unit {0}
-Respects (Ranged i x ∷ bs) s = Lies s x (s.value i) × Respects bs s
-Respects (Picked i pick ls ∷ bs) s = (s.value i ≡ picked pick ls s) × Respects bs s
-Respects (Passed low high ∷ bs) s = (form_value low s ≤ℤ form_value high s) × Respects bs s
 
 -- a buffer in scope
 pub record Buffer : Type 0 where
@@ -80,8 +56,10 @@ pub record Known : Type 0 where
 
 -- what else obligations refer to: the algorithm, the own region, the claims' lines, and the bounds of forms and of expressions
 pub record Rules : Type 0 where
-  -- the line of a claim, the last definition of a function, the input's extents as spans, and the region that the pieces own
+  -- the line of a claim, the line of the first window of a claim, the last definition of a function, the input's extents as spans, and the
+  -- region that the pieces own
   pub claim_line : ℕ → ℕ
+  pub window_line : ℕ → ℕ
   pub last : List ℕ → ℕ
   pub extents : List Span1
   pub own : List Span1
@@ -103,6 +81,8 @@ pub data Code : Type 0 where
   NotMade : Code
   -- K7: an update's steps out of their order
   OutOfOrder : Code
+  -- K8: a window's buffer does not hold its span at each turn
+  NotHeld : Code
 
 pub data Wanted : Type 0 where
   -- a test of names alone
@@ -115,6 +95,10 @@ pub data Wanted : Type 0 where
   Made : (claim : ℕ) (from : Option ℕ) (places : List Places) (by : Statement) → Wanted
   -- the statement does the steps of the claim's definition in their order
   InTurn : (claim : ℕ) (by : Statement) → Wanted
+  -- the statement makes the claim along the window: all of its region in the first turn of the loop, in later ones what is new
+  Slid : (window : Window) (claim : ℕ) (places : List Places) (by : Statement) → Wanted
+  -- and so the buffer holds the region at each turn, where this is around the statement
+  Held : (window : Window) (around : List Binder) (claim : ℕ) (places : List Places) (by : Statement) → Wanted
 
 pub record Obligation : Type 0 where
   pub code : Code
@@ -124,6 +108,32 @@ pub record Obligation : Type 0 where
 
 abbrev pub is_member : ℕ → List ℕ → Bool
 is_member c cs = list_any (λ d. d == c) cs
+
+-- the window along which a claim is made, of some windows
+abbrev pub window_of : List Window → ℕ → Option Window
+window_of [] c = None
+window_of (w ∷ ws) c = if w.claim == c then Some w else window_of ws c
+
+-- the place of the first window of a claim among some; how many there are, where none is
+abbrev pub first_window : List Window → ℕ → ℕ
+first_window [] c = 0
+first_window (w ∷ ws) c = if w.claim == c then 0 else first_window ws c + 1
+
+-- the windows whose claims are none of these
+abbrev pub without : List ℕ → List Window → List Window
+without cs ws = filter (λ w. not (is_member w.claim cs)) ws
+
+-- a line that gives the symbol a number
+abbrev pub gives : ℕ → Statement → Bool
+gives i (Let j pick ls) = i == j
+gives i _ = false
+
+-- the claim is of one statement of the block; no other changes its buffer, and none before it gives the symbol a number
+abbrev pub stands_alone : Outline → ℕ → ℕ → Statements → ℕ → Bool
+stands_alone outline i c Empty line = false
+stands_alone outline i c (Then a rest) line =
+    if is_member c (outline.named (line + lines a - 1)) then not (block_changes rest (outline.claim c).buffer)
+    else (not (changes a (outline.claim c).buffer) && (not (gives i a) && stands_alone outline i c rest (line + lines a)))
 
 abbrev pub places_of : List Buffer → ℕ → Option (List Places)
 places_of [] b = None
@@ -239,6 +249,18 @@ module _ (outline : Outline) (rules : Rules) where
     own = makes a next ++ filter (is_left a) known.own;
     updating = known.updating;
   }
+
+  -- ---- the claims that are made along windows
+
+  -- the windows along a loop, whose body's first line this is, of pure definitions' claims that stand alone in the body
+  abbrev pub kept_in : ℕ → Statements → ℕ → List Window
+  kept_in i row line =
+      filter (λ w. (w.symbol == i) && (not (is_update (outline.claim w.claim).definition) && stands_alone outline i w.claim row line)) outline.windows
+
+  -- the same of any body: one that is no block keeps none
+  abbrev pub kept_of : ℕ → Statement → ℕ → List Window
+  kept_of i (Seq row) line = kept_in i row line
+  kept_of i _ line = []
 
   -- ---- what each line asks for
 
@@ -389,33 +411,57 @@ module _ (outline : Outline) (rules : Rules) where
       ∷ map (λ d. obligation NotMade (rules.claim_line c) known (Inside (region_of c) (region_of d))) (filter (λ d. follows d c) known.own)
       else []
 
-  abbrev pub claim_obligations : ℕ → ℕ → Known → Statement → ℕ → List Obligation
-  claim_obligations begin line known a c =
+  -- the statement makes the claim along the window, and the window's buffer holds its rows
+  abbrev pub slid : Option (List Places) → Window → ℕ → Statement → Wanted
+  slid None w c a = Named false
+  slid (Some places) w c a = Slid w c places a
+
+  abbrev pub held : Option (List Places) → Window → List Binder → ℕ → Statement → Wanted
+  held None w bs c a = Named false
+  held (Some places) w bs c a = Held w bs c places a
+
+  -- that the statement makes the claim: by itself, or along a window
+  abbrev pub making_obligations : Option Window → Known → Statement → ℕ → List Obligation
+  making_obligations None known a c = obligation NotMade (rules.claim_line c) known (made (places_of known.buffers (outline.claim c).buffer) c a) ∷ []
+  making_obligations (Some w) known a c =
+      obligation NotMade (rules.claim_line c) known (slid (places_of known.buffers (outline.claim c).buffer) w c a)
+      ∷ obligation NotHeld (rules.window_line c) known (held (places_of known.buffers (outline.claim c).buffer) w known.binders c a) ∷ []
+
+  abbrev pub claim_obligations : List Window → ℕ → ℕ → Known → Statement → ℕ → List Obligation
+  claim_obligations kept begin line known a c =
       obligation NotMade (rules.claim_line c) known (Named (writes outline.setting a (outline.claim c).buffer (outline.claim c).function))
-      ∷ obligation NotMade (rules.claim_line c) known (made (places_of known.buffers (outline.claim c).buffer) c a) ∷ earlier_obligations begin line known a c
+      ∷ (making_obligations (window_of kept c) known a c ++ earlier_obligations begin line known a c)
 
   abbrev mutual
-    -- what a statement that begins at the line asks for
-    pub obligations : Statement → ℕ → Known → List Obligation
-    obligations (Seq all) line known = block_obligations all line (in_block known)
-    obligations (For i x kind body) line known =
-        obligation Undefined line known (Named (not (has_symbol i x known))) ∷ obligations body (line + 1) (in_loop i x body known)
-    obligations (Let i pick ls) line known = obligation Undefined line known (Named (not (has_symbol i (from_each ls) known))) ∷ []
-    obligations (First i a b) line known = obligations a (line + 1) (in_block known) ++ obligations b (line + 2 + lines a) (in_block known)
-    obligations (Guard low high body) line known = obligations body (line + 1) (in_guard low high known)
-    obligations (Alloc b f places) line known = obligation Undefined line known (Named (is_free (places_of known.buffers b))) ∷ []
-    obligations (Fetch b g region) line known = obligation OutOfBuffer line known (seated (places_of known.buffers b) region) ∷ []
-    obligations (Store b k at e) line known =
+    -- what a statement that begins at the line asks for, where it is the body of a loop that keeps these windows
+    pub turn_obligations : List Window → Statement → ℕ → Known → List Obligation
+    turn_obligations kept (Seq all) line known = block_obligations kept all line (in_block known)
+    turn_obligations kept (For i x kind body) line known =
+        obligation Undefined line known (Named (not (has_symbol i x known)))
+        ∷ turn_obligations (kept_of i body (line + 1)) body (line + 1) (in_loop i x body known)
+    turn_obligations kept (Let i pick ls) line known = obligation Undefined line known (Named (not (has_symbol i (from_each ls) known))) ∷ []
+    turn_obligations kept (First i a b) line known =
+        turn_obligations [] a (line + 1) (in_block known) ++ turn_obligations [] b (line + 2 + lines a) (in_block known)
+    turn_obligations kept (Guard low high body) line known = turn_obligations [] body (line + 1) (in_guard low high known)
+    turn_obligations kept (Alloc b f places) line known = obligation Undefined line known (Named (is_free (places_of known.buffers b))) ∷ []
+    turn_obligations kept (Fetch b g region) line known = obligation OutOfBuffer line known (seated (places_of known.buffers b) region) ∷ []
+    turn_obligations kept (Store b k at e) line known =
         let n = outline.setting.dimensions b in store_obligations line known b (outline.setting.buffer_function b) k (take n at) (drop n at) e
-    obligations (Publish c) line known =
+    turn_obligations kept (Publish c) line known =
         obligation NotClaimed line known (Named (is_usable known c)) ∷ obligation NotClaimed line known (Inside rules.own (region_of c)) ∷ []
 
-    pub block_obligations : Statements → ℕ → Known → List Obligation
-    block_obligations Empty line known = []
-    block_obligations (Then a rest) line known =
+    -- the same of a block: the windows are left of whose claims no statement before is
+    pub block_obligations : List Window → Statements → ℕ → Known → List Obligation
+    block_obligations kept Empty line known = []
+    block_obligations kept (Then a rest) line known =
         let last = line + lines a - 1 in
-        obligations a line (within a (outline.named last) known)
-        ++ (flat_map (claim_obligations line last known a) (outline.named last) ++ block_obligations rest (line + lines a) (onwards a (outline.named last) known))
+        turn_obligations [] a line (within a (outline.named last) known)
+        ++ (flat_map (claim_obligations kept line last known a) (outline.named last)
+        ++ block_obligations (without (outline.named last) kept) rest (line + lines a) (onwards a (outline.named last) known))
+
+  -- what a statement that begins at the line asks for
+  abbrev pub obligations : Statement → ℕ → Known → List Obligation
+  obligations a line known = turn_obligations [] a line known
 
 -- ---- what an obligation means
 
@@ -443,6 +489,9 @@ module _ (given : Given) where
   MeantAt (InTurn c a) s =
       let made = given.outline.claim c in
       AreInTurn given made.buffer made.function made.definition (λ p. begun given made.function (Some (made.definition - 1))) (actions given.outline.setting a s)
+  -- what is made along a window is told by the window, since both have to be shown for it
+  MeantAt (Slid w c places a) s = Unit {0}
+  MeantAt (Held w around c places a) s = Respects around s → IsSliding given w.symbol (inside w.symbol around) c places a s
 
   -- whatever the symbols stand for
   abbrev pub Meant : Obligation → Type 0

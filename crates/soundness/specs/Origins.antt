@@ -1,9 +1,11 @@
 -- What each place holds, told by the function, the updates done and the point that its value is of, and not by the value.
 use Rattle.std.specs.Prelude.{◌≡◌, ℕ, ◌+◌, ◌==◌, ◌&&◌, Bool, true, false, if◌then◌else◌, List, [], ◌∷◌, ◌++◌, map, Option, Some, None, ℤ, IsSome, IsTrue}
+use Rattle.std.specs.List.{list_any}
 use Rattle.std.specs.Ordering.{int_eq}
 use Rattle.tree.specs.declared.value.Value.{Value}
 use Rattle.tree.specs.Meaning.{value_of}
 use Rattle.meaning.specs.Names.{same_name, bound}
+use Rattle.plan.specs.declared.certificate.cert.Window.{Window}
 use Rattle.plan.specs.Certificate.Certificate.{Claim}
 use Rattle.plan.specs.Semantics.Actions.{Setting, Action, Allot, Take, Put, Change, Give, Target, Fixed, Open, fixed}
 use Rattle.plan.specs.Semantics.Memory.{Memory, read, write, allot, place_in}
@@ -21,10 +23,14 @@ pub record Outline : Type 0 where
   -- what a group's lines refer to, and what a name in a stored expression means
   pub setting : Setting
   pub source : List ℕ → Source
-  -- the claims by number, the claims of the statement that ends at a line, and whether a window names a loop and a claim
+  -- the claims by number, the claims of the statement that ends at a line, and the windows
   pub claim : ℕ → Claim
   pub named : ℕ → List ℕ
-  pub windowed : ℕ → ℕ → Bool
+  pub windows : List Window
+
+-- whether a window names the loop and the claim
+abbrev pub windowed : Outline → ℕ → ℕ → Bool
+windowed outline i c = list_any (λ w. (w.symbol == i) && (w.claim == c)) outline.windows
 
 -- what the plan, the certificate and the algorithm give
 pub record Given : Type 0 where

@@ -5,12 +5,15 @@ use Rattle.lin.specs.Forms.{Form}
 use Rattle.lin.specs.declared.span.Span1.{Span1}
 use Rattle.plan.specs.declared.stmt.Places.{Places}
 use Rattle.plan.specs.declared.stmt.Places.TheVariants.{From, Folded}
+use Rattle.plan.specs.declared.certificate.cert.Window.{Window}
 use Rattle.plan.specs.Plan.{Statement}
 use Rattle.plan.specs.Symbols.{Symbols}
 use Rattle.soundness.specs.Origins.{Given}
 use Rattle.soundness.specs.Claims.{IsSound}
+use Rattle.soundness.specs.Around.{inside}
+use Rattle.soundness.specs.Sliding.{IsSliding}
 use Rattle.soundness.specs.Right.{at_start}
-use Rattle.soundness.specs.Obligations.{Binder, Respects, Known, Rules, Wanted, Named, Seated, Inside, Made, InTurn, Obligation, MeantAt, AllMeant, Suited, obligations, is_covered}
+use Rattle.soundness.specs.Obligations.{Binder, Respects, Known, Rules, Wanted, Named, Seated, Inside, Made, InTurn, Slid, Held, Obligation, MeantAt, AllMeant, Suited, obligations, is_covered}
 
 abbrev pub raised : Form → ℤ → Form
 raised f z = record { constant = f.constant +ℤ z; terms = f.terms }
@@ -37,10 +40,13 @@ are_seated rules bs [] (a ∷ places) = false
 are_seated rules bs (x ∷ xs) [] = false
 are_seated rules bs (x ∷ xs) (a ∷ places) = is_seated rules bs x a && are_seated rules bs xs places
 
--- the tests of nests: that a statement makes a claim, and that it does a definition's steps in order
+-- the tests of nests: that a statement makes a claim, and that it does a definition's steps in order; that it makes a claim along a window,
+-- and that the window's buffer holds what is made so
 pub record Nests : Type 0 where
   pub is_made : List Binder → (claim : ℕ) (from : Option ℕ) (places : List Places) (by : Statement) → Bool
   pub is_in_turn : List Binder → (claim : ℕ) (by : Statement) → Bool
+  pub is_slid : List Binder → (window : Window) (claim : ℕ) (places : List Places) (by : Statement) → Bool
+  pub is_held : List Binder → (window : Window) (claim : ℕ) (places : List Places) (by : Statement) → Bool
 
 abbrev pub shows : Rules → Nests → List Binder → Wanted → Bool
 shows rules nests bs (Named test) = test
@@ -48,6 +54,8 @@ shows rules nests bs (Seated xs places) = are_seated rules bs xs places
 shows rules nests bs (Inside xs ys) = are_within rules bs xs ys
 shows rules nests bs (Made c from places a) = nests.is_made bs c from places a
 shows rules nests bs (InTurn c a) = nests.is_in_turn bs c a
+shows rules nests bs (Slid w c places a) = nests.is_slid bs w c places a
+shows rules nests bs (Held w around c places a) = nests.is_slid around w c places a && nests.is_held around w c places a
 
 abbrev pub is_shown : Rules → Nests → Obligation → Bool
 is_shown rules nests o = shows rules nests o.binders o.wanted
@@ -64,6 +72,9 @@ all_shown rules nests os = list_all (is_shown rules nests) os
 pub record AreRightNests (given : Given) (nests : Nests) : Type 0 where
   pub made : (bs : List Binder) (c : ℕ) (from : Option ℕ) (places : List Places) (a : Statement) (s : Symbols) → nests.is_made bs c from places a ≡ true → Respects bs s → MeantAt given (Made c from places a) s
   pub in_turn : (bs : List Binder) (c : ℕ) (a : Statement) (s : Symbols) → nests.is_in_turn bs c a ≡ true → Respects bs s → MeantAt given (InTurn c a) s
+  -- both together of what is made along a window
+  pub slides : (bs : List Binder) (w : Window) (c : ℕ) (places : List Places) (a : Statement) (s : Symbols) → nests.is_slid bs w c places a ≡ true →
+      nests.is_held bs w c places a ≡ true → Respects bs s → IsSliding given w.symbol (inside w.symbol bs) c places a s
 
 -- at the beginning of a piece: the symbols of the grid alone
 abbrev pub start : List Binder → Known

@@ -1,5 +1,6 @@
 //! What is proved of plans that are sound.
 
+ghost use Rattle.soundness.specs.Handed.{SlidingIsMade, TurnsHandOn};
 ghost use Rattle.soundness.specs.Right.{PrivateRunsAreRight};
 ghost use Rattle.soundness.specs.Shown.{MeantIsSound, ShownIsSound};
 ghost use Rattle.soundness.specs.Stored.{DefinitionsAreRight, GivenIsOfAlgorithm};
@@ -33,4 +34,15 @@ pub fn shown_is_sound()
 /// value after all steps of its updates, and steps are those of the updates' reduction points.
 pub fn given_is_of_algorithm()
     ensures { GivenIsOfAlgorithm }
+{}
+
+/// What a turn leaves of a claim, whose statement stands in the loop's body and along whose region a
+/// window moves, is known where that statement begins in the next turn.
+pub fn turns_hand_on()
+    ensures { TurnsHandOn }
+{}
+
+/// What a statement does that slides makes its claim, where it finds what the turn before left.
+pub fn sliding_is_made()
+    ensures { SlidingIsMade }
 {}

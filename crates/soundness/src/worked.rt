@@ -1,5 +1,6 @@
 //! Plans written out whose pieces are sound, or are not.
 
+ghost use Rattle.soundness.specs.Windowed.{ClaimsAreAsked};
 ghost use Rattle.soundness.specs.Worked.{HistIsSound, ScanIsMeant, ScanIsSound, SlideIsSound, SlideRunsRight};
 
 /// The piece of a running sum is sound: each step of the update reads what the step before left.
@@ -29,4 +30,11 @@ pub fn slide_runs_right()
 /// where the samples are places.
 pub fn hist_is_sound()
     ensures { HistIsSound }
+{}
+
+/// A claim that a window names is to be made along it, and the window to hold, each asked for at its own
+/// line. Without a window, with one of another loop, where two statements of the loop's body store in the
+/// buffer, and of an update, the claim is to be made by its statement alone.
+pub fn claims_are_asked()
+    ensures { ClaimsAreAsked }
 {}

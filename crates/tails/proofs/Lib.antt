@@ -22,6 +22,7 @@ pub mod Reducing
 pub mod Spelling
 pub mod Splitting
 pub mod Stepping
+pub mod Storing
 pub mod Stores
 pub mod Spines
 pub mod Taken

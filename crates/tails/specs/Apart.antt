@@ -1,5 +1,5 @@
 -- What has nothing to do with steps, and what a coordinate is.
-use Rattle.std.specs.Prelude.{◌&&◌, Bool, not, false, List, pos}
+use Rattle.std.specs.Prelude.{◌&&◌, Bool, not, List, pos}
 use Rattle.std.specs.List.{list_any, list_all}
 use Rattle.lin.specs.Forms.{Form, number}
 use Rattle.plan.specs.declared.stmt.Places.{Places}
@@ -23,7 +23,7 @@ is_apart steps (Ranged i x) = not (list_any (binds i) steps) && (list_all (is_ou
 is_apart steps (Picked i pick ls) = not (list_any (binds i) steps) && list_all (is_outer steps) ls
 is_apart steps (Passed low high) = is_outer steps low && is_outer steps high
 
--- the places are not folded, and where they begin has none either
-abbrev pub is_fixed_place : List Binder → Places → Bool
-is_fixed_place steps (From l n) = is_outer steps l
-is_fixed_place steps (Folded n) = false
+-- where the places begin has none either; folded ones begin nowhere, and are taken or not
+abbrev pub is_steady : (folded : Bool) → List Binder → Places → Bool
+is_steady folded steps (From l n) = is_outer steps l
+is_steady folded steps (Folded n) = folded

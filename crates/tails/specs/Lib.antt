@@ -3,6 +3,7 @@ pub mod Moves
 pub mod Maps
 pub mod Laws
 pub mod Apart
+pub mod Stored
 pub mod Domains
 pub mod Updates
 pub mod Nests
@@ -14,4 +15,3 @@ pub mod States
 pub mod SplitMaps
 pub mod Worked
 pub mod WorkedUpdates
-pub mod Shown

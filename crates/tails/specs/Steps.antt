@@ -1,5 +1,5 @@
 -- The way down from a statement to the one line in it that changes a buffer, and what values its symbols may have.
-use Rattle.std.specs.Prelude.{◌≡◌, ℕ, ◌==◌, false, if◌then◌else◌, List, [], ◌∷◌, Option, Some, None, Bool, map, reverse}
+use Rattle.std.specs.Prelude.{◌≡◌, ℕ, ◌==◌, false, if◌then◌else◌, List, [], ◌∷◌, Option, Some, None, map, reverse}
 use Rattle.std.specs.List.{list_any}
 use Rattle.lin.specs.Forms.{Form}
 use Rattle.lin.specs.declared.span.Span1.{Span1}
@@ -7,8 +7,9 @@ use Rattle.plan.specs.declared.stmt.Kind.{Kind}
 use Rattle.plan.specs.declared.stmt.Pick.{Pick}
 use Rattle.plan.specs.Plan.{Statement, Seq, For, Let, First, Guard, Alloc, Fetch, Store, Publish, Statements, Empty, Then}
 use Rattle.plan.specs.Symbols.{Symbols}
+use Rattle.soundness.specs.Around.{Binder, Ranged, Picked, Passed, Respects}
 use Rattle.soundness.specs.Claims.{changes, block_changes}
-use Rattle.soundness.specs.Obligations.{Binder, Ranged, Picked, Passed, Respects}
+pub use Rattle.soundness.specs.Around.{binds}
 
 pub data Step : Type 0 where
   -- the turns of a loop
@@ -65,12 +66,6 @@ along steps = reverse (map binder steps)
 -- each loop is in one of its turns, each let has its number, and each guard holds
 abbrev pub Allows : List Step → Symbols → Type 0
 Allows steps s = Respects (along steps) s
-
--- the symbol is that of a loop or a let
-abbrev pub binds : ℕ → Binder → Bool
-binds i (Ranged j x) = i == j
-binds i (Picked j pick ls) = i == j
-binds i (Passed low high) = false
 
 -- the second values are the first but for symbols that these bind
 abbrev pub Keeps : List Binder → Symbols → Symbols → Type 0

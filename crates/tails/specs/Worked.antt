@@ -36,6 +36,7 @@ binding_of (Passed low high ∷ bs) i = binding_of bs i
 abbrev pub bounds_alone : Rules
 bounds_alone = record {
   claim_line = λ c. 0;
+  window_line = λ c. 0;
   last = λ f. 0;
   extents = [];
   own = [];
@@ -240,7 +241,7 @@ out_outline n region = record {
   source = λ name. Input;
   claim = λ c. out_claim region;
   named = λ line. [];
-  windowed = λ i c. false;
+  windows = [];
 }
 
 -- the statement makes a claim of a function of so many dimensions, in a buffer of these places

@@ -27,7 +27,7 @@ sum_outline n region = record {
   source = λ name. Input;
   claim = λ c. sum_claim region;
   named = λ line. [];
-  windowed = λ i c. false;
+  windows = [];
 }
 
 -- so many numbers of a reduction variable, from 0 on

@@ -9,7 +9,8 @@ ghost use Rattle.tails.specs.Held.{others_of, pending_of, pendings_of, span_of};
 ghost use Rattle.tails.specs.Ready.{ready_of, ready_with};
 ghost use Rattle.tails.specs.declared.pending.Pending.{Pending};
 
-use crate::pending::{Others, Pending, form_has, forms_have, others_of};
+use crate::pending::{Others, Pending, others_of};
+use crate::symbols::{form_has, forms_have};
 use crate::turns::Ready;
 use lin::{Lin, Span1, Sym};
 

@@ -6,7 +6,7 @@ ghost use Rattle.lin.specs.Search.{replaced};
 ghost use Rattle.tails.specs.Moves.{each_replaced, expanded, joined, naming, not_naming, only};
 ghost use Rattle.tails.specs.Held.{expanded_one, some_if};
 
-use crate::pending::{form_has, forms_have};
+use crate::symbols::{form_has, forms_have};
 use lin::{Forms, Lin, LinError, Sym};
 use std::alloc::{AllocError, Global};
 

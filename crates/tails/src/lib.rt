@@ -19,6 +19,8 @@ mod regions;
 pub mod shown;
 mod sides;
 pub mod spans;
+pub mod stored;
+pub mod symbols;
 mod turns;
 mod updates;
 pub mod worked;

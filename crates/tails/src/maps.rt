@@ -3,16 +3,16 @@
 ghost use Rattle.std.specs.Prelude.{◌≡◌, map, IfOk};
 ghost use Rattle.soundness.specs.Obligations.{exactly};
 ghost use Rattle.soundness.specs.Binders.View.{binders_of};
-ghost use Rattle.tails.specs.Steps.{along};
-ghost use Rattle.tails.specs.Moves.{paired, reached, spans_over};
-ghost use Rattle.tails.specs.Maps.{covers, is_once};
+ghost use Rattle.tails.specs.Steps.{along, binder};
+ghost use Rattle.tails.specs.Moves.{is_outer, paired, reached, spans_over};
+ghost use Rattle.tails.specs.Maps.{covers, is_once, is_scoped};
 ghost use Rattle.tails.specs.View.{step_of};
 ghost use Rattle.tails.specs.SplitMaps.{forms_of, steps_of};
 
 use crate::descent::Step;
 use crate::guarded::{along, in_order, paired};
 use crate::moves::{State, run};
-use crate::pending::is_scoped;
+use crate::pending::{is_outer, is_scoped};
 use crate::regions::lies_within;
 use crate::shown::{Nothing, Shows, Within};
 use crate::spans::Spans;
@@ -30,7 +30,7 @@ pub struct SplitMap<'a> {
 }
 
 /// The span of one number.
-fn exactly(alloc: Global, form: &Lin) -> Result<Span1, AllocError>
+pub fn exactly(alloc: Global, form: &Lin) -> Result<Span1, AllocError>
     ensures { IfOk result (λ span. span ≡ exactly form.now) }
 {
     let mut lower = Forms::new(alloc);
@@ -70,6 +70,20 @@ fn spans_over<S: Shows>(
 }
 
 impl SplitMap<'_> {
+    /// Whether each step names symbols of earlier ones and of what is around alone, and binds a new one.
+    pub fn is_scoped(&self, alloc: Global) -> Result<bool, AllocError>
+        ensures { IfOk result (λ yes. yes ≡ is_scoped (map binder (steps_of self.now))) }
+    {
+        Ok(is_scoped(&in_order(alloc, &self.steps)?))
+    }
+
+    /// Whether no step binds a symbol of the form.
+    pub fn is_around(&self, alloc: Global, form: &Lin) -> Result<bool, AllocError>
+        ensures { IfOk result (λ yes. yes ≡ is_outer (along (steps_of self.now)) form.now) }
+    {
+        Ok(is_outer(&along(alloc, &self.steps)?, form))
+    }
+
     /// For each coordinate a span of which every number is reached: each point of which every coordinate lies in its span is met at
     /// some turn. None where that is not shown.
     pub fn reached<S: Shows>(&self, alloc: Global, shows: &S) -> Result<Option<Spans>, AllocError>
@@ -88,7 +102,7 @@ impl SplitMap<'_> {
     ) -> Result<bool, AllocError>
         ensures { IfOk result (λ yes. yes ≡ covers (B.rules bounds.now) (binders_of binders.now) (steps_of self.now) (forms_of self.now) region.now) }
     {
-        if !is_scoped(&in_order(alloc, &self.steps)?) {
+        if !self.is_scoped(alloc)? {
             return Ok(false);
         }
         match self.reached(alloc, &Within { bounds, binders })? {
@@ -101,7 +115,7 @@ impl SplitMap<'_> {
     pub fn once(&self, alloc: Global) -> Result<bool, AllocError>
         ensures { IfOk result (λ yes. yes ≡ is_once (steps_of self.now) (forms_of self.now)) }
     {
-        if !is_scoped(&in_order(alloc, &self.steps)?) {
+        if !self.is_scoped(alloc)? {
             return Ok(false);
         }
         match spans_over(alloc, true, &Nothing, &self.steps, &self.forms)? {

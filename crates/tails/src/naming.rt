@@ -5,8 +5,9 @@ ghost use Rattle.tails.specs.Moves.{above, below, expanded, is_free_let, opened,
 ghost use Rattle.tails.specs.Held.{let_spans, others_of, pending_of};
 
 use crate::forms::expanded;
-use crate::pending::{Others, Pending, forms_have, spans_have};
+use crate::pending::{Others, Pending};
 use crate::spans::{Spans, copied};
+use crate::symbols::{forms_have, spans_have};
 use lin::{Lin, Span1, Sym};
 use plan::Pick;
 use std::alloc::{AllocError, Global};

@@ -2,7 +2,7 @@
 
 ghost use Rattle.std.specs.Prelude.{◌≡◌, ◌<◌, length};
 ghost use Rattle.std.specs.List.{list_all, list_any};
-ghost use Rattle.soundness.specs.Obligations.{binder_has, form_has, span_has};
+ghost use Rattle.soundness.specs.Obligations.{binder_has};
 ghost use Rattle.tails.specs.Steps.{binder, binds};
 ghost use Rattle.tails.specs.Moves.{is_loose, is_outer};
 ghost use Rattle.tails.specs.Maps.{is_beyond, is_new, is_scoped};
@@ -10,7 +10,8 @@ ghost use Rattle.tails.specs.View.{step_of};
 ghost use Rattle.tails.specs.Held.{others_at, others_of, pending_of, pendings_of};
 
 use crate::descent::Step;
-use lin::{Lin, Span1, Sym};
+use crate::symbols::{form_has, forms_have};
+use lin::{Lin, Sym};
 use plan::Pick;
 
 /// A step that is still to be taken.
@@ -52,34 +53,6 @@ pub(crate) fn others_of<'b, 'a>(steps: &'b [Pending<'a>], place: usize) -> Other
         before: &steps[..place],
         after: &steps[place + 1..],
     }
-}
-
-/// Whether the symbol stands in the form.
-pub(crate) fn form_has(symbol: Sym, form: &Lin) -> bool
-    ensures { result ≡ form_has symbol form.now }
-{
-    form.terms().iter().any(|term| term.symbol == symbol)
-}
-
-/// Whether the symbol stands in one of the forms.
-pub(crate) fn forms_have(symbol: Sym, forms: &[Lin]) -> bool
-    ensures { result ≡ list_any (form_has symbol) forms.now }
-{
-    forms.iter().any(|form| form_has(symbol, form))
-}
-
-/// Whether the symbol stands in the span.
-pub(crate) fn span_has(symbol: Sym, span: &Span1) -> bool
-    ensures { result ≡ span_has symbol span.now }
-{
-    forms_have(symbol, span.lower.as_slice()) || forms_have(symbol, span.upper.as_slice())
-}
-
-/// Whether the symbol stands in one of the spans.
-pub(crate) fn spans_have(symbol: Sym, spans: &[Span1]) -> bool
-    ensures { result ≡ list_any (span_has symbol) spans.now }
-{
-    spans.iter().any(|span| span_has(symbol, span))
 }
 
 /// Whether the step binds the symbol.

@@ -49,7 +49,7 @@ impl Spans {
 }
 
 /// Equal spans.
-pub(crate) fn copied(alloc: Global, spans: &[Span1]) -> Result<Spans, AllocError>
+pub fn copied(alloc: Global, spans: &[Span1]) -> Result<Spans, AllocError>
     ensures { IfOk result (λ all. all ≡ spans.now) }
 {
     match spans {

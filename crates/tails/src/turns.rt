@@ -8,8 +8,8 @@ ghost use Rattle.tails.specs.Moves.{are_blocks, each_replaced, is_block, is_gapl
 ghost use Rattle.tails.specs.Held.{span_of};
 
 use crate::forms::{combined, only_with, push_replaced, push_without};
-use crate::pending::{form_has, span_has, spans_have};
 use crate::spans::{Spans, before, copied};
+use crate::symbols::{form_has, span_has, spans_have};
 use lin::{Forms, Lin, Multiple, Span1, Sym};
 use std::alloc::{AllocError, Global};
 

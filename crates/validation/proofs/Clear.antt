@@ -13,12 +13,12 @@ use Rattle.plan.specs.declared.certificate.cert.Need.{Need}
 use Rattle.plan.specs.declared.certificate.cert.Window.{Window}
 use Rattle.plan.specs.Certificate.Certificate.{Claim, Certificate}
 use Rattle.plan.specs.Certificate.Cells.{own_region}
-use Rattle.plan.specs.Certificate.Lines.{own_line, need_line, claim_line}
+use Rattle.plan.specs.Certificate.Lines.{own_line, need_line, claim_line, window_line}
 use Rattle.outline.specs.Flaws.{Flaw, first_of as the_first, unless}
 use Rattle.outline.specs.Forms.{spans_are_over, spans_are_within_limits, have_ends, grid_symbols}
-use Rattle.validation.specs.Certificate.Lines.{line_flaws, each_line}
-use Rattle.validation.specs.Certificate.Certificate.{fits, is_owned, are_owned, is_region_of, own_is_known, is_need_of, need_is_known, claim_is_known, cert_flaws, own_flaws, need_flaws, claim_flaws, window_flaws, flaws_of_regions, flaws_of_claims, flaws_of_certificate}
-use Rattle.validation.specs.Certificate.Clear.{IsRegion, IsNeed, IsClaim, HasRegions, IsClear}
+use Rattle.validation.specs.Certificate.Lines.{line_flaws, window_line_flaws, each_line}
+use Rattle.validation.specs.Certificate.Certificate.{fits, is_owned, are_owned, is_region_of, own_is_known, is_need_of, need_is_known, claim_is_known, window_is_known, is_used, span_is_within_limits, has_ends, cert_flaws, own_flaws, need_flaws, claim_flaws, window_flaws, flaws_of_regions, flaws_of_claims, flaws_of_certificate}
+use Rattle.validation.specs.Certificate.Clear.{IsRegion, IsNeed, IsClaim, IsWindow, HasRegions, IsClear}
 
 none_is : {A : Type 0} (x : A) (e : None ≡ Some x) → ⊥
 none_is x e = cc
@@ -58,6 +58,14 @@ line_clear known small listed line h =
     let two = no_flaws (unless small 3 line) (unless listed 14 line) one.1 in
     (unless_true known 2 line one.0, unless_true small 3 line two.0, unless_true listed 14 line two.1)
 
+window_clear : (known small used listed : Bool) (line : ℕ) → None ≡ the_first (window_line_flaws known small used listed line)
+    → (known ≡ true) × (small ≡ true) × (used ≡ true) × (listed ≡ true)
+window_clear known small used listed line h =
+    let one = no_flaws (unless known 2 line) (unless small 3 line ++ (unless used 8 line ++ unless listed 14 line)) h in
+    let two = no_flaws (unless small 3 line) (unless used 8 line ++ unless listed 14 line) one.1 in
+    let three = no_flaws (unless used 8 line) (unless listed 14 line) two.1 in
+    (unless_true known 2 line one.0, unless_true small 3 line two.0, unless_true used 8 line three.0, unless_true listed 14 line three.1)
+
 -- each of the lines has no flaw
 each_clear : {A : Type 0} (f : ℕ → A → List Flaw) (i : ℕ) (xs : List A) → None ≡ the_first (each_line f i xs) → (j k : ℕ) (x : A) → k ≡ i + j → slice_get xs j ≡ Some x → None ≡ the_first (f k x)
 each_clear f i [] h j k x e is = absurd (none_is x is)
@@ -65,10 +73,6 @@ each_clear {A} f i (y ∷ ys) h zero k x e is =
     let same : k ≡ i = omega (arith, e) in
     (no_flaws (f i y) (each_line f (i + 1) ys) h).0 ∙ ap (λ (n : ℕ). the_first (f n y)) (sym same) ∙ ap (λ (z : A). the_first (f k z)) (the_same y x is)
 each_clear f i (y ∷ ys) h (suc j) k x e is = each_clear f (i + 1) ys (no_flaws (f i y) (each_line f (i + 1) ys) h).1 j k x (omega (arith, e)) is
-
-no_windows : (p : Plan) (c : Certificate) (ws : List Window) → None ≡ the_first (each_line (window_flaws p c) 0 ws) → ws ≡ []
-no_windows p c [] h = refl
-no_windows p c (w ∷ ws) h = absurd (none_is _ h)
 
 -- ---- regions
 
@@ -185,6 +189,13 @@ claim_right a p c h i k is =
     let line = line_clear (claim_is_known a.functions p.groups k) (spans_are_within_limits k.region) (have_ends k.region && nat_lt i 4096) (claim_line c (certificate_line p) i) (each_clear (claim_flaws a p c) 0 c.claims h i i k (omega arith) is) in
     record { known = line.0; limits = line.1; ends = (both_true (have_ends k.region) (nat_lt i 4096) line.2).0 }
 
+window_right : (p : Plan) (c : Certificate) → None ≡ the_first (each_line (window_flaws p c) 0 c.windows) → (i : ℕ) (w : Window)
+    → slice_get c.windows i ≡ Some w → IsWindow p c i w
+window_right p c h i w is =
+    let line = window_clear (window_is_known p.groups c.claims w) (span_is_within_limits w.span) (is_used p c (take i c.windows) w) (has_ends w.span)
+    (window_line c (certificate_line p) i) (each_clear (window_flaws p c) 0 c.windows h i i w (omega arith) is) in
+    record { known = line.0; limits = line.1; used = line.2; ends = line.3 }
+
 pub has_regions : (p : Plan) (c : Certificate) → None ≡ the_first (flaws_of_regions p c) → HasRegions p c
 has_regions p c h =
     let one = no_flaws (cert_flaws p c) _ h in
@@ -204,5 +215,5 @@ clear a p c h =
       once = regions.once;
       needs = regions.needs;
       claims = claim_right a p c claims.0;
-      windows = no_windows p c c.windows claims.1;
+      windows = window_right p c claims.1;
     }

@@ -4,6 +4,7 @@ pub mod Ways
 pub mod Named
 pub mod Taken
 pub mod Clear
+pub mod Windows
 pub mod GroupLines
 pub mod Calls
 pub mod Functions

@@ -1,15 +1,11 @@
 -- The first flaw of lines.
 use Rattle.std.proofs.Common.{◌≡◌, ℕ, suc, ◌+◌, ◌-◌, ◌^◌, ◌<◌, min, List, [], ◌∷◌, ◌++◌, length, drop, get_or, drop-cons, Option, Some, None, refl, sym, ap, ◌∙◌, arith, add-one}
-use Rattle.std.proofs.Common.{map, ◌≤◌}
-use Rattle.plan.specs.Plan.{Plan}
-use Rattle.plan.specs.Lines.{certificate_line}
-use Rattle.plan.specs.declared.certificate.cert.Window.{Window}
+use Rattle.std.proofs.Common.{map}
 use Rattle.plan.specs.Certificate.Certificate.{Certificate}
 use Rattle.plan.specs.Certificate.Lines.{window_line, claim_line}
 use Rattle.plan.specs.Semantics.Setting.{or_else}
-use Rattle.outline.specs.Flaws.{Flaw, first_of, line_told}
+use Rattle.outline.specs.Flaws.{Flaw, first_of}
 use Rattle.validation.specs.Certificate.Lines.{each_line}
-use Rattle.validation.specs.Certificate.Certificate.{window_flaws}
 
 pub first_of-append : (xs ys : List Flaw) → first_of (xs ++ ys) ≡ or_else (first_of xs) (first_of ys)
 first_of-append [] ys = refl
@@ -37,12 +33,6 @@ line_flawed f xs i x v lt is flawed = sym (lines_split f xs i x lt is ∙ ap (λ
 pub each_line-map : {A B : Type 0} (g : A → B) (f : ℕ → B → List Flaw) (i : ℕ) (xs : List A) → each_line f i (map g xs) ≡ each_line (λ j x. f j (g x)) i xs
 each_line-map g f i [] = refl
 each_line-map g f i (x ∷ xs) = ap (λ (ys : List Flaw). f i (g x) ++ ys) (each_line-map g f (i + 1) xs)
-
--- a window is a flaw
-pub windows_flawed : (p : Plan) (c : Certificate) (ws : List Window) → 1 ≤ length ws
-    → first_of (each_line (window_flaws p c) 0 ws) ≡ Some (record { code = 14; line = line_told (window_line c (certificate_line p) 0) })
-windows_flawed p c [] h = absurd (omega arith)
-windows_flawed p c (w ∷ ws) h = refl
 
 -- the lines of claims and windows behind the line `cert` as it is told
 pub claim_told : (c : Certificate) (line told i : ℕ) → told ≡ min line (2 ^ 32 - 1) → min (claim_line c told i) (2 ^ 32 - 1) ≡ min (claim_line c line i) (2 ^ 32 - 1)

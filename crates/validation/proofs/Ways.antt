@@ -1,5 +1,5 @@
 -- Ways to lines, through the lines of a statement.
-use Rattle.std.proofs.Common.{◌≡◌, ℕ, zero, suc, ◌+◌, ◌-◌, ◌<◌, ◌≤◌, List, [], ◌∷◌, ◌++◌, take, length, length-append, Bool, true, false, Option, Some, None, refl, sym, ap, ◌∙◌, subst, arith}
+use Rattle.std.proofs.Common.{◌≡◌, ℕ, zero, suc, ◌+◌, ◌-◌, ◌<◌, ◌≤◌, List, [], ◌∷◌, ◌++◌, take, length, Bool, true, false, Option, Some, None, refl, sym, ap, ◌∙◌, subst, arith}
 use Rattle.std.specs.Prelude.{◌==◌, nat_lt, if◌then◌else◌}
 use Rattle.std.proofs.lemmas.Bool.Decides.{nat_tests}
 use Rattle.plan.specs.Plan.{Statement, Seq, For, Let, First, Guard, Alloc, Fetch, Store, Publish, Statements, Then}
@@ -60,11 +60,12 @@ take_front (z ∷ zs) i zero e = absurd (omega (arith, e))
 take_front (z ∷ zs) i (suc n) e = ap (λ (xs : List ℕ). z ∷ xs) (take_front zs i n (omega (arith, e)))
 
 -- out of a loop all is as before it
-pub left_loop : (i n : ℕ) (symbols : List ℕ) (inner old : Spot) → inner ≡ in_loop i old → n ≡ length old.symbols → symbols ≡ take n inner.symbols
-    → ◌≡◌ {A = Spot} (record { symbols = symbols; buffers = inner.buffers }) old
-left_loop i n symbols inner old e long is =
+pub left_loop : (i n m : ℕ) (symbols loops : List ℕ) (inner old : Spot) → inner ≡ in_loop i old → n ≡ length old.symbols → symbols ≡ take n inner.symbols
+    → m ≡ length old.loops → loops ≡ take m inner.loops → ◌≡◌ {A = Spot} (record { symbols = symbols; loops = loops; buffers = inner.buffers }) old
+left_loop i n m symbols loops inner old e long is deep are =
     let same : symbols ≡ old.symbols = is ∙ ap (λ (x : Spot). take n x.symbols) e ∙ take_front old.symbols i n long in
-    λ j. record { symbols = same j; buffers = ap (λ (x : Spot). x.buffers) e j }
+    let round : loops ≡ old.loops = are ∙ ap (λ (x : Spot). take m x.loops) e ∙ take_front old.loops i m deep in
+    λ j. record { symbols = same j; loops = round j; buffers = ap (λ (x : Spot). x.buffers) e j }
 
 -- ---- blocks
 

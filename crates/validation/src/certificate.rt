@@ -11,5 +11,6 @@ mod own_lines;
 mod placed;
 mod placing;
 mod spot;
+mod window_lines;
 
 pub use flaws::{first_flaw, first_region_flaw};

@@ -9,7 +9,7 @@ use Rattle.soundness.specs.Given.{outline_of}
 use Rattle.soundness.specs.Obligations.{obligations}
 use Rattle.soundness.specs.Shown.{start}
 use Rattle.soundness.specs.Nests.Laws.{domains_of}
-use Rattle.tails.specs.Nests.{split_nests}
+use Rattle.windows.specs.Nests.{slid_nests}
 use Rattle.outline.specs.declared.refusals.code.Flaw.{Flaw as FlawHeld}
 use Rattle.headline.specs.Head.{FailsHead}
 use Rattle.headline.proofs.Members.{got}
@@ -52,7 +52,7 @@ module _ (laws : Laws) (a : Algorithm) (p : Plan) (c : Certificate) (accepted : 
   debt code line f =
       let rules = rules_of a p c f.number in
       let outline = outline_of p c f.number f.group in
-      let nothing = laws.silent rules (split_nests outline rules (domains_of a)) f.part
+      let nothing = laws.silent rules (slid_nests outline rules (domains_of a)) f.part
       (obligations outline rules f.group.body (body_line p f.number) (start (grid_binders f.group.grid))) (accepted.shown f.number f.group f.stands) in
       absurd (cc (sym (ap told nothing) ∙ f.first))
 

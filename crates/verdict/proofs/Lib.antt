@@ -27,4 +27,5 @@ pub mod NearPlan
 pub mod ScanPlan
 pub mod HistPlan
 pub mod BlocksPlan
+pub mod SlidePlan
 pub mod WorkedPlans

@@ -14,13 +14,13 @@ use Rattle.soundness.specs.Obligations.{Updating, Known, Rules, Inside, Obligati
 use Rattle.soundness.specs.Origins.{Outline}
 use Rattle.soundness.specs.Shown.{are_within, Nests, shows, is_shown}
 use Rattle.soundness.specs.Nests.Laws.{domains_of}
-use Rattle.tails.specs.Nests.{split_nests}
+use Rattle.windows.specs.Nests.{slid_nests}
 use Rattle.verdict.specs.Shown.Plain.{names_of, left_spans, places_written, HasPlaces, IsReadable, IsIndexReadable, IsUnderWay, IsPlainStore}
 use Rattle.verdict.proofs.Bools.{both, all_both}
 
 module _ (rules : Rules) (a : Algorithm) (outline : Outline) where
   abbrev tests : Nests
-  tests = split_nests outline rules (domains_of a)
+  tests = slid_nests outline rules (domains_of a)
 
   abbrev test : Obligation → Bool
   test = is_shown rules tests

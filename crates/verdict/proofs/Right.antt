@@ -24,7 +24,7 @@ use Rattle.soundness.specs.Origins.{Given}
 use Rattle.soundness.specs.Shown.{ShownIsSound}
 use Rattle.soundness.specs.Stored.{KeepsValues}
 use Rattle.soundness.specs.Nests.Laws.{DomainsAreCounted, domains_of}
-use Rattle.tails.specs.Nests.{SplitNestsAreRight, split_nests}
+use Rattle.windows.specs.Nests.{SlidNestsAreRight, slid_nests}
 use Rattle.meaning.specs.Inlining.Laws.{PutInWherePossible, UpdatesKeepTheirSides}
 use Rattle.meaning.specs.Inlining.PutIn.{put_in_where_possible}
 use Rattle.headline.specs.Fetched.{fetched_cells}
@@ -46,7 +46,7 @@ pub record Laws : Type 0 where
   pub output : OutputIsThere
   pub numbers : PiecesAreNumbered
   pub sound : ShownIsSound
-  pub nests : SplitNestsAreRight
+  pub nests : SlidNestsAreRight
   pub counted : DomainsAreCounted
   pub placed : PutInWherePossible
   pub sides : UpdatesKeepTheirSides
@@ -93,7 +93,7 @@ module _ (laws : Laws) (rules : ℕ → Rules) (a : Algorithm) (p : Plan) (c : C
 
         piece_right : IsRightPiece a p c samples placed n g (grid_point g.grid k)
         piece_right = record {
-          sound = laws.sound given (rules n) (split_nests (outline_of p c n g) (rules n) (domains_of a)) g.body (body_line p n) (grid_binders g.grid) s fits
+          sound = laws.sound given (rules n) (slid_nests (outline_of p c n g) (rules n) (domains_of a)) g.body (body_line p n) (grid_binders g.grid) s fits
               (laws.nests given (rules n) (domains_of a) fits (laws.counted a samples (outline_of p c n g) w)) lines.covered (accepted.shown n g stands) (grid_respected g.grid k less);
           stores = definitions_same a w (stored_in a p) laws.placed laws.sides given (actions (setting_of p c n g) g.body s)
               (free_actions a (stored_in a p) (setting_of p c n g) g.body s lines.free) (lines.definitions samples s);

@@ -11,14 +11,16 @@ use Rattle.plan.specs.Lines.{lines, body_line}
 use Rattle.plan.specs.Plan.{Statement, Seq, For, Let, First, Guard, Alloc, Fetch, Store, Publish, Statements, Empty, Then}
 use Rattle.plan.specs.Certificate.Certificate.{Claim}
 use Rattle.soundness.specs.Claims.{In, updates, writes}
-use Rattle.soundness.specs.Obligations.{Binder, Known, Rules, Named, Inside, InTurn, Obligation, NotMade, OutOfOrder, obligation, store_line, places_of, has_symbol, region_of, follows, within, in_block, in_loop, onwards, made, claim_obligations, obligations, block_obligations}
+use Rattle.soundness.specs.Obligations.{Binder, Known, Rules, Named, Inside, InTurn, Obligation, NotMade, OutOfOrder, obligation, store_line, places_of, has_symbol, region_of, follows, within, in_block, in_loop, onwards, made, claim_obligations, kept_of, turn_obligations, block_obligations}
 use Rattle.soundness.specs.Given.{outline_of}
 use Rattle.soundness.specs.Origins.{Outline, or_same}
 use Rattle.soundness.specs.Shown.{is_within, are_within, Nests, shows, is_shown, start}
 use Rattle.soundness.proofs.Refines.{and_parts, name_refl}
+use Rattle.soundness.proofs.Kept.{none_kept}
 use Rattle.soundness.specs.Nests.Laws.{domains_of}
 use Rattle.soundness.specs.Nests.Plain.{SaysSame, is_small, PlainNestsAreAccepted}
-use Rattle.tails.specs.Nests.{PlainNestsAreTaken, split_nests}
+use Rattle.tails.specs.Nests.{PlainNestsAreTaken}
+use Rattle.windows.specs.Nests.{slid_nests}
 use Rattle.verdict.specs.Shown.Plain.{AreInside, IsOfNest, IsOfFetch, IsOfUpdate, IsPlainClaim, IsPlain, IsPlainBlock, PlainIsShown, PlainIsAccepted}
 use Rattle.soundness.specs.Binders.View.{grid_binders}
 use Rattle.verdict.proofs.Bools.{both, all_both, all_in, any_has, all_have, and_false, when}
@@ -28,9 +30,9 @@ use Rattle.verdict.proofs.Loads.{places_shown, store_shown}
 name_same : (m n : List ℕ) → m ≡ n → same_name m n ≡ true
 name_same m n e = ap (same_name m) (sym e) ∙ name_refl m
 
-module _ (accepted : PlainNestsAreAccepted) (taken : PlainNestsAreTaken) (rules : Rules) (a : Algorithm) (outline : Outline) (same : SaysSame rules) where
+module _ (accepted : PlainNestsAreAccepted) (taken : PlainNestsAreTaken) (rules : Rules) (a : Algorithm) (outline : Outline) (same : SaysSame rules) (none : outline.windows ≡ []) where
   abbrev tests : Nests
-  tests = split_nests outline rules (domains_of a)
+  tests = slid_nests outline rules (domains_of a)
 
   abbrev test : Obligation → Bool
   test = is_shown rules tests
@@ -65,7 +67,7 @@ module _ (accepted : PlainNestsAreAccepted) (taken : PlainNestsAreTaken) (rules 
     updating = updates outline.setting b claim.buffer claim.function
 
     abbrev Asked : Type 0
-    Asked = AreShown (claim_obligations outline rules first last known b c)
+    Asked = AreShown (claim_obligations outline rules [] first last known b c)
 
     abbrev MadeFrom : Bool → List Places → Type 0
     MadeFrom v places = tests.is_made known.binders c (if v then Some (claim.definition - 1) else None) places b ≡ true
@@ -139,19 +141,21 @@ module _ (accepted : PlainNestsAreAccepted) (taken : PlainNestsAreTaken) (rules 
         of (inr (inr k)) = of_update is.places is.stand k
 
   claims_asked : (first last : ℕ) (known : Known) (b : Statement) (cs : List ℕ) → ((c : ℕ) → In c cs → IsPlainClaim rules a outline known b c) →
-      AreShown (flat_map (claim_obligations outline rules first last known b) cs)
+      AreShown (flat_map (claim_obligations outline rules [] first last known b) cs)
   claims_asked first last known b [] h = refl
   claims_asked first last known b (c ∷ cs) h =
-      all_both test (claim_obligations outline rules first last known b c) (flat_map (claim_obligations outline rules first last known b) cs)
+      all_both test (claim_obligations outline rules [] first last known b c) (flat_map (claim_obligations outline rules [] first last known b) cs)
       (claim_asked first last known b c (h c (inl refl))) (claims_asked first last known b cs (λ d m. h d (inr m)))
 
   -- ---- what is asked of a statement
   mutual
-    pub plain_shown : (b : Statement) (line : ℕ) (known : Known) → IsPlain rules a outline b line known → AreShown (obligations outline rules b line known)
+    pub plain_shown : (b : Statement) (line : ℕ) (known : Known) → IsPlain rules a outline b line known → AreShown (turn_obligations outline rules [] b line known)
     plain_shown (Seq all) line known h = block_shown all line (in_block outline rules known) h
     plain_shown (For i x kind body) line known h =
-        both (not (has_symbol outline rules i x known)) (list_all test (obligations outline rules body (line + 1) (in_loop outline rules i x body known))) (ap not h.1)
-        (plain_shown body (line + 1) (in_loop outline rules i x body known) h.2)
+        let inner = in_loop outline rules i x body known in
+        both (not (has_symbol outline rules i x known)) (list_all test (turn_obligations outline rules (kept_of outline rules i body (line + 1)) body (line + 1) inner)) (ap not h.1)
+        (subst (λ ws. AreShown (turn_obligations outline rules ws body (line + 1) inner)) (sym (none_kept outline rules i body (line + 1) none))
+        (plain_shown body (line + 1) inner h.2))
     plain_shown (Let i pick forms) line known h = absurd h
     plain_shown (First i b c) line known h = absurd h
     plain_shown (Guard low high body) line known h = absurd h
@@ -161,23 +165,23 @@ module _ (accepted : PlainNestsAreAccepted) (taken : PlainNestsAreTaken) (rules 
         let n = outline.setting.dimensions b in store_shown rules a outline line known b (outline.setting.buffer_function b) k (take n at) (drop n at) e h
     plain_shown (Publish c) line known h = both _ _ h.used (both _ true h.inside refl)
 
-    block_shown : (all : Statements) (line : ℕ) (known : Known) → IsPlainBlock rules a outline all line known → AreShown (block_obligations outline rules all line known)
+    block_shown : (all : Statements) (line : ℕ) (known : Known) → IsPlainBlock rules a outline all line known → AreShown (block_obligations outline rules [] all line known)
     block_shown Empty line known h = refl
     block_shown (Then b rest) line known h =
         let last = line + lines b - 1 in
         let next = outline.named last in
-        all_both test (obligations outline rules b line (within outline rules b next known)) _ (plain_shown b line (within outline rules b next known) h.0)
-        (all_both test (flat_map (claim_obligations outline rules line last known b) next) (block_obligations outline rules rest (line + lines b) (onwards outline rules b next known))
+        all_both test (turn_obligations outline rules [] b line (within outline rules b next known)) _ (plain_shown b line (within outline rules b next known) h.0)
+        (all_both test (flat_map (claim_obligations outline rules [] line last known b) next) (block_obligations outline rules [] rest (line + lines b) (onwards outline rules b next known))
         (claims_asked line last known b next h.1) (block_shown rest (line + lines b) (onwards outline rules b next known) h.2))
 
 pub plain_is_shown : PlainNestsAreAccepted → PlainNestsAreTaken → PlainIsShown
-plain_is_shown accepted taken rules a outline same b line known h = plain_shown accepted taken rules a outline same b line known h
+plain_is_shown accepted taken rules a outline same none b line known h = plain_shown accepted taken rules a outline same none b line known h
 
 pub plain_is_accepted : PlainNestsAreAccepted → PlainNestsAreTaken → PlainIsAccepted
 plain_is_accepted accepted taken rules a p c same is = record {
   head = is.head;
   lines = is.lines;
-  shown = λ n g e. plain_shown accepted taken (rules n) a (outline_of p c n g) (same n) g.body (body_line p n) (start (grid_binders g.grid)) (is.plain n g e);
+  shown = λ n g e. plain_shown accepted taken (rules n) a (outline_of p c n g) (same n) is.windows g.body (body_line p n) (start (grid_binders g.grid)) (is.plain n g e);
   cells = is.cells;
   lists = is.lists;
   output = is.output;

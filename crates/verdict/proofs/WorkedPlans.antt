@@ -2,7 +2,7 @@
 use Rattle.std.proofs.Common.{◌≡◌, [], length, refl, inl, inr, arith}
 use Rattle.plan.specs.Lines.{body_line}
 use Rattle.soundness.specs.Binders.View.{grid_binders}
-use Rattle.tails.specs.Shown.{IsShown}
+use Rattle.windows.specs.Shown.{IsShown}
 use Rattle.rules.specs.Bounding.Rules.{rules_of}
 use Rattle.rules.specs.Widths.Widths.{wide_lines}
 use Rattle.outline.specs.declared.refusals.code.Flaw.{Flaw}

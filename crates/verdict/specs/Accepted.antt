@@ -10,7 +10,7 @@ use Rattle.validation.specs.Groups.Lines.{flaws_of_groups}
 use Rattle.validation.specs.Certificate.Certificate.{flaws_of_certificate}
 use Rattle.shares.specs.Has.{HasShares}
 use Rattle.soundness.specs.Binders.View.{grid_binders}
-use Rattle.tails.specs.Shown.{IsShown}
+use Rattle.windows.specs.Shown.{IsShown}
 use Rattle.verdict.specs.Shown.Wide.{HasHead, HasOutput}
 
 -- what is asked of a plan and its certificate
@@ -23,7 +23,7 @@ pub record IsAccepted (a : Algorithm) (p : Plan) (c : Certificate) : Type 0 wher
   pub widths : (n : ℕ) (g : Group) → slice_get p.groups n ≡ Some g → wide_lines (rules_of a p c n) (grid_binders g.grid) (body_line p n) g.body ≡ []
   -- all that the lines of a group owe is shown by bounds
   pub shown : (n : ℕ) (g : Group) → slice_get p.groups n ≡ Some g → IsShown (rules_of a p c n) a p c n g
-  -- no line of the certificate has a flaw of names or limits
+  -- no line of the certificate has a flaw of names or limits, and some loop keeps each window
   pub certificate : flaws_of_certificate a p c ≡ []
   -- the pieces part the cells among them and look only at what they need
   pub shares : HasShares p c

@@ -3,3 +3,4 @@ pub mod Hist
 pub mod Inc
 pub mod Near
 pub mod Scan
+pub mod Slide

@@ -10,7 +10,7 @@ use Rattle.soundness.specs.Given.{outline_of}
 use Rattle.soundness.specs.Obligations.{obligations}
 use Rattle.soundness.specs.Shown.{start}
 use Rattle.soundness.specs.Nests.Laws.{domains_of}
-use Rattle.tails.specs.Nests.{split_nests}
+use Rattle.windows.specs.Nests.{slid_nests}
 use Rattle.headline.specs.Numbers.{is_cell}
 use Rattle.outline.specs.Refusals.Codes.{number_of}
 use Rattle.outline.specs.declared.refusals.code.Flaw.{Flaw as FlawHeld}
@@ -51,7 +51,7 @@ module _ (a : Algorithm) (p : Plan) (c : Certificate) where
     pub group : Group
     pub stands : slice_get p.groups number ≡ Some group
     pub part : Part
-    pub first : told (first_unmet (rules_of a p c number) (split_nests (outline_of p c number group) (rules_of a p c number) (domains_of a)) part
+    pub first : told (first_unmet (rules_of a p c number) (slid_nests (outline_of p c number group) (rules_of a p c number) (domains_of a)) part
         (obligations (outline_of p c number group) (rules_of a p c number) group.body (body_line p number) (start (grid_binders group.grid)))) ≡ Some (record { code = code; line = line })
 
   -- the pieces have no shares, for the reason that the code says of the line

@@ -5,6 +5,7 @@ ghost use Rattle.verdict.specs.Examples.Hist.{HistIsAccepted};
 ghost use Rattle.verdict.specs.Examples.Inc.{IncIsAccepted};
 ghost use Rattle.verdict.specs.Examples.Near.{NearIsAccepted};
 ghost use Rattle.verdict.specs.Examples.Scan.{ScanIsAccepted};
+ghost use Rattle.verdict.specs.Examples.Slide.{SlideIsAccepted};
 
 /// The plan of one more than each pixel, in pieces of three and seven rows, is accepted by the checker's own rules.
 /// Where a row is owned twice or by none, another value is stored, or a piece owns what it does not claim, it has that
@@ -36,4 +37,11 @@ pub fn hist_is_accepted()
 /// or 65 turns are unrolled, they have that fault.
 pub fn blocks_are_accepted()
     ensures { BlocksAreAccepted }
+{}
+
+/// The plan of a mean of three rows, whose buffer slides along the loop over the rows, is accepted by the checker's own
+/// rules, with as many places for rows as are read and with more. Where it has a place too few, the window's fold is not the
+/// buffer's, a row is left out, or the claim has no window or two, it has that fault.
+pub fn slide_is_accepted()
+    ensures { SlideIsAccepted }
 {}

@@ -1,6 +1,6 @@
 -- Windows, computed.
 use Rattle.std.proofs.Common.{refl}
-use Rattle.windows.specs.Worked.{ThreeRowsSlide, SpansAreWindows}
+use Rattle.windows.specs.Worked.{ThreeRowsSlide, SplitRowsSlide, SpansAreWindows}
 
 pub three_rows_slide : ThreeRowsSlide
 three_rows_slide = record {
@@ -27,7 +27,29 @@ three_rows_slide = record {
   past_slid = refl;
   past_three = refl;
   past_four = refl;
+  at_limit = refl;
+  past_limit = refl;
   by_let = refl;
+}
+
+pub split_rows_slide : SplitRowsSlide
+split_rows_slide = record {
+  with_guard = refl;
+  with_roundup = refl;
+  with_shift = refl;
+  with_inner_outside = refl;
+  with_rows_split = refl;
+  no_place = refl;
+  along_inner = refl;
+  along_outer = refl;
+  along_outer_lacks = refl;
+  past_outer = refl;
+  past_inner = refl;
+  in_block = refl;
+  over_block = refl;
+  behind_guard = refl;
+  with_chain = refl;
+  in_chain = refl;
 }
 
 pub spans_are_windows : SpansAreWindows

@@ -1,8 +1,7 @@
 pub mod Back
+mod Beside
 mod Computed
-mod Handing
 pub mod Loops
-mod Made
-mod Slid
-pub mod Stores
+pub mod Parts
+mod Sliding
 pub mod Turns

@@ -3,10 +3,10 @@ use Rattle.std.proofs.Common.{◌≡◌, ℕ, ◌-◌, ◌≤◌, Bool, true, fa
 use Rattle.std.specs.Prelude.{◌||◌, if◌then◌else◌}
 use Rattle.std.specs.List.{list_any}
 use Rattle.soundness.specs.declared.binders.binder.Binder.{Binder as BinderHeld}
-use Rattle.soundness.specs.Obligations.{Binder}
+use Rattle.soundness.specs.Around.{Binder, is_loop, inside}
 use Rattle.soundness.specs.Binders.View.{binder_of, binders_of}
 use Rattle.tails.proofs.Joined.{first_and}
-use Rattle.windows.specs.Spans.{is_loop, inside, inside_or}
+use Rattle.windows.specs.Spans.{inside_or}
 
 or_swap : (a b c : Bool) → (a || (b || c)) ≡ (b || (a || c))
 or_swap true true c = refl

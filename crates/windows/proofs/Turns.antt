@@ -10,7 +10,8 @@ use Rattle.lin.specs.declared.span.Span1.{Span1}
 use Rattle.plan.specs.declared.stmt.Pick.TheVariants.{Min, Max}
 use Rattle.plan.specs.declared.stmt.Places.TheVariants.{From}
 use Rattle.plan.specs.Symbols.{Symbols, bind, form_value, largest, smallest}
-use Rattle.soundness.specs.Obligations.{Binder, Lies, Rules, form_has, span_has}
+use Rattle.soundness.specs.Around.{Binder, Lies, inside, AreTurns}
+use Rattle.soundness.specs.Obligations.{Rules, form_has, span_has}
 use Rattle.soundness.specs.Shown.{raised, is_seated}
 use Rattle.soundness.specs.Nests.Tests.{has_ends, is_short}
 use Rattle.soundness.proofs.Forms.{is_not, rec_weaker, turn_lies}
@@ -22,7 +23,7 @@ use Rattle.tails.specs.Moves.{is_outer}
 use Rattle.tails.proofs.Covering.{all_within}
 use Rattle.tails.proofs.Lets.{outer_value, picked_holds}
 use Rattle.tails.proofs.Values.{rest_of, split_value, bound_value, beside_value, bind_beside, times_one, int_le_true}
-use Rattle.windows.specs.Spans.{inside, AreTurns, is_rising_form, is_rising, NeverFalls, FitsFold}
+use Rattle.windows.specs.Spans.{is_rising_form, is_rising, NeverFalls, FitsFold}
 use Rattle.windows.specs.Arms.{is_still}
 use Rattle.windows.specs.Laws.{WindowsAreRight}
 

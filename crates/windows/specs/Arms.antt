@@ -1,55 +1,39 @@
 -- A claim that is made along a window: by one nest in the first turn of a loop, by another, of the new rows alone, in each later one.
-use Rattle.std.specs.Prelude.{ℕ, zero, suc, ◌==◌, ◌&&◌, Bool, true, false, not, List, [], ◌∷◌, ◌++◌, map, Option, Some, None, pos, ◌-ℤ◌}
+use Rattle.std.specs.Prelude.{ℕ, zero, suc, ◌==◌, ◌||◌, ◌&&◌, Bool, true, false, not, List, [], ◌∷◌, ◌++◌, map, take, drop, slice_get, Option, Some, None, pos, ◌-ℤ◌}
 use Rattle.std.specs.List.{list_any, list_all}
-use Rattle.lin.specs.Forms.{Form, factor_of}
-use Rattle.lin.specs.Search.{is_empty}
+use Rattle.std.specs.Option.{option_map_or}
+use Rattle.lin.specs.Forms.{Form, number, factor_of, combined}
 use Rattle.lin.specs.declared.span.Span1.{Span1}
-use Rattle.meaning.specs.Names.{same_name}
 use Rattle.plan.specs.declared.certificate.cert.Window.{Window}
 use Rattle.plan.specs.declared.stmt.Places.{Places}
 use Rattle.plan.specs.declared.stmt.Places.TheVariants.{From, Folded}
-use Rattle.plan.specs.Plan.{Statement, First, Store}
+use Rattle.plan.specs.Plan.{Statement, First}
 use Rattle.plan.specs.Semantics.Actions.{Setting}
 use Rattle.plan.specs.Certificate.Certificate.{Claim}
-use Rattle.soundness.specs.Obligations.{Binder, Rules, exactly, span_has, is_form}
-use Rattle.soundness.specs.Shown.{raised, is_within, is_seated, are_seated}
-use Rattle.soundness.specs.Nests.Tests.{left_of, over_of, known_span}
-use Rattle.tails.specs.Steps.{Step, Spine, spine_of, binder, along}
+use Rattle.soundness.specs.Around.{Binder, inside}
+use Rattle.soundness.specs.Obligations.{Rules, exactly, span_has}
+use Rattle.soundness.specs.Shown.{is_within, is_seated}
+use Rattle.tails.specs.Steps.{Step, spine_of, binder, along}
 use Rattle.tails.specs.Moves.{is_outer}
 use Rattle.tails.specs.Maps.{is_scoped, covers}
-use Rattle.tails.specs.Apart.{form_of, is_apart}
-use Rattle.windows.specs.Spans.{inside, is_window}
+use Rattle.tails.specs.Stored.{Stored, stored_by, has_places}
+use Rattle.windows.specs.Spans.{is_window}
 
 -- ---- new rows
 
--- the rows of a span above where its upper form was in the turn before
-abbrev pub rows_above : ℕ → Span1 → Form → Span1
-rows_above i x u = record { lower = x.lower ++ raised u (pos 1 -ℤ factor_of u.terms i) ∷ []; upper = x.upper }
+-- the row above where the form was in the turn before; None where that leaves the limits
+abbrev pub row_above : ℕ → Form → Option Form
+row_above i u = combined u (pos 1) (number (pos 1 -ℤ factor_of u.terms i))
 
-abbrev pub each_rows_above : ℕ → Span1 → List Span1 → List Form → List (List Span1)
-each_rows_above i x xs us = map (λ u. rows_above i x u ∷ xs) us
+-- a span's rows from a form on
+abbrev pub rows_from : Span1 → Form → Span1
+rows_from x f = record { lower = x.lower ++ f ∷ []; upper = x.upper }
 
-abbrev pub each_behind : Span1 → Option (List (List Span1)) → Option (List (List Span1))
-each_behind x None = None
-each_behind x (Some all) = Some (map (λ xs. x ∷ xs) all)
-
--- for each upper form of the dimension, the region of the rows above where it was in the turn before; None without that dimension
-abbrev pub news : ℕ → ℕ → List Span1 → Option (List (List Span1))
-news i d [] = None
-news i zero (x ∷ xs) = Some (each_rows_above i x xs x.upper)
-news i (suc d) (x ∷ xs) = each_behind x (news i d xs)
+-- a region with a span in the place of a dimension's
+abbrev pub region_with : ℕ → List Span1 → Span1 → List Span1
+region_with d xs y = take d xs ++ y ∷ drop (suc d) xs
 
 -- ---- places
-
--- the first place is the same at all turns of the steps
-abbrev pub is_steady : List Binder → Places → Bool
-is_steady steps (From l n) = is_outer steps l
-is_steady steps (Folded n) = true
-
--- the coordinates that a line stores at
-abbrev pub line_forms : Setting → Statement → List Form
-line_forms setting (Store b k at e) = map form_of (left_of setting b at)
-line_forms setting _ = []
 
 -- the fold is that of the places, 0 where they are not folded
 abbrev pub is_fold_of : ℕ → Places → Bool
@@ -60,83 +44,109 @@ is_fold_of n (Folded m) = n == m
 abbrev pub is_still : ℕ → List Binder → Span1 → Bool
 is_still i inner x = not (span_has i x) && (list_all (is_outer inner) x.lower && list_all (is_outer inner) x.upper)
 
--- ---- one nest
+-- how many dimensions there are before one: of it, and of the dimensions behind the first
+abbrev pub one_less : Option ℕ → Option ℕ
+one_less None = None
+one_less (Some zero) = None
+one_less (Some (suc d)) = Some d
 
-module _ (setting : Setting) (rules : Rules) (bs : List Binder) (claim : Claim) (places : List Places) where
-  -- the steps round a store of the function's pure definition: its coordinates reach these regions, and have places
-  abbrev pub is_arm : List (List Span1) → List Step → Statement → Bool
-  is_arm regions steps (Store b zero at e) =
-      (claim.definition == 0) && (same_name (setting.buffer_function b) claim.function
-      && (list_all is_form (left_of setting b at) && (is_empty (over_of setting b at)
-      && (list_all (is_apart (along steps)) bs && (list_all (is_steady (along steps)) places
-      && (are_seated rules (along steps ++ bs) (map known_span (left_of setting b at)) places
-      && (is_scoped (map binder steps) && list_all (covers rules bs steps (map form_of (left_of setting b at))) regions)))))))
-  is_arm regions steps _ = false
+-- it stands first
+abbrev pub is_here : Option ℕ → Bool
+is_here None = false
+is_here (Some zero) = true
+is_here (Some (suc d)) = false
 
-  abbrev pub fills : Option (List (List Span1)) → Option Spine → Bool
-  fills None o = false
-  fills (Some regions) None = false
-  fills (Some regions) (Some n) = is_arm regions n.steps n.line
+-- whether the first dimension is asked of: the one alone, or all others
+abbrev pub is_asked : (alone : Bool) → Option ℕ → Bool
+is_asked true d = is_here d
+is_asked false d = not (is_here d)
 
-  -- the span and what the nest stores at lie together within so many numbers from some lower form on
+module _ (rules : Rules) (bs : List Binder) where
+  -- ---- what a nest stores, and the region
+
+  -- the span and what is stored at the form lie together within so many numbers from an outer form on
+  abbrev pub lie_from : List Step → Span1 → Form → ℕ → Form → Bool
+  lie_from steps x f n l = is_outer (along steps) l && (is_seated rules bs x (From l n) && is_seated rules (along steps ++ bs) (exactly f) (From l n))
+
+  -- from some lower form on
   abbrev pub are_together : List Step → Span1 → Form → ℕ → Bool
-  are_together steps x f n =
-      list_any (λ l. is_outer (along steps) l && (is_seated rules bs x (From l n) && is_seated rules (along steps ++ bs) (exactly f) (From l n))) x.lower
+  are_together steps x f n = list_any (lie_from steps x f n) x.lower
 
   -- where the coordinate is folded
   abbrev pub axis_holds : List Step → Span1 → Form → Places → Bool
   axis_holds steps x f (From l n) = true
   axis_holds steps x f (Folded n) = are_together steps x f n
 
-  abbrev pub all_hold : List Step → List Span1 → List Form → List Places → Bool
-  all_hold steps [] [] [] = true
-  all_hold steps (x ∷ xs) (f ∷ fs) (a ∷ places) = axis_holds steps x f a && all_hold steps xs fs places
-  all_hold steps _ _ _ = false
-
-  -- in all dimensions but one
-  abbrev pub others_hold : ℕ → List Step → List Span1 → List Form → List Places → Bool
-  others_hold zero steps (x ∷ xs) (f ∷ fs) (a ∷ places) = all_hold steps xs fs places
-  others_hold (suc d) steps (x ∷ xs) (f ∷ fs) (a ∷ places) = axis_holds steps x f a && others_hold d steps xs fs places
-  others_hold d steps _ _ _ = false
-
-  -- and in that one
-  abbrev pub one_holds : ℕ → List Step → List Span1 → List Form → List Places → Bool
-  one_holds zero steps (x ∷ xs) (f ∷ fs) (a ∷ places) = axis_holds steps x f a
-  one_holds (suc d) steps (x ∷ xs) (f ∷ fs) (a ∷ places) = one_holds d steps xs fs places
-  one_holds d steps _ _ _ = false
-
-  abbrev pub others_stay : ℕ → Option Spine → Bool
-  others_stay d None = false
-  others_stay d (Some n) = others_hold d n.steps claim.region (line_forms setting n.line) places
-
-  abbrev pub one_stays : ℕ → Option Spine → Bool
-  one_stays d None = false
-  one_stays d (Some n) = one_holds d n.steps claim.region (line_forms setting n.line) places
-
-  -- ---- the claim
-
-  -- the first turn makes the whole region, each later one what lies above some upper form of the turn before; what is stored in the
-  -- other dimensions leaves the region's places alone
-  abbrev pub is_slid : ℕ → ℕ → Statement → Bool
-  is_slid i d (First j a c) =
-      (j == i) && (fills (Some (claim.region ∷ [])) (spine_of a claim.buffer) && (fills (news i d claim.region) (spine_of c claim.buffer)
-      && (others_stay d (spine_of a claim.buffer) && others_stay d (spine_of c claim.buffer))))
-  is_slid i d _ = false
+  -- in the dimension that so many stand before, or in all others
+  abbrev pub hold : (alone : Bool) → Option ℕ → List Step → List Span1 → List Form → List Places → Bool
+  hold alone d steps [] [] [] = true
+  hold alone d steps (x ∷ xs) (f ∷ fs) (a ∷ places) = (not (is_asked alone d) || axis_holds steps x f a) && hold alone (one_less d) steps xs fs places
+  hold alone d steps _ _ _ = false
 
   -- ---- the window
 
-  -- the window's span is the region's in its dimension, its fold that of the places, and the region moves along no other dimension
+  -- the window's span is the region's in its dimension, its fold that of the places
+  abbrev pub is_axis : Window → Span1 → Places → Bool
+  is_axis w x a = (is_within rules bs x w.span && is_within rules bs w.span x) && (is_window rules bs w.symbol w.fold x && is_fold_of w.fold a)
+
+  -- and the region moves along no dimension behind it
+  abbrev pub moves_first : Window → Span1 → List Span1 → Places → Bool
+  moves_first w x xs a = is_axis w x a && list_all (is_still w.symbol (inside w.symbol bs)) xs
+
+  -- nor along one before it
   abbrev pub is_along : Window → ℕ → List Span1 → List Places → Bool
-  is_along w zero (x ∷ xs) (a ∷ places) =
-      (is_within rules bs x w.span && is_within rules bs w.span x)
-      && (is_window rules bs w.symbol w.fold x && (is_fold_of w.fold a && list_all (is_still w.symbol (inside w.symbol bs)) xs))
+  is_along w zero (x ∷ xs) (a ∷ places) = moves_first w x xs a
   is_along w (suc d) (x ∷ xs) (a ∷ places) = is_still w.symbol (inside w.symbol bs) x && is_along w d xs places
   is_along w d _ _ = false
 
+  -- ---- one nest
+
+  module _ (region : List Span1) where
+    -- it reaches the region's rows above where an upper form was in the turn before
+    abbrev pub reaches_above : ℕ → ℕ → Span1 → Stored → Form → Bool
+    reaches_above i d x n u = option_map_or (λ f. covers rules bs n.steps n.forms (region_with d region (rows_from x f))) (row_above i u) false
+
+    -- of each upper form
+    abbrev pub reaches_new : ℕ → ℕ → Stored → Bool
+    reaches_new i d n = option_map_or (λ (x : Span1). list_all (reaches_above i d x n) x.upper) (slice_get region d) false
+
+    module _ (places : List Places) where
+      -- the points have places, and in the other dimensions what is stored leaves those of the region alone
+      abbrev pub others_stay : ℕ → Stored → Bool
+      others_stay d n = has_places true rules bs n places && (is_scoped (map binder n.steps) && hold false (Some d) n.steps region n.forms places)
+
+      -- and in the window's dimension
+      abbrev pub one_stays : ℕ → Option Stored → Bool
+      one_stays d None = false
+      one_stays d (Some n) = hold true (Some d) n.steps region n.forms places
+
+      -- it makes the region
+      abbrev pub makes_all : ℕ → Option Stored → Bool
+      makes_all d None = false
+      makes_all d (Some n) = others_stay d n && covers rules bs n.steps n.forms region
+
+      -- or the rows that are new
+      abbrev pub makes_new : ℕ → ℕ → Option Stored → Bool
+      makes_new i d None = false
+      makes_new i d (Some n) = others_stay d n && reaches_new i d n
+
+-- what an arm stores of the claim
+abbrev pub arm : Setting → Claim → Statement → Option Stored
+arm setting claim a = stored_by setting claim (spine_of a claim.buffer)
+
+module _ (setting : Setting) (rules : Rules) (bs : List Binder) (claim : Claim) (places : List Places) where
+  -- the first turn makes the whole region, each later one what lies above some upper form of the turn before
+  abbrev pub is_slid : Window → Statement → Bool
+  is_slid w (First i a c) =
+      (i == w.symbol) && (makes_all rules bs claim.region places w.dimension (arm setting claim a)
+      && makes_new rules bs claim.region places w.symbol w.dimension (arm setting claim c))
+  is_slid w _ = false
+
   abbrev pub arms_stay : ℕ → Statement → Bool
-  arms_stay d (First j a c) = one_stays d (spine_of a claim.buffer) && one_stays d (spine_of c claim.buffer)
+  arms_stay d (First i a c) = one_stays rules bs claim.region places d (arm setting claim a) && one_stays rules bs claim.region places d (arm setting claim c)
   arms_stay d _ = false
 
   -- the buffer holds the window's rows at each turn of its loop
   abbrev pub is_held : Window → Statement → Bool
-  is_held w a = is_window rules bs w.symbol w.fold w.span && (is_along w w.dimension claim.region places && arms_stay w.dimension a)
+  is_held w a =
+      is_window rules bs w.symbol w.fold w.span && (is_along rules bs w w.dimension claim.region places && arms_stay w.dimension a)

@@ -1,7 +1,7 @@
 -- Windows.
 pub mod Spans
 pub mod Arms
-pub mod Handed
-pub mod Sliding
 pub mod Laws
+pub mod Nests
+pub mod Shown
 pub mod Worked

@@ -1,34 +1,17 @@
 -- Windows: spans along a loop of which neither end falls, and which are short enough for the places of a buffer.
-use Rattle.std.specs.Prelude.{◌≡◌, ℕ, ◌==◌, ◌||◌, ◌&&◌, Bool, false, if◌then◌else◌, List, [], ◌∷◌, pos, ◌+ℤ◌, ◌-ℤ◌, ◌≤ℤ◌, int_le, ◌⊎◌}
+use Rattle.std.specs.Prelude.{◌≡◌, ℕ, ◌==◌, ◌||◌, ◌&&◌, Bool, if◌then◌else◌, List, pos, ◌+ℤ◌, ◌-ℤ◌, ◌≤ℤ◌, int_le, ◌⊎◌}
 use Rattle.std.specs.List.{list_any, list_all}
 use Rattle.lin.specs.Forms.{Form, factor_of}
 use Rattle.lin.specs.declared.span.Span1.{Span1}
 use Rattle.plan.specs.Symbols.{Symbols, largest, smallest}
-use Rattle.soundness.specs.Obligations.{Binder, Ranged, Picked, Passed, Rules}
+use Rattle.soundness.specs.Around.{Binder, is_loop, inside, AreTurns}
+use Rattle.soundness.specs.Obligations.{Rules}
 use Rattle.soundness.specs.Nests.Tests.{has_ends, is_short}
-use Rattle.tails.specs.Steps.{binds}
 use Rattle.tails.specs.Moves.{is_outer}
 
--- ---- turns of one run of a loop
-
--- the loop of the symbol, or the grid's symbol
-abbrev pub is_loop : ℕ → Binder → Bool
-is_loop i (Ranged j x) = j == i
-is_loop i (Picked j pick ls) = false
-is_loop i (Passed low high) = false
-
--- what is bound inside the loop of the symbol, the innermost first: all, where it has no loop
-abbrev pub inside : ℕ → List Binder → List Binder
-inside i [] = []
-inside i (b ∷ bs) = if is_loop i b then [] else b ∷ inside i bs
-
--- the same where these have the loop, else others
+-- what is bound inside the loop of the symbol where these have the loop, else others
 abbrev pub inside_or : ℕ → List Binder → List Binder → List Binder
 inside_or i bs others = if list_any (is_loop i) bs then inside i bs else others
-
--- all symbols but the loop's and those bound inside it have the same values
-abbrev pub AreTurns : ℕ → List Binder → Symbols → Symbols → Type 0
-AreTurns i inner s t = (j : ℕ) → (j == i) ≡ false → list_any (binds j) inner ≡ false → t.value j ≡ s.value j
 
 -- ---- the test
 

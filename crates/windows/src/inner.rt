@@ -1,11 +1,11 @@
 //! What is bound inside a loop.
 
 ghost use Rattle.std.specs.Prelude.{◌≡◌};
-ghost use Rattle.std.specs.List.{list_any};
+ghost use Rattle.std.specs.List.{list_all, list_any};
+ghost use Rattle.soundness.specs.Around.{binds, inside, is_loop};
 ghost use Rattle.soundness.specs.Binders.View.{binder_of, binders_of};
 ghost use Rattle.tails.specs.Moves.{is_outer};
-ghost use Rattle.tails.specs.Steps.{binds};
-ghost use Rattle.windows.specs.Spans.{inside, inside_or, is_loop};
+ghost use Rattle.windows.specs.Spans.{inside_or};
 
 use lin::{Lin, Sym};
 use soundness::binders::Binder;
@@ -80,4 +80,11 @@ pub(crate) fn is_outer(binders: &[Binder<'_>], form: &Lin) -> bool
     form.terms()
         .iter()
         .all(|term| !is_bound(term.symbol, binders))
+}
+
+/// Whether no symbol of the forms is bound by them.
+pub(crate) fn are_outer(binders: &[Binder<'_>], forms: &[Lin]) -> bool
+    ensures { result ≡ list_all (is_outer (binders_of binders.now)) forms.now }
+{
+    forms.iter().all(|form| is_outer(binders, form))
 }

@@ -1,6 +1,9 @@
 //! What is proved of windows.
 
-ghost use Rattle.windows.specs.Laws.{LoopsHandOn, SlidIsMade, SlidIsMeant, SlidingIsMade, TurnsHandOn, WindowsAreRight};
+ghost use Rattle.windows.specs.Laws.{SlidIsMeant, WindowsAreRight};
+ghost use Rattle.windows.specs.Nests.{SlidNestsAreRight};
+
+use tails::laws::split_nests_are_right;
 
 /// A span that the test says yes to is a window, whatever the symbols stand for: neither end falls along
 /// the loop, and there are at most as many rows as the fold has places.
@@ -15,25 +18,11 @@ pub fn slid_is_meant()
     ensures { SlidIsMeant }
 {}
 
-/// What such a statement does makes its claim, where it finds what the turn before left.
-pub fn sliding_is_made()
-    ensures { SlidingIsMade }
-{}
-
-/// A claim that slides along a window that holds is made at each turn: of what the turn before left, if
-/// there is one, and of what this one stores.
-pub fn slid_is_made()
-    ensures { SlidIsMade }
-{}
-
-/// What a turn leaves of a claim, whose statement stands in the loop's body and along whose region a
-/// window moves, is known where that statement begins in the next turn.
-pub fn turns_hand_on()
-    ensures { TurnsHandOn }
-{}
-
-/// A loop with windows is sound where each of its turns is, each of which finds what the turn before it
-/// left of the windows' claims.
-pub fn loops_hand_on()
-    ensures { LoopsHandOn }
-{}
+/// A nest that the tests of plain nests, of split ones and of windows say yes to makes its claim, does the
+/// steps of its update in their order, or makes its claim along the window, whatever the symbols around it
+/// stand for.
+pub fn slid_nests_are_right()
+    ensures { SlidNestsAreRight }
+{
+    split_nests_are_right();
+}

@@ -76,6 +76,7 @@ span_of places names vars (Choice c a b) = anything
 abbrev pub rules_for : ℕ → ℕ → Rules
 rules_for last rows = record {
   claim_line = λ c. 0;
+  window_line = λ c. 0;
   last = λ f. 1;
   extents = constants (pos 0) (pos 2) ∷ constants (pos 0) (pos rows) ∷ [];
   own = region last;

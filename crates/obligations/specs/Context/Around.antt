@@ -1,6 +1,8 @@
 -- What is known at a line, as memory has it.
 use Rattle.std.specs.Prelude.{◌≡◌, ℕ, ◌||◌, Bool, List, [], ◌∷◌, ◌++◌, map}
 use Rattle.std.specs.List.{list_any}
+use Rattle.std.specs.Borrow.{Bor}
+use Rattle.plan.specs.declared.certificate.cert.Window.{Window}
 use Rattle.plan.specs.Plan.{Statement}
 use Rattle.soundness.specs.Origins.{Outline}
 use Rattle.soundness.specs.Obligations.{Buffer, Updating, Known, Rules, span_has, binder_has, places_have, region_of, more_binders, more_buffers}
@@ -16,6 +18,10 @@ buffer_of x = record { name = x.name; places = x.places.now }
 abbrev pub buffers_of : List BufferHeld → List Buffer
 buffers_of [] = []
 buffers_of (x ∷ xs) = buffers_of xs ++ buffer_of x ∷ []
+
+-- windows in memory
+abbrev pub windows_of : List (Bor Window) → List Window
+windows_of ws = map (λ w. w.now) ws
 
 abbrev pub nest_of : Nest → Updating
 nest_of u = record { before = u.before; next = u.next }

@@ -15,9 +15,9 @@ use Rattle.plan.specs.Lines.{certificate_line}
 use Rattle.plan.specs.Plan.{Plan}
 use Rattle.plan.specs.Certificate.Cells.{own_region}
 use Rattle.plan.specs.Certificate.Certificate.{Certificate}
-use Rattle.plan.specs.Certificate.Lines.{claim_line}
+use Rattle.plan.specs.Certificate.Lines.{claim_line, window_line}
 use Rattle.soundness.specs.Given.{function_named}
-use Rattle.soundness.specs.Obligations.{Binder, Rules, anything}
+use Rattle.soundness.specs.Obligations.{Binder, Rules, anything, first_window}
 use Rattle.soundness.specs.Binders.View.{grid_span}
 use Rattle.rules.specs.Bounding.Called.{called, update_count}
 use Rattle.rules.specs.Bounding.Scopes.{scope_of, shown_at_most}
@@ -51,6 +51,7 @@ module _ (a : Algorithm) (p : Plan) (c : Certificate) where
   abbrev pub rules_of : ℕ → Rules
   rules_of n = record {
     claim_line = claim_line c (certificate_line p);
+    window_line = λ k. window_line c (certificate_line p) (first_window c.windows k);
     last = λ f. update_count (function_named a.functions f);
     extents = map grid_span a.input_extents;
     own = or_nowhere (own_region c.own n);

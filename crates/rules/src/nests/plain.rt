@@ -15,6 +15,7 @@ use crate::nests::ranges::last_of;
 use crate::nests::unknown::{claim_in, no_claim};
 use algo::Algo;
 use outline::Outlined;
+use plan::certificate::Window;
 use plan::{Places, Stmt};
 use soundness::binders::{Binder, Bounds, NestTests};
 use std::alloc::{AllocError, Global};
@@ -114,5 +115,29 @@ impl<B: Bounds> NestTests for PlainNests<'_, B> {
             None => Ok(false),
             Some(nested) => is_ordered(&at, self.outlined, self.algo, claim, &nested),
         }
+    }
+
+    fn is_slid(
+        &self,
+        alloc: Global,
+        binders: &[Binder<'_>],
+        window: &Window,
+        claim: u32,
+        places: &[Places],
+        by: &Stmt,
+    ) -> Result<bool, AllocError> {
+        Ok(false)
+    }
+
+    fn is_held(
+        &self,
+        alloc: Global,
+        binders: &[Binder<'_>],
+        window: &Window,
+        claim: u32,
+        places: &[Places],
+        by: &Stmt,
+    ) -> Result<bool, AllocError> {
+        Ok(false)
     }
 }

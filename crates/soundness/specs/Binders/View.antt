@@ -1,6 +1,5 @@
 -- The binders that those in memory are.
-use Rattle.std.specs.Prelude.{ℕ, ◌+◌, List, [], ◌∷◌, ◌++◌, ℤ, pos, ◌-ℤ◌}
-use Rattle.std.specs.Borrow.{Bor}
+use Rattle.std.specs.Prelude.{ℕ, ◌+◌, List, [], ◌∷◌, ◌++◌, pos, ◌-ℤ◌}
 use Rattle.lin.specs.Forms.{number}
 use Rattle.lin.specs.declared.span.Span1.{Span1}
 use Rattle.soundness.specs.Obligations.{Binder, Ranged, Picked, Passed}

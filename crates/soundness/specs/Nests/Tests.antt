@@ -180,9 +180,11 @@ module _ (setting : Setting) where
       is_in_order bs claim None = false
       is_in_order bs claim (Some n) = is_ordered bs claim n.loops n.line
 
--- the tests of nests
+-- the tests of nests: none is along a window
 abbrev pub plain_nests : Outline → Rules → (List ℕ → ℕ → Option (List Range)) → Nests
 plain_nests outline rules domain = record {
   is_made = λ bs c from places a. makes outline.setting rules domain bs (outline.claim c) from places (nest_of a (outline.claim c).buffer);
   is_in_turn = λ bs c a. is_in_order outline.setting rules domain bs (outline.claim c) (nest_of a (outline.claim c).buffer);
+  is_slid = λ bs w c places a. false;
+  is_held = λ bs w c places a. false;
 }

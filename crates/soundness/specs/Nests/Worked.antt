@@ -32,6 +32,7 @@ binding_of (Passed low high ∷ bs) i = binding_of bs i
 abbrev pub forms_alone : Rules
 forms_alone = record {
   claim_line = λ c. 0;
+  window_line = λ c. 0;
   last = λ f. 0;
   extents = [];
   own = [];

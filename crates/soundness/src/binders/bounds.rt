@@ -9,6 +9,7 @@ ghost use Rattle.soundness.specs.Binders.View.{binders_of};
 
 use crate::binders::binder::Binder;
 use lin::{Region, Span1};
+use plan::certificate::Window;
 use plan::{Places, Stmt};
 use std::alloc::{AllocError, Global};
 use tree::Expr;
@@ -77,4 +78,30 @@ pub trait NestTests {
         by: &Stmt,
     ) -> Result<bool, AllocError>
         ensures { IfOk result (λ yes. yes ≡ (nests self.now).is_in_turn (binders_of binders.now) claim (statement_of by.now)) };
+
+    /// Whether the statement is shown to make the claim along the window: all of its region in the first
+    /// turn of the window's loop, in each later one all that the turn before did not need.
+    fn is_slid(
+        &self,
+        alloc: Global,
+        binders: &[Binder<'_>],
+        window: &Window,
+        claim: u32,
+        places: &[Places],
+        by: &Stmt,
+    ) -> Result<bool, AllocError>
+        ensures { IfOk result (λ yes. yes ≡ (nests self.now).is_slid (binders_of binders.now) window.now claim places.now (statement_of by.now)) };
+
+    /// Whether the places of the window's buffer are shown to hold what the statement makes so, at each
+    /// turn of the window's loop.
+    fn is_held(
+        &self,
+        alloc: Global,
+        binders: &[Binder<'_>],
+        window: &Window,
+        claim: u32,
+        places: &[Places],
+        by: &Stmt,
+    ) -> Result<bool, AllocError>
+        ensures { IfOk result (λ yes. yes ≡ (nests self.now).is_held (binders_of binders.now) window.now claim places.now (statement_of by.now)) };
 }

@@ -1,21 +1,24 @@
 -- What is wrong with the lines of a certificate by names, limits and lists of forms.
-use Rattle.std.specs.Prelude.{ℕ, ◌==◌, nat_le, nat_lt, Bool, false, ◌&&◌, not, List, ◌++◌, length, take, Option, Some, None, slice_get}
+use Rattle.std.specs.Prelude.{ℕ, ◌+◌, ◌==◌, nat_le, nat_lt, Bool, false, ◌&&◌, ◌||◌, not, List, [], ◌∷◌, ◌++◌, length, take, Option, Some, None, slice_get}
 use Rattle.std.specs.List.{list_all, list_any, range_with_len}
 use Rattle.lin.specs.declared.span.Span1.{Span1}
 use Rattle.meaning.specs.Algorithm.{Function, Algorithm}
 use Rattle.meaning.specs.Names.{same_name}
 use Rattle.meaning.specs.Conditions.{function_named}
 use Rattle.plan.specs.Plan.{Group, Plan}
-use Rattle.plan.specs.Lines.{certificate_line}
+use Rattle.plan.specs.Lines.{body_line, certificate_line}
 use Rattle.plan.specs.declared.certificate.cert.Own.{Own}
 use Rattle.plan.specs.declared.certificate.cert.Need.{Need}
 use Rattle.plan.specs.declared.certificate.cert.Window.{Window}
 use Rattle.plan.specs.Certificate.Certificate.{Claim, Certificate}
 use Rattle.plan.specs.Certificate.Lines.{own_line, need_line, claim_line, window_line}
 use Rattle.plan.specs.Semantics.Setting.{Buffer, allocated}
-use Rattle.outline.specs.Forms.{spans_are_over, spans_are_within_limits, have_ends, grid_symbols}
+use Rattle.soundness.specs.Given.{outline_of}
+use Rattle.outline.specs.Kept.{keeps}
+use Rattle.outline.specs.Forms.{are_over, spans_are_over, are_within_limits, spans_are_within_limits, is_listed, have_ends, grid_symbols}
 use Rattle.outline.specs.Flaws.{Flaw, unless}
-use Rattle.validation.specs.Certificate.Lines.{line_flaws, each_line}
+use Rattle.validation.specs.Groups.Lines.{is_one_of}
+use Rattle.validation.specs.Certificate.Lines.{line_flaws, window_line_flaws, each_line}
 use Rattle.validation.specs.Certificate.Placing.{Place, place_at}
 
 -- as many spans, over these symbols
@@ -74,6 +77,37 @@ is_at (Some x) k =
 abbrev pub claim_is_known : List Function → List Group → Claim → Bool
 claim_is_known functions groups k = is_of_function (function_named functions k.function) k && is_at (place_at groups k.line) k
 
+-- ---- windows
+
+-- the window's symbol is that of a loop round the statement, and the window's span is in symbols that are bound there
+abbrev pub is_along : Option Place → Window → Bool
+is_along None w = false
+is_along (Some x) w = is_one_of x.spot.loops w.symbol && (are_over x.spot.symbols w.span.lower && are_over x.spot.symbols w.span.upper)
+
+-- the claim is known, has the window's dimension, and stands where such a statement ends
+abbrev pub is_window_of : List Group → Option Claim → Window → Bool
+is_window_of groups None w = false
+is_window_of groups (Some k) w = nat_lt w.dimension (length k.region) && is_along (place_at groups k.line) w
+
+abbrev pub window_is_known : List Group → List Claim → Window → Bool
+window_is_known groups claims w = is_window_of groups (slice_get claims w.claim) w
+
+-- some loop of these groups, which are the plan's from this number on, keeps the window
+abbrev pub groups_keep : Plan → Certificate → Window → ℕ → List Group → Bool
+groups_keep p c w n [] = false
+groups_keep p c w n (g ∷ gs) = keeps (outline_of p c n g) w g.body (body_line p n) || groups_keep p c w (n + 1) gs
+
+-- no earlier window is of its claim, and some loop keeps it
+abbrev pub is_used : Plan → Certificate → List Window → Window → Bool
+is_used p c earlier w = not (list_any (λ v. v.claim == w.claim) earlier) && groups_keep p c w 0 p.groups
+
+-- its forms are within the limits, and there are one to four at each end
+abbrev pub span_is_within_limits : Span1 → Bool
+span_is_within_limits x = are_within_limits x.lower && are_within_limits x.upper
+
+abbrev pub has_ends : Span1 → Bool
+has_ends x = is_listed x.lower && is_listed x.upper
+
 -- ---- the certificate
 
 -- K10 at the line `cert`, where a group has no own region
@@ -90,9 +124,11 @@ need_flaws p c i n = line_flaws (need_is_known p.groups n) (spans_are_within_lim
 abbrev pub claim_flaws : Algorithm → Plan → Certificate → ℕ → Claim → List Flaw
 claim_flaws a p c i k = line_flaws (claim_is_known a.functions p.groups k) (spans_are_within_limits k.region) (have_ends k.region && nat_lt i 4096) (claim_line c (certificate_line p) i)
 
--- K14: windows are not decided
+-- what is wrong with the line of a window
 abbrev pub window_flaws : Plan → Certificate → ℕ → Window → List Flaw
-window_flaws p c i w = unless false 14 (window_line c (certificate_line p) i)
+window_flaws p c i w =
+    window_line_flaws (window_is_known p.groups c.claims w) (span_is_within_limits w.span) (is_used p c (take i c.windows) w) (has_ends w.span)
+    (window_line c (certificate_line p) i)
 
 -- of the line `cert` and the lines of own and needed regions, in the order of lines, and at one line the lowest code first
 abbrev pub flaws_of_regions : Plan → Certificate → List Flaw

@@ -9,6 +9,10 @@ use Rattle.outline.specs.Flaws.{Flaw, unless, line_told}
 abbrev pub line_flaws : Bool → Bool → Bool → ℕ → List Flaw
 line_flaws known small listed line = unless known 2 line ++ (unless small 3 line ++ unless listed 14 line)
 
+-- the same of a line of a window: besides, K8 where it is not used
+abbrev pub window_line_flaws : Bool → Bool → Bool → Bool → ℕ → List Flaw
+window_line_flaws known small used listed line = unless known 2 line ++ (unless small 3 line ++ (unless used 8 line ++ unless listed 14 line))
+
 -- what is wrong with each line, where lines are counted from i on
 abbrev pub each_line : {A : Type 0} → (ℕ → A → List Flaw) → ℕ → List A → List Flaw
 each_line f i [] = []

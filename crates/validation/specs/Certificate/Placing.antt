@@ -5,19 +5,20 @@ use Rattle.plan.specs.Lines.{lines, group_lines}
 use Rattle.outline.specs.Forms.{grid_symbols}
 use Rattle.validation.specs.Groups.Lines.{buffers_after, symbols_after}
 
--- where a statement stands: the symbols of the grid, of the loops round it and of lines `let` before it, the innermost last, and
--- the buffers in scope
+-- where a statement stands: the symbols of the grid, of the loops round it and of lines `let` before it, the innermost last, those
+-- of the loops alone, and the buffers in scope
 pub record Spot : Type 0 where
   pub symbols : List ℕ
+  pub loops : List ℕ
   pub buffers : List ℕ
 
 -- inside a loop over the symbol
 abbrev pub in_loop : ℕ → Spot → Spot
-in_loop i x = record { symbols = x.symbols ++ i ∷ []; buffers = x.buffers }
+in_loop i x = record { symbols = x.symbols ++ i ∷ []; loops = x.loops ++ i ∷ []; buffers = x.buffers }
 
 -- behind a statement that stands there
 abbrev pub past : Statement → Spot → Spot
-past a x = record { symbols = symbols_after a x.symbols; buffers = buffers_after a x.buffers }
+past a x = record { symbols = symbols_after a x.symbols; loops = x.loops; buffers = buffers_after a x.buffers }
 
 -- the line is the one that ends a statement
 abbrev pub ends_at : Spot → ℕ → ℕ → Option Spot
@@ -60,7 +61,7 @@ abbrev mutual
 
 -- where a group's body begins
 abbrev pub group_spot : Group → Spot
-group_spot g = record { symbols = grid_symbols (length g.grid); buffers = [] }
+group_spot g = record { symbols = grid_symbols (length g.grid); loops = []; buffers = [] }
 
 -- the same of a group's lines, of which the first, its line `group`, is 0
 abbrev pub group_spot_at : Group → ℕ → Option Spot

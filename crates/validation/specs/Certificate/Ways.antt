@@ -11,7 +11,7 @@ use Rattle.validation.specs.declared.certificate.placing.Seen.TheVariants.{Here,
 
 -- where a statement stands, in memory
 abbrev pub spot_of : SpotHeld → Spot
-spot_of x = record { symbols = x.symbols.items; buffers = x.buffers.items }
+spot_of x = record { symbols = x.symbols.items; loops = x.loops.items; buffers = x.buffers.items }
 
 -- Of so many lines, at one of which, counted from 0, a statement ends that stands so, or none does: one ends there, and where it
 -- stands is noted; or none does; or the line lies so many lines behind the last one, and all is as before.

@@ -1,10 +1,10 @@
 -- Vector loops, whose turns are lanes: around one store, which one guard may admit.
-use Rattle.std.specs.Prelude.{ℕ, ◌&&◌, not, Bool, true, false, drop, Option, Some, None, ℤ, pos, int_le}
+use Rattle.std.specs.Prelude.{ℕ, ◌&&◌, not, Bool, true, false, drop, Option, Some, None, pos, int_le}
 use Rattle.std.specs.List.{list_any}
 use Rattle.lin.specs.Forms.{Form, factor_of}
 use Rattle.plan.specs.declared.stmt.Kind.{Kind}
-use Rattle.plan.specs.declared.stmt.Kind.TheVariants.{Serial, Unroll, Vector}
-use Rattle.plan.specs.Plan.{Index, At, Found, Coordinate, Statement, Seq, For, Let, First, Guard, Alloc, Fetch, Store, Publish, Statements, Empty, Then}
+use Rattle.plan.specs.declared.stmt.Kind.TheVariants.{Vector}
+use Rattle.plan.specs.Plan.{Index, At, Found, Statement, Seq, For, Let, First, Guard, Alloc, Fetch, Store, Publish, Statements, Empty, Then}
 use Rattle.soundness.specs.Obligations.{form_has}
 
 -- the one line of a statement, in however many blocks it stands

@@ -149,7 +149,7 @@ is_one_of symbols i = list_any (λ s. s == i) symbols
 abbrev pub is_new : List ℕ → ℕ → Bool
 is_new symbols i = not (is_one_of symbols i)
 
--- places of one coordinate: the origin's symbols, its limits, and that they are not folded
+-- places of one coordinate: the origin's symbols, its limits, and that they are folded by one or more
 abbrev pub place_is_over : List ℕ → Places → Bool
 place_is_over symbols (From l n) = is_over symbols l
 place_is_over symbols (Folded n) = true
@@ -158,9 +158,9 @@ abbrev pub place_is_within : Places → Bool
 place_is_within (From l n) = is_within_limits l
 place_is_within (Folded n) = true
 
-abbrev pub is_straight : Places → Bool
-is_straight (From l n) = true
-is_straight (Folded n) = false
+abbrev pub is_foldable : Places → Bool
+is_foldable (From l n) = true
+is_foldable (Folded n) = nat_le 1 n
 
 -- a claim of this number is of the group with these lines, and of the function
 abbrev pub is_claim_of : GroupLines → Option Claim → List ℕ → Bool
@@ -182,7 +182,7 @@ module _ (a : Algorithm) (p : Plan) (c : Certificate) (g : Group) (outline : Out
       (has_variables (parts_named a f) (length places) && list_all (place_is_over here.symbols) places)
       (list_all place_is_within places)
       true
-      (list_all is_straight places && nat_le (more here.used (places_count places)) (2 ^ 22))
+      (list_all is_foldable places && nat_le (more here.used (places_count places)) (2 ^ 22))
 
   -- a known group of the buffer's function, and its region
   abbrev pub fetch_is_named : Here → ℕ → ℕ → List Span1 → Bool

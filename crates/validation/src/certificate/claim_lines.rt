@@ -41,7 +41,7 @@ fn same_name(left: &str, right: &str) -> bool
 }
 
 /// Whether both hold.
-fn both(one: bool, other: bool) -> bool
+pub(crate) fn both(one: bool, other: bool) -> bool
     ensures { result ≡ (one && other) }
 {
     one && other

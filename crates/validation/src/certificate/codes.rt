@@ -2,7 +2,7 @@
 
 ghost use Rattle.std.specs.Prelude.{◌≡◌, ℕ};
 ghost use Rattle.outline.specs.Flaws.{first_of};
-ghost use Rattle.validation.specs.Certificate.Lines.{line_flaws, told_at};
+ghost use Rattle.validation.specs.Certificate.Lines.{line_flaws, window_line_flaws, told_at};
 
 use outline::refusals::K;
 
@@ -11,10 +11,19 @@ use outline::refusals::K;
 pub(crate) fn line_code(known: bool, small: bool, listed: bool) -> Option<K>
     ensures { (line : ℕ) → told_at result line ≡ first_of (line_flaws known small listed line) }
 {
+    window_code(known, small, true, listed)
+}
+
+/// The same of the line of a window, which has to be used too.
+pub(crate) fn window_code(known: bool, small: bool, used: bool, listed: bool) -> Option<K>
+    ensures { (line : ℕ) → told_at result line ≡ first_of (window_line_flaws known small used listed line) }
+{
     if !known {
         Some(K::K2)
     } else if !small {
         Some(K::K3)
+    } else if !used {
+        Some(K::K8)
     } else if !listed {
         Some(K::K14)
     } else {

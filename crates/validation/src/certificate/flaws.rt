@@ -6,31 +6,17 @@ ghost use Rattle.plan.specs.View.{plan_of};
 ghost use Rattle.plan.specs.Certificate.Certificate.{certificate_of};
 ghost use Rattle.algo.specs.View.{algorithm_of};
 ghost use Rattle.outline.specs.Flaws.{first_of, told, line_told};
-ghost use Rattle.validation.specs.Certificate.Lines.{each_line};
-ghost use Rattle.validation.specs.Certificate.Certificate.{window_flaws, flaws_of_regions, flaws_of_claims, flaws_of_certificate};
+ghost use Rattle.validation.specs.Certificate.Certificate.{flaws_of_regions, flaws_of_claims, flaws_of_certificate};
 
 use crate::certificate::claim_lines::claim_flaw;
 use crate::certificate::need_lines::need_flaw;
 use crate::certificate::own_lines::{cert_flaw, own_flaw};
+use crate::certificate::window_lines::window_flaw;
 use algo::Algo;
-use outline::refusals::{Flaw, K};
+use outline::refusals::Flaw;
 use plan::Plan;
 use plan::certificate::Cert;
 use std::alloc::{AllocError, Global};
-
-/// The flaw of the first window, where the line `cert` is given.
-fn window_flaw(plan: &Plan, cert: &Cert, line: u32) -> Option<Flaw>
-    requires { line ≡ line_told (certificate_line (plan_of plan.now)) }
-    ensures { told result ≡ first_of (each_line (window_flaws (plan_of plan.now) (certificate_of cert.now)) 0 cert.now.windows.items) }
-{
-    match cert.windows.as_slice() {
-        [] => None,
-        [_, ..] => Some(Flaw {
-            code: K::K14,
-            line: cert.window_line(line, 0),
-        }),
-    }
-}
 
 /// The first flaw of the lines of claims and windows, where the line `cert` is given.
 fn claims_flaw(
@@ -46,7 +32,7 @@ fn claims_flaw(
     if let Some(flaw) = claim_flaw(alloc, algo, plan, cert, line)? {
         return Ok(Some(flaw));
     }
-    Ok(window_flaw(plan, cert, line))
+    window_flaw(alloc, plan, cert, line)
 }
 
 /// The first flaw of the line `cert` and of the lines of own and needed regions: at one line the lowest code. None exactly
@@ -78,8 +64,9 @@ pub fn first_region_flaw(
 /// where there is none.
 ///
 /// It asks of names, limits and lists of forms alone: what `first_region_flaw` asks, and that claims are of known buffers,
-/// functions and definitions, with as many spans as those have coordinates, in symbols that are bound at the line. Windows
-/// are flaws. The time is about the groups' lines for each claim.
+/// functions and definitions, with as many spans as those have coordinates, in symbols that are bound at the line, and windows of
+/// known claims, along a loop round the claim's statement and in one of its dimensions. Whether claims and windows hold is not
+/// asked. The time is about the groups' lines for each claim and window.
 ///
 /// # Errors
 /// Want of memory.

@@ -11,7 +11,7 @@ ghost use Rattle.validation.specs.Certificate.Clear.{HasRegions, IsClear};
 ghost use Rattle.validation.specs.Certificate.Placing.{group_spot_at, place_at, place_with};
 
 /// Where a certificate's lines have no flaw, each group has one own region, own and needed regions are regions of their
-/// groups, claims are of what is known, and there are no windows.
+/// groups, and claims and windows are of what is known.
 pub fn no_flaw_is_clear()
     ensures { (a : Algorithm) (p : Plan) (c : Certificate) → None ≡ first_of (flaws_of_certificate a p c) → IsClear a p c }
 {}

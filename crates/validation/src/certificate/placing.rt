@@ -88,10 +88,12 @@ fn way_in_loop(symbol: Sym, body: &Stmt, left: u64, spot: &mut Spot) -> Result<W
         return Ok(Way::Within);
     };
     let outer = spot.symbols.len();
+    let loops = spot.loops.len();
     spot.enter(symbol)?;
     match way_in(body, left, spot)? {
         Way::Past(left) => {
             spot.symbols.truncate(outer);
+            spot.loops.truncate(loops);
             Ok(way_from_line(left))
         }
         way => Ok(way),

@@ -10,11 +10,12 @@ use outline::forms::grid_symbols;
 use plan::{Group, Stmt};
 use std::alloc::{AllocError, Global};
 
-/// Where a statement stands: the symbols of the grid, of the loops round it and of lines `let` before it, the innermost last, and
-/// the buffers in scope.
+/// Where a statement stands: the symbols of the grid, of the loops round it and of lines `let` before it, the innermost last, those
+/// of the loops alone, and the buffers in scope.
 #[derive(Drop)]
 pub(crate) struct Spot {
     pub symbols: Vec<Sym>,
+    pub loops: Vec<Sym>,
     pub buffers: Vec<u32>,
 }
 
@@ -25,6 +26,7 @@ impl Spot {
     {
         Ok(Spot {
             symbols: grid_symbols(alloc, group.grid.len())?,
+            loops: Vec::new(alloc),
             buffers: Vec::new(alloc),
         })
     }
@@ -34,6 +36,7 @@ impl Spot {
         ensures { OnOk result (spot_of self.new ≡ in_loop symbol (spot_of self.old)) }
     {
         self.symbols.push(symbol)?;
+        self.loops.push(symbol)?;
         Ok(())
     }
 

@@ -16,10 +16,10 @@ ghost use Rattle.validation.specs.Stored.Definitions.{definition_held, function_
 ghost use Rattle.validation.specs.Groups.Sizes.{more, places_count};
 ghost use Rattle.validation.specs.Stored.Sizes.{is_small};
 ghost use Rattle.validation.specs.Groups.Here.{here_of};
-ghost use Rattle.validation.specs.Groups.Lines.{alloc_flaws, block_flaws, definition_is_named, definition_is_stored, fetch_flaws, fetch_is_named, fetch_is_taken, flaws, in_later, inside, is_claim_of, is_empty, is_new, is_one_of, is_straight, line_flaws, loop_flaws, place_is_over, place_is_within, publish_flaws, store_flaws};
+ghost use Rattle.validation.specs.Groups.Lines.{alloc_flaws, block_flaws, definition_is_named, definition_is_stored, fetch_flaws, fetch_is_named, fetch_is_taken, flaws, in_later, inside, is_claim_of, is_empty, is_foldable, is_new, is_one_of, line_flaws, loop_flaws, place_is_over, place_is_within, publish_flaws, store_flaws};
 ghost use Rattle.validation.specs.Stored.Stored.{index_is_over, index_is_small, index_is_within};
 
-use crate::among::is_among;
+use crate::among::{is_among, is_bound};
 use crate::groups::here::Here;
 use crate::groups::lanes::fits_mark;
 use crate::groups::sizes::places_count;
@@ -62,13 +62,6 @@ pub(crate) fn line_flaw(
     } else {
         None
     }
-}
-
-/// Whether a symbol is one of these.
-fn is_bound(symbols: &[Sym], symbol: Sym) -> bool
-    ensures { result ≡ is_one_of symbols.now symbol }
-{
-    symbols.iter().any(|one| *one == symbol)
 }
 
 /// Whether a symbol is none of these.
@@ -160,13 +153,13 @@ fn place_is_within(places: &Places) -> bool
     }
 }
 
-/// Whether the places are not folded.
-fn is_straight(places: &Places) -> bool
-    ensures { result ≡ is_straight places.now }
+/// Whether the places, if they are folded, are so by one or more.
+fn is_foldable(places: &Places) -> bool
+    ensures { result ≡ is_foldable places.now }
 {
     match places {
         Places::From { .. } => true,
-        Places::Folded { .. } => false,
+        Places::Folded { count } => 1 <= *count,
     }
 }
 
@@ -184,11 +177,11 @@ fn places_are_within(places: &[Places]) -> bool
     places.iter().all(place_is_within)
 }
 
-/// Whether no places are folded.
-fn are_straight(places: &[Places]) -> bool
-    ensures { result ≡ list_all is_straight places.now }
+/// Whether all folds are by one or more.
+fn are_foldable(places: &[Places]) -> bool
+    ensures { result ≡ list_all is_foldable places.now }
 {
-    places.iter().all(is_straight)
+    places.iter().all(is_foldable)
 }
 
 /// The flaw of a line `alloc`.
@@ -218,11 +211,11 @@ fn alloc_is_named(ground: Ground<'_, '_>, here: &Here, function: &str, places: &
     has_variables(ground.algo, function, places.len()) && places_are_over(&here.symbols, places)
 }
 
-/// Whether no places are folded, and with these the buffers of the group have few places.
+/// Whether all folds are by one or more, and with these the buffers of the group have few places.
 fn alloc_is_limited(here: &Here, places: &[Places]) -> bool
-    ensures { result ≡ (list_all is_straight places.now && nat_le (more here.now.used (places_count places.now)) (2 ^ 22)) }
+    ensures { result ≡ (list_all is_foldable places.now && nat_le (more here.now.used (places_count places.now)) (2 ^ 22)) }
 {
-    are_straight(places) && here.used.saturating_add(places_count(places)) <= MOST_PLACES
+    are_foldable(places) && here.used.saturating_add(places_count(places)) <= MOST_PLACES
 }
 
 /// Whether the buffer and the group of a line `fetch` are known and of one function, and the region is one of it.

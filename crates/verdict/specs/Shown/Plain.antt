@@ -20,7 +20,7 @@ use Rattle.soundness.specs.Shown.{is_within, are_within, are_seated, all_shown, 
 use Rattle.soundness.specs.Nests.Laws.{domains_of}
 use Rattle.soundness.specs.Nests.Nest.{Loop, nest_of}
 use Rattle.soundness.specs.Nests.Plain.{SaysSame, is_small, is_straight, IsPlainNest, IsPlainFetch, IsPlainUpdate}
-use Rattle.tails.specs.Nests.{split_nests}
+use Rattle.windows.specs.Nests.{slid_nests}
 use Rattle.headline.specs.Numbers.{is_cell}
 use Rattle.headline.specs.Theorem.{HasSoundCells}
 use Rattle.headline.specs.Work.{cells_fetched, work_of}
@@ -154,11 +154,12 @@ module _ (rules : Rules) (a : Algorithm) (outline : Outline) where
         IsPlain b line (within outline rules b (outline.named last) known) × ((c : ℕ) → In c (outline.named last) → IsPlainClaim known b c)
         × IsPlainBlock rest (line + lines b) (onwards outline rules b (outline.named last) known)
 
--- of a plain statement all obligations are shown, by rules that show each form within the limits to be at most itself
+-- of a plain statement all obligations are shown where there are no windows, by rules that show each form within the limits to be at
+-- most itself
 abbrev pub PlainIsShown : Type 0
 PlainIsShown =
-    (rules : Rules) (a : Algorithm) (outline : Outline) → SaysSame rules → (b : Statement) (line : ℕ) (known : Known) →
-    IsPlain rules a outline b line known → all_shown rules (split_nests outline rules (domains_of a)) (obligations outline rules b line known) ≡ true
+    (rules : Rules) (a : Algorithm) (outline : Outline) → SaysSame rules → outline.windows ≡ [] → (b : Statement) (line : ℕ) (known : Known) →
+    IsPlain rules a outline b line known → all_shown rules (slid_nests outline rules (domains_of a)) (obligations outline rules b line known) ≡ true
 
 -- a plain plan: without windows, each group's lines in plain form, and whatever else is asked, which is exact
 pub record IsPlainPlan (rules : ℕ → Rules) (a : Algorithm) (p : Plan) (c : Certificate) : Type 0 where

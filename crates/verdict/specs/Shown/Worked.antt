@@ -20,12 +20,12 @@ use Rattle.soundness.specs.Obligations.{Rules, anything, obligations}
 use Rattle.soundness.specs.Shown.{all_shown, start}
 use Rattle.soundness.specs.Worked.{scan_algorithm}
 use Rattle.soundness.specs.Nests.Laws.{domains_of}
-use Rattle.tails.specs.Nests.{split_nests}
+use Rattle.windows.specs.Nests.{slid_nests}
 use Rattle.soundness.specs.Nests.Worked.{binding_of}
 use Rattle.rules.specs.Widths.Widths.{wide_lines}
 use Rattle.verdict.specs.Shown.Plain.{IsPlain, IsPlainPlan}
 use Rattle.soundness.specs.Binders.View.{grid_binders}
-use Rattle.tails.specs.Shown.{IsShown}
+use Rattle.windows.specs.Shown.{IsShown}
 use Rattle.verdict.specs.Shown.Wide.{Accepts}
 
 -- ---- f, one more than each pixel, and out, two times f and f from the other end
@@ -132,6 +132,7 @@ or_anything (Some s) = s
 abbrev pub two_rules : ℕ → Rules
 two_rules n = record {
   claim_line = claim_line two_certificate (certificate_line two_plan);
+  window_line = λ c. 0;
   last = λ f. 0;
   extents = both ∷ [];
   own = (elim n [ zero ↦ here ∷ [] | suc m ↦ both ∷ [] ]);
@@ -146,7 +147,7 @@ past = constants (pos (2 ^ 31 - 1)) (pos (2 ^ 31))
 -- whether all that the lines of the second group ask for is shown where its loop runs over this span
 abbrev out_is_shown : Span1 → Bool
 out_is_shown turns =
-    all_shown (two_rules 1) (split_nests (outline_of two_plan two_certificate 1 (out_group turns)) (two_rules 1) (domains_of two))
+    all_shown (two_rules 1) (slid_nests (outline_of two_plan two_certificate 1 (out_group turns)) (two_rules 1) (domains_of two))
     (obligations (outline_of two_plan two_certificate 1 (out_group turns)) (two_rules 1) (out_group turns).body (body_line two_plan 1) (start (grid_binders (1 ∷ []))))
 
 pub record TwoIsAccepted : Type 0 where
@@ -164,6 +165,7 @@ pub record TwoIsAccepted : Type 0 where
 abbrev pub scan_rules : ℕ → Rules
 scan_rules n = record {
   claim_line = claim_line scan_certificate (certificate_line scan_plan);
+  window_line = λ c. 0;
   last = λ f. 1;
   extents = constants (pos 0) (pos 3) ∷ [];
   own = constants (pos 0) (pos 3) ∷ [];
@@ -174,7 +176,7 @@ scan_rules n = record {
 -- whether all that its lines ask for is shown by this certificate
 abbrev scan_is_shown : Certificate → Bool
 scan_is_shown c =
-    all_shown (scan_rules 0) (split_nests (outline_of scan_plan c 0 scan_group) (scan_rules 0) (domains_of scan_algorithm))
+    all_shown (scan_rules 0) (slid_nests (outline_of scan_plan c 0 scan_group) (scan_rules 0) (domains_of scan_algorithm))
     (obligations (outline_of scan_plan c 0 scan_group) (scan_rules 0) scan_group.body (body_line scan_plan 0) (start (grid_binders (1 ∷ []))))
 
 pub record ScanIsAccepted : Type 0 where

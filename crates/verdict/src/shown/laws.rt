@@ -11,7 +11,8 @@ use soundness::laws::shown_is_sound;
 use soundness::nests::laws::{
     domains_are_counted, forms_are_at_most_themselves, plain_nests_are_accepted,
 };
-use tails::laws::{plain_nests_are_taken, split_nests_are_right};
+use tails::laws::plain_nests_are_taken;
+use windows::laws::slid_nests_are_right;
 
 /// A plan that is accepted by rules that hold is right: on every input, in every order of steps. So is
 /// its work: each piece's private run gives right values.
@@ -24,7 +25,7 @@ pub fn accepted_is_right()
     output_is_there();
     pieces_are_numbered();
     shown_is_sound();
-    split_nests_are_right();
+    slid_nests_are_right();
     domains_are_counted();
     definitions_stay();
     put_in_keeps_the_value();
@@ -36,8 +37,8 @@ pub fn parts_are_all()
     ensures { PartsAreAll }
 {}
 
-/// Of lines in plain form all obligations are shown, and each plain plan is accepted, by rules that show
-/// each form within the limits to be at most itself.
+/// Of lines in plain form all obligations are shown where there are no windows, and each plain plan is
+/// accepted, by rules that show each form within the limits to be at most itself.
 pub fn plain_plans_are_accepted()
     ensures lines { PlainIsShown }
     ensures plans { PlainIsAccepted }

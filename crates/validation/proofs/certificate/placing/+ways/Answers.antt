@@ -57,10 +57,13 @@ way_in_loop-returns-in-Past t c = λ x kind.
     let old = spot_of c.args.spot.now in
     let entered = spot_of c.enter.new.self in
     let inner = spot_of c.way_in.new.spot in
-    let new = spot_of (record { symbols = c.truncate.new.self; buffers = c.way_in.new.spot.buffers }) in
+    let new = spot_of (record { symbols = c.truncate.new.self; loops = c.truncate-in-Past.new.self; buffers = c.way_in.new.spot.buffers }) in
     let e : c.args.left ≡ suc k = omega (arith, c.in-Some.ensures) in
     let past = is_past (lines body) k c.in-Past.left (spot_at body entered k) entered inner c.in_ok-way.way c.in-Past.is c.in_ok-way.ensures in
     let long : c.len-outer.result ≡ length old.symbols = first_of (search rules, grind (arith, common_steps)) in
-    let same : new ≡ old = left_loop i c.len-outer.result c.truncate.new.self.items inner old (past.1 ∙ c.in_ok-enter.ensures) long c.truncate.ensures.items in
+    let deep : c.len-loops.result ≡ length old.loops = first_of (search rules, grind (arith, common_steps)) in
+    let same : new ≡ old =
+    left_loop i c.len-outer.result c.len-loops.result c.truncate.new.self.items c.truncate-in-Past.new.self.items inner old
+    (past.1 ∙ c.in_ok-enter.ensures) long c.truncate.ensures.items deep c.truncate-in-Past.ensures.items in
     body_way (lines body) c.args.left k c.in-Past.left (spot_at body (in_loop i old) k) (spot_at (For i x kind body) old) old new c.way_from_line.result
     e past.0 same (c.way_from_line.ensures new) refl

@@ -14,6 +14,7 @@ invariant-way_in_block-loop-stmt l = record {
   counted : block_lines (block (list_statements l.all)) + l.left ≡ l.fn.left + block_lines (block (list_statements (drop l.stmt-index l.all)));
   wide : l.symbols ≤ length l.spot.symbols.items;
   symbols : take l.symbols l.spot.symbols.items ≡ l.initial.spot.symbols.items;
+  loops : l.spot.loops.items ≡ l.initial.spot.loops.items;
   long : l.buffers ≤ length l.spot.buffers.items;
   buffers : take l.buffers l.spot.buffers.items ≡ l.initial.spot.buffers.items;
 }

@@ -1,5 +1,0 @@
-use Rattle.std.proofs.Common.{◌≡◌, take}
-use Rattle.tails.proofs.nests.copied.Given as goal
-
-abbrev pub invariant-loop-binder : goal.invariant-loop-binder
-invariant-loop-binder l = l.all.items ≡ take l.binder-index l.binders
