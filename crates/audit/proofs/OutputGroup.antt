@@ -14,8 +14,8 @@ use Rattle.plan.specs.Certificate.Lines.{own_line}
 use Rattle.headline.specs.Numbers.{has_point, is_cell}
 use Rattle.orders.specs.Work.{Work}
 use Rattle.orders.specs.declared.lists.Piece.{Piece}
-use Rattle.outline.specs.declared.refusals.code.Flaw.{Flaw}
-use Rattle.outline.specs.declared.refusals.code.K.TheVariants.{K10}
+use Rattle.soundness.specs.declared.outline.refusals.code.Flaw.{Flaw}
+use Rattle.soundness.specs.declared.outline.refusals.code.K.TheVariants.{K10}
 use Rattle.shares.specs.Made as shares
 use Rattle.shares.specs.Made.{own_place}
 use Rattle.checked_plan.specs.Lists as checked

@@ -8,12 +8,12 @@ use Rattle.plan.specs.Plan.{Group, Plan}
 use Rattle.plan.specs.Lines.{body_line}
 use Rattle.plan.specs.View.{group_of}
 use Rattle.plan.specs.Certificate.Certificate.{Certificate}
-use Rattle.outline.specs.Refusals.Codes.{is_before, least, lesser, number_of}
-use Rattle.outline.specs.declared.refusals.code.Flaw.{Flaw}
-use Rattle.outline.specs.declared.refusals.code.K.TheVariants.{K14}
+use Rattle.soundness.specs.Outline.Refusals.Codes.{is_before, least, lesser, number_of}
+use Rattle.soundness.specs.declared.outline.refusals.code.Flaw.{Flaw}
+use Rattle.soundness.specs.declared.outline.refusals.code.K.TheVariants.{K14}
 use Rattle.algo.specs.View.{algorithm_of}
-use Rattle.outline.specs.Flaws.{Flaw as Said, first_of, told}
-use Rattle.outline.specs.View.{plan_in, certificate_in, number_in, group_in}
+use Rattle.soundness.specs.Outline.Flaws.{Flaw as Said, first_of, told}
+use Rattle.soundness.specs.Outline.View.{plan_in, certificate_in, number_in, group_in}
 use Rattle.rules.specs.Bounding.Rules.{rules_of}
 use Rattle.rules.specs.Bounding.View.{rules_in}
 use Rattle.rules.specs.declared.bounding.plan_bounds.PlanBounds.{PlanBounds}

@@ -4,9 +4,9 @@ use Rattle.meaning.specs.Algorithm.{Algorithm}
 use Rattle.plan.specs.Lines.{group_line}
 use Rattle.plan.specs.Plan.{Plan}
 use Rattle.plan.specs.Certificate.Certificate.{Certificate}
-use Rattle.outline.specs.declared.refusals.code.Flaw.{Flaw as FlawHeld}
-use Rattle.outline.specs.Flaws.{line_told}
-use Rattle.outline.specs.Refusals.Codes.{number_of, lesser}
+use Rattle.soundness.specs.declared.outline.refusals.code.Flaw.{Flaw as FlawHeld}
+use Rattle.soundness.specs.Outline.Flaws.{line_told}
+use Rattle.soundness.specs.Outline.Refusals.Codes.{number_of, lesser}
 use Rattle.shares.specs.Made.{own_place}
 use Rattle.shares.specs.declared.answer.SharesError.{SharesError}
 use Rattle.shares.specs.declared.answer.SharesError.TheVariants.{Flaw, Memory as Want}

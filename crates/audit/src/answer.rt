@@ -19,10 +19,10 @@ use crate::output::own_place;
 use crate::shared::shares_with_output;
 use algo::Algo;
 use claims::first_fault;
-use outline::refusals::{Flaw, least, lesser};
 use plan::Plan;
 use plan::certificate::Cert;
 use shares::{Shares, SharesError};
+use soundness::outline::refusals::{Flaw, least, lesser};
 use std::alloc::{AllocError, Global};
 use std::thread::Threads;
 

@@ -14,10 +14,10 @@ use crate::output::{group_named, output_name};
 use crate::refusal::CheckError;
 use algo::Algo;
 use checked_plan::Checked;
-use outline::refusals::K;
 use plan::Plan;
 use plan::certificate::Cert;
 use shares::SharesError;
+use soundness::outline::refusals::K;
 use std::alloc::Global;
 use std::thread::Threads;
 use verdict::laws::{accepted_is_ready, accepted_is_right, faults_are_refusals};
@@ -41,8 +41,8 @@ use verdict::laws::{accepted_is_ready, accepted_is_right, faults_are_refusals};
 ///   and `publish` owe (`K2`, `K4`, `K5`, `K7`), and in each group the first number not shown to be small (`K14`);
 /// - at the lines of own and needed regions: names and limits (`K2`, `K3`, `K14`, and `K10` at `cert`), how the pieces share
 ///   the cells (`K9`, `K10`, `K11`, `K14`), and whether the output's group has each point of the output (`K10`);
-/// - at the lines of claims and windows: names and limits (`K2`, `K3`, `K14`) and claims that their statements are not shown
-///   to make (`K6`).
+/// - at the lines of claims and windows: names and limits (`K2`, `K3`, `K14`, `K8`), claims that their statements are not
+///   shown to make (`K6`), and windows that are not shown to hold (`K8`).
 ///
 /// How the pieces share the cells, and whether the output's group has each point, is asked only where no line of a group and no
 /// line of own and needed regions has a flaw of names, limits or stored expressions; flaws of claims and windows hide nothing of

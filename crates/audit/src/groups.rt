@@ -6,21 +6,21 @@ ghost use Rattle.plan.specs.Lines.{body_line};
 ghost use Rattle.plan.specs.Plan.{Group};
 ghost use Rattle.plan.specs.View.{plan_of};
 ghost use Rattle.plan.specs.Certificate.Certificate.{certificate_of};
-ghost use Rattle.outline.specs.declared.refusals.code.K.TheVariants.{K14};
+ghost use Rattle.soundness.specs.declared.outline.refusals.code.K.TheVariants.{K14};
 ghost use Rattle.soundness.specs.Binders.View.{binders_of, grid_binders};
-ghost use Rattle.outline.specs.View.{group_in, number_in, plan_in};
+ghost use Rattle.soundness.specs.Outline.View.{group_in, number_in, plan_in};
 ghost use Rattle.rules.specs.Bounding.View.{rules_in};
 ghost use Rattle.rules.specs.Widths.Widths.{first_told, wide_lines};
 ghost use Rattle.audit.specs.Stand.{AreNarrow, IsFlaw, IsNarrow};
 
 use algo::Algo;
-use outline::Outlined;
-use outline::refusals::{Flaw, K, least};
 use plan::Plan;
 use plan::certificate::Cert;
 use rules::bounding::PlanBounds;
 use rules::widths::first_wide_line;
 use soundness::binders::Binder;
+use soundness::outline::Outlined;
+use soundness::outline::refusals::{Flaw, K, least};
 use std::alloc::{AllocError, Global};
 
 /// The symbols of a grid, of which each takes so many values.

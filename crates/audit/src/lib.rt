@@ -16,7 +16,7 @@ mod shared;
 pub use checked_plan::Checked;
 pub use checking::check;
 pub use lin::{Forms, Lin, Region, Span1, Sym};
-pub use outline::refusals::K;
 pub use plan::certificate::{Cert, Claim, Need, Own, Window};
 pub use plan::{Coordinate, Declaration, Group, Index, Kind, Pick, Places, Plan, Stmt};
 pub use refusal::CheckError;
+pub use soundness::outline::refusals::K;

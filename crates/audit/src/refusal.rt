@@ -1,6 +1,6 @@
 //! Why a plan is refused.
 
-use outline::refusals::K;
+use soundness::outline::refusals::K;
 
 /// Why a check gives no answer but a refusal.
 #[derive(Clone, Copy, Debug, PartialEq, Eq, Drop)]

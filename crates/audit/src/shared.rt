@@ -15,10 +15,10 @@ ghost use Rattle.audit.specs.Stand.{IsFlaw, IsGroupOf};
 
 use crate::output::{has_extents, output_extents, own_line};
 use algo::Algo;
-use outline::refusals::{Flaw, K, lesser};
 use plan::Plan;
 use plan::certificate::Cert;
 use shares::{Shares, SharesError, shares_of};
+use soundness::outline::refusals::{Flaw, K, lesser};
 use std::alloc::Global;
 use validation::certificate::laws::no_region_flaw_is_shared;
 use verdict::clear::{groups_are_apart, plans_are_shared, regions_are_small};

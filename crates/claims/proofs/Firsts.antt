@@ -5,12 +5,12 @@ use Rattle.std.proofs.lemmas.Bool.Decides.{nat_tests}
 use Rattle.meaning.specs.Algorithm.{Algorithm}
 use Rattle.plan.specs.Plan.{Group, Plan}
 use Rattle.plan.specs.Certificate.Certificate.{Certificate}
-use Rattle.outline.specs.Refusals.Codes.{number_of, is_before}
-use Rattle.outline.specs.declared.refusals.code.K.{K}
-use Rattle.outline.specs.declared.refusals.code.K.TheVariants.{K1, K2, K3, K4, K5, K6, K7, K8, K9, K10, K11, K12, K13, K14}
-use Rattle.outline.specs.declared.refusals.code.Flaw.{Flaw}
+use Rattle.soundness.specs.Outline.Refusals.Codes.{number_of, is_before}
+use Rattle.soundness.specs.declared.outline.refusals.code.K.{K}
+use Rattle.soundness.specs.declared.outline.refusals.code.K.TheVariants.{K1, K2, K3, K4, K5, K6, K7, K8, K9, K10, K11, K12, K13, K14}
+use Rattle.soundness.specs.declared.outline.refusals.code.Flaw.{Flaw}
 use Rattle.algo.specs.View.{algorithm_of}
-use Rattle.outline.specs.View.{plan_in, certificate_in, number_in, group_in}
+use Rattle.soundness.specs.Outline.View.{plan_in, certificate_in, number_in, group_in}
 use Rattle.rules.specs.declared.bounding.plan_bounds.PlanBounds.{PlanBounds}
 use Rattle.obligations.specs.declared.context.judge.Part.{Part}
 use Rattle.obligations.specs.declared.context.judge.Part.TheVariants.{Before}

@@ -14,8 +14,8 @@ use Rattle.plan.specs.declared.plan.Group.{Group as GroupHeld}
 use Rattle.plan.specs.Plan.{Group, Plan}
 use Rattle.plan.specs.View.{group_of}
 use Rattle.plan.specs.Certificate.Certificate.{Certificate}
-use Rattle.outline.specs.Refusals.Codes.{is_before, least}
-use Rattle.outline.specs.declared.refusals.code.Flaw.{Flaw}
+use Rattle.soundness.specs.Outline.Refusals.Codes.{is_before, least}
+use Rattle.soundness.specs.declared.outline.refusals.code.Flaw.{Flaw}
 use Rattle.obligations.specs.declared.context.judge.Part.{Part}
 use Rattle.obligations.specs.declared.context.judge.Part.TheVariants.{Lines, Claims, Before}
 use Rattle.obligations.proofs.Earlier.{before_too, later_is_silent}

@@ -8,18 +8,18 @@ use Rattle.soundness.specs.Given.{outline_of}
 use Rattle.soundness.specs.Obligations.{obligations}
 use Rattle.soundness.specs.Shown.{start}
 use Rattle.soundness.specs.Nests.Laws.{domains_of}
-use Rattle.windows.specs.Nests.{slid_nests}
-use Rattle.outline.specs.Refusals.Codes.{least}
-use Rattle.outline.specs.declared.refusals.code.Flaw.{Flaw}
+use Rattle.tails.specs.Windows.Nests.{slid_nests}
+use Rattle.soundness.specs.Outline.Refusals.Codes.{least}
+use Rattle.soundness.specs.declared.outline.refusals.code.Flaw.{Flaw}
 use Rattle.algo.specs.View.{algorithm_of}
-use Rattle.outline.specs.View.{plan_in, certificate_in, number_in, group_in}
+use Rattle.soundness.specs.Outline.View.{plan_in, certificate_in, number_in, group_in}
 use Rattle.rules.specs.Bounding.Rules.{rules_of}
 use Rattle.rules.specs.declared.bounding.plan_bounds.PlanBounds.{PlanBounds}
 use Rattle.obligations.specs.declared.context.judge.Part.{Part}
 use Rattle.obligations.specs.declared.context.judge.Part.TheVariants.{Lines, Claims, Before}
 use Rattle.obligations.specs.Asked.{first_unmet}
 use Rattle.soundness.specs.Binders.View.{grid_binders}
-use Rattle.windows.specs.Shown.{IsShown}
+use Rattle.tails.specs.Windows.Shown.{IsShown}
 
 -- the first obligation of a group's lines, of this part and in the order of its statements, that is not shown
 abbrev pub unmet : Algorithm → Plan → Certificate → ℕ → Group → Part → Option Flaw

@@ -6,7 +6,7 @@ ghost use Rattle.plan.specs.Plan.{Group};
 ghost use Rattle.plan.specs.View.{plan_of};
 ghost use Rattle.plan.specs.Certificate.Certificate.{certificate_of};
 ghost use Rattle.soundness.specs.Nests.Laws.{domains_of};
-ghost use Rattle.outline.specs.View.{outline_in};
+ghost use Rattle.soundness.specs.Outline.View.{outline_in};
 ghost use Rattle.rules.specs.Bounding.View.{rules_in};
 ghost use Rattle.tails.specs.Nests.{split_nests};
 ghost use Rattle.claims.specs.First.{IsFirstIn, IsFirstInGroup, IsUnmetInGroup, unmet_in};
@@ -14,15 +14,15 @@ ghost use Rattle.claims.specs.First.{IsFirstIn, IsFirstInGroup, IsUnmetInGroup, 
 use crate::group_bounds::GroupBounds;
 use algo::Algo;
 use obligations::{Part, first_unmet};
-use outline::Outlined;
-use outline::refusals::{Flaw, K};
 use plan::Plan;
 use plan::certificate::Cert;
 use rules::nests::PlainNests;
 use soundness::binders::NestTests;
+use soundness::outline::Outlined;
+use soundness::outline::refusals::{Flaw, K};
 use std::alloc::{AllocError, Global};
 use tails::nests::SplitNests;
-use windows::nests::SlidNests;
+use tails::windows::nests::SlidNests;
 
 /// What is asked after: an algorithm, and a plan with its certificate.
 #[derive(Clone, Copy, Drop)]

@@ -3,7 +3,7 @@
 ghost use Rattle.std.specs.Prelude.{◌≡◌, IfOk, None, Some};
 ghost use Rattle.claims.specs.First.{least_from};
 
-use outline::refusals::{Flaw, least};
+use soundness::outline::refusals::{Flaw, least};
 use std::alloc::AllocError;
 
 /// The first flaw of these, if there is one.

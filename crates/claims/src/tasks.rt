@@ -13,10 +13,10 @@ use crate::least::least_of;
 use algo::Algo;
 use obligations::Part;
 use obligations::laws::{later_is_silent, nothing_told_is_shown, shown_is_nothing_told};
-use outline::refusals::Flaw;
 use plan::Plan;
 use plan::certificate::Cert;
 use rayon::prelude::*;
+use soundness::outline::refusals::Flaw;
 use std::alloc::{AllocError, Global};
 use std::thread::Threads;
 

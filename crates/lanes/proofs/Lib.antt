@@ -1,2 +1,3 @@
 pub mod OfVectors
 pub mod Wrapped
+pub mod OfMasks

@@ -6,6 +6,7 @@
 #![tactic(auto)]
 
 mod differences;
+pub mod masks;
 mod maxima;
 mod minima;
 mod negation;

@@ -8,9 +8,9 @@ use Rattle.plan.specs.declared.stmt.Coordinate.{Coordinate as CoordinateHeld}
 use Rattle.plan.specs.Plan.{Coordinate}
 use Rattle.plan.specs.View.{coordinate_of}
 use Rattle.lin.specs.declared.span.Span1.{Span1}
-use Rattle.outline.specs.declared.refusals.code.K.{K}
-use Rattle.outline.specs.declared.refusals.code.K.TheVariants.{K5}
-use Rattle.outline.specs.declared.refusals.code.Flaw.{Flaw}
+use Rattle.soundness.specs.declared.outline.refusals.code.K.{K}
+use Rattle.soundness.specs.declared.outline.refusals.code.K.TheVariants.{K5}
+use Rattle.soundness.specs.declared.outline.refusals.code.Flaw.{Flaw}
 use Rattle.plan.specs.Semantics.Setting.{or_else}
 use Rattle.soundness.specs.Origins.{Outline}
 use Rattle.soundness.specs.Obligations.{seated, places_of, coordinate_loads, loads, may_load, met, target_span, variable_span, store_obligations, OutOfBuffer, Known, Rules, NotClaimed, Named, Inside, Obligation, obligation, region_of, serves, follows, is_begun, claimed}

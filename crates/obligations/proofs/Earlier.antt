@@ -2,8 +2,8 @@
 use Rattle.std.proofs.Common.{◌≡◌, ℕ, zero, suc, ◌+◌, ◌-◌, ◌^◌, ◌<◌, min, Bool, true, false, List, [], ◌∷◌, Option, Some, None, refl, sym, ap, ◌∙◌, arith, inl, inr, subst}
 use Rattle.std.specs.Prelude.{◌&&◌, ◌||◌, ◌==◌, nat_lt, if◌then◌else◌, ◌⊎◌}
 use Rattle.std.proofs.lemmas.Bool.Decides.{nat_tests}
-use Rattle.outline.specs.Refusals.Codes.{number_of, is_before}
-use Rattle.outline.specs.declared.refusals.code.Flaw.{Flaw}
+use Rattle.soundness.specs.Outline.Refusals.Codes.{number_of, is_before}
+use Rattle.soundness.specs.declared.outline.refusals.code.Flaw.{Flaw}
 use Rattle.soundness.specs.Obligations.{Rules, Obligation}
 use Rattle.soundness.specs.Shown.{Nests, is_shown, all_shown, first_fault}
 use Rattle.plan.specs.Semantics.Setting.{or_else}

@@ -7,7 +7,7 @@ use Rattle.plan.specs.declared.certificate.cert.Window.{Window}
 use Rattle.soundness.specs.Origins.{Outline}
 use Rattle.soundness.specs.Claims.{is_update}
 use Rattle.soundness.specs.Obligations.{Rules, kept_of, stands_alone, without}
-use Rattle.outline.specs.Kept.{is_alone_in}
+use Rattle.soundness.specs.Outline.Kept.{is_alone_in}
 
 -- a loop over the symbol, whose body begins at the line, keeps the window
 abbrev pub is_kept : Outline → ℕ → Statement → ℕ → Window → Bool

@@ -1,8 +1,8 @@
 -- Where nothing is told, all is shown.
 use Rattle.std.proofs.Common.{◌≡◌, ℕ, ◌-◌, ◌^◌, min, Bool, true, false, [], ◌∷◌, Option, Some, None, refl, sym, ap, ◌∙◌}
 use Rattle.std.specs.Prelude.{◌&&◌, not, if◌then◌else◌}
-use Rattle.outline.specs.declared.refusals.code.K.{K}
-use Rattle.outline.specs.declared.refusals.code.Flaw.{Flaw}
+use Rattle.soundness.specs.declared.outline.refusals.code.K.{K}
+use Rattle.soundness.specs.declared.outline.refusals.code.Flaw.{Flaw}
 use Rattle.plan.specs.Semantics.Setting.{or_else}
 use Rattle.soundness.specs.Shown.{is_shown, all_shown}
 use Rattle.obligations.specs.declared.context.judge.Part.{Part}

@@ -4,7 +4,7 @@ use Rattle.std.specs.Prelude.{if◌then◌else◌}
 use Rattle.std.specs.Option.{unwrap_or}
 use Rattle.soundness.specs.Origins.{or_same}
 use Rattle.std.proofs.lemmas.List.{drop_all}
-use Rattle.outline.specs.declared.refusals.code.Flaw.{Flaw}
+use Rattle.soundness.specs.declared.outline.refusals.code.Flaw.{Flaw}
 use Rattle.plan.specs.Semantics.Setting.{or_else}
 use Rattle.soundness.specs.Obligations.{Rules, Obligation}
 use Rattle.soundness.specs.Shown.{Nests, is_shown, first_fault}

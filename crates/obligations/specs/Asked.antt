@@ -1,9 +1,9 @@
 -- Which obligations are asked after, and how the first that is not shown is told.
 use Rattle.std.specs.Prelude.{ℕ, ◌-◌, ◌^◌, min, Bool, true, false, not, if◌then◌else◌, List, filter, Option, Some, None}
-use Rattle.outline.specs.declared.refusals.code.K.{K}
-use Rattle.outline.specs.declared.refusals.code.K.TheVariants.{K2, K4, K5, K6, K7, K8}
-use Rattle.outline.specs.declared.refusals.code.Flaw.{Flaw}
-use Rattle.outline.specs.Refusals.Codes.{is_before}
+use Rattle.soundness.specs.declared.outline.refusals.code.K.{K}
+use Rattle.soundness.specs.declared.outline.refusals.code.K.TheVariants.{K2, K4, K5, K6, K7, K8}
+use Rattle.soundness.specs.declared.outline.refusals.code.Flaw.{Flaw}
+use Rattle.soundness.specs.Outline.Refusals.Codes.{is_before}
 use Rattle.soundness.specs.Obligations.{Rules, Code, Undefined, OutOfBuffer, NotClaimed, NotMade, OutOfOrder, NotHeld, Obligation}
 use Rattle.soundness.specs.Shown.{Nests, first_fault}
 use Rattle.obligations.specs.declared.context.judge.Part.{Part}

@@ -1,7 +1,7 @@
 -- What follows where nothing is told.
 use Rattle.std.specs.Prelude.{◌≡◌, ◌↔◌, true, false, List, None, Some}
-use Rattle.outline.specs.Refusals.Codes.{is_before}
-use Rattle.outline.specs.declared.refusals.code.Flaw.{Flaw}
+use Rattle.soundness.specs.Outline.Refusals.Codes.{is_before}
+use Rattle.soundness.specs.declared.outline.refusals.code.Flaw.{Flaw}
 use Rattle.soundness.specs.Obligations.{Rules, Obligation}
 use Rattle.soundness.specs.Shown.{Nests, all_shown}
 use Rattle.obligations.specs.declared.context.judge.Part.{Part}

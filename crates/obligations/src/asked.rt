@@ -4,7 +4,7 @@ ghost use Rattle.std.specs.Prelude.{◌≡◌, ◌-◌, ◌^◌, min};
 ghost use Rattle.obligations.specs.Asked.{is_asked, unless};
 
 use crate::context::Part;
-use outline::refusals::{Flaw, K};
+use soundness::outline::refusals::{Flaw, K};
 
 /// Whether obligations that are told as this flaw are asked after.
 fn is_asked(part: Part, flaw: Flaw) -> bool

@@ -7,7 +7,7 @@ ghost use Rattle.plan.specs.Lists.{list_statements};
 ghost use Rattle.plan.specs.Plan.{block};
 ghost use Rattle.plan.specs.View.{statement_of};
 ghost use Rattle.soundness.specs.Obligations.{claim_obligations, earlier_obligations, follows, obligation, region_of, store_line, block_store_line, Inside, NotMade};
-ghost use Rattle.outline.specs.View.{outline_in};
+ghost use Rattle.soundness.specs.Outline.View.{outline_in};
 ghost use Rattle.obligations.specs.Context.Around.{known_of, windows_of};
 ghost use Rattle.obligations.specs.Around.{asked_by_claims, asked_of_updates};
 ghost use Rattle.obligations.specs.Asked.{first_unmet};
@@ -17,10 +17,10 @@ use crate::context::{
     Facts, Judge, Known, are_within, follows, only_updates, only_writes, said_by,
 };
 use crate::windows::unmet_making;
-use outline::refusals::{Flaw, K};
 use plan::Stmt;
 use plan::certificate::Window;
 use soundness::binders::NestTests;
+use soundness::outline::refusals::{Flaw, K};
 use std::alloc::AllocError;
 
 /// The line of a statement's first store in a buffer, where the statement begins at the line.

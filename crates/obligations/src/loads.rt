@@ -5,7 +5,7 @@ ghost use Rattle.std.specs.List.{list_any};
 ghost use Rattle.tree.specs.Term.{term_of, test_of, indices, list_terms};
 ghost use Rattle.plan.specs.Semantics.Run.{ByClaim};
 ghost use Rattle.soundness.specs.Obligations.{is_usable, serves};
-ghost use Rattle.outline.specs.View.{outline_in};
+ghost use Rattle.soundness.specs.Outline.View.{outline_in};
 ghost use Rattle.obligations.specs.Context.Around.{known_of, nest_of};
 ghost use Rattle.obligations.specs.Asked.{first_unmet};
 ghost use Rattle.obligations.specs.Loads.{intervals_in, is_own, load_in, loads_in, loads_of_all_in, loads_of_test_in, may_in, steps_met};
@@ -16,10 +16,10 @@ use crate::context::{
 };
 use crate::spans::met_spans;
 use lin::{Region, Span1};
-use outline::Source;
-use outline::refusals::{Flaw, K};
 use plan::Coordinate;
 use soundness::binders::NestTests;
+use soundness::outline::Source;
+use soundness::outline::refusals::{Flaw, K};
 use std::alloc::AllocError;
 use tree::{Cond, Expr};
 

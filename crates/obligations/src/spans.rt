@@ -3,7 +3,7 @@
 ghost use Rattle.std.specs.Prelude.{◌≡◌, ◌++◌, IfOk, OnOk, map};
 ghost use Rattle.plan.specs.View.{index_of};
 ghost use Rattle.soundness.specs.Obligations.{exactly, anything, index_met, index_span};
-ghost use Rattle.outline.specs.View.{outline_in};
+ghost use Rattle.soundness.specs.Outline.View.{outline_in};
 ghost use Rattle.obligations.specs.Loads.{met_spans, names_of, variable_spans};
 
 use crate::context::{Facts, Judge};

@@ -8,7 +8,7 @@ ghost use Rattle.plan.specs.View.{statement_of};
 ghost use Rattle.soundness.specs.Obligations.{block_obligations, claim_obligations, has_symbol, obligation, obligations, turn_obligations, within, from_each, Named, Undefined};
 ghost use Rattle.soundness.specs.Shown.{start};
 ghost use Rattle.soundness.specs.Binders.View.{binders_of, grid_binders};
-ghost use Rattle.outline.specs.View.{outline_in, group_in, number_in, plan_in};
+ghost use Rattle.soundness.specs.Outline.View.{outline_in, group_in, number_in, plan_in};
 ghost use Rattle.obligations.specs.Context.Around.{known_of, windows_of};
 ghost use Rattle.obligations.specs.Around.{IsLine};
 ghost use Rattle.obligations.specs.Asked.{first_unmet};
@@ -23,11 +23,11 @@ use crate::loads::is_usable;
 use crate::stores::unmet_store;
 use crate::windows::{kept_of, without};
 use lin::{Lin, Span1, Sym};
-use outline::Outlined;
-use outline::refusals::{Flaw, K};
 use plan::Stmt;
 use plan::certificate::Window;
 use soundness::binders::{Binder, NestTests};
+use soundness::outline::Outlined;
+use soundness::outline::refusals::{Flaw, K};
 use std::alloc::{AllocError, Global};
 
 /// What a line without lines in it asks for, but for loops, arms and guards.

@@ -7,18 +7,18 @@ ghost use Rattle.plan.specs.View.{statement_of};
 ghost use Rattle.soundness.specs.Obligations.{held, kept_of, made, making_obligations, places_of, slid, window_of, without};
 ghost use Rattle.soundness.specs.Shown.{shows};
 ghost use Rattle.soundness.specs.Binders.View.{binders_of};
-ghost use Rattle.outline.specs.View.{outline_in};
+ghost use Rattle.soundness.specs.Outline.View.{outline_in};
 ghost use Rattle.obligations.specs.Context.Around.{buffers_of, known_of, windows_of};
 ghost use Rattle.obligations.specs.Asked.{first_unmet};
 
 use crate::asked::unless;
 use crate::context::{Facts, Judge, Known, is_member, only_updates, said_by};
 use lin::Sym;
-use outline::kept::is_alone_in;
-use outline::refusals::{Flaw, K};
 use plan::Stmt;
 use plan::certificate::Window;
 use soundness::binders::NestTests;
+use soundness::outline::kept::is_alone_in;
+use soundness::outline::refusals::{Flaw, K};
 use std::alloc::{AllocError, Global};
 
 /// The windows that a loop over the symbol keeps, whose body begins at the line.

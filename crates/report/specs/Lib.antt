@@ -10,3 +10,4 @@ pub mod Subject
 pub mod Tally
 pub mod Table
 pub mod View
+pub mod Codes

@@ -1,6 +1,7 @@
 //! What a checked plan costs: the stores, private cells, fetched cells and pieces of each stored function.
 #![tactic(auto)]
 
+pub mod codes;
 mod costs;
 mod counting;
 mod known;

@@ -13,7 +13,7 @@ use Rattle.plan.specs.Symbols.{Symbols, bind, form_value, largest, smallest, ris
 use Rattle.plan.specs.Semantics.Actions.{after}
 use Rattle.plan.specs.Certificate.Cells.{cell}
 use Rattle.soundness.proofs.Refines.{and_parts, eq_true}
-use Rattle.outline.specs.Forms.{is_over, are_over, spans_are_over}
+use Rattle.soundness.specs.Outline.Forms.{is_over, are_over, spans_are_over}
 use Rattle.headline.specs.Fetched.{fetched_cells, block_fetched_cells}
 use Rattle.headline.proofs.Parts.{none_fetched}
 use Rattle.shares.specs.Shared.{LineIsShared, LinesAreShared}

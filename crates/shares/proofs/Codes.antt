@@ -5,9 +5,9 @@ use Rattle.plan.specs.Plan.{Plan}
 use Rattle.plan.specs.Certificate.Certificate.{Certificate}
 use Rattle.plan.specs.Certificate.Cells.{first_cell, pieces}
 use Rattle.orders.specs.Claimed.{IsClaimedBy}
-use Rattle.outline.specs.Refusals.Codes.{number_of}
-use Rattle.outline.specs.declared.refusals.code.K.{K}
-use Rattle.outline.specs.declared.refusals.code.K.TheVariants.{K1, K2, K3, K4, K5, K6, K7, K8, K9, K10, K11, K12, K13, K14}
+use Rattle.soundness.specs.Outline.Refusals.Codes.{number_of}
+use Rattle.soundness.specs.declared.outline.refusals.code.K.{K}
+use Rattle.soundness.specs.declared.outline.refusals.code.K.TheVariants.{K1, K2, K3, K4, K5, K6, K7, K8, K9, K10, K11, K12, K13, K14}
 use Rattle.shares.specs.Made.{HasGap, IsUnserved, Leaves, Overlaps, OwnCode, need_place}
 use Rattle.shares.specs.Owned.{GroupIsInside, IsLowestCode, own_in}
 use Rattle.shares.specs.Shared.{AreShared}

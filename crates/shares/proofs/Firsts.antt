@@ -5,10 +5,10 @@ use Rattle.std.proofs.lemmas.Bool.{cases_lt, false≢true}
 use Rattle.std.proofs.lemmas.Bool.Decides.{nat_tests}
 use Rattle.plan.specs.Plan.{Plan}
 use Rattle.plan.specs.Certificate.Certificate.{Certificate}
-use Rattle.outline.specs.Refusals.Codes.{is_before, least, lesser, number_of}
-use Rattle.outline.specs.declared.refusals.code.Flaw.{Flaw}
-use Rattle.outline.specs.declared.refusals.code.K.{K}
-use Rattle.outline.specs.declared.refusals.code.K.TheVariants.{K1, K2, K3, K4, K5, K6, K7, K8, K9, K10, K11, K12, K13, K14}
+use Rattle.soundness.specs.Outline.Refusals.Codes.{is_before, least, lesser, number_of}
+use Rattle.soundness.specs.declared.outline.refusals.code.Flaw.{Flaw}
+use Rattle.soundness.specs.declared.outline.refusals.code.K.{K}
+use Rattle.soundness.specs.declared.outline.refusals.code.K.TheVariants.{K1, K2, K3, K4, K5, K6, K7, K8, K9, K10, K11, K12, K13, K14}
 use Rattle.soundness.proofs.Refines.{and_parts}
 use Rattle.shares.specs.Made.{OwnCode, IsOwnFlaw, owns_line}
 use Rattle.shares.specs.Owned.{IsLowestCode, IsFirstFlaw}

@@ -8,8 +8,8 @@ use Rattle.plan.specs.Plan.{Group, Plan}
 use Rattle.plan.specs.Certificate.Certificate.{Certificate}
 use Rattle.plan.specs.Certificate.Cells.{Piece, cell, cells, pieces, first_cell, cells_from, group_points}
 use Rattle.orders.specs.Work.{HasSoundLists}
-use Rattle.outline.specs.declared.refusals.code.K.{K}
-use Rattle.outline.specs.declared.refusals.code.K.TheVariants.{K1, K2, K3, K4, K5, K6, K7, K8, K9, K10, K11, K12, K13, K14}
+use Rattle.soundness.specs.declared.outline.refusals.code.K.{K}
+use Rattle.soundness.specs.declared.outline.refusals.code.K.TheVariants.{K1, K2, K3, K4, K5, K6, K7, K8, K9, K10, K11, K12, K13, K14}
 use Rattle.shares.specs.Layout.{own_list, fetched_list, needs_list}
 use Rattle.shares.specs.Has.{HasShares, IsServed}
 use Rattle.shares.specs.Made.{CodeMeans}

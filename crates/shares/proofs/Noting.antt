@@ -7,7 +7,7 @@ use Rattle.plan.specs.Plan.{Statement, Group, Plan, block}
 use Rattle.plan.specs.Lines.{lines, body_line}
 use Rattle.plan.specs.Lists.{list_statements}
 use Rattle.plan.specs.View.{statement_of}
-use Rattle.outline.specs.Flaws.{line_told}
+use Rattle.soundness.specs.Outline.Flaws.{line_told}
 use Rattle.plan.specs.Certificate.Cells.{Piece}
 use Rattle.shares.specs.Counts.{FetchLine, fetch_lines, block_fetch_lines, fetch_lines_from, fetched_by, fetched_by_lines}
 use Rattle.shares.specs.Noted.{told_line}

@@ -8,7 +8,7 @@ use Rattle.plan.specs.Plan.{Plan}
 use Rattle.plan.specs.Symbols.{points}
 use Rattle.plan.specs.Certificate.Certificate.{Certificate}
 use Rattle.plan.specs.Certificate.Cells.{Piece, grid_symbols, pieces}
-use Rattle.outline.specs.Flaws.{line_told}
+use Rattle.soundness.specs.Outline.Flaws.{line_told}
 use Rattle.shares.specs.declared.counts.FetchLine.{FetchLine as LineHeld}
 use Rattle.shares.specs.declared.seats.Seat.{Seat}
 use Rattle.shares.specs.declared.boxes.Side.{Side}

@@ -8,10 +8,10 @@ use Rattle.plan.specs.Certificate.Certificate.{Certificate}
 use Rattle.plan.specs.Certificate.Cells.{Piece, Cell, cell, cells, cells_from, pieces, group_points, own_region, first_cell}
 use Rattle.orders.specs.Claimed.{IsClaimedBy}
 use Rattle.orders.proofs.Claiming.{unowned}
-use Rattle.outline.specs.declared.refusals.code.Flaw.{Flaw}
-use Rattle.outline.specs.Refusals.Codes.{is_before, least}
-use Rattle.outline.specs.declared.refusals.code.K.{K}
-use Rattle.outline.specs.declared.refusals.code.K.TheVariants.{K1, K2, K3, K4, K5, K6, K7, K8, K9, K10, K11, K12, K13, K14}
+use Rattle.soundness.specs.declared.outline.refusals.code.Flaw.{Flaw}
+use Rattle.soundness.specs.Outline.Refusals.Codes.{is_before, least}
+use Rattle.soundness.specs.declared.outline.refusals.code.K.{K}
+use Rattle.soundness.specs.declared.outline.refusals.code.K.TheVariants.{K1, K2, K3, K4, K5, K6, K7, K8, K9, K10, K11, K12, K13, K14}
 use Rattle.headline.specs.Numbers.{has_point}
 use Rattle.headline.proofs.Places.{piece_from}
 use Rattle.shares.specs.declared.answer.SharesError.{SharesError}

@@ -12,7 +12,7 @@ use Rattle.plan.specs.Symbols.{points}
 use Rattle.plan.specs.Semantics.Actions.{after}
 use Rattle.plan.specs.Certificate.Certificate.{Certificate}
 use Rattle.plan.specs.Certificate.Cells.{Piece, Cell, cell, grid_symbols, pieces}
-use Rattle.outline.specs.Forms.{grid_symbols as grid_names}
+use Rattle.soundness.specs.Outline.Forms.{grid_symbols as grid_names}
 use Rattle.headline.specs.Fetched.{fetched_cells, block_fetched_cells}
 use Rattle.headline.specs.Numbers.{cell_number}
 use Rattle.headline.specs.Work.{of_piece, cells_fetched, group_fetched}

@@ -9,10 +9,10 @@ use Rattle.plan.specs.Certificate.Cells.{Cell, Piece, cell, cells, pieces}
 use Rattle.orders.specs.Work.{HasSoundLists, OwnIsInTable, OwnIsApart, OwnIsWhole, NeedsIsEarlier, FetchedIsNeeded}
 use Rattle.headline.specs.Numbers.{is_cell, has_point}
 use Rattle.headline.proofs.Members.{in_of}
-use Rattle.outline.specs.Refusals.Codes.{is_before, number_of}
-use Rattle.outline.specs.declared.refusals.code.Flaw.{Flaw}
-use Rattle.outline.specs.declared.refusals.code.K.{K}
-use Rattle.outline.specs.declared.refusals.code.K.TheVariants.{K1, K2, K3, K4, K5, K6, K7, K8, K9, K10, K11, K12, K13, K14}
+use Rattle.soundness.specs.Outline.Refusals.Codes.{is_before, number_of}
+use Rattle.soundness.specs.declared.outline.refusals.code.Flaw.{Flaw}
+use Rattle.soundness.specs.declared.outline.refusals.code.K.{K}
+use Rattle.soundness.specs.declared.outline.refusals.code.K.TheVariants.{K1, K2, K3, K4, K5, K6, K7, K8, K9, K10, K11, K12, K13, K14}
 use Rattle.shares.specs.declared.answer.SharesError.TheVariants.{Flaw as Told}
 use Rattle.shares.specs.Faults.{IsApart}
 use Rattle.shares.specs.Has.{HasShares, AreFew, IsServed, NeedsPieces, fetched_before, needed_before}

@@ -8,7 +8,7 @@ use Rattle.plan.specs.declared.certificate.cert.Need.{Need}
 use Rattle.plan.specs.Certificate.Certificate.{Certificate}
 use Rattle.plan.specs.Certificate.Cells.{Piece, grid_symbols, pieces}
 use Rattle.plan.specs.Certificate.Lines.{need_line}
-use Rattle.outline.specs.Flaws.{line_told}
+use Rattle.soundness.specs.Outline.Flaws.{line_told}
 use Rattle.shares.specs.Has.{needed_before}
 use Rattle.shares.specs.Shared.{AreShared}
 

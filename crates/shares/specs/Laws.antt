@@ -1,7 +1,7 @@
 -- What a refusal means for the shares of pieces.
 use Rattle.plan.specs.Plan.{Plan}
 use Rattle.plan.specs.Certificate.Certificate.{Certificate}
-use Rattle.outline.specs.declared.refusals.code.Flaw.{Flaw}
+use Rattle.soundness.specs.declared.outline.refusals.code.Flaw.{Flaw}
 use Rattle.shares.specs.declared.answer.SharesError.TheVariants.{Flaw as FlawTold}
 use Rattle.shares.specs.Has.{HasShares}
 use Rattle.shares.specs.Made.{ErrorMeans}

@@ -10,10 +10,10 @@ use Rattle.plan.specs.Certificate.Cells.{first_cell, pieces}
 use Rattle.orders.specs.Work.{Work}
 use Rattle.orders.specs.declared.lists.Piece.{Piece}
 use Rattle.orders.specs.Lists.{own_lists, fetched_lists, needs_lists}
-use Rattle.outline.specs.declared.refusals.code.Flaw.{Flaw as FlawHeld}
-use Rattle.outline.specs.declared.refusals.code.K.{K}
-use Rattle.outline.specs.declared.refusals.code.K.TheVariants.{K9, K10, K11, K14}
-use Rattle.outline.specs.Refusals.Codes.{is_before}
+use Rattle.soundness.specs.declared.outline.refusals.code.Flaw.{Flaw as FlawHeld}
+use Rattle.soundness.specs.declared.outline.refusals.code.K.{K}
+use Rattle.soundness.specs.declared.outline.refusals.code.K.TheVariants.{K9, K10, K11, K14}
+use Rattle.soundness.specs.Outline.Refusals.Codes.{is_before}
 use Rattle.shares.specs.declared.answer.SharesError.{SharesError}
 use Rattle.shares.specs.declared.answer.SharesError.TheVariants.{Flaw, Memory}
 use Rattle.shares.specs.declared.lists.Trouble.{Trouble}

@@ -1,6 +1,6 @@
 -- Fetch lines as code has them.
 use Rattle.std.specs.Prelude.{List, map}
-use Rattle.outline.specs.Flaws.{line_told}
+use Rattle.soundness.specs.Outline.Flaws.{line_told}
 use Rattle.shares.specs.declared.counts.FetchLine.{FetchLine as LineHeld}
 use Rattle.shares.specs.Counts.{FetchLine}
 

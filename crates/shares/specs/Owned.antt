@@ -5,9 +5,9 @@ use Rattle.plan.specs.Certificate.Certificate.{Certificate}
 use Rattle.plan.specs.Certificate.Cells.{pieces}
 use Rattle.headline.specs.Numbers.{cell_number}
 use Rattle.headline.specs.Work.{of_piece, own_cells}
-use Rattle.outline.specs.Refusals.Codes.{number_of}
-use Rattle.outline.specs.declared.refusals.code.Flaw.{Flaw}
-use Rattle.outline.specs.declared.refusals.code.K.{K}
+use Rattle.soundness.specs.Outline.Refusals.Codes.{number_of}
+use Rattle.soundness.specs.declared.outline.refusals.code.Flaw.{Flaw}
+use Rattle.soundness.specs.declared.outline.refusals.code.K.{K}
 use Rattle.shares.specs.Has.{IsServed}
 use Rattle.shares.specs.Layout.{OwnIsInside}
 use Rattle.shares.specs.Made.{IsPieceOf, OwnCode, IsOwnFlaw, IsFirstOwn}

@@ -6,7 +6,7 @@ use Rattle.plan.specs.Plan.{Statement, Seq, Let, Fetch, Statements, Empty, Then,
 use Rattle.plan.specs.declared.certificate.cert.Need.{Need}
 use Rattle.plan.specs.Certificate.Certificate.{Certificate}
 use Rattle.plan.specs.Certificate.Cells.{no_symbols, own_region, cells, pieces}
-use Rattle.outline.specs.Forms.{spans_are_over, grid_symbols}
+use Rattle.soundness.specs.Outline.Forms.{spans_are_over, grid_symbols}
 use Rattle.headline.specs.Fetched.{fetches}
 use Rattle.headline.specs.Numbers.{HaveEnds}
 use Rattle.shares.specs.Boxes.{IsLimited, sides}

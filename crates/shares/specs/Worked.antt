@@ -7,7 +7,7 @@ use Rattle.plan.specs.Plan.{Alloc, Fetch, Store, Publish, Seq, block, Group, Pla
 use Rattle.plan.specs.declared.stmt.Places.TheVariants.{From}
 use Rattle.plan.specs.Certificate.Certificate.{Certificate}
 use Rattle.plan.specs.Semantics.Worked.{symbol, between, constants, is, loop, load}
-use Rattle.outline.specs.declared.refusals.code.K.TheVariants.{K9, K10, K11}
+use Rattle.soundness.specs.declared.outline.refusals.code.K.TheVariants.{K9, K10, K11}
 use Rattle.shares.specs.declared.answer.SharesError.TheVariants.{Flaw as Told}
 use Rattle.shares.specs.Has.{HasShares}
 use Rattle.shares.specs.Made.{ErrorMeans}

@@ -9,7 +9,7 @@ ghost use Rattle.orders.specs.Lists.{AreSound};
 ghost use Rattle.headline.specs.Work.{work_of};
 ghost use Rattle.shares.specs.Shared.{AreShared};
 ghost use Rattle.shares.specs.Layout.{IsLayout, FetchesCells, OwnIsInside};
-ghost use Rattle.outline.specs.declared.refusals.code.K.TheVariants.{K9, K11};
+ghost use Rattle.soundness.specs.declared.outline.refusals.code.K.TheVariants.{K9, K11};
 ghost use Rattle.shares.specs.Has.{HasShares, fetched_before, needed_before};
 ghost use Rattle.shares.specs.Made.{AreListsOf, CodeMeans, ErrorMeans, Holds, IsPieceOf, LinesStand, TroubleMeans};
 
@@ -22,9 +22,9 @@ use crate::own::own_flaw;
 use crate::owners::owners_of;
 use crate::stands::{needs_line, own_line};
 use orders::{Piece, first_unserved};
-use outline::refusals::{Flaw, K, least};
 use plan::Plan;
 use plan::certificate::Cert;
+use soundness::outline::refusals::{Flaw, K, least};
 use std::alloc::{AllocError, Global};
 
 /// The lists of a plan's pieces, and how many cells it has.

@@ -6,8 +6,8 @@ ghost use Rattle.plan.specs.Plan.{block};
 ghost use Rattle.plan.specs.View.{plan_of, statement_of};
 ghost use Rattle.plan.specs.Certificate.Cells.{pieces};
 ghost use Rattle.plan.specs.Certificate.Certificate.{certificate_of};
-ghost use Rattle.outline.specs.Flaws.{line_told};
-ghost use Rattle.outline.specs.declared.refusals.code.K.TheVariants.{K14};
+ghost use Rattle.soundness.specs.Outline.Flaws.{line_told};
+ghost use Rattle.soundness.specs.declared.outline.refusals.code.K.TheVariants.{K14};
 ghost use Rattle.shares.specs.Boxes.{IsLimited};
 ghost use Rattle.shares.specs.Counts.{FetchPasses, block_fetch_lines, fetch_lines, fetched_by, plan_fetch_lines};
 ghost use Rattle.shares.specs.Noted.{line_of, lines_noted, told_line};
@@ -17,8 +17,8 @@ ghost use Rattle.shares.specs.Layout.{IsLayout};
 use crate::boxes::{box_at, most_points};
 use crate::layout::Layout;
 use lin::Span1;
-use outline::refusals::{Flaw, K};
 use plan::{Plan, Stmt};
+use soundness::outline::refusals::{Flaw, K};
 use std::alloc::{AllocError, Global};
 
 /// The most cells that the pieces of a plan fetch.

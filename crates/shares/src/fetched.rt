@@ -6,7 +6,7 @@ ghost use Rattle.plan.specs.Lists.{list_statements};
 ghost use Rattle.plan.specs.Symbols.{points};
 ghost use Rattle.plan.specs.View.{plan_of, statement_of};
 ghost use Rattle.plan.specs.Certificate.Cells.{cell, grid_symbols};
-ghost use Rattle.outline.specs.Forms.{grid_symbols as grid_names};
+ghost use Rattle.soundness.specs.Outline.Forms.{grid_symbols as grid_names};
 ghost use Rattle.headline.specs.Fetched.{fetched_cells, block_fetched_cells};
 ghost use Rattle.headline.specs.Numbers.{cell_number};
 ghost use Rattle.shares.specs.declared.stop.Stop.TheVariants.{Unserved, Large};

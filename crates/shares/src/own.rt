@@ -5,7 +5,7 @@ ghost use Rattle.plan.specs.View.{plan_of};
 ghost use Rattle.plan.specs.Certificate.Certificate.{certificate_of};
 ghost use Rattle.plan.specs.Certificate.Cells.{cells};
 ghost use Rattle.orders.specs.Claimed.{IsClaimed, IsClaimedBy};
-ghost use Rattle.outline.specs.declared.refusals.code.K.TheVariants.{K11};
+ghost use Rattle.soundness.specs.declared.outline.refusals.code.K.TheVariants.{K11};
 ghost use Rattle.shares.specs.declared.stop.Stop.TheVariants.{Memory};
 ghost use Rattle.shares.specs.Layout.{IsLayout, OwnIsInside};
 ghost use Rattle.shares.specs.Made.{IsPieceOf, IsUnserved, Leaves, Overlaps, need_place, owns_line};
@@ -17,7 +17,7 @@ use crate::layout::{Layout, own_of};
 use crate::owners::claim_cells;
 use crate::stands::{need_place, own_line};
 use crate::stop::Stop;
-use outline::refusals::{Flaw, K, least};
+use soundness::outline::refusals::{Flaw, K, least};
 use std::alloc::{AllocError, Global};
 
 /// The owner of each cell among the pieces of a group, and whether all their own regions stay inside.

@@ -36,3 +36,4 @@ mod Same
 mod Steps
 mod Touched
 mod Visits
+pub mod OfOutline

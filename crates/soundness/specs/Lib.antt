@@ -12,3 +12,4 @@ pub mod Windowed
 pub mod Worked
 pub mod Binders
 pub mod Nests
+pub mod Outline

@@ -4,4 +4,5 @@
 pub mod binders;
 pub mod laws;
 pub mod nests;
+pub mod outline;
 pub mod worked;

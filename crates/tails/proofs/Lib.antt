@@ -28,3 +28,4 @@ pub mod Spines
 pub mod Taken
 pub mod Values
 pub mod Walk
+pub mod OfWindows

@@ -15,3 +15,4 @@ pub mod States
 pub mod SplitMaps
 pub mod Worked
 pub mod WorkedUpdates
+pub mod Windows

@@ -23,4 +23,5 @@ pub mod stored;
 pub mod symbols;
 mod turns;
 mod updates;
+pub mod windows;
 pub mod worked;

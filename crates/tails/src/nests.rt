@@ -5,7 +5,7 @@ ghost use Rattle.plan.specs.View.{statement_of};
 ghost use Rattle.plan.specs.Certificate.Certificate.{claim_of};
 ghost use Rattle.soundness.specs.Given.{no_claim};
 ghost use Rattle.soundness.specs.Binders.View.{binders_of};
-ghost use Rattle.outline.specs.View.{outline_in};
+ghost use Rattle.soundness.specs.Outline.View.{outline_in};
 ghost use Rattle.tails.specs.Steps.{spine_of};
 ghost use Rattle.tails.specs.Stored.{stored_by};
 ghost use Rattle.tails.specs.Nests.{makes_split};
@@ -14,10 +14,10 @@ use crate::stored::{has_places, stored_by};
 use crate::updates::{is_in_steps, makes_update};
 use algo::Algo;
 use lin::Region;
-use outline::Outlined;
 use plan::certificate::{Claim, Window};
 use plan::{Places, Stmt};
 use soundness::binders::{Binder, Bounds, NestTests};
+use soundness::outline::Outlined;
 use std::alloc::{AllocError, Global};
 
 /// Other tests of nests, and beside them the tests that a nest of split loops makes a claim, and does an update's steps in turn, in a
@@ -84,7 +84,7 @@ pub fn claim_in<'c, 'a: 'c>(
 
 impl<B: Bounds, N: NestTests> NestTests for SplitNests<'_, B, N> {
     ghost use Rattle.algo.specs.View.{algorithm_of};
-    ghost use Rattle.outline.specs.View.{outline_in};
+    ghost use Rattle.soundness.specs.Outline.View.{outline_in};
     ghost use Rattle.soundness.specs.Nests.Laws.{domains_of};
     ghost use Rattle.tails.specs.Nests.{with_split};
 

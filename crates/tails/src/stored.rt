@@ -9,7 +9,7 @@ ghost use Rattle.plan.specs.Certificate.Certificate.{claim_of};
 ghost use Rattle.soundness.specs.Obligations.{exactly, is_form};
 ghost use Rattle.soundness.specs.Shown.{are_seated};
 ghost use Rattle.soundness.specs.Binders.View.{binders_of};
-ghost use Rattle.outline.specs.View.{outline_in};
+ghost use Rattle.soundness.specs.Outline.View.{outline_in};
 ghost use Rattle.tails.specs.Steps.{along, spine_of};
 ghost use Rattle.tails.specs.Apart.{is_apart, is_steady};
 ghost use Rattle.tails.specs.Stored.{forms_at, has_places, pure_forms, stored_by};
@@ -25,10 +25,10 @@ use crate::pending::{Pending, is_outer};
 use crate::sides::{left_of, over_of};
 use algo::scoping::same_name;
 use lin::{Lin, Span1};
-use outline::Outlined;
 use plan::certificate::Claim;
 use plan::{Coordinate, Index, Places, Stmt};
 use soundness::binders::{Binder, Bounds};
+use soundness::outline::Outlined;
 use std::alloc::{AllocError, Global};
 
 /// What the coordinates are; None where one is found by an expression.

@@ -6,7 +6,7 @@ use Rattle.clap.specs.declared.error.kind.ErrorKind.TheVariants.{DisplayHelp, Di
 use Rattle.clap.specs.declared.error.Error.{Error}
 use Rattle.clap.specs.Lexer.{usize_max}
 use Rattle.clap.specs.Words.{App, HasKind, IsAmong, Row, Rule, Text, fault_of, all_of, first_of, kind_of, new_app, new_rule, subcommand_of, with_rule, with_subcommand}
-use Rattle.codes.specs.Codes.{is_code}
+use Rattle.report.specs.Codes.Codes.{is_code}
 use Rattle.tool.specs.Workers.{workers_spelled}
 use Rattle.tool.specs.Asked.{AskedWay, Plain, File, AskedCheck, Asked, Picture, Format, Explain, Compile, Check, Cost, Replay, Compare}
 

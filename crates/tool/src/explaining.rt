@@ -6,7 +6,7 @@ ghost use Rattle.tool.specs.Files.{SameFiles};
 use crate::device::Files;
 use crate::pipeline::Fault;
 use crate::request::{Request, Way};
-use codes::page;
+use report::codes::page;
 use std::alloc::Global;
 use std::io::Write;
 use std::str;

@@ -15,7 +15,7 @@ use crate::request::{
 use crate::workers::workers_spelled;
 use clap::error::ErrorKind;
 use clap::{Arg, ArgMatches, Command, Error};
-use codes::page;
+use report::codes::page;
 use std::alloc::{AllocError, Global};
 
 const PLAIN: &str = "plain";

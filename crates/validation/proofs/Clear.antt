@@ -14,8 +14,8 @@ use Rattle.plan.specs.declared.certificate.cert.Window.{Window}
 use Rattle.plan.specs.Certificate.Certificate.{Claim, Certificate}
 use Rattle.plan.specs.Certificate.Cells.{own_region}
 use Rattle.plan.specs.Certificate.Lines.{own_line, need_line, claim_line, window_line}
-use Rattle.outline.specs.Flaws.{Flaw, first_of as the_first, unless}
-use Rattle.outline.specs.Forms.{spans_are_over, spans_are_within_limits, have_ends, grid_symbols}
+use Rattle.soundness.specs.Outline.Flaws.{Flaw, first_of as the_first, unless}
+use Rattle.soundness.specs.Outline.Forms.{spans_are_over, spans_are_within_limits, have_ends, grid_symbols}
 use Rattle.validation.specs.Certificate.Lines.{line_flaws, window_line_flaws, each_line}
 use Rattle.validation.specs.Certificate.Certificate.{fits, is_owned, are_owned, is_region_of, own_is_known, is_need_of, need_is_known, claim_is_known, window_is_known, is_used, span_is_within_limits, has_ends, cert_flaws, own_flaws, need_flaws, claim_flaws, window_flaws, flaws_of_regions, flaws_of_claims, flaws_of_certificate}
 use Rattle.validation.specs.Certificate.Clear.{IsRegion, IsNeed, IsClaim, IsWindow, HasRegions, IsClear}

@@ -2,7 +2,7 @@
 use Rattle.std.proofs.Common.{◌≡◌, ℕ, zero, suc, ◌+◌, ◌≤◌, List, [], ◌∷◌, ◌++◌, take, length, Bool, true, false, Option, Some, None, refl, sym, ap, ◌∙◌, subst, arith}
 use Rattle.std.specs.Prelude.{◌&&◌, ◌||◌, ◌==◌, ◌^◌, not, nat_le, slice_get, MatchOption}
 use Rattle.std.specs.List.{list_all, list_any}
-use Rattle.outline.specs.Forms.{is_over, are_over, spans_are_over, are_within_limits, spans_are_within_limits, is_listed, grid_symbols}
+use Rattle.soundness.specs.Outline.Forms.{is_over, are_over, spans_are_over, are_within_limits, spans_are_within_limits, is_listed, grid_symbols}
 use Rattle.std.proofs.lemmas.Bool.{false≢true}
 use Rattle.std.proofs.lemmas.Bool.Decides.{nat_tests}
 use Rattle.lin.specs.Forms.{Form}
@@ -21,7 +21,7 @@ use Rattle.soundness.specs.Obligations.{form_has, span_has}
 use Rattle.soundness.proofs.Refines.{and_parts, eq_true}
 use Rattle.headline.specs.Numbers.{HaveEnds}
 use Rattle.headline.specs.Sound.{publishes, block_publishes, PublishesLast, BlockPublishesLast, binds, block_binds, region_has, IsPublished}
-use Rattle.outline.specs.Flaws.{line_told, unless}
+use Rattle.soundness.specs.Outline.Flaws.{line_told, unless}
 use Rattle.validation.specs.Groups.Sizes.{more, cell_count, is_extent}
 use Rattle.validation.specs.Stored.Sizes.{counted}
 use Rattle.validation.specs.Stored.Definitions.{parts_named, has_variables}

@@ -4,7 +4,7 @@ use Rattle.std.proofs.Common.{map}
 use Rattle.plan.specs.Certificate.Certificate.{Certificate}
 use Rattle.plan.specs.Certificate.Lines.{window_line, claim_line}
 use Rattle.plan.specs.Semantics.Setting.{or_else}
-use Rattle.outline.specs.Flaws.{Flaw, first_of}
+use Rattle.soundness.specs.Outline.Flaws.{Flaw, first_of}
 use Rattle.validation.specs.Certificate.Lines.{each_line}
 
 pub first_of-append : (xs ys : List Flaw) → first_of (xs ++ ys) ≡ or_else (first_of xs) (first_of ys)

@@ -2,8 +2,8 @@
 use Rattle.std.proofs.Common.{◌≡◌, ℕ, zero, suc, ◌+◌, ◌<◌, List, [], ◌∷◌, ◌++◌, length, drop, get_or, Bool, true, false, Option, Some, None, refl, sym, ap, ◌∙◌, arith}
 use Rattle.std.specs.Prelude.{is_some, ◌&&◌, ◌==◌}
 use Rattle.std.proofs.lemmas.Bool.{false≢true}
-use Rattle.outline.specs.declared.refusals.code.Flaw.{Flaw as FlawHeld}
-use Rattle.outline.specs.Flaws.{Flaw, told, first_of, line_told}
+use Rattle.soundness.specs.declared.outline.refusals.code.Flaw.{Flaw as FlawHeld}
+use Rattle.soundness.specs.Outline.Flaws.{Flaw, told, first_of, line_told}
 use Rattle.meaning.specs.Algorithm.{Algorithm}
 use Rattle.plan.specs.declared.stmt.Stmt.{Stmt}
 use Rattle.plan.specs.Plan.{Coordinate, Statement, block, Group, Plan}

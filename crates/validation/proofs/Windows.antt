@@ -7,9 +7,9 @@ use Rattle.plan.specs.Lines.{body_line}
 use Rattle.plan.specs.declared.certificate.cert.Window.{Window}
 use Rattle.plan.specs.Certificate.Certificate.{Certificate}
 use Rattle.soundness.specs.Given.{outline_of}
-use Rattle.outline.specs.Kept.{keeps}
-use Rattle.outline.specs.View.{certificate_in, group_in, number_in, outline_in, plan_in}
-use Rattle.outline.specs.declared.outline.Outlined.{Outlined}
+use Rattle.soundness.specs.Outline.Kept.{keeps}
+use Rattle.soundness.specs.Outline.View.{certificate_in, group_in, number_in, outline_in, plan_in}
+use Rattle.soundness.specs.declared.outline.outlined.Outlined.{Outlined}
 use Rattle.validation.specs.Certificate.Certificate.{groups_keep}
 
 none_is : {A : Type 0} (x : A) (e : None ≡ Some x) → ⊥

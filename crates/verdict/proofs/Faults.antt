@@ -9,11 +9,11 @@ use Rattle.soundness.specs.Given.{outline_of}
 use Rattle.soundness.specs.Obligations.{obligations}
 use Rattle.soundness.specs.Shown.{start}
 use Rattle.soundness.specs.Nests.Laws.{domains_of}
-use Rattle.windows.specs.Nests.{slid_nests}
-use Rattle.outline.specs.declared.refusals.code.Flaw.{Flaw as FlawHeld}
+use Rattle.tails.specs.Windows.Nests.{slid_nests}
+use Rattle.soundness.specs.declared.outline.refusals.code.Flaw.{Flaw as FlawHeld}
 use Rattle.headline.specs.Head.{FailsHead}
 use Rattle.headline.proofs.Members.{got}
-use Rattle.outline.specs.Flaws.{Flaw, first_of, told}
+use Rattle.soundness.specs.Outline.Flaws.{Flaw, first_of, told}
 use Rattle.rules.specs.Bounding.Rules.{rules_of}
 use Rattle.obligations.specs.Laws.{ShownIsNothingTold}
 use Rattle.rules.specs.Widths.Widths.{first_told}

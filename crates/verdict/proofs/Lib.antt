@@ -29,3 +29,4 @@ pub mod HistPlan
 pub mod BlocksPlan
 pub mod SlidePlan
 pub mod WorkedPlans
+pub mod OfPlans

@@ -7,7 +7,7 @@ use Rattle.std.proofs.lemmas.List.Elements.{All-from_recursion}
 use Rattle.lin.specs.Forms.{Form, is_within_limits}
 use Rattle.lin.specs.declared.span.Span1.{Span1}
 use Rattle.soundness.proofs.Refines.{and_parts}
-use Rattle.outline.specs.Forms.{are_within_limits, spans_are_within_limits}
+use Rattle.soundness.specs.Outline.Forms.{are_within_limits, spans_are_within_limits}
 use Rattle.shares.specs.Boxes.{AreLimited, IsLimited}
 
 pub le_true : (m n : ℕ) → nat_le m n ≡ true → m ≤ n

@@ -14,7 +14,7 @@ use Rattle.soundness.specs.Obligations.{Updating, Known, Rules, Inside, Obligati
 use Rattle.soundness.specs.Origins.{Outline}
 use Rattle.soundness.specs.Shown.{are_within, Nests, shows, is_shown}
 use Rattle.soundness.specs.Nests.Laws.{domains_of}
-use Rattle.windows.specs.Nests.{slid_nests}
+use Rattle.tails.specs.Windows.Nests.{slid_nests}
 use Rattle.verdict.specs.Shown.Plain.{names_of, left_spans, places_written, HasPlaces, IsReadable, IsIndexReadable, IsUnderWay, IsPlainStore}
 use Rattle.verdict.proofs.Bools.{both, all_both}
 

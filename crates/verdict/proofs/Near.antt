@@ -16,7 +16,7 @@ use Rattle.soundness.specs.Origins.{Outline}
 use Rattle.soundness.specs.Given.{outline_of}
 use Rattle.soundness.proofs.Forms.{rec_weaker}
 use Rattle.soundness.proofs.Refines.{and_parts}
-use Rattle.outline.specs.Forms.{is_over, are_over, spans_are_over, are_within_limits, spans_are_within_limits, is_listed, have_ends, grid_symbols}
+use Rattle.soundness.specs.Outline.Forms.{is_over, are_over, spans_are_over, are_within_limits, spans_are_within_limits, is_listed, have_ends, grid_symbols}
 use Rattle.verdict.specs.Bounded.Near.{FormStands, SpanStands, PlacesStand, IndexStands, HasForms, HasFormsInBlock}
 use Rattle.validation.specs.Certificate.Clear.{IsRegion}
 use Rattle.validation.specs.Stored.Definitions.{Definition, parts_named, has_variables, function_in}

@@ -23,7 +23,7 @@ use Rattle.headline.specs.Parts.{FunctionsAreDistinct}
 use Rattle.headline.specs.Sound.{IsOnInput}
 use Rattle.headline.specs.Work.{cells_fetched}
 use Rattle.meaning.specs.Inlining.PutIn.{put_in}
-use Rattle.outline.specs.Flaws.{first_of}
+use Rattle.soundness.specs.Outline.Flaws.{first_of}
 use Rattle.rules.specs.Bounding.Laws.{RulesAreSuited}
 use Rattle.rules.specs.Bounding.Rules.{rules_of}
 use Rattle.validation.specs.Stored.Definitions.{stored_in as stored_by_lines}

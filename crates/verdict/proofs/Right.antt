@@ -24,7 +24,7 @@ use Rattle.soundness.specs.Origins.{Given}
 use Rattle.soundness.specs.Shown.{ShownIsSound}
 use Rattle.soundness.specs.Stored.{KeepsValues}
 use Rattle.soundness.specs.Nests.Laws.{DomainsAreCounted, domains_of}
-use Rattle.windows.specs.Nests.{SlidNestsAreRight, slid_nests}
+use Rattle.tails.specs.Windows.Nests.{SlidNestsAreRight, slid_nests}
 use Rattle.meaning.specs.Inlining.Laws.{PutInWherePossible, UpdatesKeepTheirSides}
 use Rattle.meaning.specs.Inlining.PutIn.{put_in_where_possible}
 use Rattle.headline.specs.Fetched.{fetched_cells}

@@ -5,7 +5,7 @@ use Rattle.plan.specs.Lines.{body_line}
 use Rattle.plan.specs.Semantics.Worked.{constants, scan_group, scan_plan, scan_certificate}
 use Rattle.soundness.specs.Binders.View.{grid_binders}
 use Rattle.soundness.specs.Worked.{scan_algorithm}
-use Rattle.windows.specs.Shown.{IsShown}
+use Rattle.tails.specs.Windows.Shown.{IsShown}
 use Rattle.rules.specs.Bounding.Rules.{rules_of}
 use Rattle.rules.specs.Widths.Widths.{wide_lines}
 use Rattle.obligations.specs.declared.context.judge.Part.TheVariants.{Lines, Claims}

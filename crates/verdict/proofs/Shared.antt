@@ -18,7 +18,7 @@ use Rattle.soundness.specs.Origins.{Outline}
 use Rattle.soundness.specs.Given.{outline_of}
 use Rattle.soundness.proofs.Refines.{and_parts, eq_true}
 use Rattle.headline.specs.Fetched.{fetches, block_fetches}
-use Rattle.outline.specs.Forms.{are_over, are_within_limits, spans_are_within_limits, is_listed, grid_symbols}
+use Rattle.soundness.specs.Outline.Forms.{are_over, are_within_limits, spans_are_within_limits, is_listed, grid_symbols}
 use Rattle.shares.specs.declared.boxes.Side.{Side}
 use Rattle.shares.specs.Boxes.{side, sides}
 use Rattle.shares.specs.Shared.{IsLike, LineIsShared, LinesAreShared, NeedIsShared}

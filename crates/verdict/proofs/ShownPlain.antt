@@ -20,7 +20,7 @@ use Rattle.soundness.proofs.Kept.{none_kept}
 use Rattle.soundness.specs.Nests.Laws.{domains_of}
 use Rattle.soundness.specs.Nests.Plain.{SaysSame, is_small, PlainNestsAreAccepted}
 use Rattle.tails.specs.Nests.{PlainNestsAreTaken}
-use Rattle.windows.specs.Nests.{slid_nests}
+use Rattle.tails.specs.Windows.Nests.{slid_nests}
 use Rattle.verdict.specs.Shown.Plain.{AreInside, IsOfNest, IsOfFetch, IsOfUpdate, IsPlainClaim, IsPlain, IsPlainBlock, PlainIsShown, PlainIsAccepted}
 use Rattle.soundness.specs.Binders.View.{grid_binders}
 use Rattle.verdict.proofs.Bools.{both, all_both, all_in, any_has, all_have, and_false, when}

@@ -1,9 +1,9 @@
 -- The plan whose buffer slides is accepted by the checker's own rules, and altered ones have their faults.
-use Rattle.std.proofs.Common.{◌≡◌, ℕ, [], ◌∷◌, refl, inl, inr}
+use Rattle.std.proofs.Common.{◌≡◌, [], ◌∷◌, refl, inl, inr}
 use Rattle.std.specs.Prelude.{pos}
 use Rattle.plan.specs.Lines.{body_line}
 use Rattle.soundness.specs.Binders.View.{grid_binders}
-use Rattle.windows.specs.Shown.{IsShown}
+use Rattle.tails.specs.Windows.Shown.{IsShown}
 use Rattle.rules.specs.Bounding.Rules.{rules_of}
 use Rattle.rules.specs.Widths.Widths.{wide_lines}
 use Rattle.obligations.specs.declared.context.judge.Part.TheVariants.{Lines, Claims}

@@ -23,8 +23,8 @@ use Rattle.soundness.proofs.Refines.{and_parts}
 use Rattle.headline.specs.Parts.{span_count, point_count}
 use Rattle.headline.specs.Sound.{publishes}
 use Rattle.headline.proofs.Parts.{points_counted}
-use Rattle.outline.specs.Flaws.{line_told}
-use Rattle.outline.specs.Forms.{are_within_limits, is_listed, spans_are_within_limits, spans_are_over}
+use Rattle.soundness.specs.Outline.Flaws.{line_told}
+use Rattle.soundness.specs.Outline.Forms.{are_within_limits, is_listed, spans_are_within_limits, spans_are_over}
 use Rattle.checked_plan.specs.Ready.Ready.{IsSmallSpan}
 use Rattle.validation.specs.Stored.Sizes.{counted}
 use Rattle.validation.specs.Groups.Sizes.{more, product, extent_of, cell_count, is_extent}

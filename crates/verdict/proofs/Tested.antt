@@ -16,10 +16,10 @@ use Rattle.plan.specs.Certificate.Cells.{Piece, cells, pieces, own_region, is_in
 use Rattle.soundness.specs.Obligations.{is_member}
 use Rattle.soundness.proofs.Refines.{and_parts, eq_refl}
 use Rattle.orders.specs.Work.{HasSoundLists}
-use Rattle.outline.specs.Refusals.Codes.{number_of}
-use Rattle.outline.specs.declared.refusals.code.Flaw.{Flaw}
-use Rattle.outline.specs.declared.refusals.code.K.{K}
-use Rattle.outline.specs.declared.refusals.code.K.TheVariants.{K1, K2, K3, K4, K5, K6, K7, K8, K9, K10, K11, K12, K13, K14}
+use Rattle.soundness.specs.Outline.Refusals.Codes.{number_of}
+use Rattle.soundness.specs.declared.outline.refusals.code.Flaw.{Flaw}
+use Rattle.soundness.specs.declared.outline.refusals.code.K.{K}
+use Rattle.soundness.specs.declared.outline.refusals.code.K.TheVariants.{K1, K2, K3, K4, K5, K6, K7, K8, K9, K10, K11, K12, K13, K14}
 use Rattle.headline.specs.Numbers.{has_point, is_cell}
 use Rattle.headline.specs.Work.{cells_fetched, of_piece}
 use Rattle.headline.proofs.Members.{in_of, contains_of}

@@ -2,11 +2,11 @@
 use Rattle.std.proofs.Common.{◌≡◌, [], length, refl, inl, inr, arith}
 use Rattle.plan.specs.Lines.{body_line}
 use Rattle.soundness.specs.Binders.View.{grid_binders}
-use Rattle.windows.specs.Shown.{IsShown}
+use Rattle.tails.specs.Windows.Shown.{IsShown}
 use Rattle.rules.specs.Bounding.Rules.{rules_of}
 use Rattle.rules.specs.Widths.Widths.{wide_lines}
-use Rattle.outline.specs.declared.refusals.code.Flaw.{Flaw}
-use Rattle.outline.specs.declared.refusals.code.K.TheVariants.{K9, K10, K11}
+use Rattle.soundness.specs.declared.outline.refusals.code.Flaw.{Flaw}
+use Rattle.soundness.specs.declared.outline.refusals.code.K.TheVariants.{K9, K10, K11}
 use Rattle.obligations.specs.declared.context.judge.Part.TheVariants.{Lines}
 use Rattle.obligations.specs.Asked.{first_unmet}
 use Rattle.shares.specs.Layout.{own_list}

@@ -10,7 +10,7 @@ use Rattle.validation.specs.Groups.Lines.{flaws_of_groups}
 use Rattle.validation.specs.Certificate.Certificate.{flaws_of_certificate}
 use Rattle.shares.specs.Has.{HasShares}
 use Rattle.soundness.specs.Binders.View.{grid_binders}
-use Rattle.windows.specs.Shown.{IsShown}
+use Rattle.tails.specs.Windows.Shown.{IsShown}
 use Rattle.verdict.specs.Shown.Wide.{HasHead, HasOutput}
 
 -- what is asked of a plan and its certificate

@@ -10,13 +10,13 @@ use Rattle.soundness.specs.Given.{outline_of}
 use Rattle.soundness.specs.Obligations.{obligations}
 use Rattle.soundness.specs.Shown.{start}
 use Rattle.soundness.specs.Nests.Laws.{domains_of}
-use Rattle.windows.specs.Nests.{slid_nests}
+use Rattle.tails.specs.Windows.Nests.{slid_nests}
 use Rattle.headline.specs.Numbers.{is_cell}
-use Rattle.outline.specs.Refusals.Codes.{number_of}
-use Rattle.outline.specs.declared.refusals.code.Flaw.{Flaw as FlawHeld}
-use Rattle.outline.specs.declared.refusals.code.K.TheVariants.{K10}
+use Rattle.soundness.specs.Outline.Refusals.Codes.{number_of}
+use Rattle.soundness.specs.declared.outline.refusals.code.Flaw.{Flaw as FlawHeld}
+use Rattle.soundness.specs.declared.outline.refusals.code.K.TheVariants.{K10}
 use Rattle.headline.specs.Head.{FailsHead}
-use Rattle.outline.specs.Flaws.{Flaw, first_of, told}
+use Rattle.soundness.specs.Outline.Flaws.{Flaw, first_of, told}
 use Rattle.rules.specs.Bounding.Rules.{rules_of}
 use Rattle.obligations.specs.declared.context.judge.Part.{Part}
 use Rattle.obligations.specs.Asked.{first_unmet}

@@ -7,3 +7,4 @@ pub mod Faults
 pub mod Laws
 pub mod Plain
 pub mod Worked
+pub mod Plans

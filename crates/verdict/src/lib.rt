@@ -5,4 +5,5 @@ pub mod bounded;
 pub mod clear;
 pub mod examples;
 pub mod laws;
+pub mod plans;
 pub mod shown;

@@ -7,11 +7,11 @@ ghost use Rattle.plan.specs.View.{statement_of};
 ghost use Rattle.meaning.specs.Names.{same_name};
 ghost use Rattle.soundness.specs.Claims.{changes, block_changes, is_update, updates, block_updates, writes, block_writes};
 ghost use Rattle.soundness.specs.Obligations.{is_member};
-ghost use Rattle.outline.specs.View.{outline_in};
+ghost use Rattle.soundness.specs.Outline.View.{outline_in};
 
 use crate::context::known::is_member;
-use outline::Outlined;
 use plan::Stmt;
+use soundness::outline::Outlined;
 use std::alloc::{AllocError, Global};
 
 /// Notes a buffer, if it is not noted.

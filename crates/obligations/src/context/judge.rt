@@ -4,14 +4,14 @@ ghost use Rattle.std.specs.Prelude.{◌≡◌, IfOk, map, option_copied};
 ghost use Rattle.soundness.specs.Obligations.{Seated, Inside, seated, places_of, region_of};
 ghost use Rattle.soundness.specs.Shown.{are_within, are_seated, shows};
 ghost use Rattle.soundness.specs.Binders.View.{binders_of};
-ghost use Rattle.outline.specs.View.{outline_in};
+ghost use Rattle.soundness.specs.Outline.View.{outline_in};
 
 use crate::context::facts::Facts;
 use lin::Span1;
-use outline::Outlined;
-use outline::refusals::Flaw;
 use plan::Places;
 use soundness::binders::{Binder, NestTests};
+use soundness::outline::Outlined;
+use soundness::outline::refusals::Flaw;
 use std::alloc::{AllocError, Global};
 
 /// Which obligations are asked after.

@@ -3,7 +3,7 @@
 ghost use Rattle.std.specs.Prelude.{◌≡◌, ◌++◌, List, IfOk, OnOk, map, filter, not, option_copied};
 ghost use Rattle.plan.specs.View.{statement_of};
 ghost use Rattle.soundness.specs.Obligations.{places_of, is_member, is_left, is_next, follows, nests_of, in_guard, in_block, in_loop, makes, onwards};
-ghost use Rattle.outline.specs.View.{outline_in};
+ghost use Rattle.soundness.specs.Outline.View.{outline_in};
 ghost use Rattle.obligations.specs.declared.context.known.Nest.{Nest};
 ghost use Rattle.obligations.specs.Context.Around.{buffers_of, known_of, nest_of, IsBound};
 

@@ -4,7 +4,7 @@ ghost use Rattle.std.specs.Prelude.{◌≡◌, ◌||◌, map};
 ghost use Rattle.std.specs.List.{list_any};
 ghost use Rattle.soundness.specs.Obligations.{form_has, span_has, binder_has, places_have, region_of};
 ghost use Rattle.soundness.specs.Binders.View.{binder_of};
-ghost use Rattle.outline.specs.View.{outline_in};
+ghost use Rattle.soundness.specs.Outline.View.{outline_in};
 ghost use Rattle.obligations.specs.Context.Around.{around_has, known_of, nest_of, buffer_of};
 
 use crate::context::facts::Facts;

@@ -1,7 +1,7 @@
 -- The rules of bounds in memory.
 use Rattle.algo.specs.View.{algorithm_of}
 use Rattle.soundness.specs.Obligations.{Rules}
-use Rattle.outline.specs.View.{plan_in, certificate_in, number_in}
+use Rattle.soundness.specs.Outline.View.{plan_in, certificate_in, number_in}
 use Rattle.rules.specs.Bounding.Rules.{rules_of}
 use Rattle.rules.specs.declared.bounding.plan_bounds.PlanBounds.{PlanBounds}
 

@@ -5,14 +5,14 @@ ghost use Rattle.meaning.specs.Names.{is_among};
 ghost use Rattle.algo.specs.Parts.{functions_of};
 ghost use Rattle.algo.specs.View.{algorithm_of};
 ghost use Rattle.soundness.specs.Given.{function_named, claim_or_none};
-ghost use Rattle.outline.specs.View.{plan_in, certificate_in, source_held};
+ghost use Rattle.soundness.specs.Outline.View.{plan_in, certificate_in, source_held};
 ghost use Rattle.rules.specs.Bounding.Called.{call_of, source_call, called};
 
 use algo::scoping::same_name;
 use algo::{Algo, Function};
 use indexmap::IndexMap;
 use numeric::Ty;
-use outline::{Outlined, Source};
+use soundness::outline::{Outlined, Source};
 use tree::Names;
 
 /// The type and the number of indices of the function of a name.

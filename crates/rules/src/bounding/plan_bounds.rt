@@ -3,7 +3,7 @@
 ghost use Rattle.std.specs.Prelude.{◌≡◌, IfOk, map};
 ghost use Rattle.tree.specs.Term.{term_of};
 ghost use Rattle.algo.specs.View.{algorithm_of};
-ghost use Rattle.outline.specs.View.{plan_in, certificate_in};
+ghost use Rattle.soundness.specs.Outline.View.{plan_in, certificate_in};
 ghost use Rattle.rules.specs.Bounding.Rules.{is_bounded_in, interval_in};
 ghost use Rattle.rules.specs.Bounding.View.{rules_in};
 
@@ -13,9 +13,9 @@ use crate::bounding::seats::{are_indices, is_inside, is_seated};
 use algo::Algo;
 use bounds::BoundsError;
 use lin::{Region, Scope, Span1};
-use outline::Outlined;
 use plan::Places;
 use soundness::binders::{Binder, Bounds};
+use soundness::outline::Outlined;
 use std::alloc::{AllocError, Global};
 use tree::{Expr, ty_of};
 

@@ -5,7 +5,7 @@ ghost use Rattle.std.specs.List.{list_all};
 ghost use Rattle.plan.specs.Plan.{Fetch};
 ghost use Rattle.plan.specs.Certificate.Certificate.{claim_of};
 ghost use Rattle.soundness.specs.Binders.View.{binders_of};
-ghost use Rattle.outline.specs.View.{outline_in};
+ghost use Rattle.soundness.specs.Outline.View.{outline_in};
 ghost use Rattle.soundness.specs.Nests.Tests.{has_ends, is_fetched};
 ghost use Rattle.rules.specs.Nests.View.{nest_held};
 
@@ -17,10 +17,10 @@ use crate::nests::seats::are_seated;
 use crate::nests::symbols::has_ends;
 use algo::scoping::same_name;
 use lin::Span1;
-use outline::Outlined;
 use plan::certificate::Claim;
 use plan::{Places, Stmt};
 use soundness::binders::Bounds;
+use soundness::outline::Outlined;
 use std::alloc::AllocError;
 
 /// Whether each span has both ends.

@@ -7,7 +7,7 @@ ghost use Rattle.plan.specs.Plan.{Store};
 ghost use Rattle.plan.specs.Certificate.Certificate.{claim_of};
 ghost use Rattle.soundness.specs.Shown.{are_seated};
 ghost use Rattle.soundness.specs.Binders.View.{binders_of};
-ghost use Rattle.outline.specs.View.{outline_in};
+ghost use Rattle.soundness.specs.Outline.View.{outline_in};
 ghost use Rattle.soundness.specs.Nests.Tests.{binders_in, is_filled, is_new, known_span, loops_hold, runs_over};
 ghost use Rattle.rules.specs.Nests.View.{coordinates_of, loops_of, nest_held};
 
@@ -21,10 +21,10 @@ use crate::nests::sides::{left_of, over_of};
 use crate::nests::symbols::are_new;
 use algo::scoping::same_name;
 use lin::Span1;
-use outline::Outlined;
 use plan::certificate::Claim;
 use plan::{Coordinate, Places, Stmt};
 use soundness::binders::Bounds;
+use soundness::outline::Outlined;
 use std::alloc::AllocError;
 use tree::Expr;
 

@@ -14,10 +14,10 @@ use crate::nests::lines::line_in;
 use crate::nests::ranges::last_of;
 use crate::nests::unknown::{claim_in, no_claim};
 use algo::Algo;
-use outline::Outlined;
 use plan::certificate::Window;
 use plan::{Places, Stmt};
 use soundness::binders::{Binder, Bounds, NestTests};
+use soundness::outline::Outlined;
 use std::alloc::{AllocError, Global};
 
 /// The tests of nests in a group of a plan for an algorithm, which ask tests by bounds. By their rules the last definition of a
@@ -62,7 +62,7 @@ fn is_next(before: u64, definition: u64) -> bool
 }
 
 impl<B: Bounds> NestTests for PlainNests<'_, B> {
-    ghost use Rattle.outline.specs.View.{outline_in};
+    ghost use Rattle.soundness.specs.Outline.View.{outline_in};
     ghost use Rattle.soundness.specs.Nests.Laws.{domains_of};
     ghost use Rattle.soundness.specs.Nests.Tests.{plain_nests};
 

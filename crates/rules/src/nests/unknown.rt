@@ -3,11 +3,11 @@
 ghost use Rattle.std.specs.Prelude.{◌≡◌};
 ghost use Rattle.plan.specs.Certificate.Certificate.{claim_of};
 ghost use Rattle.soundness.specs.Given.{no_claim};
-ghost use Rattle.outline.specs.View.{outline_in};
+ghost use Rattle.soundness.specs.Outline.View.{outline_in};
 
 use lin::Region;
-use outline::Outlined;
 use plan::certificate::Claim;
+use soundness::outline::Outlined;
 use std::alloc::Global;
 
 /// A claim that is never in force.

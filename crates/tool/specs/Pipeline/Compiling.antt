@@ -8,7 +8,7 @@ use Rattle.sched.specs.Text.{IsRefused as IsRefusedText}
 use Rattle.sched.specs.declared.error.SchedError.{SchedError}
 use Rattle.lower.specs.Refused.{IsRefused as IsRefusedSchedule}
 use Rattle.lower.specs.declared.error.LowerError.{LowerError}
-use Rattle.outline.specs.declared.refusals.code.K.TheVariants.{K14}
+use Rattle.soundness.specs.declared.outline.refusals.code.K.TheVariants.{K14}
 use Rattle.plan.specs.Plan.{Plan as PlanSaid}
 use Rattle.plan.specs.Certificate.Certificate.{Certificate}
 use Rattle.spelling.specs.Lines.Lines.{lines_text}

@@ -9,7 +9,7 @@ use Rattle.sched.specs.Rules.{number_of as directive_number}
 use Rattle.lower.specs.declared.error.LowerError.{LowerError}
 use Rattle.lower.specs.declared.error.LowerError.TheVariants as lowering
 use Rattle.lower.specs.Rules.{number_of as region_number}
-use Rattle.outline.specs.declared.refusals.code.K.TheVariants.{K14}
+use Rattle.soundness.specs.declared.outline.refusals.code.K.TheVariants.{K14}
 use Rattle.spelling.specs.declared.lines.error.TextError.{TextError}
 use Rattle.spelling.specs.declared.lines.error.TextError.TheVariants as read
 use Rattle.audit.specs.declared.refusal.CheckError.{CheckError}

@@ -9,7 +9,7 @@ use Rattle.spelling.specs.declared.lines.error.TextError.TheVariants as read
 use Rattle.cert.specs.File.File.{IsFileOf, IsRefusedFile}
 use Rattle.headline.specs.Headline.{Headline}
 use Rattle.audit.specs.Refused.{Accepts, IsRefused}
-use Rattle.outline.specs.declared.refusals.code.K.{K}
+use Rattle.soundness.specs.declared.outline.refusals.code.K.{K}
 use Rattle.audit.specs.declared.refusal.CheckError.TheVariants as check
 use Rattle.tool.specs.declared.pipeline.fault.Fault.{Fault}
 use Rattle.tool.specs.declared.pipeline.fault.Fault.TheVariants.{Memory, Form, Limit, Plan}

@@ -14,9 +14,9 @@ use Rattle.plan.specs.Certificate.Certificate.{Claim, Certificate}
 use Rattle.plan.specs.Certificate.Lines.{own_line, need_line, claim_line, window_line}
 use Rattle.plan.specs.Semantics.Setting.{Buffer, allocated}
 use Rattle.soundness.specs.Given.{outline_of}
-use Rattle.outline.specs.Kept.{keeps}
-use Rattle.outline.specs.Forms.{are_over, spans_are_over, are_within_limits, spans_are_within_limits, is_listed, have_ends, grid_symbols}
-use Rattle.outline.specs.Flaws.{Flaw, unless}
+use Rattle.soundness.specs.Outline.Kept.{keeps}
+use Rattle.soundness.specs.Outline.Forms.{are_over, spans_are_over, are_within_limits, spans_are_within_limits, is_listed, have_ends, grid_symbols}
+use Rattle.soundness.specs.Outline.Flaws.{Flaw, unless}
 use Rattle.validation.specs.Groups.Lines.{is_one_of}
 use Rattle.validation.specs.Certificate.Lines.{line_flaws, window_line_flaws, each_line}
 use Rattle.validation.specs.Certificate.Placing.{Place, place_at}

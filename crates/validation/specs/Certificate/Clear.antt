@@ -8,7 +8,7 @@ use Rattle.plan.specs.declared.certificate.cert.Need.{Need}
 use Rattle.plan.specs.declared.certificate.cert.Window.{Window}
 use Rattle.plan.specs.Certificate.Certificate.{Claim, Certificate}
 use Rattle.plan.specs.Certificate.Cells.{own_region}
-use Rattle.outline.specs.Forms.{spans_are_over, spans_are_within_limits, have_ends, grid_symbols}
+use Rattle.soundness.specs.Outline.Forms.{spans_are_over, spans_are_within_limits, have_ends, grid_symbols}
 use Rattle.validation.specs.Certificate.Certificate.{claim_is_known, window_is_known, is_used, span_is_within_limits, has_ends}
 
 -- so many spans with one to four forms at each end, within the limits, in the symbols of a grid of so many numbers

@@ -1,8 +1,8 @@
 -- What is wrong with a line that has a region.
 use Rattle.std.specs.Prelude.{ℕ, ◌+◌, Bool, List, [], ◌∷◌, ◌++◌, Option, Some, None}
-use Rattle.outline.specs.Refusals.Codes.{number_of}
-use Rattle.outline.specs.declared.refusals.code.K.{K}
-use Rattle.outline.specs.Flaws.{Flaw, unless, line_told}
+use Rattle.soundness.specs.Outline.Refusals.Codes.{number_of}
+use Rattle.soundness.specs.declared.outline.refusals.code.K.{K}
+use Rattle.soundness.specs.Outline.Flaws.{Flaw, unless, line_told}
 
 -- K2 where what the line names is not known, K3 where its forms are not within the limits, K14 where its spans have not one
 -- to four forms at each end

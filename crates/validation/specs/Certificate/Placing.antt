@@ -2,7 +2,7 @@
 use Rattle.std.specs.Prelude.{ℕ, zero, suc, ◌-◌, ◌==◌, nat_lt, if◌then◌else◌, List, [], ◌∷◌, ◌++◌, length, Option, Some, None}
 use Rattle.plan.specs.Plan.{Statement, Seq, For, Let, First, Guard, Alloc, Fetch, Store, Publish, Statements, Empty, Then, Group}
 use Rattle.plan.specs.Lines.{lines, group_lines}
-use Rattle.outline.specs.Forms.{grid_symbols}
+use Rattle.soundness.specs.Outline.Forms.{grid_symbols}
 use Rattle.validation.specs.Groups.Lines.{buffers_after, symbols_after}
 
 -- where a statement stands: the symbols of the grid, of the loops round it and of lines `let` before it, the innermost last, those

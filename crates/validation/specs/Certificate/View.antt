@@ -4,7 +4,7 @@ use Rattle.std.specs.Borrow.{Bor}
 use Rattle.plan.specs.declared.plan.Group.{Group as GroupHeld}
 use Rattle.plan.specs.Plan.{Group}
 use Rattle.plan.specs.View.{group_of}
-use Rattle.outline.specs.View.{group_in}
+use Rattle.soundness.specs.Outline.View.{group_in}
 use Rattle.validation.specs.Certificate.Placing.{Place}
 use Rattle.validation.specs.Certificate.Ways.{spot_of}
 use Rattle.validation.specs.declared.certificate.placed.Placed.{Placed}

@@ -16,8 +16,8 @@ use Rattle.plan.specs.Certificate.Cells.{piece_count}
 use Rattle.soundness.specs.Origins.{Outline}
 use Rattle.soundness.specs.Given.{outline_of}
 use Rattle.headline.specs.Sound.{publishes}
-use Rattle.outline.specs.Forms.{is_over, are_over, spans_are_over, are_within_limits, spans_are_within_limits, is_listed, have_ends, grid_symbols}
-use Rattle.outline.specs.Flaws.{Flaw, unless, line_told}
+use Rattle.soundness.specs.Outline.Forms.{is_over, are_over, spans_are_over, are_within_limits, spans_are_within_limits, is_listed, have_ends, grid_symbols}
+use Rattle.soundness.specs.Outline.Flaws.{Flaw, unless, line_told}
 use Rattle.validation.specs.Groups.Lanes.{fits_mark}
 use Rattle.validation.specs.Groups.Sizes.{more, places_count, allotted, cell_count, is_extent}
 use Rattle.validation.specs.Stored.Sizes.{counted, is_small}

@@ -6,7 +6,7 @@ use Rattle.plan.specs.declared.stmt.Places.TheVariants.{From, Folded}
 use Rattle.plan.specs.Plan.{Statement, Seq, For, Let, First, Guard, Alloc, Fetch, Store, Publish, Statements, Empty, Then}
 use Rattle.plan.specs.Certificate.Cells.{no_symbols}
 use Rattle.headline.specs.Parts.{span_count}
-use Rattle.outline.specs.Forms.{is_listed}
+use Rattle.soundness.specs.Outline.Forms.{is_listed}
 use Rattle.validation.specs.Stored.Sizes.{counted}
 
 -- so many and so many more

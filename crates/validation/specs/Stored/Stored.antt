@@ -13,7 +13,7 @@ use Rattle.plan.specs.Semantics.Run.{Source, Input, ByClaim, Unknown}
 use Rattle.soundness.specs.Origins.{Outline}
 use Rattle.soundness.specs.Obligations.{is_form}
 use Rattle.meaning.specs.Inlining.PutIn.{put_in, calls_updates}
-use Rattle.outline.specs.Forms.{is_over}
+use Rattle.soundness.specs.Outline.Forms.{is_over}
 use Rattle.validation.specs.Stored.Sizes.{is_small}
 use Rattle.validation.specs.Stored.Definitions.{parts_named, Definition, Pure, Step, has_variables, stored_in}
 use Rattle.validation.specs.Stored.Alike.{same_term}

@@ -10,9 +10,9 @@ ghost use Rattle.algo.specs.Parts.{function_of, functions_of};
 ghost use Rattle.std.specs.declared.string.String.{String};
 ghost use Rattle.std.specs.Global.{Global};
 ghost use Rattle.algo.specs.View.{algorithm_of};
-ghost use Rattle.outline.specs.Forms.{spans_are_within_limits, have_ends};
-ghost use Rattle.outline.specs.Flaws.{first_of, told, line_told};
-ghost use Rattle.outline.specs.View.{buffer_in, group_in};
+ghost use Rattle.soundness.specs.Outline.Forms.{spans_are_within_limits, have_ends};
+ghost use Rattle.soundness.specs.Outline.Flaws.{first_of, told, line_told};
+ghost use Rattle.soundness.specs.Outline.View.{buffer_in, group_in};
 ghost use Rattle.validation.specs.Certificate.Lines.{line_flaws, each_line, told_at};
 ghost use Rattle.validation.specs.Certificate.Certificate.{is_of_buffer, is_of_function, is_at, claim_is_known, claim_flaws};
 ghost use Rattle.validation.specs.Certificate.Placing.{place_at};
@@ -23,11 +23,11 @@ use crate::certificate::codes::line_code;
 use crate::certificate::placed::{Placed, outlines_of, placed_at};
 use algo::{Algo, Function};
 use indexmap::IndexMap;
-use outline::Outlined;
-use outline::forms::{have_ends, spans_are_over, spans_are_within_limits};
-use outline::refusals::{Flaw, K};
 use plan::Plan;
 use plan::certificate::{Cert, Claim};
+use soundness::outline::Outlined;
+use soundness::outline::forms::{have_ends, spans_are_over, spans_are_within_limits};
+use soundness::outline::refusals::{Flaw, K};
 use std::alloc::{AllocError, Global};
 
 /// The most claims of a certificate.

@@ -1,10 +1,10 @@
 //! What is wrong with a line that has a region.
 
 ghost use Rattle.std.specs.Prelude.{◌≡◌, ℕ};
-ghost use Rattle.outline.specs.Flaws.{first_of};
+ghost use Rattle.soundness.specs.Outline.Flaws.{first_of};
 ghost use Rattle.validation.specs.Certificate.Lines.{line_flaws, window_line_flaws, told_at};
 
-use outline::refusals::K;
+use soundness::outline::refusals::K;
 
 /// The code of what is wrong with a line: whether what it names is known, its forms are within the limits, and each side of
 /// its spans has one to four forms.

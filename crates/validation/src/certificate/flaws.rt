@@ -5,7 +5,7 @@ ghost use Rattle.plan.specs.Lines.{certificate_line};
 ghost use Rattle.plan.specs.View.{plan_of};
 ghost use Rattle.plan.specs.Certificate.Certificate.{certificate_of};
 ghost use Rattle.algo.specs.View.{algorithm_of};
-ghost use Rattle.outline.specs.Flaws.{first_of, told, line_told};
+ghost use Rattle.soundness.specs.Outline.Flaws.{first_of, told, line_told};
 ghost use Rattle.validation.specs.Certificate.Certificate.{flaws_of_regions, flaws_of_claims, flaws_of_certificate};
 
 use crate::certificate::claim_lines::claim_flaw;
@@ -13,9 +13,9 @@ use crate::certificate::need_lines::need_flaw;
 use crate::certificate::own_lines::{cert_flaw, own_flaw};
 use crate::certificate::window_lines::window_flaw;
 use algo::Algo;
-use outline::refusals::Flaw;
 use plan::Plan;
 use plan::certificate::Cert;
+use soundness::outline::refusals::Flaw;
 use std::alloc::{AllocError, Global};
 
 /// The first flaw of the lines of claims and windows, where the line `cert` is given.

@@ -5,7 +5,7 @@ ghost use Rattle.meaning.specs.Algorithm.{Algorithm};
 ghost use Rattle.plan.specs.Lines.{group_line, group_lines};
 ghost use Rattle.plan.specs.Plan.{Group, Plan};
 ghost use Rattle.plan.specs.Certificate.Certificate.{Certificate};
-ghost use Rattle.outline.specs.Flaws.{first_of};
+ghost use Rattle.soundness.specs.Outline.Flaws.{first_of};
 ghost use Rattle.validation.specs.Certificate.Certificate.{flaws_of_certificate, flaws_of_regions};
 ghost use Rattle.validation.specs.Certificate.Clear.{HasRegions, IsClear};
 ghost use Rattle.validation.specs.Certificate.Placing.{group_spot_at, place_at, place_with};

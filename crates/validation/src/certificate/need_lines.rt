@@ -5,8 +5,8 @@ ghost use Rattle.plan.specs.Lines.{certificate_line};
 ghost use Rattle.plan.specs.Lists.{list_groups};
 ghost use Rattle.plan.specs.View.{plan_of};
 ghost use Rattle.plan.specs.Certificate.Certificate.{certificate_of};
-ghost use Rattle.outline.specs.Forms.{spans_are_within_limits, have_ends};
-ghost use Rattle.outline.specs.Flaws.{first_of, told, line_told};
+ghost use Rattle.soundness.specs.Outline.Forms.{spans_are_within_limits, have_ends};
+ghost use Rattle.soundness.specs.Outline.Flaws.{first_of, told, line_told};
 ghost use Rattle.validation.specs.Certificate.Lines.{line_flaws, each_line, told_at};
 ghost use Rattle.validation.specs.Certificate.Certificate.{is_need_of, need_is_known, need_flaws};
 ghost use Rattle.validation.specs.Certificate.View.{group_held};
@@ -14,10 +14,10 @@ ghost use Rattle.validation.specs.Certificate.View.{group_held};
 use crate::certificate::codes::line_code;
 use crate::certificate::groups::group_at;
 use lin::Span1;
-use outline::forms::{grid_symbols, have_ends, spans_are_over, spans_are_within_limits};
-use outline::refusals::{Flaw, K};
 use plan::certificate::{Cert, Need};
 use plan::{Group, Plan};
+use soundness::outline::forms::{grid_symbols, have_ends, spans_are_over, spans_are_within_limits};
+use soundness::outline::refusals::{Flaw, K};
 use std::alloc::{AllocError, Global};
 
 /// Whether a region has as many spans as the needed group's grid has numbers, in the symbols of the group's own grid.

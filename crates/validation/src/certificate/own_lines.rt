@@ -5,8 +5,8 @@ ghost use Rattle.plan.specs.Lines.{certificate_line};
 ghost use Rattle.plan.specs.Lists.{list_groups};
 ghost use Rattle.plan.specs.View.{group_of, plan_of};
 ghost use Rattle.plan.specs.Certificate.Certificate.{certificate_of};
-ghost use Rattle.outline.specs.Forms.{spans_are_within_limits, have_ends};
-ghost use Rattle.outline.specs.Flaws.{first_of, told, line_told};
+ghost use Rattle.soundness.specs.Outline.Forms.{spans_are_within_limits, have_ends};
+ghost use Rattle.soundness.specs.Outline.Flaws.{first_of, told, line_told};
 ghost use Rattle.validation.specs.Certificate.Lines.{line_flaws, each_line, told_at};
 ghost use Rattle.validation.specs.Certificate.View.{group_held};
 ghost use Rattle.validation.specs.Certificate.Certificate.{is_owned, are_owned, is_region_of, own_is_known, cert_flaws, own_flaws};
@@ -14,10 +14,10 @@ ghost use Rattle.validation.specs.Certificate.Certificate.{is_owned, are_owned, 
 use crate::certificate::codes::line_code;
 use crate::certificate::groups::group_at;
 use lin::Span1;
-use outline::forms::{grid_symbols, have_ends, spans_are_over, spans_are_within_limits};
-use outline::refusals::{Flaw, K};
 use plan::certificate::{Cert, Own};
 use plan::{Group, Plan};
+use soundness::outline::forms::{grid_symbols, have_ends, spans_are_over, spans_are_within_limits};
+use soundness::outline::refusals::{Flaw, K};
 use std::alloc::{AllocError, Global};
 
 /// Whether one of these lines is of the group.

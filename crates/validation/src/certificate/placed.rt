@@ -2,15 +2,15 @@
 
 ghost use Rattle.std.specs.Prelude.{◌≡◌, IfOk, map};
 ghost use Rattle.plan.specs.View.{plan_of};
-ghost use Rattle.outline.specs.View.{group_in};
+ghost use Rattle.soundness.specs.Outline.View.{group_in};
 ghost use Rattle.validation.specs.Certificate.Placing.{place_at, place_in};
 ghost use Rattle.validation.specs.Certificate.View.{place_held};
 
 use crate::certificate::placing::{Seen, seen_from};
 use crate::certificate::spot::Spot;
-use outline::Outlined;
 use plan::Plan;
 use plan::certificate::Cert;
+use soundness::outline::Outlined;
 use std::alloc::{AllocError, Global};
 
 /// Where a statement ends: the group that has the line, and where in it the statement stands, seen behind it.

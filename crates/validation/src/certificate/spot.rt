@@ -6,8 +6,8 @@ ghost use Rattle.validation.specs.Certificate.Placing.{group_spot, in_loop, past
 ghost use Rattle.validation.specs.Certificate.Ways.{spot_of};
 
 use lin::Sym;
-use outline::forms::grid_symbols;
 use plan::{Group, Stmt};
+use soundness::outline::forms::grid_symbols;
 use std::alloc::{AllocError, Global};
 
 /// Where a statement stands: the symbols of the grid, of the loops round it and of lines `let` before it, the innermost last, those

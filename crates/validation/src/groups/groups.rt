@@ -11,9 +11,9 @@ ghost use Rattle.plan.specs.Plan.{Group as GroupSaid, block};
 ghost use Rattle.plan.specs.View.{group_of, plan_of, statement_of};
 ghost use Rattle.headline.specs.Sound.{publishes, block_publishes};
 ghost use Rattle.plan.specs.Certificate.Cells.{piece_count};
-ghost use Rattle.outline.specs.Flaws.{first_of, line_told, told};
-ghost use Rattle.outline.specs.View.{certificate_in, group_in, outline_in, plan_in};
-ghost use Rattle.outline.specs.Forms.{spans_are_over};
+ghost use Rattle.soundness.specs.Outline.Flaws.{first_of, line_told, told};
+ghost use Rattle.soundness.specs.Outline.View.{certificate_in, group_in, outline_in, plan_in};
+ghost use Rattle.soundness.specs.Outline.Forms.{spans_are_over};
 ghost use Rattle.validation.specs.Stored.Definitions.{has_variables as known_with, parts_named, stored_in};
 ghost use Rattle.validation.specs.Groups.Sizes.{cell_count, is_extent, more};
 ghost use Rattle.validation.specs.Stored.Sizes.{counted};
@@ -28,11 +28,11 @@ use crate::stored::{Ground, GroupLines, has_variables, stored_in};
 use algo::Algo;
 use algo::scoping::same_name;
 use lin::Sym;
-use outline::Outlined;
-use outline::forms::{grid_symbols, spans_are_over, spans_are_within_limits};
-use outline::refusals::Flaw;
 use plan::certificate::Cert;
 use plan::{Group, Plan, Stmt};
+use soundness::outline::Outlined;
+use soundness::outline::forms::{grid_symbols, spans_are_over, spans_are_within_limits};
+use soundness::outline::refusals::Flaw;
 use std::alloc::{AllocError, Global};
 
 /// The most cells of all groups together.

@@ -7,12 +7,12 @@ ghost use Rattle.plan.specs.Lists.{list_statements};
 ghost use Rattle.plan.specs.Plan.{block};
 ghost use Rattle.plan.specs.View.{coordinate_of, statement_of};
 ghost use Rattle.soundness.specs.Obligations.{form_has};
-ghost use Rattle.outline.specs.View.{outline_in};
+ghost use Rattle.soundness.specs.Outline.View.{outline_in};
 ghost use Rattle.validation.specs.Groups.Lanes.{admits_lanes, fits_mark, goes_by, only, only_in, stores_lanes, takes_lanes};
 
 use lin::{Lin, Sym};
-use outline::Outlined;
 use plan::{Coordinate, Index, Kind, Stmt};
+use soundness::outline::Outlined;
 
 /// The one line of a statement, in however many blocks it stands, if it has just one.
 #[cycle(only)]

@@ -9,9 +9,9 @@ ghost use Rattle.plan.specs.Lists.{list_statements};
 ghost use Rattle.plan.specs.Plan.{Guard, block};
 ghost use Rattle.plan.specs.View.{coordinate_of, statement_of};
 ghost use Rattle.lin.specs.Forms.{is_within_limits as is_limited};
-ghost use Rattle.outline.specs.Forms.{are_over, are_within_limits, is_listed, is_over as form_is_over};
-ghost use Rattle.outline.specs.Flaws.{first_of, told};
-ghost use Rattle.outline.specs.View.{certificate_in, group_in, outline_in, plan_in};
+ghost use Rattle.soundness.specs.Outline.Forms.{are_over, are_within_limits, is_listed, is_over as form_is_over};
+ghost use Rattle.soundness.specs.Outline.Flaws.{first_of, told};
+ghost use Rattle.soundness.specs.Outline.View.{certificate_in, group_in, outline_in, plan_in};
 ghost use Rattle.validation.specs.Stored.Definitions.{definition_held, function_in, has_variables as known_with, parts_named};
 ghost use Rattle.validation.specs.Groups.Sizes.{more, places_count};
 ghost use Rattle.validation.specs.Stored.Sizes.{is_small};
@@ -29,12 +29,12 @@ use crate::stored::{
 };
 use algo::scoping::same_name;
 use lin::{Forms, Lin, Span1, Sym};
-use outline::forms::{
+use plan::{Coordinate, Index, Kind, Places, Stmt};
+use soundness::outline::forms::{
     are_over, are_within_limits, have_ends, is_listed, is_over, spans_are_over,
     spans_are_within_limits,
 };
-use outline::refusals::{Flaw, K};
-use plan::{Coordinate, Index, Kind, Places, Stmt};
+use soundness::outline::refusals::{Flaw, K};
 use std::alloc::{AllocError, Global};
 use tree::Expr;
 

@@ -11,8 +11,8 @@ ghost use Rattle.validation.specs.Stored.Sizes.{counted};
 
 use crate::groups::ends::{high_end, low_end};
 use lin::Span1;
-use outline::forms::is_listed;
 use plan::{Places, Stmt};
+use soundness::outline::forms::is_listed;
 
 /// How many places there are for one coordinate.
 fn place_count(places: &Places) -> u64

@@ -4,14 +4,14 @@ ghost use Rattle.std.specs.Prelude.{◌≡◌};
 ghost use Rattle.tree.specs.Term.{term_of, test_of, list_terms, indices};
 ghost use Rattle.meaning.specs.Names.{same_name};
 ghost use Rattle.tree.specs.Substitution.{test_with_calls, all_with_calls};
-ghost use Rattle.outline.specs.View.{outline_in};
+ghost use Rattle.soundness.specs.Outline.View.{outline_in};
 ghost use Rattle.validation.specs.Stored.Alike.{IsChoice, type_number, op_number, comparison_number, same_term, same_terms, same_test};
 ghost use Rattle.subst.specs.Kinds.{HasParts};
 ghost use Rattle.validation.specs.Stored.Stored.{as_read, call_read, name_read};
 
 use algo::scoping::same_name;
 use numeric::{Comparison, Op, Ty};
-use outline::{Outlined, Source};
+use soundness::outline::{Outlined, Source};
 use tree::{Cond, Expr};
 
 /// The type's number.

@@ -2,14 +2,14 @@
 
 ghost use Rattle.std.specs.Prelude.{◌≡◌, length};
 ghost use Rattle.algo.specs.View.{algorithm_of};
-ghost use Rattle.outline.specs.Forms.{grid_symbols};
-ghost use Rattle.outline.specs.View.{group_in, plan_in};
+ghost use Rattle.soundness.specs.Outline.Forms.{grid_symbols};
+ghost use Rattle.soundness.specs.Outline.View.{group_in, plan_in};
 ghost use Rattle.validation.specs.Stored.Definitions.{stored_in};
 
 use crate::stored::lines::GroupLines;
 use algo::Algo;
 use lin::Sym;
-use outline::Outlined;
+use soundness::outline::Outlined;
 
 /// The algorithm, the group, its lines, which functions are stored, and the symbols of the group's grid.
 #[derive(Clone, Copy, Drop)]

@@ -6,7 +6,7 @@ ghost use Rattle.tree.specs.Term.{term_of, test_of, list_terms, indices};
 ghost use Rattle.algo.specs.Parts.{names_of, range_of};
 ghost use Rattle.algo.specs.View.{algorithm_of};
 ghost use Rattle.plan.specs.View.{coordinate_of, index_of};
-ghost use Rattle.outline.specs.View.{outline_in, plan_in};
+ghost use Rattle.soundness.specs.Outline.View.{outline_in, plan_in};
 ghost use Rattle.validation.specs.Stored.Definitions.{definition_held};
 ghost use Rattle.validation.specs.Stored.Stored.{are_for, has_names, is_named, is_known, is_known_test, are_known, index_is_known, is_call};
 
@@ -14,8 +14,8 @@ use crate::stored::defined::{Defined, has_variables};
 use crate::stored::ground::Ground;
 use algo::Range;
 use algo::scoping::same_name;
-use outline::Source;
 use plan::{Coordinate, Index};
+use soundness::outline::Source;
 use tree::{Cond, Expr};
 
 /// The first coordinates, so many of them.

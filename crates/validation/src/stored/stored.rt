@@ -8,7 +8,7 @@ ghost use Rattle.algo.specs.Parts.{names_of};
 ghost use Rattle.algo.specs.View.{algorithm_of};
 ghost use Rattle.soundness.specs.Obligations.{is_form};
 ghost use Rattle.plan.specs.View.{coordinate_of, index_of};
-ghost use Rattle.outline.specs.View.{outline_in, plan_in};
+ghost use Rattle.soundness.specs.Outline.View.{outline_in, plan_in};
 ghost use Rattle.validation.specs.Stored.Definitions.{definition_held};
 ghost use Rattle.validation.specs.Stored.Sizes.{is_small};
 ghost use Rattle.validation.specs.Stored.Stored.{index_is_small, is_put_in, is_left, are_left, is_defined};

@@ -1,6 +1,6 @@
 -- The mean of three rows of f, whose buffer slides along the loop over the rows: it holds as many rows as are read, and each turn but the
 -- first of a piece adds one. Accepted by the checker's own rules, and what is wrong where the plan is altered.
-use Rattle.std.specs.Prelude.{ℕ, [], ◌∷◌, ◌++◌, List, ℤ, pos, negsuc, codes}
+use Rattle.std.specs.Prelude.{ℕ, [], ◌∷◌, List, ℤ, pos, negsuc, codes}
 use Rattle.numeric.specs.declared.ty.Ty.TheVariants.{U8, U16, I32}
 use Rattle.numeric.specs.declared.op.Op.TheVariants.{Add, Sub, Div}
 use Rattle.tree.specs.Term.{Term, Number, Name, Call, Binary, Cast, End, More}

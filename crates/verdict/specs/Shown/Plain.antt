@@ -20,7 +20,7 @@ use Rattle.soundness.specs.Shown.{is_within, are_within, are_seated, all_shown, 
 use Rattle.soundness.specs.Nests.Laws.{domains_of}
 use Rattle.soundness.specs.Nests.Nest.{Loop, nest_of}
 use Rattle.soundness.specs.Nests.Plain.{SaysSame, is_small, is_straight, IsPlainNest, IsPlainFetch, IsPlainUpdate}
-use Rattle.windows.specs.Nests.{slid_nests}
+use Rattle.tails.specs.Windows.Nests.{slid_nests}
 use Rattle.headline.specs.Numbers.{is_cell}
 use Rattle.headline.specs.Theorem.{HasSoundCells}
 use Rattle.headline.specs.Work.{cells_fetched, work_of}

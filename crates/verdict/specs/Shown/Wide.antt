@@ -16,7 +16,7 @@ use Rattle.soundness.specs.Given.{function_named, outline_of, given_of}
 use Rattle.soundness.specs.Obligations.{Rules, Obligation, Suited, is_covered}
 use Rattle.soundness.specs.Shown.{Nests, all_shown}
 use Rattle.soundness.specs.Stored.{AreDefinitions}
-use Rattle.windows.specs.Shown.{IsShown}
+use Rattle.tails.specs.Windows.Shown.{IsShown}
 use Rattle.orders.specs.Work.{IsSound}
 use Rattle.headline.specs.Numbers.{is_cell}
 use Rattle.headline.specs.Sound.{IsPublished}

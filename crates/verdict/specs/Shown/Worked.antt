@@ -20,12 +20,12 @@ use Rattle.soundness.specs.Obligations.{Rules, anything, obligations}
 use Rattle.soundness.specs.Shown.{all_shown, start}
 use Rattle.soundness.specs.Worked.{scan_algorithm}
 use Rattle.soundness.specs.Nests.Laws.{domains_of}
-use Rattle.windows.specs.Nests.{slid_nests}
+use Rattle.tails.specs.Windows.Nests.{slid_nests}
 use Rattle.soundness.specs.Nests.Worked.{binding_of}
 use Rattle.rules.specs.Widths.Widths.{wide_lines}
 use Rattle.verdict.specs.Shown.Plain.{IsPlain, IsPlainPlan}
 use Rattle.soundness.specs.Binders.View.{grid_binders}
-use Rattle.windows.specs.Shown.{IsShown}
+use Rattle.tails.specs.Windows.Shown.{IsShown}
 use Rattle.verdict.specs.Shown.Wide.{Accepts}
 
 -- ---- f, one more than each pixel, and out, two times f and f from the other end

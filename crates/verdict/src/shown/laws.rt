@@ -12,7 +12,7 @@ use soundness::nests::laws::{
     domains_are_counted, forms_are_at_most_themselves, plain_nests_are_accepted,
 };
 use tails::laws::plain_nests_are_taken;
-use windows::laws::slid_nests_are_right;
+use tails::windows::laws::slid_nests_are_right;
 
 /// A plan that is accepted by rules that hold is right: on every input, in every order of steps. So is
 /// its work: each piece's private run gives right values.

@@ -2,7 +2,7 @@ use Rattle.std.proofs.Common.{sym, subst}
 use Rattle.algo.specs.View.{algorithm_of}
 use Rattle.plan.specs.View.{plan_of}
 use Rattle.plan.specs.Certificate.Certificate.{certificate_of}
-use Rattle.outline.specs.declared.refusals.code.Flaw.{Flaw}
+use Rattle.soundness.specs.declared.outline.refusals.code.Flaw.{Flaw}
 use Rattle.shares.specs.declared.answer.SharesError.{SharesError}
 use Rattle.audit.specs.Refused.{IsTold}
 use Rattle.audit.specs.Stand.{IsFlaw}

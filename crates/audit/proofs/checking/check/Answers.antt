@@ -2,7 +2,7 @@ use Rattle.std.proofs.Common.{refl, inl, subst}
 use Rattle.algo.specs.View.{algorithm_of}
 use Rattle.plan.specs.View.{plan_of}
 use Rattle.plan.specs.Certificate.Certificate.{certificate_of}
-use Rattle.outline.specs.Refusals.Codes.{number_of}
+use Rattle.soundness.specs.Outline.Refusals.Codes.{number_of}
 use Rattle.shares.specs.declared.answer.SharesError.{SharesError}
 use Rattle.verdict.specs.Faults.{IsFault}
 use Rattle.audit.specs.Refused.{IsTold}

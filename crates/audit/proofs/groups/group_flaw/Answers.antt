@@ -3,7 +3,7 @@ use Rattle.std.specs.Prelude.{slice_get}
 use Rattle.algo.specs.View.{algorithm_of}
 use Rattle.plan.specs.View.{plan_of}
 use Rattle.plan.specs.Certificate.Certificate.{certificate_of}
-use Rattle.outline.specs.View.{plan_in, certificate_in, number_in, group_in}
+use Rattle.soundness.specs.Outline.View.{plan_in, certificate_in, number_in, group_in}
 use Rattle.audit.proofs.Told.{AreOf, group_told, same_group}
 use Rattle.audit.proofs.groups.group_flaw.Goals as goal
 

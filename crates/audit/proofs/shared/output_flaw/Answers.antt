@@ -6,7 +6,7 @@ use Rattle.plan.specs.View.{plan_of, group_of}
 use Rattle.plan.specs.Certificate.Certificate.{certificate_of}
 use Rattle.headline.specs.Numbers.{HaveEnds}
 use Rattle.checked_plan.specs.Ready.Ready.{IsSmallSpan}
-use Rattle.outline.specs.declared.refusals.code.K.TheVariants.{K10}
+use Rattle.soundness.specs.declared.outline.refusals.code.K.TheVariants.{K10}
 use Rattle.audit.proofs.OutputGroup.{held_at, held_function, has_same, output_lacks, output_there}
 use Rattle.audit.proofs.shared.output_flaw.Goals as goal
 

@@ -3,7 +3,7 @@ use Rattle.std.specs.Prelude.{slice_get}
 use Rattle.algo.specs.View.{algorithm_of}
 use Rattle.plan.specs.View.{plan_of}
 use Rattle.plan.specs.Certificate.Certificate.{certificate_of}
-use Rattle.outline.specs.View.{plan_in, certificate_in, number_in, group_in}
+use Rattle.soundness.specs.Outline.View.{plan_in, certificate_in, number_in, group_in}
 use Rattle.claims.proofs.Firsts.{AreOf, unmet_moved, first_moved, same_group}
 use Rattle.claims.proofs.group.first_with.Goals as goal
 

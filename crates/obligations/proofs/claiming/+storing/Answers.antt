@@ -4,7 +4,7 @@ use Rattle.plan.specs.Lines.{lines, block_lines}
 use Rattle.plan.specs.Lists.{list_statements}
 use Rattle.plan.specs.Plan.{Statement, block}
 use Rattle.soundness.specs.Obligations.{store_line}
-use Rattle.outline.specs.View.{outline_in}
+use Rattle.soundness.specs.Outline.View.{outline_in}
 use Rattle.obligations.proofs.Blocks.{seq_is}
 use Rattle.obligations.proofs.claiming.+storing.Goals as goal
 

@@ -3,7 +3,7 @@ use Rattle.plan.specs.Lines.{block_lines}
 use Rattle.plan.specs.Lists.{list_statements}
 use Rattle.plan.specs.Plan.{block}
 use Rattle.soundness.specs.Obligations.{block_store_line}
-use Rattle.outline.specs.View.{outline_in}
+use Rattle.soundness.specs.Outline.View.{outline_in}
 use Rattle.obligations.proofs.Blocks.{from}
 use Rattle.obligations.proofs.claiming.+storing.Given as goal
 

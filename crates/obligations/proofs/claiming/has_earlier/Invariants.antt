@@ -1,7 +1,7 @@
 use Rattle.std.proofs.Common.{◌≡◌, false, take}
 use Rattle.std.specs.List.{list_any}
 use Rattle.soundness.specs.Obligations.{follows}
-use Rattle.outline.specs.View.{outline_in}
+use Rattle.soundness.specs.Outline.View.{outline_in}
 use Rattle.obligations.proofs.claiming.has_earlier.Given as goal
 
 abbrev pub invariant-loop-before : goal.invariant-loop-before

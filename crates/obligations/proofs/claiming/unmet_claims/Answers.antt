@@ -4,7 +4,7 @@ use Rattle.std.proofs.lemmas.List.{get_or_default}
 use Rattle.plan.specs.View.{statement_of}
 use Rattle.soundness.specs.Obligations.{claim_obligations}
 use Rattle.obligations.specs.Context.Around.{known_of, windows_of}
-use Rattle.outline.specs.View.{outline_in}
+use Rattle.soundness.specs.Outline.View.{outline_in}
 use Rattle.obligations.proofs.Unmet.{loop_stops, loop_goes, loop_ends}
 use Rattle.obligations.proofs.claiming.unmet_claims.Goals as goal
 

@@ -2,7 +2,7 @@ use Rattle.std.proofs.Common.{◌≡◌, drop, []}
 use Rattle.std.specs.Prelude.{flat_map}
 use Rattle.plan.specs.View.{statement_of}
 use Rattle.soundness.specs.Obligations.{claim_obligations}
-use Rattle.outline.specs.View.{outline_in}
+use Rattle.soundness.specs.Outline.View.{outline_in}
 use Rattle.obligations.specs.Asked.{first_unmet}
 use Rattle.obligations.specs.Context.Around.{known_of, windows_of}
 use Rattle.obligations.proofs.claiming.unmet_claims.Given as goal

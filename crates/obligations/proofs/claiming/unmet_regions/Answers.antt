@@ -2,7 +2,7 @@ use Rattle.std.proofs.Common.{ℕ, [], ◌∷◌, get_or, refl, sym, ◌∙◌}
 use Rattle.std.proofs.lemmas.List.{get_or_default}
 use Rattle.obligations.specs.Around.{asked_by_claims}
 use Rattle.obligations.proofs.Asking.{claims_step}
-use Rattle.outline.specs.View.{outline_in}
+use Rattle.soundness.specs.Outline.View.{outline_in}
 use Rattle.obligations.proofs.Unmet.{loop_stops, loop_goes, loop_ends}
 use Rattle.obligations.proofs.claiming.unmet_regions.Goals as goal
 

@@ -1,5 +1,5 @@
 use Rattle.std.proofs.Common.{◌≡◌, drop}
-use Rattle.outline.specs.View.{outline_in}
+use Rattle.soundness.specs.Outline.View.{outline_in}
 use Rattle.obligations.specs.Asked.{first_unmet}
 use Rattle.obligations.specs.Around.{asked_by_claims}
 use Rattle.obligations.proofs.claiming.unmet_regions.Given as goal

@@ -1,6 +1,6 @@
 use Rattle.std.proofs.Common.{◌≡◌, List, refl, sym, ap, ◌∙◌, Option, None, subst}
 use Rattle.std.specs.Prelude.{IfOk, string_bytes}
-use Rattle.outline.specs.declared.refusals.code.Flaw.{Flaw}
+use Rattle.soundness.specs.declared.outline.refusals.code.Flaw.{Flaw}
 use Rattle.tree.specs.Term.{Term, Call}
 use Rattle.tree.proofs.Rows.{term_of-call}
 use Rattle.obligations.specs.Asked.{first_unmet}
@@ -9,7 +9,7 @@ use Rattle.obligations.proofs.Unmet.{stop_append, go_append}
 use Rattle.tree.specs.declared.expr.Expr.{Expr}
 use Rattle.tree.specs.Term.{term_of, indices, list_terms}
 use Rattle.obligations.specs.Loads.{loads_in, loads_of_all_in}
-use Rattle.outline.specs.View.{outline_in}
+use Rattle.soundness.specs.Outline.View.{outline_in}
 use Rattle.obligations.proofs.Unmet.{loop_stops, loop_goes, loop_ends}
 use Rattle.obligations.proofs.loads.+loading.Goals as goal
 

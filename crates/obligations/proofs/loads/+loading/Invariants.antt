@@ -1,6 +1,6 @@
 use Rattle.std.proofs.Common.{◌≡◌, drop}
 use Rattle.tree.specs.Term.{indices, list_terms}
-use Rattle.outline.specs.View.{outline_in}
+use Rattle.soundness.specs.Outline.View.{outline_in}
 use Rattle.obligations.specs.Asked.{first_unmet}
 use Rattle.obligations.specs.Loads.{loads_of_all_in}
 use Rattle.obligations.proofs.loads.+loading.Given as goal

@@ -1,6 +1,6 @@
 use Rattle.std.proofs.Common.{◌++◌, ◌∷◌, [], sym, ap, ◌∙◌}
 use Rattle.tree.specs.Term.{term_of}
-use Rattle.outline.specs.View.{outline_in}
+use Rattle.soundness.specs.Outline.View.{outline_in}
 use Rattle.soundness.specs.Binders.View.{binders_of}
 use Rattle.obligations.specs.Loads.{known_in, names_in}
 use Rattle.obligations.proofs.Loading.{intervals_more}

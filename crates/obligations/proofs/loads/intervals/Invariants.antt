@@ -1,6 +1,6 @@
 use Rattle.std.proofs.Common.{◌≡◌, take}
 use Rattle.tree.specs.Term.{indices, list_terms}
-use Rattle.outline.specs.View.{outline_in}
+use Rattle.soundness.specs.Outline.View.{outline_in}
 use Rattle.obligations.specs.Loads.{intervals_in}
 use Rattle.obligations.proofs.loads.intervals.Given as goal
 

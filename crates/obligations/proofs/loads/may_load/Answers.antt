@@ -1,7 +1,7 @@
 use Rattle.std.proofs.Common.{◌≡◌, true, sym, ◌∙◌, rules}
 use Rattle.std.specs.Prelude.{◌==◌, ◌&&◌}
 use Rattle.soundness.specs.Obligations.{Updating, serves}
-use Rattle.outline.specs.View.{outline_in}
+use Rattle.soundness.specs.Outline.View.{outline_in}
 use Rattle.obligations.specs.Loads.{is_own, known_in}
 use Rattle.obligations.proofs.Bound.{any_nests}
 use Rattle.obligations.proofs.Loading.{may_own}

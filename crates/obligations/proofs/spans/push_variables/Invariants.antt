@@ -1,5 +1,5 @@
 use Rattle.std.proofs.Common.{◌≡◌, take, ◌++◌}
-use Rattle.outline.specs.View.{outline_in}
+use Rattle.soundness.specs.Outline.View.{outline_in}
 use Rattle.obligations.specs.Loads.{variable_spans}
 use Rattle.obligations.proofs.spans.push_variables.Given as goal
 

@@ -1,6 +1,6 @@
 use Rattle.std.proofs.Common.{◌≡◌, take, map}
 use Rattle.soundness.specs.Obligations.{target_span}
-use Rattle.outline.specs.View.{outline_in}
+use Rattle.soundness.specs.Outline.View.{outline_in}
 use Rattle.obligations.specs.Loads.{coordinates_of, known_in, names_in}
 use Rattle.obligations.proofs.stores.target_spans.Given as goal
 

@@ -3,7 +3,7 @@ use Rattle.std.proofs.lemmas.List.{get_or_default}
 use Rattle.obligations.specs.declared.context.known.Nest.{Nest}
 use Rattle.obligations.specs.Loads.{asked_by_nests}
 use Rattle.obligations.proofs.Asking.{nests_step}
-use Rattle.outline.specs.View.{outline_in}
+use Rattle.soundness.specs.Outline.View.{outline_in}
 use Rattle.obligations.proofs.Unmet.{loop_stops, loop_goes, loop_ends}
 use Rattle.obligations.proofs.stores.unmet_claimed.Goals as goal
 

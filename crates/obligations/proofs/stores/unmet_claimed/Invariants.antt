@@ -1,5 +1,5 @@
 use Rattle.std.proofs.Common.{◌≡◌, drop}
-use Rattle.outline.specs.View.{outline_in}
+use Rattle.soundness.specs.Outline.View.{outline_in}
 use Rattle.obligations.specs.Asked.{first_unmet}
 use Rattle.obligations.specs.Loads.{asked_by_nests}
 use Rattle.obligations.proofs.stores.unmet_claimed.Given as goal

@@ -1,9 +1,9 @@
 use Rattle.std.proofs.Common.{◌≡◌, Bool, Option, sym, ap, ◌∙◌, ◌^◌, ◌-◌, min, subst}
 use Rattle.std.specs.Prelude.{IfOk}
-use Rattle.outline.specs.declared.refusals.code.K.TheVariants.{K5}
-use Rattle.outline.specs.declared.refusals.code.Flaw.{Flaw}
+use Rattle.soundness.specs.declared.outline.refusals.code.K.TheVariants.{K5}
+use Rattle.soundness.specs.declared.outline.refusals.code.Flaw.{Flaw}
 use Rattle.soundness.specs.Obligations.{serves}
-use Rattle.outline.specs.View.{outline_in}
+use Rattle.soundness.specs.Outline.View.{outline_in}
 use Rattle.obligations.specs.Asked.{unless}
 use Rattle.obligations.specs.Loads.{known_in}
 use Rattle.obligations.proofs.Asking.{nest_pure, nest_later}

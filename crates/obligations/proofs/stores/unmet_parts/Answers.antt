@@ -1,13 +1,13 @@
 use Rattle.std.proofs.Common.{◌≡◌, List, ◌∷◌, ◌++◌, ◌^◌, ◌-◌, min, map, Bool, Option, None, sym, ap, ◌∙◌, subst}
 use Rattle.std.specs.Prelude.{IfOk, flat_map}
 use Rattle.lin.specs.declared.span.Span1.{Span1}
-use Rattle.outline.specs.declared.refusals.code.Flaw.{Flaw}
-use Rattle.outline.specs.declared.refusals.code.K.TheVariants.{K4}
+use Rattle.soundness.specs.declared.outline.refusals.code.Flaw.{Flaw}
+use Rattle.soundness.specs.declared.outline.refusals.code.K.TheVariants.{K4}
 use Rattle.tree.specs.Term.{term_of}
 use Rattle.soundness.specs.Obligations.{coordinate_loads, target_span, obligation, seated, places_of, is_begun, claimed, Obligation, Named, OutOfBuffer, NotClaimed}
 use Rattle.soundness.specs.Shown.{shows}
 use Rattle.soundness.specs.Binders.View.{binders_of}
-use Rattle.outline.specs.View.{outline_in}
+use Rattle.soundness.specs.Outline.View.{outline_in}
 use Rattle.obligations.specs.Asked.{first_unmet, unless}
 use Rattle.obligations.specs.Loads.{asked_by_store, coordinates_of, known_in, loads_in, may_in, meets_in, names_in, variable_spans}
 use Rattle.obligations.proofs.Asking.{asks_nest}

@@ -1,10 +1,10 @@
 use Rattle.std.proofs.Common.{◌≡◌, List, ◌++◌, Option, sym, ap, ◌∙◌, subst}
 use Rattle.std.specs.Prelude.{IfOk, flat_map}
 use Rattle.lin.specs.declared.span.Span1.{Span1}
-use Rattle.outline.specs.declared.refusals.code.Flaw.{Flaw}
+use Rattle.soundness.specs.declared.outline.refusals.code.Flaw.{Flaw}
 use Rattle.tree.specs.Term.{term_of}
 use Rattle.soundness.specs.Obligations.{coordinate_loads}
-use Rattle.outline.specs.View.{outline_in}
+use Rattle.soundness.specs.Outline.View.{outline_in}
 use Rattle.obligations.specs.Asked.{first_unmet}
 use Rattle.obligations.specs.Loads.{coordinates_of, known_in, loads_in, may_in, meets_in, names_in, variable_spans}
 use Rattle.obligations.proofs.Unmet.{go_append}

@@ -2,10 +2,10 @@ use Rattle.std.proofs.Common.{◌≡◌, ℕ, List, ◌++◌, map, length, min, 
 use Rattle.std.specs.Prelude.{IfOk}
 use Rattle.std.proofs.lemmas.List.{take_min, drop_min}
 use Rattle.lin.specs.declared.span.Span1.{Span1}
-use Rattle.outline.specs.declared.refusals.code.Flaw.{Flaw}
+use Rattle.soundness.specs.declared.outline.refusals.code.Flaw.{Flaw}
 use Rattle.tree.specs.Term.{term_of}
 use Rattle.soundness.specs.Obligations.{store_obligations}
-use Rattle.outline.specs.View.{outline_in}
+use Rattle.soundness.specs.Outline.View.{outline_in}
 use Rattle.obligations.specs.declared.loads.Reads.{Reads}
 use Rattle.obligations.specs.Context.Around.{known_of}
 use Rattle.obligations.specs.Asked.{first_unmet}

@@ -4,7 +4,7 @@ use Rattle.plan.specs.declared.stmt.Coordinate.{Coordinate}
 use Rattle.plan.specs.View.{coordinate_of}
 use Rattle.soundness.specs.Obligations.{coordinate_loads}
 use Rattle.obligations.specs.Loads.{coordinates_of, known_in, may_in, meets_in, names_in}
-use Rattle.outline.specs.View.{outline_in}
+use Rattle.soundness.specs.Outline.View.{outline_in}
 use Rattle.obligations.proofs.Unmet.{loop_stops, loop_goes, loop_ends}
 use Rattle.obligations.proofs.stores.unmet_targets.Goals as goal
 

@@ -1,7 +1,7 @@
 use Rattle.std.proofs.Common.{◌≡◌, drop}
 use Rattle.std.specs.Prelude.{flat_map}
 use Rattle.soundness.specs.Obligations.{coordinate_loads}
-use Rattle.outline.specs.View.{outline_in}
+use Rattle.soundness.specs.Outline.View.{outline_in}
 use Rattle.obligations.specs.Asked.{first_unmet}
 use Rattle.obligations.specs.Loads.{coordinates_of, known_in, names_in, may_in, meets_in}
 use Rattle.obligations.proofs.stores.unmet_targets.Given as goal

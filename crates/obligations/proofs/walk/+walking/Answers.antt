@@ -1,7 +1,7 @@
 use Rattle.std.proofs.Common.{◌≡◌, ℕ, ◌<◌, ◌+◌, ◌-◌, ◌^◌, List, [], ◌∷◌, ◌++◌, map, None, sym, ap, ◌∙◌, arith, Option, rules, subst}
 use Rattle.std.specs.Prelude.{IfOk, flat_map, not}
 use Rattle.plan.specs.Semantics.Setting.{or_else}
-use Rattle.outline.specs.declared.refusals.code.Flaw.{Flaw}
+use Rattle.soundness.specs.declared.outline.refusals.code.Flaw.{Flaw}
 use Rattle.plan.specs.declared.stmt.Stmt.{Stmt}
 use Rattle.plan.specs.declared.stmt.Stmt.TheViews.{the_lemmas}
 use Rattle.plan.specs.Lines.{lines, block_lines}
@@ -9,7 +9,7 @@ use Rattle.plan.specs.Lists.{list_statements}
 use Rattle.plan.specs.Plan.{Statement, Statements, block}
 use Rattle.plan.specs.View.{statement_of}
 use Rattle.soundness.specs.Obligations.{Known, Obligation, onwards, in_loop, has_symbol, obligation, obligations, turn_obligations, block_obligations, claim_obligations, kept_of, nests_of, within, without, Undefined, Named}
-use Rattle.outline.specs.View.{outline_in}
+use Rattle.soundness.specs.Outline.View.{outline_in}
 use Rattle.obligations.specs.Context.Around.{known_of, nest_of, windows_of}
 use Rattle.obligations.specs.Asked.{first_unmet}
 use Rattle.obligations.proofs.Blocks.{from, from_more, from_end, seq_is}

@@ -7,7 +7,7 @@ use Rattle.plan.specs.declared.stmt.Coordinate.{Coordinate}
 use Rattle.plan.specs.Plan.{Statement, Store}
 use Rattle.plan.specs.View.{statement_of, coordinate_of}
 use Rattle.soundness.specs.Obligations.{obligation, obligations, has_symbol, from_each, Undefined, Named}
-use Rattle.outline.specs.View.{outline_in}
+use Rattle.soundness.specs.Outline.View.{outline_in}
 use Rattle.obligations.specs.Context.Around.{known_of}
 use Rattle.obligations.specs.Asked.{first_unmet}
 use Rattle.obligations.proofs.walk.unmet_line.Goals as goal

@@ -3,7 +3,7 @@ use Rattle.std.specs.Prelude.{filter}
 use Rattle.std.proofs.lemmas.List.{append-nil, drop_all}
 use Rattle.plan.specs.View.{statement_of}
 use Rattle.plan.specs.declared.certificate.cert.Window.{Window}
-use Rattle.outline.specs.View.{outline_in}
+use Rattle.soundness.specs.Outline.View.{outline_in}
 use Rattle.obligations.specs.Context.Around.{windows_of}
 use Rattle.obligations.proofs.Kept.{is_kept, kept_is}
 use Rattle.obligations.proofs.windows.kept_of.Goals as goal

@@ -1,7 +1,7 @@
 use Rattle.std.proofs.Common.{◌≡◌, ◌++◌, drop}
 use Rattle.std.specs.Prelude.{filter}
 use Rattle.plan.specs.View.{statement_of}
-use Rattle.outline.specs.View.{outline_in}
+use Rattle.soundness.specs.Outline.View.{outline_in}
 use Rattle.obligations.specs.Context.Around.{windows_of}
 use Rattle.obligations.proofs.Kept.{is_kept}
 use Rattle.obligations.proofs.windows.kept_of.Given as goal

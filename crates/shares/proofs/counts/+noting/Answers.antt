@@ -7,7 +7,7 @@ use Rattle.plan.specs.Lists.{list_statements}
 use Rattle.plan.specs.Plan.{Statement, Seq, block}
 use Rattle.plan.specs.View.{statement_of}
 use Rattle.plan.proofs.Rows.{statement_of-seq}
-use Rattle.outline.specs.Flaws.{line_told}
+use Rattle.soundness.specs.Outline.Flaws.{line_told}
 use Rattle.shares.specs.Counts.{FetchLine, fetch_lines}
 use Rattle.shares.specs.Noted.{lines_noted, told_line}
 use Rattle.shares.proofs.Noting.{lines_in, next_in, told_after}

@@ -1,5 +1,5 @@
 use Rattle.std.proofs.Common.{◌≡◌, ◌++◌, ℕ, drop, map}
-use Rattle.outline.specs.Flaws.{line_told}
+use Rattle.soundness.specs.Outline.Flaws.{line_told}
 use Rattle.shares.specs.Noted.{lines_noted, told_line}
 use Rattle.shares.proofs.Noting.{lines_in}
 use Rattle.shares.proofs.counts.+noting.Given as goal

@@ -3,7 +3,7 @@ use Rattle.std.proofs.lemmas.List.{get_or-map, length-map, map-append}
 use Rattle.plan.specs.Plan.{Group, Plan}
 use Rattle.plan.specs.Lines.{body_line, group_line}
 use Rattle.plan.specs.View.{plan_of, group_of}
-use Rattle.outline.specs.Flaws.{line_told}
+use Rattle.soundness.specs.Outline.Flaws.{line_told}
 use Rattle.shares.specs.Counts.{FetchLine, fetch_lines, fetch_lines_from}
 use Rattle.shares.specs.Noted.{lines_noted, told_line}
 use Rattle.shares.proofs.Noting.{next_group}

@@ -11,7 +11,7 @@ use Rattle.plan.specs.Symbols.{points}
 use Rattle.plan.specs.View.{plan_of, statement_of}
 use Rattle.plan.proofs.Rows.{statement_of-seq}
 use Rattle.plan.specs.Certificate.Cells.{Cell, cell, grid_symbols}
-use Rattle.outline.specs.Forms.{grid_symbols as grid_names}
+use Rattle.soundness.specs.Outline.Forms.{grid_symbols as grid_names}
 use Rattle.headline.specs.Fetched.{fetched_cells}
 use Rattle.headline.specs.Numbers.{cell_number, is_cell}
 use Rattle.shares.specs.declared.stop.Stop.TheVariants.{Unserved, Large}

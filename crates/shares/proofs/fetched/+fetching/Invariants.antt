@@ -2,7 +2,7 @@ use Rattle.std.proofs.Common.{◌≡◌, ◌≤◌, ◌++◌, drop, length, map}
 use Rattle.std.specs.Prelude.{◌↔◌}
 use Rattle.plan.specs.View.{plan_of}
 use Rattle.plan.specs.Certificate.Cells.{grid_symbols}
-use Rattle.outline.specs.Forms.{grid_symbols as grid_names}
+use Rattle.soundness.specs.Outline.Forms.{grid_symbols as grid_names}
 use Rattle.headline.specs.Numbers.{cell_number}
 use Rattle.shares.specs.Layout.{AllCells}
 use Rattle.shares.proofs.Fetching.{cells_in, AreLines}

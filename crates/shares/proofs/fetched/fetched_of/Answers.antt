@@ -4,7 +4,7 @@ use Rattle.plan.specs.Plan.{Group, Plan}
 use Rattle.plan.specs.declared.plan.Group.{Group as CodeGroup}
 use Rattle.plan.specs.View.{plan_of, group_of, statement_of}
 use Rattle.plan.specs.Certificate.Cells.{Cell, Piece, grid_symbols}
-use Rattle.outline.specs.Forms.{grid_symbols as grid_names}
+use Rattle.soundness.specs.Outline.Forms.{grid_symbols as grid_names}
 use Rattle.headline.specs.Fetched.{fetched_cells}
 use Rattle.headline.specs.Numbers.{cell_number}
 use Rattle.headline.specs.Work.{of_piece, cells_fetched, group_fetched}

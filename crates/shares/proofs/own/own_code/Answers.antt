@@ -8,7 +8,7 @@ use Rattle.plan.specs.Certificate.Certificate.{Certificate, certificate_of}
 use Rattle.plan.specs.Certificate.Cells.{first_cell, pieces}
 use Rattle.plan.specs.declared.certificate.cert.Need.{Need}
 use Rattle.orders.specs.Claimed.{IsClaimedBy}
-use Rattle.outline.specs.declared.refusals.code.K.TheVariants.{K11}
+use Rattle.soundness.specs.declared.outline.refusals.code.K.TheVariants.{K11}
 use Rattle.shares.specs.Made.{HasGap, IsUnserved, Leaves, Overlaps, need_place}
 use Rattle.shares.specs.Owned.{GroupIsInside, IsLowestCode, own_in}
 use Rattle.shares.specs.Seats.{piece_of}

@@ -1,6 +1,6 @@
 use Rattle.std.proofs.Common.{◌≡◌, ◌∙◌, ◌+◌, ◌<◌, ℕ, length, arith, ap, sym, subst}
 use Rattle.std.proofs.lemmas.List.{length-map}
-use Rattle.outline.specs.Refusals.Codes.{least}
+use Rattle.soundness.specs.Outline.Refusals.Codes.{least}
 use Rattle.plan.specs.Plan.{Plan}
 use Rattle.plan.specs.View.{plan_of, group_of}
 use Rattle.plan.specs.Certificate.Certificate.{Certificate, certificate_of}

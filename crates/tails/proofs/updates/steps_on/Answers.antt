@@ -6,7 +6,7 @@ use Rattle.plan.specs.View.{coordinate_of}
 use Rattle.plan.specs.Certificate.Certificate.{claim_of}
 use Rattle.soundness.specs.Binders.View.{binders_of}
 use Rattle.soundness.specs.Nests.Laws.{domains_of}
-use Rattle.outline.specs.View.{outline_in}
+use Rattle.soundness.specs.Outline.View.{outline_in}
 use Rattle.tails.specs.View.{step_of}
 use Rattle.tails.specs.Domains.{ranges_held}
 use Rattle.tails.proofs.Stores.{stepped_on}

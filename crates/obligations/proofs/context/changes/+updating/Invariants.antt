@@ -2,7 +2,7 @@ use Rattle.std.proofs.Common.{◌≡◌}
 use Rattle.plan.specs.Plan.{block}
 use Rattle.plan.specs.Lists.{list_statements}
 use Rattle.soundness.specs.Claims.{block_updates}
-use Rattle.outline.specs.View.{outline_in}
+use Rattle.soundness.specs.Outline.View.{outline_in}
 use Rattle.obligations.proofs.Blocks.{from}
 use Rattle.obligations.proofs.context.changes.+updating.Given as goal
 

@@ -1,7 +1,7 @@
 use Rattle.std.proofs.Common.{sym, ap, ◌∙◌}
 use Rattle.plan.specs.Plan.{Statement}
 use Rattle.soundness.specs.Claims.{writes}
-use Rattle.outline.specs.View.{outline_in}
+use Rattle.soundness.specs.Outline.View.{outline_in}
 use Rattle.obligations.proofs.Blocks.{seq_is}
 use Rattle.obligations.proofs.context.changes.+writing.Goals as goal
 

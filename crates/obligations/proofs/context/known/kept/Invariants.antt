@@ -1,7 +1,7 @@
 use Rattle.std.proofs.Common.{◌≡◌, take}
 use Rattle.std.specs.Prelude.{not, filter}
 use Rattle.soundness.specs.Obligations.{is_member}
-use Rattle.outline.specs.View.{outline_in}
+use Rattle.soundness.specs.Outline.View.{outline_in}
 use Rattle.obligations.proofs.context.known.kept.Given as goal
 
 abbrev pub invariant-loop-claim : goal.invariant-loop-claim

@@ -3,7 +3,7 @@ use Rattle.std.specs.Prelude.{filter, flat_map}
 use Rattle.plan.specs.View.{statement_of}
 use Rattle.soundness.specs.Claims.{updates}
 use Rattle.soundness.specs.Obligations.{follows}
-use Rattle.outline.specs.View.{outline_in}
+use Rattle.soundness.specs.Outline.View.{outline_in}
 use Rattle.obligations.specs.Context.Around.{nest_of}
 use Rattle.obligations.proofs.context.known.nests_of.Given as goal
 

@@ -1,7 +1,7 @@
 use Rattle.std.proofs.Common.{◌≡◌, take, map, ◌++◌}
 use Rattle.std.specs.Prelude.{filter}
 use Rattle.soundness.specs.Obligations.{follows}
-use Rattle.outline.specs.View.{outline_in}
+use Rattle.soundness.specs.Outline.View.{outline_in}
 use Rattle.obligations.specs.Context.Around.{nest_of}
 use Rattle.obligations.proofs.context.known.note_nests.Given as goal
 

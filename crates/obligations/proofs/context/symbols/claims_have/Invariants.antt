@@ -1,7 +1,7 @@
 use Rattle.std.proofs.Common.{◌≡◌, false, take}
 use Rattle.std.specs.List.{list_any}
 use Rattle.soundness.specs.Obligations.{span_has, region_of}
-use Rattle.outline.specs.View.{outline_in}
+use Rattle.soundness.specs.Outline.View.{outline_in}
 use Rattle.obligations.proofs.context.symbols.claims_have.Given as goal
 
 abbrev pub invariant-loop-claim : goal.invariant-loop-claim

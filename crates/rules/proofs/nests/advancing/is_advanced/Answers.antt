@@ -6,7 +6,7 @@ use Rattle.plan.specs.View.{statement_of}
 use Rattle.plan.specs.declared.stmt.Stmt.{Stmt}
 use Rattle.plan.specs.Certificate.Certificate.{claim_of}
 use Rattle.soundness.specs.Binders.View.{binders_of}
-use Rattle.outline.specs.View.{outline_in}
+use Rattle.soundness.specs.Outline.View.{outline_in}
 use Rattle.soundness.specs.Nests.Laws.{domains_of}
 use Rattle.soundness.specs.Nests.Tests.{is_advanced, is_ordered}
 use Rattle.rules.specs.Nests.View.{coordinates_of, loops_of}

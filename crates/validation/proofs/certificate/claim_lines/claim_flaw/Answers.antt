@@ -6,12 +6,12 @@ use Rattle.plan.specs.View.{plan_of}
 use Rattle.plan.specs.Certificate.Certificate.{certificate_of, claim_of}
 use Rattle.plan.specs.Certificate.Lines.{claim_line}
 use Rattle.algo.specs.View.{algorithm_of}
-use Rattle.outline.specs.Refusals.Codes.{number_of}
-use Rattle.outline.specs.declared.refusals.code.K.{K}
-use Rattle.outline.specs.Flaws.{Flaw, first_of as the_first}
-use Rattle.outline.specs.Forms.{spans_are_within_limits, have_ends}
-use Rattle.outline.specs.View.{group_in}
-use Rattle.outline.specs.declared.outline.Outlined.{Outlined}
+use Rattle.soundness.specs.Outline.Refusals.Codes.{number_of}
+use Rattle.soundness.specs.declared.outline.refusals.code.K.{K}
+use Rattle.soundness.specs.Outline.Flaws.{Flaw, first_of as the_first}
+use Rattle.soundness.specs.Outline.Forms.{spans_are_within_limits, have_ends}
+use Rattle.soundness.specs.Outline.View.{group_in}
+use Rattle.soundness.specs.declared.outline.outlined.Outlined.{Outlined}
 use Rattle.plan.specs.declared.certificate.cert.Claim.{Claim}
 use Rattle.validation.specs.Certificate.Lines.{told_at, line_flaws}
 use Rattle.validation.specs.Certificate.Certificate.{claim_is_known, claim_flaws}

@@ -2,7 +2,7 @@ use Rattle.std.proofs.Common.{◌≡◌, drop, map}
 use Rattle.plan.specs.View.{plan_of}
 use Rattle.plan.specs.Certificate.Certificate.{certificate_of, claim_of}
 use Rattle.algo.specs.View.{algorithm_of}
-use Rattle.outline.specs.Flaws.{first_of}
+use Rattle.soundness.specs.Outline.Flaws.{first_of}
 use Rattle.validation.specs.Certificate.Lines.{each_line}
 use Rattle.validation.specs.Certificate.Certificate.{claim_flaws}
 use Rattle.validation.proofs.certificate.claim_lines.claim_flaw.Given as goal

@@ -1,8 +1,8 @@
 use Rattle.std.proofs.Common.{◌≡◌, ◌∙◌, ap}
 use Rattle.std.specs.Prelude.{Bool, not, ◌&&◌, slice_get}
 use Rattle.plan.specs.Lists.{list_groups}
-use Rattle.outline.specs.Forms.{spans_are_within_limits, have_ends}
-use Rattle.outline.specs.Flaws.{first_of}
+use Rattle.soundness.specs.Outline.Forms.{spans_are_within_limits, have_ends}
+use Rattle.soundness.specs.Outline.Flaws.{first_of}
 use Rattle.validation.specs.Certificate.Lines.{line_flaws}
 use Rattle.validation.specs.Certificate.Certificate.{is_region_of, own_is_known}
 use Rattle.validation.proofs.certificate.own_lines.own_code.Goals as goal

@@ -2,8 +2,8 @@ use Rattle.std.proofs.Common.{◌∙◌, ap, sym, List, ◌++◌, [], ◌∷◌,
 use Rattle.std.proofs.lemmas.List.{map-append}
 use Rattle.plan.specs.Plan.{Group}
 use Rattle.plan.specs.View.{plan_of}
-use Rattle.outline.specs.View.{group_in}
-use Rattle.outline.specs.declared.outline.Outlined.{Outlined}
+use Rattle.soundness.specs.Outline.View.{group_in}
+use Rattle.soundness.specs.declared.outline.outlined.Outlined.{Outlined}
 use Rattle.validation.proofs.Taken.{take_get}
 use Rattle.validation.proofs.certificate.placed.outlines_of.Goals as goal
 

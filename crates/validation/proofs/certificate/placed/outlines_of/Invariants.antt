@@ -1,6 +1,6 @@
 use Rattle.std.proofs.Common.{◌≡◌, map, take}
 use Rattle.plan.specs.View.{plan_of}
-use Rattle.outline.specs.View.{group_in}
+use Rattle.soundness.specs.Outline.View.{group_in}
 use Rattle.validation.proofs.certificate.placed.outlines_of.Given as goal
 
 -- the groups so far

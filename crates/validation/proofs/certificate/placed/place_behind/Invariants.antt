@@ -1,5 +1,5 @@
 use Rattle.std.proofs.Common.{◌≡◌, map, drop}
-use Rattle.outline.specs.View.{group_in}
+use Rattle.soundness.specs.Outline.View.{group_in}
 use Rattle.validation.specs.Certificate.Placing.{place_in}
 use Rattle.validation.proofs.certificate.placed.place_behind.Given as goal
 

@@ -5,11 +5,11 @@ use Rattle.plan.specs.View.{plan_of}
 use Rattle.plan.specs.Certificate.Certificate.{certificate_of}
 use Rattle.plan.specs.Certificate.Lines.{window_line}
 use Rattle.plan.specs.declared.certificate.cert.Window.{Window}
-use Rattle.outline.specs.Refusals.Codes.{number_of}
-use Rattle.outline.specs.declared.refusals.code.K.{K}
-use Rattle.outline.specs.Flaws.{Flaw, first_of as the_first}
-use Rattle.outline.specs.View.{group_in}
-use Rattle.outline.specs.declared.outline.Outlined.{Outlined}
+use Rattle.soundness.specs.Outline.Refusals.Codes.{number_of}
+use Rattle.soundness.specs.declared.outline.refusals.code.K.{K}
+use Rattle.soundness.specs.Outline.Flaws.{Flaw, first_of as the_first}
+use Rattle.soundness.specs.Outline.View.{group_in}
+use Rattle.soundness.specs.declared.outline.outlined.Outlined.{Outlined}
 use Rattle.validation.specs.Certificate.Lines.{told_at, window_line_flaws}
 use Rattle.validation.specs.Certificate.Certificate.{window_is_known, is_used, span_is_within_limits, has_ends, window_flaws}
 use Rattle.validation.proofs.Lines.{window_told, line_fine, line_flawed}

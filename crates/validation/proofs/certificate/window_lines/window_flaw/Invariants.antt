@@ -1,7 +1,7 @@
 use Rattle.std.proofs.Common.{◌≡◌, drop}
 use Rattle.plan.specs.View.{plan_of}
 use Rattle.plan.specs.Certificate.Certificate.{certificate_of}
-use Rattle.outline.specs.Flaws.{first_of}
+use Rattle.soundness.specs.Outline.Flaws.{first_of}
 use Rattle.validation.specs.Certificate.Lines.{each_line}
 use Rattle.validation.specs.Certificate.Certificate.{window_flaws}
 use Rattle.validation.proofs.certificate.window_lines.window_flaw.Given as goal

@@ -2,13 +2,11 @@ use Rattle.std.proofs.Common.{◌≡◌, ◌∙◌, ap, subst, true, [], length,
 use Rattle.std.specs.Prelude.{IfOk}
 use Rattle.std.proofs.lemmas.Grind.{common_steps}
 use Rattle.algo.specs.View.{algorithm_of}
-use Rattle.plan.specs.Plan.{Group}
-use Rattle.plan.specs.View.{group_of}
-use Rattle.outline.specs.Flaws.{Flaw, first_of as the_first, told}
-use Rattle.outline.specs.Forms.{grid_symbols}
-use Rattle.outline.specs.View.{certificate_in, group_in, outline_in, plan_in}
+use Rattle.soundness.specs.Outline.Flaws.{Flaw, first_of as the_first, told}
+use Rattle.soundness.specs.Outline.Forms.{grid_symbols}
+use Rattle.soundness.specs.Outline.View.{certificate_in, group_in, outline_in, plan_in}
 use Rattle.validation.specs.Groups.Here.{here_of}
-use Rattle.validation.specs.Groups.Lines.{Here, flaws, lines_from, on, start}
+use Rattle.validation.specs.Groups.Lines.{flaws, lines_from, on, start}
 use Rattle.validation.proofs.groups.groups.body_flaw.Goals as goal
 
 pub returns : goal.returns

@@ -2,8 +2,8 @@ use Rattle.std.proofs.Common.{◌∙◌, ap, sym}
 use Rattle.algo.specs.View.{algorithm_of}
 use Rattle.plan.specs.Plan.{Group}
 use Rattle.plan.specs.Lists.{list_groups}
-use Rattle.outline.specs.Flaws.{first_of}
-use Rattle.outline.specs.View.{certificate_in, group_in, outline_in, plan_in}
+use Rattle.soundness.specs.Outline.Flaws.{first_of}
+use Rattle.soundness.specs.Outline.View.{certificate_in, group_in, outline_in, plan_in}
 use Rattle.validation.specs.Groups.Lines.{flaws, group_line_flaws, start}
 use Rattle.validation.proofs.Walk.{first_found}
 use Rattle.validation.proofs.groups.groups.group_flaw.Goals as goal

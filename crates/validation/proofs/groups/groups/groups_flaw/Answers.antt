@@ -6,7 +6,7 @@ use Rattle.plan.specs.View.{plan_of, group_of}
 use Rattle.plan.specs.Lists.{list_groups}
 use Rattle.plan.specs.Lines.{group_line}
 use Rattle.plan.specs.Certificate.Certificate.{certificate_of}
-use Rattle.outline.specs.Flaws.{first_of, line_told}
+use Rattle.soundness.specs.Outline.Flaws.{first_of, line_told}
 use Rattle.validation.specs.Groups.Lines.{group_flaws, groups_flaws}
 use Rattle.validation.proofs.Walk.{first_found, first_none, group_at, groups_step}
 use Rattle.validation.proofs.groups.groups.groups_flaw.Goals as goal

@@ -3,7 +3,7 @@ use Rattle.algo.specs.View.{algorithm_of}
 use Rattle.plan.specs.View.{plan_of}
 use Rattle.plan.specs.Lists.{list_groups}
 use Rattle.plan.specs.Certificate.Certificate.{certificate_of}
-use Rattle.outline.specs.Flaws.{first_of}
+use Rattle.soundness.specs.Outline.Flaws.{first_of}
 use Rattle.validation.specs.Groups.Lines.{groups_flaws}
 use Rattle.validation.proofs.groups.groups.groups_flaw.Given as goal
 

@@ -7,8 +7,8 @@ use Rattle.plan.specs.Lists.{list_groups}
 use Rattle.plan.specs.View.{plan_of}
 use Rattle.plan.proofs.Counts.{take_groups}
 use Rattle.soundness.specs.Given.{outline_of}
-use Rattle.outline.specs.Flaws.{Flaw, first_of, told}
-use Rattle.outline.specs.View.{group_in}
+use Rattle.soundness.specs.Outline.Flaws.{Flaw, first_of, told}
+use Rattle.soundness.specs.Outline.View.{group_in}
 use Rattle.validation.specs.Stored.Definitions.{stored_in}
 use Rattle.validation.specs.Groups.Lines.{flaws, group_line_flaws, start}
 use Rattle.validation.proofs.groups.groups.numbered_flaw.Goals as goal

@@ -6,11 +6,11 @@ use Rattle.lin.specs.Forms.{is_within_limits}
 use Rattle.plan.specs.Plan.{Statement, Guard, block}
 use Rattle.plan.specs.Lists.{list_statements}
 use Rattle.plan.specs.View.{statement_of, coordinate_of}
-use Rattle.outline.specs.Flaws.{Flaw, first_of, told}
-use Rattle.outline.specs.Forms.{is_over}
-use Rattle.outline.specs.View.{certificate_in, group_in, outline_in, plan_in}
+use Rattle.soundness.specs.Outline.Flaws.{Flaw, first_of, told}
+use Rattle.soundness.specs.Outline.Forms.{is_over}
+use Rattle.soundness.specs.Outline.View.{certificate_in, group_in, outline_in, plan_in}
 use Rattle.validation.specs.Groups.Here.{here_of}
-use Rattle.validation.specs.Groups.Lines.{Here, flaws, block_flaws, line_flaws, before, after, in_later, in_loop, inside, is_empty, is_new, is_one_of, loop_flaws, store_flaws}
+use Rattle.validation.specs.Groups.Lines.{Here, flaws, block_flaws, line_flaws, before, after, in_later, in_loop, inside, is_empty, is_one_of, loop_flaws, store_flaws}
 use Rattle.tree.specs.Term.{term_of}
 use Rattle.validation.proofs.Rows.{at_seq}
 use Rattle.validation.proofs.Walk.{first_found, first_none, block_step, store_anyhow}

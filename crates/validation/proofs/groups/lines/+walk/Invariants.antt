@@ -2,8 +2,8 @@ use Rattle.std.proofs.Common.{◌≡◌, drop}
 use Rattle.algo.specs.View.{algorithm_of}
 use Rattle.plan.specs.Plan.{block}
 use Rattle.plan.specs.Lists.{list_statements}
-use Rattle.outline.specs.Flaws.{first_of}
-use Rattle.outline.specs.View.{certificate_in, group_in, outline_in, plan_in}
+use Rattle.soundness.specs.Outline.Flaws.{first_of}
+use Rattle.soundness.specs.Outline.View.{certificate_in, group_in, outline_in, plan_in}
 use Rattle.validation.specs.Groups.Here.{here_of}
 use Rattle.validation.specs.Groups.Lines.{block_flaws}
 use Rattle.validation.proofs.groups.lines.+walk.Given as goal

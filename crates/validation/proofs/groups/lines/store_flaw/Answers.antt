@@ -4,8 +4,8 @@ use Rattle.std.specs.List.{list_any}
 use Rattle.tree.specs.Term.{term_of}
 use Rattle.algo.specs.View.{algorithm_of}
 use Rattle.plan.specs.View.{coordinate_of}
-use Rattle.outline.specs.Flaws.{first_of}
-use Rattle.outline.specs.View.{certificate_in, group_in, outline_in, plan_in}
+use Rattle.soundness.specs.Outline.Flaws.{first_of}
+use Rattle.soundness.specs.Outline.View.{certificate_in, group_in, outline_in, plan_in}
 use Rattle.validation.specs.Stored.Definitions.{Definition, definition_in, parts_named}
 use Rattle.validation.specs.Groups.Here.{here_of}
 use Rattle.validation.specs.Groups.Lines.{line_flaws, definition_is_named, definition_is_stored}

@@ -1,6 +1,6 @@
 use Rattle.std.proofs.Common.{◌∙◌, ap, sym, Bool}
 use Rattle.std.specs.Prelude.{◌&&◌}
-use Rattle.outline.specs.View.{outline_in}
+use Rattle.soundness.specs.Outline.View.{outline_in}
 use Rattle.meaning.specs.Names.{same_name}
 use Rattle.validation.specs.Stored.Stored.{name_read}
 use Rattle.validation.proofs.Calls.{read_call, uneven}

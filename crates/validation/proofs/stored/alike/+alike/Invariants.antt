@@ -1,7 +1,7 @@
 use Rattle.std.proofs.Common.{◌≡◌, drop}
 use Rattle.tree.specs.Term.{list_terms, indices}
 use Rattle.tree.specs.Substitution.{all_with_calls}
-use Rattle.outline.specs.View.{outline_in}
+use Rattle.soundness.specs.Outline.View.{outline_in}
 use Rattle.validation.specs.Stored.Alike.{same_terms}
 use Rattle.validation.specs.Stored.Stored.{call_read}
 use Rattle.validation.proofs.stored.alike.+alike.Given as goal

@@ -3,7 +3,7 @@ use Rattle.std.specs.Prelude.{map, ◌&&◌}
 use Rattle.std.proofs.lemmas.Grind.{common_steps}
 use Rattle.algo.specs.View.{algorithm_of}
 use Rattle.plan.specs.View.{coordinate_of}
-use Rattle.outline.specs.View.{outline_in, plan_in}
+use Rattle.soundness.specs.Outline.View.{outline_in, plan_in}
 use Rattle.tree.specs.Term.{list_terms, indices}
 use Rattle.validation.specs.Stored.Stored.{is_named, is_call, are_known}
 use Rattle.validation.proofs.Calls.{known_call}

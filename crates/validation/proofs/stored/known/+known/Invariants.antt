@@ -1,7 +1,7 @@
 use Rattle.std.proofs.Common.{◌≡◌, drop, map}
 use Rattle.plan.specs.View.{coordinate_of}
 use Rattle.algo.specs.View.{algorithm_of}
-use Rattle.outline.specs.View.{outline_in, plan_in}
+use Rattle.soundness.specs.Outline.View.{outline_in, plan_in}
 use Rattle.tree.specs.Term.{indices, list_terms}
 use Rattle.validation.specs.Stored.Stored.{is_named, is_call, are_known}
 use Rattle.validation.proofs.stored.known.+known.Given as goal

@@ -2,7 +2,7 @@ use Rattle.std.proofs.Common.{◌≡◌, drop, map}
 use Rattle.std.specs.List.{list_all}
 use Rattle.plan.specs.View.{coordinate_of}
 use Rattle.algo.specs.View.{algorithm_of}
-use Rattle.outline.specs.View.{outline_in, plan_in}
+use Rattle.soundness.specs.Outline.View.{outline_in, plan_in}
 use Rattle.validation.specs.Stored.Stored.{is_named, is_call, index_is_known}
 use Rattle.validation.proofs.stored.known.indices_are_known.Given as goal
 

@@ -5,7 +5,7 @@ use Rattle.plan.specs.Plan.{Coordinate}
 use Rattle.plan.specs.View.{coordinate_of, index_of}
 use Rattle.algo.specs.Parts.{names_of}
 use Rattle.algo.specs.View.{algorithm_of}
-use Rattle.outline.specs.View.{outline_in, plan_in}
+use Rattle.soundness.specs.Outline.View.{outline_in, plan_in}
 use Rattle.tree.specs.Term.{list_terms}
 use Rattle.validation.specs.Stored.Stored.{index_is_small}
 use Rattle.validation.proofs.StoredRowed.{uneven_left, all_at}

@@ -2,7 +2,7 @@ use Rattle.std.proofs.Common.{◌≡◌, drop, map}
 use Rattle.plan.specs.View.{coordinate_of}
 use Rattle.algo.specs.Parts.{names_of}
 use Rattle.algo.specs.View.{algorithm_of}
-use Rattle.outline.specs.View.{outline_in, plan_in}
+use Rattle.soundness.specs.Outline.View.{outline_in, plan_in}
 use Rattle.tree.specs.Term.{list_terms}
 use Rattle.validation.specs.Stored.Stored.{are_left}
 use Rattle.validation.proofs.stored.stored.are_left.Given as goal

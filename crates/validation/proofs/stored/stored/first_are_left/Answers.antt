@@ -7,7 +7,7 @@ use Rattle.plan.specs.Plan.{Coordinate}
 use Rattle.plan.specs.View.{coordinate_of}
 use Rattle.algo.specs.Parts.{names_of}
 use Rattle.algo.specs.View.{algorithm_of}
-use Rattle.outline.specs.View.{outline_in, plan_in}
+use Rattle.soundness.specs.Outline.View.{outline_in, plan_in}
 use Rattle.tree.specs.Term.{list_terms}
 use Rattle.validation.specs.Stored.Stored.{are_left, index_is_small}
 use Rattle.validation.proofs.StoredRowed.{first_mapped, all_take}

@@ -2,7 +2,7 @@ use Rattle.std.proofs.Common.{◌∙◌, ap, subst, Result, Err}
 use Rattle.tree.specs.declared.expr.Expr.{Expr}
 use Rattle.tree.specs.Term.{term_of}
 use Rattle.algo.specs.View.{algorithm_of}
-use Rattle.outline.specs.View.{outline_in, plan_in}
+use Rattle.soundness.specs.Outline.View.{outline_in, plan_in}
 use Rattle.subst.specs.declared.error.SubstError.{SubstError}
 use Rattle.subst.specs.PutIn.{PutsIn}
 use Rattle.validation.proofs.Refused.{too_large}

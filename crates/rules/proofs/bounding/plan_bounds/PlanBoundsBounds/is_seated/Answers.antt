@@ -1,7 +1,7 @@
 use Rattle.std.proofs.Common.{◌∙◌, ap}
 use Rattle.algo.specs.View.{algorithm_of}
 use Rattle.lin.proofs.Limits.{if_ok}
-use Rattle.outline.specs.View.{plan_in, certificate_in, number_in}
+use Rattle.soundness.specs.Outline.View.{plan_in, certificate_in, number_in}
 use Rattle.soundness.specs.Binders.View.{binders_of}
 use Rattle.rules.specs.Bounding.Seats.{is_seated_in}
 use Rattle.rules.proofs.Limits.{seated_same}

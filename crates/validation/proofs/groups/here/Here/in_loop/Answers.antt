@@ -1,4 +1,4 @@
-use Rattle.std.proofs.Common.{◌≡◌, List, [], ◌∷◌, ◌++◌, ap, ◌∙◌}
+use Rattle.std.proofs.Common.{[], ◌∷◌, ◌++◌, ap, ◌∙◌}
 use Rattle.validation.specs.Groups.Lines.{Here}
 use Rattle.validation.proofs.groups.here.Here.in_loop.Goals as goal
 

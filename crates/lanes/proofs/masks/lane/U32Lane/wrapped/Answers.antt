@@ -1,0 +1,5 @@
+use Rattle.lanes.proofs.OfMasks.Low.{kept_u32}
+use Rattle.lanes.proofs.masks.lane.U32Lane.wrapped.Goals as goal
+
+pub returns : goal.returns
+returns c = kept_u32 c.args.number c.ranges.number c.cast_unsigned.result c.cast_unsigned.ensures

@@ -1,6 +1,0 @@
-use Rattle.masks.proofs.Low.{kept_i16}
-use Rattle.masks.proofs.lane.I16Lane.wrapped.Goals as goal
-
-pub returns : goal.returns
-returns c =
-    kept_i16 c.args.number c.ranges.number c.cast_unsigned.result c.cast_unsigned.ensures c.cast_signed.result (record { sfits = c.cast_signed.type_inv }) c.cast_signed.ensures

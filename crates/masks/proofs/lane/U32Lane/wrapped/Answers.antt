@@ -1,5 +1,0 @@
-use Rattle.masks.proofs.Low.{kept_u32}
-use Rattle.masks.proofs.lane.U32Lane.wrapped.Goals as goal
-
-pub returns : goal.returns
-returns c = kept_u32 c.args.number c.ranges.number c.cast_unsigned.result c.cast_unsigned.ensures

@@ -1,6 +1,0 @@
-use Rattle.std.proofs.Common.{◌≡◌}
-use Rattle.outline.specs.Forms.{grid_symbols}
-use Rattle.outline.proofs.forms.grid_symbols.Given as goal
-
-abbrev pub invariant-loop-symbol : goal.invariant-loop-symbol
-invariant-loop-symbol l = l.symbols.items ≡ grid_symbols l.symbol

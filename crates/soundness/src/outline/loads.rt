@@ -1,0 +1,61 @@
+//! Names by which claims' cells are loaded.
+
+ghost use Rattle.std.specs.Prelude.{◌≡◌, ◌-◌, ◌^◌, ◌==◌, ◌&&◌, not, min};
+ghost use Rattle.std.specs.List.{list_all};
+ghost use Rattle.plan.specs.Claimed.{is_digit, is_numeral, digits_after};
+ghost use Rattle.soundness.specs.Outline.Claims.{Means};
+
+/// Whether the byte is a decimal digit.
+fn is_digit(byte: u8) -> bool
+    ensures { result ≡ is_digit byte }
+{
+    b'0' <= byte && byte <= b'9'
+}
+
+/// Whether the byte is a digit that a longer numeral can begin with.
+fn is_leading(byte: u8) -> bool
+    ensures { result ≡ (is_digit byte && not (byte == 48)) }
+{
+    is_digit(byte) && byte != b'0'
+}
+
+/// Whether all bytes are decimal digits.
+fn are_digits(bytes: &[u8]) -> bool
+    ensures { result ≡ list_all is_digit bytes.now }
+{
+    bytes.iter().all(|byte| is_digit(*byte))
+}
+
+/// Whether the bytes are decimal digits without a leading zero, or a 0 alone.
+fn is_numeral(digits: &[u8]) -> bool
+    ensures { result ≡ is_numeral digits.now }
+{
+    match digits {
+        [] => false,
+        [digit] => is_digit(*digit),
+        [first, rest @ ..] => is_leading(*first) && are_digits(rest),
+    }
+}
+
+/// The number that digits write. More than a `usize` holds count as the greatest `usize`.
+fn number_of(digits: &[u8]) -> usize
+    ensures { result ≡ min (digits_after 0 digits.now) (2 ^ 64 - 1) }
+{
+    let mut number: usize = 0;
+    for digit in digits {
+        number = number
+            .saturating_mul(10)
+            .saturating_add(usize::from(digit.saturating_sub(b'0')));
+    }
+    number
+}
+
+/// The number of the claim that a call's name means, if it means one.
+pub(crate) fn claim_of(name: &str) -> Option<usize>
+    ensures { Means name.now result }
+{
+    match name.as_bytes() {
+        [b'@', digits @ ..] if is_numeral(digits) => Some(number_of(digits)),
+        _ => None,
+    }
+}

@@ -1,5 +1,0 @@
-use Rattle.std.proofs.Common.{length}
-use Rattle.windows.proofs.held.+is_along.Given as goal
-
-abbrev pub decreases-is_along : goal.decreases-is_along
-decreases-is_along g l = length l.region.now

@@ -1,5 +1,0 @@
-use Rattle.std.proofs.Common.{length}
-use Rattle.windows.proofs.holding.+hold.Given as goal
-
-abbrev pub decreases-hold : goal.decreases-hold
-decreases-hold g l = length l.spans.now

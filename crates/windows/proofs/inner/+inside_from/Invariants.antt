@@ -1,5 +1,0 @@
-use Rattle.std.proofs.Common.{length}
-use Rattle.windows.proofs.inner.+inside_from.Given as goal
-
-abbrev pub decreases-inside_from : goal.decreases-inside_from
-decreases-inside_from l = length l.rest.now

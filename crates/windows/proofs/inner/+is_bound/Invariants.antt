@@ -1,5 +1,0 @@
-use Rattle.std.proofs.Common.{length}
-use Rattle.windows.proofs.inner.+is_bound.Given as goal
-
-abbrev pub decreases-is_bound : goal.decreases-is_bound
-decreases-is_bound l = length l.binders.now

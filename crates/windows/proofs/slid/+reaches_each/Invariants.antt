@@ -1,5 +1,0 @@
-use Rattle.std.proofs.Common.{length}
-use Rattle.windows.proofs.slid.+reaches_each.Given as goal
-
-abbrev pub decreases-reaches_each : goal.decreases-reaches_each
-decreases-reaches_each g l = length l.forms.now

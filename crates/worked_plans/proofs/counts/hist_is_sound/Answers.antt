@@ -1,5 +1,0 @@
-use Rattle.worked_plans.proofs.Counted.{hist_counted}
-use Rattle.worked_plans.proofs.counts.hist_is_sound.Goals as goal
-
-pub returns : goal.returns
-returns c = hist_counted c.meant_is_sound.ensures c.plain_nests_are_right.ensures

@@ -1,5 +1,0 @@
-//! Plans written out: why they are right, and how little makes them wrong.
-#![tactic(auto)]
-
-pub mod counts;
-pub mod sums;
