@@ -1,7 +1,7 @@
 #!/usr/bin/env python3
 """Compiles random schedules of the algorithms in tests/schedules/ on a built program, and compares the pictures.
 
-    python3 tests/schedules.py PROGRAM [COUNT [SEED]]
+    python3 tests/schedules.py PROGRAM [COUNT [SEED]] [--placing]
 
 Half of the schedules split each dimension at most once and no inner loop of a split is parallel: of these each one that
 keeps the rules of schedules has to be compiled. The others split loops again and make any outermost loops parallel: what is
@@ -11,8 +11,13 @@ again, run by one worker and by three, those of the first 200 schedules by 2, 7 
 What is made up breaks L5, L8 and L10 alone, and a refusal by one of them is taken only where the schedule's text gives cause:
 an update and a parallel loop, `shift` (over fewer points than the factor, where the text tells how many), an update that is
 not stored. Any other rule that is told is a failure, and so is a plan of a schedule whose text breaks one.
+
+With `--placing` functions are computed inside the loops of others too: wherever all that reads them is inside, stored at that
+loop or at one outside of it, folded or not. Such a schedule may also be refused by L6 (a definition that lacks the loop), L9
+(a fold) and L12 (`roundup` inside a loop), where its text gives cause; what the checker refuses is a failure, but for K14.
 """
 
+import argparse
 import random
 import re
 import subprocess
@@ -48,6 +53,7 @@ class Loops:
     names: list
     inner: dict = field(default_factory=dict)
     directives: list = field(default_factory=list)
+    marked: set = field(default_factory=set)
 
 
 def functions(text):
@@ -135,6 +141,119 @@ def schedule(chance, text, core):
     return " ".join(parts)
 
 
+# ---- schedules that compute inside loops ----
+
+
+@dataclass
+class Placed:
+    """Where a function is computed while directives are made up: its loops, and the loop of another function, if any."""
+
+    loops: Loops
+    home: tuple = None
+    parallel: set = field(default_factory=set)
+
+
+def definitions(text, name):
+    """The definitions of a function, as the text writes them."""
+    return " ".join(re.findall(rf"\b(?:func|update)\s+{name}\b[^;]*;", text))
+
+
+def users(text, declared, placed, name):
+    """The stored functions that read a function, by themselves or through functions that are put in."""
+    found = set()
+    for other in declared:
+        if other.name != name and re.search(rf"\b{name}\s*\[", definitions(text, other.name)):
+            found |= {other.name} if other.name in placed else users(text, declared, placed, other.name)
+    return found
+
+
+def is_inside(placed, user, host, turn):
+    """Whether all that a function computes lies in a loop of another one."""
+    if user == host:
+        return True
+    home = placed[user].home
+    if home is None:
+        return False
+    if home[0] == host:
+        names = placed[host].loops.names
+        return names.index(home[1]) <= names.index(turn)
+    return is_inside(placed, home[0], host, turn)
+
+
+def homes(text, declared, placed, name):
+    """The loops at which a function may be computed."""
+    read_by = users(text, declared, placed, name)
+    found = []
+    for host, one in placed.items():
+        names = one.loops.names
+        for place, turn in enumerate(names):
+            is_free = not any(inner in one.parallel for inner in names[:place]) and turn not in one.loops.marked
+            if read_by and is_free and all(is_inside(placed, user, host, turn) for user in read_by):
+                found.append((host, turn))
+    return found
+
+
+def storage(chance, placed, home, variables):
+    """Where a function's buffer stands, and how it is folded."""
+    host, turn = home
+    names = placed[host].loops.names
+    outside = [w for w in names[names.index(turn) + 1:]
+               if not any(inner in placed[host].parallel for inner in names[:names.index(w)])]
+    if not outside or chance.random() < 0.3:
+        return []
+    made = [f"store_at({host}, {chance.choice(outside)})"]
+    if chance.random() < 0.4:
+        dimension = variables[-1] if chance.random() < 0.7 else chance.choice(variables)
+        made.append(f"fold({dimension}, {chance.choice([1, 2, 3, 4, 5, 8, 32, 100, 100])})")
+    return made
+
+
+def placing_directives(chance, text, declared, placed, function, fresh):
+    """Directives for a function that may be computed inside a loop; none of them leaves it to be put in."""
+    loops = Loops(list(function.variables))
+    is_output = function is declared[-1]
+    home = None
+    found = homes(text, declared, placed, function.name)
+    if not is_output and found and chance.random() < 0.75:
+        home = chance.choice(found)
+        loops.directives.append("compute_at({}, {})".format(*home))
+        loops.directives += storage(chance, placed, home, function.variables)
+    elif not is_output:
+        if chance.random() < 0.5:
+            return []
+        loops.directives.append("compute_root()")
+    for _ in range(2):
+        candidates = [one for one in loops.names if one in function.variables]
+        if candidates and chance.random() < (0.4 if home is None else 0.2):
+            split(chance, loops, candidates, fresh)
+    if len(loops.names) > 1 and chance.random() < 0.5:
+        reorder(chance, loops)
+    made = Placed(loops, home)
+    if home is None and chance.random() < 0.5:
+        made.parallel = set(outermost(loops, True)[:chance.randint(1, len(loops.names))])
+        loops.directives += [f"parallel({name})" for name in loops.names if name in made.parallel]
+    innermost = loops.names[0]
+    if innermost in loops.inner and innermost not in made.parallel and chance.random() < 0.2:
+        loops.marked.add(innermost)
+        loops.directives.append(f"{chance.choice(['vectorize', 'unroll'])}({innermost})")
+    placed[function.name] = made
+    return loops.directives
+
+
+def placing_schedule(chance, text):
+    """A random schedule that computes some function inside a loop."""
+    declared = functions(text)
+    while True:
+        fresh, placed, parts = iter(range(1, 1000)), {}, []
+        for function in reversed(declared):
+            made = placing_directives(chance, text, declared, placed, function, fresh)
+            if made:
+                parts.append(function.name + "." + ".".join(made) + ";")
+        if any("compute_at(" in part for part in parts):
+            chance.shuffle(parts)
+            return " ".join(parts)
+
+
 # ---- what the text breaks ----
 
 
@@ -153,8 +272,9 @@ def has_updates(text, function):
 
 
 def is_stored(text, made, function):
-    """Whether a function is the output or has a `compute_root`."""
-    return re.search(rf"\boutput\s+{function}\b", text) is not None or "compute_root()" in directives_of(made, function)
+    """Whether a function is the output or has a `compute_root` or `compute_at`."""
+    said = directives_of(made, function)
+    return re.search(rf"\boutput\s+{function}\b", text) is not None or "compute_root()" in said or "compute_at(" in said
 
 
 def is_short(text, made, function):
@@ -171,8 +291,15 @@ def has_cause(text, made, code, function):
     said = directives_of(made, function)
     if code == "L5":
         return has_updates(text, function) and "parallel(" in said
+    if code == "L6":
+        host = re.search(r"compute_at\((\w+),", said)
+        return host is not None and has_updates(text, host[1])
     if code == "L8":
         return ("shift" in said and has_updates(text, function)) or is_short(text, made, function)
+    if code == "L9":
+        return "fold(" in said
+    if code == "L12":
+        return "compute_at(" in made and "roundup" in made
     return code == "L10" and has_updates(text, function) and not is_stored(text, made, function)
 
 
@@ -203,7 +330,7 @@ def plain_picture(program, text, image):
         return Path(folder, "out").read_bytes()
 
 
-def outcome(program, workers, text, image, picture, made, core):
+def outcome(program, workers, text, image, picture, made, kind):
     """What came of a schedule, and whether that is right."""
     with tempfile.TemporaryDirectory() as folder:
         Path(folder, "a.alg").write_text(text)
@@ -214,7 +341,7 @@ def outcome(program, workers, text, image, picture, made, core):
             code, place = (told.stderr.decode().split() + ["", "", ""])[1:3]
             is_right = not Path(folder, "a.plan").exists() and (
                 (told.returncode == 3 and has_cause(text, made, code, place))
-                or (told.returncode == 1 and code[:1] == "K" and (not core or code == "K14")))
+                or (told.returncode == 1 and code[:1] == "K" and (kind == "split again" or code == "K14")))
             return code, is_right
         if breaks_rule(text, made):
             return "compiled, against a rule", False
@@ -227,27 +354,42 @@ def outcome(program, workers, text, image, picture, made, core):
         return "compiled", True
 
 
+def tries_of(chance, texts, count, is_placing):
+    """For each try the number of its algorithm, the schedule and its kind."""
+    made = []
+    for number in range(count):
+        which = chance.choice([k for k, text in enumerate(texts) if len(functions(text)) > 1]) if is_placing else chance.randrange(len(texts))
+        if is_placing:
+            made.append((which, placing_schedule(chance, texts[which]), "inside loops"))
+        else:
+            core = number % 2 == 0
+            made.append((which, schedule(chance, texts[which], core), "split once" if core else "split again"))
+    return made
+
+
 def main():
-    program = str(Path(sys.argv[1]).resolve())
-    count = int(sys.argv[2]) if len(sys.argv) > 2 else 500
-    seed = int(sys.argv[3]) if len(sys.argv) > 3 else 1
-    chance = random.Random(seed)
+    words = argparse.ArgumentParser()
+    words.add_argument("program")
+    words.add_argument("count", nargs="?", type=int, default=500)
+    words.add_argument("seed", nargs="?", type=int, default=1)
+    words.add_argument("--placing", action="store_true")
+    given = words.parse_args()
+    program = str(Path(given.program).resolve())
+    chance = random.Random(given.seed)
     texts = [path.read_text() for path in sorted(ALGORITHMS.glob("*.alg"))]
     images = [raster(text, chance) for text in texts]
     pictures = [plain_picture(program, text, image) for text, image in zip(texts, images)]
-    tries = []
-    for number in range(count):
-        which = chance.randrange(len(texts))
-        core = number % 2 == 0
-        tries.append((texts[which], images[which], pictures[which], schedule(chance, texts[which], core), core))
+    tries = tries_of(chance, texts, given.count, given.placing)
     with ThreadPoolExecutor() as pool:
-        crews = [WORKERS if number < CREWS else FEW for number in range(count)]
-        found = list(pool.map(lambda crew, one: outcome(program, crew, *one), crews, tries))
-    for (code, is_right), (text, _, _, made, core) in zip(found, tries):
+        crews = [WORKERS if number < CREWS else FEW for number in range(len(tries))]
+        found = list(pool.map(
+            lambda crew, one: outcome(program, crew, texts[one[0]], images[one[0]], pictures[one[0]], one[1], one[2]),
+            crews, tries))
+    for (code, is_right), (which, made, _) in zip(found, tries):
         if not is_right:
-            print(f"{code}: {made}\n    {text.strip()}")
-    for is_core, kind in ((True, "split once"), (False, "split again")):
-        told = Counter(code for (code, _), one in zip(found, tries) if one[4] == is_core)
+            print(f"{code}: {made}\n    {texts[which].strip()}")
+    for kind in dict.fromkeys(kind for _, _, kind in tries):
+        told = Counter(code for (code, _), one in zip(found, tries) if one[2] == kind)
         print(f"{kind}: " + ", ".join(f"{code} {n}" for code, n in sorted(told.items())))
     failed = sum(not is_right for _, is_right in found)
     print(f"{len(found) - failed} passed, {failed} failed")

@@ -1,5 +1,5 @@
 -- What the refusal of a placement says of an algorithm and a schedule.
-use Rattle.std.proofs.Common.{◌≡◌, ℕ, List, Option, Some, None, Result, Ok, Err, subst, inr}
+use Rattle.std.proofs.Common.{ℕ, List, Option, Some, None, Result, Ok, Err, subst, inr}
 use Rattle.std.specs.Prelude.{IfOk, IfErr}
 use Rattle.meaning.specs.Algorithm.{Algorithm}
 use Rattle.sched.specs.Schedule.{Schedule}

@@ -1,3 +1,4 @@
 pub mod Called
 pub mod Refused
 pub mod Rules
+pub mod Windows

@@ -7,5 +7,6 @@ use Rattle.lower.specs.declared.error.RegionRule.TheVariants as rule
 abbrev pub number_of : RegionRule → ℕ
 number_of rule.OutsideUse = 6
 number_of rule.ShortShift = 8
+number_of rule.SmallFold = 9
 number_of rule.TooLarge = 11
 number_of rule.Unbounded = 12

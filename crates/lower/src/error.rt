@@ -19,6 +19,8 @@ pub enum RegionRule {
     OutsideUse,
     /// L8: a split with `shift` over fewer points than its factor.
     ShortShift,
+    /// L9: a fold of a dimension in which the function does not slide, or to fewer places than its window has numbers.
+    SmallFold,
     /// L11: an expression with calls put in, or the shared cells or pieces of all root functions so far, pass their limit.
     TooLarge,
     /// L12: no region within the limits is found for the function, or nothing uses it, or an index of the input or of the
@@ -34,6 +36,7 @@ impl RegionRule {
         match self {
             RegionRule::OutsideUse => 6,
             RegionRule::ShortShift => 8,
+            RegionRule::SmallFold => 9,
             RegionRule::TooLarge => 11,
             RegionRule::Unbounded => 12,
         }

@@ -39,8 +39,8 @@ pub(crate) struct Fetched {
 /// The calls of a function in one definition, with what is known around them.
 #[derive(Drop)]
 pub(crate) struct Site {
-    scope: Scope,
-    calls: Vec<Region>,
+    pub scope: Scope,
+    pub calls: Vec<Region>,
 }
 
 /// One dimension of what is fetched.
@@ -116,8 +116,8 @@ pub(crate) fn add_sites(
     Ok(())
 }
 
-// The calls of the function in a group: in the nests of its own function, and of those that are computed inside.
-fn sites_of(
+/// The calls of the function in a group: in the nests of its own function, and of those that are computed inside.
+pub(crate) fn sites_of(
     alloc: Global,
     algo: &Algo,
     user: &Root<'_>,
@@ -264,8 +264,8 @@ fn cut_span(alloc: Global, span: &Span1, extent: &Extent) -> Result<Span1, Alloc
 
 // ---- its places
 
-// How many numbers there are at most from the form on.
-fn count_from(
+/// How many numbers there are at most from the form on.
+pub(crate) fn count_from(
     alloc: Global,
     grid: &Scope,
     origin: &Lin,
@@ -338,8 +338,8 @@ fn holds_calls(
     Ok(true)
 }
 
-// From a form on so many numbers.
-fn run_of(alloc: Global, origin: &Lin, count: i64) -> Result<Span1, Stop> {
+/// From a form on so many numbers.
+pub(crate) fn run_of(alloc: Global, origin: &Lin, count: i64) -> Result<Span1, Stop> {
     let lower = one_form(alloc, origin.copy(alloc)?)?;
     let last = raised(alloc, origin, count.saturating_sub(1))?;
     let upper = one_form(alloc, last)?;

@@ -4,12 +4,13 @@ use crate::blocks::{Dimension, dimensions};
 use crate::error::Stop;
 use crate::fetching::{Fetched, Root, fetch_of};
 use crate::forms::whole;
-use crate::inner::{Inner, Spot, inners_of, nests_at, root_at};
+use crate::inner::{Host, Inner, Spot, later_at, nests_at, root_at};
 use crate::loading::{Load, loaded};
 use crate::outline::{Line, statements_of};
 use crate::regions::symbols_from;
-use crate::renaming::{renamed, renamed_places, renamed_region, renamed_step};
+use crate::renaming::{renamed, renamed_places, renamed_region, renamed_span, renamed_step};
 use crate::scopes::variables_of;
+use crate::sliding::{Later, fold_of, name_of};
 use algo::Algo;
 use lin::{Lin, Region, Sym};
 use plan::certificate::{Claim, Need, Own, Window};
@@ -56,7 +57,7 @@ struct Body<'a> {
 /// The way down a nest.
 #[derive(Drop)]
 struct Walk {
-    host: Option<usize>,
+    host: Host,
     definition: usize,
     /// How many steps are behind.
     depth: usize,
@@ -78,13 +79,22 @@ enum Task {
     /// The nests of the function of this number.
     Inner(usize, Vec<Sym>),
     /// The claim of a nest.
-    Claim(Option<usize>, usize, Vec<Sym>),
+    Claim(Host, usize, Vec<Sym>),
+    /// The window of the last claim, that of the function of this number.
+    Window(usize, Vec<Sym>),
     /// So many loads stay.
     Forget(usize),
 }
 
 /// The most lines and claims of a piece, and places at which something may stand.
 const MOST_TASKS: u64 = 1 << 24;
+
+/// The place before all nests of a group.
+const OVER_GRID: Spot = Spot {
+    host: Host::Own,
+    definition: None,
+    depth: 0,
+};
 
 /// Where a group begins: its number among the groups, its line, and the number of its first claim.
 #[derive(Clone, Copy, Drop)]
@@ -165,6 +175,24 @@ fn bound_by(step: &Step) -> Option<Sym> {
     match step {
         Step::Turns { symbol, .. } | Step::Named { symbol, .. } => Some(*symbol),
         Step::Tested { .. } => None,
+    }
+}
+
+// The lets before the loops of a pure nest.
+fn lets_before(nests: &[Nest]) -> &[Step] {
+    let Some(nest) = nests.first() else {
+        return &[];
+    };
+    let mut count: usize = 0;
+    for step in &nest.steps {
+        if !matches!(step, Step::Named { .. }) {
+            break;
+        }
+        count = count.saturating_add(1);
+    }
+    match nest.steps.get(..count) {
+        Some(lets) => lets,
+        None => &[],
     }
 }
 
@@ -405,8 +433,8 @@ fn arrive(
 }
 
 impl<'a> Body<'a> {
-    fn buffer_of(&self, host: Option<usize>) -> u32 {
-        match host {
+    fn buffer_of(&self, host: Host) -> u32 {
+        match host.number() {
             None => 0,
             Some(number) => match self.buffers.get(number) {
                 Some(buffer) => *buffer,
@@ -500,7 +528,7 @@ impl<'a> Body<'a> {
     fn plan_nests(
         &mut self,
         alloc: Global,
-        host: Option<usize>,
+        host: Host,
         count: usize,
         map: &[Sym],
     ) -> Result<(), AllocError> {
@@ -520,19 +548,108 @@ impl<'a> Body<'a> {
         Ok(())
     }
 
+    // A let; the symbols of the plan with its own are answered.
+    fn name(&mut self, alloc: Global, map: Vec<Sym>, step: &Step) -> Result<Vec<Sym>, Stop> {
+        let name = self.next_symbol;
+        self.next_symbol = name.saturating_add(1);
+        let map = with_symbol(map, bound_by(step), name)?;
+        self.push_line(step_line(renamed_step(alloc, &map, step)?))?;
+        Ok(map)
+    }
+
+    // The same of some lets.
+    fn name_all(&mut self, alloc: Global, map: Vec<Sym>, lets: &[Step]) -> Result<Vec<Sym>, Stop> {
+        let mut map = map;
+        for step in lets {
+            map = self.name(alloc, map, step)?;
+        }
+        Ok(map)
+    }
+
+    // Plans the nest of a host behind so many lets; its loads go behind it.
+    fn plan_arm(&mut self, host: Host, depth: usize, map: Vec<Sym>) -> Result<(), AllocError> {
+        self.agenda.push(Task::Forget(self.loads.len()))?;
+        self.agenda.push(Task::Arrive(Walk {
+            host,
+            definition: 0,
+            depth,
+            map,
+        }))?;
+        Ok(())
+    }
+
+    // Names the first new number and the ends of both nests, and plans the nest of the first turn and that of the others, with
+    // their claim and its window, the last first.
+    fn plan_slide(
+        &mut self,
+        alloc: Global,
+        cast: Cast<'_, 'a>,
+        number: usize,
+        later: &Later,
+        map: Vec<Sym>,
+    ) -> Result<(), Stop> {
+        let Some(symbol) = map.get(later.symbol).copied() else {
+            return Err(Stop::Limit);
+        };
+        let all = lets_before(nests_at(cast.root, cast.inners, Host::Inner(number)));
+        let new = lets_before(nests_at(cast.root, cast.inners, Host::Later(number)));
+        let own = prefix(alloc, &map, map.len())?;
+        let named = self.name(alloc, own, &name_of(alloc, later)?)?;
+        let own = prefix(alloc, &map, map.len())?;
+        let whole = self.name_all(alloc, own, all)?;
+        let named = self.name_all(alloc, named, new)?;
+        self.push_line(Line::First(symbol))?;
+        let own = prefix(alloc, &map, map.len())?;
+        self.agenda.push(Task::Window(number, own))?;
+        self.agenda.push(Task::Claim(Host::Inner(number), 0, map))?;
+        self.agenda.push(Task::Line(Line::End))?;
+        self.plan_arm(Host::Later(number), new.len(), named)?;
+        self.agenda.push(Task::Line(Line::Else))?;
+        self.plan_arm(Host::Inner(number), all.len(), whole)?;
+        Ok(())
+    }
+
+    // The window of the last claim.
+    fn hold(
+        &mut self,
+        alloc: Global,
+        cast: Cast<'_, 'a>,
+        number: usize,
+        map: &[Sym],
+    ) -> Result<(), Stop> {
+        let (Some(inner), Some(later)) = (cast.inners.get(number), later_at(cast.inners, number))
+        else {
+            return Err(Stop::Limit);
+        };
+        let (Some(span), Some(symbol)) = (
+            inner.region.as_slice().get(later.dimension),
+            map.get(later.symbol),
+        ) else {
+            return Err(Stop::Limit);
+        };
+        self.windows.push(Window {
+            claim: self.next_claim.saturating_sub(1),
+            symbol: *symbol,
+            dimension: later.dimension as u64,
+            fold: fold_of(&inner.root),
+            span: renamed_span(alloc, map, span)?,
+        })?;
+        Ok(())
+    }
+
     fn claim_nest(
         &mut self,
         alloc: Global,
         cast: Cast<'_, 'a>,
-        host: Option<usize>,
+        host: Host,
         definition: usize,
         map: &[Sym],
     ) -> Result<(), Stop> {
         let root = root_at(cast.root, cast.inners, host);
-        let region = match host {
+        let region = match host.number() {
             None => renamed_region(alloc, map, cast.claimed)?,
             Some(number) => match cast.inners.get(number) {
-                Some(inner) => renamed_region(alloc, map, &inner.region)?,
+                Some(inner) => renamed_region(alloc, map, &inner.claimed)?,
                 None => return Err(Stop::Limit),
             },
         };
@@ -549,10 +666,14 @@ impl<'a> Body<'a> {
             Task::Go(walk) => self.go(alloc, cast, walk),
             Task::Line(line) => Ok(self.push_line(line)?),
             Task::Alloc(number, map) => self.alloc_inner(alloc, cast, number, &map),
-            Task::Inner(number, map) => {
-                let count = nests_at(cast.root, cast.inners, Some(number)).len();
-                Ok(self.plan_nests(alloc, Some(number), count, &map)?)
-            }
+            Task::Inner(number, map) => match later_at(cast.inners, number) {
+                Some(later) => self.plan_slide(alloc, cast, number, later, map),
+                None => {
+                    let count = nests_at(cast.root, cast.inners, Host::Inner(number)).len();
+                    Ok(self.plan_nests(alloc, Host::Inner(number), count, &map)?)
+                }
+            },
+            Task::Window(number, map) => self.hold(alloc, cast, number, &map),
             Task::Claim(host, definition, map) => {
                 self.claim_nest(alloc, cast, host, definition, &map)
             }
@@ -648,14 +769,9 @@ fn body_of<'a>(
         inners,
         claimed: &claimed,
     };
-    let before = Spot {
-        host: None,
-        definition: None,
-        depth: 0,
-    };
-    plan_inners(alloc, cast, before, &map, &mut body.agenda)?;
+    plan_inners(alloc, cast, OVER_GRID, &map, &mut body.agenda)?;
     body.work(alloc, cast)?;
-    body.plan_nests(alloc, None, root.formulas.len(), &map)?;
+    body.plan_nests(alloc, Host::Own, root.formulas.len(), &map)?;
     body.work(alloc, cast)?;
     let claim = body.next_claim.saturating_sub(1);
     body.push(Stmt::Publish { claim })?;
@@ -667,8 +783,8 @@ pub(crate) fn group_of<'a>(
     alloc: Global,
     algo: &Algo,
     roots: &[Root<'a>],
-    functions: &[Root<'a>],
     root: &Root<'a>,
+    inners: &[Inner<'a>],
     beginning: Beginning,
 ) -> Result<Made, Stop> {
     let dimensions = dimensions(alloc, root.stored, root.laid)?;
@@ -676,8 +792,7 @@ pub(crate) fn group_of<'a>(
     let region = group_region(alloc, root)?;
     let function = String::from_str(alloc, root.stored.subject.name.as_str())?;
     let grid = grid_of(alloc, &root.laid.skeleton.grid)?;
-    let inners = inners_of(alloc, algo, root, functions)?;
-    let body = body_of(alloc, algo, roots, root, &inners, dimensions, beginning)?;
+    let body = body_of(alloc, algo, roots, root, inners, dimensions, beginning)?;
     Ok(Made {
         group: Group {
             function,

@@ -2,24 +2,42 @@
 
 use crate::definitions::Formula;
 use crate::error::Stop;
-use crate::fetching::{Root, Site, add_sites, freed, needed_span, places_of, shortest};
+use crate::fetching::{Root, Site, add_sites, count_from, freed, needed_span, places_of, run_of};
 use crate::forms::{raised, whole};
-use crate::nests::bodies;
 use crate::regions::symbols_from;
-use crate::renaming::{renamed, renamed_steps};
 use crate::scopes::{bind_steps, head_scope};
+use crate::sliding::{Later, fold_of, folded, folds_fit, later_of, sliding_dimension, track_of};
+use crate::turns::nests_over;
 use algo::Algo;
-use lin::{Forms, Lin, Region, Scope, Span1, Sym};
-use plan::{Pick, Places};
-use sched::{Extent, Home, Loop, Mark, Nest, Step, skeleton_over};
+use lin::{Forms, Lin, Region, Scope, Span1};
+use plan::Places;
+use sched::{Home, Loop, Mark, Nest, Step, Tail};
 use std::alloc::{AllocError, Global};
 use tree::token::Name;
+
+/// Whose nests: those of the group's own function, of one that is computed inside by its number, or of that one over what is
+/// new where it slides.
+#[derive(Clone, Copy, PartialEq, Eq, Drop)]
+pub(crate) enum Host {
+    Own,
+    Inner(usize),
+    Later(usize),
+}
+
+impl Host {
+    /// The number among those that are computed inside.
+    pub(crate) fn number(self) -> Option<usize> {
+        match self {
+            Host::Own => None,
+            Host::Inner(number) | Host::Later(number) => Some(number),
+        }
+    }
+}
 
 /// A place in the nests of a function.
 #[derive(Clone, Copy, PartialEq, Eq, Drop)]
 pub(crate) struct Spot {
-    /// The number of the function among those that are computed inside; none for the group's own.
-    pub host: Option<usize>,
+    pub host: Host,
     /// The definition in whose nest the place is; none where it is before all nests, over the grid alone.
     pub definition: Option<usize>,
     /// How many steps of that nest stand around it.
@@ -38,8 +56,14 @@ pub(crate) struct Inner<'a> {
     pub scope: Scope,
     /// What is needed of it there.
     pub region: Region,
+    /// Of what its claims speak: of what updates set past the end too.
+    pub claimed: Region,
     pub nests: Vec<Nest>,
     pub places: Vec<Places>,
+    /// The turns after the first one, where these make what is new alone.
+    pub later: Option<Later>,
+    /// Whether each of its folds is of the dimension in which it slides, with places for its window.
+    pub fits: bool,
 }
 
 // ---- places
@@ -83,24 +107,32 @@ fn is_over_grid(loops: &[Loop], name: &Name) -> bool {
     loops.iter().any(|one| one.mark == Some(Mark::Parallel) && one.name.as_str() == name.as_str())
 }
 
-/// The nests of the function of this number among those computed inside, or of the group's own.
-pub(crate) fn nests_at<'b>(
-    group: &'b Root<'_>,
-    inners: &'b [Inner<'_>],
-    host: Option<usize>,
-) -> &'b [Nest] {
+/// The turns after the first one of the function of this number.
+pub(crate) fn later_at<'b>(inners: &'b [Inner<'_>], number: usize) -> Option<&'b Later> {
+    match inners.get(number) {
+        Some(inner) => inner.later.as_ref(),
+        None => None,
+    }
+}
+
+/// The nests of a function among those computed inside, or of the group's own.
+pub(crate) fn nests_at<'b>(group: &'b Root<'_>, inners: &'b [Inner<'_>], host: Host) -> &'b [Nest] {
     match host {
-        None => &group.laid.skeleton.nests,
-        Some(number) => match inners.get(number) {
+        Host::Own => &group.laid.skeleton.nests,
+        Host::Inner(number) => match inners.get(number) {
             Some(inner) => &inner.nests,
+            None => &[],
+        },
+        Host::Later(number) => match later_at(inners, number) {
+            Some(later) => &later.nests,
             None => &[],
         },
     }
 }
 
-/// The function of this number among those computed inside, or the group's own.
-pub(crate) fn root_at<'a>(group: &Root<'a>, inners: &[Inner<'a>], host: Option<usize>) -> Root<'a> {
-    match host {
+/// A function among those computed inside, or the group's own.
+pub(crate) fn root_at<'a>(group: &Root<'a>, inners: &[Inner<'a>], host: Host) -> Root<'a> {
+    match host.number() {
         None => *group,
         Some(number) => match inners.get(number) {
             Some(inner) => inner.root,
@@ -114,15 +146,25 @@ fn scope_over(
     alloc: Global,
     group: &Root<'_>,
     inners: &[Inner<'_>],
-    host: Option<usize>,
+    host: Host,
 ) -> Result<Scope, AllocError> {
     match host {
-        None => head_scope(alloc, &group.laid.skeleton),
-        Some(number) => match inners.get(number) {
+        Host::Own => head_scope(alloc, &group.laid.skeleton),
+        Host::Inner(number) => match inners.get(number) {
             Some(inner) => inner.scope.copy(alloc),
             None => Ok(Scope::new(alloc)),
         },
+        Host::Later(number) => match later_at(inners, number) {
+            Some(later) => later.scope.copy(alloc),
+            None => Ok(Scope::new(alloc)),
+        },
     }
+}
+
+// The steps around a place in a nest; none over the grid.
+fn steps_at<'b>(group: &'b Root<'_>, inners: &'b [Inner<'_>], spot: Spot) -> Option<&'b [Step]> {
+    let nest = nests_at(group, inners, spot.host).get(spot.definition?)?;
+    nest.steps.get(..spot.depth)
 }
 
 // What stands around a place.
@@ -133,12 +175,8 @@ fn scope_at(
     spot: Spot,
 ) -> Result<Scope, AllocError> {
     let mut scope = scope_over(alloc, group, inners, spot.host)?;
-    if let Some(definition) = spot.definition {
-        if let Some(nest) = nests_at(group, inners, spot.host).get(definition) {
-            if let Some(steps) = nest.steps.get(..spot.depth) {
-                bind_steps(alloc, &mut scope, steps)?;
-            }
-        }
+    if let Some(steps) = steps_at(group, inners, spot) {
+        bind_steps(alloc, &mut scope, steps)?;
     }
     Ok(scope)
 }
@@ -147,7 +185,7 @@ fn scope_at(
 fn spot_in(
     group: &Root<'_>,
     inners: &[Inner<'_>],
-    host: Option<usize>,
+    host: Host,
     definition: usize,
     name: &Name,
 ) -> Option<Spot> {
@@ -180,7 +218,7 @@ fn is_inside_spot(inners: &[Inner<'_>], number: usize, spot: Spot) -> bool {
             return spot.definition.is_none()
                 || (inner.home.definition == spot.definition && inner.home.depth >= spot.depth);
         }
-        match inner.home.host {
+        match inner.home.host.number() {
             Some(host) => at = host,
             None => return false,
         }
@@ -257,303 +295,81 @@ fn region_at(
     Ok(region)
 }
 
-// ---- loops over it
-
-// The name of a dimension's variable, where its loop is split.
-fn is_cut(root: &Root<'_>, dimension: usize) -> bool {
-    match root.stored.subject.variables.get(dimension) {
-        Some(variable) => root
-            .stored
-            .placed
-            .cuts
-            .iter()
-            .any(|cut| cut.whole.as_str() == variable.as_str()),
-        None => false,
-    }
-}
-
-/// The ends of a dimension whose loop is split.
-#[derive(Drop)]
-struct Ends {
-    low: Lin,
-    high: Lin,
-    /// Whether it has not in each turn as many numbers as it has at most.
-    varies: bool,
-}
-
-// A form for the smallest or largest of some: the only one, or a let.
-fn one_of(
-    alloc: Global,
-    forms: &Forms,
-    pick: Pick,
-    next: Sym,
-    steps: &mut Vec<Step>,
-) -> Result<Lin, AllocError> {
-    match forms.as_slice() {
-        [only] => only.copy(alloc),
-        _ => {
-            let symbol = next.saturating_add(steps.len());
-            steps.push(Step::Named {
-                symbol,
-                pick,
-                forms: forms.copy(alloc)?,
-            })?;
-            Lin::symbol(alloc, symbol)
-        }
-    }
-}
-
-// The most numbers that a dimension has.
-fn most_of(alloc: Global, scope: &Scope, span: &Span1) -> Result<i64, Stop> {
-    match shortest(alloc, scope, span)? {
-        Some((_, count)) => Ok(count),
-        None => Err(Stop::Limit),
-    }
-}
-
-// Whether a dimension may have fewer numbers than the most.
-fn may_be_less(alloc: Global, scope: &Scope, ends: (&Lin, &Lin), most: i64) -> Result<bool, Stop> {
-    let last = raised(alloc, ends.0, most.saturating_sub(1))?;
-    Ok(!scope.at_most(alloc, &last, ends.1)?)
-}
-
-fn ends_of(
-    alloc: Global,
-    scope: &Scope,
-    span: &Span1,
-    most: i64,
-    steps: &mut Vec<Step>,
-) -> Result<Ends, Stop> {
-    let low = one_of(alloc, &span.lower, Pick::Max, scope.len(), steps)?;
-    let high = one_of(alloc, &span.upper, Pick::Min, scope.len(), steps)?;
-    let varies = steps.len() > 0 || may_be_less(alloc, scope, (&low, &high), most)?;
-    Ok(Ends { low, high, varies })
-}
-
-/// What the nests of a function over a region have to know of it.
-#[derive(Drop)]
-struct Frame {
-    /// The most numbers of each dimension, from 0 on.
-    extents: Vec<Extent>,
-    /// The ends of the dimensions whose loops are split.
-    ends: Vec<Option<Ends>>,
-    /// The lets around the nest.
-    steps: Vec<Step>,
-}
-
-fn frame_of(alloc: Global, root: &Root<'_>, scope: &Scope, region: &Region) -> Result<Frame, Stop> {
-    let mut extents = Vec::new(alloc);
-    let mut ends = Vec::new(alloc);
-    let mut steps = Vec::new(alloc);
-    for (dimension, span) in region.as_slice().iter().enumerate() {
-        let most = most_of(alloc, scope, span)?;
-        extents.push(Extent {
-            low: 0,
-            count: u32::try_from(most).unwrap_or(1),
-        })?;
-        if is_cut(root, dimension) {
-            let found = ends_of(alloc, scope, span, most, &mut steps)?;
-            ends.push(Some(found))?;
-        } else {
-            ends.push(None)?;
-        }
-    }
-    Ok(Frame {
-        extents,
-        ends,
-        steps,
-    })
-}
-
-// The symbol of a form that is one alone.
-fn symbol_of(form: &Lin) -> Option<Sym> {
-    match form.terms() {
-        [term] => Some(term.symbol),
-        _ => None,
-    }
-}
-
-// The step, whose loop runs over the span where it is that of this symbol.
-fn spanned(
-    alloc: Global,
-    step: Step,
-    symbol: Option<Sym>,
-    over: &Span1,
-) -> Result<Step, AllocError> {
-    match step {
-        Step::Turns {
-            symbol: own,
-            span,
-            kind,
-        } => {
-            let span = if symbol == Some(own) {
-                over.copy(alloc)?
-            } else {
-                span
-            };
-            Ok(Step::Turns {
-                symbol: own,
-                span,
-                kind,
-            })
-        }
-        other => Ok(other),
-    }
-}
-
-fn all_spanned(
-    alloc: Global,
-    steps: Vec<Step>,
-    symbol: Option<Sym>,
-    over: &Span1,
-) -> Result<Vec<Step>, AllocError> {
-    let mut made = Vec::new(alloc);
-    for step in steps {
-        made.push(spanned(alloc, step, symbol, over)?)?;
-    }
-    Ok(made)
-}
-
-// The coordinate of a split loop's dimension, and a guard where blocks may run past its end.
-fn placed_from(alloc: Global, ends: &Ends, form: &Lin, steps: &mut Vec<Step>) -> Result<Lin, Stop> {
-    let made = ends.low.plus_multiple(alloc, 1, form)?;
-    if ends.varies {
-        steps.push(Step::Tested {
-            low: made.copy(alloc)?,
-            high: ends.high.copy(alloc)?,
-        })?;
-    }
-    Ok(made)
-}
-
-// The nest over the region, where it was one over so many numbers from 0 on.
-fn moved(alloc: Global, nest: Nest, region: &Region, frame: &Frame) -> Result<Nest, Stop> {
-    let mut steps = nest.steps;
-    let mut at = Vec::new(alloc);
-    for (dimension, form) in nest.at.into_iter().enumerate() {
-        let made = match (
-            form,
-            frame.ends.get(dimension),
-            region.as_slice().get(dimension),
-        ) {
-            (Some(form), Some(Some(ends)), _) => {
-                Some(placed_from(alloc, ends, &form, &mut steps)?)
-            }
-            (Some(form), Some(None), Some(span)) => {
-                steps = all_spanned(alloc, steps, symbol_of(&form), span)?;
-                Some(form)
-            }
-            (form, _, _) => form,
-        };
-        at.push(made)?;
-    }
-    Ok(Nest { steps, at })
-}
-
-// The forms with each symbol so much later, but that of the grid, which none names.
-fn shifted_map(alloc: Global, first: Sym, count: usize) -> Result<Vec<Sym>, AllocError> {
-    let mut map = Vec::new(alloc);
-    map.push(0)?;
-    for place in 0..count {
-        map.push(first.saturating_add(place))?;
-    }
-    Ok(map)
-}
-
-fn forms_renamed(alloc: Global, map: &[Sym], at: &[Option<Lin>]) -> Result<Vec<Option<Lin>>, Stop> {
-    let mut made = Vec::new(alloc);
-    for form in at {
-        let one = match form {
-            Some(form) => Some(renamed(alloc, map, form)?),
-            None => None,
-        };
-        made.push(one)?;
-    }
-    Ok(made)
-}
-
-fn copied_steps(alloc: Global, steps: &[Step]) -> Result<Vec<Step>, Stop> {
-    let mut map = Vec::new(alloc);
-    for symbol in 0..MOST_SYMBOLS {
-        map.push(symbol)?;
-    }
-    renamed_steps(alloc, &map, steps)
-}
-
-/// The most symbols that bounds know.
-const MOST_SYMBOLS: usize = 256;
-
-// The nest in which symbols are numbered from the first on, behind the lets.
-fn nest_behind(
-    alloc: Global,
-    nest: &Nest,
-    lets: &[Step],
-    first: Sym,
-    skipped: usize,
-) -> Result<Nest, Stop> {
-    let from = first.saturating_add(lets.len());
-    let mut map = Vec::new(alloc);
-    for _skipped in 0..skipped {
-        map.push(0)?;
-    }
-    let mut others = shifted_map(alloc, from, MOST_SYMBOLS)?;
-    map.append(&mut others)?;
-    let mut steps = copied_steps(alloc, lets)?;
-    let mut inside = renamed_steps(alloc, &map, &nest.steps)?;
-    steps.append(&mut inside)?;
-    Ok(Nest {
-        steps,
-        at: forms_renamed(alloc, &map, &nest.at)?,
-    })
-}
-
-// How many symbols the steps bind.
-fn bound_by(steps: &[Step]) -> usize {
-    let mut count: usize = 0;
-    for step in steps {
-        if !matches!(step, Step::Tested { .. }) {
-            count = count.saturating_add(1);
-        }
-    }
-    count
-}
-
-/// The nests of a function's definitions over a region, in which the symbols are numbered from those of the scope on.
-fn nests_over(
-    alloc: Global,
-    root: &Root<'_>,
-    scope: &Scope,
-    region: &Region,
-) -> Result<Vec<Nest>, Stop> {
-    let frame = frame_of(alloc, root, scope, region)?;
-    let bodies = bodies(alloc, root.stored, root.formulas)?;
-    let variables = &root.stored.subject.variables;
-    let skeleton = skeleton_over(
-        alloc,
-        variables,
-        &bodies,
-        root.stored.placed,
-        &frame.extents,
-    )?;
-    let mut nests = Vec::new(alloc);
-    let mut skipped: usize = 0;
-    for nest in &skeleton.nests {
-        let own = nest_behind(alloc, nest, &frame.steps, scope.len(), skipped)?;
-        skipped = skipped.saturating_add(bound_by(&nest.steps));
-        nests.push(moved(alloc, own, region, &frame)?)?;
-    }
-    Ok(nests)
-}
-
 // ---- storage
 
-// The places of a dimension: from a lower form on as many as the upper ones leave.
-fn places_over(alloc: Global, scope: &Scope, span: &Span1) -> Result<Places, Stop> {
-    let Some((place, count)) = shortest(alloc, scope, span)? else {
-        return Err(Stop::Limit);
+/// What a function stores in all turns.
+#[derive(Clone, Copy, Drop)]
+struct Arms<'b> {
+    scope: &'b Scope,
+    nests: &'b [Nest],
+    later: Option<&'b Later>,
+}
+
+// How many places there are from a form on, at least so many, up to the last number that the nests store; none where bounds do
+// not tell it.
+fn stored_from(
+    alloc: Global,
+    scope: &Scope,
+    nests: &[Nest],
+    dimension: usize,
+    origin: &Lin,
+    least: i64,
+) -> Result<Option<i64>, AllocError> {
+    let mut count = least;
+    for nest in nests {
+        if let Some(Some(form)) = nest.at.get(dimension) {
+            let mut inner = scope.copy(alloc)?;
+            bind_steps(alloc, &mut inner, &nest.steps)?;
+            match inner.sup_of_difference(alloc, form, origin)? {
+                Some(most) => count = count.max(most.saturating_add(1)),
+                None => return Ok(None),
+            }
+        }
+    }
+    Ok(Some(count))
+}
+
+// How many places from a form on hold what is needed and what is stored.
+fn seats_from(
+    alloc: Global,
+    outer: &Scope,
+    arms: Arms<'_>,
+    dimension: usize,
+    origin: &Lin,
+    upper: &Forms,
+) -> Result<Option<i64>, AllocError> {
+    let Some(needed) = count_from(alloc, outer, origin, upper.as_slice())? else {
+        return Ok(None);
     };
-    match span.lower.as_slice().get(place) {
-        Some(origin) => Ok(places_of(alloc, origin, count)?),
+    let stored = stored_from(alloc, arms.scope, arms.nests, dimension, origin, needed)?;
+    match (stored, arms.later) {
+        (Some(count), Some(later)) => {
+            stored_from(alloc, &later.scope, &later.nests, dimension, origin, count)
+        }
+        (count, _) => Ok(count),
+    }
+}
+
+// The places of a dimension: from the lower form on that asks for the fewest.
+fn places_over(
+    alloc: Global,
+    outer: &Scope,
+    arms: Arms<'_>,
+    dimension: usize,
+    span: &Span1,
+) -> Result<Places, Stop> {
+    let mut best: Option<Places> = None;
+    let mut least = i64::MAX;
+    for origin in span.lower.as_slice() {
+        if let Some(count) = seats_from(alloc, outer, arms, dimension, origin, &span.upper)? {
+            if count < least {
+                least = count;
+                best = Some(places_of(alloc, origin, count)?);
+            }
+        }
+    }
+    match best {
+        Some(places) => Ok(places),
         None => Err(Stop::Limit),
     }
 }
@@ -562,16 +378,73 @@ fn places_over(alloc: Global, scope: &Scope, span: &Span1) -> Result<Places, Sto
 fn storage_of(
     alloc: Global,
     outer: &Scope,
-    scope: &Scope,
+    arms: Arms<'_>,
     region: &Region,
 ) -> Result<Vec<Places>, Stop> {
-    let inside = symbols_from(alloc, outer.len(), scope.len())?;
+    let inside = symbols_from(alloc, outer.len(), arms.scope.len())?;
     let mut places = Vec::new(alloc);
-    for span in region.as_slice() {
-        let kept = freed(alloc, scope, &inside, span)?;
-        places.push(places_over(alloc, outer, &kept)?)?;
+    for (dimension, span) in region.as_slice().iter().enumerate() {
+        let kept = freed(alloc, arms.scope, &inside, span)?;
+        places.push(places_over(alloc, outer, arms, dimension, &kept)?)?;
     }
     Ok(places)
+}
+
+// ---- claims
+
+// Whether the dimension's loop is split with `roundup`.
+fn is_rounded(root: &Root<'_>, dimension: usize) -> bool {
+    let Some(variable) = root.stored.subject.variables.get(dimension) else {
+        return false;
+    };
+    let cuts = &root.stored.placed.cuts;
+    cuts.iter().any(|cut| cut.tail == Tail::Roundup && cut.whole.as_str() == variable.as_str())
+}
+
+// From the first number of a span to the last that the nests store, where that is the same in each turn.
+fn rounded(
+    alloc: Global,
+    scope: &Scope,
+    nests: &[Nest],
+    dimension: usize,
+    span: &Span1,
+) -> Result<Option<Span1>, Stop> {
+    let ([low], [high]) = (span.lower.as_slice(), span.upper.as_slice()) else {
+        return Ok(None);
+    };
+    let Some(most) = count_from(alloc, scope, low, span.upper.as_slice())? else {
+        return Ok(None);
+    };
+    if !scope.at_most(alloc, &raised(alloc, low, most.saturating_sub(1))?, high)? {
+        return Ok(None);
+    }
+    match stored_from(alloc, scope, nests, dimension, low, most)? {
+        Some(count) => Ok(Some(run_of(alloc, low, count)?)),
+        None => Ok(None),
+    }
+}
+
+// Of what the claims of a function speak: what is needed, and where blocks run past the end what its updates set there.
+fn claim_of(
+    alloc: Global,
+    root: &Root<'_>,
+    scope: &Scope,
+    region: &Region,
+    nests: &[Nest],
+) -> Result<Region, Stop> {
+    let mut claimed = Region::new(alloc);
+    for (dimension, span) in region.as_slice().iter().enumerate() {
+        let wide = if nests.len() > 1 && is_rounded(root, dimension) {
+            rounded(alloc, scope, nests, dimension, span)?
+        } else {
+            None
+        };
+        claimed.push(match wide {
+            Some(span) => span,
+            None => span.copy(alloc)?,
+        })?;
+    }
+    Ok(claimed)
 }
 
 // ---- functions
@@ -594,6 +467,36 @@ fn store_spot(group: &Root<'_>, inners: &[Inner<'_>], root: &Root<'_>, home: Spo
     }
 }
 
+// The dimension in which what is needed of a function slides along the loop where it is computed, where its buffer stands
+// outside of that, and the turns after the first one. What an update scatters does not slide.
+fn sliding_of(
+    alloc: Global,
+    group: &Root<'_>,
+    inners: &[Inner<'_>],
+    root: &Root<'_>,
+    spots: (Spot, Spot),
+    scope: &Scope,
+    region: &Region,
+) -> Result<(Option<usize>, Option<Later>), Stop> {
+    let (home, store) = spots;
+    if home == store {
+        return Ok((None, None));
+    }
+    let Some(steps) = steps_at(group, inners, home) else {
+        return Ok((None, None));
+    };
+    let Some(track) = track_of(alloc, steps)? else {
+        return Ok((None, None));
+    };
+    match sliding_dimension(region, &track) {
+        Some(dimension) if !is_scattered(root, dimension) => {
+            let later = later_of(alloc, root, scope, region, &track, dimension)?;
+            Ok((Some(dimension), later))
+        }
+        _ => Ok((None, None)),
+    }
+}
+
 // The function at a place; none where nothing calls it there.
 fn inner_at<'a>(
     alloc: Global,
@@ -613,15 +516,27 @@ fn inner_at<'a>(
     let nests = nests_over(alloc, root, &scope, &region)?;
     let store = store_spot(group, inners, root, home);
     let outer = scope_at(alloc, group, inners, store)?;
-    let places = storage_of(alloc, &outer, &scope, &region)?;
+    let spots = (home, store);
+    let (sliding, later) = sliding_of(alloc, group, inners, root, spots, &scope, &region)?;
+    let fits = folds_fit(alloc, root, &scope, &region, sliding)?;
+    let arms = Arms {
+        scope: &scope,
+        nests: &nests,
+        later: later.as_ref(),
+    };
+    let places = storage_of(alloc, &outer, arms, &region)?;
+    let places = folded(alloc, places, sliding, fold_of(root))?;
     Ok(Some(Inner {
         root: *root,
         home,
         store,
+        claimed: claim_of(alloc, root, &scope, &region, &nests)?,
         scope,
         region,
         nests,
         places,
+        later,
+        fits,
     }))
 }
 
@@ -633,7 +548,7 @@ fn add_in_host<'a>(
     inners: &[Inner<'a>],
     root: &Root<'a>,
     home: &Home,
-    host: Option<usize>,
+    host: Host,
     found: &mut Vec<Inner<'a>>,
 ) -> Result<(), Stop> {
     let mut over_grid = false;
@@ -656,14 +571,17 @@ fn hosts_named(
     group: &Root<'_>,
     inners: &[Inner<'_>],
     name: &Name,
-) -> Result<Vec<Option<usize>>, AllocError> {
+) -> Result<Vec<Host>, AllocError> {
     let mut hosts = Vec::new(alloc);
     if group.stored.subject.name.as_str() == name.as_str() {
-        hosts.push(None)?;
+        hosts.push(Host::Own)?;
     }
     for (number, inner) in inners.iter().enumerate() {
         if inner.root.stored.subject.name.as_str() == name.as_str() {
-            hosts.push(Some(number))?;
+            hosts.push(Host::Inner(number))?;
+            if inner.later.is_some() {
+                hosts.push(Host::Later(number))?;
+            }
         }
     }
     Ok(hosts)

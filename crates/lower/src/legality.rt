@@ -3,12 +3,15 @@
 use crate::calls::{Call, calls_of};
 use crate::definitions::{Formula, Stored};
 use crate::error::{RegionRule, Stop};
+use crate::fetching::Root;
 use crate::forms::{between, is_inside, whole};
+use crate::parties::{Party, fault_inside};
 use crate::regions::{Laid, counts};
-use crate::scopes::{Around, around_store, interval};
+use crate::scopes::{Around, around_in, head_scope, interval};
 use crate::uses::has_outside_use;
 use algo::Algo;
-use sched::{has_short_shift, loop_numbers};
+use lin::{Region, Scope};
+use sched::{Nest, has_short_shift, loop_numbers};
 use std::alloc::{AllocError, Global};
 use tree::Expr;
 use tree::token::Name;
@@ -77,14 +80,13 @@ fn is_in_region(
     algo: &Algo,
     around: &Around<'_>,
     formula: &Formula,
-    laid: &Laid,
+    region: &Region,
     at: &[Expr],
 ) -> Result<bool, Stop> {
-    for (place, (index, extent)) in at.iter().zip(laid.region.iter()).enumerate() {
+    for (place, (index, extents)) in at.iter().zip(region.as_slice().iter()).enumerate() {
         if counts(Some(formula), place) {
             let span = interval(alloc, algo, around, index)?;
-            let extents = whole(alloc, extent)?;
-            if !is_inside(alloc, &around.scope, &span, &extents)? {
+            if !is_inside(alloc, &around.scope, &span, extents)? {
                 return Ok(false);
             }
         }
@@ -97,7 +99,7 @@ fn are_bounded(
     algo: &Algo,
     around: &Around<'_>,
     formula: &Formula,
-    laid: &Laid,
+    region: &Region,
     own: &Name,
     calls: &[Call<'_>],
 ) -> Result<bool, Stop> {
@@ -105,7 +107,7 @@ fn are_bounded(
         let is_bounded = if call.name == algo.input().name.as_str() {
             is_on_input(alloc, algo, around, call.at)?
         } else if call.name == own.as_str() {
-            is_in_region(alloc, algo, around, formula, laid, call.at)?
+            is_in_region(alloc, algo, around, formula, region, call.at)?
         } else {
             true
         };
@@ -116,52 +118,54 @@ fn are_bounded(
     Ok(true)
 }
 
-// Whether each index of the input and of the function itself is shown to lie where it may.
-fn is_bounded(
+/// Whether each index of the input and of the function itself is shown to lie where it may, in these nests over a region.
+pub(crate) fn is_bounded(
     alloc: Global,
     algo: &Algo,
-    stored: &Stored<'_>,
-    formulas: &[Formula],
-    laid: &Laid,
+    root: &Root<'_>,
+    outer: &Scope,
+    nests: &[Nest],
+    region: &Region,
 ) -> Result<bool, Stop> {
-    for (definition, formula) in formulas.iter().enumerate() {
-        let Some(nest) = laid.skeleton.nests.get(definition) else {
+    for (definition, formula) in root.formulas.iter().enumerate() {
+        let Some(nest) = nests.get(definition) else {
             return Ok(false);
         };
-        let around = around_store(
-            alloc,
-            algo,
-            stored,
-            &laid.skeleton,
-            nest,
-            formula,
-            definition,
-        )?;
+        let around = around_in(alloc, algo, root.stored, outer, nest, formula, definition)?;
         let calls = calls_of(alloc, formula)?;
-        let own = &stored.subject.name;
-        if !are_bounded(alloc, algo, &around, formula, laid, own, &calls)? {
+        let own = &root.stored.subject.name;
+        if !are_bounded(alloc, algo, &around, formula, region, own, &calls)? {
             return Ok(false);
         }
     }
     Ok(true)
 }
 
-// The rule of the lowest number that a function of this region breaks.
+// The same of a root function.
+fn is_root_bounded(alloc: Global, algo: &Algo, root: &Root<'_>) -> Result<bool, Stop> {
+    let mut region = Region::new(alloc);
+    for extent in &root.laid.region {
+        region.push(whole(alloc, extent)?)?;
+    }
+    let skeleton = &root.laid.skeleton;
+    let outer = head_scope(alloc, skeleton)?;
+    is_bounded(alloc, algo, root, &outer, &skeleton.nests, &region)
+}
+
+// The rule of the lowest number that a root function of this region breaks.
 fn fault_within(
     alloc: Global,
     algo: &Algo,
-    stored: &Stored<'_>,
-    formulas: &[Formula],
-    laid: &Laid,
+    root: &Root<'_>,
     totals: Totals,
 ) -> Result<Option<RegionRule>, AllocError> {
-    if has_shifted_little(alloc, stored, laid)? {
+    if has_shifted_little(alloc, root.stored, root.laid)? {
         return Ok(Some(RegionRule::ShortShift));
     }
-    if stored.subject.is_root && totals.pass_limits() {
+    if totals.pass_limits() {
         return Ok(Some(RegionRule::TooLarge));
     }
-    match is_bounded(alloc, algo, stored, formulas, laid) {
+    match is_root_bounded(alloc, algo, root) {
         Ok(true) => Ok(None),
         Ok(false) | Err(Stop::Limit) => Ok(Some(RegionRule::Unbounded)),
         Err(Stop::Memory) => Err(AllocError),
@@ -174,6 +178,7 @@ fn fault_of(
     algo: &Algo,
     stored: &Stored<'_>,
     laid: &Option<Laid>,
+    parties: &[Party<'_>],
     has_large: bool,
     totals: &mut Totals,
 ) -> Result<Option<RegionRule>, AllocError> {
@@ -187,10 +192,16 @@ fn fault_of(
             Some(RegionRule::Unbounded)
         });
     };
-    if stored.subject.is_root {
-        totals.add(laid);
+    let root = Root {
+        stored,
+        formulas,
+        laid,
+    };
+    if !stored.subject.is_root {
+        return fault_inside(alloc, algo, &root, parties);
     }
-    fault_within(alloc, algo, stored, formulas, laid, *totals)
+    totals.add(laid);
+    fault_within(alloc, algo, &root, *totals)
 }
 
 /// The first of so many functions, in the order of declaration, that breaks a rule, with the rule of the lowest number.
@@ -199,6 +210,7 @@ pub(crate) fn first_fault(
     algo: &Algo,
     stored: &[Stored<'_>],
     laid: &[Option<Laid>],
+    parties: &[Party<'_>],
     count: usize,
 ) -> Result<Option<(RegionRule, Name)>, AllocError> {
     let has_large = stored.iter().any(|one| one.formulas.is_none());
@@ -210,7 +222,7 @@ pub(crate) fn first_fault(
         if has_outside_use(alloc, stored, one)? {
             return Ok(Some((RegionRule::OutsideUse, one.subject.name)));
         }
-        if let Some(rule) = fault_of(alloc, algo, one, laid, has_large, &mut totals)? {
+        if let Some(rule) = fault_of(alloc, algo, one, laid, parties, has_large, &mut totals)? {
             return Ok(Some((rule, one.subject.name)));
         }
     }

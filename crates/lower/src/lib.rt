@@ -15,10 +15,14 @@ mod lowering;
 mod names;
 mod nests;
 mod outline;
+mod parties;
 mod regions;
 mod renaming;
 mod scopes;
+mod sliding;
+mod turns;
 mod uses;
+mod windows;
 
 pub use error::{LowerError, RegionRule};
 pub use lowering::{Lowered, lower};

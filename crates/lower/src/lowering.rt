@@ -9,8 +9,9 @@ ghost use Rattle.lower.specs.Refused.{Answers, IsRefused, IsUnplanned};
 use crate::definitions::{Stored, stored_functions};
 use crate::error::{LowerError, RegionRule, Stop};
 use crate::fetching::Root;
-use crate::group::{Beginning, group_of};
+use crate::group::{Beginning, Made, group_of};
 use crate::legality::first_fault;
+use crate::parties::{Party, laid_by_turns, parties_of, roots_of};
 use crate::regions::{Laid, laid_functions};
 use crate::uses::uses_outside;
 use algo::{Algo, Port};
@@ -45,28 +46,6 @@ fn declaration(alloc: Global, port: &Port) -> Result<Declaration, AllocError> {
     })
 }
 
-// The stored functions that have a region and definitions: those that are root, or those that are computed inside loops.
-fn roots_of<'a>(
-    alloc: Global,
-    stored: &'a [Stored<'a>],
-    laid: &'a [Option<Laid>],
-    is_root: bool,
-) -> Result<Vec<Root<'a>>, AllocError> {
-    let mut roots = Vec::new(alloc);
-    for (one, laid) in stored.iter().zip(laid.iter()) {
-        if let (Some(formulas), Some(laid)) = (&one.formulas, laid) {
-            if one.subject.is_root == is_root {
-                roots.push(Root {
-                    stored: one,
-                    formulas,
-                    laid,
-                })?;
-            }
-        }
-    }
-    Ok(roots)
-}
-
 fn empty_certificate(alloc: Global) -> Cert {
     Cert {
         own: Vec::new(alloc),
@@ -76,31 +55,46 @@ fn empty_certificate(alloc: Global) -> Cert {
     }
 }
 
+// The group of a root function; without bounds it breaks L12.
+fn group_at<'a>(
+    alloc: Global,
+    algo: &Algo,
+    roots: &[Root<'a>],
+    party: &Party<'a>,
+    beginning: Beginning,
+) -> Result<Made, LowerError>
+    ensures { IfErr result IsUnplanned }
+{
+    let unbounded = LowerError::Broken(RegionRule::Unbounded, party.root.stored.subject.name);
+    let Some(inners) = &party.inners else {
+        return Err(unbounded);
+    };
+    match group_of(alloc, algo, roots, &party.root, inners, beginning) {
+        Ok(made) => Ok(made),
+        Err(Stop::Memory) => Err(LowerError::Memory),
+        Err(Stop::Limit) => Err(unbounded),
+    }
+}
+
 // The groups of all root functions, in the order of declaration, and the certificate.
 fn groups_of<'a>(
     alloc: Global,
     algo: &Algo,
     roots: &[Root<'a>],
-    functions: &[Root<'a>],
+    parties: &[Party<'a>],
 ) -> Result<(Vec<Group>, Cert), LowerError>
     ensures { IfErr result IsUnplanned }
 {
     let mut groups = Vec::new(alloc);
     let mut certificate = empty_certificate(alloc);
     let mut line = FIRST_GROUP;
-    for (number, root) in roots.iter().enumerate() {
+    for (number, party) in parties.iter().enumerate() {
         let beginning = Beginning {
             number,
             line,
             claim: u32::try_from(certificate.claims.len()).unwrap_or(u32::MAX),
         };
-        let mut made = match group_of(alloc, algo, roots, functions, root, beginning) {
-            Ok(made) => made,
-            Err(Stop::Memory) => return Err(LowerError::Memory),
-            Err(Stop::Limit) => {
-                return Err(LowerError::Broken(RegionRule::Unbounded, root.stored.subject.name));
-            }
-        };
+        let mut made = group_at(alloc, algo, roots, party, beginning)?;
         line = made.line;
         groups.push(made.group)?;
         certificate.own.push(made.own)?;
@@ -138,11 +132,11 @@ fn planned<'a>(
     alloc: Global,
     algo: &Algo,
     roots: &[Root<'a>],
-    functions: &[Root<'a>],
+    parties: &[Party<'a>],
 ) -> Result<Lowered, LowerError>
     ensures { IfErr result IsUnplanned }
 {
-    let (groups, certificate) = groups_of(alloc, algo, roots, functions)?;
+    let (groups, certificate) = groups_of(alloc, algo, roots, parties)?;
     let plan = Plan {
         name: String::from_str(alloc, algo.name())?,
         input: declaration(alloc, algo.input())?,
@@ -152,14 +146,34 @@ fn planned<'a>(
     Ok(Lowered { plan, certificate })
 }
 
+// The regions of all stored functions, as the turns of the loops ask for them.
+fn laid_all(
+    alloc: Global,
+    algo: &Algo,
+    stored: &[Stored<'_>],
+) -> Result<Vec<Option<Laid>>, AllocError> {
+    let mut laid = laid_functions(alloc, algo, stored)?;
+    if stored.iter().all(|one| one.subject.is_root) {
+        return Ok(laid);
+    }
+    for _round in 0..stored.len() {
+        match laid_by_turns(alloc, algo, stored, &laid)? {
+            Some(made) => laid = made,
+            None => return Ok(laid),
+        }
+    }
+    Ok(laid)
+}
+
 // The plan of a placement, unless some function breaks a rule: the first, in the order of declaration, is told.
 fn plan_placed(alloc: Global, algo: &Algo, placement: &Placement) -> Result<Lowered, LowerError>
     ensures { Answers placement.now.fault result }
 {
     let stored = stored_functions(alloc, algo, placement)?;
-    let laid = laid_functions(alloc, algo, &stored)?;
+    let laid = laid_all(alloc, algo, &stored)?;
+    let parties = parties_of(alloc, algo, &stored, &laid)?;
     let count = asked(placement, stored.len());
-    if let Some((rule, name)) = first_fault(alloc, algo, &stored, &laid, count)? {
+    if let Some((rule, name)) = first_fault(alloc, algo, &stored, &laid, &parties, count)? {
         return Err(LowerError::Broken(rule, name));
     }
     if let Some((rule, name)) = placement.fault {
@@ -169,8 +183,7 @@ fn plan_placed(alloc: Global, algo: &Algo, placement: &Placement) -> Result<Lowe
         return Err(LowerError::Schedule(SchedError::Broken(rule, name)));
     }
     let roots = roots_of(alloc, &stored, &laid, true)?;
-    let functions = roots_of(alloc, &stored, &laid, false)?;
-    planned(alloc, algo, &roots, &functions)
+    planned(alloc, algo, &roots, &parties)
 }
 
 /// The plan that a schedule makes of an algorithm, and its certificate: one group for each root function in the order of
@@ -179,7 +192,7 @@ fn plan_placed(alloc: Global, algo: &Algo, placement: &Placement) -> Result<Lowe
 /// # Errors
 /// `Schedule` with the first directive that breaks one of L1 to L5, as `sched::followed` tells it. Then, function by function
 /// in the order of declaration, the lowest rule that the function breaks: `Schedule` with L4, L5, L8 or L10, `Broken` with L8
-/// over fewer points than the factor, L11 or L12. `Memory`.
+/// over fewer points than the factor, L9 of a fold, L11 or L12. `Memory`.
 pub fn lower(alloc: Global, algo: &Algo, sched: &Sched) -> Result<Lowered, LowerError>
     ensures legal { IfOk result (λ _. IsLegal (algorithm_of algo.now) (schedule_of sched.now)) }
     ensures refused { IfErr result (IsRefused (algorithm_of algo.now) (schedule_of sched.now)) }

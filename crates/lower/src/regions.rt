@@ -27,7 +27,7 @@ pub(crate) struct Laid {
 
 /// The lowest and the highest number of a coordinate.
 #[derive(Clone, Copy, Drop)]
-struct Ends {
+pub(crate) struct Ends {
     low: i64,
     high: i64,
 }
@@ -71,8 +71,8 @@ pub(crate) fn symbols_from(
     Ok(symbols)
 }
 
-// The ends of a span over all values of the symbols.
-fn ends_of(alloc: Global, scope: &Scope, span: &Span1) -> Result<Ends, Stop> {
+/// The ends of a span over all values of the symbols.
+pub(crate) fn ends_of(alloc: Global, scope: &Scope, span: &Span1) -> Result<Ends, Stop> {
     let symbols = symbols_from(alloc, 0, scope.len())?;
     let found = project_span(alloc, scope, &symbols, span)?;
     match (
@@ -94,7 +94,8 @@ fn widened(known: Option<Ends>, next: Ends) -> Ends {
     }
 }
 
-fn widen(reach: &mut Vec<Option<Ends>>, place: usize, next: Ends) {
+/// Widens the ends of a place.
+pub(crate) fn widen(reach: &mut Vec<Option<Ends>>, place: usize, next: Ends) {
     if let Some(slot) = reach.get_mut(place) {
         *slot = Some(widened(*slot, next));
     }
@@ -277,13 +278,14 @@ fn region_of(alloc: Global, reach: &[Option<Ends>]) -> Result<Vec<Extent>, Stop>
     Ok(region)
 }
 
-fn is_same(first: &[Extent], second: &[Extent]) -> bool {
+/// Whether two regions are the same.
+pub(crate) fn is_same(first: &[Extent], second: &[Extent]) -> bool {
     first.iter().zip(second.iter()).all(|(one, other)| one.low == other.low
         && one.count == other.count)
 }
 
-// The region with what the function's own updates need, and the loops over it.
-fn closed(
+/// The region with what the function's own updates need, and the loops over it.
+pub(crate) fn closed(
     alloc: Global,
     algo: &Algo,
     stored: &Stored<'_>,
@@ -305,8 +307,8 @@ fn closed(
     Ok(Laid { region, skeleton })
 }
 
-// Adds the extents of the output.
-fn add_extents(algo: &Algo, reach: &mut Vec<Option<Ends>>) {
+/// Adds the extents of the output.
+pub(crate) fn add_extents(algo: &Algo, reach: &mut Vec<Option<Ends>>) {
     for (place, extent) in algo.output().shape.extents.iter().enumerate() {
         let ends = Ends {
             low: 0,
@@ -316,7 +318,8 @@ fn add_extents(algo: &Algo, reach: &mut Vec<Option<Ends>>) {
     }
 }
 
-fn unreached(alloc: Global, count: usize) -> Result<Vec<Option<Ends>>, AllocError> {
+/// No ends of so many places.
+pub(crate) fn unreached(alloc: Global, count: usize) -> Result<Vec<Option<Ends>>, AllocError> {
     let mut reach = Vec::new(alloc);
     for _place in 0..count {
         reach.push(None)?;

@@ -1,0 +1,274 @@
+//! Root functions with those that are computed inside their loops: the rules that these break, and the regions that all of
+//! them ask for.
+
+use crate::definitions::Stored;
+use crate::error::{RegionRule, Stop};
+use crate::fetching::{Root, Site, sites_of};
+use crate::inner::{Inner, inners_of};
+use crate::legality::is_bounded;
+use crate::regions::{Ends, Laid, add_extents, closed, ends_of, is_same, unreached, widen};
+use crate::turns::has_short_turn;
+use algo::Algo;
+use std::alloc::{AllocError, Global};
+
+/// A root function, and those that are computed inside its loops.
+#[derive(Drop)]
+pub(crate) struct Party<'a> {
+    pub root: Root<'a>,
+    /// None where a bound is missing.
+    pub inners: Option<Vec<Inner<'a>>>,
+}
+
+/// The stored functions that have a region and definitions: those that are root, or those that are computed inside loops.
+pub(crate) fn roots_of<'a>(
+    alloc: Global,
+    stored: &'a [Stored<'a>],
+    laid: &'a [Option<Laid>],
+    is_root: bool,
+) -> Result<Vec<Root<'a>>, AllocError> {
+    let mut roots = Vec::new(alloc);
+    for (one, laid) in stored.iter().zip(laid.iter()) {
+        if let (Some(formulas), Some(laid)) = (&one.formulas, laid) {
+            if one.subject.is_root == is_root {
+                roots.push(Root {
+                    stored: one,
+                    formulas,
+                    laid,
+                })?;
+            }
+        }
+    }
+    Ok(roots)
+}
+
+/// Each root function with those that are computed inside its loops, in the order of declaration.
+pub(crate) fn parties_of<'a>(
+    alloc: Global,
+    algo: &Algo,
+    stored: &'a [Stored<'a>],
+    laid: &'a [Option<Laid>],
+) -> Result<Vec<Party<'a>>, AllocError> {
+    let functions = roots_of(alloc, stored, laid, false)?;
+    let mut parties = Vec::new(alloc);
+    for root in roots_of(alloc, stored, laid, true)? {
+        let inners = match inners_of(alloc, algo, &root, &functions) {
+            Ok(inners) => Some(inners),
+            Err(Stop::Limit) => None,
+            Err(Stop::Memory) => return Err(AllocError),
+        };
+        parties.push(Party { root, inners })?;
+    }
+    Ok(parties)
+}
+
+// ---- rules
+
+// Whether in some turn a loop that is split with `shift` has fewer numbers than a block.
+fn is_short(alloc: Global, inner: &Inner<'_>) -> Result<bool, Stop> {
+    if has_short_turn(alloc, &inner.root, &inner.scope, &inner.region)? {
+        return Ok(true);
+    }
+    match &inner.later {
+        Some(later) => has_short_turn(alloc, &inner.root, &later.scope, &later.region),
+        None => Ok(false),
+    }
+}
+
+// Whether each index of the input and of the function itself is shown to lie where it may.
+fn is_inner_bounded(alloc: Global, algo: &Algo, inner: &Inner<'_>) -> Result<bool, Stop> {
+    let root = &inner.root;
+    if !is_bounded(alloc, algo, root, &inner.scope, &inner.nests, &inner.region)? {
+        return Ok(false);
+    }
+    match &inner.later {
+        Some(later) => is_bounded(alloc, algo, root, &later.scope, &later.nests, &inner.region),
+        None => Ok(true),
+    }
+}
+
+// The rule of the lowest number that a function breaks where it is computed.
+fn broken_by(alloc: Global, algo: &Algo, inner: &Inner<'_>) -> Result<Option<RegionRule>, Stop> {
+    if is_short(alloc, inner)? {
+        return Ok(Some(RegionRule::ShortShift));
+    }
+    if !inner.fits {
+        return Ok(Some(RegionRule::SmallFold));
+    }
+    if !is_inner_bounded(alloc, algo, inner)? {
+        return Ok(Some(RegionRule::Unbounded));
+    }
+    Ok(None)
+}
+
+fn lower_of(first: Option<RegionRule>, second: Option<RegionRule>) -> Option<RegionRule> {
+    match (first, second) {
+        (Some(one), Some(other)) if other.number() < one.number() => Some(other),
+        (None, other) => other,
+        (one, _) => one,
+    }
+}
+
+// The same where bounds are missing, which is L12.
+fn fault_at(
+    alloc: Global,
+    algo: &Algo,
+    inner: &Inner<'_>,
+) -> Result<Option<RegionRule>, AllocError> {
+    match broken_by(alloc, algo, inner) {
+        Ok(rule) => Ok(rule),
+        Err(Stop::Limit) => Ok(Some(RegionRule::Unbounded)),
+        Err(Stop::Memory) => Err(AllocError),
+    }
+}
+
+// With the rules that a function breaks where it is computed among these.
+fn with_faults(
+    alloc: Global,
+    algo: &Algo,
+    root: &Root<'_>,
+    inners: &[Inner<'_>],
+    known: Option<RegionRule>,
+) -> Result<Option<RegionRule>, AllocError> {
+    let mut found = known;
+    for inner in inners {
+        if inner.root.stored.subject.name.as_str() == root.stored.subject.name.as_str() {
+            found = lower_of(found, fault_at(alloc, algo, inner)?);
+        }
+    }
+    Ok(found)
+}
+
+/// The rule of the lowest number that a function breaks wherever it is computed inside loops.
+pub(crate) fn fault_inside(
+    alloc: Global,
+    algo: &Algo,
+    root: &Root<'_>,
+    parties: &[Party<'_>],
+) -> Result<Option<RegionRule>, AllocError> {
+    let mut found = None;
+    for party in parties {
+        if let Some(inners) = &party.inners {
+            found = with_faults(alloc, algo, root, inners, found)?;
+        }
+    }
+    Ok(found)
+}
+
+// ---- regions
+
+fn add_site(
+    alloc: Global,
+    site: &Site,
+    place: usize,
+    reach: &mut Vec<Option<Ends>>,
+) -> Result<(), Stop> {
+    for call in &site.calls {
+        if let Some(span) = call.as_slice().get(place) {
+            let ends = ends_of(alloc, &site.scope, span)?;
+            widen(reach, place, ends);
+        }
+    }
+    Ok(())
+}
+
+fn add_sites_at(
+    alloc: Global,
+    sites: &[Site],
+    place: usize,
+    reach: &mut Vec<Option<Ends>>,
+) -> Result<(), Stop> {
+    for site in sites {
+        add_site(alloc, site, place, reach)?;
+    }
+    Ok(())
+}
+
+// Adds the points that a root function and those inside its loops call, but for what the function calls of itself.
+fn add_party(
+    alloc: Global,
+    algo: &Algo,
+    party: &Party<'_>,
+    root: &Root<'_>,
+    reach: &mut Vec<Option<Ends>>,
+) -> Result<(), Stop> {
+    let name = root.stored.subject.name.as_str();
+    let inners: &[Inner<'_>] = match &party.inners {
+        Some(inners) => inners,
+        None => &[],
+    };
+    let sites = sites_of(alloc, algo, &party.root, inners, name)?;
+    for place in 0..reach.len() {
+        add_sites_at(alloc, &sites, place, reach)?;
+    }
+    Ok(())
+}
+
+// The region of a function that all turns of the others ask for, and the loops over it.
+fn laid_again(
+    alloc: Global,
+    algo: &Algo,
+    root: &Root<'_>,
+    parties: &[Party<'_>],
+) -> Result<Laid, Stop> {
+    let mut reach = unreached(alloc, root.stored.subject.variables.len())?;
+    for party in parties {
+        add_party(alloc, algo, party, root, &mut reach)?;
+    }
+    if root.stored.subject.is_output {
+        add_extents(algo, &mut reach);
+    }
+    closed(alloc, algo, root.stored, root.formulas, reach)
+}
+
+// None where there is no region within the limits.
+fn laid_or_none(
+    alloc: Global,
+    algo: &Algo,
+    stored: &Stored<'_>,
+    laid: &Option<Laid>,
+    parties: &[Party<'_>],
+) -> Result<Option<Laid>, AllocError> {
+    let (Some(formulas), Some(laid)) = (&stored.formulas, laid) else {
+        return Ok(None);
+    };
+    let root = Root {
+        stored,
+        formulas,
+        laid,
+    };
+    match laid_again(alloc, algo, &root, parties) {
+        Ok(laid) => Ok(Some(laid)),
+        Err(Stop::Limit) => Ok(None),
+        Err(Stop::Memory) => Err(AllocError),
+    }
+}
+
+fn are_same(first: &[Option<Laid>], second: &[Option<Laid>]) -> bool {
+    first.iter().zip(second.iter()).all(|pair| match pair {
+        (Some(one), Some(other)) => is_same(&one.region, &other.region),
+        (None, None) => true,
+        _ => false,
+    })
+}
+
+/// The regions that all turns ask for, where the functions inside loops have these regions; none where they are the same, or
+/// where bounds are missing.
+pub(crate) fn laid_by_turns(
+    alloc: Global,
+    algo: &Algo,
+    stored: &[Stored<'_>],
+    laid: &[Option<Laid>],
+) -> Result<Option<Vec<Option<Laid>>>, AllocError> {
+    let parties = parties_of(alloc, algo, stored, laid)?;
+    if parties.iter().any(|party| party.inners.is_none()) {
+        return Ok(None);
+    }
+    let mut made = Vec::new(alloc);
+    for (one, known) in stored.iter().zip(laid.iter()) {
+        made.push(laid_or_none(alloc, algo, one, known, &parties)?)?;
+    }
+    if are_same(laid, &made) {
+        return Ok(None);
+    }
+    Ok(Some(made))
+}

@@ -1,0 +1,292 @@
+//! How a function that is computed inside a loop keeps what the turns before have made.
+
+use crate::error::Stop;
+use crate::fetching::Root;
+use crate::forms::raised;
+use crate::turns::nests_over;
+use crate::windows::{all_fit, window_size};
+use lin::{Binding, Forms, Lin, Region, Scope, Span1, Sym};
+use plan::{Pick, Places};
+use sched::{Nest, Step};
+use std::alloc::{AllocError, Global};
+
+/// The most forms that a side of a span has.
+const MOST_FORMS: usize = 4;
+
+/// The loop along which a function may slide, and what stands in it.
+#[derive(Drop)]
+pub(crate) struct Track {
+    symbol: Sym,
+    /// The symbols of the lets behind the loop.
+    lets: Vec<Sym>,
+    /// Whether nothing stands behind the loop.
+    is_bare: bool,
+}
+
+/// The nests of the turns after the first one, over what is new.
+#[derive(Drop)]
+pub(crate) struct Later {
+    /// The loop along which the function slides.
+    pub symbol: Sym,
+    pub dimension: usize,
+    /// The forms of which the least is the first new number.
+    pub first_new: Forms,
+    /// What stands around the nests: the last symbol stands for the first new number.
+    pub scope: Scope,
+    pub region: Region,
+    pub nests: Vec<Nest>,
+}
+
+// ---- the loop
+
+// The lets of the steps.
+fn lets_of(alloc: Global, steps: &[Step]) -> Result<Vec<Sym>, AllocError> {
+    let mut lets = Vec::new(alloc);
+    for step in steps {
+        if let Step::Named { symbol, .. } = step {
+            lets.push(*symbol)?;
+        }
+    }
+    Ok(lets)
+}
+
+/// The innermost loop of the steps, with what stands behind it.
+pub(crate) fn track_of(alloc: Global, steps: &[Step]) -> Result<Option<Track>, AllocError> {
+    let mut rest = steps;
+    for _step in 0..steps.len() {
+        let [before @ .., last] = rest else {
+            return Ok(None);
+        };
+        if let Step::Turns { symbol, .. } = last {
+            let behind = match steps.get(rest.len()..) {
+                Some(behind) => behind,
+                None => &[],
+            };
+            return Ok(Some(Track {
+                symbol: *symbol,
+                lets: lets_of(alloc, behind)?,
+                is_bare: behind.is_empty(),
+            }));
+        }
+        rest = before;
+    }
+    Ok(None)
+}
+
+fn is_named(form: &Lin, track: &Track) -> bool {
+    form.factor(track.symbol) != 0 || track.lets.iter().any(|one| form.factor(*one) != 0)
+}
+
+fn moves(span: &Span1, track: &Track) -> bool {
+    span.lower
+        .as_slice()
+        .iter()
+        .any(|form| is_named(form, track))
+        || span
+            .upper
+            .as_slice()
+            .iter()
+            .any(|form| is_named(form, track))
+}
+
+fn is_rising(form: &Lin, track: &Track) -> bool {
+    form.factor(track.symbol) >= 0 && track.lets.iter().all(|one| form.factor(*one) >= 0)
+}
+
+// Whether neither end falls from turn to turn.
+fn rises(span: &Span1, track: &Track) -> bool {
+    span.lower
+        .as_slice()
+        .iter()
+        .all(|form| is_rising(form, track))
+        && span
+            .upper
+            .as_slice()
+            .iter()
+            .all(|form| is_rising(form, track))
+}
+
+/// The dimension in which a region slides along the loop: the only one that moves, where it never falls.
+pub(crate) fn sliding_dimension(region: &Region, track: &Track) -> Option<usize> {
+    let mut found: Option<usize> = None;
+    for (dimension, span) in region.as_slice().iter().enumerate() {
+        if moves(span, track) {
+            if found.is_some() || !rises(span, track) {
+                return None;
+            }
+            found = Some(dimension);
+        }
+    }
+    found
+}
+
+// ---- what is new
+
+// One past the last number of the turn before, for each upper form.
+fn new_from(alloc: Global, span: &Span1, symbol: Sym) -> Result<Forms, Stop> {
+    let mut forms = Forms::new(alloc);
+    for form in span.upper.as_slice() {
+        let past = 1_i64.saturating_sub(form.factor(symbol));
+        forms.push(raised(alloc, form, past)?)?;
+    }
+    Ok(forms)
+}
+
+// Whether the form at a place is shown to be at most another one.
+fn is_spare(
+    alloc: Global,
+    scope: &Scope,
+    forms: &[Lin],
+    place: usize,
+    form: &Lin,
+) -> Result<bool, AllocError> {
+    for (other, one) in forms.iter().enumerate() {
+        if other != place && scope.at_most(alloc, form, one)? {
+            return Ok(true);
+        }
+    }
+    Ok(false)
+}
+
+// The place of a lower form that is not needed: one that is at most another one, or the last.
+fn spare_place(alloc: Global, scope: &Scope, forms: &[Lin]) -> Result<usize, AllocError> {
+    for (place, form) in forms.iter().enumerate() {
+        if is_spare(alloc, scope, forms, place, form)? {
+            return Ok(place);
+        }
+    }
+    Ok(forms.len().saturating_sub(1))
+}
+
+// The span from the symbol on; of as many forms as a side may have one goes.
+fn from_symbol(
+    alloc: Global,
+    scope: &Scope,
+    span: &Span1,
+    symbol: Sym,
+) -> Result<Span1, AllocError> {
+    let forms = span.lower.as_slice();
+    let spare = if forms.len() < MOST_FORMS {
+        forms.len()
+    } else {
+        spare_place(alloc, scope, forms)?
+    };
+    let mut lower = Forms::new(alloc);
+    lower.push(Lin::symbol(alloc, symbol)?)?;
+    for (place, form) in forms.iter().enumerate() {
+        if place != spare {
+            lower.push(form.copy(alloc)?)?;
+        }
+    }
+    Ok(Span1 {
+        lower,
+        upper: span.upper.copy(alloc)?,
+    })
+}
+
+// The region, of the dimension from the symbol on that follows those of the scope.
+fn new_region(
+    alloc: Global,
+    scope: &Scope,
+    region: &Region,
+    along: usize,
+) -> Result<Region, AllocError> {
+    let mut made = Region::new(alloc);
+    for (dimension, span) in region.as_slice().iter().enumerate() {
+        let one = if dimension == along {
+            from_symbol(alloc, scope, span, scope.len())?
+        } else {
+            span.copy(alloc)?
+        };
+        made.push(one)?;
+    }
+    Ok(made)
+}
+
+/// The turns after the first one of a function without updates, where its loop is not behind lets or guards.
+pub(crate) fn later_of(
+    alloc: Global,
+    root: &Root<'_>,
+    scope: &Scope,
+    region: &Region,
+    track: &Track,
+    dimension: usize,
+) -> Result<Option<Later>, Stop> {
+    if !track.is_bare || root.formulas.len() != 1 {
+        return Ok(None);
+    }
+    let Some(span) = region.as_slice().get(dimension) else {
+        return Ok(None);
+    };
+    let first_new = new_from(alloc, span, track.symbol)?;
+    let new = new_region(alloc, scope, region, dimension)?;
+    let mut inner = scope.copy(alloc)?;
+    inner.push(Binding::LetMin(first_new.copy(alloc)?))?;
+    let nests = nests_over(alloc, root, &inner, &new)?;
+    Ok(Some(Later {
+        symbol: track.symbol,
+        dimension,
+        first_new,
+        scope: inner,
+        region: new,
+        nests,
+    }))
+}
+
+/// The let for the first new number.
+pub(crate) fn name_of(alloc: Global, later: &Later) -> Result<Step, AllocError> {
+    Ok(Step::Named {
+        symbol: later.scope.len().saturating_sub(1),
+        pick: Pick::Min,
+        forms: later.first_new.copy(alloc)?,
+    })
+}
+
+// ---- folds
+
+/// Whether each fold of the function is one of the dimension in which it slides, with places for its window.
+pub(crate) fn folds_fit(
+    alloc: Global,
+    root: &Root<'_>,
+    scope: &Scope,
+    region: &Region,
+    sliding: Option<usize>,
+) -> Result<bool, AllocError> {
+    let folds = root.stored.placed.folds.as_slice();
+    let Some(dimension) = sliding else {
+        return Ok(folds.is_empty());
+    };
+    let variables = &root.stored.subject.variables;
+    let (Some(variable), Some(span)) = (variables.get(dimension), region.as_slice().get(dimension))
+    else {
+        return Ok(false);
+    };
+    let size = window_size(alloc, scope, span)?;
+    Ok(all_fit(variable, size, folds))
+}
+
+/// To how many places the dimension is folded in which the function slides; 0 where it is not.
+pub(crate) fn fold_of(root: &Root<'_>) -> u64 {
+    match root.stored.placed.folds.last() {
+        Some(fold) => u64::from(fold.factor),
+        None => 0,
+    }
+}
+
+/// The places, folded in the dimension in which the function slides.
+pub(crate) fn folded(
+    alloc: Global,
+    places: Vec<Places>,
+    sliding: Option<usize>,
+    factor: u64,
+) -> Result<Vec<Places>, AllocError> {
+    let mut made = Vec::new(alloc);
+    for (dimension, one) in places.into_iter().enumerate() {
+        if sliding == Some(dimension) && factor > 0 {
+            made.push(Places::Folded { count: factor })?;
+        } else {
+            made.push(one)?;
+        }
+    }
+    Ok(made)
+}

@@ -1,0 +1,668 @@
+//! The loops, lets and guards of a function that is computed inside loops, over what one turn of them needs of it.
+
+use crate::error::Stop;
+use crate::fetching::{Root, shortest};
+use crate::forms::{between, multiple_from, raised};
+use crate::nests::bodies;
+use lin::{Forms, Lin, Region, Scope, Span1, Sym};
+use plan::{Kind, Pick};
+use sched::{
+    Body, Extent, Known, Loop, Mark, Nest, Numbers, Split, Step, Tail, Turning, loop_numbers,
+};
+use std::alloc::{AllocError, Global};
+use std::mem;
+use tree::token::Name;
+
+/// The numbers of a loop that is split.
+#[derive(Drop)]
+struct Reach {
+    name: Name,
+    low: Lin,
+    last: Lin,
+    /// Whether there are not in each turn as many numbers as there are at most.
+    varies: bool,
+}
+
+/// A loop, and what it runs over.
+#[derive(Drop)]
+struct Run {
+    name: Name,
+    span: Span1,
+    kind: Kind,
+}
+
+/// What the nests of a function over a region have to know of it.
+#[derive(Drop)]
+struct Frame {
+    /// The most numbers of each loop, also of those that are split.
+    numbers: Vec<Numbers>,
+    /// What the splits' loops run over.
+    reaches: Vec<Reach>,
+    /// The lets around the nest.
+    lets: Vec<Step>,
+}
+
+/// What stands at a place of a nest.
+#[derive(Drop)]
+struct Standing {
+    /// The forms of loops, also of those that are split.
+    known: Vec<Known>,
+    /// The forms of the first numbers of blocks, under the name of the loop that is split.
+    starts: Vec<Known>,
+    /// The symbols of the nest's loops.
+    bound: Vec<Sym>,
+    next: Sym,
+    steps: Vec<Step>,
+}
+
+// ---- numbers
+
+fn number_named(numbers: &[Numbers], name: &Name) -> u32 {
+    for one in numbers {
+        if one.name.as_str() == name.as_str() {
+            return one.count;
+        }
+    }
+    0
+}
+
+fn reach_named<'a>(reaches: &'a [Reach], name: &Name) -> Option<&'a Reach> {
+    reaches
+        .iter()
+        .find(|one| one.name.as_str() == name.as_str())
+}
+
+fn form_named<'a>(known: &'a [Known], name: &Name) -> Option<&'a Lin> {
+    for one in known {
+        if one.name.as_str() == name.as_str() {
+            return Some(&one.form);
+        }
+    }
+    None
+}
+
+fn is_whole(cuts: &[Split], name: &Name) -> bool {
+    cuts.iter().any(|cut| cut.whole.as_str() == name.as_str())
+}
+
+// Whether of so many numbers the last block of the split is not full.
+fn has_rest(cut: &Split, count: u32) -> bool {
+    count.checked_rem(cut.factor) != Some(0)
+}
+
+fn is_half(cut: &Split, name: &Name) -> bool {
+    cut.outer.as_str() == name.as_str() || cut.inner.as_str() == name.as_str()
+}
+
+// Whether a loop that the split makes is split again, by blocks that run past its last number.
+fn is_overrun(numbers: &[Numbers], cuts: &[Split], cut: &Split) -> bool {
+    cuts.iter().any(|other| is_half(cut, &other.whole)
+        && other.tail == Tail::Roundup
+        && has_rest(other, number_named(numbers, &other.whole)))
+}
+
+// ---- ends
+
+// The most numbers that a dimension has in one turn.
+fn most_of(alloc: Global, scope: &Scope, span: &Span1) -> Result<i64, Stop> {
+    match shortest(alloc, scope, span)? {
+        Some((_, count)) => Ok(count),
+        None => Err(Stop::Limit),
+    }
+}
+
+// A form for the smallest or largest of some: the only one, or a let.
+fn one_of(
+    alloc: Global,
+    forms: &Forms,
+    pick: Pick,
+    first: Sym,
+    lets: &mut Vec<Step>,
+) -> Result<Lin, AllocError> {
+    match forms.as_slice() {
+        [only] => only.copy(alloc),
+        _ => {
+            let symbol = first.saturating_add(lets.len());
+            lets.push(Step::Named {
+                symbol,
+                pick,
+                forms: forms.copy(alloc)?,
+            })?;
+            Lin::symbol(alloc, symbol)
+        }
+    }
+}
+
+// Whether a dimension is not shown to have in each turn as many numbers as the most.
+fn varies(alloc: Global, scope: &Scope, span: &Span1, most: i64) -> Result<bool, Stop> {
+    match (span.lower.as_slice(), span.upper.as_slice()) {
+        ([low], [high]) => {
+            let last = raised(alloc, low, most.saturating_sub(1))?;
+            Ok(!scope.at_most(alloc, &last, high)?)
+        }
+        _ => Ok(true),
+    }
+}
+
+fn reach_of(
+    alloc: Global,
+    scope: &Scope,
+    name: Name,
+    span: &Span1,
+    lets: &mut Vec<Step>,
+) -> Result<Reach, Stop> {
+    let most = most_of(alloc, scope, span)?;
+    Ok(Reach {
+        name,
+        low: one_of(alloc, &span.lower, Pick::Max, scope.len(), lets)?,
+        last: one_of(alloc, &span.upper, Pick::Min, scope.len(), lets)?,
+        varies: varies(alloc, scope, span, most)?,
+    })
+}
+
+fn half_reach(alloc: Global, numbers: &[Numbers], name: Name) -> Reach {
+    let count = number_named(numbers, &name);
+    Reach {
+        name,
+        low: Lin::number(alloc, 0),
+        last: Lin::number(alloc, i64::from(count) - 1),
+        varies: false,
+    }
+}
+
+// The most numbers of each dimension, from 0 on.
+fn extents_of(alloc: Global, scope: &Scope, region: &Region) -> Result<Vec<Extent>, Stop> {
+    let mut extents = Vec::new(alloc);
+    for span in region.as_slice() {
+        let most = most_of(alloc, scope, span)?;
+        extents.push(Extent {
+            low: 0,
+            count: u32::try_from(most).unwrap_or(1),
+        })?;
+    }
+    Ok(extents)
+}
+
+// What the loops of the split variables run over, behind their lets.
+fn variable_reaches(
+    alloc: Global,
+    root: &Root<'_>,
+    scope: &Scope,
+    region: &Region,
+    lets: &mut Vec<Step>,
+) -> Result<Vec<Reach>, Stop> {
+    let cuts = &root.stored.placed.cuts;
+    let variables = &root.stored.subject.variables;
+    let mut reaches = Vec::new(alloc);
+    for (variable, span) in variables.iter().zip(region.as_slice().iter()) {
+        if is_whole(cuts, variable) {
+            reaches.push(reach_of(alloc, scope, *variable, span, lets)?)?;
+        }
+    }
+    Ok(reaches)
+}
+
+fn frame_of(alloc: Global, root: &Root<'_>, scope: &Scope, region: &Region) -> Result<Frame, Stop> {
+    let cuts = &root.stored.placed.cuts;
+    let extents = extents_of(alloc, scope, region)?;
+    let numbers = loop_numbers(alloc, &root.stored.subject.variables, cuts, &extents)?;
+    let mut lets = Vec::new(alloc);
+    let mut reaches = variable_reaches(alloc, root, scope, region, &mut lets)?;
+    for cut in cuts {
+        reaches.push(half_reach(alloc, &numbers, cut.outer))?;
+        reaches.push(half_reach(alloc, &numbers, cut.inner))?;
+    }
+    Ok(Frame {
+        numbers,
+        reaches,
+        lets,
+    })
+}
+
+// ---- standing
+
+// The step, with a further upper form where it is the loop of the symbol.
+fn limited(alloc: Global, step: Step, of: Sym, limit: &Lin) -> Result<Step, AllocError> {
+    match step {
+        Step::Turns { symbol, span, kind } => {
+            let mut span = span;
+            if symbol == of {
+                span.upper.push(limit.copy(alloc)?)?;
+            }
+            Ok(Step::Turns { symbol, span, kind })
+        }
+        other => Ok(other),
+    }
+}
+
+fn all_limited(
+    alloc: Global,
+    steps: Vec<Step>,
+    of: Sym,
+    limit: &Lin,
+) -> Result<Vec<Step>, AllocError> {
+    let mut made = Vec::new(alloc);
+    for step in steps {
+        made.push(limited(alloc, step, of, limit)?)?;
+    }
+    Ok(made)
+}
+
+impl Standing {
+    fn learn(&mut self, name: Name, form: Lin) -> Result<(), AllocError> {
+        self.known.push(Known { name, form })?;
+        Ok(())
+    }
+
+    fn test(&mut self, alloc: Global, low: &Lin, high: &Lin) -> Result<(), AllocError> {
+        self.steps.push(Step::Tested {
+            low: low.copy(alloc)?,
+            high: high.copy(alloc)?,
+        })?;
+        Ok(())
+    }
+
+    // A symbol for the smaller of two forms.
+    fn smaller(&mut self, alloc: Global, first: Lin, second: Lin) -> Result<Lin, AllocError> {
+        let symbol = self.next;
+        self.next = symbol.saturating_add(1);
+        let mut forms = Forms::new(alloc);
+        forms.push(first)?;
+        forms.push(second)?;
+        self.steps.push(Step::Named {
+            symbol,
+            pick: Pick::Min,
+            forms,
+        })?;
+        Lin::symbol(alloc, symbol)
+    }
+
+    // The first number of a block stands as soon as the outer loop does. No block begins behind the last number; where the inner
+    // loop stands outside, a guarded position tells it.
+    fn begin(&mut self, alloc: Global, cut: &Split, own: &Reach) -> Result<(), Stop> {
+        if form_named(&self.starts, &cut.whole).is_some() {
+            return Ok(());
+        }
+        let Some(outer) = form_named(&self.known, &cut.outer) else {
+            return Ok(());
+        };
+        let factor = i64::from(cut.factor);
+        let form = own.low.plus_multiple(alloc, factor, outer)?;
+        let is_kept = cut.tail == Tail::Guard && form_named(&self.known, &cut.inner).is_some();
+        if own.varies && !is_kept {
+            self.test(alloc, &form, &own.last)?;
+        }
+        let form = match cut.tail {
+            Tail::Shift => {
+                let room = raised(alloc, &own.last, 1 - factor)?;
+                self.smaller(alloc, form, room)?
+            }
+            Tail::Guard | Tail::Roundup => form,
+        };
+        self.starts.push(Known {
+            name: cut.whole,
+            form,
+        })?;
+        Ok(())
+    }
+
+    // The last symbol of the form, where it is that of a loop of the nest and counts once.
+    fn innermost(&self, form: &Lin) -> Option<Sym> {
+        let term = form.terms().last()?;
+        if term.factor == 1 && self.bound.iter().any(|one| *one == term.symbol) {
+            Some(term.symbol)
+        } else {
+            None
+        }
+    }
+
+    // A number within the loop that is split: by a further upper form of the innermost loop, or by a guard and a let.
+    fn keep(&mut self, alloc: Global, is_lane: bool, own: &Reach, form: Lin) -> Result<Lin, Stop> {
+        if let Some(symbol) = self.innermost(&form) {
+            let rest = form.without(alloc, symbol)?;
+            let limit = own.last.plus_multiple(alloc, -1, &rest)?;
+            let steps = mem::replace(&mut self.steps, Vec::new(alloc));
+            self.steps = all_limited(alloc, steps, symbol, &limit)?;
+            return Ok(form);
+        }
+        self.test(alloc, &form, &own.last)?;
+        if is_lane {
+            return Ok(form);
+        }
+        let last = own.last.copy(alloc)?;
+        Ok(self.smaller(alloc, form, last)?)
+    }
+
+    // The position stands as soon as the block's first number and the inner loop do.
+    fn join(
+        &mut self,
+        alloc: Global,
+        is_lane: bool,
+        is_guarded: bool,
+        cut: &Split,
+        own: &Reach,
+    ) -> Result<(), Stop> {
+        if form_named(&self.known, &cut.whole).is_some() {
+            return Ok(());
+        }
+        let (Some(start), Some(inner)) = (
+            form_named(&self.starts, &cut.whole),
+            form_named(&self.known, &cut.inner),
+        ) else {
+            return Ok(());
+        };
+        let form = start.plus_multiple(alloc, 1, inner)?;
+        let form = if is_guarded {
+            self.keep(alloc, is_lane, own, form)?
+        } else {
+            form
+        };
+        self.learn(cut.whole, form)?;
+        Ok(())
+    }
+
+    // Whatever stands now is named, guarded and put together.
+    fn settle(
+        &mut self,
+        alloc: Global,
+        is_lane: bool,
+        frame: &Frame,
+        cuts: &[Split],
+    ) -> Result<(), Stop> {
+        for cut in cuts {
+            let Some(own) = reach_named(&frame.reaches, &cut.whole) else {
+                return Err(Stop::Limit);
+            };
+            self.begin(alloc, cut, own)?;
+            let is_guarded = cut.tail == Tail::Guard
+                && (own.varies
+                    || has_rest(cut, number_named(&frame.numbers, &cut.whole))
+                    || is_overrun(&frame.numbers, cuts, cut));
+            self.join(alloc, is_lane, is_guarded, cut, own)?;
+        }
+        Ok(())
+    }
+
+    fn turn(&mut self, alloc: Global, frame: &Frame, cuts: &[Split], run: Run) -> Result<(), Stop> {
+        let Run { name, span, kind } = run;
+        let symbol = self.next;
+        self.next = symbol.saturating_add(1);
+        self.steps.push(Step::Turns { symbol, span, kind })?;
+        self.bound.push(symbol)?;
+        self.learn(name, Lin::symbol(alloc, symbol)?)?;
+        self.settle(alloc, kind == Kind::Vector, frame, cuts)
+    }
+}
+
+// ---- loops
+
+fn is_missing(body: &Body, dimension: usize) -> bool {
+    body.missing.iter().any(|one| *one == dimension)
+}
+
+// What a loop runs over: a variable over what is needed, a loop that a split makes over its numbers.
+fn span_of(
+    alloc: Global,
+    root: &Root<'_>,
+    region: &Region,
+    frame: &Frame,
+    one: &Loop,
+) -> Result<Span1, Stop> {
+    if let Some(variable) = root.stored.subject.variables.get(one.dimension) {
+        if variable.as_str() == one.name.as_str() {
+            return match region.as_slice().get(one.dimension) {
+                Some(span) => Ok(span.copy(alloc)?),
+                None => Err(Stop::Limit),
+            };
+        }
+    }
+    let count = number_named(&frame.numbers, &one.name);
+    Ok(between(alloc, 0, i64::from(count) - 1)?)
+}
+
+fn kind_of(mark: Option<Mark>) -> Kind {
+    match mark {
+        Some(Mark::Unrolled) => Kind::Unroll,
+        Some(Mark::Vectorized) => Kind::Vector,
+        Some(Mark::Parallel) | None => Kind::Serial,
+    }
+}
+
+// The pure loops of a definition that are vectorised, or that are not, the outermost first.
+fn pure_runs(
+    alloc: Global,
+    root: &Root<'_>,
+    region: &Region,
+    frame: &Frame,
+    body: &Body,
+    is_lane: bool,
+) -> Result<Vec<Run>, Stop> {
+    let mut runs = Vec::new(alloc);
+    for one in root.stored.placed.loops.iter().rev() {
+        if !is_missing(body, one.dimension) && (one.mark == Some(Mark::Vectorized)) == is_lane {
+            runs.push(Run {
+                name: one.name,
+                span: span_of(alloc, root, region, frame, one)?,
+                kind: kind_of(one.mark),
+            })?;
+        }
+    }
+    Ok(runs)
+}
+
+// The loops of the reduction, the last variable outermost.
+fn range_runs(alloc: Global, ranges: &[Turning]) -> Result<Vec<Run>, AllocError> {
+    let mut runs = Vec::new(alloc);
+    for range in ranges.iter().rev() {
+        runs.push(Run {
+            name: range.name,
+            span: between(alloc, range.low, range.last)?,
+            kind: range.kind,
+        })?;
+    }
+    Ok(runs)
+}
+
+fn runs_of(
+    alloc: Global,
+    root: &Root<'_>,
+    region: &Region,
+    frame: &Frame,
+    body: &Body,
+) -> Result<Vec<Run>, Stop> {
+    let mut runs = pure_runs(alloc, root, region, frame, body, false)?;
+    let mut ranges = range_runs(alloc, &body.ranges)?;
+    runs.append(&mut ranges)?;
+    let mut lanes = pure_runs(alloc, root, region, frame, body, true)?;
+    runs.append(&mut lanes)?;
+    Ok(runs)
+}
+
+// ---- splits
+
+// The splits of the variable and of what these make, later ones first.
+fn cuts_of(alloc: Global, cuts: &[Split], variable: &Name) -> Result<Vec<Split>, AllocError> {
+    let mut names = Vec::new(alloc);
+    names.push(*variable)?;
+    let mut found = Vec::new(alloc);
+    for cut in cuts {
+        if names.iter().any(|name| name.as_str() == cut.whole.as_str()) {
+            found.push(*cut)?;
+            names.push(cut.outer)?;
+            names.push(cut.inner)?;
+        }
+    }
+    found.reverse();
+    Ok(found)
+}
+
+// Those of the variables that the definition has.
+fn body_cuts(alloc: Global, root: &Root<'_>, body: &Body) -> Result<Vec<Split>, AllocError> {
+    let mut found = Vec::new(alloc);
+    for (dimension, variable) in root.stored.subject.variables.iter().enumerate() {
+        if !is_missing(body, dimension) {
+            let mut own = cuts_of(alloc, &root.stored.placed.cuts, variable)?;
+            found.append(&mut own)?;
+        }
+    }
+    Ok(found)
+}
+
+// ---- nests
+
+fn copied(alloc: Global, form: Option<&Lin>) -> Result<Option<Lin>, AllocError> {
+    match form {
+        Some(form) => Ok(Some(form.copy(alloc)?)),
+        None => Ok(None),
+    }
+}
+
+fn variables_at(
+    alloc: Global,
+    root: &Root<'_>,
+    body: &Body,
+    known: &[Known],
+) -> Result<Vec<Option<Lin>>, AllocError> {
+    let mut at = Vec::new(alloc);
+    for (dimension, variable) in root.stored.subject.variables.iter().enumerate() {
+        let form = if is_missing(body, dimension) {
+            None
+        } else {
+            form_named(known, variable)
+        };
+        at.push(copied(alloc, form)?)?;
+    }
+    Ok(at)
+}
+
+fn ranges_at(
+    alloc: Global,
+    ranges: &[Turning],
+    known: &[Known],
+) -> Result<Vec<Option<Lin>>, AllocError> {
+    let mut at = Vec::new(alloc);
+    for range in ranges {
+        at.push(copied(alloc, form_named(known, &range.name))?)?;
+    }
+    Ok(at)
+}
+
+fn nest_over(
+    alloc: Global,
+    root: &Root<'_>,
+    scope: &Scope,
+    region: &Region,
+    body: &Body,
+) -> Result<Nest, Stop> {
+    let mut frame = frame_of(alloc, root, scope, region)?;
+    let cuts = body_cuts(alloc, root, body)?;
+    let steps = mem::replace(&mut frame.lets, Vec::new(alloc));
+    let mut standing = Standing {
+        known: Vec::new(alloc),
+        starts: Vec::new(alloc),
+        bound: Vec::new(alloc),
+        next: scope.len().saturating_add(steps.len()),
+        steps,
+    };
+    for run in runs_of(alloc, root, region, &frame, body)? {
+        standing.turn(alloc, &frame, &cuts, run)?;
+    }
+    let mut at = variables_at(alloc, root, body, &standing.known)?;
+    let mut ranges = ranges_at(alloc, &body.ranges, &standing.known)?;
+    at.append(&mut ranges)?;
+    Ok(Nest {
+        steps: standing.steps,
+        at,
+    })
+}
+
+/// The nests of a function's definitions over a region, in which the symbols are numbered from those of the scope on.
+pub(crate) fn nests_over(
+    alloc: Global,
+    root: &Root<'_>,
+    scope: &Scope,
+    region: &Region,
+) -> Result<Vec<Nest>, Stop> {
+    let mut nests = Vec::new(alloc);
+    for body in bodies(alloc, root.stored, root.formulas)? {
+        nests.push(nest_over(alloc, root, scope, region, &body)?)?;
+    }
+    Ok(nests)
+}
+
+// ---- short blocks
+
+// The fewest numbers that a dimension has in one turn; none where bounds do not tell it.
+fn least_of(alloc: Global, scope: &Scope, span: &Span1) -> Result<Option<i64>, AllocError> {
+    let mut least: Option<i64> = None;
+    for low in span.lower.as_slice() {
+        match least_from(alloc, scope, low, span.upper.as_slice())? {
+            Some(count) => {
+                least = Some(match least {
+                    Some(known) => known.min(count),
+                    None => count,
+                });
+            }
+            None => return Ok(None),
+        }
+    }
+    Ok(least)
+}
+
+fn least_from(
+    alloc: Global,
+    scope: &Scope,
+    low: &Lin,
+    upper: &[Lin],
+) -> Result<Option<i64>, AllocError> {
+    let mut least: Option<i64> = None;
+    for high in upper {
+        let Some(most) = scope.sup_of_difference(alloc, low, high)? else {
+            return Ok(None);
+        };
+        let count = 1_i64.saturating_sub(most);
+        least = Some(match least {
+            Some(known) => known.min(count),
+            None => count,
+        });
+    }
+    Ok(least)
+}
+
+// Whether the variable's loop is split with `shift` into blocks of more numbers than some turn has.
+fn is_short(cuts: &[Split], variable: &Name, least: Option<i64>) -> bool {
+    cuts.iter().any(|cut| cut.tail == Tail::Shift
+        && cut.whole.as_str() == variable.as_str()
+        && match least {
+            Some(count) => count < i64::from(cut.factor),
+            None => true,
+        })
+}
+
+// The same of the loops that splits make.
+fn has_short_half(numbers: &[Numbers], cuts: &[Split], variables: &[Name]) -> bool {
+    cuts.iter().any(|cut| cut.tail == Tail::Shift
+        && !variables
+            .iter()
+            .any(|name| name.as_str() == cut.whole.as_str())
+        && number_named(numbers, &cut.whole) < cut.factor)
+}
+
+/// Whether in some turn a loop that is split with `shift` has fewer numbers than a block.
+pub(crate) fn has_short_turn(
+    alloc: Global,
+    root: &Root<'_>,
+    scope: &Scope,
+    region: &Region,
+) -> Result<bool, Stop> {
+    let cuts = &root.stored.placed.cuts;
+    let variables = &root.stored.subject.variables;
+    for (variable, span) in variables.iter().zip(region.as_slice().iter()) {
+        if is_short(cuts, variable, least_of(alloc, scope, span)?) {
+            return Ok(true);
+        }
+    }
+    let extents = extents_of(alloc, scope, region)?;
+    let numbers = loop_numbers(alloc, variables, cuts, &extents)?;
+    Ok(has_short_half(&numbers, cuts, variables))
+}
