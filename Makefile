@@ -14,19 +14,26 @@ out/stencil: $(SOURCES)
 	cp crates/stencil/out/stencil $@
 	@echo "the proved program is $@"
 
-# A first picture: checks a plan of the shipped 3x3 blur and runs it. This builds the program without its proofs, with
-# checks while it runs instead; `make` proves it. Where the proved program stands already, that one runs.
+# A first picture: compiles a schedule of the shipped 3x3 blur to a plan, checks the plan and runs it. This builds the program
+# without its proofs, with checks while it runs instead; `make` proves it. Where the proved program stands already, that one runs.
 run: out/blur3.pgm
-	@echo "the picture is in out/blur3.pgm"
+	@echo "the picture is in out/blur3.pgm, the plan in out/blur3.plan"
+
+FIRST := compile $(CURDIR)/examples/blur3.alg $(CURDIR)/examples/blur3-tiles.sched $(CURDIR)/out/blur3.plan
+SECOND := check $(CURDIR)/examples/blur3.alg $(CURDIR)/out/blur3.plan
+THIRD := run $(CURDIR)/examples/blur3.alg $(CURDIR)/out/blur3.plan $(CURDIR)/examples/shapes.pgm $(CURDIR)/out/blur3.pgm
 
 out/blur3.pgm: $(SOURCES)
 	@mkdir -p out
 	@if [ -x out/stencil ]; then \
-	  out/stencil check examples/blur3.alg examples/blur3.plan && \
-	  out/stencil run examples/blur3.alg examples/blur3.plan examples/shapes.pgm $@; \
+	  out/stencil $(FIRST) && out/stencil $(SECOND) && out/stencil $(THIRD); \
 	else \
-	  echo "building without proofs: about two minutes"; cd crates/stencil && \
-	  rt try -- run $(CURDIR)/examples/blur3.alg $(CURDIR)/examples/blur3.plan $(CURDIR)/examples/shapes.pgm $(CURDIR)/$@; \
+	  echo "building without proofs: about two minutes"; \
+	  rm -rf out/first $@; mkdir out/first; touch out/first/1-compile out/first/2-check out/first/3-run; \
+	  printf '%s\n' $(FIRST) > out/first/1-compile.args; \
+	  printf '%s\n' $(SECOND) > out/first/2-check.args; \
+	  printf '%s\n' $(THIRD) > out/first/3-run.args; \
+	  cd crates/stencil && rt try --cases $(CURDIR)/out/first && test -f $(CURDIR)/$@; \
 	fi
 
 # The gate: in a copy of the files that git knows, proves every crate from nothing, tries the wrong bodies that must-fail.txt
@@ -39,13 +46,15 @@ test:
 	RT_JOBS=$${RT_JOBS:-$$(nproc)} rt ci; \
 	python3 tests/run.py crates/stencil/out/stencil; \
 	python3 tests/schedules.py crates/stencil/out/stencil; \
+	python3 tests/schedules.py crates/stencil/out/stencil --placing; \
 	python3 tests/pages.py crates/stencil/out/stencil
 
 # How long the proved program takes for `check` and `run` of plans with a piece a row, and for `plain`; and for `check` of plans
-# that are long, or have many pieces or cells.
+# that are long, or have many pieces or cells; and for `run` of one plan by 1, 2, 4 and 64 workers.
 bench: out/stencil
 	python3 bench/rows.py out/stencil
 	python3 bench/checks.py out/stencil
+	python3 bench/workers.py out/stencil
 
 # Tries every wrong body. It takes some hours.
 wrong-bodies:
