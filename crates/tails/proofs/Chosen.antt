@@ -1,6 +1,6 @@
 -- One step of several, and what comes of an answer that is there.
 use Rattle.std.proofs.Common.{◌≡◌, Bool, true, false, List, [], ◌∷◌, Option, Some, None, refl, sym, ap, ◌∙◌, subst, inl, inr}
-use Rattle.std.specs.Prelude.{◌||◌, ◌⊎◌, if◌then◌else◌, option_and_then}
+use Rattle.std.specs.Prelude.{◌||◌, ◌&&◌, ◌⊎◌, not, if◌then◌else◌, option_and_then}
 use Rattle.std.specs.List.{AllByRecursion, list_any}
 use Rattle.std.specs.Option.{option_map}
 use Rattle.lin.specs.Forms.{Form}
@@ -8,9 +8,9 @@ use Rattle.lin.specs.declared.span.Span1.{Span1}
 use Rattle.plan.specs.Symbols.{Symbols}
 use Rattle.plan.specs.Semantics.Setting.{or_else}
 use Rattle.soundness.specs.Claims.{In}
-use Rattle.soundness.specs.Obligations.{Binder, Ranged, Picked, Passed, Respects}
+use Rattle.soundness.specs.Obligations.{Binder, Ranged, Picked, Passed, Respects, span_has}
 use Rattle.soundness.proofs.Turns.{in_map}
-use Rattle.tails.specs.Moves.{Choice, behind, choices, first_some, only, span_from, Ready, is_free_loop, lower_factor, ready, preferred, best, is_before, is_single}
+use Rattle.tails.specs.Moves.{Choice, behind, choices, first_some, only, span_from, Ready, is_free_loop, lower_factor, ready, preferred, best, is_before, is_single, State, opened, is_free_let, after_idle, after_let}
 
 pub and_then_parts : {A B : Type 0} (f : A → Option B) (a : Option A) (z : B) → option_and_then f a ≡ Some z → (x : A) × (a ≡ Some x) × (f x ≡ Some z)
 and_then_parts f None z e = absurd (cc e)
@@ -137,3 +137,20 @@ best_parts ys (c ∷ cs) r e = of (preferred_parts (ready ys c.one c.others) (be
     of : (ready ys c.one c.others ≡ Some r) ⊎ (best ys cs ≡ Some r) → (best ys cs ≡ Some r → (d : Choice) × In d cs × (ready ys d.one d.others ≡ Some r)) → (d : Choice) × In d (c ∷ cs) × (ready ys d.one d.others ≡ Some r)
     of (inl k) rest = (c, inl refl, k)
     of (inr k) rest = let q = rest k in (q.0, inr q.1, q.2)
+
+-- ---- a let that nothing names
+
+idle_case : (v w : Bool) (o : Option (List Span1)) (others : List Binder) (ys : List Span1) (later : State) →
+    (if v && not w then Some (record { steps = others; spans = ys }) else None) ≡ Some later →
+    (if v then option_map (λ zs. record { steps = others; spans = zs }) (if w then o else Some ys) else None) ≡ Some later
+idle_case true true o others ys later e = absurd (cc e)
+idle_case true false o others ys later e = e
+idle_case false w o others ys later e = absurd (cc e)
+
+-- it is one that may be taken
+pub idle_is_let : (exact : Bool) (shows : Form → Form → Bool) (ys : List Span1) (b : Binder) (others : List Binder) (later : State) → after_idle ys b others ≡ Some later →
+    after_let exact shows ys b others ≡ Some later
+idle_is_let exact shows ys (Picked i pick ls) others later e =
+    idle_case (is_free_let exact shows i ls others) (list_any (span_has i) ys) (if exact then None else opened exact shows i pick ls ys) others ys later e
+idle_is_let exact shows ys (Ranged i x) others later e = absurd (cc e)
+idle_is_let exact shows ys (Passed low high) others later e = absurd (cc e)

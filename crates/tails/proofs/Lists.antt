@@ -12,7 +12,7 @@ use Rattle.std.proofs.lemmas.Bool.Decides.{nat_tests}
 use Rattle.soundness.specs.Obligations.{Binder, Ranged, Picked, Passed}
 use Rattle.plan.specs.Semantics.Setting.{or_else}
 use Rattle.tails.specs.declared.pending.Pending.{Pending}
-use Rattle.tails.specs.Moves.{Choice, choices, behind, first_some, State, after_guard, after_let, by_guard, by_let, is_free_let, without_let, next, run}
+use Rattle.tails.specs.Moves.{Choice, choices, behind, first_some, State, is_idle, after_idle, by_idle, after_guard, after_let, by_guard, by_let, is_free_let, without_let, next, run}
 use Rattle.tails.specs.Held.{pending_of, pendings_of, others_at, guard_spans, let_spans}
 
 or_assoc : (a b c : Bool) → (a || (b || c)) ≡ ((a || b) || c)
@@ -138,6 +138,34 @@ module _ (exact : Bool) (shows : Form → Form → Bool) (ys : List Span1) where
 
   pub lets_end : (xs : List Pending) (k : ℕ) → length xs ≤ k → None ≡ lets_from xs k
   lets_end xs k h = sym (ap (first_some (λ (c : Choice). after_let exact shows ys c.one c.others)) (choices_end xs k h (pendings_of (take k xs))))
+
+module _ (ys : List Span1) where
+  abbrev idle : Choice → Option State
+  idle c = after_idle ys c.one c.others
+
+  abbrev pub idles_from : List Pending → ℕ → Option State
+  idles_from xs k = first_some idle (choices_from (pendings_of (take k xs)) (pendings_of (drop k xs)))
+
+  pub idles_all : (xs : List Pending) → idles_from xs 0 ≡ by_idle (record { steps = pendings_of xs; spans = ys })
+  idles_all xs = ap (first_some idle) (from_all (pendings_of xs))
+
+  abbrev gone : List Pending → ℕ → Bool → Option State
+  gone xs k v = if v then Some (record { steps = others_at xs k; spans = ys }) else None
+
+  pub idles_more : (xs : List Pending) (k : ℕ) (x : Pending) → k < length xs → x ≡ get_or xs k x → false ≡ is_idle ys (pending_of x) (others_at xs k) →
+      idles_from xs (k + 1) ≡ idles_from xs k
+  idles_more xs k x h is none =
+      sym (ap (first_some idle) (choice_next xs k x h is)
+      ∙ some_first idle (chosen (pending_of x) (others_at xs k)) (choices_from (pendings_of (take (k + 1) xs)) (pendings_of (drop (k + 1) xs))) (ap (gone xs k) (sym none)))
+
+  pub idles_here : (xs : List Pending) (k : ℕ) (x : Pending) → k < length xs → x ≡ get_or xs k x → true ≡ is_idle ys (pending_of x) (others_at xs k) →
+      Some (record { steps = others_at xs k; spans = ys }) ≡ idles_from xs k
+  idles_here xs k x h is said =
+      sym (ap (first_some idle) (choice_next xs k x h is)
+      ∙ ap (λ v. or_else (gone xs k v) (first_some idle (choices_from (pendings_of (take (k + 1) xs)) (pendings_of (drop (k + 1) xs))))) (sym said))
+
+  pub idles_end : (xs : List Pending) (k : ℕ) → length xs ≤ k → None ≡ idles_from xs k
+  idles_end xs k h = sym (ap (first_some idle) (choices_end xs k h (pendings_of (take k xs))))
 
 -- ---- steps taken one after another
 

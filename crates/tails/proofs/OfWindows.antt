@@ -1,7 +1,7 @@
 pub mod Back
-mod Beside
-mod Computed
+pub mod Beside
+pub mod Computed
 pub mod Loops
 pub mod Parts
-mod Sliding
+pub mod Sliding
 pub mod Turns

@@ -17,10 +17,10 @@ use Rattle.soundness.specs.Nests.Tests.{has_ends}
 use Rattle.soundness.proofs.Forms.{respects_on, picked_same, is_not}
 use Rattle.soundness.proofs.Refines.{and_parts, eq_true}
 use Rattle.tails.specs.Steps.{binder, along, binds, Keeps}
-use Rattle.tails.specs.Moves.{Choice, choices, is_loose, paired, State, is_free_loop, best, taken, after_loop, by_loop, without_let, is_free_let, after_let, by_let, after_guard, by_guard, next, ended, run, spans_over}
+use Rattle.tails.specs.Moves.{Choice, choices, is_loose, paired, State, is_free_loop, best, taken, after_loop, by_loop, without_let, is_free_let, after_idle, by_idle, after_let, by_let, after_guard, by_guard, next, ended, run, spans_over}
 use Rattle.tails.specs.Maps.{is_scoped, is_some}
 use Rattle.tails.specs.Laws.{point_at, EachIsOnce}
-use Rattle.tails.proofs.Chosen.{and_then_parts, map_parts, if_parts, some_same, or_else_parts, first_some_parts, Split, split_of, ready_parts, best_parts}
+use Rattle.tails.proofs.Chosen.{and_then_parts, map_parts, if_parts, some_same, or_else_parts, first_some_parts, idle_is_let, Split, split_of, ready_parts, best_parts}
 use Rattle.tails.proofs.Values.{Beside, bind_beside, bind_here}
 use Rattle.tails.proofs.Loops.{turns_within, turns_free, turns_fixed, lie_beside}
 use Rattle.tails.proofs.Reaching.{none_left}
@@ -139,16 +139,25 @@ module _ (shows : Form → Form → Bool) (p : List ℤ) where
       let c = first_some_parts (λ (c : Choice). after_guard true shows st.spans c.one c.others) (choices st.steps) later e in
       after_guard_fixed st.steps st.spans c.0.one c.0.others later (split_of c.0 st.steps c.1) c.2 fixed
 
-  next_fixed : (st later : State) → next true shows st ≡ Some later → Fixed later.steps later.spans → Fixed st.steps st.spans
-  next_fixed st later e fixed = of (or_else_parts (by_guard true shows st) (or_else (by_loop true shows st) (by_let true shows st)) later e)
-    where
-      on : (by_loop true shows st ≡ Some later) ⊎ (by_let true shows st ≡ Some later) → Fixed st.steps st.spans
-      on (inl k) = by_loop_fixed st later k fixed
-      on (inr k) = by_let_fixed st later k fixed
+  by_idle_fixed : (st later : State) → by_idle st ≡ Some later → Fixed later.steps later.spans → Fixed st.steps st.spans
+  by_idle_fixed st later e fixed =
+      let c = first_some_parts (λ (c : Choice). after_idle st.spans c.one c.others) (choices st.steps) later e in
+      after_let_fixed st.steps st.spans c.0.one c.0.others later (split_of c.0 st.steps c.1) (idle_is_let true shows st.spans c.0.one c.0.others later c.2) fixed
 
-      of : (by_guard true shows st ≡ Some later) ⊎ (or_else (by_loop true shows st) (by_let true shows st) ≡ Some later) → Fixed st.steps st.spans
+  next_fixed : (st later : State) → next true shows st ≡ Some later → Fixed later.steps later.spans → Fixed st.steps st.spans
+  next_fixed st later e fixed = of (or_else_parts (by_guard true shows st) (or_else (by_idle st) (or_else (by_loop true shows st) (by_let true shows st))) later e)
+    where
+      last : (by_loop true shows st ≡ Some later) ⊎ (by_let true shows st ≡ Some later) → Fixed st.steps st.spans
+      last (inl k) = by_loop_fixed st later k fixed
+      last (inr k) = by_let_fixed st later k fixed
+
+      on : (by_idle st ≡ Some later) ⊎ (or_else (by_loop true shows st) (by_let true shows st) ≡ Some later) → Fixed st.steps st.spans
+      on (inl k) = by_idle_fixed st later k fixed
+      on (inr k) = last (or_else_parts (by_loop true shows st) (by_let true shows st) later k)
+
+      of : (by_guard true shows st ≡ Some later) ⊎ (or_else (by_idle st) (or_else (by_loop true shows st) (by_let true shows st)) ≡ Some later) → Fixed st.steps st.spans
       of (inl k) = by_guard_fixed st later k fixed
-      of (inr k) = on (or_else_parts (by_loop true shows st) (by_let true shows st) later k)
+      of (inr k) = on (or_else_parts (by_idle st) (or_else (by_loop true shows st) (by_let true shows st)) later k)
 
   ended_fixed : (st : State) (onward : State → Option (List Span1)) (zs : List Span1) → ((later : State) → onward later ≡ Some zs → Fixed later.steps later.spans) → ended true shows st onward ≡ Some zs → Fixed st.steps st.spans
   ended_fixed st onward zs rest e = of (is_empty st.steps) refl e

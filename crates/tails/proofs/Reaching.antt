@@ -16,9 +16,9 @@ use Rattle.soundness.proofs.Forms.{respects_on, lies_on, picked_same, is_not}
 use Rattle.soundness.proofs.Refines.{and_parts}
 use Rattle.soundness.proofs.Sound.{or_left, or_right}
 use Rattle.tails.specs.Steps.{along, binds, Keeps}
-use Rattle.tails.specs.Moves.{Choice, choices, is_loose, is_outer, paired, State, is_free_loop, best, taken, after_loop, by_loop, opened, without_let, is_free_let, after_let, by_let, bounded, under_guard, after_guard, by_guard, next, ended, run}
+use Rattle.tails.specs.Moves.{Choice, choices, is_loose, is_outer, paired, State, is_free_loop, best, taken, after_loop, by_loop, opened, without_let, is_free_let, after_idle, by_idle, after_let, by_let, bounded, under_guard, after_guard, by_guard, next, ended, run}
 use Rattle.tails.specs.Laws.{point_at, ReachedIsVisited}
-use Rattle.tails.proofs.Chosen.{and_then_parts, map_parts, if_parts, some_same, or_else_parts, first_some_parts, Split, split_of, ready_parts, best_parts}
+use Rattle.tails.proofs.Chosen.{and_then_parts, map_parts, if_parts, some_same, or_else_parts, first_some_parts, idle_is_let, Split, split_of, ready_parts, best_parts}
 use Rattle.tails.proofs.Values.{bind_beside, bind_here}
 use Rattle.tails.proofs.Loops.{turns_met, lie_beside}
 use Rattle.tails.proofs.Lets.{let_met, outer_value, guard_met}
@@ -130,16 +130,25 @@ module _ (shows : Form → Form → Bool) (s : Symbols) (p : List ℤ) (shown : 
       let c = first_some_parts (λ (c : Choice). after_guard false shows st.spans c.one c.others) (choices st.steps) later e in
       guard_back st.steps st.spans c.0.one c.0.others later (split_of c.0 st.steps c.1) c.2 found
 
-  next_back : (st later : State) → next false shows st ≡ Some later → Found later.steps later.spans → Found st.steps st.spans
-  next_back st later e found = of (or_else_parts (by_guard false shows st) (or_else (by_loop false shows st) (by_let false shows st)) later e)
-    where
-      on : (by_loop false shows st ≡ Some later) ⊎ (by_let false shows st ≡ Some later) → Found st.steps st.spans
-      on (inl k) = by_loop_back st later k found
-      on (inr k) = by_let_back st later k found
+  by_idle_back : (st later : State) → by_idle st ≡ Some later → Found later.steps later.spans → Found st.steps st.spans
+  by_idle_back st later e found =
+      let c = first_some_parts (λ (c : Choice). after_idle st.spans c.one c.others) (choices st.steps) later e in
+      after_let_back st.steps st.spans c.0.one c.0.others later (split_of c.0 st.steps c.1) (idle_is_let false shows st.spans c.0.one c.0.others later c.2) found
 
-      of : (by_guard false shows st ≡ Some later) ⊎ (or_else (by_loop false shows st) (by_let false shows st) ≡ Some later) → Found st.steps st.spans
+  next_back : (st later : State) → next false shows st ≡ Some later → Found later.steps later.spans → Found st.steps st.spans
+  next_back st later e found = of (or_else_parts (by_guard false shows st) (or_else (by_idle st) (or_else (by_loop false shows st) (by_let false shows st))) later e)
+    where
+      last : (by_loop false shows st ≡ Some later) ⊎ (by_let false shows st ≡ Some later) → Found st.steps st.spans
+      last (inl k) = by_loop_back st later k found
+      last (inr k) = by_let_back st later k found
+
+      on : (by_idle st ≡ Some later) ⊎ (or_else (by_loop false shows st) (by_let false shows st) ≡ Some later) → Found st.steps st.spans
+      on (inl k) = by_idle_back st later k found
+      on (inr k) = last (or_else_parts (by_loop false shows st) (by_let false shows st) later k)
+
+      of : (by_guard false shows st ≡ Some later) ⊎ (or_else (by_idle st) (or_else (by_loop false shows st) (by_let false shows st)) ≡ Some later) → Found st.steps st.spans
       of (inl k) = by_guard_back st later k found
-      of (inr k) = on (or_else_parts (by_loop false shows st) (by_let false shows st) later k)
+      of (inr k) = on (or_else_parts (by_idle st) (or_else (by_loop false shows st) (by_let false shows st)) later k)
 
   ended_back : (st : State) (onward : State → Option (List Span1)) (zs : List Span1) → ((later : State) → onward later ≡ Some zs → Found later.steps later.spans) → LieIn s zs p → ended false shows st onward ≡ Some zs → Found st.steps st.spans
   ended_back st onward zs rest l e = of (is_empty st.steps) refl e

@@ -153,6 +153,19 @@ abbrev pub best : List Span1 → List Choice → Option Ready
 best ys [] = None
 best ys (c ∷ cs) = preferred (ready ys c.one c.others) (best ys cs)
 
+-- a let that no other step and no coordinate names
+abbrev pub is_idle : List Span1 → Binder → List Binder → Bool
+is_idle ys (Picked i pick ls) others = (is_loose i others && (not (list_any (form_has i) ls) && not (is_empty ls))) && not (list_any (span_has i) ys)
+is_idle ys (Ranged i x) others = false
+is_idle ys (Passed low high) others = false
+
+abbrev pub after_idle : List Span1 → Binder → List Binder → Option State
+after_idle ys b others = if is_idle ys b others then Some (record { steps = others; spans = ys }) else None
+
+-- it is gone first, since it may name a loop that a coordinate names too
+abbrev pub by_idle : State → Option State
+by_idle st = first_some (λ (c : Choice). after_idle st.spans c.one c.others) (choices st.steps)
+
 -- `exact` where no number may be met twice; `shows` says which forms are shown to be at most which, whatever the symbols around
 -- the steps stand for
 module _ (exact : Bool) (shows : Form → Form → Bool) where
@@ -254,7 +267,7 @@ module _ (exact : Bool) (shows : Form → Form → Bool) where
   -- ---- all moves
 
   abbrev pub next : State → Option State
-  next st = or_else (by_guard st) (or_else (by_loop st) (by_let st))
+  next st = or_else (by_guard st) (or_else (by_idle st) (or_else (by_loop st) (by_let st)))
 
   -- the spans when all steps are taken, of at most so many
   abbrev pub ended : State → (State → Option (List Span1)) → Option (List Span1)

@@ -2,16 +2,16 @@
 
 ghost use Rattle.std.specs.Prelude.{◌≡◌, ◌<◌, length, false, IfOk, Some};
 ghost use Rattle.std.specs.Option.{option_map};
-ghost use Rattle.tails.specs.Moves.{by_guard, by_let, by_loop, next, run};
+ghost use Rattle.tails.specs.Moves.{by_guard, by_idle, by_let, by_loop, next, run};
 ghost use Rattle.tails.specs.Held.{others_at, pendings_of};
 ghost use Rattle.tails.specs.States.{state_of};
 
 use crate::choosing::best;
 use crate::guards::guard_spans;
-use crate::naming::let_spans;
+use crate::naming::{is_idle, let_spans};
 use crate::pending::{Pending, others_of};
 use crate::shown::Shows;
-use crate::spans::Spans;
+use crate::spans::{self, Spans};
 use crate::turns::taken;
 use std::alloc::{AllocError, Global};
 
@@ -107,6 +107,22 @@ fn by_loop<'a>(
     }
 }
 
+/// The state when a name is gone that nothing has, the innermost of them.
+#[tactic(auto, using(crate::proofs::Lists::idles_all, crate::proofs::Lists::idles_more, crate::proofs::Lists::idles_here, crate::proofs::Lists::idles_end))]
+fn by_idle<'a>(alloc: Global, state: &State<'a>) -> Result<Option<State<'a>>, AllocError>
+    ensures { IfOk result (λ later. option_map state_of later ≡ by_idle (state_of state.now)) }
+{
+    let steps = state.steps.as_slice();
+    for k in 0..steps.len() {
+        let others = others_of(steps, k);
+        let spans = state.spans.as_slice();
+        if is_idle(spans, &steps[k], &others) {
+            return onward(alloc, steps, k, spans::copied(alloc, spans)?);
+        }
+    }
+    Ok(None)
+}
+
 /// The state when a name is taken, the innermost that may be.
 #[tactic(auto, using(crate::proofs::Lists::lets_all, crate::proofs::Lists::lets_more, crate::proofs::Lists::lets_here, crate::proofs::Lists::lets_end))]
 fn by_let<'a>(
@@ -138,6 +154,9 @@ fn next<'a, S: Shows>(
     ensures { IfOk result (λ later. option_map state_of later ≡ next exact (S.shows shows.now) (state_of state.now)) }
 {
     if let Some(later) = by_guard(alloc, exact, shows, state)? {
+        return Ok(Some(later));
+    }
+    if let Some(later) = by_idle(alloc, state)? {
         return Ok(Some(later));
     }
     if let Some(later) = by_loop(alloc, exact, state)? {

@@ -1,7 +1,7 @@
 //! Names that are opened: the smallest or largest of some forms.
 
 ghost use Rattle.std.specs.Prelude.{◌≡◌, false, IfOk};
-ghost use Rattle.tails.specs.Moves.{above, below, expanded, is_free_let, opened, span_from, without_let};
+ghost use Rattle.tails.specs.Moves.{above, below, expanded, is_free_let, is_idle, opened, span_from, without_let};
 ghost use Rattle.tails.specs.Held.{let_spans, others_of, pending_of};
 
 use crate::forms::expanded;
@@ -137,5 +137,17 @@ pub(crate) fn let_spans(
             }
         }
         Pending::Ranged { .. } | Pending::Passed { .. } => Ok(None),
+    }
+}
+
+/// Whether the step gives a name that no other step and no span has.
+pub(crate) fn is_idle(spans: &[Span1], step: &Pending<'_>, others: &Others<'_, '_>) -> bool
+    ensures { result ≡ is_idle spans.now (pending_of step.now) (others_of others.now) }
+{
+    match step {
+        Pending::Picked { symbol, forms, .. } => {
+            is_free_let(*symbol, forms, others) && !spans_have(*symbol, spans)
+        }
+        Pending::Ranged { .. } | Pending::Passed { .. } => false,
     }
 }

@@ -1,5 +1,6 @@
 //! Windows: rows that a buffer holds along a loop, and claims that are made along them.
 
+mod folded;
 mod held;
 mod holding;
 mod inner;

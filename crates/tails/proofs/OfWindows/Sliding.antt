@@ -18,7 +18,7 @@ use Rattle.soundness.specs.Origins.{Given}
 use Rattle.soundness.specs.Claims.{In, written, ClearOf, status_after}
 use Rattle.soundness.specs.Around.{Binder, Respects, Lies, LieIn, binds, inside}
 use Rattle.soundness.specs.Sliding.{IsTurnBefore, IsSliding}
-use Rattle.soundness.specs.Obligations.{Rules, Suited, exactly}
+use Rattle.soundness.specs.Obligations.{Rules, Suited, Made, MeantAt, exactly}
 use Rattle.soundness.specs.Shown.{is_seated}
 use Rattle.soundness.specs.Nests.Tests.{has_ends}
 use Rattle.soundness.proofs.Folds.{Near, near_apart}
@@ -39,7 +39,7 @@ use Rattle.tails.proofs.Storing.{IsPureStore, IsStoring, line_pure, line_stores,
 use Rattle.tails.proofs.Walk.{respects_back, any_forward}
 use Rattle.tails.specs.Windows.Spans.{is_rising_form, is_rising, is_window}
 use Rattle.tails.specs.Windows.Arms.{row_above, rows_from, region_with, is_fold_of, is_still, is_here, one_less, are_together, hold, is_axis, is_along}
-use Rattle.tails.specs.Windows.Arms.{others_stay, makes_all, reaches_above, reaches_new, makes_new, one_stays, arm, arms_stay, is_slid, is_held}
+use Rattle.tails.specs.Windows.Arms.{others_stay, makes_all, reaches_above, reaches_new, makes_new, one_stays, makes_folded, arm, arms_stay, is_slid, is_held}
 use Rattle.tails.specs.Windows.Laws.{SlidIsMeant}
 use Rattle.tails.proofs.OfWindows.Back.{IsBack, IsBackOf, back}
 use Rattle.tails.proofs.OfWindows.Turns.{any_found, within_places, next_value, rises, still_lies}
@@ -304,6 +304,13 @@ module _ (given : Given) (rules : Rules) (suited : Suited given rules) (none : (
         does = arm_does given rules suited bs s r K places d (spine_of a K.buffer) (actions G a) (way G K.buffer K.function a) (back G K.buffer a) n e k.0 one;
         all = k.1;
       }
+
+  -- a nest that makes the region with no window
+  pub folded_meant : (a : Statement) → makes_folded rules bs K places (arm G K a) ≡ true → MeantAt given (Made c None places a) s
+  folded_meant a h =
+      let k = and_parts (makes_all rules bs K.region places 0 (arm G K a)) (one_stays rules bs K.region places 0 (arm G K a)) h in
+      let n = first_arm 0 a (arm G K a) refl k.0 k.1 in
+      λ p m. (makes_point n.stored (actions G a s) n.does None p (n.does.reaches K.region n.all p (region_lies s K.region p m)), is_clear n.stored (actions G a s) n.does p m)
 
   -- a later one's
   pub record IsLater (i d : ℕ) (todo : List Action) : Type 0 where

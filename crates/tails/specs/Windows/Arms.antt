@@ -150,3 +150,8 @@ module _ (setting : Setting) (rules : Rules) (bs : List Binder) (claim : Claim) 
   abbrev pub is_held : Window → Statement → Bool
   is_held w a =
       is_window rules bs w.symbol w.fold w.span && (is_along rules bs w w.dimension claim.region places && arms_stay w.dimension a)
+
+-- without a window: a nest makes the claim's region in a buffer that may be folded, and what it stores leaves the places of the region's
+-- points alone, in the first dimension and in all others
+abbrev pub makes_folded : Rules → List Binder → Claim → List Places → Option Stored → Bool
+makes_folded rules bs claim places o = makes_all rules bs claim.region places 0 o && one_stays rules bs claim.region places 0 o

@@ -134,7 +134,7 @@ fn is_along<B: Bounds>(
 }
 
 /// Whether what the statement stores leaves the places of the claim's region alone in one dimension.
-fn one_stays<B: Bounds>(
+pub(crate) fn one_stays<B: Bounds>(
     alloc: Global,
     bounds: &B,
     outlined: &Outlined<'_>,

@@ -1,6 +1,7 @@
-//! The tests that a claim is made along a window, beside other tests of nests.
+//! The tests that a claim is made in a folded buffer, or along a window, beside other tests of nests.
 
 use crate::nests::{claim_in, no_claim};
+use crate::windows::folded::folded_by;
 use crate::windows::held::is_held;
 use crate::windows::slid::is_slid;
 use plan::{Places, Stmt, certificate};
@@ -8,8 +9,8 @@ use soundness::binders::{Binder, Bounds, NestTests};
 use soundness::outline::Outlined;
 use std::alloc::{AllocError, Global};
 
-/// Other tests of nests, and the tests that a statement makes a claim along a window and that the window's buffer holds its rows, in a
-/// group of a plan.
+/// Other tests of nests, and the tests that a statement makes a claim in a folded buffer, that it makes one along a window, and that the
+/// window's buffer holds its rows, in a group of a plan.
 #[derive(Drop)]
 pub struct SlidNests<'a, B: Bounds, N: NestTests> {
     pub outlined: &'a Outlined<'a>,
@@ -32,7 +33,24 @@ impl<B: Bounds, N: NestTests> NestTests for SlidNests<'_, B, N> {
         places: &[Places],
         by: &Stmt,
     ) -> Result<bool, AllocError> {
-        self.others.is_made(alloc, binders, claim, from, places, by)
+        if self
+            .others
+            .is_made(alloc, binders, claim, from, places, by)?
+        {
+            return Ok(true);
+        }
+        let unknown = no_claim(alloc);
+        let claim = claim_in(self.outlined, &unknown, claim);
+        folded_by(
+            alloc,
+            self.bounds,
+            self.outlined,
+            binders,
+            claim,
+            from,
+            places,
+            by,
+        )
     }
 
     fn is_in_turn(

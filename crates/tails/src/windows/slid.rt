@@ -52,7 +52,7 @@ fn others_stay<B: Bounds>(
 }
 
 /// Whether the statement makes the claim's region, and in all dimensions but one leaves its places alone.
-fn makes_all<B: Bounds>(
+pub(crate) fn makes_all<B: Bounds>(
     alloc: Global,
     bounds: &B,
     outlined: &Outlined<'_>,
