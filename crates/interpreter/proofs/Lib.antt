@@ -16,3 +16,12 @@ pub mod Steps
 pub mod Storing
 pub mod Summing
 pub mod GridPoints
+pub mod Moving
+pub mod Buts
+pub mod StoreTurns
+pub mod Each
+pub mod FoundRuns
+pub mod Ramps
+pub mod Aside
+pub mod StoreRuns
+pub mod OneLines

@@ -27,7 +27,7 @@ module _ (A : Around) where
   abbrev pub changed : List (List ℕ) → List Target → List ℤ → Term → ℕ → Memory Value → Option (Memory Value)
   changed names at over e b m = with (found_target A (bound names (map fixed at ++ over)) at m) (λ p. with (found (bound names (p ++ over)) (look A m) e) (λ v. write m b p v))
 
-  fixed_found : (variables : List ℕ → ℤ) (at : List Target) (m : Memory Value) → are_fixed at ≡ true → found_target A variables at m ≡ Some (map fixed at)
+  pub fixed_found : (variables : List ℕ → ℤ) (at : List Target) (m : Memory Value) → are_fixed at ≡ true → found_target A variables at m ≡ Some (map fixed at)
   fixed_found variables [] m h = refl
   fixed_found variables (Fixed z ∷ ts) m h = ap (λ (o : Option (List ℤ)). with o (λ zs. Some (z ∷ zs))) (fixed_found variables ts m h)
   fixed_found variables (Open e ∷ ts) m h = absurd (cc)
@@ -101,7 +101,7 @@ coordinates_next A variables s cs i c m done whole lt is so_far =
 
 -- ---- the whole store
 
-map_twice : {X Y Z : Type 0} (f : Y → Z) (g : X → Y) (xs : List X) → map f (map g xs) ≡ map (λ x. f (g x)) xs
+pub map_twice : {X Y Z : Type 0} (f : Y → Z) (g : X → Y) (xs : List X) → map f (map g xs) ≡ map (λ x. f (g x)) xs
 map_twice f g [] = refl
 map_twice f g (x ∷ xs) = ap (λ ys. f (g x) ∷ ys) (map_twice f g xs)
 

@@ -14,3 +14,6 @@ pub mod States
 pub mod Steps
 pub mod Targets
 pub mod Visits
+pub mod Runs
+pub mod RunReadings
+pub mod StoreLines

@@ -1,5 +1,5 @@
 -- What a piece finds around it, and what its lines refer to.
-use Rattle.std.specs.Prelude.{ℕ, List, ℤ, pos, Option, [], ◌≡◌}
+use Rattle.std.specs.Prelude.{ℕ, List, ℤ, pos, Option, ◌≡◌}
 use Rattle.numeric.specs.declared.ty.Ty.TheVariants.{U8}
 use Rattle.tree.specs.declared.value.Value.{Value}
 use Rattle.meaning.specs.Image.View.{image_of}

@@ -1,5 +1,5 @@
 -- When memory is enough for the pieces of a group.
-use Rattle.std.specs.Prelude.{◌≡◌, ℕ, ◌+◌, ◌≤◌, ◌<◌, List, [], ◌++◌, length, All, Option, None, Some, MatchOption, Result, Ok, Err, ℤ, ⊤}
+use Rattle.std.specs.Prelude.{◌≡◌, ℕ, ◌+◌, ◌≤◌, ◌<◌, List, ◌++◌, length, All, Option, None, Some, MatchOption, Result, Ok, Err, ℤ, ⊤}
 use Rattle.plan.specs.Plan.{Group}
 use Rattle.plan.specs.Certificate.Certificate.{Certificate}
 use Rattle.plan.specs.Certificate.Cells.{no_symbols}

@@ -2,11 +2,20 @@
 
 mod evaluation;
 mod indices;
+mod kernels;
+mod lanes;
 mod operators;
 mod reader;
+mod run;
+mod run_reader;
 mod stop;
+mod whole;
 
 pub use evaluation::evaluate;
 pub use indices::indices_after;
+pub use lanes::{Lanes, Number};
 pub use reader::Reader;
+pub use run::evaluate_run;
+pub use run_reader::RunReader;
 pub use stop::Stop;
+pub(crate) use whole::{spread, type_of};

@@ -11,11 +11,14 @@ mod piece;
 mod reading;
 mod row;
 mod run;
+mod run_reading;
+mod runs;
 mod scratch;
 mod sizes;
 mod state;
 mod store;
 mod symbols;
+mod turns;
 mod visits;
 
 pub use cells::Cells;

@@ -22,14 +22,14 @@ pub(crate) struct Reading<'a, 'm> {
 }
 
 /// Whether the names are the same.
-fn same_name(left: &str, right: &str) -> bool
+pub(crate) fn same_name(left: &str, right: &str) -> bool
     ensures { result ≡ same_name left.now right.now }
 {
     left == right
 }
 
 /// The number of the first coordinate of a variable's name, 0 where there is none.
-fn number_bound(coordinates: &[Coordinate], numbers: &[i64], name: &str) -> i64
+pub(crate) fn number_bound(coordinates: &[Coordinate], numbers: &[i64], name: &str) -> i64
     ensures { result ≡ bound (map (λ c. string_bytes c.variable) coordinates.now) numbers.now name.now }
 {
     match (coordinates, numbers) {
@@ -71,7 +71,7 @@ impl Reading<'_, '_> {
     ghost use Rattle.interpreter.specs.Pieces.{around, no_cells};
 
     /// The input's sample at a point; nothing where the point is off the extents.
-    fn sample(&self, at: &[i64]) -> Option<Value>
+    pub(crate) fn sample(&self, at: &[i64]) -> Option<Value>
         ensures { result ≡ (around self.now.piece.now no_cells).sample at.now }
     {
         let input = &self.piece.plan.input;

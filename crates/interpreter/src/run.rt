@@ -24,11 +24,13 @@ use crate::cells::Cells;
 use crate::evaluation::Stop;
 use crate::forms::{largest, smallest, value_of};
 use crate::piece::Piece;
+use crate::runs::{run_stores, store_line};
 use crate::scratch::Scratch;
 use crate::sizes::Size;
 use crate::state::State;
 use crate::store::{allot, store};
 use crate::symbols::{Binding, Symbols};
+use crate::turns::{Turns, turn, turns_of};
 use crate::visits::{Visit, Walk, visit_points};
 use lin::{Forms, Region, Span1, Sym};
 use meaning::image::Image;
@@ -144,37 +146,6 @@ fn name_from(stmt: &Stmt, symbols: &mut Symbols)
     });
 }
 
-/// A loop's symbol, and the numbers from which to which it goes.
-#[derive(Clone, Copy, Drop)]
-struct Turns {
-    symbol: Sym,
-    low: i64,
-    high: i64,
-}
-
-/// The turns of a loop over a span.
-fn turns_of(symbol: Sym, span: &Span1, symbols: &Symbols) -> Turns
-    requires { SpanIsNarrow (symbols_of symbols.now) span.now }
-    ensures { result ≡ record { symbol = symbol; low = largest (symbols_of symbols.now) span.now.lower; high = smallest (symbols_of symbols.now) span.now.upper } }
-{
-    Turns {
-        symbol,
-        low: largest(&span.lower, symbols),
-        high: smallest(&span.upper, symbols),
-    }
-}
-
-/// What the loop's symbol is in a turn.
-fn turn(turns: Turns, value: i64) -> Binding
-    ensures { result ≡ record { symbol = turns.symbol; value = value; first = int_le value turns.low } }
-{
-    Binding {
-        symbol: turns.symbol,
-        value,
-        first: value <= turns.low,
-    }
-}
-
 /// The turns of a loop.
 #[cycle(run)]
 fn run_turns<'a, C: Cells>(
@@ -194,6 +165,9 @@ fn run_turns<'a, C: Cells>(
     ensures symbols { OnOk result (symbols.new ≡ symbols.old) }
     ensures large { OnOk result (IsAsLarge state.old state.new) }
 {
+    if let Some(line) = store_line(body) {
+        return run_stores(piece, &line, turns, symbols, state);
+    }
     let mark = symbols.bound_count();
     for value in turns.low..=turns.high {
         symbols.bind(turn(turns, value));

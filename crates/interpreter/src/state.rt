@@ -4,6 +4,7 @@ ghost use Rattle.std.specs.Prelude.{◌≡◌, [], IfOk};
 ghost use Rattle.interpreter.specs.Scratches.{IsMadeFor};
 
 use crate::buffers::Buffers;
+use crate::evaluation::Number;
 use crate::needs::Needs;
 use crate::row::Row;
 use smallvec::SmallVec;
@@ -21,6 +22,15 @@ pub(crate) struct State {
     pub point: Row,
     /// The indices of the calls that are under way.
     pub stack: Row,
+    /// The numbers of parts of expressions at the turns that are taken together.
+    pub registers: Vec<Number>,
+}
+
+/// Registers for so many turns of so many parts.
+fn registers(alloc: Global, turns: usize, parts: usize) -> Result<Vec<Number>, AllocError> {
+    let mut registers = Vec::new(alloc);
+    registers.resize(turns.saturating_mul(parts), Number { value: 0 })?;
+    Ok(registers)
 }
 
 impl State {
@@ -34,6 +44,7 @@ impl State {
             numbers: Row::new(alloc, needs.coordinates)?,
             point: Row::new(alloc, needs.coordinates)?,
             stack: Row::new(alloc, needs.indices)?,
+            registers: registers(alloc, 128, 16)?,
         })
     }
 }

@@ -92,7 +92,7 @@ fn known_number(coordinate: &Coordinate, symbols: &Symbols) -> i64
 }
 
 /// Notes the numbers of all coordinates, 0 where an expression finds one.
-fn known_numbers(coordinates: &[Coordinate], symbols: &Symbols, numbers: &mut Row)
+pub(crate) fn known_numbers(coordinates: &[Coordinate], symbols: &Symbols, numbers: &mut Row)
     requires narrow { All (CoordinateIsNarrow (symbols_of symbols.now)) coordinates.now }
     requires room { length coordinates.now ≤ numbers.old.room }
     ensures { numbers.new ≡ listed (map (known_number (symbols_of symbols.now)) coordinates.now) numbers.old.room }
@@ -146,7 +146,7 @@ fn find_point(
 }
 
 /// The coordinates that are the function's, the first so many.
-fn of_function(coordinates: &[Coordinate], count: usize) -> &[Coordinate]
+pub(crate) fn of_function(coordinates: &[Coordinate], count: usize) -> &[Coordinate]
     ensures { result.now ≡ take count coordinates.now }
 {
     &coordinates[..count.min(coordinates.len())]

@@ -1,27 +1,23 @@
-use Rattle.std.proofs.Common.{◌≡◌, List, ℤ, ℕ, Err, ◌≤ℤ◌, [], ◌∷◌, ◌+◌, ◌<◌, length, length-append, get_or, sym, ap, ◌∙◌, subst, take, rules, arith, pos, ◌+ℤ◌, w64, to_z, Option, Some, map}
+use Rattle.std.proofs.Common.{◌≡◌, List, ℤ, ℕ, Err, ◌≤ℤ◌, [], ◌∷◌, ◌+◌, ◌<◌, ◌≤◌, length, length-append, sym, ap, ◌∙◌, subst, take, rules, arith, pos, ◌+ℤ◌, w64, to_z, Option, Some}
 use Rattle.std.specs.Prelude.{Contains, flat_map, int_le}
 use Rattle.std.proofs.lemmas.Int.{ints, to_z-of_z}
 use Rattle.std.proofs.lemmas.Result.{err_from_is_err_and}
 use Rattle.plan.specs.declared.stmt.Stmt.{Stmt}
 use Rattle.plan.specs.declared.stmt.Stmt.TheViews.{the_lemmas}
-use Rattle.plan.specs.declared.stmt.Places.{Places}
-use Rattle.plan.specs.declared.stmt.Coordinate.{Coordinate as CodeCoordinate}
 use Rattle.plan.specs.Plan.{Statement, Seq, Coordinate, block}
 use Rattle.plan.specs.Lists.{list_statements}
-use Rattle.plan.specs.Rooms.{room}
 use Rattle.plan.specs.Symbols.{Symbols, bind, largest, smallest}
 use Rattle.plan.specs.View.{statement_of, coordinate_of}
 use Rattle.plan.proofs.Rows.{statement_of-seq}
-use Rattle.plan.specs.Semantics.Actions.{Action, Allot, actions, after, block_actions}
+use Rattle.plan.specs.Semantics.Actions.{Action, actions, after, block_actions}
 use Rattle.plan.specs.Semantics.Found.{with}
-use Rattle.interpreter.specs.declared.run.Turns.{Turns}
+use Rattle.interpreter.specs.declared.turns.Turns.{Turns}
 use Rattle.interpreter.specs.Bindings.{Bindings, symbols_of, also, Extends}
 use Rattle.interpreter.specs.Needs.{name_count, BlockFits, Space, StatementFits}
 use Rattle.interpreter.specs.Narrow.{StatementIsNarrow, BlockIsNarrow, IndexIsNarrow}
 use Rattle.interpreter.specs.Pieces.{around, own_of, setting, OwnIsSmall}
-use Rattle.interpreter.specs.States.{progress_of, space_of, EndsIn, IsAsLarge}
+use Rattle.interpreter.specs.States.{progress_of, space_of, EndsIn}
 use Rattle.interpreter.specs.Steps.{Progress, steps}
-use Rattle.interpreter.specs.Targets.{CoordinateIsNarrow}
 use Rattle.interpreter.specs.Visits.{between}
 use Rattle.interpreter.proofs.Bindings.{bound_now, forgotten, extends_both}
 use Rattle.interpreter.proofs.Counting.{between_has, between_none}
@@ -29,6 +25,12 @@ use Rattle.interpreter.proofs.Ending.{goes_on}
 use Rattle.interpreter.proofs.Steps.{stops_in}
 use Rattle.interpreter.proofs.Running.{from, turns_next, block_next, block_narrow, block_fits}
 use Rattle.interpreter.proofs.Shorts.{all_unmapped}
+use Rattle.std.proofs.lemmas.List.{length-map}
+use Rattle.tree.specs.Term.{term_of}
+use Rattle.interpreter.specs.Evaluation.Indices.{indices_in}
+use Rattle.interpreter.specs.Runs.{store_at}
+use Rattle.interpreter.proofs.Fitting.{indices_mapped}
+use Rattle.interpreter.proofs.OneLines.{line_actions, line_narrow, line_fits}
 use Rattle.interpreter.proofs.run.+run.Goals as goal
 
 pub run-run_block-requires : goal.run-run_block-requires
@@ -262,3 +264,64 @@ run_block-run-requires g t c κs within =
     let fits = subst (λ (w : Space). StatementFits (own_of x) w l.symbols.room (statement_of a) n) (sym l.invariant.large.space)
     (subst (λ (m : ℕ). StatementFits (own_of c.args.piece.now) (space_of c.args.state.now) m (statement_of a) n) (sym l.invariant.extends.room) here) in
     (first_of (search (rules, the_lemmas), omega arith), (search rules, (c.requires.ready, (narrow, fits))))
+
+pub run_turns-run_stores-requires-clause-narrow : goal.run_turns-run_stores-requires-clause-narrow
+run_turns-run_stores-requires-clause-narrow g t c = λ z inside.
+    let Own : Symbols → Type 0 = OwnIsSmall c.args.piece.now in
+    let turns = c.args.turns in
+    let s : Symbols = bind (symbols_of c.args.symbols.now) turns.symbol z (int_le z turns.low) in
+    let is = c.in-Some.ensures in
+    let P : Coordinate → Type 0 = λ x. IndexIsNarrow s x.index in
+    all_unmapped P coordinate_of c.in-Some.line.coordinates.now
+    (subst (λ (a : Statement). StatementIsNarrow Own a s) is.store.is (line_narrow Own s (statement_of c.args.body.now) is.line is.one (c.requires.narrow z inside)))
+
+pub run_turns-run_stores-requires-clause-numbers : goal.run_turns-run_stores-requires-clause-numbers
+run_turns-run_stores-requires-clause-numbers g t c =
+    let own = own_of c.args.piece.now in
+    let space = space_of c.args.state.now in
+    let n = length c.args.symbols.now.bound + 1 in
+    let is = c.in-Some.ensures in
+    let cs = c.in-Some.line.coordinates.now in
+    let fits = subst (λ (a : Statement). StatementFits own space c.args.symbols.now.room a n) is.store.is (line_fits own space c.args.symbols.now.room n (statement_of c.args.body.now) is.line is.one c.requires.fits) in
+    subst (λ (m : ℕ). m ≤ c.args.state.now.numbers.room) (length-map cs coordinate_of) fits.0
+
+pub run_turns-run_stores-requires-clause-point : goal.run_turns-run_stores-requires-clause-point
+run_turns-run_stores-requires-clause-point g t c =
+    let own = own_of c.args.piece.now in
+    let space = space_of c.args.state.now in
+    let n = length c.args.symbols.now.bound + 1 in
+    let is = c.in-Some.ensures in
+    let cs = c.in-Some.line.coordinates.now in
+    let fits = subst (λ (a : Statement). StatementFits own space c.args.symbols.now.room a n) is.store.is (line_fits own space c.args.symbols.now.room n (statement_of c.args.body.now) is.line is.one c.requires.fits) in
+    subst (λ (m : ℕ). m ≤ c.args.state.now.point.room) (length-map cs coordinate_of) fits.1
+
+pub run_turns-run_stores-requires-clause-stack : goal.run_turns-run_stores-requires-clause-stack
+run_turns-run_stores-requires-clause-stack g t c =
+    let own = own_of c.args.piece.now in
+    let space = space_of c.args.state.now in
+    let n = length c.args.symbols.now.bound + 1 in
+    let is = c.in-Some.ensures in
+    let cs = c.in-Some.line.coordinates.now in
+    let k = indices_in (term_of c.in-Some.line.value.now) in
+    let fits = subst (λ (a : Statement). StatementFits own space c.args.symbols.now.room a n) is.store.is (line_fits own space c.args.symbols.now.room n (statement_of c.args.body.now) is.line is.one c.requires.fits) in
+    subst (λ (m : ℕ). m + k ≤ c.args.state.now.stack.room) (sym (indices_mapped cs)) fits.2
+
+pub run_turns-returns-in-Some-clause-run : goal.run_turns-returns-in-Some-clause-run
+run_turns-returns-in-Some-clause-run g t c =
+    let x = c.args.piece.now in
+    let cell = g.C.Cells.cell c.args.cells.now in
+    let A = around x cell in
+    let S = setting x in
+    let turns = c.args.turns in
+    let s = symbols_of c.args.symbols.now in
+    let a = statement_of c.args.body.now in
+    let is = c.in-Some.ensures in
+    let line = c.in-Some.line in
+    let p = progress_of c.args.state.now in
+    let now : ℤ → Symbols = λ z. bind s turns.symbol z (int_le z turns.low) in
+    let f : ℤ → List Action = λ z. actions S a (now z) in
+    let stores : ℤ → List Action = store_at x line.buffer line.coordinates.now (term_of line.value.now) s turns.symbol turns.low is.store.definition in
+    let each : (z : ℤ) → stores z ≡ f z = λ z. sym (line_actions S (now z) a is.line is.one ∙ ap (λ (b : Statement). actions S b (now z)) is.store.is) in
+    let same : stores ≡ f = λ i z. each z i in
+    subst (λ (h : ℤ → List Action). EndsIn c.args.state.now.given.capacity (λ (_ : Unit {0}). progress_of c.run_stores.new.state) c.run_stores.result (steps A (flat_map h (between turns.low turns.high)) p)) same
+    (c.run_stores.ensures.run is.store.definition cell)

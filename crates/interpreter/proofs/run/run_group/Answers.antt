@@ -1,4 +1,4 @@
-use Rattle.std.proofs.Common.{◌≡◌, ℕ, List, [], ℤ, sym, ap, ◌∙◌, subst, map, Option, Some, slice_get}
+use Rattle.std.proofs.Common.{◌≡◌, ℕ, List, [], sym, ap, ◌∙◌, subst, map, Option, Some, slice_get}
 use Rattle.plan.specs.declared.plan.Group.{Group as CodeGroup}
 use Rattle.plan.specs.View.{plan_of, group_of, statement_of}
 use Rattle.plan.specs.Certificate.Certificate.{certificate_of}

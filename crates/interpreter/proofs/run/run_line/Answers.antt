@@ -1,36 +1,23 @@
-use Rattle.std.proofs.Common.{◌≡◌, List, ℤ, ℕ, Err, ◌≤ℤ◌, [], ◌∷◌, ◌+◌, ◌<◌, ◌≤◌, length, length-append, get_or, sym, ap, ◌∙◌, subst, take, rules, arith, pos, ◌+ℤ◌, w64, to_z, Option, Some, map}
+use Rattle.std.proofs.Common.{◌≡◌, List, ℕ, [], ◌∷◌, ◌+◌, ◌<◌, ◌≤◌, length, get_or, sym, ap, ◌∙◌, subst, Some, map}
 use Rattle.tree.specs.Term.{term_of}
 use Rattle.std.proofs.lemmas.List.{length-map}
 use Rattle.interpreter.specs.Evaluation.Indices.{indices_in}
-use Rattle.std.specs.Prelude.{Contains, flat_map, int_le}
-use Rattle.std.proofs.lemmas.Int.{ints, to_z-of_z}
-use Rattle.std.proofs.lemmas.Result.{err_from_is_err_and}
 use Rattle.plan.specs.declared.stmt.Stmt.{Stmt}
-use Rattle.plan.specs.declared.stmt.Stmt.TheViews.{the_lemmas}
 use Rattle.plan.specs.declared.stmt.Places.{Places}
 use Rattle.plan.specs.declared.stmt.Coordinate.{Coordinate as CodeCoordinate}
-use Rattle.plan.specs.Plan.{Statement, Seq, Coordinate, block}
-use Rattle.plan.specs.Lists.{list_statements}
+use Rattle.plan.specs.Plan.{Coordinate}
 use Rattle.plan.specs.Rooms.{room}
-use Rattle.plan.specs.Symbols.{Symbols, bind, largest, smallest}
+use Rattle.plan.specs.Symbols.{Symbols}
 use Rattle.plan.specs.View.{statement_of, coordinate_of}
-use Rattle.plan.proofs.Rows.{statement_of-seq}
-use Rattle.plan.specs.Semantics.Actions.{Action, Allot, actions, after, block_actions}
-use Rattle.plan.specs.Semantics.Found.{with}
-use Rattle.interpreter.specs.declared.run.Turns.{Turns}
-use Rattle.interpreter.specs.Bindings.{Bindings, symbols_of, also, Extends}
+use Rattle.plan.specs.Semantics.Actions.{Allot, actions}
+use Rattle.interpreter.specs.Bindings.{symbols_of}
 use Rattle.interpreter.specs.Buffers.Blocks.{limits_of, HasMemoryFor}
 use Rattle.interpreter.specs.Needs.{places_in, StatementFits}
-use Rattle.interpreter.specs.Narrow.{StatementIsNarrow, BlockIsNarrow, IndexIsNarrow}
+use Rattle.interpreter.specs.Narrow.{StatementIsNarrow, IndexIsNarrow}
 use Rattle.interpreter.specs.Pieces.{around, own_of, setting, OwnIsSmall}
 use Rattle.interpreter.specs.States.{progress_of, space_of}
-use Rattle.interpreter.specs.Steps.{Progress, steps}
+use Rattle.interpreter.specs.Steps.{steps}
 use Rattle.interpreter.specs.Targets.{indices_of_all, CoordinateIsNarrow}
-use Rattle.interpreter.specs.Visits.{between}
-use Rattle.interpreter.proofs.Bindings.{bound_now, forgotten, extends_both}
-use Rattle.interpreter.proofs.Counting.{between_has, between_none}
-use Rattle.interpreter.proofs.Ending.{goes_on}
-use Rattle.interpreter.proofs.Steps.{stops_in}
 use Rattle.interpreter.proofs.Fitting.{indices_mapped}
 use Rattle.interpreter.proofs.Shorts.{all_unmapped}
 use Rattle.interpreter.proofs.run.run_line.Goals as goal

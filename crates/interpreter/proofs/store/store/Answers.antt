@@ -1,4 +1,4 @@
-use Rattle.std.proofs.Common.{◌≡◌, ◌+◌, ◌≤◌, List, ℤ, ℕ, [], ◌∷◌, ◌++◌, length, sym, ap, ◌∙◌, subst, map, take, drop, arith, Option, Some, None}
+use Rattle.std.proofs.Common.{◌≡◌, ◌+◌, ◌≤◌, List, ℤ, ℕ, ◌++◌, length, sym, ap, ◌∙◌, subst, map, take, drop, arith, Option, Some, None}
 use Rattle.std.specs.Prelude.{All}
 use Rattle.std.proofs.Math.Seq.{take-append_seam}
 use Rattle.std.proofs.lemmas.List.Elements.{All-take}
@@ -9,13 +9,11 @@ use Rattle.tree.specs.declared.value.Value.{Value}
 use Rattle.tree.specs.Term.{term_of}
 use Rattle.meaning.specs.Names.{bound}
 use Rattle.plan.specs.Semantics.Found.{with, found}
-use Rattle.plan.specs.View.{coordinate_of}
-use Rattle.plan.specs.Semantics.Actions.{stored}
 use Rattle.plan.specs.Semantics.Run.{found_target, look}
 use Rattle.interpreter.specs.Bindings.{symbols_of}
 use Rattle.interpreter.specs.Pieces.{around, no_cells, setting}
 use Rattle.interpreter.specs.States.{progress_of, EndsIn}
-use Rattle.interpreter.specs.Steps.{Progress, steps}
+use Rattle.interpreter.specs.Steps.{Progress}
 use Rattle.interpreter.specs.Targets.{indices_of_all, target_of, known_number, CoordinateIsNarrow}
 use Rattle.interpreter.specs.Rows.{Listed}
 use Rattle.interpreter.proofs.Fitting.{indices_of_part, part_short, parts}

@@ -11,7 +11,7 @@ use Rattle.plan.specs.Semantics.Actions.{Action}
 use Rattle.plan.specs.Semantics.Found.{with}
 use Rattle.interpreter.specs.Bindings.{symbols_of}
 use Rattle.interpreter.specs.Pieces.{around}
-use Rattle.interpreter.specs.States.{progress_of, EndsIn, IsAsLarge}
+use Rattle.interpreter.specs.States.{progress_of, EndsIn}
 use Rattle.interpreter.specs.Steps.{Progress, steps}
 use Rattle.interpreter.specs.Visits.{at_point, between, extended}
 use Rattle.interpreter.specs.Narrow.{SpanIsNarrow}

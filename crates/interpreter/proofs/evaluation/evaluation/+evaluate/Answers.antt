@@ -1,4 +1,4 @@
-use Rattle.std.proofs.Common.{◌≡◌, ℕ, ◌+◌, ◌<◌, ◌≤◌, length, length-append, List, [], ◌∷◌, ◌++◌, Some, None, append_assoc, subst, rules, refl, sym, ap, ◌∙◌, arith, ℤ, w64, SFits, to_z, of_z}
+use Rattle.std.proofs.Common.{◌≡◌, ℕ, ◌+◌, ◌<◌, ◌≤◌, length, length-append, List, [], ◌∷◌, ◌++◌, append_assoc, subst, rules, refl, sym, ap, ◌∙◌, arith, ℤ, w64, SFits, to_z, of_z}
 use Rattle.std.proofs.lemmas.Int.{to_z-of_z}
 use Rattle.std.proofs.lemmas.List.{append-nil}
 use Rattle.plan.specs.Semantics.Found.{found, with, all_found}
@@ -7,7 +7,7 @@ use Rattle.tree.specs.declared.expr.Expr.{Expr}
 use Rattle.tree.specs.declared.expr.Cond.TheViews.{the_lemmas}
 use Rattle.interpreter.specs.Evaluation.Indices.{indices_in, indices_in_all}
 use Rattle.interpreter.specs.Rows.{Listed}
-use Rattle.interpreter.proofs.Indices.{behind_back, behind_front, found-call, left, left_all, left_more, missing, one_more, room-call}
+use Rattle.interpreter.proofs.Indices.{found-call, left, left_all, left_more, missing, one_more, room-call}
 use Rattle.interpreter.proofs.evaluation.evaluation.+evaluate.Goals as goal
 
 pub evaluate-call-requires : goal.evaluate-call-requires

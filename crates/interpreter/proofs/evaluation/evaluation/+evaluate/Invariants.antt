@@ -1,4 +1,4 @@
-use Rattle.std.proofs.Common.{◌≡◌, ◌+◌, ◌≤◌, length, take, Some}
+use Rattle.std.proofs.Common.{◌+◌, ◌≤◌, length, take}
 use Rattle.plan.specs.Semantics.Found.{all_found}
 use Rattle.tree.specs.Term.{indices, list_terms}
 use Rattle.interpreter.proofs.Indices.{left, Behind}

@@ -1,13 +1,13 @@
-use Rattle.std.proofs.Common.{◌≡◌, ◌+◌, ◌≤◌, List, ◌++◌, length, sym, ap, ◌∙◌, subst, rules, arith}
+use Rattle.std.proofs.Common.{◌≡◌, ◌≤◌, List, ◌++◌, sym, ap, ◌∙◌, subst, arith}
 use Rattle.std.specs.Prelude.{All}
 use Rattle.plan.specs.declared.certificate.cert.Own.{Own}
 use Rattle.plan.specs.Certificate.Cells.{grid_symbols, own_region}
-use Rattle.plan.specs.View.{group_of, statement_of}
+use Rattle.plan.specs.View.{statement_of}
 use Rattle.plan.specs.Certificate.Certificate.{certificate_of}
 use Rattle.interpreter.specs.Buffers.Blocks.{limits_of, HasMemoryFor}
 use Rattle.interpreter.specs.declared.buffers.limit.Limit.{Limit}
 use Rattle.interpreter.specs.Bindings.{bind_all}
-use Rattle.interpreter.specs.Needs.{allotments, call_indices, coordinate_count, own_count, region_count, symbol_count}
+use Rattle.interpreter.specs.Needs.{allotments, own_count, region_count, symbol_count}
 use Rattle.interpreter.specs.States.{space_of}
 use Rattle.interpreter.proofs.Fitting.{fits, IsEnough}
 use Rattle.interpreter.proofs.scratch.Scratch.new.Goals as goal

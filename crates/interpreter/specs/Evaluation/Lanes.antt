@@ -1,0 +1,48 @@
+-- What an expression comes to at the turns of a run.
+use Rattle.std.specs.Prelude.{◌≡◌, ℕ, ◌<◌, ◌≤◌, ◌^◌, List, Option, Some, ℤ, pos, ◌+ℤ◌, ◌≤ℤ◌, slice_index_or}
+use Rattle.numeric.specs.declared.ty.Ty.{Ty}
+use Rattle.numeric.specs.Wrap.{greatest, least}
+use Rattle.tree.specs.declared.value.Value.{Value}
+use Rattle.tree.specs.Meaning.{typed}
+use Rattle.interpreter.specs.declared.evaluation.lanes.Number.{Number}
+use Rattle.interpreter.specs.declared.evaluation.lanes.Lanes.{Lanes}
+use Rattle.interpreter.specs.declared.evaluation.lanes.Lanes.TheVariants.{Broadcast, Ramp, Vector}
+
+-- what a register holds for a turn
+abbrev pub number_at : List Number → ℕ → ℤ
+number_at zs k = (slice_index_or zs k (record { value = pos 0 })).value
+
+abbrev pub type_of : Lanes → Ty
+type_of (Broadcast v) = v.ty
+type_of (Ramp v) = v.ty
+type_of (Vector t) = t
+
+-- the number at a turn, where the register holds these
+abbrev pub lane_number : Lanes → List Number → ℕ → ℤ
+lane_number (Broadcast v) zs k = v.number
+lane_number (Ramp v) zs k = v.number +ℤ pos k
+lane_number (Vector t) zs k = number_at zs k
+
+abbrev pub lane : Lanes → List Number → ℕ → Value
+lane x zs k = typed (type_of x) (lane_number x zs k)
+
+-- there are not too many numbers, and those that rise by one from the first one on are of 64 bits
+pub record IsShortRamp (n : ℕ) (first : ℤ) : Type 0 where
+  pub count : n ≤ 2 ^ 60
+  pub last : (first +ℤ pos n) ≤ℤ pos (2 ^ 62)
+
+-- numbers of the value's type rise by one from it on
+pub record IsRamp (n : ℕ) (first : Value) : Type 0 where
+  pub least : least first.ty ≤ℤ first.number
+  pub greatest : (first.number +ℤ pos n) ≤ℤ greatest first.ty
+  pub short : IsShortRamp n first.number
+
+-- at so many turns, all numbers are of 64 bits
+abbrev pub IsNarrowFor : ℕ → Lanes → Type 0
+IsNarrowFor n (Broadcast v) = Unit {0}
+IsNarrowFor n (Ramp v) = IsShortRamp n v.number
+IsNarrowFor n (Vector t) = Unit {0}
+
+-- at each of so many turns, this is found
+abbrev pub FindsRun : ℕ → Lanes → List Number → (ℕ → Option Value) → Type 0
+FindsRun n x zs f = (k : ℕ) → k < n → f k ≡ Some (lane x zs k)

@@ -1,0 +1,179 @@
+//! The operators over registers, which hold a number for each turn of a run.
+
+ghost use Rattle.std.specs.Prelude.{◌≡◌, ◌<◌, ℕ, pos, neg_ℤ, ◌+ℤ◌, length};
+ghost use Rattle.std.specs.Int.{int_max, int_min};
+ghost use Rattle.numeric.specs.Apply.{apply};
+ghost use Rattle.numeric.specs.Wrap.{wrap};
+ghost use Rattle.interpreter.specs.Evaluation.Lanes.{number_at, IsShortRamp};
+
+use crate::evaluation::lanes::Number;
+use crate::evaluation::operators::{applied, clamped, negated, wrapped};
+use numeric::{Op, Ty};
+use tree::Value;
+
+/// The number so many turns after the first.
+#[inline(always)]
+fn risen(first: Number, turn: usize) -> Number
+    requires { IsShortRamp turn first.value }
+    ensures { result.value ≡ first.value +ℤ pos turn }
+{
+    Number {
+        value: first.value + turn as i64,
+    }
+}
+
+/// The operator on two numbers, wrapped to the type.
+#[inline(always)]
+fn applied_number(op: Op, ty: Ty, left: Number, right: Number) -> Number
+    ensures { result.value ≡ apply op ty left.value right.value }
+{
+    let left = Value {
+        ty,
+        number: left.value,
+    };
+    let right = Value {
+        ty,
+        number: right.value,
+    };
+    Number {
+        value: applied(op, left, right).number,
+    }
+}
+
+/// The wrapped negation of a number.
+fn negated_number(ty: Ty, number: Number) -> Number
+    ensures { result.value ≡ wrap ty (neg_ℤ number.value) }
+{
+    let value = Value {
+        ty,
+        number: number.value,
+    };
+    Number {
+        value: negated(value).number,
+    }
+}
+
+/// A number wrapped to the type.
+#[inline(always)]
+fn wrapped_number(ty: Ty, number: Number) -> Number
+    ensures { result.value ≡ wrap ty number.value }
+{
+    Number {
+        value: wrapped(ty, number.value).number,
+    }
+}
+
+/// A number, not above another and then not below a third.
+fn clamped_number(number: Number, low: Number, high: Number) -> Number
+    ensures { result.value ≡ int_max (int_min number.value high.value) low.value }
+{
+    Number {
+        value: number.value.min(high.value).max(low.value),
+    }
+}
+
+/// Puts one number in for each turn.
+pub(crate) fn fill(number: Number, out: &mut [Number])
+    ensures { (k : ℕ) → k < length out.new → number_at out.new k ≡ number.value }
+{
+    for turn in 0..out.len() {
+        out[turn] = number;
+    }
+}
+
+/// Puts numbers in that rise by one.
+pub(crate) fn fill_rising(first: Number, out: &mut [Number])
+    requires { IsShortRamp (length out.old) first.value }
+    ensures { (k : ℕ) → k < length out.new → number_at out.new k ≡ first.value +ℤ pos k }
+{
+    for turn in 0..out.len() {
+        out[turn] = risen(first, turn);
+    }
+}
+
+/// The operator on each number and the one of another register.
+#[inline(always)]
+fn apply_each(op: Op, ty: Ty, out: &mut [Number], right: &[Number])
+    requires { length right.now ≡ length out.old }
+    ensures { (k : ℕ) → k < length out.new → number_at out.new k ≡ apply op ty (number_at out.old k) (number_at right.now k) }
+{
+    for turn in 0..out.len() {
+        out[turn] = applied_number(op, ty, out[turn], right[turn]);
+    }
+}
+
+/// The operator on each number and the one of another register, by a loop of the type's own.
+#[inline(always)]
+fn apply_in(op: Op, ty: Ty, out: &mut [Number], right: &[Number])
+    requires { length right.now ≡ length out.old }
+    ensures { (k : ℕ) → k < length out.new → number_at out.new k ≡ apply op ty (number_at out.old k) (number_at right.now k) }
+{
+    match ty {
+        Ty::U8 => apply_each(op, Ty::U8, out, right),
+        Ty::U16 => apply_each(op, Ty::U16, out, right),
+        Ty::U32 => apply_each(op, Ty::U32, out, right),
+        Ty::I8 => apply_each(op, Ty::I8, out, right),
+        Ty::I16 => apply_each(op, Ty::I16, out, right),
+        Ty::I32 => apply_each(op, Ty::I32, out, right),
+    }
+}
+
+/// The operator on each number and the one of another register, by a loop of the operator's and the type's own.
+pub(crate) fn apply_all(op: Op, ty: Ty, out: &mut [Number], right: &[Number])
+    requires { length right.now ≡ length out.old }
+    ensures { (k : ℕ) → k < length out.new → number_at out.new k ≡ apply op ty (number_at out.old k) (number_at right.now k) }
+{
+    match op {
+        Op::Add => apply_in(Op::Add, ty, out, right),
+        Op::Sub => apply_in(Op::Sub, ty, out, right),
+        Op::Mul => apply_in(Op::Mul, ty, out, right),
+        Op::Div => apply_in(Op::Div, ty, out, right),
+        Op::Rem => apply_in(Op::Rem, ty, out, right),
+        Op::Min => apply_in(Op::Min, ty, out, right),
+        Op::Max => apply_in(Op::Max, ty, out, right),
+    }
+}
+
+/// The wrapped negation of each number.
+pub(crate) fn negate_each(ty: Ty, out: &mut [Number])
+    ensures { (k : ℕ) → k < length out.new → number_at out.new k ≡ wrap ty (neg_ℤ (number_at out.old k)) }
+{
+    for turn in 0..out.len() {
+        out[turn] = negated_number(ty, out[turn]);
+    }
+}
+
+/// Each number wrapped to the type.
+#[inline(always)]
+fn wrap_each(ty: Ty, out: &mut [Number])
+    ensures { (k : ℕ) → k < length out.new → number_at out.new k ≡ wrap ty (number_at out.old k) }
+{
+    for turn in 0..out.len() {
+        out[turn] = wrapped_number(ty, out[turn]);
+    }
+}
+
+/// Each number wrapped to the type, by a loop of the type's own.
+pub(crate) fn wrap_all(ty: Ty, out: &mut [Number])
+    ensures { (k : ℕ) → k < length out.new → number_at out.new k ≡ wrap ty (number_at out.old k) }
+{
+    match ty {
+        Ty::U8 => wrap_each(Ty::U8, out),
+        Ty::U16 => wrap_each(Ty::U16, out),
+        Ty::U32 => wrap_each(Ty::U32, out),
+        Ty::I8 => wrap_each(Ty::I8, out),
+        Ty::I16 => wrap_each(Ty::I16, out),
+        Ty::I32 => wrap_each(Ty::I32, out),
+    }
+}
+
+/// Each number, not above the one of a register and then not below the one of another.
+pub(crate) fn clamp_each(out: &mut [Number], low: &[Number], high: &[Number])
+    requires low { length low.now ≡ length out.old }
+    requires high { length high.now ≡ length out.old }
+    ensures { (k : ℕ) → k < length out.new → number_at out.new k ≡ int_max (int_min (number_at out.old k) (number_at high.now k)) (number_at low.now k) }
+{
+    for turn in 0..out.len() {
+        out[turn] = clamped_number(out[turn], low[turn], high[turn]);
+    }
+}

@@ -1,0 +1,21 @@
+//! What an expression comes to at the turns of a run.
+
+use numeric::Ty;
+use tree::Value;
+
+/// A number of a register, which has one for each turn of a run.
+#[derive(Clone, Copy, Debug, Drop)]
+pub struct Number {
+    pub value: i64,
+}
+
+/// What an expression comes to at the turns of a run, which are taken together. All its values are of one type.
+#[derive(Clone, Copy, Debug, Drop)]
+pub enum Lanes {
+    /// One value at all turns.
+    Broadcast(Value),
+    /// This value at the first turn, and one more at each turn after it.
+    Ramp(Value),
+    /// The numbers that a register holds.
+    Vector(Ty),
+}

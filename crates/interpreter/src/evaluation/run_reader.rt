@@ -1,0 +1,32 @@
+//! What an expression is evaluated over at the turns of a run.
+
+ghost use Rattle.std.specs.Prelude.{◌≡◌, ◌∷◌, ◌<◌, ℕ, ℤ, List, Option, Some, IfSome, length};
+ghost use Rattle.numeric.specs.declared.ty.Ty.TheVariants.{I32};
+ghost use Rattle.tree.specs.declared.value.Value.{Value as ValueFound};
+ghost use Rattle.tree.specs.Meaning.{typed};
+ghost use Rattle.plan.specs.Semantics.Memory.{Memory};
+ghost use Rattle.interpreter.specs.declared.evaluation.lanes.Number.{Number as NumberHeld};
+ghost use Rattle.interpreter.specs.Evaluation.Lanes.{lane, number_at, IsNarrowFor};
+
+use crate::evaluation::lanes::{Lanes, Number};
+use numeric::Ty;
+use tree::Value;
+
+/// The numbers that variables stand for at each turn of a run, and what calls find in every memory that agrees with the
+/// reader's. Nothing is found where that is not known.
+pub trait RunReader {
+    ghost variables: { Self → ℕ → List ℕ → ℤ };
+
+    ghost look: { Self → Memory ValueFound → List ℕ → List ℤ → Option ValueFound };
+
+    ghost agrees: { Self → Memory ValueFound → Type 0 };
+
+    /// The numbers that a variable stands for at so many turns.
+    fn variable(&self, name: &str, count: usize) -> Option<Lanes>
+        ensures narrow { IfSome result (IsNarrowFor count) }
+        ensures lanes { IfSome result (λ x. (zs : List NumberHeld) (k : ℕ) → typed I32 (variables self.now k name.now) ≡ lane x zs k) };
+
+    /// What a call of a name finds where the first index is each of the numbers in the register, and these are the others.
+    fn look_each(&self, name: &str, others: &[i64], out: &mut [Number]) -> Option<Ty>
+        ensures { IfSome result (λ t. (m : Memory ValueFound) → agrees self.now m → (k : ℕ) → k < length out.new → look self.now m name.now (number_at out.old k ∷ others.now) ≡ Some (typed t (number_at out.new k))) };
+}

@@ -1,0 +1,223 @@
+//! The operators over the turns of a run.
+
+ghost use Rattle.std.specs.Prelude.{◌≡◌, ◌<◌, ◌^◌, ℕ, ℤ, List, pos, ◌+ℤ◌, ◌≤ℤ◌, length, IfSome, IsTrue};
+ghost use Rattle.numeric.specs.Apply.{exact};
+ghost use Rattle.std.specs.Bool.{OnTrue};
+ghost use Rattle.numeric.specs.Wrap.{wrap};
+ghost use Rattle.tree.specs.Meaning.{applied, clamped, negated, typed};
+ghost use Rattle.interpreter.specs.declared.evaluation.lanes.Lanes.TheVariants.{Ramp};
+ghost use Rattle.interpreter.specs.declared.evaluation.lanes.Number.{Number as NumberHeld};
+ghost use Rattle.interpreter.specs.Evaluation.Lanes.{lane, lane_number, number_at, type_of, IsNarrowFor, IsRamp};
+
+use crate::evaluation::kernels::{apply_all, clamp_each, fill, fill_rising, negate_each, wrap_all};
+use crate::evaluation::lanes::{Lanes, Number};
+use crate::evaluation::operators::{applied, clamped, negated, wrapped};
+use numeric::{Op, Ty};
+use tree::Value;
+
+/// The type of the values.
+pub(crate) fn type_of(lanes: Lanes) -> Ty
+    ensures { result ≡ type_of lanes }
+{
+    match lanes {
+        Lanes::Broadcast(value) | Lanes::Ramp(value) => value.ty,
+        Lanes::Vector(ty) => ty,
+    }
+}
+
+/// Puts the numbers into the register.
+pub(crate) fn spread(lanes: Lanes, out: &mut [Number])
+    requires { IsNarrowFor (length out.old) lanes }
+    ensures { (k : ℕ) → k < length out.new → number_at out.new k ≡ lane_number lanes out.old k }
+{
+    match lanes {
+        Lanes::Broadcast(value) => fill(
+            Number {
+                value: value.number,
+            },
+            out,
+        ),
+        Lanes::Ramp(value) => fill_rising(
+            Number {
+                value: value.number,
+            },
+            out,
+        ),
+        Lanes::Vector(_) => {}
+    }
+}
+
+/// The sum or the difference, where a left number that is more by any amount gives as much more.
+fn exact_sum(op: Op, left: Value, right: Value) -> Option<Value>
+    ensures ty { IfSome result (λ v. v.ty ≡ left.ty) }
+    ensures number { IfSome result (λ v. (more : ℤ) → exact op (left.number +ℤ more) right.number ≡ v.number +ℤ more) }
+{
+    let number = match op {
+        Op::Add => left.number.checked_add(right.number)?,
+        Op::Sub => left.number.checked_sub(right.number)?,
+        _ => return None,
+    };
+    Some(Value {
+        ty: left.ty,
+        number,
+    })
+}
+
+/// Whether numbers of the value's type rise from it on, so many times by one.
+fn is_ramp(first: Value, count: usize) -> bool
+    ensures { OnTrue result (IsRamp count first) }
+{
+    if count > 1 << 60 || first.number > 1 << 60 {
+        return false;
+    }
+    if first.number < first.ty.least() {
+        return false;
+    }
+    if first.number + count as i64 > first.ty.greatest() {
+        return false;
+    }
+    true
+}
+
+/// A ramp with the same number added at all turns, or taken away, where that is a ramp of its type.
+fn move_ramp(op: Op, left: Value, right: Value, count: usize) -> Option<Value>
+    ensures narrow { IfSome result (λ v. IsNarrowFor count (Ramp v)) }
+    ensures lanes { IfSome result (λ v. (k : ℕ) → k < count → typed v.ty (v.number +ℤ pos k) ≡ applied op (typed left.ty (left.number +ℤ pos k)) right) }
+{
+    let moved = exact_sum(op, left, right)?;
+    if is_ramp(moved, count) {
+        Some(moved)
+    } else {
+        None
+    }
+}
+
+/// The operator where no register is needed.
+fn apply_whole(op: Op, left: Lanes, right: Lanes, count: usize) -> Option<Lanes>
+    ensures narrow { IfSome result (IsNarrowFor count) }
+    ensures lanes { IfSome result (λ x. (us vs ws : List NumberHeld) (k : ℕ) → k < count → lane x us k ≡ applied op (lane left vs k) (lane right ws k)) }
+{
+    let Lanes::Broadcast(right) = right else {
+        return None;
+    };
+    match left {
+        Lanes::Broadcast(left) => Some(Lanes::Broadcast(applied(op, left, right))),
+        Lanes::Ramp(left) => Some(Lanes::Ramp(move_ramp(op, left, right, count)?)),
+        Lanes::Vector(_) => None,
+    }
+}
+
+/// The operator on lanes, the left ones over this register and the right ones over another.
+pub(crate) fn apply_lanes(
+    op: Op,
+    left: Lanes,
+    right: Lanes,
+    out: &mut [Number],
+    other: &mut [Number],
+) -> Lanes
+    requires length { length other.old ≡ length out.old }
+    requires left { IsNarrowFor (length out.old) left }
+    requires right { IsNarrowFor (length out.old) right }
+    ensures narrow { IsNarrowFor (length out.new) result }
+    ensures lanes { (k : ℕ) → k < length out.new → lane result out.new k ≡ applied op (lane left out.old k) (lane right other.old k) }
+{
+    match apply_whole(op, left, right, out.len()) {
+        Some(lanes) => lanes,
+        None => {
+            spread(left, out);
+            spread(right, other);
+            apply_all(op, type_of(left), out, other);
+            Lanes::Vector(type_of(left))
+        }
+    }
+}
+
+/// The negation of lanes.
+pub(crate) fn negate_lanes(lanes: Lanes, out: &mut [Number]) -> Lanes
+    requires { IsNarrowFor (length out.old) lanes }
+    ensures narrow { IsNarrowFor (length out.new) result }
+    ensures lanes { (k : ℕ) → k < length out.new → lane result out.new k ≡ negated (lane lanes out.old k) }
+{
+    match lanes {
+        Lanes::Broadcast(value) => Lanes::Broadcast(negated(value)),
+        _ => {
+            spread(lanes, out);
+            negate_each(type_of(lanes), out);
+            Lanes::Vector(type_of(lanes))
+        }
+    }
+}
+
+/// Lanes wrapped to the type.
+pub(crate) fn wrap_lanes(ty: Ty, lanes: Lanes, out: &mut [Number]) -> Lanes
+    requires { IsNarrowFor (length out.old) lanes }
+    ensures narrow { IsNarrowFor (length out.new) result }
+    ensures lanes { (k : ℕ) → k < length out.new → lane result out.new k ≡ typed ty (wrap ty (lane_number lanes out.old k)) }
+{
+    match lanes {
+        Lanes::Broadcast(value) => Lanes::Broadcast(wrapped(ty, value.number)),
+        _ => {
+            spread(lanes, out);
+            wrap_all(ty, out);
+            Lanes::Vector(ty)
+        }
+    }
+}
+
+/// Whether a ramp of so many numbers lies between two numbers.
+fn is_between(first: i64, low: i64, high: i64, count: usize) -> bool
+    ensures low { IsTrue result → low ≤ℤ first }
+    ensures high { IsTrue result → (first +ℤ pos count) ≤ℤ high }
+{
+    low <= first && count < 1 << 60 && first < 1 << 60 && first + count as i64 <= high
+}
+
+/// Lanes between others, where no register is needed.
+fn clamp_whole(value: Lanes, low: Lanes, high: Lanes, count: usize) -> Option<Lanes>
+    requires { IsNarrowFor count value }
+    ensures narrow { IfSome result (IsNarrowFor count) }
+    ensures lanes { IfSome result (λ x. (ts us vs ws : List NumberHeld) (k : ℕ) → k < count → lane x ts k ≡ clamped (lane value us k) (lane low vs k) (lane high ws k)) }
+{
+    let Lanes::Broadcast(low) = low else {
+        return None;
+    };
+    let Lanes::Broadcast(high) = high else {
+        return None;
+    };
+    match value {
+        Lanes::Broadcast(value) => Some(Lanes::Broadcast(clamped(value, low, high))),
+        Lanes::Ramp(first) if is_between(first.number, low.number, high.number, count) => {
+            Some(value)
+        }
+        _ => None,
+    }
+}
+
+/// Lanes over this register between others.
+pub(crate) fn clamp_lanes(
+    value: Lanes,
+    low: Lanes,
+    high: Lanes,
+    out: &mut [Number],
+    lows: &mut [Number],
+    highs: &mut [Number],
+) -> Lanes
+    requires lows { length lows.old ≡ length out.old }
+    requires highs { length highs.old ≡ length out.old }
+    requires value { IsNarrowFor (length out.old) value }
+    requires low { IsNarrowFor (length out.old) low }
+    requires high { IsNarrowFor (length out.old) high }
+    ensures narrow { IsNarrowFor (length out.new) result }
+    ensures lanes { (k : ℕ) → k < length out.new → lane result out.new k ≡ clamped (lane value out.old k) (lane low lows.old k) (lane high highs.old k) }
+{
+    match clamp_whole(value, low, high, out.len()) {
+        Some(lanes) => lanes,
+        None => {
+            spread(value, out);
+            spread(low, lows);
+            spread(high, highs);
+            clamp_each(out, lows, highs);
+            Lanes::Vector(type_of(value))
+        }
+    }
+}

@@ -1,0 +1,159 @@
+//! What a store's expression is evaluated over at the turns of a run.
+
+ghost use Rattle.std.specs.Prelude.{◌≡◌, ◌∷◌, ℕ, ℤ, List, Some, IfSome, map, pos, ◌+ℤ◌, ◌-ℤ◌, ◌*ℤ◌, string_bytes};
+ghost use Rattle.tree.specs.declared.value.Value.{Value as ValueFound};
+ghost use Rattle.tree.specs.Meaning.{typed};
+ghost use Rattle.plan.specs.Semantics.Memory.{Memory};
+ghost use Rattle.plan.specs.Semantics.Run.{look};
+ghost use Rattle.meaning.specs.Names.{bound};
+ghost use Rattle.interpreter.specs.Buffers.Blocks.{memory_of};
+ghost use Rattle.numeric.specs.declared.ty.Ty.TheVariants.{I32};
+ghost use Rattle.interpreter.specs.declared.evaluation.lanes.Number.{Number as NumberHeld};
+ghost use Rattle.interpreter.specs.Evaluation.Lanes.{lane, IsNarrowFor};
+ghost use Rattle.interpreter.specs.Pieces.{around, no_cells};
+ghost use Rattle.interpreter.specs.Runs.{numbers_at, IsBut};
+
+use crate::buffers::Buffers;
+use crate::evaluation::{Lanes, Number, RunReader};
+use crate::loads::claim_of;
+use crate::piece::Piece;
+use crate::reading::{Reading, number_bound, same_name};
+use numeric::Ty;
+use plan::Coordinate;
+use tree::Value;
+
+/// A store's coordinates with their numbers at the first turn of a run and at the second, over what a piece finds around it
+/// and its buffers hold before the run. All buffers are read but the one that the run stores to.
+#[derive(Clone, Copy, Drop)]
+pub(crate) struct RunReading<'a, 'm> {
+    pub piece: &'a Piece<'a>,
+    pub coordinates: &'a [Coordinate],
+    pub memory: &'m Buffers,
+    pub buffer: u32,
+    pub first: &'m [i64],
+    pub second: &'m [i64],
+}
+
+/// Where a name is read.
+#[derive(Clone, Copy, Drop)]
+pub(crate) enum Source {
+    /// In the input.
+    Input,
+    /// In a buffer that is not stored to.
+    Buffer(u32),
+}
+
+impl RunReading<'_, '_> {
+    ghost use Rattle.interpreter.specs.RunReadings.{source_at, IsAside, Means};
+
+    /// The reading at the first turn.
+    fn reading(&self) -> Reading<'_, '_>
+        ensures { result ≡ record { piece = self.now.piece; coordinates = self.now.coordinates; memory = self.now.memory; numbers = self.now.first } }
+    {
+        Reading {
+            piece: self.piece,
+            coordinates: self.coordinates,
+            memory: self.memory,
+            numbers: self.first,
+        }
+    }
+
+    /// Where a name is read. Nothing where it means nothing, or the buffer that the run stores to.
+    fn source(&self, name: &str) -> Option<Source>
+        ensures { IfSome result (Means self.now name.now) }
+    {
+        if same_name(name, self.piece.plan.input.name.as_str()) {
+            return Some(Source::Input);
+        }
+        let claim = self.piece.cert.claims.get(claim_of(name)?)?;
+        if claim.buffer == self.buffer {
+            None
+        } else {
+            Some(Source::Buffer(claim.buffer))
+        }
+    }
+
+    /// What a source has at a point.
+    fn find(&self, source: Source, at: &[i64]) -> Option<Value>
+        ensures { result ≡ source_at self.now (memory_of self.now.memory.now) source at.now }
+    {
+        match source {
+            Source::Input => self.reading().sample(at),
+            Source::Buffer(buffer) => self.memory.read(buffer, at),
+        }
+    }
+
+    /// What a source has at a point of at most two coordinates.
+    fn find_beside(&self, source: Source, first: Number, others: &[i64]) -> Option<Value>
+        ensures { IfSome result (λ v. source_at self.now (memory_of self.now.memory.now) source (first.value ∷ others.now) ≡ Some v) }
+    {
+        match others {
+            [] => self.find(source, &[first.value]),
+            [second] => self.find(source, &[first.value, *second]),
+            _ => None,
+        }
+    }
+
+    /// The type of what a source has at the first of some points that differ in the first coordinate.
+    fn first_type(&self, source: Source, others: &[i64], numbers: &[Number]) -> Option<Ty> {
+        Some(self.find_beside(source, *numbers.first()?, others)?.ty)
+    }
+
+    /// What a source has at a point, where that is of the type.
+    fn find_number(&self, source: Source, ty: Ty, first: Number, others: &[i64]) -> Option<Number>
+        ensures { IfSome result (λ n. source_at self.now (memory_of self.now.memory.now) source (first.value ∷ others.now) ≡ Some (typed ty n.value)) }
+    {
+        let found = self.find_beside(source, first, others)?;
+        if found.ty == ty {
+            Some(Number {
+                value: found.number,
+            })
+        } else {
+            None
+        }
+    }
+}
+
+impl RunReader for RunReading<'_, '_> {
+    ghost variables = { λ r k. bound (map (λ c. string_bytes c.variable) r.coordinates.now) (numbers_at r.first.now r.second.now k) };
+
+    ghost look = { λ r m. look (around r.piece.now no_cells) m };
+
+    ghost agrees = { λ r m. IsBut r.buffer (memory_of r.memory.now) m };
+
+    fn variable(&self, name: &str, count: usize) -> Option<Lanes> {
+        if self.first.len() != self.second.len() {
+            return None;
+        }
+        let first = number_bound(self.coordinates, self.first, name);
+        let second = number_bound(self.coordinates, self.second, name);
+        lanes_of(first, second, count)
+    }
+
+    fn look_each(&self, name: &str, others: &[i64], out: &mut [Number]) -> Option<Ty> {
+        let source = self.source(name)?;
+        let ty = self.first_type(source, others, out)?;
+        for turn in 0..out.len() {
+            out[turn] = self.find_number(source, ty, out[turn], others)?;
+        }
+        Some(ty)
+    }
+}
+
+/// The numbers of a coordinate at so many turns, by those of the first turn and of the second, where it stays or rises by one.
+fn lanes_of(first: i64, second: i64, count: usize) -> Option<Lanes>
+    ensures narrow { IfSome result (IsNarrowFor count) }
+    ensures lanes { IfSome result (λ x. (zs : List NumberHeld) (k : ℕ) → typed I32 (first +ℤ (second -ℤ first) *ℤ pos k) ≡ lane x zs k) }
+{
+    let value = Value {
+        ty: Ty::I32,
+        number: first,
+    };
+    if second == first {
+        Some(Lanes::Broadcast(value))
+    } else if count < 1 << 60 && first < 1 << 60 && second == first + 1 {
+        Some(Lanes::Ramp(value))
+    } else {
+        None
+    }
+}

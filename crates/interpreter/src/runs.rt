@@ -1,0 +1,371 @@
+//! Stores at several turns of a loop together.
+
+ghost use Rattle.std.specs.Prelude.{◌≡◌, ◌<◌, ◌≤◌, ◌+◌, ℕ, ℤ, List, pos, ◌+ℤ◌, ◌≤ℤ◌, ◌^◌, length, map, take, flat_map, All, Contains, IfSome, MatchOption, OnOk, Some, int_le, string_bytes, true};
+ghost use Rattle.tree.specs.declared.value.Value.{Value as ValueFound};
+ghost use Rattle.tree.specs.Meaning.{typed};
+ghost use Rattle.tree.specs.Term.{term_of};
+ghost use Rattle.meaning.specs.Names.{bound};
+ghost use Rattle.plan.specs.Semantics.Found.{found};
+ghost use Rattle.plan.specs.Semantics.Memory.{Memory};
+ghost use Rattle.plan.specs.Semantics.Run.{look};
+ghost use Rattle.plan.specs.Symbols.{bind, rising};
+ghost use Rattle.plan.specs.View.{statement_of};
+ghost use Rattle.std.specs.Option.{option_map};
+ghost use Rattle.plan.specs.Lists.{list_statements};
+ghost use Rattle.plan.specs.Plan.{block};
+ghost use Rattle.interpreter.specs.StoreLines.{alone, IsStore, IsStoreLine};
+ghost use Rattle.interpreter.specs.Bindings.{symbols_of};
+ghost use Rattle.interpreter.specs.Buffers.Blocks.{memory_of};
+ghost use Rattle.interpreter.specs.Evaluation.Indices.{indices_in};
+ghost use Rattle.interpreter.specs.Evaluation.Lanes.{number_at};
+ghost use Rattle.interpreter.specs.Pieces.{around, no_cells, IsReady};
+ghost use Rattle.interpreter.specs.Rows.{listed};
+ghost use Rattle.interpreter.specs.Runs.{are_forms, numbers_at, store_at, FindsTurns, IsBut};
+ghost use Rattle.interpreter.specs.States.{progress_of, EndsIn, IsAsLarge};
+ghost use Rattle.interpreter.specs.Steps.{steps};
+ghost use Rattle.interpreter.specs.Targets.{known_number, indices_of_all, CoordinateIsNarrow};
+ghost use Rattle.interpreter.specs.Visits.{between};
+
+use crate::evaluation::{Number, Stop, evaluate_run, spread, type_of};
+use crate::piece::Piece;
+use crate::row::Row;
+use crate::run_reading::RunReading;
+use crate::sizes::size_in;
+use crate::state::State;
+use crate::store::{known_numbers, of_function, store};
+use crate::symbols::{Binding, Symbols};
+use crate::turns::{Turns, turn};
+use numeric::Ty;
+use plan::{Coordinate, Index, Stmt};
+use tree::{Expr, Value};
+
+/// Whether all coordinates are known by forms.
+fn are_forms(coordinates: &[Coordinate]) -> bool
+    ensures { result ≡ are_forms coordinates.now }
+{
+    coordinates
+        .iter()
+        .all(|coordinate| matches!(coordinate.index, Index::Form(_)))
+}
+
+/// Notes the numbers of all coordinates at a turn.
+fn numbers_in(
+    binding: Binding,
+    coordinates: &[Coordinate],
+    symbols: &mut Symbols,
+    numbers: &mut Row,
+)
+    requires narrow { All (CoordinateIsNarrow (bind (symbols_of symbols.old) binding.symbol binding.value binding.first)) coordinates.now }
+    requires room { length coordinates.now ≤ numbers.old.room }
+    requires symbols { length symbols.old.bound < symbols.old.room }
+    ensures numbers { numbers.new ≡ listed (map (known_number (bind (symbols_of symbols.old) binding.symbol binding.value binding.first)) coordinates.now) numbers.old.room }
+    ensures symbols { symbols.new ≡ symbols.old }
+{
+    let mark = symbols.bound_count();
+    symbols.bind(binding);
+    known_numbers(coordinates, symbols, numbers);
+    symbols.forget(mark);
+}
+
+/// A line that stores.
+#[derive(Clone, Copy, Drop)]
+pub(crate) struct StoreLine<'a> {
+    pub buffer: u32,
+    pub coordinates: &'a [Coordinate],
+    pub value: &'a Expr,
+}
+
+/// The statement of a block that has one alone.
+fn alone(all: &[Stmt]) -> Option<&Stmt>
+    ensures { option_map (λ one. statement_of one.now) result ≡ alone (block (list_statements all.now)) }
+{
+    match all {
+        [] => None,
+        [one] => Some(one),
+        [_, _, ..] => None,
+    }
+}
+
+/// A statement as a line that stores at a point whose coordinates are forms, if it is one.
+fn stored(stmt: &Stmt) -> Option<StoreLine<'_>>
+    ensures { IfSome result (IsStore (statement_of stmt.now)) }
+{
+    let Stmt::Store {
+        buffer,
+        coordinates,
+        value,
+        ..
+    } = stmt
+    else {
+        return None;
+    };
+    if are_forms(coordinates) {
+        Some(StoreLine {
+            buffer: *buffer,
+            coordinates,
+            value,
+        })
+    } else {
+        None
+    }
+}
+
+/// The line that stores at a point whose coordinates are forms, where a statement or a block is that line alone.
+pub(crate) fn store_line(stmt: &Stmt) -> Option<StoreLine<'_>>
+    ensures { IfSome result (IsStoreLine (statement_of stmt.now)) }
+{
+    match stmt {
+        Stmt::Seq(all) => stored(alone(all)?),
+        _ => stored(stmt),
+    }
+}
+
+/// Some turns of a loop, one after another from this number on.
+#[derive(Clone, Copy, Drop)]
+struct Part {
+    turns: Turns,
+    low: i64,
+    count: usize,
+}
+
+/// What the loop's symbol is in the turn that so many of these come before.
+fn turn_in(part: Part, index: usize) -> Binding
+    requires inside { index < part.count }
+    requires few { part.count ≤ 128 }
+    requires high { (part.low +ℤ pos part.count) ≤ℤ pos (2 ^ 63) }
+    ensures { result ≡ record { symbol = part.turns.symbol; value = part.low +ℤ pos index; first = int_le (part.low +ℤ pos index) part.turns.low } }
+{
+    turn(part.turns, part.low + index as i64)
+}
+
+/// The number behind these turns, if there is one of 64 bits.
+fn behind(part: Part) -> Option<i64>
+    requires { part.count ≤ 128 }
+    ensures { MatchOption result (pos (2 ^ 63) ≤ℤ (part.low +ℤ pos part.count)) (λ z. z ≡ part.low +ℤ pos part.count) }
+{
+    part.low.checked_add(part.count as i64)
+}
+
+/// The numbers of an expression at so many turns of a run, put into the first registers: their type.
+fn evaluate_in(
+    expr: &Expr,
+    reader: &RunReading<'_, '_>,
+    count: usize,
+    registers: &mut [Number],
+) -> Option<Ty>
+    ensures count { IfSome result (λ _. count ≤ length registers.new) }
+    ensures finds { IfSome result (λ t. (m : Memory ValueFound) → IsBut reader.now.buffer (memory_of reader.now.memory.now) m → (k : ℕ) → k < count → found (bound (map (λ c. string_bytes c.variable) reader.now.coordinates.now) (numbers_at reader.now.first.now reader.now.second.now k)) (look (around reader.now.piece.now no_cells) m) (term_of expr.now) ≡ Some (typed t (number_at registers.new k))) }
+{
+    if registers.len() < count {
+        return None;
+    }
+    let (out, rest) = registers.split_at_mut(count);
+    let lanes = evaluate_run(expr, reader, out, rest)?;
+    spread(lanes, out);
+    Some(type_of(lanes))
+}
+
+/// The value of a store's line at some turns of a loop, put into the first registers, where it can be found for all of them
+/// together: its type.
+fn evaluate_part<'a>(
+    piece: &'a Piece<'a>,
+    line: &StoreLine<'a>,
+    part: Part,
+    symbols: &mut Symbols,
+    state: &mut State,
+) -> Option<Ty>
+    requires narrow { (k : ℕ) → k < part.count → All (CoordinateIsNarrow (bind (symbols_of symbols.old) part.turns.symbol (part.low +ℤ pos k) (int_le (part.low +ℤ pos k) part.turns.low))) line.now.coordinates.now }
+    requires high { (part.low +ℤ pos part.count) ≤ℤ pos (2 ^ 63) }
+    requires symbols { length symbols.old.bound < symbols.old.room }
+    requires numbers { length line.now.coordinates.now ≤ state.old.numbers.room }
+    requires point { length line.now.coordinates.now ≤ state.old.point.room }
+    ensures finds { IfSome result (λ t. FindsTurns piece.now line.now.buffer line.now.coordinates.now (term_of line.now.value.now) (symbols_of symbols.old) part.turns.symbol part.turns.low part.low (memory_of state.old.memory) part.count t state.new.registers.items) }
+    ensures count { IfSome result (λ _. part.count ≤ length state.new.registers.items) }
+    ensures symbols { symbols.new ≡ symbols.old }
+    ensures memory { progress_of state.new ≡ progress_of state.old }
+    ensures large { IsAsLarge state.old state.new }
+{
+    if part.count < 2 {
+        return None;
+    }
+    let second = part.low + 1;
+    numbers_in(
+        turn(part.turns, part.low),
+        line.coordinates,
+        symbols,
+        &mut state.numbers,
+    );
+    numbers_in(
+        turn(part.turns, second),
+        line.coordinates,
+        symbols,
+        &mut state.point,
+    );
+    let reader = RunReading {
+        piece,
+        coordinates: line.coordinates,
+        memory: &state.memory,
+        buffer: line.buffer,
+        first: state.numbers.as_slice(),
+        second: state.point.as_slice(),
+    };
+    evaluate_in(line.value, &reader, part.count, &mut state.registers)
+}
+
+/// What a register holds for a turn, of the type.
+fn value_at(ty: Ty, registers: &[Number], turn: usize) -> Value
+    requires { turn < length registers.now }
+    ensures { result ≡ typed ty (number_at registers.now turn) }
+{
+    Value {
+        ty,
+        number: registers[turn].value,
+    }
+}
+
+/// Stores the numbers of the first registers at some turns of a loop.
+fn write_part<'a>(
+    piece: &'a Piece<'a>,
+    line: &StoreLine<'a>,
+    ty: Ty,
+    part: Part,
+    symbols: &mut Symbols,
+    state: &mut State,
+) -> Result<(), Stop>
+    requires ready { IsReady piece.now }
+    requires forms { are_forms line.now.coordinates.now ≡ true }
+    requires narrow { (k : ℕ) → k < part.count → All (CoordinateIsNarrow (bind (symbols_of symbols.old) part.turns.symbol (part.low +ℤ pos k) (int_le (part.low +ℤ pos k) part.turns.low))) line.now.coordinates.now }
+    requires few { part.count ≤ 128 }
+    requires high { (part.low +ℤ pos part.count) ≤ℤ pos (2 ^ 63) }
+    requires count { part.count ≤ length state.old.registers.items }
+    requires symbols { length symbols.old.bound < symbols.old.room }
+    requires point { length line.now.coordinates.now ≤ state.old.point.room }
+    requires finds { FindsTurns piece.now line.now.buffer line.now.coordinates.now (term_of line.now.value.now) (symbols_of symbols.old) part.turns.symbol part.turns.low part.low (memory_of state.old.memory) part.count ty state.old.registers.items }
+    ensures symbols { OnOk result (symbols.new ≡ symbols.old) }
+    ensures large { OnOk result (IsAsLarge state.old state.new) }
+    ensures run { (definition : ℕ) (cell : List ℕ → List ℤ → ValueFound) → EndsIn state.old.given.capacity (λ _. progress_of state.new) result (steps (around piece.now cell) (flat_map (store_at piece.now line.now.buffer line.now.coordinates.now (term_of line.now.value.now) (symbols_of symbols.old) part.turns.symbol part.turns.low definition) (rising part.low part.count)) (progress_of state.old)) }
+{
+    let place = of_function(line.coordinates, size_in(piece.sizes, line.buffer));
+    for index in 0..part.count {
+        let binding = turn_in(part, index);
+        numbers_in(binding, place, symbols, &mut state.point);
+        let value = value_at(ty, &state.registers, index);
+        if !state
+            .memory
+            .write(line.buffer, state.point.as_slice(), value)
+        {
+            return Err(Stop::Fault);
+        }
+    }
+    Ok(())
+}
+
+/// The store at some turns of a loop, one after another.
+fn store_one_by_one<'a>(
+    piece: &'a Piece<'a>,
+    line: &StoreLine<'a>,
+    part: Part,
+    symbols: &mut Symbols,
+    state: &mut State,
+) -> Result<(), Stop>
+    requires ready { IsReady piece.now }
+    requires narrow { (k : ℕ) → k < part.count → All (CoordinateIsNarrow (bind (symbols_of symbols.old) part.turns.symbol (part.low +ℤ pos k) (int_le (part.low +ℤ pos k) part.turns.low))) line.now.coordinates.now }
+    requires few { part.count ≤ 128 }
+    requires high { (part.low +ℤ pos part.count) ≤ℤ pos (2 ^ 63) }
+    requires symbols { length symbols.old.bound < symbols.old.room }
+    requires numbers { length line.now.coordinates.now ≤ state.old.numbers.room }
+    requires point { length line.now.coordinates.now ≤ state.old.point.room }
+    requires stack { indices_of_all line.now.coordinates.now + indices_in (term_of line.now.value.now) ≤ state.old.stack.room }
+    ensures symbols { OnOk result (symbols.new ≡ symbols.old) }
+    ensures large { OnOk result (IsAsLarge state.old state.new) }
+    ensures run { (definition : ℕ) (cell : List ℕ → List ℤ → ValueFound) → EndsIn state.old.given.capacity (λ _. progress_of state.new) result (steps (around piece.now cell) (flat_map (store_at piece.now line.now.buffer line.now.coordinates.now (term_of line.now.value.now) (symbols_of symbols.old) part.turns.symbol part.turns.low definition) (rising part.low part.count)) (progress_of state.old)) }
+{
+    let mark = symbols.bound_count();
+    for index in 0..part.count {
+        symbols.bind(turn_in(part, index));
+        store(
+            piece,
+            line.buffer,
+            line.coordinates,
+            line.value,
+            symbols,
+            state,
+        )?;
+        symbols.forget(mark);
+    }
+    Ok(())
+}
+
+/// The store at some turns of a loop.
+fn store_part<'a>(
+    piece: &'a Piece<'a>,
+    line: &StoreLine<'a>,
+    part: Part,
+    symbols: &mut Symbols,
+    state: &mut State,
+) -> Result<(), Stop>
+    requires ready { IsReady piece.now }
+    requires forms { are_forms line.now.coordinates.now ≡ true }
+    requires narrow { (k : ℕ) → k < part.count → All (CoordinateIsNarrow (bind (symbols_of symbols.old) part.turns.symbol (part.low +ℤ pos k) (int_le (part.low +ℤ pos k) part.turns.low))) line.now.coordinates.now }
+    requires few { part.count ≤ 128 }
+    requires high { (part.low +ℤ pos part.count) ≤ℤ pos (2 ^ 63) }
+    requires symbols { length symbols.old.bound < symbols.old.room }
+    requires numbers { length line.now.coordinates.now ≤ state.old.numbers.room }
+    requires point { length line.now.coordinates.now ≤ state.old.point.room }
+    requires stack { indices_of_all line.now.coordinates.now + indices_in (term_of line.now.value.now) ≤ state.old.stack.room }
+    ensures symbols { OnOk result (symbols.new ≡ symbols.old) }
+    ensures large { OnOk result (IsAsLarge state.old state.new) }
+    ensures run { (definition : ℕ) (cell : List ℕ → List ℤ → ValueFound) → EndsIn state.old.given.capacity (λ _. progress_of state.new) result (steps (around piece.now cell) (flat_map (store_at piece.now line.now.buffer line.now.coordinates.now (term_of line.now.value.now) (symbols_of symbols.old) part.turns.symbol part.turns.low definition) (rising part.low part.count)) (progress_of state.old)) }
+{
+    match evaluate_part(piece, line, part, symbols, state) {
+        Some(ty) => write_part(piece, line, ty, part, symbols, state),
+        None => store_one_by_one(piece, line, part, symbols, state),
+    }
+}
+
+/// The turns of a loop from this number on, at most as many as are taken together.
+fn first_part(turns: Turns, low: i64) -> Part
+    requires { low ≤ℤ turns.high }
+    ensures turns { result.turns ≡ turns }
+    ensures low { result.low ≡ low }
+    ensures some { 0 < result.count }
+    ensures few { result.count ≤ 128 }
+    ensures high { (low +ℤ pos result.count) ≤ℤ (turns.high +ℤ pos 1) }
+{
+    let count = match turns.high.checked_sub(low) {
+        Some(more) if more < 127 => more as usize + 1,
+        _ => 128,
+    };
+    Part { turns, low, count }
+}
+
+/// The store at all turns of a loop.
+pub(crate) fn run_stores<'a>(
+    piece: &'a Piece<'a>,
+    line: &StoreLine<'a>,
+    turns: Turns,
+    symbols: &mut Symbols,
+    state: &mut State,
+) -> Result<(), Stop>
+    requires ready { IsReady piece.now }
+    requires forms { are_forms line.now.coordinates.now ≡ true }
+    requires narrow { (z : ℤ) → Contains (between turns.low turns.high) z → All (CoordinateIsNarrow (bind (symbols_of symbols.old) turns.symbol z (int_le z turns.low))) line.now.coordinates.now }
+    requires symbols { length symbols.old.bound < symbols.old.room }
+    requires numbers { length line.now.coordinates.now ≤ state.old.numbers.room }
+    requires point { length line.now.coordinates.now ≤ state.old.point.room }
+    requires stack { indices_of_all line.now.coordinates.now + indices_in (term_of line.now.value.now) ≤ state.old.stack.room }
+    ensures symbols { OnOk result (symbols.new ≡ symbols.old) }
+    ensures large { OnOk result (IsAsLarge state.old state.new) }
+    ensures run { (definition : ℕ) (cell : List ℕ → List ℤ → ValueFound) → EndsIn state.old.given.capacity (λ _. progress_of state.new) result (steps (around piece.now cell) (flat_map (store_at piece.now line.now.buffer line.now.coordinates.now (term_of line.now.value.now) (symbols_of symbols.old) turns.symbol turns.low definition) (between turns.low turns.high)) (progress_of state.old)) }
+{
+    let mut low = turns.low;
+    while low <= turns.high {
+        let part = first_part(turns, low);
+        store_part(piece, line, part, symbols, state)?;
+        let Some(next) = behind(part) else {
+            return Ok(());
+        };
+        low = next;
+    }
+    Ok(())
+}
