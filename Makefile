@@ -55,6 +55,7 @@ bench: out/stencil
 	python3 bench/rows.py out/stencil
 	python3 bench/checks.py out/stencil
 	python3 bench/workers.py out/stencil
+	python3 bench/hostile.py out/stencil
 
 # Tries every wrong body. It takes some hours.
 wrong-bodies:

@@ -19,17 +19,20 @@ use lin::{Forms, Lin, Region, Span1};
 use obligations::context::Facts;
 use plan::Places;
 use plan::certificate::{Own, Window};
-use rules::bounding::PlanBounds;
+use rules::bounding::{Kept, PlanBounds};
 use soundness::binders::{Binder, Bounds};
 use soundness::outline::Outlined;
 use std::alloc::{AllocError, Global};
+use std::cell::RefCell;
 use tree::Expr;
 
 /// The bounds that decide around the lines of a group, with the input's extents as spans and the region that the group's
-/// pieces own.
+/// pieces own. What lines ask again in one scope is answered by what is kept of it.
 #[derive(Drop)]
 pub(crate) struct GroupBounds<'a> {
     pub bounds: PlanBounds<'a>,
+    /// What was answered in the scope that was asked in last.
+    pub kept: RefCell<Kept>,
     pub extents: Vec<Span1>,
     pub own: &'a [Span1],
     /// The line `cert`.
@@ -121,6 +124,7 @@ impl<'a> GroupBounds<'a> {
                 algo,
                 outlined: &*outlined,
             },
+            kept: RefCell::new(Kept::new(alloc)),
             extents,
             own: own_spans(&outlined.cert().own, outlined.number() as u64),
             line: outlined.plan().certificate_line(),
@@ -138,7 +142,12 @@ impl Bounds for GroupBounds<'_> {
         inner: &Span1,
         outer: &Span1,
     ) -> Result<bool, AllocError> {
-        self.bounds.is_within(alloc, binders, inner, outer)
+        match self.kept.try_borrow_mut() {
+            Ok(mut kept) => self
+                .bounds
+                .is_within_kept(alloc, &mut *kept, binders, inner, outer),
+            Err(_) => self.bounds.is_within(alloc, binders, inner, outer),
+        }
     }
 
     fn is_seated(
@@ -148,7 +157,12 @@ impl Bounds for GroupBounds<'_> {
         span: &Span1,
         places: &Places,
     ) -> Result<bool, AllocError> {
-        self.bounds.is_seated(alloc, binders, span, places)
+        match self.kept.try_borrow_mut() {
+            Ok(mut kept) => self
+                .bounds
+                .is_seated_kept(alloc, &mut *kept, binders, span, places),
+            Err(_) => self.bounds.is_seated(alloc, binders, span, places),
+        }
     }
 
     fn interval(
@@ -159,7 +173,12 @@ impl Bounds for GroupBounds<'_> {
         vars: &Region,
         expr: &Expr,
     ) -> Result<Span1, AllocError> {
-        self.bounds.interval(alloc, binders, names, vars, expr)
+        match self.kept.try_borrow_mut() {
+            Ok(mut kept) => self
+                .bounds
+                .interval_kept(alloc, &mut *kept, binders, names, vars, expr),
+            Err(_) => self.bounds.interval(alloc, binders, names, vars, expr),
+        }
     }
 }
 

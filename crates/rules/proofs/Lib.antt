@@ -1,9 +1,11 @@
+mod Asked
 mod Binders
 mod Calls
 mod Intervals
 mod Limits
 mod Named
 mod Scopes
+mod Same
 mod Suited
 pub mod Blocks
 pub mod Chains

@@ -1,5 +1,6 @@
 pub mod Called
 pub mod Held
+pub mod Kept
 pub mod Laws
 pub mod Rules
 pub mod Scopes

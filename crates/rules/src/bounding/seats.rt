@@ -9,8 +9,9 @@ ghost use Rattle.bounds.specs.Spans.{range_of};
 ghost use Rattle.soundness.specs.Shown.{raised};
 ghost use Rattle.rules.specs.Bounding.Seats.{seats, is_seated_in};
 
+use crate::bounding::kept::Kept;
 use crate::bounding::scope::one_form;
-use lin::{Lin, Multiple, Region, Scope, Span1};
+use lin::{Lin, Multiple, Span1};
 use numeric::Ty;
 use plan::Places;
 use std::alloc::{AllocError, Global};
@@ -18,38 +19,39 @@ use std::alloc::{AllocError, Global};
 /// The largest constant of a form within the limits.
 const LARGEST_CONSTANT: u128 = 1 << 40;
 
-/// The region of one span.
-fn alone(alloc: Global, span: &Span1) -> Result<Region, AllocError>
-    ensures { IfOk result (λ region. region ≡ span.now ∷ []) }
-{
-    let mut region = Region::new(alloc);
-    region.push(span.copy(alloc)?)?;
-    Ok(region)
-}
-
-/// Whether each number of a span is shown to be one of another.
-pub(crate) fn is_inside(
+/// Whether each number of each span is shown to be one of another.
+fn are_inside(
     alloc: Global,
-    scope: &Scope,
-    inner: &Span1,
+    kept: &mut Kept,
+    spans: &[Span1],
     outer: &Span1,
 ) -> Result<bool, AllocError>
-    ensures { IfOk result (λ yes. yes ≡ span_inside scope.now inner.now outer.now) }
+    ensures same { OnOk result (kept.new ≡ kept.old) }
+    ensures shown { IfOk result (λ yes. yes ≡ list_all (λ x. span_inside kept.old x outer.now) spans.now) }
 {
-    scope.inside(alloc, &alone(alloc, inner)?, &alone(alloc, outer)?)
+    match spans {
+        [] => Ok(true),
+        [span, rest @ ..] => {
+            if kept.is_inside(alloc, span, outer)? {
+                are_inside(alloc, kept, rest, outer)
+            } else {
+                Ok(false)
+            }
+        }
+    }
 }
 
 /// Whether each number of each span is shown to be an i32.
-pub(crate) fn are_indices(alloc: Global, scope: &Scope, spans: &[Span1]) -> Result<bool, AllocError>
-    ensures { IfOk result (λ yes. yes ≡ list_all (λ x. span_inside scope.now x (range_of Index)) spans.now) }
+pub(crate) fn are_indices(
+    alloc: Global,
+    kept: &mut Kept,
+    spans: &[Span1],
+) -> Result<bool, AllocError>
+    ensures same { OnOk result (kept.new ≡ kept.old) }
+    ensures shown { IfOk result (λ yes. yes ≡ list_all (λ x. span_inside kept.old x (range_of Index)) spans.now) }
 {
     let range = bounds::range(alloc, Ty::I32)?;
-    for span in spans {
-        if !is_inside(alloc, scope, span, &range)? {
-            return Ok(false);
-        }
-    }
-    Ok(true)
+    are_inside(alloc, kept, spans, &range)
 }
 
 /// Adds a term behind the others.
@@ -97,15 +99,15 @@ fn up_to(alloc: Global, form: &Lin, last: i64) -> Result<Span1, AllocError>
 /// Whether each number of a span is shown to have one of so many places from an origin on.
 fn is_between(
     alloc: Global,
-    scope: &Scope,
+    kept: &mut Kept,
     span: &Span1,
     origin: &Lin,
     count: u64,
 ) -> Result<bool, AllocError>
-    ensures { IfOk result (λ yes. yes ≡ span_inside scope.now span.now (seats origin.now count)) }
+    ensures { IfOk result (λ yes. yes ≡ span_inside kept.old span.now (seats origin.now count)) }
 {
     match last_constant(origin, count) {
-        Some(last) => is_inside(alloc, scope, span, &up_to(alloc, origin, last)?),
+        Some(last) => kept.is_inside(alloc, span, &up_to(alloc, origin, last)?),
         None => Ok(false),
     }
 }
@@ -113,14 +115,14 @@ fn is_between(
 /// Whether each number of a span is shown to have a place.
 pub(crate) fn is_seated(
     alloc: Global,
-    scope: &Scope,
+    kept: &mut Kept,
     span: &Span1,
     places: &Places,
 ) -> Result<bool, AllocError>
-    ensures { IfOk result (λ yes. yes ≡ is_seated_in scope.now span.now places.now) }
+    ensures { IfOk result (λ yes. yes ≡ is_seated_in kept.old span.now places.now) }
 {
     match places {
-        Places::From { origin, count } => is_between(alloc, scope, span, origin, *count),
+        Places::From { origin, count } => is_between(alloc, kept, span, origin, *count),
         Places::Folded { count } => Ok(0 < *count),
     }
 }
