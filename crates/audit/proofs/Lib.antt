@@ -5,3 +5,4 @@ mod Named
 mod Grids
 mod Told
 mod OutputGroup
+pub mod OfVerdict

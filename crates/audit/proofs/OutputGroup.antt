@@ -19,7 +19,7 @@ use Rattle.soundness.specs.declared.outline.refusals.code.K.TheVariants.{K10}
 use Rattle.shares.specs.Made as shares
 use Rattle.shares.specs.Made.{own_place}
 use Rattle.checked_plan.specs.Lists as checked
-use Rattle.verdict.specs.Shown.Wide.{HasOutput}
+use Rattle.audit.specs.Verdict.Shown.Wide.{HasOutput}
 use Rattle.audit.specs.Stand.{IsFlaw, IsGroupOf}
 
 -- a point of the group's region is a cell, and the other way round

@@ -1,3 +1,4 @@
 pub mod Head
 pub mod Stand
 pub mod Refused
+pub mod Verdict

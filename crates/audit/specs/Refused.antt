@@ -12,8 +12,8 @@ use Rattle.shares.specs.declared.answer.SharesError.{SharesError}
 use Rattle.shares.specs.declared.answer.SharesError.TheVariants.{Flaw, Memory as Want}
 use Rattle.audit.specs.declared.refusal.CheckError.{CheckError}
 use Rattle.audit.specs.declared.refusal.CheckError.TheVariants.{Refused, Memory}
-use Rattle.verdict.specs.Accepted.{IsAccepted}
-use Rattle.verdict.specs.Faults.{IsFault}
+use Rattle.audit.specs.Verdict.Accepted.{IsAccepted}
+use Rattle.audit.specs.Verdict.Faults.{IsFault}
 use Rattle.audit.specs.Stand.{IsFlaw}
 
 -- a yes: all that is asked of the plan is so

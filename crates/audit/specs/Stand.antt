@@ -12,7 +12,7 @@ use Rattle.rules.specs.Widths.Widths.{wide_lines}
 use Rattle.soundness.specs.Binders.View.{grid_binders}
 use Rattle.claims.specs.First.{AllMet}
 use Rattle.checked_plan.specs.Ready.Ready.{high_end, low_end}
-use Rattle.verdict.specs.Faults.{IsFault}
+use Rattle.audit.specs.Verdict.Faults.{IsFault}
 
 module _ (a : Algorithm) (p : Plan) (c : Certificate) where
   -- the numbers of a group's lines are small

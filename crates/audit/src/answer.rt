@@ -9,8 +9,8 @@ ghost use Rattle.plan.specs.Certificate.Certificate.{certificate_of};
 ghost use Rattle.validation.specs.Groups.Lines.{flaws_of_groups};
 ghost use Rattle.validation.specs.Certificate.Certificate.{flaws_of_certificate, flaws_of_regions};
 ghost use Rattle.checked_plan.specs.Lists.{ListsAreOf};
-ghost use Rattle.verdict.specs.Accepted.{IsAccepted};
-ghost use Rattle.verdict.specs.Shown.Wide.{HasHead};
+ghost use Rattle.audit.specs.Verdict.Accepted.{IsAccepted};
+ghost use Rattle.audit.specs.Verdict.Shown.Wide.{HasHead};
 ghost use Rattle.audit.specs.Refused.{EndsUnowned, IsTold, IsUnownedEnd, but_symbols, told_first, wide_or_owed, with_owed};
 ghost use Rattle.audit.specs.Stand.{AreShown, IsFlaw, IsGroupOf};
 

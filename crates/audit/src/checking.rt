@@ -5,13 +5,14 @@ ghost use Rattle.algo.specs.View.{algorithm_of};
 ghost use Rattle.plan.specs.View.{plan_of};
 ghost use Rattle.plan.specs.Certificate.Certificate.{certificate_of};
 ghost use Rattle.headline.specs.Headline.{Headline};
-ghost use Rattle.verdict.specs.Accepted.{IsAccepted};
+ghost use Rattle.audit.specs.Verdict.Accepted.{IsAccepted};
 ghost use Rattle.audit.specs.Refused.{IsRefused};
 
 use crate::answer::shares_where_accepted;
 use crate::head::head_fault;
 use crate::output::{group_named, output_name};
 use crate::refusal::CheckError;
+use crate::verdict::laws::{accepted_is_ready, accepted_is_right, faults_are_refusals};
 use algo::Algo;
 use checked_plan::Checked;
 use plan::Plan;
@@ -20,7 +21,6 @@ use shares::SharesError;
 use soundness::outline::refusals::K;
 use std::alloc::Global;
 use std::thread::Threads;
-use verdict::laws::{accepted_is_ready, accepted_is_right, faults_are_refusals};
 
 /// Whether a plan with its certificate is right for an algorithm, by what its author wrote alone.
 ///

@@ -4,7 +4,7 @@ ghost use Rattle.std.specs.Prelude.{◌≡◌, IsNone, MatchOption};
 ghost use Rattle.algo.specs.View.{algorithm_of};
 ghost use Rattle.plan.specs.View.{plan_of};
 ghost use Rattle.headline.specs.Head.{FailsHead, output_function};
-ghost use Rattle.verdict.specs.Shown.Wide.{HasHead};
+ghost use Rattle.audit.specs.Verdict.Shown.Wide.{HasHead};
 ghost use Rattle.audit.specs.Head.{HasOutputGroup};
 
 use crate::names::{input_is_same, name_is_same, output_is_same, some_group_is_of};

@@ -12,6 +12,7 @@ mod names;
 mod output;
 mod refusal;
 mod shared;
+pub mod verdict;
 
 pub use checked_plan::Checked;
 pub use checking::check;

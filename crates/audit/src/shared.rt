@@ -8,12 +8,13 @@ ghost use Rattle.plan.specs.Certificate.Certificate.{certificate_of};
 ghost use Rattle.validation.specs.Groups.Lines.{flaws_of_groups};
 ghost use Rattle.validation.specs.Certificate.Certificate.{flaws_of_regions};
 ghost use Rattle.shares.specs.Has.{HasShares};
-ghost use Rattle.verdict.specs.Shown.Wide.{HasOutput};
+ghost use Rattle.audit.specs.Verdict.Shown.Wide.{HasOutput};
 ghost use Rattle.checked_plan.specs.Lists.{ListsAreOf};
 ghost use Rattle.audit.specs.Refused.{IsTold};
 ghost use Rattle.audit.specs.Stand.{IsFlaw, IsGroupOf};
 
 use crate::output::{has_extents, output_extents, own_line};
+use crate::verdict::clear::{groups_are_apart, plans_are_shared, regions_are_small};
 use algo::Algo;
 use plan::Plan;
 use plan::certificate::Cert;
@@ -21,7 +22,6 @@ use shares::{Shares, SharesError, shares_of};
 use soundness::outline::refusals::{Flaw, K, lesser};
 use std::alloc::Global;
 use validation::certificate::laws::no_region_flaw_is_shared;
-use verdict::clear::{groups_are_apart, plans_are_shared, regions_are_small};
 
 /// The flaw of the group of this number, which is the output's, if it lacks a point of the output.
 fn output_flaw(algo: &Algo, plan: &Plan, cert: &Cert, number: usize) -> Option<Flaw>

@@ -12,6 +12,7 @@ learned_by true s t j e more = record {
   drawn = ap (λ (p : Place). p.view.drawn) e;
   seats = ap (λ (p : Place). p.view.seats) e;
   none_left = ap (λ (p : Place). p.view.none_left) e;
+  allowance = ap (λ (p : Place). p.view.allowance) e;
   more = more;
 }
 learned_by false s t j e more = record {
@@ -19,6 +20,7 @@ learned_by false s t j e more = record {
   drawn = ap (λ (p : Place). p.view.drawn) e;
   seats = ap (λ (p : Place). p.view.seats) e;
   none_left = ap (λ (p : Place). p.view.none_left) e;
+  allowance = ap (λ (p : Place). p.view.allowance) e;
   more = more;
 }
 
@@ -27,7 +29,7 @@ same_board true s t j e = ap (λ (p : Place). p.board) e
 same_board false s t j e = ap (λ (p : Place). p.board) e
 
 pub learned_nothing : (v : View) → HasLearned v v
-learned_nothing v = record { last = refl; drawn = refl; seats = refl; none_left = refl; more = λ j h. h }
+learned_nothing v = record { last = refl; drawn = refl; seats = refl; none_left = refl; allowance = refl; more = λ j h. h }
 
 pub learned_on : (u v w : View) → HasLearned u v → HasLearned v w → HasLearned u w
 learned_on u v w one two = record {
@@ -35,6 +37,7 @@ learned_on u v w one two = record {
   drawn = two.drawn ∙ one.drawn;
   seats = two.seats ∙ one.seats;
   none_left = two.none_left ∙ one.none_left;
+  allowance = two.allowance ∙ one.allowance;
   more = λ j h. two.more j (one.more j h);
 }
 
@@ -54,4 +57,11 @@ yes_both false b h = absurd (cc)
 
 -- a seat that filled a piece has learned that it is finished
 pub learned_filled : (s t : Place) (j n : ℕ) → t ≡ seeing s (completed s.view j n) → HasLearned s.view t.view
-learned_filled s t j n is = subst (λ (p : Place). HasLearned s.view p.view) (sym is) (record { last = refl; drawn = refl; seats = refl; none_left = refl; more = λ i h. let lt = h.1 in (suc h.0, omega (arith, lt), h.2) })
+learned_filled s t j n is = subst (λ (p : Place). HasLearned s.view p.view) (sym is) (record {
+  last = refl;
+  drawn = refl;
+  seats = refl;
+  none_left = refl;
+  allowance = refl;
+  more = λ i h. let lt = h.1 in (suc h.0, omega (arith, lt), h.2);
+})

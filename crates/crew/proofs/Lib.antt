@@ -6,14 +6,12 @@ pub mod Bits
 pub mod Typed
 pub mod Told
 pub mod Owners
-pub mod Points
 pub mod Filling
 pub mod Private
 pub mod Learnt
-pub mod Left
+pub mod InOrder
 pub mod Most
-pub mod Suited
 pub mod Scratches
-mod Shared
+pub mod Shared
 pub mod Runs
 pub mod Joining

@@ -1,5 +1,5 @@
 -- What the private runs of a checked plan's pieces give.
-use Rattle.std.proofs.Common.{◌≡◌, ℕ, ◌<◌, ◌≤◌, true, List, [], ◌∷◌, length, map, Some, ℤ, inl, inr, sym, ap, ◌∙◌, subst, arith}
+use Rattle.std.proofs.Common.{◌≡◌, ℕ, ◌<◌, true, List, length, map, Some, ℤ, sym, ap, ◌∙◌, subst, arith}
 use Rattle.std.specs.Prelude.{Contains}
 use Rattle.std.specs.List.{AllByRecursion}
 use Rattle.std.proofs.Props.{props}
@@ -17,7 +17,6 @@ use Rattle.plan.specs.Certificate.Cells.{Cell, grid_point}
 use Rattle.soundness.proofs.Forms.{rec_weaker}
 use Rattle.headline.proofs.Samples.{inputs_are_samples}
 use Rattle.headline.specs.Numbers.{CellsAreNumbered, cell_number, is_cell}
-use Rattle.headline.specs.Parts.{PointsAreCounted}
 use Rattle.headline.specs.Work.{cell_function, cell_value, looked_value, target, type_named, value_or_zero}
 use Rattle.checked_plan.specs.Ready.Ready.{Ready}
 use Rattle.board.specs.Layout.{Layout, own_of, pieces_of, value_at}
@@ -28,9 +27,8 @@ use Rattle.piece.specs.Laws.{PiecesAreNarrow, RunsAreTheWork}
 use Rattle.piece.specs.Looked.{cells_of_piece}
 use Rattle.piece.proofs.Lookups.{are_cells, numbers_are}
 use Rattle.piece.specs.Places.Places.{IsPlaceOf}
-use Rattle.crew.specs.Private.{CanRun, GivesValues, HaveIndices, IsMostFetched, IsMostOwn, IsOwnOf, IsRunnable, as_typed, fetched_of, needs_of, told_by, words_at}
+use Rattle.crew.specs.Private.{CanRun, GivesValues, IsMostOwn, IsOwnOf, as_typed, fetched_of, needs_of, told_by, words_at}
 use Rattle.crew.proofs.Owners.{owner_of}
-use Rattle.crew.proofs.Points.{point_is}
 use Rattle.crew.proofs.Told.{IsTyped, told_values}
 use Rattle.crew.proofs.Typed.{call_typed}
 
@@ -43,14 +41,8 @@ pub record Laws : Type 0 where
   pub work : RunsAreTheWork
   pub narrow : PiecesAreNarrow
   pub numbered : CellsAreNumbered
-  pub counted : PointsAreCounted
 
--- of no cells each has what is asked
-none_of : (P : Cell → Type 0) (f : Cell → ℕ) (xs : List Cell) → length (map f xs) ≤ 0 → AllByRecursion P xs
-none_of P f [] h = tt
-none_of P f (x ∷ xs) h = absurd (omega (arith, h))
-
-module _ (laws : Laws) (x : Checked) (i : Inputs) (most : ℕ) (fits : IsFor x.algo.now i) (fetched : IsMostFetched x (pieces_of (layout_of x)) most) (runnable : IsRunnable (plan_checked x).groups most) where
+module _ (laws : Laws) (x : Checked) (i : Inputs) (fits : IsFor x.algo.now i) where
   abbrev a : Algorithm
   a = algorithm_checked x
 
@@ -74,41 +66,36 @@ module _ (laws : Laws) (x : Checked) (i : Inputs) (most : ℕ) (fits : IsFor x.a
 
   -- ---- what is told of fetched cells
 
-  typed_cell : Ready a p c → HaveIndices p.groups → (y : Cell) → is_cell p y ≡ true → IsTyped a p V (cell_number p) y
-  typed_cell ready ends y h =
+  typed_cell : Ready a p c → (y : Cell) → is_cell p y ≡ true → IsTyped a p V (cell_number p) y
+  typed_cell ready y h =
       let value : value_at V (cell_number p y) ≡ (cell_value a p samples y).number = laws.values x i (cell_number p y) ∙ ap (value_or_zero a p samples) (laws.numbered.stands p y ready.ends h) in
       subst (IsOf (type_named a (cell_function p y))) (sym value)
-      (call_typed a samples x.algo.now.well_formed given (cell_function p y) y.point (point_is a p c laws.counted ready ends y h))
+      (call_typed a samples x.algo.now.well_formed given (cell_function p y) y.point (ready.points y h))
 
-  cells_typed : Ready a p c → (j : ℕ) → j < count → AllByRecursion (IsTyped a p V (cell_number p)) (cells_of_piece p j)
-  cells_typed ready j lt = elim runnable [
-    | inl none ↦
-        let few : length (fetched_of x j) ≤ 0 = subst (λ n. length (fetched_of x j) ≤ n) none (fetched j lt) in
-        none_of (IsTyped a p V (cell_number p)) (cell_number p) (cells_of_piece p j) (subst (λ (ns : List ℕ). length ns ≤ 0) (numbers_are p j) few)
-    | inr ends ↦ rec_weaker (λ y. is_cell p y ≡ true) (IsTyped a p V (cell_number p)) (typed_cell ready ends) (cells_of_piece p j) (are_cells a p c ready j)
-  ]
+  cells_typed : Ready a p c → (j : ℕ) → AllByRecursion (IsTyped a p V (cell_number p)) (cells_of_piece p j)
+  cells_typed ready j = rec_weaker (λ y. is_cell p y ≡ true) (IsTyped a p V (cell_number p)) (typed_cell ready) (cells_of_piece p j) (are_cells a p c ready j)
 
-  told_same : Ready a p c → (j : ℕ) → j < count → (name : List ℕ) (at : List ℤ) →
+  told_same : Ready a p c → (j : ℕ) → (name : List ℕ) (at : List ℤ) →
       told_by a p j (words_at V (fetched_of x j)) name at ≡ looked_value a p (cells_of_piece p j) (map (target a p samples) (fetched_of x j)) name at
-  told_same ready j lt name at =
+  told_same ready j name at =
       let cells = cells_of_piece p j in
       ap (λ (ns : List ℕ). as_typed (looked_value a p cells (words_at V ns) name at)) (numbers_are p j)
-      ∙ told_values a p V (cell_number p) cells (cells_typed ready j lt) name at
+      ∙ told_values a p V (cell_number p) cells (cells_typed ready j) name at
       ∙ ap (λ (ns : List ℕ). looked_value a p cells (map (value_at V) ns) name at) (sym (numbers_are p j))
       ∙ (λ k. looked_value a p cells (map (λ n. laws.values x i n k) (fetched_of x j)) name at)
 
   runs_right : (j n k : ℕ) (at : IsPlaceOf p.groups j n k) → j < count →
       piece_gives p c samples (told_by a p j (words_at V (fetched_of x j))) n (grid_point at.g.grid k) ≡ Some (map (value_at V) (own_of (layout_of x) j))
   runs_right j n k at lt = ∥∥₁_elim x.ready (search props) (λ ready.
-      (λ v. piece_gives p c samples (λ name q. told_same ready j lt name q v) n (grid_point at.g.grid k))
+      (λ v. piece_gives p c samples (λ name q. told_same ready j name q v) n (grid_point at.g.grid k))
       ∙ laws.work a p c samples (map (target a p samples) (fetched_of x j)) j n k at
       ∙ laws.runs x i j fits lt)
 
   -- ---- lists
 
-  needs_earlier : (j : ℕ) → j < count → (m : ℕ) → Contains (needs_of x j) m → m < count
+  needs_earlier : (j : ℕ) → j < count → (m : ℕ) → Contains (needs_of x j) m → m < j
   needs_earlier j lt m there = ∥∥₁_elim (laws.works x samples given) (search props) (λ s.
-      let before = s.lists.earlier j m (subst (λ n. j < n) (laws.own x samples).pieces lt) there in omega (arith, lt, before))
+      s.lists.earlier j m (subst (λ n. j < n) (laws.own x samples).pieces lt) there)
 
   owned : (j : ℕ) → j < count → (n : ℕ) → Contains (fetched_of x j) n → IsOwnOf (layout_of x) (needs_of x j) n
   owned j lt n there = owner_of (needs_of x j) (own_of (layout_of x)) n (λ none. ∥∥₁_elim (laws.works x samples given) (hlevel props) (λ s.
@@ -126,12 +113,12 @@ module _ (laws : Laws) (x : Checked) (i : Inputs) (most : ℕ) (fits : IsFor x.a
   }
 
 -- the pieces of a checked plan, as they are handed to the workers
-pub pieces_give : Laws → (x : Checked) (i : Inputs) (m : Layout) (w : List ℤ) (fetched own : ℕ) → IsFor x.algo.now i → IsMostFetched x (pieces_of (layout_of x)) fetched → IsRunnable (plan_checked x).groups fetched
-    → m ≡ layout_of x → w ≡ values_of x i → IsMostOwn (layout_of x) own → length x.pieces.items ≡ pieces_of (layout_of x) → CanRun m w x (picture_of i) own
-pieces_give laws x i m w fetched own fits most runnable em ew h count =
+pub pieces_give : Laws → (x : Checked) (i : Inputs) (m : Layout) (w : List ℤ) (own : ℕ) → IsFor x.algo.now i → m ≡ layout_of x → w ≡ values_of x i → IsMostOwn (layout_of x) own →
+    length x.pieces.items ≡ pieces_of (layout_of x) → CanRun m w x (picture_of i) own
+pieces_give laws x i m w own fits em ew h count =
     let G : Layout → List ℤ → Type 0 = λ l v. GivesValues l v (algorithm_checked x) (plan_checked x) (certificate_checked x) (picture_of i) in (
       (
-        subst (λ (l : Layout). G l w) (sym em) (subst (λ (v : List ℤ). G (layout_of x) v) (sym ew) (gives_values laws x i fetched fits most runnable)),
+        subst (λ (l : Layout). G l w) (sym em) (subst (λ (v : List ℤ). G (layout_of x) v) (sym ew) (gives_values laws x i fits)),
         subst (λ l. IsMostOwn l own) (sym em) h,
       ),
       subst (λ (l : Layout). length x.pieces.items ≡ pieces_of l) (sym em) count,

@@ -14,12 +14,13 @@ KnowsOf v w = (j : ℕ) → Knows w j → Knows v j
 abbrev pub KnowsEach : View → List ℕ → Type 0
 KnowsEach v ms = (j : ℕ) → Contains ms j → Knows v j
 
--- the seat has drawn what it had drawn, and knows what it knew
+-- the seat has drawn what it had drawn, may split off as many seats as before, and knows what it knew
 pub record HasLearned (before after : View) : Type 0 where
   pub last : after.last ≡ before.last
   pub drawn : after.drawn ≡ before.drawn
   pub seats : after.seats ≡ before.seats
   pub none_left : after.none_left ≡ before.none_left
+  pub allowance : after.allowance ≡ before.allowance
   pub more : KnowsOf after before
 
 -- one of these pieces was not finished at a step that the seat took once it knew all this

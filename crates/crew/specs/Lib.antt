@@ -2,5 +2,4 @@ pub mod Crews
 pub mod Learning
 pub mod Opening
 pub mod Private
-pub mod Refusals
 pub mod Workers

@@ -1,19 +1,15 @@
 -- What the private runs of a checked plan's pieces give, and the memory that they need.
-use Rattle.std.specs.Prelude.{◌≡◌, ℕ, ◌<◌, ◌≤◌, ◌⊎◌, List, [], length, map, Option, Some, None, ℤ, pos, Contains, slice_get, vec_capacity}
-use Rattle.std.specs.List.{AllByRecursion}
-use Rattle.numeric.specs.Wrap.{wrap, IsOf}
-use Rattle.numeric.specs.declared.ty.Ty.TheVariants.{I32}
+use Rattle.std.specs.Prelude.{◌≡◌, ℕ, ◌<◌, ◌≤◌, List, [], length, map, Option, Some, None, ℤ, pos, Contains, slice_get, vec_capacity}
+use Rattle.numeric.specs.Wrap.{wrap}
 use Rattle.meaning.specs.Image.View.{Picture}
 use Rattle.tree.specs.Meaning.{typed}
 use Rattle.tree.specs.declared.value.Value.{Value}
-use Rattle.lin.specs.declared.span.Span1.{Span1}
 use Rattle.meaning.specs.Algorithm.{Algorithm}
 use Rattle.meaning.specs.Value.{Calls}
 use Rattle.plan.specs.Plan.{Group, Plan}
 use Rattle.plan.specs.Certificate.Certificate.{Certificate}
 use Rattle.plan.specs.Certificate.Cells.{grid_point, pieces}
 use Rattle.headline.specs.Work.{looked_value, needed_pieces, of_piece}
-use Rattle.checked_plan.specs.Ready.Ready.{high_end, low_end}
 use Rattle.checked_plan.specs.declared.checked.Checked.{Checked}
 use Rattle.checked_plan.specs.View.{algorithm_checked, plan_checked, certificate_checked}
 use Rattle.board.specs.Layout.{Layout, own_of, pieces_of, value_at}
@@ -25,7 +21,6 @@ use Rattle.interpreter.specs.declared.scratch.Scratch.{Scratch}
 use Rattle.piece.specs.Looked.{cells_of_piece, numbers_of_piece}
 use Rattle.piece.specs.declared.cells.LookedCells.{LookedCells}
 use Rattle.piece.specs.Places.Places.{IsPlaceOf}
-use Rattle.crew.specs.Opening.Layouts.{layout_of}
 
 -- ---- what a piece fetches and needs
 
@@ -80,33 +75,14 @@ pub record HasRoom (x : Checked) (count : ℕ) (l : LookedCells) : Type 0 where
   pub plan : l.cells.now.checked.now ≡ x
   pub room : IsMostFetched x count (vec_capacity l.looked)
 
--- ---- which plans workers can run
-
--- the ends of a span are i32 values
-pub record HasIndexEnds (x : Span1) : Type 0 where
-  pub low : IsOf I32 (low_end x)
-  pub high : IsOf I32 (high_end x)
-
--- all cells' coordinates are i32 values
-abbrev pub HaveIndices : List Group → Type 0
-HaveIndices gs = AllByRecursion (λ g. AllByRecursion HasIndexEnds g.region) gs
-
--- where pieces fetch cells, at most so many, all cells' coordinates are i32 values, so that their values are told by their bits
-abbrev pub IsRunnable : List Group → ℕ → Type 0
-IsRunnable gs most = (most ≡ 0) ⊎ HaveIndices gs
-
--- of a checked plan: no piece fetches a cell, or all cells' coordinates are i32 values
-abbrev pub IsForWorkers : Checked → Type 0
-IsForWorkers x = IsMostFetched x (pieces_of (layout_of x)) 0 ⊎ HaveIndices (plan_checked x).groups
-
 -- ---- what pieces give
 
 -- on this picture each piece can be run, and gives the values of its own cells once it is told the bits of those that it
--- fetches; these are own cells of pieces that it needs
+-- fetches; these are own cells of pieces that it needs, which are earlier ones
 pub record GivesValues (layout : Layout) (values : List ℤ) (a : Algorithm) (p : Plan) (c : Certificate) (picture : Picture) : Type 0 where
   pub extents : picture.extents ≡ p.input.extents
   pub all : length (pieces p) ≡ pieces_of layout
-  pub needs : (j : ℕ) → j < pieces_of layout → (m : ℕ) → Contains (needs_in p c j) m → m < pieces_of layout
+  pub needs : (j : ℕ) → j < pieces_of layout → (m : ℕ) → Contains (needs_in p c j) m → m < j
   pub fetched : (j : ℕ) → j < pieces_of layout → (n : ℕ) → Contains (numbers_of_piece p j) n → IsOwnOf layout (needs_in p c j) n
   pub narrow : (j n k : ℕ) (at : IsPlaceOf p.groups j n k) → PieceIsNarrow c n at.g (grid_point at.g.grid k)
   pub gives : (j n k : ℕ) (at : IsPlaceOf p.groups j n k) → j < pieces_of layout →

@@ -1,32 +1,28 @@
 //! The run of a checked plan by a crew.
 
-ghost use Rattle.std.specs.Prelude.{◌≡◌, ◌≤◌, IfErr, IfNone, IfOk, IfSome};
-ghost use Rattle.algo.specs.View.{picture_of, picture_said, samples_of, IsFor};
-ghost use Rattle.checked_plan.specs.View.{algorithm_checked, plan_checked};
-ghost use Rattle.board.specs.Layout.{pieces_of};
+ghost use Rattle.std.specs.Prelude.{◌≡◌, ◌≤◌, IfErr, IfOk};
+ghost use Rattle.algo.specs.View.{picture_said, samples_of, IsFor};
+ghost use Rattle.checked_plan.specs.View.{algorithm_checked};
 ghost use Rattle.board.specs.Seats.{place};
 ghost use Rattle.board.specs.Views.{first_view};
 ghost use Rattle.crew.specs.Opening.Layouts.{layout_of, values_of};
-ghost use Rattle.board.specs.Views.{IsDone};
-ghost use Rattle.crew.specs.Crews.{ArePieces};
-ghost use Rattle.crew.specs.Private.{CanRun, IsForWorkers, IsMostFetched, IsRunnable};
-ghost use Rattle.crew.specs.Refusals.{HasWorked, IsRunRefused};
+ghost use Rattle.crew.specs.Crews.{ArePieces, HasWorked};
 ghost use Rattle.crew.specs.declared.running.RunError.TheVariants.{Memory as OutOfMemory};
 ghost use Rattle.meaning.specs.Image.View.{image_of};
 
+use crate::counts::{most_fetched, most_own};
 use crate::gate::Gate;
 use crate::opening::laws::{
     own_is_of_work, pictures_are_said, runs_give_values, values_are_targets, works_are_sound,
 };
 use crate::opening::open;
-use crate::runnable::{is_runnable, most_fetched, most_own};
 use crate::values::Pieces;
 use crate::workers::{hire, united, work_all};
 use algo::Inputs;
 use board::{Board, BoardSeat, Run, Unfinished};
 use checked_plan::Checked;
 use checked_plan::output::PlanCells;
-use headline::laws::{cells_are_numbered, points_are_counted};
+use headline::laws::cells_are_numbered;
 use meaning::image::Image;
 use piece::laws::{pieces_are_narrow, runs_are_the_work};
 use std::alloc::{AllocError, Global};
@@ -39,7 +35,7 @@ use std::thread::Threads;
 pub enum RunError {
     /// Memory ran out: for the board, or for the private runs of a worker. No worker was started.
     Memory,
-    /// The piece of this number, the lowest, is not finished.
+    /// The piece of this number, the lowest, is not finished. No run of a checked plan answers it.
     Unfinished(u32),
 }
 
@@ -51,50 +47,29 @@ impl From<AllocError> for RunError {
     }
 }
 
-/// The pieces of a checked plan on an input, for workers at its board.
-fn pieces_on<'a, J: Run>(checked: &'a Checked<'a>, inputs: &'a Inputs, most: usize) -> Pieces<'a>
-    requires layout { J.layout ≡ layout_of checked.now }
-    requires values { J.values ≡ values_of checked.now inputs.now }
-    requires input { IsFor checked.now.algo.now inputs.now }
-    requires fetched { IsMostFetched checked.now (pieces_of (layout_of checked.now)) most }
-    requires runnable { IsRunnable (plan_checked checked.now).groups most }
-    ensures ready { CanRun J.layout J.values result.checked.now (picture_of result.inputs.now) result.most }
-    ensures same { result.checked.now ≡ checked.now }
-    ensures inputs { result.inputs.now ≡ inputs.now }
-{
-    own_is_of_work();
-    works_are_sound();
-    values_are_targets();
-    runs_give_values();
-    runs_are_the_work();
-    pieces_are_narrow();
-    cells_are_numbered();
-    points_are_counted();
-    let _count = checked.pieces();
-    Pieces {
-        checked,
-        inputs,
-        most: most_own(checked),
-    }
-}
-
 impl<'a> Pieces<'a> {
-    /// The pieces of a checked plan on an input of its algorithm, none where workers cannot run them.
+    /// The pieces of a checked plan on an input of its algorithm, for workers at a board that is for both.
     ///
-    /// It takes no memory. The time is linear in the groups and the pieces.
-    pub fn of<J: Run>(checked: &'a Checked<'a>, inputs: &'a Inputs) -> Option<Pieces<'a>>
+    /// It takes no memory. The time is linear in the pieces.
+    pub fn of<J: Run>(checked: &'a Checked<'a>, inputs: &'a Inputs) -> Pieces<'a>
         requires layout { J.layout ≡ layout_of checked.now }
         requires values { J.values ≡ values_of checked.now inputs.now }
         requires input { IsFor checked.now.algo.now inputs.now }
-        ensures ready { IfSome result (ArePieces J.layout J.values) }
-        ensures same { IfSome result (λ pieces. (pieces.checked.now ≡ checked.now) × (pieces.inputs.now ≡ inputs.now)) }
-        ensures none { IfNone result (IsForWorkers checked.now → ⊥) }
+        ensures ready { ArePieces J.layout J.values result }
+        ensures same { (result.checked.now ≡ checked.now) × (result.inputs.now ≡ inputs.now) }
     {
-        let most = most_fetched(checked);
-        if is_runnable(checked.plan(), most) {
-            Some(pieces_on::<J>(checked, inputs, most))
-        } else {
-            None
+        own_is_of_work();
+        works_are_sound();
+        values_are_targets();
+        runs_give_values();
+        runs_are_the_work();
+        pieces_are_narrow();
+        cells_are_numbered();
+        let _count = checked.pieces();
+        Pieces {
+            checked,
+            inputs,
+            most: most_own(checked),
         }
     }
 }
@@ -108,53 +83,22 @@ fn work_on<J: Run + Send + Sync, R: Threads + Wait + Sync, G: Gate>(
     first: BoardSeat,
     checked: &Checked<'_>,
     inputs: &Inputs,
-    most: usize,
     workers: usize,
     gate: &G,
 ) -> Result<BoardSeat, AllocError>
     requires layout { J.layout ≡ layout_of checked.now }
     requires values { J.values ≡ values_of checked.now inputs.now }
     requires input { IsFor checked.now.algo.now inputs.now }
-    requires fetched { IsMostFetched checked.now (pieces_of (layout_of checked.now)) most }
-    requires runnable { IsRunnable (plan_checked checked.now).groups most }
     requires seat { first ≡ place board.now first_view }
     requires workers { (1 ≤ workers) × (workers ≤ 64) }
     ensures { IfOk result (λ seat. HasWorked first seat) }
 {
     let cells = PlanCells::of(alloc, checked)?;
-    let runs = pieces_on::<J>(checked, inputs, most);
+    let runs = Pieces::of::<J>(checked, inputs);
+    let most = most_fetched(checked);
     let mut crew = hire::<J, Pieces<'_>>(alloc, board, first, &runs, &cells, most, workers)?;
     work_all(rt, alloc, board, &runs, gate, crew.as_mut_slice());
     Ok(united(board, crew))
-}
-
-/// The first seat of a board that was just opened, once workers have done all there is to do, where they can run the plan, and
-/// else as it is.
-fn work_if_runnable<J: Run + Send + Sync, R: Threads + Wait + Sync, G: Gate>(
-    rt: &R,
-    alloc: Global,
-    board: &Board<J>,
-    first: BoardSeat,
-    checked: &Checked<'_>,
-    inputs: &Inputs,
-    workers: usize,
-    gate: &G,
-) -> Result<BoardSeat, AllocError>
-    requires layout { J.layout ≡ layout_of checked.now }
-    requires values { J.values ≡ values_of checked.now inputs.now }
-    requires input { IsFor checked.now.algo.now inputs.now }
-    requires seat { first ≡ place board.now first_view }
-    requires workers { (1 ≤ workers) × (workers ≤ 64) }
-    ensures board { IfOk result (λ seat. seat.board ≡ first.board) }
-    ensures done { IfOk result (λ seat. IsForWorkers checked.now → IsDone seat.view) }
-{
-    let most = most_fetched(checked);
-    if is_runnable(checked.plan(), most) {
-        return work_on(
-            rt, alloc, board, first, checked, inputs, most, workers, gate,
-        );
-    }
-    Ok(first)
 }
 
 /// The run, on a board for this checked plan and this input.
@@ -171,12 +115,11 @@ fn run_on<J: Run + Send + Sync, G: Gate, R: Threads + Wait + Sync>(
     requires workers { (1 ≤ workers) × (workers ≤ 64) }
     requires input { IsFor checked.now.algo.now inputs.now }
     ensures picture { IfOk result (λ image. image_of image ≡ picture_said (algorithm_checked checked.now) (samples_of inputs.now)) }
-    ensures refused { IfErr result (IsRunRefused checked.now) }
+    ensures refused { IfErr result (λ error. error ≡ OutOfMemory) }
 {
-    own_is_of_work();
     pictures_are_said();
     let (board, first) = open::<J>(alloc, checked, inputs)?;
-    let seat = work_if_runnable(rt, alloc, &board, first, checked, inputs, workers, gate)?;
+    let seat = work_on(rt, alloc, &board, first, checked, inputs, workers, gate)?;
     match board.close(seat) {
         Ok(image) => Ok(image),
         Err(Unfinished(piece)) => Err(RunError::Unfinished(piece)),
@@ -192,8 +135,6 @@ fn run_on<J: Run + Send + Sync, G: Gate, R: Threads + Wait + Sync>(
 /// The gate hears of each piece from the worker that drew it, after the draw and after it is finished. The worker goes on once
 /// the gate's call returns.
 ///
-/// No worker starts, and all pieces stay unfinished, where `can_run` says no. Where it says yes no piece does.
-///
 /// The board takes 8 bytes for each piece and each cell (twice as much while it opens), and keeps the own cells and the
 /// cells of the picture, 4 bytes each, and the picture's samples, 2 bytes each. For each coordinate of a group's region
 /// 16 bytes are kept. Each worker has a desk. On it lies a scratch for each group, which takes 24 bytes for each place of the
@@ -203,8 +144,7 @@ fn run_on<J: Run + Send + Sync, G: Gate, R: Threads + Wait + Sync>(
 /// before the first worker starts; the workers take no memory.
 ///
 /// # Errors
-/// `Memory` where memory runs out, which is before the first worker starts. `Unfinished` with the lowest piece that is not
-/// finished, and only where `can_run` says no.
+/// `Memory` where memory runs out, which is before the first worker starts. No piece is left unfinished.
 pub fn run<G: Gate, R: Threads + Wait + Sync>(
     rt: &R,
     alloc: Global,
@@ -216,7 +156,7 @@ pub fn run<G: Gate, R: Threads + Wait + Sync>(
     requires workers { (1 ≤ workers) × (workers ≤ 64) }
     requires input { IsFor checked.now.algo.now inputs.now }
     ensures picture { IfOk result (λ image. image_of image ≡ picture_said (algorithm_checked checked.now) (samples_of inputs.now)) }
-    ensures refused { IfErr result (IsRunRefused checked.now) }
+    ensures refused { IfErr result (λ error. error ≡ OutOfMemory) }
 {
     run_on::<Brand, G, R>(rt, alloc, checked, inputs, workers, gate)
 }

@@ -9,8 +9,8 @@ ghost use Rattle.crew.specs.Opening.Layouts.{layout_of};
 ghost use Rattle.crew.specs.Private.{HasRoom, IsMostFetched};
 ghost use Rattle.crew.specs.Workers.{seats_held, HasDrawnAll, IsReady};
 
+use crate::counts::most_fetched;
 use crate::gate::Gate;
-use crate::runnable::most_fetched;
 use crate::values::{Desk, Pieces, PrivateRuns};
 use crate::worker::draw_and_fill;
 use board::{Board, BoardSeat, Run};

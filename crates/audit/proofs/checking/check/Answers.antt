@@ -4,7 +4,7 @@ use Rattle.plan.specs.View.{plan_of}
 use Rattle.plan.specs.Certificate.Certificate.{certificate_of}
 use Rattle.soundness.specs.Outline.Refusals.Codes.{number_of}
 use Rattle.shares.specs.declared.answer.SharesError.{SharesError}
-use Rattle.verdict.specs.Faults.{IsFault}
+use Rattle.audit.specs.Verdict.Faults.{IsFault}
 use Rattle.audit.specs.Refused.{IsTold}
 use Rattle.audit.proofs.checking.check.Goals as goal
 

@@ -1,13 +1,13 @@
 use denote.Param.Send.{IsSync, sendable}
 use Rattle.std.proofs.Crossing.{crosses}
 use Rattle.crew.proofs.Shared.{as_parameter, checked_sync, inputs_sync}
-use Rattle.crew.proofs.running.work_on.Lts.{arg-9-0, arg-9-1, arg-9-2, arg-9-3}
+use Rattle.crew.proofs.running.work_on.Lts.{arg-10-0, arg-10-1, arg-10-2, arg-10-3}
 use Rattle.crew.proofs.running.work_on.Goals as goal
 
 pub work_all-requires-sync-P : goal.work_all-requires-sync-P
 work_all-requires-sync-P g c κs within =
-    let pieces : IsSync (arg-9-1 g.row.J g.row.R g.row.G g.J.laws g.R.laws g.G.laws g.J.Run g.J.Run-dict g.R.Threads g.R.Threads-dict g.R.Wait g.R.Wait-dict g.G.Gate g.G.Gate-dict κs) = search (sendable, crosses, checked_sync, inputs_sync) depth 20 in
-    as_parameter (arg-9-0 g.row.J g.row.R g.row.G g.J.laws g.R.laws g.G.laws g.J.Run g.J.Run-dict g.R.Threads g.R.Threads-dict g.R.Wait g.R.Wait-dict g.G.Gate g.G.Gate-dict κs)
-    (arg-9-1 g.row.J g.row.R g.row.G g.J.laws g.R.laws g.G.laws g.J.Run g.J.Run-dict g.R.Threads g.R.Threads-dict g.R.Wait g.R.Wait-dict g.G.Gate g.G.Gate-dict κs)
-    (arg-9-2 g.row.J g.row.R g.row.G g.J.laws g.R.laws g.G.laws g.J.Run g.J.Run-dict g.R.Threads g.R.Threads-dict g.R.Wait g.R.Wait-dict g.G.Gate g.G.Gate-dict κs)
-    (arg-9-3 g.row.J g.row.R g.row.G g.J.laws g.R.laws g.G.laws g.J.Run g.J.Run-dict g.R.Threads g.R.Threads-dict g.R.Wait g.R.Wait-dict g.G.Gate g.G.Gate-dict κs) pieces
+    let pieces : IsSync (arg-10-1 g.row.J g.row.R g.row.G g.J.laws g.R.laws g.G.laws g.J.Run g.J.Run-dict g.R.Threads g.R.Threads-dict g.R.Wait g.R.Wait-dict g.G.Gate g.G.Gate-dict κs) = search (sendable, crosses, checked_sync, inputs_sync) depth 20 in
+    as_parameter (arg-10-0 g.row.J g.row.R g.row.G g.J.laws g.R.laws g.G.laws g.J.Run g.J.Run-dict g.R.Threads g.R.Threads-dict g.R.Wait g.R.Wait-dict g.G.Gate g.G.Gate-dict κs)
+    (arg-10-1 g.row.J g.row.R g.row.G g.J.laws g.R.laws g.G.laws g.J.Run g.J.Run-dict g.R.Threads g.R.Threads-dict g.R.Wait g.R.Wait-dict g.G.Gate g.G.Gate-dict κs)
+    (arg-10-2 g.row.J g.row.R g.row.G g.J.laws g.R.laws g.G.laws g.J.Run g.J.Run-dict g.R.Threads g.R.Threads-dict g.R.Wait g.R.Wait-dict g.G.Gate g.G.Gate-dict κs)
+    (arg-10-3 g.row.J g.row.R g.row.G g.J.laws g.R.laws g.G.laws g.J.Run g.J.Run-dict g.R.Threads g.R.Threads-dict g.R.Wait g.R.Wait-dict g.G.Gate g.G.Gate-dict κs) pieces

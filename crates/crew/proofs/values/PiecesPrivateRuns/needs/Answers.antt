@@ -13,4 +13,6 @@ returns-clause-needs g c = c.needs.ensures []
 pub returns-clause-pieces : goal.returns-clause-pieces
 returns-clause-pieces g c = λ k lt.
     let xs = c.needs.result.now in
-    c.requires.runs.0.0.needs c.args.piece c.requires.piece (slice_index xs k) (at_place_there xs (needs_of c.args.self.now.checked.now c.args.piece) k (c.needs.ensures []) lt)
+    let before = c.requires.runs.0.0.needs c.args.piece c.requires.piece (slice_index xs k) (at_place_there xs (needs_of c.args.self.now.checked.now c.args.piece) k (c.needs.ensures []) lt) in
+    let inside = c.requires.piece in
+    omega (arith, before, inside)

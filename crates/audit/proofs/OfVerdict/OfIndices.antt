@@ -1,0 +1,4 @@
+pub mod Given
+pub mod Owned
+pub mod Points
+pub mod Sets

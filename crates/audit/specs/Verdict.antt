@@ -1,0 +1,11 @@
+pub mod Shown
+pub mod Bounded
+pub mod Accepted
+pub mod Clear
+pub mod Examples
+pub mod Indices
+pub mod Faults
+pub mod Laws
+pub mod Plain
+pub mod Worked
+pub mod Plans

@@ -1,0 +1,9 @@
+//! What the checker of plans asks, as one definition; what a yes gives, and what a refusal says.
+
+pub mod bounded;
+pub mod clear;
+pub mod examples;
+pub mod indices;
+pub mod laws;
+pub mod plans;
+pub mod shown;

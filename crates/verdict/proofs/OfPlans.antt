@@ -1,6 +1,0 @@
-mod Altered
-mod Counted
-mod Parts
-mod Rules
-mod Run
-mod Summed

@@ -1,4 +1,0 @@
-use Rattle.verdict.proofs.plans.sums.all_points_are_enough.Goals as goal
-
-pub returns : goal.returns
-returns c = c.scan_is_sound.ensures

@@ -1,9 +1,0 @@
-//! What the checker of plans asks, as one definition; what a yes gives, and what a refusal says.
-#![tactic(auto)]
-
-pub mod bounded;
-pub mod clear;
-pub mod examples;
-pub mod laws;
-pub mod plans;
-pub mod shown;
