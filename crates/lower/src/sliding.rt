@@ -52,13 +52,10 @@ fn lets_of(alloc: Global, steps: &[Step]) -> Result<Vec<Sym>, AllocError> {
 
 /// The innermost loop of the steps, with what stands behind it.
 pub(crate) fn track_of(alloc: Global, steps: &[Step]) -> Result<Option<Track>, AllocError> {
-    let mut rest = steps;
-    for _step in 0..steps.len() {
-        let [before @ .., last] = rest else {
-            return Ok(None);
-        };
-        if let Step::Turns { symbol, .. } = last {
-            let behind = match steps.get(rest.len()..) {
+    for inner in 0..steps.len() {
+        let place = steps.len() - 1 - inner;
+        if let Step::Turns { symbol, .. } = &steps[place] {
+            let behind = match steps.get(place + 1..) {
                 Some(behind) => behind,
                 None => &[],
             };
@@ -68,7 +65,6 @@ pub(crate) fn track_of(alloc: Global, steps: &[Step]) -> Result<Option<Track>, A
                 is_bare: behind.is_empty(),
             }));
         }
-        rest = before;
     }
     Ok(None)
 }
