@@ -9,4 +9,5 @@ mod Acts
 mod Grids
 mod Pieces
 mod Rows
+mod Totals
 mod Lines

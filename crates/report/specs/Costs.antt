@@ -35,3 +35,7 @@ row p c f = record { name = f; stores = capped (stores p c f); private = capped 
 -- what the plan costs
 abbrev pub rows : Algorithm → Plan → Certificate → List Row
 rows a p c = map (row p c) (filter (is_stored p) (map (λ f. f.name) a.functions))
+
+-- how many stores the functions of these rows have together
+abbrev pub all_stores : List Row → ℕ
+all_stores rows = capped (sum_by (λ r. r.stores) rows)

@@ -11,3 +11,4 @@ pub mod Tally
 pub mod Table
 pub mod View
 pub mod Codes
+pub mod Drawing

@@ -46,6 +46,22 @@ pub struct Costs {
     pub functions: Vec<FunctionCost>,
 }
 
+impl Costs {
+    ghost use Rattle.report.specs.Costs.{all_stores};
+
+    /// How many stores the pieces make, of all functions together. A number above the greatest `u64` is given as that.
+    #[tactic(auto, using(crate::proofs::Totals::more_stores, crate::proofs::Sums::capped_sum))]
+    pub fn stores(&self) -> u64
+        ensures { result ≡ all_stores (rows_of self.now) }
+    {
+        let mut count: u64 = 0;
+        for cost in &self.functions {
+            count = count.saturating_add(cost.stores);
+        }
+        count
+    }
+}
+
 /// What is known of a symbol of a grid that has this value.
 fn point_binding(symbol: usize, value: u32) -> Binding
     ensures { result ≡ point_binding symbol (pos value) }
@@ -149,7 +165,7 @@ fn private_cells(plan: &Plan, function: &str) -> u64
 
 /// How many points a grid has.
 #[tactic(auto, using(crate::proofs::Sums::saturated_front))]
-fn point_count(grid: &[u64]) -> u64
+pub(crate) fn point_count(grid: &[u64]) -> u64
     ensures { result ≡ capped (piece_count grid.now) }
 {
     match grid {

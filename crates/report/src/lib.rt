@@ -4,8 +4,10 @@
 pub mod codes;
 mod costs;
 mod counting;
+pub mod drawing;
 mod known;
 mod memory;
+pub mod nests;
 mod ranges;
 mod subject;
 mod table;

@@ -22,7 +22,7 @@ fn count_in(places: &Places) -> u64
 
 /// How many places all coordinates make.
 #[tactic(auto, using(crate::proofs::Sums::saturated))]
-fn place_count(places: &[Places]) -> u64
+pub(crate) fn place_count(places: &[Places]) -> u64
     ensures { result ≡ capped (place_count places.now) }
 {
     match places {

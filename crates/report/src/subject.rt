@@ -68,7 +68,7 @@ fn function_in_block(all: &[Stmt], buffer: u32) -> Option<&str>
 }
 
 /// The function of a buffer, empty where there is no such buffer.
-fn name_of(body: &Stmt, buffer: u32) -> &str
+pub(crate) fn name_of(body: &Stmt, buffer: u32) -> &str
     ensures { result.now ≡ function_in (allocated (statement_of body.now) buffer) }
 {
     match function_of(body, buffer) {
@@ -78,7 +78,7 @@ fn name_of(body: &Stmt, buffer: u32) -> &str
 }
 
 /// The name of a group's function, empty where there is no such group.
-fn group_name(groups: &[Group], group: u64) -> &str
+pub(crate) fn group_name(groups: &[Group], group: u64) -> &str
     ensures { result.now ≡ group_name (slice_get (map group_of groups.now) group) }
 {
     match groups.get(group as usize) {

@@ -29,7 +29,7 @@ use Rattle.tool.specs.declared.pipeline.fault.Fault.TheVariants.{Memory, Algo, S
 use Rattle.tool.specs.Pipeline.Faults.{image_fault, plain_fault, plan_fault, read_fault}
 use Rattle.tool.specs.Pipeline.Texts.{IsImageRefused, IsTextRefused}
 use Rattle.tool.specs.Pipeline.PlanFiles.{IsFileRefused}
-use Rattle.tool.specs.Pipeline.Pictures.{PlanText, IsReady, IsBudgetSpent, IsStopped, IsDone, IsRefused}
+use Rattle.tool.specs.Pipeline.Pictures.{PlanText, IsReady, IsBudgetSpent, IsDone, IsRefused}
 
 -- what the reader of plan files, the checker and `plain` answer as refusals of the program
 pub refuses_file : (a : Algorithm) (file : List ℕ) (e : TextError) → IsRefusedFile file e → IsFileRefused a file (read_fault e)
@@ -42,9 +42,9 @@ pub refuses_plan : (a : Algorithm) (file : List ℕ) (plan : PlanMade) (cert : C
 refuses_plan a file plan cert check.Memory said h = tt
 refuses_plan a file plan cert (check.Refused code line) said h = record { plan = plan; cert = cert; file = said; refused = h }
 
-pub refuses_pixel : (a : Algorithm) (samples : List ℕ) (e : PlainError) → (e ≡ plain.Budget → SomeAbove a samples (2 ^ 32)) → IsBudgetSpent a samples (plain_fault e)
-refuses_pixel a samples plain.Memory h = tt
-refuses_pixel a samples plain.Budget h = h refl
+pub refuses_pixel : (a : Algorithm) (samples : List ℕ) (most : ℕ) (e : PlainError) → (e ≡ plain.Budget → SomeAbove a samples most) → IsBudgetSpent a samples most (plain_fault e)
+refuses_pixel a samples most plain.Memory h = tt
+refuses_pixel a samples most plain.Budget h = h refl
 
 module _ (text : List ℕ) (read held : Option (List ℕ)) where
   -- nothing is read or written before the text and the plan file are accepted
@@ -112,7 +112,7 @@ module _ (text : List ℕ) (plan : PlanText) (a : Algorithm) (said : IsAlgorithm
 
 -- nor where a pixel takes too many evaluations
 pub pixel_refused : (text : List ℕ) (a : Algorithm) (said : IsAlgorithmText text a) (read left held : Option (List ℕ)) (samples : List ℕ)
-    (reads : ReadsFile (wanted_of (input_frame a)) read left samples) (fault : Fault) → IsBudgetSpent a samples fault → IsRefused text None read left held held fault
+    (reads : ReadsFile (wanted_of (input_frame a)) read left samples) (fault : Fault) → IsBudgetSpent a samples (2 ^ 32) fault → IsRefused text None read left held held fault
 pixel_refused text a said read left held samples reads Memory h = ((reads.bytes, reads.takes), Keeps-refl held)
 pixel_refused text a said read left held samples reads (Algo code span) h = absurd h
 pixel_refused text a said read left held samples reads (Schedule code span) h = absurd h

@@ -1,5 +1,5 @@
 -- That two pictures of one algorithm and one input do not differ.
-use Rattle.std.proofs.Common.{◌≡◌, ◌∙◌, ap, sym, refl, ℕ, List, slice_get}
+use Rattle.std.proofs.Common.{◌≡◌, ap, refl, ℕ, List, slice_get}
 use Rattle.tool.specs.declared.compare.Comparison.{Comparison}
 use Rattle.tool.specs.declared.compare.Comparison.TheVariants.{Same, DiffersAt}
 use Rattle.tool.specs.Compares.{IsFirstDifference}

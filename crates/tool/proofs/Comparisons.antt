@@ -1,5 +1,5 @@
 -- What comes of comparing all schedules.
-use Rattle.std.proofs.Common.{◌≡◌, inl, inr, ℕ, List, All, Result, Ok, Err}
+use Rattle.std.proofs.Common.{◌≡◌, inr, ℕ, List, All, Result, Ok, Err}
 use Rattle.std.specs.Prelude.{IfErr, OnOk}
 use Rattle.clap.specs.Words.{Text}
 use Rattle.meaning.specs.Algorithm.{Algorithm}

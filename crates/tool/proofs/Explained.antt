@@ -4,7 +4,7 @@ use Rattle.std.specs.Prelude.{OnOk}
 use Rattle.clap.specs.Words.{Text}
 use Rattle.tool.specs.declared.pipeline.fault.Fault.{Fault}
 use Rattle.tool.specs.Answer.{CommandAnswers, Ends}
-use Rattle.tool.specs.Asked.{Asked, Picture, Format, Explain, Compile, Check, Cost, Replay, Compare}
+use Rattle.tool.specs.Asked.{Asked, Picture, Format, Explain, Compile, Check, Cost, Show, Draw, Replay, Compare}
 use Rattle.tool.specs.Files.{Contents, SameFiles, SameOthers}
 use Rattle.tool.specs.Line.{is_stated, stated}
 use Rattle.tool.proofs.Kept.{same_then}
@@ -27,6 +27,9 @@ refused_then (Compile a) old mid new fault (inl h) k = inl (same_then old mid ne
 refused_then (Compile a) old mid new fault (inr h) k = inr (h.0, same_others_then old mid new a.plan h.1 k, h.2)
 refused_then (Check a) old mid new fault h k = (same_then old mid new h.0 k, h.1)
 refused_then (Cost a) old mid new fault h k = (same_then old mid new h.0 k, h.1)
+refused_then (Show a) old mid new fault h k = (same_then old mid new h.0 k, h.1)
+refused_then (Draw a) old mid new fault (inl h) k = inl (same_then old mid new h.0 k, h.1)
+refused_then (Draw a) old mid new fault (inr h) k = inr (h.0, same_others_then old mid new a.output h.1 k, h.2)
 refused_then (Replay a) old mid new fault h k = (same_then old mid new h.0 k, h.1)
 refused_then (Compare a) old mid new fault h k = (same_then old mid new h.0 k, h.1)
 

@@ -6,12 +6,14 @@ mod Between
 mod Compared
 mod Comparisons
 mod Compiled
+mod Drawn
 mod Explained
 mod Failures
 mod Formatted
 mod Samples
 mod Ways
 mod Kept
+mod Limits
 mod Named
 mod Prepared
 mod Streams

@@ -8,8 +8,8 @@ use Rattle.clap.specs.Words.{IsAmong, Text, fault_of, first_value, is_simple, is
 use Rattle.clap.proofs.OnLiterals.{clap_on_literals}
 use Rattle.clap.proofs.WalkLemmas.{first_value-rows, raw_values-rows}
 use Rattle.tool.specs.Answer.{WordsAnswer}
-use Rattle.tool.specs.Asked.{AskedWay}
-use Rattle.tool.specs.Line.{FailsFor, all_three, both as both_words, check_in, compare_in, compile_in, explain_in, format_in, line, by_workers, picture_in, replay_in, run_in, to_compare, to_compile, to_explain, to_format, with_order, workers_in}
+use Rattle.tool.specs.Asked.{AskedWay, Plain}
+use Rattle.tool.specs.Line.{FailsFor, all_three, both as both_words, check_in, compare_in, compile_in, draw_in, evaluations_in, explain_in, format_in, line, by_workers, picture_in, plain_in, replay_in, run_in, stores_in, to_compare, to_compile, to_draw, to_explain, to_format, with_order, workers_in}
 
 pub picture_as : (way : AskedWay) (f : Found) → picture_in way (rows_of f) ≡ all_three way (first_value f (codes "ALG")) (first_value f (codes "IN")) (first_value f (codes "OUT"))
 picture_as way f = rw (first_value-rows f (codes "ALG"), first_value-rows f (codes "IN"), first_value-rows f (codes "OUT")) refl
@@ -31,8 +31,15 @@ nothing_to_compare None input = refl
 nothing_to_compare (Some a) None = refl
 nothing_to_compare (Some a) (Some i) = refl
 
-pub run_as : (f : Found) → run_in (rows_of f) ≡ option_and_then (λ plan. by_workers plan (workers_in (first_value f (codes "workers"))) (rows_of f)) (first_value f (codes "PLAN"))
-run_as f = rw (first_value-rows f (codes "PLAN"), first_value-rows f (codes "workers")) refl
+pub plain_as : (f : Found) → plain_in (rows_of f) ≡ option_and_then (λ most. picture_in (Plain most) (rows_of f)) (evaluations_in (first_value f (codes "at-most")))
+plain_as f = rw (first_value-rows f (codes "at-most")) refl
+
+pub run_as : (f : Found) → run_in (rows_of f)
+    ≡ option_and_then (λ plan. by_workers plan (workers_in (first_value f (codes "workers"))) (stores_in (first_value f (codes "at-most"))) (rows_of f)) (first_value f (codes "PLAN"))
+run_as f = rw (first_value-rows f (codes "PLAN"), first_value-rows f (codes "workers"), first_value-rows f (codes "at-most")) refl
+
+pub draw_as : (f : Found) → draw_in (rows_of f) ≡ option_and_then (λ check. to_draw (first_value f (codes "order")) check (first_value f (codes "OUT"))) (check_in (rows_of f))
+draw_as f = rw (first_value-rows f (codes "order"), first_value-rows f (codes "OUT")) refl
 
 pub check_as : (f : Found) → check_in (rows_of f) ≡ both_words (first_value f (codes "ALG")) (first_value f (codes "PLAN"))
 check_as f = rw (first_value-rows f (codes "ALG"), first_value-rows f (codes "PLAN")) refl

@@ -1,8 +1,7 @@
 -- What is read as the file of an image has the image's number of samples, each within the type.
-use Rattle.std.proofs.Common.{◌≡◌, ℕ, ◌+◌, ◌-◌, ◌*◌, ◌≤◌, List, [], ◌∷◌, ◌++◌, fold, length, Bool, true, false, ◌&&◌, ◌==◌, nat_le, nat_lt, if◌then◌else◌, Option, None, Some, Result, Ok, Err, All, refl, sym, ap, ◌∙◌, subst, arith, length-append}
+use Rattle.std.proofs.Common.{◌≡◌, ℕ, ◌+◌, ◌-◌, ◌*◌, ◌≤◌, List, [], ◌∷◌, ◌++◌, fold, length, true, false, ◌&&◌, ◌==◌, nat_le, nat_lt, if◌then◌else◌, Option, None, Some, Result, Ok, Err, All, refl, sym, subst, arith, length-append}
 use Rattle.std.proofs.lemmas.Bool.{cond_both, and_parts, leb-true, leb-false}
 use Rattle.std.proofs.lemmas.List.Elements.{All-nil, All-push}
-use Rattle.meaning.specs.Image.View.{IsShape}
 use Rattle.pnm.specs.declared.error.PnmError.{PnmError}
 use Rattle.pnm.specs.declared.error.PnmError.TheVariants as fault
 use Rattle.pnm.specs.declared.state.Form.{Form}
@@ -15,7 +14,7 @@ use Rattle.pnm.specs.declared.state.State.TheVariants.{Start, Letter, Magic, Gap
 use Rattle.pnm.specs.declared.state.Step.{Step}
 use Rattle.pnm.specs.declared.state.Step.TheVariants.{Next, Sample, Fault}
 use Rattle.pnm.specs.Bytes.{is_space, ends_comment, is_digit, grown}
-use Rattle.pnm.specs.Reading.{step, finish, item, form_of, after_magic, after_number, after_sample, after_digits, after_last, between, raw_sample, raster, is_wanted, Walk, Going, Stopped, taken, onward, walk, with_last, closed, wanted_of}
+use Rattle.pnm.specs.Reading.{step, finish, item, form_of, after_magic, after_number, after_sample, after_digits, after_last, raw_sample, raster, is_wanted, Walk, Going, Stopped, taken, onward, walk, with_last, closed, wanted_of}
 use Rattle.pnm.proofs.Written.{bounds}
 use Rattle.tool.specs.Pipeline.Images.{ReadImagesFit}
 

@@ -3,13 +3,14 @@ use Rattle.std.specs.Prelude.{◌≡◌, ◌⊎◌, ℕ, List, Option, Some, Res
 use Rattle.clap.specs.Words.{Text}
 use Rattle.tool.specs.declared.pipeline.fault.Fault.{Fault}
 use Rattle.tool.specs.Pipeline.Pictures as streams
-use Rattle.tool.specs.Asked.{Asked, Picture, Format, Explain, Compile, Check, Cost, Replay, Compare}
+use Rattle.tool.specs.Asked.{Asked, Picture, Format, Explain, Compile, Check, Cost, Show, Draw, Replay, Compare}
 use Rattle.tool.specs.Checks.{IsChecked, IsCheckRefused}
 use Rattle.tool.specs.Compares.{IsCompared, IsCompareRefused}
 use Rattle.tool.specs.Replays.{IsReplayed, IsReplayRefused}
 use Rattle.tool.specs.Files.{Contents, SameFiles}
 use Rattle.tool.specs.Line.{AsksFor, AsksHelp, AsksVersion, IsMisuse}
 use Rattle.tool.specs.Compiles as compiling
+use Rattle.tool.specs.Draws as drawing
 use Rattle.tool.specs.Formats as formatting
 use Rattle.tool.specs.Pictures.{IsDone, IsOfDevice, IsRefused}
 use Rattle.tool.specs.Status.{status_of}
@@ -33,6 +34,8 @@ Ends old new (Explain code) outcome = SameFiles old new × IfErr outcome IsOfDev
 Ends old new (Compile a) outcome = MatchResult outcome (λ _. compiling.IsDone old new a) (compiling.IsRefused old new a)
 Ends old new (Check a) outcome = SameFiles old new × MatchResult outcome (λ _. IsChecked old a) (IsCheckRefused old a)
 Ends old new (Cost a) outcome = SameFiles old new × MatchResult outcome (λ _. IsChecked old a) (IsCheckRefused old a)
+Ends old new (Show a) outcome = SameFiles old new × MatchResult outcome (λ _. IsChecked old a) (IsCheckRefused old a)
+Ends old new (Draw a) outcome = MatchResult outcome (λ _. drawing.IsDone old new a) (drawing.IsRefused old new a)
 Ends old new (Replay a) outcome = SameFiles old new × MatchResult outcome (λ _. IsReplayed old a) (IsReplayRefused old a)
 Ends old new (Compare a) outcome = SameFiles old new × MatchResult outcome (λ _. IsCompared old a) (IsCompareRefused old a)
 

@@ -1,22 +1,23 @@
 -- What is asked for.
-use Rattle.std.specs.Prelude.{ℕ, List, map}
+use Rattle.std.specs.Prelude.{ℕ, List, Option, map, option_map}
 use Rattle.clap.specs.Words.{Text}
 use Rattle.tool.specs.declared.request.Way.{Way}
 use Rattle.tool.specs.declared.request.Way.TheVariants as way
 use Rattle.tool.specs.declared.request.PictureRequest.{PictureRequest}
 use Rattle.tool.specs.declared.request.FormatRequest.{FormatRequest}
-use Rattle.tool.specs.declared.request.ExplainRequest.{ExplainRequest}
 use Rattle.tool.specs.declared.request.CompileRequest.{CompileRequest}
 use Rattle.tool.specs.declared.request.CheckRequest.{CheckRequest}
+use Rattle.tool.specs.declared.request.DrawRequest.{DrawRequest}
 use Rattle.tool.specs.declared.request.ReplayRequest.{ReplayRequest}
 use Rattle.tool.specs.declared.request.CompareRequest.{CompareRequest}
 use Rattle.tool.specs.declared.request.Request.{Request}
 use Rattle.tool.specs.declared.request.Request.TheVariants as request
 
--- how a picture is computed: by the definitions alone, or by the plan of a file, in the hands of so many workers
+-- how a picture is computed: by the definitions alone, of which a pixel may take so many evaluations, or by the plan of a file,
+-- in the hands of so many workers, which may make so many stores if that is bounded
 pub data AskedWay : Type 0 where
-  Plain : AskedWay
-  File : (plan : Text) (workers : ℕ) → AskedWay
+  Plain : (most : ℕ) → AskedWay
+  File : (plan : Text) (workers : ℕ) (most : Option ℕ) → AskedWay
 
 -- how a picture is computed, and the names of three files
 pub record AskedPicture : Type 0 where
@@ -47,6 +48,12 @@ pub record AskedReplay : Type 0 where
   pub input : Text
   pub order : Text
 
+-- a plan whose pieces are drawn, after an order if there is one
+pub record AskedDraw : Type 0 where
+  pub check : AskedCheck
+  pub output : Text
+  pub order : Option Text
+
 -- schedules whose pictures are compared with the plain one
 pub record AskedCompare : Type 0 where
   pub algorithm : Text
@@ -60,12 +67,14 @@ pub data Asked : Type 0 where
   Compile : AskedCompile → Asked
   Check : AskedCheck → Asked
   Cost : AskedCheck → Asked
+  Show : AskedCheck → Asked
+  Draw : AskedDraw → Asked
   Replay : AskedReplay → Asked
   Compare : AskedCompare → Asked
 
 abbrev pub way_asked : Way → AskedWay
-way_asked way.Plain = Plain
-way_asked (way.File plan workers) = File plan.now workers
+way_asked (way.Plain most) = Plain most
+way_asked (way.File plan workers most) = File plan.now workers most
 
 abbrev pub picture_asked : PictureRequest → AskedPicture
 picture_asked r = record { way = way_asked r.way; algorithm = r.algorithm.now; input = r.input.now; output = r.output.now }
@@ -82,6 +91,9 @@ check_asked r = record { algorithm = r.algorithm.now; plan = r.plan.now }
 abbrev pub replay_asked : ReplayRequest → AskedReplay
 replay_asked r = record { check = check_asked r.check; input = r.input.now; order = r.order.now }
 
+abbrev pub draw_asked : DrawRequest → AskedDraw
+draw_asked r = record { check = check_asked r.check; output = r.output.now; order = option_map (λ name. name.now) r.order }
+
 abbrev pub compare_asked : CompareRequest → AskedCompare
 compare_asked r = record { algorithm = r.algorithm.now; input = r.input.now; schedules = map (λ name. name.now) r.schedules.items }
 
@@ -92,5 +104,7 @@ asked_by (request.Explain r) = Explain r.code.now
 asked_by (request.Compile r) = Compile (compile_asked r)
 asked_by (request.Check r) = Check (check_asked r)
 asked_by (request.Cost r) = Cost (check_asked r)
+asked_by (request.Show r) = Show (check_asked r)
+asked_by (request.Draw r) = Draw (draw_asked r)
 asked_by (request.Replay r) = Replay (replay_asked r)
 asked_by (request.Compare r) = Compare (compare_asked r)

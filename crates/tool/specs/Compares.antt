@@ -1,5 +1,5 @@
 -- What the command that compares schedules finds.
-use Rattle.std.specs.Prelude.{◌≡◌, ◌≢◌, ◌⊎◌, ℕ, List, All, Some, Ok, slice_get, take}
+use Rattle.std.specs.Prelude.{◌≡◌, ◌≢◌, ◌⊎◌, ◌^◌, ℕ, List, All, Some, Ok, slice_get, take}
 use Rattle.clap.specs.Words.{Text}
 use Rattle.meaning.specs.Algorithm.{Algorithm}
 use Rattle.algo.specs.Parts.{input_frame}
@@ -67,7 +67,7 @@ pub record PictureRefused (files : Contents) (a : AskedCompare) (fault : Fault) 
   pub is_text : IsAlgorithmText text algorithm
   pub holds_image : Holds files a.input image
   pub is_image : reading (wanted_of (input_frame algorithm)) image ≡ Ok samples
-  pub refused : IsBudgetSpent algorithm samples fault
+  pub refused : IsBudgetSpent algorithm samples (2 ^ 32) fault
 
 -- of schedules of these files, the first that no plan comes of
 pub record IsRefusedAmong (files : Contents) (a : Algorithm) (names : List Text) (fault : Fault) : Type 0 where

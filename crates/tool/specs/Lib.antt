@@ -3,7 +3,9 @@ pub mod Pipeline
 pub mod Answer
 pub mod Asked
 pub mod Files
+pub mod Draws
 pub mod Formats
+pub mod Limit
 pub mod Line
 pub mod Means
 pub mod Pictures

@@ -1,5 +1,5 @@
 -- The command line: the words that it takes, and what they ask for.
-use Rattle.std.specs.Prelude.{◌≡◌, ◌≢◌, ◌⊎◌, ℕ, Bool, List, [], Option, None, Some, true, codes, option_and_then, option_map, filter, not, if◌then◌else◌}
+use Rattle.std.specs.Prelude.{◌≡◌, ◌≢◌, ◌⊎◌, ℕ, Bool, List, [], Option, None, Some, ◌^◌, true, codes, option_and_then, option_map, filter, not, if◌then◌else◌}
 use Rattle.std.specs.Str.{bytes_eq}
 use Rattle.clap.specs.declared.error.kind.ErrorKind.{ErrorKind}
 use Rattle.clap.specs.declared.error.kind.ErrorKind.TheVariants.{DisplayHelp, DisplayVersion, ValueValidation}
@@ -7,8 +7,9 @@ use Rattle.clap.specs.declared.error.Error.{Error}
 use Rattle.clap.specs.Lexer.{usize_max}
 use Rattle.clap.specs.Words.{App, HasKind, IsAmong, Row, Rule, Text, fault_of, all_of, first_of, kind_of, new_app, new_rule, subcommand_of, with_rule, with_subcommand}
 use Rattle.report.specs.Codes.Codes.{is_code}
+use Rattle.tool.specs.Limit.{limit_spelled}
 use Rattle.tool.specs.Workers.{workers_spelled}
-use Rattle.tool.specs.Asked.{AskedWay, Plain, File, AskedCheck, Asked, Picture, Format, Explain, Compile, Check, Cost, Replay, Compare}
+use Rattle.tool.specs.Asked.{AskedWay, Plain, File, AskedCheck, Asked, Picture, Format, Explain, Compile, Check, Cost, Show, Draw, Replay, Compare}
 
 -- a word that has to be there, under a name
 abbrev pub needed : Text → Rule
@@ -18,9 +19,9 @@ needed name = record (new_rule name) { required = true }
 abbrev pub several : Text → Rule
 several name = record (needed name) { range = Some (record { start_inclusive = 1; end_inclusive = usize_max }) }
 
--- NAME ALG IN OUT
-abbrev pub picture_line : Text → App
-picture_line name = with_rule (with_rule (with_rule (new_app name) (needed (codes "ALG"))) (needed (codes "IN"))) (needed (codes "OUT"))
+-- plain ALG IN OUT
+abbrev pub named_plain_line : App
+named_plain_line = with_rule (with_rule (with_rule (new_app (codes "plain")) (needed (codes "ALG"))) (needed (codes "IN"))) (needed (codes "OUT"))
 
 -- stencil COMMAND, where the words begin with the command
 abbrev pub program : App
@@ -50,18 +51,34 @@ compare_line = with_rule (with_rule (with_rule (new_app (codes "compare")) (need
 abbrev pub workers_rule : Rule
 workers_rule = record (new_rule (codes "workers")) { long = Some (codes "workers"); value_names = 1 }
 
+-- --at-most N and --order ORDER, which may be left out
+abbrev pub at_most_rule : Rule
+at_most_rule = record (new_rule (codes "at-most")) { long = Some (codes "at-most"); value_names = 1 }
+
+abbrev pub order_rule : Rule
+order_rule = record (new_rule (codes "order")) { long = Some (codes "order"); value_names = 1 }
+
+abbrev pub plain_line : App
+plain_line = with_rule named_plain_line at_most_rule
+
 abbrev pub named_run_line : App
 named_run_line = with_rule (with_rule (with_rule (with_rule (new_app (codes "run")) (needed (codes "ALG"))) (needed (codes "PLAN"))) (needed (codes "IN"))) (needed (codes "OUT"))
 
 abbrev pub run_line : App
-run_line = with_rule named_run_line workers_rule
+run_line = with_rule (with_rule named_run_line workers_rule) at_most_rule
+
+abbrev pub named_draw_line : App
+named_draw_line = with_rule (with_rule (with_rule (new_app (codes "draw")) (needed (codes "ALG"))) (needed (codes "PLAN"))) (needed (codes "OUT"))
+
+abbrev pub draw_line : App
+draw_line = with_rule named_draw_line order_rule
 
 abbrev pub replay_line : App
 replay_line = with_rule (with_rule (with_rule (with_rule (new_app (codes "replay")) (needed (codes "ALG"))) (needed (codes "PLAN"))) (needed (codes "IN"))) (needed (codes "ORDER"))
 
 -- the commands that write something of an algorithm alone
 abbrev pub planless : App
-planless = with_subcommand (with_subcommand program (picture_line (codes "plain")).top) format_line.top
+planless = with_subcommand (with_subcommand program plain_line.top) format_line.top
 
 -- with them those that take schedules
 abbrev pub scheduled : App
@@ -69,10 +86,10 @@ scheduled = with_subcommand (with_subcommand planless compile_line.top) compare_
 
 -- with them the commands that tell something of a code or a plan file, and with these those that compute by one
 abbrev pub told : App
-told = with_subcommand (with_subcommand (with_subcommand scheduled explain_line.top) (plan_line (codes "check")).top) (plan_line (codes "cost")).top
+told = with_subcommand (with_subcommand (with_subcommand (with_subcommand scheduled explain_line.top) (plan_line (codes "check")).top) (plan_line (codes "cost")).top) (plan_line (codes "show")).top
 
 abbrev pub line : App
-line = with_subcommand (with_subcommand told run_line.top) replay_line.top
+line = with_subcommand (with_subcommand (with_subcommand told run_line.top) replay_line.top) draw_line.top
 
 -- a picture, where all three names are there
 abbrev pub all_three : AskedWay → Option Text → Option Text → Option Text → Option Asked
@@ -82,6 +99,14 @@ all_three way _ _ _ = None
 -- the words for the algorithm, the image and the picture
 abbrev pub picture_in : AskedWay → List Row → Option Asked
 picture_in way rows = all_three way (first_of (codes "ALG") rows) (first_of (codes "IN") rows) (first_of (codes "OUT") rows)
+
+-- how many evaluations a pixel may take: 2^32, where nothing is said
+abbrev pub evaluations_in : Option Text → Option ℕ
+evaluations_in None = Some (2 ^ 32)
+evaluations_in (Some text) = limit_spelled text
+
+abbrev pub plain_in : List Row → Option Asked
+plain_in rows = option_and_then (λ most. picture_in (Plain most) rows) (evaluations_in (first_of (codes "at-most") rows))
 
 -- an algorithm and where its canonical text goes, where both names are there
 abbrev pub to_format : Option Text → Option Text → Option Asked
@@ -114,13 +139,18 @@ abbrev pub workers_in : Option Text → Option ℕ
 workers_in None = Some 1
 workers_in (Some text) = workers_spelled text
 
--- by a plan and so many workers, where both are known
-abbrev pub by_workers : Text → Option ℕ → List Row → Option Asked
-by_workers plan None rows = None
-by_workers plan (Some workers) rows = picture_in (File plan workers) rows
+-- how many stores a plan may make: any number, where nothing is said
+abbrev pub stores_in : Option Text → Option (Option ℕ)
+stores_in None = Some None
+stores_in (Some text) = option_map Some (limit_spelled text)
+
+-- by a plan, so many workers and so many stores, where all are known
+abbrev pub by_workers : Text → Option ℕ → Option (Option ℕ) → List Row → Option Asked
+by_workers plan (Some workers) (Some most) rows = picture_in (File plan workers most) rows
+by_workers plan _ _ rows = None
 
 abbrev pub run_in : List Row → Option Asked
-run_in rows = option_and_then (λ plan. by_workers plan (workers_in (first_of (codes "workers") rows)) rows) (first_of (codes "PLAN") rows)
+run_in rows = option_and_then (λ plan. by_workers plan (workers_in (first_of (codes "workers") rows)) (stores_in (first_of (codes "at-most") rows)) rows) (first_of (codes "PLAN") rows)
 
 abbrev pub both : Option Text → Option Text → Option AskedCheck
 both (Some algorithm) (Some plan) = Some (record { algorithm = algorithm; plan = plan })
@@ -137,6 +167,14 @@ with_order check _ _ = None
 abbrev pub replay_in : List Row → Option Asked
 replay_in rows = option_and_then (λ check. with_order check (first_of (codes "IN") rows) (first_of (codes "ORDER") rows)) (check_in rows)
 
+-- where the drawing goes, and the order
+abbrev pub to_draw : Option Text → AskedCheck → Option Text → Option Asked
+to_draw order check (Some output) = Some (Draw (record { check = check; output = output; order = order }))
+to_draw order check None = None
+
+abbrev pub draw_in : List Row → Option Asked
+draw_in rows = option_and_then (λ check. to_draw (first_of (codes "order") rows) check (first_of (codes "OUT") rows)) (check_in rows)
+
 abbrev pub to_compare : Option Text → Option Text → Option (List Text) → Option Asked
 to_compare (Some algorithm) (Some input) (Some schedules) = Some (Compare (record { algorithm = algorithm; input = input; schedules = schedules }))
 to_compare _ _ _ = None
@@ -151,12 +189,14 @@ asked_of_plan command =
     if bytes_eq command.0 (codes "run") then run_in command.1
     else (if bytes_eq command.0 (codes "check") then option_map Check (check_in command.1)
     else (if bytes_eq command.0 (codes "cost") then option_map Cost (check_in command.1)
-    else (if bytes_eq command.0 (codes "replay") then replay_in command.1 else None)))
+    else (if bytes_eq command.0 (codes "show") then option_map Show (check_in command.1)
+    else (if bytes_eq command.0 (codes "draw") then draw_in command.1
+    else (if bytes_eq command.0 (codes "replay") then replay_in command.1 else None)))))
 
 -- and of all that take so many words
 abbrev pub asked_of_one : Text × List Row → Option Asked
 asked_of_one command =
-    if bytes_eq command.0 (codes "plain") then picture_in Plain command.1
+    if bytes_eq command.0 (codes "plain") then plain_in command.1
     else (if bytes_eq command.0 (codes "format") then format_in command.1
     else (if bytes_eq command.0 (codes "explain") then explain_in command.1
     else (if bytes_eq command.0 (codes "compile") then compile_in command.1 else asked_of_plan command)))
@@ -189,11 +229,11 @@ AsksHelp words = IsAmong DisplayHelp (fault_of line words)
 abbrev pub AsksVersion : List Text → Type 0
 AsksVersion words = IsAmong DisplayVersion (fault_of line words)
 
--- something is wrong with the words, or no number of workers is spelled, or no code
+-- something is wrong with the words, or no number of workers is spelled, or no limit, or no code
 abbrev pub IsMisuse : List Text → Type 0
 IsMisuse words =
     ((kind : ErrorKind) × (kind ≢ DisplayHelp) × (kind ≢ DisplayVersion) × IsAmong kind (fault_of line words)) ⊎ (asked words ≡ None)
 
--- why the words ask for no command: memory ran out, they ask for help or the version or are a fault, or no number of workers or code is spelled
+-- why the words ask for no command: memory ran out, they ask for help or the version or are a fault, or no number of workers, limit or code is spelled
 abbrev pub FailsFor : List Text → Error → Type 0
 FailsFor words e = HasKind (fault_of line words) e ⊎ ((kind_of e ≡ ValueValidation) × (asked words ≡ None))

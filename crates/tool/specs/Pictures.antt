@@ -1,19 +1,26 @@
 -- What the commands that write a picture do to the files.
-use Rattle.std.specs.Prelude.{◌≡◌, ◌⊎◌, ℕ, List, Option, Some, Ok, ⊤}
+use Rattle.std.specs.Prelude.{◌≡◌, ◌⊎◌, ◌≤◌, ◌<◌, ℕ, List, Option, None, Some, Ok, ⊤}
 use Rattle.meaning.specs.Image.View.{Frame}
 use Rattle.meaning.specs.Algorithm.{Algorithm}
 use Rattle.algo.specs.Parts.{input_frame}
 use Rattle.algo.specs.View.{picture_said}
 use Rattle.algo.specs.Refusal.{IsAlgorithmText}
 use Rattle.clap.specs.Words.{Text}
+use Rattle.plain.specs.Picture.{AllWithin}
+use Rattle.plan.specs.declared.plan.Plan.{Plan as PlanMade}
+use Rattle.plan.specs.Plan.{Plan}
+use Rattle.plan.specs.View.{plan_of}
+use Rattle.plan.specs.declared.certificate.cert.Cert.{Cert}
+use Rattle.plan.specs.Certificate.Certificate.{Certificate, certificate_of}
 use Rattle.pnm.specs.declared.error.PnmError.TheVariants.{Device}
 use Rattle.pnm.specs.Reading.{reading, wanted_of}
 use Rattle.pnm.specs.Text.{text_of}
+use Rattle.report.specs.Costs.{all_stores, rows}
 use Rattle.tool.specs.declared.pipeline.fault.Fault.{Fault}
-use Rattle.tool.specs.declared.pipeline.fault.Fault.TheVariants.{Memory, Image}
+use Rattle.tool.specs.declared.pipeline.fault.Fault.TheVariants.{Memory, Image, Budget}
 use Rattle.tool.specs.Pipeline.Texts.{IsImageRefused, IsTextRefused}
-use Rattle.tool.specs.Pipeline.PlanFiles.{HasPlan, IsFileRefused}
-use Rattle.tool.specs.Pipeline.Pictures.{IsBudgetSpent, IsLeft}
+use Rattle.tool.specs.Pipeline.PlanFiles.{HasPlan, IsAccepted, IsFileRefused}
+use Rattle.tool.specs.Pipeline.Pictures.{IsBudgetSpent}
 use Rattle.tool.specs.Asked.{AskedWay, Plain, File, AskedPicture}
 use Rattle.tool.specs.Files.{Contents, Holds, Puts, SameFiles, SameOthers}
 
@@ -35,21 +42,51 @@ HasPlanFile files name a = (bytes : List ℕ) × Holds files name bytes × HasPl
 abbrev pub IsPlanFault : Contents → Text → Algorithm → Fault → Type 0
 IsPlanFault files name a fault = IsOfDevice fault ⊎ ((bytes : List ℕ) × Holds files name bytes × IsFileFault a bytes fault)
 
--- an algorithm's picture can be computed this way: by a file where it is that of a plan that the checker accepts
+-- how many stores the pieces of a plan make, of all functions together; a number above the greatest of 64 bits is that
+abbrev pub stores_told : Algorithm → Plan → Certificate → ℕ
+stores_told a p c = all_stores (rows a p c)
+
+-- so many are no more than there may be, if that is bounded
+abbrev pub IsWithin : Option ℕ → ℕ → Type 0
+IsWithin None n = ⊤
+IsWithin (Some most) n = n ≤ most
+
+-- they are more; want of memory says nothing
+abbrev pub IsTooDear : Option ℕ → ℕ → Fault → Type 0
+IsTooDear most n Memory = ⊤
+IsTooDear (Some most) n Budget = most < n
+IsTooDear most n _ = ⊥
+
+-- there is a file of that name, and it is the file of a plan that the checker accepts and of which this holds, by its stores
+pub record HasPlanWith (files : Contents) (name : Text) (a : Algorithm) (P : ℕ → Type 0) : Type 0 where
+  pub bytes : List ℕ
+  pub plan : PlanMade
+  pub cert : Cert
+  pub holds : Holds files name bytes
+  pub accepted : IsAccepted a bytes plan cert
+  pub stores : P (stores_told a (plan_of plan) (certificate_of cert))
+
+-- an algorithm's picture can be computed this way: by a file where it is that of a plan that the checker accepts, and that makes
+-- no more stores than it may
 abbrev pub IsReady : Contents → AskedWay → Algorithm → Type 0
-IsReady files Plain a = ⊤
-IsReady files (File name n) a = HasPlanFile files name a
+IsReady files (Plain most) a = ⊤
+IsReady files (File name n most) a = HasPlanWith files name a (IsWithin most)
 
 -- why it can't
 abbrev pub IsUnready : Contents → AskedWay → Algorithm → Fault → Type 0
-IsUnready files Plain a fault = ⊥
-IsUnready files (File name n) a fault = IsPlanFault files name a fault
+IsUnready files (Plain most) a fault = ⊥
+IsUnready files (File name n most) a fault = IsPlanFault files name a fault ⊎ HasPlanWith files name a (λ stores. IsTooDear most stores fault)
+
+-- each pixel took as many evaluations as it may or fewer; of a plan's stores `IsReady` speaks
+abbrev pub IsAffordable : AskedWay → Algorithm → List ℕ → Type 0
+IsAffordable (Plain most) a samples = AllWithin a samples most
+IsAffordable (File name n most) a samples = ⊤
 
 -- why it was not computed: some pixel takes too many evaluations; by the plan of a file there is no reason but want of memory,
 -- and with more workers than one that a piece was left unfinished
 abbrev pub IsStopped : AskedWay → Algorithm → List ℕ → Fault → Type 0
-IsStopped Plain a samples fault = IsBudgetSpent a samples fault
-IsStopped (File name n) a samples fault = IsLeft n fault
+IsStopped (Plain most) a samples fault = IsBudgetSpent a samples most fault
+IsStopped (File name n most) a samples fault = fault ≡ Memory
 
 -- ---- what is done
 
@@ -64,6 +101,7 @@ pub record IsPicture (files : Contents) (a : AskedPicture) (bytes : List ℕ) : 
   pub ready : IsReady files a.way algorithm
   pub holds_image : Holds files a.input image
   pub is_image : reading (wanted_of (input_frame algorithm)) image ≡ Ok samples
+  pub affordable : IsAffordable a.way algorithm samples
   pub whole : bytes ≡ text_of (picture_said algorithm samples)
 
 -- the picture was put, and nothing else

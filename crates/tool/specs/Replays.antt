@@ -1,8 +1,6 @@
 -- What the command that replays an order of steps finds.
 use Rattle.std.specs.Prelude.{◌≡◌, ◌⊎◌, ℕ, List, Ok}
-use Rattle.meaning.specs.Algorithm.{Algorithm}
 use Rattle.algo.specs.Parts.{input_frame}
-use Rattle.algo.specs.Refusal.{IsAlgorithmText}
 use Rattle.pnm.specs.Reading.{reading, wanted_of}
 use Rattle.tool.specs.declared.pipeline.fault.Fault.{Fault}
 use Rattle.tool.specs.declared.pipeline.fault.Fault.TheVariants.{Order}

@@ -1,11 +1,11 @@
 -- Words written out, and what they ask for.
-use Rattle.std.specs.Prelude.{◌≡◌, ℕ, List, [], ◌∷◌, codes}
-use Rattle.tool.specs.Asked.{Plain, File, Picture, Format, Explain, Compile, Check, Cost, Replay, Compare}
+use Rattle.std.specs.Prelude.{◌≡◌, ◌^◌, ◌-◌, ℕ, List, [], ◌∷◌, None, Some, codes}
+use Rattle.tool.specs.Asked.{Plain, File, Picture, Format, Explain, Compile, Check, Cost, Show, Draw, Replay, Compare}
 use Rattle.tool.specs.Line.{AsksFor, AsksHelp, AsksVersion, IsMisuse, stated}
 
 -- three names behind `plain`
 abbrev pub PlainWithNames : Type 0
-PlainWithNames = AsksFor (codes "plain" ∷ codes "a.alg" ∷ codes "b.pgm" ∷ codes "c.pgm" ∷ []) (Picture (record { way = Plain; algorithm = codes "a.alg"; input = codes "b.pgm"; output = codes "c.pgm" }))
+PlainWithNames = AsksFor (codes "plain" ∷ codes "a.alg" ∷ codes "b.pgm" ∷ codes "c.pgm" ∷ []) (Picture (record { way = Plain (2 ^ 32); algorithm = codes "a.alg"; input = codes "b.pgm"; output = codes "c.pgm" }))
 
 -- two behind `format`, and a code behind `explain`
 abbrev pub FormatWithNames : Type 0
@@ -18,13 +18,13 @@ ExplainWithCode = AsksFor (codes "explain" ∷ codes "K12" ∷ []) (Explain (cod
 abbrev pub RunWithNames : Type 0
 RunWithNames =
     AsksFor (codes "run" ∷ codes "a.alg" ∷ codes "p.plan" ∷ codes "b.pgm" ∷ codes "c.pgm" ∷ [])
-    (Picture (record { way = File (codes "p.plan") 1; algorithm = codes "a.alg"; input = codes "b.pgm"; output = codes "c.pgm" }))
+    (Picture (record { way = File (codes "p.plan") 1 None; algorithm = codes "a.alg"; input = codes "b.pgm"; output = codes "c.pgm" }))
 
 -- the same with as many workers as there may be
 abbrev pub RunWithWorkers : Type 0
 RunWithWorkers =
     AsksFor (codes "run" ∷ codes "a.alg" ∷ codes "p.plan" ∷ codes "b.pgm" ∷ codes "c.pgm" ∷ codes "--workers" ∷ codes "64" ∷ [])
-    (Picture (record { way = File (codes "p.plan") 64; algorithm = codes "a.alg"; input = codes "b.pgm"; output = codes "c.pgm" }))
+    (Picture (record { way = File (codes "p.plan") 64 None; algorithm = codes "a.alg"; input = codes "b.pgm"; output = codes "c.pgm" }))
 
 abbrev pub CompileWithNames : Type 0
 CompileWithNames =
@@ -36,6 +36,31 @@ CheckWithNames = AsksFor (codes "check" ∷ codes "a.alg" ∷ codes "p.plan" ∷
 
 abbrev pub CostWithNames : Type 0
 CostWithNames = AsksFor (codes "cost" ∷ codes "a.alg" ∷ codes "p.plan" ∷ []) (Cost (record { algorithm = codes "a.alg"; plan = codes "p.plan" }))
+
+abbrev pub ShowWithNames : Type 0
+ShowWithNames = AsksFor (codes "show" ∷ codes "a.alg" ∷ codes "p.plan" ∷ []) (Show (record { algorithm = codes "a.alg"; plan = codes "p.plan" }))
+
+-- three behind `draw`, and an order
+abbrev pub DrawWithNames : Type 0
+DrawWithNames =
+    AsksFor (codes "draw" ∷ codes "a.alg" ∷ codes "p.plan" ∷ codes "o.ppm" ∷ [])
+    (Draw (record { check = record { algorithm = codes "a.alg"; plan = codes "p.plan" }; output = codes "o.ppm"; order = None }))
+
+abbrev pub DrawWithOrder : Type 0
+DrawWithOrder =
+    AsksFor (codes "draw" ∷ codes "a.alg" ∷ codes "p.plan" ∷ codes "o.ppm" ∷ codes "--order" ∷ codes "o.txt" ∷ [])
+    (Draw (record { check = record { algorithm = codes "a.alg"; plan = codes "p.plan" }; output = codes "o.ppm"; order = Some (codes "o.txt") }))
+
+-- limits of evaluations and of stores
+abbrev pub PlainWithLimit : Type 0
+PlainWithLimit =
+    AsksFor (codes "plain" ∷ codes "a.alg" ∷ codes "b.pgm" ∷ codes "c.pgm" ∷ codes "--at-most" ∷ codes "0" ∷ [])
+    (Picture (record { way = Plain 0; algorithm = codes "a.alg"; input = codes "b.pgm"; output = codes "c.pgm" }))
+
+abbrev pub RunWithLimit : Type 0
+RunWithLimit =
+    AsksFor (codes "run" ∷ codes "a.alg" ∷ codes "p.plan" ∷ codes "b.pgm" ∷ codes "c.pgm" ∷ codes "--at-most" ∷ codes "18446744073709551615" ∷ [])
+    (Picture (record { way = File (codes "p.plan") 1 (Some (2 ^ 64 - 1)); algorithm = codes "a.alg"; input = codes "b.pgm"; output = codes "c.pgm" }))
 
 -- two names behind `compare`, and three schedules
 abbrev pub CompareWithNames : Type 0
@@ -71,3 +96,10 @@ IsNoCrew text = IsMisuse (codes "run" ∷ codes "a.alg" ∷ codes "p.plan" ∷ c
 
 abbrev pub MisusedWorkers : Type 0
 MisusedWorkers = IsNoCrew (codes "0") × (IsNoCrew (codes "65") × (IsNoCrew (codes "01") × (IsNoCrew (codes "+1") × IsNoCrew [])))
+
+-- 2^64, a zero or a sign before a number, and no number
+abbrev pub IsNoLimit : List ℕ → Type 0
+IsNoLimit text = IsMisuse (codes "run" ∷ codes "a.alg" ∷ codes "p.plan" ∷ codes "b.pgm" ∷ codes "c.pgm" ∷ codes "--at-most" ∷ text ∷ [])
+
+abbrev pub MisusedLimits : Type 0
+MisusedLimits = IsNoLimit (codes "18446744073709551616") × (IsNoLimit (codes "01") × (IsNoLimit (codes "+1") × (IsNoLimit (codes "1e3") × IsNoLimit [])))

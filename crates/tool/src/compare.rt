@@ -11,7 +11,7 @@ ghost use Rattle.tool.specs.Pictures.{IsOfDevice};
 
 use crate::device::Files;
 use crate::picture::{algorithm_in, image_in};
-use crate::pipeline::{Fault, compile_checked, plain_picture, plan_picture};
+use crate::pipeline::{BUDGET, Fault, compile_checked, plain_picture, plan_picture};
 use crate::program::flush;
 use crate::request::CompareRequest;
 use crate::schedule_command::schedule_in;
@@ -157,7 +157,7 @@ pub(crate) fn compare_command<T: Threads + Sync, F: Files, W: Write>(
     let file = files.get(alloc, request.input)?;
     let inputs = image_in(alloc, &algo, file.as_slice())?;
     drop(file);
-    let picture = plain_picture(rt, alloc, &algo, &inputs)?;
+    let picture = plain_picture(rt, alloc, &algo, &inputs, BUDGET)?;
     let baseline = Baseline {
         algo: &algo,
         inputs: &inputs,

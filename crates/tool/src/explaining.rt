@@ -94,7 +94,10 @@ fn algorithm_of<'a>(request: &Request<'a>) -> Option<&'a str> {
         Request::Picture(asked) => Some(asked.algorithm),
         Request::Format(asked) => Some(asked.algorithm),
         Request::Compile(asked) => Some(asked.algorithm),
-        Request::Check(asked) | Request::Cost(asked) => Some(asked.algorithm),
+        Request::Check(asked) | Request::Cost(asked) | Request::Show(asked) => {
+            Some(asked.algorithm)
+        }
+        Request::Draw(asked) => Some(asked.check.algorithm),
         Request::Replay(asked) => Some(asked.check.algorithm),
         Request::Compare(asked) => Some(asked.algorithm),
         Request::Explain(_) => None,
@@ -114,9 +117,10 @@ fn plan_of<'a>(request: &Request<'a>) -> Option<&'a str> {
     match request {
         Request::Picture(asked) => match asked.way {
             Way::File { plan, .. } => Some(plan),
-            Way::Plain => None,
+            Way::Plain { .. } => None,
         },
-        Request::Check(asked) | Request::Cost(asked) => Some(asked.plan),
+        Request::Check(asked) | Request::Cost(asked) | Request::Show(asked) => Some(asked.plan),
+        Request::Draw(asked) => Some(asked.check.plan),
         Request::Replay(asked) => Some(asked.check.plan),
         _ => None,
     }

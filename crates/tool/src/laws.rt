@@ -1,6 +1,7 @@
 //! Laws of the command line, each the contract of a function that does nothing.
 
-ghost use Rattle.tool.specs.Worked.{CheckWithNames, CompareWithNames, CompileWithNames, CostWithNames, ExplainWithCode, ExplainedWords, FormatWithNames, HelpWords, MisusedWords, MisusedWorkers, PlainWithNames, ReplayWithNames, RunWithNames, RunWithWorkers, VersionWords};
+ghost use Rattle.tool.specs.Worked.{CheckWithNames, CompareWithNames, CompileWithNames, CostWithNames, DrawWithNames, DrawWithOrder, ExplainWithCode, ExplainedWords, FormatWithNames};
+ghost use Rattle.tool.specs.Worked.{HelpWords, MisusedLimits, MisusedWords, MisusedWorkers, PlainWithLimit, PlainWithNames, ReplayWithNames, RunWithLimit, RunWithNames, RunWithWorkers, ShowWithNames, VersionWords};
 
 /// What words that are written out ask for.
 pub fn words_are_read()
@@ -13,10 +14,16 @@ pub fn words_are_read()
     ensures compare { CompareWithNames }
     ensures check { CheckWithNames }
     ensures cost { CostWithNames }
+    ensures show { ShowWithNames }
+    ensures draw { DrawWithNames }
+    ensures drawn_after { DrawWithOrder }
+    ensures evaluations { PlainWithLimit }
+    ensures stores { RunWithLimit }
     ensures replay { ReplayWithNames }
     ensures explained { ExplainedWords }
     ensures help { HelpWords }
     ensures version { VersionWords }
     ensures misuse { MisusedWords }
     ensures crews { MisusedWorkers }
+    ensures limits { MisusedLimits }
 {}

@@ -3,9 +3,12 @@
 
 mod compare;
 mod device;
+mod draw_command;
 mod exit;
 mod explaining;
+mod help;
 pub mod laws;
+mod limit;
 pub mod order;
 mod picture;
 pub mod pipeline;

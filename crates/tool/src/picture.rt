@@ -9,8 +9,8 @@ ghost use Rattle.pnm.specs.Reading.{reading, wanted_of};
 ghost use Rattle.pnm.specs.Text.{text_of};
 ghost use Rattle.tool.specs.Asked.{picture_asked, way_asked};
 ghost use Rattle.tool.specs.Files.{SameFiles};
-ghost use Rattle.tool.specs.Means.{AreMeans, IsHalted, algo_meant};
-ghost use Rattle.tool.specs.Pictures.{IsDone, IsImageFault, IsRefused, IsTextFault, IsUnready};
+ghost use Rattle.tool.specs.Means.{AreMeans, IsAfforded, IsHalted, algo_meant, stores_checked};
+ghost use Rattle.tool.specs.Pictures.{IsDone, IsImageFault, IsRefused, IsTextFault, IsTooDear, IsUnready, IsWithin};
 
 use crate::device::Files;
 use crate::pipeline::{Fault, crew_picture, plain_picture, read_algorithm, read_inputs};
@@ -20,6 +20,7 @@ use algo::{Algo, Inputs};
 use checked_plan::Checked;
 use meaning::image::Image;
 use pnm::PnmError;
+use report::cost;
 use std::alloc::Global;
 use std::str;
 use std::sync::Wait;
@@ -28,8 +29,11 @@ use std::thread::Threads;
 /// What a picture is computed by.
 #[derive(Drop)]
 enum Means<'a> {
-    /// The algorithm's definitions.
-    Definitions(&'a Algo),
+    /// The algorithm's definitions, of which a pixel may take so many evaluations.
+    Definitions {
+        algo: &'a Algo,
+        most: u64,
+    },
     /// The plan of a file, which the checker has accepted, in the hands of so many workers.
     File {
         checked: Checked<'a>,
@@ -48,6 +52,21 @@ pub(crate) fn algorithm_in(alloc: Global, bytes: &[u8]) -> Result<Algo, Fault>
     }
 }
 
+/// Whether a plan makes no more stores than it may: it is counted before any piece is computed.
+fn stays_within(alloc: Global, checked: &Checked<'_>, most: Option<u64>) -> Result<(), Fault>
+    ensures within { OnOk result (IsWithin most (stores_checked checked.now)) }
+    ensures refused { IfErr result (IsTooDear most (stores_checked checked.now)) }
+{
+    let Some(most) = most else {
+        return Ok(());
+    };
+    if cost(alloc, checked)?.stores() > most {
+        Err(Fault::Budget)
+    } else {
+        Ok(())
+    }
+}
+
 /// What an algorithm's picture is computed by.
 fn means_of<'a, T: Threads + Sync, F: Files>(
     rt: &T,
@@ -62,9 +81,14 @@ fn means_of<'a, T: Threads + Sync, F: Files>(
     ensures refused { IfErr result (IsUnready (F.contents files.old) (way_asked way.entry) (algorithm_of algo.now)) }
 {
     match way {
-        Way::Plain => Ok(Means::Definitions(algo)),
-        Way::File { plan, workers } => {
+        Way::Plain { most } => Ok(Means::Definitions { algo, most }),
+        Way::File {
+            plan,
+            workers,
+            most,
+        } => {
             let checked = plan_in(rt, alloc, files, algo, plan)?;
+            stays_within(alloc, &checked, most)?;
             Ok(Means::File { checked, workers })
         }
     }
@@ -89,10 +113,11 @@ fn computed<T: Threads + Wait + Sync>(
 ) -> Result<Image, Fault>
     requires { IsFor (algo_meant means.now) inputs.now }
     ensures picture { IfOk result (λ image. image_of image ≡ picture_said (algorithm_of (algo_meant means.now)) (samples_of inputs.now)) }
+    ensures afforded { OnOk result (IsAfforded means.now (samples_of inputs.now)) }
     ensures refused { IfErr result (IsHalted means.now (samples_of inputs.now)) }
 {
     match means {
-        Means::Definitions(algo) => plain_picture(rt, alloc, algo, inputs),
+        Means::Definitions { algo, most } => plain_picture(rt, alloc, algo, inputs, *most),
         Means::File { checked, workers } => crew_picture(rt, alloc, checked, inputs, *workers),
     }
 }
@@ -105,6 +130,7 @@ fn picture_file<T: Threads + Wait + Sync>(
     inputs: &Inputs,
 ) -> Result<Vec<u8>, Fault>
     requires { IsFor (algo_meant means.now) inputs.now }
+    ensures afforded { OnOk result (IsAfforded means.now (samples_of inputs.now)) }
     ensures written { IfOk result (λ file. file.items ≡ text_of (picture_said (algorithm_of (algo_meant means.now)) (samples_of inputs.now))) }
     ensures refused { IfErr result (IsHalted means.now (samples_of inputs.now)) }
 {
@@ -120,8 +146,8 @@ fn picture_file<T: Threads + Wait + Sync>(
 /// Writes the picture that an algorithm says of an image: by its definitions alone, in as many threads as serve; or by the
 /// plan of a file, which is checked and computed by the workers that are asked for.
 ///
-/// The algorithm's file is read, its text and its plan are checked, the image is read, and the picture is written last,
-/// after everything else has succeeded.
+/// The algorithm's file is read, its text and its plan are checked, the plan's stores are counted where they are bounded, the
+/// image is read, and the picture is written last, after everything else has succeeded.
 ///
 /// # Errors
 /// The first refusal in this order; a text that is not UTF-8 is one of the device.

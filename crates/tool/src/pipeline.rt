@@ -14,6 +14,6 @@ pub use compiling::{compile, compile_checked, read_schedule};
 pub use fault::Fault;
 pub use reading::{read_algorithm, read_inputs};
 pub use rule::BrokenRule;
-pub use without_plan::{plain_between, plain_over, plain_picture};
+pub use without_plan::{BUDGET, plain_between, plain_over, plain_picture};
 /// What replays the steps of a checked plan.
 pub use steps::{State, replay};

@@ -16,7 +16,7 @@ use crate::request::CheckRequest;
 use algo::Algo;
 use checked_plan::Checked;
 use pnm::PnmError;
-use report::{cost, text};
+use report::{cost, nests, text};
 use std::alloc::Global;
 use std::io::Write;
 use std::str;
@@ -49,6 +49,8 @@ pub(crate) enum Telling {
     Counts,
     /// What each stored function costs.
     Costs,
+    /// The loop nest of each group, and then what each stored function costs.
+    Nests,
 }
 
 /// Tells how many pieces and cells a checked plan has.
@@ -78,6 +80,19 @@ fn tell_costs<W: Write>(alloc: Global, out: &mut W, checked: &Checked<'_>) -> Re
     }
 }
 
+/// Tells the loop nest of each group of a checked plan, and then what each stored function costs.
+fn tell_nests<W: Write>(alloc: Global, out: &mut W, checked: &Checked<'_>) -> Result<(), Fault>
+    ensures { IfErr result IsOfDevice }
+{
+    let costs = cost(alloc, checked)?;
+    let table = text(alloc, &costs)?;
+    let told = nests::text(alloc, checked)?;
+    match write!(out, "{told}\n{table}") {
+        Ok(()) => flush(out),
+        Err(_) => Err(Fault::Image(PnmError::Device)),
+    }
+}
+
 fn tell<W: Write>(
     alloc: Global,
     out: &mut W,
@@ -89,10 +104,12 @@ fn tell<W: Write>(
     match telling {
         Telling::Counts => tell_counts(out, checked),
         Telling::Costs => tell_costs(alloc, out, checked),
+        Telling::Nests => tell_nests(alloc, out, checked),
     }
 }
 
-/// Checks the plan of a file against an algorithm, and tells how many pieces and cells it has, or what it costs.
+/// Checks the plan of a file against an algorithm, and tells how many pieces and cells it has, or what it costs, or its loop
+/// nests.
 ///
 /// # Errors
 /// The first refusal: of the algorithm's text, then of the plan file; a text that is not UTF-8 is one of the device.

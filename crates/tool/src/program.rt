@@ -12,6 +12,7 @@ ghost use Rattle.tool.specs.Answer.{CommandAnswers, Ends, HasEnded, StreamsAnswe
 
 use crate::compare::compare_command;
 use crate::device::Files;
+use crate::draw_command::draw_command;
 use crate::exit::status;
 use crate::explaining::{Detail, explain};
 use crate::picture::picture_command;
@@ -141,6 +142,8 @@ fn command<T: Threads + Wait + Sync, F: Files, W: Write>(
         Request::Compile(asked) => compile_command(rt, alloc, files, asked),
         Request::Check(asked) => plan_command(rt, alloc, files, out, asked, Telling::Counts),
         Request::Cost(asked) => plan_command(rt, alloc, files, out, asked, Telling::Costs),
+        Request::Show(asked) => plan_command(rt, alloc, files, out, asked, Telling::Nests),
+        Request::Draw(asked) => draw_command(rt, alloc, files, asked),
         Request::Replay(asked) => replay_command(rt, alloc, files, out, asked),
         Request::Compare(asked) => compare_command(rt, alloc, files, out, asked),
     }

@@ -22,7 +22,7 @@ use std::str;
 use std::thread::Threads;
 
 /// Reads the text of an order.
-fn order_in(alloc: Global, bytes: &[u8]) -> Result<Vec<u8>, Fault>
+pub(crate) fn order_in(alloc: Global, bytes: &[u8]) -> Result<Vec<u8>, Fault>
     ensures order { IfOk result (λ order. IsOrder bytes.now order.items) }
     ensures refused { IfErr result (IsOrderFault bytes.now) }
 {

@@ -3,14 +3,19 @@
 /// How a picture is computed.
 #[derive(Clone, Copy, Debug, Drop)]
 pub enum Way<'a> {
-    /// By the algorithm's definitions alone, each pixel within a budget.
-    Plain,
+    /// By the algorithm's definitions alone.
+    Plain {
+        /// How many evaluations a pixel may take.
+        most: u64,
+    },
     /// By the plan of a file, in the hands of so many workers.
     File {
         /// The plan file.
         plan: &'a str,
         /// How many workers there are, from 1 to 64.
         workers: usize,
+        /// How many stores the plan may make, where that is bounded.
+        most: Option<u64>,
     },
 }
 
@@ -67,6 +72,17 @@ pub struct ReplayRequest<'a> {
     pub order: &'a str,
 }
 
+/// A plan whose pieces are to be drawn: the names of three or four files.
+#[derive(Clone, Copy, Debug, Drop)]
+pub struct DrawRequest<'a> {
+    /// The plan that is checked first.
+    pub check: CheckRequest<'a>,
+    /// Where the drawing is written.
+    pub output: &'a str,
+    /// The order of the workers' steps after which it is drawn; without one all pieces are done.
+    pub order: Option<&'a str>,
+}
+
 /// Schedules whose pictures are compared with the plain one.
 #[derive(Debug, Drop)]
 pub struct CompareRequest<'a> {
@@ -102,6 +118,10 @@ pub enum Request<'a> {
     Check(CheckRequest<'a>),
     /// What a plan costs, where the checker accepts it.
     Cost(CheckRequest<'a>),
+    /// The loop nests of a plan, where the checker accepts it.
+    Show(CheckRequest<'a>),
+    /// Which piece owns each pixel.
+    Draw(DrawRequest<'a>),
     /// What comes of an order of steps.
     Replay(ReplayRequest<'a>),
     /// How the pictures of schedules compare with the plain one, and what they cost.

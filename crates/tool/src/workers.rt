@@ -8,10 +8,10 @@ ghost use Rattle.tool.specs.Workers.{workers_spelled};
 use itoa::Buffer;
 
 /// The most workers that there may be.
-const MOST: usize = 64;
+const MOST: u64 = 64;
 
 /// Whether the text is the number's digits.
-fn is_spelled(number: usize, text: &str) -> bool
+pub(crate) fn is_spelled(number: u64, text: &str) -> bool
     ensures { result ≡ bytes_eq (count_text number) text.now }
 {
     let mut buffer = Buffer::new();
@@ -24,7 +24,7 @@ pub(crate) fn workers_spelled(text: &str) -> Option<usize>
 {
     for number in 1..=MOST {
         if is_spelled(number, text) {
-            return Some(number);
+            return Some(number as usize);
         }
     }
     None

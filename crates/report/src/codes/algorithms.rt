@@ -126,9 +126,15 @@ stencil: A7 bytes 67..70
 Cast in the last function.
 ";
 
-const P1: &str = "A pixel takes more than 2^32 evaluations.
+const P1: &str =
+    "A pixel takes more evaluations than it may: 2^32, or as many as `--at-most` says. Of `run`, the plan makes more stores than `--at-most` says.
 
-`plain` remembers nothing, so a chain of functions that each call the one before twice takes twice as many evaluations with each. Compile a schedule that stores some of them, and `run` its plan.
+```console
+$ stencil run examples/inc.alg examples/inc.plan examples/inc.pgm out.pgm --at-most 19
+stencil: P1
+```
+
+`plain` remembers nothing, so a chain of functions that each call the one before twice takes twice as many evaluations with each. Compile a schedule that stores some of them, and `run` its plan. `stencil cost` tells how many stores a plan makes.
 ";
 
 /// The page of a code of algorithms.

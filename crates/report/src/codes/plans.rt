@@ -182,7 +182,7 @@ $ stencil check examples/inc.alg a.plan
 stencil: K14 line 5
 ```
 
-[PLANS.md](PLANS.md) lists the limits. Lines `window`, folded places `%n` and a `fetch` over a `let` are not taken yet.
+[PLANS.md](PLANS.md) lists the limits. A `fetch` over a `let` is not taken yet.
 ";
 
 /// The page of a code of plan files.

@@ -100,7 +100,8 @@ stencil: L8 out
 Take `guard`, or a smaller factor.
 ";
 
-const L9: &str = "`fold` of a function without `store_at`, of a dimension in which it does not slide, or to fewer places than its window has numbers.
+const L9: &str =
+    "`fold` of a function without `store_at`, of a dimension in which it does not slide, or to fewer places than its window has numbers.
 
 ```console
 $ printf 'pipeline slide; input in u8 [4, 8]; func f u8 (x, y) = in[x, y] + 1u8; func out u8 (x, y) = f[x, y] + f[x, clamp(y + 1, 0, 7)]; output out [4, 8];' > a.alg

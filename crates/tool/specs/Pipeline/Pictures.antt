@@ -1,6 +1,6 @@
 -- From an algorithm's text and an image file to the picture, by a plan file or by the definitions alone: what is done, and why
 -- something is refused.
-use Rattle.std.specs.Prelude.{◌≡◌, ◌⊎◌, ℕ, ◌^◌, ◌<◌, List, Option, None, Some, ⊤, Err}
+use Rattle.std.specs.Prelude.{◌≡◌, ◌⊎◌, ℕ, ◌^◌, List, Option, None, Some, ⊤, Err}
 use Rattle.std.specs.Io.KnownBytes.{Keeps, Appends}
 use Rattle.meaning.specs.Algorithm.{Algorithm}
 use Rattle.algo.specs.Parts.{input_frame}
@@ -13,7 +13,7 @@ use Rattle.pnm.specs.Reading.{wanted_of}
 use Rattle.pnm.specs.Source.{ReadsFile, Sends, StopsSomewhere}
 use Rattle.pnm.specs.Text.{text_of}
 use Rattle.tool.specs.declared.pipeline.fault.Fault.{Fault}
-use Rattle.tool.specs.declared.pipeline.fault.Fault.TheVariants.{Memory, Algo, Form, Limit, Plan, Image, Budget, Unfinished}
+use Rattle.tool.specs.declared.pipeline.fault.Fault.TheVariants.{Memory, Algo, Form, Limit, Plan, Image, Budget}
 use Rattle.tool.specs.Pipeline.Texts.{IsImageRefused, IsTextRefused, IsUntouched}
 use Rattle.tool.specs.Pipeline.PlanFiles.{HasPlan, IsFileRefused}
 
@@ -33,21 +33,15 @@ abbrev pub IsUnready : PlanText → Algorithm → Fault → Type 0
 IsUnready None a fault = ⊥
 IsUnready (Some file) a fault = IsFileRefused a file fault
 
--- some pixel of the picture takes more than 2^32 evaluations; want of memory says nothing
-abbrev pub IsBudgetSpent : Algorithm → List ℕ → Fault → Type 0
-IsBudgetSpent a samples Memory = ⊤
-IsBudgetSpent a samples Budget = SomeAbove a samples (2 ^ 32)
-IsBudgetSpent a samples _ = ⊥
+-- some pixel of the picture takes more evaluations than it may; want of memory says nothing
+abbrev pub IsBudgetSpent : Algorithm → List ℕ → ℕ → Fault → Type 0
+IsBudgetSpent a samples most Memory = ⊤
+IsBudgetSpent a samples most Budget = SomeAbove a samples most
+IsBudgetSpent a samples most _ = ⊥
 
--- memory ran out, or a piece was left unfinished, which is told of more workers than one alone
-abbrev pub IsLeft : ℕ → Fault → Type 0
-IsLeft workers Memory = ⊤
-IsLeft workers (Unfinished piece) = 1 < workers
-IsLeft workers _ = ⊥
-
--- why it was not computed; by a plan and one worker there is no reason but want of memory
+-- why it was not computed: some pixel takes more than 2^32 evaluations; by a plan there is no reason but want of memory
 abbrev pub IsStopped : PlanText → Algorithm → List ℕ → Fault → Type 0
-IsStopped None a samples fault = IsBudgetSpent a samples fault
+IsStopped None a samples fault = IsBudgetSpent a samples (2 ^ 32) fault
 IsStopped (Some file) a samples fault = fault ≡ Memory
 
 -- ---- what is done

@@ -8,7 +8,7 @@ ghost use Rattle.pnm.specs.declared.error.PnmError.TheVariants.{Device};
 ghost use Rattle.pnm.specs.Source.{IsEndless};
 ghost use Rattle.tool.specs.declared.pipeline.fault.Fault.{Fault as FaultOf};
 ghost use Rattle.tool.specs.declared.pipeline.fault.Fault.TheVariants.{Memory};
-ghost use Rattle.tool.specs.Pipeline.Pictures.{IsDone, IsLeft, IsRefused};
+ghost use Rattle.tool.specs.Pipeline.Pictures.{IsDone, IsRefused};
 ghost use Rattle.tool.specs.Pipeline.PlanFiles.{IsAccepted, IsFileRefused};
 
 use crate::pipeline::fault::Fault;
@@ -16,14 +16,13 @@ use crate::pipeline::reading::{inputs_from, read_algorithm};
 use algo::{Algo, Inputs};
 use audit::check;
 use checked_plan::Checked;
-use crew::{Unwatched, can_run, run};
+use crew::{Unwatched, picture, run};
 use meaning::image::Image;
 use pnm::{Sink, Source, Watched, write_to};
 use std::alloc::Global;
 use std::io::{Read, Write};
 use std::sync::Wait;
 use std::thread::Threads;
-use steps::picture;
 
 /// The most workers that compute at once.
 const MOST_WORKERS: usize = 64;
@@ -60,12 +59,10 @@ pub fn plan_picture(alloc: Global, checked: &Checked<'_>, inputs: &Inputs) -> Re
 }
 
 /// The picture that the algorithm says of an input, computed by the pieces of a checked plan in the hands of so many workers:
-/// in the caller's thread and in threads that are started through `rt`. Fewer than one are one, and more than 64 are 64. Where
-/// workers can't share the plan's cells one computes all.
+/// in the caller's thread and in threads that are started through `rt`. Fewer than one are one, and more than 64 are 64.
 ///
 /// # Errors
-/// `Memory` where memory runs out, which is before the first worker starts; `Unfinished` where workers left a piece
-/// unfinished.
+/// `Memory` where memory runs out, which is before the first worker starts.
 pub fn crew_picture<T: Threads + Wait + Sync>(
     rt: &T,
     alloc: Global,
@@ -75,9 +72,9 @@ pub fn crew_picture<T: Threads + Wait + Sync>(
 ) -> Result<Image, Fault>
     requires { IsFor checked.now.algo.now inputs.now }
     ensures picture { IfOk result (λ image. image_of image ≡ picture_said (algorithm_checked checked.now) (samples_of inputs.now)) }
-    ensures refused { IfErr result (IsLeft workers) }
+    ensures refused { IfErr result (λ fault. fault ≡ Memory) }
 {
-    if workers <= 1 || !can_run(checked) {
+    if workers <= 1 {
         return plan_picture(alloc, checked, inputs);
     }
     Ok(run(

@@ -3,6 +3,7 @@
 ghost use Rattle.std.specs.Prelude.{◌≡◌, ◌⊎◌, true, false, None, IfErr, IfOk, IsErrOf, OnOk};
 ghost use Rattle.algo.specs.View.{algorithm_of, picture_said, samples_of, IsFor};
 ghost use Rattle.meaning.specs.Image.View.{image_of};
+ghost use Rattle.plain.specs.Picture.{AllWithin};
 ghost use Rattle.pnm.specs.declared.error.PnmError.TheVariants.{Device};
 ghost use Rattle.pnm.specs.Source.{IsEndless};
 ghost use Rattle.tool.specs.declared.pipeline.fault.Fault.{Fault as FaultOf};
@@ -17,11 +18,11 @@ use std::alloc::Global;
 use std::io::{Read, Write};
 use std::thread::Threads;
 
-/// How many evaluations a pixel may take.
-const BUDGET: u64 = 1 << 32;
+/// How many evaluations a pixel may take where nothing else is asked.
+pub const BUDGET: u64 = 1 << 32;
 
 /// The picture that an algorithm says of an input, each pixel computed by the definitions alone, in as many threads as
-/// serve. A pixel may take 2^32 evaluations.
+/// serve. A pixel may take so many evaluations.
 ///
 /// # Errors
 /// `Budget` where a pixel takes more, `Memory` where memory runs out.
@@ -30,12 +31,14 @@ pub fn plain_picture<T: Threads + Sync>(
     alloc: Global,
     algo: &Algo,
     inputs: &Inputs,
+    budget: u64,
 ) -> Result<Image, Fault>
     requires { IsFor algo.now inputs.now }
     ensures picture { IfOk result (λ image. image_of image ≡ picture_said (algorithm_of algo.now) (samples_of inputs.now)) }
-    ensures refused { IfErr result (IsBudgetSpent (algorithm_of algo.now) (samples_of inputs.now)) }
+    ensures within { OnOk result (AllWithin (algorithm_of algo.now) (samples_of inputs.now) budget) }
+    ensures refused { IfErr result (IsBudgetSpent (algorithm_of algo.now) (samples_of inputs.now) budget) }
 {
-    Ok(plain::image(rt, alloc, algo, inputs, BUDGET)?)
+    Ok(plain::image(rt, alloc, algo, inputs, budget)?)
 }
 
 /// Does what `plain_over` does, between a source and a sink that tell whether they have failed: `Image(Device)` is answered
@@ -62,7 +65,7 @@ pub fn plain_between<T: Threads + Sync, S: Source, K: Sink>(
 {
     let algo = read_algorithm(alloc, text)?;
     let inputs = inputs_from(alloc, &algo, source)?;
-    let image = plain_picture(rt, alloc, &algo, &inputs)?;
+    let image = plain_picture(rt, alloc, &algo, &inputs, BUDGET)?;
     Ok(write_to(sink, &image)?)
 }
 

@@ -1,4 +1,4 @@
-use Rattle.std.proofs.Common.{◌≡◌, subst, List, ℕ, inl, inr, All, Bor, Ok, map}
+use Rattle.std.proofs.Common.{◌≡◌, ◌^◌, subst, List, ℕ, inl, inr, All, Bor, Ok, map}
 use Rattle.std.specs.Prelude.{IfErr, OnOk}
 use Rattle.std.proofs.lemmas.Result.{err_from_is_err_and}
 use Rattle.meaning.specs.Algorithm.{Algorithm}
@@ -37,7 +37,7 @@ returns-in_err-picture-clause-refused g c =
     let samples : List ℕ = samples_of c.in_ok-inputs.inputs in
     let IsText : List ℕ → Type 0 = λ bytes. IsAlgorithmText bytes a in
     let IsImage : List ℕ → Type 0 = λ bytes. reading (wanted_of (input_frame a)) bytes ≡ Ok samples in
-    let spent : IsBudgetSpent a samples p.0 = rw p.2 c.in_err-picture.ensures.refused in
+    let spent : IsBudgetSpent a samples (2 ^ 32) p.0 = rw p.2 c.in_err-picture.ensures.refused in
     rw p.1 (inr (inr (inr (inl (record {
       text = c.in_ok-bytes.bytes.items;
       algorithm = a;

@@ -1,4 +1,4 @@
-use Rattle.std.proofs.Common.{◌≡◌, ◌∙◌, ap, sym, List, ℕ}
+use Rattle.std.proofs.Common.{◌∙◌, ap, sym, List, ℕ}
 use Rattle.meaning.specs.Image.View.{Picture}
 use Rattle.algo.specs.declared.algorithm.Algo.{Algo}
 use Rattle.algo.specs.View.{algorithm_of, picture_said, samples_of}

@@ -1,4 +1,4 @@
-use Rattle.std.proofs.Common.{◌∙◌, ap, rules, sym, subst, All, List, ℕ, length, map, take, arith}
+use Rattle.std.proofs.Common.{◌∙◌, sym, arith}
 use Rattle.std.proofs.lemmas.Result.{err_from_is_err_and}
 use Rattle.tool.proofs.Schedules.{legal_next, legal_whole, refused_among}
 use Rattle.tool.proofs.Kept.{same_then}

@@ -2,6 +2,7 @@ use Rattle.std.proofs.Common.{refl, inl, inr}
 use Rattle.clap.specs.declared.error.kind.ErrorKind.TheVariants.{MissingRequiredArgument, UnknownArgument}
 use Rattle.std.specs.Fmt.{digits}
 use Rattle.clap.proofs.OnLiterals.{clap_on_literals}
+use Rattle.tool.specs.Limit.{limit_spelled}
 use Rattle.tool.specs.Workers.{workers_spelled}
 use Rattle.tool.proofs.laws.words_are_read.Goals as goal
 
@@ -41,6 +42,26 @@ pub returns-clause-cost : goal.returns-clause-cost
 unfolding clap_on_literals
 returns-clause-cost c = (refl, refl)
 
+pub returns-clause-show : goal.returns-clause-show
+unfolding clap_on_literals
+returns-clause-show c = (refl, refl)
+
+pub returns-clause-draw : goal.returns-clause-draw
+unfolding clap_on_literals
+returns-clause-draw c = (refl, refl)
+
+pub returns-clause-drawn_after : goal.returns-clause-drawn_after
+unfolding clap_on_literals
+returns-clause-drawn_after c = (refl, refl)
+
+pub returns-clause-evaluations : goal.returns-clause-evaluations
+unfolding clap_on_literals digits limit_spelled
+returns-clause-evaluations c = (refl, refl)
+
+pub returns-clause-stores : goal.returns-clause-stores
+unfolding clap_on_literals digits limit_spelled
+returns-clause-stores c = (refl, refl)
+
 pub returns-clause-replay : goal.returns-clause-replay
 unfolding clap_on_literals
 returns-clause-replay c = (refl, refl)
@@ -60,3 +81,7 @@ returns-clause-misuse c = (inl (UnknownArgument, (λ e. cc e), (λ e. cc e), inl
 pub returns-clause-crews : goal.returns-clause-crews
 unfolding clap_on_literals digits workers_spelled
 returns-clause-crews c = (inr refl, (inr refl, (inr refl, (inr refl, inr refl))))
+
+pub returns-clause-limits : goal.returns-clause-limits
+unfolding clap_on_literals digits limit_spelled
+returns-clause-limits c = (inr refl, (inr refl, (inr refl, (inr refl, inr refl))))

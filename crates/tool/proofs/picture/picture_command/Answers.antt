@@ -9,7 +9,7 @@ use Rattle.algo.specs.View.{algorithm_of, picture_said, samples_of}
 use Rattle.pnm.specs.Reading.{reading, wanted_of}
 use Rattle.pnm.specs.Text.{text_of}
 use Rattle.tool.proofs.Kept.{held_before, of_device, others_then, same_then}
-use Rattle.tool.proofs.Prepared.{ready_before, ready_by, stopped_by, unready_before}
+use Rattle.tool.proofs.Prepared.{afforded_by, ready_before, ready_by, stopped_by, unready_before}
 use Rattle.tool.specs.Means.{IsHalted}
 use Rattle.tool.specs.Pictures.{IsImageFault, IsUnready}
 use Rattle.tool.proofs.picture.picture_command.Goals as goal
@@ -56,7 +56,7 @@ returns-in_err-inputs-clause-refused g c =
         image = c.in_ok-bytes.bytes.items;
         holds_text = c.in_ok-text.ensures.bytes;
         is_text = subst IsText c.as_slice.ensures.value c.in_ok-algo.ensures.said;
-        ready = ready_before _ _ _ a c.get.ensures.same (ready_by _ _ a _ c.in_ok-means.ensures.means);
+        ready = ready_before _ _ _ a c.get.ensures.same (ready_by _ _ a _ (ap algorithm_of c.in_ok-means.ensures.algo) c.in_ok-means.ensures.means);
         holds_image = held_before _ _ _ _ before c.in_ok-bytes.ensures.bytes;
         refused = subst IsFault c.as_slice-2.ensures.value refused;
       })))),
@@ -109,9 +109,10 @@ returns-in_err-put-clause-refused g c =
           samples = samples;
           holds_text = c.in_ok-text.ensures.bytes;
           is_text = subst IsText c.as_slice.ensures.value c.in_ok-algo.ensures.said;
-          ready = ready_before _ _ _ a c.get.ensures.same (ready_by _ _ a _ c.in_ok-means.ensures.means);
+          ready = ready_before _ _ _ a c.get.ensures.same (ready_by _ _ a _ (ap algorithm_of c.in_ok-means.ensures.algo) c.in_ok-means.ensures.means);
           holds_image = held_before _ _ _ _ before c.in_ok-bytes.ensures.bytes;
           is_image = subst IsImage c.as_slice-2.ensures.value c.in_ok-inputs.ensures.read;
+          affordable = afforded_by _ _ a _ samples (ap algorithm_of c.in_ok-means.ensures.algo) c.in_ok-means.ensures.means c.in_ok-file.ensures.afforded;
           whole = c.in_ok-file.ensures.written ∙ ap file_of c.in_ok-means.ensures.algo;
         },
       ),
@@ -134,9 +135,10 @@ returns-clause-done g c =
         samples = samples;
         holds_text = c.in_ok-text.ensures.bytes;
         is_text = subst IsText c.as_slice.ensures.value c.in_ok-algo.ensures.said;
-        ready = ready_before _ _ _ a c.get.ensures.same (ready_by _ _ a _ c.in_ok-means.ensures.means);
+        ready = ready_before _ _ _ a c.get.ensures.same (ready_by _ _ a _ (ap algorithm_of c.in_ok-means.ensures.algo) c.in_ok-means.ensures.means);
         holds_image = held_before _ _ _ _ before c.in_ok-bytes.ensures.bytes;
         is_image = subst IsImage c.as_slice-2.ensures.value c.in_ok-inputs.ensures.read;
+        affordable = afforded_by _ _ a _ samples (ap algorithm_of c.in_ok-means.ensures.algo) c.in_ok-means.ensures.means c.in_ok-file.ensures.afforded;
         whole = c.as_slice-3.ensures.value ∙ c.in_ok-file.ensures.written ∙ ap file_of c.in_ok-means.ensures.algo;
       },
       (c.in_ok-put.ensures.put.0, others_then _ _ _ _ same c.in_ok-put.ensures.put.1),

@@ -1,4 +1,4 @@
-use Rattle.std.proofs.Common.{◌≡◌, subst, List, ℕ, inr}
+use Rattle.std.proofs.Common.{subst, List, ℕ, inr}
 use Rattle.std.proofs.lemmas.Result.{err_from_is_err_and}
 use Rattle.meaning.specs.Algorithm.{Algorithm}
 use Rattle.algo.specs.Refusal.{IsAlgorithmText}

@@ -8,10 +8,8 @@ use Rattle.pnm.specs.Reading.{reading, wanted_of}
 use Rattle.tool.specs.Order.Order.{IsOrder}
 use Rattle.tool.proofs.Kept.{held_before, of_device, on_ok, same_then}
 use Rattle.tool.proofs.Prepared.{fault_before, plan_before}
-use Rattle.tool.specs.Asked.{check_asked, replay_asked}
-use Rattle.tool.specs.Checks.{IsChecked}
 use Rattle.tool.specs.Pictures.{IsImageFault, IsPlanFault}
-use Rattle.tool.specs.Replays.{HasInput, IsOrderFault}
+use Rattle.tool.specs.Replays.{IsOrderFault}
 use Rattle.tool.proofs.replay.replay_command.Goals as goal
 
 pub returns-in_err-checked-clause-refused : goal.returns-in_err-checked-clause-refused

@@ -12,4 +12,4 @@ returns-in_err-image-clause-refused g c =
     let samples = samples_of c.args.inputs.now in
     let e = c.in_err-image.field-0.0 in
     let p = err_from_is_err_and c.from_residual.result c.from_residual.ensures.1 in
-    told (IsBudgetSpent a samples) c.from_residual.result p.0 (plain_fault e) p.1 p.2 (refuses_pixel a samples e c.in_err-image.ensures.spent)
+    told (IsBudgetSpent a samples c.args.budget) c.from_residual.result p.0 (plain_fault e) p.1 p.2 (refuses_pixel a samples c.args.budget e c.in_err-image.ensures.spent)

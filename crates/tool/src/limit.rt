@@ -1,0 +1,16 @@
+//! A limit, as the command line spells it.
+
+ghost use Rattle.std.specs.Prelude.{◌≡◌};
+ghost use Rattle.tool.specs.Limit.{limit_spelled};
+
+use crate::workers::is_spelled;
+
+/// The number below 2^64 that the text spells: without a sign, and without a zero before it.
+pub(crate) fn limit_spelled(text: &str) -> Option<u64>
+    ensures { result ≡ limit_spelled text.now }
+{
+    match text.parse::<u64>() {
+        Ok(number) if is_spelled(number, text) => Some(number),
+        _ => None,
+    }
+}
