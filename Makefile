@@ -46,7 +46,7 @@ test:
 	RT_JOBS=$${RT_JOBS:-$$(nproc)} rt ci; \
 	python3 tests/run.py crates/stencil/out/stencil; \
 	python3 tests/schedules.py crates/stencil/out/stencil; \
-	python3 tests/schedules.py crates/stencil/out/stencil --placing; \
+	python3 tests/schedules.py crates/stencil/out/stencil 200 --placing; \
 	python3 tests/pages.py crates/stencil/out/stencil
 
 # How long the proved program takes for `check` and `run` of plans with a piece a row, and for `plain`; and for `check` of plans
