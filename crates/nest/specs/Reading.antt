@@ -1,6 +1,6 @@
 -- Reading a line without a look at what stands between its parts: each text gives some line, and the text of a line that
 -- fits gives that line.
-use Rattle.std.specs.Prelude.{ℕ, zero, suc, Bool, ◌==◌, if◌then◌else◌, List, [], ◌∷◌, ◌++◌, length, drop}
+use Rattle.std.specs.Prelude.{ℕ, zero, suc, Bool, ◌==◌, ◌&&◌, if◌then◌else◌, List, [], ◌∷◌, ◌++◌, length, drop}
 use Rattle.std.specs.List.{list_any}
 use Rattle.plan.specs.declared.stmt.Kind.{Kind}
 use Rattle.plan.specs.declared.stmt.Kind.TheVariants as kind
@@ -55,11 +55,15 @@ coordinate_from text =
 abbrev pub has_blank : List ℕ → Bool
 has_blank text = list_any (λ b. b == 32) text
 
--- coordinates before the last word; the number bounds them
+-- a coordinate stands at the front: a blank follows what is read of one
+abbrev pub has_coordinate : List ℕ → Bool
+has_coordinate text = has_blank text && begins 32 (coordinate_from text).1
+
+-- the coordinates before the last word; the number bounds them
 unfoldable pub coordinates_from : ℕ → List Coordinate → List ℕ → List Coordinate × List ℕ
 coordinates_from zero found text = (found, text)
 coordinates_from (suc most) found text =
-    if has_blank text then coordinates_from most (found ++ (coordinate_from text).0 ∷ []) (drop 1 (coordinate_from text).1) else (found, text)
+    if has_coordinate text then coordinates_from most (found ++ (coordinate_from text).0 ∷ []) (drop 1 (coordinate_from text).1) else (found, text)
 
 unfoldable pub group_from : List ℕ → Line
 group_from text =

@@ -135,6 +135,10 @@ fn coordinates_from(
             return Ok((found, rest));
         }
         let (coordinate, next) = coordinate_from(alloc, rest)?;
+        // Where no blank follows, the line is of no plan. So what was walked for a blank is read, and no byte is walked again.
+        if !begins(b' ', next) {
+            return Ok((found, rest));
+        }
         found.push(coordinate)?;
         rest = skip(1, next);
     }
