@@ -100,7 +100,7 @@ Take a smaller image or fewer workers, or a machine with more memory. `stencil c
 
 const U1: &str = "Workers left a piece unfinished. It ends with status 6, and names the piece.
 
-Run again; with one worker there is no such answer.
+No run gives it: workers leave no piece of a checked plan unfinished, whatever the order of their steps. The code and the status are those that the rules of the program name.
 ";
 
 /// The page of a code of images and orders, and of the run.
