@@ -1,19 +1,25 @@
 //! The program over the real files and streams. Without words it runs one algorithm from standard input to standard output.
 #![tactic(auto)]
 
+mod escaped;
 mod system;
 
+use crate::escaped::Escaped;
 use crate::system::SystemFiles;
+use std::env::Env;
 use std::io::{BufReader, BufWriter, Error, ErrorKind};
 use std::process::ExitCode;
 use std::sync::Wait;
 use std::thread::Threads;
-use std::{env, io};
+use std::{env, io, str};
 use tool::pipeline::Fault;
 use tool::{status, tool};
 
 // The status of a command line fault.
 const MISUSED: u8 = 2;
+
+// The system hands over no longer word.
+const LONGEST_WORD: usize = 131_072;
 
 /// Runs the program on the words after its name. The second handle is the same one, as the right to start threads and to
 /// wait for them.
@@ -23,7 +29,7 @@ fn run<T: Threads + Wait + Sync>(rt: &HostRuntime, threads: &T) -> io::Result<u8
     let words: Vec<&str> = given.iter().map(|word| word.as_str()).collect(alloc)?;
     let mut input = BufReader::new(alloc, rt.reader())?;
     let mut out = BufWriter::new(alloc, rt.stdout())?;
-    let mut files = SystemFiles { rt };
+    let mut files = SystemFiles::new(rt, words.as_slice())?;
     Ok(tool(
         threads,
         alloc,
@@ -31,8 +37,27 @@ fn run<T: Threads + Wait + Sync>(rt: &HostRuntime, threads: &T) -> io::Result<u8
         &mut files,
         &mut input,
         &mut out,
-        &mut rt.stderr(),
+        &mut Escaped { out: rt.stderr() },
     ))
+}
+
+/// Tells the first word that is not UTF-8. The answer is whether there is one.
+fn tell_word(rt: &HostRuntime) -> io::Result<bool> {
+    let mut bytes = vec![in rt.alloc(); 0u8; LONGEST_WORD]?;
+    for number in 1..usize::MAX {
+        let Ok(length) = rt.arg(number, bytes.as_mut_slice()) else {
+            return Ok(false);
+        };
+        let word = &bytes.as_slice()[..length];
+        if str::from_utf8(word).is_err() {
+            eprintln!(rt;
+                "error: word {number} is not UTF-8: '{}'",
+                word.escape_ascii()
+            )?;
+            return Ok(true);
+        }
+    }
+    Ok(false)
 }
 
 /// The status where the words can't be read: a fault of the command line, or want of memory.
@@ -42,7 +67,9 @@ fn answer(rt: &HostRuntime, error: &Error) -> u8 {
         let _ = eprintln!(rt; "stencil: {fault}");
         return status(&fault);
     }
-    let _ = eprintln!(rt; "error: {error}");
+    if !matches!(tell_word(rt), Ok(true)) {
+        let _ = eprintln!(rt; "error: {error}");
+    }
     MISUSED
 }
 

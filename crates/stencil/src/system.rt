@@ -1,8 +1,9 @@
 //! The files of the system.
 
-use std::fs::OpenOptions;
+use std::fs;
+use std::fs::{OpenOptions, TryLockError};
 use std::io::{self, Error, ErrorKind, Read, Write};
-use std::{format, fs};
+use std::os::unix::fs::MetadataExt;
 use tool::{FileError, Files};
 
 // The name that stands for standard input where a file is read, and for standard output where one is written.
@@ -11,11 +12,37 @@ const STREAM: &str = "-";
 // How many names beside a file are tried, where others have come there.
 const NAMES: u32 = 64;
 
+// The name of a file that is being written is that of its place and no more than so many bytes.
+const ENDING: usize = 32;
+
 /// The files of the system, by their paths; `-` is standard input where a file is read, and standard output where one is
 /// written.
 #[derive(Drop)]
 pub(crate) struct SystemFiles<'a> {
     pub(crate) rt: &'a HostRuntime,
+    /// Room for the name of a file that is being written.
+    part: String,
+}
+
+impl<'a> SystemFiles<'a> {
+    /// The files, with all memory that writing one takes whose name is one of these words and no link.
+    pub(crate) fn new(rt: &'a HostRuntime, words: &[&str]) -> io::Result<SystemFiles<'a>> {
+        let longest = words.iter().map(|word| word.len()).max().unwrap_or(0);
+        let part = String::with_capacity(rt.alloc(), longest.saturating_add(ENDING))?;
+        Ok(SystemFiles { rt, part })
+    }
+
+    /// Writes a file or standard output.
+    fn write(&mut self, name: &str, bytes: &[u8]) -> io::Result<()> {
+        if name == STREAM {
+            return write_stream(self.rt, bytes);
+        }
+        match place_of(self.rt, name)? {
+            Place::Named(place) => replace(self.rt, place, &mut self.part, bytes),
+            Place::Linked(place) => replace(self.rt, place.as_str(), &mut self.part, bytes),
+            Place::Other => fs::write(self.rt, name, bytes),
+        }
+    }
 }
 
 fn file_error(error: &Error) -> FileError {
@@ -36,50 +63,124 @@ fn read(rt: &HostRuntime, name: &str) -> io::Result<Vec<u8>> {
     Ok(bytes)
 }
 
-/// Where a file's bytes are to stand at last, if that is the place of a regular file or of none: the file itself, where the
-/// name is that of a link to it.
-fn regular(rt: &HostRuntime, name: &str) -> io::Result<Option<String>> {
-    if !fs::exists(rt, name)? {
-        return match fs::symlink_metadata(rt, name) {
-            Ok(_) => Ok(None),
-            Err(_) => Ok(Some(name.to_string(rt.alloc())?)),
-        };
-    }
-    if !fs::metadata(rt, name)?.is_file() {
-        return Ok(None);
-    }
-    let path = fs::canonicalize(rt, name)?;
-    Ok(Some(path.as_path().as_str().to_string(rt.alloc())?))
+/// Where a file's bytes are to stand at last.
+#[derive(Drop)]
+enum Place<'a> {
+    /// At that name, where a regular file stands, or nothing.
+    Named(&'a str),
+    /// At the end of a link, where a regular file stands.
+    Linked(String),
+    /// Where something else stands, which is written as it is.
+    Other,
 }
 
-/// A new file beside another one, and its name.
-fn beside(rt: &HostRuntime, place: &str) -> io::Result<(fs::File, String)> {
+/// Where a link leads.
+fn linked(rt: &HostRuntime, name: &str) -> io::Result<Place<'static>> {
+    if !fs::exists(rt, name)? || !fs::metadata(rt, name)?.is_file() {
+        return Ok(Place::Other);
+    }
+    let path = fs::canonicalize(rt, name)?;
+    Ok(Place::Linked(path.as_path().as_str().to_string(rt.alloc())?))
+}
+
+/// Where the bytes of a file of that name are to stand. Without a link this takes no memory.
+fn place_of<'a>(rt: &HostRuntime, name: &'a str) -> io::Result<Place<'a>> {
+    let Ok(found) = fs::symlink_metadata(rt, name) else {
+        return Ok(Place::Named(name));
+    };
+    if found.is_symlink() {
+        return linked(rt, name);
+    }
+    Ok(if found.is_file() {
+        Place::Named(name)
+    } else {
+        Place::Other
+    })
+}
+
+/// Whether a name is still that of an open file, and of no other one since.
+fn is_of(rt: &HostRuntime, name: &str, file: &fs::File) -> io::Result<bool> {
+    let there = fs::symlink_metadata(rt, name)?;
+    let opened = file.metadata()?;
+    Ok(there.dev() == opened.dev() && there.ino() == opened.ino())
+}
+
+/// Takes a new file for this run, so that no other run takes it for left over. The answer is whether its name is still its own;
+/// it is where the system locks no files, or can't tell.
+fn take(rt: &HostRuntime, name: &str, file: &fs::File) -> bool {
+    match file.try_lock() {
+        Ok(()) => is_of(rt, name, file).unwrap_or(true),
+        Err(TryLockError::WouldBlock) => false,
+        Err(TryLockError::Error(_)) => true,
+    }
+}
+
+/// Removes a file that a run left which was ended, if that is what stands there: a regular file that no run has taken.
+fn clear(rt: &HostRuntime, name: &str) -> io::Result<()> {
+    if !fs::symlink_metadata(rt, name)?.is_file() {
+        return Ok(());
+    }
+    let file = fs::open(rt, name)?;
+    if file.try_lock().is_ok() && is_of(rt, name, &file)? {
+        fs::remove_file(rt, name)?;
+    }
+    Ok(())
+}
+
+/// A new file of that name that this run has taken. None where another run has the name.
+fn new_part(rt: &HostRuntime, name: &str) -> io::Result<Option<fs::File>> {
     let mut how = OpenOptions::new();
     how.write(true);
     how.create_new(true);
+    let file = match how.open(rt, name) {
+        Ok(file) => file,
+        Err(error) if error.kind() == ErrorKind::AlreadyExists => return Ok(None),
+        Err(error) => return Err(error),
+    };
+    Ok(if take(rt, name, &file) {
+        Some(file)
+    } else {
+        None
+    })
+}
+
+/// Makes the text the name of a file beside another one.
+fn put_name(name: &mut String, place: &str, number: u32) -> io::Result<()> {
+    name.clear();
+    match write!(name, "{place}.{number}.stencil-part") {
+        Ok(()) => Ok(()),
+        Err(_) => Err(Error::from(ErrorKind::OutOfMemory)),
+    }
+}
+
+/// A new file beside another one; its name is put. What an ended run left of that name is cleared away.
+fn beside(rt: &HostRuntime, place: &str, name: &mut String) -> io::Result<fs::File> {
     for number in 0..NAMES {
-        let name = format!(in rt.alloc(); "{place}.{number}.part")?;
-        match how.open(rt, name.as_str()) {
-            Ok(file) => return Ok((file, name)),
-            Err(error) if error.kind() == ErrorKind::AlreadyExists => {}
-            Err(error) => return Err(error),
+        put_name(name, place, number)?;
+        // What can't be cleared away stays, and the next name is taken.
+        let _ = clear(rt, name.as_str());
+        if let Some(file) = new_part(rt, name.as_str())? {
+            return Ok(file);
         }
     }
     Err(Error::from(ErrorKind::AlreadyExists))
 }
 
-/// Makes these the bytes of a new file, with the permissions of the one whose place it is to take.
-fn fill(rt: &HostRuntime, mut file: fs::File, place: &str, bytes: &[u8]) -> io::Result<()> {
+/// Makes these the bytes of a new file, with the permissions of the one whose place it is to take, and waits until the device
+/// has them.
+fn fill(rt: &HostRuntime, file: &mut fs::File, place: &str, bytes: &[u8]) -> io::Result<()> {
     if let Ok(old) = fs::metadata(rt, place) {
         file.set_permissions(old.permissions())?;
     }
-    file.write_all(bytes)
+    file.write_all(bytes)?;
+    file.sync_all()
 }
 
-/// Puts a regular file at its place when it is whole; what fails before leaves the old one as it was.
-fn replace(rt: &HostRuntime, place: &str, bytes: &[u8]) -> io::Result<()> {
-    let (file, name) = beside(rt, place)?;
-    let done = match fill(rt, file, place, bytes) {
+/// Puts a regular file at its place when it is whole; what fails before leaves the old one as it was. The file stays taken until
+/// it has its place.
+fn replace(rt: &HostRuntime, place: &str, name: &mut String, bytes: &[u8]) -> io::Result<()> {
+    let mut file = beside(rt, place, name)?;
+    let done = match fill(rt, &mut file, place, bytes) {
         Ok(()) => fs::rename(rt, name.as_str(), place),
         Err(error) => Err(error),
     };
@@ -89,17 +190,11 @@ fn replace(rt: &HostRuntime, place: &str, bytes: &[u8]) -> io::Result<()> {
     done
 }
 
-/// Writes a file or standard output.
-fn write(rt: &HostRuntime, name: &str, bytes: &[u8]) -> io::Result<()> {
-    if name == STREAM {
-        let mut out = rt.stdout();
-        out.write_all(bytes)?;
-        return out.flush();
-    }
-    match regular(rt, name)? {
-        Some(place) => replace(rt, place.as_str(), bytes),
-        None => fs::write(rt, name, bytes),
-    }
+/// Writes standard output.
+fn write_stream(rt: &HostRuntime, bytes: &[u8]) -> io::Result<()> {
+    let mut out = rt.stdout();
+    out.write_all(bytes)?;
+    out.flush()
 }
 
 impl Files for SystemFiles<'_> {
@@ -109,6 +204,6 @@ impl Files for SystemFiles<'_> {
 
     /// A regular file is written beside its place and renamed when it is whole, so that a failure leaves the old one.
     fn put(&mut self, name: &str, bytes: &[u8]) -> Result<(), FileError> {
-        write(self.rt, name, bytes).map_err(|error| file_error(&error))
+        self.write(name, bytes).map_err(|error| file_error(&error))
     }
 }
