@@ -1,4 +1,4 @@
-.PHONY: all run test bench wrong-bodies
+.PHONY: all run test faults bench gallery wrong-bodies
 .DEFAULT_GOAL := all
 
 SOURCES := $(shell git ls-files crates crates.txt examples 2> /dev/null || find crates examples -type f -not -path '*/out/*')
@@ -45,17 +45,35 @@ test:
 	for it in crates/*/must-fail/*.edit; do grep -qxF $$it must-fail.txt || mv $$it $${it%.edit}.md; done; \
 	RT_JOBS=$${RT_JOBS:-$$(nproc)} rt ci; \
 	python3 tests/run.py crates/stencil/out/stencil; \
+	python3 tests/hostile.py crates/stencil/out/stencil; \
+	python3 tests/faults.py crates/stencil/out/stencil; \
 	python3 tests/schedules.py crates/stencil/out/stencil; \
 	python3 tests/schedules.py crates/stencil/out/stencil 200 --placing; \
+	python3 tests/gallery.py crates/stencil/out/stencil; \
 	python3 tests/pages.py crates/stencil/out/stencil
 
+# Every altered plan, and every fault of memory, devices and threads, on the proved program; the gate tries a part of them.
+faults: out/stencil
+	python3 tests/hostile.py out/stencil --all
+	python3 tests/faults.py out/stencil --all
+
+# The applications of examples/gallery at their main size: every schedule's picture by one worker and by three, and how long it takes
+# to compile. Then the page docs/GALLERY.md and its pictures are written anew from what the program gives.
+gallery: out/stencil
+	python3 tests/gallery.py out/stencil --all
+	python3 bench/gallery.py out/stencil
+
 # How long the proved program takes for `check` and `run` of plans with a piece a row, and for `plain`; and for `check` of plans
-# that are long, or have many pieces or cells; and for `run` of one plan by 1, 2, 4 and 64 workers.
+# that are long, or have many pieces or cells; and for `run` of one plan by 1, 2, 4 and 64 workers; and how long `compile` takes for
+# the schedules of the gallery; and the six pipelines of bench/peers beside the same in C.
 bench: out/stencil
 	python3 bench/rows.py out/stencil
 	python3 bench/checks.py out/stencil
 	python3 bench/workers.py out/stencil
 	python3 bench/hostile.py out/stencil
+	python3 bench/compiles.py out/stencil
+	python3 bench/lines.py out/stencil
+	python3 bench/peers.py out/stencil
 
 # Tries every wrong body. It takes some hours.
 wrong-bodies:

@@ -8,7 +8,6 @@ README.md beside this file says how a case is written.
 
 import json
 import os
-import re
 import subprocess
 import sys
 import tempfile
@@ -27,11 +26,6 @@ KEYS = {
     "stdout_to", "stderr_to", "status", "stdout", "stderr", "stdout_begins", "stderr_begins", "writes", "alterations",
     "seconds",
 }
-
-# A refusal of a plan: its status, and the one line that is printed.
-REFUSALS = {1: re.compile(rb"stencil: K[0-9]+ line ([0-9]+)\n"), 3: re.compile(rb"stencil: N[12] line ([0-9]+)\n")}
-
-ACCEPTED = re.compile(rb"accepted ([0-9]+) pieces ([0-9]+) cells\n")
 
 
 @dataclass
@@ -278,115 +272,6 @@ def tried(program, row):
         return differences(row, before, outcome(program, row, room))
 
 
-# ---- altered plans ----
-
-PAST = (1048577, 1099511627777, 9223372036854775807, 9223372036854775808)
-
-
-def with_numbers(plan):
-    """The plan with each number by itself made 0, one more, one less, and numbers that pass limits."""
-    for number in re.finditer(rb"[0-9]+", plan):
-        value = int(number[0])
-        for other in dict.fromkeys((0, value + 1, value - 1, *PAST)):
-            if other != value:
-                changed = plan[:number.start()] + str(other).encode() + plan[number.end():]
-                yield f"{other} at byte {number.start()}", changed, None
-
-
-def with_other_lines(plan):
-    """The plan with each line by itself left out, doubled, or changed with the next."""
-    lines = plan.splitlines(keepends=True)
-    for place, line in enumerate(lines):
-        rest = lines[place + 1:]
-        changes = {"left out": rest, "doubled": [line, line, *rest]}
-        if rest:
-            changes["changed with the next"] = [rest[0], line, *rest[1:]]
-        for what, after in changes.items():
-            yield f"line {place + 1} {what}", b"".join(lines[:place] + after), None
-
-
-def cut(plan):
-    """Every proper beginning of the plan: it is no plan, from the first line on that is not whole."""
-    for length in range(len(plan)):
-        yield f"the first {length} bytes", plan[:length], 1 + plan[:length].count(b"\n")
-
-
-def misspelt(plan):
-    """The plan with a blank too many, CR before LF, or a leading zero: it is no plan, from that line on."""
-    places = {"a second blank": rb"(?= )", "an indented line": rb"(?m)^(?=.)", "a blank at the end": rb"(?m)(?<=.)$"}
-    for what, place in places.items():
-        for found in re.finditer(place, plan):
-            yield f"{what} at byte {found.start()}", *inserted(plan, found.start(), b" ")
-    for found in re.finditer(rb"\n", plan):
-        yield f"CR at byte {found.start()}", *inserted(plan, found.start(), b"\r")
-    for found in re.finditer(rb"(?<![0-9A-Za-z_])[0-9]", plan):
-        yield f"a leading zero at byte {found.start()}", *inserted(plan, found.start(), b"0")
-
-
-def inserted(plan, place, text):
-    """The plan with a text at a place, and the number of that line."""
-    return plan[:place] + text + plan[place:], 1 + plan[:place].count(b"\n")
-
-
-ALTERATIONS = {"numbers": with_numbers, "lines": with_other_lines, "cuts": cut, "spellings": misspelt}
-
-
-def unrefused(status, out, err, line):
-    """What is wrong with the refusal of a plan: its status, its one line, and the line that it names."""
-    refusal = REFUSALS[status].fullmatch(err) if status in REFUSALS else None
-    if refusal is None or out:
-        return [f"no refusal: status {status}, stdout {shown(out)}, stderr {shown(err)}"]
-    if line is not None:
-        return difference("stderr", b"stencil: N1 line %d\n" % line, err)
-    return []
-
-
-def unfinished(program, words, room, pieces, cells, turns):
-    """Which of three orders, of one, two and three workers by turns, does not finish all pieces of the plan."""
-    said = []
-    for workers in ("0 ", "0 1 ", "0 1 2 "):
-        (room / "turns").write_text(workers * turns, encoding="ascii")
-        status, out, err = printed_by(program, ["replay", *words[1:4], "turns"], room, {})
-        entries = turns * len(workers.split())
-        wanted = f"entries {entries}\ndrawn {pieces} of {pieces}\nfinished {pieces} of {pieces}\ncells {cells} of {cells}\n"
-        said += difference(f"order {workers}status", 0, status) + difference(f"order {workers}stdout", wanted.encode(), out)
-        said += difference(f"order {workers}stderr", b"", err)
-    return said
-
-
-def answered(program, row, room, line):
-    """A plan in a folder is refused as plans are, or gives the picture and is finished by each order."""
-    words = row.says["words"]
-    before = standing(room)
-    status, out, err = printed_by(program, ["check", *words[1:3]], room, {})
-    if standing(room) != before:
-        return ["the check changed a file"]
-    accepted = ACCEPTED.fullmatch(out)
-    if status != 0 or line is not None or not accepted or err:
-        return unrefused(status, out, err, line)
-    said = differences(row, before, outcome(program, row, room))
-    pieces, cells = int(accepted[1]), int(accepted[2])
-    return said + unfinished(program, words, room, pieces, cells, row.says["alterations"]["turns"])
-
-
-def tried_altered(program, row, plan, line):
-    """Tries a plan in the place of the row's own."""
-    with tempfile.TemporaryDirectory() as name:
-        room = Path(name)
-        lay(room, row)
-        (room / row.says["words"][2]).write_bytes(plan)
-        return answered(program, row, room, line)
-
-
-def altered(program, row):
-    """The tries of a row's plan, unaltered and altered in each way that its case names."""
-    plan = files_of(row)[row.says["words"][2]]
-    yield f"{row.name}: unaltered", lambda: tried_altered(program, row, plan, None)
-    for way in row.says["alterations"].get("ways", ALTERATIONS):
-        for name, text, line in ALTERATIONS[way](plan):
-            yield f"{row.name}: {name}", lambda text=text, line=line: tried_altered(program, row, text, line)
-
-
 # ---- all cases ----
 
 
@@ -394,8 +279,6 @@ def tries(program, folder):
     """The names of a case's runs, each with the call that gives its differences."""
     for row in rows_of(folder):
         yield row.name, lambda row=row: tried(program, row)
-        if "alterations" in row.says:
-            yield from altered(program, row)
 
 
 def main(words):

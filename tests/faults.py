@@ -1,0 +1,353 @@
+#!/usr/bin/env python3
+"""Lets memory, devices and threads fail under a built program, and ends it in the midst, and tells what comes of it.
+
+    python3 tests/faults.py PROGRAM [KIND..] [--all] [--seed N]
+
+Each command is run on examples, once without a fault, and then with one fault at a time: each growth refused (`memory`), each
+call of a file or a stream failed, cut short or moving nothing (`device`), each thread refused (`thread`), the program ended at
+each call (`kill`) or by a limit on the size of files (`size`), and two runs that write one file at once (`together`). Of `run` it can be
+asked besides that no growth comes behind its last worker's start (`late`, where it is named). Of all
+faults a part that the seed chooses is tried, with `--all` all of them. Right is the answer without the fault, or a refusal that
+names the fault and leaves every file as it was. It tells how many came out in which way, and ends with `N passed, M failed`.
+
+The faults come from a small library, `faults/refuse.c`, that is compiled by `gcc` and loaded before the C library. Where there
+is no `gcc`, or the program can't be run with such a library, nothing is tried, and that is told.
+"""
+
+import argparse
+import errno
+import os
+import random
+import resource
+import subprocess
+import sys
+import tempfile
+from collections import Counter
+from concurrent.futures import ThreadPoolExecutor
+from dataclasses import dataclass
+from pathlib import Path
+
+from run import EXAMPLES, TESTS, difference, shown, standing
+
+OLD = b"what stood here before\n"
+
+# The calls of files and streams, as the library names them.
+CALLS = ("open", "read", "write", "close", "sync", "rename", "remove", "look")
+
+ERRORS = ("EIO", "ENOSPC", "EAGAIN", "EBADF", "EINTR")
+
+# How many of the faults are tried where not all are: one of so many.
+PART = {"memory": 60, "device": 40, "thread": 4, "kill": 20, "size": 4, "together": 4, "late": 1}
+
+# The kinds that are tried where none is named.
+USUAL = [kind for kind in PART if kind != "late"]
+
+# Examples by the names of their algorithm, plan, image and schedule.
+EXAMPLE_FILES = {
+    "tri": ("tri.alg", "tri-guard.plan", "tri.pgm", "tri-guard.sched"),
+    "scan": ("scan.alg", "scan.plan", "scan.pgm", None),
+    "slide": ("slide.alg", "slide.plan", "slide.pgm", None),
+    "two": ("two.alg", "two.plan", "two.pgm", None),
+    "hist": ("hist.alg", "hist.plan", "hist.pgm", None),
+    "blur3": ("blur3.alg", "blur3.plan", "shapes.pgm", "blur3-tiles.sched"),
+}
+
+# What each command is given; of `A`, `P`, `I` and `S` there are files, and `out` is written.
+COMMANDS = (
+    "compile A S out", "check A P", "run A P I out", "run A P I out --workers 3", "run A P I out --workers 64", "replay A P I order",
+    "plain A I out", "compare A I S", "cost A P", "show A P", "draw A P out", "format A out", "check A cut --explain", "check A P --explain",
+)
+
+
+@dataclass
+class Case:
+    """A command with its files, and what it gives and calls without a fault."""
+
+    name: str
+    words: list
+    files: dict
+    right: object = None
+    counts: object = None
+
+
+@dataclass
+class Fault:
+    """One fault: its kind, its name, and the library's settings."""
+
+    kind: str
+    name: str
+    settings: dict
+
+
+@dataclass
+class Given:
+    """What a run gave: the status, what was printed, and the files afterwards."""
+
+    status: object
+    out: bytes
+    err: bytes
+    files: dict
+
+
+# ---- cases ----
+
+
+def cases():
+    """Each command on each example."""
+    found = []
+    for name, (algorithm, plan, image, schedule) in EXAMPLE_FILES.items():
+        files = {"A": (EXAMPLES / algorithm).read_bytes(), "P": (EXAMPLES / plan).read_bytes(), "I": (EXAMPLES / image).read_bytes()}
+        files |= {"S": (EXAMPLES / schedule).read_bytes() if schedule else b"", "order": b"0 1 0 2 " * 40, "cut": files["P"][:-5]}
+        for command in COMMANDS:
+            words = command.split()
+            given = {word: files[word] for word in words if word in files}
+            found.append(Case(f"{name}: {command}", words, given | ({"out": OLD} if "out" in words else {})))
+    return found
+
+
+def run(program, case, settings=None, before=None, room=None):
+    """Runs a case with the library's settings, in a folder of its own or in one where it ran before."""
+    with tempfile.TemporaryDirectory() as own:
+        place = Path(room or own)
+        if room is None:
+            lay(case, place)
+        environment = {"PATH": "/usr/bin:/bin", **(settings or {})}
+        try:
+            done = subprocess.run([program, *case.words], cwd=place, env=environment, stdin=subprocess.DEVNULL, capture_output=True,
+                                  timeout=300, check=False, preexec_fn=before)
+            return Given(done.returncode, done.stdout, done.stderr, standing(place))
+        except subprocess.TimeoutExpired as late:
+            return Given(None, late.stdout or b"", late.stderr or b"", standing(place))
+
+
+def lay(case, room):
+    """Lays the files of a case into a folder."""
+    for name, data in case.files.items():
+        (room / name).write_bytes(data)
+
+
+# ---- the library ----
+
+
+def library_in(folder):
+    """The library, compiled; None where that can't be done."""
+    made = Path(folder, "refuse.so")
+    words = ["gcc", "-O1", "-fPIC", "-shared", "-Wno-nonnull", "-Wl,-Bsymbolic-functions", str(TESTS / "faults" / "refuse.c"), "-o", str(made)]
+    try:
+        done = subprocess.run([*words, "-ldl", "-pthread"], capture_output=True, check=False)
+    except OSError:
+        return None
+    return made if done.returncode == 0 else None
+
+
+def with_counts(program, library, case):
+    """The case with what it gives without a fault, and its calls; None where the library was not loaded."""
+    case.right = run(program, case)
+    with tempfile.NamedTemporaryFile() as log:
+        again = run(program, case, {"LD_PRELOAD": str(library), "REFUSE_LOG": log.name})
+        lines = Path(log.name).read_text(encoding="ascii").split("\n")
+    case.counts = {line.split()[0]: int(line.split()[1]) for line in lines if line}
+    return case if case.counts and case.counts["open"] and again == case.right else None
+
+
+# ---- faults ----
+
+
+def setting(call, number, mode, error):
+    """The library's settings for one call."""
+    return {"REFUSE_CALL": call, "REFUSE_AT": str(number), "REFUSE_MODE": mode, "REFUSE_ERROR": str(error)}
+
+
+def of_memory(case):
+    """Each growth refused by itself, and it with all later ones."""
+    for number in range(1, case.counts["memory"] + 1):
+        for mode in ("once", "from"):
+            yield Fault("memory", f"growth {number} refused, {mode}", setting("memory", number, mode, errno.ENOMEM))
+
+
+def of_devices(case):
+    """Each call failed with each error; each read and write moving nothing; all of them moving a byte, and then failing."""
+    yield Fault("device", "a byte a call", {"REFUSE_SHORT": "1"})
+    for call in CALLS:
+        for number in range(1, case.counts[call] + 1):
+            for error in ERRORS:
+                yield Fault("device", f"{call} {number}: {error}", setting(call, number, "once", getattr(errno, error)))
+            if call in ("read", "write"):
+                yield Fault("device", f"{call} {number}: nothing moved", setting(call, number, "once", 0))
+    for call in ("read", "write"):
+        for number in range(1, min(case.counts[call], 1) * 20):
+            short = setting(call, number, "from", errno.EIO) | {"REFUSE_SHORT": "1"}
+            yield Fault("device", f"{call} a byte a call, from {number} on EIO", short)
+
+
+def of_threads(case):
+    """Each thread refused by itself, and it with all later ones."""
+    for number in range(1, case.counts["thread"] + 1):
+        for mode in ("once", "from"):
+            yield Fault("thread", f"thread {number} refused, {mode}", setting("thread", number, mode, errno.EAGAIN))
+
+
+def of_ends(case):
+    """The program ended at each call."""
+    for call in CALLS:
+        for number in range(1, case.counts[call] + 1):
+            yield Fault("kill", f"ended at {call} {number}", setting(call, number, "kill", 0))
+
+
+def faults(case, kinds):
+    """All faults of a case."""
+    ways = {"memory": of_memory, "device": of_devices, "thread": of_threads, "kill": of_ends}
+    for kind, way in ways.items():
+        if kind in kinds:
+            yield from way(case)
+    if "size" in kinds and "out" in case.words:
+        for size in (0, 1, 10):
+            yield Fault("size", f"files of {size} bytes at most", {"size": size})
+    if "late" in kinds and "--workers" in case.words:
+        yield Fault("late", "growths behind the last worker's start", {})
+    if "together" in kinds and "out" in case.words:
+        for number in range(4):
+            yield Fault("together", f"two runs at once, {number}", {})
+
+
+# ---- what comes of them ----
+
+
+def left_over(case, files):
+    """The files that have come and are no output."""
+    return sorted(set(files) - set(case.files))
+
+
+def is_less(right, got):
+    """Whether the same refusal came, with less on standard error: a piece of it could not be told."""
+    return right.status and (got.status, got.out, got.files) == (right.status, right.out, right.files) and len(got.err) < len(right.err)
+
+
+def tells(case, got, line):
+    """Whether a refusal is told in this line, with more behind it where that is asked for, or could not be told."""
+    return got.err in (line, b"") or ("--explain" in case.words and got.err.startswith(line))
+
+
+def classed(case, kind, got):
+    """In which way a run with a fault came out; what is wrong begins with `WRONG`."""
+    kept = got.files == case.files
+    if got == case.right:
+        return "right"
+    if is_less(case.right, got):
+        return "right, less told"
+    begun = case.right.out.startswith(got.out)
+    if kept and begun and got.status == 4 and tells(case, got, b"stencil: M0\n"):
+        return "M0" if not got.out or case.words[0] == "compare" else "WRONG: M0 behind a part of the output"
+    if kept and begun and kind == "device" and got.status == 5 and tells(case, got, b"stencil: G7\n"):
+        return "G7"
+    return f"WRONG: status {got.status}, {'files kept' if kept else 'files changed'}"
+
+
+def of_shorter_files(case, got):
+    """What comes of a read that moves nothing: the file ends there. It is refused, or right."""
+    if got == case.right:
+        return "right"
+    if got.files == case.files and not got.out and got.status in (1, 3, 5) and got.err.startswith(b"stencil: "):
+        return "refused"
+    return f"WRONG: status {got.status}"
+
+
+def after_end(program, case, library, settings, before):
+    """What stands after the program was ended, and what the next run makes of it."""
+    with tempfile.TemporaryDirectory() as name:
+        room = Path(name)
+        lay(case, room)
+        preload = {"LD_PRELOAD": str(library)} if library else {}
+        got = run(program, case, preload | settings, before, room)
+        left = left_over(case, got.files)
+        if any(got.files[kept] != data for kept, data in case.files.items() if kept != "out"):
+            return "WRONG: an input was changed"
+        if "out" in case.files and got.files["out"] not in (OLD, case.right.files["out"]):
+            return "WRONG: half a file"
+        if len(left) > 1 or any(not one.startswith("out.") for one in left):
+            return f"WRONG: left over: {left}"
+        again = run(program, case, None, None, room)
+        if left_over(case, again.files):
+            return f"WRONG: left over after the next run: {left_over(case, again.files)}"
+        state = "old file" if got.files.get("out", OLD) == OLD else "new file"
+        ended = got.status not in (0, case.right.status)
+        return ("ended, " if ended else "not ended, ") + state + (", one left over" if left else "") if again == case.right else "WRONG: next run"
+
+
+def limited(size):
+    """Limits the size of files that are written."""
+    return lambda: resource.setrlimit(resource.RLIMIT_FSIZE, (size, size))
+
+
+def together(program, case):
+    """Two runs that write one file at once: each is right, and nothing else comes."""
+    with tempfile.TemporaryDirectory() as name:
+        room = Path(name)
+        lay(case, room)
+        with ThreadPoolExecutor(2) as pool:
+            both = list(pool.map(lambda _: run(program, case, None, None, room), range(2)))
+        if standing(room) != case.right.files:
+            return f"WRONG: files afterwards: {sorted(standing(room))}"
+        statuses = {got.status for got in both}
+        return "right" if statuses == {0} else f"WRONG: statuses {statuses}"
+
+
+def outcome(program, library, case, fault):
+    """In which way a fault came out, and its run."""
+    if fault.kind == "together":
+        return together(program, case), None
+    if fault.kind == "late":
+        return f"WRONG: {case.counts['late']} growths" if case.counts["late"] else "right", None
+    if fault.kind == "size":
+        return after_end(program, case, None, {}, limited(fault.settings["size"])), None
+    if fault.kind == "kill":
+        return after_end(program, case, library, fault.settings, None), None
+    got = run(program, case, {"LD_PRELOAD": str(library), **fault.settings})
+    if fault.settings.get("REFUSE_CALL") == "read" and fault.settings["REFUSE_ERROR"] == "0":
+        return of_shorter_files(case, got), got
+    return classed(case, fault.kind, got), got
+
+
+def told(fault, case, came, got):
+    """Tells of a fault that came out wrong."""
+    print(f"FAILED {case.name}: {fault.name}: {came}")
+    if got is not None:
+        print("   ", *difference("stdout", case.right.out, got.out), *difference("stderr", case.right.err, got.err), sep="\n    ")
+        for name in sorted(set(case.right.files) | set(got.files)):
+            if got.files.get(name) != case.files.get(name):
+                print(f"    file {name}: {shown(got.files.get(name))}", flush=True)
+
+
+def main():
+    words = argparse.ArgumentParser(description=__doc__, formatter_class=argparse.RawDescriptionHelpFormatter)
+    words.add_argument("program")
+    words.add_argument("kinds", nargs="*", help=", ".join(PART))
+    words.add_argument("--all", action="store_true")
+    words.add_argument("--seed", type=int, default=1)
+    words.add_argument("--only", default="", help="cases whose names have this text")
+    given = words.parse_args()
+    program, chance = str(Path(given.program).resolve()), random.Random(given.seed)
+    with tempfile.TemporaryDirectory() as folder, ThreadPoolExecutor(os.cpu_count()) as pool:
+        library = library_in(folder)
+        if library is None:
+            print("not tried: no gcc that makes the library")
+            return 0
+        ready = list(pool.map(lambda case: with_counts(program, library, case), [one for one in cases() if given.only in one.name]))
+        if None in ready:
+            print("not tried: the program does not run with the library")
+            return 0
+        chosen = [(case, fault) for case in ready for fault in faults(case, given.kinds or USUAL) if given.all or chance.randrange(PART[fault.kind]) == 0]
+        came, failed = {}, 0
+        for (case, fault), (way, got) in zip(chosen, pool.map(lambda one: outcome(program, library, *one), chosen)):
+            came.setdefault(fault.kind, Counter())[way.split(":")[0]] += 1
+            if way.startswith("WRONG"):
+                failed += 1
+                told(fault, case, way, got)
+    for kind, ways in came.items():
+        print(f"{kind}: tried {sum(ways.values())}: " + ", ".join(f"{way} {count}" for way, count in ways.most_common()))
+    print(f"{len(chosen) - failed} passed, {failed} failed")
+    return 1 if failed else 0
+
+
+if __name__ == "__main__":
+    sys.exit(main())
