@@ -325,7 +325,7 @@ def main():
     words.add_argument("--all", action="store_true")
     words.add_argument("--seed", type=int, default=1)
     words.add_argument("--only", default="", help="cases whose names have this text")
-    given = words.parse_args()
+    given = words.parse_intermixed_args()
     program, chance = str(Path(given.program).resolve()), random.Random(given.seed)
     with tempfile.TemporaryDirectory() as folder, ThreadPoolExecutor(os.cpu_count()) as pool:
         library = library_in(folder)

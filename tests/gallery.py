@@ -209,12 +209,20 @@ def refusal(program, application):
         return Outcome(f"{application.name} refused", "" if line == wanted else f"{line or 'compiled'} where {wanted} is due")
 
 
+# What a small process tells of a run: a process counts, until it becomes the program, what its parent holds.
+MEASURING = """
+import os, subprocess, sys, time
+start = time.monotonic()
+_, _, usage = os.wait4(subprocess.Popen(sys.argv[1:]).pid, 0)
+print(time.monotonic() - start, usage.ru_maxrss / 1024)
+"""
+
+
 def measured(words, folder):
     """Seconds and MiB that a run takes."""
-    start = time.monotonic()
-    process = subprocess.Popen(words, cwd=folder)
-    _, _, usage = os.wait4(process.pid, 0)
-    return time.monotonic() - start, usage.ru_maxrss / 1024
+    told = subprocess.run([sys.executable, "-c", MEASURING, *words], cwd=folder, capture_output=True, text=True)
+    seconds, memory = told.stdout.split()
+    return float(seconds), float(memory)
 
 
 def main_size(program, application):
@@ -243,7 +251,7 @@ def main():
     words.add_argument("program")
     words.add_argument("names", nargs="*")
     words.add_argument("--all", action="store_true")
-    given = words.parse_args()
+    given = words.parse_intermixed_args()
     program = str(Path(given.program).resolve())
     jobs = []
     with ThreadPoolExecutor(os.cpu_count()) as pool:

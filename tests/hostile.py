@@ -225,7 +225,7 @@ def main():
     words.add_argument("names", nargs="*")
     words.add_argument("--all", action="store_true")
     words.add_argument("--seed", type=int, default=1)
-    given = words.parse_args()
+    given = words.parse_intermixed_args()
     program = str(Path(given.program).resolve())
     found = list(plans(program, given.names))
     answers, failed = {}, 0
