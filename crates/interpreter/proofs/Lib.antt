@@ -25,3 +25,4 @@ pub mod Ramps
 pub mod Aside
 pub mod StoreRuns
 pub mod OneLines
+pub mod Windows

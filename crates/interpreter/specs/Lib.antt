@@ -17,3 +17,4 @@ pub mod Visits
 pub mod Runs
 pub mod RunReadings
 pub mod StoreLines
+pub mod Scanlines

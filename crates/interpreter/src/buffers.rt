@@ -8,6 +8,7 @@ mod limit;
 mod memory;
 mod raster;
 mod room;
+mod stretch;
 
 pub use limit::Limit;
 pub use memory::Buffers;

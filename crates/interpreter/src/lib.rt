@@ -13,6 +13,7 @@ mod row;
 mod run;
 mod run_reading;
 mod runs;
+mod scanlines;
 mod scratch;
 mod sizes;
 mod state;

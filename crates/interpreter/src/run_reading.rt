@@ -1,6 +1,6 @@
 //! What a store's expression is evaluated over at the turns of a run.
 
-ghost use Rattle.std.specs.Prelude.{◌≡◌, ◌∷◌, ℕ, ℤ, List, Some, IfSome, map, pos, ◌+ℤ◌, ◌-ℤ◌, ◌*ℤ◌, string_bytes};
+ghost use Rattle.std.specs.Prelude.{◌≡◌, ◌∷◌, ◌<◌, ℕ, ℤ, List, Some, IfSome, length, map, pos, ◌+ℤ◌, ◌-ℤ◌, ◌*ℤ◌, string_bytes};
 ghost use Rattle.tree.specs.declared.value.Value.{Value as ValueFound};
 ghost use Rattle.tree.specs.Meaning.{typed};
 ghost use Rattle.plan.specs.Semantics.Memory.{Memory};
@@ -9,7 +9,7 @@ ghost use Rattle.meaning.specs.Names.{bound};
 ghost use Rattle.interpreter.specs.Buffers.Blocks.{memory_of};
 ghost use Rattle.numeric.specs.declared.ty.Ty.TheVariants.{I32};
 ghost use Rattle.interpreter.specs.declared.evaluation.lanes.Number.{Number as NumberHeld};
-ghost use Rattle.interpreter.specs.Evaluation.Lanes.{lane, IsNarrowFor};
+ghost use Rattle.interpreter.specs.Evaluation.Lanes.{lane, number_at, IsNarrowFor};
 ghost use Rattle.interpreter.specs.Pieces.{around, no_cells};
 ghost use Rattle.interpreter.specs.Runs.{numbers_at, IsBut};
 
@@ -18,6 +18,10 @@ use crate::evaluation::{Lanes, Number, RunReader};
 use crate::loads::claim_of;
 use crate::piece::Piece;
 use crate::reading::{Reading, number_bound, same_name};
+use crate::scanlines::{
+    copy_numbers, copy_samples, distance, samples_beside, take_numbers, take_samples, type_held,
+    window,
+};
 use numeric::Ty;
 use plan::Coordinate;
 use tree::Value;
@@ -45,6 +49,8 @@ pub(crate) enum Source {
 
 impl RunReading<'_, '_> {
     ghost use Rattle.interpreter.specs.RunReadings.{source_at, IsAside, Means};
+    ghost use Rattle.interpreter.specs.Scanlines.{sample_along};
+    ghost use Rattle.interpreter.specs.declared.run_reading.Source.TheVariants.{Input, Buffer};
 
     /// The reading at the first turn.
     fn reading(&self) -> Reading<'_, '_>
@@ -99,6 +105,83 @@ impl RunReading<'_, '_> {
         Some(self.find_beside(source, *numbers.first()?, others)?.ty)
     }
 
+    /// The input's samples at the points with at most one coordinate behind the first one, from the first sample on.
+    fn samples(&self, others: &[i64]) -> Option<&[u16]>
+        ensures { IfSome result (λ row. (z n : ℤ) → sample_along row.now z ≡ Some n → (around self.now.piece.now no_cells).sample (z ∷ others.now) ≡ Some (typed self.now.piece.now.plan.now.input.ty n)) }
+    {
+        let image = self.piece.image;
+        samples_beside(image.extents.as_slice(), image.samples.as_slice(), others)
+    }
+
+    /// What the input has at points that differ in the first coordinate.
+    fn look_samples(&self, others: &[i64], out: &mut [Number]) -> Option<Ty>
+        ensures { IfSome result (λ t. (k : ℕ) → k < length out.new → source_at self.now (memory_of self.now.memory.now) Input (number_at out.old k ∷ others.now) ≡ Some (typed t (number_at out.new k))) }
+    {
+        match self.samples(others) {
+            Some(samples) => {
+                take_samples(samples, out)?;
+                Some(self.piece.plan.input.ty)
+            }
+            None => self.look_points(Source::Input, others, out),
+        }
+    }
+
+    /// What a buffer has at points that differ in the first coordinate.
+    fn look_places(&self, buffer: u32, others: &[i64], out: &mut [Number]) -> Option<Ty>
+        ensures { IfSome result (λ t. (k : ℕ) → k < length out.new → source_at self.now (memory_of self.now.memory.now) (Buffer buffer) (number_at out.old k ∷ others.now) ≡ Some (typed t (number_at out.new k))) }
+    {
+        match self.memory.scanline(buffer, others) {
+            Some(line) => {
+                let ty = self.first_type(Source::Buffer(buffer), others, out)?;
+                take_numbers(line, ty, out)?;
+                Some(ty)
+            }
+            None => self.look_points(Source::Buffer(buffer), others, out),
+        }
+    }
+
+    /// What a source has at points that differ in the first coordinate, one after another.
+    fn look_points(&self, source: Source, others: &[i64], out: &mut [Number]) -> Option<Ty>
+        ensures { IfSome result (λ t. (k : ℕ) → k < length out.new → source_at self.now (memory_of self.now.memory.now) source (number_at out.old k ∷ others.now) ≡ Some (typed t (number_at out.new k))) }
+    {
+        let ty = self.first_type(source, others, out)?;
+        for turn in 0..out.len() {
+            out[turn] = self.find_number(source, ty, out[turn], others)?;
+        }
+        Some(ty)
+    }
+
+    /// What the input has at points whose first coordinate rises by one.
+    fn look_sample_row(&self, first: i64, others: &[i64], out: &mut [Number]) -> Option<Ty>
+        ensures { IfSome result (λ t. (k : ℕ) → k < length out.new → source_at self.now (memory_of self.now.memory.now) Input ((first +ℤ pos k) ∷ others.now) ≡ Some (typed t (number_at out.new k))) }
+    {
+        let samples = self.samples(others)?;
+        if first < 0 {
+            return None;
+        }
+        let row = window(samples, first as usize, out.len())?;
+        copy_samples(row, out);
+        Some(self.piece.plan.input.ty)
+    }
+
+    /// What a buffer has at points whose first coordinate rises by one.
+    fn look_place_row(
+        &self,
+        buffer: u32,
+        first: i64,
+        others: &[i64],
+        out: &mut [Number],
+    ) -> Option<Ty>
+        ensures { IfSome result (λ t. (k : ℕ) → k < length out.new → source_at self.now (memory_of self.now.memory.now) (Buffer buffer) ((first +ℤ pos k) ∷ others.now) ≡ Some (typed t (number_at out.new k))) }
+    {
+        let line = self.memory.scanline(buffer, others)?;
+        let start = distance(line.origin, first)?;
+        let places = window(line.places, start, out.len())?;
+        let ty = type_held(places)?;
+        copy_numbers(places, ty, out)?;
+        Some(ty)
+    }
+
     /// What a source has at a point, where that is of the type.
     fn find_number(&self, source: Source, ty: Ty, first: Number, others: &[i64]) -> Option<Number>
         ensures { IfSome result (λ n. source_at self.now (memory_of self.now.memory.now) source (first.value ∷ others.now) ≡ Some (typed ty n.value)) }
@@ -132,11 +215,18 @@ impl RunReader for RunReading<'_, '_> {
 
     fn look_each(&self, name: &str, others: &[i64], out: &mut [Number]) -> Option<Ty> {
         let source = self.source(name)?;
-        let ty = self.first_type(source, others, out)?;
-        for turn in 0..out.len() {
-            out[turn] = self.find_number(source, ty, out[turn], others)?;
+        match source {
+            Source::Input => self.look_samples(others, out),
+            Source::Buffer(buffer) => self.look_places(buffer, others, out),
         }
-        Some(ty)
+    }
+
+    fn look_row(&self, name: &str, first: i64, others: &[i64], out: &mut [Number]) -> Option<Ty> {
+        let source = self.source(name)?;
+        match source {
+            Source::Input => self.look_sample_row(first, others, out),
+            Source::Buffer(buffer) => self.look_place_row(buffer, first, others, out),
+        }
     }
 }
 

@@ -1,16 +1,20 @@
 //! One buffer.
 
-ghost use Rattle.std.specs.Prelude.{◌≡◌, ℕ, ◌<◌, ◌≤◌, ◌^◌, ◌==◌, ◌&&◌, false, true, IfOk, IsFalse, None, map, replicate};
+ghost use Rattle.std.specs.Prelude.{◌≡◌, ◌∷◌, ◌-ℤ◌, ℕ, ℤ, ◌<◌, ◌≤◌, ◌^◌, ◌==◌, ◌&&◌, false, true, IfOk, IfSome, IsFalse, None, Some, map, replicate};
 ghost use Rattle.std.specs.Bool.{OnTrue};
+ghost use Rattle.tree.specs.declared.value.Value.{Value as ValueHeld};
 ghost use Rattle.plan.specs.Rooms.{place};
 ghost use Rattle.plan.specs.Semantics.Memory.{held_at};
 ghost use Rattle.interpreter.specs.Buffers.Rooms.{room_of};
+ghost use Rattle.interpreter.specs.Scanlines.{along};
 ghost use Rattle.interpreter.specs.Buffers.Raster.{place_count};
 ghost use Rattle.interpreter.specs.Buffers.Blocks.{held_in, unused, IsSetAt};
 
 use crate::buffers::limit::Limit;
 use crate::buffers::raster::{place_count, place_number};
-use crate::buffers::room::{Room, Rooms};
+use crate::buffers::room::Rooms;
+use crate::buffers::stretch::stretch_of;
+use crate::scanlines::{Scanline, window};
 use smallvec::SmallVec;
 use std::alloc::{AllocError, Global};
 use std::marker::Model;
@@ -102,6 +106,19 @@ impl Buffer {
     {
         let number = place_number(&self.rooms, at)?;
         self.places[number]
+    }
+
+    /// What is held at the points with these coordinates behind the first one. Nothing where they have no places, or places
+    /// that are used again and again.
+    pub(crate) fn scanline(&self, others: &[i64]) -> Option<Scanline<'_>>
+        ensures { IfSome result (λ l. (z : ℤ) (v : ValueHeld) → along l.places.now (z -ℤ l.origin) ≡ Some (Some v) → held_at (held_in self.now) (place self.now.rooms (z ∷ others.now)) ≡ Some v) }
+    {
+        let stretch = stretch_of(&self.rooms, others)?;
+        let places = window(self.places.as_slice(), stretch.start, stretch.count)?;
+        Some(Scanline {
+            origin: stretch.origin,
+            places,
+        })
     }
 
     /// Sets the place of a point; `false` where the point has none.

@@ -1,15 +1,18 @@
 //! Buffers by number.
 
-ghost use Rattle.std.specs.Prelude.{◌≡◌, ◌==◌, ◌≤◌, ◌&&◌, All, IfOk, Some, None, map, position, IsFalse};
+ghost use Rattle.std.specs.Prelude.{◌≡◌, ◌∷◌, ◌-ℤ◌, ℤ, ◌==◌, ◌≤◌, ◌&&◌, All, IfOk, IfSome, Some, None, map, position, IsFalse};
+ghost use Rattle.tree.specs.declared.value.Value.{Value as ValueHeld};
 ghost use Rattle.std.specs.Bool.{OnTrue};
 ghost use Rattle.plan.specs.Semantics.Memory.{allot, nothing, read, write};
 ghost use Rattle.interpreter.specs.Buffers.Raster.{place_count};
 ghost use Rattle.interpreter.specs.Buffers.Rooms.{room_of};
+ghost use Rattle.interpreter.specs.Scanlines.{along};
 ghost use Rattle.interpreter.specs.Buffers.Blocks.{limits_of, memory_of, HasMemoryFor};
 
 use crate::buffers::buffer::Buffer;
 use crate::buffers::limit::Limit;
 use crate::buffers::room::Rooms;
+use crate::scanlines::Scanline;
 use std::alloc::{AllocError, Global};
 use std::marker::Model;
 use tree::Value;
@@ -131,6 +134,15 @@ impl Buffers {
     {
         let found = used_position(&self.buffers, buffer)?;
         self.buffers[found].read(at)
+    }
+
+    /// What is held at the points with these coordinates behind the first one. Nothing where there is no such buffer, or the
+    /// points have no places, or places that are used again and again.
+    pub(crate) fn scanline(&self, buffer: u32, others: &[i64]) -> Option<Scanline<'_>>
+        ensures { IfSome result (λ l. (z : ℤ) (v : ValueHeld) → along l.places.now (z -ℤ l.origin) ≡ Some (Some v) → read (memory_of self.now) buffer (z ∷ others.now) ≡ Some v) }
+    {
+        let found = used_position(&self.buffers, buffer)?;
+        self.buffers[found].scanline(others)
     }
 
     /// Sets the place of a point; `false` where there is no such buffer or the point is outside it.

@@ -1,12 +1,12 @@
 //! The values of an expression at the turns of a run.
 
-ghost use Rattle.std.specs.Prelude.{◌≡◌, ◌∷◌, ◌<◌, ℕ, IfSome, length, Some};
+ghost use Rattle.std.specs.Prelude.{◌≡◌, ◌∷◌, ◌<◌, ◌+ℤ◌, ℕ, pos, IfSome, length, Some};
 ghost use Rattle.plan.specs.Semantics.Found.{found, all_found, with};
 ghost use Rattle.plan.specs.Semantics.Memory.{Memory};
 ghost use Rattle.tree.specs.Meaning.{typed};
 ghost use Rattle.tree.specs.Term.{term_of, indices, list_terms};
 ghost use Rattle.tree.specs.declared.value.Value.{Value as ValueFound};
-ghost use Rattle.interpreter.specs.Evaluation.Lanes.{lane, lane_number, FindsRun, IsNarrowFor};
+ghost use Rattle.interpreter.specs.Evaluation.Lanes.{lane, lane_number, FindsRun, IsNarrowFor, IsShortRamp};
 
 use crate::evaluation::lanes::{Lanes, Number};
 use crate::evaluation::run_reader::RunReader;
@@ -114,6 +114,42 @@ fn call_run<R: RunReader>(
 
 /// What a name finds at the turns of a run, where the first index is that of these lanes.
 fn look_run<R: RunReader>(
+    name: &str,
+    first: Lanes,
+    others: &[i64],
+    reader: &R,
+    out: &mut [Number],
+) -> Option<Lanes>
+    requires { IsNarrowFor (length out.old) first }
+    ensures narrow { IfSome result (IsNarrowFor (length out.new)) }
+    ensures value { IfSome result (λ x. (m : Memory ValueFound) → R.agrees reader.now m → FindsRun (length out.new) x out.new (λ k. R.look reader.now m name.now (lane_number first out.old k ∷ others.now))) }
+{
+    match first {
+        Lanes::Ramp(value) => look_rising(name, value, others, reader, out),
+        _ => look_spread(name, first, others, reader, out),
+    }
+}
+
+/// What a name finds at the turns of a run, where the first index is this number at the first and one more at each after it.
+fn look_rising<R: RunReader>(
+    name: &str,
+    first: Value,
+    others: &[i64],
+    reader: &R,
+    out: &mut [Number],
+) -> Option<Lanes>
+    requires { IsShortRamp (length out.old) first.number }
+    ensures narrow { IfSome result (IsNarrowFor (length out.new)) }
+    ensures value { IfSome result (λ x. (m : Memory ValueFound) → R.agrees reader.now m → FindsRun (length out.new) x out.new (λ k. R.look reader.now m name.now ((first.number +ℤ pos k) ∷ others.now))) }
+{
+    match reader.look_row(name, first.number, others, out) {
+        Some(ty) => Some(Lanes::Vector(ty)),
+        None => look_spread(name, Lanes::Ramp(first), others, reader, out),
+    }
+}
+
+/// What a name finds at the turns of a run, by the first index of each.
+fn look_spread<R: RunReader>(
     name: &str,
     first: Lanes,
     others: &[i64],

@@ -1,6 +1,6 @@
 //! What an expression is evaluated over at the turns of a run.
 
-ghost use Rattle.std.specs.Prelude.{◌≡◌, ◌∷◌, ◌<◌, ℕ, ℤ, List, Option, Some, IfSome, length};
+ghost use Rattle.std.specs.Prelude.{◌≡◌, ◌∷◌, ◌<◌, ◌+ℤ◌, ℕ, ℤ, pos, List, Option, Some, IfSome, length};
 ghost use Rattle.numeric.specs.declared.ty.Ty.TheVariants.{I32};
 ghost use Rattle.tree.specs.declared.value.Value.{Value as ValueFound};
 ghost use Rattle.tree.specs.Meaning.{typed};
@@ -29,4 +29,9 @@ pub trait RunReader {
     /// What a call of a name finds where the first index is each of the numbers in the register, and these are the others.
     fn look_each(&self, name: &str, others: &[i64], out: &mut [Number]) -> Option<Ty>
         ensures { IfSome result (λ t. (m : Memory ValueFound) → agrees self.now m → (k : ℕ) → k < length out.new → look self.now m name.now (number_at out.old k ∷ others.now) ≡ Some (typed t (number_at out.new k))) };
+
+    /// What a call of a name finds where the first index is this number at the first turn and one more at each turn after it,
+    /// and these are the others.
+    fn look_row(&self, name: &str, first: i64, others: &[i64], out: &mut [Number]) -> Option<Ty>
+        ensures { IfSome result (λ t. (m : Memory ValueFound) → agrees self.now m → (k : ℕ) → k < length out.new → look self.now m name.now ((first +ℤ pos k) ∷ others.now) ≡ Some (typed t (number_at out.new k))) };
 }

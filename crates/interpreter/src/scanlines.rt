@@ -1,0 +1,197 @@
+//! Rows: what lies at points that differ in the first coordinate alone.
+
+ghost use Rattle.std.specs.Prelude.{◌≡◌, ◌∷◌, [], ◌<◌, ◌+ℤ◌, ◌-ℤ◌, ℕ, ℤ, Some, IfSome, length, drop, take, pos, slice_index};
+ghost use Rattle.numeric.specs.declared.ty.Ty.{Ty as TyFound};
+ghost use Rattle.tree.specs.Meaning.{typed};
+ghost use Rattle.interpreter.specs.Evaluation.Lanes.{number_at};
+ghost use Rattle.interpreter.specs.Scanlines.{along, input_at, sample_along};
+
+use crate::evaluation::Number;
+use numeric::Ty;
+use tree::Value;
+
+/// Places side by side, the first of which is that of the coordinate `origin`.
+#[derive(Clone, Copy, Drop)]
+pub(crate) struct Scanline<'a> {
+    pub origin: i64,
+    pub places: &'a [Option<Value>],
+}
+
+/// The number as a `usize`, unless it is below 0.
+fn natural(number: i64) -> Option<usize>
+    ensures { IfSome result (λ n. number ≡ pos n) }
+{
+    if number < 0 {
+        None
+    } else {
+        Some(number as usize)
+    }
+}
+
+/// How many coordinates lie from the origin on before this one, unless it lies before the origin.
+pub(crate) fn distance(origin: i64, coordinate: i64) -> Option<usize>
+    ensures { IfSome result (λ n. coordinate ≡ origin +ℤ pos n) }
+{
+    let difference = coordinate.checked_sub(origin)?;
+    let number = natural(difference)?;
+    Some(number)
+}
+
+/// So many elements from one on, if there are so many.
+pub(crate) fn window<T>(all: &[T], start: usize, count: usize) -> Option<&[T]>
+    ensures count { IfSome result (λ w. length w.now ≡ count) }
+    ensures same { IfSome result (λ w. w.now ≡ take count (drop start all.now)) }
+{
+    if all.len() < start {
+        return None;
+    }
+    let (_, later) = all.split_at(start);
+    if later.len() < count {
+        return None;
+    }
+    let (window, _) = later.split_at(count);
+    Some(window)
+}
+
+/// An image's samples at the points with at most one coordinate behind the first one, from the first sample on.
+pub(crate) fn samples_beside<'a>(
+    extents: &[u32],
+    samples: &'a [u16],
+    others: &[i64],
+) -> Option<&'a [u16]>
+    ensures { IfSome result (λ row. (t : TyFound) (z n : ℤ) → sample_along row.now z ≡ Some n → input_at t extents.now samples.now (z ∷ others.now) ≡ Some (typed t n)) }
+{
+    match others {
+        [] => only_row(extents, samples),
+        [row] => later_row(extents, samples, *row),
+        _ => None,
+    }
+}
+
+/// The samples of an image of one dimension.
+fn only_row<'a>(extents: &[u32], samples: &'a [u16]) -> Option<&'a [u16]>
+    ensures { IfSome result (λ row. (t : TyFound) (z n : ℤ) → sample_along row.now z ≡ Some n → input_at t extents.now samples.now (z ∷ []) ≡ Some (typed t n)) }
+{
+    match extents {
+        [width] => window(samples, 0, *width as usize),
+        _ => None,
+    }
+}
+
+/// The samples of a row of an image of two dimensions, if there is such a row.
+fn later_row<'a>(extents: &[u32], samples: &'a [u16], row: i64) -> Option<&'a [u16]>
+    ensures { IfSome result (λ w. (t : TyFound) (z n : ℤ) → sample_along w.now z ≡ Some n → input_at t extents.now samples.now (z ∷ row ∷ []) ≡ Some (typed t n)) }
+{
+    match extents {
+        [width, height] => row_among(*width, *height, samples, row),
+        _ => None,
+    }
+}
+
+/// The samples of a row of so many, of which an image has so many, if there is such a row.
+fn row_among(width: u32, height: u32, samples: &[u16], row: i64) -> Option<&[u16]>
+    ensures { IfSome result (λ w. (t : TyFound) (z n : ℤ) → sample_along w.now z ≡ Some n → input_at t (width ∷ height ∷ []) samples.now (z ∷ row ∷ []) ≡ Some (typed t n)) }
+{
+    if row < 0 || i64::from(height) <= row {
+        return None;
+    }
+    let width = width as usize;
+    let start = (row as usize).checked_mul(width)?;
+    window(samples, start, width)
+}
+
+/// The sample at a place, if there is one.
+fn sample_at(samples: &[u16], place: Number) -> Option<Number>
+    ensures { IfSome result (λ n. sample_along samples.now place.value ≡ Some n.value) }
+{
+    if place.value < 0 {
+        return None;
+    }
+    let sample = samples.get(place.value as usize)?;
+    Some(Number {
+        value: i64::from(*sample),
+    })
+}
+
+/// The samples at the places that a register has, put into it; nothing where there is none at one of them.
+pub(crate) fn take_samples(samples: &[u16], out: &mut [Number]) -> Option<()>
+    ensures { IfSome result (λ _. (k : ℕ) → k < length out.new → sample_along samples.now (number_at out.old k) ≡ Some (number_at out.new k)) }
+{
+    for turn in 0..out.len() {
+        out[turn] = sample_at(samples, out[turn])?;
+    }
+    Some(())
+}
+
+/// The sample as a number.
+#[inline(always)]
+fn sample_number(sample: u16) -> Number
+    ensures { result.value ≡ pos sample }
+{
+    Number {
+        value: i64::from(sample),
+    }
+}
+
+/// As many samples, put into a register.
+pub(crate) fn copy_samples(samples: &[u16], out: &mut [Number])
+    requires { length samples.now ≡ length out.old }
+    ensures { (k : ℕ) → k < length out.new → number_at out.new k ≡ pos (slice_index samples.now k) }
+{
+    for turn in 0..out.len() {
+        out[turn] = sample_number(samples[turn]);
+    }
+}
+
+/// The number that a place holds, where that is of the type.
+#[inline(always)]
+fn number_of(ty: Ty, held: Option<Value>) -> Option<Number>
+    ensures { IfSome result (λ n. held ≡ Some (typed ty n.value)) }
+{
+    let value = held?;
+    if value.ty == ty {
+        Some(Number {
+            value: value.number,
+        })
+    } else {
+        None
+    }
+}
+
+/// The number at a coordinate, where that is of the type.
+fn number_along(line: Scanline<'_>, ty: Ty, coordinate: Number) -> Option<Number>
+    ensures { IfSome result (λ n. along line.entry.places.now (coordinate.value -ℤ line.entry.origin) ≡ Some (Some (typed ty n.value))) }
+{
+    let place = coordinate.value.checked_sub(line.origin)?;
+    if place < 0 {
+        return None;
+    }
+    number_of(ty, *line.places.get(place as usize)?)
+}
+
+/// The numbers at the coordinates that a register has, put into it, where all are of the type.
+pub(crate) fn take_numbers(line: Scanline<'_>, ty: Ty, out: &mut [Number]) -> Option<()>
+    ensures { IfSome result (λ _. (k : ℕ) → k < length out.new → along line.entry.places.now (number_at out.old k -ℤ line.entry.origin) ≡ Some (Some (typed ty (number_at out.new k)))) }
+{
+    for turn in 0..out.len() {
+        out[turn] = number_along(line, ty, out[turn])?;
+    }
+    Some(())
+}
+
+/// The type of what the first of some places holds.
+pub(crate) fn type_held(places: &[Option<Value>]) -> Option<Ty> {
+    let held = *places.first()?;
+    Some(held?.ty)
+}
+
+/// The numbers that as many places hold, put into a register, where all are of the type.
+pub(crate) fn copy_numbers(places: &[Option<Value>], ty: Ty, out: &mut [Number]) -> Option<()>
+    requires { length places.now ≡ length out.old }
+    ensures { IfSome result (λ _. (k : ℕ) → k < length out.new → along places.now (pos k) ≡ Some (Some (typed ty (number_at out.new k)))) }
+{
+    for turn in 0..out.len() {
+        out[turn] = number_of(ty, places[turn])?;
+    }
+    Some(())
+}
