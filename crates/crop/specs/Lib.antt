@@ -1,0 +1,17 @@
+pub mod Narrow
+pub mod Moving
+pub mod Cutting
+pub mod Laws
+pub mod Crop
+pub mod Worked
+pub mod Tile
+pub mod Tiling
+pub mod Texts
+pub mod Reductions
+pub mod Scene
+pub mod View
+pub mod Plan
+pub mod Piece
+pub mod Inside
+pub mod Rebuilt
+pub mod Mosaic
