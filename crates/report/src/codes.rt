@@ -8,6 +8,7 @@ mod algorithms;
 mod images;
 mod plans;
 mod schedules;
+mod tiles;
 
 /// The page of a code, as Markdown; there is one for each code that a refusal can have.
 pub fn page(code: &str) -> Option<&'static str>
@@ -20,6 +21,9 @@ pub fn page(code: &str) -> Option<&'static str>
         return Some(page);
     }
     if let Some(page) = plans::page(code) {
+        return Some(page);
+    }
+    if let Some(page) = tiles::page(code) {
         return Some(page);
     }
     images::page(code)

@@ -18,6 +18,10 @@ abbrev pub of_plans : List (List ℕ)
 of_plans =
     codes "N1" ∷ codes "N2" ∷ codes "K1" ∷ codes "K2" ∷ codes "K3" ∷ codes "K4" ∷ codes "K5" ∷ codes "K6" ∷ codes "K7" ∷ codes "K8" ∷ codes "K9" ∷ codes "K10" ∷ codes "K11" ∷ codes "K12" ∷ codes "K13" ∷ codes "K14" ∷ []
 
+-- of tiles
+abbrev pub of_tiles : List (List ℕ)
+of_tiles = codes "C1" ∷ codes "C2" ∷ []
+
 -- of images and orders, and of the run
 abbrev pub of_images : List (List ℕ)
 of_images =
@@ -29,4 +33,4 @@ is_among known code = list_any (bytes_eq code) known
 
 -- whether a text is the code of a refusal
 abbrev pub is_code : List ℕ → Bool
-is_code code = is_among of_algorithms code || (is_among of_schedules code || (is_among of_plans code || is_among of_images code))
+is_code code = is_among of_algorithms code || (is_among of_schedules code || (is_among of_plans code || (is_among of_tiles code || is_among of_images code)))
