@@ -55,7 +55,8 @@ EXAMPLE_FILES = {
 # What each command is given; of `A`, `P`, `I` and `S` there are files, and `out` is written.
 COMMANDS = (
     "compile A S out", "check A P", "run A P I out", "run A P I out --workers 3", "run A P I out --workers 64", "replay A P I order",
-    "plain A I out", "compare A I S", "cost A P", "show A P", "draw A P out", "format A out", "check A cut --explain", "check A P --explain",
+    "plain A I out", "compare A I S", "compare A I S --by-first", "cost A P", "show A P", "draw A P out", "format A out",
+    "crop A 0 0 1 1 out", "tiles A 8 1 .", "check A cut --explain", "check A P --explain",
 )
 
 
@@ -213,9 +214,21 @@ def faults(case, kinds):
 # ---- what comes of them ----
 
 
+def outputs(case):
+    """The files that the command writes."""
+    return {name for name in case.right.files if name == "out" or name not in case.files}
+
+
 def left_over(case, files):
     """The files that have come and are no output."""
-    return sorted(set(files) - set(case.files))
+    return sorted(set(files) - set(case.right.files) - set(case.files))
+
+
+def are_kept(case, files):
+    """Whether all files are as they were. Of tiles some may have come, each of them whole, but not their list."""
+    come = {name: data for name, data in files.items() if name not in case.files}
+    whole = all(case.right.files.get(name) == data for name, data in come.items())
+    return whole and "list" not in come and all(files.get(name) == data for name, data in case.files.items())
 
 
 def is_less(right, got):
@@ -230,7 +243,7 @@ def tells(case, got, line):
 
 def classed(case, kind, got):
     """In which way a run with a fault came out; what is wrong begins with `WRONG`."""
-    kept = got.files == case.files
+    kept = are_kept(case, got.files)
     if got == case.right:
         return "right"
     if is_less(case.right, got):
@@ -260,11 +273,14 @@ def after_end(program, case, library, settings, before):
         preload = {"LD_PRELOAD": str(library)} if library else {}
         got = run(program, case, preload | settings, before, room)
         left = left_over(case, got.files)
-        if any(got.files[kept] != data for kept, data in case.files.items() if kept != "out"):
+        written = outputs(case)
+        if any(got.files[kept] != data for kept, data in case.files.items() if kept not in written):
             return "WRONG: an input was changed"
-        if "out" in case.files and got.files["out"] not in (OLD, case.right.files["out"]):
+        if any(got.files[name] not in (case.files.get(name), case.right.files[name]) for name in written & set(got.files)):
             return "WRONG: half a file"
-        if len(left) > 1 or any(not one.startswith("out.") for one in left):
+        if "list" in written & set(got.files) and not written <= set(got.files):
+            return "WRONG: a list without its tiles"
+        if len(left) > 1 or any(not one.startswith(tuple(f"{name}." for name in written)) for one in left):
             return f"WRONG: left over: {left}"
         again = run(program, case, None, None, room)
         if left_over(case, again.files):

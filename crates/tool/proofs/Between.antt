@@ -25,7 +25,7 @@ use Rattle.pnm.specs.Reading.{wanted_of}
 use Rattle.pnm.specs.Source.{ReadsFile, Sends}
 use Rattle.pnm.specs.Text.{text_of}
 use Rattle.tool.specs.declared.pipeline.fault.Fault.{Fault}
-use Rattle.tool.specs.declared.pipeline.fault.Fault.TheVariants.{Memory, Algo, Schedule, Rule, Names, Plan, Form, Limit, Order, Image, Budget, Unfinished, Difference}
+use Rattle.tool.specs.declared.pipeline.fault.Fault.TheVariants.{Memory, Algo, Schedule, Rule, Names, Plan, Form, Limit, Order, Image, Budget, Unfinished, Outside, Uncut, Difference}
 use Rattle.tool.specs.Pipeline.Faults.{image_fault, plain_fault, plan_fault, read_fault}
 use Rattle.tool.specs.Pipeline.Texts.{IsImageRefused, IsTextRefused}
 use Rattle.tool.specs.Pipeline.PlanFiles.{IsFileRefused}
@@ -61,6 +61,8 @@ module _ (text : List ℕ) (read held : Option (List ℕ)) where
   text_refused plan (Image e) h = absurd h
   text_refused plan Budget h = absurd h
   text_refused plan (Unfinished piece) h = absurd h
+  text_refused plan Outside h = absurd h
+  text_refused plan (Uncut name) h = absurd h
   text_refused plan Difference h = absurd h
 
   pub file_refused : (file : List ℕ) (a : Algorithm) (fault : Fault) → IsAlgorithmText text a → IsFileRefused a file fault → IsRefused text (Some file) read read held held fault
@@ -76,6 +78,8 @@ module _ (text : List ℕ) (read held : Option (List ℕ)) where
   file_refused file a (Image e) said h = absurd h
   file_refused file a Budget said h = absurd h
   file_refused file a (Unfinished piece) said h = absurd h
+  file_refused file a Outside said h = absurd h
+  file_refused file a (Uncut name) said h = absurd h
   file_refused file a Difference said h = absurd h
 
 module _ (text : List ℕ) (plan : PlanText) (a : Algorithm) (said : IsAlgorithmText text a) (ready : IsReady plan a) (read left held : Option (List ℕ)) where
@@ -93,6 +97,8 @@ module _ (text : List ℕ) (plan : PlanText) (a : Algorithm) (said : IsAlgorithm
   image_refused (Image e) h = inl (record { algorithm = a; is_text = said; ready = ready; refused = h }, Keeps-refl held)
   image_refused Budget h = absurd h
   image_refused (Unfinished piece) h = absurd h
+  image_refused Outside h = absurd h
+  image_refused (Uncut name) h = absurd h
   image_refused Difference h = absurd h
 
   module _ (samples : List ℕ) (reads : ReadsFile (wanted_of (input_frame a)) read left samples) where
@@ -124,6 +130,8 @@ pixel_refused text a said read left held samples reads (Form line) h = absurd h
 pixel_refused text a said read left held samples reads (Limit line) h = absurd h
 pixel_refused text a said read left held samples reads Order h = absurd h
 pixel_refused text a said read left held samples reads (Unfinished piece) h = absurd h
+pixel_refused text a said read left held samples reads Outside h = absurd h
+pixel_refused text a said read left held samples reads (Uncut name) h = absurd h
 pixel_refused text a said read left held samples reads Difference h = absurd h
 pixel_refused text a said read left held samples reads Budget h =
     (record { algorithm = a; samples = samples; is_text = said; ready = tt; reads = reads; refused = h }, Keeps-refl held)

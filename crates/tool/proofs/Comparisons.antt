@@ -1,5 +1,5 @@
 -- What comes of comparing all schedules.
-use Rattle.std.proofs.Common.{◌≡◌, inr, ℕ, List, All, Result, Ok, Err}
+use Rattle.std.proofs.Common.{◌≡◌, ◌⊎◌, ◌^◌, inl, inr, false, ℕ, List, All, Result, Ok, Err}
 use Rattle.std.specs.Prelude.{IfErr, OnOk}
 use Rattle.clap.specs.Words.{Text}
 use Rattle.meaning.specs.Algorithm.{Algorithm}
@@ -10,6 +10,7 @@ use Rattle.tool.specs.declared.pipeline.fault.Fault.{Fault}
 use Rattle.tool.specs.Asked.{AskedCompare}
 use Rattle.tool.specs.Compares.{IsCompared, IsCompareRefused, IsLegalFile, IsRefusedAmong}
 use Rattle.tool.specs.Files.{Contents, Holds, SameFiles}
+use Rattle.tool.specs.Pipeline.Pictures.{IsBudgetSpent}
 use Rattle.tool.proofs.Schedules.{legal_before, unplanned_before}
 
 all_before : (files now : Contents) (al : Algorithm) (names : List Text) → SameFiles files now → All (IsLegalFile now al) names → All (IsLegalFile files al) names
@@ -40,9 +41,13 @@ module _ (files now : Contents) (a : AskedCompare) (al : Algorithm) (text image 
   }
   all_compared (Err e) h = tt
 
-  pub one_refused : (r : Result (Unit {0}) Fault) → IfErr r (IsRefusedAmong now al a.schedules) → IfErr r (IsCompareRefused files a)
+  -- why the schedules were not compared: the plain picture, which was asked for, was not computed, or one of them is refused
+  abbrev pub IsUncompared : Fault → Type 0
+  IsUncompared fault = ((a.by_first ≡ false) × IsBudgetSpent al samples (2 ^ 32) fault) ⊎ IsRefusedAmong now al a.schedules fault
+
+  pub one_refused : (r : Result (Unit {0}) Fault) → IfErr r IsUncompared → IfErr r (IsCompareRefused files a)
   one_refused (Ok u) h = tt
-  one_refused (Err e) h = inr (inr (inr (inr (record {
+  one_refused (Err e) (inl h) = inr (inr (inr (inl (record {
     text = text;
     algorithm = al;
     image = image;
@@ -51,5 +56,17 @@ module _ (files now : Contents) (a : AskedCompare) (al : Algorithm) (text image 
     is_text = is_text;
     holds_image = holds_image;
     is_image = is_image;
-    refused = among_before files now al a.schedules e same h;
+    by_plain = h.0;
+    refused = h.1;
+  }))))
+  one_refused (Err e) (inr among) = inr (inr (inr (inr (record {
+    text = text;
+    algorithm = al;
+    image = image;
+    samples = samples;
+    holds_text = holds_text;
+    is_text = is_text;
+    holds_image = holds_image;
+    is_image = is_image;
+    refused = among_before files now al a.schedules e same among;
   }))))

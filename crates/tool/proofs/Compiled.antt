@@ -4,7 +4,7 @@ use Rattle.meaning.specs.Algorithm.{Algorithm}
 use Rattle.clap.specs.Words.{Text}
 use Rattle.sched.specs.Schedule.{Schedule}
 use Rattle.tool.specs.declared.pipeline.fault.Fault.{Fault}
-use Rattle.tool.specs.declared.pipeline.fault.Fault.TheVariants.{Memory, Algo, Schedule as NoSchedule, Rule, Names, Plan, Form, Limit, Order, Image, Budget, Unfinished, Difference}
+use Rattle.tool.specs.declared.pipeline.fault.Fault.TheVariants.{Memory, Algo, Schedule as NoSchedule, Rule, Names, Plan, Form, Limit, Order, Image, Budget, Unfinished, Outside, Uncut, Difference}
 use Rattle.tool.specs.Compiles.{HasScheduleFile, IsScheduleFault}
 use Rattle.tool.specs.Files.{Contents, SameFiles}
 use Rattle.tool.specs.Pipeline.Compiling.{IsUnaccepted}
@@ -26,6 +26,8 @@ unaccepted a text Order h = absurd h
 unaccepted a text (Image e) h = absurd h
 unaccepted a text Budget h = absurd h
 unaccepted a text (Unfinished piece) h = absurd h
+unaccepted a text Outside h = absurd h
+unaccepted a text (Uncut name) h = absurd h
 unaccepted a text Difference h = absurd h
 
 -- what a schedule's file is afterwards it was before

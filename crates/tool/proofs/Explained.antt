@@ -1,12 +1,13 @@
 -- Files that stay as they are behind a refusal, and the words that are left.
-use Rattle.std.proofs.Common.{◌≡◌, ◌∙◌, ap, sym, subst, refl, ℕ, Bool, true, false, cond, List, [], ◌∷◌, map, filter, None, Some, inl, inr, Result, Ok, Err}
+use Rattle.std.proofs.Common.{◌≡◌, ◌∙◌, ap, sym, subst, refl, ℕ, Bool, true, false, cond, length, List, [], ◌∷◌, map, filter, None, Some, inl, inr, Result, Ok, Err}
 use Rattle.std.specs.Prelude.{OnOk}
 use Rattle.clap.specs.Words.{Text}
 use Rattle.tool.specs.declared.pipeline.fault.Fault.{Fault}
 use Rattle.tool.specs.Answer.{CommandAnswers, Ends}
-use Rattle.tool.specs.Asked.{Asked, Picture, Format, Explain, Compile, Check, Cost, Show, Draw, Replay, Compare}
+use Rattle.tool.specs.Asked.{Asked, Picture, Format, Explain, Compile, Check, Cost, Show, Draw, Replay, Compare, Crop, Tiles}
 use Rattle.tool.specs.Files.{Contents, SameFiles, SameOthers}
 use Rattle.tool.specs.Line.{is_stated, stated}
+use Rattle.tool.specs.Tilings.{SameBeside}
 use Rattle.tool.proofs.Kept.{same_then}
 
 -- all files but one are as before, and then all are
@@ -15,6 +16,13 @@ same_others_then None b c name h k = tt
 same_others_then (Some at) None c name h k = absurd h
 same_others_then (Some at) (Some now) None name h k = absurd k
 same_others_then (Some at) (Some now) (Some last) name h k = λ other differs. k other ∙ h other differs
+
+-- all files but a tiling's are as before, and then all are
+beside_then : (a b c : Contents) (folder : Text) (n : ℕ) → SameBeside a b folder n → SameFiles b c → SameBeside a c folder n
+beside_then None b c folder n h k = tt
+beside_then (Some at) None c folder n h k = absurd h
+beside_then (Some at) (Some now) None folder n h k = absurd k
+beside_then (Some at) (Some now) (Some last) folder n h k = λ other differs. k other ∙ h other differs
 
 -- what came of a refused command is true of the files that stay so
 refused_then : (a : Asked) (old mid new : Contents) (fault : Fault) → Ends old mid a (Err fault) → SameFiles mid new → Ends old new a (Err fault)
@@ -32,6 +40,11 @@ refused_then (Draw a) old mid new fault (inl h) k = inl (same_then old mid new h
 refused_then (Draw a) old mid new fault (inr h) k = inr (h.0, same_others_then old mid new a.output h.1 k, h.2)
 refused_then (Replay a) old mid new fault h k = (same_then old mid new h.0 k, h.1)
 refused_then (Compare a) old mid new fault h k = (same_then old mid new h.0 k, h.1)
+refused_then (Crop a) old mid new fault (inl h) k = inl (same_then old mid new h.0 k, h.1)
+refused_then (Crop a) old mid new fault (inr h) k = inr (h.0, same_others_then old mid new a.output h.1 k, h.2)
+refused_then (Tiles a) old mid new fault (inl h) k = inl (same_then old mid new h.0 k, h.1)
+refused_then (Tiles a) old mid new fault (inr h) k =
+    inr (record { kinds = h.kinds; lines = h.lines; cut = h.cut; device = h.device; others = beside_then old mid new a.folder (length h.kinds) h.others k })
 
 -- what came of a command is true behind what is told of it
 pub ended_then : {S : Type 0} (contents : S → Contents) (a : Asked) (old : Contents) (mid new : S) (r : Result (Unit {0}) Fault)

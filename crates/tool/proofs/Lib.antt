@@ -6,11 +6,14 @@ mod Between
 mod Compared
 mod Comparisons
 mod Compiled
+mod Cropped
+mod Tiled
 mod Drawn
 mod Explained
 mod Failures
 mod Formatted
 mod Samples
+mod Sides
 mod Ways
 mod Kept
 mod Limits

@@ -1,5 +1,5 @@
 -- What the words name, and what comes of words that name no command.
-use Rattle.std.proofs.Common.{◌≡◌, ◌≢◌, ◌⊎◌, ◌∙◌, sym, refl, ℕ, List, Option, None, Some, option_and_then, option_map, true, codes, inl, inr, arith}
+use Rattle.std.proofs.Common.{◌≡◌, ◌≢◌, ◌⊎◌, ◌∙◌, sym, refl, ℕ, Bool, List, Option, None, Some, option_and_then, option_map, true, codes, inl, inr, arith}
 use Rattle.clap.specs.declared.error.Error.{Error}
 use Rattle.clap.specs.declared.error.kind.ErrorKind.{ErrorKind}
 use Rattle.clap.specs.declared.error.kind.ErrorKind.TheVariants.{DisplayHelp, DisplayVersion, OutOfMemory}
@@ -9,7 +9,8 @@ use Rattle.clap.proofs.OnLiterals.{clap_on_literals}
 use Rattle.clap.proofs.WalkLemmas.{first_value-rows, raw_values-rows}
 use Rattle.tool.specs.Answer.{WordsAnswer}
 use Rattle.tool.specs.Asked.{AskedWay, Plain}
-use Rattle.tool.specs.Line.{FailsFor, all_three, both as both_words, check_in, compare_in, compile_in, draw_in, evaluations_in, explain_in, format_in, line, by_workers, picture_in, plain_in, replay_in, run_in, stores_in, to_compare, to_compile, to_draw, to_explain, to_format, with_order, workers_in}
+use Rattle.tool.specs.Line.{FailsFor, all_three, both as both_words, check_in, compare_in, compile_in, draw_in, evaluations_in, explain_in, format_in, is_set, line, by_workers, picture_in, plain_in, replay_in, run_in, stores_in, to_compare, to_compile, to_draw, to_explain, to_format, with_order, workers_in}
+use Rattle.tool.specs.Line.{crop_in, rect_in, side_in, tiles_in, to_crop, to_rect, to_tiles}
 
 pub picture_as : (way : AskedWay) (f : Found) → picture_in way (rows_of f) ≡ all_three way (first_value f (codes "ALG")) (first_value f (codes "IN")) (first_value f (codes "OUT"))
 picture_as way f = rw (first_value-rows f (codes "ALG"), first_value-rows f (codes "IN"), first_value-rows f (codes "OUT")) refl
@@ -23,13 +24,14 @@ explain_as f = rw (first_value-rows f (codes "CODE")) refl
 pub compile_as : (f : Found) → compile_in (rows_of f) ≡ to_compile (first_value f (codes "ALG")) (first_value f (codes "SCHED")) (first_value f (codes "PLAN"))
 compile_as f = rw (first_value-rows f (codes "ALG"), first_value-rows f (codes "SCHED"), first_value-rows f (codes "PLAN")) refl
 
-pub compare_as : (f : Found) → compare_in (rows_of f) ≡ to_compare (first_value f (codes "ALG")) (first_value f (codes "IN")) (option_map raw_values (matched_of f (codes "SCHED")))
-compare_as f = rw (first_value-rows f (codes "ALG"), first_value-rows f (codes "IN"), raw_values-rows f (codes "SCHED")) refl
+pub compare_as : (f : Found) → compare_in (rows_of f)
+    ≡ to_compare (is_set (first_value f (codes "by-first"))) (first_value f (codes "ALG")) (first_value f (codes "IN")) (option_map raw_values (matched_of f (codes "SCHED")))
+compare_as f = rw (first_value-rows f (codes "by-first"), first_value-rows f (codes "ALG"), first_value-rows f (codes "IN"), raw_values-rows f (codes "SCHED")) refl
 
-pub nothing_to_compare : (algorithm input : Option Text) → to_compare algorithm input None ≡ None
-nothing_to_compare None input = refl
-nothing_to_compare (Some a) None = refl
-nothing_to_compare (Some a) (Some i) = refl
+pub nothing_to_compare : (by_first : Bool) (algorithm input : Option Text) → to_compare by_first algorithm input None ≡ None
+nothing_to_compare by_first None input = refl
+nothing_to_compare by_first (Some a) None = refl
+nothing_to_compare by_first (Some a) (Some i) = refl
 
 pub plain_as : (f : Found) → plain_in (rows_of f) ≡ option_and_then (λ most. picture_in (Plain most) (rows_of f)) (evaluations_in (first_value f (codes "at-most")))
 plain_as f = rw (first_value-rows f (codes "at-most")) refl
@@ -46,6 +48,17 @@ check_as f = rw (first_value-rows f (codes "ALG"), first_value-rows f (codes "PL
 
 pub replay_as : (f : Found) → replay_in (rows_of f) ≡ option_and_then (λ check. with_order check (first_value f (codes "IN")) (first_value f (codes "ORDER"))) (check_in (rows_of f))
 replay_as f = rw (first_value-rows f (codes "IN"), first_value-rows f (codes "ORDER")) refl
+
+pub rect_as : (f : Found) → rect_in (rows_of f)
+    ≡ to_rect (side_in (first_value f (codes "X"))) (side_in (first_value f (codes "Y"))) (side_in (first_value f (codes "W"))) (side_in (first_value f (codes "H")))
+rect_as f = rw (first_value-rows f (codes "X"), first_value-rows f (codes "Y"), first_value-rows f (codes "W"), first_value-rows f (codes "H")) refl
+
+pub crop_as : (f : Found) → crop_in (rows_of f) ≡ to_crop (rect_in (rows_of f)) (first_value f (codes "ALG")) (first_value f (codes "OUT"))
+crop_as f = rw (first_value-rows f (codes "ALG"), first_value-rows f (codes "OUT")) refl
+
+pub tiles_as : (f : Found) → tiles_in (rows_of f)
+    ≡ to_tiles (side_in (first_value f (codes "TW"))) (side_in (first_value f (codes "TH"))) (first_value f (codes "ALG")) (first_value f (codes "DIR"))
+tiles_as f = rw (first_value-rows f (codes "TW"), first_value-rows f (codes "TH"), first_value-rows f (codes "ALG"), first_value-rows f (codes "DIR")) refl
 
 -- a pair is there where its two parts are
 pub both : {A B : Type 0} (o : Option (A × B)) (a : A) (b : B) → Some a ≡ option_map (λ p. p.0) o → Some b ≡ option_map (λ p. p.1) o → o ≡ Some (a, b)

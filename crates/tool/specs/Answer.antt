@@ -3,13 +3,15 @@ use Rattle.std.specs.Prelude.{◌≡◌, ◌⊎◌, ℕ, List, Option, Some, Res
 use Rattle.clap.specs.Words.{Text}
 use Rattle.tool.specs.declared.pipeline.fault.Fault.{Fault}
 use Rattle.tool.specs.Pipeline.Pictures as streams
-use Rattle.tool.specs.Asked.{Asked, Picture, Format, Explain, Compile, Check, Cost, Show, Draw, Replay, Compare}
+use Rattle.tool.specs.Asked.{Asked, Picture, Format, Explain, Compile, Check, Cost, Show, Draw, Replay, Compare, Crop, Tiles}
 use Rattle.tool.specs.Checks.{IsChecked, IsCheckRefused}
 use Rattle.tool.specs.Compares.{IsCompared, IsCompareRefused}
 use Rattle.tool.specs.Replays.{IsReplayed, IsReplayRefused}
 use Rattle.tool.specs.Files.{Contents, SameFiles}
 use Rattle.tool.specs.Line.{AsksFor, AsksHelp, AsksVersion, IsMisuse}
 use Rattle.tool.specs.Compiles as compiling
+use Rattle.tool.specs.Crops as cropping
+use Rattle.tool.specs.Tilings as tiling
 use Rattle.tool.specs.Draws as drawing
 use Rattle.tool.specs.Formats as formatting
 use Rattle.tool.specs.Pictures.{IsDone, IsOfDevice, IsRefused}
@@ -38,6 +40,8 @@ Ends old new (Show a) outcome = SameFiles old new × MatchResult outcome (λ _. 
 Ends old new (Draw a) outcome = MatchResult outcome (λ _. drawing.IsDone old new a) (drawing.IsRefused old new a)
 Ends old new (Replay a) outcome = SameFiles old new × MatchResult outcome (λ _. IsReplayed old a) (IsReplayRefused old a)
 Ends old new (Compare a) outcome = SameFiles old new × MatchResult outcome (λ _. IsCompared old a) (IsCompareRefused old a)
+Ends old new (Crop a) outcome = MatchResult outcome (λ _. cropping.IsDone old new a) (cropping.IsRefused old new a)
+Ends old new (Tiles a) outcome = MatchResult outcome (λ _. tiling.IsDone old new a) (tiling.IsRefused old new a)
 
 -- this came of the command, and the status is that of it
 pub record HasEnded (old new : Contents) (asked : Asked) (status : ℕ) : Type 0 where

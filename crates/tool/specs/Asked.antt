@@ -1,6 +1,7 @@
 -- What is asked for.
-use Rattle.std.specs.Prelude.{ℕ, List, Option, map, option_map}
+use Rattle.std.specs.Prelude.{ℕ, Bool, List, Option, map, option_map}
 use Rattle.clap.specs.Words.{Text}
+use Rattle.crop.specs.declared.cropping.Rect.{Rect}
 use Rattle.tool.specs.declared.request.Way.{Way}
 use Rattle.tool.specs.declared.request.Way.TheVariants as way
 use Rattle.tool.specs.declared.request.PictureRequest.{PictureRequest}
@@ -10,6 +11,8 @@ use Rattle.tool.specs.declared.request.CheckRequest.{CheckRequest}
 use Rattle.tool.specs.declared.request.DrawRequest.{DrawRequest}
 use Rattle.tool.specs.declared.request.ReplayRequest.{ReplayRequest}
 use Rattle.tool.specs.declared.request.CompareRequest.{CompareRequest}
+use Rattle.tool.specs.declared.request.CropRequest.{CropRequest}
+use Rattle.tool.specs.declared.request.TilesRequest.{TilesRequest}
 use Rattle.tool.specs.declared.request.Request.{Request}
 use Rattle.tool.specs.declared.request.Request.TheVariants as request
 
@@ -54,11 +57,25 @@ pub record AskedDraw : Type 0 where
   pub output : Text
   pub order : Option Text
 
--- schedules whose pictures are compared with the plain one
+-- schedules whose pictures are compared with the plain one, or with that of the first of them
 pub record AskedCompare : Type 0 where
   pub algorithm : Text
   pub input : Text
   pub schedules : List Text
+  pub by_first : Bool
+
+-- a tile whose algorithm is written
+pub record AskedCrop : Type 0 where
+  pub algorithm : Text
+  pub rect : Rect
+  pub output : Text
+
+-- an algorithm to be cut into tiles, so many samples wide and high
+pub record AskedTiles : Type 0 where
+  pub algorithm : Text
+  pub width : ℕ
+  pub height : ℕ
+  pub folder : Text
 
 pub data Asked : Type 0 where
   Picture : AskedPicture → Asked
@@ -71,6 +88,8 @@ pub data Asked : Type 0 where
   Draw : AskedDraw → Asked
   Replay : AskedReplay → Asked
   Compare : AskedCompare → Asked
+  Crop : AskedCrop → Asked
+  Tiles : AskedTiles → Asked
 
 abbrev pub way_asked : Way → AskedWay
 way_asked (way.Plain most) = Plain most
@@ -95,7 +114,13 @@ abbrev pub draw_asked : DrawRequest → AskedDraw
 draw_asked r = record { check = check_asked r.check; output = r.output.now; order = option_map (λ name. name.now) r.order }
 
 abbrev pub compare_asked : CompareRequest → AskedCompare
-compare_asked r = record { algorithm = r.algorithm.now; input = r.input.now; schedules = map (λ name. name.now) r.schedules.items }
+compare_asked r = record { algorithm = r.algorithm.now; input = r.input.now; schedules = map (λ name. name.now) r.schedules.items; by_first = r.by_first }
+
+abbrev pub crop_asked : CropRequest → AskedCrop
+crop_asked r = record { algorithm = r.algorithm.now; rect = r.rect; output = r.output.now }
+
+abbrev pub tiles_asked : TilesRequest → AskedTiles
+tiles_asked r = record { algorithm = r.algorithm.now; width = r.width; height = r.height; folder = r.folder.now }
 
 abbrev pub asked_by : Request → Asked
 asked_by (request.Picture r) = Picture (picture_asked r)
@@ -108,3 +133,5 @@ asked_by (request.Show r) = Show (check_asked r)
 asked_by (request.Draw r) = Draw (draw_asked r)
 asked_by (request.Replay r) = Replay (replay_asked r)
 asked_by (request.Compare r) = Compare (compare_asked r)
+asked_by (request.Crop r) = Crop (crop_asked r)
+asked_by (request.Tiles r) = Tiles (tiles_asked r)

@@ -1,5 +1,5 @@
 -- What the command that compares schedules finds.
-use Rattle.std.specs.Prelude.{◌≡◌, ◌≢◌, ◌⊎◌, ◌^◌, ℕ, List, All, Some, Ok, slice_get, take}
+use Rattle.std.specs.Prelude.{◌≡◌, ◌≢◌, ◌⊎◌, ◌^◌, ℕ, List, All, Some, Ok, false, slice_get, take}
 use Rattle.clap.specs.Words.{Text}
 use Rattle.meaning.specs.Algorithm.{Algorithm}
 use Rattle.algo.specs.Parts.{input_frame}
@@ -57,7 +57,7 @@ pub record ImageRefused (files : Contents) (a : AskedCompare) (fault : Fault) : 
   pub holds_image : Holds files a.input image
   pub refused : IsImageFault (input_frame algorithm) image fault
 
--- both are accepted, and the plain picture was not computed
+-- both are accepted, the plain picture was asked for, and it was not computed
 pub record PictureRefused (files : Contents) (a : AskedCompare) (fault : Fault) : Type 0 where
   pub text : List ℕ
   pub algorithm : Algorithm
@@ -67,6 +67,7 @@ pub record PictureRefused (files : Contents) (a : AskedCompare) (fault : Fault) 
   pub is_text : IsAlgorithmText text algorithm
   pub holds_image : Holds files a.input image
   pub is_image : reading (wanted_of (input_frame algorithm)) image ≡ Ok samples
+  pub by_plain : a.by_first ≡ false
   pub refused : IsBudgetSpent algorithm samples (2 ^ 32) fault
 
 -- of schedules of these files, the first that no plan comes of
@@ -77,7 +78,7 @@ pub record IsRefusedAmong (files : Contents) (a : Algorithm) (names : List Text)
   pub before : All (IsLegalFile files a) (take place names)
   pub refused : IsUnplanned files a name fault
 
--- the plain picture was computed, and one of the schedules is refused
+-- the plain picture was computed if it was asked for, and one of the schedules is refused
 pub record ScheduleRefused (files : Contents) (a : AskedCompare) (fault : Fault) : Type 0 where
   pub text : List ℕ
   pub algorithm : Algorithm

@@ -2,6 +2,8 @@ pub mod Order
 pub mod Pipeline
 pub mod Answer
 pub mod Asked
+pub mod Crops
+pub mod Tilings
 pub mod Files
 pub mod Draws
 pub mod Formats

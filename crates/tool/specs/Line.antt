@@ -1,15 +1,17 @@
 -- The command line: the words that it takes, and what they ask for.
-use Rattle.std.specs.Prelude.{◌≡◌, ◌≢◌, ◌⊎◌, ℕ, Bool, List, [], Option, None, Some, ◌^◌, true, codes, option_and_then, option_map, filter, not, if◌then◌else◌}
+use Rattle.std.specs.Prelude.{◌≡◌, ◌≢◌, ◌⊎◌, ℕ, Bool, List, [], Option, None, Some, ◌^◌, true, false, codes, option_and_then, option_map, filter, not, if◌then◌else◌}
 use Rattle.std.specs.Str.{bytes_eq}
+use Rattle.clap.specs.declared.builder.action.ArgAction.TheVariants.{SetTrue}
 use Rattle.clap.specs.declared.error.kind.ErrorKind.{ErrorKind}
 use Rattle.clap.specs.declared.error.kind.ErrorKind.TheVariants.{DisplayHelp, DisplayVersion, ValueValidation}
 use Rattle.clap.specs.declared.error.Error.{Error}
 use Rattle.clap.specs.Lexer.{usize_max}
 use Rattle.clap.specs.Words.{App, HasKind, IsAmong, Row, Rule, Text, fault_of, all_of, first_of, kind_of, new_app, new_rule, subcommand_of, with_rule, with_subcommand}
 use Rattle.report.specs.Codes.Codes.{is_code}
-use Rattle.tool.specs.Limit.{limit_spelled}
+use Rattle.crop.specs.declared.cropping.Rect.{Rect}
+use Rattle.tool.specs.Limit.{limit_spelled, side_spelled}
 use Rattle.tool.specs.Workers.{workers_spelled}
-use Rattle.tool.specs.Asked.{AskedWay, Plain, File, AskedCheck, Asked, Picture, Format, Explain, Compile, Check, Cost, Show, Draw, Replay, Compare}
+use Rattle.tool.specs.Asked.{AskedWay, Plain, File, AskedCheck, Asked, Picture, Format, Explain, Compile, Check, Cost, Show, Draw, Replay, Compare, Crop, Tiles}
 
 -- a word that has to be there, under a name
 abbrev pub needed : Text → Rule
@@ -43,9 +45,15 @@ explain_line = with_rule (new_app (codes "explain")) (needed (codes "CODE"))
 abbrev pub plan_line : Text → App
 plan_line name = with_rule (with_rule (new_app name) (needed (codes "ALG"))) (needed (codes "PLAN"))
 
--- compare ALG IN SCHED..
+-- compare ALG IN SCHED.., and with it --by-first, which may be left out
+abbrev pub named_compare_line : App
+named_compare_line = with_rule (with_rule (with_rule (new_app (codes "compare")) (needed (codes "ALG"))) (needed (codes "IN"))) (several (codes "SCHED"))
+
+abbrev pub by_first_rule : Rule
+by_first_rule = record (new_rule (codes "by-first")) { long = Some (codes "by-first"); action = Some SetTrue }
+
 abbrev pub compare_line : App
-compare_line = with_rule (with_rule (with_rule (new_app (codes "compare")) (needed (codes "ALG"))) (needed (codes "IN"))) (several (codes "SCHED"))
+compare_line = with_rule named_compare_line by_first_rule
 
 -- --workers N, which may be left out
 abbrev pub workers_rule : Rule
@@ -76,6 +84,20 @@ draw_line = with_rule named_draw_line order_rule
 abbrev pub replay_line : App
 replay_line = with_rule (with_rule (with_rule (with_rule (new_app (codes "replay")) (needed (codes "ALG"))) (needed (codes "PLAN"))) (needed (codes "IN"))) (needed (codes "ORDER"))
 
+-- crop ALG X Y, and with these W H OUT
+abbrev pub placed_line : App
+placed_line = with_rule (with_rule (with_rule (new_app (codes "crop")) (needed (codes "ALG"))) (needed (codes "X"))) (needed (codes "Y"))
+
+abbrev pub crop_line : App
+crop_line = with_rule (with_rule (with_rule placed_line (needed (codes "W"))) (needed (codes "H"))) (needed (codes "OUT"))
+
+-- tiles ALG TW TH, and with these DIR
+abbrev pub sized_line : App
+sized_line = with_rule (with_rule (with_rule (new_app (codes "tiles")) (needed (codes "ALG"))) (needed (codes "TW"))) (needed (codes "TH"))
+
+abbrev pub tiles_line : App
+tiles_line = with_rule sized_line (needed (codes "DIR"))
+
 -- the commands that write something of an algorithm alone
 abbrev pub planless : App
 planless = with_subcommand (with_subcommand program plain_line.top) format_line.top
@@ -88,8 +110,12 @@ scheduled = with_subcommand (with_subcommand planless compile_line.top) compare_
 abbrev pub told : App
 told = with_subcommand (with_subcommand (with_subcommand (with_subcommand scheduled explain_line.top) (plan_line (codes "check")).top) (plan_line (codes "cost")).top) (plan_line (codes "show")).top
 
+-- with them those that cut an algorithm into tiles
+abbrev pub cut : App
+cut = with_subcommand (with_subcommand told crop_line.top) tiles_line.top
+
 abbrev pub line : App
-line = with_subcommand (with_subcommand (with_subcommand told run_line.top) replay_line.top) draw_line.top
+line = with_subcommand (with_subcommand (with_subcommand cut run_line.top) replay_line.top) draw_line.top
 
 -- a picture, where all three names are there
 abbrev pub all_three : AskedWay → Option Text → Option Text → Option Text → Option Asked
@@ -175,13 +201,58 @@ to_draw order check None = None
 abbrev pub draw_in : List Row → Option Asked
 draw_in rows = option_and_then (λ check. to_draw (first_of (codes "order") rows) check (first_of (codes "OUT") rows)) (check_in rows)
 
-abbrev pub to_compare : Option Text → Option Text → Option (List Text) → Option Asked
-to_compare (Some algorithm) (Some input) (Some schedules) = Some (Compare (record { algorithm = algorithm; input = input; schedules = schedules }))
-to_compare _ _ _ = None
+-- whether a word that takes no value stands among the words
+abbrev pub is_set : Option Text → Bool
+is_set None = false
+is_set (Some text) = bytes_eq text (codes "true")
+
+abbrev pub to_compare : Bool → Option Text → Option Text → Option (List Text) → Option Asked
+to_compare by_first (Some algorithm) (Some input) (Some schedules) =
+    Some (Compare (record { algorithm = algorithm; input = input; schedules = schedules; by_first = by_first }))
+to_compare by_first _ _ _ = None
 
 -- the words for the algorithm, the image and the schedules
 abbrev pub compare_in : List Row → Option Asked
-compare_in rows = to_compare (first_of (codes "ALG") rows) (first_of (codes "IN") rows) (all_of (codes "SCHED") rows)
+compare_in rows =
+    to_compare (is_set (first_of (codes "by-first") rows)) (first_of (codes "ALG") rows) (first_of (codes "IN") rows) (all_of (codes "SCHED") rows)
+
+-- a number of samples
+abbrev pub side_in : Option Text → Option ℕ
+side_in word = option_and_then side_spelled word
+
+-- a rectangle, where all its four numbers are there
+abbrev pub to_rect : Option ℕ → Option ℕ → Option ℕ → Option ℕ → Option Rect
+to_rect (Some x) (Some y) (Some width) (Some height) = Some (record { x = x; y = y; width = width; height = height })
+to_rect _ _ _ _ = None
+
+-- the words for it
+abbrev pub rect_in : List Row → Option Rect
+rect_in rows =
+    to_rect (side_in (first_of (codes "X") rows)) (side_in (first_of (codes "Y") rows)) (side_in (first_of (codes "W") rows)) (side_in (first_of (codes "H") rows))
+
+abbrev pub to_crop : Option Rect → Option Text → Option Text → Option Asked
+to_crop (Some rect) (Some algorithm) (Some output) = Some (Crop (record { algorithm = algorithm; rect = rect; output = output }))
+to_crop _ _ _ = None
+
+-- the words for the algorithm, the rectangle and the tile's algorithm
+abbrev pub crop_in : List Row → Option Asked
+crop_in rows = to_crop (rect_in rows) (first_of (codes "ALG") rows) (first_of (codes "OUT") rows)
+
+abbrev pub to_tiles : Option ℕ → Option ℕ → Option Text → Option Text → Option Asked
+to_tiles (Some width) (Some height) (Some algorithm) (Some folder) =
+    Some (Tiles (record { algorithm = algorithm; width = width; height = height; folder = folder }))
+to_tiles _ _ _ _ = None
+
+-- the words for the algorithm, a tile's sides and the folder
+abbrev pub tiles_in : List Row → Option Asked
+tiles_in rows =
+    to_tiles (side_in (first_of (codes "TW") rows)) (side_in (first_of (codes "TH") rows)) (first_of (codes "ALG") rows) (first_of (codes "DIR") rows)
+
+-- what a command of this name asks for, of those that cut an algorithm
+abbrev pub asked_of_cut : Text × List Row → Option Asked
+asked_of_cut command =
+    if bytes_eq command.0 (codes "crop") then crop_in command.1
+    else (if bytes_eq command.0 (codes "tiles") then tiles_in command.1 else None)
 
 -- what a command of this name asks for, of those that take a plan file
 abbrev pub asked_of_plan : Text × List Row → Option Asked
@@ -191,7 +262,7 @@ asked_of_plan command =
     else (if bytes_eq command.0 (codes "cost") then option_map Cost (check_in command.1)
     else (if bytes_eq command.0 (codes "show") then option_map Show (check_in command.1)
     else (if bytes_eq command.0 (codes "draw") then draw_in command.1
-    else (if bytes_eq command.0 (codes "replay") then replay_in command.1 else None)))))
+    else (if bytes_eq command.0 (codes "replay") then replay_in command.1 else asked_of_cut command)))))
 
 -- and of all that take so many words
 abbrev pub asked_of_one : Text × List Row → Option Asked

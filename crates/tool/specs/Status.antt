@@ -3,7 +3,7 @@ use Rattle.std.specs.Prelude.{ℕ}
 use Rattle.pnm.specs.declared.error.PnmError.{PnmError}
 use Rattle.pnm.specs.declared.error.PnmError.TheVariants as image
 use Rattle.tool.specs.declared.pipeline.fault.Fault.{Fault}
-use Rattle.tool.specs.declared.pipeline.fault.Fault.TheVariants.{Memory, Algo, Schedule, Rule, Names, Plan, Form, Limit, Order, Image, Budget, Unfinished, Difference}
+use Rattle.tool.specs.declared.pipeline.fault.Fault.TheVariants.{Memory, Algo, Schedule, Rule, Names, Plan, Form, Limit, Order, Image, Budget, Unfinished, Outside, Uncut, Difference}
 use Rattle.tool.specs.declared.device.FileError.{FileError}
 use Rattle.tool.specs.declared.device.FileError.TheVariants as file
 
@@ -27,6 +27,8 @@ status_of (Limit line) = 3
 status_of Order = 3
 status_of Budget = 3
 status_of (Unfinished piece) = 6
+status_of Outside = 3
+status_of (Uncut name) = 3
 status_of Difference = 1
 
 -- a file's error as a refusal

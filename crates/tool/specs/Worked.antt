@@ -1,6 +1,6 @@
 -- Words written out, and what they ask for.
-use Rattle.std.specs.Prelude.{◌≡◌, ◌^◌, ◌-◌, ℕ, List, [], ◌∷◌, None, Some, codes}
-use Rattle.tool.specs.Asked.{Plain, File, Picture, Format, Explain, Compile, Check, Cost, Show, Draw, Replay, Compare}
+use Rattle.std.specs.Prelude.{◌≡◌, ◌^◌, ◌-◌, ℕ, true, false, List, [], ◌∷◌, None, Some, codes}
+use Rattle.tool.specs.Asked.{Plain, File, Picture, Format, Explain, Compile, Check, Cost, Show, Draw, Replay, Compare, Crop, Tiles}
 use Rattle.tool.specs.Line.{AsksFor, AsksHelp, AsksVersion, IsMisuse, stated}
 
 -- three names behind `plain`
@@ -51,6 +51,26 @@ DrawWithOrder =
     AsksFor (codes "draw" ∷ codes "a.alg" ∷ codes "p.plan" ∷ codes "o.ppm" ∷ codes "--order" ∷ codes "o.txt" ∷ [])
     (Draw (record { check = record { algorithm = codes "a.alg"; plan = codes "p.plan" }; output = codes "o.ppm"; order = Some (codes "o.txt") }))
 
+-- a tile behind `crop`, and a folder behind `tiles`
+abbrev pub CropWithNames : Type 0
+CropWithNames =
+    AsksFor (codes "crop" ∷ codes "a.alg" ∷ codes "0" ∷ codes "4294967295" ∷ codes "3" ∷ codes "4" ∷ codes "b.alg" ∷ [])
+    (Crop (record { algorithm = codes "a.alg"; rect = record { x = 0; y = 2 ^ 32 - 1; width = 3; height = 4 }; output = codes "b.alg" }))
+
+abbrev pub TilesWithNames : Type 0
+TilesWithNames =
+    AsksFor (codes "tiles" ∷ codes "a.alg" ∷ codes "3" ∷ codes "2" ∷ codes "d" ∷ [])
+    (Tiles (record { algorithm = codes "a.alg"; width = 3; height = 2; folder = codes "d" }))
+
+-- numbers of samples that are none
+abbrev pub MisusedSides : Type 0
+MisusedSides =
+    IsMisuse (codes "tiles" ∷ codes "a.alg" ∷ codes "03" ∷ codes "2" ∷ codes "d" ∷ [])
+    × IsMisuse (codes "tiles" ∷ codes "a.alg" ∷ codes "3" ∷ codes "+2" ∷ codes "d" ∷ [])
+    × IsMisuse (codes "tiles" ∷ codes "a.alg" ∷ codes "3" ∷ codes "" ∷ codes "d" ∷ [])
+    × IsMisuse (codes "tiles" ∷ codes "a.alg" ∷ codes "3" ∷ codes "4294967296" ∷ codes "d" ∷ [])
+    × IsMisuse (codes "tiles" ∷ codes "a.alg" ∷ codes "3" ∷ codes "x" ∷ codes "d" ∷ [])
+
 -- limits of evaluations and of stores
 abbrev pub PlainWithLimit : Type 0
 PlainWithLimit =
@@ -66,7 +86,17 @@ RunWithLimit =
 abbrev pub CompareWithNames : Type 0
 CompareWithNames =
     AsksFor (codes "compare" ∷ codes "a.alg" ∷ codes "b.pgm" ∷ codes "s.sched" ∷ codes "t.sched" ∷ codes "s.sched" ∷ [])
-    (Compare (record { algorithm = codes "a.alg"; input = codes "b.pgm"; schedules = codes "s.sched" ∷ codes "t.sched" ∷ codes "s.sched" ∷ [] }))
+    (Compare (record { algorithm = codes "a.alg"; input = codes "b.pgm"; schedules = codes "s.sched" ∷ codes "t.sched" ∷ codes "s.sched" ∷ []; by_first = false }))
+
+-- the same of two, with the word that takes the first one's picture, wherever it stands
+abbrev pub IsByFirst : List (List ℕ) → Type 0
+IsByFirst words =
+    AsksFor words (Compare (record { algorithm = codes "a.alg"; input = codes "b.pgm"; schedules = codes "s.sched" ∷ codes "t.sched" ∷ []; by_first = true }))
+
+abbrev pub CompareByFirst : Type 0
+CompareByFirst =
+    IsByFirst (codes "compare" ∷ codes "a.alg" ∷ codes "b.pgm" ∷ codes "s.sched" ∷ codes "t.sched" ∷ codes "--by-first" ∷ [])
+    × IsByFirst (codes "compare" ∷ codes "--by-first" ∷ codes "a.alg" ∷ codes "b.pgm" ∷ codes "s.sched" ∷ codes "t.sched" ∷ [])
 
 abbrev pub ReplayWithNames : Type 0
 ReplayWithNames =

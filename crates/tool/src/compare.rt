@@ -1,6 +1,6 @@
 //! The command that compares the pictures of schedules with the plain one.
 
-ghost use Rattle.std.specs.Prelude.{◌≡◌, ◌⊎◌, ℕ, All, IfErr, IfOk, OnOk, map, true};
+ghost use Rattle.std.specs.Prelude.{◌≡◌, ◌⊎◌, ◌^◌, ℕ, All, IfErr, IfOk, OnOk, false, map, true};
 ghost use Rattle.algo.specs.View.{algorithm_of, picture_said, samples_of, IsFor};
 ghost use Rattle.meaning.specs.Image.View.{image_of};
 ghost use Rattle.tool.specs.declared.compare.Comparison.{Comparison};
@@ -8,6 +8,7 @@ ghost use Rattle.tool.specs.Asked.{compare_asked};
 ghost use Rattle.tool.specs.Compares.{IsCompared, IsCompareRefused, IsFirstDifference, IsLegalFile, IsRefusedAmong, IsUnplanned};
 ghost use Rattle.tool.specs.Files.{SameFiles};
 ghost use Rattle.tool.specs.Pictures.{IsOfDevice};
+ghost use Rattle.tool.specs.Pipeline.Pictures.{IsBudgetSpent};
 
 use crate::device::Files;
 use crate::picture::{algorithm_in, image_in};
@@ -33,7 +34,7 @@ enum Comparison {
     DiffersAt(usize),
 }
 
-/// What schedules' pictures are compared with: the plain picture of an algorithm.
+/// What schedules' pictures are compared with: the picture that an algorithm says of an input.
 #[derive(Clone, Copy, Drop)]
 struct Baseline<'a> {
     algo: &'a Algo,
@@ -132,11 +133,131 @@ fn compare_schedules<T: Threads + Sync, F: Files, W: Write>(
     }
 }
 
+/// Tells that pictures are compared with the one of this schedule, and what its plan costs.
+fn tell_first<W: Write>(
+    alloc: Global,
+    out: &mut W,
+    name: &str,
+    checked: &Checked<'_>,
+) -> Result<(), Fault>
+    ensures { IfErr result IsOfDevice }
+{
+    let costs = cost(alloc, checked)?;
+    let table = text(alloc, &costs)?;
+    match write!(out, "pictures are compared with that of {name}\n{table}") {
+        Ok(()) => flush(out),
+        Err(_) => Err(Fault::Image(PnmError::Device)),
+    }
+}
+
+/// The picture of the schedule of a file, computed by one worker by its checked plan, which is told to be what others are
+/// compared with.
+fn first_picture<T: Threads + Sync, F: Files, W: Write>(
+    rt: &T,
+    alloc: Global,
+    files: &mut F,
+    out: &mut W,
+    algo: &Algo,
+    inputs: &Inputs,
+    name: &str,
+) -> Result<Image, Fault>
+    requires inputs { IsFor algo.now inputs.now }
+    ensures same { SameFiles (F.contents files.old) (F.contents files.new) }
+    ensures picture { IfOk result (λ image. image_of image ≡ picture_said (algorithm_of algo.now) (samples_of inputs.now)) }
+    ensures legal { OnOk result (IsLegalFile (F.contents files.old) (algorithm_of algo.now) name.now) }
+    ensures refused { IfErr result (IsUnplanned (F.contents files.old) (algorithm_of algo.now) name.now) }
+{
+    let sched = schedule_in(alloc, files, name)?;
+    let checked = compile_checked(rt, alloc, algo, &sched)?;
+    let image = plan_picture(alloc, &checked, inputs)?;
+    tell_first(alloc, out, name, &checked)?;
+    Ok(image)
+}
+
+/// Compares the pictures of all schedules but the first with the first one's.
+fn compare_by_first<T: Threads + Sync, F: Files, W: Write>(
+    rt: &T,
+    alloc: Global,
+    files: &mut F,
+    out: &mut W,
+    algo: &Algo,
+    inputs: &Inputs,
+    names: &[&str],
+) -> Result<(), Fault>
+    requires inputs { IsFor algo.now inputs.now }
+    ensures same { SameFiles (F.contents files.old) (F.contents files.new) }
+    ensures legal { OnOk result (All (IsLegalFile (F.contents files.old) (algorithm_of algo.now)) (map (λ name. name.now) names.now)) }
+    ensures refused { IfErr result (IsRefusedAmong (F.contents files.old) (algorithm_of algo.now) (map (λ name. name.now) names.now)) }
+{
+    match names.split_first() {
+        None => Ok(()),
+        Some((name, rest)) => {
+            let picture = first_picture(rt, alloc, files, out, algo, inputs, name)?;
+            let baseline = Baseline {
+                algo,
+                inputs,
+                picture: &picture,
+            };
+            compare_schedules(rt, alloc, files, out, &baseline, rest)
+        }
+    }
+}
+
+/// Compares the pictures of all schedules with the plain one.
+fn compare_by_plain<T: Threads + Sync, F: Files, W: Write>(
+    rt: &T,
+    alloc: Global,
+    files: &mut F,
+    out: &mut W,
+    algo: &Algo,
+    inputs: &Inputs,
+    names: &[&str],
+) -> Result<(), Fault>
+    requires inputs { IsFor algo.now inputs.now }
+    ensures same { SameFiles (F.contents files.old) (F.contents files.new) }
+    ensures legal { OnOk result (All (IsLegalFile (F.contents files.old) (algorithm_of algo.now)) (map (λ name. name.now) names.now)) }
+    ensures refused { IfErr result (λ fault. IsBudgetSpent (algorithm_of algo.now) (samples_of inputs.now) (2 ^ 32) fault
+        ⊎ IsRefusedAmong (F.contents files.old) (algorithm_of algo.now) (map (λ name. name.now) names.now) fault) }
+{
+    let picture = plain_picture(rt, alloc, algo, inputs, BUDGET)?;
+    let baseline = Baseline {
+        algo,
+        inputs,
+        picture: &picture,
+    };
+    compare_schedules(rt, alloc, files, out, &baseline, names)
+}
+
+/// Does so by the first schedule or by the definitions.
+fn compare_by<T: Threads + Sync, F: Files, W: Write>(
+    rt: &T,
+    alloc: Global,
+    files: &mut F,
+    out: &mut W,
+    algo: &Algo,
+    inputs: &Inputs,
+    request: &CompareRequest<'_>,
+) -> Result<(), Fault>
+    requires inputs { IsFor algo.now inputs.now }
+    ensures same { SameFiles (F.contents files.old) (F.contents files.new) }
+    ensures legal { OnOk result (All (IsLegalFile (F.contents files.old) (algorithm_of algo.now)) (compare_asked request.now).schedules) }
+    ensures refused { IfErr result (λ fault. ((request.now.by_first ≡ false) × IsBudgetSpent (algorithm_of algo.now) (samples_of inputs.now) (2 ^ 32) fault)
+        ⊎ IsRefusedAmong (F.contents files.old) (algorithm_of algo.now) (compare_asked request.now).schedules fault) }
+{
+    let names = request.schedules.as_slice();
+    if request.by_first {
+        compare_by_first(rt, alloc, files, out, algo, inputs, names)
+    } else {
+        compare_by_plain(rt, alloc, files, out, algo, inputs, names)
+    }
+}
+
 /// Compares the picture of each schedule, computed by one worker, with the plain picture of an image, and tells for each
 /// whether it is the same, and what its plan costs.
 ///
 /// The algorithm's file is read, then the image, and the plain picture is computed; then the schedules are taken in the order
-/// given. What was told before a refusal stands.
+/// given. Where it is asked for, the first schedule's picture, computed by its checked plan, stands in place of the plain
+/// one: the first line says so, and no pixel is computed by the definitions. What was told before a refusal stands.
 ///
 /// # Errors
 /// The first refusal in this order; a text that is not UTF-8 is one of the device. `Difference` would be that a picture
@@ -157,18 +278,5 @@ pub(crate) fn compare_command<T: Threads + Sync, F: Files, W: Write>(
     let file = files.get(alloc, request.input)?;
     let inputs = image_in(alloc, &algo, file.as_slice())?;
     drop(file);
-    let picture = plain_picture(rt, alloc, &algo, &inputs, BUDGET)?;
-    let baseline = Baseline {
-        algo: &algo,
-        inputs: &inputs,
-        picture: &picture,
-    };
-    compare_schedules(
-        rt,
-        alloc,
-        files,
-        out,
-        &baseline,
-        request.schedules.as_slice(),
-    )
+    compare_by(rt, alloc, files, out, &algo, &inputs, request)
 }

@@ -17,6 +17,7 @@ pub fn status(fault: &Fault) -> u8
         Fault::Algo { .. } | Fault::Budget => 3,
         Fault::Schedule { .. } | Fault::Rule { .. } | Fault::Names => 3,
         Fault::Form { .. } | Fault::Limit { .. } | Fault::Order => 3,
+        Fault::Outside | Fault::Uncut { .. } => 3,
         Fault::Memory | Fault::Image(PnmError::Memory) => 4,
         Fault::Image(PnmError::Device) => 5,
         Fault::Image(_) => 3,

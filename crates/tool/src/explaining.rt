@@ -100,6 +100,8 @@ fn algorithm_of<'a>(request: &Request<'a>) -> Option<&'a str> {
         Request::Draw(asked) => Some(asked.check.algorithm),
         Request::Replay(asked) => Some(asked.check.algorithm),
         Request::Compare(asked) => Some(asked.algorithm),
+        Request::Crop(asked) => Some(asked.algorithm),
+        Request::Tiles(asked) => Some(asked.algorithm),
         Request::Explain(_) => None,
     }
 }

@@ -71,7 +71,8 @@ Statuses:
 
 pub(crate) const COMPARE: &str = "\
 Reads ALG, IN and each SCHED, and prints for each whether its picture is the plain one, and what
-it costs.
+it costs. With '--by-first' the first SCHED's picture stands in place of the plain one, and the
+first line says so.
 
 Example:
   stencil compare examples/blur3.alg examples/shapes.pgm examples/blur3-rows.sched
@@ -170,5 +171,36 @@ Statuses:
   1  the checker refuses the plan
   2  the words
   3  ALG, the text of PLAN or ORDER is refused
+  4  memory ran out
+  5  a file can't be read or written";
+
+pub(crate) const CROP: &str = "\
+Reads ALG, prints 'NAME X Y W H', the part of the input NAME that the tile reads, and writes OUT
+last, whole or not at all: an algorithm whose picture of that part is the tile. Where OUT is '-' the
+line goes to standard error.
+
+Example:
+  stencil crop examples/blur3.alg 0 0 8 8 corner.alg
+
+Statuses:
+  0  OUT is written
+  2  the words
+  3  ALG is refused, the tile is empty or leaves the output (C1), or it passes a limit (C2)
+  4  memory ran out
+  5  a file can't be read or written";
+
+pub(crate) const TILES: &str = "\
+Reads ALG, and writes the algorithms of its tiles to the folder DIR, which there has to be: 0.alg,
+1.alg and so on, equal texts once, and last of all list, a line 'X Y W H X Y W H K' a tile: the tile,
+the part of the input that it reads, and the number of its text. Prints 'T tiles K kinds, largest
+part P of N samples'.
+
+Example:
+  stencil tiles examples/blur3.alg 16 16 tiles
+
+Statuses:
+  0  DIR/list is written
+  2  the words
+  3  ALG is refused, TW or TH is 0 or above the output's side (C1), or a tile passes a limit (C2)
   4  memory ran out
   5  a file can't be read or written";

@@ -1,6 +1,7 @@
 //! Laws of the command line, each the contract of a function that does nothing.
 
 ghost use Rattle.tool.specs.Worked.{CheckWithNames, CompareWithNames, CompileWithNames, CostWithNames, DrawWithNames, DrawWithOrder, ExplainWithCode, ExplainedWords, FormatWithNames};
+ghost use Rattle.tool.specs.Worked.{CompareByFirst, CropWithNames, MisusedSides, TilesWithNames};
 ghost use Rattle.tool.specs.Worked.{HelpWords, MisusedLimits, MisusedWords, MisusedWorkers, PlainWithLimit, PlainWithNames, ReplayWithNames, RunWithLimit, RunWithNames, RunWithWorkers, ShowWithNames, VersionWords};
 
 /// What words that are written out ask for.
@@ -12,11 +13,14 @@ pub fn words_are_read()
     ensures workers { RunWithWorkers }
     ensures compile { CompileWithNames }
     ensures compare { CompareWithNames }
+    ensures by_first { CompareByFirst }
     ensures check { CheckWithNames }
     ensures cost { CostWithNames }
     ensures show { ShowWithNames }
     ensures draw { DrawWithNames }
     ensures drawn_after { DrawWithOrder }
+    ensures crop { CropWithNames }
+    ensures tiles { TilesWithNames }
     ensures evaluations { PlainWithLimit }
     ensures stores { RunWithLimit }
     ensures replay { ReplayWithNames }
@@ -26,4 +30,5 @@ pub fn words_are_read()
     ensures misuse { MisusedWords }
     ensures crews { MisusedWorkers }
     ensures limits { MisusedLimits }
+    ensures sides { MisusedSides }
 {}

@@ -2,6 +2,7 @@
 #![tactic(auto)]
 
 mod compare;
+mod crop_command;
 mod device;
 mod draw_command;
 mod exit;
@@ -18,6 +19,7 @@ mod replay;
 mod request;
 mod schedule_command;
 mod text_command;
+mod tiles_command;
 mod words;
 mod workers;
 

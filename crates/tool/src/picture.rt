@@ -18,7 +18,7 @@ use crate::plan_command::plan_in;
 use crate::request::{PictureRequest, Way};
 use algo::{Algo, Inputs};
 use checked_plan::Checked;
-use meaning::image::Image;
+use meaning::image::{Image, Shape, Ty};
 use pnm::PnmError;
 use report::cost;
 use std::alloc::Global;
@@ -122,7 +122,32 @@ fn computed<T: Threads + Wait + Sync>(
     }
 }
 
-/// The image file of the picture.
+/// The algorithm whose picture it is.
+fn algo_in<'b>(means: &'b Means<'_>) -> &'b Algo
+    ensures { algorithm_of result.now ≡ algorithm_of (algo_meant means.now) }
+{
+    match means {
+        Means::Definitions { algo, .. } => algo,
+        Means::File { checked, .. } => checked.algo(),
+    }
+}
+
+// The magic, the width, the height and the greatest sample of an image file take no more bytes, with what stands behind each.
+const HEADER_BYTES: usize = 32;
+
+/// How many bytes the image file of such a shape takes at most.
+fn most_bytes(shape: &Shape) -> usize {
+    let mut bytes: usize = match shape.ty {
+        Ty::U8 => 1,
+        _ => 2,
+    };
+    for extent in shape.extents.as_slice() {
+        bytes = bytes.saturating_mul(*extent as usize);
+    }
+    bytes.saturating_add(HEADER_BYTES)
+}
+
+/// The image file of the picture. All its bytes have their memory before the picture is computed.
 fn picture_file<T: Threads + Wait + Sync>(
     rt: &T,
     alloc: Global,
@@ -134,11 +159,13 @@ fn picture_file<T: Threads + Wait + Sync>(
     ensures written { IfOk result (λ file. file.items ≡ text_of (picture_said (algorithm_of (algo_meant means.now)) (samples_of inputs.now))) }
     ensures refused { IfErr result (IsHalted means.now (samples_of inputs.now)) }
 {
+    let Ok(mut file) = Vec::with_capacity(alloc, most_bytes(&algo_in(means).output().shape)) else {
+        return Err(Fault::Memory);
+    };
     let image = computed(rt, alloc, means, inputs)?;
-    let mut file = Vec::new(alloc);
     match pnm::write(&mut file, &image) {
         Ok(()) => Ok(file),
-        // A vector takes all bytes while there is memory.
+        // A vector takes all bytes while there is memory, which was taken above.
         Err(_) => Err(Fault::Memory),
     }
 }

@@ -11,6 +11,7 @@ ghost use Rattle.tool.specs.Line.{is_stated, stated};
 ghost use Rattle.tool.specs.Answer.{CommandAnswers, Ends, HasEnded, StreamsAnswer, status_after};
 
 use crate::compare::compare_command;
+use crate::crop_command::crop_command;
 use crate::device::Files;
 use crate::draw_command::draw_command;
 use crate::exit::status;
@@ -22,6 +23,7 @@ use crate::replay::replay_command;
 use crate::request::Request;
 use crate::schedule_command::compile_command;
 use crate::text_command::{explain_command, format_command};
+use crate::tiles_command::tiles_command;
 use crate::words::read_words;
 use clap::Error;
 use clap::error::ErrorKind;
@@ -126,11 +128,12 @@ fn answer_words<W: Write, E: Write>(error: &Error, out: &mut W, err: &mut E) -> 
 }
 
 /// Does what is asked for.
-fn command<T: Threads + Wait + Sync, F: Files, W: Write>(
+fn command<T: Threads + Wait + Sync, F: Files, W: Write, E: Write>(
     rt: &T,
     alloc: Global,
     files: &mut F,
     out: &mut W,
+    err: &mut E,
     request: &Request<'_>,
 ) -> Result<(), Fault>
     ensures { Ends (F.contents files.old) (F.contents files.new) (asked_by request.now) result }
@@ -146,6 +149,8 @@ fn command<T: Threads + Wait + Sync, F: Files, W: Write>(
         Request::Draw(asked) => draw_command(rt, alloc, files, asked),
         Request::Replay(asked) => replay_command(rt, alloc, files, out, asked),
         Request::Compare(asked) => compare_command(rt, alloc, files, out, asked),
+        Request::Crop(asked) => crop_command(alloc, files, out, err, asked),
+        Request::Tiles(asked) => tiles_command(alloc, files, out, asked),
     }
 }
 
@@ -161,7 +166,7 @@ fn carry_out<T: Threads + Wait + Sync, F: Files, W: Write, E: Write>(
 ) -> u8
     ensures { HasEnded (F.contents files.old) (F.contents files.new) (asked_by request.now) result }
 {
-    let outcome = command(rt, alloc, files, out, request);
+    let outcome = command(rt, alloc, files, out, err, request);
     let status = answer(&outcome, err);
     explain(alloc, files, request, &outcome, detail, err);
     status

@@ -1,5 +1,7 @@
 //! What the program is asked for.
 
+use crop::Rect;
+
 /// How a picture is computed.
 #[derive(Clone, Copy, Debug, Drop)]
 pub enum Way<'a> {
@@ -83,7 +85,7 @@ pub struct DrawRequest<'a> {
     pub order: Option<&'a str>,
 }
 
-/// Schedules whose pictures are compared with the plain one.
+/// Schedules whose pictures are compared with the plain one, or with that of the first of them.
 #[derive(Debug, Drop)]
 pub struct CompareRequest<'a> {
     /// The algorithm's text.
@@ -92,6 +94,32 @@ pub struct CompareRequest<'a> {
     pub input: &'a str,
     /// The schedules' texts, in the order in which they are taken.
     pub schedules: Vec<&'a str>,
+    /// Whether the first schedule's picture stands in place of the plain one.
+    pub by_first: bool,
+}
+
+/// A tile whose algorithm is to be written: its rectangle, and the names of two files.
+#[derive(Clone, Copy, Debug, Drop)]
+pub struct CropRequest<'a> {
+    /// The algorithm's text.
+    pub algorithm: &'a str,
+    /// The rectangle of the output, in samples.
+    pub rect: Rect,
+    /// Where the canonical text of the tile's algorithm is written.
+    pub output: &'a str,
+}
+
+/// An algorithm that is to be cut into tiles.
+#[derive(Clone, Copy, Debug, Drop)]
+pub struct TilesRequest<'a> {
+    /// The algorithm's text.
+    pub algorithm: &'a str,
+    /// How many samples wide a tile is.
+    pub width: u32,
+    /// How many samples high it is.
+    pub height: u32,
+    /// The folder in which the tiles' texts and their list are written.
+    pub folder: &'a str,
 }
 
 /// A code that is to be explained.
@@ -124,6 +152,10 @@ pub enum Request<'a> {
     Draw(DrawRequest<'a>),
     /// What comes of an order of steps.
     Replay(ReplayRequest<'a>),
-    /// How the pictures of schedules compare with the plain one, and what they cost.
+    /// How the pictures of schedules compare with the plain one or with each other, and what they cost.
     Compare(CompareRequest<'a>),
+    /// The algorithm of a tile.
+    Crop(CropRequest<'a>),
+    /// The algorithms of all tiles.
+    Tiles(TilesRequest<'a>),
 }

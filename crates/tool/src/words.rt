@@ -3,32 +3,38 @@
 ghost use Rattle.std.specs.Prelude.{◌≡◌, Some, map, option_and_then, option_map, IfOk, MatchResult};
 ghost use Rattle.clap.specs.Words.{first_value, found_of, rows_of, subcommand_rows_of};
 ghost use Rattle.tool.specs.Asked.{asked_by, check_asked, way_asked};
+ghost use Rattle.tool.specs.Line.{asked_of_cut, crop_in, rect_in, side_in, tiles_in};
 ghost use Rattle.tool.specs.Line.{AsksFor, FailsFor, asked_of_command, asked_of_one, asked_of_plan, check_in, compare_in, compile_in, draw_in, evaluations_in, explain_in, format_in};
-ghost use Rattle.tool.specs.Line.{picture_in, plain_in, replay_in, run_in, stores_in, to_compare, workers_in};
+ghost use Rattle.tool.specs.Line.{is_set, picture_in, plain_in, replay_in, run_in, stores_in, to_compare, workers_in};
 
 mod described;
 mod names;
 
-use crate::limit::limit_spelled;
+use crate::limit::{limit_spelled, side_spelled};
 use crate::pipeline::BUDGET;
 use crate::request::{
-    CheckRequest, CompareRequest, CompileRequest, DrawRequest, ExplainRequest, FormatRequest,
-    PictureRequest, ReplayRequest, Request, Way,
+    CheckRequest, CompareRequest, CompileRequest, CropRequest, DrawRequest, ExplainRequest,
+    FormatRequest, PictureRequest, ReplayRequest, Request, TilesRequest, Way,
 };
 use crate::words::described::command_line;
 use crate::words::names::{
-    ALGORITHM, AT_MOST, CHECK, CODE, COMPARE, COMPILE, COST, DRAW, EXPLAIN, FORMAT, INPUT, ORDER,
-    ORDER_OPTION, OUTPUT, PLAIN, PLAN, REPLAY, RUN, SCHEDULE, SHOW, WORKERS,
+    ALGORITHM, AT_MOST, BY_FIRST, CHECK, CODE, COMPARE, COMPILE, COST, CROP, DRAW, EXPLAIN, FOLDER,
+    FORMAT, HEIGHT, INPUT, LEFT, ORDER, ORDER_OPTION, OUTPUT, PLAIN, PLAN, REPLAY, RUN, SCHEDULE,
+    SHOW, TILE_HEIGHT, TILE_WIDTH, TILES, TOP, WIDTH, WORKERS,
 };
 use crate::workers::workers_spelled;
 use clap::error::ErrorKind;
 use clap::{ArgMatches, Error};
+use crop::Rect;
 use report::codes::page;
 use std::alloc::{AllocError, Global};
 
 // What is told where the words are as they are wanted, but for the number of workers or the code.
 const NO_VALUE: &str =
-    "'--workers <N>' takes a decimal number from 1 to 64, '--at-most <N>' one below 2^64, and 'explain <CODE>' a code as K5";
+    "'--workers <N>' takes a decimal number from 1 to 64, '--at-most <N>' one below 2^64, X, Y, W, H, TW and TH one below 2^32, and 'explain <CODE>' a code as K5";
+
+// The value that a word without one gives where it stands.
+const SET: &str = "true";
 
 /// The picture that a command's words ask for.
 fn picture_found<'a>(way: Way<'a>, matches: &ArgMatches<'a>) -> Option<Request<'a>>
@@ -161,16 +167,29 @@ fn draw_found<'a>(matches: &ArgMatches<'a>) -> Option<Request<'a>>
     }))
 }
 
+/// Whether the words say that the first schedule's picture stands in place of the plain one.
+fn is_by_first(matches: &ArgMatches<'_>) -> bool
+    ensures { result ≡ is_set (first_value (found_of matches.now) BY_FIRST.now) }
+{
+    match matches.get_str(BY_FIRST) {
+        None => false,
+        Some(text) => text == SET,
+    }
+}
+
 /// Schedules to be compared, of these names.
 fn comparison_found<'a>(matches: &ArgMatches<'a>, schedules: Vec<&'a str>) -> Option<Request<'a>>
-    ensures { option_map asked_by result ≡ to_compare (first_value (found_of matches.now) ALGORITHM.now) (first_value (found_of matches.now) INPUT.now) (Some (map (λ name. name.now) schedules.entry.items)) }
+    ensures { option_map asked_by result ≡ to_compare (is_set (first_value (found_of matches.now) BY_FIRST.now)) (first_value (found_of matches.now) ALGORITHM.now)
+        (first_value (found_of matches.now) INPUT.now) (Some (map (λ name. name.now) schedules.entry.items)) }
 {
     let algorithm = matches.get_str(ALGORITHM)?;
     let input = matches.get_str(INPUT)?;
+    let by_first = is_by_first(matches);
     Some(Request::Compare(CompareRequest {
         algorithm,
         input,
         schedules,
+        by_first,
     }))
 }
 
@@ -186,6 +205,70 @@ fn compare_found<'a>(
             let schedules = Vec::from_slice(alloc, names)?;
             Ok(comparison_found(matches, schedules))
         }
+    }
+}
+
+/// The number of samples that a word spells.
+fn side_found(matches: &ArgMatches<'_>, name: &str) -> Option<u32>
+    ensures { result ≡ side_in (first_value (found_of matches.now) name.now) }
+{
+    side_spelled(matches.get_str(name)?)
+}
+
+/// The rectangle that the words ask for.
+fn rect_found(matches: &ArgMatches<'_>) -> Option<Rect>
+    ensures { result ≡ rect_in (rows_of (found_of matches.now)) }
+{
+    let x = side_found(matches, LEFT)?;
+    let y = side_found(matches, TOP)?;
+    let width = side_found(matches, WIDTH)?;
+    let height = side_found(matches, HEIGHT)?;
+    Some(Rect {
+        x,
+        y,
+        width,
+        height,
+    })
+}
+
+fn crop_found<'a>(matches: &ArgMatches<'a>) -> Option<Request<'a>>
+    ensures { option_map asked_by result ≡ crop_in (rows_of (found_of matches.now)) }
+{
+    let rect = rect_found(matches)?;
+    let algorithm = matches.get_str(ALGORITHM)?;
+    let output = matches.get_str(OUTPUT)?;
+    Some(Request::Crop(CropRequest {
+        algorithm,
+        rect,
+        output,
+    }))
+}
+
+fn tiles_found<'a>(matches: &ArgMatches<'a>) -> Option<Request<'a>>
+    ensures { option_map asked_by result ≡ tiles_in (rows_of (found_of matches.now)) }
+{
+    let width = side_found(matches, TILE_WIDTH)?;
+    let height = side_found(matches, TILE_HEIGHT)?;
+    let algorithm = matches.get_str(ALGORITHM)?;
+    let folder = matches.get_str(FOLDER)?;
+    Some(Request::Tiles(TilesRequest {
+        algorithm,
+        width,
+        height,
+        folder,
+    }))
+}
+
+/// What the command of this name asks for with its words, where it cuts an algorithm.
+fn cut_named<'a>(name: &str, matches: &ArgMatches<'a>) -> Option<Request<'a>>
+    ensures { option_map asked_by result ≡ asked_of_cut (name.now, rows_of (found_of matches.now)) }
+{
+    if name == CROP {
+        crop_found(matches)
+    } else if name == TILES {
+        tiles_found(matches)
+    } else {
+        None
     }
 }
 
@@ -206,7 +289,7 @@ fn planned_named<'a>(name: &str, matches: &ArgMatches<'a>) -> Option<Request<'a>
     } else if name == REPLAY {
         replay_found(matches)
     } else {
-        None
+        cut_named(name, matches)
     }
 }
 

@@ -16,6 +16,10 @@ use Rattle.audit.specs.declared.refusal.CheckError.{CheckError}
 use Rattle.audit.specs.declared.refusal.CheckError.TheVariants as plan
 use Rattle.plain.specs.declared.error.PlainError.{PlainError}
 use Rattle.plain.specs.declared.error.PlainError.TheVariants as plain
+use Rattle.crop.specs.declared.error.CropError.{CropError}
+use Rattle.crop.specs.declared.error.CropError.TheVariants as crop
+use Rattle.crop.specs.declared.scene_error.SceneError.{SceneError}
+use Rattle.crop.specs.declared.scene_error.SceneError.TheVariants as scene
 use Rattle.pnm.specs.declared.error.PnmError.{PnmError}
 use Rattle.pnm.specs.declared.error.PnmError.TheVariants as image
 use Rattle.tool.specs.declared.pipeline.fault.Fault.{Fault}
@@ -23,11 +27,20 @@ use Rattle.tool.specs.declared.pipeline.rule.BrokenRule.{BrokenRule}
 use Rattle.tool.specs.declared.pipeline.rule.BrokenRule.TheVariants.{Directive, Region}
 use Rattle.crew.specs.declared.running.RunError.{RunError}
 use Rattle.crew.specs.declared.running.RunError.TheVariants as run
-use Rattle.tool.specs.declared.pipeline.fault.Fault.TheVariants.{Memory, Algo, Schedule, Rule, Names, Plan, Image, Form, Limit, Budget, Unfinished}
+use Rattle.tool.specs.declared.pipeline.fault.Fault.TheVariants.{Memory, Algo, Schedule, Rule, Names, Plan, Image, Form, Limit, Budget, Unfinished, Outside, Uncut}
 
 abbrev pub text_fault : AlgoError → Fault
 text_fault text.Memory = Memory
 text_fault (text.Refused code span) = Algo code span
+
+abbrev pub scene_fault : SceneError → Fault
+scene_fault (scene.Text e) = text_fault e
+scene_fault (scene.Reduction name) = Uncut name
+
+abbrev pub crop_fault : CropError → Fault
+crop_fault crop.Memory = Memory
+crop_fault crop.Outside = Outside
+crop_fault (crop.Limit name) = Uncut name
 
 abbrev pub schedule_fault : SchedError → Fault
 schedule_fault schedule.Memory = Memory

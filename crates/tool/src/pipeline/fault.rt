@@ -2,12 +2,13 @@
 
 ghost use Rattle.std.specs.Prelude.{◌≡◌};
 ghost use Rattle.tool.specs.declared.pipeline.fault.Fault.TheVariants.{Memory as OutOfMemory};
-ghost use Rattle.tool.specs.Pipeline.Faults.{image_fault, lower_fault, plain_fault, plan_fault, read_fault, run_fault, schedule_fault, text_fault};
+ghost use Rattle.tool.specs.Pipeline.Faults.{crop_fault, image_fault, lower_fault, plain_fault, plan_fault, read_fault, run_fault, scene_fault, schedule_fault, text_fault};
 
 use crate::pipeline::rule::BrokenRule;
 use algo::{AlgoError, Code};
 use audit::{CheckError, K};
 use crew::RunError;
+use crop::{CropError, SceneError};
 use lower::LowerError;
 use plain::PlainError;
 use pnm::PnmError;
@@ -56,7 +57,13 @@ pub enum Fault {
     /// U1: workers left a piece unfinished.
     #[error("U1 piece {piece}")]
     Unfinished { piece: u32 },
-    /// The picture of a schedule is not the plain one.
+    /// C1: a tile is empty or leaves the output's extents.
+    #[error("C1")]
+    Outside,
+    /// C2: the algorithm of a tile passes a limit of an algorithm's text: the name of what does.
+    #[error("C2 {name}")]
+    Uncut { name: String },
+    /// The picture of a schedule is not the one that it is compared with.
     #[error("the pictures differ")]
     Difference,
 }
@@ -76,6 +83,29 @@ impl From<AlgoError> for Fault {
         match e {
             AlgoError::Memory => Fault::Memory,
             AlgoError::Refused { code, span } => Fault::Algo { code, span },
+        }
+    }
+}
+
+impl From<SceneError> for Fault {
+    ghost from_gives = { λ e f. f ≡ scene_fault e };
+
+    fn from(e: SceneError) -> Fault {
+        match e {
+            SceneError::Text(error) => Fault::from(error),
+            SceneError::Reduction { name } => Fault::Uncut { name },
+        }
+    }
+}
+
+impl From<CropError> for Fault {
+    ghost from_gives = { λ e f. f ≡ crop_fault e };
+
+    fn from(e: CropError) -> Fault {
+        match e {
+            CropError::Memory => Fault::Memory,
+            CropError::Outside => Fault::Outside,
+            CropError::Limit { name } => Fault::Uncut { name },
         }
     }
 }

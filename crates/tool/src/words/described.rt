@@ -3,15 +3,17 @@
 ghost use Rattle.std.specs.Prelude.{◌≡◌, codes, false, IfOk};
 ghost use Rattle.clap.specs.Words.{app_of, new_app, rule_of, with_subcommand};
 ghost use Rattle.clap.specs.declared.builder.command.Command.TheViews.{out-Command};
-ghost use Rattle.tool.specs.Line.{at_most_rule, compare_line, compile_line, draw_line, explain_line, format_line, line, named_draw_line, named_plain_line, named_run_line, needed};
-ghost use Rattle.tool.specs.Line.{order_rule, plain_line, plan_line, planless, replay_line, run_line, scheduled, several, told, workers_rule};
+ghost use Rattle.tool.specs.Line.{at_most_rule, by_first_rule, compare_line, compile_line, draw_line, explain_line, format_line, line, named_compare_line, named_draw_line, named_plain_line, named_run_line, needed};
+ghost use Rattle.tool.specs.Line.{crop_line, cut, order_rule, placed_line, sized_line, tiles_line};
+ghost use Rattle.tool.specs.Line.{plain_line, plan_line, planless, replay_line, run_line, scheduled, several, told, workers_rule};
 
 use crate::help;
 use crate::words::names::{
-    ALGORITHM, AT_MOST, CHECK, CODE, COMPARE, COMPILE, COST, DRAW, EXPLAIN, FORMAT, INPUT, ORDER,
-    ORDER_OPTION, OUTPUT, PLAIN, PLAN, REPLAY, RUN, SCHEDULE, SHOW, WORKERS,
+    ALGORITHM, AT_MOST, BY_FIRST, CHECK, CODE, COMPARE, COMPILE, COST, CROP, DRAW, EXPLAIN, FOLDER,
+    FORMAT, HEIGHT, INPUT, LEFT, ORDER, ORDER_OPTION, OUTPUT, PLAIN, PLAN, REPLAY, RUN, SCHEDULE,
+    SHOW, TILE_HEIGHT, TILE_WIDTH, TILES, TOP, WIDTH, WORKERS,
 };
-use clap::{Arg, Command};
+use clap::{Arg, ArgAction, Command};
 use std::alloc::{AllocError, Global};
 
 // What `--version` prints behind the program's name: its own version, and the toolchain's line.
@@ -72,6 +74,17 @@ fn order_described<'a>(alloc: Global) -> Arg<'a>
         .long(ORDER_OPTION)
         .value_name("ORDER")
         .help("An order of steps: a pixel that it has not set is grey")
+}
+
+/// Whether schedules are compared with the first of them, which may be left out.
+fn by_first_described<'a>(alloc: Global) -> Arg<'a>
+    ensures rule { rule_of result ≡ by_first_rule }
+    ensures local { result.global ≡ false }
+{
+    Arg::new(alloc, BY_FIRST)
+        .long(BY_FIRST)
+        .action(ArgAction::SetTrue)
+        .help("Compare with the first schedule's picture; with the plain one if left out")
 }
 
 /// The command that computes a picture by the definitions, and the files that it names.
@@ -142,8 +155,9 @@ fn compile_described<'a>(alloc: Global) -> Result<Command<'a>, AllocError>
     .arg(word(alloc, PLAN, "Where the plan file is written"))
 }
 
-fn compare_described<'a>(alloc: Global) -> Result<Command<'a>, AllocError>
-    ensures line { IfOk result (λ command. app_of command ≡ compare_line) }
+/// The command that compares schedules, and the files that it names.
+fn named_compare_described<'a>(alloc: Global) -> Result<Command<'a>, AllocError>
+    ensures line { IfOk result (λ command. app_of command ≡ named_compare_line) }
     ensures local { IfOk result (λ command. (out-Command command).has_globals ≡ false) }
 {
     titled(
@@ -155,6 +169,13 @@ fn compare_described<'a>(alloc: Global) -> Result<Command<'a>, AllocError>
     .arg(word(alloc, ALGORITHM, "The algorithm's text"))?
     .arg(word(alloc, INPUT, "The image, a PGM or PPM file"))?
     .arg(several_words(alloc, SCHEDULE, "The schedules' texts"))
+}
+
+fn compare_described<'a>(alloc: Global) -> Result<Command<'a>, AllocError>
+    ensures line { IfOk result (λ command. app_of command ≡ compare_line) }
+    ensures local { IfOk result (λ command. (out-Command command).has_globals ≡ false) }
+{
+    named_compare_described(alloc)?.arg(by_first_described(alloc))
 }
 
 /// A command that tells something of a plan file.
@@ -244,6 +265,59 @@ fn replay_described<'a>(alloc: Global) -> Result<Command<'a>, AllocError>
     ))
 }
 
+/// The command that writes the algorithm of a tile, the algorithm, and where the tile lies.
+fn placed_described<'a>(alloc: Global) -> Result<Command<'a>, AllocError>
+    ensures line { IfOk result (λ command. app_of command ≡ placed_line) }
+    ensures local { IfOk result (λ command. (out-Command command).has_globals ≡ false) }
+{
+    titled(
+        alloc,
+        CROP,
+        "Write the algorithm of a tile, and tell which part of the input it reads",
+        help::CROP,
+    )
+    .arg(word(alloc, ALGORITHM, "The algorithm's text"))?
+    .arg(word(alloc, LEFT, "How many samples lie left of the tile"))?
+    .arg(word(alloc, TOP, "How many samples lie above it"))
+}
+
+fn crop_described<'a>(alloc: Global) -> Result<Command<'a>, AllocError>
+    ensures line { IfOk result (λ command. app_of command ≡ crop_line) }
+    ensures local { IfOk result (λ command. (out-Command command).has_globals ≡ false) }
+{
+    placed_described(alloc)?
+        .arg(word(alloc, WIDTH, "How many samples wide the tile is"))?
+        .arg(word(alloc, HEIGHT, "How many samples high it is"))?
+        .arg(word(alloc, OUTPUT, "Where the tile's algorithm is written"))
+}
+
+/// The command that cuts an algorithm into tiles, the algorithm, and how large the tiles are.
+fn sized_described<'a>(alloc: Global) -> Result<Command<'a>, AllocError>
+    ensures line { IfOk result (λ command. app_of command ≡ sized_line) }
+    ensures local { IfOk result (λ command. (out-Command command).has_globals ≡ false) }
+{
+    titled(
+        alloc,
+        TILES,
+        "Cut an algorithm into the algorithms of tiles, and list them",
+        help::TILES,
+    )
+    .arg(word(alloc, ALGORITHM, "The algorithm's text"))?
+    .arg(word(alloc, TILE_WIDTH, "How many samples wide a tile is"))?
+    .arg(word(alloc, TILE_HEIGHT, "How many samples high it is"))
+}
+
+fn tiles_described<'a>(alloc: Global) -> Result<Command<'a>, AllocError>
+    ensures line { IfOk result (λ command. app_of command ≡ tiles_line) }
+    ensures local { IfOk result (λ command. (out-Command command).has_globals ≡ false) }
+{
+    sized_described(alloc)?.arg(word(
+        alloc,
+        FOLDER,
+        "The folder of the tiles' texts and their list",
+    ))
+}
+
 /// The program's line with the commands that write something of an algorithm alone.
 fn planless_described<'a>(alloc: Global) -> Result<Command<'a>, AllocError>
     ensures line { IfOk result (λ command. app_of command ≡ planless) }
@@ -305,6 +379,16 @@ fn told_described<'a>(alloc: Global) -> Result<Command<'a>, AllocError>
     checked_described(alloc)?.subcommand(cost)?.subcommand(show)
 }
 
+/// With them the commands that cut an algorithm into tiles.
+fn cut_described<'a>(alloc: Global) -> Result<Command<'a>, AllocError>
+    ensures line { IfOk result (λ command. app_of command ≡ cut) }
+    ensures local { IfOk result (λ command. (out-Command command).has_globals ≡ false) }
+{
+    let crop = crop_described(alloc)?;
+    let tiles = tiles_described(alloc)?;
+    told_described(alloc)?.subcommand(crop)?.subcommand(tiles)
+}
+
 /// The program's line.
 pub(super) fn command_line<'a>(alloc: Global) -> Result<Command<'a>, AllocError>
     ensures { IfOk result (λ command. app_of command ≡ line) }
@@ -312,7 +396,7 @@ pub(super) fn command_line<'a>(alloc: Global) -> Result<Command<'a>, AllocError>
     let run = run_described(alloc)?;
     let replay = replay_described(alloc)?;
     let draw = draw_described(alloc)?;
-    told_described(alloc)?
+    cut_described(alloc)?
         .subcommand(run)?
         .subcommand(replay)?
         .subcommand(draw)

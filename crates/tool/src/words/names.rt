@@ -18,6 +18,10 @@ pub(super) const SHOW: &str = "show";
 
 pub(super) const DRAW: &str = "draw";
 
+pub(super) const CROP: &str = "crop";
+
+pub(super) const TILES: &str = "tiles";
+
 pub(super) const RUN: &str = "run";
 
 pub(super) const REPLAY: &str = "replay";
@@ -36,8 +40,24 @@ pub(super) const ORDER: &str = "ORDER";
 
 pub(super) const CODE: &str = "CODE";
 
+pub(super) const LEFT: &str = "X";
+
+pub(super) const TOP: &str = "Y";
+
+pub(super) const WIDTH: &str = "W";
+
+pub(super) const HEIGHT: &str = "H";
+
+pub(super) const TILE_WIDTH: &str = "TW";
+
+pub(super) const TILE_HEIGHT: &str = "TH";
+
+pub(super) const FOLDER: &str = "DIR";
+
 pub(super) const WORKERS: &str = "workers";
 
 pub(super) const AT_MOST: &str = "at-most";
 
 pub(super) const ORDER_OPTION: &str = "order";
+
+pub(super) const BY_FIRST: &str = "by-first";

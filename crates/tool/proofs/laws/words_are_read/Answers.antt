@@ -2,7 +2,7 @@ use Rattle.std.proofs.Common.{refl, inl, inr}
 use Rattle.clap.specs.declared.error.kind.ErrorKind.TheVariants.{MissingRequiredArgument, UnknownArgument}
 use Rattle.std.specs.Fmt.{digits}
 use Rattle.clap.proofs.OnLiterals.{clap_on_literals}
-use Rattle.tool.specs.Limit.{limit_spelled}
+use Rattle.tool.specs.Limit.{limit_spelled, side_spelled}
 use Rattle.tool.specs.Workers.{workers_spelled}
 use Rattle.tool.proofs.laws.words_are_read.Goals as goal
 
@@ -34,6 +34,10 @@ pub returns-clause-compare : goal.returns-clause-compare
 unfolding clap_on_literals
 returns-clause-compare c = (refl, refl)
 
+pub returns-clause-by_first : goal.returns-clause-by_first
+unfolding clap_on_literals
+returns-clause-by_first c = ((refl, refl), (refl, refl))
+
 pub returns-clause-check : goal.returns-clause-check
 unfolding clap_on_literals
 returns-clause-check c = (refl, refl)
@@ -53,6 +57,14 @@ returns-clause-draw c = (refl, refl)
 pub returns-clause-drawn_after : goal.returns-clause-drawn_after
 unfolding clap_on_literals
 returns-clause-drawn_after c = (refl, refl)
+
+pub returns-clause-crop : goal.returns-clause-crop
+unfolding clap_on_literals digits side_spelled
+returns-clause-crop c = (refl, refl)
+
+pub returns-clause-tiles : goal.returns-clause-tiles
+unfolding clap_on_literals digits side_spelled
+returns-clause-tiles c = (refl, refl)
 
 pub returns-clause-evaluations : goal.returns-clause-evaluations
 unfolding clap_on_literals digits limit_spelled
@@ -85,3 +97,7 @@ returns-clause-crews c = (inr refl, (inr refl, (inr refl, (inr refl, inr refl)))
 pub returns-clause-limits : goal.returns-clause-limits
 unfolding clap_on_literals digits limit_spelled
 returns-clause-limits c = (inr refl, (inr refl, (inr refl, (inr refl, inr refl))))
+
+pub returns-clause-sides : goal.returns-clause-sides
+unfolding clap_on_literals digits side_spelled
+returns-clause-sides c = (inr refl, inr refl, inr refl, inr refl, inr refl)
