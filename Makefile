@@ -50,6 +50,7 @@ test:
 	python3 tests/schedules.py crates/stencil/out/stencil; \
 	python3 tests/schedules.py crates/stencil/out/stencil 200 --placing; \
 	python3 tests/tiles.py crates/stencil/out/stencil; \
+	python3 tests/engines.py crates/stencil/out/stencil; \
 	python3 tests/gallery.py crates/stencil/out/stencil; \
 	python3 tests/pages.py crates/stencil/out/stencil
 
@@ -66,7 +67,8 @@ gallery: out/stencil
 
 # How long the proved program takes for `check` and `run` of plans with a piece a row, and for `plain`; and for `check` of plans
 # that are long, or have many pieces or cells; and for `run` of one plan by 1, 2, 4 and 64 workers; and how long `compile` takes for
-# the schedules of the gallery; and the six pipelines of bench/peers beside the same in C.
+# the schedules of the gallery; and the six pipelines of bench/peers beside the same in C; and the gallery beside Halide 14, where
+# Debian's python3-halide is installed.
 bench: out/stencil
 	python3 bench/rows.py out/stencil
 	python3 bench/checks.py out/stencil
@@ -75,6 +77,7 @@ bench: out/stencil
 	python3 bench/compiles.py out/stencil
 	python3 bench/lines.py out/stencil
 	python3 bench/peers.py out/stencil
+	python3 bench/halide.py out/stencil
 
 # Tries every wrong body. It takes some hours.
 wrong-bodies:

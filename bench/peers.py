@@ -16,7 +16,6 @@ import statistics
 import subprocess
 import sys
 import tempfile
-import time
 
 PEERS = os.path.join(os.path.dirname(os.path.abspath(__file__)), "peers")
 NAMES = ["box", "blur5", "unsharp", "curve", "hist", "scan"]
@@ -31,15 +30,25 @@ def picture(side, channels):
     return b"P%d\n%d %d\n255\n" % (6 if channels == 3 else 5, side, side) + bytes(samples)
 
 
+# A small process starts the command and tells milliseconds, memory and status: until it becomes the program, a process counts what
+# its parent holds.
+MEASURING = """
+import os, sys, time
+start = time.monotonic()
+to = (os.POSIX_SPAWN_OPEN, 1, sys.argv[1], os.O_WRONLY | os.O_CREAT | os.O_TRUNC, 0o644)
+child = os.posix_spawnp(sys.argv[2], sys.argv[2:], os.environ, file_actions=[to])
+_, status, usage = os.wait4(child, 0)
+print((time.monotonic() - start) * 1000, usage.ru_maxrss / 1024, os.waitstatus_to_exitcode(status))
+"""
+
+
 def timed(words, output=None):
-    """Milliseconds and peak memory (MiB) of a command that has to succeed."""
-    with open(output or os.devnull, "wb") as file:
-        start = time.monotonic()
-        child = subprocess.Popen(words, stdout=file)
-        _, status, usage = os.wait4(child.pid, 0)
-    if status != 0:
-        sys.exit(f"{' '.join(words)}: status {os.waitstatus_to_exitcode(status)}")
-    return (time.monotonic() - start) * 1000, usage.ru_maxrss / 1024
+    """Milliseconds and peak memory (MiB, some 8 at least) of a command that has to succeed."""
+    line = [sys.executable, "-I", "-S", "-c", MEASURING, output or os.devnull, *words]
+    told = subprocess.run(line, stdout=subprocess.PIPE, text=True, check=True).stdout.split()
+    if told[2] != "0":
+        sys.exit(f"{' '.join(words)}: status {told[2]}")
+    return float(told[0]), float(told[1])
 
 
 def measured(words, repeats, output=None):
@@ -110,7 +119,7 @@ def main():
         os.chdir(room)
         print(f"{words.side} x {words.side}, {os.cpu_count()} processors, medians of {words.repeats}")
         if words.markdown:
-            print("| | ms | times C -O3 | MiB |\n|---|---|---|---|")
+            print("| | ms | times C at -O3 | MiB |\n|---|---|---|---|")
         for name in NAMES:
             with open(f"{name}.in", "wb") as file:
                 file.write(picture(words.side, 3 if name == "curve" else 1))

@@ -141,9 +141,14 @@ def by_gdal(bench):
     if status != 0 or not made.exists() or read_image(made.read_bytes()).raster != read_image(bench.whole).raster:
         yield f"mosaic.sh: status {status}"
         return
-    told = [subprocess.run(["gdalinfo", name], cwd=bench.room, capture_output=True, check=True).stdout for name in ("in.tif", "out.tif")]
-    if len({tuple(line for line in lines.splitlines() if line.startswith((b"Origin", b"Pixel Size", b"Upper Left"))) for lines in told}) != 1:
+    if where(bench, "in.tif") != where(bench, "out.tif"):
         yield "mosaic.sh: the picture lies elsewhere"
+
+
+def where(bench, name):
+    """The lines that tell where a GeoTIFF lies."""
+    told = subprocess.run(["gdalinfo", name], cwd=bench.room, capture_output=True, check=True).stdout
+    return [line for line in told.splitlines() if line.startswith((b"Origin", b"Pixel Size", b"Upper Left"))]
 
 
 def python_with_dask():

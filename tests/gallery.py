@@ -211,16 +211,16 @@ def refusal(program, application):
 
 # What a small process tells of a run: a process counts, until it becomes the program, what its parent holds.
 MEASURING = """
-import os, subprocess, sys, time
+import os, sys, time
 start = time.monotonic()
-_, _, usage = os.wait4(subprocess.Popen(sys.argv[1:]).pid, 0)
+_, _, usage = os.wait4(os.posix_spawnp(sys.argv[1], sys.argv[1:], os.environ), 0)
 print(time.monotonic() - start, usage.ru_maxrss / 1024)
 """
 
 
 def measured(words, folder):
     """Seconds and MiB that a run takes."""
-    told = subprocess.run([sys.executable, "-c", MEASURING, *words], cwd=folder, capture_output=True, text=True)
+    told = subprocess.run([sys.executable, "-I", "-S", "-c", MEASURING, *words], cwd=folder, capture_output=True, text=True)
     seconds, memory = told.stdout.split()
     return float(seconds), float(memory)
 
