@@ -33,13 +33,13 @@ ROWS = "out.split(y, block, row, 16, guard).parallel(block);\n"
 
 # A program in place of `stencil` that does as it, but for one tile: there it writes half a picture and is killed.
 KILLED = """#!/bin/sh
-case "$*" in *" {part}"*) printf 'P5\\n64 64\\n255\\nhalf' > "$4"; kill -9 $$ ;; esac
+case "$*" in *"{part}"*) printf 'P5\\n64 64\\n255\\nhalf' > "$4"; kill -9 $$ ;; esac
 exec {program} "$@"
 """
 
 # The same, but for one tile there is no picture: it is refused with a status.
 REFUSED = """#!/bin/sh
-case "$*" in *" {part}"*) echo 'stencil: G3' >&2; exit 3 ;; esac
+case "$*" in *"{part}"*) echo 'stencil: G3' >&2; exit 3 ;; esac
 exec {program} "$@"
 """
 
@@ -89,7 +89,7 @@ class Bench:
     def instead(self, text):
         """A program that does as the text says, where the part of the tenth tile is meant."""
         path = self.file("instead.sh")
-        path.write_text(text.format(part="broken/made/10.", program=self.program))
+        path.write_text(text.format(part="/made/10.", program=self.program))
         path.chmod(0o755)
         return path
 

@@ -23,5 +23,5 @@ print(*at["upperLeft"], *at["lowerRight"])')
 done < "$work/list"
 seq -f "$work/%.0f.tif" "$n" > "$work/names"
 gdalbuildvrt -q -input_file_list "$work/names" "$work/all.vrt"
-gdal_translate -q -a_srs "$(gdalsrsinfo -o wkt "$in")" "$work/all.vrt" "$out.part.tif"
+gdal_translate -q -a_srs "$(gdalsrsinfo -o wkt "$in" | tr -d '\n')" "$work/all.vrt" "$out.part.tif"
 mv "$out.part.tif" "$out"
