@@ -189,3 +189,39 @@ pub(crate) fn stored_functions<'a>(
     }
     Ok(found)
 }
+
+// Which functions are stored, where the one of this number is stored too.
+fn flags_with(
+    alloc: Global,
+    algo: &Algo,
+    placement: &Placement,
+    also: usize,
+) -> Result<Vec<bool>, AllocError>
+    ensures { IfOk result (λ v. length v.items ≡ length (algorithm_of algo.now).functions) }
+{
+    let mut stored = Vec::new(alloc);
+    for number in 0..algo.funcs().len() {
+        let is_stored = match placement.subjects.get(number) {
+            Some(subject) => subject.is_stored,
+            None => false,
+        };
+        stored.push(is_stored || number == also)?;
+    }
+    Ok(stored)
+}
+
+/// Whether the definitions of a function are within the limits where another one, or it itself, is stored too.
+pub(crate) fn fits_with(
+    alloc: Global,
+    algo: &Algo,
+    placement: &Placement,
+    number: usize,
+    also: usize,
+) -> Result<bool, AllocError> {
+    let stored = flags_with(alloc, algo, placement, also)?;
+    let Some((_, function)) = algo.funcs().get_index(number) else {
+        return Ok(false);
+    };
+    let formulas = small_formulas(alloc, algo, &stored, function)?;
+    Ok(formulas.is_some())
+}

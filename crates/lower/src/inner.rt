@@ -4,9 +4,13 @@ use crate::definitions::Formula;
 use crate::error::Stop;
 use crate::fetching::{Root, Site, add_sites, count_from, freed, needed_span, places_of, run_of};
 use crate::forms::{raised, whole};
+use crate::reasons::Standstill;
+use crate::reasons::readings::{Reading, add_readings};
 use crate::regions::symbols_from;
 use crate::scopes::{bind_steps, head_scope};
-use crate::sliding::{Later, fold_of, folded, folds_fit, later_of, sliding_dimension, track_of};
+use crate::sliding::{
+    Later, fold_of, folded, folds_fit, later_of, sliding_dimension, standstill, track_of,
+};
 use crate::turns::nests_over;
 use algo::Algo;
 use lin::{Forms, Lin, Region, Scope, Span1};
@@ -619,4 +623,75 @@ pub(crate) fn inners_of<'a>(
         inners.append(&mut found)?;
     }
     Ok(inners)
+}
+
+// ---- what is told of a refusal
+
+/// Whether a function slides in the turns of the loop at which it is computed.
+#[derive(Clone, Copy, PartialEq, Eq, Drop)]
+pub(crate) enum Slide {
+    /// In this dimension.
+    Along(usize),
+    Nowhere(Standstill),
+}
+
+/// In which dimension a function slides that is computed inside a group, or why in none.
+pub(crate) fn slide_of(
+    alloc: Global,
+    group: &Root<'_>,
+    inners: &[Inner<'_>],
+    inner: &Inner<'_>,
+) -> Result<Slide, AllocError> {
+    if inner.home == inner.store {
+        return Ok(Slide::Nowhere(Standstill::OneTurn));
+    }
+    let Some(steps) = steps_at(group, inners, inner.home) else {
+        return Ok(Slide::Nowhere(Standstill::OneTurn));
+    };
+    let Some(track) = track_of(alloc, steps)? else {
+        return Ok(Slide::Nowhere(Standstill::OneTurn));
+    };
+    match sliding_dimension(&inner.region, &track) {
+        Some(dimension) if is_scattered(&inner.root, dimension) => {
+            Ok(Slide::Nowhere(Standstill::Scattered))
+        }
+        Some(dimension) => Ok(Slide::Along(dimension)),
+        None => Ok(Slide::Nowhere(standstill(&inner.region, &track))),
+    }
+}
+
+/// The indices at which a function is called at a place and inside of it.
+pub(crate) fn readings_at<'a>(
+    alloc: Global,
+    algo: &Algo,
+    group: &Root<'a>,
+    inners: &[Inner<'a>],
+    spot: Spot,
+    callee: &str,
+) -> Result<Vec<Reading<'a>>, Stop> {
+    let mut found = Vec::new(alloc);
+    let scope = scope_over(alloc, group, inners, spot.host)?;
+    let host = root_at(group, inners, spot.host);
+    let nests = nests_at(group, inners, spot.host);
+    let number = spot.host.number();
+    let only = spot.definition;
+    add_readings(
+        alloc, algo, &host, number, &scope, nests, only, callee, &mut found,
+    )?;
+    for (number, inner) in inners.iter().enumerate() {
+        if is_inside_spot(inners, number, spot) {
+            add_readings(
+                alloc,
+                algo,
+                &inner.root,
+                Some(number),
+                &inner.scope,
+                &inner.nests,
+                None,
+                callee,
+                &mut found,
+            )?;
+        }
+    }
+    Ok(found)
 }

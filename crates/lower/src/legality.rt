@@ -6,6 +6,7 @@ use crate::error::{RegionRule, Stop};
 use crate::fetching::Root;
 use crate::forms::{between, is_inside, whole};
 use crate::parties::{Party, fault_inside};
+use crate::reasons::SizeCause;
 use crate::regions::{Laid, counts};
 use crate::scopes::{Around, around_in, head_scope, interval};
 use crate::uses::has_outside_use;
@@ -227,4 +228,54 @@ pub(crate) fn first_fault(
         }
     }
     Ok(None)
+}
+
+// ---- what is told of a refusal
+
+// The greater of two numbers with their functions.
+fn more(known: (u64, Name), next: u64, name: Name) -> (u64, Name) {
+    if next > known.0 { (next, name) } else { known }
+}
+
+/// Which limit the root functions up to the one of this name pass, and which of them has the most.
+pub(crate) fn excess_of(
+    stored: &[Stored<'_>],
+    laid: &[Option<Laid>],
+    name: &Name,
+) -> Option<SizeCause> {
+    let mut totals = Totals {
+        cells: 0,
+        pieces: 0,
+    };
+    let mut cells = (0, *name);
+    let mut pieces = (0, *name);
+    for (one, laid) in stored.iter().zip(laid.iter()) {
+        if let Some(laid) = laid {
+            if one.subject.is_root {
+                totals.add(laid);
+                cells = more(cells, cells_of(laid), one.subject.name);
+                pieces = more(pieces, product(&laid.skeleton.grid), one.subject.name);
+            }
+        }
+        if one.subject.name.as_str() == name.as_str() {
+            return cause_of(totals, cells.1, pieces.1);
+        }
+    }
+    None
+}
+
+fn cause_of(totals: Totals, widest: Name, finest: Name) -> Option<SizeCause> {
+    if totals.cells > MOST_CELLS {
+        return Some(SizeCause::Cells {
+            count: totals.cells,
+            most: widest,
+        });
+    }
+    if totals.pieces > MOST_PIECES {
+        return Some(SizeCause::Pieces {
+            count: totals.pieces,
+            most: finest,
+        });
+    }
+    None
 }

@@ -16,6 +16,7 @@ mod names;
 mod nests;
 mod outline;
 mod parties;
+mod reasons;
 mod regions;
 mod renaming;
 mod scopes;
@@ -25,4 +26,5 @@ mod uses;
 mod windows;
 
 pub use error::{LowerError, RegionRule};
-pub use lowering::{Lowered, lower};
+pub use lowering::{Lowered, lower, reason};
+pub use reasons::{Amount, BoundCause, Cause, FoldCause, Link, Reason, SizeCause, Standstill};

@@ -12,12 +12,16 @@ use crate::fetching::Root;
 use crate::group::{Beginning, Made, group_of};
 use crate::legality::first_fault;
 use crate::parties::{Party, laid_by_turns, parties_of, roots_of};
+use crate::reasons::folds::fold_reason;
+use crate::reasons::reach::bound_reason;
+use crate::reasons::sizes::size_reason;
+use crate::reasons::{Cause, Reason};
 use crate::regions::{Laid, laid_functions};
 use crate::uses::uses_outside;
 use algo::{Algo, Port};
 use plan::certificate::Cert;
 use plan::{Declaration, Group, Plan};
-use sched::{Placement, Sched, SchedError, followed};
+use sched::{Placement, Rule, Sched, SchedError, followed};
 use std::alloc::{AllocError, Global};
 use tree::token::Name;
 
@@ -199,4 +203,54 @@ pub fn lower(alloc: Global, algo: &Algo, sched: &Sched) -> Result<Lowered, Lower
 {
     let placement = followed(alloc, algo, sched)?;
     plan_placed(alloc, algo, &placement)
+}
+
+// Without memory there is no reason; where bounds end while it is looked for, none is told.
+fn if_found(found: Result<Option<Reason>, Stop>) -> Result<Option<Reason>, AllocError> {
+    match found {
+        Ok(reason) => Ok(reason),
+        Err(Stop::Limit) => Ok(None),
+        Err(Stop::Memory) => Err(AllocError),
+    }
+}
+
+fn placed_reason(
+    alloc: Global,
+    algo: &Algo,
+    placement: &Placement,
+    rule: RegionRule,
+    name: &Name,
+) -> Result<Option<Reason>, AllocError> {
+    let stored = stored_functions(alloc, algo, placement)?;
+    let laid = laid_all(alloc, algo, &stored)?;
+    let parties = parties_of(alloc, algo, &stored, &laid)?;
+    match rule {
+        RegionRule::OutsideUse | RegionRule::ShortShift => Ok(None),
+        RegionRule::SmallFold => if_found(fold_reason(alloc, algo, &parties, name)),
+        RegionRule::TooLarge => size_reason(alloc, algo, placement, &stored, &laid, name),
+        RegionRule::Unbounded => {
+            if_found(bound_reason(alloc, algo, &stored, &laid, &parties, name))
+        }
+    }
+}
+
+/// What made a schedule break the rule that `lower` told: of L9 for a window, L10, L11 and L12, where it is found. It is found
+/// anew, by what refused the schedule.
+pub fn reason(
+    alloc: Global,
+    algo: &Algo,
+    sched: &Sched,
+    error: &LowerError,
+) -> Result<Option<Reason>, AllocError> {
+    match error {
+        LowerError::Schedule(SchedError::Broken(Rule::InlineUpdates, name)) => {
+            Ok(Some(Cause::Updates(*name).alone(alloc)))
+        }
+        LowerError::Broken(rule, name) => match followed(alloc, algo, sched) {
+            Ok(placement) => placed_reason(alloc, algo, &placement, *rule, name),
+            Err(SchedError::Memory) => Err(AllocError),
+            Err(_) => Ok(None),
+        },
+        LowerError::Memory | LowerError::Schedule(_) => Ok(None),
+    }
 }

@@ -415,3 +415,17 @@ pub(crate) fn laid_functions(
     found.reverse();
     Ok(found)
 }
+
+// ---- what is told of a refusal
+
+impl Ends {
+    /// The lowest and the highest number.
+    pub(crate) fn numbers(self) -> (i64, i64) {
+        (self.low, self.high)
+    }
+}
+
+/// Whether the ends are those of an extent within the limits.
+pub(crate) fn is_extent(ends: Option<Ends>) -> bool {
+    extent_of(ends).is_some()
+}

@@ -3,6 +3,7 @@
 use crate::error::Stop;
 use crate::fetching::Root;
 use crate::forms::raised;
+use crate::reasons::Standstill;
 use crate::turns::nests_over;
 use crate::windows::{all_fit, window_size};
 use lin::{Binding, Forms, Lin, Region, Scope, Span1, Sym};
@@ -114,6 +115,21 @@ pub(crate) fn sliding_dimension(region: &Region, track: &Track) -> Option<usize>
         }
     }
     found
+}
+
+/// Why a region slides in no dimension along the loop.
+pub(crate) fn standstill(region: &Region, track: &Track) -> Standstill {
+    let mut moving: usize = 0;
+    for span in region.as_slice() {
+        if moves(span, track) {
+            moving = moving.saturating_add(1);
+        }
+    }
+    match moving {
+        0 => Standstill::Still,
+        1 => Standstill::Falls,
+        _ => Standstill::Several,
+    }
 }
 
 // ---- what is new

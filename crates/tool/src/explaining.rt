@@ -5,11 +5,13 @@ ghost use Rattle.tool.specs.Files.{SameFiles};
 
 use crate::device::Files;
 use crate::pipeline::Fault;
+use crate::reasons::reason_again;
 use crate::request::{Request, Way};
 use report::codes::page;
 use std::alloc::Global;
 use std::io::Write;
-use std::str;
+use std::{slice, str};
+use tree::token::Span;
 
 /// The most bytes of a line before the place that is marked, and of the marks.
 const MOST_MARKED: usize = 400;
@@ -114,6 +116,15 @@ fn schedule_of<'a>(request: &Request<'a>) -> Option<&'a str> {
     }
 }
 
+/// The schedules' files, in the order in which they are taken.
+fn schedules_of<'b, 'a>(request: &'b Request<'a>) -> &'b [&'a str] {
+    match request {
+        Request::Compile(asked) => slice::from_ref(&asked.schedule),
+        Request::Compare(asked) => asked.schedules.as_slice(),
+        _ => &[],
+    }
+}
+
 /// The plan file that is read.
 fn plan_of<'a>(request: &Request<'a>) -> Option<&'a str> {
     match request {
@@ -151,6 +162,62 @@ fn show<E: Write>(name: &str, text: &[u8], place: Place, err: &mut E) {
     let _ = writeln!(err, "{said}");
     if let Place::Bytes { start, end } = place {
         mark(line, start, end, err);
+    }
+}
+
+/// A place of these bytes.
+fn bytes_of(span: &Span) -> Place {
+    Place::Bytes {
+        start: span.start,
+        end: span.end,
+    }
+}
+
+/// How many marks stand under a place.
+fn marks_under(line: Line, span: &Span) -> usize {
+    span.end
+        .min(line.end)
+        .saturating_sub(span.start)
+        .clamp(1, MOST_MARKED)
+}
+
+/// Puts a mark under each byte of two places of a line, of which the first ends before the second begins.
+fn mark_two<E: Write>(line: Line, first: &Span, second: &Span, err: &mut E) {
+    let before = first.start.saturating_sub(line.start).min(MOST_MARKED);
+    let left = marks_under(line, first);
+    let between = second.start.saturating_sub(first.end).min(MOST_MARKED);
+    let right = marks_under(line, second);
+    let _ = writeln!(
+        err,
+        "{:before$}{:^<left$}{:between$}{:^<right$}",
+        "", "", "", ""
+    );
+}
+
+/// Shows the lines of two places: once where both are of one line, with marks under both.
+fn show_two<E: Write>(name: &str, text: &[u8], first: &Span, second: &Span, err: &mut E) {
+    let line = line_at(text, bytes_of(first));
+    let is_one = line_at(text, bytes_of(second)) == line;
+    if is_one && first.end <= second.start {
+        show(name, text, Place::Line(line.number), err);
+        mark_two(line, first, second, err);
+    } else if is_one && second.end <= first.start {
+        show(name, text, Place::Line(line.number), err);
+        mark_two(line, second, first, err);
+    } else {
+        show(name, text, bytes_of(first), err);
+        if !is_one {
+            show(name, text, bytes_of(second), err);
+        }
+    }
+}
+
+/// Shows the lines of the first two places at most.
+fn show_places<E: Write>(name: &str, text: &[u8], places: &[Span], err: &mut E) {
+    match places {
+        [] => {}
+        [only] => show(name, text, bytes_of(only), err),
+        [first, second, ..] => show_two(name, text, first, second, err),
     }
 }
 
@@ -206,7 +273,53 @@ fn tell_code<E: Write>(alloc: Global, fault: &Fault, err: &mut E) {
     }
 }
 
-/// Tells of a refusal where in its file it stands, what its code means, and what usually mends it, where that is asked for.
+/// Tells what made a schedule break a rule, where that is found again. The answer is whether it was told.
+fn tell_reason<F: Files, E: Write>(
+    alloc: Global,
+    files: &mut F,
+    request: &Request<'_>,
+    err: &mut E,
+) -> bool
+    ensures { SameFiles (F.contents files.old) (F.contents files.new) }
+{
+    let Some(name) = algorithm_of(request) else {
+        return false;
+    };
+    match reason_again(alloc, files, name, schedules_of(request)) {
+        Some((text, reason)) => {
+            show_places(name, text.as_slice(), reason.places.as_slice(), err);
+            let _ = write!(err, "{reason}");
+            true
+        }
+        None => false,
+    }
+}
+
+/// Tells of a refusal where it stands, or what made a schedule break a rule; where no more is known, what its code means.
+fn tell_fault<F: Files, E: Write>(
+    alloc: Global,
+    files: &mut F,
+    request: &Request<'_>,
+    fault: &Fault,
+    err: &mut E,
+)
+    ensures { SameFiles (F.contents files.old) (F.contents files.new) }
+{
+    match fault {
+        Fault::Rule { .. } => {
+            if !tell_reason(alloc, files, request, err) {
+                tell_code(alloc, fault, err);
+            }
+        }
+        _ => {
+            show_place(alloc, files, request, fault, err);
+            tell_code(alloc, fault, err);
+        }
+    }
+}
+
+/// Tells of a refusal where in its file it stands, what its code means, and what usually mends it, where that is asked for. Of
+/// a schedule that breaks a rule it tells what made it do so, where that is found.
 pub(crate) fn explain<F: Files, E: Write>(
     alloc: Global,
     files: &mut F,
@@ -219,7 +332,6 @@ pub(crate) fn explain<F: Files, E: Write>(
     ensures done { OnOk outcome.now (files.new ≡ files.old) }
 {
     if let (Err(fault), Detail::Explained) = (outcome, detail) {
-        show_place(alloc, files, request, fault, err);
-        tell_code(alloc, fault, err);
+        tell_fault(alloc, files, request, fault, err);
     }
 }

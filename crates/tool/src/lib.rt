@@ -15,6 +15,7 @@ mod picture;
 pub mod pipeline;
 mod plan_command;
 mod program;
+mod reasons;
 mod replay;
 mod request;
 mod schedule_command;

@@ -1,0 +1,447 @@
+//! Why a fold is refused.
+
+use crate::error::Stop;
+use crate::fetching::{Root, freed};
+use crate::inner::{Inner, Slide, readings_at, slide_of};
+use crate::parties::Party;
+use crate::reasons::readings::Reading;
+use crate::reasons::{Amount, Cause, FoldCause, Link, Reason, Standstill};
+use crate::regions::symbols_from;
+use crate::windows::window_size;
+use algo::Algo;
+use lin::{Forms, Scope, Span1};
+use std::alloc::{AllocError, Global};
+use tree::Expr;
+use tree::token::Name;
+
+/// The most functions of a chain.
+const MOST_LINKS: usize = 6;
+
+/// An end of a span.
+#[derive(Clone, Copy, PartialEq, Eq, Drop)]
+enum End {
+    First,
+    Last,
+}
+
+fn is_named(inner: &Inner<'_>, name: &Name) -> bool {
+    inner.root.stored.subject.name.as_str() == name.as_str()
+}
+
+// ---- windows
+
+// The window of a function where it slides in this dimension.
+fn window_along(
+    alloc: Global,
+    group: &Root<'_>,
+    inners: &[Inner<'_>],
+    inner: &Inner<'_>,
+    along: usize,
+) -> Result<Option<i64>, AllocError> {
+    if slide_of(alloc, group, inners, inner)? != Slide::Along(along) {
+        return Ok(None);
+    }
+    match inner.region.as_slice().get(along) {
+        Some(span) => window_size(alloc, &inner.scope, span),
+        None => Ok(None),
+    }
+}
+
+// The longest window of the function in a group; none where it does not slide in this dimension everywhere.
+fn longest_window(
+    alloc: Global,
+    group: &Root<'_>,
+    inners: &[Inner<'_>],
+    name: &Name,
+    along: usize,
+) -> Result<Option<i64>, AllocError> {
+    let mut longest: i64 = 1;
+    for inner in inners {
+        if is_named(inner, name) {
+            match window_along(alloc, group, inners, inner, along)? {
+                Some(window) => longest = longest.max(window),
+                None => return Ok(None),
+            }
+        }
+    }
+    Ok(Some(longest))
+}
+
+// As many places as each window of the function has numbers.
+fn enough_places(
+    alloc: Global,
+    parties: &[Party<'_>],
+    name: &Name,
+    along: usize,
+) -> Result<Option<i64>, AllocError> {
+    let mut enough: i64 = 1;
+    for party in parties {
+        if let Some(inners) = &party.inners {
+            match longest_window(alloc, &party.root, inners, name, along)? {
+                Some(window) => enough = enough.max(window),
+                None => return Ok(None),
+            }
+        }
+    }
+    Ok(Some(enough))
+}
+
+// ---- readings
+
+// What an index or a coordinate stays within in a turn.
+fn in_turn(alloc: Global, turn: &Scope, scope: &Scope, span: &Span1) -> Result<Span1, Stop> {
+    let inside = symbols_from(alloc, turn.len(), scope.len())?;
+    freed(alloc, scope, &inside, span)
+}
+
+fn size_from(
+    alloc: Global,
+    turn: &Scope,
+    lower: &Forms,
+    upper: &Forms,
+) -> Result<Option<i64>, AllocError> {
+    let span = Span1 {
+        lower: lower.copy(alloc)?,
+        upper: upper.copy(alloc)?,
+    };
+    window_size(alloc, turn, &span)
+}
+
+// How many numbers there are from the first of all to the last that the index reads, or from the first that it reads on.
+fn reached(
+    alloc: Global,
+    turn: &Scope,
+    all: &Span1,
+    reading: &Reading<'_>,
+    end: End,
+) -> Result<Option<i64>, Stop> {
+    let Some(span) = &reading.span else {
+        return Ok(None);
+    };
+    let own = in_turn(alloc, turn, &reading.scope, span)?;
+    let size = match end {
+        End::First => size_from(alloc, turn, &own.lower, &all.upper)?,
+        End::Last => size_from(alloc, turn, &all.lower, &own.upper)?,
+    };
+    Ok(size)
+}
+
+// The place of the index that reads farthest in a dimension.
+fn farthest(
+    alloc: Global,
+    inner: &Inner<'_>,
+    dimension: usize,
+    readings: &[Reading<'_>],
+    end: End,
+) -> Result<Option<usize>, Stop> {
+    let Some(all) = inner.region.as_slice().get(dimension) else {
+        return Ok(None);
+    };
+    let mut best: Option<(usize, i64)> = None;
+    for (place, reading) in readings.iter().enumerate() {
+        if reading.dimension == dimension {
+            if let Some(count) = reached(alloc, &inner.scope, all, reading, end)? {
+                let is_better = match best {
+                    Some((_, known)) => count > known,
+                    None => true,
+                };
+                if is_better {
+                    best = Some((place, count));
+                }
+            }
+        }
+    }
+    match best {
+        Some((place, _)) => Ok(Some(place)),
+        None => Ok(None),
+    }
+}
+
+// How many are computed inside before the function of this name.
+fn first_named(inners: &[Inner<'_>], name: &Name) -> usize {
+    for (place, inner) in inners.iter().enumerate() {
+        if is_named(inner, name) {
+            return place;
+        }
+    }
+    inners.len()
+}
+
+// The indices at which those that are declared later call a function where it is computed.
+fn readings_of<'a>(
+    alloc: Global,
+    algo: &Algo,
+    group: &Root<'a>,
+    inners: &[Inner<'a>],
+    inner: &Inner<'a>,
+) -> Result<Vec<Reading<'a>>, Stop> {
+    let name = inner.root.stored.subject.name;
+    let Some(callers) = inners.get(..first_named(inners, &name)) else {
+        return Ok(Vec::new(alloc));
+    };
+    readings_at(alloc, algo, group, callers, inner.home, name.as_str())
+}
+
+// ---- chains
+
+fn link(
+    alloc: Global,
+    scope: &Scope,
+    root: &Root<'_>,
+    dimension: usize,
+    span: &Span1,
+) -> Result<Option<Link>, AllocError> {
+    let (Some(variable), Some(count)) = (
+        root.stored.subject.variables.get(dimension),
+        window_size(alloc, scope, span)?,
+    ) else {
+        return Ok(None);
+    };
+    Ok(Some(Link {
+        function: root.stored.subject.name,
+        variable: *variable,
+        amount: Amount::Numbers(count),
+    }))
+}
+
+// How much of itself a group's own function computes in a turn.
+fn group_link(
+    alloc: Global,
+    turn: &Scope,
+    group: &Root<'_>,
+    reading: &Reading<'_>,
+) -> Result<Option<Link>, Stop> {
+    let (Some(dimension), Some(own)) = (reading.along, &reading.own) else {
+        return Ok(None);
+    };
+    let span = in_turn(alloc, turn, &reading.scope, own)?;
+    Ok(link(alloc, turn, group, dimension, &span)?)
+}
+
+fn inner_link(
+    alloc: Global,
+    inner: &Inner<'_>,
+    dimension: usize,
+) -> Result<Option<Link>, AllocError> {
+    match inner.region.as_slice().get(dimension) {
+        Some(span) => link(alloc, &inner.scope, &inner.root, dimension, span),
+        None => Ok(None),
+    }
+}
+
+// Adds what is needed of a function in a turn, and tells the reader that needs most of it with its dimension.
+fn add_link<'a>(
+    alloc: Global,
+    algo: &Algo,
+    group: &Root<'a>,
+    inners: &[Inner<'a>],
+    inner: &Inner<'a>,
+    dimension: usize,
+    chain: &mut Vec<Link>,
+) -> Result<Option<(usize, usize)>, Stop> {
+    let Some(own) = inner_link(alloc, inner, dimension)? else {
+        return Ok(None);
+    };
+    chain.push(own)?;
+    let readings = readings_of(alloc, algo, group, inners, inner)?;
+    let Some(place) = farthest(alloc, inner, dimension, &readings, End::Last)? else {
+        return Ok(None);
+    };
+    let Some(reading) = readings.get(place) else {
+        return Ok(None);
+    };
+    if let (Some(number), Some(along)) = (reading.number, reading.along) {
+        return Ok(Some((number, along)));
+    }
+    if let Some(last) = group_link(alloc, &inner.scope, group, reading)? {
+        chain.push(last)?;
+    }
+    Ok(None)
+}
+
+// What a turn needs of a function, and of its readers.
+fn chain_of<'a>(
+    alloc: Global,
+    algo: &Algo,
+    group: &Root<'a>,
+    inners: &[Inner<'a>],
+    number: usize,
+    dimension: usize,
+) -> Result<Vec<Link>, Stop> {
+    let mut chain = Vec::new(alloc);
+    let mut at = (number, dimension);
+    for _link in 0..MOST_LINKS {
+        let Some(inner) = inners.get(at.0) else {
+            return Ok(chain);
+        };
+        match add_link(alloc, algo, group, inners, inner, at.1, &mut chain)? {
+            Some(next) => at = next,
+            None => return Ok(chain),
+        }
+    }
+    Ok(chain)
+}
+
+// ---- reasons
+
+// The place in the algorithm's text of the index that reads farthest.
+fn add_place(
+    alloc: Global,
+    inner: &Inner<'_>,
+    dimension: usize,
+    readings: &[Reading<'_>],
+    end: End,
+    reason: &mut Reason,
+) -> Result<(), Stop> {
+    if let Some(place) = farthest(alloc, inner, dimension, readings, end)? {
+        if let Some(reading) = readings.get(place) {
+            reason.places.push(reading.index.span())?;
+        }
+    }
+    Ok(())
+}
+
+fn small<'a>(
+    alloc: Global,
+    algo: &Algo,
+    group: &Root<'a>,
+    inners: &[Inner<'a>],
+    number: usize,
+    dimension: usize,
+    cause: FoldCause,
+) -> Result<Reason, Stop> {
+    let mut reason = Cause::Fold(cause).alone(alloc);
+    let Some(inner) = inners.get(number) else {
+        return Ok(reason);
+    };
+    let readings = readings_of(alloc, algo, group, inners, inner)?;
+    add_place(alloc, inner, dimension, &readings, End::First, &mut reason)?;
+    add_place(alloc, inner, dimension, &readings, End::Last, &mut reason)?;
+    reason.chain = chain_of(alloc, algo, group, inners, number, dimension)?;
+    Ok(reason)
+}
+
+// What is wrong with the folds of a function that slides.
+fn misfit(
+    alloc: Global,
+    parties: &[Party<'_>],
+    inner: &Inner<'_>,
+    dimension: usize,
+) -> Result<Option<FoldCause>, AllocError> {
+    let placed = inner.root.stored.placed;
+    let function = inner.root.stored.subject.name;
+    let (Some(along), Some(span), Some(home)) = (
+        inner.root.stored.subject.variables.get(dimension),
+        inner.region.as_slice().get(dimension),
+        placed.homes.first(),
+    ) else {
+        return Ok(None);
+    };
+    for fold in &placed.folds {
+        if fold.dimension.as_str() != along.as_str() {
+            return Ok(Some(FoldCause::OtherFold {
+                along: *along,
+                fold: fold.dimension,
+            }));
+        }
+    }
+    let (Some(window), Some(fold)) = (
+        window_size(alloc, &inner.scope, span)?,
+        placed.folds.first(),
+    ) else {
+        return Ok(None);
+    };
+    Ok(Some(FoldCause::SmallFold {
+        function,
+        along: *along,
+        turn: home.turn,
+        places: fold.factor,
+        window,
+        enough: enough_places(alloc, parties, &function, dimension)?,
+    }))
+}
+
+// The first index of the dimension that is folded.
+fn folded_index<'a>(inner: &Inner<'a>, readings: &[Reading<'a>]) -> Option<&'a Expr> {
+    let fold = inner.root.stored.placed.folds.first()?;
+    for reading in readings {
+        if let Some(variable) = inner.root.stored.subject.variables.get(reading.dimension) {
+            if variable.as_str() == fold.dimension.as_str() {
+                return Some(reading.index);
+            }
+        }
+    }
+    None
+}
+
+fn unslid<'a>(
+    alloc: Global,
+    algo: &Algo,
+    group: &Root<'a>,
+    inners: &[Inner<'a>],
+    inner: &Inner<'a>,
+    why: Standstill,
+) -> Result<Option<Reason>, Stop> {
+    let Some(home) = inner.root.stored.placed.homes.first() else {
+        return Ok(None);
+    };
+    let cause = FoldCause::NotSliding {
+        function: inner.root.stored.subject.name,
+        turn: home.turn,
+        why,
+    };
+    let readings = readings_of(alloc, algo, group, inners, inner)?;
+    match folded_index(inner, &readings) {
+        Some(index) => Ok(Some(Cause::Fold(cause).at(alloc, index.span())?)),
+        None => Ok(Some(Cause::Fold(cause).alone(alloc))),
+    }
+}
+
+fn reason_at<'a>(
+    alloc: Global,
+    algo: &Algo,
+    parties: &[Party<'_>],
+    group: &Root<'a>,
+    inners: &[Inner<'a>],
+    number: usize,
+) -> Result<Option<Reason>, Stop> {
+    let Some(inner) = inners.get(number) else {
+        return Ok(None);
+    };
+    match slide_of(alloc, group, inners, inner)? {
+        Slide::Nowhere(why) => unslid(alloc, algo, group, inners, inner, why),
+        Slide::Along(dimension) => match misfit(alloc, parties, inner, dimension)? {
+            Some(cause) => {
+                let reason = small(alloc, algo, group, inners, number, dimension, cause)?;
+                Ok(Some(reason))
+            }
+            None => Ok(None),
+        },
+    }
+}
+
+fn unfit_number(inners: &[Inner<'_>], name: &Name) -> Option<usize> {
+    for (number, inner) in inners.iter().enumerate() {
+        if is_named(inner, name) && !inner.fits {
+            return Some(number);
+        }
+    }
+    None
+}
+
+/// Why the folds of a function do not fit in some place where it is computed.
+pub(crate) fn fold_reason(
+    alloc: Global,
+    algo: &Algo,
+    parties: &[Party<'_>],
+    name: &Name,
+) -> Result<Option<Reason>, Stop> {
+    for party in parties {
+        if let Some(inners) = &party.inners {
+            if let Some(number) = unfit_number(inners, name) {
+                return reason_at(alloc, algo, parties, &party.root, inners, number);
+            }
+        }
+    }
+    Ok(None)
+}

@@ -1,0 +1,88 @@
+//! What made a schedule break a rule, found again of the files.
+
+ghost use Rattle.tool.specs.Files.{SameFiles};
+
+use crate::device::Files;
+use crate::picture::algorithm_in;
+use crate::schedule_command::schedule_in;
+use algo::Algo;
+use lower::{LowerError, Reason, lower, reason};
+use sched::Sched;
+use std::alloc::Global;
+
+/// What a schedule is refused for.
+#[derive(Drop)]
+enum Answer {
+    /// It is not refused.
+    Taken,
+    /// What made it break its rule, where that is found.
+    Refused(Option<Reason>),
+}
+
+/// What made the schedule break the rule that it is refused for, where that is found and memory is there to tell it.
+fn reason_of(alloc: Global, algo: &Algo, sched: &Sched, error: &LowerError) -> Option<Reason> {
+    match reason(alloc, algo, sched, error) {
+        Ok(found) => found,
+        Err(_) => None,
+    }
+}
+
+/// What made a schedule break a rule.
+fn answer_to(alloc: Global, algo: &Algo, sched: &Sched) -> Answer {
+    let Err(error) = lower(alloc, algo, sched) else {
+        return Answer::Taken;
+    };
+    Answer::Refused(reason_of(alloc, algo, sched, &error))
+}
+
+/// What made the first of these schedules that breaks a rule do so; none where one can't be read again.
+#[tactic(auto, using(crate::proofs::Kept::same_then))]
+fn reason_among<F: Files>(
+    alloc: Global,
+    files: &mut F,
+    algo: &Algo,
+    names: &[&str],
+) -> Option<Reason>
+    ensures { SameFiles (F.contents files.old) (F.contents files.new) }
+{
+    match names {
+        [] => None,
+        [name, rest @ ..] => {
+            if *name == "-" {
+                return None;
+            }
+            let Ok(sched) = schedule_in(alloc, files, name) else {
+                return None;
+            };
+            match answer_to(alloc, algo, &sched) {
+                Answer::Taken => reason_among(alloc, files, algo, rest),
+                Answer::Refused(found) => found,
+            }
+        }
+    }
+}
+
+/// What made the first of these schedules that breaks a rule do so, with the algorithm's text.
+#[tactic(auto, using(crate::proofs::Kept::same_then))]
+pub(crate) fn reason_again<F: Files>(
+    alloc: Global,
+    files: &mut F,
+    algorithm: &str,
+    schedules: &[&str],
+) -> Option<(Vec<u8>, Reason)>
+    ensures { SameFiles (F.contents files.old) (F.contents files.new) }
+{
+    if algorithm == "-" || schedules.is_empty() {
+        return None;
+    }
+    let Ok(text) = files.get(alloc, algorithm) else {
+        return None;
+    };
+    let Ok(algo) = algorithm_in(alloc, text.as_slice()) else {
+        return None;
+    };
+    match reason_among(alloc, files, &algo, schedules) {
+        Some(reason) => Some((text, reason)),
+        None => None,
+    }
+}
