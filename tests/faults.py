@@ -24,7 +24,7 @@ import sys
 import tempfile
 from collections import Counter
 from concurrent.futures import ThreadPoolExecutor
-from dataclasses import dataclass
+from dataclasses import dataclass, replace
 from pathlib import Path
 
 from run import EXAMPLES, TESTS, difference, shown, standing
@@ -62,13 +62,14 @@ COMMANDS = (
 
 @dataclass
 class Case:
-    """A command with its files, and what it gives and calls without a fault."""
+    """A command with its files, what it gives and calls without a fault, and what it gives where a text that may be empty is."""
 
     name: str
     words: list
     files: dict
     right: object = None
     counts: object = None
+    ended: tuple = ()
 
 
 @dataclass
@@ -144,6 +145,7 @@ def library_in(folder):
 def with_counts(program, library, case):
     """The case with what it gives without a fault, and its calls; None where the library was not loaded."""
     case.right = run(program, case)
+    case.ended = tuple(run(program, replace(case, files=case.files | {name: b""})) for name in ("S", "order") if name in case.files)
     with tempfile.NamedTemporaryFile() as log:
         again = run(program, case, {"LD_PRELOAD": str(library), "REFUSE_LOG": log.name})
         lines = Path(log.name).read_text(encoding="ascii").split("\n")
@@ -257,9 +259,11 @@ def classed(case, kind, got):
 
 
 def of_shorter_files(case, got):
-    """What comes of a read that moves nothing: the file ends there. It is refused, or right."""
+    """What comes of a read that moves nothing: the file ends there. It is refused, or right, also of a text that is empty."""
     if got == case.right:
         return "right"
+    if any((got.status, got.out, got.err) == (one.status, one.out, one.err) and got.files.get("out") == one.files.get("out") for one in case.ended):
+        return "right of an empty text"
     if got.files == case.files and not got.out and got.status in (1, 3, 5) and got.err.startswith(b"stencil: "):
         return "refused"
     return f"WRONG: status {got.status}"
