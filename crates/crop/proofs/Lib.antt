@@ -24,3 +24,7 @@ pub mod Closed
 pub mod Sides
 pub mod Tiled
 pub mod Mosaic
+pub mod Costs
+pub mod Prices
+pub mod Counted
+pub mod Counts

@@ -15,3 +15,4 @@ pub mod Piece
 pub mod Inside
 pub mod Rebuilt
 pub mod Mosaic
+pub mod Counts

@@ -4,6 +4,7 @@ ghost use Rattle.crop.specs.Worked.{ReadsMove, ClampsMove, QuotientsMove, Compar
 ghost use Rattle.crop.specs.Laws.{ExpressionsMove};
 ghost use Rattle.crop.specs.Crop.{CropLaw};
 ghost use Rattle.crop.specs.Mosaic.{MosaicLaw, TileLaw};
+ghost use Rattle.crop.specs.Counts.{CountLaw, TileCountLaw};
 
 /// Worked examples of the definitions.
 pub fn worked_examples()
@@ -24,9 +25,21 @@ pub fn crop_law()
     ensures { CropLaw }
 {}
 
+/// Each value that the tile needs, and each sample of the tile, takes in the cut algorithm as many evaluations as in the
+/// algorithm, where nothing is remembered.
+pub fn count_law()
+    ensures { CountLaw }
+{}
+
 /// The picture of a tile's algorithm on its part of the input is the picture of the whole, cut to the tile's rectangle.
 pub fn tile_law()
     ensures { TileLaw }
+{}
+
+/// Each sample of a tile takes in the tile's algorithm, on its part of the input, as many evaluations as in the whole,
+/// where nothing is remembered.
+pub fn tile_count_law()
+    ensures { TileCountLaw }
 {}
 
 /// The pictures of the tiles, put together, are the picture: the rectangles are a partition of the output, and each sample
