@@ -219,9 +219,9 @@ print(time.monotonic() - start, usage.ru_maxrss / 1024)
 
 
 def measured(words, folder):
-    """Seconds and MiB that a run takes."""
+    """Seconds and MiB that a run takes: the last line, behind what the run itself prints."""
     told = subprocess.run([sys.executable, "-I", "-S", "-c", MEASURING, *words], cwd=folder, capture_output=True, text=True)
-    seconds, memory = told.stdout.split()
+    seconds, memory = told.stdout.splitlines()[-1].split()
     return float(seconds), float(memory)
 
 
