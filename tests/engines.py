@@ -151,6 +151,13 @@ def where(bench, name):
     return [line for line in told.splitlines() if line.startswith((b"Origin", b"Pixel Size", b"Upper Left"))]
 
 
+def has_gnu_parallel():
+    """Whether GNU parallel and Netpbm are there; another program of that name is not meant."""
+    if not all(map(shutil.which, ("parallel", "pamcut", "pnmcat"))):
+        return False
+    return b"GNU parallel" in subprocess.run(["parallel", "--version"], capture_output=True, check=False).stdout
+
+
 def python_with_dask():
     """A Python that has Dask, if there is one."""
     for python in (sys.executable, "/usr/bin/python3"):
@@ -161,7 +168,7 @@ def python_with_dask():
 
 
 def main():
-    has_parallel = all(map(shutil.which, ("parallel", "pamcut", "pnmcat")))
+    has_parallel = has_gnu_parallel()
     has_gdal = all(map(shutil.which, ("gdal_translate", "gdalbuildvrt", "gdalinfo", "gdalsrsinfo")))
     python = python_with_dask()
     with tempfile.TemporaryDirectory() as room:
