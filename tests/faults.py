@@ -52,11 +52,20 @@ EXAMPLE_FILES = {
     "blur3": ("blur3.alg", "blur3.plan", "shapes.pgm", "blur3-tiles.sched"),
 }
 
-# What each command is given; of `A`, `P`, `I` and `S` there are files, and `out` is written.
+# The case of which each growth that is refused by itself, and each file that can't be opened, is always tried.
+ALWAYS = "scan: plain A I out"
+
+# What stands on standard input of the runs whose streams fail behind each byte: for the program without words, and for a copy.
+GIVEN = b"P5 2 10 255\n@ABCDEFGHIJKLMNOPQRS"
+ROW = b"P5\n4 1\n255\n\x0d\x14\x1e\x24"
+COPY = b"pipeline copy; input in u8 [4, 1]; func out u8 (x, y) = in[x, y]; output out [4, 1];"
+
+# What each command is given; of `A`, `P`, `I` and `S` there are files, `cut` is a plan and `bad` a schedule that is refused, and `out` is written.
 COMMANDS = (
     "compile A S out", "check A P", "run A P I out", "run A P I out --workers 3", "run A P I out --workers 64", "replay A P I order",
     "plain A I out", "compare A I S", "compare A I S --by-first", "cost A P", "show A P", "draw A P out", "format A out",
     "crop A 0 0 1 1 out", "tiles A 8 1 .", "check A cut --explain", "check A P --explain",
+    "compile A bad out --explain", "run A cut I out --explain",
 )
 
 
@@ -67,18 +76,22 @@ class Case:
     name: str
     words: list
     files: dict
+    given: bytes = b""
     right: object = None
     counts: object = None
+    short: object = None
     ended: tuple = ()
 
 
 @dataclass
 class Fault:
-    """One fault: its kind, its name, and the library's settings."""
+    """One fault: its kind, its name, the library's settings, whether it is always tried, and how much is printed where that is sure."""
 
     kind: str
     name: str
     settings: dict
+    always: bool = False
+    printed: object = None
 
 
 @dataclass
@@ -95,16 +108,16 @@ class Given:
 
 
 def cases():
-    """Each command on each example."""
+    """Each command on each example, and the program without words."""
     found = []
     for name, (algorithm, plan, image, schedule) in EXAMPLE_FILES.items():
         files = {"A": (EXAMPLES / algorithm).read_bytes(), "P": (EXAMPLES / plan).read_bytes(), "I": (EXAMPLES / image).read_bytes()}
-        files |= {"S": (EXAMPLES / schedule).read_bytes() if schedule else b"", "order": b"0 1 0 2 " * 40, "cut": files["P"][:-5]}
+        files |= {"S": (EXAMPLES / schedule).read_bytes() if schedule else b"", "order": b"0 1 0 2 " * 40, "cut": files["P"][:-5], "bad": b"none.parallel(x);"}
         for command in COMMANDS:
             words = command.split()
             given = {word: files[word] for word in words if word in files}
             found.append(Case(f"{name}: {command}", words, given | ({"out": OLD} if "out" in words else {})))
-    return found
+    return [*found, Case("no words", [], {}, GIVEN), Case("plain A - -", ["plain", "A", "-", "-"], {"A": COPY}, ROW)]
 
 
 def run(program, case, settings=None, before=None, room=None):
@@ -115,7 +128,7 @@ def run(program, case, settings=None, before=None, room=None):
             lay(case, place)
         environment = {"PATH": "/usr/bin:/bin", **(settings or {})}
         try:
-            done = subprocess.run([program, *case.words], cwd=place, env=environment, stdin=subprocess.DEVNULL, capture_output=True,
+            done = subprocess.run([program, *case.words], cwd=place, env=environment, input=case.given, capture_output=True,
                                   timeout=300, check=False, preexec_fn=before)
             return Given(done.returncode, done.stdout, done.stderr, standing(place))
         except subprocess.TimeoutExpired as late:
@@ -142,14 +155,20 @@ def library_in(folder):
     return made if done.returncode == 0 else None
 
 
+def counted(program, library, case, settings):
+    """What a case gives with the library's settings, and its calls."""
+    with tempfile.NamedTemporaryFile() as log:
+        given = run(program, case, {"LD_PRELOAD": str(library), "REFUSE_LOG": log.name} | settings)
+        lines = Path(log.name).read_text(encoding="ascii").split("\n")
+    return given, {line.split()[0]: int(line.split()[1]) for line in lines if line}
+
+
 def with_counts(program, library, case):
     """The case with what it gives without a fault, and its calls; None where the library was not loaded."""
     case.right = run(program, case)
-    case.ended = tuple(run(program, replace(case, files=case.files | {name: b""})) for name in ("S", "order") if name in case.files)
-    with tempfile.NamedTemporaryFile() as log:
-        again = run(program, case, {"LD_PRELOAD": str(library), "REFUSE_LOG": log.name})
-        lines = Path(log.name).read_text(encoding="ascii").split("\n")
-    case.counts = {line.split()[0]: int(line.split()[1]) for line in lines if line}
+    case.ended = tuple(run(program, replace(case, files=case.files | {name: b""})) for name in ("S", "bad", "order") if name in case.files)
+    again, case.counts = counted(program, library, case, {})
+    _, case.short = counted(program, library, case, {"REFUSE_SHORT": "1"})
     return case if case.counts and case.counts["open"] and again == case.right else None
 
 
@@ -165,7 +184,8 @@ def of_memory(case):
     """Each growth refused by itself, and it with all later ones."""
     for number in range(1, case.counts["memory"] + 1):
         for mode in ("once", "from"):
-            yield Fault("memory", f"growth {number} refused, {mode}", setting("memory", number, mode, errno.ENOMEM))
+            always = case.name == ALWAYS and mode == "once"
+            yield Fault("memory", f"growth {number} refused, {mode}", setting("memory", number, mode, errno.ENOMEM), always)
 
 
 def of_devices(case):
@@ -174,13 +194,25 @@ def of_devices(case):
     for call in CALLS:
         for number in range(1, case.counts[call] + 1):
             for error in ERRORS:
-                yield Fault("device", f"{call} {number}: {error}", setting(call, number, "once", getattr(errno, error)))
+                always = case.name == ALWAYS and call == "open" and error == "EIO"
+                yield Fault("device", f"{call} {number}: {error}", setting(call, number, "once", getattr(errno, error)), always)
             if call in ("read", "write"):
                 yield Fault("device", f"{call} {number}: nothing moved", setting(call, number, "once", 0))
     for call in ("read", "write"):
         for number in range(1, min(case.counts[call], 1) * 20):
             short = setting(call, number, "from", errno.EIO) | {"REFUSE_SHORT": "1"}
             yield Fault("device", f"{call} a byte a call, from {number} on EIO", short)
+
+
+def of_streams(case):
+    """Standard input that fails behind so many bytes, at last where its end is asked for, and standard output that has room for no more."""
+    short = {"REFUSE_SHORT": "1"}
+    first = case.short["read"] - len(case.given)
+    for count in range(len(case.given) + 1):
+        yield Fault("device", f"standard input fails behind {count} bytes", setting("read", first + count, "from", errno.EIO) | short, True, 0)
+    for room in range(len(case.right.out)):
+        for what, error in (("fails", errno.EIO), ("takes nothing", 0)):
+            yield Fault("device", f"standard output {what} behind {room} bytes", setting("write", room + 1, "from", error) | short, True, room)
 
 
 def of_threads(case):
@@ -203,6 +235,8 @@ def faults(case, kinds):
     for kind, way in ways.items():
         if kind in kinds:
             yield from way(case)
+    if "device" in kinds and case.given:
+        yield from of_streams(case)
     if "size" in kinds and "out" in case.words:
         for size in (0, 1, 10):
             yield Fault("size", f"files of {size} bytes at most", {"size": size})
@@ -325,7 +359,10 @@ def outcome(program, library, case, fault):
     got = run(program, case, {"LD_PRELOAD": str(library), **fault.settings})
     if fault.settings.get("REFUSE_CALL") == "read" and fault.settings["REFUSE_ERROR"] == "0":
         return of_shorter_files(case, got), got
-    return classed(case, fault.kind, got), got
+    way = classed(case, fault.kind, got)
+    if fault.printed is not None and (way, len(got.out)) != ("G7", fault.printed):
+        return f"WRONG: {way}, and {len(got.out)} bytes printed", got
+    return way, got
 
 
 def told(fault, case, came, got):
@@ -356,7 +393,7 @@ def main():
         if None in ready:
             print("not tried: the program does not run with the library")
             return 0
-        chosen = [(case, fault) for case in ready for fault in faults(case, given.kinds or USUAL) if given.all or chance.randrange(PART[fault.kind]) == 0]
+        chosen = [(case, fault) for case in ready for fault in faults(case, given.kinds or USUAL) if given.all or fault.always or chance.randrange(PART[fault.kind]) == 0]
         came, failed = {}, 0
         for (case, fault), (way, got) in zip(chosen, pool.map(lambda one: outcome(program, library, *one), chosen)):
             came.setdefault(fault.kind, Counter())[way.split(":")[0]] += 1

@@ -1,4 +1,4 @@
-//! What numbers, expressions, forms and the crew give on worked examples, run as tests. The crate holds tests alone.
+//! What no command of the program shows: forms and bounds, and work with faults, run as tests. The crate holds tests alone.
 #![tactic(auto)]
 
 #[cfg(test)]
@@ -10,12 +10,8 @@ mod lin_tests;
 #[cfg(test)]
 mod needed_tests;
 #[cfg(test)]
-mod numeric_tests;
-#[cfg(test)]
 mod orders_tests;
 #[cfg(test)]
 mod projection_tests;
 #[cfg(test)]
 mod scene_tests;
-#[cfg(test)]
-mod tree_tests;

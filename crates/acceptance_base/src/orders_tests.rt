@@ -108,31 +108,6 @@ fn job_of(
     })
 }
 
-/// Pieces of three and seven rows of two cells.
-const ROWS: Rows = &[
-    (&[0, 1, 2, 3, 4, 5], &[], &[]),
-    (
-        &[6, 7, 8, 9, 10, 11, 12, 13, 14, 15, 16, 17, 18, 19],
-        &[],
-        &[],
-    ),
-];
-
-const ROWS_VALUES: &[&[i64]] = &[
-    &[1, 2, 3, 4, 5, 6],
-    &[7, 8, 9, 10, 11, 12, 13, 14, 15, 16, 17, 18, 19, 20],
-];
-
-/// Two pieces of one cell each, one that copies both the other way round, and one that copies one of these.
-const COPYING: Rows = &[
-    (&[0], &[], &[]),
-    (&[1], &[], &[]),
-    (&[2, 3], &[1, 0], &[0, 1]),
-    (&[4], &[2], &[2]),
-];
-
-const COPYING_VALUES: &[&[i64]] = &[&[6], &[8]];
-
 /// A piece that looks at a cell of a later one, which it does not need.
 const HASTY: Rows = &[(&[0], &[1], &[]), (&[1], &[], &[])];
 
@@ -150,11 +125,6 @@ fn counts(
     Ok((state.drawn(), state.finished(), state.set()))
 }
 
-/// Two workers that step in turns, so many steps.
-const TURNS: &[u8] = &[
-    0, 1, 0, 1, 0, 1, 0, 1, 0, 1, 0, 1, 0, 1, 0, 1, 0, 1, 0, 1, 0, 1, 0, 1, 0, 1, 0, 1, 0, 1, 0, 1,
-];
-
 /// Orders of steps, and after each the pieces drawn, the pieces finished and the cells set.
 type Orders = &'static [(&'static [u8], u32, usize, usize)];
 
@@ -164,47 +134,6 @@ fn check(rt: &impl Abort, alloc: Global, job: &Copies, orders: Orders) -> Result
         assert_eq!(rt; found, (*drawn, *finished, *set), "after {order:?}");
     }
     Ok(())
-}
-
-const ROWS_ORDERS: Orders = &[
-    // 2 + 6 and 2 + 14 steps
-    (&[0; 24], 2, 2, 20),
-    (&[63; 24], 2, 2, 20),
-    (&[0; 23], 2, 1, 20),
-    (&[], 0, 0, 0),
-    (TURNS, 2, 2, 20),
-    (
-        &[
-            0, 1, 0, 1, 0, 1, 0, 1, 0, 1, 0, 1, 0, 1, 0, 1, 0, 1, 0, 1, 0, 1, 0, 1, 0, 1, 0, 1, 0,
-            1, 0,
-        ],
-        2,
-        1,
-        20,
-    ),
-    (&[0, 0, 1], 2, 0, 1),
-];
-
-#[test]
-fn rows(rt: HostRuntime) -> Result<(), AllocError> {
-    let job = job_of(&rt, rt.alloc(), 20, ROWS, ROWS_VALUES)?;
-    check(&rt, rt.alloc(), &job, ROWS_ORDERS)
-}
-
-const COPYING_ORDERS: Orders = &[
-    // 3, 3, 2 + 2 + 2 + 2 and 2 + 1 + 1 + 1 steps
-    (&[0; 19], 4, 4, 5),
-    (&[0; 18], 4, 3, 5),
-    // worker 2 draws the third piece, and its asks change nothing until both others are finished
-    (&[0, 1, 2, 2, 2, 2, 2, 2, 2, 2, 2], 3, 0, 0),
-    (&[0, 1, 2, 0, 0, 2, 2, 2, 2, 2, 2, 2], 3, 1, 1),
-    (&[0, 1, 2, 0, 0, 1, 1, 2, 2, 2, 2, 2], 3, 2, 3),
-];
-
-#[test]
-fn copies_ask_and_look(rt: HostRuntime) -> Result<(), AllocError> {
-    let job = job_of(&rt, rt.alloc(), 5, COPYING, COPYING_VALUES)?;
-    check(&rt, rt.alloc(), &job, COPYING_ORDERS)
 }
 
 const HASTY_ORDERS: Orders = &[
@@ -217,75 +146,6 @@ const HASTY_ORDERS: Orders = &[
 fn a_look_at_an_unset_cell_is_a_fault(rt: HostRuntime) -> Result<(), AllocError> {
     let job = job_of(&rt, rt.alloc(), 2, HASTY, HASTY_VALUES)?;
     check(&rt, rt.alloc(), &job, HASTY_ORDERS)
-}
-
-/// Cells and what they hold, if they are set.
-type Cells = &'static [(u32, Option<i64>)];
-
-fn check_cells(
-    rt: &impl Abort,
-    alloc: Global,
-    job: &Copies,
-    order: &[u8],
-    cells: Cells,
-) -> Result<(), AllocError> {
-    assert!(rt; order.iter().all(|worker| *worker < 64));
-    let state = replay(alloc, job, order)?;
-    for (cell, value) in cells {
-        assert_eq!(rt; state.cell(*cell), *value, "cell {cell}");
-    }
-    Ok(())
-}
-
-const ROWS_CELLS: Cells = &[(0, Some(1)), (1, None), (6, None), (20, None)];
-
-const COPYING_CELLS: Cells = &[(2, Some(8)), (3, None)];
-
-#[test]
-fn cells(rt: HostRuntime) -> Result<(), AllocError> {
-    let rows = job_of(&rt, rt.alloc(), 20, ROWS, ROWS_VALUES)?;
-    check_cells(&rt, rt.alloc(), &rows, &[0, 0, 1], ROWS_CELLS)?;
-    let copying = job_of(&rt, rt.alloc(), 5, COPYING, COPYING_VALUES)?;
-    let order = &[0, 1, 2, 0, 0, 1, 1, 2, 2, 2, 2, 2];
-    check_cells(&rt, rt.alloc(), &copying, order, COPYING_CELLS)
-}
-
-/// The next number of a generator.
-fn next(state: u64) -> u64 {
-    (state % 4294967296 * 1103515245 + 12345) % 2147483648
-}
-
-/// An order of so many steps of so many workers.
-fn drawn_order(alloc: Global, seed: u64, workers: u8, steps: u64) -> Result<Vec<u8>, AllocError>
-    requires { (0 < workers) × (workers < 64) }
-{
-    let mut state = seed;
-    let mut order = Vec::new(alloc);
-    for _ in 0..steps {
-        state = next(state);
-        order.push((state / 65536 % u64::from(workers)) as u8)?;
-    }
-    Ok(order)
-}
-
-#[test]
-fn many_orders_give_the_same_values(rt: HostRuntime) -> Result<(), AllocError> {
-    let alloc = rt.alloc();
-    let job = job_of(&rt, alloc, 5, COPYING, COPYING_VALUES)?;
-    let right = [6, 8, 8, 6, 8];
-    let mut state = 2026;
-    for round in 0..200u64 {
-        state = next(state);
-        let order = drawn_order(alloc, state, 1 + (round % 5) as u8, state / 65536 % 100)?;
-        assert!(rt; order.iter().all(|worker| *worker < 64));
-        let after = replay(alloc, &job, order.as_slice())?;
-        for cell in 0..5u32 {
-            let value = after.cell(cell);
-            assert!(rt; value.is_none() || value == Some(right[cell as usize]));
-        }
-        assert!(rt; after.finished() < 4 || after.set() == 5);
-    }
-    Ok(())
 }
 
 /// The first fault of three pieces over four cells, of which the last looks at the first two.

@@ -1,7 +1,7 @@
 //! The mean of a pixel and the next, and the same plan with one fault of each kind.
 
 use crate::forms_tests::Ends;
-use crate::running_tests::{Case, case_of, faults, gives};
+use crate::running_tests::{Case, case_of, faults};
 use crate::statements_tests::{
     Frame, Held, in_first, in_guard, in_loop, is_symbol, places, publish, room, store,
 };
@@ -137,25 +137,6 @@ fn row_case(alloc: Global, row: Row) -> Made<Case> {
     let turns = in_loop(alloc, 1, row.columns, turn(alloc, row, store));
     let body = then(one(alloc, out_room(alloc, row.places)), turns);
     case_of(alloc, BOX, HELD, then(body, publish(0)), &[10, 20, 30, 41])
-}
-
-// The last column is the guard's last too.
-const RIGHT: &[Row] = &[
-    ROW,
-    Row {
-        around: Around::Guard(3),
-        ..ROW
-    },
-];
-
-#[test]
-fn means_of_two(rt: HostRuntime) -> Result<(), Fail> {
-    let alloc = rt.alloc();
-    for row in RIGHT {
-        let case = row_case(alloc, *row)?;
-        assert!(rt; gives(alloc, &case, 0, &[15, 25, 35, 41])?);
-    }
-    Ok(())
 }
 
 // The fault, and the plan with it.

@@ -1,14 +1,11 @@
-//! Pieces, boards, steps, plain values and failing devices on worked examples, run as tests. The crate holds tests alone.
+//! What no command of the program shows: seats at one board, the cells of pieces, and private runs that have a fault, run as tests. The
+//! crate holds tests alone.
 #![tactic(auto)]
 
 #[cfg(test)]
 mod board_tests;
 #[cfg(test)]
 mod crew_tests;
-#[cfg(test)]
-mod desk_tests;
-#[cfg(test)]
-mod device_tests;
 #[cfg(test)]
 mod fault_tests;
 #[cfg(test)]
@@ -18,19 +15,11 @@ mod fixture_tests;
 #[cfg(test)]
 mod forms_tests;
 #[cfg(test)]
-mod inc_tests;
-#[cfg(test)]
 mod increment_tests;
-#[cfg(test)]
-mod picture_tests;
 #[cfg(test)]
 mod piece_tests;
 #[cfg(test)]
-mod row_tests;
-#[cfg(test)]
 mod running_tests;
-#[cfg(test)]
-mod samples_tests;
 #[cfg(test)]
 mod slide_tests;
 #[cfg(test)]
@@ -41,7 +30,5 @@ mod statements_tests;
 mod trees_tests;
 #[cfg(test)]
 mod update_tests;
-#[cfg(test)]
-mod value_tests;
 #[cfg(test)]
 mod worker_tests;

@@ -136,30 +136,6 @@ fn slide(alloc: Global, fold: u64, asked: Sym) -> Made<Case> {
     case_of(alloc, SLIDE, HELD, body, SAMPLES)
 }
 
-const FIRST: &[i64] = &[2, 3, 4, 5, 4, 5, 6, 7, 7, 8, 9, 10, 10, 11, 12, 13];
-
-const SECOND: &[i64] = &[
-    13, 14, 15, 16, 16, 17, 18, 19, 19, 20, 21, 22, 21, 22, 23, 24,
-];
-
-#[test]
-fn three_places_are_enough(rt: HostRuntime) -> Result<(), Fail> {
-    let alloc = rt.alloc();
-    let three = slide(alloc, 3, 1)?;
-    assert!(rt; gives(alloc, &three, 0, FIRST)?);
-    assert!(rt; gives(alloc, &three, 1, SECOND)?);
-    Ok(())
-}
-
-#[test]
-fn four_places_are_enough(rt: HostRuntime) -> Result<(), Fail> {
-    let alloc = rt.alloc();
-    let four = slide(alloc, 4, 1)?;
-    assert!(rt; gives(alloc, &four, 0, FIRST)?);
-    assert!(rt; gives(alloc, &four, 1, SECOND)?);
-    Ok(())
-}
-
 // Where a row lies in the place of another, that one is read: the second row of the first piece is the mean of the rows
 // 2, 1 and 2.
 #[test]

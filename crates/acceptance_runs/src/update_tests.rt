@@ -1,7 +1,7 @@
 //! Updates: a running sum, and a histogram, which finds out from the input where it counts.
 
 use crate::forms_tests::Ends;
-use crate::running_tests::{Case, case_of, faults, gives};
+use crate::running_tests::{Case, case_of, faults};
 use crate::statements_tests::{
     Frame, Held, finds, in_loop, is_symbol, places, publish, room, store,
 };
@@ -79,14 +79,6 @@ fn scan(alloc: Global, pixel_ends: Ends, sum_ends: Ends) -> Made<Case> {
     let body = then(one(alloc, room), pixels(alloc, pixel_ends));
     let body = then(then(body, sums(alloc, sum_ends)), publish(1));
     case_of(alloc, SCAN, SUMS, body, &[1, 2, 3, 4])
-}
-
-#[test]
-fn each_sum_adds_to_the_one_before(rt: HostRuntime) -> Result<(), Fail> {
-    let alloc = rt.alloc();
-    let scan = scan(alloc, ALL, BUT_FIRST)?;
-    assert!(rt; gives(alloc, &scan, 0, &[1, 3, 6, 10])?);
-    Ok(())
 }
 
 // The last pixel is not there, or there is no sum before the first.
@@ -180,18 +172,6 @@ fn hist(alloc: Global, count: u64, ends: Ends, samples: &[u16]) -> Made<Case> {
     let body = then(one(alloc, room), zeros(alloc, ends));
     let body = then(then(body, counts(alloc)), publish(1));
     case_of(alloc, HIST, COUNTS, body, samples)
-}
-
-#[test]
-fn pixels_are_counted_at_their_places(rt: HostRuntime) -> Result<(), Fail> {
-    let alloc = rt.alloc();
-    let mut wanted = [0; 256];
-    wanted[1] = 2;
-    wanted[2] = 3;
-    wanted[255] = 1;
-    let hist = hist(alloc, 256, PLACES, &[1, 1, 2, 2, 2, 255])?;
-    assert!(rt; gives(alloc, &hist, 0, &wanted)?);
-    Ok(())
 }
 
 // The last pixel leads past the last place, or to one at which nothing is set.
