@@ -26,3 +26,9 @@ pub mod Aside
 pub mod StoreRuns
 pub mod OneLines
 pub mod Windows
+pub mod Spots
+pub mod RowVisits
+pub mod SpotRuns
+pub mod InRegisters
+pub mod Pixels
+pub mod Points

@@ -84,17 +84,17 @@ scan_held rs places origin start count zs lies z v h = by (z -ℤ origin) refl h
 
 -- ---- samples
 
-within_both : (t : Ty) (b : Bool) (m : ℤ) → b ≡ true → (if b then Some (typed t (if b then m else pos 0)) else None) ≡ Some (typed t m)
+pub within_both : (t : Ty) (b : Bool) (m : ℤ) → b ≡ true → (if b then Some (typed t (if b then m else pos 0)) else None) ≡ Some (typed t m)
 within_both t true m h = refl
 within_both t false m h = absurd (cc)
 
-record IsSample (w start : ℕ) (samples : List ℕ) (z n : ℤ) : Type 0 where
-  at : ℕ
-  is : z ≡ pos at
-  less : at < w
-  number : pos (slice_index samples (start + at)) ≡ n
+pub record IsSample (w start : ℕ) (samples : List ℕ) (z n : ℤ) : Type 0 where
+  pub at : ℕ
+  pub is : z ≡ pos at
+  pub less : at < w
+  pub number : pos (slice_index samples (start + at)) ≡ n
 
-sample_there : (w start : ℕ) (samples : List ℕ) (z n : ℤ) → sample_along (take w (drop start samples)) z ≡ Some n → IsSample w start samples z n
+pub sample_there : (w start : ℕ) (samples : List ℕ) (z n : ℤ) → sample_along (take w (drop start samples)) z ≡ Some n → IsSample w start samples z n
 sample_there w start samples (negsuc k) n h = absurd (none-some n h)
 sample_there w start samples (pos k) n h = by (slice_get (take w (drop start samples)) k) refl h
   where

@@ -1,3 +1,4 @@
 pub mod Rooms
 pub mod Raster
 pub mod Blocks
+pub mod Spots

@@ -14,6 +14,7 @@ pub mod States
 pub mod Steps
 pub mod Targets
 pub mod Visits
+pub mod RowVisits
 pub mod Runs
 pub mod RunReadings
 pub mod StoreLines

@@ -8,8 +8,10 @@ mod limit;
 mod memory;
 mod raster;
 mod room;
+mod spot;
 mod stretch;
 
 pub use limit::Limit;
 pub use memory::Buffers;
 pub use room::{Room, Rooms};
+pub(crate) use spot::Spot;

@@ -4,6 +4,7 @@ mod evaluation;
 mod indices;
 mod kernels;
 mod lanes;
+mod looking;
 mod operators;
 mod reader;
 mod run;
@@ -13,6 +14,7 @@ mod whole;
 
 pub use evaluation::evaluate;
 pub use indices::indices_after;
+pub(crate) use kernels::fill_steps;
 pub use lanes::{Lanes, Number};
 pub use reader::Reader;
 pub use run::evaluate_run;

@@ -1,6 +1,6 @@
 //! What a store's expression is evaluated over at the turns of a run.
 
-ghost use Rattle.std.specs.Prelude.{◌≡◌, ◌∷◌, ◌<◌, ℕ, ℤ, List, Some, IfSome, length, map, pos, ◌+ℤ◌, ◌-ℤ◌, ◌*ℤ◌, string_bytes};
+ghost use Rattle.std.specs.Prelude.{◌≡◌, ◌∷◌, ◌<◌, ℕ, ℤ, Some, IfSome, drop, length, map, pos, ◌+ℤ◌, ◌-ℤ◌, ◌*ℤ◌, string_bytes};
 ghost use Rattle.tree.specs.declared.value.Value.{Value as ValueFound};
 ghost use Rattle.tree.specs.Meaning.{typed};
 ghost use Rattle.plan.specs.Semantics.Memory.{Memory};
@@ -8,19 +8,18 @@ ghost use Rattle.plan.specs.Semantics.Run.{look};
 ghost use Rattle.meaning.specs.Names.{bound};
 ghost use Rattle.interpreter.specs.Buffers.Blocks.{memory_of};
 ghost use Rattle.numeric.specs.declared.ty.Ty.TheVariants.{I32};
-ghost use Rattle.interpreter.specs.declared.evaluation.lanes.Number.{Number as NumberHeld};
-ghost use Rattle.interpreter.specs.Evaluation.Lanes.{lane, number_at, IsNarrowFor};
+ghost use Rattle.interpreter.specs.Evaluation.Lanes.{lane, lane_number, lanes_at, number_at, IsNarrowFor};
 ghost use Rattle.interpreter.specs.Pieces.{around, no_cells};
 ghost use Rattle.interpreter.specs.Runs.{numbers_at, IsBut};
 
 use crate::buffers::Buffers;
-use crate::evaluation::{Lanes, Number, RunReader};
+use crate::evaluation::{Lanes, Number, RunReader, fill_steps};
 use crate::loads::claim_of;
 use crate::piece::Piece;
 use crate::reading::{Reading, number_bound, same_name};
 use crate::scanlines::{
-    copy_numbers, copy_samples, distance, samples_beside, take_numbers, take_samples, type_held,
-    window,
+    Pixels, copy_numbers, copy_samples, distance, pixels_beside, samples_beside, take_numbers,
+    take_pixels, take_samples, type_held, window,
 };
 use numeric::Ty;
 use plan::Coordinate;
@@ -49,7 +48,7 @@ pub(crate) enum Source {
 
 impl RunReading<'_, '_> {
     ghost use Rattle.interpreter.specs.RunReadings.{source_at, IsAside, Means};
-    ghost use Rattle.interpreter.specs.Scanlines.{sample_along};
+    ghost use Rattle.interpreter.specs.Scanlines.{pixel_along, sample_along};
     ghost use Rattle.interpreter.specs.declared.run_reading.Source.TheVariants.{Input, Buffer};
 
     /// The reading at the first turn.
@@ -89,13 +88,15 @@ impl RunReading<'_, '_> {
         }
     }
 
-    /// What a source has at a point of at most two coordinates.
+    /// What a source has at a point of at most four coordinates.
     fn find_beside(&self, source: Source, first: Number, others: &[i64]) -> Option<Value>
         ensures { IfSome result (λ v. source_at self.now (memory_of self.now.memory.now) source (first.value ∷ others.now) ≡ Some v) }
     {
         match others {
             [] => self.find(source, &[first.value]),
             [second] => self.find(source, &[first.value, *second]),
+            [second, third] => self.find(source, &[first.value, *second, *third]),
+            [second, third, fourth] => self.find(source, &[first.value, *second, *third, *fourth]),
             _ => None,
         }
     }
@@ -122,7 +123,28 @@ impl RunReading<'_, '_> {
                 take_samples(samples, out)?;
                 Some(self.piece.plan.input.ty)
             }
-            None => self.look_points(Source::Input, others, out),
+            None => self.look_pixels(others, out),
+        }
+    }
+
+    /// The input's samples at the points with two coordinates behind the first one, from the first sample on.
+    fn pixels(&self, others: &[i64]) -> Option<Pixels<'_>>
+        ensures { IfSome result (λ row. (z n : ℤ) → pixel_along row.colours row.colour row.samples.now z ≡ Some n → (around self.now.piece.now no_cells).sample (z ∷ others.now) ≡ Some (typed self.now.piece.now.plan.now.input.ty n)) }
+    {
+        let image = self.piece.image;
+        pixels_beside(image.extents.as_slice(), image.samples.as_slice(), others)
+    }
+
+    /// What an input of three dimensions has at points that differ in the first coordinate.
+    fn look_pixels(&self, others: &[i64], out: &mut [Number]) -> Option<Ty>
+        ensures { IfSome result (λ t. (k : ℕ) → k < length out.new → source_at self.now (memory_of self.now.memory.now) Input (number_at out.old k ∷ others.now) ≡ Some (typed t (number_at out.new k))) }
+    {
+        match self.pixels(others) {
+            Some(pixels) => {
+                take_pixels(pixels, out)?;
+                Some(self.piece.plan.input.ty)
+            }
+            None => self.look_singly(Source::Input, others, out),
         }
     }
 
@@ -136,12 +158,12 @@ impl RunReading<'_, '_> {
                 take_numbers(line, ty, out)?;
                 Some(ty)
             }
-            None => self.look_points(Source::Buffer(buffer), others, out),
+            None => self.look_singly(Source::Buffer(buffer), others, out),
         }
     }
 
     /// What a source has at points that differ in the first coordinate, one after another.
-    fn look_points(&self, source: Source, others: &[i64], out: &mut [Number]) -> Option<Ty>
+    fn look_singly(&self, source: Source, others: &[i64], out: &mut [Number]) -> Option<Ty>
         ensures { IfSome result (λ t. (k : ℕ) → k < length out.new → source_at self.now (memory_of self.now.memory.now) source (number_at out.old k ∷ others.now) ≡ Some (typed t (number_at out.new k))) }
     {
         let ty = self.first_type(source, others, out)?;
@@ -195,6 +217,83 @@ impl RunReading<'_, '_> {
             None
         }
     }
+
+    /// What a source has at the point of a turn, of at most four coordinates, which have registers of so many numbers.
+    fn find_at(
+        &self,
+        source: Source,
+        indices: &[Lanes],
+        registers: &[Number],
+        count: usize,
+        turn: usize,
+    ) -> Option<Value>
+        ensures { IfSome result (λ v. source_at self.now (memory_of self.now.memory.now) source (lanes_at count indices.now registers.now turn) ≡ Some v) }
+    {
+        let seconds = registers_behind(registers, count);
+        let thirds = registers_behind(seconds, count);
+        let fourths = registers_behind(thirds, count);
+        match indices {
+            [first] => self.find(source, &[number_in(*first, registers, turn)?]),
+            [first, second] => {
+                let first = number_in(*first, registers, turn)?;
+                self.find(source, &[first, number_in(*second, seconds, turn)?])
+            }
+            [first, second, third] => {
+                let first = number_in(*first, registers, turn)?;
+                let second = number_in(*second, seconds, turn)?;
+                let third = number_in(*third, thirds, turn)?;
+                self.find(source, &[first, second, third])
+            }
+            [first, second, third, fourth] => {
+                let first = number_in(*first, registers, turn)?;
+                let second = number_in(*second, seconds, turn)?;
+                let third = number_in(*third, thirds, turn)?;
+                let fourth = number_in(*fourth, fourths, turn)?;
+                self.find(source, &[first, second, third, fourth])
+            }
+            _ => None,
+        }
+    }
+
+    /// What a source has at the point of a turn, where that is of the type.
+    fn number_found(
+        &self,
+        source: Source,
+        ty: Ty,
+        indices: &[Lanes],
+        registers: &[Number],
+        count: usize,
+        turn: usize,
+    ) -> Option<Number>
+        ensures { IfSome result (λ n. source_at self.now (memory_of self.now.memory.now) source (lanes_at count indices.now registers.now turn) ≡ Some (typed ty n.value)) }
+    {
+        let found = self.find_at(source, indices, registers, count, turn)?;
+        if found.ty == ty {
+            Some(Number {
+                value: found.number,
+            })
+        } else {
+            None
+        }
+    }
+
+    /// What a source has at the points of the turns.
+    fn gather(
+        &self,
+        source: Source,
+        indices: &[Lanes],
+        registers: &[Number],
+        out: &mut [Number],
+    ) -> Option<Ty>
+        ensures { IfSome result (λ t. (k : ℕ) → k < length out.new → source_at self.now (memory_of self.now.memory.now) source (lanes_at (length out.new) indices.now registers.now k) ≡ Some (typed t (number_at out.new k))) }
+    {
+        let count = out.len();
+        let ty = self.find_at(source, indices, registers, count, 0)?.ty;
+        for turn in 0..count {
+            out[turn] = self.number_found(source, ty, indices, registers, count, turn)?;
+        }
+        Some(ty)
+    }
 }
 
 impl RunReader for RunReading<'_, '_> {
@@ -204,13 +303,13 @@ impl RunReader for RunReading<'_, '_> {
 
     ghost agrees = { λ r m. IsBut r.buffer (memory_of r.memory.now) m };
 
-    fn variable(&self, name: &str, count: usize) -> Option<Lanes> {
+    fn variable(&self, name: &str, out: &mut [Number]) -> Option<Lanes> {
         if self.first.len() != self.second.len() {
             return None;
         }
         let first = number_bound(self.coordinates, self.first, name);
         let second = number_bound(self.coordinates, self.second, name);
-        lanes_of(first, second, count)
+        lanes_of(first, second, out)
     }
 
     fn look_each(&self, name: &str, others: &[i64], out: &mut [Number]) -> Option<Ty> {
@@ -228,22 +327,58 @@ impl RunReader for RunReading<'_, '_> {
             Source::Buffer(buffer) => self.look_place_row(buffer, first, others, out),
         }
     }
+
+    fn look_points(
+        &self,
+        name: &str,
+        indices: &[Lanes],
+        registers: &[Number],
+        out: &mut [Number],
+    ) -> Option<Ty> {
+        let source = self.source(name)?;
+        self.gather(source, indices, registers, out)
+    }
 }
 
-/// The numbers of a coordinate at so many turns, by those of the first turn and of the second, where it stays or rises by one.
-fn lanes_of(first: i64, second: i64, count: usize) -> Option<Lanes>
-    ensures narrow { IfSome result (IsNarrowFor count) }
-    ensures lanes { IfSome result (λ x. (zs : List NumberHeld) (k : ℕ) → typed I32 (first +ℤ (second -ℤ first) *ℤ pos k) ≡ lane x zs k) }
+/// The registers but the first so many numbers.
+fn registers_behind(registers: &[Number], count: usize) -> &[Number]
+    ensures { result.now ≡ drop count registers.now }
+{
+    if registers.len() < count {
+        return &[];
+    }
+    let (_, behind) = registers.split_at(count);
+    behind
+}
+
+/// The number of lanes at a turn, over this register.
+fn number_in(lanes: Lanes, register: &[Number], turn: usize) -> Option<i64>
+    ensures { IfSome result (λ z. z ≡ lane_number lanes register.now turn) }
+{
+    match lanes {
+        Lanes::Broadcast(value) => Some(value.number),
+        Lanes::Ramp(value) => value.number.checked_add(i64::try_from(turn).ok()?),
+        Lanes::Vector(_) => Some(register.get(turn)?.value),
+    }
+}
+
+/// The numbers of a coordinate at so many turns, by those of the first turn and of the second. They are put into the register
+/// where they neither stay nor rise by one.
+fn lanes_of(first: i64, second: i64, out: &mut [Number]) -> Option<Lanes>
+    ensures narrow { IfSome result (IsNarrowFor (length out.new)) }
+    ensures lanes { IfSome result (λ x. (k : ℕ) → k < length out.new → typed I32 (first +ℤ (second -ℤ first) *ℤ pos k) ≡ lane x out.new k) }
 {
     let value = Value {
         ty: Ty::I32,
         number: first,
     };
     if second == first {
-        Some(Lanes::Broadcast(value))
-    } else if count < 1 << 60 && first < 1 << 60 && second == first + 1 {
-        Some(Lanes::Ramp(value))
-    } else {
-        None
+        return Some(Lanes::Broadcast(value));
     }
+    let step = second.checked_sub(first)?;
+    if out.len() < 1 << 60 && first < 1 << 60 && step == 1 {
+        return Some(Lanes::Ramp(value));
+    }
+    fill_steps(first, step, out)?;
+    Some(Lanes::Vector(Ty::I32))
 }

@@ -1,6 +1,7 @@
 //! Stores at several turns of a loop together.
 
-ghost use Rattle.std.specs.Prelude.{◌≡◌, ◌<◌, ◌≤◌, ◌+◌, ℕ, ℤ, List, pos, ◌+ℤ◌, ◌≤ℤ◌, ◌^◌, length, map, take, flat_map, All, Contains, IfSome, MatchOption, OnOk, Some, int_le, string_bytes, true};
+ghost use Rattle.std.specs.Bool.{OnTrue};
+ghost use Rattle.std.specs.Prelude.{◌≡◌, ◌∷◌, ◌<◌, ◌≤◌, ◌+◌, ℕ, ℤ, List, pos, ◌+ℤ◌, ◌≤ℤ◌, ◌^◌, length, map, take, flat_map, All, Contains, IfSome, MatchOption, OnOk, Some, int_le, string_bytes, true};
 ghost use Rattle.tree.specs.declared.value.Value.{Value as ValueFound};
 ghost use Rattle.tree.specs.Meaning.{typed};
 ghost use Rattle.tree.specs.Term.{term_of};
@@ -16,18 +17,21 @@ ghost use Rattle.plan.specs.Plan.{block};
 ghost use Rattle.interpreter.specs.StoreLines.{alone, IsStore, IsStoreLine};
 ghost use Rattle.interpreter.specs.Bindings.{symbols_of};
 ghost use Rattle.interpreter.specs.Buffers.Blocks.{memory_of};
+ghost use Rattle.interpreter.specs.Buffers.Spots.{HasPlace, IsSpot};
 ghost use Rattle.interpreter.specs.Evaluation.Indices.{indices_in};
 ghost use Rattle.interpreter.specs.Evaluation.Lanes.{number_at};
 ghost use Rattle.interpreter.specs.Pieces.{around, no_cells, IsReady};
 ghost use Rattle.interpreter.specs.Rows.{listed};
-ghost use Rattle.interpreter.specs.Runs.{are_forms, numbers_at, store_at, FindsTurns, IsBut};
+ghost use Rattle.interpreter.specs.Runs.{are_forms, numbers_at, numbers_of, store_at, FindsTurns, IsBut};
 ghost use Rattle.interpreter.specs.States.{progress_of, EndsIn, IsAsLarge};
 ghost use Rattle.interpreter.specs.Steps.{steps};
 ghost use Rattle.interpreter.specs.Targets.{known_number, indices_of_all, CoordinateIsNarrow};
 ghost use Rattle.interpreter.specs.Visits.{between};
 
+use crate::buffers::{Buffers, Spot};
 use crate::evaluation::{Number, Stop, evaluate_run, spread, type_of};
 use crate::piece::Piece;
+use crate::registers::value_at;
 use crate::row::Row;
 use crate::run_reading::RunReading;
 use crate::sizes::size_in;
@@ -37,7 +41,7 @@ use crate::symbols::{Binding, Symbols};
 use crate::turns::{Turns, turn};
 use numeric::Ty;
 use plan::{Coordinate, Index, Stmt};
-use tree::{Expr, Value};
+use tree::Expr;
 
 /// Whether all coordinates are known by forms.
 fn are_forms(coordinates: &[Coordinate]) -> bool
@@ -212,19 +216,8 @@ fn evaluate_part<'a>(
     evaluate_in(line.value, &reader, part.count, &mut state.registers)
 }
 
-/// What a register holds for a turn, of the type.
-fn value_at(ty: Ty, registers: &[Number], turn: usize) -> Value
-    requires { turn < length registers.now }
-    ensures { result ≡ typed ty (number_at registers.now turn) }
-{
-    Value {
-        ty,
-        number: registers[turn].value,
-    }
-}
-
-/// Stores the numbers of the first registers at some turns of a loop.
-fn write_part<'a>(
+/// Stores the numbers of the first registers at some turns of a loop, by the point of each.
+fn write_points<'a>(
     piece: &'a Piece<'a>,
     line: &StoreLine<'a>,
     ty: Ty,
@@ -258,6 +251,141 @@ fn write_part<'a>(
         }
     }
     Ok(())
+}
+
+/// Whether the numbers are the same.
+fn are_same(left: &[i64], right: &[i64]) -> bool
+    ensures { OnTrue result (left.now ≡ right.now) }
+{
+    left == right
+}
+
+/// Whether the second number is one more than the first.
+fn is_one_more(first: i64, second: i64) -> bool
+    ensures { OnTrue result (second ≡ first +ℤ pos 1) }
+{
+    if first < second {
+        second - 1 == first
+    } else {
+        false
+    }
+}
+
+/// Whether the second point's first coordinate is one more than this one, and its others are these.
+fn is_next(first: i64, others: &[i64], second: &[i64]) -> bool
+    ensures { OnTrue result (second.now ≡ (first +ℤ pos 1) ∷ others.now) }
+{
+    let [next, later @ ..] = second else {
+        return false;
+    };
+    if !is_one_more(first, *next) {
+        return false;
+    }
+    are_same(later, others)
+}
+
+/// Where the first of so many points lies, where each lies behind the one before. The first coordinate rises by one, as the
+/// second point tells.
+fn risen_spot(
+    memory: &Buffers,
+    buffer: u32,
+    first: &[i64],
+    second: &[i64],
+    count: usize,
+) -> Option<Spot>
+    ensures lies { IfSome result (λ s. (k : ℕ) → k < count → IsSpot memory.now buffer (numbers_at first.now second.now k) s k) }
+    ensures inside { IfSome result (λ s. (k : ℕ) → k < count → HasPlace memory.now s.buffer (s.place + k)) }
+{
+    let [x, others @ ..] = first else {
+        return None;
+    };
+    if !is_next(*x, others, second) {
+        return None;
+    }
+    memory.spot(buffer, *x, others, count)
+}
+
+/// The numbers of so many turns.
+fn first_numbers(registers: &[Number], count: usize) -> &[Number]
+    requires { count ≤ length registers.now }
+    ensures { result.now ≡ take count registers.now }
+{
+    &registers[..count]
+}
+
+/// Where the first of a run's stores lies, where those of its later turns lie behind it one by one.
+fn spot_of(
+    place: &[Coordinate],
+    buffer: u32,
+    part: Part,
+    symbols: &mut Symbols,
+    state: &mut State,
+) -> Option<Spot>
+    requires narrow { (k : ℕ) → k < part.count → All (CoordinateIsNarrow (bind (symbols_of symbols.old) part.turns.symbol (part.low +ℤ pos k) (int_le (part.low +ℤ pos k) part.turns.low))) place.now }
+    requires high { (part.low +ℤ pos part.count) ≤ℤ pos (2 ^ 63) }
+    requires symbols { length symbols.old.bound < symbols.old.room }
+    requires numbers { length place.now ≤ state.old.numbers.room }
+    requires point { length place.now ≤ state.old.point.room }
+    ensures lies { IfSome result (λ s. (k : ℕ) → k < part.count → IsSpot state.new.memory buffer (numbers_of place.now (symbols_of symbols.old) part.turns.symbol part.turns.low (part.low +ℤ pos k)) s k) }
+    ensures inside { IfSome result (λ s. (k : ℕ) → k < part.count → HasPlace state.new.memory s.buffer (s.place + k)) }
+    ensures symbols { symbols.new ≡ symbols.old }
+    ensures memory { state.new.memory ≡ state.old.memory }
+    ensures progress { progress_of state.new ≡ progress_of state.old }
+    ensures registers { state.new.registers.items ≡ state.old.registers.items }
+    ensures large { IsAsLarge state.old state.new }
+{
+    if part.count < 2 {
+        return None;
+    }
+    let second = part.low + 1;
+    numbers_in(
+        turn(part.turns, part.low),
+        place,
+        symbols,
+        &mut state.numbers,
+    );
+    numbers_in(turn(part.turns, second), place, symbols, &mut state.point);
+    risen_spot(
+        &state.memory,
+        buffer,
+        state.numbers.as_slice(),
+        state.point.as_slice(),
+        part.count,
+    )
+}
+
+/// Stores the numbers of the first registers at some turns of a loop.
+fn write_part<'a>(
+    piece: &'a Piece<'a>,
+    line: &StoreLine<'a>,
+    ty: Ty,
+    part: Part,
+    symbols: &mut Symbols,
+    state: &mut State,
+) -> Result<(), Stop>
+    requires ready { IsReady piece.now }
+    requires forms { are_forms line.now.coordinates.now ≡ true }
+    requires narrow { (k : ℕ) → k < part.count → All (CoordinateIsNarrow (bind (symbols_of symbols.old) part.turns.symbol (part.low +ℤ pos k) (int_le (part.low +ℤ pos k) part.turns.low))) line.now.coordinates.now }
+    requires few { part.count ≤ 128 }
+    requires high { (part.low +ℤ pos part.count) ≤ℤ pos (2 ^ 63) }
+    requires count { part.count ≤ length state.old.registers.items }
+    requires symbols { length symbols.old.bound < symbols.old.room }
+    requires point { length line.now.coordinates.now ≤ state.old.point.room }
+    requires numbers { length line.now.coordinates.now ≤ state.old.numbers.room }
+    requires finds { FindsTurns piece.now line.now.buffer line.now.coordinates.now (term_of line.now.value.now) (symbols_of symbols.old) part.turns.symbol part.turns.low part.low (memory_of state.old.memory) part.count ty state.old.registers.items }
+    ensures symbols { OnOk result (symbols.new ≡ symbols.old) }
+    ensures large { OnOk result (IsAsLarge state.old state.new) }
+    ensures run { (definition : ℕ) (cell : List ℕ → List ℤ → ValueFound) → EndsIn state.old.given.capacity (λ _. progress_of state.new) result (steps (around piece.now cell) (flat_map (store_at piece.now line.now.buffer line.now.coordinates.now (term_of line.now.value.now) (symbols_of symbols.old) part.turns.symbol part.turns.low definition) (rising part.low part.count)) (progress_of state.old)) }
+{
+    let place = of_function(line.coordinates, size_in(piece.sizes, line.buffer));
+    match spot_of(place, line.buffer, part, symbols, state) {
+        Some(spot) => {
+            let numbers = first_numbers(&state.registers, part.count);
+            state.memory.put_row(spot, ty, numbers);
+            Ok(())
+        }
+        None => write_points(piece, line, ty, part, symbols, state),
+    }
 }
 
 /// The store at some turns of a loop, one after another.

@@ -4,7 +4,7 @@ ghost use Rattle.std.specs.Prelude.{◌≡◌, ◌∷◌, [], ◌<◌, ◌+ℤ�
 ghost use Rattle.numeric.specs.declared.ty.Ty.{Ty as TyFound};
 ghost use Rattle.tree.specs.Meaning.{typed};
 ghost use Rattle.interpreter.specs.Evaluation.Lanes.{number_at};
-ghost use Rattle.interpreter.specs.Scanlines.{along, input_at, sample_along};
+ghost use Rattle.interpreter.specs.Scanlines.{along, input_at, pixel_along, sample_along};
 
 use crate::evaluation::Number;
 use numeric::Ty;
@@ -119,6 +119,92 @@ pub(crate) fn take_samples(samples: &[u16], out: &mut [Number]) -> Option<()>
 {
     for turn in 0..out.len() {
         out[turn] = sample_at(samples, out[turn])?;
+    }
+    Some(())
+}
+
+/// The samples of a row of an image of three dimensions, where the third is the colour, and which colour is meant.
+#[derive(Clone, Copy, Drop)]
+pub(crate) struct Pixels<'a> {
+    pub samples: &'a [u16],
+    pub colours: usize,
+    pub colour: usize,
+}
+
+/// An image's samples at the points with two coordinates behind the first one, if it has three dimensions.
+pub(crate) fn pixels_beside<'a>(
+    extents: &[u32],
+    samples: &'a [u16],
+    others: &[i64],
+) -> Option<Pixels<'a>>
+    ensures { IfSome result (λ row. (t : TyFound) (z n : ℤ) → pixel_along row.colours row.colour row.samples.now z ≡ Some n → input_at t extents.now samples.now (z ∷ others.now) ≡ Some (typed t n)) }
+{
+    match others {
+        [row, colour] => pixels_in(extents, samples, *row, *colour),
+        _ => None,
+    }
+}
+
+/// The samples of a colour in a row of an image of three dimensions, if there are such.
+fn pixels_in<'a>(extents: &[u32], samples: &'a [u16], row: i64, colour: i64) -> Option<Pixels<'a>>
+    ensures { IfSome result (λ p. (t : TyFound) (z n : ℤ) → pixel_along p.colours p.colour p.samples.now z ≡ Some n → input_at t extents.now samples.now (z ∷ row ∷ colour ∷ []) ≡ Some (typed t n)) }
+{
+    match extents {
+        [width, height, colours] => {
+            let row = natural(row)?;
+            let colour = natural(colour)?;
+            if *height as usize <= row || *colours as usize <= colour {
+                return None;
+            }
+            pixels_among(*width, *colours, samples, row, colour)
+        }
+        _ => None,
+    }
+}
+
+/// The samples of a colour in a row, where each row has so many pixels and each pixel so many colours.
+fn pixels_among(
+    width: u32,
+    colours: u32,
+    samples: &[u16],
+    row: usize,
+    colour: usize,
+) -> Option<Pixels<'_>>
+    requires { colour < colours }
+    ensures { IfSome result (λ p. (t : TyFound) (h : ℕ) (z n : ℤ) → row < h → pixel_along p.colours p.colour p.samples.now z ≡ Some n → input_at t (width ∷ h ∷ colours ∷ []) samples.now (z ∷ pos row ∷ pos colour ∷ []) ≡ Some (typed t n)) }
+{
+    let colours = colours as usize;
+    let count = (width as usize).checked_mul(colours)?;
+    let start = row.checked_mul(count)?;
+    let samples = window(samples, start, count)?;
+    Some(Pixels {
+        samples,
+        colours,
+        colour,
+    })
+}
+
+/// The sample of a row's colour at a coordinate, if there is one.
+fn pixel_at(row: Pixels<'_>, place: Number) -> Option<Number>
+    ensures { IfSome result (λ n. pixel_along row.entry.colours row.entry.colour row.entry.samples.now place.value ≡ Some n.value) }
+{
+    if place.value < 0 {
+        return None;
+    }
+    let first = (place.value as usize).checked_mul(row.colours)?;
+    let sample = row.samples.get(first.checked_add(row.colour)?)?;
+    Some(Number {
+        value: i64::from(*sample),
+    })
+}
+
+/// The samples of a row's colour at the coordinates that a register has, put into it; nothing where there is none at one of
+/// them.
+pub(crate) fn take_pixels(row: Pixels<'_>, out: &mut [Number]) -> Option<()>
+    ensures { IfSome result (λ _. (k : ℕ) → k < length out.new → pixel_along row.entry.colours row.entry.colour row.entry.samples.now (number_at out.old k) ≡ Some (number_at out.new k)) }
+{
+    for turn in 0..out.len() {
+        out[turn] = pixel_at(row, out[turn])?;
     }
     Some(())
 }

@@ -19,6 +19,7 @@ use crate::cells::Cells;
 use crate::evaluation::Stop;
 use crate::forms::{largest, smallest, value_of};
 use crate::piece::Piece;
+use crate::row_visits::visit_row;
 use crate::state::State;
 use crate::symbols::Symbols;
 use lin::{Lin, Span1};
@@ -69,7 +70,7 @@ fn is_at_most(number: i64, forms: &[Lin], symbols: &Symbols) -> bool
 }
 
 /// Whether a number lies in a span.
-fn is_in_span(span: &Span1, number: i64, symbols: &Symbols) -> bool
+pub(crate) fn is_in_span(span: &Span1, number: i64, symbols: &Symbols) -> bool
     requires { SpanIsNarrow (symbols_of symbols.now) span.now }
     ensures { result ≡ is_in_span (symbols_of symbols.now) span.now number }
 {
@@ -78,7 +79,7 @@ fn is_in_span(span: &Span1, number: i64, symbols: &Symbols) -> bool
 }
 
 /// Whether a point lies in a region.
-fn is_in_region(region: &[Span1], point: &[i64], symbols: &Symbols) -> bool
+pub(crate) fn is_in_region(region: &[Span1], point: &[i64], symbols: &Symbols) -> bool
     requires { RegionIsNarrow (symbols_of symbols.now) region.now }
     ensures { result ≡ is_in_region (symbols_of symbols.now) region.now point.now }
 {
@@ -92,7 +93,7 @@ fn is_in_region(region: &[Span1], point: &[i64], symbols: &Symbols) -> bool
 }
 
 /// The buffer of which a claim speaks, 0 where there is no such claim.
-fn claim_buffer(claims: &[Claim], claim: u32) -> u32
+pub(crate) fn claim_buffer(claims: &[Claim], claim: u32) -> u32
     ensures { result ≡ buffer_in (slice_get (map claim_of claims.now) claim) }
 {
     match claims.get(claim as usize) {
@@ -156,9 +157,9 @@ fn visit_point<C: Cells>(walk: &Walk<'_, '_>, cells: &C, state: &mut State) -> R
 
 /// The numbers of a span.
 #[derive(Clone, Copy, Drop)]
-struct Numbers {
-    low: i64,
-    high: i64,
+pub(crate) struct Numbers {
+    pub low: i64,
+    pub high: i64,
 }
 
 /// Visits the points of a region, each followed by each of some numbers and by the other coordinates of the point.
@@ -206,7 +207,8 @@ fn visit_region<C: Cells>(
                 low: largest(&span.lower, walk.symbols),
                 high: smallest(&span.upper, walk.symbols),
             };
-            visit_numbers(walk, cells, region, numbers, state)
+            let left = visit_row(walk, cells, region, numbers, state);
+            visit_numbers(walk, cells, region, left, state)
         }
     }
 }

@@ -1,5 +1,6 @@
 -- What an expression comes to at the turns of a run.
-use Rattle.std.specs.Prelude.{◌≡◌, ℕ, ◌<◌, ◌≤◌, ◌^◌, List, Option, Some, ℤ, pos, ◌+ℤ◌, ◌≤ℤ◌, slice_index_or}
+use Rattle.std.specs.Prelude.{◌≡◌, ℕ, ◌<◌, ◌≤◌, ◌^◌, List, [], ◌∷◌, drop, Bool, not, Option, Some, ℤ, pos, ◌+ℤ◌, ◌≤ℤ◌, slice_index_or}
+use Rattle.std.specs.Ordering.{int_eq}
 use Rattle.numeric.specs.declared.ty.Ty.{Ty}
 use Rattle.numeric.specs.Wrap.{greatest, least}
 use Rattle.tree.specs.declared.value.Value.{Value}
@@ -46,3 +47,20 @@ IsNarrowFor n (Vector t) = Unit {0}
 -- at each of so many turns, this is found
 abbrev pub FindsRun : ℕ → Lanes → List Number → (ℕ → Option Value) → Type 0
 FindsRun n x zs f = (k : ℕ) → k < n → f k ≡ Some (lane x zs k)
+
+-- the numbers of some indices at a turn, each of which has a register of so many numbers, one behind the other
+abbrev pub lanes_at : ℕ → List Lanes → List Number → ℕ → List ℤ
+lanes_at n [] zs k = []
+lanes_at n (x ∷ xs) zs k = lane_number x zs k ∷ lanes_at n xs (drop n zs) k
+
+-- whether a number of a mask says yes
+abbrev pub is_set : ℤ → Bool
+is_set z = not (int_eq z (pos 0))
+
+-- whether a mask says yes at a turn
+abbrev pub mask_at : List Number → ℕ → Bool
+mask_at zs k = is_set (number_at zs k)
+
+-- at each of so many turns, the condition is found to be what the mask says
+abbrev pub FindsMask : ℕ → List Number → (ℕ → Option Bool) → Type 0
+FindsMask n zs f = (k : ℕ) → k < n → f k ≡ Some (mask_at zs k)

@@ -1,20 +1,21 @@
 //! One buffer.
 
-ghost use Rattle.std.specs.Prelude.{◌≡◌, ◌∷◌, ◌-ℤ◌, ℕ, ℤ, ◌<◌, ◌≤◌, ◌^◌, ◌==◌, ◌&&◌, false, true, IfOk, IfSome, IsFalse, None, Some, map, replicate};
+ghost use Rattle.std.specs.Prelude.{◌≡◌, ◌∷◌, ◌+◌, ◌+ℤ◌, ◌-ℤ◌, ℕ, ℤ, List, pos, length, ◌<◌, ◌≤◌, ◌^◌, ◌==◌, ◌&&◌, false, true, IfOk, IfSome, IsFalse, None, Some, map, replicate};
 ghost use Rattle.std.specs.Bool.{OnTrue};
 ghost use Rattle.tree.specs.declared.value.Value.{Value as ValueHeld};
 ghost use Rattle.plan.specs.Rooms.{place};
 ghost use Rattle.plan.specs.Semantics.Memory.{held_at};
 ghost use Rattle.interpreter.specs.Buffers.Rooms.{room_of};
 ghost use Rattle.interpreter.specs.Scanlines.{along};
-ghost use Rattle.interpreter.specs.Buffers.Raster.{place_count};
+ghost use Rattle.interpreter.specs.Buffers.Raster.{place_count, LiesAt};
 ghost use Rattle.interpreter.specs.Buffers.Blocks.{held_in, unused, IsSetAt};
+ghost use Rattle.interpreter.specs.Buffers.Spots.{with_place};
 
 use crate::buffers::limit::Limit;
 use crate::buffers::raster::{place_count, place_number};
 use crate::buffers::room::Rooms;
 use crate::buffers::stretch::stretch_of;
-use crate::scanlines::{Scanline, window};
+use crate::scanlines::{Scanline, distance, window};
 use smallvec::SmallVec;
 use std::alloc::{AllocError, Global};
 use std::marker::Model;
@@ -42,6 +43,32 @@ impl Model for Buffer {
     ghost view = { λ b. record { number = b.number; limit = b.limit; used = b.is_used; rooms = map room_of b.rooms.items; places = b.places.items } };
 
     ghost invariant = { λ b. (length b.places.items ≡ place_count (map room_of b.rooms.items)) × (place_count (map room_of b.rooms.items) < 2 ^ 64) × (b.limit ≤ vec_capacity b.places) × (b.limit < 2 ^ 64) };
+}
+
+/// Whether there are so many behind those that are skipped.
+fn have_room(all: usize, skipped: usize, count: usize) -> bool
+    ensures { OnTrue result (skipped + count ≤ all) }
+{
+    if skipped <= all {
+        count <= all - skipped
+    } else {
+        false
+    }
+}
+
+/// The number of the place that so many come behind another, where there are so many places.
+fn place_behind(count: usize, place: usize, behind: usize) -> usize
+    requires { place + behind < count }
+    ensures { result ≡ place + behind }
+{
+    place + behind
+}
+
+/// The sum, where it is a `usize`.
+fn sum(left: usize, right: usize) -> Option<usize>
+    ensures { IfSome result (λ n. n ≡ left + right) }
+{
+    left.checked_add(right)
 }
 
 impl Buffer {
@@ -119,6 +146,32 @@ impl Buffer {
             origin: stretch.origin,
             places,
         })
+    }
+
+    /// The number of the place of the first of so many points, of which each has a first coordinate that is one more than that of
+    /// the one before, where the places of the others follow it one by one.
+    pub(crate) fn places_from(&self, first: i64, others: &[i64], count: usize) -> Option<usize>
+        ensures lies { IfSome result (λ n. (k : ℕ) → k < count → LiesAt self.now.rooms ((first +ℤ pos k) ∷ others.now) (n + k)) }
+        ensures inside { IfSome result (λ n. (k : ℕ) → k < count → n + k < length self.now.places) }
+    {
+        let stretch = stretch_of(&self.rooms, others)?;
+        let skipped = distance(stretch.origin, first)?;
+        if !have_room(stretch.count, skipped, count) {
+            return None;
+        }
+        let place = sum(stretch.start, skipped)?;
+        Some(place)
+    }
+
+    /// Sets the place that so many come behind another.
+    #[inline(always)]
+    pub(crate) fn put(&mut self, place: usize, behind: usize, value: Value)
+        requires { place + behind < length self.old.places }
+        ensures is { self.new ≡ with_place self.old (place + behind) value }
+        ensures set { (p : List ℤ) → LiesAt self.old.rooms p (place + behind) → IsSetAt self.old self.new p value }
+    {
+        let target = place_behind(self.places.len(), place, behind);
+        self.places[target] = Some(value);
     }
 
     /// Sets the place of a point; `false` where the point has none.

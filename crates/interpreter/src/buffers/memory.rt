@@ -1,18 +1,26 @@
 //! Buffers by number.
 
-ghost use Rattle.std.specs.Prelude.{◌≡◌, ◌∷◌, ◌-ℤ◌, ℤ, ◌==◌, ◌≤◌, ◌&&◌, All, IfOk, IfSome, Some, None, map, position, IsFalse};
+ghost use Rattle.std.specs.Prelude.{◌≡◌, ◌∷◌, ◌+ℤ◌, ◌-ℤ◌, ◌+◌, ◌<◌, ℕ, ℤ, pos, List, ◌==◌, ◌≤◌, ◌&&◌, All, length, IfOk, IfSome, Some, None, map, position, IsFalse};
 ghost use Rattle.tree.specs.declared.value.Value.{Value as ValueHeld};
 ghost use Rattle.std.specs.Bool.{OnTrue};
 ghost use Rattle.plan.specs.Semantics.Memory.{allot, nothing, read, write};
 ghost use Rattle.interpreter.specs.Buffers.Raster.{place_count};
 ghost use Rattle.interpreter.specs.Buffers.Rooms.{room_of};
+ghost use Rattle.tree.specs.Meaning.{typed};
 ghost use Rattle.interpreter.specs.Scanlines.{along};
+ghost use Rattle.interpreter.specs.Evaluation.Lanes.{number_at};
+ghost use Rattle.interpreter.specs.Buffers.Spots.{set_all, HasPlace, IsSpot};
+ghost use Rattle.interpreter.specs.declared.buffers.spot.Spot.{Spot as SpotHeld};
 ghost use Rattle.interpreter.specs.Buffers.Blocks.{limits_of, memory_of, HasMemoryFor};
 
 use crate::buffers::buffer::Buffer;
 use crate::buffers::limit::Limit;
 use crate::buffers::room::Rooms;
+use crate::buffers::spot::Spot;
+use crate::evaluation::Number;
+use crate::registers::value_at;
 use crate::scanlines::Scanline;
+use numeric::Ty;
 use std::alloc::{AllocError, Global};
 use std::marker::Model;
 use tree::Value;
@@ -154,6 +162,44 @@ impl Buffers {
         match used_position(&self.buffers, buffer) {
             Some(found) => self.buffers[found].write(at, value),
             None => false,
+        }
+    }
+
+    /// Where the first of so many points lies, of which each has a first coordinate that is one more than that of the one before,
+    /// where the places of the others follow it one by one.
+    pub(crate) fn spot(&self, buffer: u32, first: i64, others: &[i64], count: usize) -> Option<Spot>
+        ensures lies { IfSome result (λ s. (k : ℕ) → k < count → IsSpot self.now buffer ((first +ℤ pos k) ∷ others.now) s k) }
+        ensures inside { IfSome result (λ s. (k : ℕ) → k < count → HasPlace self.now s.buffer (s.place + k)) }
+    {
+        let found = used_position(&self.buffers, buffer)?;
+        let place = self.buffers[found].places_from(first, others, count)?;
+        Some(Spot {
+            buffer: found,
+            place,
+        })
+    }
+
+    /// Sets the place that so many come behind a spot.
+    #[inline(always)]
+    pub(crate) fn put(&mut self, spot: Spot, behind: usize, value: Value)
+        requires { HasPlace self.old spot.buffer (spot.place + behind) }
+        ensures set { (b : ℕ) (p : List ℤ) → IsSpot self.old b p spot behind → write (memory_of self.old) b p value ≡ Some (memory_of self.new) }
+        ensures places { (i n : ℕ) → HasPlace self.old i n → HasPlace self.new i n }
+        ensures spots { (b : ℕ) (p : List ℤ) (s : SpotHeld) (k : ℕ) → IsSpot self.old b p s k → IsSpot self.new b p s k }
+        ensures limits { limits_of self.new ≡ limits_of self.old }
+    {
+        self.buffers[spot.buffer].put(spot.place, behind, value);
+    }
+
+    /// Sets the places from a spot on, one after another, each to a number of the register.
+    pub(crate) fn put_row(&mut self, spot: Spot, ty: Ty, numbers: &[Number])
+        requires { (k : ℕ) → k < length numbers.now → HasPlace self.old spot.buffer (spot.place + k) }
+        ensures set { (b : ℕ) (points : ℕ → List ℤ) → ((k : ℕ) → k < length numbers.now → IsSpot self.old b (points k) spot k) → set_all (memory_of self.old) b points (λ k. typed ty (number_at numbers.now k)) (length numbers.now) ≡ Some (memory_of self.new) }
+        ensures limits { limits_of self.new ≡ limits_of self.old }
+    {
+        for turn in 0..numbers.len() {
+            let value = value_at(ty, numbers, turn);
+            self.put(spot, turn, value);
         }
     }
 }

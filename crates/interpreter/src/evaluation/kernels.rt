@@ -1,14 +1,14 @@
 //! The operators over registers, which hold a number for each turn of a run.
 
-ghost use Rattle.std.specs.Prelude.{◌≡◌, ◌<◌, ℕ, pos, neg_ℤ, ◌+ℤ◌, length};
+ghost use Rattle.std.specs.Prelude.{◌≡◌, ◌<◌, ◌≤◌, ◌&&◌, ◌||◌, ℕ, IfSome, if◌then◌else◌, not, pos, neg_ℤ, ◌+ℤ◌, ◌*ℤ◌, length};
 ghost use Rattle.std.specs.Int.{int_max, int_min};
-ghost use Rattle.numeric.specs.Apply.{apply};
+ghost use Rattle.numeric.specs.Apply.{apply, compare};
 ghost use Rattle.numeric.specs.Wrap.{wrap};
-ghost use Rattle.interpreter.specs.Evaluation.Lanes.{number_at, IsShortRamp};
+ghost use Rattle.interpreter.specs.Evaluation.Lanes.{is_set, mask_at, number_at, IsShortRamp};
 
 use crate::evaluation::lanes::Number;
 use crate::evaluation::operators::{applied, clamped, negated, wrapped};
-use numeric::{Op, Ty};
+use numeric::{Comparison, Op, Ty, compare};
 use tree::Value;
 
 /// The number so many turns after the first.
@@ -175,5 +175,151 @@ pub(crate) fn clamp_each(out: &mut [Number], low: &[Number], high: &[Number])
 {
     for turn in 0..out.len() {
         out[turn] = clamped_number(out[turn], low[turn], high[turn]);
+    }
+}
+
+/// Puts the first numbers of another register in, where it has as many.
+pub(crate) fn copy_register(from: &[Number], out: &mut [Number]) -> Option<()>
+    ensures { IfSome result (λ _. (k : ℕ) → k < length out.new → number_at out.new k ≡ number_at from.now k) }
+{
+    if from.len() < out.len() {
+        return None;
+    }
+    copy_each(from, out);
+    Some(())
+}
+
+/// Puts the first numbers of another register in.
+fn copy_each(from: &[Number], out: &mut [Number])
+    requires { length out.old ≤ length from.now }
+    ensures { (k : ℕ) → k < length out.new → number_at out.new k ≡ number_at from.now k }
+{
+    for turn in 0..out.len() {
+        out[turn] = from[turn];
+    }
+}
+
+/// The number so many turns after the first, where each turn adds a step, if it is of 64 bits.
+fn stepped(first: i64, step: i64, turn: usize) -> Option<Number>
+    ensures { IfSome result (λ n. n.value ≡ first +ℤ step *ℤ pos turn) }
+{
+    let turn = i64::try_from(turn).ok()?;
+    let value = step.checked_mul(turn)?.checked_add(first)?;
+    Some(Number { value })
+}
+
+/// Puts numbers in to each of which the next one adds a step; nothing where they are not of 64 bits.
+pub(crate) fn fill_steps(first: i64, step: i64, out: &mut [Number]) -> Option<()>
+    ensures { IfSome result (λ _. (k : ℕ) → k < length out.new → number_at out.new k ≡ first +ℤ step *ℤ pos k) }
+{
+    for turn in 0..out.len() {
+        out[turn] = stepped(first, step, turn)?;
+    }
+    Some(())
+}
+
+/// A number of a mask that says whether the comparison holds.
+#[inline(always)]
+fn compared_number(by: Comparison, left: Number, right: Number) -> Number
+    ensures { is_set result.value ≡ compare by left.value right.value }
+{
+    Number {
+        value: i64::from(compare(by, left.value, right.value)),
+    }
+}
+
+/// A mask that says where the comparison with the numbers of another register holds.
+#[inline(always)]
+fn compare_each(by: Comparison, out: &mut [Number], right: &[Number])
+    requires { length right.now ≡ length out.old }
+    ensures { (k : ℕ) → k < length out.new → mask_at out.new k ≡ compare by (number_at out.old k) (number_at right.now k) }
+{
+    for turn in 0..out.len() {
+        out[turn] = compared_number(by, out[turn], right[turn]);
+    }
+}
+
+/// A mask that says where the comparison with the numbers of another register holds, by a loop of the comparison's own.
+pub(crate) fn compare_all(by: Comparison, out: &mut [Number], right: &[Number])
+    requires { length right.now ≡ length out.old }
+    ensures { (k : ℕ) → k < length out.new → mask_at out.new k ≡ compare by (number_at out.old k) (number_at right.now k) }
+{
+    match by {
+        Comparison::Less => compare_each(Comparison::Less, out, right),
+        Comparison::AtMost => compare_each(Comparison::AtMost, out, right),
+        Comparison::Greater => compare_each(Comparison::Greater, out, right),
+        Comparison::AtLeast => compare_each(Comparison::AtLeast, out, right),
+        Comparison::Equal => compare_each(Comparison::Equal, out, right),
+        Comparison::Different => compare_each(Comparison::Different, out, right),
+    }
+}
+
+/// A number that says yes where this one does not.
+fn not_number(number: Number) -> Number
+    ensures { is_set result.value ≡ not (is_set number.value) }
+{
+    Number {
+        value: i64::from(number.value == 0),
+    }
+}
+
+/// The mask that says yes where this one does not.
+pub(crate) fn not_each(out: &mut [Number])
+    ensures { (k : ℕ) → k < length out.new → mask_at out.new k ≡ not (mask_at out.old k) }
+{
+    for turn in 0..out.len() {
+        out[turn] = not_number(out[turn]);
+    }
+}
+
+/// A number that says yes where both do.
+fn both_number(left: Number, right: Number) -> Number
+    ensures { is_set result.value ≡ (is_set left.value && is_set right.value) }
+{
+    if left.value == 0 { left } else { right }
+}
+
+/// The mask that says yes where this one and another do.
+pub(crate) fn both_each(out: &mut [Number], right: &[Number])
+    requires { length right.now ≡ length out.old }
+    ensures { (k : ℕ) → k < length out.new → mask_at out.new k ≡ (mask_at out.old k && mask_at right.now k) }
+{
+    for turn in 0..out.len() {
+        out[turn] = both_number(out[turn], right[turn]);
+    }
+}
+
+/// A number that says yes where one of them does.
+fn either_number(left: Number, right: Number) -> Number
+    ensures { is_set result.value ≡ (is_set left.value || is_set right.value) }
+{
+    if left.value == 0 { right } else { left }
+}
+
+/// The mask that says yes where this one or another does.
+pub(crate) fn either_each(out: &mut [Number], right: &[Number])
+    requires { length right.now ≡ length out.old }
+    ensures { (k : ℕ) → k < length out.new → mask_at out.new k ≡ (mask_at out.old k || mask_at right.now k) }
+{
+    for turn in 0..out.len() {
+        out[turn] = either_number(out[turn], right[turn]);
+    }
+}
+
+/// The first of two numbers where a mask's number says yes, else the second.
+fn chosen_number(mask: Number, yes: Number, no: Number) -> Number
+    ensures { result.value ≡ (if is_set mask.value then yes.value else no.value) }
+{
+    if mask.value == 0 { no } else { yes }
+}
+
+/// The numbers of one register where the mask says yes, and those of another where it does not.
+pub(crate) fn choose_each(out: &mut [Number], yes: &[Number], no: &[Number])
+    requires yes { length yes.now ≡ length out.old }
+    requires no { length no.now ≡ length out.old }
+    ensures { (k : ℕ) → k < length out.new → number_at out.new k ≡ (if mask_at out.old k then number_at yes.now k else number_at no.now k) }
+{
+    for turn in 0..out.len() {
+        out[turn] = chosen_number(out[turn], yes[turn], no[turn]);
     }
 }

@@ -1,18 +1,22 @@
 //! The values of an expression at the turns of a run.
 
-ghost use Rattle.std.specs.Prelude.{◌≡◌, ◌∷◌, ◌<◌, ◌+ℤ◌, ℕ, pos, IfSome, length, Some};
-ghost use Rattle.plan.specs.Semantics.Found.{found, all_found, with};
+ghost use Rattle.std.specs.Prelude.{◌≡◌, ◌<◌, ◌*◌, ℕ, IfSome, drop, length};
+ghost use Rattle.plan.specs.Semantics.Found.{found, test_found, all_found, with};
 ghost use Rattle.plan.specs.Semantics.Memory.{Memory};
-ghost use Rattle.tree.specs.Meaning.{typed};
-ghost use Rattle.tree.specs.Term.{term_of, indices, list_terms};
+ghost use Rattle.tree.specs.Term.{term_of, test_of, indices, list_terms};
 ghost use Rattle.tree.specs.declared.value.Value.{Value as ValueFound};
-ghost use Rattle.interpreter.specs.Evaluation.Lanes.{lane, lane_number, FindsRun, IsNarrowFor, IsShortRamp};
+ghost use Rattle.interpreter.specs.Evaluation.Lanes.{number_at, FindsMask, FindsRun, IsNarrowFor};
+ghost use Rattle.interpreter.specs.declared.evaluation.lanes.Lanes.TheVariants.{Vector};
 
+use crate::evaluation::kernels::{both_each, either_each, not_each};
 use crate::evaluation::lanes::{Lanes, Number};
+use crate::evaluation::looking::look_run;
 use crate::evaluation::run_reader::RunReader;
-use crate::evaluation::whole::{apply_lanes, clamp_lanes, negate_lanes, spread, wrap_lanes};
+use crate::evaluation::whole::{
+    apply_lanes, choose_lanes, clamp_lanes, compare_lanes, negate_lanes, wrap_lanes,
+};
 use numeric::Ty;
-use tree::{Expr, Value};
+use tree::{Cond, Expr, Value};
 
 /// The values of an expression at the turns of a run, as many as the register has numbers. Nothing where it is not taken
 /// for all turns together; then it may still have values.
@@ -33,8 +37,11 @@ pub fn evaluate_run<R: RunReader>(
             ty: *ty,
             number: *number,
         })),
-        Expr::Variable { name, .. } => reader.variable(name.as_str(), out.len()),
-        Expr::Call { name, at, .. } => call_run(name.as_str(), at, reader, out, rest),
+        Expr::Variable { name, .. } => reader.variable(name.as_str(), out),
+        Expr::Call { name, at, .. } => {
+            let ty = call_run(name.as_str(), at, reader, out, rest)?;
+            Some(Lanes::Vector(ty))
+        }
         Expr::Negate { value, .. } => {
             let value = evaluate_run(value, reader, out, rest)?;
             Some(negate_lanes(value, out))
@@ -53,34 +60,148 @@ pub fn evaluate_run<R: RunReader>(
             let right = evaluate_run(right, reader, other, rest)?;
             Some(apply_lanes(*op, left, right, out, other))
         }
-        Expr::Clamp {
-            value,
-            low,
-            high,
-            ..
-        } => {
-            let value = evaluate_run(value, reader, out, rest)?;
-            if rest.len() < out.len() {
-                return None;
-            }
-            let (lows, rest) = rest.split_at_mut(out.len());
-            let low = evaluate_run(low, reader, lows, rest)?;
-            if rest.len() < out.len() {
-                return None;
-            }
-            let (highs, rest) = rest.split_at_mut(out.len());
-            let high = evaluate_run(high, reader, highs, rest)?;
-            Some(clamp_lanes(value, low, high, out, lows, highs))
-        }
+        Expr::Clamp { .. } => clamp_run(expr, reader, out, rest),
         Expr::Cast { ty, value, .. } => {
             let value = evaluate_run(value, reader, out, rest)?;
             Some(wrap_lanes(*ty, value, out))
         }
-        Expr::Select { .. } => None,
+        Expr::Select { .. } => select_run(expr, reader, out, rest),
     }
 }
 
-/// What a call finds at the turns of a run, where all its indices but the first are the same at all turns.
+/// The values between two others, of an expression that is such.
+#[cycle(evaluate_run)]
+fn clamp_run<R: RunReader>(
+    expr: &Expr,
+    reader: &R,
+    out: &mut [Number],
+    rest: &mut [Number],
+) -> Option<Lanes>
+    ensures narrow { IfSome result (IsNarrowFor (length out.new)) }
+    ensures value { IfSome result (λ x. (m : Memory ValueFound) → R.agrees reader.now m → FindsRun (length out.new) x out.new (λ k. found (R.variables reader.now k) (R.look reader.now m) (term_of expr.now))) }
+{
+    let Expr::Clamp {
+        value,
+        low,
+        high,
+        ..
+    } = expr
+    else {
+        return None;
+    };
+    let value = evaluate_run(value, reader, out, rest)?;
+    if rest.len() < out.len() {
+        return None;
+    }
+    let (lows, rest) = rest.split_at_mut(out.len());
+    let low = evaluate_run(low, reader, lows, rest)?;
+    if rest.len() < out.len() {
+        return None;
+    }
+    let (highs, rest) = rest.split_at_mut(out.len());
+    let high = evaluate_run(high, reader, highs, rest)?;
+    Some(clamp_lanes(value, low, high, out, lows, highs))
+}
+
+/// The chosen values, of an expression that is a choice. All of its condition and both its arms are evaluated.
+#[cycle(evaluate_run)]
+fn select_run<R: RunReader>(
+    expr: &Expr,
+    reader: &R,
+    out: &mut [Number],
+    rest: &mut [Number],
+) -> Option<Lanes>
+    ensures narrow { IfSome result (IsNarrowFor (length out.new)) }
+    ensures value { IfSome result (λ x. (m : Memory ValueFound) → R.agrees reader.now m → FindsRun (length out.new) x out.new (λ k. found (R.variables reader.now k) (R.look reader.now m) (term_of expr.now))) }
+{
+    let Expr::Select { cond, yes, no, .. } = expr else {
+        return None;
+    };
+    test_run(cond, reader, out, rest)?;
+    if rest.len() < out.len() {
+        return None;
+    }
+    let (yeses, rest) = rest.split_at_mut(out.len());
+    let yes = evaluate_run(yes, reader, yeses, rest)?;
+    if rest.len() < out.len() {
+        return None;
+    }
+    let (noes, rest) = rest.split_at_mut(out.len());
+    let no = evaluate_run(no, reader, noes, rest)?;
+    let ty = choose_lanes(yes, no, out, yeses, noes)?;
+    Some(Lanes::Vector(ty))
+}
+
+/// What a condition comes to at the turns of a run, put into the register as a mask. All of it is evaluated.
+#[cycle(evaluate_run)]
+fn test_run<R: RunReader>(
+    cond: &Cond,
+    reader: &R,
+    out: &mut [Number],
+    rest: &mut [Number],
+) -> Option<()>
+    ensures { IfSome result (λ _. (m : Memory ValueFound) → R.agrees reader.now m → FindsMask (length out.new) out.new (λ k. test_found (R.variables reader.now k) (R.look reader.now m) (test_of cond.now))) }
+{
+    match cond {
+        Cond::Compare { .. } => compare_run(cond, reader, out, rest),
+        Cond::Not { cond, .. } => {
+            test_run(cond, reader, out, rest)?;
+            not_each(out);
+            Some(())
+        }
+        Cond::All { first, second, .. } => {
+            test_run(first, reader, out, rest)?;
+            if rest.len() < out.len() {
+                return None;
+            }
+            let (other, rest) = rest.split_at_mut(out.len());
+            test_run(second, reader, other, rest)?;
+            both_each(out, other);
+            Some(())
+        }
+        Cond::Any { first, second, .. } => {
+            test_run(first, reader, out, rest)?;
+            if rest.len() < out.len() {
+                return None;
+            }
+            let (other, rest) = rest.split_at_mut(out.len());
+            test_run(second, reader, other, rest)?;
+            either_each(out, other);
+            Some(())
+        }
+    }
+}
+
+/// What a comparison comes to at the turns of a run, of a condition that is one.
+#[cycle(evaluate_run)]
+fn compare_run<R: RunReader>(
+    cond: &Cond,
+    reader: &R,
+    out: &mut [Number],
+    rest: &mut [Number],
+) -> Option<()>
+    ensures { IfSome result (λ _. (m : Memory ValueFound) → R.agrees reader.now m → FindsMask (length out.new) out.new (λ k. test_found (R.variables reader.now k) (R.look reader.now m) (test_of cond.now))) }
+{
+    let Cond::Compare {
+        by,
+        left,
+        right,
+        ..
+    } = cond
+    else {
+        return None;
+    };
+    let left = evaluate_run(left, reader, out, rest)?;
+    if rest.len() < out.len() {
+        return None;
+    }
+    let (other, rest) = rest.split_at_mut(out.len());
+    let right = evaluate_run(right, reader, other, rest)?;
+    compare_lanes(*by, left, right, out, other);
+    Some(())
+}
+
+/// What a call of at most four indices finds at the turns of a run.
 #[cycle(evaluate_run)]
 fn call_run<R: RunReader>(
     name: &str,
@@ -88,79 +209,53 @@ fn call_run<R: RunReader>(
     reader: &R,
     out: &mut [Number],
     rest: &mut [Number],
-) -> Option<Lanes>
-    ensures narrow { IfSome result (IsNarrowFor (length out.new)) }
-    ensures value { IfSome result (λ x. (m : Memory ValueFound) → R.agrees reader.now m → FindsRun (length out.new) x out.new (λ k. with (all_found (R.variables reader.now k) (R.look reader.now m) (indices (list_terms at.now))) (λ zs. R.look reader.now m name.now zs))) }
+) -> Option<Ty>
+    ensures { IfSome result (λ t. (m : Memory ValueFound) → R.agrees reader.now m → FindsRun (length out.new) (Vector t) out.new (λ k. with (all_found (R.variables reader.now k) (R.look reader.now m) (indices (list_terms at.now))) (λ zs. R.look reader.now m name.now zs))) }
 {
-    match at {
-        [first] => {
-            let first = evaluate_run(first, reader, out, rest)?;
-            look_run(name, first, &[], reader, out)
-        }
-        [first, second] => {
-            let first = evaluate_run(first, reader, out, rest)?;
-            if rest.len() < out.len() {
-                return None;
-            }
-            let (other, rest) = rest.split_at_mut(out.len());
-            let Lanes::Broadcast(second) = evaluate_run(second, reader, other, rest)? else {
-                return None;
-            };
-            look_run(name, first, &[second.number], reader, out)
-        }
-        _ => None,
+    if at.len() > 4 {
+        return None;
     }
+    let count = out.len();
+    let mut lanes = [Lanes::Vector(Ty::I32); 4];
+    for (i, index) in at.iter().enumerate() {
+        lanes[i] = index_run(index, i, count, reader, rest)?;
+    }
+    look_run(name, &lanes[..at.len()], rest, reader, out)
 }
 
-/// What a name finds at the turns of a run, where the first index is that of these lanes.
-fn look_run<R: RunReader>(
-    name: &str,
-    first: Lanes,
-    others: &[i64],
+/// The values of an index of a call at so many turns, of which so many registers are before its own.
+#[cycle(evaluate_run)]
+fn index_run<R: RunReader>(
+    expr: &Expr,
+    before: usize,
+    count: usize,
     reader: &R,
-    out: &mut [Number],
+    registers: &mut [Number],
 ) -> Option<Lanes>
-    requires { IsNarrowFor (length out.old) first }
-    ensures narrow { IfSome result (IsNarrowFor (length out.new)) }
-    ensures value { IfSome result (λ x. (m : Memory ValueFound) → R.agrees reader.now m → FindsRun (length out.new) x out.new (λ k. R.look reader.now m name.now (lane_number first out.old k ∷ others.now))) }
+    ensures before { (j : ℕ) → j < before * count → number_at registers.new j ≡ number_at registers.old j }
+    ensures value { IfSome result (λ x. (m : Memory ValueFound) → R.agrees reader.now m → FindsRun count x (drop (before * count) registers.new) (λ k. found (R.variables reader.now k) (R.look reader.now m) (term_of expr.now))) }
 {
-    match first {
-        Lanes::Ramp(value) => look_rising(name, value, others, reader, out),
-        _ => look_spread(name, first, others, reader, out),
+    let start = before.checked_mul(count)?;
+    if registers.len() < start {
+        return None;
     }
+    let (_, registers) = registers.split_at_mut(start);
+    register_run(expr, count, reader, registers)
 }
 
-/// What a name finds at the turns of a run, where the first index is this number at the first and one more at each after it.
-fn look_rising<R: RunReader>(
-    name: &str,
-    first: Value,
-    others: &[i64],
+/// The values of an expression at so many turns, in the first register.
+#[cycle(evaluate_run)]
+fn register_run<R: RunReader>(
+    expr: &Expr,
+    count: usize,
     reader: &R,
-    out: &mut [Number],
+    registers: &mut [Number],
 ) -> Option<Lanes>
-    requires { IsShortRamp (length out.old) first.number }
-    ensures narrow { IfSome result (IsNarrowFor (length out.new)) }
-    ensures value { IfSome result (λ x. (m : Memory ValueFound) → R.agrees reader.now m → FindsRun (length out.new) x out.new (λ k. R.look reader.now m name.now ((first.number +ℤ pos k) ∷ others.now))) }
+    ensures { IfSome result (λ x. (m : Memory ValueFound) → R.agrees reader.now m → FindsRun count x registers.new (λ k. found (R.variables reader.now k) (R.look reader.now m) (term_of expr.now))) }
 {
-    match reader.look_row(name, first.number, others, out) {
-        Some(ty) => Some(Lanes::Vector(ty)),
-        None => look_spread(name, Lanes::Ramp(first), others, reader, out),
+    if registers.len() < count {
+        return None;
     }
-}
-
-/// What a name finds at the turns of a run, by the first index of each.
-fn look_spread<R: RunReader>(
-    name: &str,
-    first: Lanes,
-    others: &[i64],
-    reader: &R,
-    out: &mut [Number],
-) -> Option<Lanes>
-    requires { IsNarrowFor (length out.old) first }
-    ensures narrow { IfSome result (IsNarrowFor (length out.new)) }
-    ensures value { IfSome result (λ x. (m : Memory ValueFound) → R.agrees reader.now m → FindsRun (length out.new) x out.new (λ k. R.look reader.now m name.now (lane_number first out.old k ∷ others.now))) }
-{
-    spread(first, out);
-    let ty = reader.look_each(name, others, out)?;
-    Some(Lanes::Vector(ty))
+    let (out, rest) = registers.split_at_mut(count);
+    evaluate_run(expr, reader, out, rest)
 }

@@ -1,18 +1,20 @@
 //! The operators over the turns of a run.
 
-ghost use Rattle.std.specs.Prelude.{◌≡◌, ◌<◌, ◌^◌, ℕ, ℤ, List, pos, ◌+ℤ◌, ◌≤ℤ◌, length, IfSome, IsTrue};
-ghost use Rattle.numeric.specs.Apply.{exact};
+ghost use Rattle.std.specs.Prelude.{◌≡◌, ◌<◌, ◌^◌, ℕ, ℤ, List, pos, ◌+ℤ◌, ◌≤ℤ◌, length, if◌then◌else◌, IfSome, IsTrue};
+ghost use Rattle.numeric.specs.Apply.{compare, exact};
 ghost use Rattle.std.specs.Bool.{OnTrue};
 ghost use Rattle.numeric.specs.Wrap.{wrap};
 ghost use Rattle.tree.specs.Meaning.{applied, clamped, negated, typed};
 ghost use Rattle.interpreter.specs.declared.evaluation.lanes.Lanes.TheVariants.{Ramp};
 ghost use Rattle.interpreter.specs.declared.evaluation.lanes.Number.{Number as NumberHeld};
-ghost use Rattle.interpreter.specs.Evaluation.Lanes.{lane, lane_number, number_at, type_of, IsNarrowFor, IsRamp};
+ghost use Rattle.interpreter.specs.Evaluation.Lanes.{lane, lane_number, mask_at, number_at, type_of, IsNarrowFor, IsRamp};
 
-use crate::evaluation::kernels::{apply_all, clamp_each, fill, fill_rising, negate_each, wrap_all};
+use crate::evaluation::kernels::{
+    apply_all, choose_each, clamp_each, compare_all, fill, fill_rising, negate_each, wrap_all,
+};
 use crate::evaluation::lanes::{Lanes, Number};
 use crate::evaluation::operators::{applied, clamped, negated, wrapped};
-use numeric::{Op, Ty};
+use numeric::{Comparison, Op, Ty};
 use tree::Value;
 
 /// The type of the values.
@@ -220,4 +222,47 @@ pub(crate) fn clamp_lanes(
             Lanes::Vector(type_of(value))
         }
     }
+}
+
+/// The comparison of lanes, the left ones over this register, which becomes a mask, and the right ones over another.
+pub(crate) fn compare_lanes(
+    by: Comparison,
+    left: Lanes,
+    right: Lanes,
+    out: &mut [Number],
+    other: &mut [Number],
+)
+    requires length { length other.old ≡ length out.old }
+    requires left { IsNarrowFor (length out.old) left }
+    requires right { IsNarrowFor (length out.old) right }
+    ensures { (k : ℕ) → k < length out.new → mask_at out.new k ≡ compare by (lane_number left out.old k) (lane_number right other.old k) }
+{
+    spread(left, out);
+    spread(right, other);
+    compare_all(by, out, other);
+}
+
+/// The lanes over one register where the mask says yes, and those over another where it does not: their type. Nothing where
+/// they are of different types.
+pub(crate) fn choose_lanes(
+    yes: Lanes,
+    no: Lanes,
+    mask: &mut [Number],
+    yeses: &mut [Number],
+    noes: &mut [Number],
+) -> Option<Ty>
+    requires yeses { length yeses.old ≡ length mask.old }
+    requires noes { length noes.old ≡ length mask.old }
+    requires yes { IsNarrowFor (length mask.old) yes }
+    requires no { IsNarrowFor (length mask.old) no }
+    ensures { IfSome result (λ t. (k : ℕ) → k < length mask.new → typed t (number_at mask.new k) ≡ (if mask_at mask.old k then lane yes yeses.old k else lane no noes.old k)) }
+{
+    let ty = type_of(yes);
+    if type_of(no) != ty {
+        return None;
+    }
+    spread(yes, yeses);
+    spread(no, noes);
+    choose_each(mask, yeses, noes);
+    Some(ty)
 }

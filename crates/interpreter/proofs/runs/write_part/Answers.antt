@@ -1,123 +1,95 @@
-use Rattle.std.proofs.Common.{◌≡◌, ◌+◌, ◌-◌, ◌<◌, ℤ, List, map, take, pos, ◌+ℤ◌, Option, Some, None, refl, sym, ap, subst, ◌∙◌, arith}
+use Rattle.std.proofs.Common.{◌≡◌, ℕ, ◌<◌, ◌≤◌, length, take, ℤ, List, pos, ◌+ℤ◌, Some, sym, ap, ◌∙◌, subst, arith}
 use Rattle.std.specs.Prelude.{All, flat_map, int_le}
-use Rattle.std.proofs.lemmas.Bool.{ltb-false}
 use Rattle.std.proofs.lemmas.List.Elements.{All-take}
 use Rattle.tree.specs.Meaning.{typed}
 use Rattle.tree.specs.Term.{term_of}
 use Rattle.plan.specs.declared.stmt.Coordinate.{Coordinate}
 use Rattle.plan.specs.Symbols.{bind, rising}
-use Rattle.plan.specs.Semantics.Actions.{Action}
-use Rattle.plan.specs.Semantics.Found.{with}
-use Rattle.plan.specs.Semantics.Memory.{write}
 use Rattle.interpreter.specs.Bindings.{Bindings, symbols_of}
-use Rattle.interpreter.specs.Buffers.Blocks.{memory_of}
+use Rattle.interpreter.specs.Buffers.Blocks.{Block, memory_of}
+use Rattle.interpreter.specs.Buffers.Spots.{set_all, IsSpot}
 use Rattle.interpreter.specs.Evaluation.Lanes.{number_at}
 use Rattle.interpreter.specs.Pieces.{around, setting}
-use Rattle.interpreter.specs.Rows.{Listed}
-use Rattle.interpreter.specs.Runs.{store_at}
-use Rattle.interpreter.specs.States.{progress_of}
+use Rattle.interpreter.specs.Runs.{numbers_of, store_at, FindsTurns}
+use Rattle.interpreter.specs.States.{progress_of, EndsIn}
 use Rattle.interpreter.specs.Steps.{Progress, steps}
-use Rattle.interpreter.specs.Targets.{known_number, CoordinateIsNarrow}
-use Rattle.interpreter.specs.declared.symbols.Binding.{Binding}
+use Rattle.interpreter.specs.Targets.{CoordinateIsNarrow}
 use Rattle.interpreter.specs.declared.evaluation.lanes.Number.{Number}
-use Rattle.interpreter.proofs.Buts.{but_written}
-use Rattle.interpreter.proofs.Ending.{goes_on}
-use Rattle.interpreter.proofs.Storing.{sets}
-use Rattle.interpreter.proofs.StoreRuns.{first_set, set_there, set_nowhere}
+use Rattle.interpreter.proofs.SpotRuns.{run_set, finds_taken, take_few, length_taken}
 use Rattle.interpreter.proofs.runs.write_part.Goals as goal
 
-pub numbers_in-requires-clause-narrow : goal.numbers_in-requires-clause-narrow
-numbers_in-requires-clause-narrow c =
+pub spot_of-requires-clause-narrow : goal.spot_of-requires-clause-narrow
+spot_of-requires-clause-narrow c = λ k lt.
     let part = c.args.part in
-    let old = c.args.symbols.now in
-    let l = c.loop-index in
-    let s = symbols_of old in
-    let cs = c.args.line.now.coordinates.now in
-    let z = part.low +ℤ pos l.index in
-    let lt : l.index < part.count = omega (arith, ltb-false) in
-    let is : c.turn_in-binding.result ≡ record { symbol = part.turns.symbol; value = z; first = int_le z part.turns.low } = c.turn_in-binding.ensures in
-    let P : Coordinate → Type 0 = CoordinateIsNarrow (bind s part.turns.symbol z (int_le z part.turns.low)) in
-    let B : Binding → Type 0 = λ b. All (CoordinateIsNarrow (bind s b.symbol b.value b.first)) c.of_function-place.result.now in
-    let C : Bindings → Type 0 = λ y. All (CoordinateIsNarrow (bind (symbols_of y) c.turn_in-binding.result.symbol c.turn_in-binding.result.value c.turn_in-binding.result.first)) c.of_function-place.result.now in
-    subst C (sym l.invariant.symbols) (subst B (sym is)
-    (subst (λ (k : List Coordinate). All P k) (sym c.of_function-place.ensures) (All-take P c.size_in.result cs (c.requires.narrow l.index lt))))
+    let z = part.low +ℤ pos k in
+    let P : Coordinate → Type 0 = CoordinateIsNarrow (bind (symbols_of c.args.symbols.now) part.turns.symbol z (int_le z part.turns.low)) in
+    subst (λ (cs : List Coordinate). All P cs) (sym c.of_function-place.ensures) (All-take P c.size_in.result c.args.line.now.coordinates.now (c.requires.narrow k lt))
 
-pub returns-then-not-write-clause-run : goal.returns-then-not-write-clause-run
-returns-then-not-write-clause-run c = λ d cell.
+pub first_numbers-numbers-requires : goal.first_numbers-numbers-requires
+first_numbers-numbers-requires c =
+    let same : c.deref.result.now ≡ c.args.state.now.registers.items = c.deref.ensures.value ∙ c.spot_of.ensures.registers in
+    subst (λ (zs : List Number). c.args.part.count ≤ length zs) (sym same) c.requires.count
+
+pub put_row-requires : goal.put_row-requires
+put_row-requires c = λ k lt.
+    let numbers = c.first_numbers-numbers.result.now in
+    let few : length numbers ≤ c.args.part.count = subst (λ (zs : List Number). length zs ≤ c.args.part.count) (sym c.first_numbers-numbers.ensures) (take_few c.args.part.count c.deref.result.now) in
+    c.in-Some.ensures.inside k (omega (arith, few, lt))
+
+pub returns-in-Some-clause-run : goal.returns-in-Some-clause-run
+returns-in-Some-clause-run c = λ d cell.
     let x = c.args.piece.now in
     let line = c.args.line.now in
     let part = c.args.part in
     let cs = line.coordinates.now in
-    let A = around x cell in
-    let l = c.loop-index in
-    let s = symbols_of c.args.symbols.now in
-    let f : ℤ → List Action = store_at x line.buffer cs (term_of line.value.now) s part.turns.symbol part.turns.low d in
-    let p = progress_of l.state in
-    let n = c.size_in.result in
-    let z = part.low +ℤ pos l.index in
-    let now = bind s part.turns.symbol z (int_le z part.turns.low) in
-    let zs = c.args.state.now.registers.items in
-    let q = map (known_number now) (take n cs) in
-    let v = typed c.args.ty (number_at zs l.index) in
-    let go : Progress → Option Progress = steps A (flat_map f (rising (part.low +ℤ pos (l.index + 1)) (part.count - (l.index + 1)))) in
-    let whole : Option Progress = steps A (flat_map f (rising part.low part.count)) (progress_of c.args.state.now) in
-    let lt : l.index < part.count = omega (arith, ltb-false) in
-    let size : n ≡ (setting x).dimensions line.buffer = c.size_in.ensures ∙ c.requires.ready.sizes line.buffer in
-    let next = first_set x cell line.buffer d part.count l.index n cs (term_of line.value.now) s part.turns.symbol part.turns.low part.low (memory_of c.args.state.now.memory) c.args.ty zs p whole
-    c.requires.forms size c.requires.finds l.invariant.but lt (l.invariant.run d cell) in
-    let is : c.turn_in-binding.result ≡ record { symbol = part.turns.symbol; value = z; first = int_le z part.turns.low } = c.turn_in-binding.ensures in
-    let at : c.as_slice.result.now ≡ q =
-    c.as_slice.ensures ∙ ap (λ (r : Listed). r.items) c.numbers_in.ensures.numbers
-    ∙ ap (λ (y : Bindings). map (known_number (bind (symbols_of y) c.turn_in-binding.result.symbol c.turn_in-binding.result.value c.turn_in-binding.result.first)) c.of_function-place.result.now) l.invariant.symbols
-    ∙ ap (λ (b : Binding). map (known_number (bind s b.symbol b.value b.first)) c.of_function-place.result.now) is
-    ∙ ap (λ (k : List Coordinate). map (known_number now) k) c.of_function-place.ensures in
-    let held : c.value_at-value.result ≡ v = c.value_at-value.ensures ∙ ap (λ (k : List Number). typed c.args.ty (number_at k l.index)) (c.deref.ensures.value ∙ l.invariant.registers) in
-    let none : write p.memory line.buffer q v ≡ None = (λ i. write p.memory line.buffer (sym at i) (sym held i)) ∙ (c.if-not-write.ensures.outside refl).0 in
-    next ∙ ap (λ (o : Option Progress). with o go) (set_nowhere line.buffer p q v none)
-
-pub loop-index-preserved : goal.loop-index-preserved
-loop-index-preserved c =
-    let line = c.args.line.now in
     let old = c.args.state.now in
-    let l = c.loop-index in
-    record {
-      symbols = c.numbers_in.ensures.symbols ∙ l.invariant.symbols;
-      large = record {
-        space = (λ i. record { limits = c.write.ensures.limits i; numbers = l.state.numbers.room; point = (ap (λ (r : Listed). r.room) c.numbers_in.ensures.numbers) i; stack = l.state.stack.room }) ∙ l.invariant.large.space;
-        given = l.invariant.large.given;
-      };
-      registers = l.invariant.registers;
-      but = but_written line.buffer (memory_of old.memory) (memory_of l.state.memory) (memory_of c.write.new.self) c.as_slice.result.now c.value_at-value.result l.invariant.but c.if-not-write.ensures.set;
-      run = λ d cell.
-          let x = c.args.piece.now in
-          let line = c.args.line.now in
-          let part = c.args.part in
-          let cs = line.coordinates.now in
-          let A = around x cell in
-          let l = c.loop-index in
-          let s = symbols_of c.args.symbols.now in
-          let f : ℤ → List Action = store_at x line.buffer cs (term_of line.value.now) s part.turns.symbol part.turns.low d in
-          let p = progress_of l.state in
-          let n = c.size_in.result in
-          let z = part.low +ℤ pos l.index in
-          let now = bind s part.turns.symbol z (int_le z part.turns.low) in
-          let zs = c.args.state.now.registers.items in
-          let q = map (known_number now) (take n cs) in
-          let v = typed c.args.ty (number_at zs l.index) in
-          let go : Progress → Option Progress = steps A (flat_map f (rising (part.low +ℤ pos (l.index + 1)) (part.count - (l.index + 1)))) in
-          let whole : Option Progress = steps A (flat_map f (rising part.low part.count)) (progress_of c.args.state.now) in
-          let lt : l.index < part.count = omega (arith, ltb-false) in
-          let size : n ≡ (setting x).dimensions line.buffer = c.size_in.ensures ∙ c.requires.ready.sizes line.buffer in
-          let next = first_set x cell line.buffer d part.count l.index n cs (term_of line.value.now) s part.turns.symbol part.turns.low part.low (memory_of c.args.state.now.memory) c.args.ty zs p whole
-          c.requires.forms size c.requires.finds l.invariant.but lt (l.invariant.run d cell) in
-          let is : c.turn_in-binding.result ≡ record { symbol = part.turns.symbol; value = z; first = int_le z part.turns.low } = c.turn_in-binding.ensures in
-          let at : c.as_slice.result.now ≡ q =
-          c.as_slice.ensures ∙ ap (λ (r : Listed). r.items) c.numbers_in.ensures.numbers
-          ∙ ap (λ (y : Bindings). map (known_number (bind (symbols_of y) c.turn_in-binding.result.symbol c.turn_in-binding.result.value c.turn_in-binding.result.first)) c.of_function-place.result.now) l.invariant.symbols
-          ∙ ap (λ (b : Binding). map (known_number (bind s b.symbol b.value b.first)) c.of_function-place.result.now) is
-          ∙ ap (λ (k : List Coordinate). map (known_number now) k) c.of_function-place.ensures in
-          let held : c.value_at-value.result ≡ v = c.value_at-value.ensures ∙ ap (λ (k : List Number). typed c.args.ty (number_at k l.index)) (c.deref.ensures.value ∙ l.invariant.registers) in
-          let m = memory_of c.write.new.self in
-          let some : write p.memory line.buffer q v ≡ Some m = (λ i. write p.memory line.buffer (sym at i) (sym held i)) ∙ c.if-not-write.ensures.set in
-          goes_on (sets line.buffer p q v) (record { memory = m; given = p.given }) go whole next (set_there line.buffer p q v m some);
-    }
+    let n = c.size_in.result in
+    let s = symbols_of c.args.symbols.now in
+    let spot = c.in-Some.spot in
+    let zs : List Number = take part.count old.registers.items in
+    let numbers : List Number = c.first_numbers-numbers.result.now in
+    let size : n ≡ (setting x).dimensions line.buffer = c.size_in.ensures ∙ c.requires.ready.sizes line.buffer in
+    let same : numbers ≡ zs = c.first_numbers-numbers.ensures ∙ ap (take part.count) (c.deref.ensures.value ∙ c.spot_of.ensures.registers) in
+    let long : length numbers ≡ part.count = ap length same ∙ length_taken part.count old.registers.items c.requires.count in
+    let points : ℕ → List ℤ = λ k. numbers_of (take n cs) s part.turns.symbol part.turns.low (part.low +ℤ pos k) in
+    let here : (k : ℕ) → k < length numbers → IsSpot c.spot_of.new.state.memory line.buffer (points k) spot k =
+    λ k lt. subst (λ (l : List Coordinate). IsSpot c.spot_of.new.state.memory line.buffer (numbers_of l s part.turns.symbol part.turns.low (part.low +ℤ pos k)) spot k) c.of_function-place.ensures
+    (c.in-Some.ensures.lies k (omega (arith, lt, long))) in
+    let set = c.put_row.ensures.set line.buffer points here in
+    let all : set_all (memory_of old.memory) line.buffer points (λ k. typed c.args.ty (number_at zs k)) part.count ≡ Some (memory_of c.put_row.new.self) =
+    (λ i. set_all (memory_of (sym c.spot_of.ensures.memory i)) line.buffer points (λ k. typed c.args.ty (number_at (sym same i) k)) (sym long i)) ∙ set in
+    run_set x cell line.buffer d part.count n cs (term_of line.value.now) s part.turns.symbol part.turns.low part.low (memory_of old.memory) old.given.items c.args.ty zs
+    c.requires.forms size (finds_taken x line.buffer part.count cs (term_of line.value.now) s part.turns.symbol part.turns.low part.low
+    (memory_of old.memory) c.args.ty old.registers.items c.requires.finds)
+    (memory_of c.put_row.new.self) all
+    ∙ ap (λ (given : List ℤ). Some (record { memory = memory_of c.put_row.new.self; given = given })) (sym (ap (λ (y : Progress). y.given) c.spot_of.ensures.progress))
+
+pub write_points-requires-clause-narrow : goal.write_points-requires-clause-narrow
+write_points-requires-clause-narrow c = λ k lt.
+    let part = c.args.part in
+    let z = part.low +ℤ pos k in
+    subst (λ (y : Bindings). All (CoordinateIsNarrow (bind (symbols_of y) part.turns.symbol z (int_le z part.turns.low))) c.args.line.now.coordinates.now) (sym c.spot_of.ensures.symbols)
+    (c.requires.narrow k lt)
+
+pub write_points-requires-clause-finds : goal.write_points-requires-clause-finds
+write_points-requires-clause-finds c =
+    let part = c.args.part in
+    let line = c.args.line.now in
+    let F : Bindings → List Block → List Number → Type 0 =
+    λ y m zs. FindsTurns c.args.piece.now line.buffer line.coordinates.now (term_of line.value.now) (symbols_of y) part.turns.symbol part.turns.low part.low (memory_of m) part.count c.args.ty zs in
+    subst (λ (y : Bindings). F y c.spot_of.new.state.memory c.spot_of.new.state.registers.items) (sym c.spot_of.ensures.symbols)
+    (subst (λ (m : List Block). F c.args.symbols.now m c.spot_of.new.state.registers.items) (sym c.spot_of.ensures.memory)
+    (subst (λ (zs : List Number). F c.args.symbols.now c.args.state.now.memory zs) (sym c.spot_of.ensures.registers) c.requires.finds))
+
+pub returns-in-None-clause-run : goal.returns-in-None-clause-run
+returns-in-None-clause-run c = λ d cell.
+    let x = c.args.piece.now in
+    let line = c.args.line.now in
+    let part = c.args.part in
+    let old = c.args.state.now in
+    let new = c.spot_of.new.state in
+    let E : ℕ → Bindings → Progress → Type 0 = λ room y p. EndsIn room (λ _. progress_of c.write_points.new.state) c.write_points.result
+    (steps (around x cell) (flat_map (store_at x line.buffer line.coordinates.now (term_of line.value.now) (symbols_of y) part.turns.symbol part.turns.low d) (rising part.low part.count)) p) in
+    subst (λ (room : ℕ). E room c.args.symbols.now (progress_of old)) c.spot_of.ensures.large.given
+    (subst (λ (y : Bindings). E new.given.capacity y (progress_of old)) c.spot_of.ensures.symbols
+    (subst (λ (p : Progress). E new.given.capacity c.spot_of.new.symbols p) c.spot_of.ensures.progress (c.write_points.ensures.run d cell)))

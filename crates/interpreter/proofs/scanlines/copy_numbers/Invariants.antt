@@ -1,7 +1,7 @@
 use Rattle.std.proofs.Common.{◌≡◌, Some, pos}
 use Rattle.tree.specs.Meaning.{typed}
 use Rattle.interpreter.specs.Scanlines.{along}
-use Rattle.interpreter.proofs.Aside.{HoldsBelow}
+use Rattle.interpreter.proofs.Each.{HoldsBelow}
 use Rattle.interpreter.proofs.scanlines.copy_numbers.Given as goal
 
 abbrev pub invariant-loop-turn : goal.invariant-loop-turn

@@ -3,7 +3,7 @@ use Rattle.std.specs.Prelude.{◌-ℤ◌}
 use Rattle.tree.specs.Meaning.{typed}
 use Rattle.interpreter.specs.Evaluation.Lanes.{number_at}
 use Rattle.interpreter.specs.Scanlines.{along}
-use Rattle.interpreter.proofs.Aside.{HoldsBelow}
+use Rattle.interpreter.proofs.Each.{HoldsBelow}
 use Rattle.interpreter.proofs.scanlines.take_numbers.Given as goal
 
 abbrev pub invariant-loop-turn : goal.invariant-loop-turn

@@ -1,7 +1,7 @@
 use Rattle.std.proofs.Common.{◌≡◌, Some}
 use Rattle.interpreter.specs.Evaluation.Lanes.{number_at}
 use Rattle.interpreter.specs.Scanlines.{sample_along}
-use Rattle.interpreter.proofs.Aside.{HoldsBelow}
+use Rattle.interpreter.proofs.Each.{HoldsBelow}
 use Rattle.interpreter.proofs.scanlines.take_samples.Given as goal
 
 abbrev pub invariant-loop-turn : goal.invariant-loop-turn

@@ -126,7 +126,8 @@ visit_region-returns-in-len1-up-clause-run g t c =
     let s = symbols_of w.symbols.now in
     let act : List ℤ → List Action = at_point x w.visit in
     let r = c.args.region.now in
-    let point = drop (length r) c.args.state.now.point.items in
+    let items = c.args.state.now.point.items in
+    let point = drop (length r) items in
     let span : Span1 = c.span-item.result in
     let outer : List Span1 = take (length r - 1) r in
     let f : ℤ → List Action = λ y. flat_map act (extended s outer (y ∷ point)) in
@@ -137,7 +138,15 @@ visit_region-returns-in-len1-up-clause-run g t c =
     let low : to_z w64 (of_z w64 c.largest.result) ≡ largest s span.lower = to_z-of_z w64 c.largest.result low_fits ∙ c.largest.ensures in
     let high : to_z w64 (of_z w64 c.smallest.result) ≡ smallest s span.upper = to_z-of_z w64 c.smallest.result high_fits ∙ c.smallest.ensures in
     let short : length outer + 1 ≡ length r = grind (arith, common_steps) in
-    let h : ℕ → ℤ → List Action = λ n y. flat_map act (extended s outer (y ∷ drop n c.args.state.now.point.items)) in
+    let h : ℕ → ℤ → List Action = λ n y. flat_map act (extended s outer (y ∷ drop n items)) in
     let e : flat_map (h (length outer + 1)) (between (to_z w64 (of_z w64 c.largest.result)) (to_z w64 (of_z w64 c.smallest.result))) ≡ flat_map act (extended s r point) =
     (λ i. flat_map (h (short i)) (between (low i) (high i))) ∙ sym (actions-last s act outer span point) ∙ ap (λ (xs : List Span1). flat_map act (extended s xs point)) (sym parts) in
-    subst (λ (xs : List Action). EndsIn c.args.state.now.given.capacity (λ _. progress_of c.visit_numbers.new.state) c.visit_numbers.result (steps A xs (progress_of c.args.state.now))) e c.visit_numbers.ensures.run
+    let mid = c.visit_row-left.new.state in
+    let left : List ℤ = between c.visit_row-left.result.low c.visit_row-left.result.high in
+    let later : List ℤ → Option Progress = λ q. steps A (flat_map (λ y. flat_map act (extended s outer (y ∷ q))) left) (progress_of mid) in
+    let same : later (drop (length outer + 1) mid.point.items) ≡ steps A (flat_map act (extended s r point)) (progress_of c.args.state.now) =
+    ap later c.visit_row-left.ensures.kept.from
+    ∙ sym c.visit_row-left.ensures.run ∙ ap (λ (xs : List Action). steps A xs (progress_of c.args.state.now)) e in
+    let E : ℕ → Option Progress → Type 0 = λ n o. EndsIn n (λ (_ : Unit {0}). progress_of c.visit_numbers.new.state) c.visit_numbers.result o in
+    subst (λ (n : ℕ). E n (steps A (flat_map act (extended s r point)) (progress_of c.args.state.now))) c.visit_row-left.ensures.large.given
+    (subst (E mid.given.capacity) same c.visit_numbers.ensures.run)

@@ -1,4 +1,4 @@
-use Rattle.std.proofs.Common.{◌∷◌, ◌+◌, ◌*◌, ◌<◌, ◌^◌, ℕ, ℤ, map, pos, subst, sym, rules, w64, to_z, of_z, SFits}
+use Rattle.std.proofs.Common.{◌∷◌, ◌+◌, ◌*◌, ◌<◌, ◌^◌, ℕ, ℤ, map, pos, subst, sym, rules, w64, SFits}
 use Rattle.std.specs.Prelude.{◌+ℤ◌, IfSome}
 use Rattle.std.proofs.lemmas.Int.{to_z-of_z}
 use Rattle.plan.specs.Rooms.{Straight}
@@ -17,4 +17,5 @@ returns-in-Straight c =
     let rs = map room_of c.args.later.now in
     let others = c.args.others.now in
     subst (λ (x : CodeRoom). IfSome c.straight.result (λ s. (k : ℕ) → k < s.count → LiesAt (room_of x ∷ rs) ((s.origin +ℤ pos k) ∷ others) (s.start + k))) (sym c.in-Straight.is)
-    (subst (λ (o : ℤ). IfSome c.straight.result (λ s. (k : ℕ) → k < s.count → LiesAt (Straight o c.in-Straight.count ∷ rs) ((s.origin +ℤ pos k) ∷ others) (s.start + k))) (to_z-of_z w64 origin fits) c.straight.ensures)
+    (subst (λ (o : ℤ). IfSome c.straight.result (λ s. (k : ℕ) → k < s.count → LiesAt (Straight o c.in-Straight.count ∷ rs) ((s.origin +ℤ pos k) ∷ others) (s.start + k)))
+    (to_z-of_z w64 origin fits) c.straight.ensures)

@@ -1,4 +1,4 @@
-use Rattle.std.proofs.Common.{◌≡◌, ℕ, ℤ, List, map, length, ap, sym, ◌∙◌, arith, rules, w64, to_z, of_z, SFits}
+use Rattle.std.proofs.Common.{◌≡◌, ◌<◌, ℕ, ℤ, List, map, length, ap, sym, ◌∙◌, arith, rules, w64, to_z, of_z, SFits}
 use Rattle.std.specs.Prelude.{string_bytes}
 use Rattle.std.proofs.lemmas.Int.{to_z-of_z}
 use Rattle.numeric.specs.declared.ty.Ty.TheVariants.{I32}
@@ -24,10 +24,11 @@ returns-clause-lanes c =
     let b : ℤ = to_z w64 (of_z w64 second) in
     let first_fits : SFits w64 first = search rules in
     let second_fits : SFits w64 second = search rules in
-    let P : Lanes → Type 0 = λ x. (zs : List Number) (k : ℕ) → typed I32 (moved a b k) ≡ lane x zs k in
-    let Q : Lanes → Type 0 = λ x. (zs : List Number) (k : ℕ) → typed I32 (bound names (numbers_at r.first.now r.second.now k) name) ≡ lane x zs k in
+    let out : List Number = c.lanes_of.new.out in
+    let P : Lanes → Type 0 = λ x. (k : ℕ) → k < length out → typed I32 (moved a b k) ≡ lane x out k in
+    let Q : Lanes → Type 0 = λ x. (k : ℕ) → k < length out → typed I32 (bound names (numbers_at r.first.now r.second.now k) name) ≡ lane x out k in
     if_some c.lanes_of.result P Q
-    (λ x h zs k.
+    (λ x h k lt.
     ap (typed I32) (bound_moved names r.first.now r.second.now name k same ∙ (λ i. moved (sym c.number_bound-first.ensures i) (sym c.number_bound-second.ensures i) k)
-    ∙ (λ i. moved (sym (to_z-of_z w64 first first_fits) i) (sym (to_z-of_z w64 second second_fits) i) k)) ∙ h zs k)
+    ∙ (λ i. moved (sym (to_z-of_z w64 first first_fits) i) (sym (to_z-of_z w64 second second_fits) i) k)) ∙ h k lt)
     c.lanes_of.ensures.lanes

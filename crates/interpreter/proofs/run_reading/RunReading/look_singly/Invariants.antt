@@ -3,8 +3,8 @@ use Rattle.tree.specs.Meaning.{typed}
 use Rattle.interpreter.specs.Buffers.Blocks.{memory_of}
 use Rattle.interpreter.specs.Evaluation.Lanes.{number_at}
 use Rattle.interpreter.specs.RunReadings.{source_at}
-use Rattle.interpreter.proofs.Aside.{HoldsBelow}
-use Rattle.interpreter.proofs.run_reading.RunReading.look_points.Given as goal
+use Rattle.interpreter.proofs.Each.{HoldsBelow}
+use Rattle.interpreter.proofs.run_reading.RunReading.look_singly.Given as goal
 
 abbrev pub invariant-loop-turn : goal.invariant-loop-turn
 invariant-loop-turn l =

@@ -11,7 +11,7 @@ use Rattle.interpreter.specs.Runs.{store_at, IsBut}
 use Rattle.interpreter.specs.States.{progress_of, IsAsLarge}
 use Rattle.interpreter.specs.Steps.{steps}
 use Rattle.interpreter.proofs.Running.{Comes}
-use Rattle.interpreter.proofs.runs.write_part.Given as goal
+use Rattle.interpreter.proofs.runs.write_points.Given as goal
 
 abbrev pub invariant-loop-index : goal.invariant-loop-index
 invariant-loop-index l =

@@ -1,0 +1,17 @@
+use Rattle.std.proofs.Common.{◌≡◌, ◌∷◌, ℤ, Some, sym, ◌∙◌}
+use Rattle.numeric.specs.declared.ty.Ty.{Ty}
+use Rattle.tree.specs.Meaning.{typed}
+use Rattle.interpreter.specs.Scanlines.{input_at, pixel_along}
+use Rattle.interpreter.proofs.FoundRuns.{if_some}
+use Rattle.interpreter.proofs.run_reading.RunReading.pixels.Goals as goal
+
+pub returns : goal.returns
+returns c =
+    let piece = c.args.self.now.piece.now in
+    let others = c.args.others.now in
+    let extents : c.as_slice.result.now ≡ piece.plan.now.input.extents.items = c.as_slice.ensures.value ∙ piece.same in
+    let samples : c.as_slice-2.result.now ≡ piece.image.now.samples.items = c.as_slice-2.ensures.value in
+    if_some c.pixels_beside.result
+    (λ row. (t : Ty) (z n : ℤ) → pixel_along row.colours row.colour row.samples.now z ≡ Some n → input_at t c.as_slice.result.now c.as_slice-2.result.now (z ∷ others) ≡ Some (typed t n)) _
+    (λ row f z n e. (λ i. input_at piece.plan.now.input.ty (sym extents i) (sym samples i) (z ∷ others)) ∙ f piece.plan.now.input.ty z n e)
+    c.pixels_beside.ensures
