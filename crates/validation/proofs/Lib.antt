@@ -24,3 +24,12 @@ pub mod GroupsRowed
 pub mod Stores
 pub mod Walk
 pub mod Lanes
+pub mod Told
+pub mod GroupsTold
+pub mod Another
+pub mod Wide
+pub mod WideLines
+pub mod Limits
+pub mod Unknown
+pub mod CertificateTold
+pub mod CertificateLines

@@ -4,3 +4,5 @@ pub mod Ways
 pub mod Certificate
 pub mod View
 pub mod Clear
+pub mod Wrong
+pub mod Laws

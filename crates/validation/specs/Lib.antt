@@ -1,3 +1,5 @@
 pub mod Certificate
 pub mod Stored
 pub mod Groups
+pub mod Told
+pub mod Wide
