@@ -1,5 +1,5 @@
 -- Writing piece by piece.
-use Rattle.std.proofs.Common.{◌≡◌, ℕ, ◌<◌, List, [], ◌∷◌, ◌++◌, length, take, drop, Option, None, Some, Result, Ok, Err, refl, sym, subst, ap, ◌∙◌, arith, append_assoc, append-nil, take-append-drop, zero, suc, ◌-◌, get_or}
+use Rattle.std.proofs.Common.{◌≡◌, ℕ, ◌<◌, List, [], ◌∷◌, ◌++◌, length, take, drop, Option, None, Some, Result, Ok, Err, refl, sym, subst, ap, ◌∙◌, arith, append_assoc, append-nil, take-append-drop, ◌-◌}
 use Rattle.std.proofs.lemmas.List.{take_rest}
 use Rattle.std.specs.List.{flat_map}
 use Rattle.std.specs.Io.KnownBytes.{Appends, Keeps}
@@ -57,16 +57,41 @@ sends_first old new xs ys e h = (h.0, h.1, h.2 ++ ys, ap (λ zs. zs ++ ys) h.3 �
 pub sends_failed : (old new : Option (List ℕ)) (xs : List ℕ) (r : Result (Unit {0}) PnmError) (y e : PnmError) → r ≡ Err y → y ≡ e → Sends old new xs (Err e) → Sends old new xs r
 sends_failed old new xs r y e h g s = subst (Sends old new xs) (sym (h ∙ ap Err g)) s
 
--- the pieces up to one of them, that one, and the others
-flat_map-parted : (f : ℕ → List ℕ) (xs : List ℕ) (i : ℕ) → i < length xs → flat_map f xs ≡ flat_map f (take i xs) ++ (f (get_or xs i 0) ++ flat_map f (drop (suc i) xs))
-flat_map-parted f [] i h = absurd (omega arith)
-flat_map-parted f (x ∷ xs) zero h = refl
-flat_map-parted f (x ∷ xs) (suc i) h = ap (λ ys. f x ++ ys) (flat_map-parted f xs i (omega arith)) ∙ sym (append_assoc (f x) (flat_map f (take i xs)) (f (get_or xs i 0) ++ flat_map f (drop (suc i) xs)))
+-- the bytes of samples have gone out, and these samples are left
+pub record HasSentSamples (f : ℕ → List ℕ) (old new : Option (List ℕ)) (samples rest : List ℕ) : Type 0 where
+  pub done : List ℕ
+  pub whole : samples ≡ done ++ rest
+  pub takes : Appends old new (flat_map f done)
 
--- one piece of many fails
-pub sends_piece : (f : ℕ → List ℕ) (xs : List ℕ) (i : ℕ) (old mid new : Option (List ℕ)) (e : PnmError) → i < length xs
-    → Appends old mid (flat_map f (take i xs)) → Sends mid new (f (get_or xs i 0)) (Err e) → Sends old new (flat_map f xs) (Err e)
-sends_piece f xs i old mid new e l h g =
-    let later = sends_first mid new (f (get_or xs i 0)) (flat_map f (drop (suc i) xs)) e g in
-    let all = sends_both old mid new (flat_map f (take i xs)) (f (get_or xs i 0) ++ flat_map f (drop (suc i) xs)) (Err e) h later in
-    subst (λ ys. Sends old new ys (Err e)) (sym (flat_map-parted f xs i l)) all
+pub has_sent_no_sample : (f : ℕ → List ℕ) (old : Option (List ℕ)) (samples : List ℕ) → HasSentSamples f old old samples samples
+has_sent_no_sample f old samples = record { done = []; whole = refl; takes = Appends-nil old }
+
+flat_map-append : (f : ℕ → List ℕ) (xs ys : List ℕ) → flat_map f (xs ++ ys) ≡ flat_map f xs ++ flat_map f ys
+flat_map-append f [] ys = refl
+flat_map-append f (x ∷ xs) ys = ap (λ zs. f x ++ zs) (flat_map-append f xs ys) ∙ sym (append_assoc (f x) (flat_map f xs) (flat_map f ys))
+
+-- a part of the samples that are left has gone out
+pub has_sent_part : (f : ℕ → List ℕ) (old mid new : Option (List ℕ)) (samples rest : List ℕ) (n : ℕ) → HasSentSamples f old mid samples rest
+    → Appends mid new (flat_map f (take n rest)) → HasSentSamples f old new samples (drop n rest)
+has_sent_part f old mid new samples rest n h g = record {
+  done = h.done ++ take n rest;
+  whole = h.whole ∙ ap (λ r. h.done ++ r) (sym (take-append-drop n rest)) ∙ sym (append_assoc h.done (take n rest) (drop n rest));
+  takes = subst (Appends old new) (sym (flat_map-append f h.done (take n rest))) (Appends-trans old mid new (flat_map f h.done) (flat_map f (take n rest)) h.takes g);
+}
+
+-- all samples have gone out
+pub sends_samples : (f : ℕ → List ℕ) (old new : Option (List ℕ)) (samples rest : List ℕ) (x : Unit {0}) → HasSentSamples f old new samples rest → length rest ≡ 0
+    → Sends old new (flat_map f samples) (Ok x)
+sends_samples f old new samples [] x h e = subst (λ xs. Appends old new (flat_map f xs)) (sym (h.whole ∙ append-nil h.done)) h.takes
+sends_samples f old new samples (y ∷ rest) x h e = absurd (omega arith)
+
+-- a part of the samples fails
+pub sends_part : (f : ℕ → List ℕ) (old mid new : Option (List ℕ)) (samples rest : List ℕ) (n : ℕ) (e : PnmError) → HasSentSamples f old mid samples rest
+    → Sends mid new (flat_map f (take n rest)) (Err e) → Sends old new (flat_map f samples) (Err e)
+sends_part f old mid new samples rest n e h g =
+    let later = sends_first mid new (flat_map f (take n rest)) (flat_map f (drop n rest)) e g in
+    let all = sends_both old mid new (flat_map f h.done) (flat_map f (take n rest) ++ flat_map f (drop n rest)) (Err e) h.takes later in
+    let parts : flat_map f samples ≡ flat_map f h.done ++ (flat_map f (take n rest) ++ flat_map f (drop n rest)) =
+    ap (flat_map f) h.whole ∙ flat_map-append f h.done rest
+    ∙ ap (λ ys. flat_map f h.done ++ ys) (ap (flat_map f) (sym (take-append-drop n rest)) ∙ flat_map-append f (take n rest) (drop n rest)) in
+    subst (λ ys. Sends old new ys (Err e)) (sym parts) all

@@ -1,5 +1,5 @@
 -- What a file's bytes are, read one after another: each of them leads on, gives a sample or is a fault.
-use Rattle.std.specs.Prelude.{ℕ, ◌+◌, ◌-◌, ◌*◌, List, [], ◌∷◌, ◌++◌, fold, Bool, true, false, ◌&&◌, ◌==◌, nat_le, nat_lt, if◌then◌else◌, None, Some, Option, Result, Ok, Err}
+use Rattle.std.specs.Prelude.{ℕ, zero, suc, ◌+◌, ◌-◌, ◌*◌, List, [], ◌∷◌, ◌++◌, fold, Bool, true, false, ◌&&◌, ◌==◌, nat_le, nat_lt, if◌then◌else◌, None, Some, Option, Result, Ok, Err}
 use Rattle.meaning.specs.Image.View.{Frame, max_sample}
 use Rattle.meaning.specs.Image.Raster.{sample_count}
 use Rattle.pnm.specs.declared.error.PnmError.{PnmError}
@@ -124,6 +124,11 @@ onward w (Stopped e) b = Stopped e
 
 abbrev pub walk : Wanted → List ℕ → Walk
 walk w bytes = fold (onward w) (Going Start []) bytes
+
+-- what stands before the next byte of a raw raster in which each byte is a sample, where so many samples are still to come
+abbrev pub in_raster : ℕ → State
+in_raster zero = Done Raw
+in_raster (suc left) = First 255 (suc left)
 
 abbrev pub with_last : List ℕ → Result (Option ℕ) PnmError → Result (List ℕ) PnmError
 with_last samples (Ok None) = Ok samples

@@ -1,10 +1,11 @@
 //! Reading a file.
 
-ghost use Rattle.std.specs.Prelude.{◌≡◌, ◌⊎◌, ◌↔◌, true, false, Ok, Err, MatchResult, IsErrOf, IfOk, IfErr, OnErr, OnOk};
-ghost use Rattle.std.specs.Io.KnownBytes.{Keeps};
+ghost use Rattle.std.specs.Prelude.{◌≡◌, ◌⊎◌, ◌↔◌, ◌<◌, ◌≤◌, ◌+◌, ℕ, List, Option, true, false, fold, length, Ok, Err, MatchResult, IsErrOf, IfOk, IfErr, IfSome, OnErr, OnOk};
+ghost use Rattle.std.specs.Io.KnownBytes.{Consumes, Keeps};
 ghost use Rattle.meaning.specs.Image.View.{image_of, shape_of, IsShape};
-ghost use Rattle.pnm.specs.Reading.{step, finish, taken, with_last, Going, Stopped, wanted_of};
-ghost use Rattle.pnm.specs.Source.{ReadsFile, Refuses, IsEndless};
+ghost use Rattle.pnm.specs.declared.state.Wanted.{Wanted as WantedImage};
+ghost use Rattle.pnm.specs.Reading.{step, finish, in_raster, onward, taken, walk, with_last, Going, Stopped, wanted_of};
+ghost use Rattle.pnm.specs.Source.{EndsPart, LeadsOn, ReadsFile, Refuses, IsEndless};
 
 use crate::error::PnmError;
 use crate::header::wanted;
@@ -52,6 +53,84 @@ fn take_end(samples: &mut Vec<u16>, state: State) -> Result<(), PnmError>
     }
 }
 
+/// How many samples are still to come, where the next byte is one of a raw raster in which each byte is a sample.
+fn bytes_left(state: State) -> Option<usize>
+    ensures { IfSome result (λ left. (state ≡ in_raster left) × (0 < left)) }
+{
+    match state {
+        State::First { max: 255, left } if left > 0 => Some(left),
+        _ => None,
+    }
+}
+
+/// Takes bytes of a raw raster in which each is a sample, and so many samples are still to come: how many are left.
+#[tactic(auto, using(crate::proofs::InParts::bytes_more))]
+fn take_bytes(samples: &mut Vec<u16>, left: usize, bytes: &[u8]) -> Result<usize, PnmError>
+    requires { length bytes.now ≤ left }
+    ensures leads { IfOk result (λ after. (w : WantedImage) → fold (onward w) (Going (in_raster left) samples.old.items) bytes.now ≡ Going (in_raster after) samples.new.items) }
+    ensures left { IfOk result (λ after. after + length bytes.now ≡ left) }
+    ensures memory { IfErr result (λ e. e ≡ PnmError.Memory) }
+{
+    for byte in bytes {
+        match samples.push(u16::from(*byte)) {
+            Ok(()) => {}
+            Err(_) => return Err(PnmError::Memory),
+        }
+    }
+    Ok(left - bytes.len())
+}
+
+/// Reads some samples of a raw raster in which each byte is one, where so many are still to come: how many are left.
+#[tactic(auto, using(crate::proofs::InParts::leads_on, crate::proofs::InParts::fewer_left))]
+fn read_part<S: Source>(
+    source: &mut S,
+    samples: &mut Vec<u16>,
+    left: usize,
+) -> Result<usize, PnmError>
+    requires { 0 < left }
+    ensures leads { IfOk result (λ after. LeadsOn (S.remaining source.old) (S.remaining source.new) (in_raster left) samples.old.items (in_raster after) samples.new.items) }
+    ensures fewer { IfOk result (λ after. after < left) }
+    ensures ends { IfErr result (λ e. EndsPart (S.remaining source.old) (S.remaining source.new) e) }
+    ensures failed { S.has_failed source.old ≡ false → S.has_failed source.new ≡ true → IsErrOf result PnmError.Device }
+    ensures device { IsErrOf result PnmError.Device → S.has_failed source.new ≡ true }
+    ensures same { S.identity source.new ≡ S.identity source.old }
+{
+    let mut bytes = [0u8; 4096];
+    let part = &mut bytes[..left.min(4096)];
+    match source.fill(part) {
+        Ok(0) => Err(PnmError::TooShort),
+        Ok(count) => take_bytes(samples, left, &part[..count]),
+        Err(e) => Err(e),
+    }
+}
+
+/// Reads the samples of a raw raster in which each byte is one, of which so many are still to come, and the end of the file.
+#[tactic(auto, using(crate::proofs::InParts::leads_nowhere, crate::proofs::InParts::leads_further, crate::proofs::InParts::raster_file, crate::proofs::InParts::raster_trails, crate::proofs::InParts::raster_fails, crate::proofs::InParts::raster_ends))]
+fn read_bytes<S: Source>(
+    source: &mut S,
+    mut samples: Vec<u16>,
+    mut left: usize,
+) -> Result<Vec<u16>, PnmError>
+    requires fresh { S.has_failed source.old ≡ false }
+    ensures file { (w : WantedImage) (before : Option (List ℕ)) (bytes : List ℕ) → Consumes before (S.remaining source.old) bytes → walk w bytes ≡ Going (in_raster left) samples.items → IfOk result (λ all. ReadsFile w before (S.remaining source.new) all.items) }
+    ensures refusal { (w : WantedImage) (before : Option (List ℕ)) (bytes : List ℕ) → Consumes before (S.remaining source.old) bytes → walk w bytes ≡ Going (in_raster left) samples.items → IfErr result (λ e. Refuses w before (S.remaining source.new) e) }
+    ensures failed { S.has_failed source.new ≡ true → IsErrOf result PnmError.Device }
+    ensures device { IsErrOf result PnmError.Device → S.has_failed source.new ≡ true }
+    ensures same { S.identity source.new ≡ S.identity source.old }
+{
+    while left > 0 {
+        match read_part(source, &mut samples, left) {
+            Ok(after) => left = after,
+            Err(e) => return Err(e),
+        }
+    }
+    match source.next_byte() {
+        Ok(None) => Ok(samples),
+        Ok(Some(_)) => Err(PnmError::Trailing),
+        Err(e) => Err(e),
+    }
+}
+
 /// Reads the samples of a wanted image. Memory is taken once, before the first byte.
 fn read_samples<S: Source>(
     alloc: Global,
@@ -71,6 +150,9 @@ fn read_samples<S: Source>(
     };
     let mut state = State::Start;
     for turn in 0..u64::MAX {
+        if let Some(left) = bytes_left(state) {
+            return read_bytes(source, samples, left);
+        }
         match source.next_byte() {
             Ok(Some(byte)) => match take_byte(&mut samples, wanted, state, byte) {
                 Ok(next) => state = next,
@@ -114,7 +196,8 @@ pub fn read_from<S: Source>(alloc: Global, source: &mut S, shape: &Shape) -> Res
 }
 
 /// Reads an image of the wanted shape, and the end of the file after it.
-/// Bytes are taken one by one, and none after the first fault. A read that fails is not tried again.
+/// No byte is taken after the first fault: bytes are taken one by one, and together only where none of them can be one. A read
+/// that fails is not tried again.
 pub fn read<R: Read>(alloc: Global, reader: &mut R, shape: &Shape) -> Result<Image, PnmError>
     requires { IsShape (shape_of shape.now) }
     ensures file { IfOk result (λ image. ReadsFile (wanted_of (shape_of shape.now)) (R.remaining reader.old) (R.remaining reader.new) image.samples.items) }

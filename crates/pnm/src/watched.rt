@@ -1,12 +1,12 @@
 //! Readers and writers that remember whether they have failed.
 
-ghost use Rattle.std.specs.Prelude.{◌≡◌, List, ℕ, Option, Bool, ◌||◌, is_err};
-ghost use Rattle.pnm.specs.Source.{LooksOnce, Sends};
+ghost use Rattle.std.specs.Prelude.{◌≡◌, ◌≤◌, List, ℕ, Option, Bool, ◌||◌, is_err, length, IfOk};
+ghost use Rattle.pnm.specs.Source.{Fills, LooksOnce, Sends};
 
 use crate::error::PnmError;
 use std::io::{Read, Write};
 
-/// Bytes that come one by one, from a reader that remembers whether it has failed.
+/// Bytes that come one by one or several together, from a reader that remembers whether it has failed.
 pub trait Source {
     /// The bytes that are still to come, where they are known.
     ghost remaining: { Self → Option (List ℕ) };
@@ -20,6 +20,14 @@ pub trait Source {
     /// The next byte, or nothing at the end. A read that fails is not tried again.
     fn next_byte(&mut self) -> Result<Option<u8>, PnmError>
         ensures bytes { LooksOnce (remaining self.old) (remaining self.new) result }
+        ensures failure { has_failed self.new ≡ (has_failed self.old || is_err result) }
+        ensures same { identity self.new ≡ identity self.old };
+
+    /// Puts the next bytes into the beginning of `out`: how many they are, none only at the end or where `out` has no place.
+    /// A read that fails is not tried again.
+    fn fill(&mut self, out: &mut [u8]) -> Result<usize, PnmError>
+        ensures bytes { Fills (remaining self.old) (remaining self.new) out.new result }
+        ensures count { IfOk result (λ n. n ≤ length out.new) }
         ensures failure { has_failed self.new ≡ (has_failed self.old || is_err result) }
         ensures same { identity self.new ≡ identity self.old };
 }
@@ -66,6 +74,14 @@ impl<R: Read> Source for Watched<'_, R> {
                 Err(PnmError::Device)
             }
         }
+    }
+
+    fn fill(&mut self, out: &mut [u8]) -> Result<usize, PnmError> {
+        let Ok(count) = self.device.read(out) else {
+            self.failed = true;
+            return Err(PnmError::Device);
+        };
+        Ok(count)
     }
 }
 

@@ -1,6 +1,6 @@
 //! Writing a file.
 
-ghost use Rattle.std.specs.Prelude.{◌≡◌, [], ◌∷◌, ◌++◌, false, true, decimal, ◌||◌, is_err};
+ghost use Rattle.std.specs.Prelude.{◌≡◌, ◌≤◌, ◌+◌, ◌*◌, [], ◌∷◌, ◌++◌, false, true, decimal, ◌||◌, is_err, length, take};
 ghost use Rattle.std.specs.List.{flat_map};
 ghost use Rattle.meaning.specs.Image.View.{image_of};
 ghost use Rattle.pnm.specs.Source.{Sends};
@@ -22,17 +22,54 @@ fn send_number<S: Sink>(sink: &mut S, number: u32, after: u8) -> Result<(), PnmE
     sink.send(&[after])
 }
 
-fn send_sample<S: Sink>(sink: &mut S, ty: Ty, sample: u16) -> Result<(), PnmError>
-    ensures bytes { Sends (S.contents sink.old) (S.contents sink.new) (sample_bytes ty sample) result }
-    ensures failure { S.has_failed sink.new ≡ (S.has_failed sink.old || is_err result) }
-    ensures same { S.identity sink.new ≡ S.identity sink.old }
+// So many samples are sent together.
+const TOGETHER: usize = 2048;
+
+/// Puts the bytes of a sample in from a place on: the place behind them.
+#[inline(always)]
+fn put_sample(ty: Ty, sample: u16, out: &mut [u8], at: usize) -> usize
+    requires { at + 2 ≤ length out.old }
+    ensures bytes { take result out.new ≡ take at out.old ++ sample_bytes ty sample }
+    ensures few { result ≤ at + 2 }
 {
     let low = (sample % 256) as u8;
     let high = (sample / 256) as u8;
     match ty {
-        Ty::U8 => sink.send(&[low]),
-        _ => sink.send(&[high, low]),
+        Ty::U8 => {
+            out[at] = low;
+            at + 1
+        }
+        _ => {
+            out[at] = high;
+            out[at + 1] = low;
+            at + 2
+        }
     }
+}
+
+/// Puts the bytes of samples in, from the first place on: how many they are.
+fn put_samples(ty: Ty, samples: &[u16], out: &mut [u8]) -> usize
+    requires { 2 * length samples.now ≤ length out.old }
+    ensures bytes { take result out.new ≡ flat_map (sample_bytes ty) samples.now }
+    ensures room { result ≤ length out.new }
+{
+    let mut at = 0;
+    for sample in samples {
+        at = put_sample(ty, *sample, out, at);
+    }
+    at
+}
+
+/// Sends samples, at most as many as are sent together.
+fn send_part<S: Sink>(sink: &mut S, ty: Ty, samples: &[u16]) -> Result<(), PnmError>
+    requires { length samples.now ≤ 2048 }
+    ensures bytes { Sends (S.contents sink.old) (S.contents sink.new) (flat_map (sample_bytes ty) samples.now) result }
+    ensures failure { S.has_failed sink.new ≡ (S.has_failed sink.old || is_err result) }
+    ensures same { S.identity sink.new ≡ S.identity sink.old }
+{
+    let mut bytes = [0u8; 4096];
+    let count = put_samples(ty, samples, &mut bytes);
+    sink.send(&bytes[..count])
 }
 
 fn magic_of(has_colours: bool) -> &'static [u8]
@@ -52,13 +89,17 @@ fn send_numbers<S: Sink>(sink: &mut S, ty: Ty, extents: &[u32]) -> Result<(), Pn
     send_number(sink, max_sample(ty), b'\n')
 }
 
+#[tactic(auto, using(crate::proofs::Sending::has_sent_no_sample, crate::proofs::Sending::has_sent_part, crate::proofs::Sending::sends_samples, crate::proofs::Sending::sends_part, crate::proofs::Sending::sends_failed))]
 fn send_raster<S: Sink>(sink: &mut S, ty: Ty, samples: &[u16]) -> Result<(), PnmError>
     ensures bytes { Sends (S.contents sink.old) (S.contents sink.new) (flat_map (sample_bytes ty) samples.now) result }
     ensures failure { S.has_failed sink.new ≡ (S.has_failed sink.old || is_err result) }
     ensures same { S.identity sink.new ≡ S.identity sink.old }
 {
-    for sample in samples {
-        send_sample(sink, ty, *sample)?;
+    let mut rest = samples;
+    while !rest.is_empty() {
+        let (part, later) = rest.split_at(rest.len().min(TOGETHER));
+        send_part(sink, ty, part)?;
+        rest = later;
     }
     Ok(())
 }

@@ -1,4 +1,5 @@
 use Rattle.std.proofs.Common.{ap, ◌∙◌, ◌||◌, false}
+use Rattle.pnm.specs.Reading.{Going}
 use Rattle.pnm.proofs.reader.read_samples.Goals as goal
 use Rattle.pnm.proofs.ByteByByte.{has_read_more, looks_byte, looks_end, refuses_byte, refuses_end, refuses_device}
 
@@ -25,3 +26,13 @@ loop-turn-preserved g c = (
   c.in-Ok-Some.ensures.failure ∙ ap (λ b. b || false) c.loop-turn.invariant.1,
   c.in-Ok-Some.ensures.same ∙ c.loop-turn.invariant.2,
 )
+
+pub returns-in-Some-clause-file : goal.returns-in-Some-clause-file
+returns-in-Some-clause-file g c =
+    let read = c.loop-turn.invariant.0 in
+    c.read_bytes.ensures.file c.args.wanted.now (g.S.Source.remaining c.args.source.now) read.bytes read.takes (read.leads ∙ ap (λ s. Going s c.loop-turn.samples.items) c.in-Some.ensures.0)
+
+pub returns-in-Some-clause-refusal : goal.returns-in-Some-clause-refusal
+returns-in-Some-clause-refusal g c =
+    let read = c.loop-turn.invariant.0 in
+    c.read_bytes.ensures.refusal c.args.wanted.now (g.S.Source.remaining c.args.source.now) read.bytes read.takes (read.leads ∙ ap (λ s. Going s c.loop-turn.samples.items) c.in-Some.ensures.0)

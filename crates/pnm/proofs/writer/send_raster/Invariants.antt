@@ -1,11 +1,13 @@
-use Rattle.std.proofs.Common.{◌≡◌, take}
-use Rattle.std.specs.List.{flat_map}
-use Rattle.std.specs.Io.KnownBytes.{Appends}
+use Rattle.std.proofs.Common.{◌≡◌, length}
 use Rattle.pnm.specs.Text.{sample_bytes}
+use Rattle.pnm.proofs.Sending.{HasSentSamples}
 use Rattle.pnm.proofs.writer.send_raster.Given as goal
 
-abbrev pub invariant-loop-sample : goal.invariant-loop-sample
-invariant-loop-sample g l =
-    Appends (g.S.Sink.contents l.fn.sink) (g.S.Sink.contents l.sink) (flat_map (sample_bytes l.ty) (take l.sample-index l.samples))
+abbrev pub invariant-loop-rest : goal.invariant-loop-rest
+invariant-loop-rest g l =
+    HasSentSamples (sample_bytes l.ty) (g.S.Sink.contents l.fn.sink) (g.S.Sink.contents l.sink) l.samples l.rest
     × (g.S.Sink.has_failed l.sink ≡ g.S.Sink.has_failed l.fn.sink)
     × (g.S.Sink.identity l.sink ≡ g.S.Sink.identity l.fn.sink)
+
+abbrev pub decreases-loop-rest : goal.decreases-loop-rest
+decreases-loop-rest g l = length l.rest
