@@ -15,3 +15,4 @@ pub mod Scratches
 pub mod Shared
 pub mod Runs
 pub mod Joining
+pub mod Begun

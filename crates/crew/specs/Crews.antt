@@ -1,9 +1,7 @@
--- What a worker needs of a plan's pieces and of its desk, by a board of this layout and these values, and what a crew leaves.
-use Rattle.std.specs.Prelude.{◌≡◌, List, ℤ}
+-- What a worker needs of a plan's pieces and of its desk, by a board of this layout and these values.
+use Rattle.std.specs.Prelude.{List, ℤ}
 use Rattle.algo.specs.View.{picture_of}
 use Rattle.board.specs.Layout.{Layout, pieces_of}
-use Rattle.board.specs.Seats.{Place}
-use Rattle.board.specs.Views.{IsDone}
 use Rattle.checked_plan.specs.View.{certificate_checked, plan_checked}
 use Rattle.crew.specs.Private.{CanRun, HasMemory, HasRoom}
 use Rattle.crew.specs.declared.values.Desk.{Desk}
@@ -17,8 +15,3 @@ ArePieces layout values p = CanRun layout values p.checked.now (picture_of p.inp
 pub record IsDeskFor (layout : Layout) (p : Pieces) (d : Desk) : Type 0 where
   pub scratches : HasMemory layout (plan_checked p.checked.now) (certificate_checked p.checked.now) d.scratches.items
   pub room : HasRoom p.checked.now (pieces_of layout) d.looked
-
--- the seat is of the same board as before, stands for all seats of it, and all pieces are finished
-pub record HasWorked (before after : Place) : Type 0 where
-  pub board : after.board ≡ before.board
-  pub done : IsDone after.view

@@ -1,5 +1,6 @@
 pub mod Crews
 pub mod Learning
 pub mod Opening
+pub mod Prepared
 pub mod Private
 pub mod Workers

@@ -5,13 +5,17 @@ mod alone;
 mod counts;
 mod gate;
 pub mod opening;
+mod prepared;
 mod running;
 mod values;
 mod worker;
 mod workers;
 
-pub use alone::picture;
+/// Which board a run is at, and the values of its cells.
+pub use alone::{PreparedAlone, picture};
+pub use board::Run;
 pub use gate::{Gate, Unwatched};
+pub use prepared::Prepared;
 pub use running::{RunError, run};
 pub use values::{Desk, Pieces};
 pub use worker::{try_piece, work};

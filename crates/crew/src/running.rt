@@ -3,23 +3,18 @@
 ghost use Rattle.std.specs.Prelude.{◌≡◌, ◌≤◌, IfErr, IfOk};
 ghost use Rattle.algo.specs.View.{picture_said, samples_of, IsFor};
 ghost use Rattle.checked_plan.specs.View.{algorithm_checked};
-ghost use Rattle.board.specs.Seats.{place};
-ghost use Rattle.board.specs.Views.{first_view};
 ghost use Rattle.crew.specs.Opening.Layouts.{layout_of, values_of};
-ghost use Rattle.crew.specs.Crews.{ArePieces, HasWorked};
+ghost use Rattle.crew.specs.Crews.{ArePieces};
 ghost use Rattle.crew.specs.declared.running.RunError.TheVariants.{Memory as OutOfMemory};
 ghost use Rattle.meaning.specs.Image.View.{image_of};
 
-use crate::counts::{most_fetched, most_own};
+use crate::counts::most_own;
 use crate::gate::Gate;
-use crate::opening::laws::{
-    own_is_of_work, pictures_are_said, runs_give_values, values_are_targets, works_are_sound,
-};
-use crate::opening::open;
+use crate::opening::laws::{own_is_of_work, runs_give_values, values_are_targets, works_are_sound};
+use crate::prepared::Prepared;
 use crate::values::Pieces;
-use crate::workers::{hire, united, work_all};
 use algo::Inputs;
-use board::{Board, BoardSeat, Run, Unfinished};
+use board::Run;
 use checked_plan::Checked;
 use checked_plan::output::PlanCells;
 use headline::laws::cells_are_numbered;
@@ -74,33 +69,6 @@ impl<'a> Pieces<'a> {
     }
 }
 
-/// The work of so many workers at a board that was just opened, whose first seat comes back with what all know: that all
-/// pieces are drawn, and that all are finished. All memory is taken before the first worker starts.
-fn work_on<J: Run + Send + Sync, R: Threads + Wait + Sync, G: Gate>(
-    rt: &R,
-    alloc: Global,
-    board: &Board<J>,
-    first: BoardSeat,
-    checked: &Checked<'_>,
-    inputs: &Inputs,
-    workers: usize,
-    gate: &G,
-) -> Result<BoardSeat, AllocError>
-    requires layout { J.layout ≡ layout_of checked.now }
-    requires values { J.values ≡ values_of checked.now inputs.now }
-    requires input { IsFor checked.now.algo.now inputs.now }
-    requires seat { first ≡ place board.now first_view }
-    requires workers { (1 ≤ workers) × (workers ≤ 64) }
-    ensures { IfOk result (λ seat. HasWorked first seat) }
-{
-    let cells = PlanCells::of(alloc, checked)?;
-    let runs = Pieces::of::<J>(checked, inputs);
-    let most = most_fetched(checked);
-    let mut crew = hire::<J, Pieces<'_>>(alloc, board, first, &runs, &cells, most, workers)?;
-    work_all(rt, alloc, board, &runs, gate, crew.as_mut_slice());
-    Ok(united(board, crew))
-}
-
 /// The run, on a board for this checked plan and this input.
 fn run_on<J: Run + Send + Sync, G: Gate, R: Threads + Wait + Sync>(
     rt: &R,
@@ -117,13 +85,9 @@ fn run_on<J: Run + Send + Sync, G: Gate, R: Threads + Wait + Sync>(
     ensures picture { IfOk result (λ image. image_of image ≡ picture_said (algorithm_checked checked.now) (samples_of inputs.now)) }
     ensures refused { IfErr result (λ error. error ≡ OutOfMemory) }
 {
-    pictures_are_said();
-    let (board, first) = open::<J>(alloc, checked, inputs)?;
-    let seat = work_on(rt, alloc, &board, first, checked, inputs, workers, gate)?;
-    match board.close(seat) {
-        Ok(image) => Ok(image),
-        Err(Unfinished(piece)) => Err(RunError::Unfinished(piece)),
-    }
+    let cells = PlanCells::of(alloc, checked)?;
+    let prepared = Prepared::<J>::new(alloc, checked, inputs, &cells, workers)?;
+    Ok(prepared.picture(rt, alloc, gate))
 }
 
 /// The picture that the algorithm says of the input, computed by a crew of so many workers, from 1 to 64: one in the caller's
