@@ -171,8 +171,8 @@ fn steps_at<'b>(group: &'b Root<'_>, inners: &'b [Inner<'_>], spot: Spot) -> Opt
     nest.steps.get(..spot.depth)
 }
 
-// What stands around a place.
-fn scope_at(
+/// What stands around a place.
+pub(crate) fn scope_at(
     alloc: Global,
     group: &Root<'_>,
     inners: &[Inner<'_>],
@@ -232,8 +232,8 @@ fn is_inside_spot(inners: &[Inner<'_>], number: usize, spot: Spot) -> bool {
 
 // ---- what is needed
 
-// The calls of a function at the place and inside of it.
-fn sites_at(
+/// The calls of a function at the place and inside of it.
+pub(crate) fn sites_at(
     alloc: Global,
     algo: &Algo,
     group: &Root<'_>,
@@ -280,8 +280,8 @@ fn is_scattered(root: &Root<'_>, dimension: usize) -> bool {
         .any(|one| *one == dimension)
 }
 
-// What is needed of a function: in a dimension that an update scatters all of it.
-fn region_at(
+/// What is needed of a function: in a dimension that an update scatters all of it.
+pub(crate) fn region_at(
     alloc: Global,
     root: &Root<'_>,
     scope: &Scope,
@@ -645,6 +645,16 @@ pub(crate) fn slide_of(
     if inner.home == inner.store {
         return Ok(Slide::Nowhere(Standstill::OneTurn));
     }
+    slide_outside(alloc, group, inners, inner)
+}
+
+/// The same where it is stored outside of the loop at which it is computed.
+pub(crate) fn slide_outside(
+    alloc: Global,
+    group: &Root<'_>,
+    inners: &[Inner<'_>],
+    inner: &Inner<'_>,
+) -> Result<Slide, AllocError> {
     let Some(steps) = steps_at(group, inners, inner.home) else {
         return Ok(Slide::Nowhere(Standstill::OneTurn));
     };
@@ -692,6 +702,39 @@ pub(crate) fn readings_at<'a>(
                 &mut found,
             )?;
         }
+    }
+    Ok(found)
+}
+
+// The places in the nests of a host at which a function is computed.
+fn add_spots(
+    group: &Root<'_>,
+    inners: &[Inner<'_>],
+    host: Host,
+    turn: &Name,
+    found: &mut Vec<Spot>,
+) -> Result<(), AllocError> {
+    for definition in 0..nests_at(group, inners, host).len() {
+        if let Some(spot) = spot_in(group, inners, host, definition, turn) {
+            found.push(spot)?;
+        }
+    }
+    Ok(())
+}
+
+/// The places at which a function is computed in a group.
+pub(crate) fn spots_of(
+    alloc: Global,
+    group: &Root<'_>,
+    inners: &[Inner<'_>],
+    root: &Root<'_>,
+) -> Result<Vec<Spot>, AllocError> {
+    let mut found = Vec::new(alloc);
+    let Some(home) = home_of(root) else {
+        return Ok(found);
+    };
+    for host in hosts_named(alloc, group, inners, &home.function)? {
+        add_spots(group, inners, host, &home.turn, &mut found)?;
     }
     Ok(found)
 }

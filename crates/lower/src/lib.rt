@@ -27,4 +27,7 @@ mod windows;
 
 pub use error::{LowerError, RegionRule};
 pub use lowering::{Lowered, lower, reason};
-pub use reasons::{Amount, BoundCause, Cause, FoldCause, Link, Reason, SizeCause, Standstill};
+pub use reasons::{
+    Amount, BoundCause, Cause, Excess, FoldCause, LargestSplit, Link, Reason, SizeCause,
+    Standstill, Storage, TurnCause,
+};

@@ -12,7 +12,7 @@ use crate::fetching::Root;
 use crate::group::{Beginning, Made, group_of};
 use crate::legality::first_fault;
 use crate::parties::{Party, laid_by_turns, parties_of, roots_of};
-use crate::reasons::folds::fold_reason;
+use crate::reasons::folds::{fold_reason, form_reason};
 use crate::reasons::reach::bound_reason;
 use crate::reasons::sizes::size_reason;
 use crate::reasons::{Cause, Reason};
@@ -234,8 +234,40 @@ fn placed_reason(
     }
 }
 
-/// What made a schedule break the rule that `lower` told: of L9 for a window, L10, L11 and L12, where it is found. It is found
-/// anew, by what refused the schedule.
+// Why a function has a fold for which no window is asked.
+fn unwindowed_reason(
+    alloc: Global,
+    algo: &Algo,
+    placement: &Placement,
+    name: &Name,
+) -> Result<Option<Reason>, AllocError> {
+    let stored = stored_functions(alloc, algo, placement)?;
+    let laid = laid_all(alloc, algo, &stored)?;
+    let parties = parties_of(alloc, algo, &stored, &laid)?;
+    if_found(form_reason(alloc, algo, &stored, &parties, name))
+}
+
+// What made a schedule break a rule that asks for no region.
+fn ruled_reason(
+    alloc: Global,
+    algo: &Algo,
+    sched: &Sched,
+    rule: Rule,
+    name: &Name,
+) -> Result<Option<Reason>, AllocError> {
+    match rule {
+        Rule::InlineUpdates => Ok(Some(Cause::Updates(*name).alone(alloc))),
+        Rule::BadFold => match followed(alloc, algo, sched) {
+            Ok(placement) => unwindowed_reason(alloc, algo, &placement, name),
+            Err(SchedError::Memory) => Err(AllocError),
+            Err(_) => Ok(None),
+        },
+        _ => Ok(None),
+    }
+}
+
+/// What made a schedule break the rule that `lower` told: of L9, L10, L11 and L12, where it is found. It is found anew, by what
+/// refused the schedule.
 pub fn reason(
     alloc: Global,
     algo: &Algo,
@@ -243,8 +275,8 @@ pub fn reason(
     error: &LowerError,
 ) -> Result<Option<Reason>, AllocError> {
     match error {
-        LowerError::Schedule(SchedError::Broken(Rule::InlineUpdates, name)) => {
-            Ok(Some(Cause::Updates(*name).alone(alloc)))
+        LowerError::Schedule(SchedError::Broken(rule, name)) => {
+            ruled_reason(alloc, algo, sched, *rule, name)
         }
         LowerError::Broken(rule, name) => match followed(alloc, algo, sched) {
             Ok(placement) => placed_reason(alloc, algo, &placement, *rule, name),

@@ -248,6 +248,15 @@ fn all_limited(
     Ok(made)
 }
 
+// The position in a loop that is split; in a block of one number that is where the block begins.
+fn told_form(alloc: Global, cut: &Split, start: &Lin, form: &Lin) -> Result<Lin, AllocError> {
+    if cut.factor == 1 {
+        start.copy(alloc)
+    } else {
+        form.copy(alloc)
+    }
+}
+
 impl Standing {
     fn learn(&mut self, name: Name, form: Lin) -> Result<(), AllocError> {
         self.known.push(Known { name, form })?;
@@ -316,10 +325,18 @@ impl Standing {
         }
     }
 
-    // A number within the loop that is split: by a further upper form of the innermost loop, or by a guard and a let.
-    fn keep(&mut self, alloc: Global, is_lane: bool, own: &Reach, form: Lin) -> Result<Lin, Stop> {
+    // A number within the loop that is split: by a further upper form of the innermost loop, or by a guard and a let. The form
+    // is told once more without what is 0 in it.
+    fn keep(
+        &mut self,
+        alloc: Global,
+        is_lane: bool,
+        own: &Reach,
+        form: Lin,
+        told: &Lin,
+    ) -> Result<Lin, Stop> {
         if let Some(symbol) = self.innermost(&form) {
-            let rest = form.without(alloc, symbol)?;
+            let rest = told.without(alloc, symbol)?;
             let limit = own.last.plus_multiple(alloc, -1, &rest)?;
             let steps = mem::replace(&mut self.steps, Vec::new(alloc));
             self.steps = all_limited(alloc, steps, symbol, &limit)?;
@@ -352,8 +369,9 @@ impl Standing {
             return Ok(());
         };
         let form = start.plus_multiple(alloc, 1, inner)?;
+        let told = told_form(alloc, cut, start, &form)?;
         let form = if is_guarded {
-            self.keep(alloc, is_lane, own, form)?
+            self.keep(alloc, is_lane, own, form, &told)?
         } else {
             form
         };

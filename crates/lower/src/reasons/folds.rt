@@ -1,15 +1,17 @@
 //! Why a fold is refused.
 
+use crate::definitions::Stored;
 use crate::error::Stop;
 use crate::fetching::{Root, freed};
-use crate::inner::{Inner, Slide, readings_at, slide_of};
+use crate::inner::{Inner, Slide, readings_at, root_at, slide_of, slide_outside};
 use crate::parties::Party;
 use crate::reasons::readings::Reading;
-use crate::reasons::{Amount, Cause, FoldCause, Link, Reason, Standstill};
+use crate::reasons::{Amount, Cause, FoldCause, Link, Reason, Standstill, Storage};
 use crate::regions::symbols_from;
 use crate::windows::window_size;
 use algo::Algo;
 use lin::{Forms, Scope, Span1};
+use sched::{Fold, Loop, Mark};
 use std::alloc::{AllocError, Global};
 use tree::Expr;
 use tree::token::Name;
@@ -30,6 +32,20 @@ fn is_named(inner: &Inner<'_>, name: &Name) -> bool {
 
 // ---- windows
 
+// Where a function slides, where it is stored as the schedule says or anywhere outside of the loop at which it is computed.
+fn slide_at(
+    alloc: Global,
+    group: &Root<'_>,
+    inners: &[Inner<'_>],
+    inner: &Inner<'_>,
+) -> Result<Slide, AllocError> {
+    if inner.root.stored.placed.stores.is_empty() {
+        slide_outside(alloc, group, inners, inner)
+    } else {
+        slide_of(alloc, group, inners, inner)
+    }
+}
+
 // The window of a function where it slides in this dimension.
 fn window_along(
     alloc: Global,
@@ -38,7 +54,7 @@ fn window_along(
     inner: &Inner<'_>,
     along: usize,
 ) -> Result<Option<i64>, AllocError> {
-    if slide_of(alloc, group, inners, inner)? != Slide::Along(along) {
+    if slide_at(alloc, group, inners, inner)? != Slide::Along(along) {
         return Ok(None);
     }
     match inner.region.as_slice().get(along) {
@@ -444,4 +460,175 @@ pub(crate) fn fold_reason(
         }
     }
     Ok(None)
+}
+
+// ---- folds that no window is asked for
+
+// Where the function is computed first.
+fn first_number(inners: &[Inner<'_>], name: &Name) -> Option<usize> {
+    let number = first_named(inners, name);
+    if number < inners.len() {
+        Some(number)
+    } else {
+        None
+    }
+}
+
+// The loop directly outside of another one, where that is not parallel.
+fn next_outer(loops: &[Loop], turn: &Name) -> Option<Name> {
+    let place = loops
+        .iter()
+        .position(|one| one.name.as_str() == turn.as_str())?;
+    if loops.get(place)?.mark == Some(Mark::Parallel) {
+        return None;
+    }
+    let outer = loops.get(place.saturating_add(1))?;
+    Some(outer.name)
+}
+
+// As many places as the fold has, where it is of this variable, and at least so many.
+fn places_for(folds: &[Fold], along: &Name, enough: i64) -> i64 {
+    let mut places = enough;
+    for fold in folds {
+        if fold.dimension.as_str() == along.as_str() {
+            places = places.max(i64::from(fold.factor));
+        }
+    }
+    places
+}
+
+// The `store_at` and the fold by which a function slides in a dimension.
+fn storage_along(
+    alloc: Global,
+    parties: &[Party<'_>],
+    group: &Root<'_>,
+    inners: &[Inner<'_>],
+    inner: &Inner<'_>,
+    dimension: usize,
+) -> Result<Option<Storage>, AllocError> {
+    let placed = inner.root.stored.placed;
+    let function = inner.root.stored.subject.name;
+    let host = root_at(group, inners, inner.home.host);
+    let (Some(along), Some(home)) = (
+        inner.root.stored.subject.variables.get(dimension),
+        placed.homes.first(),
+    ) else {
+        return Ok(None);
+    };
+    let (Some(turn), Some(enough)) = (
+        next_outer(&host.stored.placed.loops, &home.turn),
+        enough_places(alloc, parties, &function, dimension)?,
+    ) else {
+        return Ok(None);
+    };
+    Ok(Some(Storage {
+        host: host.stored.subject.name,
+        turn,
+        along: *along,
+        places: places_for(&placed.folds, along, enough),
+    }))
+}
+
+// Why a function that is computed at a loop and stored at none has no fold.
+fn unstored_reason<'a>(
+    alloc: Global,
+    algo: &Algo,
+    parties: &[Party<'_>],
+    group: &Root<'a>,
+    inners: &[Inner<'a>],
+    number: usize,
+) -> Result<Option<Reason>, Stop> {
+    let Some(inner) = inners.get(number) else {
+        return Ok(None);
+    };
+    let function = inner.root.stored.subject.name;
+    let turn = match inner.root.stored.placed.homes.first() {
+        Some(home) => Some(home.turn),
+        None => None,
+    };
+    match slide_outside(alloc, group, inners, inner)? {
+        Slide::Along(dimension) => {
+            let mend = storage_along(alloc, parties, group, inners, inner, dimension)?;
+            let cause = FoldCause::NotStored {
+                function,
+                turn,
+                mend,
+            };
+            let reason = small(alloc, algo, group, inners, number, dimension, cause)?;
+            Ok(Some(reason))
+        }
+        Slide::Nowhere(_) => {
+            let cause = FoldCause::NotStored {
+                function,
+                turn,
+                mend: None,
+            };
+            let readings = readings_of(alloc, algo, group, inners, inner)?;
+            match folded_index(inner, &readings) {
+                Some(index) => Ok(Some(Cause::Fold(cause).at(alloc, index.span())?)),
+                None => Ok(Some(Cause::Fold(cause).alone(alloc))),
+            }
+        }
+    }
+}
+
+// The variable of a fold without places, with as many places as are enough.
+fn empty_cause(
+    alloc: Global,
+    parties: &[Party<'_>],
+    stored: &Stored<'_>,
+) -> Result<Option<FoldCause>, AllocError> {
+    let function = stored.subject.name;
+    for fold in &stored.placed.folds {
+        if fold.factor == 0 {
+            let variables = &stored.subject.variables;
+            let dimension = variables
+                .iter()
+                .position(|one| one.as_str() == fold.dimension.as_str());
+            let enough = match dimension {
+                Some(dimension) => enough_places(alloc, parties, &function, dimension)?,
+                None => None,
+            };
+            return Ok(Some(FoldCause::NoPlaces {
+                function,
+                along: fold.dimension,
+                enough,
+            }));
+        }
+    }
+    Ok(None)
+}
+
+/// Why a function has a fold for which no window is asked: it is stored at no loop, or to no places.
+pub(crate) fn form_reason(
+    alloc: Global,
+    algo: &Algo,
+    stored: &[Stored<'_>],
+    parties: &[Party<'_>],
+    name: &Name,
+) -> Result<Option<Reason>, Stop> {
+    let own = stored
+        .iter()
+        .find(|one| one.subject.name.as_str() == name.as_str());
+    if let Some(own) = own {
+        if !own.placed.stores.is_empty() {
+            return match empty_cause(alloc, parties, own)? {
+                Some(cause) => Ok(Some(Cause::Fold(cause).alone(alloc))),
+                None => Ok(None),
+            };
+        }
+    }
+    for party in parties {
+        if let Some(inners) = &party.inners {
+            if let Some(number) = first_number(inners, name) {
+                return unstored_reason(alloc, algo, parties, &party.root, inners, number);
+            }
+        }
+    }
+    let cause = FoldCause::NotStored {
+        function: *name,
+        turn: None,
+        mend: None,
+    };
+    Ok(Some(Cause::Fold(cause).alone(alloc)))
 }

@@ -4,26 +4,25 @@ use crate::definitions::Stored;
 use crate::error::Stop;
 use crate::fetching::Root;
 use crate::forms::{between, is_inside, last_of, whole};
-use crate::inner::{Inner, inners_of};
-use crate::parties::{Party, roots_of};
+use crate::inner::Inner;
+use crate::parties::Party;
+use crate::reasons::asked::{form_cause, missing_region};
 use crate::reasons::readings::{Reading, add_readings};
+use crate::reasons::turned::turn_reason;
 use crate::reasons::{Amount, BoundCause, Cause, Link, Reason};
-use crate::regions::{
-    Ends, Laid, add_extents, counts, ends_of, formulas_call, is_extent, laid_functions, unreached,
-    widen,
-};
-use crate::scopes::{Around, head_scope, interval, variables_of};
+use crate::regions::{Ends, Laid, counts, ends_of};
+use crate::scopes::head_scope;
 use algo::Algo;
 use lin::{Region, Scope, Span1};
 use sched::{Nest, Tail};
 use std::alloc::{AllocError, Global};
-use tree::Expr;
 use tree::token::{Name, Span};
 
 /// The most functions of a chain.
 const MOST_LINKS: usize = 6;
 
-fn number_named(stored: &[Stored<'_>], name: &Name) -> Option<usize> {
+/// The number of the stored function of this name.
+pub(crate) fn number_named(stored: &[Stored<'_>], name: &Name) -> Option<usize> {
     for (number, one) in stored.iter().enumerate() {
         if one.subject.name.as_str() == name.as_str() {
             return Some(number);
@@ -32,8 +31,8 @@ fn number_named(stored: &[Stored<'_>], name: &Name) -> Option<usize> {
     None
 }
 
-// The stored function of this number, where it has a region and definitions.
-fn root_numbered<'a>(
+/// The stored function of this number, where it has a region and definitions.
+pub(crate) fn root_numbered<'a>(
     stored: &'a [Stored<'a>],
     laid: &'a [Option<Laid>],
     number: usize,
@@ -48,7 +47,12 @@ fn root_numbered<'a>(
     })
 }
 
-fn ends_or_none(alloc: Global, scope: &Scope, span: &Span1) -> Result<Option<Ends>, AllocError> {
+/// None where bounds are missing.
+pub(crate) fn ends_or_none(
+    alloc: Global,
+    scope: &Scope,
+    span: &Span1,
+) -> Result<Option<Ends>, AllocError> {
     match ends_of(alloc, scope, span) {
         Ok(ends) => Ok(Some(ends)),
         Err(Stop::Limit) => Ok(None),
@@ -56,15 +60,16 @@ fn ends_or_none(alloc: Global, scope: &Scope, span: &Span1) -> Result<Option<End
     }
 }
 
-fn read_ends(alloc: Global, reading: &Reading<'_>) -> Result<Option<Ends>, AllocError> {
+/// The ends of what an index stays within, over all turns.
+pub(crate) fn read_ends(alloc: Global, reading: &Reading<'_>) -> Result<Option<Ends>, AllocError> {
     match &reading.span {
         Some(span) => ends_or_none(alloc, &reading.scope, span),
         None => Ok(None),
     }
 }
 
-// The indices at which those that are declared later call a function, in the loops over their regions.
-fn later_readings<'a>(
+/// The indices at which those that are declared later call a function, in the loops over their regions.
+pub(crate) fn later_readings<'a>(
     alloc: Global,
     algo: &Algo,
     stored: &'a [Stored<'a>],
@@ -167,8 +172,8 @@ fn add_link<'a>(
     }
 }
 
-// The region of a function along one of its variables, and those of its readers.
-fn chain_of<'a>(
+/// The region of a function along one of its variables, and those of its readers.
+pub(crate) fn chain_of<'a>(
     alloc: Global,
     algo: &Algo,
     stored: &'a [Stored<'a>],
@@ -216,13 +221,18 @@ fn is_rounded(stored: &Stored<'_>) -> bool {
         .any(|cut| cut.tail == Tail::Roundup)
 }
 
-fn strayed(
+// What is wrong with an index that is not shown to stay where it has to.
+fn stray_cause(
     alloc: Global,
-    caller: &Stored<'_>,
+    algo: &Algo,
+    caller: &Root<'_>,
     function: Option<Name>,
     reading: &Reading<'_>,
     has: (i64, i64),
-) -> Result<Stray, AllocError> {
+) -> Result<BoundCause, AllocError> {
+    if let Some(flaw) = &reading.flaw {
+        return form_cause(alloc, algo, Some(caller), function, reading, flaw);
+    }
     let found = match read_ends(alloc, reading)? {
         Some(ends) => {
             let (low, high) = ends.numbers();
@@ -234,16 +244,32 @@ fn strayed(
         }
         None => None,
     };
+    Ok(BoundCause::Outside {
+        function,
+        caller: reading.caller,
+        found,
+        has,
+        is_rounded: is_rounded(caller.stored),
+    })
+}
+
+fn strayed(
+    alloc: Global,
+    algo: &Algo,
+    caller: &Root<'_>,
+    function: Option<Name>,
+    reading: &Reading<'_>,
+    has: (i64, i64),
+) -> Result<Stray, AllocError> {
+    let cause = stray_cause(alloc, algo, caller, function, reading, has)?;
+    let place = match &reading.flaw {
+        Some(flaw) => flaw.place,
+        None => reading.index.span(),
+    };
     Ok(Stray {
-        place: reading.index.span(),
+        place,
         along: reading.along,
-        cause: BoundCause::Outside {
-            function,
-            caller: reading.caller,
-            found,
-            has,
-            is_rounded: is_rounded(caller),
-        },
+        cause,
     })
 }
 
@@ -274,7 +300,7 @@ fn input_stray(
             let last = i64::from(*extent) - 1;
             let extents = between(alloc, 0, last)?;
             if !is_read_inside(alloc, reading, &extents)? {
-                return Ok(Some(strayed(alloc, root.stored, None, reading, (0, last))?));
+                return Ok(Some(strayed(alloc, algo, root, None, reading, (0, last))?));
             }
         }
     }
@@ -309,7 +335,7 @@ fn own_stray(
             let formula = root.formulas.get(reading.definition);
             if counts(formula, reading.dimension) && !is_read_inside(alloc, reading, extents)? {
                 let has = ends_of(alloc, outer, extents)?.numbers();
-                return Ok(Some(strayed(alloc, root.stored, Some(name), reading, has)?));
+                return Ok(Some(strayed(alloc, algo, root, Some(name), reading, has)?));
             }
         }
     }
@@ -330,8 +356,8 @@ fn first_stray(
     }
 }
 
-// The region of a root function.
-fn whole_region(alloc: Global, laid: &Laid) -> Result<Region, AllocError> {
+/// The region of a root function.
+pub(crate) fn whole_region(alloc: Global, laid: &Laid) -> Result<Region, AllocError> {
     let mut region = Region::new(alloc);
     for extent in &laid.region {
         region.push(whole(alloc, extent)?)?;
@@ -406,246 +432,6 @@ fn stray_reason<'a>(
     Ok(reason)
 }
 
-// ---- missing bounds
-
-// The last function of those that are computed inside of a group, from which on bounds are missing.
-fn missing_turn<'a>(
-    alloc: Global,
-    algo: &Algo,
-    group: &Root<'a>,
-    functions: &[Root<'a>],
-) -> Result<Option<Reason>, Stop> {
-    for first in (0..functions.len()).rev() {
-        let (Some(rest), Some(one)) = (functions.get(first..), functions.get(first)) else {
-            return Ok(None);
-        };
-        match inners_of(alloc, algo, group, rest) {
-            Ok(_) => {}
-            Err(Stop::Limit) => {
-                let cause = BoundCause::NoTurn(one.stored.subject.name);
-                return Ok(Some(Cause::Bound(cause).alone(alloc)));
-            }
-            Err(Stop::Memory) => return Err(Stop::Memory),
-        }
-    }
-    Ok(None)
-}
-
-fn turn_reason<'a>(
-    alloc: Global,
-    algo: &Algo,
-    stored: &'a [Stored<'a>],
-    laid: &'a [Option<Laid>],
-    root: &Root<'a>,
-) -> Result<Option<Reason>, Stop> {
-    let functions = roots_of(alloc, stored, laid, false)?;
-    missing_turn(alloc, algo, root, &functions)
-}
-
-// ---- missing regions
-
-// The next function without a region that calls the one of this number.
-fn missing_reader(
-    alloc: Global,
-    stored: &[Stored<'_>],
-    laid: &[Option<Laid>],
-    number: usize,
-) -> Result<Option<usize>, AllocError> {
-    let Some(one) = stored.get(number) else {
-        return Ok(None);
-    };
-    let callee = one.subject.name.as_str();
-    for (other, (user, found)) in stored.iter().zip(laid.iter()).enumerate() {
-        if other > number && found.is_none() {
-            if let Some(formulas) = &user.formulas {
-                if formulas_call(alloc, formulas, callee)? {
-                    return Ok(Some(other));
-                }
-            }
-        }
-    }
-    Ok(None)
-}
-
-// The function by which this one has no region: the last one without a region of a chain of readers.
-fn first_missing(
-    alloc: Global,
-    stored: &[Stored<'_>],
-    laid: &[Option<Laid>],
-    number: usize,
-) -> Result<usize, AllocError> {
-    let mut at = number;
-    for _step in 0..stored.len() {
-        match missing_reader(alloc, stored, laid, at)? {
-            Some(next) => at = next,
-            None => return Ok(at),
-        }
-    }
-    Ok(at)
-}
-
-// Whether an index of the pure definition has few enough numbers over the whole region of its caller.
-fn is_few_over_region(
-    alloc: Global,
-    algo: &Algo,
-    caller: &Root<'_>,
-    index: &Expr,
-) -> Result<bool, AllocError> {
-    let around = Around {
-        scope: Scope::new(alloc),
-        variables: variables_of(alloc, caller.stored.function, 0)?,
-        coordinates: whole_region(alloc, caller.laid)?,
-    };
-    match interval(alloc, algo, &around, index) {
-        Ok(span) => Ok(is_extent(ends_or_none(alloc, &around.scope, &span)?)),
-        Err(Stop::Limit) => Ok(false),
-        Err(Stop::Memory) => Err(AllocError),
-    }
-}
-
-// Whether only in the loops of its caller's splits the index has a form past the limits.
-fn is_split_form<'a>(
-    alloc: Global,
-    algo: &Algo,
-    stored: &'a [Stored<'a>],
-    laid: &'a [Option<Laid>],
-    reading: &Reading<'_>,
-) -> Result<bool, AllocError> {
-    if reading.span.is_some() || reading.definition > 0 {
-        return Ok(false);
-    }
-    let Some(number) = reading.number else {
-        return Ok(false);
-    };
-    match root_numbered(stored, laid, number) {
-        Some(root) if !root.stored.placed.cuts.is_empty() => {
-            is_few_over_region(alloc, algo, &root, reading.index)
-        }
-        _ => Ok(false),
-    }
-}
-
-// The first index of which no bounds are found.
-fn unbounded<'a>(
-    alloc: Global,
-    algo: &Algo,
-    stored: &'a [Stored<'a>],
-    laid: &'a [Option<Laid>],
-    function: Name,
-    readings: &[Reading<'_>],
-) -> Result<Option<Reason>, AllocError> {
-    for reading in readings {
-        if read_ends(alloc, reading)?.is_none() {
-            let caller = reading.caller;
-            let cause = if is_split_form(alloc, algo, stored, laid, reading)? {
-                BoundCause::SplitForm { function, caller }
-            } else {
-                BoundCause::NoBounds { function, caller }
-            };
-            return Ok(Some(Cause::Bound(cause).at(alloc, reading.index.span())?));
-        }
-    }
-    Ok(None)
-}
-
-// The index that reads most of a function which has no region by it.
-fn wide_reason<'a>(
-    alloc: Global,
-    algo: &Algo,
-    stored: &'a [Stored<'a>],
-    laid: &'a [Option<Laid>],
-    one: &Stored<'_>,
-    readings: &[Reading<'_>],
-    dimension: usize,
-    ends: Ends,
-) -> Result<Option<Reason>, Stop> {
-    let (Some(variable), Some(place)) = (
-        one.subject.variables.get(dimension),
-        widest(alloc, readings, dimension)?,
-    ) else {
-        return Ok(None);
-    };
-    let Some(reading) = readings.get(place) else {
-        return Ok(None);
-    };
-    let (low, high) = ends.numbers();
-    let cause = BoundCause::Wide {
-        function: one.subject.name,
-        variable: *variable,
-        low,
-        high,
-    };
-    let mut reason = Cause::Bound(cause).at(alloc, reading.index.span())?;
-    if let (Some(caller), Some(along)) = (reading.number, reading.along) {
-        reason.chain = chain_of(alloc, algo, stored, laid, caller, along)?;
-    }
-    Ok(Some(reason))
-}
-
-// What is asked for of a function.
-fn reach_of(
-    alloc: Global,
-    algo: &Algo,
-    one: &Stored<'_>,
-    readings: &[Reading<'_>],
-) -> Result<Vec<Option<Ends>>, AllocError> {
-    let mut reach = unreached(alloc, one.subject.variables.len())?;
-    for reading in readings {
-        if let Some(ends) = read_ends(alloc, reading)? {
-            widen(&mut reach, reading.dimension, ends);
-        }
-    }
-    if one.subject.is_output {
-        add_extents(algo, &mut reach);
-    }
-    Ok(reach)
-}
-
-// Why a function of which all readers have regions has none.
-fn region_reason<'a>(
-    alloc: Global,
-    algo: &Algo,
-    stored: &'a [Stored<'a>],
-    laid: &'a [Option<Laid>],
-    number: usize,
-) -> Result<Option<Reason>, Stop> {
-    let Some(one) = stored.get(number) else {
-        return Ok(None);
-    };
-    let function = one.subject.name;
-    let readings = later_readings(alloc, algo, stored, laid, number)?;
-    if readings.is_empty() && !one.subject.is_output {
-        return Ok(Some(Cause::Bound(BoundCause::Unused(function)).alone(alloc)));
-    }
-    if let Some(reason) = unbounded(alloc, algo, stored, laid, function, &readings)? {
-        return Ok(Some(reason));
-    }
-    let reach = reach_of(alloc, algo, one, &readings)?;
-    for (dimension, ends) in reach.iter().enumerate() {
-        if let Some(ends) = ends {
-            if !is_extent(Some(*ends)) {
-                return wide_reason(alloc, algo, stored, laid, one, &readings, dimension, *ends);
-            }
-        }
-    }
-    Ok(None)
-}
-
-// Why a function has no region.
-fn missing_region(
-    alloc: Global,
-    algo: &Algo,
-    stored: &[Stored<'_>],
-    number: usize,
-) -> Result<Option<Reason>, Stop> {
-    let laid = laid_functions(alloc, algo, stored)?;
-    if matches!(laid.get(number), Some(Some(_))) {
-        return Ok(None);
-    }
-    let first = first_missing(alloc, stored, &laid, number)?;
-    region_reason(alloc, algo, stored, &laid, first)
-}
-
 // The first index by which a function with a region breaks the rule.
 fn stray_of(
     alloc: Global,
@@ -675,7 +461,7 @@ fn laid_reason<'a>(
             let reason = stray_reason(alloc, algo, stored, laid, number, &stray)?;
             Ok(Some(reason))
         }
-        None => turn_reason(alloc, algo, stored, laid, root),
+        None => turn_reason(alloc, algo, stored, laid, root.stored),
     }
 }
 

@@ -1,19 +1,24 @@
 //! The indices of calls, with what they stay within.
 
 use crate::calls::{Call, calls_of};
+use crate::definitions::Formula;
 use crate::error::Stop;
 use crate::fetching::Root;
-use crate::scopes::{Around, around_in, interval};
+use crate::forms::exactly;
+use crate::reasons::flaws::{Flaw, flaw_in};
+use crate::regions::counts;
+use crate::scopes::{Around, around_in, bind_steps, interval, variables_of};
 use algo::Algo;
 use algo::scoping::{NotAmong, first_variable};
-use lin::{Scope, Span1};
+use lin::{Lin, Region, Scope, Span1};
+use numeric::Ty;
 use sched::Nest;
 use std::alloc::{AllocError, Global};
 use std::slice;
 use tree::Expr;
 use tree::token::Name;
 
-/// An index of a call, and what it stays within.
+/// An index of a call or of the left side of an update, and what it stays within.
 #[derive(Drop)]
 pub(crate) struct Reading<'a> {
     pub caller: Name,
@@ -29,6 +34,10 @@ pub(crate) struct Reading<'a> {
     pub scope: Scope,
     /// None where a form leaves its limits.
     pub span: Option<Span1>,
+    /// Which part of it does.
+    pub flaw: Option<Flaw>,
+    /// Whether it stands on the left side of an update.
+    pub is_set: bool,
 }
 
 // The first dimension of the function whose variable the index has.
@@ -73,6 +82,34 @@ fn interval_or_none(
     }
 }
 
+fn reading_of<'a>(
+    alloc: Global,
+    algo: &Algo,
+    user: &Root<'a>,
+    number: Option<usize>,
+    definition: usize,
+    around: &Around<'_>,
+    dimension: usize,
+    index: &'a Expr,
+    is_set: bool,
+) -> Result<Reading<'a>, AllocError> {
+    let along = along(user, index);
+    Ok(Reading {
+        caller: user.stored.subject.name,
+        number,
+        definition,
+        dimension,
+        index,
+        along,
+        own: coordinate(alloc, around, along)?,
+        scope: around.scope.copy(alloc)?,
+        span: interval_or_none(alloc, algo, around, index)?,
+        flaw: flaw_in(alloc, algo, around, index)?,
+        is_set,
+    })
+}
+
+// Adds the indices of a call; of an update's call of its own function those alone that count.
 fn add_call<'a>(
     alloc: Global,
     algo: &Algo,
@@ -80,22 +117,17 @@ fn add_call<'a>(
     number: Option<usize>,
     definition: usize,
     around: &Around<'_>,
+    own: Option<&Formula>,
     call: &Call<'a>,
     found: &mut Vec<Reading<'a>>,
 ) -> Result<(), AllocError> {
     for (dimension, index) in call.at.iter().enumerate() {
-        let along = along(user, index);
-        found.push(Reading {
-            caller: user.stored.subject.name,
-            number,
-            definition,
-            dimension,
-            index,
-            along,
-            own: coordinate(alloc, around, along)?,
-            scope: around.scope.copy(alloc)?,
-            span: interval_or_none(alloc, algo, around, index)?,
-        })?;
+        if counts(own, dimension) {
+            let one = reading_of(
+                alloc, algo, user, number, definition, around, dimension, index, false,
+            )?;
+            found.push(one)?;
+        }
     }
     Ok(())
 }
@@ -118,7 +150,9 @@ fn add_definition<'a>(
     let calls = calls_of(alloc, formula)?;
     for call in &calls {
         if call.name == callee {
-            add_call(alloc, algo, user, number, definition, &around, call, found)?;
+            add_call(
+                alloc, algo, user, number, definition, &around, None, call, found,
+            )?;
         }
     }
     Ok(())
@@ -144,4 +178,122 @@ pub(crate) fn add_readings<'a>(
         }
     }
     Ok(())
+}
+
+// ---- updates
+
+// The spans of coordinates that are forms, and of any other numbers.
+fn form_spans(alloc: Global, at: &[Option<Lin>]) -> Result<Region, AllocError> {
+    let mut spans = Region::new(alloc);
+    for form in at {
+        let span = match form {
+            Some(form) => exactly(alloc, form)?,
+            None => bounds::range(alloc, Ty::I32)?,
+        };
+        spans.push(span)?;
+    }
+    Ok(spans)
+}
+
+// What is known where the left side of an update is computed.
+fn around_left<'a>(
+    alloc: Global,
+    user: &Root<'a>,
+    outer: &Scope,
+    nest: &Nest,
+    definition: usize,
+) -> Result<Around<'a>, AllocError> {
+    let mut scope = outer.copy(alloc)?;
+    bind_steps(alloc, &mut scope, &nest.steps)?;
+    Ok(Around {
+        scope,
+        variables: variables_of(alloc, user.stored.function, definition)?,
+        coordinates: form_spans(alloc, &nest.at)?,
+    })
+}
+
+fn add_left<'a>(
+    alloc: Global,
+    algo: &Algo,
+    user: &Root<'a>,
+    number: Option<usize>,
+    definition: usize,
+    around: &Around<'_>,
+    formula: &'a Formula,
+    found: &mut Vec<Reading<'a>>,
+) -> Result<(), AllocError> {
+    for (dimension, index) in formula.at.iter().enumerate() {
+        if let Some(index) = index {
+            let one = reading_of(
+                alloc, algo, user, number, definition, around, dimension, index, true,
+            )?;
+            found.push(one)?;
+        }
+    }
+    Ok(())
+}
+
+// None where an index of the left side leaves the limits of forms.
+fn around_or_none<'a>(
+    alloc: Global,
+    algo: &Algo,
+    user: &Root<'a>,
+    outer: &Scope,
+    nest: &Nest,
+    formula: &Formula,
+    definition: usize,
+) -> Result<Option<Around<'a>>, AllocError> {
+    match around_in(alloc, algo, user.stored, outer, nest, formula, definition) {
+        Ok(around) => Ok(Some(around)),
+        Err(Stop::Limit) => Ok(None),
+        Err(Stop::Memory) => Err(AllocError),
+    }
+}
+
+fn add_own_calls<'a>(
+    alloc: Global,
+    algo: &Algo,
+    user: &Root<'a>,
+    number: Option<usize>,
+    definition: usize,
+    around: &Around<'_>,
+    formula: &'a Formula,
+    found: &mut Vec<Reading<'a>>,
+) -> Result<(), AllocError> {
+    let name = user.stored.subject.name;
+    let calls = calls_of(alloc, formula)?;
+    for call in &calls {
+        if call.name == name.as_str() {
+            let own = Some(formula);
+            add_call(
+                alloc, algo, user, number, definition, around, own, call, found,
+            )?;
+        }
+    }
+    Ok(())
+}
+
+/// The indices at which a function's updates set it, and at which they call it, inside of other symbols.
+pub(crate) fn own_readings<'a>(
+    alloc: Global,
+    algo: &Algo,
+    user: &Root<'a>,
+    number: Option<usize>,
+    outer: &Scope,
+    nests: &[Nest],
+) -> Result<Vec<Reading<'a>>, AllocError> {
+    let mut found = Vec::new(alloc);
+    for (definition, (formula, nest)) in user.formulas.iter().zip(nests.iter()).enumerate() {
+        let left = around_left(alloc, user, outer, nest, definition)?;
+        add_left(
+            alloc, algo, user, number, definition, &left, formula, &mut found,
+        )?;
+        let around = around_or_none(alloc, algo, user, outer, nest, formula, definition)?;
+        if let Some(around) = &around {
+            add_own_calls(
+                alloc, algo, user, number, definition, around, formula, &mut found,
+            )?;
+        }
+    }
+    Ok(found)
 }

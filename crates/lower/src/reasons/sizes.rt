@@ -5,7 +5,7 @@ use crate::definitions::{Stored, fits_with};
 use crate::legality::excess_of;
 use crate::reasons::{Cause, Reason, SizeCause};
 use crate::regions::Laid;
-use algo::{Algo, Function};
+use algo::{Algo, Function, Update};
 use sched::Placement;
 use std::alloc::{AllocError, Global};
 use tree::token::Name;
@@ -50,9 +50,18 @@ fn enough_alone(
 fn calls_in<'a>(alloc: Global, function: &'a Function) -> Result<Vec<Call<'a>>, AllocError> {
     let mut calls = with_calls(Vec::new(alloc), &function.value)?;
     for update in &function.updates {
-        calls = with_calls(calls, &update.value)?;
+        calls = with_update(calls, update)?;
     }
     Ok(calls)
+}
+
+// The calls so far, and those of an update.
+fn with_update<'a>(known: Vec<Call<'a>>, update: &'a Update) -> Result<Vec<Call<'a>>, AllocError> {
+    let mut calls = known;
+    for index in &update.at {
+        calls = with_calls(calls, index)?;
+    }
+    with_calls(calls, &update.value)
 }
 
 // The last function that is put in where the one of this number calls it.
