@@ -31,3 +31,4 @@ pub mod BlocksPlan
 pub mod SlidePlan
 pub mod WorkedPlans
 pub mod OfPlans
+pub mod OfKinds

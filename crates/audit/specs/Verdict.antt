@@ -4,6 +4,7 @@ pub mod Accepted
 pub mod Clear
 pub mod Examples
 pub mod Indices
+pub mod Kinds
 pub mod Faults
 pub mod Laws
 pub mod Plain

@@ -4,6 +4,7 @@ pub mod bounded;
 pub mod clear;
 pub mod examples;
 pub mod indices;
+pub mod kinds;
 pub mod laws;
 pub mod plans;
 pub mod shown;
