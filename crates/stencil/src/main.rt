@@ -2,6 +2,7 @@
 #![tactic(auto)]
 
 mod escaped;
+mod progress;
 mod system;
 
 use crate::escaped::Escaped;

@@ -1,5 +1,6 @@
 //! The files of the system.
 
+use crate::progress::Progress;
 use std::fs;
 use std::fs::{OpenOptions, TryLockError};
 use std::io::{self, Error, ErrorKind, Read, Write};
@@ -197,7 +198,13 @@ fn write_stream(rt: &HostRuntime, bytes: &[u8]) -> io::Result<()> {
     out.flush()
 }
 
-impl Files for SystemFiles<'_> {
+impl<'a> Files for SystemFiles<'a> {
+    type Watch = Progress<'a>;
+
+    fn watch(&self, pieces: usize) -> Progress<'a> {
+        Progress::new(self.rt, pieces)
+    }
+
     fn get(&mut self, _alloc: std::alloc::Global, name: &str) -> Result<Vec<u8>, FileError> {
         read(self.rt, name).map_err(|error| file_error(&error))
     }

@@ -19,5 +19,6 @@ mod Kept
 mod Limits
 mod Named
 mod Prepared
+mod Rooms
 mod Streams
 mod Schedules

@@ -15,6 +15,7 @@ pub mod Checks
 pub mod Compares
 pub mod Compiles
 pub mod Replays
+pub mod Rooms
 pub mod Status
 pub mod Worked
 pub mod Workers

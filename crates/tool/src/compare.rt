@@ -57,21 +57,21 @@ fn compared(plain: &[u16], picture: &[u16]) -> Comparison
     }
 }
 
-/// Tells how a schedule's picture compares, and what its plan costs.
-fn tell<W: Write>(
-    alloc: Global,
-    out: &mut W,
-    name: &str,
-    comparison: Comparison,
-    checked: &Checked<'_>,
-) -> Result<(), Fault>
+/// What a plan costs, as lines.
+fn costs_told(alloc: Global, checked: &Checked<'_>) -> Result<String, Fault>
     ensures { IfErr result IsOfDevice }
 {
     let costs = cost(alloc, checked)?;
-    let table = text(alloc, &costs)?;
+    Ok(text(alloc, &costs)?)
+}
+
+/// Tells how a schedule's picture compares, and what its plan costs.
+fn tell<W: Write>(out: &mut W, name: &str, comparison: Comparison, costs: &str) -> Result<(), Fault>
+    ensures { IfErr result IsOfDevice }
+{
     let told = match comparison {
-        Comparison::Same => write!(out, "{name} same\n{table}"),
-        Comparison::DiffersAt(place) => write!(out, "{name} differs at {place}\n{table}"),
+        Comparison::Same => write!(out, "{name} same\n{costs}"),
+        Comparison::DiffersAt(place) => write!(out, "{name} differs at {place}\n{costs}"),
     };
     match told {
         Ok(()) => flush(out),
@@ -79,7 +79,8 @@ fn tell<W: Write>(
     }
 }
 
-/// Compiles the schedule of a file, has one worker compute the picture by its plan, and tells how it compares.
+/// Compiles the schedule of a file, has one worker compute the picture by its plan, and tells how it compares. All memory is
+/// taken before the first piece.
 fn compare_schedule<T: Threads + Sync, F: Files, W: Write>(
     rt: &T,
     alloc: Global,
@@ -97,12 +98,14 @@ fn compare_schedule<T: Threads + Sync, F: Files, W: Write>(
 {
     let sched = schedule_in(alloc, files, name)?;
     let checked = compile_checked(rt, alloc, baseline.algo, &sched)?;
-    let image = plan_picture(alloc, &checked, baseline.inputs)?;
+    let costs = costs_told(alloc, &checked)?;
+    let watch = files.watch(checked.pieces());
+    let image = plan_picture(alloc, &checked, baseline.inputs, &watch)?;
     let comparison = compared(
         baseline.picture.samples.as_slice(),
         image.samples.as_slice(),
     );
-    tell(alloc, out, name, comparison, &checked)?;
+    tell(out, name, comparison, costs.as_str())?;
     Ok(comparison)
 }
 
@@ -134,17 +137,10 @@ fn compare_schedules<T: Threads + Sync, F: Files, W: Write>(
 }
 
 /// Tells that pictures are compared with the one of this schedule, and what its plan costs.
-fn tell_first<W: Write>(
-    alloc: Global,
-    out: &mut W,
-    name: &str,
-    checked: &Checked<'_>,
-) -> Result<(), Fault>
+fn tell_first<W: Write>(out: &mut W, name: &str, costs: &str) -> Result<(), Fault>
     ensures { IfErr result IsOfDevice }
 {
-    let costs = cost(alloc, checked)?;
-    let table = text(alloc, &costs)?;
-    match write!(out, "pictures are compared with that of {name}\n{table}") {
+    match write!(out, "pictures are compared with that of {name}\n{costs}") {
         Ok(()) => flush(out),
         Err(_) => Err(Fault::Image(PnmError::Device)),
     }
@@ -169,8 +165,10 @@ fn first_picture<T: Threads + Sync, F: Files, W: Write>(
 {
     let sched = schedule_in(alloc, files, name)?;
     let checked = compile_checked(rt, alloc, algo, &sched)?;
-    let image = plan_picture(alloc, &checked, inputs)?;
-    tell_first(alloc, out, name, &checked)?;
+    let costs = costs_told(alloc, &checked)?;
+    let watch = files.watch(checked.pieces());
+    let image = plan_picture(alloc, &checked, inputs, &watch)?;
+    tell_first(out, name, costs.as_str())?;
     Ok(image)
 }
 

@@ -6,6 +6,7 @@ ghost use Rattle.tool.specs.Files.{Holds, Puts, SameFiles, SameOthers};
 ghost use Rattle.tool.specs.Status.{fault_of};
 
 use crate::pipeline::Fault;
+use crew::Gate;
 use pnm::PnmError;
 use std::alloc::Global;
 
@@ -29,10 +30,16 @@ impl From<FileError> for Fault {
     }
 }
 
-/// Files by their names.
+/// Files by their names, and who is told how far a picture has come.
 pub trait Files {
+    /// What hears of each piece of a picture.
+    type Watch: Gate + Drop;
+
     /// The bytes of each file that there is, by its name, where they are known.
     ghost contents: { Self → Option (List ℕ → Option (List ℕ)) } = { λ _. None };
+
+    /// What hears of the pieces of a picture that is to be computed, of so many pieces. It tells nothing of them to the files.
+    fn watch(&self, pieces: usize) -> Self::Watch;
 
     /// The bytes of a file. No file changes.
     fn get(&mut self, alloc: Global, name: &str) -> Result<Vec<u8>, FileError>

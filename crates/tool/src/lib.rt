@@ -7,6 +7,7 @@ mod device;
 mod draw_command;
 mod exit;
 mod explaining;
+mod file;
 mod help;
 pub mod laws;
 mod limit;
@@ -18,12 +19,15 @@ mod program;
 mod reasons;
 mod replay;
 mod request;
+mod reserved;
 mod schedule_command;
 mod text_command;
 mod tiles_command;
 mod words;
 mod workers;
 
+/// What hears of the pieces of a picture, as `Files` hands it out, and one that hears nothing.
+pub use crew::{Gate, Unwatched};
 pub use device::{FileError, Files};
 pub use exit::status;
 /// What `status` tells the exit status of.

@@ -4,21 +4,22 @@ ghost use Rattle.std.specs.Prelude.{◌≡◌, Some, IfOk, IfErr, OnOk};
 ghost use Rattle.algo.specs.Parts.{input_frame};
 ghost use Rattle.algo.specs.Refusal.{IsAlgorithmText};
 ghost use Rattle.algo.specs.View.{algorithm_of, picture_said, samples_of, IsFor};
-ghost use Rattle.meaning.specs.Image.View.{image_of};
+ghost use Rattle.plain.specs.Picture.{AllWithin};
 ghost use Rattle.pnm.specs.Reading.{reading, wanted_of};
 ghost use Rattle.pnm.specs.Text.{text_of};
 ghost use Rattle.tool.specs.Asked.{picture_asked, way_asked};
 ghost use Rattle.tool.specs.Files.{SameFiles};
 ghost use Rattle.tool.specs.Means.{AreMeans, IsAfforded, IsHalted, algo_meant, stores_checked};
 ghost use Rattle.tool.specs.Pictures.{IsDone, IsImageFault, IsRefused, IsTextFault, IsTooDear, IsUnready, IsWithin};
+ghost use Rattle.tool.specs.Pipeline.Pictures.{IsBudgetSpent};
 
 use crate::device::Files;
-use crate::pipeline::{Fault, crew_picture, plain_picture, read_algorithm, read_inputs};
+use crate::file::{file_of, room_for};
+use crate::pipeline::{Fault, plain_picture, plan_file, read_algorithm, read_inputs};
 use crate::plan_command::plan_in;
 use crate::request::{PictureRequest, Way};
 use algo::{Algo, Inputs};
 use checked_plan::Checked;
-use meaning::image::{Image, Shape, Ty};
 use pnm::PnmError;
 use report::cost;
 use std::alloc::Global;
@@ -104,53 +105,30 @@ pub(crate) fn image_in(alloc: Global, algo: &Algo, bytes: &[u8]) -> Result<Input
     read_inputs(alloc, algo, &mut rest)
 }
 
-/// The picture.
-fn computed<T: Threads + Wait + Sync>(
+/// The image file of the picture that an algorithm says of an input, each pixel computed by the definitions alone. All its bytes
+/// have their memory before the first pixel is computed; what a pixel's evaluations take is taken on the way.
+fn plain_file<T: Threads + Sync>(
     rt: &T,
     alloc: Global,
-    means: &Means<'_>,
+    algo: &Algo,
     inputs: &Inputs,
-) -> Result<Image, Fault>
-    requires { IsFor (algo_meant means.now) inputs.now }
-    ensures picture { IfOk result (λ image. image_of image ≡ picture_said (algorithm_of (algo_meant means.now)) (samples_of inputs.now)) }
-    ensures afforded { OnOk result (IsAfforded means.now (samples_of inputs.now)) }
-    ensures refused { IfErr result (IsHalted means.now (samples_of inputs.now)) }
+    most: u64,
+) -> Result<Vec<u8>, Fault>
+    requires { IsFor algo.now inputs.now }
+    ensures within { OnOk result (AllWithin (algorithm_of algo.now) (samples_of inputs.now) most) }
+    ensures written { IfOk result (λ file. file.items ≡ text_of (picture_said (algorithm_of algo.now) (samples_of inputs.now))) }
+    ensures refused { IfErr result (IsBudgetSpent (algorithm_of algo.now) (samples_of inputs.now) most) }
 {
-    match means {
-        Means::Definitions { algo, most } => plain_picture(rt, alloc, algo, inputs, *most),
-        Means::File { checked, workers } => crew_picture(rt, alloc, checked, inputs, *workers),
-    }
+    let file = room_for(alloc, algo)?;
+    let image = plain_picture(rt, alloc, algo, inputs, most)?;
+    Ok(file_of(file, &image))
 }
 
-/// The algorithm whose picture it is.
-fn algo_in<'b>(means: &'b Means<'_>) -> &'b Algo
-    ensures { algorithm_of result.now ≡ algorithm_of (algo_meant means.now) }
-{
-    match means {
-        Means::Definitions { algo, .. } => algo,
-        Means::File { checked, .. } => checked.algo(),
-    }
-}
-
-// The magic, the width, the height and the greatest sample of an image file take no more bytes, with what stands behind each.
-const HEADER_BYTES: usize = 32;
-
-/// How many bytes the image file of such a shape takes at most.
-fn most_bytes(shape: &Shape) -> usize {
-    let mut bytes: usize = match shape.ty {
-        Ty::U8 => 1,
-        _ => 2,
-    };
-    for extent in shape.extents.as_slice() {
-        bytes = bytes.saturating_mul(*extent as usize);
-    }
-    bytes.saturating_add(HEADER_BYTES)
-}
-
-/// The image file of the picture. All its bytes have their memory before the picture is computed.
-fn picture_file<T: Threads + Wait + Sync>(
+/// The image file of the picture.
+fn picture_file<T: Threads + Wait + Sync, F: Files>(
     rt: &T,
     alloc: Global,
+    files: &F,
     means: &Means<'_>,
     inputs: &Inputs,
 ) -> Result<Vec<u8>, Fault>
@@ -159,14 +137,12 @@ fn picture_file<T: Threads + Wait + Sync>(
     ensures written { IfOk result (λ file. file.items ≡ text_of (picture_said (algorithm_of (algo_meant means.now)) (samples_of inputs.now))) }
     ensures refused { IfErr result (IsHalted means.now (samples_of inputs.now)) }
 {
-    let Ok(mut file) = Vec::with_capacity(alloc, most_bytes(&algo_in(means).output().shape)) else {
-        return Err(Fault::Memory);
-    };
-    let image = computed(rt, alloc, means, inputs)?;
-    match pnm::write(&mut file, &image) {
-        Ok(()) => Ok(file),
-        // A vector takes all bytes while there is memory, which was taken above.
-        Err(_) => Err(Fault::Memory),
+    match means {
+        Means::Definitions { algo, most } => plain_file(rt, alloc, algo, inputs, *most),
+        Means::File { checked, workers } => {
+            let watch = files.watch(checked.pieces());
+            plan_file(rt, alloc, checked, inputs, *workers, &watch)
+        }
     }
 }
 
@@ -193,7 +169,7 @@ pub fn picture_command<T: Threads + Wait + Sync, F: Files>(
     let bytes = files.get(alloc, request.input)?;
     let inputs = image_in(alloc, &algo, bytes.as_slice())?;
     drop(bytes);
-    let file = picture_file(rt, alloc, &means, &inputs)?;
+    let file = picture_file(rt, alloc, files, &means, &inputs)?;
     files.put(request.output, file.as_slice())?;
     Ok(())
 }

@@ -4,14 +4,16 @@
 mod by_plan;
 mod compiling;
 mod fault;
+mod image_file;
 mod laws;
 mod reading;
 mod rule;
 mod without_plan;
 
-pub use by_plan::{check_plan, crew_picture, plan_picture, run_between, run_over};
+pub use by_plan::{check_plan, plan_picture, run_between, run_over};
 pub use compiling::{compile, compile_checked, read_schedule};
 pub use fault::Fault;
+pub use image_file::plan_file;
 pub use reading::{read_algorithm, read_inputs};
 pub use rule::BrokenRule;
 pub use without_plan::{BUDGET, plain_between, plain_over, plain_picture};

@@ -3,6 +3,7 @@
 ghost use Rattle.std.specs.Prelude.{◌≡◌, ◌⊎◌, true, false, Some, IfErr, IfOk, IsErrOf, OnOk};
 ghost use Rattle.algo.specs.View.{algorithm_of, picture_said, samples_of, IsFor};
 ghost use Rattle.checked_plan.specs.View.{algorithm_checked};
+ghost use Rattle.crew.specs.Opening.Layouts.{layout_of, values_of};
 ghost use Rattle.meaning.specs.Image.View.{image_of};
 ghost use Rattle.pnm.specs.declared.error.PnmError.TheVariants.{Device};
 ghost use Rattle.pnm.specs.Source.{IsEndless};
@@ -16,16 +17,14 @@ use crate::pipeline::reading::{inputs_from, read_algorithm};
 use algo::{Algo, Inputs};
 use audit::check;
 use checked_plan::Checked;
-use crew::{Unwatched, picture, run};
+use checked_plan::output::PlanCells;
+use crew::{Gate, PreparedAlone, Run, Unwatched};
 use meaning::image::Image;
 use pnm::{Sink, Source, Watched, write_to};
-use std::alloc::Global;
+use std::alloc::{AllocError, Global};
 use std::io::{Read, Write};
-use std::sync::Wait;
+use std::marker::Brand;
 use std::thread::Threads;
-
-/// The most workers that compute at once.
-const MOST_WORKERS: usize = 64;
 
 /// Reads a plan file and has the plan checked against its algorithm.
 ///
@@ -46,45 +45,39 @@ pub fn check_plan<'a, T: Threads + Sync>(
     Ok(check(rt, alloc, algo, plan, cert)?)
 }
 
-/// The picture that the algorithm says of an input, computed by the pieces of a checked plan, one after another.
-///
-/// # Errors
-/// `Memory` where memory runs out.
-pub fn plan_picture(alloc: Global, checked: &Checked<'_>, inputs: &Inputs) -> Result<Image, Fault>
-    requires { IsFor checked.now.algo.now inputs.now }
-    ensures picture { IfOk result (λ image. image_of image ≡ picture_said (algorithm_checked checked.now) (samples_of inputs.now)) }
-    ensures refused { IfErr result (λ fault. fault ≡ Memory) }
-{
-    Ok(picture(alloc, checked, inputs)?)
-}
-
-/// The picture that the algorithm says of an input, computed by the pieces of a checked plan in the hands of so many workers:
-/// in the caller's thread and in threads that are started through `rt`. Fewer than one are one, and more than 64 are 64.
-///
-/// # Errors
-/// `Memory` where memory runs out, which is before the first worker starts.
-pub fn crew_picture<T: Threads + Wait + Sync>(
-    rt: &T,
+/// The picture, on a board for this checked plan and this input.
+fn picture_on<J: Run, G: Gate>(
     alloc: Global,
     checked: &Checked<'_>,
     inputs: &Inputs,
-    workers: usize,
+    gate: &G,
+) -> Result<Image, AllocError>
+    requires layout { J.layout ≡ layout_of checked.now }
+    requires values { J.values ≡ values_of checked.now inputs.now }
+    requires input { IsFor checked.now.algo.now inputs.now }
+    ensures { IfOk result (λ image. image_of image ≡ picture_said (algorithm_checked checked.now) (samples_of inputs.now)) }
+{
+    let cells = PlanCells::of(alloc, checked)?;
+    let run = PreparedAlone::<J>::new(alloc, checked, inputs, &cells)?;
+    Ok(run.picture(alloc, gate))
+}
+
+/// The picture that the algorithm says of an input, computed by the pieces of a checked plan, one after another. The gate hears
+/// of each piece. All memory is taken before the first piece.
+///
+/// # Errors
+/// `Memory` where memory runs out.
+pub fn plan_picture<G: Gate>(
+    alloc: Global,
+    checked: &Checked<'_>,
+    inputs: &Inputs,
+    gate: &G,
 ) -> Result<Image, Fault>
     requires { IsFor checked.now.algo.now inputs.now }
     ensures picture { IfOk result (λ image. image_of image ≡ picture_said (algorithm_checked checked.now) (samples_of inputs.now)) }
     ensures refused { IfErr result (λ fault. fault ≡ Memory) }
 {
-    if workers <= 1 {
-        return plan_picture(alloc, checked, inputs);
-    }
-    Ok(run(
-        rt,
-        alloc,
-        checked,
-        inputs,
-        workers.min(MOST_WORKERS),
-        &Unwatched,
-    )?)
+    Ok(picture_on::<Brand, G>(alloc, checked, inputs, gate)?)
 }
 
 /// Does what `run_over` does, between a source and a sink that tell whether they have failed: `Image(Device)` is answered
@@ -113,7 +106,7 @@ pub fn run_between<T: Threads + Sync, S: Source, K: Sink>(
     let algo = read_algorithm(alloc, text)?;
     let checked = check_plan(rt, alloc, &algo, file)?;
     let inputs = inputs_from(alloc, &algo, source)?;
-    let image = plan_picture(alloc, &checked, &inputs)?;
+    let image = plan_picture(alloc, &checked, &inputs, &Unwatched)?;
     Ok(write_to(sink, &image)?)
 }
 
