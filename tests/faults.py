@@ -242,7 +242,7 @@ def faults(case, kinds):
             yield Fault("size", f"files of {size} bytes at most", {"size": size})
     if "late" in kinds and "--workers" in case.words:
         yield Fault("late", "growths behind the last worker's start", {})
-    if "together" in kinds and "out" in case.words:
+    if "together" in kinds and "out" in case.words and case.right.status == 0:
         for number in range(4):
             yield Fault("together", f"two runs at once, {number}", {})
 
