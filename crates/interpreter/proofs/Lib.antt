@@ -22,6 +22,7 @@ pub mod StoreTurns
 pub mod Each
 pub mod FoundRuns
 pub mod Ramps
+pub mod Divisions
 pub mod Aside
 pub mod StoreRuns
 pub mod OneLines

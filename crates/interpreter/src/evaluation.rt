@@ -6,6 +6,7 @@ mod kernels;
 mod lanes;
 mod looking;
 mod operators;
+mod quotients;
 mod reader;
 mod run;
 mod run_reader;

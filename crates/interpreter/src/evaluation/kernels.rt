@@ -7,8 +7,8 @@ ghost use Rattle.numeric.specs.Wrap.{wrap};
 ghost use Rattle.interpreter.specs.Evaluation.Lanes.{is_set, mask_at, number_at, IsShortRamp};
 
 use crate::evaluation::lanes::Number;
-use crate::evaluation::operators::{applied, clamped, negated, wrapped};
-use numeric::{Comparison, Op, Ty, compare};
+use crate::evaluation::operators::{low_bits, negated};
+use numeric::{Comparison, Op, Ty, compare, wrap};
 use tree::Value;
 
 /// The number so many turns after the first.
@@ -27,16 +27,9 @@ fn risen(first: Number, turn: usize) -> Number
 fn applied_number(op: Op, ty: Ty, left: Number, right: Number) -> Number
     ensures { result.value ≡ apply op ty left.value right.value }
 {
-    let left = Value {
-        ty,
-        number: left.value,
-    };
-    let right = Value {
-        ty,
-        number: right.value,
-    };
+    // What is lost of the exact result is a multiple of 2 to the 64, and so of every modulus.
     Number {
-        value: applied(op, left, right).number,
+        value: wrap(ty, low_bits(op, left.value, right.value)),
     }
 }
 
@@ -59,7 +52,7 @@ fn wrapped_number(ty: Ty, number: Number) -> Number
     ensures { result.value ≡ wrap ty number.value }
 {
     Number {
-        value: wrapped(ty, number.value).number,
+        value: wrap(ty, number.value),
     }
 }
 
@@ -134,6 +127,46 @@ pub(crate) fn apply_all(op: Op, ty: Ty, out: &mut [Number], right: &[Number])
     }
 }
 
+/// The operator on each number and one number.
+#[inline(always)]
+fn apply_each_by(op: Op, ty: Ty, out: &mut [Number], right: Number)
+    ensures { (k : ℕ) → k < length out.new → number_at out.new k ≡ apply op ty (number_at out.old k) right.value }
+{
+    for turn in 0..out.len() {
+        out[turn] = applied_number(op, ty, out[turn], right);
+    }
+}
+
+/// The operator on each number and one number, by a loop of the type's own.
+#[inline(always)]
+fn apply_by_in(op: Op, ty: Ty, out: &mut [Number], right: Number)
+    ensures { (k : ℕ) → k < length out.new → number_at out.new k ≡ apply op ty (number_at out.old k) right.value }
+{
+    match ty {
+        Ty::U8 => apply_each_by(op, Ty::U8, out, right),
+        Ty::U16 => apply_each_by(op, Ty::U16, out, right),
+        Ty::U32 => apply_each_by(op, Ty::U32, out, right),
+        Ty::I8 => apply_each_by(op, Ty::I8, out, right),
+        Ty::I16 => apply_each_by(op, Ty::I16, out, right),
+        Ty::I32 => apply_each_by(op, Ty::I32, out, right),
+    }
+}
+
+/// The operator on each number and one number, by a loop of the operator's and the type's own.
+pub(crate) fn apply_by(op: Op, ty: Ty, out: &mut [Number], right: Number)
+    ensures { (k : ℕ) → k < length out.new → number_at out.new k ≡ apply op ty (number_at out.old k) right.value }
+{
+    match op {
+        Op::Add => apply_by_in(Op::Add, ty, out, right),
+        Op::Sub => apply_by_in(Op::Sub, ty, out, right),
+        Op::Mul => apply_by_in(Op::Mul, ty, out, right),
+        Op::Div => apply_by_in(Op::Div, ty, out, right),
+        Op::Rem => apply_by_in(Op::Rem, ty, out, right),
+        Op::Min => apply_by_in(Op::Min, ty, out, right),
+        Op::Max => apply_by_in(Op::Max, ty, out, right),
+    }
+}
+
 /// The wrapped negation of each number.
 pub(crate) fn negate_each(ty: Ty, out: &mut [Number])
     ensures { (k : ℕ) → k < length out.new → number_at out.new k ≡ wrap ty (neg_ℤ (number_at out.old k)) }
@@ -175,6 +208,15 @@ pub(crate) fn clamp_each(out: &mut [Number], low: &[Number], high: &[Number])
 {
     for turn in 0..out.len() {
         out[turn] = clamped_number(out[turn], low[turn], high[turn]);
+    }
+}
+
+/// Each number, not above one number and then not below another.
+pub(crate) fn clamp_between(out: &mut [Number], low: Number, high: Number)
+    ensures { (k : ℕ) → k < length out.new → number_at out.new k ≡ int_max (int_min (number_at out.old k) high.value) low.value }
+{
+    for turn in 0..out.len() {
+        out[turn] = clamped_number(out[turn], low, high);
     }
 }
 
@@ -251,6 +293,30 @@ pub(crate) fn compare_all(by: Comparison, out: &mut [Number], right: &[Number])
         Comparison::AtLeast => compare_each(Comparison::AtLeast, out, right),
         Comparison::Equal => compare_each(Comparison::Equal, out, right),
         Comparison::Different => compare_each(Comparison::Different, out, right),
+    }
+}
+
+/// A mask that says where the comparison with one number holds.
+#[inline(always)]
+fn compare_each_with(by: Comparison, out: &mut [Number], right: Number)
+    ensures { (k : ℕ) → k < length out.new → mask_at out.new k ≡ compare by (number_at out.old k) right.value }
+{
+    for turn in 0..out.len() {
+        out[turn] = compared_number(by, out[turn], right);
+    }
+}
+
+/// A mask that says where the comparison with one number holds, by a loop of the comparison's own.
+pub(crate) fn compare_with(by: Comparison, out: &mut [Number], right: Number)
+    ensures { (k : ℕ) → k < length out.new → mask_at out.new k ≡ compare by (number_at out.old k) right.value }
+{
+    match by {
+        Comparison::Less => compare_each_with(Comparison::Less, out, right),
+        Comparison::AtMost => compare_each_with(Comparison::AtMost, out, right),
+        Comparison::Greater => compare_each_with(Comparison::Greater, out, right),
+        Comparison::AtLeast => compare_each_with(Comparison::AtLeast, out, right),
+        Comparison::Equal => compare_each_with(Comparison::Equal, out, right),
+        Comparison::Different => compare_each_with(Comparison::Different, out, right),
     }
 }
 

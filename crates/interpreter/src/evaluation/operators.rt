@@ -50,8 +50,9 @@ pub(crate) fn clamped(value: Value, low: Value, high: Value) -> Value
     }
 }
 
-// The exact result, less the multiple of 2 to the 64 that does not fit.
-fn low_bits(op: Op, left: i64, right: i64) -> i64
+/// The exact result, less the multiple of 2 to the 64 that does not fit.
+#[inline(always)]
+pub(crate) fn low_bits(op: Op, left: i64, right: i64) -> i64
     ensures { result ≡ int_wrap w64 (exact op left right) }
 {
     match op {

@@ -1,8 +1,9 @@
 //! The operators over the turns of a run.
 
 ghost use Rattle.std.specs.Prelude.{◌≡◌, ◌<◌, ◌^◌, ℕ, ℤ, List, pos, ◌+ℤ◌, ◌≤ℤ◌, length, if◌then◌else◌, IfSome, IsTrue};
-ghost use Rattle.numeric.specs.Apply.{compare, exact};
+ghost use Rattle.numeric.specs.Apply.{apply, compare, exact};
 ghost use Rattle.std.specs.Bool.{OnTrue};
+ghost use Rattle.std.specs.Int.{int_max, int_min};
 ghost use Rattle.numeric.specs.Wrap.{wrap};
 ghost use Rattle.tree.specs.Meaning.{applied, clamped, negated, typed};
 ghost use Rattle.interpreter.specs.declared.evaluation.lanes.Lanes.TheVariants.{Ramp};
@@ -10,10 +11,12 @@ ghost use Rattle.interpreter.specs.declared.evaluation.lanes.Number.{Number as N
 ghost use Rattle.interpreter.specs.Evaluation.Lanes.{lane, lane_number, mask_at, number_at, type_of, IsNarrowFor, IsRamp};
 
 use crate::evaluation::kernels::{
-    apply_all, choose_each, clamp_each, compare_all, fill, fill_rising, negate_each, wrap_all,
+    apply_all, apply_by, choose_each, clamp_between, clamp_each, compare_all, compare_with, fill,
+    fill_rising, negate_each, wrap_all,
 };
 use crate::evaluation::lanes::{Lanes, Number};
 use crate::evaluation::operators::{applied, clamped, negated, wrapped};
+use crate::evaluation::quotients::{divide_each, reduce_each};
 use numeric::{Comparison, Op, Ty};
 use tree::Value;
 
@@ -24,6 +27,16 @@ pub(crate) fn type_of(lanes: Lanes) -> Ty
     match lanes {
         Lanes::Broadcast(value) | Lanes::Ramp(value) => value.ty,
         Lanes::Vector(ty) => ty,
+    }
+}
+
+/// The number of a value.
+#[inline(always)]
+fn number_of(value: Value) -> Number
+    ensures { result.value ≡ value.number }
+{
+    Number {
+        value: value.number,
     }
 }
 
@@ -109,6 +122,32 @@ fn apply_whole(op: Op, left: Lanes, right: Lanes, count: usize) -> Option<Lanes>
     }
 }
 
+/// The operator on each number of a register and one number. A divisor of 32 bits spares them their divisions.
+fn apply_one(op: Op, ty: Ty, out: &mut [Number], right: Number)
+    ensures { (k : ℕ) → k < length out.new → number_at out.new k ≡ apply op ty (number_at out.old k) right.value }
+{
+    match (op, u32::try_from(right.value)) {
+        (Op::Div, Ok(divisor)) => divide_each(ty, out, divisor),
+        (Op::Rem, Ok(divisor)) => reduce_each(ty, out, divisor),
+        _ => apply_by(op, ty, out, right),
+    }
+}
+
+/// The operator on each number of a register and lanes over another.
+fn apply_right(op: Op, ty: Ty, right: Lanes, out: &mut [Number], other: &mut [Number])
+    requires length { length other.old ≡ length out.old }
+    requires right { IsNarrowFor (length out.old) right }
+    ensures { (k : ℕ) → k < length out.new → number_at out.new k ≡ apply op ty (number_at out.old k) (lane_number right other.old k) }
+{
+    match right {
+        Lanes::Broadcast(value) => apply_one(op, ty, out, number_of(value)),
+        _ => {
+            spread(right, other);
+            apply_all(op, ty, out, other);
+        }
+    }
+}
+
 /// The operator on lanes, the left ones over this register and the right ones over another.
 pub(crate) fn apply_lanes(
     op: Op,
@@ -127,8 +166,7 @@ pub(crate) fn apply_lanes(
         Some(lanes) => lanes,
         None => {
             spread(left, out);
-            spread(right, other);
-            apply_all(op, type_of(left), out, other);
+            apply_right(op, type_of(left), right, out, other);
             Lanes::Vector(type_of(left))
         }
     }
@@ -195,6 +233,32 @@ fn clamp_whole(value: Lanes, low: Lanes, high: Lanes, count: usize) -> Option<La
     }
 }
 
+/// Each number of a register between lanes over others.
+fn clamp_register(
+    low: Lanes,
+    high: Lanes,
+    out: &mut [Number],
+    lows: &mut [Number],
+    highs: &mut [Number],
+)
+    requires lows { length lows.old ≡ length out.old }
+    requires highs { length highs.old ≡ length out.old }
+    requires low { IsNarrowFor (length out.old) low }
+    requires high { IsNarrowFor (length out.old) high }
+    ensures { (k : ℕ) → k < length out.new → number_at out.new k ≡ int_max (int_min (number_at out.old k) (lane_number high highs.old k)) (lane_number low lows.old k) }
+{
+    match (low, high) {
+        (Lanes::Broadcast(low), Lanes::Broadcast(high)) => {
+            clamp_between(out, number_of(low), number_of(high));
+        }
+        _ => {
+            spread(low, lows);
+            spread(high, highs);
+            clamp_each(out, lows, highs);
+        }
+    }
+}
+
 /// Lanes over this register between others.
 pub(crate) fn clamp_lanes(
     value: Lanes,
@@ -216,9 +280,7 @@ pub(crate) fn clamp_lanes(
         Some(lanes) => lanes,
         None => {
             spread(value, out);
-            spread(low, lows);
-            spread(high, highs);
-            clamp_each(out, lows, highs);
+            clamp_register(low, high, out, lows, highs);
             Lanes::Vector(type_of(value))
         }
     }
@@ -238,8 +300,13 @@ pub(crate) fn compare_lanes(
     ensures { (k : ℕ) → k < length out.new → mask_at out.new k ≡ compare by (lane_number left out.old k) (lane_number right other.old k) }
 {
     spread(left, out);
-    spread(right, other);
-    compare_all(by, out, other);
+    match right {
+        Lanes::Broadcast(value) => compare_with(by, out, number_of(value)),
+        _ => {
+            spread(right, other);
+            compare_all(by, out, other);
+        }
+    }
 }
 
 /// The lanes over one register where the mask says yes, and those over another where it does not: their type. Nothing where

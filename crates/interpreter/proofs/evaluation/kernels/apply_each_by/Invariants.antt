@@ -1,0 +1,7 @@
+use Rattle.numeric.specs.Apply.{apply}
+use Rattle.interpreter.specs.Evaluation.Lanes.{number_at}
+use Rattle.interpreter.proofs.Each.{EachBelow}
+use Rattle.interpreter.proofs.evaluation.kernels.apply_each_by.Given as goal
+
+abbrev pub invariant-loop-turn : goal.invariant-loop-turn
+invariant-loop-turn l = EachBelow (λ k. apply l.op l.ty (number_at l.initial.out k) (l.right.value)) l.turn l.initial.out l.out

@@ -1,0 +1,20 @@
+use Rattle.std.proofs.Common.{◌≡◌, ◌<◌, ℕ, ℤ, pos, ap, ◌∙◌, arith, length}
+use Rattle.numeric.specs.Apply.{apply}
+use Rattle.numeric.specs.declared.op.Op.TheVariants.{Rem}
+use Rattle.interpreter.specs.Evaluation.Lanes.{number_at}
+use Rattle.interpreter.proofs.Each.{each_begin, each_next}
+use Rattle.interpreter.proofs.evaluation.quotients.reduce_each.Goals as goal
+
+pub loop-turn-init : goal.loop-turn-init
+loop-turn-init c = each_begin (λ k. apply Rem c.args.ty (number_at c.args.out.now k) (pos c.args.divisor)) c.args.out.now
+
+pub loop-turn-preserved : goal.loop-turn-preserved
+loop-turn-preserved c =
+    let l = c.loop-turn in
+    let g : ℕ → ℤ = λ k. apply Rem c.args.ty (number_at c.args.out.now k) (pos c.args.divisor) in
+    let lt : l.turn < length l.out = omega arith in
+    let same : number_at l.out l.turn ≡ number_at c.args.out.now l.turn = l.invariant.later l.turn (omega arith) in
+    each_next g l.turn c.args.out.now l.out _ lt l.invariant (c.remainder_number.ensures ∙ ap (λ (z : ℤ). apply Rem c.args.ty z (pos c.args.divisor)) same)
+
+pub returns : goal.returns
+returns c = λ k lt. c.loop-turn.invariant.done k (omega arith)

@@ -1,0 +1,153 @@
+//! Quotients and remainders by one number at all turns of a run, without a division at each.
+
+ghost use Rattle.std.specs.Prelude.{◌≡◌, ◌<◌, ◌≤ℤ◌, ◌<ℤ◌, ◌/◌, ◌%◌, ℕ, IfSome, pos, negsuc, length};
+ghost use Rattle.numeric.specs.Apply.{apply, quotient, remainder};
+ghost use Rattle.numeric.specs.declared.op.Op.TheVariants.{Div, Rem};
+ghost use Rattle.interpreter.specs.Evaluation.Lanes.{number_at};
+
+use crate::evaluation::lanes::Number;
+use crate::evaluation::operators::{applied, wrapped};
+use numeric::{Op, Ty};
+use tree::Value;
+
+/// A quotient and its remainder.
+#[derive(Clone, Copy, Drop)]
+struct Division {
+    quotient: u32,
+    rest: u32,
+}
+
+/// What numbers of 32 bits are multiplied by, so that the upper 64 bits of the product are the quotient. Whether they are is
+/// tested at each quotient, so nothing rests on it.
+fn reciprocal(divisor: u32) -> u64 {
+    match divisor {
+        0 | 1 => u64::MAX,
+        _ => u64::MAX / u64::from(divisor) + 1,
+    }
+}
+
+/// The division of a number, where the upper bits of the product with the reciprocal are its quotient.
+#[inline(always)]
+fn divided(number: u64, divisor: u32, reciprocal: u64) -> Option<Division>
+    ensures quotient { IfSome result (λ d. d.quotient ≡ number / divisor) }
+    ensures rest { IfSome result (λ d. d.rest ≡ number % divisor) }
+    ensures below { IfSome result (λ d. d.rest < divisor) }
+{
+    let (_, guess) = number.carrying_mul(reciprocal, 0);
+    let quotient = (guess & 0xffff_ffff) as u32;
+    let product = u64::from(quotient) * u64::from(divisor);
+    if number < product {
+        return None;
+    }
+    let rest = number - product;
+    if rest >= u64::from(divisor) {
+        return None;
+    }
+    Some(Division {
+        quotient,
+        rest: rest as u32,
+    })
+}
+
+/// How far a negative number lies below -1.
+#[inline(always)]
+fn below_minus_one(number: i64) -> u64
+    requires { number <ℤ pos 0 }
+    ensures { number ≡ negsuc result }
+{
+    (-1 - number) as u64
+}
+
+/// The number that lies so far below -1.
+#[inline(always)]
+fn under_minus_one(distance: u32) -> i64
+    ensures { result ≡ negsuc distance }
+{
+    -1 - i64::from(distance)
+}
+
+/// The quotient whose remainder is not negative, where the reciprocal gives it.
+#[inline(always)]
+fn quotient_by(number: i64, divisor: u32, reciprocal: u64) -> Option<i64>
+    ensures { IfSome result (λ q. q ≡ quotient number (pos divisor)) }
+{
+    if number < 0 {
+        let division = divided(below_minus_one(number), divisor, reciprocal)?;
+        return Some(under_minus_one(division.quotient));
+    }
+    let division = divided(number as u64, divisor, reciprocal)?;
+    Some(i64::from(division.quotient))
+}
+
+/// The remainder that is not negative, where the reciprocal gives it.
+#[inline(always)]
+fn remainder_by(number: i64, divisor: u32, reciprocal: u64) -> Option<i64>
+    ensures { IfSome result (λ r. r ≡ remainder number (pos divisor)) }
+{
+    if number < 0 {
+        let division = divided(below_minus_one(number), divisor, reciprocal)?;
+        return Some(i64::from(divisor - 1 - division.rest));
+    }
+    let division = divided(number as u64, divisor, reciprocal)?;
+    Some(i64::from(division.rest))
+}
+
+/// The operator on a number and another, by a division.
+#[inline(never)]
+fn applied_slowly(op: Op, ty: Ty, number: Number, divisor: u32) -> i64
+    ensures { result ≡ apply op ty number.value (pos divisor) }
+{
+    let left = Value {
+        ty,
+        number: number.value,
+    };
+    let right = Value {
+        ty,
+        number: i64::from(divisor),
+    };
+    applied(op, left, right).number
+}
+
+/// The quotient by a number, wrapped to the type.
+#[inline(always)]
+fn quotient_number(ty: Ty, number: Number, divisor: u32, reciprocal: u64) -> Number
+    ensures { result.value ≡ apply Div ty number.value (pos divisor) }
+{
+    let value = match quotient_by(number.value, divisor, reciprocal) {
+        Some(quotient) => wrapped(ty, quotient).number,
+        None => applied_slowly(Op::Div, ty, number, divisor),
+    };
+    Number { value }
+}
+
+/// The remainder by a number, wrapped to the type.
+#[inline(always)]
+fn remainder_number(ty: Ty, number: Number, divisor: u32, reciprocal: u64) -> Number
+    ensures { result.value ≡ apply Rem ty number.value (pos divisor) }
+{
+    let value = match remainder_by(number.value, divisor, reciprocal) {
+        Some(remainder) => wrapped(ty, remainder).number,
+        None => applied_slowly(Op::Rem, ty, number, divisor),
+    };
+    Number { value }
+}
+
+/// Each number divided by one, wrapped to the type.
+pub(crate) fn divide_each(ty: Ty, out: &mut [Number], divisor: u32)
+    ensures { (k : ℕ) → k < length out.new → number_at out.new k ≡ apply Div ty (number_at out.old k) (pos divisor) }
+{
+    let reciprocal = reciprocal(divisor);
+    for turn in 0..out.len() {
+        out[turn] = quotient_number(ty, out[turn], divisor, reciprocal);
+    }
+}
+
+/// The remainder of each number by one, wrapped to the type.
+pub(crate) fn reduce_each(ty: Ty, out: &mut [Number], divisor: u32)
+    ensures { (k : ℕ) → k < length out.new → number_at out.new k ≡ apply Rem ty (number_at out.old k) (pos divisor) }
+{
+    let reciprocal = reciprocal(divisor);
+    for turn in 0..out.len() {
+        out[turn] = remainder_number(ty, out[turn], divisor, reciprocal);
+    }
+}
