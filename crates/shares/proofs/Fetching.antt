@@ -1,22 +1,27 @@
 -- The cells that lines fetch.
-use Rattle.std.proofs.Common.{◌≡◌, ℕ, ◌+◌, ◌<◌, ◌≤◌, List, [], ◌∷◌, ◌++◌, length, length-append, map, arith, ap, refl, sym, ◌∙◌, subst, Ok, Err, get_or, drop, drop-cons, suc, Bool, true, false}
-use Rattle.std.specs.Prelude.{Result, IsTrue}
+use Rattle.std.proofs.Common.{◌≡◌, ℕ, zero, suc, ◌+◌, ◌<◌, ◌≤◌, List, [], ◌∷◌, ◌++◌, length, length-append, map, arith, ap, refl, sym, ◌∙◌, subst, append_assoc, Ok, Err, get_or, drop, drop-cons, true}
+use Rattle.std.specs.Prelude.{Result, IsTrue, All, flat_map}
 use Rattle.std.specs.List.{AllByRecursion}
-use Rattle.std.proofs.lemmas.Bool.{false≢true}
-use Rattle.std.proofs.lemmas.List.{append-nil, length-map}
+use Rattle.std.proofs.lemmas.Grind.{flat_map-append}
+use Rattle.std.proofs.lemmas.List.{append-nil, length-map, map-append}
 use Rattle.std.proofs.lemmas.List.Elements.{recursion_from_All, All-from_recursion}
-use Rattle.plan.specs.declared.stmt.Stmt.{Stmt, Seq' as Block, For' as Loop, Let as Naming, First' as AtFirst, Guard' as Where, Alloc as Allocation, Fetch as Fetching, Store as Storing, Publish as Publishing}
-use Rattle.plan.specs.Plan.{Plan, block}
-use Rattle.plan.specs.Lists.{list_statements}
-use Rattle.plan.specs.Symbols.{Symbols}
-use Rattle.plan.specs.View.{statement_of}
-use Rattle.plan.specs.Certificate.Cells.{Cell}
+use Rattle.plan.specs.declared.stmt.Pick.{Pick}
+use Rattle.plan.specs.declared.stmt.Pick.TheVariants.{Min, Max}
+use Rattle.plan.specs.Plan.{Statement, Seq, For, Let, First, Guard, Alloc, Fetch, Store, Publish, Statements, Empty, Then, Plan}
+use Rattle.plan.specs.Lines.{lines}
+use Rattle.plan.specs.Symbols.{Symbols, bind, points}
+use Rattle.plan.specs.Semantics.Actions.{after}
+use Rattle.plan.specs.Certificate.Cells.{Cell, cell}
+use Rattle.soundness.specs.Around.{picked}
 use Rattle.headline.specs.Fetched.{fetched_cells, block_fetched_cells}
 use Rattle.headline.specs.Numbers.{cell_number, is_cell}
 use Rattle.headline.proofs.Parts.{none_fetched}
-use Rattle.shares.specs.Shared.{LineIsShared, LinesAreShared}
+use Rattle.shares.specs.FetchLines.{FetchLine, fetch_lines, block_fetch_lines}
+use Rattle.shares.specs.Lets.{Naming, naming, named}
 use Rattle.shares.specs.Layout.{AllCells}
-use Rattle.shares.proofs.Agreeing.{stays}
+use Rattle.shares.specs.Noted.{told_line}
+use Rattle.shares.specs.Read.{line_cells, lines_cells}
+use Rattle.shares.specs.Shared.{LineIsShared, LinesAreShared}
 
 pub ok_err : {A B : Type 0} {a : A} {b : B} → ◌≡◌ {A = Result A B} (Ok a) (Err b) → ⊥
 ok_err e = cc e
@@ -24,34 +29,54 @@ ok_err e = cc e
 pub none_cells : (p : Plan) (xs : List Cell) → xs ≡ [] → AllCells p xs
 none_cells p xs e = subst (AllCells p) (sym e) (λ k d less. absurd (omega (arith, less)))
 
--- neither a block nor a line that fetches
-abbrev pub is_still : Stmt → Bool
-is_still (Block shape all) = false
-is_still (Loop i x kind q body) = true
-is_still (Naming i pick forms) = true
-is_still (AtFirst i q a r b) = true
-is_still (Where low high q body) = true
-is_still (Allocation b f places) = true
-is_still (Fetching b g r) = false
-is_still (Storing b k at e) = true
-is_still (Publishing c) = true
+-- ---- behind a line
 
-pub line_none : (p : Plan) (grid : List ℕ) (a : Stmt) (s : Symbols) → LineIsShared p grid (statement_of a) → is_still a ≡ true → fetched_cells (statement_of a) s ≡ []
-line_none p grid (Block shape all) s h still = absurd (false≢true still)
-line_none p grid (Loop i x kind q body) s h still = none_fetched (statement_of (Loop i x kind q body)) s h
-line_none p grid (Naming i pick forms) s h still = refl
-line_none p grid (AtFirst i q a r b) s h still = none_fetched (statement_of (AtFirst i q a r b)) s h
-line_none p grid (Where low high q body) s h still = none_fetched (statement_of (Where low high q body)) s h
-line_none p grid (Allocation b f places) s h still = refl
-line_none p grid (Fetching b g r) s h still = absurd (false≢true still)
-line_none p grid (Storing b k at e) s h still = refl
-line_none p grid (Publishing c) s h still = refl
+one_named : (ls : List Naming) (x : Naming) (s : Symbols) → named (ls ++ x ∷ []) s ≡ bind (named ls s) x.symbol (picked x.pick x.forms (named ls s)) true
+one_named [] x s = refl
+one_named (l ∷ ls) x s = one_named ls x (bind s l.symbol (picked l.pick l.forms s) true)
 
--- what such a line leaves
-pub still_line : (p : Plan) (grid : List ℕ) (a : Stmt) (s : Symbols) (old : List ℕ) → LineIsShared p grid (statement_of a) → is_still a ≡ true → (old ≡ old ++ map (cell_number p) (fetched_cells (statement_of a) s)) × AllCells p (fetched_cells (statement_of a) s)
-still_line p grid a s old h still =
-    let none = line_none p grid a s h still in
-    (sym (ap (λ (xs : List Cell). old ++ map (cell_number p) xs) none ∙ append-nil old), none_cells p (fetched_cells (statement_of a) s) none)
+none_named : (ls : List Naming) (s : Symbols) → named (ls ++ []) s ≡ named ls s
+none_named ls s = ap (λ (ks : List Naming). named ks s) (append-nil ls)
+
+-- behind a statement its line `let`, if it is one, is one more
+pub named_after : (ls : List Naming) (a : Statement) (s : Symbols) → named (ls ++ naming a) s ≡ after a (named ls s)
+named_after ls (Seq all) s = none_named ls s
+named_after ls (For i x kind body) s = none_named ls s
+named_after ls (Let i Min forms) s = one_named ls (record { symbol = i; pick = Min; forms = forms }) s
+named_after ls (Let i Max forms) s = one_named ls (record { symbol = i; pick = Max; forms = forms }) s
+named_after ls (First i a b) s = none_named ls s
+named_after ls (Guard low high body) s = none_named ls s
+named_after ls (Alloc b f places) s = none_named ls s
+named_after ls (Fetch b g region) s = none_named ls s
+named_after ls (Store b k at e) s = none_named ls s
+named_after ls (Publish c) s = none_named ls s
+
+-- ---- the lines of a body read what it fetches
+
+module _ (p : Plan) (n : ℕ) (s : Symbols) where
+  mutual
+    pub lines_read : (ls : List Naming) (a : Statement) (line : ℕ) → LineIsShared p a → lines_cells s (fetch_lines n ls a line) ≡ fetched_cells a (named ls s)
+    lines_read ls (Seq all) line h = block_read ls all line h
+    lines_read ls (For i x kind body) line h = sym (none_fetched (For i x kind body) (named ls s) h)
+    lines_read ls (Let i pick forms) line h = refl
+    lines_read ls (First i a b) line h = sym (none_fetched (First i a b) (named ls s) h)
+    lines_read ls (Guard low high body) line h = sym (none_fetched (Guard low high body) (named ls s) h)
+    lines_read ls (Alloc b f places) line h = refl
+    lines_read ls (Fetch b g region) line h = append-nil (map (cell g) (points (named ls s) region))
+    lines_read ls (Store b k at e) line h = refl
+    lines_read ls (Publish c) line h = refl
+
+    block_read : (ls : List Naming) (all : Statements) (line : ℕ) → LinesAreShared p all → lines_cells s (block_fetch_lines n ls all line) ≡ block_fetched_cells all (named ls s)
+    block_read ls Empty line h = refl
+    block_read ls (Then a rest) line h =
+        let later = block_read (ls ++ naming a) rest (line + lines a) h.1 ∙ ap (block_fetched_cells rest) (named_after ls a s) in
+        flat_map-append (line_cells s) (fetch_lines n ls a line) (block_fetch_lines n (ls ++ naming a) rest (line + lines a))
+        ∙ (λ i. lines_read ls a line h.0 i ++ later i)
+
+-- lines read the same however their numbers are told
+pub told_read : (s : Symbols) (xs : List FetchLine) → lines_cells s (map told_line xs) ≡ lines_cells s xs
+told_read s [] = refl
+told_read s (x ∷ xs) = ap (λ (cells : List Cell). line_cells s x ++ cells) (told_read s xs)
 
 -- ---- parts of lists of cells
 
@@ -76,27 +101,15 @@ parts_counted p old now line later whole e =
     let n = ap length e in
     omega (arith, a, b, k, l, m, n)
 
-abbrev pub cells_in : List Stmt → Symbols → List Cell
-cells_in xs s = block_fetched_cells (block (list_statements xs)) s
+-- ---- one line more
 
-abbrev pub AreLines : Plan → List ℕ → List Stmt → Type 0
-AreLines p grid xs = LinesAreShared p grid (block (list_statements xs))
-
-pub next_lines : (p : Plan) (grid : List ℕ) (xs : List Stmt) (i : ℕ) (d : Stmt) → i < length xs → AreLines p grid (drop i xs) → LineIsShared p grid (statement_of (get_or xs i d)) × AreLines p grid (drop (i + 1) xs)
-next_lines p grid xs i d less h =
+pub next_read : (s : Symbols) (xs : List FetchLine) (i : ℕ) (d : FetchLine) → i < length xs → lines_cells s (drop i xs) ≡ line_cells s (get_or xs i d) ++ lines_cells s (drop (i + 1) xs)
+next_read s xs i d less =
     let one : suc i ≡ i + 1 = omega arith in
-    let both = subst (AreLines p grid) (drop-cons xs i d less) h in
-    (both.0, subst (λ (n : ℕ). AreLines p grid (drop n xs)) one both.1)
+    ap (lines_cells s) (drop-cons xs i d less) ∙ ap (λ (n : ℕ). line_cells s (get_or xs i d) ++ lines_cells s (drop n xs)) one
 
-pub next_cells : (p : Plan) (grid : List ℕ) (xs : List Stmt) (i : ℕ) (d : Stmt) (s : Symbols) → i < length xs → AreLines p grid (drop i xs) → cells_in (drop i xs) s ≡ fetched_cells (statement_of (get_or xs i d)) s ++ cells_in (drop (i + 1) xs) s
-next_cells p grid xs i d s less h =
-    let one : suc i ≡ i + 1 = omega arith in
-    let a = statement_of (get_or xs i d) in
-    let both = subst (AreLines p grid) (drop-cons xs i d less) h in
-    ap (λ (ys : List Stmt). cells_in ys s) (drop-cons xs i d less)
-    ∙ ap (λ (cells : List Cell). fetched_cells a s ++ cells) (stays p grid a (block (list_statements (drop (suc i) xs))) s both.0 both.1)
-    ∙ ap (λ (n : ℕ). fetched_cells a s ++ cells_in (drop n xs) s) one
-
-pub no_lines : (xs : List Stmt) (i : ℕ) (s : Symbols) → length xs ≡ i → cells_in (drop i xs) s ≡ []
-no_lines [] i s e = rw (sym e) refl
-no_lines (x ∷ xs) i s e = rw (sym e) (no_lines xs (length xs) s refl)
+pub no_lines : (s : Symbols) (xs : List FetchLine) (i : ℕ) → length xs ≤ i → lines_cells s (drop i xs) ≡ []
+no_lines s [] zero h = refl
+no_lines s [] (suc i) h = refl
+no_lines s (x ∷ xs) zero h = absurd (omega (arith, h))
+no_lines s (x ∷ xs) (suc i) h = no_lines s xs i (omega (arith, h))

@@ -1,6 +1,6 @@
 -- Cells and pieces by their groups.
 use Rattle.std.proofs.Common.{◌≡◌, ℕ, zero, suc, ◌+◌, ◌<◌, ◌≤◌, List, [], ◌∷◌, ◌++◌, length, map, get_or, drop, arith, ap, refl, ◌∙◌, subst, length-append, Some, drop-cons}
-use Rattle.std.specs.Prelude.{slice_get}
+use Rattle.std.specs.Prelude.{All, slice_get}
 use Rattle.std.specs.List.{range_with_len}
 use Rattle.std.proofs.lemmas.List.{length-map}
 use Rattle.std.proofs.lemmas.List.FromFn.{length-map-range_with_len}
@@ -24,6 +24,12 @@ pub get_within : {A : Type 0} (xs : List A) (n : ℕ) (x : A) → slice_get xs n
 get_within [] n x e = absurd (cc e)
 get_within (y ∷ ys) zero x e = omega arith
 get_within (y ∷ ys) (suc n) x e = let h = get_within ys n x e in omega (arith, h)
+
+-- what holds of all holds of the one at a place
+pub all_at_place : {A : Type 0} (P : A → Type 0) (xs : List A) (n : ℕ) (x : A) → slice_get xs n ≡ Some x → All P xs → P x
+all_at_place P [] n x e h = absurd (cc e)
+all_at_place P (y ∷ ys) zero x e h = subst P (cc e) (h 0 x (omega arith))
+all_at_place P (y ∷ ys) (suc n) x e h = all_at_place P ys n x e (λ k d less. h (suc k) d (omega (arith, less)))
 
 pub some_same : {A : Type 0} (x y : A) → Some x ≡ Some y → x ≡ y
 some_same x y e = cc e

@@ -15,6 +15,8 @@ use Rattle.shares.specs.Has.{HasShares, IsServed}
 use Rattle.shares.specs.Made.{CodeMeans}
 use Rattle.shares.specs.Laws.{FaultsHaveNoShares}
 use Rattle.shares.proofs.Groups.{get_within}
+use Rattle.shares.specs.FetchLines.{FetchLine, LineIsNear, plan_fetch_lines}
+use Rattle.shares.proofs.Groups.{all_at_place}
 use Rattle.shares.proofs.Totals.{fetched_past}
 use Rattle.shares.proofs.Prefixes.{needed_past}
 
@@ -75,8 +77,14 @@ module _ (p : Plan) (c : Certificate) (has : HasShares p c) where
   no_code n K13 h = h
   no_code n K14 h = h
 
+not_near : (p : Plan) (c : Certificate) → HasShares p c → (place : ℕ) (x : FetchLine) → slice_get (plan_fetch_lines p) place ≡ Some x → ¬ LineIsNear (pieces p) x → ⊥
+not_near p c has place x at far = far (all_at_place (LineIsNear (pieces p)) (plan_fetch_lines p) place x at has.near)
+
 pub none_shared : FaultsHaveNoShares
-none_shared p c f told has = elim told.0 [
-  | inl code ↦ no_code p c has code.0 f.code code.1
-  | inr past ↦ elim past.1 [ inl line ↦ fetched_past p c line.0 line.1 has.few | inr line ↦ needed_past p c line.0 line.1 has.few ]
+none_shared p c f told has = elim told [
+  | inl means ↦ elim means.0 [
+    | inl code ↦ no_code p c has code.0 f.code code.1
+    | inr past ↦ elim past.1 [ inl line ↦ fetched_past p c line.0 line.1 has.few | inr line ↦ needed_past p c line.0 line.1 has.few ]
+  ]
+  | inr far ↦ not_near p c has far.1.0 far.1.1 far.1.2 far.1.3
 ]

@@ -7,7 +7,6 @@ pub mod Groups
 pub mod Known
 pub mod Seated
 pub mod Apart
-pub mod Agreeing
 pub mod Fetching
 pub mod Needing
 pub mod Told
@@ -16,14 +15,15 @@ pub mod Empty
 pub mod Grouped
 pub mod Counting
 pub mod Filing
-pub mod Totals
 pub mod Noting
+pub mod Totals
 pub mod Prefixes
 pub mod Having
 pub mod Owning
 pub mod Alone
 pub mod Firsts
 pub mod Standing
+pub mod Near
 pub mod Passing
 pub mod Codes
 pub mod WorkedShares

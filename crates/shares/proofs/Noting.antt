@@ -1,51 +1,66 @@
 -- Fetch lines as they are noted.
 use Rattle.std.proofs.Common.{◌≡◌, ℕ, zero, suc, ◌+◌, ◌-◌, ◌^◌, ◌<◌, ◌≤◌, List, [], ◌∷◌, ◌++◌, length, map, take, drop, drop-cons, get_or, arith, ap, refl, sym, ◌∙◌, subst, min, Bool, true, false}
 use Rattle.std.proofs.lemmas.Bool.{false≢true}
+use Rattle.std.proofs.lemmas.List.{get_or-map, length-map}
 use Rattle.std.proofs.lemmas.List.Sums.{sum_by-cons}
 use Rattle.plan.specs.declared.stmt.Stmt.{Stmt, Seq' as Block, For' as Loop, Let as Naming, First' as AtFirst, Guard' as Where, Alloc as Allocation, Fetch as Fetching, Store as Storing, Publish as Publishing}
-use Rattle.plan.specs.Plan.{Statement, Group, Plan, block}
+use Rattle.plan.specs.Plan.{Seq, Empty, Group, Plan, block}
 use Rattle.plan.specs.Lines.{lines, body_line}
 use Rattle.plan.specs.Lists.{list_statements}
 use Rattle.plan.specs.View.{statement_of}
 use Rattle.soundness.specs.Outline.Flaws.{line_told}
 use Rattle.plan.specs.Certificate.Cells.{Piece}
-use Rattle.shares.specs.Counts.{FetchLine, fetch_lines, block_fetch_lines, fetch_lines_from, fetched_by, fetched_by_lines}
-use Rattle.shares.specs.Noted.{told_line}
-use Rattle.shares.proofs.Fetching.{is_still}
+use Rattle.shares.specs.FetchLines.{FetchLine, fetch_lines, block_fetch_lines, fetch_lines_from, plan_fetch_lines, fetched_by, fetched_by_lines}
+use Rattle.shares.specs.Lets.{Naming as LetLine, naming}
+use Rattle.shares.specs.declared.counts.FetchLine.{FetchLine as LineHeld}
+use Rattle.shares.specs.Noted.{line_of, lines_noted, told_line}
+
+-- neither a block nor a line that fetches
+abbrev pub is_still : Stmt → Bool
+is_still (Block shape all) = false
+is_still (Loop i x kind q body) = true
+is_still (Naming i pick forms) = true
+is_still (AtFirst i q a r b) = true
+is_still (Where low high q body) = true
+is_still (Allocation b f places) = true
+is_still (Fetching b g r) = false
+is_still (Storing b k at e) = true
+is_still (Publishing c) = true
 
 -- a line that neither fetches nor has lines inside that count
-pub still_notes : (n : ℕ) (a : Stmt) (at : ℕ) → is_still a ≡ true → fetch_lines n (statement_of a) at ≡ []
-still_notes n (Block shape all) at still = absurd (false≢true still)
-still_notes n (Loop i x kind q body) at still = refl
-still_notes n (Naming i pick forms) at still = refl
-still_notes n (AtFirst i q a r b) at still = refl
-still_notes n (Where low high q body) at still = refl
-still_notes n (Allocation b f places) at still = refl
-still_notes n (Fetching b g r) at still = absurd (false≢true still)
-still_notes n (Storing b k at' e) at still = refl
-still_notes n (Publishing c) at still = refl
+pub still_notes : (n : ℕ) (ls : List LetLine) (a : Stmt) (at : ℕ) → is_still a ≡ true → fetch_lines n ls (statement_of a) at ≡ []
+still_notes n ls (Block shape all) at still = absurd (false≢true still)
+still_notes n ls (Loop i x kind q body) at still = refl
+still_notes n ls (Naming i pick forms) at still = refl
+still_notes n ls (AtFirst i q a r b) at still = refl
+still_notes n ls (Where low high q body) at still = refl
+still_notes n ls (Allocation b f places) at still = refl
+still_notes n ls (Fetching b g r) at still = absurd (false≢true still)
+still_notes n ls (Storing b k at' e) at still = refl
+still_notes n ls (Publishing c) at still = refl
 
-pub nothing_noted : (old : List FetchLine) (n : ℕ) (a : Stmt) (at : ℕ) → is_still a ≡ true → old ≡ old ++ map told_line (fetch_lines n (statement_of a) at)
-nothing_noted old n a at still = sym (ap (λ (xs : List FetchLine). old ++ map told_line xs) (still_notes n a at still) ∙ with_nothing old)
-  where
-    with_nothing : (xs : List FetchLine) → xs ++ [] ≡ xs
-    with_nothing [] = refl
-    with_nothing (x ∷ xs) = ap (λ (ys : List FetchLine). x ∷ ys) (with_nothing xs)
+pub with_nothing : {A : Type 0} (xs : List A) → xs ≡ xs ++ []
+with_nothing [] = refl
+with_nothing (x ∷ xs) = ap (λ ys. x ∷ ys) (with_nothing xs)
 
--- the lines of some statements of a group, of which the first begins at a line
-abbrev pub lines_in : ℕ → List Stmt → ℕ → List FetchLine
-lines_in n xs at = block_fetch_lines n (block (list_statements xs)) at
+pub nothing_noted : (old : List FetchLine) (n : ℕ) (ls : List LetLine) (a : Stmt) (at : ℕ) → is_still a ≡ true → old ≡ old ++ map told_line (fetch_lines n ls (statement_of a) at)
+nothing_noted old n ls a at still = with_nothing old ∙ ap (λ (xs : List FetchLine). old ++ map told_line xs) (sym (still_notes n ls a at still))
 
-pub next_in : (n : ℕ) (xs : List Stmt) (k : ℕ) (d : Stmt) (at : ℕ) → k < length xs →
-    lines_in n (drop k xs) at ≡ fetch_lines n (statement_of (get_or xs k d)) at ++ lines_in n (drop (k + 1) xs) (at + lines (statement_of (get_or xs k d)))
-next_in n xs k d at less =
+-- the lines of some statements of a group behind these lines `let`, of which the first begins at a line
+abbrev pub lines_in : ℕ → List LetLine → List Stmt → ℕ → List FetchLine
+lines_in n ls xs at = block_fetch_lines n ls (block (list_statements xs)) at
+
+pub next_in : (n : ℕ) (ls : List LetLine) (xs : List Stmt) (k : ℕ) (d : Stmt) (at : ℕ) → k < length xs → d ≡ get_or xs k d →
+    lines_in n ls (drop k xs) at ≡ fetch_lines n ls (statement_of d) at ++ lines_in n (ls ++ naming (statement_of d)) (drop (k + 1) xs) (at + lines (statement_of d))
+next_in n ls xs k d at less is =
     let one : suc k ≡ k + 1 = omega arith in
-    let a = statement_of (get_or xs k d) in
-    ap (λ (ys : List Stmt). lines_in n ys at) (drop-cons xs k d less) ∙ ap (λ (m : ℕ). fetch_lines n a at ++ lines_in n (drop m xs) (at + lines a)) one
+    ap (λ (ys : List Stmt). lines_in n ls ys at) (drop-cons xs k d less)
+    ∙ ap (λ (a : Stmt). fetch_lines n ls (statement_of a) at ++ lines_in n (ls ++ naming (statement_of a)) (drop (suc k) xs) (at + lines (statement_of a))) (sym is)
+    ∙ ap (λ (m : ℕ). fetch_lines n ls (statement_of d) at ++ lines_in n (ls ++ naming (statement_of d)) (drop m xs) (at + lines (statement_of d))) one
 
-pub none_in : (n : ℕ) (xs : List Stmt) (k : ℕ) (at : ℕ) → length xs ≡ k → lines_in n (drop k xs) at ≡ []
-none_in n [] k at e = rw (sym e) refl
-none_in n (x ∷ xs) k at e = rw (sym e) (none_in n xs (length xs) at refl)
+pub none_in : (n : ℕ) (ls : List LetLine) (xs : List Stmt) (k : ℕ) (at : ℕ) → length xs ≡ k → lines_in n ls (drop k xs) at ≡ []
+none_in n ls [] k at e = rw (sym e) refl
+none_in n ls (x ∷ xs) k at e = rw (sym e) (none_in n ls xs (length xs) at refl)
 
 -- the line after one that begun at a line
 pub told_after : (begun now at count more : ℕ) → begun ≡ line_told at → more ≡ min count (2 ^ 32 - 1) → now ≡ min (begun + more) (2 ^ 32 - 1) → now ≡ line_told (at + count)
@@ -53,11 +68,14 @@ told_after begun now at count more e f g = omega (arith, e, f, g)
 
 -- ---- a plan's lines
 
+abbrev pub no_group : Group
+no_group = record { function = []; region = []; grid = []; body = Seq Empty }
+
 pub next_group : (p : Plan) (gs : List Group) (k n : ℕ) (d : Group) → n < length gs →
-    fetch_lines_from p k (drop n gs) ≡ fetch_lines k (get_or gs n d).body (body_line p k) ++ fetch_lines_from p (k + 1) (drop (n + 1) gs)
+    fetch_lines_from p k (drop n gs) ≡ fetch_lines k [] (get_or gs n d).body (body_line p k) ++ fetch_lines_from p (k + 1) (drop (n + 1) gs)
 next_group p gs k n d less =
     let one : suc n ≡ n + 1 = omega arith in
-    let row = fetch_lines k (get_or gs n d).body (body_line p k) in
+    let row = fetch_lines k [] (get_or gs n d).body (body_line p k) in
     ap (fetch_lines_from p k) (drop-cons gs n d less) ∙ ap (λ (m : ℕ). row ++ fetch_lines_from p (k + 1) (drop m gs)) one
 
 pub last_group : (p : Plan) (gs : List Group) (k n : ℕ) → length gs ≤ n → fetch_lines_from p k (drop n gs) ≡ []
@@ -74,3 +92,18 @@ told_counts js (x ∷ xs) =
     let two = sum_by-cons (fetched_by js) x xs in
     let rest = told_counts js xs in
     omega (arith, one, two, rest)
+
+-- ---- a plan's lines as code has them
+
+abbrev pub no_line : FetchLine
+no_line = record { line = 0; group = 0; lets = []; fetched = 0; region = [] }
+
+module _ (p : Plan) (held : List LineHeld) (all : lines_noted held ≡ map told_line (plan_fetch_lines p)) where
+  pub noted_long : length held ≡ length (plan_fetch_lines p)
+  noted_long = sym (length-map held line_of) ∙ ap length all ∙ length-map (plan_fetch_lines p) told_line
+
+  pub noted_at : (k : ℕ) (x : LineHeld) → k < length held → x ≡ get_or held k x → line_of x ≡ told_line (get_or (plan_fetch_lines p) k no_line)
+  noted_at k x less is =
+      let long = noted_long in
+      ap line_of is ∙ sym (get_or-map line_of held k x (line_of x) less) ∙ ap (λ (xs : List FetchLine). get_or xs k (line_of x)) all
+      ∙ get_or-map told_line (plan_fetch_lines p) k no_line (line_of x) (omega (arith, less, long))

@@ -72,7 +72,7 @@ module _ (p : Plan) (c : Certificate) (none : (f : Flaw) → ¬ IsOwnFlaw p c (l
 
   -- so no flaw is told after one at an own line
   pub holds_first : (e : SharesError) → Holds p c e → ErrorMeans p c e
-  holds_first (Told f) h = (h, λ g own. absurd (none g own))
+  holds_first (Told f) h = inl (h, λ g own. absurd (none g own))
   holds_first Memory h = tt
 
 -- ---- the first of fetch lines and own lines
@@ -112,13 +112,13 @@ module _ (p : Plan) (c : Certificate) where
   Told14 f = (f.code ≡ K14) × FetchPasses p c f.line
 
   first_of : (fetched own : Option Flaw) → MatchOption fetched (fetched_before p (length (pieces p)) ≤ 2 ^ 26) Told14 → IsFirstFlaw p c groups own →
-      MatchOption (least fetched own) (LinesStand p c) (λ f. FlawMeans p c f × IsFirstOwn p c groups f)
+      MatchOption (least fetched own) (LinesStand p c) (λ f. ErrorMeans p c (Told f))
   first_of None None few none = record { fetched = few; own = none }
-  first_of None (Some g) few first = (own_means groups g first.0, first.1)
-  first_of (Some f) None past none = (inr (past.0, inl past.1), λ g own. absurd (none g own))
+  first_of None (Some g) few first = inl (own_means groups g first.0, first.1)
+  first_of (Some f) None past none = inl (inr (past.0, inl past.1), λ g own. absurd (none g own))
   first_of (Some f) (Some g) past first =
-      (lesser_means (is_before g f) f g (inr (past.0, inl past.1)) (own_means groups g first.0), lesser_first (is_before g f) f g refl first.1)
+      inl (lesser_means (is_before g f) f g (inr (past.0, inl past.1)) (own_means groups g first.0), lesser_first (is_before g f) f g refl first.1)
 
   pub first_line : (fetched own found : Option Flaw) → MatchOption fetched (fetched_before p (length (pieces p)) ≤ 2 ^ 26) Told14 → IsFirstFlaw p c groups own → found ≡ least fetched own →
-      MatchOption found (LinesStand p c) (λ f. FlawMeans p c f × IsFirstOwn p c groups f)
-  first_line fetched own found past first is = subst (λ (o : Option Flaw). MatchOption o (LinesStand p c) (λ f. FlawMeans p c f × IsFirstOwn p c groups f)) (sym is) (first_of fetched own past first)
+      MatchOption found (LinesStand p c) (λ f. ErrorMeans p c (Told f))
+  first_line fetched own found past first is = subst (λ (o : Option Flaw). MatchOption o (LinesStand p c) (λ f. ErrorMeans p c (Told f))) (sym is) (first_of fetched own past first)

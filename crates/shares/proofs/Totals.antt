@@ -1,30 +1,33 @@
 -- What fetch lines count in all.
-use Rattle.std.proofs.Common.{◌≡◌, ℕ, zero, suc, ◌+◌, ◌<◌, ◌≤◌, List, [], ◌∷◌, ◌++◌, length, length-append, map, take, get_or, Bool, true, false, arith, ap, refl, sym, ◌∙◌, Option, Some}
+use Rattle.std.proofs.Common.{◌≡◌, ℕ, zero, suc, ◌+◌, ◌<◌, ◌≤◌, List, [], ◌∷◌, ◌++◌, length, length-append, map, take, get_or, Bool, true, false, arith, ap, refl, sym, ◌∙◌, subst, Option, Some}
 use Rattle.std.specs.Prelude.{◌==◌, sum_by, slice_get, if◌then◌else◌, All}
 use Rattle.std.specs.List.{AllByRecursion}
 use Rattle.std.proofs.lemmas.Bool.Decides.{nat_tests}
 use Rattle.std.proofs.lemmas.List.{length-map, take_all}
-use Rattle.std.proofs.lemmas.List.Elements.{All-from_recursion}
+use Rattle.std.proofs.lemmas.List.Elements.{All-from_recursion, All-push, recursion_from_All}
 use Rattle.std.proofs.lemmas.List.Sums.{sum_by-cons, sum_by-append, sum_by_more, sum_by-take-le}
 use Rattle.plan.specs.Plan.{Statement, Seq, For, Let, First, Guard, Alloc, Fetch, Store, Publish, Statements, Empty, Then, Group, Plan}
 use Rattle.plan.specs.Lines.{lines, body_line}
-use Rattle.plan.specs.Symbols.{points}
+use Rattle.plan.specs.Symbols.{Symbols, points}
 use Rattle.plan.specs.Semantics.Actions.{after}
 use Rattle.plan.specs.Certificate.Certificate.{Certificate}
-use Rattle.plan.specs.Certificate.Cells.{Piece, Cell, cell, grid_symbols, pieces}
-use Rattle.soundness.specs.Outline.Forms.{grid_symbols as grid_names}
+use Rattle.plan.specs.Certificate.Cells.{Piece, cell, grid_symbols, pieces}
 use Rattle.headline.specs.Fetched.{fetched_cells, block_fetched_cells}
 use Rattle.headline.specs.Numbers.{cell_number}
 use Rattle.headline.specs.Work.{of_piece, cells_fetched, group_fetched}
 use Rattle.headline.proofs.Parts.{none_fetched}
 use Rattle.headline.proofs.Places.{piece_from}
-use Rattle.shares.specs.Boxes.{IsLimited}
-use Rattle.shares.specs.Counts.{FetchLine, fetch_lines, block_fetch_lines, fetch_lines_from, plan_fetch_lines, cells_by, fetched_by, fetched_by_lines, PassesFetched}
+use Rattle.shares.specs.Boxes.{AreLimited, IsLimited}
+use Rattle.shares.specs.Counts.{PassesFetched}
+use Rattle.shares.specs.FetchLines.{FetchLine, fetch_lines, block_fetch_lines, fetch_lines_from, plan_fetch_lines, cells_by, fetched_by, fetched_by_lines}
+use Rattle.shares.specs.Lets.{Naming, NamingsAreLimited, naming, named}
+use Rattle.shares.specs.Read.{IsOpen}
 use Rattle.shares.specs.Has.{fetched_before, AreFew}
 use Rattle.shares.specs.Layout.{fetched_list}
 use Rattle.shares.specs.Shared.{AreShared, IsLike, LineIsShared, LinesAreShared}
-use Rattle.shares.proofs.Agreeing.{stays}
+use Rattle.shares.proofs.Fetching.{named_after}
 use Rattle.shares.proofs.Groups.{get_some, some_same}
+use Rattle.shares.proofs.Noting.{with_nothing}
 use Rattle.shares.proofs.Seated.{named_group}
 
 -- ---- sums in either order
@@ -65,55 +68,55 @@ left_out b n e = rw e refl
 
 module _ (p : Plan) (n : ℕ) (j : Piece) where
   mutual
-    lines_here : (grid : List ℕ) (a : Statement) (line : ℕ) → (n == j.group) ≡ true → LineIsShared p grid a → by j (fetch_lines n a line) ≡ length (fetched_cells a (grid_symbols j.at))
-    lines_here grid (Seq all) line e h = block_here grid all line e h
-    lines_here grid (For i x kind body) line e h = sym (ap length (none_fetched (For i x kind body) (grid_symbols j.at) h))
-    lines_here grid (Let i pick forms) line e h = refl
-    lines_here grid (First i a b) line e h = sym (ap length (none_fetched (First i a b) (grid_symbols j.at) h))
-    lines_here grid (Guard low high body) line e h = sym (ap length (none_fetched (Guard low high body) (grid_symbols j.at) h))
-    lines_here grid (Alloc b f places) line e h = refl
-    lines_here grid (Fetch b g region) line e h =
-        let count = length (points (grid_symbols j.at) region) in
-        let one = sum_by-cons (λ x. cells_by x j) (record { line = line; group = n; region = region }) [] in
+    lines_here : (ls : List Naming) (a : Statement) (line : ℕ) → (n == j.group) ≡ true → LineIsShared p a → by j (fetch_lines n ls a line) ≡ length (fetched_cells a (named ls (grid_symbols j.at)))
+    lines_here ls (Seq all) line e h = block_here ls all line e h
+    lines_here ls (For i x kind body) line e h = sym (ap length (none_fetched (For i x kind body) (named ls (grid_symbols j.at)) h))
+    lines_here ls (Let i pick forms) line e h = refl
+    lines_here ls (First i a b) line e h = sym (ap length (none_fetched (First i a b) (named ls (grid_symbols j.at)) h))
+    lines_here ls (Guard low high body) line e h = sym (ap length (none_fetched (Guard low high body) (named ls (grid_symbols j.at)) h))
+    lines_here ls (Alloc b f places) line e h = refl
+    lines_here ls (Fetch b g region) line e h =
+        let count = length (points (named ls (grid_symbols j.at)) region) in
+        let one = sum_by-cons (λ x. cells_by x j) (record { line = line; group = n; lets = ls; fetched = g; region = region }) [] in
         let is = chosen (n == j.group) count e in
-        let row = length-map (points (grid_symbols j.at) region) (cell g) in
+        let row = length-map (points (named ls (grid_symbols j.at)) region) (cell g) in
         omega (arith, one, is, row)
-    lines_here grid (Store b k at v) line e h = refl
-    lines_here grid (Publish c) line e h = refl
+    lines_here ls (Store b k at v) line e h = refl
+    lines_here ls (Publish c) line e h = refl
 
-    block_here : (grid : List ℕ) (all : Statements) (line : ℕ) → (n == j.group) ≡ true → LinesAreShared p grid all → by j (block_fetch_lines n all line) ≡ length (block_fetched_cells all (grid_symbols j.at))
-    block_here grid Empty line e h = refl
-    block_here grid (Then a rest) line e h =
-        let s = grid_symbols j.at in
-        let whole = sum_by-append (λ x. cells_by x j) (fetch_lines n a line) (block_fetch_lines n rest (line + lines a)) in
-        let first = lines_here grid a line e h.0 in
-        let more = block_here grid rest (line + lines a) e h.1 in
+    block_here : (ls : List Naming) (all : Statements) (line : ℕ) → (n == j.group) ≡ true → LinesAreShared p all → by j (block_fetch_lines n ls all line) ≡ length (block_fetched_cells all (named ls (grid_symbols j.at)))
+    block_here ls Empty line e h = refl
+    block_here ls (Then a rest) line e h =
+        let s = named ls (grid_symbols j.at) in
+        let whole = sum_by-append (λ x. cells_by x j) (fetch_lines n ls a line) (block_fetch_lines n (ls ++ naming a) rest (line + lines a)) in
+        let first = lines_here ls a line e h.0 in
+        let more = block_here (ls ++ naming a) rest (line + lines a) e h.1 in
         let long = length-append (fetched_cells a s) (block_fetched_cells rest (after a s)) in
-        let same = ap (λ (cells : List Cell). length cells) (stays p grid a rest s h.0 h.1) in
+        let same = ap (λ (t : Symbols). length (block_fetched_cells rest t)) (named_after ls a (grid_symbols j.at)) in
         omega (arith, whole, first, more, long, same)
 
   mutual
-    lines_there : (a : Statement) (line : ℕ) → (n == j.group) ≡ false → by j (fetch_lines n a line) ≡ 0
-    lines_there (Seq all) line e = block_there all line e
-    lines_there (For i x kind body) line e = refl
-    lines_there (Let i pick forms) line e = refl
-    lines_there (First i a b) line e = refl
-    lines_there (Guard low high body) line e = refl
-    lines_there (Alloc b f places) line e = refl
-    lines_there (Fetch b g region) line e =
-        let count = length (points (grid_symbols j.at) region) in
-        let one = sum_by-cons (λ x. cells_by x j) (record { line = line; group = n; region = region }) [] in
+    lines_there : (ls : List Naming) (a : Statement) (line : ℕ) → (n == j.group) ≡ false → by j (fetch_lines n ls a line) ≡ 0
+    lines_there ls (Seq all) line e = block_there ls all line e
+    lines_there ls (For i x kind body) line e = refl
+    lines_there ls (Let i pick forms) line e = refl
+    lines_there ls (First i a b) line e = refl
+    lines_there ls (Guard low high body) line e = refl
+    lines_there ls (Alloc b f places) line e = refl
+    lines_there ls (Fetch b g region) line e =
+        let count = length (points (named ls (grid_symbols j.at)) region) in
+        let one = sum_by-cons (λ x. cells_by x j) (record { line = line; group = n; lets = ls; fetched = g; region = region }) [] in
         let is = left_out (n == j.group) count e in
         omega (arith, one, is)
-    lines_there (Store b k at v) line e = refl
-    lines_there (Publish c) line e = refl
+    lines_there ls (Store b k at v) line e = refl
+    lines_there ls (Publish c) line e = refl
 
-    block_there : (all : Statements) (line : ℕ) → (n == j.group) ≡ false → by j (block_fetch_lines n all line) ≡ 0
-    block_there Empty line e = refl
-    block_there (Then a rest) line e =
-        let whole = sum_by-append (λ x. cells_by x j) (fetch_lines n a line) (block_fetch_lines n rest (line + lines a)) in
-        let first = lines_there a line e in
-        let more = block_there rest (line + lines a) e in
+    block_there : (ls : List Naming) (all : Statements) (line : ℕ) → (n == j.group) ≡ false → by j (block_fetch_lines n ls all line) ≡ 0
+    block_there ls Empty line e = refl
+    block_there ls (Then a rest) line e =
+        let whole = sum_by-append (λ x. cells_by x j) (fetch_lines n ls a line) (block_fetch_lines n (ls ++ naming a) rest (line + lines a)) in
+        let first = lines_there ls a line e in
+        let more = block_there (ls ++ naming a) rest (line + lines a) e in
         omega (arith, whole, first, more)
 
 pub same_number : (m n : ℕ) → m ≡ n → (m == n) ≡ true
@@ -126,23 +129,23 @@ module _ (p : Plan) (j : Piece) where
   groups_past : (k : ℕ) (gs : List Group) → j.group < k → by j (fetch_lines_from p k gs) ≡ 0
   groups_past k [] past = refl
   groups_past k (g ∷ gs) past =
-      let whole = sum_by-append (λ x. cells_by x j) (fetch_lines k g.body (body_line p k)) (fetch_lines_from p (k + 1) gs) in
-      let first = lines_there p k j g.body (body_line p k) (other_number k j.group (λ e. omega (arith, e, past))) in
+      let whole = sum_by-append (λ x. cells_by x j) (fetch_lines k [] g.body (body_line p k)) (fetch_lines_from p (k + 1) gs) in
+      let first = lines_there p k j [] g.body (body_line p k) (other_number k j.group (λ e. omega (arith, e, past))) in
       let more = groups_past (k + 1) gs (omega (arith, past)) in
       omega (arith, whole, first, more)
 
-  groups_here : (k : ℕ) (gs : List Group) (m : ℕ) (g : Group) → ((i : ℕ) (h : Group) → slice_get gs i ≡ Some h → LineIsShared p (grid_names (length h.grid)) h.body) → j.group ≡ k + m → slice_get gs m ≡ Some g →
+  groups_here : (k : ℕ) (gs : List Group) (m : ℕ) (g : Group) → ((i : ℕ) (h : Group) → slice_get gs i ≡ Some h → LineIsShared p h.body) → j.group ≡ k + m → slice_get gs m ≡ Some g →
       by j (fetch_lines_from p k gs) ≡ length (fetched_cells g.body (grid_symbols j.at))
   groups_here k [] m g all e at = absurd (cc at)
   groups_here k (x ∷ xs) zero g all e at =
-      let whole = sum_by-append (λ x. cells_by x j) (fetch_lines k x.body (body_line p k)) (fetch_lines_from p (k + 1) xs) in
-      let first = lines_here p k j (grid_names (length x.grid)) x.body (body_line p k) (same_number k j.group (omega (arith, e))) (all 0 x refl) in
+      let whole = sum_by-append (λ x. cells_by x j) (fetch_lines k [] x.body (body_line p k)) (fetch_lines_from p (k + 1) xs) in
+      let first = lines_here p k j [] x.body (body_line p k) (same_number k j.group (omega (arith, e))) (all 0 x refl) in
       let more = groups_past (k + 1) xs (omega (arith, e)) in
       let same = ap (λ (h : Group). length (fetched_cells h.body (grid_symbols j.at))) (some_same x g at) in
       omega (arith, whole, first, more, same)
   groups_here k (x ∷ xs) (suc m) g all e at =
-      let whole = sum_by-append (λ x. cells_by x j) (fetch_lines k x.body (body_line p k)) (fetch_lines_from p (k + 1) xs) in
-      let first = lines_there p k j x.body (body_line p k) (other_number k j.group (λ same. omega (arith, e, same))) in
+      let whole = sum_by-append (λ x. cells_by x j) (fetch_lines k [] x.body (body_line p k)) (fetch_lines_from p (k + 1) xs) in
+      let first = lines_there p k j [] x.body (body_line p k) (other_number k j.group (λ same. omega (arith, e, same))) in
       let more = groups_here (k + 1) xs m g (λ i h. all (suc i) h) (omega (arith, e)) at in
       omega (arith, whole, first, more)
 
@@ -186,31 +189,77 @@ fetched_past p c x h few =
     let fits = few.fetched in
     omega (arith, all, most, past, fits)
 
--- ---- the lines' regions
+-- ---- the lines as they are read
 
-limited_append : (xs ys : List FetchLine) → AllByRecursion (λ x. IsLimited x.region) xs → AllByRecursion (λ x. IsLimited x.region) ys → AllByRecursion (λ x. IsLimited x.region) (xs ++ ys)
-limited_append [] ys h k = k
-limited_append (x ∷ xs) ys h k = (h.0, limited_append xs ys h.1 k)
+joined : (P : FetchLine → Type 0) (xs ys : List FetchLine) → AllByRecursion P xs → AllByRecursion P ys → AllByRecursion P (xs ++ ys)
+joined P [] ys h k = k
+joined P (x ∷ xs) ys h k = (h.0, joined P xs ys h.1 k)
+
+firsts : (P Q : FetchLine → Type 0) (xs : List FetchLine) → AllByRecursion (λ x. P x × Q x) xs → AllByRecursion P xs
+firsts P Q [] h = tt
+firsts P Q (x ∷ xs) h = (h.0.0, firsts P Q xs h.1)
+
+-- a line of the group of this number
+abbrev pub IsOpenIn : Plan → ℕ → FetchLine → Type 0
+IsOpenIn p n x = IsOpen p x × (x.group ≡ n)
+
+lets_push : (ls : List Naming) (a : Statement) (p : Plan) → LineIsShared p a → NamingsAreLimited ls → NamingsAreLimited (ls ++ naming a)
+lets_push ls (Let i pick forms) p h k = All-push (λ x. AreLimited x.forms) ls (record { symbol = i; pick = pick; forms = forms }) k h
+lets_push ls (Seq all) p h k = subst NamingsAreLimited (with_nothing ls) k
+lets_push ls (For i x kind body) p h k = subst NamingsAreLimited (with_nothing ls) k
+lets_push ls (First i a b) p h k = subst NamingsAreLimited (with_nothing ls) k
+lets_push ls (Guard low high body) p h k = subst NamingsAreLimited (with_nothing ls) k
+lets_push ls (Alloc b f places) p h k = subst NamingsAreLimited (with_nothing ls) k
+lets_push ls (Fetch b g region) p h k = subst NamingsAreLimited (with_nothing ls) k
+lets_push ls (Store b j at v) p h k = subst NamingsAreLimited (with_nothing ls) k
+lets_push ls (Publish c) p h k = subst NamingsAreLimited (with_nothing ls) k
 
 mutual
-  limited_lines : (p : Plan) (grid : List ℕ) (n : ℕ) (a : Statement) (line : ℕ) → LineIsShared p grid a → AllByRecursion (λ x. IsLimited x.region) (fetch_lines n a line)
-  limited_lines p grid n (Seq all) line h = limited_block p grid n all line h
-  limited_lines p grid n (For i x kind body) line h = tt
-  limited_lines p grid n (Let i pick forms) line h = tt
-  limited_lines p grid n (First i a b) line h = tt
-  limited_lines p grid n (Guard low high body) line h = tt
-  limited_lines p grid n (Alloc b f places) line h = tt
-  limited_lines p grid n (Fetch b g region) line h = ((named_group (slice_get p.groups g) (λ x. IsLike region (length x.region)) h.0).2.0, tt)
-  limited_lines p grid n (Store b k at v) line h = tt
-  limited_lines p grid n (Publish c) line h = tt
+  pub open_lines : (p : Plan) (n : ℕ) (ls : List Naming) (a : Statement) (line : ℕ) → NamingsAreLimited ls → LineIsShared p a → AllByRecursion (IsOpenIn p n) (fetch_lines n ls a line)
+  open_lines p n ls (Seq all) line k h = open_block p n ls all line k h
+  open_lines p n ls (For i x kind body) line k h = tt
+  open_lines p n ls (Let i pick forms) line k h = tt
+  open_lines p n ls (First i a b) line k h = tt
+  open_lines p n ls (Guard low high body) line k h = tt
+  open_lines p n ls (Alloc b f places) line k h = tt
+  open_lines p n ls (Fetch b g region) line k h = ((record { region = h; lets = k }, refl), tt)
+  open_lines p n ls (Store b j at v) line k h = tt
+  open_lines p n ls (Publish c) line k h = tt
 
-  limited_block : (p : Plan) (grid : List ℕ) (n : ℕ) (all : Statements) (line : ℕ) → LinesAreShared p grid all → AllByRecursion (λ x. IsLimited x.region) (block_fetch_lines n all line)
-  limited_block p grid n Empty line h = tt
-  limited_block p grid n (Then a rest) line h = limited_append (fetch_lines n a line) (block_fetch_lines n rest (line + lines a)) (limited_lines p grid n a line h.0) (limited_block p grid n rest (line + lines a) h.1)
+  open_block : (p : Plan) (n : ℕ) (ls : List Naming) (all : Statements) (line : ℕ) → NamingsAreLimited ls → LinesAreShared p all → AllByRecursion (IsOpenIn p n) (block_fetch_lines n ls all line)
+  open_block p n ls Empty line k h = tt
+  open_block p n ls (Then a rest) line k h =
+      joined (IsOpenIn p n) (fetch_lines n ls a line) (block_fetch_lines n (ls ++ naming a) rest (line + lines a)) (open_lines p n ls a line k h.0) (open_block p n (ls ++ naming a) rest (line + lines a) (lets_push ls a p h.0 k) h.1)
 
-limited_groups : (p : Plan) (k : ℕ) (gs : List Group) → ((i : ℕ) (h : Group) → slice_get gs i ≡ Some h → LineIsShared p (grid_names (length h.grid)) h.body) → AllByRecursion (λ x. IsLimited x.region) (fetch_lines_from p k gs)
-limited_groups p k [] all = tt
-limited_groups p k (g ∷ gs) all = limited_append (fetch_lines k g.body (body_line p k)) (fetch_lines_from p (k + 1) gs) (limited_lines p (grid_names (length g.grid)) k g.body (body_line p k) (all 0 g refl)) (limited_groups p (k + 1) gs (λ i h. all (suc i) h))
+pub no_lets : NamingsAreLimited []
+no_lets k d less = absurd (omega (arith, less))
 
-pub lines_limited : (p : Plan) (c : Certificate) → AreShared p c → All (λ x. IsLimited x.region) (plan_fetch_lines p)
-lines_limited p c shared = All-from_recursion (λ (x : FetchLine). IsLimited x.region) (plan_fetch_lines p) (limited_groups p 0 p.groups (λ i h e. (shared.groups i h e).body))
+open_groups : (p : Plan) (k : ℕ) (gs : List Group) → ((i : ℕ) (h : Group) → slice_get gs i ≡ Some h → LineIsShared p h.body) → AllByRecursion (IsOpen p) (fetch_lines_from p k gs)
+open_groups p k [] all = tt
+open_groups p k (g ∷ gs) all =
+    let here = firsts (IsOpen p) (λ x. x.group ≡ k) (fetch_lines k [] g.body (body_line p k)) (open_lines p k [] g.body (body_line p k) no_lets (all 0 g refl)) in
+    joined (IsOpen p) (fetch_lines k [] g.body (body_line p k)) (fetch_lines_from p (k + 1) gs) here (open_groups p (k + 1) gs (λ i h. all (suc i) h))
+
+pub lines_open : (p : Plan) (c : Certificate) → AreShared p c → All (IsOpen p) (plan_fetch_lines p)
+lines_open p c shared = All-from_recursion (IsOpen p) (plan_fetch_lines p) (open_groups p 0 p.groups (λ i h e. (shared.groups i h e).body))
+
+pub region_of_open : (p : Plan) (x : FetchLine) → IsOpen p x → IsLimited x.region
+region_of_open p x h = (named_group (slice_get p.groups x.fetched) (λ g. IsLike x.region (length g.region)) h.region).2.0
+
+-- ---- the lines of one group among those of all
+
+here_of : (P : FetchLine → Type 0) (xs ys : List FetchLine) → AllByRecursion P (xs ++ ys) → AllByRecursion P xs × AllByRecursion P ys
+here_of P [] ys h = (tt, h)
+here_of P (x ∷ xs) ys h = let k = here_of P xs ys h.1 in ((h.0, k.0), k.1)
+
+of_groups : (p : Plan) (P : FetchLine → Type 0) (k : ℕ) (gs : List Group) (m n : ℕ) (g : Group) → n ≡ k + m → slice_get gs m ≡ Some g → AllByRecursion P (fetch_lines_from p k gs) → AllByRecursion P (fetch_lines n [] g.body (body_line p n))
+of_groups p P k [] m n g e at h = absurd (cc at)
+of_groups p P k (x ∷ xs) zero n g e at h =
+    let first = (here_of P (fetch_lines k [] x.body (body_line p k)) (fetch_lines_from p (k + 1) xs) h).0 in
+    let here : k ≡ n = omega (arith, e) in
+    subst (λ (i : ℕ). AllByRecursion P (fetch_lines i [] g.body (body_line p i))) here (subst (λ (y : Group). AllByRecursion P (fetch_lines k [] y.body (body_line p k))) (some_same x g at) first)
+of_groups p P k (x ∷ xs) (suc m) n g e at h =
+    of_groups p P (k + 1) xs m n g (omega (arith, e)) at (here_of P (fetch_lines k [] x.body (body_line p k)) (fetch_lines_from p (k + 1) xs) h).1
+
+pub of_group_lines : (p : Plan) (P : FetchLine → Type 0) (n : ℕ) (g : Group) → slice_get p.groups n ≡ Some g → All P (plan_fetch_lines p) → AllByRecursion P (fetch_lines n [] g.body (body_line p n))
+of_group_lines p P n g at h = of_groups p P 0 p.groups n n g (omega arith) at (recursion_from_All P (plan_fetch_lines p) h)

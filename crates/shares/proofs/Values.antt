@@ -1,6 +1,6 @@
 -- What forms come to at a grid point.
-use Rattle.std.proofs.Common.{◌≡◌, ℕ, zero, suc, ◌*◌, ◌≤◌, ◌^◌, List, [], ◌∷◌, length, arith, refl, Some, None}
-use Rattle.std.specs.Prelude.{ℤ, pos, negsuc, ◌*ℤ◌, ◌≤ℤ◌, IsTrue, slice_get}
+use Rattle.std.proofs.Common.{◌≡◌, ℕ, zero, suc, ◌*◌, ◌≤◌, ◌^◌, List, [], ◌∷◌, ◌++◌, length, arith, refl, Some, None, Bool, true, false}
+use Rattle.std.specs.Prelude.{ℤ, pos, negsuc, ◌*ℤ◌, ◌≤ℤ◌, ◌==◌, if◌then◌else◌, IsTrue, slice_get}
 use Rattle.std.specs.List.{AllByRecursion}
 use Rattle.std.specs.Int.{int_max, int_min}
 use Rattle.std.proofs.lemmas.Int.{ints, clamps}
@@ -9,9 +9,11 @@ use Rattle.lin.specs.Forms.{Form, sum_of, AreWithin, IsWithin, is_within_limits}
 use Rattle.lin.specs.declared.form.Multiple.{Multiple}
 use Rattle.lin.proofs.Limits.{within_limits-terms, within_limits-constant, within_limits-few}
 use Rattle.lin.proofs.Machine.{product_within, sum_within}
-use Rattle.plan.specs.Symbols.{clipped, form_value}
+use Rattle.plan.specs.Symbols.{Symbols, bind, clipped, form_value}
 use Rattle.plan.specs.Certificate.Cells.{grid_value, grid_symbols}
+use Rattle.shares.specs.declared.forms.Value.{Value}
 use Rattle.shares.specs.Boxes.{IsSmall}
+use Rattle.shares.specs.Lets.{ValuesAreSmall, symbols_at, valued}
 use lib.IntN.{nat_abs}
 use mir.Val.{to_z}
 use mir.Syntax.{w64}
@@ -53,11 +55,29 @@ sum_small (t ∷ ts) v h k =
     let whole = sum_within (2 ^ 40) (length ts * 2 ^ 40) (t.factor *ℤ v t.symbol) (sum_of ts v) product (sum_small ts v h.1 k) in
     omega (arith, whole)
 
-pub form_small : (f : Form) (at : List ℕ) → IsTrue (is_within_limits f) → IsSmall at → IsWithin (2 ^ 44) (form_value f (grid_symbols at))
-form_small f at h k =
-    let sum = sum_small f.terms (grid_value at) (within_limits-terms f h) (λ i. value_small at i k) in
+-- ---- further symbols
+
+pub valued_push : (vs : List Value) (v : Value) (s : Symbols) → valued (vs ++ v ∷ []) s ≡ bind (valued vs s) v.symbol v.value true
+valued_push [] v s = refl
+valued_push (x ∷ xs) v s = valued_push xs v (bind s x.symbol x.value true)
+
+pub either_small : (b : Bool) (y z : ℤ) → IsWithin (2 ^ 20) y → IsWithin (2 ^ 20) z → IsWithin (2 ^ 20) (if b then y else z)
+either_small true y z h k = h
+either_small false y z h k = k
+
+valued_small : (vs : List Value) (s : Symbols) → AllByRecursion (λ v. IsWithin (2 ^ 20) v.value) vs → ((i : ℕ) → IsWithin (2 ^ 20) (s.value i)) → (i : ℕ) → IsWithin (2 ^ 20) ((valued vs s).value i)
+valued_small [] s h k i = k i
+valued_small (v ∷ vs) s h k i = valued_small vs (bind s v.symbol v.value true) h.1 (λ j. either_small (j == v.symbol) v.value (s.value j) h.0 (k j)) i
+
+pub symbol_small_at : (at : List ℕ) (vs : List Value) (i : ℕ) → IsSmall at → ValuesAreSmall vs → IsWithin (2 ^ 20) ((symbols_at at vs).value i)
+symbol_small_at at vs i h k = valued_small vs (grid_symbols at) (recursion_from_All (λ v. IsWithin (2 ^ 20) v.value) vs k) (λ j. value_small at j h) i
+
+pub form_small : (f : Form) (at : List ℕ) (vs : List Value) → IsTrue (is_within_limits f) → IsSmall at → ValuesAreSmall vs → IsWithin (2 ^ 44) (form_value f (symbols_at at vs))
+form_small f at vs h k l =
+    let v = (symbols_at at vs).value in
+    let sum = sum_small f.terms v (within_limits-terms f h) (λ i. symbol_small_at at vs i k l) in
     let few = within_limits-few f h in
-    let whole = sum_within (2 ^ 40) (length f.terms * 2 ^ 40) f.constant (sum_of f.terms (grid_value at)) (within_limits-constant f h) sum in
+    let whole = sum_within (2 ^ 40) (length f.terms * 2 ^ 40) f.constant (sum_of f.terms v) (within_limits-constant f h) sum in
     omega (arith, whole, few)
 
 pub larger_small : (a b : ℤ) → IsWithin (2 ^ 44) a → IsWithin (2 ^ 44) b → IsWithin (2 ^ 44) (int_max a b)

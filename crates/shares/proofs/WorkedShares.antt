@@ -24,6 +24,7 @@ use Rattle.shares.specs.Needed.{NeedIsInside, need_grid}
 use Rattle.shares.specs.Worked.{both, f_group, out_group, pair_plan, pair_certificate, twice_owned, not_owned, less_needed, SharesAreWorked}
 use Rattle.shares.proofs.Firsts.{not_before, from_nine}
 use Rattle.shares.proofs.Having.{cells_within}
+use Rattle.shares.proofs.Near.{plain_near}
 use Rattle.shares.proofs.Owning.{piece_below}
 
 -- ---- the lists
@@ -131,7 +132,7 @@ few =
     record { fetched = omega (arith, one); needed = omega (arith, two) }
 
 shares : HasShares pair_plan pair_certificate
-shares = record { inside = inside; cells = fetched; pieces = named; lists = λ a samples. lists; few = few }
+shares = record { near = plain_near pair_plan refl; inside = inside; cells = fetched; pieces = named; lists = λ a samples. lists; few = few }
 
 -- ---- a cell owned twice
 
@@ -156,7 +157,7 @@ overlaps = (
 )
 
 twice : ErrorMeans pair_plan twice_owned (Told nine)
-twice = (inl (0, overlaps, refl), twice_first)
+twice = inl (inl (0, overlaps, refl), twice_first)
 
 -- ---- a cell without an owner
 
@@ -208,7 +209,7 @@ gap_first g (suc zero) less code line = let at : g.line ≡ 20 = line in not_bef
 gap_first g (suc (suc n)) less code line = absurd (omega (arith, less))
 
 gap : ErrorMeans pair_plan not_owned (Told ten)
-gap = (inl (0, inr (1, omega arith, omega arith, gap_none), refl), λ g own. gap_first g own.0 own.1 own.2 own.3)
+gap = inl (inl (0, inr (1, omega arith, omega arith, gap_none), refl), λ g own. gap_first g own.0 own.1 own.2 own.3)
 
 -- ---- a fetched cell that no needed piece owns
 
@@ -293,7 +294,7 @@ no_own n K13 less h = h
 no_own n K14 less h = h
 
 unserved : ErrorMeans pair_plan less_needed (Told eleven)
-unserved = (inl (1, unserved_out, refl), λ g own. absurd (no_own own.0 g.code own.1 own.2))
+unserved = inl (inl (1, unserved_out, refl), λ g own. absurd (no_own own.0 g.code own.1 own.2))
 
 pub shares_worked : SharesAreWorked
 shares_worked = record { has = shares; twice = twice; gap = gap; unserved = unserved }

@@ -7,6 +7,7 @@ use Rattle.plan.specs.Certificate.Cells.{pieces}
 use Rattle.headline.specs.Work.{work_of}
 use Rattle.headline.specs.Theorem.{HasSoundCells}
 use Rattle.shares.specs.Layout.{own_list, fetched_list, needs_list, FetchesCells, OwnIsInside}
+use Rattle.shares.specs.FetchLines.{LetsAreNear}
 use Rattle.shares.specs.Needed.{NeedsAreInside}
 
 -- how many cells the first n pieces fetch, counted once for each time that one is fetched
@@ -30,6 +31,8 @@ NeedsPieces p c n = MatchOption (slice_get (pieces p) n) (Unit {0}) (λ j. Needs
 
 -- the shares of the pieces of a plan
 pub record HasShares (p : Plan) (c : Certificate) : Type 0 where
+  -- the lines `let` before fetch lines come to numbers that are near 0
+  pub near : LetsAreNear p
   -- own regions lie in their groups' regions
   pub inside : (n : ℕ) → OwnIsInside p c n
   -- fetched points are cells, and needed grid points pieces

@@ -13,6 +13,7 @@ use Rattle.shares.specs.Seats.{pieces_of, AreSmall}
 use Rattle.shares.specs.Shared.{AreShared}
 use Rattle.shares.specs.Grounds.{AreGrounds}
 use Rattle.shares.specs.Filed.{AreFiled}
+use Rattle.shares.specs.FetchLines.{LetsAreNear}
 
 -- the numbers of the cells that a piece owns, of those that it fetches, and of the pieces that it needs
 abbrev pub own_list : Plan → Certificate → ℕ → List ℕ
@@ -41,6 +42,8 @@ OwnIsInside p c n = PieceIsInside p c (slice_get (pieces p) n)
 pub record IsLayout (x : Layout) : Type 0 where
   pub shared : AreShared (plan_of x.plan.now) (certificate_of x.cert.now)
   pub grounds : AreGrounds (plan_of x.plan.now) (certificate_of x.cert.now) (length x.plan.now.groups.items) x.grounds.items
+  -- the lines `let` before fetch lines come to near numbers
+  pub near : LetsAreNear (plan_of x.plan.now)
   pub seats : pieces_of x.seats.items ≡ pieces (plan_of x.plan.now)
   pub small : AreSmall x.seats.items
   pub needs : AreFiled x.cert.now.needs.items (length x.plan.now.groups.items) (map (λ xs. map (λ n. n.now) xs.items) x.needs.items)

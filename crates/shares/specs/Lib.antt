@@ -1,8 +1,11 @@
 pub mod Boxes
+pub mod Lets
+pub mod FetchLines
 pub mod Walked
 pub mod Spaces
 pub mod Seats
 pub mod Shared
+pub mod Read
 pub mod Grounds
 pub mod Layout
 pub mod Faults

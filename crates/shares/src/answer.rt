@@ -9,7 +9,7 @@ ghost use Rattle.orders.specs.Lists.{AreSound};
 ghost use Rattle.headline.specs.Work.{work_of};
 ghost use Rattle.shares.specs.Shared.{AreShared};
 ghost use Rattle.shares.specs.Layout.{IsLayout, FetchesCells, OwnIsInside};
-ghost use Rattle.soundness.specs.declared.outline.refusals.code.K.TheVariants.{K9, K11};
+ghost use Rattle.soundness.specs.declared.outline.refusals.code.K.TheVariants.{K9, K11, K14};
 ghost use Rattle.shares.specs.Has.{HasShares, fetched_before, needed_before};
 ghost use Rattle.shares.specs.Made.{AreListsOf, CodeMeans, ErrorMeans, Holds, IsPieceOf, LinesStand, TroubleMeans};
 
@@ -137,8 +137,10 @@ fn line_flaw(alloc: Global, layout: &Layout<'_>, count: u32) -> Result<Option<Fl
 ///
 /// K9: a cell is in the own regions of two pieces. K10: an own region leaves its group's region, or a cell is in no own
 /// region. K11: a piece fetches a point that no piece that it needs owns, or needs a grid point that is no earlier piece.
-/// K14: more than 2^26 cells are fetched or 2^24 pieces needed in all. K9 and K10 stand at the own line of the group, K11 at
-/// its first need line, or its own line if there is none, K14 at the fetch line or need line with which the limit is passed.
+/// K14: more than 2^26 cells are fetched or 2^24 pieces needed in all, or some line `let` before a fetch line comes in some piece
+/// of its group to a number that is farther than 2^20 from 0. K9 and K10 stand at the own line of the group, K11 at
+/// its first need line, or its own line if there is none, K14 at the fetch line or need line with which the limit is passed, and
+/// at the first fetch line behind such a `let`, before all else.
 /// Of what is wrong at fetch lines and own lines the first is told, at one line the lowest code.
 ///
 /// The time is about linear in the pieces, the cells, the fetch lines for each piece, the fetched cells, the need lines, and the
@@ -153,8 +155,18 @@ pub fn shares_of(alloc: Global, plan: &Plan, cert: &Cert) -> Result<Shares, Shar
     ensures shares { IfOk result (λ _. HasShares (plan_of plan.now) (certificate_of cert.now)) }
     ensures flaw { IfErr result (ErrorMeans (plan_of plan.now) (certificate_of cert.now)) }
 {
-    let layout = layout_of(alloc, plan, cert)?;
-    made_of(alloc, &layout)
+    match layout_of(alloc, plan, cert)? {
+        Ok(layout) => made_of(alloc, &layout),
+        Err(line) => Err(far(line)),
+    }
+}
+
+/// K14 at a fetch line of which it can't be told what it reads.
+fn far(line: u32) -> SharesError
+    ensures { result ≡ SharesError.Flaw (record { code = K14; line = line }) }
+{
+    let code = K::K14;
+    SharesError::Flaw(Flaw { code, line })
 }
 
 /// The shares of the pieces of a layout.

@@ -4,9 +4,10 @@ ghost use Rattle.std.specs.Prelude.{◌≡◌, ◌≤◌, ◌<◌, ◌*◌, ◌+
 ghost use Rattle.lin.specs.Forms.{IsWithin};
 ghost use Rattle.plan.specs.Certificate.Cells.{grid_symbols};
 ghost use Rattle.shares.specs.Walked.{IsNear};
+ghost use Rattle.shares.specs.Lets.{ValuesAreSmall, symbols_at};
 ghost use Rattle.shares.specs.Boxes.{AreLimited, IsLimited, IsSmall, side, sides, point_count};
 
-use crate::forms::{largest, smallest};
+use crate::forms::{Value, largest, smallest};
 use lin::Span1;
 use std::alloc::{AllocError, Global};
 
@@ -18,20 +19,41 @@ pub struct Side {
 }
 
 /// The numbers of a span at a grid point.
-fn side_at(span: &Span1, at: &[u64]) -> Side
+fn side_at(span: &Span1, at: &[u64], lets: &[Value]) -> Side
     requires limits { AreLimited span.now.lower × AreLimited span.now.upper }
     requires at { IsSmall at.now }
-    ensures value { result ≡ side (grid_symbols at.now) span.now }
+    requires lets { ValuesAreSmall lets.now }
+    ensures value { result ≡ side (symbols_at at.now lets.now) span.now }
     ensures near { IsNear result }
 {
-    let low = largest(&span.lower, at);
-    let high = smallest(&span.upper, at);
+    let low = largest(&span.lower, at, lets);
+    let high = smallest(&span.upper, at, lets);
     let count = if low <= high {
         (high - low + 1) as u64
     } else {
         0
     };
     Side { low, count }
+}
+
+/// The box of a region at a grid point, where further symbols have these values.
+pub(crate) fn box_by(
+    alloc: Global,
+    region: &[Span1],
+    at: &[u64],
+    lets: &[Value],
+) -> Result<Vec<Side>, AllocError>
+    requires limits { IsLimited region.now }
+    requires at { IsSmall at.now }
+    requires lets { ValuesAreSmall lets.now }
+    ensures sides { IfOk result (λ found. found.items ≡ sides (symbols_at at.now lets.now) region.now) }
+    ensures near { IfOk result (λ found. All IsNear found.items) }
+{
+    let mut found = Vec::new(alloc);
+    for span in region {
+        found.push(side_at(span, at, lets))?;
+    }
+    Ok(found)
 }
 
 /// The box of a region at a grid point.
@@ -41,11 +63,8 @@ pub(crate) fn box_at(alloc: Global, region: &[Span1], at: &[u64]) -> Result<Vec<
     ensures sides { IfOk result (λ found. found.items ≡ sides (grid_symbols at.now) region.now) }
     ensures near { IfOk result (λ found. All IsNear found.items) }
 {
-    let mut found = Vec::new(alloc);
-    for span in region {
-        found.push(side_at(span, at))?;
-    }
-    Ok(found)
+    let sides = box_by(alloc, region, at, &[])?;
+    Ok(sides)
 }
 
 /// How many points a box has, or the greatest number of the machine where it has more.

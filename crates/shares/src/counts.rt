@@ -1,21 +1,25 @@
 //! How many cells the fetch lines of a plan read, line after line.
 
-ghost use Rattle.std.specs.Prelude.{◌≡◌, ℕ, ◌≤◌, ◌<◌, ◌+◌, ◌-◌, ◌^◌, ◌++◌, ◌∷◌, [], IfOk, OnOk, MatchOption, map, length, min};
+ghost use Rattle.std.specs.Prelude.{◌≡◌, ℕ, ◌≤◌, ◌<◌, ◌+◌, ◌-◌, ◌^◌, ◌++◌, ◌∷◌, [], IfOk, OnOk, MatchOption, map, length, min, Some, slice_get};
 ghost use Rattle.plan.specs.Lists.{list_statements};
-ghost use Rattle.plan.specs.Plan.{block};
+ghost use Rattle.plan.specs.Lines.{body_line};
+ghost use Rattle.plan.specs.Plan.{block, Group as NestGroup};
 ghost use Rattle.plan.specs.View.{plan_of, statement_of};
-ghost use Rattle.plan.specs.Certificate.Cells.{pieces};
+ghost use Rattle.plan.specs.Certificate.Cells.{grid_symbols, pieces};
 ghost use Rattle.plan.specs.Certificate.Certificate.{certificate_of};
 ghost use Rattle.soundness.specs.Outline.Flaws.{line_told};
 ghost use Rattle.soundness.specs.declared.outline.refusals.code.K.TheVariants.{K14};
-ghost use Rattle.shares.specs.Boxes.{IsLimited};
-ghost use Rattle.shares.specs.Counts.{FetchPasses, block_fetch_lines, fetch_lines, fetched_by, plan_fetch_lines};
+ghost use Rattle.shares.specs.Boxes.{IsLimited, IsSmall, sides};
+ghost use Rattle.shares.specs.Counts.{FetchPasses};
+ghost use Rattle.shares.specs.FetchLines.{LineIsNear, block_fetch_lines, fetch_lines, fetched_by, plan_fetch_lines};
+ghost use Rattle.shares.specs.Lets.{AreNear, NamingsAreLimited, named, namings_of};
 ghost use Rattle.shares.specs.Noted.{line_of, lines_noted, told_line};
 ghost use Rattle.shares.specs.Has.{fetched_before};
 ghost use Rattle.shares.specs.Layout.{IsLayout};
 
-use crate::boxes::{box_at, most_points};
+use crate::boxes::{Side, box_by, most_points};
 use crate::layout::Layout;
+use crate::lets::{Naming, copy_lets, note_let, values_at};
 use lin::Span1;
 use plan::{Plan, Stmt};
 use soundness::outline::refusals::{Flaw, K};
@@ -24,11 +28,14 @@ use std::alloc::{AllocError, Global};
 /// The most cells that the pieces of a plan fetch.
 const MOST_FETCHED: u64 = 1 << 26;
 
-/// A line that fetches: its number, the group whose pieces fetch, and the region.
-#[derive(Clone, Copy, Drop)]
+/// A line that fetches: its number, the group whose pieces fetch, the lines `let` before it, the group that it fetches from,
+/// and the region.
+#[derive(Drop)]
 pub(crate) struct FetchLine<'a> {
     pub line: u32,
     pub group: usize,
+    pub lets: Vec<Naming<'a>>,
+    pub fetched: u64,
     pub region: &'a [Span1],
 }
 
@@ -40,24 +47,33 @@ fn note<'a>(line: FetchLine<'a>, noted: &mut Vec<FetchLine<'a>>) -> Result<(), A
     Ok(())
 }
 
-/// Notes the lines that fetch of a statement of a group, which begins at a line.
+/// Notes the lines that fetch of a statement of a group, which stands behind these lines `let` and begins at a line.
 #[cycle(noting)]
 fn note_fetches<'a>(
+    alloc: Global,
     stmt: &'a Stmt,
     group: usize,
     line: u32,
+    lets: &[Naming<'a>],
     noted: &mut Vec<FetchLine<'a>>,
 ) -> Result<(), AllocError>
-    ensures { OnOk result ((at : ℕ) → line ≡ line_told at → lines_noted noted.new.items ≡ lines_noted noted.old.items ++ map told_line (fetch_lines group (statement_of stmt.now) at)) }
+    ensures { OnOk result ((at : ℕ) → line ≡ line_told at → lines_noted noted.new.items ≡ lines_noted noted.old.items ++ map told_line (fetch_lines group (namings_of lets.now) (statement_of stmt.now) at)) }
 {
     match stmt {
-        Stmt::Seq(all) => note_block_fetches(all, group, line, noted),
-        Stmt::Fetch { region, .. } => {
+        Stmt::Seq(all) => note_block_fetches(alloc, all, group, line, lets, noted),
+        Stmt::Fetch {
+            group: fetched,
+            region,
+            ..
+        } => {
             let region = region.as_slice();
+            let lets = copy_lets(alloc, lets)?;
             note(
                 FetchLine {
                     line,
                     group,
+                    lets,
+                    fetched: *fetched,
                     region,
                 },
                 noted,
@@ -70,34 +86,68 @@ fn note_fetches<'a>(
     }
 }
 
-/// Notes the lines that fetch of a block of a group, which begins at a line.
+/// Notes the lines that fetch of a block of a group, which stands behind these lines `let` and begins at a line.
 #[cycle(noting)]
 fn note_block_fetches<'a>(
+    alloc: Global,
     all: &'a [Stmt],
     group: usize,
     line: u32,
+    lets: &[Naming<'a>],
     noted: &mut Vec<FetchLine<'a>>,
 ) -> Result<(), AllocError>
-    ensures { OnOk result ((at : ℕ) → line ≡ line_told at → lines_noted noted.new.items ≡ lines_noted noted.old.items ++ map told_line (block_fetch_lines group (block (list_statements all.now)) at)) }
+    ensures { OnOk result ((at : ℕ) → line ≡ line_told at → lines_noted noted.new.items ≡ lines_noted noted.old.items ++ map told_line (block_fetch_lines group (namings_of lets.now) (block (list_statements all.now)) at)) }
 {
     let mut begun = line;
+    let mut known = copy_lets(alloc, lets)?;
     for stmt in all {
-        note_fetches(stmt, group, begun, noted)?;
+        note_fetches(alloc, stmt, group, begun, &known, noted)?;
+        note_let(stmt, &mut known)?;
         begun = begun.saturating_add(stmt.line_count());
     }
     Ok(())
 }
 
+/// Notes the lines that fetch of the group of this number.
+pub(crate) fn note_group<'a>(
+    alloc: Global,
+    plan: &'a Plan,
+    number: usize,
+    noted: &mut Vec<FetchLine<'a>>,
+) -> Result<(), AllocError>
+    requires { number < length plan.now.groups.items }
+    ensures { OnOk result ((g : NestGroup) → slice_get (plan_of plan.now).groups number ≡ Some g → lines_noted noted.new.items ≡ lines_noted noted.old.items ++ map told_line (fetch_lines number [] g.body (body_line (plan_of plan.now) number))) }
+{
+    let line = plan.group_line(number).saturating_add(1);
+    note_fetches(alloc, &plan.groups[number].body, number, line, &[], noted)?;
+    Ok(())
+}
+
 /// The fetch lines of a plan, in the order of its text.
-fn fetch_lines<'a>(alloc: Global, plan: &'a Plan) -> Result<Vec<FetchLine<'a>>, AllocError>
+pub(crate) fn fetch_lines<'a>(
+    alloc: Global,
+    plan: &'a Plan,
+) -> Result<Vec<FetchLine<'a>>, AllocError>
     ensures { IfOk result (λ noted. lines_noted noted.items ≡ map told_line (plan_fetch_lines (plan_of plan.now))) }
 {
     let mut noted = Vec::new(alloc);
     for number in 0..plan.groups.len() {
-        let line = plan.group_line(number).saturating_add(1);
-        note_fetches(&plan.groups[number].body, number, line, &mut noted)?;
+        note_group(alloc, plan, number, &mut noted)?;
     }
     Ok(noted)
+}
+
+/// The box of the cells that a line fetches at a grid point.
+fn box_of(alloc: Global, line: &FetchLine<'_>, at: &[u64]) -> Result<Vec<Side>, AllocError>
+    requires region { IsLimited line.now.region.now }
+    requires lets { NamingsAreLimited (namings_of line.now.lets.items) }
+    requires at { IsSmall at.now }
+    requires near { AreNear (namings_of line.now.lets.items) (grid_symbols at.now) }
+    ensures { IfOk result (λ found. found.items ≡ sides (named (namings_of line.now.lets.items) (grid_symbols at.now)) line.now.region.now) }
+{
+    let values = values_at(alloc, &line.lets, at)?;
+    let sides = box_by(alloc, line.region, at, &values)?;
+    Ok(sides)
 }
 
 /// How many cells all pieces fetch by a line, or the greatest number of the machine where it is more.
@@ -106,12 +156,14 @@ fn fetch_lines<'a>(alloc: Global, plan: &'a Plan) -> Result<Vec<FetchLine<'a>>, 
 fn cells_by(alloc: Global, layout: &Layout<'_>, line: &FetchLine<'_>) -> Result<u64, AllocError>
     requires layout { IsLayout layout.now }
     requires region { IsLimited line.now.region.now }
+    requires lets { NamingsAreLimited (namings_of line.now.lets.items) }
+    requires near { LineIsNear (pieces (plan_of layout.now.plan.now)) (line_of line.now) }
     ensures { IfOk result (λ count. count ≡ min (fetched_by (pieces (plan_of layout.now.plan.now)) (line_of line.now)) (2 ^ 64 - 1)) }
 {
     let mut count: u64 = 0;
     for seat in &layout.seats {
         if seat.group == line.group {
-            let sides = box_at(alloc, line.region, &seat.at)?;
+            let sides = box_of(alloc, line, &seat.at)?;
             count = count.saturating_add(most_points(&sides));
         }
     }

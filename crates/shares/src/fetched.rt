@@ -1,25 +1,21 @@
 //! The cells that pieces fetch.
 
-ghost use Rattle.std.specs.Prelude.{◌≡◌, ℕ, ◌<◌, ◌≤◌, ◌+◌, ◌++◌, ◌↔◌, List, IfOk, IfErr, OnOk, All, Err, MatchOption, map, length, slice_get};
-ghost use Rattle.plan.specs.Plan.{block};
-ghost use Rattle.plan.specs.Lists.{list_statements};
-ghost use Rattle.plan.specs.Symbols.{points};
-ghost use Rattle.plan.specs.View.{plan_of, statement_of};
-ghost use Rattle.plan.specs.Certificate.Cells.{cell, grid_symbols};
-ghost use Rattle.soundness.specs.Outline.Forms.{grid_symbols as grid_names};
-ghost use Rattle.headline.specs.Fetched.{fetched_cells, block_fetched_cells};
+ghost use Rattle.std.specs.Prelude.{◌≡◌, ◌<◌, ◌≤◌, ◌+◌, ◌++◌, IfOk, IfErr, OnOk, All, Err, map, length};
+ghost use Rattle.plan.specs.View.{plan_of};
+ghost use Rattle.plan.specs.Certificate.Cells.{grid_symbols};
 ghost use Rattle.headline.specs.Numbers.{cell_number};
 ghost use Rattle.shares.specs.declared.stop.Stop.TheVariants.{Unserved, Large};
 ghost use Rattle.shares.specs.Boxes.{IsSmall};
-ghost use Rattle.shares.specs.Shared.{IsLike, LineIsShared, LinesAreShared};
+ghost use Rattle.shares.specs.Read.{IsTold, line_cells, lines_cells};
+ghost use Rattle.shares.specs.Noted.{line_of, lines_noted};
 ghost use Rattle.shares.specs.Layout.{IsLayout, AllCells, FetchesCells, fetched_list};
 ghost use Rattle.shares.specs.Stops.{FetchStops};
 
+use crate::counts::{FetchLine, note_group};
 use crate::layout::Layout;
-use crate::spaces::found_in;
+use crate::lets::values_at;
+use crate::spaces::found_by;
 use crate::stop::Stop;
-use lin::Span1;
-use plan::Stmt;
 use std::alloc::{AllocError, Global};
 
 /// Adds numbers.
@@ -32,28 +28,28 @@ pub(crate) fn push_all(numbers: &mut Vec<u32>, more: &[u32]) -> Result<(), Alloc
     Ok(())
 }
 
-/// Adds the cells of a region of a group at a grid point, where all its points are cells and there is room for them.
+/// Adds the cells that a line fetches at a grid point, where all its points are cells and there is room for them.
 fn fetch(
     alloc: Global,
     layout: &Layout<'_>,
-    group: u64,
-    region: &[Span1],
+    line: &FetchLine<'_>,
     at: &[u64],
     room: u64,
     fetched: &mut Vec<u32>,
 ) -> Result<(), Stop>
     requires layout { IsLayout layout.now }
-    requires line { MatchOption (slice_get (plan_of layout.now.plan.now).groups group) ⊥ (λ g. IsLike region.now (length g.region)) }
+    requires line { IsTold (plan_of layout.now.plan.now) (grid_symbols at.now) (line_of line.now) }
     requires at { IsSmall at.now }
     requires room { length fetched.old.items ≤ room }
-    ensures cells { OnOk result (fetched.new.items ≡ fetched.old.items ++ map (cell_number (plan_of layout.now.plan.now)) (map (cell group) (points (grid_symbols at.now) region.now))) }
-    ensures known { OnOk result (AllCells (plan_of layout.now.plan.now) (map (cell group) (points (grid_symbols at.now) region.now))) }
+    ensures cells { OnOk result (fetched.new.items ≡ fetched.old.items ++ map (cell_number (plan_of layout.now.plan.now)) (line_cells (grid_symbols at.now) (line_of line.now))) }
+    ensures known { OnOk result (AllCells (plan_of layout.now.plan.now) (line_cells (grid_symbols at.now) (line_of line.now))) }
     ensures few { OnOk result (length fetched.new.items ≤ room) }
-    ensures unserved { result ≡ Err Unserved → ¬ AllCells (plan_of layout.now.plan.now) (map (cell group) (points (grid_symbols at.now) region.now)) }
-    ensures large { result ≡ Err Large → room < length fetched.old.items + length (map (cell group) (points (grid_symbols at.now) region.now)) }
+    ensures unserved { result ≡ Err Unserved → ¬ AllCells (plan_of layout.now.plan.now) (line_cells (grid_symbols at.now) (line_of line.now)) }
+    ensures large { result ≡ Err Large → room < length fetched.old.items + length (line_cells (grid_symbols at.now) (line_of line.now)) }
 {
-    let ground = &layout.grounds[group as usize];
-    let found = found_in(alloc, &ground.cells, region, at)?;
+    let values = values_at(alloc, &line.lets, at)?;
+    let ground = &layout.grounds[line.fetched as usize];
+    let found = found_by(alloc, &ground.cells, line.region, at, &values)?;
     if !found.whole {
         return Err(Stop::Unserved);
     }
@@ -64,73 +60,34 @@ fn fetch(
     Ok(())
 }
 
-/// Adds the cells that a line fetches, or a block that no loop, choice or guard stands around.
-#[cycle(fetching)]
-fn fetch_line(
-    alloc: Global,
-    layout: &Layout<'_>,
-    stmt: &Stmt,
-    at: &[u64],
-    room: u64,
-    fetched: &mut Vec<u32>,
-) -> Result<(), Stop>
-    requires layout { IsLayout layout.now }
-    requires line { LineIsShared (plan_of layout.now.plan.now) (grid_names (length at.now)) (statement_of stmt.now) }
-    requires at { IsSmall at.now }
-    requires room { length fetched.old.items ≤ room }
-    ensures cells { OnOk result (fetched.new.items ≡ fetched.old.items ++ map (cell_number (plan_of layout.now.plan.now)) (fetched_cells (statement_of stmt.now) (grid_symbols at.now))) }
-    ensures known { OnOk result (AllCells (plan_of layout.now.plan.now) (fetched_cells (statement_of stmt.now) (grid_symbols at.now))) }
-    ensures few { OnOk result (length fetched.new.items ≤ room) }
-    ensures unserved { result ≡ Err Unserved → ¬ AllCells (plan_of layout.now.plan.now) (fetched_cells (statement_of stmt.now) (grid_symbols at.now)) }
-    ensures large { result ≡ Err Large → room < length fetched.old.items + length (fetched_cells (statement_of stmt.now) (grid_symbols at.now)) }
-{
-    match stmt {
-        Stmt::Seq(all) => fetch_lines(alloc, layout, all, at, room, fetched),
-        Stmt::Fetch { group, region, .. } => fetch(
-            alloc,
-            layout,
-            *group,
-            region.as_slice(),
-            at,
-            room,
-            fetched,
-        ),
-        Stmt::For { .. } => Ok(()),
-        Stmt::First { .. } => Ok(()),
-        Stmt::Guard { .. } => Ok(()),
-        Stmt::Let { .. } | Stmt::Alloc { .. } | Stmt::Store { .. } | Stmt::Publish { .. } => Ok(()),
-    }
-}
-
-/// Adds the cells that the lines of a block fetch.
-#[cycle(fetching)]
+/// Adds the cells that some lines fetch at a grid point.
 fn fetch_lines(
     alloc: Global,
     layout: &Layout<'_>,
-    all: &[Stmt],
+    lines: &[FetchLine<'_>],
     at: &[u64],
     room: u64,
     fetched: &mut Vec<u32>,
 ) -> Result<(), Stop>
     requires layout { IsLayout layout.now }
-    requires lines { LinesAreShared (plan_of layout.now.plan.now) (grid_names (length at.now)) (block (list_statements all.now)) }
+    requires lines { All (IsTold (plan_of layout.now.plan.now) (grid_symbols at.now)) (lines_noted lines.now) }
     requires at { IsSmall at.now }
     requires room { length fetched.old.items ≤ room }
-    ensures cells { OnOk result (fetched.new.items ≡ fetched.old.items ++ map (cell_number (plan_of layout.now.plan.now)) (block_fetched_cells (block (list_statements all.now)) (grid_symbols at.now))) }
-    ensures known { OnOk result (AllCells (plan_of layout.now.plan.now) (block_fetched_cells (block (list_statements all.now)) (grid_symbols at.now))) }
+    ensures cells { OnOk result (fetched.new.items ≡ fetched.old.items ++ map (cell_number (plan_of layout.now.plan.now)) (lines_cells (grid_symbols at.now) (lines_noted lines.now))) }
+    ensures known { OnOk result (AllCells (plan_of layout.now.plan.now) (lines_cells (grid_symbols at.now) (lines_noted lines.now))) }
     ensures few { OnOk result (length fetched.new.items ≤ room) }
-    ensures unserved { result ≡ Err Unserved → ¬ AllCells (plan_of layout.now.plan.now) (block_fetched_cells (block (list_statements all.now)) (grid_symbols at.now)) }
-    ensures large { result ≡ Err Large → room < length fetched.old.items + length (block_fetched_cells (block (list_statements all.now)) (grid_symbols at.now)) }
+    ensures unserved { result ≡ Err Unserved → ¬ AllCells (plan_of layout.now.plan.now) (lines_cells (grid_symbols at.now) (lines_noted lines.now)) }
+    ensures large { result ≡ Err Large → room < length fetched.old.items + length (lines_cells (grid_symbols at.now) (lines_noted lines.now)) }
 {
-    for stmt in all {
-        fetch_line(alloc, layout, stmt, at, room, fetched)?;
+    for line in lines {
+        fetch(alloc, layout, line, at, room, fetched)?;
     }
     Ok(())
 }
 
 /// The cells that a piece fetches, by their numbers, where all fetched points are cells and there is room for them.
 ///
-/// The time is linear in these cells and the lines of the body.
+/// The time is linear in these cells, the lines of the body and, for each fetch line, the forms of the lines `let` before it.
 pub(crate) fn fetched_of(
     alloc: Global,
     layout: &Layout<'_>,
@@ -145,10 +102,12 @@ pub(crate) fn fetched_of(
     ensures stop { IfErr result (FetchStops (plan_of layout.now.plan.now) piece room) }
 {
     let seat = &layout.seats[piece as usize];
-    let group = &layout.plan.groups[seat.group];
+    let mut noted = Vec::new(alloc);
+    note_group(alloc, layout.plan, seat.group, &mut noted)?;
     let mut fetched = Vec::new(alloc);
-    match fetch_line(alloc, layout, &group.body, &seat.at, room, &mut fetched) {
-        Ok(()) => Ok(fetched),
-        Err(stop) => Err(stop),
+    match fetch_lines(alloc, layout, &noted, &seat.at, room, &mut fetched) {
+        Ok(()) => {}
+        Err(stop) => return Err(stop),
     }
+    Ok(fetched)
 }

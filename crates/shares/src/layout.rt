@@ -1,12 +1,14 @@
 //! A plan with its certificate, and the pieces and groups that it has.
 
-ghost use Rattle.std.specs.Prelude.{◌≡◌, ◌<◌, ◌↔◌, IsTrue, IfOk, All, length};
+ghost use Rattle.std.specs.Prelude.{◌≡◌, ◌<◌, ◌↔◌, IsTrue, IfOk, IfErr, All, length};
 ghost use Rattle.plan.specs.View.{plan_of};
 ghost use Rattle.plan.specs.Certificate.Certificate.{certificate_of};
 ghost use Rattle.plan.specs.Certificate.Cells.{cells};
 ghost use Rattle.shares.specs.Shared.{AreShared};
+ghost use Rattle.shares.specs.FetchLines.{FetchIsFar};
 ghost use Rattle.shares.specs.Layout.{IsLayout, OwnIsInside, own_list};
 
+use crate::far::far_line;
 use crate::filed::filed_needs;
 use crate::grounds::{Ground, grounds_of};
 use crate::seats::{Seat, seats_of};
@@ -26,26 +28,31 @@ pub struct Layout<'a> {
     pub needs: Vec<Vec<&'a Need>>,
 }
 
-/// The groups and pieces of a plan.
+/// The groups and pieces of a plan, or the first fetch line before which some line `let` comes to no near number in some piece
+/// of its group.
 pub(crate) fn layout_of<'a>(
     alloc: Global,
     plan: &'a Plan,
     cert: &'a Cert,
-) -> Result<Layout<'a>, AllocError>
+) -> Result<Result<Layout<'a>, u32>, AllocError>
     requires { AreShared (plan_of plan.now) (certificate_of cert.now) }
-    ensures layout { IfOk result (λ x. IsLayout x) }
-    ensures plan { IfOk result (λ x. (x.plan.now ≡ plan.now) × (x.cert.now ≡ cert.now)) }
+    ensures layout { IfOk result (λ made. IfOk made (λ x. IsLayout x)) }
+    ensures plan { IfOk result (λ made. IfOk made (λ x. (x.plan.now ≡ plan.now) × (x.cert.now ≡ cert.now))) }
+    ensures far { IfOk result (λ made. IfErr made (FetchIsFar (plan_of plan.now))) }
 {
     let grounds = grounds_of(alloc, plan, cert)?;
     let seats = seats_of(alloc, plan, &grounds)?;
+    if let Some(line) = far_line(alloc, plan, &seats)? {
+        return Ok(Err(line));
+    }
     let needs = filed_needs(alloc, plan.groups.len(), &cert.needs)?;
-    Ok(Layout {
+    Ok(Ok(Layout {
         plan,
         cert,
         grounds,
         seats,
         needs,
-    })
+    }))
 }
 
 /// The own cells of a piece, by their numbers, and whether its own region stays inside its group's.

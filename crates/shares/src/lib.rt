@@ -7,12 +7,14 @@
 mod answer;
 mod boxes;
 mod counts;
+mod far;
 mod fetched;
 mod filed;
 mod forms;
 mod grounds;
 pub mod laws;
 mod layout;
+mod lets;
 mod limits;
 mod lists;
 mod needed;

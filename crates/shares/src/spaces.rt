@@ -3,11 +3,13 @@
 ghost use Rattle.std.specs.Prelude.{◌≡◌, ◌≤◌, ◌<◌, ◌+◌, ◌^◌, ◌↔◌, IsTrue, IfOk, [], All, length, map, filter};
 ghost use Rattle.plan.specs.Symbols.{points};
 ghost use Rattle.plan.specs.Certificate.Cells.{grid_symbols};
+ghost use Rattle.shares.specs.Lets.{ValuesAreSmall, symbols_at};
 ghost use Rattle.shares.specs.Boxes.{IsLimited, IsSmall, is_in_box, point_count};
 ghost use Rattle.shares.specs.Walked.{IsExtent};
 ghost use Rattle.shares.specs.Spaces.{IsSpace, HasAll, numbers_in};
 
-use crate::boxes::{Side, box_at, most_points};
+use crate::boxes::{Side, box_by, most_points};
+use crate::forms::Value;
 use crate::walked::shared_cells;
 use lin::Span1;
 use std::alloc::{AllocError, Global};
@@ -39,13 +41,19 @@ fn raised(alloc: Global, first: u32, numbers: &[u32]) -> Result<Vec<u32>, AllocE
 }
 
 /// What is found of a region in a space that has no point.
-fn none_found(alloc: Global, region: &[Span1], at: &[u64]) -> Result<Found, AllocError>
+fn none_found(
+    alloc: Global,
+    region: &[Span1],
+    at: &[u64],
+    lets: &[Value],
+) -> Result<Found, AllocError>
     requires limits { IsLimited region.now }
     requires at { IsSmall at.now }
+    requires lets { ValuesAreSmall lets.now }
     ensures numbers { IfOk result (λ found. found.numbers.items ≡ []) }
-    ensures whole { IfOk result (λ found. IsTrue found.whole ↔ (length (points (grid_symbols at.now) region.now) ≡ 0)) }
+    ensures whole { IfOk result (λ found. IsTrue found.whole ↔ (length (points (symbols_at at.now lets.now) region.now) ≡ 0)) }
 {
-    let own = box_at(alloc, region, at)?;
+    let own = box_by(alloc, region, at, lets)?;
     let whole = most_points(&own) == 0;
     Ok(Found {
         numbers: Vec::new(alloc),
@@ -59,21 +67,50 @@ fn some_found(
     space: &Space,
     region: &[Span1],
     at: &[u64],
+    lets: &[Value],
 ) -> Result<Found, AllocError>
     requires space { IsSpace space.now }
     requires sides { All IsExtent space.now.sides.items }
     requires limits { IsLimited region.now }
     requires at { IsSmall at.now }
+    requires lets { ValuesAreSmall lets.now }
     requires dimensions { length region.now ≡ length space.now.sides.items }
-    ensures numbers { IfOk result (λ found. found.numbers.items ≡ numbers_in space.now (filter (is_in_box space.now.sides.items) (points (grid_symbols at.now) region.now))) }
+    ensures numbers { IfOk result (λ found. found.numbers.items ≡ numbers_in space.now (filter (is_in_box space.now.sides.items) (points (symbols_at at.now lets.now) region.now))) }
     ensures within { IfOk result (λ found. All (λ n. n < space.now.first + point_count space.now.sides.items) found.numbers.items) }
-    ensures whole { IfOk result (λ found. IsTrue found.whole ↔ HasAll space.now (points (grid_symbols at.now) region.now)) }
+    ensures whole { IfOk result (λ found. IsTrue found.whole ↔ HasAll space.now (points (symbols_at at.now lets.now) region.now)) }
 {
-    let own = box_at(alloc, region, at)?;
+    let own = box_by(alloc, region, at, lets)?;
     let shared = shared_cells(alloc, &own, &space.sides)?;
     let whole = shared.as_slice().len() as u64 == most_points(&own);
     let numbers = raised(alloc, space.first, &shared)?;
     Ok(Found { numbers, whole })
+}
+
+/// The numbers of those points of a region that a space has, at a grid point and where further symbols have these values, in
+/// the region's order, the first coordinate fastest.
+///
+/// The time is linear in these points.
+pub(crate) fn found_by(
+    alloc: Global,
+    space: &Space,
+    region: &[Span1],
+    at: &[u64],
+    lets: &[Value],
+) -> Result<Found, AllocError>
+    requires space { IsSpace space.now }
+    requires limits { IsLimited region.now }
+    requires at { IsSmall at.now }
+    requires lets { ValuesAreSmall lets.now }
+    requires dimensions { length region.now ≡ length space.now.sides.items }
+    ensures numbers { IfOk result (λ found. found.numbers.items ≡ numbers_in space.now (filter (is_in_box space.now.sides.items) (points (symbols_at at.now lets.now) region.now))) }
+    ensures within { IfOk result (λ found. All (λ n. n < space.now.first + point_count space.now.sides.items) found.numbers.items) }
+    ensures whole { IfOk result (λ found. IsTrue found.whole ↔ HasAll space.now (points (symbols_at at.now lets.now) region.now)) }
+{
+    let count = most_points(&space.sides);
+    if count == 0 {
+        return none_found(alloc, region, at, lets);
+    }
+    some_found(alloc, space, region, at, lets)
 }
 
 /// The numbers of those points of a region at a grid point that a space has, in the region's order, the first
@@ -94,9 +131,6 @@ pub(crate) fn found_in(
     ensures within { IfOk result (λ found. All (λ n. n < space.now.first + point_count space.now.sides.items) found.numbers.items) }
     ensures whole { IfOk result (λ found. IsTrue found.whole ↔ HasAll space.now (points (grid_symbols at.now) region.now)) }
 {
-    let count = most_points(&space.sides);
-    if count == 0 {
-        return none_found(alloc, region, at);
-    }
-    some_found(alloc, space, region, at)
+    let found = found_by(alloc, space, region, at, &[])?;
+    Ok(found)
 }

@@ -109,7 +109,7 @@ module _ (a : Algorithm) (p : Plan) (c : Certificate) (g : Group) (o : Outline) 
     names = fetch_is_named a p c g o here b h region;
     forms = spans_are_within_limits region;
     third = true;
-    limits = fetch_is_taken a p c g o here region;
+    limits = fetch_is_taken here region;
     code = 12;
   }
   tests (Store b k at e) here = record {

@@ -15,7 +15,7 @@ use Rattle.headline.specs.Sound.{publishes}
 use Rattle.soundness.specs.Origins.{Outline}
 use Rattle.soundness.specs.Given.{outline_of}
 use Rattle.soundness.specs.Outline.Flaws.{first_of, line_told}
-use Rattle.soundness.specs.Outline.Forms.{spans_are_over, is_listed, have_ends, grid_symbols}
+use Rattle.soundness.specs.Outline.Forms.{is_listed, have_ends}
 use Rattle.validation.specs.Told.{IsTold}
 use Rattle.validation.specs.Stored.Sizes.{counted, is_small}
 use Rattle.validation.specs.Stored.Stored.{index_is_small}
@@ -23,7 +23,7 @@ use Rattle.validation.specs.Groups.Sizes.{more, product, place_count, places_cou
 use Rattle.validation.specs.Groups.Lines.{Here, is_foldable, flaws_of_groups}
 use Rattle.validation.specs.Groups.Wrong.{IndexIsLarge, FoldsNone, PassesLimit, PassesExtent, cells_of, pieces_of, GroupPassesLimit, PassesLimitAt}
 use Rattle.validation.proofs.Told.{Tests, on_either, limits_are, limits_so, told_twice, told_again}
-use Rattle.validation.proofs.Wide.{and_fails, fails_left, fails_right, any_fails, all_fail, past, is_past, unlisted_is, is_unlisted, span_unlisted_is, span_is_unlisted, region_unlisted_is, region_is_unlisted, region_names, named_in_region, large_is, is_large}
+use Rattle.validation.proofs.Wide.{and_fails, fails_left, fails_right, any_fails, all_fail, past, is_past, unlisted_is, is_unlisted, span_unlisted_is, span_is_unlisted, region_unlisted_is, region_is_unlisted, large_is, is_large}
 use Rattle.validation.proofs.GroupsTold.{tests, codes, head_tests, cells_at, pieces_at, lines_told}
 
 -- ---- one line
@@ -61,7 +61,7 @@ module _ (a : Algorithm) (p : Plan) (c : Certificate) (g : Group) (o : Outline) 
   abbrev limits : Statement → Here → Bool
   limits s here = (tests a p c g o s here).limits
 
-  limit_is : (s : Statement) (here : Here) → limits s here ≡ false → PassesLimit g s here
+  limit_is : (s : Statement) (here : Here) → limits s here ≡ false → PassesLimit s here
   limit_is (Seq all) here h = absurd (false≢true (sym h))
   limit_is (For i x kind body) here h = span_unlisted_is x h
   limit_is (Let i pick fs) here h = unlisted_is fs h
@@ -70,15 +70,11 @@ module _ (a : Algorithm) (p : Plan) (c : Certificate) (g : Group) (o : Outline) 
   limit_is (Alloc b f places) here h = on_either (and_fails (list_all is_foldable places) (nat_le (more here.used (places_count places)) (2 ^ 22)) h)
       (λ e. inl (any_fails is_foldable FoldsNone fold_is places e))
       (λ e. inr (counted_past here.used (product (map place_count places)) (past (more here.used (places_count places)) (2 ^ 22) e)))
-  limit_is (Fetch b q region) here h = on_either (and_fails here.fetching (have_ends region && spans_are_over (grid_symbols (length g.grid)) region) h)
-      (λ e. inl e)
-      (λ e. on_either (and_fails (have_ends region) (spans_are_over (grid_symbols (length g.grid)) region) e)
-      (λ k. inr (inl (region_unlisted_is region k)))
-      (λ k. inr (inr (region_names (grid_symbols (length g.grid)) region k))))
+  limit_is (Fetch b q region) here h = on_either (and_fails here.fetching (have_ends region) h) (λ e. inl e) (λ e. inr (region_unlisted_is region e))
   limit_is (Store b k at e) here h = on_either (and_fails (is_small e) (list_all small at) h) (λ q. inl (large_is e q)) (λ q. inr (any_fails small Large (λ x. index_large_is x.index) at q))
   limit_is (Publish k) here h = h
 
-  is_limit : (s : Statement) (here : Here) → PassesLimit g s here → limits s here ≡ false
+  is_limit : (s : Statement) (here : Here) → PassesLimit s here → limits s here ≡ false
   is_limit (Seq all) here h = absurd h
   is_limit (For i x kind body) here h = span_is_unlisted x h
   is_limit (Let i pick fs) here h = is_unlisted fs h
@@ -87,11 +83,8 @@ module _ (a : Algorithm) (p : Plan) (c : Certificate) (g : Group) (o : Outline) 
   is_limit (Alloc b f places) here (inl h) = fails_left (list_all is_foldable places) (nat_le (more here.used (places_count places)) (2 ^ 22)) (all_fail is_foldable FoldsNone is_fold places h)
   is_limit (Alloc b f places) here (inr h) = fails_right (list_all is_foldable places) (nat_le (more here.used (places_count places)) (2 ^ 22))
       (is_past (more here.used (places_count places)) (2 ^ 22) (past_counted here.used (product (map place_count places)) h))
-  is_limit (Fetch b q region) here (inl h) = fails_left here.fetching (have_ends region && spans_are_over (grid_symbols (length g.grid)) region) h
-  is_limit (Fetch b q region) here (inr (inl h)) = fails_right here.fetching (have_ends region && spans_are_over (grid_symbols (length g.grid)) region)
-      (fails_left (have_ends region) (spans_are_over (grid_symbols (length g.grid)) region) (region_is_unlisted region h))
-  is_limit (Fetch b q region) here (inr (inr h)) = fails_right here.fetching (have_ends region && spans_are_over (grid_symbols (length g.grid)) region)
-      (fails_right (have_ends region) (spans_are_over (grid_symbols (length g.grid)) region) (named_in_region (grid_symbols (length g.grid)) region h))
+  is_limit (Fetch b q region) here (inl h) = fails_left here.fetching (have_ends region) h
+  is_limit (Fetch b q region) here (inr h) = fails_right here.fetching (have_ends region) (region_is_unlisted region h)
   is_limit (Store b k at e) here (inl h) = fails_left (is_small e) (list_all small at) (is_large e h)
   is_limit (Store b k at e) here (inr h) = fails_right (is_small e) (list_all small at) (all_fail small Large (λ x. index_is_large x.index) at h)
   is_limit (Publish k) here h = h
@@ -174,7 +167,7 @@ module _ (a : Algorithm) (p : Plan) (c : Certificate) where
   below n g s here = let e = (codes a p c g (outline_of p c n g) s here).1 in omega (arith, e)
 
   abbrev Passes : ℕ → Group → Statement → Here → Type 0
-  Passes n g s here = PassesLimit g s here
+  Passes n g s here = PassesLimit s here
 
   pub limits_told : IsTold 14 (PassesLimitAt p) (first_of (flaws_of_groups a p c))
   limits_told = lines_told a p c 14 (GroupPassesLimit p) Passes

@@ -7,7 +7,7 @@ ghost use Rattle.validation.specs.Groups.Lines.{is_one_of};
 use lin::Sym;
 
 /// Whether a number is one of these.
-pub(crate) fn is_among(numbers: &[u32], number: u32) -> bool
+pub(crate) fn is_among(numbers: &[u64], number: u64) -> bool
     ensures { result ≡ list_any (λ x. x == number) numbers.now }
 {
     numbers.iter().any(|one| *one == number)

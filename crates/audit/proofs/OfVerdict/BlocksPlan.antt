@@ -28,7 +28,7 @@ moved = record {
   widths = λ n g e. of_one (λ n g. wide_lines (rules_of ten moved_back moved_certificate n) (grid_binders g.grid) (body_line moved_back n) g.body ≡ []) last_moved refl n g e;
   shown = λ n g e. of_one (λ n g. IsShown (rules_of ten moved_back moved_certificate n) ten moved_back moved_certificate n g) last_moved refl n g e;
   certificate = refl;
-  shares = shares_of moved_back moved_certificate (record { inside = refl; fetches = refl; needs = refl; own = refl; served = refl; few_fetched = refl; few_needed = refl });
+  shares = shares_of moved_back moved_certificate (record { plain = refl; inside = refl; fetches = refl; needs = refl; own = refl; served = refl; few_fetched = refl; few_needed = refl });
   output = record { number = 0; group = last_moved; stands = refl; function = refl; inside = λ at h. whole_has (9 ∷ []) at h };
 }
 
@@ -56,7 +56,7 @@ guarded = record {
   widths = λ n g e. of_one (λ n g. wide_lines (rules_of ten cut_off guarded_certificate n) (grid_binders g.grid) (body_line cut_off n) g.body ≡ []) last_cut refl n g e;
   shown = λ n g e. of_one (λ n g. IsShown (rules_of ten cut_off guarded_certificate n) ten cut_off guarded_certificate n g) last_cut refl n g e;
   certificate = refl;
-  shares = shares_of cut_off guarded_certificate (record { inside = refl; fetches = refl; needs = refl; own = refl; served = refl; few_fetched = refl; few_needed = refl });
+  shares = shares_of cut_off guarded_certificate (record { plain = refl; inside = refl; fetches = refl; needs = refl; own = refl; served = refl; few_fetched = refl; few_needed = refl });
   output = record { number = 0; group = last_cut; stands = refl; function = refl; inside = λ at h. whole_has (9 ∷ []) at h };
 }
 

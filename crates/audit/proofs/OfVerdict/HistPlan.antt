@@ -24,7 +24,7 @@ accepted = record {
   widths = λ n g e. of_one (λ n g. wide_lines (rules_of hist whole_plan whole_certificate n) (grid_binders g.grid) (body_line whole_plan n) g.body ≡ []) group refl n g e;
   shown = λ n g e. of_one (λ n g. IsShown (rules_of hist whole_plan whole_certificate n) hist whole_plan whole_certificate n g) group refl n g e;
   certificate = refl;
-  shares = shares_of whole_plan whole_certificate (record { inside = refl; fetches = refl; needs = refl; own = refl; served = refl; few_fetched = refl; few_needed = refl });
+  shares = shares_of whole_plan whole_certificate (record { plain = refl; inside = refl; fetches = refl; needs = refl; own = refl; served = refl; few_fetched = refl; few_needed = refl });
   output = record { number = 0; group = group; stands = refl; function = refl; inside = λ at h. whole_has (255 ∷ []) at h };
 }
 

@@ -25,7 +25,7 @@ accepted = record {
   widths = λ n g e. of_one (λ n g. wide_lines (rules_of inc inc_plan inc_certificate n) (grid_binders g.grid) (body_line inc_plan n) g.body ≡ []) inc_group refl n g e;
   shown = λ n g e. of_one (λ n g. IsShown (rules_of inc inc_plan inc_certificate n) inc inc_plan inc_certificate n g) inc_group refl n g e;
   certificate = refl;
-  shares = shares_of inc_plan inc_certificate (record { inside = refl; fetches = refl; needs = refl; own = refl; served = refl; few_fetched = refl; few_needed = refl });
+  shares = shares_of inc_plan inc_certificate (record { plain = refl; inside = refl; fetches = refl; needs = refl; own = refl; served = refl; few_fetched = refl; few_needed = refl });
   output = record { number = 0; group = inc_group; stands = refl; function = refl; inside = λ at h. whole_has (1 ∷ 9 ∷ []) at h };
 }
 
@@ -51,7 +51,7 @@ twice = inr (inr (inr (inr (inr (inl (record {
   flaw = nine;
   code_is = refl;
   line_is = refl;
-  means = (inl (0, overlaps, refl), first_own twice_plan twice_certificate 1 nine refl (omega arith) (from_nine twice_plan twice_certificate));
+  means = inl (inl (0, overlaps, refl), first_own twice_plan twice_certificate 1 nine refl (omega arith) (from_nine twice_plan twice_certificate));
 }))))))
 
 abbrev ten : Flaw
@@ -62,7 +62,7 @@ gap = inr (inr (inr (inr (inr (inl (record {
   flaw = ten;
   code_is = refl;
   line_is = refl;
-  means = (
+  means = inl (
     inl (0, inr (8, omega arith, omega arith, not_owned gap_plan gap_certificate 8 refl), refl),
     first_own gap_plan gap_certificate 1 ten refl (omega arith) (λ n k code. from_ten gap_plan gap_certificate n k (none_overlaps gap_plan gap_certificate refl n) code),
   );

@@ -14,7 +14,6 @@ use Rattle.plan.specs.Certificate.Certificate.{Certificate}
 use Rattle.plan.specs.Certificate.Cells.{own_region}
 use Rattle.soundness.specs.Origins.{Outline}
 use Rattle.soundness.specs.Given.{outline_of}
-use Rattle.soundness.proofs.Forms.{rec_weaker}
 use Rattle.soundness.proofs.Refines.{and_parts}
 use Rattle.soundness.specs.Outline.Forms.{is_over, are_over, spans_are_over, are_within_limits, spans_are_within_limits, is_listed, have_ends, grid_symbols}
 use Rattle.audit.specs.Verdict.Bounded.Near.{FormStands, SpanStands, PlacesStand, IndexStands, HasForms, HasFormsInBlock}
@@ -22,10 +21,9 @@ use Rattle.validation.specs.Certificate.Clear.{IsRegion}
 use Rattle.validation.specs.Stored.Definitions.{Definition, parts_named, has_variables, function_in}
 use Rattle.validation.specs.Stored.Stored.{has_names, is_named, is_known, index_is_over, index_is_within, index_is_known, is_call}
 use Rattle.validation.specs.Groups.Lanes.{fits_mark}
-use Rattle.validation.specs.Groups.Lines.{Here, before, after, in_loop, inside, in_later, is_empty, is_new, may_precede, place_is_over, place_is_within, fetch_is_named, fetch_is_taken, definition_is_named, definition_is_stored, definition_of, store_is_small, flaws, block_flaws, start}
+use Rattle.validation.specs.Groups.Lines.{Here, before, after, in_loop, inside, in_later, is_empty, is_new, place_is_over, place_is_within, fetch_is_named, fetch_is_taken, definition_is_named, definition_is_stored, definition_of, store_is_small, flaws, block_flaws, start}
 use Rattle.validation.proofs.Flawless.{fine, fine_loop, none_in, group_fine, body_fine}
 use Rattle.audit.specs.Verdict.Clear.{GroupsAreNear}
-use Rattle.audit.proofs.OfVerdict.Size.{AreAmong, among_after, span_wider}
 use Rattle.audit.proofs.OfVerdict.Small.{line_fine, pieces_few}
 
 -- ---- forms
@@ -85,24 +83,23 @@ new_symbol symbols i h = untrue (list_any (λ s. s == i) symbols) h
 pub record FetchIsFine (p : Plan) (a : Algorithm) (g : Group) (o : Outline) (here : Here) (h : ℕ) (region : List Span1) : Type 0 where
   pub group : nat_lt h (length p.groups) ≡ true
   pub variables : has_variables (parts_named a (o.setting.group_function h)) (length region) ≡ true
-  pub symbols : spans_are_over (grid_symbols (length g.grid)) region ≡ true
+  pub symbols : spans_are_over here.symbols region ≡ true
   pub limits : spans_are_within_limits region ≡ true
   pub fetching : here.fetching ≡ true
 
 module _ (a : Algorithm) (p : Plan) (c : Certificate) (g : Group) (o : Outline) where
   pub fetch_fine : (b h : ℕ) (region : List Span1) (here : Here) → flaws a p c g o (Fetch b h region) here ≡ [] → FetchIsFine p a g o here h region
   fetch_fine b h region here none =
-      let f = fine here.line (fetch_is_named a p c g o here b h region) (spans_are_within_limits region) true (fetch_is_taken a p c g o here region) none in
+      let f = fine here.line (fetch_is_named a p c g o here b h region) (spans_are_within_limits region) true (fetch_is_taken here region) none in
       let one = and_parts (list_any (λ x. x == b) here.buffers) _ f.names in
       let two = and_parts (nat_lt h (length p.groups)) _ one.1 in
       let three = and_parts _ (has_variables (parts_named a (o.setting.group_function h)) (length region) && spans_are_over here.symbols region) two.1 in
       let four = and_parts (has_variables (parts_named a (o.setting.group_function h)) (length region)) (spans_are_over here.symbols region) three.1 in
-      let five = and_parts here.fetching (have_ends region && spans_are_over (grid_symbols (length g.grid)) region) f.limits in
-      let six = and_parts (have_ends region) (spans_are_over (grid_symbols (length g.grid)) region) five.1 in
+      let five = and_parts here.fetching (have_ends region) f.limits in
       record {
         group = two.0;
         variables = four.0;
-        symbols = six.1;
+        symbols = four.1;
         limits = f.forms;
         fetching = five.0;
       }
@@ -116,53 +113,48 @@ module _ (a : Algorithm) (p : Plan) (c : Certificate) (g : Group) (o : Outline) 
       let two = and_parts (o.setting.dimensions b == length (function_in m).variables) (over && known) one.1 in
       (and_parts over known two.1).0
 
-  -- where lines `fetch` may come the grid's symbols are in scope
-  abbrev IsOuter : Here → Type 0
-  IsOuter here = here.fetching ≡ true → AreAmong (grid_symbols (length g.grid)) here.symbols
-
   mutual
-    pub has_forms : (s : Statement) (here : Here) → IsOuter here → flaws a p c g o s here ≡ [] → HasForms s here.symbols
-    has_forms (Seq all) here outer h = block_has_forms all here outer h
-    has_forms (For i x kind body) here outer h =
+    pub has_forms : (s : Statement) (here : Here) → flaws a p c g o s here ≡ [] → HasForms s here.symbols
+    has_forms (Seq all) here h = block_has_forms all here h
+    has_forms (For i x kind body) here h =
         let k = none_in _ _ h in
         let over = are_over here.symbols x.lower && are_over here.symbols x.upper in
         let f = fine_loop here.line (is_new here.symbols i && over) (are_within_limits x.lower && are_within_limits x.upper) (fits_mark o.setting.dimensions i kind body) (is_listed x.lower && is_listed x.upper) k.0 in
         let names = and_parts (is_new here.symbols i) over f.names in
-        (span_stands here.symbols x names.1 f.forms, new_symbol here.symbols i names.0, has_forms body (in_loop i here) (λ t. absurd (false≢true t)) k.1)
-    has_forms (Let i pick ls) here outer h =
+        (span_stands here.symbols x names.1 f.forms, new_symbol here.symbols i names.0, has_forms body (in_loop i here) k.1)
+    has_forms (Let i pick ls) here h =
         let f = fine here.line (is_new here.symbols i && are_over here.symbols ls) (are_within_limits ls) true (is_listed ls) h in
         let names = and_parts (is_new here.symbols i) (are_over here.symbols ls) f.names in
         (forms_stand here.symbols ls names.1 f.forms, new_symbol here.symbols i names.0)
-    has_forms (First i s r) here outer h =
+    has_forms (First i s r) here h =
         let k = none_in _ _ (none_in _ _ h).1 in
-        (has_forms s (inside here) (λ t. absurd (false≢true t)) k.0, has_forms r (in_later s here) (λ t. absurd (false≢true t)) k.1)
-    has_forms (Guard low high body) here outer h =
+        (has_forms s (inside here) k.0, has_forms r (in_later s here) k.1)
+    has_forms (Guard low high body) here h =
         let k = none_in _ _ h in
         let f = fine here.line (is_over here.symbols low && is_over here.symbols high) (is_within_limits low && is_within_limits high) true true k.0 in
         let over = and_parts (is_over here.symbols low) (is_over here.symbols high) f.names in
         let limits = and_parts (is_within_limits low) (is_within_limits high) f.forms in
-        (record { over = over.0; limits = limits.0 }, record { over = over.1; limits = limits.1 }, has_forms body (inside here) (λ t. absurd (false≢true t)) k.1)
-    has_forms (Alloc b f places) here outer h =
+        (record { over = over.0; limits = limits.0 }, record { over = over.1; limits = limits.1 }, has_forms body (inside here) k.1)
+    has_forms (Alloc b f places) here h =
         let vars = has_variables (parts_named a f) (length places) in
         let k = fine here.line (vars && list_all (place_is_over here.symbols) places) (list_all place_is_within places) true _ h in
         places_stand here.symbols places (and_parts vars (list_all (place_is_over here.symbols) places) k.names).1 k.forms
-    has_forms (Fetch b k region) here outer h =
+    has_forms (Fetch b k region) here h =
         let f = fetch_fine b k region here h in
-        let grid = grid_symbols (length g.grid) in
-        rec_weaker (SpanStands grid) (SpanStands here.symbols) (span_wider grid here.symbols (outer f.fetching)) region (spans_stand grid region f.symbols f.limits)
-    has_forms (Store b k at e) here outer h =
+        spans_stand here.symbols region f.symbols f.limits
+    has_forms (Store b k at e) here h =
         let m = definition_of a p c g o b k in
         let named = definition_is_named a p c g o m here b at e in
         let bound = list_any (λ x. x == b) here.buffers in
         let f = fine here.line (bound && named) (list_all (λ x. index_is_within x.index) at) (not (store_is_small a p c g o at e) || definition_is_stored a p c g o m at e) (store_is_small a p c g o at e) h in
         coordinates_stand here.symbols at (named_over m here b at e (and_parts bound named f.names).1) f.forms
-    has_forms (Publish k) here outer h = tt
+    has_forms (Publish k) here h = tt
 
-    block_has_forms : (all : Statements) (here : Here) → IsOuter here → block_flaws a p c g o all here ≡ [] → HasFormsInBlock all here.symbols
-    block_has_forms Empty here outer h = tt
-    block_has_forms (Then s rest) here outer h =
+    block_has_forms : (all : Statements) (here : Here) → block_flaws a p c g o all here ≡ [] → HasFormsInBlock all here.symbols
+    block_has_forms Empty here h = tt
+    block_has_forms (Then s rest) here h =
         let k = none_in _ _ h in
-        (has_forms s (before (is_empty rest) here) outer k.0, block_has_forms rest (after s here) (λ t i m. among_after s here.symbols i (outer (and_parts here.fetching (may_precede s) t).0 i m)) k.1)
+        (has_forms s (before (is_empty rest) here) k.0, block_has_forms rest (after s here) k.1)
 
 -- ---- groups
 
@@ -178,6 +170,6 @@ groups_near a p c rules h clear n g at wide =
       few = pieces_few a p c h n g at;
       region = spans_stand [] g.region l.symbols l.limits;
       own = own_stands (length g.region) (length g.grid) (own_region c.own n) (clear.own n g at);
-      lines = has_forms a p c g (outline_of p c n g) g.body (start f.line g) (λ t i m. m) (body_fine a p c n g f);
+      lines = has_forms a p c g (outline_of p c n g) g.body (start f.line g) (body_fine a p c n g f);
       loops = wide;
     }

@@ -21,7 +21,7 @@ accepted = record {
   widths = λ n g e. of_two (λ n g. wide_lines (rules_of near near_plan near_certificate n) (grid_binders g.grid) (body_line near_plan n) g.body ≡ []) f_group (out_group (sum_of_two to_the_left x)) refl refl n g e;
   shown = λ n g e. of_two (λ n g. IsShown (rules_of near near_plan near_certificate n) near near_plan near_certificate n g) f_group (out_group (sum_of_two to_the_left x)) refl refl n g e;
   certificate = refl;
-  shares = shares_of near_plan near_certificate (record { inside = refl; fetches = refl; needs = refl; own = refl; served = refl; few_fetched = refl; few_needed = refl });
+  shares = shares_of near_plan near_certificate (record { plain = refl; inside = refl; fetches = refl; needs = refl; own = refl; served = refl; few_fetched = refl; few_needed = refl });
   output = record { number = 1; group = out_group (sum_of_two to_the_left x); stands = refl; function = refl; inside = λ at h. whole_has (3 ∷ []) at h };
 }
 
@@ -36,7 +36,7 @@ unserved = inr (inr (inr (inr (inr (inl (record {
   flaw = eleven;
   code_is = refl;
   line_is = refl;
-  means = (
+  means = inl (
     inl (1, (5, refl, unserved_of near_plan (with_regions here with_left) 5 0 (0, omega arith, refl) refl), refl),
     λ g own. absurd (none_own near_plan (with_regions here with_left) (record { inside = refl; fetches = refl; needs = refl; own = refl; served = refl }) own.0 g.code own.2),
   );

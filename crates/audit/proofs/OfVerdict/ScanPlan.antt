@@ -22,7 +22,7 @@ accepted = record {
   widths = λ n g e. of_one (λ n g. wide_lines (rules_of scan_algorithm scan_plan scan_certificate n) (grid_binders g.grid) (body_line scan_plan n) g.body ≡ []) scan_group refl n g e;
   shown = λ n g e. of_one (λ n g. IsShown (rules_of scan_algorithm scan_plan scan_certificate n) scan_algorithm scan_plan scan_certificate n g) scan_group refl n g e;
   certificate = refl;
-  shares = shares_of scan_plan scan_certificate (record { inside = refl; fetches = refl; needs = refl; own = refl; served = refl; few_fetched = refl; few_needed = refl });
+  shares = shares_of scan_plan scan_certificate (record { plain = refl; inside = refl; fetches = refl; needs = refl; own = refl; served = refl; few_fetched = refl; few_needed = refl });
   output = record { number = 0; group = scan_group; stands = refl; function = refl; inside = λ at h. whole_has (3 ∷ []) at h };
 }
 

@@ -18,7 +18,7 @@ use Rattle.soundness.specs.Origins.{Outline}
 use Rattle.soundness.specs.Given.{outline_of}
 use Rattle.soundness.proofs.Refines.{and_parts, eq_true}
 use Rattle.headline.specs.Fetched.{fetches, block_fetches}
-use Rattle.soundness.specs.Outline.Forms.{are_over, are_within_limits, spans_are_within_limits, is_listed, grid_symbols}
+use Rattle.soundness.specs.Outline.Forms.{are_over, are_within_limits, spans_are_within_limits, is_listed}
 use Rattle.shares.specs.declared.boxes.Side.{Side}
 use Rattle.shares.specs.Boxes.{side, sides}
 use Rattle.shares.specs.Shared.{IsLike, LineIsShared, LinesAreShared, NeedIsShared}
@@ -28,10 +28,9 @@ use Rattle.validation.specs.Stored.Definitions.{Parts, parts_named, has_variable
 use Rattle.validation.specs.Groups.Lines.{Here, before, after, in_later, in_loop, inside, is_empty, is_new, may_precede, flaws, block_flaws, flaws_of_groups, start}
 use Rattle.validation.proofs.Flawless.{ends_are, fine, none_in, group_fine, body_fine}
 use Rattle.audit.specs.Verdict.Clear.{PlansAreShared}
-use Rattle.audit.proofs.OfVerdict.Size.{AreAmong, among_after, none_of_few}
-use Rattle.audit.proofs.OfVerdict.Lists.{lt_true, spans_limited, looked_up}
+use Rattle.audit.proofs.OfVerdict.Lists.{lt_true, forms_limited, spans_limited, looked_up}
 use Rattle.audit.proofs.OfVerdict.Small.{extent, count_is, line_fine, plans_small}
-use Rattle.audit.proofs.OfVerdict.Near.{fetch_fine, new_symbol}
+use Rattle.audit.proofs.OfVerdict.Near.{fetch_fine}
 use Rattle.audit.proofs.OfVerdict.Apart.{grids_small}
 
 -- ---- regions
@@ -112,42 +111,37 @@ module _ (a : Algorithm) (p : Plan) (c : Certificate) (none : flaws_of_groups a 
   abbrev o : Outline
   o = outline_of p c n g
 
-  abbrev grid : List ℕ
-  grid = grid_symbols (length g.grid)
+  fetch_shared : (b k : ℕ) (region : List Span1) (here : Here) → flaws a p c g o (Fetch b k region) here ≡ [] → LineIsShared p (Fetch b k region)
+  fetch_shared b k region here h = let f = fetch_fine a p c g o b k region here h in fetched_like a p c none n g k region f.group f.variables f.limits
 
-  fetch_shared : (b k : ℕ) (region : List Span1) (here : Here) → flaws a p c g o (Fetch b k region) here ≡ [] → LineIsShared p grid (Fetch b k region)
-  fetch_shared b k region here h = let f = fetch_fine a p c g o b k region here h in (fetched_like a p c none n g k region f.group f.variables f.limits, f.symbols)
-
-  -- a line `let` has a new symbol, so none of the grid's
-  let_shared : (i : ℕ) (pick : Pick) (ls : List Form) (here : Here) → AreAmong grid here.symbols → flaws a p c g o (Let i pick ls) here ≡ [] → LineIsShared p grid (Let i pick ls)
-  let_shared i pick ls here among h =
-      let f = fine here.line (is_new here.symbols i && are_over here.symbols ls) (are_within_limits ls) true (is_listed ls) h in
-      none_of_few grid here.symbols among i (new_symbol here.symbols i (and_parts (is_new here.symbols i) (are_over here.symbols ls) f.names).0)
+  -- the forms of a line `let` are within the limits
+  let_shared : (i : ℕ) (pick : Pick) (ls : List Form) (here : Here) → flaws a p c g o (Let i pick ls) here ≡ [] → LineIsShared p (Let i pick ls)
+  let_shared i pick ls here h = forms_limited ls (fine here.line (is_new here.symbols i && are_over here.symbols ls) (are_within_limits ls) true (is_listed ls) h).forms
 
   split : (s : Statement) (rest : Statements) (here : Here) → block_flaws a p c g o (Then s rest) here ≡ [] → (flaws a p c g o s (before (is_empty rest) here) ≡ []) × (block_flaws a p c g o rest (after s here) ≡ [])
   split s rest here h = none_in (flaws a p c g o s (before (is_empty rest) here)) (block_flaws a p c g o rest (after s here)) h
 
   mutual
-    pub line_shared : (s : Statement) (here : Here) → AreAmong grid here.symbols → flaws a p c g o s here ≡ [] → LineIsShared p grid s
-    line_shared (Seq all) here among h = block_shared all here among h
-    line_shared (For i x kind body) here among h = no_fetch a p c g o body (in_loop i here) refl (none_in _ _ h).1
-    line_shared (Let i pick ls) here among h = let_shared i pick ls here among h
-    line_shared (First i s r) here among h =
+    pub line_shared : (s : Statement) (here : Here) → flaws a p c g o s here ≡ [] → LineIsShared p s
+    line_shared (Seq all) here h = block_shared all here h
+    line_shared (For i x kind body) here h = no_fetch a p c g o body (in_loop i here) refl (none_in _ _ h).1
+    line_shared (Let i pick ls) here h = let_shared i pick ls here h
+    line_shared (First i s r) here h =
         let k = none_in _ _ (none_in _ _ h).1 in
         let first = no_fetch a p c g o s (inside here) refl k.0 in
         let others = no_fetch a p c g o r (in_later s here) refl k.1 in
         λ j. first j || others j
-    line_shared (Guard low high body) here among h = no_fetch a p c g o body (inside here) refl (none_in _ _ h).1
-    line_shared (Alloc b f places) here among h = refl
-    line_shared (Fetch b k region) here among h = fetch_shared b k region here h
-    line_shared (Store b k at e) here among h = refl
-    line_shared (Publish k) here among h = refl
+    line_shared (Guard low high body) here h = no_fetch a p c g o body (inside here) refl (none_in _ _ h).1
+    line_shared (Alloc b f places) here h = refl
+    line_shared (Fetch b k region) here h = fetch_shared b k region here h
+    line_shared (Store b k at e) here h = refl
+    line_shared (Publish k) here h = refl
 
-    block_shared : (all : Statements) (here : Here) → AreAmong grid here.symbols → block_flaws a p c g o all here ≡ [] → LinesAreShared p grid all
-    block_shared Empty here among h = tt
-    block_shared (Then s rest) here among h =
+    block_shared : (all : Statements) (here : Here) → block_flaws a p c g o all here ≡ [] → LinesAreShared p all
+    block_shared Empty here h = tt
+    block_shared (Then s rest) here h =
         let k = split s rest here h in
-        (line_shared s (before (is_empty rest) here) among k.0, block_shared rest (after s here) (λ i m. among_after s here.symbols i (among i m)) k.1)
+        (line_shared s (before (is_empty rest) here) k.0, block_shared rest (after s here) k.1)
 
 -- ---- plans
 
@@ -164,7 +158,7 @@ plans_shared a p c none clear =
             extents = All-from_recursion (λ (x : Side). x.count ≤ 8192) (sides no_symbols g.region) (few_sides g.region l.extents);
             grid = grids_small a p c none n g at;
             own = own_like (length g.region) (length g.grid) (own_region c.own n) (clear.own n g at);
-            body = line_shared a p c none n g g.body (start f.line g) (λ i m. m) (body_fine a p c n g f);
+            body = line_shared a p c none n g g.body (start f.line g) (body_fine a p c n g f);
           };
       needs = All-from_recursion (NeedIsShared p) c.needs (looked_up (NeedIsShared p) c.needs (λ i m at. need_like m (slice_get p.groups m.group) (slice_get p.groups m.needed) (clear.needs i m at)));
       cells = small.cells;

@@ -9,13 +9,11 @@ use Rattle.lin.specs.declared.form.Multiple.{Multiple}
 use Rattle.lin.specs.declared.span.Span1.{Span1}
 use Rattle.lin.proofs.Limits.{within_limits-terms, within_limits-constant, within_limits-few}
 use Rattle.lin.proofs.Machine.{product_within, sum_within}
-use Rattle.plan.specs.Plan.{Statement, Seq, For, Let, First, Guard, Alloc, Fetch, Store, Publish}
 use Rattle.plan.specs.Symbols.{Symbols, form_value}
 use Rattle.soundness.specs.Obligations.{form_has, span_has}
 use Rattle.soundness.proofs.Forms.{rec_weaker}
 use Rattle.soundness.proofs.Refines.{and_parts, eq_true}
 use Rattle.interpreter.specs.Narrow.{IsNumber, FormIsNarrow, SpanIsNarrow, RegionIsNarrow}
-use Rattle.validation.specs.Groups.Lines.{symbols_after}
 use Rattle.audit.specs.Verdict.Bounded.Near.{is_over, FormStands, SpanStands}
 
 -- the symbol is one of these
@@ -113,23 +111,6 @@ module _ (few many : List ℕ) (among : AreAmong few many) where
   pub span_over : (x : Span1) → IsOver few x → IsOver many x
   span_over x h = record { lower = forms_over x.lower h.lower; upper = forms_over x.upper h.upper }
 
-  pub form_wider : (f : Form) → FormStands few f → FormStands many f
-  form_wider f h = record { over = form_over f h.over; limits = h.limits }
-
-  pub span_wider : (x : Span1) → SpanStands few x → SpanStands many x
-  span_wider x h = record {
-    lower = rec_weaker (FormStands few) (FormStands many) form_wider x.lower h.lower;
-    upper = rec_weaker (FormStands few) (FormStands many) form_wider x.upper h.upper;
-  }
-
-  -- what is none of the many is none of the few
-  pub none_of_few : (i : ℕ) → is_one i many ≡ false → is_one i few ≡ false
-  none_of_few i new = of (is_one i few) refl
-    where
-      of : (v : Bool) → is_one i few ≡ v → v ≡ false
-      of false e = refl
-      of true e = let one = among i e in absurd (cc (one, new))
-
 one_more : (j i : ℕ) (symbols : List ℕ) → is_one j symbols ≡ true → is_one j (symbols ++ i ∷ []) ≡ true
 one_more j i [] h = absurd (cc h)
 one_more j i (x ∷ xs) h = of (x == j) h (one_more j i xs)
@@ -141,18 +122,6 @@ one_more j i (x ∷ xs) h = of (x == j) h (one_more j i xs)
 -- a symbol more at the end
 pub among_more : (i : ℕ) (symbols : List ℕ) → AreAmong symbols (symbols ++ i ∷ [])
 among_more i symbols j h = one_more j i symbols h
-
--- those in scope before a statement are in scope behind it
-pub among_after : (a : Statement) (symbols : List ℕ) → AreAmong symbols (symbols_after a symbols)
-among_after (Seq all) symbols i h = h
-among_after (For j x kind body) symbols i h = h
-among_after (Let j pick forms) symbols i h = one_more i j symbols h
-among_after (First j a b) symbols i h = h
-among_after (Guard low high body) symbols i h = h
-among_after (Alloc b f places) symbols i h = h
-among_after (Fetch b g region) symbols i h = h
-among_after (Store b k at e) symbols i h = h
-among_after (Publish c) symbols i h = h
 
 -- ---- symbols that stand nowhere
 

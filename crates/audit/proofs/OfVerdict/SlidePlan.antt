@@ -20,7 +20,7 @@ accepted = record {
   widths = λ n g e. of_one (λ n g. wide_lines (rules_of slide (plan_of 3 (pos 1)) (slides 3) n) (grid_binders g.grid) (body_line (plan_of 3 (pos 1)) n) g.body ≡ []) (group_of 3 (pos 1)) refl n g e;
   shown = λ n g e. of_one (λ n g. IsShown (rules_of slide (plan_of 3 (pos 1)) (slides 3) n) slide (plan_of 3 (pos 1)) (slides 3) n g) (group_of 3 (pos 1)) refl n g e;
   certificate = refl;
-  shares = shares_of (plan_of 3 (pos 1)) (slides 3) (record { inside = refl; fetches = refl; needs = refl; own = refl; served = refl; few_fetched = refl; few_needed = refl });
+  shares = shares_of (plan_of 3 (pos 1)) (slides 3) (record { plain = refl; inside = refl; fetches = refl; needs = refl; own = refl; served = refl; few_fetched = refl; few_needed = refl });
   output = record { number = 0; group = group_of 3 (pos 1); stands = refl; function = refl; inside = λ at h. whole_has (3 ∷ 7 ∷ []) at h };
 }
 
@@ -31,7 +31,7 @@ larger = record {
   widths = λ n g e. of_one (λ n g. wide_lines (rules_of slide (plan_of 7 (pos 1)) (slides 7) n) (grid_binders g.grid) (body_line (plan_of 7 (pos 1)) n) g.body ≡ []) (group_of 7 (pos 1)) refl n g e;
   shown = λ n g e. of_one (λ n g. IsShown (rules_of slide (plan_of 7 (pos 1)) (slides 7) n) slide (plan_of 7 (pos 1)) (slides 7) n g) (group_of 7 (pos 1)) refl n g e;
   certificate = refl;
-  shares = shares_of (plan_of 7 (pos 1)) (slides 7) (record { inside = refl; fetches = refl; needs = refl; own = refl; served = refl; few_fetched = refl; few_needed = refl });
+  shares = shares_of (plan_of 7 (pos 1)) (slides 7) (record { plain = refl; inside = refl; fetches = refl; needs = refl; own = refl; served = refl; few_fetched = refl; few_needed = refl });
   output = record { number = 0; group = group_of 7 (pos 1); stands = refl; function = refl; inside = λ at h. whole_has (3 ∷ 7 ∷ []) at h };
 }
 

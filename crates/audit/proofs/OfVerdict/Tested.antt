@@ -25,11 +25,13 @@ use Rattle.headline.specs.Work.{cells_fetched, of_piece}
 use Rattle.headline.proofs.Members.{in_of, contains_of}
 use Rattle.shares.specs.Boxes.{is_in_box}
 use Rattle.shares.specs.Has.{HasShares, NeedsPieces, IsServed, fetched_before, needed_before}
+use Rattle.shares.specs.FetchLines.{plan_fetch_lines}
 use Rattle.shares.specs.Layout.{OwnIsInside, PieceIsInside, FetchesCells, PieceFetchesCells, own_list, fetched_list, needs_list, region_points}
 use Rattle.shares.specs.Made.{IsFirstOwn, IsPieceOf, OwnCode, Overlaps, need_place}
 use Rattle.shares.specs.Needed.{NeedIsInside, NeedsAreInside, need_grid, need_points}
 use Rattle.shares.proofs.Firsts.{not_before}
 use Rattle.shares.proofs.Having.{cells_within}
+use Rattle.shares.proofs.Near.{plain_near}
 use Rattle.shares.proofs.Owning.{piece_below}
 use Rattle.audit.proofs.OfVerdict.Lists.{each, le_true, lt_true}
 use Rattle.audit.proofs.OfVerdict.Listed.{is_rising, IsRising, rising_of, in_member, range_in, all_own, apart_of, all_rising, in_table_of, whole_of, is_owned, owner_of, owned_of, each_in, all_of, at_each}
@@ -82,6 +84,7 @@ module _ (p : Plan) (c : Certificate) where
 
   -- the tests of the lists of all pieces
   pub record AreTested : Type 0 where
+    pub plain : list_all (λ x. length x.lets == 0) (plan_fetch_lines p) ≡ true
     pub inside : list_all piece_is_inside (pieces p) ≡ true
     pub fetches : list_all fetches_cells (pieces p) ≡ true
     pub needs : list_all needs_pieces (pieces p) ≡ true
@@ -104,6 +107,7 @@ module _ (p : Plan) (c : Certificate) where
 
   pub shares_of : AreTested → HasShares p c
   shares_of t = record {
+    near = plain_near p t.plain;
     inside = inside_of t.inside;
     cells = cells_of t.fetches;
     pieces = needs_of t.needs;

@@ -26,7 +26,7 @@ accepted = record {
   widths = λ n g e. of_two (λ n g. wide_lines (rules_of two two_plan two_certificate n) (grid_binders g.grid) (body_line two_plan n) g.body ≡ []) f_group (out_group both) refl refl n g e;
   shown = λ n g e. of_two (λ n g. IsShown (rules_of two two_plan two_certificate n) two two_plan two_certificate n g) f_group (out_group both) refl refl n g e;
   certificate = refl;
-  shares = shares_of two_plan two_certificate (record { inside = refl; fetches = refl; needs = refl; own = refl; served = refl; few_fetched = refl; few_needed = refl });
+  shares = shares_of two_plan two_certificate (record { plain = refl; inside = refl; fetches = refl; needs = refl; own = refl; served = refl; few_fetched = refl; few_needed = refl });
   output = output;
 }
 
@@ -51,7 +51,7 @@ twice = inr (inr (inr (inr (inr (inl (record {
   flaw = nine;
   code_is = refl;
   line_is = refl;
-  means = (inl (0, overlaps, refl), first_own two_plan twice_owned 2 nine refl (omega arith) (from_nine two_plan twice_owned));
+  means = inl (inl (0, overlaps, refl), first_own two_plan twice_owned 2 nine refl (omega arith) (from_nine two_plan twice_owned));
 }))))))
 
 -- ---- a cell without an owner: cell 1
@@ -64,7 +64,7 @@ gap = inr (inr (inr (inr (inr (inl (record {
   flaw = ten;
   code_is = refl;
   line_is = refl;
-  means = (
+  means = inl (
     inl (0, inr (1, omega arith, omega arith, owned_by_none two_plan not_owned 1 refl), refl),
     first_own two_plan not_owned 2 ten refl (omega arith) (λ n k code. from_ten two_plan not_owned n k (none_overlaps two_plan not_owned refl n) code),
   );
@@ -80,7 +80,7 @@ unserved = inr (inr (inr (inr (inr (inl (record {
   flaw = eleven;
   code_is = refl;
   line_is = refl;
-  means = (
+  means = inl (
     inl (1, (2, refl, unserved_of two_plan less_needed 2 1 (1, omega arith, refl) refl), refl),
     λ g own. absurd (none_own two_plan less_needed (record { inside = refl; fetches = refl; needs = refl; own = refl; served = refl }) own.0 g.code own.2),
   );

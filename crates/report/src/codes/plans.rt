@@ -182,7 +182,7 @@ $ stencil check examples/inc.alg a.plan
 stencil: K14 line 5
 ```
 
-[PLANS.md](PLANS.md) lists the limits. A `fetch` over a `let` is not taken yet.
+[PLANS.md](PLANS.md) lists the limits. A `let` before a `fetch` has to come to a number within 2^20 of 0 in each piece.
 ";
 
 /// The page of a code of plan files.

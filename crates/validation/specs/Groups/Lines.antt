@@ -162,6 +162,10 @@ abbrev pub is_foldable : Places → Bool
 is_foldable (From l n) = true
 is_foldable (Folded n) = nat_le 1 n
 
+-- a line `fetch` stands before loops, choices, guards and stores, and its region has ends
+abbrev pub fetch_is_taken : Here → List Span1 → Bool
+fetch_is_taken here region = here.fetching && have_ends region
+
 -- a claim of this number is of the group with these lines, and of the function
 abbrev pub is_claim_of : GroupLines → Option Claim → List ℕ → Bool
 is_claim_of group None name = false
@@ -190,10 +194,6 @@ module _ (a : Algorithm) (p : Plan) (c : Certificate) (g : Group) (outline : Out
       list_any (λ x. x == b) here.buffers && (nat_lt h (length p.groups)
       && (same_name (outline.setting.group_function h) (outline.setting.buffer_function b)
       && (has_variables (parts_named a (outline.setting.group_function h)) (length region) && spans_are_over here.symbols region)))
-
-  -- before loops, choices, guards and stores, and by symbols of the grid: what is fetched by way of lines `let` is not decided
-  abbrev pub fetch_is_taken : Here → List Span1 → Bool
-  fetch_is_taken here region = here.fetching && (have_ends region && spans_are_over (grid_symbols (length g.grid)) region)
 
   abbrev pub fetch_flaws : Here → ℕ → ℕ → List Span1 → List Flaw
   fetch_flaws here b h region = line_flaws here.line (fetch_is_named here b h region) (spans_are_within_limits region) true (fetch_is_taken here region)

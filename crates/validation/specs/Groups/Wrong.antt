@@ -13,7 +13,6 @@ use Rattle.plan.specs.Certificate.Certificate.{Certificate}
 use Rattle.plan.specs.Certificate.Cells.{piece_count}
 use Rattle.headline.specs.Sound.{publishes}
 use Rattle.lin.specs.declared.span.Span1.{Span1}
-use Rattle.soundness.specs.Outline.Forms.{grid_symbols}
 use Rattle.plan.specs.Semantics.Run.{Source, Input, ByClaim, Unknown}
 use Rattle.soundness.specs.Origins.{Outline}
 use Rattle.soundness.specs.Given.{outline_of}
@@ -161,16 +160,15 @@ FoldsNone (From form n) = ⊥
 FoldsNone (Folded n) = n ≡ 0
 
 -- Each end of a span has one to four forms. Folds are by one or more, and buffers up to a line have 2^22 places at most. A fetch
--- stands before loops, choices, guards and stores, and its region is told in symbols of the grid. Stored expressions are small.
--- What publishes is the last line of its group.
-abbrev pub PassesLimit : Group → Statement → Here → Type 0
-PassesLimit g (For i x kind body) here = SpanIsUnlisted x
-PassesLimit g (Let i pick forms) here = IsUnlisted forms
-PassesLimit g (Alloc b f places) here = Any FoldsNone places ⊎ (2 ^ 22 < here.used + product (map place_count places))
-PassesLimit g (Fetch b h region) here = (here.fetching ≡ false) ⊎ (RegionIsUnlisted region ⊎ RegionNamesOther (grid_symbols (length g.grid)) region)
-PassesLimit g (Store b k at e) here = IsLarge e ⊎ Any (λ x. IndexIsLarge x.index) at
-PassesLimit g (Publish k) here = here.last ≡ false
-PassesLimit g _ here = ⊥
+-- stands before loops, choices, guards and stores. Stored expressions are small. What publishes is the last line of its group.
+abbrev pub PassesLimit : Statement → Here → Type 0
+PassesLimit (For i x kind body) here = SpanIsUnlisted x
+PassesLimit (Let i pick forms) here = IsUnlisted forms
+PassesLimit (Alloc b f places) here = Any FoldsNone places ⊎ (2 ^ 22 < here.used + product (map place_count places))
+PassesLimit (Fetch b h region) here = (here.fetching ≡ false) ⊎ RegionIsUnlisted region
+PassesLimit (Store b k at e) here = IsLarge e ⊎ Any (λ x. IndexIsLarge x.index) at
+PassesLimit (Publish k) here = here.last ≡ false
+PassesLimit _ here = ⊥
 
 -- an end of a group's region has no form or more than four, or the span has no number or more than 8192
 abbrev pub PassesExtent : Span1 → Type 0
@@ -192,7 +190,7 @@ GroupPassesLimit p n g =
 
 -- a limit of the format is passed at the line
 abbrev pub PassesLimitAt : Plan → ℕ → Type 0
-PassesLimitAt p line = Begins p (GroupPassesLimit p) line ⊎ StandsIn p (λ n g s here. PassesLimit g s here) line
+PassesLimitAt p line = Begins p (GroupPassesLimit p) line ⊎ StandsIn p (λ n g. PassesLimit) line
 
 -- ---- K12
 

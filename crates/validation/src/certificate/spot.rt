@@ -16,7 +16,7 @@ use std::alloc::{AllocError, Global};
 pub(crate) struct Spot {
     pub symbols: Vec<Sym>,
     pub loops: Vec<Sym>,
-    pub buffers: Vec<u32>,
+    pub buffers: Vec<u64>,
 }
 
 impl Spot {

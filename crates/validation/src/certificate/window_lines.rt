@@ -123,7 +123,7 @@ fn is_kept(alloc: Global, plan: &Plan, cert: &Cert, window: &Window) -> Result<b
 }
 
 /// Whether one of these windows is of the claim.
-fn is_of_some(windows: &[Window], claim: u32) -> bool
+fn is_of_some(windows: &[Window], claim: u64) -> bool
     ensures { result ≡ list_any (λ v. v.claim == claim) windows.now }
 {
     windows.iter().any(|one| one.claim == claim)

@@ -20,7 +20,7 @@ pub(crate) struct Here {
     pub line: u32,
     pub symbols: Vec<Sym>,
     pub loops: Vec<Sym>,
-    pub buffers: Vec<u32>,
+    pub buffers: Vec<u64>,
     pub used: u64,
     pub fetching: bool,
 }

@@ -9,14 +9,14 @@ ghost use Rattle.plan.specs.Lists.{list_statements};
 ghost use Rattle.plan.specs.Plan.{Guard, block};
 ghost use Rattle.plan.specs.View.{coordinate_of, statement_of};
 ghost use Rattle.lin.specs.Forms.{is_within_limits as is_limited};
-ghost use Rattle.soundness.specs.Outline.Forms.{are_over, are_within_limits, is_listed, is_over as form_is_over};
+ghost use Rattle.soundness.specs.Outline.Forms.{are_over, are_within_limits, have_ends, is_listed, is_over as form_is_over};
 ghost use Rattle.soundness.specs.Outline.Flaws.{first_of, told};
 ghost use Rattle.soundness.specs.Outline.View.{certificate_in, group_in, outline_in, plan_in};
 ghost use Rattle.validation.specs.Stored.Definitions.{definition_held, function_in, has_variables as known_with, parts_named};
 ghost use Rattle.validation.specs.Groups.Sizes.{more, places_count};
 ghost use Rattle.validation.specs.Stored.Sizes.{is_small};
 ghost use Rattle.validation.specs.Groups.Here.{here_of};
-ghost use Rattle.validation.specs.Groups.Lines.{alloc_flaws, block_flaws, definition_is_named, definition_is_stored, fetch_flaws, fetch_is_named, fetch_is_taken, flaws, in_later, inside, is_claim_of, is_empty, is_foldable, is_new, is_one_of, line_flaws, loop_flaws, place_is_over, place_is_within, publish_flaws, store_flaws};
+ghost use Rattle.validation.specs.Groups.Lines.{alloc_flaws, block_flaws, definition_is_named, definition_is_stored, fetch_flaws, fetch_is_named, flaws, in_later, inside, is_claim_of, is_empty, is_foldable, is_new, is_one_of, line_flaws, loop_flaws, place_is_over, place_is_within, publish_flaws, store_flaws};
 ghost use Rattle.validation.specs.Stored.Stored.{index_is_over, index_is_small, index_is_within};
 
 use crate::among::{is_among, is_bound};
@@ -222,7 +222,7 @@ fn alloc_is_limited(here: &Here, places: &[Places]) -> bool
 fn fetch_is_named(
     ground: Ground<'_, '_>,
     here: &Here,
-    buffer: u32,
+    buffer: u64,
     group: u64,
     region: &[Span1],
 ) -> bool
@@ -243,19 +243,18 @@ fn is_group(ground: Ground<'_, '_>, group: u64) -> bool
     group < ground.outlined.plan().groups.len() as u64
 }
 
-/// Whether what a line `fetch` fetches is decided: it stands before loops, choices, guards and stores, and its region is told in
-/// symbols of the grid.
-fn fetch_is_taken(ground: Ground<'_, '_>, here: &Here, region: &[Span1]) -> bool
-    ensures { result ≡ fetch_is_taken (algorithm_of ground.entry.algo.now) (plan_in ground.entry.outlined.now) (certificate_in ground.entry.outlined.now) (group_in ground.entry.outlined.now) (outline_in ground.entry.outlined.now) (here_of ground.entry.lines here.now true) region.now }
+/// Whether a line `fetch` stands before loops, choices, guards and stores, and its region has ends.
+fn fetch_is_taken(here: &Here, region: &[Span1]) -> bool
+    ensures { result ≡ (here.now.fetching && have_ends region.now) }
 {
-    here.fetching && have_ends(region) && spans_are_over(ground.grid, region)
+    here.fetching && have_ends(region)
 }
 
 /// The flaw of a line `fetch`.
 fn fetch_flaw(
     ground: Ground<'_, '_>,
     here: &Here,
-    buffer: u32,
+    buffer: u64,
     group: u64,
     region: &[Span1],
 ) -> Option<Flaw>
@@ -263,13 +262,7 @@ fn fetch_flaw(
 {
     let named = fetch_is_named(ground, here, buffer, group, region);
     let within = spans_are_within_limits(region);
-    line_flaw(
-        here.line,
-        named,
-        within,
-        true,
-        fetch_is_taken(ground, here, region),
-    )
+    line_flaw(here.line, named, within, true, fetch_is_taken(here, region))
 }
 
 /// Whether the symbols of the coordinate's form, if it is given by one, are among these.
@@ -330,7 +323,7 @@ fn definition_is_named(
     ground: Ground<'_, '_>,
     here: &Here,
     defined: Option<Defined<'_>>,
-    buffer: u32,
+    buffer: u64,
     coordinates: &[Coordinate],
     value: &Expr,
 ) -> bool
@@ -370,7 +363,7 @@ fn store_flaw(
     alloc: Global,
     ground: Ground<'_, '_>,
     here: &Here,
-    buffer: u32,
+    buffer: u64,
     definition: u64,
     coordinates: &[Coordinate],
     value: &Expr,
@@ -394,7 +387,7 @@ fn store_is_named(
     ground: Ground<'_, '_>,
     here: &Here,
     defined: Option<Defined<'_>>,
-    buffer: u32,
+    buffer: u64,
     coordinates: &[Coordinate],
     value: &Expr,
 ) -> bool
@@ -431,7 +424,7 @@ fn is_stored_if_small(
 }
 
 /// Whether there is a claim of this number, of the group and of its function.
-fn is_claim_of_group(ground: Ground<'_, '_>, claim: u32) -> bool
+fn is_claim_of_group(ground: Ground<'_, '_>, claim: u64) -> bool
     ensures { result ≡ is_claim_of ground.entry.lines (slice_get (certificate_in ground.entry.outlined.now).claims claim) (group_in ground.entry.outlined.now).function }
 {
     match ground.outlined.claim(claim) {
@@ -447,7 +440,7 @@ fn is_claim_of_group(ground: Ground<'_, '_>, claim: u32) -> bool
 }
 
 /// The flaw of a line `publish`.
-fn publish_flaw(ground: Ground<'_, '_>, here: &Here, last: bool, claim: u32) -> Option<Flaw>
+fn publish_flaw(ground: Ground<'_, '_>, here: &Here, last: bool, claim: u64) -> Option<Flaw>
     ensures { told result ≡ first_of (publish_flaws (algorithm_of ground.entry.algo.now) (plan_in ground.entry.outlined.now) (certificate_in ground.entry.outlined.now) (group_in ground.entry.outlined.now) (outline_in ground.entry.outlined.now) (here_of ground.entry.lines here.now last) claim) }
 {
     line_flaw(

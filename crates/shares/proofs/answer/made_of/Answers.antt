@@ -126,6 +126,7 @@ returns-clause-shares c =
     let serves : Serve c.deref-2.result.now = rw c.in_default-2.is at c.in_ok-piece.ensures in
     let sound : AreSound c.cell_count-cells.result ps = none_verdict c.cell_count-cells.result ps owners lists long all (subst Serve c.deref-2.ensures.value serves) in
     record {
+      near = c.requires.near;
       inside = all_inside p cert stands.own;
       cells = known_all p cert ps count made;
       pieces = pieces_all p cert ps count made;

@@ -1,5 +1,5 @@
 use Rattle.std.proofs.Common.{◌≡◌, ◌-◌, ◌^◌, min, take}
-use Rattle.shares.specs.Counts.{fetched_by}
+use Rattle.shares.specs.FetchLines.{fetched_by}
 use Rattle.shares.specs.Noted.{line_of}
 use Rattle.shares.specs.Seats.{pieces_of}
 use Rattle.shares.proofs.counts.cells_by.Given as goal

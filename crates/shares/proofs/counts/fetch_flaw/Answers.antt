@@ -2,9 +2,9 @@ use Rattle.std.proofs.Common.{◌≡◌, ◌∙◌, List, length, map, ap, refl,
 use Rattle.plan.specs.Plan.{Plan}
 use Rattle.plan.specs.View.{plan_of}
 use Rattle.plan.specs.Certificate.Certificate.{Certificate, certificate_of}
-use Rattle.shares.specs.Counts.{plan_fetch_lines}
+use Rattle.shares.specs.FetchLines.{plan_fetch_lines}
 use Rattle.shares.specs.Noted.{lines_noted, told_line}
-use Rattle.shares.proofs.Passing.{region_limited, room_left, passes_here, all_have_room}
+use Rattle.shares.proofs.Passing.{region_limited, lets_limited, line_near, room_left, passes_here, all_have_room}
 use Rattle.shares.proofs.counts.fetch_flaw.Goals as goal
 
 pub loop-line-init : goal.loop-line-init
@@ -16,6 +16,20 @@ cells_by-requires-clause-region c =
     let held = c.deref-line-items.result.now in
     let all : lines_noted held ≡ map told_line (plan_fetch_lines (plan_of x.plan.now)) = ap lines_noted c.deref-line-items.ensures.value ∙ c.in_ok-lines.ensures in
     region_limited (plan_of x.plan.now) (certificate_of x.cert.now) c.requires.shared held all c.loop-line.line-index c.line-item.result c.loop-line-test.true c.line-item.is
+
+pub cells_by-requires-clause-lets : goal.cells_by-requires-clause-lets
+cells_by-requires-clause-lets c =
+    let x = c.args.layout.now in
+    let held = c.deref-line-items.result.now in
+    let all : lines_noted held ≡ map told_line (plan_fetch_lines (plan_of x.plan.now)) = ap lines_noted c.deref-line-items.ensures.value ∙ c.in_ok-lines.ensures in
+    lets_limited (plan_of x.plan.now) (certificate_of x.cert.now) c.requires.shared held all c.loop-line.line-index c.line-item.result c.loop-line-test.true c.line-item.is
+
+pub cells_by-requires-clause-near : goal.cells_by-requires-clause-near
+cells_by-requires-clause-near c =
+    let x = c.args.layout.now in
+    let held = c.deref-line-items.result.now in
+    let all : lines_noted held ≡ map told_line (plan_fetch_lines (plan_of x.plan.now)) = ap lines_noted c.deref-line-items.ensures.value ∙ c.in_ok-lines.ensures in
+    line_near (plan_of x.plan.now) (certificate_of x.cert.now) c.requires.shared held all c.loop-line.line-index c.line-item.result c.loop-line-test.true c.line-item.is c.requires.near
 
 pub returns-then-count-room : goal.returns-then-count-room
 returns-then-count-room c =

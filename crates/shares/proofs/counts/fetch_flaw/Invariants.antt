@@ -1,7 +1,7 @@
 use Rattle.std.proofs.Common.{◌≡◌, ◌+◌, ◌^◌, take}
 use Rattle.plan.specs.View.{plan_of}
 use Rattle.plan.specs.Certificate.Cells.{pieces}
-use Rattle.shares.specs.Counts.{fetched_by_lines}
+use Rattle.shares.specs.FetchLines.{fetched_by_lines}
 use Rattle.shares.specs.Noted.{lines_noted}
 use Rattle.shares.proofs.counts.fetch_flaw.Given as goal
 

@@ -1,6 +1,6 @@
 use Rattle.std.proofs.Common.{◌≡◌, ◌++◌, drop, map}
 use Rattle.plan.specs.View.{plan_of}
-use Rattle.shares.specs.Counts.{fetch_lines_from, plan_fetch_lines}
+use Rattle.shares.specs.FetchLines.{fetch_lines_from, plan_fetch_lines}
 use Rattle.shares.specs.Noted.{lines_noted, told_line}
 use Rattle.shares.proofs.counts.fetch_lines.Given as goal
 

@@ -3,13 +3,13 @@ use Rattle.std.specs.Int.{int_max}
 use Rattle.std.proofs.lemmas.Int.{to_z-of_z}
 use Rattle.lin.specs.Forms.{Form}
 use Rattle.plan.specs.Symbols.{form_value, largest}
-use Rattle.plan.specs.Certificate.Cells.{grid_symbols}
+use Rattle.shares.specs.Lets.{symbols_at}
 use Rattle.shares.proofs.Summing.{largest_first}
 use Rattle.shares.proofs.forms.largest.Goals as goal
 
 pub returns-in-len1-up-clause-value : goal.returns-in-len1-up-clause-value
 returns-in-len1-up-clause-value c =
-    let s = grid_symbols c.args.at.now in
+    let s = symbols_at c.args.at.now c.args.lets.now in
     let fs = c.as_slice.result.now in
     let r_fits : SFits w64 c.larger_of.result = search rules in
     let v_fits : SFits w64 c.value_of.result = search rules in

@@ -3,14 +3,14 @@ use Rattle.std.specs.Int.{int_min}
 use Rattle.std.proofs.lemmas.Int.{to_z-of_z}
 use Rattle.lin.specs.Forms.{Form, IsWithin}
 use Rattle.plan.specs.Symbols.{form_value}
-use Rattle.plan.specs.Certificate.Cells.{grid_symbols}
+use Rattle.shares.specs.Lets.{symbols_at}
 use Rattle.shares.proofs.Summing.{fold_next}
 use Rattle.shares.proofs.Values.{smaller_small}
 use Rattle.shares.proofs.forms.smaller_of.Goals as goal
 
 pub loop-form-preserved : goal.loop-form-preserved
 loop-form-preserved c =
-    let s = grid_symbols c.args.at.now in
+    let s = symbols_at c.args.at.now c.args.lets.now in
     let r_fits : SFits w64 c.min-found.result = search rules in
     let w_fits : SFits w64 c.value_of.result = search rules in
     let f_fits : SFits w64 (to_z w64 c.loop-form.found-bits) = search rules in

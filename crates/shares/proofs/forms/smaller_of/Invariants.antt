@@ -2,11 +2,11 @@ use Rattle.std.proofs.Common.{◌≡◌, take, map, fold, ◌^◌}
 use Rattle.std.specs.Int.{int_min}
 use Rattle.lin.specs.Forms.{IsWithin}
 use Rattle.plan.specs.Symbols.{form_value}
-use Rattle.plan.specs.Certificate.Cells.{grid_symbols}
+use Rattle.shares.specs.Lets.{symbols_at}
 use Rattle.shares.proofs.forms.smaller_of.Given as goal
 
 abbrev pub invariant-loop-form : goal.invariant-loop-form
 invariant-loop-form l = record {
-  value : l.found ≡ fold int_min l.first (map (λ m. form_value m (grid_symbols l.at)) (take l.form-index l.forms));
+  value : l.found ≡ fold int_min l.first (map (λ m. form_value m (symbols_at l.at l.lets)) (take l.form-index l.forms));
   small : IsWithin (2 ^ 44) l.found;
 }

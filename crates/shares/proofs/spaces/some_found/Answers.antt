@@ -1,7 +1,7 @@
 use Rattle.std.proofs.Common.{◌<◌, ◌+◌, ◌-◌, ◌^◌, ℕ, List, length, map, filter, ap, sym, ◌∙◌, subst, arith, min}
 use Rattle.std.specs.Prelude.{All}
 use Rattle.plan.specs.Symbols.{points}
-use Rattle.plan.specs.Certificate.Cells.{grid_symbols}
+use Rattle.shares.specs.Lets.{symbols_at}
 use Rattle.shares.specs.declared.boxes.Side.{Side}
 use Rattle.shares.specs.Boxes.{is_in_box, sides, point_count}
 use Rattle.shares.specs.Walked.{shared_cells}
@@ -10,7 +10,7 @@ use Rattle.shares.proofs.spaces.some_found.Goals as goal
 
 pub returns-clause-numbers : goal.returns-clause-numbers
 returns-clause-numbers c =
-    let s = grid_symbols c.args.at.now in
+    let s = symbols_at c.args.at.now c.args.lets.now in
     let region = c.args.region.now in
     let R = c.args.space.now.sides.items in
     let own = c.deref.ensures.value ∙ c.in_ok-own.ensures.sides in
@@ -19,7 +19,7 @@ returns-clause-numbers c =
 
 pub returns-clause-whole : goal.returns-clause-whole
 returns-clause-whole c =
-    let s = grid_symbols c.args.at.now in
+    let s = symbols_at c.args.at.now c.args.lets.now in
     let region = c.args.region.now in
     let R = c.args.space.now.sides.items in
     let own = c.deref.ensures.value ∙ c.in_ok-own.ensures.sides in

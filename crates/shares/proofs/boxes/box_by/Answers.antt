@@ -3,11 +3,11 @@ use Rattle.std.specs.Prelude.{All}
 use Rattle.std.proofs.lemmas.List.{take_more, map-append}
 use Rattle.std.proofs.lemmas.List.Elements.{All-push, All-get_or}
 use Rattle.lin.specs.declared.span.Span1.{Span1}
-use Rattle.plan.specs.Certificate.Cells.{grid_symbols}
+use Rattle.shares.specs.Lets.{symbols_at}
 use Rattle.shares.specs.declared.boxes.Side.{Side}
 use Rattle.shares.specs.Boxes.{side, sides, AreLimited}
 use Rattle.shares.specs.Walked.{IsNear}
-use Rattle.shares.proofs.boxes.box_at.Goals as goal
+use Rattle.shares.proofs.boxes.box_by.Goals as goal
 
 pub side_at-requires-clause-limits : goal.side_at-requires-clause-limits
 side_at-requires-clause-limits c =
@@ -16,7 +16,7 @@ side_at-requires-clause-limits c =
 
 pub loop-span-preserved : goal.loop-span-preserved
 loop-span-preserved c =
-    let s = grid_symbols c.args.at.now in
+    let s = symbols_at c.args.at.now c.args.lets.now in
     let xs = c.args.region.now in
     let i = c.loop-span.span-index in
     let x = c.span-item.result in

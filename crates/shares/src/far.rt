@@ -1,0 +1,69 @@
+//! Fetch lines of which it can't be told what they read.
+
+ghost use Rattle.std.specs.Prelude.{◌≡◌, IfOk, IsTrue, IsFalse, All, MatchOption};
+ghost use Rattle.plan.specs.View.{plan_of};
+ghost use Rattle.plan.specs.Certificate.Cells.{grid_symbols, pieces};
+ghost use Rattle.shares.specs.Boxes.{IsSmall};
+ghost use Rattle.shares.specs.FetchLines.{FetchIsFar, LetsAreNear, LineIsNear, plan_fetch_lines};
+ghost use Rattle.shares.specs.Lets.{AreNear, NamingsAreLimited, namings_of};
+ghost use Rattle.shares.specs.Noted.{line_of};
+ghost use Rattle.shares.specs.Seats.{AreSmall, pieces_of};
+
+use crate::counts::{FetchLine, fetch_lines};
+use crate::lets::near_values;
+use crate::seats::Seat;
+use plan::Plan;
+use std::alloc::{AllocError, Global};
+
+/// Whether some line `let` before a fetch line comes to no near number in a piece that is of the line's group.
+fn is_far_at(alloc: Global, line: &FetchLine<'_>, seat: &Seat) -> Result<bool, AllocError>
+    requires lets { NamingsAreLimited (namings_of line.now.lets.items) }
+    requires at { IsSmall seat.now.at.items }
+    ensures near { IfOk result (λ far. IsFalse far → seat.now.group ≡ line.now.group → AreNear (namings_of line.now.lets.items) (grid_symbols seat.now.at.items)) }
+    ensures far { IfOk result (λ far. IsTrue far → (seat.now.group ≡ line.now.group) × ¬ AreNear (namings_of line.now.lets.items) (grid_symbols seat.now.at.items)) }
+{
+    if seat.group != line.group {
+        return Ok(false);
+    }
+    match near_values(alloc, &line.lets, &seat.at)? {
+        Some(_) => Ok(false),
+        None => Ok(true),
+    }
+}
+
+/// Whether some line `let` before a fetch line comes to no near number in some piece of the line's group.
+fn is_far(alloc: Global, line: &FetchLine<'_>, seats: &[Seat]) -> Result<bool, AllocError>
+    requires lets { NamingsAreLimited (namings_of line.now.lets.items) }
+    requires small { AreSmall seats.now }
+    ensures near { IfOk result (λ far. IsFalse far → LineIsNear (pieces_of seats.now) (line_of line.now)) }
+    ensures far { IfOk result (λ far. IsTrue far → ¬ LineIsNear (pieces_of seats.now) (line_of line.now)) }
+{
+    for seat in seats {
+        if is_far_at(alloc, line, seat)? {
+            return Ok(true);
+        }
+    }
+    Ok(false)
+}
+
+/// The first fetch line before which some line `let` comes to no near number in some piece of its group, if there is one.
+///
+/// The time is linear in the fetch lines, and for each of them in the pieces and the forms of the lines `let` before it.
+pub(crate) fn far_line(
+    alloc: Global,
+    plan: &Plan,
+    seats: &[Seat],
+) -> Result<Option<u32>, AllocError>
+    requires lets { All (λ x. NamingsAreLimited x.lets) (plan_fetch_lines (plan_of plan.now)) }
+    requires seats { pieces_of seats.now ≡ pieces (plan_of plan.now) }
+    requires small { AreSmall seats.now }
+    ensures { IfOk result (λ found. MatchOption found (LetsAreNear (plan_of plan.now)) (FetchIsFar (plan_of plan.now))) }
+{
+    let lines = fetch_lines(alloc, plan)?;
+    for line in &lines {
+        if is_far(alloc, line, seats)? {
+            return Ok(Some(line.line));
+        }
+    }
+    Ok(None)
+}
