@@ -49,7 +49,7 @@ const HELD: &[Held] = &[
     },
 ];
 
-fn row(alloc: Global, buffer: u32, count: u64) -> Made<Stmt> {
+fn row(alloc: Global, buffer: u64, count: u64) -> Made<Stmt> {
     let places = one(alloc, places(alloc, (0, 0, 0), count));
     room(alloc, buffer, "out", places)
 }

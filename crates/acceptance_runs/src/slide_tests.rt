@@ -121,7 +121,7 @@ fn f_turn(alloc: Global, asked: Sym) -> Made<Stmt> {
 }
 
 // Four columns of some rows.
-fn columns_of(alloc: Global, buffer: u32, function: &str, rows: Made<Places>) -> Made<Stmt> {
+fn columns_of(alloc: Global, buffer: u64, function: &str, rows: Made<Places>) -> Made<Stmt> {
     let columns = places(alloc, (0, 0, 0), 4);
     room(alloc, buffer, function, then(one(alloc, columns), rows))
 }

@@ -73,7 +73,7 @@ pub(crate) fn finds(alloc: Global, variable: &str, value: Made<Expr>) -> Made<Co
 
 // The store of a definition's value.
 pub(crate) fn store(
-    buffer: u32,
+    buffer: u64,
     definition: u64,
     coordinates: Made<Vec<Coordinate>>,
     value: Made<Expr>,
@@ -98,7 +98,7 @@ pub(crate) fn places(alloc: Global, origin: Form, count: u64) -> Made<Places> {
 // A buffer.
 pub(crate) fn room(
     alloc: Global,
-    buffer: u32,
+    buffer: u64,
     function: &str,
     places: Made<Vec<Places>>,
 ) -> Made<Stmt> {
@@ -111,7 +111,7 @@ pub(crate) fn room(
 }
 
 // The cells of a group.
-pub(crate) fn fetch(alloc: Global, buffer: u32, group: u64, ends: &[Ends]) -> Made<Stmt> {
+pub(crate) fn fetch(alloc: Global, buffer: u64, group: u64, ends: &[Ends]) -> Made<Stmt> {
     Ok(Stmt::Fetch {
         buffer,
         group,
@@ -119,7 +119,7 @@ pub(crate) fn fetch(alloc: Global, buffer: u32, group: u64, ends: &[Ends]) -> Ma
     })
 }
 
-pub(crate) fn publish(claim: u32) -> Made<Stmt> {
+pub(crate) fn publish(claim: u64) -> Made<Stmt> {
     Ok(Stmt::Publish { claim })
 }
 
@@ -174,7 +174,7 @@ pub(crate) fn plan(alloc: Global, frame: Frame, body: Made<Vec<Stmt>>) -> Made<P
 #[derive(Clone, Copy, Drop)]
 pub(crate) struct Held {
     pub line: u64,
-    pub buffer: u32,
+    pub buffer: u64,
     pub function: &'static str,
     pub definition: u64,
     pub region: &'static [Ends],

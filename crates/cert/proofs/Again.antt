@@ -55,7 +55,7 @@ need_again n fits =
     rw (size_again n.group (32 ∷ (count_text n.needed ++ behind)) fits.group refl, size_again n.needed behind fits.needed refl, region_alone n.region fits.region) refl
 
 pub record WindowFits (w : Window) : Type 0 where
-  pub claim : fits_count w.claim ≡ true
+  pub claim : fits_size w.claim ≡ true
   pub symbol : fits_symbol w.symbol ≡ true
   pub dimension : fits_size w.dimension ≡ true
   pub fold : fits_size w.fold ≡ true
@@ -63,10 +63,10 @@ pub record WindowFits (w : Window) : Type 0 where
 
 pub window_fits : (w : Window) → fits_line (WindowLine w) ≡ true → WindowFits w
 window_fits w fits =
-    let p = both (fits_count w.claim && fits_symbol w.symbol && fits_size w.dimension && fits_size w.fold) (fits_span w.span) fits in
-    let q = both (fits_count w.claim && fits_symbol w.symbol && fits_size w.dimension) (fits_size w.fold) p.0 in
-    let r = both (fits_count w.claim && fits_symbol w.symbol) (fits_size w.dimension) q.0 in
-    let s = both (fits_count w.claim) (fits_symbol w.symbol) r.0 in
+    let p = both (fits_size w.claim && fits_symbol w.symbol && fits_size w.dimension && fits_size w.fold) (fits_span w.span) fits in
+    let q = both (fits_size w.claim && fits_symbol w.symbol && fits_size w.dimension) (fits_size w.fold) p.0 in
+    let r = both (fits_size w.claim && fits_symbol w.symbol) (fits_size w.dimension) q.0 in
+    let s = both (fits_size w.claim) (fits_symbol w.symbol) r.0 in
     record { claim = s.0; symbol = s.1; dimension = r.1; fold = q.1; span = p.1 }
 
 window_again : (w : Window) → WindowFits w → window_from (window_text w) ≡ w
@@ -76,7 +76,7 @@ window_again w fits =
     let sized = 32 ∷ (count_text w.fold ++ folded) in
     let named = 32 ∷ (count_text w.dimension ++ sized) in
     rw (
-      count_again w.claim (32 ∷ (symbol_text w.symbol ++ named)) fits.claim refl,
+      size_again w.claim (32 ∷ (symbol_text w.symbol ++ named)) fits.claim refl,
       symbol_again w.symbol named fits.symbol refl,
       size_again w.dimension sized fits.dimension refl,
       size_again w.fold folded fits.fold refl,
@@ -87,7 +87,7 @@ window_again w fits =
 pub record ClaimFits (k : ℕ) (c : Claim) : Type 0 where
   pub number : fits_count k ≡ true
   pub line : fits_size c.line ≡ true
-  pub buffer : fits_count c.buffer ≡ true
+  pub buffer : fits_size c.buffer ≡ true
   pub function : is_name c.function ≡ true
   pub definition : fits_size c.definition ≡ true
   pub region : fits_region c.region ≡ true
@@ -97,10 +97,10 @@ counted k h = let lt = ltb-true k 4096 h in lt-ltb k (2 ^ 32) (omega arith)
 
 pub claim_fits : (k : ℕ) (c : Claim) → fits_line (ClaimLine k c) ≡ true → ClaimFits k c
 claim_fits k c fits =
-    let p = both (nat_lt k 4096 && fits_size c.line && fits_count c.buffer && is_name c.function && fits_size c.definition) (fits_region c.region) fits in
-    let q = both (nat_lt k 4096 && fits_size c.line && fits_count c.buffer && is_name c.function) (fits_size c.definition) p.0 in
-    let r = both (nat_lt k 4096 && fits_size c.line && fits_count c.buffer) (is_name c.function) q.0 in
-    let s = both (nat_lt k 4096 && fits_size c.line) (fits_count c.buffer) r.0 in
+    let p = both (nat_lt k 4096 && fits_size c.line && fits_size c.buffer && is_name c.function && fits_size c.definition) (fits_region c.region) fits in
+    let q = both (nat_lt k 4096 && fits_size c.line && fits_size c.buffer && is_name c.function) (fits_size c.definition) p.0 in
+    let r = both (nat_lt k 4096 && fits_size c.line && fits_size c.buffer) (is_name c.function) q.0 in
+    let s = both (nat_lt k 4096 && fits_size c.line) (fits_size c.buffer) r.0 in
     let t = both (nat_lt k 4096) (fits_size c.line) s.0 in
     record { number = counted k t.0; line = t.1; buffer = s.1; function = r.1; definition = q.1; region = p.1 }
 
@@ -118,7 +118,7 @@ claim_with line buffer function =
     let region = region_from (drop 1 definition.1) in
     record { line = line; buffer = buffer; function = function.0; definition = definition.0; region = region.0 }
 
-claim_split : (text : List ℕ) → claim_from text ≡ claim_with (size_from (drop 1 text)).0 (count_from (drop 2 (size_from (drop 1 text)).1)).0 (name_from (drop 1 (count_from (drop 2 (size_from (drop 1 text)).1)).1))
+claim_split : (text : List ℕ) → claim_from text ≡ claim_with (size_from (drop 1 text)).0 (size_from (drop 2 (size_from (drop 1 text)).1)).0 (name_from (drop 1 (size_from (drop 2 (size_from (drop 1 text)).1)).1))
 unfolding claim_from claim_with
 claim_split text = refl
 
@@ -126,12 +126,12 @@ claim_end : (c : Claim) → fits_size c.definition ≡ true → fits_region c.re
 unfolding claim_with
 claim_end c p q = rw (size_again c.definition (32 ∷ region_text c.region) p refl, region_alone c.region q) refl
 
-claim_front : (c : Claim) (behind : List ℕ) → fits_size c.line ≡ true → fits_count c.buffer ≡ true
+claim_front : (c : Claim) (behind : List ℕ) → fits_size c.line ≡ true → fits_size c.buffer ≡ true
     → claim_from (32 ∷ (count_text c.line ++ (32 ∷ (98 ∷ (count_text c.buffer ++ (32 ∷ behind)))))) ≡ claim_with c.line c.buffer (name_from behind)
 claim_front c behind p q =
     claim_split (32 ∷ (count_text c.line ++ (32 ∷ (98 ∷ (count_text c.buffer ++ (32 ∷ behind))))))
-    ∙ ap (λ (n : ℕ × List ℕ). claim_with n.0 (count_from (drop 2 n.1)).0 (name_from (drop 1 (count_from (drop 2 n.1)).1))) (size_again c.line (32 ∷ (98 ∷ (count_text c.buffer ++ (32 ∷ behind)))) p refl)
-    ∙ ap (λ (n : ℕ × List ℕ). claim_with c.line n.0 (name_from (drop 1 n.1))) (count_again c.buffer (32 ∷ behind) q refl)
+    ∙ ap (λ (n : ℕ × List ℕ). claim_with n.0 (size_from (drop 2 n.1)).0 (name_from (drop 1 (size_from (drop 2 n.1)).1))) (size_again c.line (32 ∷ (98 ∷ (count_text c.buffer ++ (32 ∷ behind)))) p refl)
+    ∙ ap (λ (n : ℕ × List ℕ). claim_with c.line n.0 (name_from (drop 1 n.1))) (size_again c.buffer (32 ∷ behind) q refl)
 
 claim_again : (k : ℕ) (c : Claim) → ClaimFits k c → claim_from (claim_behind c) ≡ c
 unfolding claim_behind

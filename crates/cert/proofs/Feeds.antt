@@ -33,9 +33,9 @@ line_feedless (NeedLine n) fits =
 line_feedless (ClaimLine k c) fits =
     let f = claim_fits k c fits in
     words_feedless (codes "claim" ∷ count_text k ∷ count_text c.line ∷ (98 ∷ count_text c.buffer) ∷ c.function ∷ count_text c.definition ∷ region_text c.region ∷ [])
-    (rw (count_feedless k f.number, size_feedless c.line f.line, count_feedless c.buffer f.buffer, name_feedless c.function f.function, size_feedless c.definition f.definition, region_feedless c.region f.region) refl)
+    (rw (count_feedless k f.number, size_feedless c.line f.line, size_feedless c.buffer f.buffer, name_feedless c.function f.function, size_feedless c.definition f.definition, region_feedless c.region f.region) refl)
 line_feedless (WindowLine w) fits =
     let f = window_fits w fits in
     words_feedless (codes "window" ∷ count_text w.claim ∷ symbol_text w.symbol ∷ count_text w.dimension ∷ count_text w.fold ∷ span_text w.span ∷ [])
-    (rw (count_feedless w.claim f.claim, symbol_feedless w.symbol f.symbol, size_feedless w.dimension f.dimension, size_feedless w.fold f.fold, span_feedless w.span f.span) refl)
+    (rw (size_feedless w.claim f.claim, symbol_feedless w.symbol f.symbol, size_feedless w.dimension f.dimension, size_feedless w.fold f.fold, span_feedless w.span f.span) refl)
 line_feedless End fits = refl

@@ -1,7 +1,7 @@
 -- Which lines have a text, and which may follow which.
 use Rattle.std.specs.Prelude.{◌≡◌, ℕ, ◌+◌, Bool, true, false, ◌&&◌, ◌==◌, nat_lt, List, [], ◌∷◌}
 use Rattle.std.specs.Str.{bytes_eq}
-use Rattle.spelling.specs.Words.Fitting.{fits_count, fits_symbol, fits_span, fits_region, is_name}
+use Rattle.spelling.specs.Words.Fitting.{fits_symbol, fits_span, fits_region, is_name}
 use Rattle.spelling.specs.Sizes.Sizes.{fits_size}
 use Rattle.cert.specs.declared.line.Mark.{Mark}
 use Rattle.cert.specs.declared.line.Mark.TheVariants as mark
@@ -13,8 +13,8 @@ abbrev pub fits_line : Line → Bool
 fits_line Head = true
 fits_line (OwnLine o) = fits_size o.group && fits_region o.region
 fits_line (NeedLine n) = fits_size n.group && fits_size n.needed && fits_region n.region
-fits_line (ClaimLine k c) = nat_lt k 4096 && fits_size c.line && fits_count c.buffer && is_name c.function && fits_size c.definition && fits_region c.region
-fits_line (WindowLine w) = fits_count w.claim && fits_symbol w.symbol && fits_size w.dimension && fits_size w.fold && fits_span w.span
+fits_line (ClaimLine k c) = nat_lt k 4096 && fits_size c.line && fits_size c.buffer && is_name c.function && fits_size c.definition && fits_region c.region
+fits_line (WindowLine w) = fits_size w.claim && fits_symbol w.symbol && fits_size w.dimension && fits_size w.fold && fits_span w.span
 fits_line End = true
 
 -- the line `cert` comes first

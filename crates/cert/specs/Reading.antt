@@ -30,7 +30,7 @@ number_from text = count_from (drop 6 text)
 unfoldable pub claim_from : List ℕ → Claim
 claim_from text =
     let line = size_from (drop 1 text) in
-    let buffer = count_from (drop 2 line.1) in
+    let buffer = size_from (drop 2 line.1) in
     let function = name_from (drop 1 buffer.1) in
     let definition = size_from (drop 1 function.1) in
     let region = region_from (drop 1 definition.1) in
@@ -38,7 +38,7 @@ claim_from text =
 
 unfoldable pub window_from : List ℕ → Window
 window_from text =
-    let claim = count_from (drop 7 text) in
+    let claim = size_from (drop 7 text) in
     let symbol = symbol_from (drop 1 claim.1) in
     let dimension = size_from (drop 1 symbol.1) in
     let fold = size_from (drop 1 dimension.1) in

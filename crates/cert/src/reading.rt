@@ -47,9 +47,9 @@ fn fits_need(need: &Need) -> bool
 fn fits_claim(number: u32, claim: &Claim) -> bool
     ensures { result ≡ order.fits_line (spec.ClaimLine number (claim_of claim.now)) }
 {
-    prove!(claim.buffer <= u32::MAX);
     number < MOST_CLAIMS
         && fits_size(claim.line)
+        && fits_size(claim.buffer)
         && is_name(claim.function.as_bytes())
         && fits_size(claim.definition)
         && fits_region(&claim.region)
@@ -58,8 +58,8 @@ fn fits_claim(number: u32, claim: &Claim) -> bool
 fn fits_window(window: &Window) -> bool
     ensures { result ≡ order.fits_line (spec.WindowLine window.now) }
 {
-    prove!(window.claim <= u32::MAX);
-    fits_symbol(window.symbol)
+    fits_size(window.claim)
+        && fits_symbol(window.symbol)
         && fits_size(window.dimension)
         && fits_size(window.fold)
         && fits_span(&window.span)

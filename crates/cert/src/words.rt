@@ -40,7 +40,7 @@ fn claim_from(alloc: Global, text: &[u8]) -> Result<Claim, AllocError>
     ensures { IfOk result (λ claim. claim_of claim ≡ spec.claim_from text.now) }
 {
     let (line, rest) = size_from(skip(1, text));
-    let (buffer, rest) = count_from(skip(2, rest));
+    let (buffer, rest) = size_from(skip(2, rest));
     let (function, rest) = name_from(alloc, skip(1, rest))?;
     let (definition, rest) = size_from(skip(1, rest));
     let (region, _) = region_from(alloc, skip(1, rest))?;
@@ -57,7 +57,7 @@ fn claim_from(alloc: Global, text: &[u8]) -> Result<Claim, AllocError>
 fn window_from(alloc: Global, text: &[u8]) -> Result<Window, AllocError>
     ensures { IfOk result (λ window. window ≡ spec.window_from text.now) }
 {
-    let (claim, rest) = count_from(skip(7, text));
+    let (claim, rest) = size_from(skip(7, text));
     let (symbol, rest) = symbol_from(skip(1, rest));
     let (dimension, rest) = size_from(skip(1, rest));
     let (fold, rest) = size_from(skip(1, rest));

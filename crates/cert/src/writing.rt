@@ -13,7 +13,7 @@ use itoa::Buffer;
 use lin::{Region, Span1, Sym};
 use plan::certificate::{Cert, Claim, Need, Own, Window};
 use spelling::sizes::put_size;
-use spelling::words::{put_count, put_region, put_span, put_symbol};
+use spelling::words::{put_region, put_span, put_symbol};
 use std::alloc::{AllocError, Global};
 
 /// Writes a blank and a word.
@@ -22,14 +22,6 @@ fn put_word(text: &mut String, word: &str) -> Result<(), AllocError>
 {
     text.push_str(" ")?;
     text.push_str(word)
-}
-
-/// Writes a blank and a count.
-fn put_count_word(text: &mut String, count: u32) -> Result<(), AllocError>
-    ensures { OnOk result (string_bytes text.new ≡ string_bytes text.old ++ (32 ∷ count_text count)) }
-{
-    text.push_str(" ")?;
-    put_count(text, count)
 }
 
 /// Writes a blank and a size.
@@ -41,11 +33,11 @@ fn put_size_word(text: &mut String, size: u64) -> Result<(), AllocError>
 }
 
 /// Writes a blank and a buffer's number.
-fn put_buffer_word(text: &mut String, buffer: u32) -> Result<(), AllocError>
+fn put_buffer_word(text: &mut String, buffer: u64) -> Result<(), AllocError>
     ensures { OnOk result (string_bytes text.new ≡ string_bytes text.old ++ (32 ∷ 98 ∷ count_text buffer)) }
 {
     text.push_str(" b")?;
-    put_count(text, buffer)
+    put_size(text, buffer)
 }
 
 /// Writes a blank and a symbol.
@@ -113,7 +105,7 @@ fn put_window(text: &mut String, window: &Window) -> Result<(), AllocError>
     ensures { OnOk result (string_bytes text.new ≡ string_bytes text.old ++ spec.window_text window.now) }
 {
     text.push_str("window")?;
-    put_count_word(text, window.claim)?;
+    put_size_word(text, window.claim)?;
     put_symbol_word(text, window.symbol)?;
     put_size_word(text, window.dimension)?;
     put_size_word(text, window.fold)?;

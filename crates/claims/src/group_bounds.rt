@@ -97,7 +97,7 @@ fn update_count(functions: &IndexMap<String, Function>, name: &str) -> u64
 }
 
 /// The place of the first window of a claim; how many there are, where none is of it.
-fn first_window(windows: &[Window], claim: u32) -> usize
+fn first_window(windows: &[Window], claim: u64) -> usize
     ensures { result ≡ first_window windows.now claim }
 {
     for (number, window) in windows.iter().enumerate() {
@@ -195,12 +195,12 @@ impl Facts for GroupBounds<'_> {
         definition == update_count(self.bounds.algo.funcs(), function)
     }
 
-    fn claim_line(&self, claim: u32) -> u32 {
+    fn claim_line(&self, claim: u64) -> u32 {
         let cert = self.bounds.outlined.cert();
         cert.claim_line(self.line, claim as usize)
     }
 
-    fn window_line(&self, claim: u32) -> u32 {
+    fn window_line(&self, claim: u64) -> u32 {
         let cert = self.bounds.outlined.cert();
         cert.window_line(self.line, first_window(&cert.windows, claim))
     }

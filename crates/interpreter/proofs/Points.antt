@@ -1,4 +1,4 @@
--- Points of three coordinates and of four.
+-- Points of two coordinates, of three and of four.
 use Rattle.std.proofs.Common.{◌≡◌, ℕ, ◌<◌, ◌≤◌, List, [], ◌∷◌, length, drop, get_or, Option, Some, None, refl, sym, ap, ◌∙◌, arith, ℤ}
 use Rattle.std.specs.Prelude.{IfSome}
 use Rattle.interpreter.specs.declared.evaluation.lanes.Lanes.{Lanes}
@@ -14,7 +14,14 @@ only_three (x ∷ y ∷ []) d from to = absurd (omega arith)
 only_three (x ∷ y ∷ z ∷ []) d from to = refl
 only_three (x ∷ y ∷ z ∷ w ∷ ws) d from to = absurd (omega arith)
 
--- the numbers of three indices at a turn, and of four
+-- the numbers of two indices at a turn, of three, and of four
+pub two_at : (n k : ℕ) (xs : List Lanes) (d : Lanes) (zs ys : List Number) (a b : ℤ) → 2 ≤ length xs → length xs < 3 → ys ≡ drop n zs →
+    a ≡ lane_number (get_or xs 0 d) zs k → b ≡ lane_number (get_or xs 1 d) ys k → (a ∷ b ∷ []) ≡ lanes_at n xs zs k
+two_at n k [] d zs ys a b from to y e f = absurd (omega arith)
+two_at n k (p ∷ []) d zs ys a b from to y e f = absurd (omega arith)
+two_at n k (p ∷ q ∷ []) d zs ys a b from to y e f = (λ i. e i ∷ f i ∷ []) ∙ (λ i. lane_number p zs k ∷ lane_number q (y i) k ∷ [])
+two_at n k (p ∷ q ∷ r ∷ rs) d zs ys a b from to y e f = absurd (omega arith)
+
 pub three_at : (n k : ℕ) (xs : List Lanes) (d : Lanes) (zs ys ws : List Number) (a b c : ℤ) → 3 ≤ length xs → length xs < 4 → ys ≡ drop n zs → ws ≡ drop n ys →
     a ≡ lane_number (get_or xs 0 d) zs k → b ≡ lane_number (get_or xs 1 d) ys k → c ≡ lane_number (get_or xs 2 d) ws k → (a ∷ b ∷ c ∷ []) ≡ lanes_at n xs zs k
 three_at n k [] d zs ys ws a b c from to y w e f g = absurd (omega arith)

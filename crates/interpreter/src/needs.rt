@@ -84,7 +84,7 @@ impl Needs {
     }
 
     /// One more buffer.
-    fn allot(&mut self, buffer: u32, places: &[Places]) -> Result<(), AllocError>
+    fn allot(&mut self, buffer: u64, places: &[Places]) -> Result<(), AllocError>
         ensures { OnOk result (IsNoted self.old self.new (record { buffer = buffer; places = places_in places.now } ∷ []) 0 0 0 (length places.now ≤ 4)) }
     {
         only_if(places.len() <= 4)?;

@@ -80,7 +80,7 @@ fn others(point: &[i64]) -> &[i64]
 /// The places of a row in a buffer, where they lie side by side: those of so many points from the first number on.
 fn places_of<'m>(
     memory: &'m Buffers,
-    buffer: u32,
+    buffer: u64,
     first: i64,
     others: &[i64],
     count: usize,
@@ -114,7 +114,7 @@ fn push_held(places: &[Option<Value>], given: &mut SmallVec<i64, 4>) -> usize
 
 /// Gives the numbers that a claim's buffer holds at the first points of a row, where their places lie side by side: the numbers
 /// that are left.
-fn give_row(piece: &Piece<'_>, claim: u32, numbers: Numbers, state: &mut State) -> Numbers
+fn give_row(piece: &Piece<'_>, claim: u64, numbers: Numbers, state: &mut State) -> Numbers
     requires { RegionIsNarrow (symbols_of piece.now.constants.now) piece.now.group.now.region }
     ensures large { IsAsLarge state.old state.new }
     ensures point { state.new.point ≡ state.old.point }
@@ -164,7 +164,7 @@ fn fetch_places<C: Cells>(
 fn fetch_row<C: Cells>(
     piece: &Piece<'_>,
     cells: &C,
-    buffer: u32,
+    buffer: u64,
     function: &str,
     numbers: Numbers,
     state: &mut State,

@@ -52,7 +52,7 @@ fn group_name(groups: &[Group], group: u64) -> &str
 fn fetch<'a, C: Cells>(
     piece: &'a Piece<'a>,
     cells: &C,
-    buffer: u32,
+    buffer: u64,
     group: u64,
     region: &Region,
     symbols: &Symbols,
@@ -90,7 +90,7 @@ pub(crate) fn own_region(all: &[Own], group: usize) -> Option<&Region>
 fn publish<'a, C: Cells>(
     piece: &'a Piece<'a>,
     cells: &C,
-    claim: u32,
+    claim: u64,
     symbols: &Symbols,
     state: &mut State,
 ) -> Result<(), Stop>

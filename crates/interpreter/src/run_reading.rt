@@ -32,7 +32,7 @@ pub(crate) struct RunReading<'a, 'm> {
     pub piece: &'a Piece<'a>,
     pub coordinates: &'a [Coordinate],
     pub memory: &'m Buffers,
-    pub buffer: u32,
+    pub buffer: u64,
     pub first: &'m [i64],
     pub second: &'m [i64],
 }
@@ -43,7 +43,7 @@ pub(crate) enum Source {
     /// In the input.
     Input,
     /// In a buffer that is not stored to.
-    Buffer(u32),
+    Buffer(u64),
 }
 
 impl RunReading<'_, '_> {
@@ -149,7 +149,7 @@ impl RunReading<'_, '_> {
     }
 
     /// What a buffer has at points that differ in the first coordinate.
-    fn look_places(&self, buffer: u32, others: &[i64], out: &mut [Number]) -> Option<Ty>
+    fn look_places(&self, buffer: u64, others: &[i64], out: &mut [Number]) -> Option<Ty>
         ensures { IfSome result (λ t. (k : ℕ) → k < length out.new → source_at self.now (memory_of self.now.memory.now) (Buffer buffer) (number_at out.old k ∷ others.now) ≡ Some (typed t (number_at out.new k))) }
     {
         match self.memory.scanline(buffer, others) {
@@ -189,7 +189,7 @@ impl RunReading<'_, '_> {
     /// What a buffer has at points whose first coordinate rises by one.
     fn look_place_row(
         &self,
-        buffer: u32,
+        buffer: u64,
         first: i64,
         others: &[i64],
         out: &mut [Number],
@@ -236,7 +236,8 @@ impl RunReading<'_, '_> {
             [first] => self.find(source, &[number_in(*first, registers, turn)?]),
             [first, second] => {
                 let first = number_in(*first, registers, turn)?;
-                self.find(source, &[first, number_in(*second, seconds, turn)?])
+                let second = number_in(*second, seconds, turn)?;
+                self.find(source, &[first, second])
             }
             [first, second, third] => {
                 let first = number_in(*first, registers, turn)?;

@@ -74,7 +74,7 @@ fn numbers_in(
 /// A line that stores.
 #[derive(Clone, Copy, Drop)]
 pub(crate) struct StoreLine<'a> {
-    pub buffer: u32,
+    pub buffer: u64,
     pub coordinates: &'a [Coordinate],
     pub value: &'a Expr,
 }
@@ -288,7 +288,7 @@ fn is_next(first: i64, others: &[i64], second: &[i64]) -> bool
 /// second point tells.
 fn risen_spot(
     memory: &Buffers,
-    buffer: u32,
+    buffer: u64,
     first: &[i64],
     second: &[i64],
     count: usize,
@@ -316,7 +316,7 @@ fn first_numbers(registers: &[Number], count: usize) -> &[Number]
 /// Where the first of a run's stores lies, where those of its later turns lie behind it one by one.
 fn spot_of(
     place: &[Coordinate],
-    buffer: u32,
+    buffer: u64,
     part: Part,
     symbols: &mut Symbols,
     state: &mut State,

@@ -13,7 +13,7 @@ use std::alloc::{AllocError, Global};
 /// A buffer and how many coordinates it has.
 #[derive(Clone, Copy, Debug, Drop)]
 pub(crate) struct Size {
-    pub buffer: u32,
+    pub buffer: u64,
     pub dimensions: usize,
 }
 
@@ -61,7 +61,7 @@ pub(crate) fn sizes_of(alloc: Global, body: &Stmt) -> Result<Vec<Size>, AllocErr
 }
 
 /// How many coordinates a buffer has, 0 where there is no such buffer.
-pub(crate) fn size_in(sizes: &[Size], buffer: u32) -> usize
+pub(crate) fn size_in(sizes: &[Size], buffer: u64) -> usize
     ensures { result ≡ size_in sizes.now buffer }
 {
     for size in sizes {

@@ -65,7 +65,7 @@ fn rooms(alloc: Global, places: &[Places], symbols: &Symbols) -> Rooms
 /// Makes a buffer.
 pub(crate) fn allot(
     alloc: Global,
-    buffer: u32,
+    buffer: u64,
     places: &[Places],
     symbols: &Symbols,
     state: &mut State,
@@ -162,7 +162,7 @@ fn of_reduction(numbers: &[i64], count: usize) -> &[i64]
 /// Stores the value of a definition at a point. A pure definition's point is known, an update's may have to be found.
 pub(crate) fn store<'a>(
     piece: &'a Piece<'a>,
-    buffer: u32,
+    buffer: u64,
     coordinates: &'a [Coordinate],
     value: &Expr,
     symbols: &Symbols,

@@ -30,9 +30,9 @@ use tree::Value;
 #[derive(Clone, Copy, Drop)]
 pub(crate) enum Visit<'a> {
     /// The cell of a function is set in a buffer.
-    Fetch { buffer: u32, function: &'a str },
+    Fetch { buffer: u64, function: &'a str },
     /// What a claim's buffer holds is given, where the point is a cell of the group.
-    Publish { claim: u32 },
+    Publish { claim: u64 },
 }
 
 /// A visit to the points of a region of this piece, where the symbols have these values.
@@ -93,7 +93,7 @@ pub(crate) fn is_in_region(region: &[Span1], point: &[i64], symbols: &Symbols) -
 }
 
 /// The buffer of which a claim speaks, 0 where there is no such claim.
-pub(crate) fn claim_buffer(claims: &[Claim], claim: u32) -> u32
+pub(crate) fn claim_buffer(claims: &[Claim], claim: u64) -> u64
     ensures { result ≡ buffer_in (slice_get (map claim_of claims.now) claim) }
 {
     match claims.get(claim as usize) {
@@ -103,7 +103,7 @@ pub(crate) fn claim_buffer(claims: &[Claim], claim: u32) -> u32
 }
 
 /// Sets the place of the point in a buffer.
-pub(crate) fn set(state: &mut State, buffer: u32, value: Value) -> Result<(), Stop>
+pub(crate) fn set(state: &mut State, buffer: u64, value: Value) -> Result<(), Stop>
     ensures set { SetsOrFaults result state.old state.new buffer state.old.point.items value }
     ensures large { IsAsLarge state.old state.new }
     ensures point { state.new.point ≡ state.old.point }
@@ -116,7 +116,7 @@ pub(crate) fn set(state: &mut State, buffer: u32, value: Value) -> Result<(), St
 }
 
 /// Gives the number that a claim's buffer holds at the point.
-fn give(piece: &Piece<'_>, claim: u32, state: &mut State) -> Result<(), Stop>
+fn give(piece: &Piece<'_>, claim: u64, state: &mut State) -> Result<(), Stop>
     ensures large { OnOk result (IsAsLarge state.old state.new) }
     ensures point { OnOk result (state.new.point ≡ state.old.point) }
     ensures give { (cell : List ℕ → List ℤ → ValueFound) → EndsIn state.old.given.capacity (λ _. progress_of state.new) result (steps (around piece.now cell) (Give claim state.old.point.items ∷ []) (progress_of state.old)) }

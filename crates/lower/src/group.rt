@@ -43,13 +43,13 @@ struct Body<'a> {
     /// By which claims functions are loaded.
     loads: Vec<Load<'a>>,
     /// The number of the next claim.
-    next_claim: u32,
+    next_claim: u64,
     /// The number of the next buffer.
-    next_buffer: u32,
+    next_buffer: u64,
     /// The next symbol.
     next_symbol: Sym,
     /// The buffers of the functions that are computed inside.
-    buffers: Vec<u32>,
+    buffers: Vec<u64>,
     /// What is still to do, the next last.
     agenda: Vec<Task>,
 }
@@ -101,7 +101,7 @@ const OVER_GRID: Spot = Spot {
 pub(crate) struct Beginning {
     pub number: usize,
     pub line: u64,
-    pub claim: u32,
+    pub claim: u64,
 }
 
 impl<'a> Body<'a> {
@@ -119,11 +119,11 @@ impl<'a> Body<'a> {
     fn claim(
         &mut self,
         alloc: Global,
-        buffer: u32,
+        buffer: u64,
         function: &str,
         definition: u64,
         region: Region,
-    ) -> Result<u32, AllocError> {
+    ) -> Result<u64, AllocError> {
         let number = self.next_claim;
         let function = String::from_str(alloc, function)?;
         self.claims.push(Claim {
@@ -142,7 +142,7 @@ impl<'a> Body<'a> {
 
 fn alloc_line(
     alloc: Global,
-    buffer: u32,
+    buffer: u64,
     function: &str,
     places: Vec<Places>,
 ) -> Result<Stmt, AllocError> {
@@ -241,7 +241,7 @@ fn coordinates_of(
 fn store_line(
     alloc: Global,
     map: &[Sym],
-    buffer: u32,
+    buffer: u64,
     root: &Root<'_>,
     definition: usize,
     nest: &Nest,
@@ -433,7 +433,7 @@ fn arrive(
 }
 
 impl<'a> Body<'a> {
-    fn buffer_of(&self, host: Host) -> u32 {
+    fn buffer_of(&self, host: Host) -> u64 {
         match host.number() {
             None => 0,
             Some(number) => match self.buffers.get(number) {

@@ -8,7 +8,7 @@ use tree::{Cond, Expr};
 #[derive(Clone, Copy, Drop)]
 pub(crate) struct Load<'a> {
     pub function: &'a str,
-    pub claim: u32,
+    pub claim: u64,
 }
 
 // The name by which the function is loaded, by the last claim of it; another name stays.

@@ -96,7 +96,7 @@ fn groups_of<'a>(
         let beginning = Beginning {
             number,
             line,
-            claim: u32::try_from(certificate.claims.len()).unwrap_or(u32::MAX),
+            claim: certificate.claims.len() as u64,
         };
         let mut made = group_at(alloc, algo, roots, party, beginning)?;
         line = made.line;

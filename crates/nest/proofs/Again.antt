@@ -189,16 +189,16 @@ guard_again low high fits =
 alloc_again : (b : ℕ) (f : List ℕ) (all : List Places) → fits_line (AllocLine b f all) ≡ true → alloc_from (count_text b ++ (32 ∷ (f ++ (32 ∷ places_text all)))) ≡ AllocLine b f all
 unfolding alloc_from
 alloc_again b f all fits =
-    let two = both (fits_count b && is_name f) (list_all fits_place all) fits in
-    let one = both (fits_count b) (is_name f) two.0 in
-    rw (count_again b (32 ∷ (f ++ (32 ∷ places_text all))) one.0 refl, name_word f (32 ∷ places_text all) one.1 refl, name_rest f (32 ∷ places_text all) one.1 refl, at_end (list_all fits_place) no_byte places_text places_from places_again refl all two.1) refl
+    let two = both (fits_size b && is_name f) (list_all fits_place all) fits in
+    let one = both (fits_size b) (is_name f) two.0 in
+    rw (size_again b (32 ∷ (f ++ (32 ∷ places_text all))) one.0 refl, name_word f (32 ∷ places_text all) one.1 refl, name_rest f (32 ∷ places_text all) one.1 refl, at_end (list_all fits_place) no_byte places_text places_from places_again refl all two.1) refl
 
 fetch_again : (b g : ℕ) (region : List Span1) → fits_line (FetchLine b g region) ≡ true → fetch_from (count_text b ++ (32 ∷ (count_text g ++ (32 ∷ region_text region)))) ≡ FetchLine b g region
 unfolding fetch_from
 fetch_again b g region fits =
-    let two = both (fits_count b && fits_size g) (fits_region region) fits in
-    let one = both (fits_count b) (fits_size g) two.0 in
-    rw (count_again b (32 ∷ (count_text g ++ (32 ∷ region_text region))) one.0 refl, size_again g (32 ∷ region_text region) one.1 refl, at_end fits_region no_byte region_text region_from region_again refl region two.1) refl
+    let two = both (fits_size b && fits_size g) (fits_region region) fits in
+    let one = both (fits_size b) (fits_size g) two.0 in
+    rw (size_again b (32 ∷ (count_text g ++ (32 ∷ region_text region))) one.0 refl, size_again g (32 ∷ region_text region) one.1 refl, at_end fits_region no_byte region_text region_from region_again refl region two.1) refl
 
 -- ---- stores
 
@@ -259,13 +259,13 @@ module _ (term_again : TermIsReadAgain) (term_plain : TermIsPlain) where
   store_again : (b k : ℕ) (at : List Coordinate) (e : Term) → fits_line (StoreLine b k at e) ≡ true → store_from (count_text b ++ (32 ∷ (count_text k ++ (32 ∷ (flat_map spaced_coordinate at ++ terms.term_text e))))) ≡ StoreLine b k at e
   unfolding store_from
   store_again b k at e fits =
-      let three = both (fits_count b && fits_size k && list_all fits_coordinate at) (terms_fit.fits_term e) fits in
-      let two = both (fits_count b && fits_size k) (list_all fits_coordinate at) three.0 in
-      let one = both (fits_count b) (fits_size k) two.0 in
+      let three = both (fits_size b && fits_size k && list_all fits_coordinate at) (terms_fit.fits_term e) fits in
+      let two = both (fits_size b && fits_size k) (list_all fits_coordinate at) three.0 in
+      let one = both (fits_size b) (fits_size k) two.0 in
       let tail = flat_map spaced_coordinate at ++ terms.term_text e in
       let room : length at ≤ length (32 ∷ tail) = omega (arith, coordinates_many at, length-append (flat_map spaced_coordinate at) (terms.term_text e)) in
       let last : terms_read.term_from (terms.term_text e) ≡ (e, []) = ap terms_read.term_from (sym (append-nil (terms.term_text e))) ∙ term_again e [] three.1 refl in
-      rw (count_again b (32 ∷ (count_text k ++ (32 ∷ tail))) one.0 refl, size_again k (32 ∷ tail) one.1 refl, coordinates_again (length (32 ∷ tail)) [] at e room two.1 three.1, last) refl
+      rw (size_again b (32 ∷ (count_text k ++ (32 ∷ tail))) one.0 refl, size_again k (32 ∷ tail) one.1 refl, coordinates_again (length (32 ∷ tail)) [] at e room two.1 three.1, last) refl
 
   -- what is written for a line is read as that line
   pub line_again : (l : Line) → fits_line l ≡ true → line_from (line_text l) ≡ l
@@ -283,4 +283,4 @@ module _ (term_again : TermIsReadAgain) (term_plain : TermIsPlain) where
   line_again (AllocLine b f all) fits = alloc_again b f all fits
   line_again (FetchLine b g region) fits = fetch_again b g region fits
   line_again (StoreLine b k at e) fits = store_again b k at e fits
-  line_again (PublishLine c) fits = rw (at_end fits_count is_digit count_text count_from count_again refl c fits) refl
+  line_again (PublishLine c) fits = rw (at_end fits_size is_digit count_text size_from size_again refl c fits) refl

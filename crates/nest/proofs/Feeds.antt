@@ -117,18 +117,18 @@ module _ (term_plain : TermIsPlain) where
       joined (form_text low) (codes "<=" ++ form_text high) (form_feedless low one.0) (form_feedless high one.1)
   line_feedless EndLine fits = refl
   line_feedless (AllocLine b f all) fits =
-      let two = both (fits_count b && is_name f) (list_all fits_place all) fits in
-      let one = both (fits_count b) (is_name f) two.0 in
-      joined (count_text b) (32 ∷ (f ++ (32 ∷ places_text all))) (count_feedless b one.0) (joined f (32 ∷ places_text all) (name_feedless f one.1) (places_feedless all two.1))
+      let two = both (fits_size b && is_name f) (list_all fits_place all) fits in
+      let one = both (fits_size b) (is_name f) two.0 in
+      joined (count_text b) (32 ∷ (f ++ (32 ∷ places_text all))) (size_feedless b one.0) (joined f (32 ∷ places_text all) (name_feedless f one.1) (places_feedless all two.1))
   line_feedless (FetchLine b g region) fits =
-      let two = both (fits_count b && fits_size g) (fits_region region) fits in
-      let one = both (fits_count b) (fits_size g) two.0 in
-      joined (count_text b) (32 ∷ (count_text g ++ (32 ∷ region_text region))) (count_feedless b one.0) (joined (count_text g) (32 ∷ region_text region) (size_feedless g one.1) (region_feedless region two.1))
+      let two = both (fits_size b && fits_size g) (fits_region region) fits in
+      let one = both (fits_size b) (fits_size g) two.0 in
+      joined (count_text b) (32 ∷ (count_text g ++ (32 ∷ region_text region))) (size_feedless b one.0) (joined (count_text g) (32 ∷ region_text region) (size_feedless g one.1) (region_feedless region two.1))
   line_feedless (StoreLine b k at e) fits =
-      let three = both (fits_count b && fits_size k && list_all fits_coordinate at) (terms_fit.fits_term e) fits in
-      let two = both (fits_count b && fits_size k) (list_all fits_coordinate at) three.0 in
-      let one = both (fits_count b) (fits_size k) two.0 in
+      let three = both (fits_size b && fits_size k && list_all fits_coordinate at) (terms_fit.fits_term e) fits in
+      let two = both (fits_size b && fits_size k) (list_all fits_coordinate at) three.0 in
+      let one = both (fits_size b) (fits_size k) two.0 in
       let tail = flat_map spaced_coordinate at ++ terms.term_text e in
-      joined (count_text b) (32 ∷ (count_text k ++ (32 ∷ tail))) (count_feedless b one.0)
+      joined (count_text b) (32 ∷ (count_text k ++ (32 ∷ tail))) (size_feedless b one.0)
       (joined (count_text k) (32 ∷ tail) (size_feedless k one.1) (joined (flat_map spaced_coordinate at) (terms.term_text e) (coordinates_feedless at two.1) (plain_feedless (terms.term_text e) (term_plain e three.1))))
-  line_feedless (PublishLine c) fits = count_feedless c fits
+  line_feedless (PublishLine c) fits = size_feedless c fits

@@ -91,26 +91,26 @@ guard_from text =
 
 unfoldable pub alloc_from : List ℕ → Line
 alloc_from text =
-    let b = count_from text in
+    let b = size_from text in
     let f = name_from (drop 1 b.1) in
     AllocLine b.0 f.0 (places_from (drop 1 f.1)).0
 
 unfoldable pub fetch_from : List ℕ → Line
 fetch_from text =
-    let b = count_from text in
+    let b = size_from text in
     let g = size_from (drop 1 b.1) in
     FetchLine b.0 g.0 (region_from (drop 1 g.1)).0
 
 unfoldable pub store_from : List ℕ → Line
 store_from text =
-    let b = count_from text in
+    let b = size_from text in
     let k = size_from (drop 1 b.1) in
     let at = coordinates_from (length k.1) [] (drop 1 k.1) in
     StoreLine b.0 k.0 at.0 (terms.term_from at.1).0
 
 -- a line that begins with `p`
 abbrev pub named_from : List ℕ → Line
-named_from text = if begins 108 (drop 1 text) then PlanLine (name_from (drop 7 text)).0 else PublishLine (count_from (drop 9 text)).0
+named_from text = if begins 108 (drop 1 text) then PlanLine (name_from (drop 7 text)).0 else PublishLine (size_from (drop 9 text)).0
 
 -- a line that begins with `f`
 abbrev pub looped_from : List ℕ → Line

@@ -97,23 +97,23 @@ pub(crate) fn fits_line(line: &Line) -> bool
             buffer,
             function,
             places,
-        } => fits_count(*buffer) && is_name(function.as_bytes()) && fits_places(places),
+        } => fits_size(*buffer) && is_name(function.as_bytes()) && fits_places(places),
         Line::Fetch {
             buffer,
             group,
             region,
-        } => fits_count(*buffer) && fits_size(*group) && fits_region(region),
+        } => fits_size(*buffer) && fits_size(*group) && fits_region(region),
         Line::Store {
             buffer,
             definition,
             coordinates,
             value,
         } => {
-            fits_count(*buffer)
+            fits_size(*buffer)
                 && fits_size(*definition)
                 && fits_coordinates(coordinates)
                 && fits_term(value)
         }
-        Line::Publish { claim } => fits_count(*claim),
+        Line::Publish { claim } => fits_size(*claim),
     }
 }

@@ -215,7 +215,7 @@ fn guard_from(alloc: Global, text: &[u8]) -> Result<Line, AllocError>
 fn alloc_from(alloc: Global, text: &[u8]) -> Result<Line, AllocError>
     ensures { IfOk result (λ line. line_of line ≡ spec.alloc_from text.now) }
 {
-    let (buffer, rest) = count_from(text);
+    let (buffer, rest) = size_from(text);
     let (function, rest) = name_from(alloc, skip(1, rest))?;
     let places = places_from(alloc, skip(1, rest))?;
     Ok(Line::Alloc {
@@ -229,7 +229,7 @@ fn alloc_from(alloc: Global, text: &[u8]) -> Result<Line, AllocError>
 fn fetch_from(alloc: Global, text: &[u8]) -> Result<Line, AllocError>
     ensures { IfOk result (λ line. line_of line ≡ spec.fetch_from text.now) }
 {
-    let (buffer, rest) = count_from(text);
+    let (buffer, rest) = size_from(text);
     let (group, rest) = size_from(skip(1, rest));
     let (region, _) = region_from(alloc, skip(1, rest))?;
     Ok(Line::Fetch {
@@ -243,7 +243,7 @@ fn fetch_from(alloc: Global, text: &[u8]) -> Result<Line, AllocError>
 fn store_from(alloc: Global, text: &[u8]) -> Result<Line, AllocError>
     ensures { IfOk result (λ line. line_of line ≡ spec.store_from text.now) }
 {
-    let (buffer, rest) = count_from(text);
+    let (buffer, rest) = size_from(text);
     let (definition, rest) = size_from(skip(1, rest));
     let (coordinates, rest) = coordinates_from(alloc, rest.len(), skip(1, rest))?;
     let (value, _) = term_from(alloc, rest)?;
@@ -263,7 +263,7 @@ fn named_from(alloc: Global, text: &[u8]) -> Result<Line, AllocError>
         let (name, _) = name_from(alloc, skip(7, text))?;
         return Ok(Line::Plan { name });
     }
-    let (claim, _) = count_from(skip(9, text));
+    let (claim, _) = size_from(skip(9, text));
     Ok(Line::Publish { claim })
 }
 

@@ -20,7 +20,7 @@ use plan::{Coordinate, Declaration, Group, Index, Kind, Pick, Places, Plan, Stmt
 use spelling::sizes::{put_size, put_sizes};
 use spelling::terms::put_term;
 use spelling::words::{
-    put_count, put_form, put_forms, put_name, put_region, put_separator, put_span, put_symbol,
+    put_form, put_forms, put_name, put_region, put_separator, put_span, put_symbol,
     put_type,
 };
 use std::alloc::{AllocError, Global};
@@ -217,14 +217,14 @@ fn put_guard(text: &mut String, low: &Lin, high: &Lin) -> Result<(), AllocError>
 #[tactic(auto, unfolding(crate::specs::Spelling::alloc_text))]
 fn put_alloc(
     text: &mut String,
-    buffer: u32,
+    buffer: u64,
     function: &str,
     places: &[Places],
 ) -> Result<(), AllocError>
     ensures { OnOk result (string_bytes text.new ≡ string_bytes text.old ++ spec.alloc_text buffer function.now places.now) }
 {
     text.push_str("alloc b")?;
-    put_count(text, buffer)?;
+    put_size(text, buffer)?;
     text.push_str(" ")?;
     put_name(text, function)?;
     text.push_str(" ")?;
@@ -232,11 +232,11 @@ fn put_alloc(
 }
 
 #[tactic(auto, unfolding(crate::specs::Spelling::fetch_text))]
-fn put_fetch(text: &mut String, buffer: u32, group: u64, region: &Region) -> Result<(), AllocError>
+fn put_fetch(text: &mut String, buffer: u64, group: u64, region: &Region) -> Result<(), AllocError>
     ensures { OnOk result (string_bytes text.new ≡ string_bytes text.old ++ spec.fetch_text buffer group region.now) }
 {
     text.push_str("fetch b")?;
-    put_count(text, buffer)?;
+    put_size(text, buffer)?;
     text.push_str(" ")?;
     put_size(text, group)?;
     text.push_str(" ")?;
@@ -246,7 +246,7 @@ fn put_fetch(text: &mut String, buffer: u32, group: u64, region: &Region) -> Res
 #[tactic(auto, unfolding(crate::specs::Spelling::store_text))]
 fn put_store(
     text: &mut String,
-    buffer: u32,
+    buffer: u64,
     definition: u64,
     coordinates: &[Coordinate],
     value: &Expr,
@@ -254,7 +254,7 @@ fn put_store(
     ensures { OnOk result (string_bytes text.new ≡ string_bytes text.old ++ spec.store_text buffer definition (map coordinate_of coordinates.now) (term_of value.now)) }
 {
     text.push_str("store b")?;
-    put_count(text, buffer)?;
+    put_size(text, buffer)?;
     text.push_str(" ")?;
     put_size(text, definition)?;
     text.push_str(" ")?;
@@ -276,11 +276,11 @@ fn put_first(text: &mut String, symbol: Sym) -> Result<(), AllocError>
     put_symbol(text, symbol)
 }
 
-fn put_publish(text: &mut String, claim: u32) -> Result<(), AllocError>
+fn put_publish(text: &mut String, claim: u64) -> Result<(), AllocError>
     ensures { OnOk result (string_bytes text.new ≡ string_bytes text.old ++ spec.publish_text claim) }
 {
     text.push_str("publish @")?;
-    put_count(text, claim)
+    put_size(text, claim)
 }
 
 /// Writes a line at the end of the text, without its line feed.

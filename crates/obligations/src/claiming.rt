@@ -29,7 +29,7 @@ fn store_line<B: Facts, T: NestTests>(
     judge: &Judge<'_, B, T>,
     stmt: &Stmt,
     line: u32,
-    buffer: u32,
+    buffer: u64,
 ) -> Option<u32>
     requires { line + lines (statement_of stmt.now) < 2 ^ 32 }
     ensures { result ≡ store_line (outline_in judge.now.outlined.now) (B.rules judge.now.bounds.now) (statement_of stmt.now) line buffer }
@@ -56,7 +56,7 @@ fn store_line_in<B: Facts, T: NestTests>(
     judge: &Judge<'_, B, T>,
     all: &[Stmt],
     line: u32,
-    buffer: u32,
+    buffer: u64,
 ) -> Option<u32>
     requires { line + block_lines (block (list_statements all.now)) < 2 ^ 32 }
     ensures { result ≡ block_store_line (outline_in judge.now.outlined.now) (B.rules judge.now.bounds.now) (block (list_statements all.now)) line buffer }
@@ -72,7 +72,7 @@ fn store_line_in<B: Facts, T: NestTests>(
 }
 
 /// Whether a claim of this block is of the definition before.
-fn has_earlier<B: Facts, T: NestTests>(judge: &Judge<'_, B, T>, own: &[u32], claim: u32) -> bool
+fn has_earlier<B: Facts, T: NestTests>(judge: &Judge<'_, B, T>, own: &[u64], claim: u64) -> bool
     ensures { result ≡ list_any (λ d. follows (outline_in judge.now.outlined.now) (B.rules judge.now.bounds.now) d claim) own.now }
 {
     for before in own {
@@ -88,8 +88,8 @@ fn has_earlier<B: Facts, T: NestTests>(judge: &Judge<'_, B, T>, own: &[u32], cla
 fn unmet_region<B: Facts, T: NestTests>(
     judge: &Judge<'_, B, T>,
     known: &Known<'_>,
-    claim: u32,
-    before: u32,
+    claim: u64,
+    before: u64,
 ) -> Result<Option<Flaw>, AllocError>
     ensures { IfOk result (λ flaw. flaw ≡ first_unmet (B.rules judge.now.bounds.now) (T.nests judge.now.tests.now) judge.now.part (asked_by_claims (outline_in judge.now.outlined.now) (B.rules judge.now.bounds.now) known.now claim (before ∷ []))) }
 {
@@ -107,8 +107,8 @@ fn unmet_region<B: Facts, T: NestTests>(
 fn unmet_regions<B: Facts, T: NestTests>(
     judge: &Judge<'_, B, T>,
     known: &Known<'_>,
-    own: &[u32],
-    claim: u32,
+    own: &[u64],
+    claim: u64,
 ) -> Result<Option<Flaw>, AllocError>
     ensures { IfOk result (λ flaw. flaw ≡ first_unmet (B.rules judge.now.bounds.now) (T.nests judge.now.tests.now) judge.now.part (asked_by_claims (outline_in judge.now.outlined.now) (B.rules judge.now.bounds.now) known.now claim own.now)) }
 {
@@ -128,7 +128,7 @@ fn unmet_update<B: Facts, T: NestTests>(
     stmt: &Stmt,
     begin: u32,
     known: &Known<'_>,
-    claim: u32,
+    claim: u64,
 ) -> Result<Option<Flaw>, AllocError>
     requires { begin + lines (statement_of stmt.now) < 2 ^ 32 }
     ensures { IfOk result (λ flaw. flaw ≡ first_unmet (B.rules judge.now.bounds.now) (T.nests judge.now.tests.now) judge.now.part (asked_of_updates (outline_in judge.now.outlined.now) (B.rules judge.now.bounds.now) begin known.now (statement_of stmt.now) claim)) }
@@ -156,7 +156,7 @@ fn unmet_earlier<B: Facts, T: NestTests>(
     begin: u32,
     last: u32,
     known: &Known<'_>,
-    claim: u32,
+    claim: u64,
 ) -> Result<Option<Flaw>, AllocError>
     requires { begin + lines (statement_of stmt.now) < 2 ^ 32 }
     ensures { IfOk result (λ flaw. flaw ≡ first_unmet (B.rules judge.now.bounds.now) (T.nests judge.now.tests.now) judge.now.part (earlier_obligations (outline_in judge.now.outlined.now) (B.rules judge.now.bounds.now) begin last (known_of known.now []) (statement_of stmt.now) claim)) }
@@ -179,7 +179,7 @@ fn unmet_claim<B: Facts, T: NestTests>(
     begin: u32,
     last: u32,
     known: &Known<'_>,
-    claim: u32,
+    claim: u64,
 ) -> Result<Option<Flaw>, AllocError>
     requires { begin + lines (statement_of stmt.now) < 2 ^ 32 }
     ensures { IfOk result (λ flaw. flaw ≡ first_unmet (B.rules judge.now.bounds.now) (T.nests judge.now.tests.now) judge.now.part (claim_obligations (outline_in judge.now.outlined.now) (B.rules judge.now.bounds.now) (windows_of kept.now) begin last (known_of known.now []) (statement_of stmt.now) claim)) }
@@ -205,7 +205,7 @@ pub(crate) fn unmet_claims<B: Facts, T: NestTests>(
     begin: u32,
     last: u32,
     known: &Known<'_>,
-    next: &[u32],
+    next: &[u64],
 ) -> Result<Option<Flaw>, AllocError>
     requires { begin + lines (statement_of stmt.now) < 2 ^ 32 }
     ensures { IfOk result (λ flaw. flaw ≡ first_unmet (B.rules judge.now.bounds.now) (T.nests judge.now.tests.now) judge.now.part (flat_map (claim_obligations (outline_in judge.now.outlined.now) (B.rules judge.now.bounds.now) (windows_of kept.now) begin last (known_of known.now []) (statement_of stmt.now)) next.now)) }

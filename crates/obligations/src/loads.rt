@@ -29,7 +29,7 @@ pub(crate) struct Reads<'r, 'a> {
     pub line: u32,
     pub known: &'r Known<'a>,
     pub updating: &'r [Nest],
-    pub buffer: u32,
+    pub buffer: u64,
     pub function: &'r str,
     pub definition: u64,
     pub at: &'r [Coordinate],
@@ -39,7 +39,7 @@ pub(crate) struct Reads<'r, 'a> {
 /// Whether a nest does the steps of a definition in a buffer.
 pub(crate) fn serves<B: Facts, T: NestTests>(
     judge: &Judge<'_, B, T>,
-    buffer: u32,
+    buffer: u64,
     function: &str,
     definition: u64,
     nest: Nest,
@@ -54,7 +54,7 @@ pub(crate) fn serves<B: Facts, T: NestTests>(
 pub(crate) fn is_usable<B: Facts, T: NestTests>(
     judge: &Judge<'_, B, T>,
     known: &Known<'_>,
-    claim: u32,
+    claim: u64,
 ) -> bool
     ensures { result ≡ is_usable (outline_in judge.now.outlined.now) (B.rules judge.now.bounds.now) (known_of known.now []) claim }
 {
@@ -66,7 +66,7 @@ pub(crate) fn is_usable<B: Facts, T: NestTests>(
 fn is_served<B: Facts, T: NestTests>(
     judge: &Judge<'_, B, T>,
     reads: &Reads<'_, '_>,
-    claim: u32,
+    claim: u64,
 ) -> bool
     ensures { result ≡ list_any (λ u. (u.before == claim) && serves (outline_in judge.now.outlined.now) (B.rules judge.now.bounds.now) reads.now.buffer reads.now.function.now reads.now.definition (nest_of u)) reads.now.updating.now }
 {
@@ -84,7 +84,7 @@ fn is_served<B: Facts, T: NestTests>(
 fn is_own<B: Facts, T: NestTests>(
     judge: &Judge<'_, B, T>,
     reads: &Reads<'_, '_>,
-    claim: u32,
+    claim: u64,
 ) -> bool
     ensures { result ≡ is_own (outline_in judge.now.outlined.now) reads.now claim }
 {
@@ -95,7 +95,7 @@ fn is_own<B: Facts, T: NestTests>(
 fn may_load<B: Facts, T: NestTests>(
     judge: &Judge<'_, B, T>,
     reads: &Reads<'_, '_>,
-    claim: u32,
+    claim: u64,
 ) -> bool
     ensures { result ≡ may_in (outline_in judge.now.outlined.now) (B.rules judge.now.bounds.now) reads.now claim }
 {
@@ -111,7 +111,7 @@ fn may_load<B: Facts, T: NestTests>(
 fn unmet_step<B: Facts, T: NestTests>(
     judge: &Judge<'_, B, T>,
     reads: &Reads<'_, '_>,
-    claim: u32,
+    claim: u64,
     spans: &[Span1],
 ) -> Result<Option<Flaw>, AllocError>
     ensures { IfOk result (λ flaw. flaw ≡ first_unmet (B.rules judge.now.bounds.now) (T.nests judge.now.tests.now) judge.now.part (steps_met (outline_in judge.now.outlined.now) (B.rules judge.now.bounds.now) reads.now claim spans.now)) }
@@ -129,7 +129,7 @@ fn unmet_step<B: Facts, T: NestTests>(
 fn unmet_load<B: Facts, T: NestTests>(
     judge: &Judge<'_, B, T>,
     reads: &Reads<'_, '_>,
-    claim: u32,
+    claim: u64,
     spans: &[Span1],
 ) -> Result<Option<Flaw>, AllocError>
     ensures { IfOk result (λ flaw. flaw ≡ first_unmet (B.rules judge.now.bounds.now) (T.nests judge.now.tests.now) judge.now.part (load_in (outline_in judge.now.outlined.now) (B.rules judge.now.bounds.now) reads.now (ByClaim claim) spans.now)) }

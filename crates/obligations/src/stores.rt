@@ -199,7 +199,7 @@ pub(crate) fn unmet_store<B: Facts, T: NestTests>(
     line: u32,
     known: &Known<'_>,
     updating: &[Nest],
-    buffer: u32,
+    buffer: u64,
     definition: u64,
     coordinates: &[Coordinate],
     value: &Expr,

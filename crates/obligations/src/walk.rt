@@ -81,7 +81,7 @@ fn unmet_publish<B: Facts, T: NestTests>(
     judge: &Judge<'_, B, T>,
     line: u32,
     known: &Known<'_>,
-    claim: u32,
+    claim: u64,
 ) -> Result<Option<Flaw>, AllocError>
     ensures { IfOk result (λ flaw. flaw ≡ first_unmet (B.rules judge.now.bounds.now) (T.nests judge.now.tests.now) judge.now.part (obligations (outline_in judge.now.outlined.now) (B.rules judge.now.bounds.now) (Publish claim) line (known_of known.now []))) }
 {
@@ -188,7 +188,7 @@ fn unmet_at<'a, B: Facts, T: NestTests>(
     last: u32,
     known: &Known<'a>,
     updating: &[Nest],
-    next: &[u32],
+    next: &[u64],
 ) -> Result<Option<Flaw>, AllocError>
     requires { begin + lines (statement_of stmt.now) < 2 ^ 32 }
     ensures { IfOk result (λ flaw. flaw ≡ first_unmet (B.rules judge.now.bounds.now) (T.nests judge.now.tests.now) judge.now.part (obligations (outline_in judge.now.outlined.now) (B.rules judge.now.bounds.now) (statement_of stmt.now) begin (within (outline_in judge.now.outlined.now) (B.rules judge.now.bounds.now) (statement_of stmt.now) next.now (known_of known.now updating.now)) ++ flat_map (claim_obligations (outline_in judge.now.outlined.now) (B.rules judge.now.bounds.now) (windows_of kept.now) begin last (known_of known.now updating.now) (statement_of stmt.now)) next.now)) }

@@ -43,7 +43,7 @@ pub(crate) fn kept_of<'a, B: Facts, T: NestTests>(
 /// The windows whose claims are none of these.
 pub(crate) fn without<'a>(
     alloc: Global,
-    claims: &[u32],
+    claims: &[u64],
     windows: &[&'a Window],
 ) -> Result<Vec<&'a Window>, AllocError>
     ensures { IfOk result (λ left. windows_of left.items ≡ without claims.now (windows_of windows.now)) }
@@ -58,7 +58,7 @@ pub(crate) fn without<'a>(
 }
 
 /// The first of these windows that is of the claim.
-fn window_of<'a>(windows: &[&'a Window], claim: u32) -> Option<&'a Window>
+fn window_of<'a>(windows: &[&'a Window], claim: u64) -> Option<&'a Window>
     ensures { option_map (λ w. w.now) result ≡ window_of (windows_of windows.now) claim }
 {
     for window in windows {
@@ -74,7 +74,7 @@ fn is_made<B: Facts, T: NestTests>(
     judge: &Judge<'_, B, T>,
     stmt: &Stmt,
     known: &Known<'_>,
-    claim: u32,
+    claim: u64,
 ) -> Result<bool, AllocError>
     ensures { IfOk result (λ yes. yes ≡ shows (B.rules judge.now.bounds.now) (T.nests judge.now.tests.now) (binders_of known.now.binders.items) (made (outline_in judge.now.outlined.now) (B.rules judge.now.bounds.now) (places_of (buffers_of known.now.buffers.items) ((outline_in judge.now.outlined.now).claim claim).buffer) claim (statement_of stmt.now))) }
 {
@@ -98,7 +98,7 @@ fn is_slid<B: Facts, T: NestTests>(
     window: &Window,
     stmt: &Stmt,
     known: &Known<'_>,
-    claim: u32,
+    claim: u64,
 ) -> Result<bool, AllocError>
     ensures { IfOk result (λ yes. yes ≡ shows (B.rules judge.now.bounds.now) (T.nests judge.now.tests.now) (binders_of known.now.binders.items) (slid (outline_in judge.now.outlined.now) (B.rules judge.now.bounds.now) (places_of (buffers_of known.now.buffers.items) ((outline_in judge.now.outlined.now).claim claim).buffer) window.now claim (statement_of stmt.now))) }
 {
@@ -117,7 +117,7 @@ fn is_held<B: Facts, T: NestTests>(
     window: &Window,
     stmt: &Stmt,
     known: &Known<'_>,
-    claim: u32,
+    claim: u64,
 ) -> Result<bool, AllocError>
     ensures { IfOk result (λ yes. yes ≡ shows (B.rules judge.now.bounds.now) (T.nests judge.now.tests.now) (binders_of known.now.binders.items) (held (outline_in judge.now.outlined.now) (B.rules judge.now.bounds.now) (places_of (buffers_of known.now.buffers.items) ((outline_in judge.now.outlined.now).claim claim).buffer) window.now (binders_of known.now.binders.items) claim (statement_of stmt.now))) }
 {
@@ -140,7 +140,7 @@ fn unmet_window<B: Facts, T: NestTests>(
     window: &Window,
     stmt: &Stmt,
     known: &Known<'_>,
-    claim: u32,
+    claim: u64,
 ) -> Result<Option<Flaw>, AllocError>
     ensures { IfOk result (λ flaw. flaw ≡ first_unmet (B.rules judge.now.bounds.now) (T.nests judge.now.tests.now) judge.now.part (making_obligations (outline_in judge.now.outlined.now) (B.rules judge.now.bounds.now) (Some window.now) (known_of known.now []) (statement_of stmt.now) claim)) }
 {
@@ -158,7 +158,7 @@ fn unmet_alone<B: Facts, T: NestTests>(
     judge: &Judge<'_, B, T>,
     stmt: &Stmt,
     known: &Known<'_>,
-    claim: u32,
+    claim: u64,
 ) -> Result<Option<Flaw>, AllocError>
     ensures { IfOk result (λ flaw. flaw ≡ first_unmet (B.rules judge.now.bounds.now) (T.nests judge.now.tests.now) judge.now.part (making_obligations (outline_in judge.now.outlined.now) (B.rules judge.now.bounds.now) None (known_of known.now []) (statement_of stmt.now) claim)) }
 {
@@ -172,7 +172,7 @@ pub(crate) fn unmet_making<B: Facts, T: NestTests>(
     kept: &[&Window],
     stmt: &Stmt,
     known: &Known<'_>,
-    claim: u32,
+    claim: u64,
 ) -> Result<Option<Flaw>, AllocError>
     ensures { IfOk result (λ flaw. flaw ≡ first_unmet (B.rules judge.now.bounds.now) (T.nests judge.now.tests.now) judge.now.part (making_obligations (outline_in judge.now.outlined.now) (B.rules judge.now.bounds.now) (window_of (windows_of kept.now) claim) (known_of known.now []) (statement_of stmt.now) claim)) }
 {

@@ -136,7 +136,7 @@ fn copy_guard(alloc: Global, low: &Lin, high: &Lin, body: Box<Stmt>) -> Result<S
 
 fn copy_alloc(
     alloc: Global,
-    buffer: u32,
+    buffer: u64,
     function: &String,
     places: &[Places],
 ) -> Result<Stmt, AllocError>
@@ -151,7 +151,7 @@ fn copy_alloc(
     })
 }
 
-fn copy_fetch(alloc: Global, buffer: u32, group: u64, region: &Region) -> Result<Stmt, AllocError>
+fn copy_fetch(alloc: Global, buffer: u64, group: u64, region: &Region) -> Result<Stmt, AllocError>
     ensures { IfOk result (λ copied. statement_of copied ≡ Fetch buffer group region.now) }
 {
     Ok(Stmt::Fetch {
@@ -163,7 +163,7 @@ fn copy_fetch(alloc: Global, buffer: u32, group: u64, region: &Region) -> Result
 
 fn copy_store(
     alloc: Global,
-    buffer: u32,
+    buffer: u64,
     definition: u64,
     coordinates: &[Coordinate],
     value: &Expr,

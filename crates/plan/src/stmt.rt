@@ -80,13 +80,13 @@ pub enum Stmt {
     },
     /// A buffer of unset places for cells of a function, to the end of the block.
     Alloc {
-        buffer: u32,
+        buffer: u64,
         function: String,
         places: Vec<Places>,
     },
     /// All cells of a region of another group are set in the buffer.
     Fetch {
-        buffer: u32,
+        buffer: u64,
         group: u64,
         region: Region,
     },
@@ -94,13 +94,13 @@ pub enum Stmt {
     /// coordinates are the function's variables, then the definition's reduction variables. A load
     /// by claim C is a call of the name `@C`.
     Store {
-        buffer: u32,
+        buffer: u64,
         definition: u64,
         coordinates: Vec<Coordinate>,
         value: Expr,
     },
     /// The piece's own cells have the values of which the claim speaks.
     Publish {
-        claim: u32,
+        claim: u64,
     },
 }

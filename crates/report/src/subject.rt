@@ -29,7 +29,7 @@ pub(crate) struct Subject<'a> {
 
 /// The function of the first line of a statement that allocates a buffer.
 #[cycle(allocated)]
-fn function_of(stmt: &Stmt, buffer: u32) -> Option<&str>
+fn function_of(stmt: &Stmt, buffer: u64) -> Option<&str>
     ensures { option_map (λ name. name.now) result ≡ named (allocated (statement_of stmt.now) buffer) }
 {
     match stmt {
@@ -56,7 +56,7 @@ fn function_of(stmt: &Stmt, buffer: u32) -> Option<&str>
 
 /// The same of a block's statements.
 #[cycle(allocated)]
-fn function_in_block(all: &[Stmt], buffer: u32) -> Option<&str>
+fn function_in_block(all: &[Stmt], buffer: u64) -> Option<&str>
     ensures { option_map (λ name. name.now) result ≡ named (block_allocated (block (list_statements all.now)) buffer) }
 {
     for stmt in all {
@@ -68,7 +68,7 @@ fn function_in_block(all: &[Stmt], buffer: u32) -> Option<&str>
 }
 
 /// The function of a buffer, empty where there is no such buffer.
-pub(crate) fn name_of(body: &Stmt, buffer: u32) -> &str
+pub(crate) fn name_of(body: &Stmt, buffer: u64) -> &str
     ensures { result.now ≡ function_in (allocated (statement_of body.now) buffer) }
 {
     match function_of(body, buffer) {
@@ -89,7 +89,7 @@ pub(crate) fn group_name(groups: &[Group], group: u64) -> &str
 
 impl Subject<'_> {
     /// Whether a store into the buffer counts.
-    pub(crate) fn counts_buffer(&self, buffer: u32) -> bool
+    pub(crate) fn counts_buffer(&self, buffer: u64) -> bool
         ensures { result ≡ (counted_of self.now).buffer buffer }
     {
         match self.deed {

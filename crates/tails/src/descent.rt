@@ -44,7 +44,7 @@ pub struct Spine<'a> {
 
 /// Whether some line of the statement changes the buffer.
 #[cycle(changing)]
-fn changes(stmt: &Stmt, buffer: u32) -> bool
+fn changes(stmt: &Stmt, buffer: u64) -> bool
     ensures { result ≡ changes (statement_of stmt.now) buffer }
 {
     match stmt {
@@ -70,7 +70,7 @@ fn changes(stmt: &Stmt, buffer: u32) -> bool
 /// Whether some line of a block's statements changes the buffer.
 #[tactic(auto, using(crate::proofs::Blocks::changes_from))]
 #[cycle(changing)]
-fn some_change(all: &[Stmt], buffer: u32) -> bool
+fn some_change(all: &[Stmt], buffer: u64) -> bool
     ensures { result ≡ block_changes (block (list_statements all.now)) buffer }
 {
     for stmt in all {
@@ -186,7 +186,7 @@ fn past_all<'a>(
 pub fn spine_of<'a>(
     alloc: Global,
     stmt: &'a Stmt,
-    buffer: u32,
+    buffer: u64,
 ) -> Result<Option<Spine<'a>>, AllocError>
     ensures { IfOk result (λ found. option_map spine_held found ≡ spine_of (statement_of stmt.now) buffer) }
 {
@@ -231,7 +231,7 @@ pub fn spine_of<'a>(
 fn spine_in_block<'a>(
     alloc: Global,
     all: &'a [Stmt],
-    buffer: u32,
+    buffer: u64,
 ) -> Result<Option<Spine<'a>>, AllocError>
     ensures { IfOk result (λ found. option_map spine_held found ≡ block_spine (block (list_statements all.now)) buffer) }
 {

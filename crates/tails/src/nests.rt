@@ -71,7 +71,7 @@ pub fn no_claim(alloc: Global) -> Claim
 pub fn claim_in<'c, 'a: 'c>(
     outlined: &'c Outlined<'a>,
     unknown: &'c Claim,
-    number: u32,
+    number: u64,
 ) -> &'c Claim
     requires { claim_of unknown.now ≡ no_claim }
     ensures { claim_of result.now ≡ (outline_in outlined.now).claim number }
@@ -94,7 +94,7 @@ impl<B: Bounds, N: NestTests> NestTests for SplitNests<'_, B, N> {
         &self,
         alloc: Global,
         binders: &[Binder<'_>],
-        claim: u32,
+        claim: u64,
         from: Option<u64>,
         places: &[Places],
         by: &Stmt,
@@ -134,7 +134,7 @@ impl<B: Bounds, N: NestTests> NestTests for SplitNests<'_, B, N> {
         &self,
         alloc: Global,
         binders: &[Binder<'_>],
-        claim: u32,
+        claim: u64,
         by: &Stmt,
     ) -> Result<bool, AllocError> {
         if self.others.is_in_turn(alloc, binders, claim, by)? {
@@ -158,7 +158,7 @@ impl<B: Bounds, N: NestTests> NestTests for SplitNests<'_, B, N> {
         alloc: Global,
         binders: &[Binder<'_>],
         window: &Window,
-        claim: u32,
+        claim: u64,
         places: &[Places],
         by: &Stmt,
     ) -> Result<bool, AllocError> {
@@ -171,7 +171,7 @@ impl<B: Bounds, N: NestTests> NestTests for SplitNests<'_, B, N> {
         alloc: Global,
         binders: &[Binder<'_>],
         window: &Window,
-        claim: u32,
+        claim: u64,
         places: &[Places],
         by: &Stmt,
     ) -> Result<bool, AllocError> {

@@ -62,7 +62,7 @@ fn pure_forms<'a>(
     alloc: Global,
     outlined: &Outlined<'_>,
     claim: &Claim,
-    buffer: u32,
+    buffer: u64,
     coordinates: &'a [Coordinate],
 ) -> Result<Option<Vec<&'a Lin>>, AllocError>
     ensures { IfOk result (λ found. option_map (λ fs. map (λ f. f.now) fs.items) found ≡ pure_forms (outline_in outlined.now).setting (claim_of claim.now) buffer (map coordinate_of coordinates.now)) }

@@ -129,7 +129,7 @@ fn steps_on<'a, B: Bounds>(
     binders: &[Binder<'_>],
     claim: &Claim,
     steps: &[Step<'a>],
-    buffer: u32,
+    buffer: u64,
     definition: u64,
     coordinates: &'a [Coordinate],
     value: &Expr,

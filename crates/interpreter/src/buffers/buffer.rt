@@ -25,7 +25,7 @@ use tree::Value;
 /// what all places hold in raster order.
 #[derive(Drop)]
 pub struct Buffer {
-    number: u32,
+    number: u64,
     limit: usize,
     is_used: bool,
     rooms: Rooms,
@@ -91,14 +91,14 @@ impl Buffer {
     }
 
     /// Whether the buffer has this number.
-    pub(crate) fn is_numbered(&self, number: u32) -> bool
+    pub(crate) fn is_numbered(&self, number: u64) -> bool
         ensures { result ≡ (number == self.now.number) }
     {
         number == self.number
     }
 
     /// Whether the buffer has this number and is in use.
-    pub(crate) fn is_used_as(&self, number: u32) -> bool
+    pub(crate) fn is_used_as(&self, number: u64) -> bool
         ensures { result ≡ (self.now.used && (number == self.now.number)) }
     {
         self.is_used && number == self.number

@@ -3,6 +3,6 @@
 /// The number of a buffer, and for how many places there is memory.
 #[derive(Clone, Copy, Debug, PartialEq, Eq, Drop)]
 pub struct Limit {
-    pub buffer: u32,
+    pub buffer: u64,
     pub places: usize,
 }

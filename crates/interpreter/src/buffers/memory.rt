@@ -43,21 +43,21 @@ impl Model for Buffers {
 }
 
 /// The place of the first buffer of this number that is in use.
-fn used_position(buffers: &[Buffer], number: u32) -> Option<usize>
+fn used_position(buffers: &[Buffer], number: u64) -> Option<usize>
     ensures { result ≡ position (λ block. block.used && (number == block.number)) buffers.now }
 {
     buffers.iter().position(|buffer| buffer.is_used_as(number))
 }
 
 /// The place of the first buffer of this number.
-fn position(buffers: &[Buffer], number: u32) -> Option<usize>
+fn position(buffers: &[Buffer], number: u64) -> Option<usize>
     ensures { result ≡ position (λ block. number == block.number) buffers.now }
 {
     buffers.iter().position(|buffer| buffer.is_numbered(number))
 }
 
 /// The places that a limit asks for a buffer, 0 where it is another's.
-fn places_for(limit: Limit, buffer: u32) -> usize
+fn places_for(limit: Limit, buffer: u64) -> usize
     ensures { limit.buffer ≡ buffer → limit.places ≤ result }
 {
     if limit.buffer == buffer {
@@ -76,7 +76,7 @@ fn larger(left: usize, right: usize) -> usize
 }
 
 /// The greatest number of places that the limits ask for a buffer.
-fn most_places(limits: &[Limit], buffer: u32) -> usize
+fn most_places(limits: &[Limit], buffer: u64) -> usize
     ensures { All (λ limit. limit.buffer ≡ buffer → limit.places ≤ result) limits.now }
 {
     let mut most = 0;
@@ -120,7 +120,7 @@ impl Buffers {
     }
 
     /// Makes a buffer of unset places, in place of one of this number if there is one.
-    pub fn allot(&mut self, buffer: u32, rooms: Rooms)
+    pub fn allot(&mut self, buffer: u64, rooms: Rooms)
         requires { HasMemoryFor (limits_of self.old) buffer (place_count (map room_of rooms.items)) }
         ensures memory { memory_of self.new ≡ allot (memory_of self.old) buffer (map room_of rooms.items) }
         ensures limits { limits_of self.new ≡ limits_of self.old }
@@ -137,7 +137,7 @@ impl Buffers {
     }
 
     /// What is held at a point; nothing where there is no such buffer, the point is outside it, or its place is unset.
-    pub fn read(&self, buffer: u32, at: &[i64]) -> Option<Value>
+    pub fn read(&self, buffer: u64, at: &[i64]) -> Option<Value>
         ensures { result ≡ read (memory_of self.now) buffer at.now }
     {
         let found = used_position(&self.buffers, buffer)?;
@@ -146,7 +146,7 @@ impl Buffers {
 
     /// What is held at the points with these coordinates behind the first one. Nothing where there is no such buffer, or the
     /// points have no places, or places that are used again and again.
-    pub(crate) fn scanline(&self, buffer: u32, others: &[i64]) -> Option<Scanline<'_>>
+    pub(crate) fn scanline(&self, buffer: u64, others: &[i64]) -> Option<Scanline<'_>>
         ensures { IfSome result (λ l. (z : ℤ) (v : ValueHeld) → along l.places.now (z -ℤ l.origin) ≡ Some (Some v) → read (memory_of self.now) buffer (z ∷ others.now) ≡ Some v) }
     {
         let found = used_position(&self.buffers, buffer)?;
@@ -154,7 +154,7 @@ impl Buffers {
     }
 
     /// Sets the place of a point; `false` where there is no such buffer or the point is outside it.
-    pub fn write(&mut self, buffer: u32, at: &[i64], value: Value) -> bool
+    pub fn write(&mut self, buffer: u64, at: &[i64], value: Value) -> bool
         ensures set { OnTrue result (write (memory_of self.old) buffer at.now value ≡ Some (memory_of self.new)) }
         ensures outside { IsFalse result → (write (memory_of self.old) buffer at.now value ≡ None) × (self.new ≡ self.old) }
         ensures limits { limits_of self.new ≡ limits_of self.old }
@@ -167,7 +167,7 @@ impl Buffers {
 
     /// Where the first of so many points lies, of which each has a first coordinate that is one more than that of the one before,
     /// where the places of the others follow it one by one.
-    pub(crate) fn spot(&self, buffer: u32, first: i64, others: &[i64], count: usize) -> Option<Spot>
+    pub(crate) fn spot(&self, buffer: u64, first: i64, others: &[i64], count: usize) -> Option<Spot>
         ensures lies { IfSome result (λ s. (k : ℕ) → k < count → IsSpot self.now buffer ((first +ℤ pos k) ∷ others.now) s k) }
         ensures inside { IfSome result (λ s. (k : ℕ) → k < count → HasPlace self.now s.buffer (s.place + k)) }
     {

@@ -13,14 +13,14 @@ use crate::blocks::stage::Stage;
 pub struct Count {
     pub groups: usize,
     pub symbols: usize,
-    pub buffers: u32,
+    pub buffers: u64,
     pub stage: Stage,
 }
 
 /// The most symbols of a group.
 const MOST_SYMBOLS: usize = 256;
 /// The most buffers of a group.
-const MOST_BUFFERS: u32 = 256;
+const MOST_BUFFERS: u64 = 256;
 
 /// Whether the numbers of the line's symbols, or of its buffer, keep the limits.
 fn has_small_number(line: &Line) -> bool

@@ -45,22 +45,22 @@ pub enum Line {
     /// The last line of a block.
     End,
     Alloc {
-        buffer: u32,
+        buffer: u64,
         function: String,
         places: Vec<Places>,
     },
     Fetch {
-        buffer: u32,
+        buffer: u64,
         group: u64,
         region: Region,
     },
     Store {
-        buffer: u32,
+        buffer: u64,
         definition: u64,
         coordinates: Vec<Coordinate>,
         value: Expr,
     },
     Publish {
-        claim: u32,
+        claim: u64,
     },
 }

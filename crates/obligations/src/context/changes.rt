@@ -15,7 +15,7 @@ use soundness::outline::Outlined;
 use std::alloc::{AllocError, Global};
 
 /// Notes a buffer, if it is not noted.
-fn note(buffer: u32, changed: &mut Vec<u32>) -> Result<(), AllocError>
+fn note(buffer: u64, changed: &mut Vec<u64>) -> Result<(), AllocError>
     ensures { OnOk result ((b : ℕ) → is_member b changed.new.items ≡ (is_member b changed.old.items || (buffer == b))) }
 {
     if !is_member(buffer, changed) {
@@ -26,7 +26,7 @@ fn note(buffer: u32, changed: &mut Vec<u32>) -> Result<(), AllocError>
 
 /// Notes the buffers that a statement's lines change.
 #[cycle(changing)]
-fn note_changes(stmt: &Stmt, changed: &mut Vec<u32>) -> Result<(), AllocError>
+fn note_changes(stmt: &Stmt, changed: &mut Vec<u64>) -> Result<(), AllocError>
     ensures { OnOk result ((b : ℕ) → is_member b changed.new.items ≡ (is_member b changed.old.items || changes (statement_of stmt.now) b)) }
 {
     match stmt {
@@ -45,7 +45,7 @@ fn note_changes(stmt: &Stmt, changed: &mut Vec<u32>) -> Result<(), AllocError>
 
 /// Notes the buffers that the lines of a block's statements change.
 #[cycle(changing)]
-fn note_all_changes(all: &[Stmt], changed: &mut Vec<u32>) -> Result<(), AllocError>
+fn note_all_changes(all: &[Stmt], changed: &mut Vec<u64>) -> Result<(), AllocError>
     ensures { OnOk result ((b : ℕ) → is_member b changed.new.items ≡ (is_member b changed.old.items || block_changes (block (list_statements all.now)) b)) }
 {
     for stmt in all {
@@ -55,7 +55,7 @@ fn note_all_changes(all: &[Stmt], changed: &mut Vec<u32>) -> Result<(), AllocErr
 }
 
 /// The buffers that a statement's lines change, each once.
-pub(crate) fn changed(alloc: Global, stmt: &Stmt) -> Result<Vec<u32>, AllocError>
+pub(crate) fn changed(alloc: Global, stmt: &Stmt) -> Result<Vec<u64>, AllocError>
     ensures { IfOk result (λ buffers. (b : ℕ) → is_member b buffers.items ≡ changes (statement_of stmt.now) b) }
 {
     let mut changed = Vec::new(alloc);
@@ -65,7 +65,7 @@ pub(crate) fn changed(alloc: Global, stmt: &Stmt) -> Result<Vec<u32>, AllocError
 
 /// Whether all that a statement's lines change in a buffer are updates of the function.
 #[cycle(updating)]
-pub fn only_updates(outlined: &Outlined<'_>, stmt: &Stmt, buffer: u32, function: &str) -> bool
+pub fn only_updates(outlined: &Outlined<'_>, stmt: &Stmt, buffer: u64, function: &str) -> bool
     ensures { result ≡ updates (outline_in outlined.now).setting (statement_of stmt.now) buffer function.now }
 {
     match stmt {
@@ -89,7 +89,7 @@ pub fn only_updates(outlined: &Outlined<'_>, stmt: &Stmt, buffer: u32, function:
 
 /// The same of a block's statements.
 #[cycle(updating)]
-fn all_only_update(outlined: &Outlined<'_>, all: &[Stmt], buffer: u32, function: &str) -> bool
+fn all_only_update(outlined: &Outlined<'_>, all: &[Stmt], buffer: u64, function: &str) -> bool
     ensures { result ≡ block_updates (outline_in outlined.now).setting (block (list_statements all.now)) buffer function.now }
 {
     for stmt in all {
@@ -103,9 +103,9 @@ fn all_only_update(outlined: &Outlined<'_>, all: &[Stmt], buffer: u32, function:
 /// Whether a store of a definition in one buffer is of another, or an update of the function.
 fn is_update_of(
     outlined: &Outlined<'_>,
-    stored: u32,
+    stored: u64,
     definition: u64,
-    buffer: u32,
+    buffer: u64,
     function: &str,
 ) -> bool
     ensures { result ≡ (if stored == buffer then same_name ((outline_in outlined.now).setting.buffer_function stored) function.now && is_update definition else true) }
@@ -115,7 +115,7 @@ fn is_update_of(
 
 /// Whether all that a statement's lines change in a buffer is of the function, and the buffer stays.
 #[cycle(writing)]
-pub fn only_writes(outlined: &Outlined<'_>, stmt: &Stmt, buffer: u32, function: &str) -> bool
+pub fn only_writes(outlined: &Outlined<'_>, stmt: &Stmt, buffer: u64, function: &str) -> bool
     ensures { result ≡ writes (outline_in outlined.now).setting (statement_of stmt.now) buffer function.now }
 {
     match stmt {
@@ -142,7 +142,7 @@ pub fn only_writes(outlined: &Outlined<'_>, stmt: &Stmt, buffer: u32, function: 
 
 /// The same of a block's statements.
 #[cycle(writing)]
-fn all_only_write(outlined: &Outlined<'_>, all: &[Stmt], buffer: u32, function: &str) -> bool
+fn all_only_write(outlined: &Outlined<'_>, all: &[Stmt], buffer: u64, function: &str) -> bool
     ensures { result ≡ block_writes (outline_in outlined.now).setting (block (list_statements all.now)) buffer function.now }
 {
     for stmt in all {

@@ -20,10 +20,10 @@ pub trait Facts: Bounds {
         ensures { result ≡ (definition == (Self.rules self.now).last function.now) };
 
     /// The line of a claim. Lines past the greatest `u32` count as that.
-    fn claim_line(&self, claim: u32) -> u32
+    fn claim_line(&self, claim: u64) -> u32
         ensures { result ≡ min ((Self.rules self.now).claim_line claim) (2 ^ 32 - 1) };
 
     /// The line of the first window of a claim. Lines past the greatest `u32` count as that.
-    fn window_line(&self, claim: u32) -> u32
+    fn window_line(&self, claim: u64) -> u32
         ensures { result ≡ min ((Self.rules self.now).window_line claim) (2 ^ 32 - 1) };
 }

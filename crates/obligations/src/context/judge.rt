@@ -49,14 +49,14 @@ impl<B, T> Drop for Judge<'_, B, T> {
 /// What a claim says of a buffer.
 #[derive(Clone, Copy, Drop)]
 pub struct Said<'a> {
-    pub buffer: u32,
+    pub buffer: u64,
     pub function: &'a str,
     pub definition: u64,
     pub region: &'a [Span1],
 }
 
 /// What a claim says. An unknown claim says that buffer 0 holds nothing.
-pub fn said_by<'a>(outlined: &Outlined<'a>, claim: u32) -> Said<'a>
+pub fn said_by<'a>(outlined: &Outlined<'a>, claim: u64) -> Said<'a>
     ensures buffer { result.buffer ≡ ((outline_in outlined.now).claim claim).buffer }
     ensures function { result.function.now ≡ ((outline_in outlined.now).claim claim).function }
     ensures definition { result.definition ≡ ((outline_in outlined.now).claim claim).definition }

@@ -18,15 +18,15 @@ use std::alloc::AllocError;
 /// A buffer in scope.
 #[derive(Clone, Copy, Drop)]
 pub struct Buffer<'a> {
-    pub name: u32,
+    pub name: u64,
     pub places: &'a [Places],
 }
 
 /// An update's nest that is under way: the claim of the definition before, and the claim that the nest makes.
 #[derive(Clone, Copy, Drop)]
 pub struct Nest {
-    pub before: u32,
-    pub next: u32,
+    pub before: u64,
+    pub next: u64,
 }
 
 /// What is known at a line, but for the nests under way. Binders and buffers are given from the outermost on.
@@ -35,13 +35,13 @@ pub struct Known<'a> {
     pub binders: Vec<Binder<'a>>,
     pub buffers: Vec<Buffer<'a>>,
     /// The claims in force.
-    pub claims: Vec<u32>,
+    pub claims: Vec<u64>,
     /// Those of them that came into force in this very block.
-    pub own: Vec<u32>,
+    pub own: Vec<u64>,
 }
 
 /// Whether the number is among these.
-pub fn is_member(number: u32, numbers: &[u32]) -> bool
+pub fn is_member(number: u64, numbers: &[u64]) -> bool
     ensures { result ≡ is_member number numbers.now }
 {
     numbers.iter().any(|one| *one == number)
@@ -55,7 +55,7 @@ fn is_next(before: u64, next: u64) -> bool
 }
 
 /// Whether the second claim is of the definition after that of the first.
-pub fn follows<B: Facts, T: NestTests>(judge: &Judge<'_, B, T>, before: u32, next: u32) -> bool
+pub fn follows<B: Facts, T: NestTests>(judge: &Judge<'_, B, T>, before: u64, next: u64) -> bool
     ensures { result ≡ follows (outline_in judge.now.outlined.now) (B.rules judge.now.bounds.now) before next }
 {
     let before = said_by(judge.outlined, before);
@@ -70,8 +70,8 @@ pub fn follows<B: Facts, T: NestTests>(judge: &Judge<'_, B, T>, before: u32, nex
 fn left_alone<B: Facts, T: NestTests>(
     judge: &Judge<'_, B, T>,
     stmt: &Stmt,
-    claims: &[u32],
-) -> Result<Vec<u32>, AllocError>
+    claims: &[u64],
+) -> Result<Vec<u64>, AllocError>
     ensures { IfOk result (λ left. left.items ≡ filter (is_left (outline_in judge.now.outlined.now) (B.rules judge.now.bounds.now) (statement_of stmt.now)) claims.now) }
 {
     let changed = changed(judge.alloc, stmt)?;
@@ -81,9 +81,9 @@ fn left_alone<B: Facts, T: NestTests>(
 /// The claims whose buffer is not among these.
 fn kept<B: Facts, T: NestTests>(
     judge: &Judge<'_, B, T>,
-    changed: &[u32],
-    claims: &[u32],
-) -> Result<Vec<u32>, AllocError>
+    changed: &[u64],
+    claims: &[u64],
+) -> Result<Vec<u64>, AllocError>
     ensures { IfOk result (λ left. left.items ≡ filter (λ c. not (is_member ((outline_in judge.now.outlined.now).claim c).buffer changed.now)) claims.now) }
 {
     let mut left = Vec::new(judge.alloc);
@@ -98,8 +98,8 @@ fn kept<B: Facts, T: NestTests>(
 /// The nests that a claim's statement begins after each claim of the definition before, behind others.
 fn note_nests<B: Facts, T: NestTests>(
     judge: &Judge<'_, B, T>,
-    claim: u32,
-    own: &[u32],
+    claim: u64,
+    own: &[u64],
     nests: &mut Vec<Nest>,
 ) -> Result<(), AllocError>
     ensures { OnOk result (map nest_of nests.new.items ≡ map nest_of nests.old.items ++ map (λ d. record { before = d; next = claim }) (filter (λ d. follows (outline_in judge.now.outlined.now) (B.rules judge.now.bounds.now) d claim) own.now)) }
@@ -119,8 +119,8 @@ fn note_nests<B: Facts, T: NestTests>(
 fn nests_of<B: Facts, T: NestTests>(
     judge: &Judge<'_, B, T>,
     stmt: &Stmt,
-    next: &[u32],
-    own: &[u32],
+    next: &[u64],
+    own: &[u64],
 ) -> Result<Vec<Nest>, AllocError>
     ensures { IfOk result (λ nests. map nest_of nests.items ≡ nests_of (outline_in judge.now.outlined.now) (B.rules judge.now.bounds.now) (statement_of stmt.now) next.now own.now) }
 {
@@ -138,8 +138,8 @@ fn nests_of<B: Facts, T: NestTests>(
 pub fn nests_within<B: Facts, T: NestTests>(
     judge: &Judge<'_, B, T>,
     stmt: &Stmt,
-    next: &[u32],
-    own: &[u32],
+    next: &[u64],
+    own: &[u64],
     updating: &[Nest],
 ) -> Result<Vec<Nest>, AllocError>
     ensures { IfOk result (λ nests. map nest_of nests.items ≡ nests_of (outline_in judge.now.outlined.now) (B.rules judge.now.bounds.now) (statement_of stmt.now) next.now own.now ++ map nest_of updating.now) }
@@ -152,7 +152,7 @@ pub fn nests_within<B: Facts, T: NestTests>(
 impl<'a> Known<'a> {
     /// The places of a buffer, if it is in scope.
     #[tactic(auto, using(crate::proofs::Bound::buffers_pushed))]
-    pub fn places_of(&self, buffer: u32) -> Option<&'a [Places]>
+    pub fn places_of(&self, buffer: u64) -> Option<&'a [Places]>
         ensures { option_copied result ≡ places_of (buffers_of self.now.buffers.items) buffer }
     {
         let mut found = None;
@@ -252,10 +252,10 @@ fn bind<'a, B: Facts, T: NestTests>(
 /// The claims in force after a statement that makes these, of those before it.
 fn claims_after<B: Facts, T: NestTests>(
     judge: &Judge<'_, B, T>,
-    changed: &[u32],
-    made: &[u32],
-    claims: &[u32],
-) -> Result<Vec<u32>, AllocError>
+    changed: &[u64],
+    made: &[u64],
+    claims: &[u64],
+) -> Result<Vec<u64>, AllocError>
     ensures { IfOk result (λ after. after.items ≡ made.now ++ filter (λ c. not (is_member ((outline_in judge.now.outlined.now).claim c).buffer changed.now)) claims.now) }
 {
     let mut after = Vec::from_slice(judge.alloc, made)?;
@@ -268,8 +268,8 @@ fn claims_after<B: Facts, T: NestTests>(
 fn made<'c, B: Facts, T: NestTests>(
     judge: &Judge<'_, B, T>,
     stmt: &Stmt,
-    next: &'c [u32],
-) -> &'c [u32]
+    next: &'c [u64],
+) -> &'c [u64]
     ensures { result.now ≡ makes (outline_in judge.now.outlined.now) (B.rules judge.now.bounds.now) (statement_of stmt.now) next.now }
 {
     match stmt {
@@ -283,7 +283,7 @@ fn made<'c, B: Facts, T: NestTests>(
 pub fn onwards<'a, B: Facts, T: NestTests>(
     judge: &Judge<'_, B, T>,
     stmt: &'a Stmt,
-    next: &[u32],
+    next: &[u64],
     mut known: Known<'a>,
 ) -> Result<Known<'a>, AllocError>
     ensures { IfOk result (λ after. (updating : List Nest) → known_of after updating ≡ onwards (outline_in judge.now.outlined.now) (B.rules judge.now.bounds.now) (statement_of stmt.now) next.now (known_of known.entry updating)) }

@@ -103,14 +103,14 @@ fn buffers_have(symbol: Sym, buffers: &[Buffer<'_>]) -> bool
 }
 
 /// Whether a symbol stands in the region of a claim.
-fn claim_has<B: Facts, T: NestTests>(judge: &Judge<'_, B, T>, symbol: Sym, claim: u32) -> bool
+fn claim_has<B: Facts, T: NestTests>(judge: &Judge<'_, B, T>, symbol: Sym, claim: u64) -> bool
     ensures { result ≡ list_any (span_has symbol) (region_of (outline_in judge.now.outlined.now) (B.rules judge.now.bounds.now) claim) }
 {
     spans_have(symbol, said_by(judge.outlined, claim).region)
 }
 
 /// Whether a symbol stands in the region of one of the claims.
-fn claims_have<B: Facts, T: NestTests>(judge: &Judge<'_, B, T>, symbol: Sym, claims: &[u32]) -> bool
+fn claims_have<B: Facts, T: NestTests>(judge: &Judge<'_, B, T>, symbol: Sym, claims: &[u64]) -> bool
     ensures { result ≡ list_any (λ c. list_any (span_has symbol) (region_of (outline_in judge.now.outlined.now) (B.rules judge.now.bounds.now) c)) claims.now }
 {
     for claim in claims {

@@ -22,7 +22,7 @@ pub struct Need {
 #[derive(Debug, Drop)]
 pub struct Claim {
     pub line: u64,
-    pub buffer: u32,
+    pub buffer: u64,
     pub function: String,
     /// 0 is the pure definition.
     pub definition: u64,
@@ -33,7 +33,7 @@ pub struct Claim {
 /// dimension.
 #[derive(Debug, Drop)]
 pub struct Window {
-    pub claim: u32,
+    pub claim: u64,
     pub symbol: Sym,
     pub dimension: u64,
     /// The fold factor of that dimension, 0 where it has none.

@@ -7,7 +7,7 @@ use lin::{Forms, Lin, Region, Span1, Sym};
 use plan::{Coordinate, Group, Index, Kind, Pick, Places, Stmt};
 use spelling::sizes::put_size;
 use spelling::terms::put_term;
-use spelling::words::{put_count, put_separator, put_symbol};
+use spelling::words::{put_separator, put_symbol};
 use std::alloc::AllocError;
 use tree::Expr;
 
@@ -84,12 +84,12 @@ fn put_place(text: &mut String, place: &Places) -> Result<(), AllocError> {
 /// Writes a buffer's line: its function, how many places it has, and which.
 fn put_alloc(
     text: &mut String,
-    buffer: u32,
+    buffer: u64,
     function: &str,
     places: &[Places],
 ) -> Result<(), AllocError> {
     text.push_str("buffer b")?;
-    put_count(text, buffer)?;
+    put_size(text, buffer)?;
     text.push_str(" of ")?;
     text.push_str(function)?;
     text.push_str(", places ")?;
@@ -106,12 +106,12 @@ fn put_alloc(
 fn put_fetch(
     text: &mut String,
     scene: &Scene<'_>,
-    buffer: u32,
+    buffer: u64,
     group: u64,
     region: &Region,
 ) -> Result<(), AllocError> {
     text.push_str("fetch b")?;
-    put_count(text, buffer)?;
+    put_size(text, buffer)?;
     text.push_str(" from group ")?;
     put_size(text, group)?;
     text.push_str(" ")?;
@@ -150,7 +150,7 @@ fn put_coordinates(text: &mut String, all: &[Coordinate]) -> Result<(), AllocErr
 fn put_definition(
     text: &mut String,
     scene: &Scene<'_>,
-    buffer: u32,
+    buffer: u64,
     definition: u64,
 ) -> Result<(), AllocError> {
     if definition == 0 {
@@ -160,7 +160,7 @@ fn put_definition(
         put_size(text, definition)?;
         text.push_str(" b")?;
     }
-    put_count(text, buffer)?;
+    put_size(text, buffer)?;
     text.push_str(" ")?;
     text.push_str(name_of(&scene.group.body, buffer))
 }

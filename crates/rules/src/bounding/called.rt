@@ -38,7 +38,7 @@ fn is_among(names: &[&str], name: &str) -> bool
 }
 
 /// The function of a claim; no name where there is no such claim.
-fn claimed_function<'a>(outlined: &'a Outlined<'_>, claim: u32) -> &'a str
+fn claimed_function<'a>(outlined: &'a Outlined<'_>, claim: u64) -> &'a str
     ensures { result.now ≡ (claim_or_none (slice_get (certificate_in outlined.now).claims claim)).function }
 {
     match outlined.claim(claim) {

@@ -37,7 +37,7 @@ fn orders<B: Bounds>(
     algo: &Algo,
     claim: &Claim,
     loops: &[PlainLoop<'_>],
-    buffer: u32,
+    buffer: u64,
     definition: u64,
     coordinates: &[Coordinate],
     value: &Expr,

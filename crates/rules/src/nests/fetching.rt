@@ -38,7 +38,7 @@ fn fetches<B: Bounds>(
     last: u64,
     claim: &Claim,
     places: &[Places],
-    buffer: u32,
+    buffer: u64,
     group: u64,
     region: &[Span1],
 ) -> Result<bool, AllocError>

@@ -76,7 +76,7 @@ fn fills<'a, B: Bounds>(
     claim: &Claim,
     places: &[Places],
     loops: &[PlainLoop<'a>],
-    buffer: u32,
+    buffer: u64,
     coordinates: &[Coordinate],
     value: &Expr,
 ) -> Result<bool, AllocError>

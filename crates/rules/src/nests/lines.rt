@@ -29,7 +29,7 @@ pub(crate) struct Nested<'a> {
 
 /// Whether some line of the statement changes the buffer.
 #[cycle(changing)]
-fn changes(stmt: &Stmt, buffer: u32) -> bool
+fn changes(stmt: &Stmt, buffer: u64) -> bool
     ensures { result ≡ changes (statement_of stmt.now) buffer }
 {
     match stmt {
@@ -55,7 +55,7 @@ fn changes(stmt: &Stmt, buffer: u32) -> bool
 /// Whether some line of a block's statements changes the buffer.
 #[tactic(auto, using(crate::proofs::Blocks::changes_from))]
 #[cycle(changing)]
-fn some_change(all: &[Stmt], buffer: u32) -> bool
+fn some_change(all: &[Stmt], buffer: u64) -> bool
     ensures { result ≡ block_changes (block (list_statements all.now)) buffer }
 {
     for stmt in all {
@@ -109,7 +109,7 @@ fn inside<'a>(
 pub(crate) fn line_in<'a>(
     alloc: Global,
     stmt: &'a Stmt,
-    buffer: u32,
+    buffer: u64,
 ) -> Result<Option<Nested<'a>>, AllocError>
     ensures { IfOk result (λ found. option_map nest_held found ≡ nest_of (statement_of stmt.now) buffer) }
 {
@@ -152,7 +152,7 @@ pub(crate) fn line_in<'a>(
 fn line_in_block<'a>(
     alloc: Global,
     all: &'a [Stmt],
-    buffer: u32,
+    buffer: u64,
 ) -> Result<Option<Nested<'a>>, AllocError>
     ensures { IfOk result (λ found. option_map nest_held found ≡ block_nest (block (list_statements all.now)) buffer) }
 {

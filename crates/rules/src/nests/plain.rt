@@ -72,7 +72,7 @@ impl<B: Bounds> NestTests for PlainNests<'_, B> {
         &self,
         alloc: Global,
         binders: &[Binder<'_>],
-        claim: u32,
+        claim: u64,
         from: Option<u64>,
         places: &[Places],
         by: &Stmt,
@@ -105,7 +105,7 @@ impl<B: Bounds> NestTests for PlainNests<'_, B> {
         &self,
         alloc: Global,
         binders: &[Binder<'_>],
-        claim: u32,
+        claim: u64,
         by: &Stmt,
     ) -> Result<bool, AllocError> {
         let at = self.at(alloc, binders);
@@ -122,7 +122,7 @@ impl<B: Bounds> NestTests for PlainNests<'_, B> {
         alloc: Global,
         binders: &[Binder<'_>],
         window: &Window,
-        claim: u32,
+        claim: u64,
         places: &[Places],
         by: &Stmt,
     ) -> Result<bool, AllocError> {
@@ -134,7 +134,7 @@ impl<B: Bounds> NestTests for PlainNests<'_, B> {
         alloc: Global,
         binders: &[Binder<'_>],
         window: &Window,
-        claim: u32,
+        claim: u64,
         places: &[Places],
         by: &Stmt,
     ) -> Result<bool, AllocError> {

@@ -27,7 +27,7 @@ pub(crate) fn no_claim(alloc: Global) -> Claim
 pub(crate) fn claim_in<'c, 'a: 'c>(
     outlined: &'c Outlined<'a>,
     unknown: &'c Claim,
-    number: u32,
+    number: u64,
 ) -> &'c Claim
     requires { claim_of unknown.now ≡ no_claim }
     ensures { claim_of result.now ≡ (outline_in outlined.now).claim number }

@@ -62,7 +62,7 @@ pub trait NestTests {
         &self,
         alloc: Global,
         binders: &[Binder<'_>],
-        claim: u32,
+        claim: u64,
         from: Option<u64>,
         places: &[Places],
         by: &Stmt,
@@ -74,7 +74,7 @@ pub trait NestTests {
         &self,
         alloc: Global,
         binders: &[Binder<'_>],
-        claim: u32,
+        claim: u64,
         by: &Stmt,
     ) -> Result<bool, AllocError>
         ensures { IfOk result (λ yes. yes ≡ (nests self.now).is_in_turn (binders_of binders.now) claim (statement_of by.now)) };
@@ -86,7 +86,7 @@ pub trait NestTests {
         alloc: Global,
         binders: &[Binder<'_>],
         window: &Window,
-        claim: u32,
+        claim: u64,
         places: &[Places],
         by: &Stmt,
     ) -> Result<bool, AllocError>
@@ -99,7 +99,7 @@ pub trait NestTests {
         alloc: Global,
         binders: &[Binder<'_>],
         window: &Window,
-        claim: u32,
+        claim: u64,
         places: &[Places],
         by: &Stmt,
     ) -> Result<bool, AllocError>

@@ -17,7 +17,7 @@ use plan::certificate::Window;
 
 /// Whether some line of the statement changes the buffer.
 #[cycle(changing)]
-fn changes(stmt: &Stmt, buffer: u32) -> bool
+fn changes(stmt: &Stmt, buffer: u64) -> bool
     ensures { result ≡ changes (statement_of stmt.now) buffer }
 {
     match stmt {
@@ -43,7 +43,7 @@ fn changes(stmt: &Stmt, buffer: u32) -> bool
 /// Whether some line of a block's statements changes the buffer.
 #[tactic(auto, using(crate::proofs::OfOutline::Blocks::changes_from))]
 #[cycle(changing)]
-fn some_change(all: &[Stmt], buffer: u32) -> bool
+fn some_change(all: &[Stmt], buffer: u64) -> bool
     ensures { result ≡ block_changes (block (list_statements all.now)) buffer }
 {
     for stmt in all {
@@ -65,7 +65,7 @@ fn gives(symbol: Sym, stmt: &Stmt) -> bool
 }
 
 /// The buffer of a claim, 0 where there is no such claim.
-fn buffer_of(outlined: &Outlined<'_>, claim: u32) -> u32
+fn buffer_of(outlined: &Outlined<'_>, claim: u64) -> u64
     ensures { result ≡ ((outline_in outlined.now).claim claim).buffer }
 {
     match outlined.claim(claim) {
@@ -75,7 +75,7 @@ fn buffer_of(outlined: &Outlined<'_>, claim: u32) -> u32
 }
 
 /// Whether a claim is of a pure definition, or there is no such claim.
-fn is_pure(outlined: &Outlined<'_>, claim: u32) -> bool
+fn is_pure(outlined: &Outlined<'_>, claim: u64) -> bool
     ensures { result ≡ not (is_update ((outline_in outlined.now).claim claim).definition) }
 {
     match outlined.claim(claim) {

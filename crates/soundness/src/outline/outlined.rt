@@ -23,25 +23,16 @@ pub struct Outlined<'a> {
     rooms: Vec<Room<'a>>,
     ghost noted: { ∥ AreNoted rooms.items (statement_of group.now.body) ∥₁ },
     ghost known: { number < length plan.now.groups.items },
-    ghost few: { length cert.now.claims.items ≤ 2 ^ 32 },
-}
-
-/// Whether there are no more claims than a `u32` tells apart.
-fn are_few(claims: &[Claim]) -> bool
-    ensures { IsTrue result → length claims.now ≤ 2 ^ 32 }
-{
-    claims.len() as u64 <= 1 << 32
 }
 
 /// The numbers of the claims of a line, rising.
-fn claims_at(alloc: Global, claims: &[Claim], line: u64) -> Result<Vec<u32>, AllocError>
-    requires { length claims.now ≤ 2 ^ 32 }
+fn claims_at(alloc: Global, claims: &[Claim], line: u64) -> Result<Vec<u64>, AllocError>
     ensures { IfOk result (λ found. found.items ≡ named_from 0 (map claim_of claims.now) line) }
 {
     let mut found = Vec::new(alloc);
     for (number, claim) in claims.iter().enumerate() {
         if claim.line == line {
-            found.push(number as u32)?;
+            found.push(number as u64)?;
         }
     }
     Ok(found)
@@ -60,7 +51,7 @@ impl<'a> Outlined<'a> {
     /// The group of this number, with its plan and certificate.
     ///
     /// # Errors
-    /// Want of memory; a certificate with more than 2^32 claims counts as that.
+    /// Want of memory.
     pub fn new(
         alloc: Global,
         plan: &'a Plan,
@@ -73,9 +64,6 @@ impl<'a> Outlined<'a> {
         ensures number { IfOk result (λ o. number_in o ≡ number) }
         ensures group { IfOk result (λ o. slice_get (plan_of plan.now).groups number ≡ Some (group_in o)) }
     {
-        if !are_few(&cert.claims) {
-            return Err(AllocError);
-        }
         let group = &plan.groups[number];
         let rooms = rooms_of(alloc, &group.body)?;
         Ok(Outlined {
@@ -123,7 +111,7 @@ impl<'a> Outlined<'a> {
     }
 
     /// What the buffer holds values of; empty where no line allocates the buffer.
-    pub fn buffer_function(&self, buffer: u32) -> &'a str
+    pub fn buffer_function(&self, buffer: u64) -> &'a str
         ensures { result.now ≡ (outline_in self.now).setting.buffer_function buffer }
     {
         match room_in(&self.rooms, buffer) {
@@ -133,7 +121,7 @@ impl<'a> Outlined<'a> {
     }
 
     /// The places of a buffer, if a line allocates it.
-    pub fn buffer_places(&self, buffer: u32) -> Option<&'a [Places]>
+    pub fn buffer_places(&self, buffer: u64) -> Option<&'a [Places]>
         ensures { MatchOption result (buffer_in self.now buffer ≡ None) (λ places. places_in (buffer_in self.now buffer) ≡ Some places.now) }
     {
         match room_in(&self.rooms, buffer) {
@@ -143,7 +131,7 @@ impl<'a> Outlined<'a> {
     }
 
     /// How many coordinates a buffer has, 0 where no line allocates it.
-    pub fn dimensions(&self, buffer: u32) -> usize
+    pub fn dimensions(&self, buffer: u64) -> usize
         ensures { result ≡ (outline_in self.now).setting.dimensions buffer }
     {
         match room_in(&self.rooms, buffer) {
@@ -163,7 +151,7 @@ impl<'a> Outlined<'a> {
     }
 
     /// A claim, if there is one of this number.
-    pub fn claim(&self, claim: u32) -> Option<&'a Claim>
+    pub fn claim(&self, claim: u64) -> Option<&'a Claim>
         ensures known { claim_held result ≡ slice_get (certificate_in self.now).claims claim }
         ensures meant { claim_or_none (claim_held result) ≡ (outline_in self.now).claim claim }
     {
@@ -171,7 +159,7 @@ impl<'a> Outlined<'a> {
     }
 
     /// The claims of the statement that ends at a line, rising. It looks at each claim once.
-    pub fn named(&self, alloc: Global, line: u64) -> Result<Vec<u32>, AllocError>
+    pub fn named(&self, alloc: Global, line: u64) -> Result<Vec<u64>, AllocError>
         ensures { IfOk result (λ claims. claims.items ≡ (outline_in self.now).named line) }
     {
         claims_at(alloc, &self.cert.claims, line)
@@ -179,7 +167,7 @@ impl<'a> Outlined<'a> {
 
     /// Whether a claim is of the statement that ends at a line.
     #[tactic(auto, using(crate::proofs::OfOutline::Named::is_named))]
-    pub fn is_named(&self, claim: u32, line: u64) -> bool
+    pub fn is_named(&self, claim: u64, line: u64) -> bool
         ensures { result ≡ is_member claim ((outline_in self.now).named line) }
     {
         match self.claim(claim) {
@@ -203,7 +191,7 @@ impl<'a> Outlined<'a> {
             return Source::Input;
         }
         match claim_named(name) {
-            Some(claim) if claim < self.cert.claims.len() => Source::ByClaim(claim as u32),
+            Some(claim) if claim < self.cert.claims.len() => Source::ByClaim(claim as u64),
             _ => Source::Unknown,
         }
     }

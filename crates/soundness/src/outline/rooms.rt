@@ -13,13 +13,13 @@ use std::alloc::{AllocError, Global};
 /// The number of a buffer, and what the first line that allocates it says.
 #[derive(Clone, Copy, Drop)]
 pub(crate) struct Room<'a> {
-    pub buffer: u32,
+    pub buffer: u64,
     pub function: &'a str,
     pub places: &'a [Places],
 }
 
 /// The room of a buffer, if one is noted.
-pub(crate) fn room_in<'r, 'a>(rooms: &'r [Room<'a>], buffer: u32) -> Option<Room<'a>>
+pub(crate) fn room_in<'r, 'a>(rooms: &'r [Room<'a>], buffer: u64) -> Option<Room<'a>>
     ensures { MatchOption result (first_room rooms.now buffer ≡ None) (λ room. first_room rooms.now buffer ≡ Some (buffer_of room)) }
 {
     for room in rooms {

@@ -6,7 +6,7 @@ pub enum Source {
     /// The input.
     Input,
     /// What is loaded by the claim of this number.
-    ByClaim(u32),
+    ByClaim(u64),
     /// Nothing.
     Unknown,
 }

@@ -28,7 +28,7 @@ impl<B: Bounds, N: NestTests> NestTests for SlidNests<'_, B, N> {
         &self,
         alloc: Global,
         binders: &[Binder<'_>],
-        claim: u32,
+        claim: u64,
         from: Option<u64>,
         places: &[Places],
         by: &Stmt,
@@ -57,7 +57,7 @@ impl<B: Bounds, N: NestTests> NestTests for SlidNests<'_, B, N> {
         &self,
         alloc: Global,
         binders: &[Binder<'_>],
-        claim: u32,
+        claim: u64,
         by: &Stmt,
     ) -> Result<bool, AllocError> {
         self.others.is_in_turn(alloc, binders, claim, by)
@@ -68,7 +68,7 @@ impl<B: Bounds, N: NestTests> NestTests for SlidNests<'_, B, N> {
         alloc: Global,
         binders: &[Binder<'_>],
         window: &certificate::Window,
-        claim: u32,
+        claim: u64,
         places: &[Places],
         by: &Stmt,
     ) -> Result<bool, AllocError> {
@@ -91,7 +91,7 @@ impl<B: Bounds, N: NestTests> NestTests for SlidNests<'_, B, N> {
         alloc: Global,
         binders: &[Binder<'_>],
         window: &certificate::Window,
-        claim: u32,
+        claim: u64,
         places: &[Places],
         by: &Stmt,
     ) -> Result<bool, AllocError> {
