@@ -268,7 +268,7 @@ fn groups_flaw(
 /// there is none.
 ///
 /// # Errors
-/// Want of memory; a certificate with more than 2^32 claims counts as that.
+/// Want of memory.
 pub fn first_flaw(
     alloc: Global,
     algo: &Algo,
