@@ -1,12 +1,12 @@
 -- The first obligation that is not shown, of lists put together.
 use Rattle.std.proofs.Common.{◌≡◌, ℕ, ◌+◌, ◌-◌, ◌^◌, ◌<◌, ◌≤◌, min, Bool, true, false, List, [], ◌∷◌, ◌++◌, drop, length, get_or, Option, Some, None, refl, sym, ap, ◌∙◌, arith, map}
 use Rattle.std.specs.Prelude.{if◌then◌else◌}
-use Rattle.std.specs.Option.{unwrap_or}
 use Rattle.soundness.specs.Origins.{or_same}
 use Rattle.std.proofs.lemmas.List.{drop_all}
 use Rattle.soundness.specs.declared.outline.refusals.code.Flaw.{Flaw}
 use Rattle.plan.specs.Semantics.Setting.{or_else}
-use Rattle.soundness.specs.Obligations.{Rules, Obligation}
+use Rattle.soundness.specs.Obligations.{Rules, Obligation, turn_code}
+use Rattle.soundness.specs.declared.outline.refusals.code.K.TheVariants.{K6, K7}
 use Rattle.soundness.specs.Shown.{Nests, is_shown, first_fault}
 use Rattle.obligations.specs.declared.context.judge.Part.{Part}
 use Rattle.obligations.specs.Asked.{code_of, is_asked, of_part, flaw_of, told, first_unmet, unless}
@@ -105,10 +105,12 @@ module _ (rules : Rules) (nests : Nests) (part : Part) where
     loop_ends all i none le inv =
         sym (inv ∙ ap (λ (xs : List X). first_unmet rules nests part (F xs)) (drop_all i all le) ∙ ap (first_unmet rules nests part) none ∙ nothing)
 
--- a line or the other, as it is told
-pub told_line : (o : Option ℕ) (n : ℕ) → min (unwrap_or o (min n (2 ^ 32 - 1))) (2 ^ 32 - 1) ≡ min (or_same o n) (2 ^ 32 - 1)
-told_line None n = omega arith
-told_line (Some m) n = refl
+-- the order of a nest, as it is told at a line, or at the claim
+pub told_turn : (part : Part) (o : Option ℕ) (m n : ℕ) (shown : Bool) → o ≡ Some m → unless part (code_of (turn_code o)) (min (or_same o n) (2 ^ 32 - 1)) shown ≡ unless part K7 (min m (2 ^ 32 - 1)) shown
+told_turn part o m n shown h = ap (λ (p : Option ℕ). unless part (code_of (turn_code p)) (min (or_same p n) (2 ^ 32 - 1)) shown) h
+
+pub told_claim : (part : Part) (o : Option ℕ) (n : ℕ) (shown : Bool) → o ≡ None → unless part (code_of (turn_code o)) (min (or_same o n) (2 ^ 32 - 1)) shown ≡ unless part K6 (min n (2 ^ 32 - 1)) shown
+told_claim part o n shown h = ap (λ (p : Option ℕ). unless part (code_of (turn_code p)) (min (or_same p n) (2 ^ 32 - 1)) shown) h
 
 -- an element that passes a test or not, before others
 pub kept_step : {Y : Type 0} (h : Y → Obligation) (b : Bool) (y : Y) (ys : List Y) → map h (if b then y ∷ ys else ys) ≡ (if b then h y ∷ [] else []) ++ map h ys

@@ -1,10 +1,10 @@
 -- Which obligations are asked after, and how the first that is not shown is told.
 use Rattle.std.specs.Prelude.{ℕ, ◌-◌, ◌^◌, min, Bool, true, false, not, if◌then◌else◌, List, filter, Option, Some, None}
 use Rattle.soundness.specs.declared.outline.refusals.code.K.{K}
-use Rattle.soundness.specs.declared.outline.refusals.code.K.TheVariants.{K2, K4, K5, K6, K7, K8}
+use Rattle.soundness.specs.declared.outline.refusals.code.K.TheVariants.{K2, K4, K5, K6, K7, K8, K12}
 use Rattle.soundness.specs.declared.outline.refusals.code.Flaw.{Flaw}
 use Rattle.soundness.specs.Outline.Refusals.Codes.{is_before}
-use Rattle.soundness.specs.Obligations.{Rules, Code, Undefined, OutOfBuffer, NotClaimed, NotMade, OutOfOrder, NotHeld, Obligation}
+use Rattle.soundness.specs.Obligations.{Rules, Code, Undefined, OutOfBuffer, NotClaimed, NotMade, OutOfOrder, NotHeld, NotTheDefinition, Obligation}
 use Rattle.soundness.specs.Shown.{Nests, first_fault}
 use Rattle.obligations.specs.declared.context.judge.Part.{Part}
 use Rattle.obligations.specs.declared.context.judge.Part.TheVariants.{Lines, Claims, Before}
@@ -17,6 +17,7 @@ code_of NotClaimed = K5
 code_of NotMade = K6
 code_of OutOfOrder = K7
 code_of NotHeld = K8
+code_of NotTheDefinition = K12
 
 -- the code of a statement that does not make its claim
 abbrev pub is_of_claims : K → Bool

@@ -9,7 +9,7 @@ use Rattle.meaning.specs.Names.{same_name}
 use Rattle.plan.specs.Semantics.Run.{Source}
 use Rattle.soundness.specs.Claims.{is_update}
 use Rattle.soundness.specs.Origins.{Outline}
-use Rattle.soundness.specs.Obligations.{Known, Rules, OutOfBuffer, NotClaimed, Inside, Named, seated, places_of, is_begun, claimed, coordinate_loads, target_span, Obligation, obligation, region_of, serves, index_met, variable_span, may_load, met, load_obligations, intervals, loads, loads_of_all, loads_of_test}
+use Rattle.soundness.specs.Obligations.{Known, Rules, OutOfBuffer, NotClaimed, NotTheDefinition, Inside, Named, seated, places_of, is_begun, claimed, coordinate_loads, target_span, Obligation, obligation, region_of, serves, index_met, variable_span, may_load, met, load_obligations, intervals, loads, loads_of_all, loads_of_test}
 use Rattle.obligations.specs.declared.context.known.Nest.{Nest}
 use Rattle.obligations.specs.declared.loads.Reads.{Reads}
 use Rattle.obligations.specs.Context.Around.{known_of, nest_of}
@@ -64,9 +64,9 @@ loads_of_all_in outline rules r vars at = loads_of_all outline rules r.line (kno
 abbrev pub is_own : Outline → Reads → ℕ → Bool
 is_own outline r c = is_update r.definition && same_name (outline.claim c).function r.function.now
 
--- what a load of an update's own function asks for besides: that the step meets its point
+-- what a load of an update's own function asks for besides: that the step meets its point, as a definition's do
 abbrev pub steps_met : Outline → Rules → Reads → ℕ → List Span1 → List Obligation
-steps_met outline rules r c xs = map (λ ys. obligation outline rules NotClaimed r.line (known_in r) (Inside xs ys)) (meets_in outline rules r c)
+steps_met outline rules r c xs = map (λ ys. obligation outline rules NotTheDefinition r.line (known_in r) (Inside xs ys)) (meets_in outline rules r c)
 
 -- what a definition's store of these spans asks for: that they lie in the region of each claim whose nest does its steps
 abbrev pub asked_by_nests : Outline → Rules → Reads → List Span1 → List Nest → List Obligation

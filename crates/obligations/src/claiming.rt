@@ -9,7 +9,7 @@ ghost use Rattle.plan.specs.View.{statement_of};
 ghost use Rattle.soundness.specs.Obligations.{claim_obligations, earlier_obligations, follows, obligation, region_of, store_line, block_store_line, Inside, NotMade};
 ghost use Rattle.soundness.specs.Outline.View.{outline_in};
 ghost use Rattle.obligations.specs.Context.Around.{known_of, windows_of};
-ghost use Rattle.obligations.specs.Around.{asked_by_claims, asked_of_updates};
+ghost use Rattle.obligations.specs.Around.{asked_by_claims, asked_of_turn, asked_of_updates};
 ghost use Rattle.obligations.specs.Asked.{first_unmet};
 
 use crate::asked::{told, unless};
@@ -23,29 +23,46 @@ use soundness::binders::NestTests;
 use soundness::outline::refusals::{Flaw, K};
 use std::alloc::AllocError;
 
-/// The line of a statement's first store in a buffer, where the statement begins at the line.
+/// The line of a statement's first store of a definition in a buffer, where the statement begins at the line.
 #[cycle(storing)]
 fn store_line<B: Facts, T: NestTests>(
     judge: &Judge<'_, B, T>,
     stmt: &Stmt,
     line: u32,
     buffer: u64,
+    definition: u64,
 ) -> Option<u32>
     requires { line + lines (statement_of stmt.now) < 2 ^ 32 }
-    ensures { result ≡ store_line (outline_in judge.now.outlined.now) (B.rules judge.now.bounds.now) (statement_of stmt.now) line buffer }
+    ensures { result ≡ store_line (outline_in judge.now.outlined.now) (B.rules judge.now.bounds.now) (statement_of stmt.now) line buffer definition }
 {
     match stmt {
-        Stmt::Seq(all) => store_line_in(judge, all, line, buffer),
+        Stmt::Seq(all) => store_line_in(judge, all, line, buffer, definition),
         Stmt::For { body, .. } | Stmt::Guard { body, .. } => {
-            store_line(judge, body, line + 1, buffer)
+            store_line(judge, body, line + 1, buffer, definition)
         }
         Stmt::First { first, later, .. } => {
-            if let Some(found) = store_line(judge, first, line + 1, buffer) {
+            if let Some(found) = store_line(judge, first, line + 1, buffer, definition) {
                 return Some(found);
             }
-            store_line(judge, later, line + 2 + first.line_count(), buffer)
+            store_line(
+                judge,
+                later,
+                line + 2 + first.line_count(),
+                buffer,
+                definition,
+            )
         }
-        Stmt::Store { buffer: other, .. } => { if *other == buffer { Some(line) } else { None } }
+        Stmt::Store {
+            buffer: other,
+            definition: stored,
+            ..
+        } => {
+            if *other == buffer && *stored == definition {
+                Some(line)
+            } else {
+                None
+            }
+        }
         Stmt::Let { .. } | Stmt::Alloc { .. } | Stmt::Fetch { .. } | Stmt::Publish { .. } => None,
     }
 }
@@ -57,13 +74,14 @@ fn store_line_in<B: Facts, T: NestTests>(
     all: &[Stmt],
     line: u32,
     buffer: u64,
+    definition: u64,
 ) -> Option<u32>
     requires { line + block_lines (block (list_statements all.now)) < 2 ^ 32 }
-    ensures { result ≡ block_store_line (outline_in judge.now.outlined.now) (B.rules judge.now.bounds.now) (block (list_statements all.now)) line buffer }
+    ensures { result ≡ block_store_line (outline_in judge.now.outlined.now) (B.rules judge.now.bounds.now) (block (list_statements all.now)) line buffer definition }
 {
     let mut begin = line;
     for stmt in all {
-        if let Some(found) = store_line(judge, stmt, begin, buffer) {
+        if let Some(found) = store_line(judge, stmt, begin, buffer, definition) {
             return Some(found);
         }
         begin += stmt.line_count();
@@ -120,9 +138,32 @@ fn unmet_regions<B: Facts, T: NestTests>(
     Ok(None)
 }
 
+/// What a claim asks of the order of a nest of updates, which begins at the line: it is asked of the nest that does the steps of
+/// the claim's definition. Where none of its stores is of that definition, the nest does not make the claim.
+#[tactic(auto, using(crate::proofs::Unmet::alone, crate::proofs::Unmet::told_turn, crate::proofs::Unmet::told_claim))]
+fn unmet_turn<B: Facts, T: NestTests>(
+    judge: &Judge<'_, B, T>,
+    stmt: &Stmt,
+    begin: u32,
+    known: &Known<'_>,
+    claim: u64,
+) -> Result<Option<Flaw>, AllocError>
+    requires { begin + lines (statement_of stmt.now) < 2 ^ 32 }
+    ensures { IfOk result (λ flaw. flaw ≡ first_unmet (B.rules judge.now.bounds.now) (T.nests judge.now.tests.now) judge.now.part (asked_of_turn (outline_in judge.now.outlined.now) (B.rules judge.now.bounds.now) begin known.now (statement_of stmt.now) claim ∷ [])) }
+{
+    let shown = judge
+        .tests
+        .is_in_turn(judge.alloc, &known.binders, claim, stmt)?;
+    let said = said_by(judge.outlined, claim);
+    match store_line(judge, stmt, begin, said.buffer, said.definition) {
+        Some(line) => Ok(told(judge.part, K::K7, line, shown)),
+        None => Ok(unless(judge.part, K::K6, judge.bounds.claim_line(claim), shown)),
+    }
+}
+
 /// What a claim asks of a nest of updates, which begins at the line: that it is in turn, and goes on from claims of the
 /// definition before.
-#[tactic(auto, using(crate::proofs::Unmet::one, crate::proofs::Unmet::alone, crate::proofs::Unmet::nothing, crate::proofs::Unmet::append, crate::proofs::Unmet::stops, crate::proofs::Unmet::goes, crate::proofs::Unmet::told_line))]
+#[tactic(auto, using(crate::proofs::Unmet::one, crate::proofs::Unmet::alone, crate::proofs::Unmet::nothing, crate::proofs::Unmet::append, crate::proofs::Unmet::stops, crate::proofs::Unmet::goes, crate::proofs::Unmet::one_apart))]
 fn unmet_update<B: Facts, T: NestTests>(
     judge: &Judge<'_, B, T>,
     stmt: &Stmt,
@@ -137,12 +178,7 @@ fn unmet_update<B: Facts, T: NestTests>(
     if let Some(flaw) = unless(judge.part, K::K6, judge.bounds.claim_line(claim), has) {
         return Ok(Some(flaw));
     }
-    let buffer = said_by(judge.outlined, claim).buffer;
-    let line = store_line(judge, stmt, begin, buffer).unwrap_or(judge.bounds.claim_line(claim));
-    let shown = judge
-        .tests
-        .is_in_turn(judge.alloc, &known.binders, claim, stmt)?;
-    if let Some(flaw) = told(judge.part, K::K7, line, shown) {
+    if let Some(flaw) = unmet_turn(judge, stmt, begin, known, claim)? {
         return Ok(Some(flaw));
     }
     unmet_regions(judge, known, &known.own, claim)

@@ -106,7 +106,8 @@ fn may_load<B: Facts, T: NestTests>(
     }
 }
 
-/// A load of an update's own function at a point that the step does not meet.
+/// A load of an update's own function at a point that the step does not meet. Of a definition's calls none is: each has a
+/// variable at its place that stands there alone on the left side. So something else is stored.
 #[tactic(auto, using(crate::proofs::Unmet::one, crate::proofs::Unmet::alone, crate::proofs::Unmet::nothing, crate::proofs::Unmet::append, crate::proofs::Unmet::stops, crate::proofs::Unmet::goes))]
 fn unmet_step<B: Facts, T: NestTests>(
     judge: &Judge<'_, B, T>,
@@ -121,7 +122,7 @@ fn unmet_step<B: Facts, T: NestTests>(
     }
     let met = met_spans(judge, reads.at)?;
     let shown = are_within(judge, &reads.known.binders, spans, met.as_slice())?;
-    Ok(told(judge.part, K::K5, reads.line, shown))
+    Ok(told(judge.part, K::K12, reads.line, shown))
 }
 
 /// A load by a claim that leaves the buffer, or that the claim does not allow.

@@ -13,13 +13,15 @@ use crate::drawing::colours::{Colour, GREY, colour_of, colours_of};
 use checked_plan::Checked;
 use meaning::image::Image;
 use numeric::Ty;
-use orders::State;
 use std::alloc::{AllocError, Global};
 
+/// The values that a crew has put on its cells, by their numbers; none on a cell that is not set.
+pub type Cells<'a> = &'a [Option<i64>];
+
 /// Whether a crew has set the cell of a pixel; where there is no crew, all are.
-fn is_reached(crew: Option<&State>, cell: Option<u32>) -> bool {
+fn is_reached(crew: Option<Cells<'_>>, cell: Option<u32>) -> bool {
     match (crew, cell) {
-        (Some(state), Some(cell)) => state.cell(cell).is_some(),
+        (Some(cells), Some(cell)) => matches!(cells.get(cell as usize), Some(Some(_))),
         (Some(_), None) => false,
         (None, _) => true,
     }
@@ -29,7 +31,7 @@ fn is_reached(crew: Option<&State>, cell: Option<u32>) -> bool {
 fn colour_at(
     canvas: &Canvas<'_>,
     colours: &[Option<usize>],
-    crew: Option<&State>,
+    crew: Option<Cells<'_>>,
     x: u32,
     y: u32,
 ) -> Colour {
@@ -56,7 +58,7 @@ fn put_row(
     samples: &mut Vec<u16>,
     canvas: &Canvas<'_>,
     colours: &[Option<usize>],
-    crew: Option<&State>,
+    crew: Option<Cells<'_>>,
     y: u32,
 ) -> Result<(), AllocError>
     ensures count { OnOk result (length samples.new.items ≡ length samples.old.items + canvas.now.width * 3) }
@@ -69,12 +71,12 @@ fn put_row(
 }
 
 /// A picture of the output in which each pixel has the colour of the piece that owns it. Pieces that touch have different
-/// colours; of several channels the first one counts, and an output of one dimension is one row. Where a crew is given, a
-/// pixel whose cell it has not set is grey.
+/// colours; of several channels the first one counts, and an output of one dimension is one row. Where a crew's cells
+/// are given, a pixel whose cell is not set is grey.
 ///
 /// # Errors
 /// `AllocError` where memory runs out.
-pub fn draw(alloc: Global, checked: &Checked<'_>, crew: Option<&State>) -> Result<Image, AllocError>
+pub fn draw(alloc: Global, checked: &Checked<'_>, crew: Option<Cells<'_>>) -> Result<Image, AllocError>
     ensures { IfOk result (λ image. IsDrawing (algorithm_checked checked.now) (image_of image)) }
 {
     let canvas = Canvas::of(alloc, checked)?;

@@ -26,7 +26,7 @@ use Rattle.plan.specs.Semantics.Run.{Source, Input, ByClaim, Unknown}
 use Rattle.soundness.specs.Origins.{Given, windowed, Reader, Plain, Within, matches, or_same, done_for, answer, target_point, left_variables, left_point, EachTargetRead}
 use Rattle.soundness.specs.Claims.{In, function_of, choose_facts, is_updated, handed_on, left, changes, updates, block_updates, writes, written, ClearOf, Fact, Scope, buffer_of, status_after, InForce, SourceMayUse, MayUse, Earlier, Before, stable, keep, new_fact, more_rooms, onward, turn_symbols, in_turn, IsMade, AreMade, IsSoundAction, IsSound, IsSoundBlock}
 use Rattle.soundness.specs.Around.{Lies, LieIn, Passed, picked, Respects, inside}
-use Rattle.soundness.specs.Obligations.{exactly, Buffer, Updating, Known, Rules, NotClaimed, NotMade, OutOfOrder, Named, Inside, InTurn, Obligation, is_member, window_of, without, kept_of, places_of, span_has, binder_has, places_have, is_free, is_next, region_of, has_symbol, obligation, is_left, follows, nests_of, within, in_guard, in_block, in_loop, more_buffers, onwards, from_each, seated, is_usable, serves, may_load, index_met, met, load_obligations, intervals, loads, loads_of_test, loads_of_all, index_span, variable_span, index_place, target_span, index_loads, coordinate_loads, claimed, store_obligations, made, slid, held, store_line, earlier_obligations, making_obligations, claim_obligations, turn_obligations, block_obligations, AreInTurn, begun, MeantAt, Meant, AllMeant, Suited, form_has, has_form, is_form, is_covered_line, is_covered, is_covered_block}
+use Rattle.soundness.specs.Obligations.{exactly, Buffer, Updating, Known, Rules, NotClaimed, NotMade, NotTheDefinition, Named, Inside, InTurn, Obligation, is_member, window_of, without, kept_of, places_of, span_has, binder_has, places_have, is_free, is_next, region_of, has_symbol, obligation, is_left, follows, nests_of, within, in_guard, in_block, in_loop, more_buffers, onwards, from_each, seated, is_usable, serves, may_load, index_met, met, load_obligations, intervals, loads, loads_of_test, loads_of_all, index_span, variable_span, index_place, target_span, index_loads, coordinate_loads, claimed, store_obligations, made, slid, held, turn_code, turn_line, earlier_obligations, making_obligations, claim_obligations, turn_obligations, block_obligations, AreInTurn, begun, MeantAt, Meant, AllMeant, Suited, form_has, has_form, is_form, is_covered_line, is_covered, is_covered_block}
 use Rattle.soundness.specs.Handed.{IsHandedOn}
 use Rattle.soundness.proofs.Refines.{eq_true, eq_refl, name_true, number_refl, and_parts}
 use Rattle.soundness.proofs.Updates.{target_matches}
@@ -182,7 +182,7 @@ module _ (given : Given) (rules : Rules) where
         let last = ap (given.steps (given.outline.claim c).function) (eq_true (given.outline.claim c).definition (rules.last (given.outline.claim c).function) k.1) ∙ suited.whole (given.outline.claim c).function in
         subst (λ d. InForce given sc.facts c p d) last (st.claims c k.0 p r)
 
-    all_rows : (xs : List Span1) (p : List ℤ) (line : ℕ) (known : Known) (sc : Scope) (rows : List (List Span1)) → Stands known sc → LieIn sc.symbols xs p → AllMeant given (map (λ ys. obligation given.outline rules NotClaimed line known (Inside xs ys)) rows) → AllByRecursion (λ ys. LieIn sc.symbols ys p) rows
+    all_rows : (xs : List Span1) (p : List ℤ) (line : ℕ) (known : Known) (sc : Scope) (rows : List (List Span1)) → Stands known sc → LieIn sc.symbols xs p → AllMeant given (map (λ ys. obligation given.outline rules NotTheDefinition line known (Inside xs ys)) rows) → AllByRecursion (λ ys. LieIn sc.symbols ys p) rows
     all_rows xs p line known sc [] st l h = tt
     all_rows xs p line known sc (ys ∷ rows) st l h = (h.0 sc.symbols st.respects p l, all_rows xs p line known sc rows st l h.1)
 
@@ -448,7 +448,7 @@ module _ (given : Given) (rules : Rules) where
       status_after given (given.outline.claim c).buffer p (actions given.outline.setting a sc.symbols) (begun given (given.outline.claim c).function (if v then Some ((given.outline.claim c).definition - 1) else None)) ≡ Some (given.steps (given.outline.claim c).function (given.outline.claim c).definition) →
       AllMeant given (if v then
       obligation given.outline rules NotMade (rules.claim_line c) known (Named (list_any (λ d. follows given.outline rules d c) known.own))
-      ∷ obligation given.outline rules OutOfOrder (or_same (store_line given.outline rules a first (given.outline.claim c).buffer) (rules.claim_line c)) known (InTurn c a)
+      ∷ obligation given.outline rules (turn_code (turn_line given.outline rules a first c)) (or_same (turn_line given.outline rules a first c) (rules.claim_line c)) known (InTurn c a)
       ∷ map (λ d. obligation given.outline rules NotMade (rules.claim_line c) known (Inside (region_of given.outline rules c) (region_of given.outline rules d))) (filter (λ d. follows given.outline rules d c) known.own)
       else []) →
       (st : Option ℕ) × Before given sc.facts (given.outline.claim c).buffer (given.outline.claim c).function p st
@@ -747,10 +747,10 @@ module _ (given : Given) (rules : Rules) where
   earlier_meant : (first last : ℕ) (known : Known) (a : Statement) (c : ℕ) → (v : Bool) → v ≡ true →
       AllMeant given (if v then
       obligation given.outline rules NotMade (rules.claim_line c) known (Named (list_any (λ d. follows given.outline rules d c) known.own))
-      ∷ obligation given.outline rules OutOfOrder (or_same (store_line given.outline rules a first (given.outline.claim c).buffer) (rules.claim_line c)) known (InTurn c a)
+      ∷ obligation given.outline rules (turn_code (turn_line given.outline rules a first c)) (or_same (turn_line given.outline rules a first c) (rules.claim_line c)) known (InTurn c a)
       ∷ map (λ d. obligation given.outline rules NotMade (rules.claim_line c) known (Inside (region_of given.outline rules c) (region_of given.outline rules d))) (filter (λ d. follows given.outline rules d c) known.own)
       else []) →
-      Meant given (obligation given.outline rules OutOfOrder (or_same (store_line given.outline rules a first (given.outline.claim c).buffer) (rules.claim_line c)) known (InTurn c a))
+      Meant given (obligation given.outline rules (turn_code (turn_line given.outline rules a first c)) (or_same (turn_line given.outline rules a first c) (rules.claim_line c)) known (InTurn c a))
       × AllMeant given (map (λ d. obligation given.outline rules NotMade (rules.claim_line c) known (Inside (region_of given.outline rules c) (region_of given.outline rules d))) (filter (λ d. follows given.outline rules d c) known.own))
   earlier_meant first last known a c true e h = (h.1.0, h.1.1)
   earlier_meant first last known a c false e h = absurd (cc e)

@@ -83,6 +83,8 @@ pub data Code : Type 0 where
   OutOfOrder : Code
   -- K8: a window's buffer does not hold its span at each turn
   NotHeld : Code
+  -- K12: something else is stored than the definition
+  NotTheDefinition : Code
 
 pub data Wanted : Type 0 where
   -- a test of names alone
@@ -166,6 +168,11 @@ or_same_line (Some line) o = Some line
 abbrev pub is_next : ℕ → ℕ → Bool
 is_next k zero = false
 is_next k (suc j) = j == k
+
+-- steps out of their order, where a statement has a store of the claim's definition at a line; where it has none, it does not make the claim
+abbrev pub turn_code : Option ℕ → Code
+turn_code None = NotMade
+turn_code (Some line) = OutOfOrder
 
 module _ (outline : Outline) (rules : Rules) where
   abbrev pub region_of : ℕ → List Span1
@@ -288,7 +295,8 @@ module _ (outline : Outline) (rules : Rules) where
   index_met (At l) = exactly l
   index_met (Found e) = anything
 
-  -- an update's calls of its own function are of points that the same step meets
+  -- an update's calls of its own function are of points that the same step meets: those of a definition are, since a call has each
+  -- variable at its place that stands there alone on the left side
   abbrev pub met : List ℕ → ℕ → List Coordinate → ℕ → List (List Span1)
   met f zero at c = []
   met f (suc k) at c = if same_name (outline.claim c).function f then map (λ x. index_met x.index) at ∷ [] else []
@@ -298,7 +306,7 @@ module _ (outline : Outline) (rules : Rules) where
   load_obligations line known may meets (ByClaim c) xs =
       obligation OutOfBuffer line known (seated (places_of known.buffers (outline.claim c).buffer) xs)
       ∷ obligation NotClaimed line known (Named (may c)) ∷ obligation NotClaimed line known (Inside xs (region_of c))
-      ∷ map (λ ys. obligation NotClaimed line known (Inside xs ys)) (meets c)
+      ∷ map (λ ys. obligation NotTheDefinition line known (Inside xs ys)) (meets c)
   load_obligations line known may meets Unknown xs = obligation Undefined line known (Named false) ∷ []
 
   -- the bounds of indices
@@ -384,30 +392,34 @@ module _ (outline : Outline) (rules : Rules) where
   made None c a = Named false
   made (Some places) c a = Made c (goes_on a c) places a
 
-  -- the line of the statement's first store in the buffer, where the statement begins at the line
+  -- the line of the statement's first store of the definition in the buffer, where the statement begins at the line
   abbrev mutual
-    pub store_line : Statement → ℕ → ℕ → Option ℕ
-    store_line (Seq all) line b = block_store_line all line b
-    store_line (For i x kind body) line b = store_line body (line + 1) b
-    store_line (Let i pick ls) line b = None
-    store_line (First i a c) line b = or_same_line (store_line a (line + 1) b) (store_line c (line + 2 + lines a) b)
-    store_line (Guard low high body) line b = store_line body (line + 1) b
-    store_line (Alloc c f places) line b = None
-    store_line (Fetch c g region) line b = None
-    store_line (Store c k at e) line b = if c == b then Some line else None
-    store_line (Publish c) line b = None
+    pub store_line : Statement → ℕ → ℕ → ℕ → Option ℕ
+    store_line (Seq all) line b d = block_store_line all line b d
+    store_line (For i x kind body) line b d = store_line body (line + 1) b d
+    store_line (Let i pick ls) line b d = None
+    store_line (First i a c) line b d = or_same_line (store_line a (line + 1) b d) (store_line c (line + 2 + lines a) b d)
+    store_line (Guard low high body) line b d = store_line body (line + 1) b d
+    store_line (Alloc c f places) line b d = None
+    store_line (Fetch c g region) line b d = None
+    store_line (Store c k at e) line b d = if (c == b) && (k == d) then Some line else None
+    store_line (Publish c) line b d = None
 
-    pub block_store_line : Statements → ℕ → ℕ → Option ℕ
-    block_store_line Empty line b = None
-    block_store_line (Then a rest) line b = or_same_line (store_line a line b) (block_store_line rest (line + lines a) b)
+    pub block_store_line : Statements → ℕ → ℕ → ℕ → Option ℕ
+    block_store_line Empty line b d = None
+    block_store_line (Then a rest) line b d = or_same_line (store_line a line b d) (block_store_line rest (line + lines a) b d)
+
+  -- the line at which a claim asks for the order of the nest that begins at the line: its first store of the claim's definition
+  abbrev pub turn_line : Statement → ℕ → ℕ → Option ℕ
+  turn_line a begin c = store_line a begin (outline.claim c).buffer (outline.claim c).definition
 
   -- the claims of the definition before that a claim goes on from, and that its region lies in; the nest begins at the line, and
-  -- its order is asked at its first store, or at the claim where it stores nothing
+  -- its order is asked at its first store of the claim's definition, or at the claim where it has none
   abbrev pub earlier_obligations : ℕ → ℕ → Known → Statement → ℕ → List Obligation
   earlier_obligations begin line known a c =
       if updates outline.setting a (outline.claim c).buffer (outline.claim c).function then
       obligation NotMade (rules.claim_line c) known (Named (list_any (λ d. follows d c) known.own))
-      ∷ obligation OutOfOrder (or_same (store_line a begin (outline.claim c).buffer) (rules.claim_line c)) known (InTurn c a)
+      ∷ obligation (turn_code (turn_line a begin c)) (or_same (turn_line a begin c) (rules.claim_line c)) known (InTurn c a)
       ∷ map (λ d. obligation NotMade (rules.claim_line c) known (Inside (region_of c) (region_of d))) (filter (λ d. follows d c) known.own)
       else []
 

@@ -1,3 +1,7 @@
 pub mod Accepted
+pub mod Most
+pub mod OnePiece
 pub mod Outputs
 pub mod Repeated
+pub mod Scratches
+pub mod Seated

@@ -1,2 +1,4 @@
 pub mod Work
 pub mod Complete
+pub mod Seats
+pub mod Desks

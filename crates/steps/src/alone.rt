@@ -1,43 +1,46 @@
-//! All steps of a checked plan's pieces, taken by one worker.
+//! All steps of the pieces of accepted work, taken by one worker.
 
-ghost use Rattle.std.specs.Prelude.{◌≡◌, IfOk, OnOk, replicate};
-ghost use Rattle.orders.specs.Crew.{go, go_from};
-ghost use Rattle.orders.specs.Seen.{crew_of};
-ghost use Rattle.orders.specs.Within.{AllWithin};
-ghost use Rattle.orders.specs.Work.{all_steps};
-ghost use Rattle.steps.specs.Work.{work_on};
+ghost use Rattle.std.specs.Prelude.{◌≡◌, ◌<◌, length, replicate};
+ghost use Rattle.orders.specs.Crew.{go, go_from, start};
+ghost use Rattle.orders.specs.Work.{all_steps, IsSound};
+ghost use Rattle.steps.specs.Seats.{HaveRoom, IsReached, shown};
 
-use crate::job::PlanJob;
-use orders::{Job, State};
-use std::alloc::{AllocError, Global};
+use crate::crew::Crew;
+use crate::desk::Desk;
+use crate::runs::Runs;
+use std::alloc::Global;
 
 /// So many steps of worker 0.
-fn take_steps(
-    alloc: Global,
-    job: &PlanJob<'_>,
-    state: &mut State,
-    steps: usize,
-) -> Result<(), AllocError>
-    requires { AllWithin (work_on job.now.checked.now job.now.inputs.now) (crew_of state.old) }
-    ensures { OnOk result (crew_of state.new ≡ go_from (work_on job.now.checked.now job.now.inputs.now) (crew_of state.old) (replicate steps 0)) }
+fn take_steps<J: Runs>(alloc: Global, job: &J, desk: &mut Desk<'_>, crew: &mut Crew, steps: usize)
+    requires seats { 0 < length crew.old.workers.items }
+    requires sound { ∥ IsSound (J.work job.now) (J.target job.now) ∥₁ }
+    requires reached { IsReached (J.work job.now) (shown crew.old) }
+    requires desk { J.suffices job.now desk.old }
+    requires room { HaveRoom (J.work job.now) crew.old.workers.items }
+    ensures steps { shown crew.new ≡ go_from (J.work job.now) (shown crew.old) (replicate steps 0) }
+    ensures seats { length crew.new.workers.items ≡ length crew.old.workers.items }
+    ensures desk { J.suffices job.now desk.new }
+    ensures room { HaveRoom (J.work job.now) crew.new.workers.items }
 {
     for _ in 0..steps {
-        state.step(alloc, job, 0)?;
+        crew.step(alloc, job, desk, 0);
     }
-    Ok(())
 }
 
-/// The crew after worker 0 alone has taken all steps that the work has: for each piece it draws, asks, looks, puts and
-/// finishes.
-pub(crate) fn alone(alloc: Global, job: &PlanJob<'_>) -> Result<State, AllocError>
-    ensures { let work = work_on job.now.checked.now job.now.inputs.now in IfOk result (λ state. crew_of state ≡ go work (replicate (all_steps work) 0)) }
+/// Worker 0 alone takes all steps that the work has: for each piece it draws, asks, looks, puts and finishes. It takes no
+/// memory.
+pub(crate) fn finish_alone<J: Runs>(alloc: Global, job: &J, desk: &mut Desk<'_>, crew: &mut Crew)
+    requires seats { 0 < length crew.old.workers.items }
+    requires sound { ∥ IsSound (J.work job.now) (J.target job.now) ∥₁ }
+    requires start { shown crew.old ≡ start (J.work job.now) }
+    requires desk { J.suffices job.now desk.old }
+    requires room { HaveRoom (J.work job.now) crew.old.workers.items }
+    ensures { shown crew.new ≡ go (J.work job.now) (replicate (all_steps (J.work job.now)) 0) }
 {
-    let mut state = State::new(alloc, job)?;
     for piece in 0..job.pieces() {
         let asked = job.needs(piece).len();
         let looked = job.fetched(piece).len();
         let put = job.own(piece).len();
-        take_steps(alloc, job, &mut state, 2 + asked + looked + put)?;
+        take_steps(alloc, job, desk, crew, 2 + asked + looked + put);
     }
-    Ok(state)
 }

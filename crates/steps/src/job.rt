@@ -2,26 +2,34 @@
 
 ghost use Rattle.std.specs.Prelude.{◌≡◌};
 ghost use Rattle.algo.specs.View.{IsFor};
-ghost use Rattle.steps.specs.Work.{work_on};
+ghost use Rattle.steps.specs.Desks.{IsDeskFor};
+ghost use Rattle.steps.specs.Work.{targets_on, work_on};
 
+use crate::desk::{Desk, tell};
+use crate::numbers::replace;
+use crate::runs::Runs;
 use algo::Inputs;
 use checked_plan::Checked;
-use checked_plan::output::PlanCells;
-use orders::Job;
-use std::alloc::{AllocError, Global};
+use headline::laws::inputs_are_samples;
+use piece::laws::runs_are_the_work;
+use piece::places::place_of;
+use piece::run_in;
+use std::alloc::Global;
 
-/// A checked plan, an input of its algorithm, and the numbers of the plan's cells.
+/// A checked plan, and an input of its algorithm.
 #[derive(Drop)]
 pub(crate) struct PlanJob<'a> {
     pub(crate) checked: &'a Checked<'a>,
     pub(crate) inputs: &'a Inputs,
-    pub(crate) cells: PlanCells<'a>,
     ghost input: { IsFor checked.now.algo.now inputs.now },
-    ghost cells_are: { cells.checked.now ≡ checked.now },
 }
 
-impl Job for PlanJob<'_> {
+impl Runs for PlanJob<'_> {
     ghost work = { λ job. work_on job.checked.now job.inputs.now };
+
+    ghost target = { λ job. targets_on job.checked.now job.inputs.now };
+
+    ghost suffices = { λ job desk. IsDeskFor job.checked.now job.inputs.now desk };
 
     fn pieces(&self) -> u32 {
         self.checked.pieces() as u32
@@ -43,14 +51,23 @@ impl Job for PlanJob<'_> {
         self.checked.needs(piece as usize)
     }
 
-    /// The values of the own cells, by the values of the fetched cells in the order in which they were looked at. The run's
-    /// memory is given back when it ends.
-    fn private_run(
-        &self,
-        alloc: Global,
-        piece: u32,
-        looked: &[i64],
-    ) -> Result<Option<Vec<i64>>, AllocError> {
-        piece::private_run(alloc, &self.cells, self.inputs, piece, looked)
+    fn run(&self, alloc: Global, desk: &mut Desk<'_>, piece: u32, numbers: &mut Vec<i64>) {
+        inputs_are_samples();
+        runs_are_the_work();
+        let place = place_of(self.checked.plan(), piece);
+        tell(&mut desk.told, piece, numbers.as_slice());
+        let scratch = &mut desk.scratches[place.group];
+        let Ok(()) = run_in(
+            alloc,
+            scratch,
+            self.checked,
+            self.inputs,
+            &desk.told,
+            piece,
+            place,
+        ) else {
+            unreachable!()
+        };
+        replace(numbers, scratch.given());
     }
 }

@@ -8,25 +8,28 @@ ghost use Rattle.orders.specs.Crew.{go};
 ghost use Rattle.orders.specs.Seen.{crew_of};
 ghost use Rattle.steps.specs.Work.{work_on};
 
-use crate::alone::alone;
+use crate::alone::finish_alone;
+use crate::counts::{most_cells, seats_of};
+use crate::crew::Crew;
+use crate::desk::Desk;
 use crate::job::PlanJob;
 use crate::samples::output_samples;
+use crate::state::State;
 use algo::Inputs;
 use checked_plan::Checked;
 use checked_plan::output::PlanCells;
 use headline::laws::inputs_are_samples;
 use meaning::image::Image;
-use orders::State;
 use std::alloc::{AllocError, Global};
 
 /// The workers' state after an order of steps: each entry is one step of the worker of that number, 0 to 63.
 ///
-/// A cell takes 16 bytes, and a piece 1; a worker keeps the values that it has looked at for its piece, 8 bytes each. Where
-/// they are all looked at, the piece's private run takes an index of them and the memory of its buffers for as long as it
-/// goes on.
+/// A cell takes 16 bytes, and a piece 1. Each worker up to the greatest number that the order names takes 8 bytes for each
+/// cell of the piece that fetches or owns most; all of them share one desk, with a scratch for each group and an index of the
+/// cells that a piece fetches. All this is taken before the first step; the steps take no memory.
 ///
 /// # Errors
-/// `AllocError` where memory runs out. A fault in a step is no error: the worker that meets it stays faulted.
+/// `AllocError` where memory runs out, which is before the first step.
 pub fn replay(
     alloc: Global,
     checked: &Checked<'_>,
@@ -37,12 +40,13 @@ pub fn replay(
     requires workers { All (λ worker. worker < 64) order.now }
     ensures { IfOk result (λ state. crew_of state ≡ go (work_on checked.now inputs.now) order.now) }
 {
-    let job = PlanJob {
-        checked,
-        inputs,
-        cells: PlanCells::of(alloc, checked)?,
-    };
-    orders::replay(alloc, &job, order)
+    let cells = PlanCells::of(alloc, checked)?;
+    let job = PlanJob { checked, inputs };
+    let most = most_cells::<PlanJob<'_>>(&job);
+    let mut desk = Desk::new(alloc, &job, &cells, most)?;
+    let mut crew = Crew::new::<PlanJob<'_>>(alloc, &job, seats_of(order), most)?;
+    crew.go(alloc, &job, &mut desk, order);
+    Ok(State { crew })
 }
 
 /// The picture that the algorithm says of the input, computed piece after piece by one worker.
@@ -59,12 +63,13 @@ pub fn picture(alloc: Global, checked: &Checked<'_>, inputs: &Inputs) -> Result<
 {
     checked.algo().is_well_formed();
     inputs_are_samples();
-    let job = PlanJob {
-        checked,
-        inputs,
-        cells: PlanCells::of(alloc, checked)?,
-    };
-    let state = alone(alloc, &job)?;
+    let cells = PlanCells::of(alloc, checked)?;
+    let job = PlanJob { checked, inputs };
+    let most = most_cells::<PlanJob<'_>>(&job);
+    let mut desk = Desk::new(alloc, &job, &cells, most)?;
+    let mut crew = Crew::new::<PlanJob<'_>>(alloc, &job, 1, most)?;
+    finish_alone(alloc, &job, &mut desk, &mut crew);
+    let state = State { crew };
     let shape = checked.algo().output().shape.copy(alloc)?;
     let samples = output_samples(alloc, &job, &state)?;
     Ok(Image {

@@ -9,8 +9,8 @@ ghost use Rattle.meaning.specs.Value.{output_value};
 ghost use Rattle.steps.specs.Complete.{IsComplete};
 
 use crate::job::PlanJob;
+use crate::state::State;
 use checked_plan::output::OutputCells;
-use orders::State;
 use std::alloc::{AllocError, Global};
 
 /// The output's value at a point, as its cell holds it.

@@ -1,6 +1,7 @@
 -- The tests of split loops, computed.
 use Rattle.std.proofs.Common.{refl}
 use Rattle.tails.specs.Worked.{TenIsCut, CutsAreNested, TilesAreCut, ClaimsAreMade}
+use Rattle.tails.specs.WorkedOrder.{PointsRise}
 use Rattle.tails.specs.WorkedUpdates.{UpdatesAreInTurn}
 
 pub ten_is_cut : TenIsCut
@@ -110,4 +111,38 @@ updates_are_in_turn = record {
   found = refl;
   found_made = refl;
   found_twice = refl;
+}
+
+pub points_rise : PointsRise
+points_rise = record {
+  plain = refl;
+  constant = refl;
+  no_step = refl;
+  falling = refl;
+  guard = refl;
+  guard_behind = refl;
+  roundup = refl;
+  shift = refl;
+  shift_outside = refl;
+  gap = refl;
+  longer = refl;
+  longer_behind_guard = refl;
+  inner_outside = refl;
+  swapped_outside = refl;
+  twice_cut = refl;
+  ones_rise = refl;
+  one_turn_outside = refl;
+  let_around = refl;
+  unused = refl;
+  again = refl;
+  again_is_twice = refl;
+  tile_guarded = refl;
+  tile_rounded = refl;
+  tile_shifted = refl;
+  exchanged = refl;
+  in_rows = refl;
+  in_tiles = refl;
+  first_constant = refl;
+  second_constant = refl;
+  diagonal = refl;
 }

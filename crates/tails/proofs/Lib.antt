@@ -19,6 +19,7 @@ pub mod Pairs
 pub mod Picking
 pub mod Reaching
 pub mod Reducing
+pub mod Risen
 pub mod Spelling
 pub mod Splitting
 pub mod Stepping

@@ -1,6 +1,7 @@
 pub mod Steps
 pub mod Moves
 pub mod Maps
+pub mod Order
 pub mod Laws
 pub mod Apart
 pub mod Stored
@@ -15,4 +16,5 @@ pub mod States
 pub mod SplitMaps
 pub mod Worked
 pub mod WorkedUpdates
+pub mod WorkedOrder
 pub mod Windows

@@ -52,7 +52,7 @@ fn is_among(form: &Lin, forms: &[Lin]) -> bool
 }
 
 /// Whether some upper form is some lower form.
-fn is_single(lower: &[Lin], upper: &[Lin]) -> bool
+pub(crate) fn is_single(lower: &[Lin], upper: &[Lin]) -> bool
     ensures { result ≡ is_single (span_of lower.now upper.now) }
 {
     upper.iter().any(|form| is_among(form, lower))

@@ -2,6 +2,7 @@
 
 ghost use Rattle.tails.specs.Laws.{CoversIsVisited, EachIsOnce, OnceIsDistinct, ReachedIsVisited};
 ghost use Rattle.tails.specs.Nests.{PlainNestsAreTaken, SplitNestsAreRight};
+ghost use Rattle.tails.specs.Order.{OrderedIsRising};
 
 use soundness::nests::laws::plain_nests_are_right;
 
@@ -25,6 +26,12 @@ pub fn covers_is_visited()
 /// No point stands twice in the list of those that the turns visit.
 pub fn once_is_distinct()
     ensures { OnceIsDistinct }
+{}
+
+/// Where it is shown that points rise, none in the list of those that the turns visit is before an earlier one, whatever the symbols
+/// around stand for.
+pub fn ordered_is_rising()
+    ensures { OrderedIsRising }
 {}
 
 /// A nest that the tests of plain and of split nests say yes to makes its claim, or does the steps of its update in their order,

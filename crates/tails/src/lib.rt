@@ -1,4 +1,4 @@
-//! Which points the turns of split loops visit, and how often.
+//! Which points the turns of split loops visit, how often, and in which order.
 #![tactic(auto)]
 
 mod apart;
@@ -13,6 +13,7 @@ pub mod maps;
 mod moves;
 mod naming;
 pub mod nests;
+mod order;
 mod pending;
 mod reduction;
 mod regions;

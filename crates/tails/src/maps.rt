@@ -6,12 +6,14 @@ ghost use Rattle.soundness.specs.Binders.View.{binders_of};
 ghost use Rattle.tails.specs.Steps.{along, binder};
 ghost use Rattle.tails.specs.Moves.{is_outer, paired, reached, spans_over};
 ghost use Rattle.tails.specs.Maps.{covers, is_once, is_scoped};
+ghost use Rattle.tails.specs.Order.{is_ordered};
 ghost use Rattle.tails.specs.View.{step_of};
 ghost use Rattle.tails.specs.SplitMaps.{forms_of, steps_of};
 
 use crate::descent::Step;
 use crate::guarded::{along, in_order, paired};
 use crate::moves::{State, run};
+use crate::order::spans_rising;
 use crate::pending::{is_outer, is_scoped};
 use crate::regions::lies_within;
 use crate::shown::{Nothing, Shows, Within};
@@ -119,6 +121,18 @@ impl SplitMap<'_> {
             return Ok(false);
         }
         match spans_over(alloc, true, &Nothing, &self.steps, &self.forms)? {
+            Some(_) => Ok(true),
+            None => Ok(false),
+        }
+    }
+
+    /// Whether it is shown that the points rise: none is before one that was visited earlier, whatever the symbols around stand for.
+    /// Of two points the last coordinate in which they differ tells which comes first, as a reduction's points are walked, the first
+    /// coordinate fastest. A point that comes again is no fault.
+    pub fn ordered(&self, alloc: Global) -> Result<bool, AllocError>
+        ensures { IfOk result (λ yes. yes ≡ is_ordered (steps_of self.now) (forms_of self.now)) }
+    {
+        match spans_rising(alloc, &self.steps, &self.forms)? {
             Some(_) => Ok(true),
             None => Ok(false),
         }

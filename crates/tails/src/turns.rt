@@ -28,7 +28,7 @@ pub(crate) struct Ready<'a> {
 }
 
 /// Whether two lists of terms are the same.
-fn have_same_terms(first: &[Multiple], second: &[Multiple]) -> bool
+pub(crate) fn have_same_terms(first: &[Multiple], second: &[Multiple]) -> bool
     ensures { result ≡ same_terms first.now second.now }
 {
     first == second

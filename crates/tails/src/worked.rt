@@ -1,6 +1,7 @@
 //! Split loops written out: what they visit, and what they do not.
 
 ghost use Rattle.tails.specs.Worked.{ClaimsAreMade, CutsAreNested, TenIsCut, TilesAreCut};
+ghost use Rattle.tails.specs.WorkedOrder.{PointsRise};
 ghost use Rattle.tails.specs.WorkedUpdates.{UpdatesAreInTurn};
 
 /// Ten numbers split by four, with each tail and in each order of the loops: the tests say yes where each number is visited, and
@@ -29,4 +30,11 @@ pub fn claims_are_made()
 /// reduction inside, between and outside of the others.
 pub fn updates_are_in_turn()
     ensures { UpdatesAreInTurn }
+{}
+
+/// Split loops whose points rise, in one coordinate and in two, with a guard, to a whole multiple, cut again and with a gap; and the
+/// loops in another order, blocks that overlap or are moved back, tiles, a loop that no coordinate names and a coordinate that falls
+/// are told.
+pub fn points_rise()
+    ensures { PointsRise }
 {}

@@ -16,7 +16,7 @@ use crate::request::DrawRequest;
 use algo::{Algo, Inputs};
 use checked_plan::Checked;
 use meaning::image::Image;
-use report::drawing::draw;
+use report::drawing::{Cells, draw};
 use std::alloc::{AllocError, Global};
 use std::thread::Threads;
 
@@ -57,7 +57,7 @@ fn crew_after<F: Files>(
 fn drawing_file(
     alloc: Global,
     checked: &Checked<'_>,
-    crew: Option<&State>,
+    crew: Option<Cells<'_>>,
 ) -> Result<Vec<u8>, AllocError>
     ensures { IfOk result (λ file. IsDrawingFile (algorithm_checked checked.now) file.items) }
 {
@@ -87,6 +87,14 @@ fn crew_asked<F: Files>(
     }
 }
 
+/// The cells of a crew.
+fn cells_of(crew: Option<&State>) -> Option<Cells<'_>> {
+    match crew {
+        Some(state) => Some(state.cells()),
+        None => None,
+    }
+}
+
 /// Draws which piece owns each pixel of the output of the plan of a file, which is checked first, and after an order of
 /// workers' steps how far they have come. The drawing is written last, after everything else has succeeded.
 ///
@@ -106,7 +114,7 @@ pub(crate) fn draw_command<T: Threads + Sync, F: Files>(
     let algo = algorithm_in(alloc, text.as_slice())?;
     let checked = plan_in(rt, alloc, files, &algo, request.check.plan)?;
     let crew = crew_asked(alloc, files, &checked, request.order)?;
-    let file = drawing_file(alloc, &checked, crew.as_ref())?;
+    let file = drawing_file(alloc, &checked, cells_of(crew.as_ref()))?;
     files.put(request.output, file.as_slice())?;
     Ok(())
 }

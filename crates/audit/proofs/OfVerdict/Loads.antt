@@ -10,7 +10,7 @@ use Rattle.plan.specs.declared.stmt.Places.{Places}
 use Rattle.plan.specs.Plan.{Index, At, Found, Coordinate}
 use Rattle.plan.specs.Semantics.Run.{Source, Input, ByClaim, Unknown}
 use Rattle.soundness.specs.Claims.{In}
-use Rattle.soundness.specs.Obligations.{Updating, Known, Rules, Inside, Obligation, NotClaimed, obligation, places_of, seated, region_of, intervals, load_obligations, loads, loads_of_test, loads_of_all, serves, is_begun, claimed, index_loads, coordinate_loads, may_load, met, variable_span, store_obligations}
+use Rattle.soundness.specs.Obligations.{Updating, Known, Rules, Inside, Obligation, NotClaimed, NotTheDefinition, obligation, places_of, seated, region_of, intervals, load_obligations, loads, loads_of_test, loads_of_all, serves, is_begun, claimed, index_loads, coordinate_loads, may_load, met, variable_span, store_obligations}
 use Rattle.soundness.specs.Origins.{Outline}
 use Rattle.soundness.specs.Shown.{are_within, Nests, shows, is_shown}
 use Rattle.soundness.specs.Nests.Laws.{domains_of}
@@ -34,7 +34,7 @@ module _ (rules : Rules) (a : Algorithm) (outline : Outline) where
   -- ---- loads
   module _ (line : ℕ) (known : Known) (may : ℕ → Bool) (meets : ℕ → List (List Span1)) where
     all_met : (xs : List Span1) (yss : List (List Span1)) → AllByRecursion (λ ys. are_within rules known.binders xs ys ≡ true) yss →
-        AreShown (map (λ ys. obligation outline rules NotClaimed line known (Inside xs ys)) yss)
+        AreShown (map (λ ys. obligation outline rules NotTheDefinition line known (Inside xs ys)) yss)
     all_met xs [] h = refl
     all_met xs (ys ∷ yss) h = both (are_within rules known.binders xs ys) _ h.0 (all_met xs yss h.1)
 

@@ -11,7 +11,7 @@ use Rattle.plan.specs.Lines.{lines, body_line}
 use Rattle.plan.specs.Plan.{Statement, Seq, For, Let, First, Guard, Alloc, Fetch, Store, Publish, Statements, Empty, Then}
 use Rattle.plan.specs.Certificate.Certificate.{Claim}
 use Rattle.soundness.specs.Claims.{In, updates, writes}
-use Rattle.soundness.specs.Obligations.{Binder, Known, Rules, Named, Inside, InTurn, Obligation, NotMade, OutOfOrder, obligation, store_line, places_of, has_symbol, region_of, follows, within, in_block, in_loop, onwards, made, claim_obligations, kept_of, turn_obligations, block_obligations}
+use Rattle.soundness.specs.Obligations.{Binder, Known, Rules, Named, Inside, InTurn, Obligation, NotMade, turn_code, turn_line, obligation, places_of, has_symbol, region_of, follows, within, in_block, in_loop, onwards, made, claim_obligations, kept_of, turn_obligations, block_obligations}
 use Rattle.soundness.specs.Given.{outline_of}
 use Rattle.soundness.specs.Origins.{Outline, or_same}
 use Rattle.soundness.specs.Shown.{is_within, are_within, Nests, shows, is_shown, start}
@@ -83,7 +83,7 @@ module _ (accepted : PlainNestsAreAccepted) (taken : PlainNestsAreTaken) (rules 
     earlier v =
         if v then
         obligation outline rules NotMade (rules.claim_line c) known (Named (list_any (λ d. follows outline rules d c) known.own))
-        ∷ obligation outline rules OutOfOrder (or_same (store_line outline rules b first claim.buffer) (rules.claim_line c)) known (InTurn c b)
+        ∷ obligation outline rules (turn_code (turn_line outline rules b first c)) (or_same (turn_line outline rules b first c) (rules.claim_line c)) known (InTurn c b)
         ∷ map (λ d. obligation outline rules NotMade (rules.claim_line c) known (Inside (region_of outline rules c) (region_of outline rules d))) (filter (λ d. follows outline rules d c) known.own)
         else []
 

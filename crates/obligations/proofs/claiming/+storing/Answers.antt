@@ -19,4 +19,4 @@ store_line-returns-in-Seq g t c =
     let O = outline_in c.args.judge.now.outlined.now in
     let R = g.B.Bounds.rules c.args.judge.now.bounds.now in
     c.store_line_in.ensures
-    ∙ ap (λ (a : Statement). store_line O R a c.args.line c.args.buffer) (sym (seq_is c.args.stmt.now c.in-Seq.all c.deref.result.now c.in-Seq.is c.deref.ensures.value))
+    ∙ ap (λ (a : Statement). store_line O R a c.args.line c.args.buffer c.args.definition) (sym (seq_is c.args.stmt.now c.in-Seq.all c.deref.result.now c.in-Seq.is c.deref.ensures.value))

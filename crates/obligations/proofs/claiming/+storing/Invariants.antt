@@ -9,6 +9,6 @@ use Rattle.obligations.proofs.claiming.+storing.Given as goal
 
 abbrev pub invariant-store_line_in-loop-stmt : goal.invariant-store_line_in-loop-stmt
 invariant-store_line_in-loop-stmt g l = record {
-  found : block_store_line (outline_in l.judge.outlined.now) (g.B.Bounds.rules l.judge.bounds.now) (block (list_statements l.all)) l.line l.buffer ≡ block_store_line (outline_in l.judge.outlined.now) (g.B.Bounds.rules l.judge.bounds.now) (from l.all l.stmt-index) l.begin l.buffer;
+  found : block_store_line (outline_in l.judge.outlined.now) (g.B.Bounds.rules l.judge.bounds.now) (block (list_statements l.all)) l.line l.buffer l.definition ≡ block_store_line (outline_in l.judge.outlined.now) (g.B.Bounds.rules l.judge.bounds.now) (from l.all l.stmt-index) l.begin l.buffer l.definition;
   fits : l.begin + block_lines (from l.all l.stmt-index) < 2 ^ 32;
 }

@@ -1,19 +1,21 @@
-use Rattle.std.proofs.Common.{◌∙◌, ap, sym, subst, replicate}
-use Rattle.orders.specs.Crew.{Crew, step}
-use Rattle.orders.specs.Seen.{crew_of}
-use Rattle.orders.specs.Within.{AllWithin}
-use Rattle.orders.proofs.Runs.{within_go}
-use Rattle.steps.specs.Work.{work_on}
+use Rattle.std.proofs.Common.{◌∙◌, ap, replicate}
+use Rattle.orders.specs.Crew.{step}
+use Rattle.steps.specs.Seats.{shown}
 use Rattle.steps.proofs.Repeated.{one_more}
+use Rattle.steps.proofs.Seated.{reached_more}
 use Rattle.steps.proofs.alone.take_steps.Goals as goal
 
-pub step-requires-clause-within : goal.step-requires-clause-within
-step-requires-clause-within c =
-    let work = work_on c.args.job.now.checked.now c.args.job.now.inputs.now in
-    let P : Crew → Type 0 = λ crew. AllWithin work crew in
-    subst P (sym c.loop.invariant) (within_go work (crew_of c.args.state.now) (replicate c.loop.counter 0) c.requires)
+pub step-requires-clause-reached : goal.step-requires-clause-reached
+step-requires-clause-reached g c =
+    let work = g.J.Runs.work c.args.job.now in
+    reached_more work (shown c.args.crew.now) (shown c.loop.crew) (replicate c.loop.counter 0) c.requires.reached c.loop.invariant.steps
 
 pub loop-preserved : goal.loop-preserved
-loop-preserved c =
-    let work = work_on c.args.job.now.checked.now c.args.job.now.inputs.now in
-    c.in_ok-step.ensures ∙ ap (λ crew. step work crew 0) c.loop.invariant ∙ one_more work (crew_of c.args.state.now) c.loop.counter 0
+loop-preserved g c =
+    let work = g.J.Runs.work c.args.job.now in
+    record {
+      steps = c.step.ensures.step ∙ ap (λ crew. step work crew 0) c.loop.invariant.steps ∙ one_more work (shown c.args.crew.now) c.loop.counter 0;
+      seats = c.step.ensures.seats ∙ c.loop.invariant.seats;
+      desk = c.step.ensures.desk;
+      room = c.step.ensures.room;
+    }

@@ -1,8 +1,12 @@
-use Rattle.std.proofs.Common.{◌≡◌, replicate}
+use Rattle.std.proofs.Common.{◌≡◌, length, replicate}
 use Rattle.orders.specs.Crew.{go_from}
-use Rattle.orders.specs.Seen.{crew_of}
-use Rattle.steps.specs.Work.{work_on}
+use Rattle.steps.specs.Seats.{HaveRoom, shown}
 use Rattle.steps.proofs.alone.take_steps.Given as goal
 
 abbrev pub invariant-loop : goal.invariant-loop
-invariant-loop l = crew_of l.state ≡ go_from (work_on l.job.checked.now l.job.inputs.now) (crew_of l.initial.state) (replicate l.counter 0)
+invariant-loop g l = record {
+  steps : shown l.crew ≡ go_from (g.J.Runs.work l.job) (shown l.initial.crew) (replicate l.counter 0);
+  seats : length l.crew.workers.items ≡ length l.initial.crew.workers.items;
+  desk : g.J.Runs.suffices l.job l.desk;
+  room : HaveRoom (g.J.Runs.work l.job) l.crew.workers.items;
+}
