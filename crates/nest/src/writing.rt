@@ -20,8 +20,7 @@ use plan::{Coordinate, Declaration, Group, Index, Kind, Pick, Places, Plan, Stmt
 use spelling::sizes::{put_size, put_sizes};
 use spelling::terms::put_term;
 use spelling::words::{
-    put_form, put_forms, put_name, put_region, put_separator, put_span, put_symbol,
-    put_type,
+    put_form, put_forms, put_name, put_region, put_separator, put_span, put_symbol, put_type,
 };
 use std::alloc::{AllocError, Global};
 use tree::Expr;

@@ -76,7 +76,11 @@ fn put_row(
 ///
 /// # Errors
 /// `AllocError` where memory runs out.
-pub fn draw(alloc: Global, checked: &Checked<'_>, crew: Option<Cells<'_>>) -> Result<Image, AllocError>
+pub fn draw(
+    alloc: Global,
+    checked: &Checked<'_>,
+    crew: Option<Cells<'_>>,
+) -> Result<Image, AllocError>
     ensures { IfOk result (λ image. IsDrawing (algorithm_checked checked.now) (image_of image)) }
 {
     let canvas = Canvas::of(alloc, checked)?;
