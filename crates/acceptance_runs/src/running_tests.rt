@@ -14,7 +14,7 @@ use crate::small_tests::{is_small_region, is_small_statement};
 use crate::statements_tests::{Frame, Held, cert, plan};
 use crate::trees_tests::Made;
 use interpreter::evaluation::Stop;
-use interpreter::{Cells, Scratch, run_piece_in};
+use interpreter::{CellRow, Cells, Scratch, run_piece_in};
 use meaning::image::Image;
 use numeric::Ty;
 use plan::certificate::{Cert, Own};
@@ -70,6 +70,10 @@ impl Cells for NoCells {
             ty: Ty::U8,
             number: 0,
         }
+    }
+
+    fn row(&self, _function: &str, _at: &[i64], _count: usize) -> Option<CellRow<'_>> {
+        None
     }
 }
 

@@ -9,7 +9,7 @@ ghost use Rattle.interpreter.specs.declared.scratch.Scratch.{Scratch as RunMemor
 use algo::Inputs;
 use board::Run;
 use checked_plan::Checked;
-use interpreter::{Cells, Scratch};
+use interpreter::{CellRow, Cells, NumberKind, Scratch};
 use numeric::wrap;
 use piece::places::place_of;
 use piece::{LookedCells, run_in};
@@ -91,6 +91,18 @@ impl Cells for Told<'_, '_> {
         Value {
             ty,
             number: wrap(ty, number),
+        }
+    }
+
+    fn row(&self, function: &str, at: &[i64], count: usize) -> Option<CellRow<'_>> {
+        let CellRow { ty, numbers, kind } = self.looked.row(function, at, count)?;
+        match kind {
+            NumberKind::Exact => Some(CellRow {
+                ty,
+                numbers,
+                kind: NumberKind::Bits,
+            }),
+            NumberKind::Bits => None,
         }
     }
 }

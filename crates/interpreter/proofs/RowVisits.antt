@@ -1,5 +1,5 @@
 -- The points of a row, one after another.
-use Rattle.std.proofs.Common.{◌≡◌, ℕ, zero, suc, ◌+◌, ◌≤◌, List, [], ◌∷◌, ◌++◌, length, drop, Option, Some, None, Bool, true, false, refl, sym, ap, ◌∙◌, arith, ℤ, pos}
+use Rattle.std.proofs.Common.{◌≡◌, ℕ, zero, suc, ◌+◌, ◌≤◌, ◌<◌, List, [], ◌∷◌, ◌++◌, length, drop, Option, Some, None, Bool, true, false, refl, sym, ap, ◌∙◌, arith, ℤ, pos}
 use Rattle.std.specs.Prelude.{◌+ℤ◌, ◌≤ℤ◌, ◌==◌, ◌&&◌, flat_map, int_le, slice_get, slice_index_or, if◌then◌else◌}
 use Rattle.std.specs.Bool.{OnTrue}
 use Rattle.std.specs.List.{list_all}
@@ -16,6 +16,7 @@ use Rattle.plan.specs.Semantics.Actions.{Action, Give, Take}
 use Rattle.plan.specs.Semantics.Found.{with}
 use Rattle.plan.specs.Semantics.Memory.{Memory, read, write}
 use Rattle.interpreter.specs.Bindings.{symbols_of}
+use Rattle.interpreter.specs.Buffers.Spots.{set_all}
 use Rattle.interpreter.specs.Pieces.{around}
 use Rattle.interpreter.specs.RowVisits.{given_from, row_actions, row_takes}
 use Rattle.interpreter.specs.Steps.{Progress, steps}
@@ -145,6 +146,34 @@ module _ (x : Piece) (cell : List ℕ → List ℤ → Value) (b : ℕ) (f : Lis
       ((λ i. write now.memory b (z ∷ others) (sym here i)) ∙ set)
       ∙ ap (λ (g : List ℤ). Some (record { memory = new.memory; given = g })) (sym given) in
       goes_on (steps (around x cell) (sets_at z) now) new go whole (turns_next (around x cell) sets_at z high now whole le comes) done
+
+  -- the cells that have some values are set one after another
+  module _ (low high : ℤ) (m : Memory Value) (given : List ℤ) (values : ℕ → Value) (count : ℕ) where
+    abbrev row_point : ℕ → List ℤ
+    row_point k = (low +ℤ pos k) ∷ others
+
+    abbrev AfterTaking : ℕ → Memory Value → Type 0
+    AfterTaking k new = steps (around x cell) (row_takes b f others low high) (record { memory = m; given = given }) ≡ steps (around x cell) (row_takes b f others (low +ℤ pos k) high) (record { memory = new; given = given })
+
+    pub taken_row : (low +ℤ pos count) ≤ℤ (high +ℤ pos 1) → ((k : ℕ) → k < count → values k ≡ cell f (row_point k)) → (k : ℕ) (new : Memory Value) → k ≤ count → set_all m b row_point values k ≡ Some new → AfterTaking k new
+    taken_row few told zero new le is =
+        let same : m ≡ new = cc in
+        let here : low ≡ low +ℤ pos 0 = omega (arith, ints) in
+        λ i. steps (around x cell) (row_takes b f others (here i) high) (record { memory = same i; given = given })
+    taken_row few told (suc k) new le is = by (set_all m b row_point values k) (λ y e. taken_row few told k y (omega (arith, le)) e) refl is
+      where
+        by : (o : Option (Memory Value)) → ((y : Memory Value) → set_all m b row_point values k ≡ Some y → AfterTaking k y) → set_all m b row_point values k ≡ o →
+            with o (λ y. write y b (row_point k) (values k)) ≡ Some new → AfterTaking (suc k) new
+        by None earlier e g = absurd (none-some new g)
+        by (Some y) earlier e g =
+            let z = low +ℤ pos k in
+            let lt : k < count = omega (arith, le) in
+            let to : z ≤ℤ high = omega (arith, ints, few, lt) in
+            let next : z +ℤ pos 1 ≡ low +ℤ pos (suc k) = omega (arith, ints) in
+            let last : Progress = record { memory = new; given = given } in
+            taken_next z high (row_point k) (values k) last (record { memory = y; given = given }) (steps (around x cell) (row_takes b f others low high) (record { memory = m; given = given }))
+            to (earlier y e) refl (told k lt) g refl
+            ∙ ap (λ (w : ℤ). steps (around x cell) (row_takes b f others w high) last) next
 
   -- and nothing behind the last
   pub taken_all : (z high : ℤ) (now : Progress) (whole : Option Progress) → z ≡ high +ℤ pos 1 → whole ≡ steps (around x cell) (row_takes b f others z high) now → whole ≡ Some now

@@ -19,3 +19,4 @@ pub mod Runs
 pub mod RunReadings
 pub mod StoreLines
 pub mod Scanlines
+pub mod CellRows

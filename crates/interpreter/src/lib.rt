@@ -24,7 +24,7 @@ mod symbols;
 mod turns;
 mod visits;
 
-pub use cells::Cells;
+pub use cells::{CellRow, Cells, NumberKind};
 pub use row::Row;
 pub use run::run_piece_in;
 pub use scratch::Scratch;

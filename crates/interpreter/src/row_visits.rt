@@ -6,8 +6,9 @@ ghost use Rattle.tree.specs.declared.value.Value.{Value as ValueFound};
 ghost use Rattle.plan.specs.Certificate.Cells.{is_in_region, is_in_span};
 ghost use Rattle.plan.specs.Semantics.Memory.{read};
 ghost use Rattle.interpreter.specs.Bindings.{symbols_of};
-ghost use Rattle.interpreter.specs.Buffers.Blocks.{memory_of};
-ghost use Rattle.interpreter.specs.Buffers.Spots.{HasPlace, IsSpot};
+ghost use Rattle.interpreter.specs.Buffers.Blocks.{limits_of, memory_of};
+ghost use Rattle.interpreter.specs.Buffers.Spots.{set_all, HasPlace, IsSpot};
+ghost use Rattle.interpreter.specs.CellRows.{row_value};
 ghost use Rattle.interpreter.specs.Narrow.{RegionIsNarrow, SpanIsNarrow};
 ghost use Rattle.interpreter.specs.Pieces.{around};
 ghost use Rattle.interpreter.specs.RowVisits.{given_from, row_actions, row_takes};
@@ -19,7 +20,7 @@ ghost use Rattle.interpreter.specs.declared.visits.Visit.TheVariants.{Publish};
 ghost use Rattle.std.specs.Prelude.{flat_map};
 
 use crate::buffers::{Buffers, Spot};
-use crate::cells::Cells;
+use crate::cells::{CellRow, Cells};
 use crate::piece::Piece;
 use crate::scanlines::{distance, window};
 use crate::state::State;
@@ -160,6 +161,43 @@ fn fetch_places<C: Cells>(
     }
 }
 
+/// Sets the places from a spot on to the values of a row of cells, one after another.
+fn put_values(memory: &mut Buffers, spot: Spot, row: &CellRow<'_>)
+    requires { (k : ℕ) → k < length row.now.numbers.now → HasPlace memory.old spot.buffer (spot.place + k) }
+    ensures set { let n = length row.now.numbers.now in (b : ℕ) (points : ℕ → List ℤ) → ((k : ℕ) → k < n → IsSpot memory.old b (points k) spot k) → set_all (memory_of memory.old) b points (row_value row.now) n ≡ Some (memory_of memory.new) }
+    ensures limits { limits_of memory.new ≡ limits_of memory.old }
+{
+    for turn in 0..row.numbers.len() {
+        let value = row.value(turn);
+        memory.put(spot, turn, value);
+    }
+}
+
+/// Sets the cells of a function in the places of a row, together where they are at hand side by side: those of so many points
+/// from the first number on.
+fn fetch_cells<C: Cells>(
+    cells: &C,
+    function: &str,
+    spot: Spot,
+    numbers: Numbers,
+    count: usize,
+    state: &mut State,
+)
+    requires long { 0 < length state.old.point.items }
+    requires count { numbers.low +ℤ pos count ≡ numbers.high +ℤ pos 1 }
+    requires high { (numbers.high +ℤ pos 1) <ℤ pos (2 ^ 63) }
+    requires inside { (k : ℕ) → k < count → HasPlace state.old.memory spot.buffer (spot.place + k) }
+    ensures large { IsAsLarge state.old state.new }
+    ensures kept { KeepsFrom 1 state.old.point state.new.point }
+    ensures run { (x : PieceFound) (buffer : ℕ) → ((k : ℕ) → k < count → IsSpot state.old.memory buffer ((numbers.low +ℤ pos k) ∷ drop 1 state.old.point.items) spot k) → steps (around x (C.cell cells.now)) (row_takes buffer function.now (drop 1 state.old.point.items) numbers.low numbers.high) (progress_of state.old) ≡ Some (progress_of state.new) }
+{
+    state.point.set(0, numbers.low);
+    match cells.row(function, state.point.as_slice(), count) {
+        Some(row) => put_values(&mut state.memory, spot, &row),
+        None => fetch_places(cells, function, spot, numbers, count, state),
+    }
+}
+
 /// Sets the cells of a function in a buffer at the points of a row, where their places lie side by side: the numbers that are left.
 fn fetch_row<C: Cells>(
     piece: &Piece<'_>,
@@ -181,7 +219,7 @@ fn fetch_row<C: Cells>(
     let Some(spot) = state.memory.spot(buffer, numbers.low, others, count) else {
         return numbers;
     };
-    fetch_places(cells, function, spot, numbers, count, state);
+    fetch_cells(cells, function, spot, numbers, count, state);
     behind(numbers, count)
 }
 

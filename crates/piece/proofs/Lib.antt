@@ -4,3 +4,5 @@ pub mod Values
 pub mod Lookups
 pub mod Small
 pub mod Runs
+pub mod RisingLists
+pub mod Along

@@ -1,19 +1,24 @@
 //! The values of the cells that a piece fetches, by function and point.
 
-ghost use Rattle.std.specs.Prelude.{◌≡◌, ◌<◌, ◌≤◌, ◌+◌, [], ◌∷◌, ◌++◌, ℕ, length, nat_eq, slice_get, vec_capacity, IfOk};
+ghost use Rattle.std.specs.Prelude.{◌≡◌, ◌<◌, ◌≤◌, ◌+◌, ◌+ℤ◌, [], ◌∷◌, ◌++◌, ℕ, false, true, if◌then◌else◌, length, nat_eq, None, pos, slice_get, vec_capacity, IfOk, IfSome, Some};
+ghost use Rattle.std.specs.List.Sorted.{IsStrictlyIncreasing};
 ghost use Rattle.checked_plan.specs.View.{algorithm_checked, plan_checked};
 ghost use Rattle.indexmap.specs.IndexMap.{get, index_map_len, spare};
-ghost use Rattle.piece.specs.Found.{first_found};
+ghost use Rattle.piece.specs.Found.{first_found, number_or_zero};
 ghost use Rattle.piece.specs.Looked.{cells_of_piece, numbers_of_piece};
 ghost use Rattle.headline.specs.Work.{looked_value};
+ghost use Rattle.checked_plan.specs.Output.Cells.{number_in};
+ghost use Rattle.interpreter.specs.CellRows.{along};
+ghost use Rattle.piece.specs.Looked.{IsLookedRow};
 
 use crate::index::{note, value_in};
+use crate::rising::{is_rising, value_among, values_between};
 use crate::types::type_named;
 use checked_plan::Checked;
 use checked_plan::output::PlanCells;
 use headline::laws::looks_are_by_number;
 use indexmap::IndexMap;
-use interpreter::Cells;
+use interpreter::{CellRow, Cells, NumberKind};
 use std::alloc::{AllocError, Global};
 use tree::Value;
 
@@ -36,18 +41,41 @@ fn next_number(numbers: &[u32], looked: &[i64]) -> Option<u32>
     numbers.get(looked.len()).copied()
 }
 
+/// The coordinate that is so much more.
+fn further(coordinate: i64, more: usize) -> Option<i64>
+    ensures { IfSome result (λ z. z ≡ coordinate +ℤ pos more) }
+{
+    i64::try_from(i128::from(coordinate) + more as i128).ok()
+}
+
+/// The number of a group's cell so many steps further along the first coordinate. None where a group has no such cell, or the
+/// point more than three coordinates.
+fn number_along(cells: &PlanCells<'_>, group: usize, at: &[i64], more: usize) -> Option<u32>
+    ensures { IfSome result (λ number. number_in (plan_checked cells.now.checked.now) group (along at.now more) ≡ Some number) }
+{
+    match at {
+        [x] => cells.number(group, &[further(*x, more)?]),
+        [x, y] => cells.number(group, &[further(*x, more)?, *y]),
+        [x, y, z] => cells.number(group, &[further(*x, more)?, *y, *z]),
+        _ => None,
+    }
+}
+
 /// The values that a piece has looked at so far, in the order of the cells that it fetches.
 ///
 /// The cell of a function at a point has the value of the first place of the list at which it stands. One that has not been
 /// looked at is 0, and values beyond the list tell nothing. Each value takes 8 bytes, and 16 or more in an index of the
-/// cells by their numbers.
+/// cells by their numbers. The index stays empty where the numbers of the piece's list rise, as they mostly do: a cell is
+/// found there by searching the list.
 #[derive(Drop)]
 pub struct LookedCells<'a> {
     cells: &'a PlanCells<'a>,
     piece: u32,
     looked: Vec<i64>,
     index: IndexMap<u32, i64>,
-    ghost found: { (n : ℕ) → get nat_eq index n ≡ first_found n (numbers_of_piece (plan_checked cells.now.checked.now) piece) looked.items },
+    rising: bool,
+    ghost rise: { rising ≡ true → IsStrictlyIncreasing (numbers_of_piece (plan_checked cells.now.checked.now) piece) },
+    ghost found: { rising ≡ false → (n : ℕ) → get nat_eq index n ≡ first_found n (numbers_of_piece (plan_checked cells.now.checked.now) piece) looked.items },
     ghost few: { index_map_len index ≤ length looked.items },
     ghost room: { vec_capacity looked ≤ index_map_len index + spare index },
 }
@@ -70,6 +98,7 @@ impl<'a> LookedCells<'a> {
             piece: 0,
             looked: Vec::with_capacity(alloc, most)?,
             index: IndexMap::with_capacity(alloc, most)?,
+            rising: is_rising(fetched_of(cells.checked(), 0)),
         })
     }
 
@@ -81,6 +110,49 @@ impl<'a> LookedCells<'a> {
         self.piece = piece;
         self.looked.clear();
         self.index.clear();
+        self.rising = is_rising(fetched_of(self.cells.checked(), piece));
+    }
+
+    /// The number that the next value is noted by in the index: none where the numbers rise.
+    fn number_to_note(&self) -> Option<u32>
+        ensures { result ≡ (if self.now.rising then None else slice_get (numbers_of_piece (plan_checked self.now.cells.now.checked.now) self.now.piece) (length self.now.looked.items)) }
+    {
+        if self.rising {
+            return None;
+        }
+        let numbers = fetched_of(self.cells.checked(), self.piece);
+        next_number(numbers, self.looked.as_slice())
+    }
+
+    /// The value of the first place of a number, 0 where none of its places was looked at.
+    fn value_of(&self, number: u32) -> i64
+        ensures { result ≡ number_or_zero (first_found number (numbers_of_piece (plan_checked self.now.cells.now.checked.now) self.now.piece) self.now.looked.items) }
+    {
+        if self.rising {
+            let numbers = fetched_of(self.cells.checked(), self.piece);
+            value_among(numbers, self.looked.as_slice(), number)
+        } else {
+            value_in(&self.index, number)
+        }
+    }
+
+    /// The values of a group's cells at so many points, from one on along the first coordinate, where these stand side by side.
+    fn values_along(&self, group: usize, at: &[i64], count: usize) -> Option<&[i64]>
+        ensures { IfSome result (λ values. IsLookedRow (plan_checked self.now.cells.now.checked.now) self.now.piece self.now.looked.items group at.now count values.now) }
+    {
+        if !self.rising {
+            return None;
+        }
+        let more = count.checked_sub(1)?;
+        let first = self.cells.number(group, at)?;
+        let last = number_along(self.cells, group, at, more)?;
+        let numbers = fetched_of(self.cells.checked(), self.piece);
+        let values = values_between(numbers, self.looked.as_slice(), first, last)?;
+        if values.len() == count {
+            Some(values)
+        } else {
+            None
+        }
     }
 
     /// Takes the value of the next cell that the piece fetches. It takes no memory.
@@ -90,8 +162,7 @@ impl<'a> LookedCells<'a> {
         ensures same { (self.new.cells.now ≡ self.old.cells.now) × (self.new.piece ≡ self.old.piece) }
         ensures room { vec_capacity self.new.looked ≡ vec_capacity self.old.looked }
     {
-        let numbers = fetched_of(self.cells.checked(), self.piece);
-        let next = next_number(numbers, self.looked.as_slice());
+        let next = self.number_to_note();
         note(&mut self.index, next, value);
         self.looked.push_reserved(value);
     }
@@ -126,9 +197,19 @@ impl Cells for LookedCells<'_> {
         match self.cells.number(self.cells.place(function), at) {
             Some(number) => Value {
                 ty,
-                number: value_in(&self.index, number),
+                number: self.value_of(number),
             },
             None => Value { ty, number: 0 },
         }
+    }
+
+    fn row(&self, function: &str, at: &[i64], count: usize) -> Option<CellRow<'_>> {
+        looks_are_by_number();
+        let numbers = self.values_along(self.cells.place(function), at, count)?;
+        Some(CellRow {
+            ty: type_named(self.cells.checked().algo(), function),
+            numbers,
+            kind: NumberKind::Exact,
+        })
     }
 }

@@ -5,6 +5,7 @@ mod cells;
 mod index;
 pub mod laws;
 pub mod places;
+mod rising;
 mod running;
 mod types;
 

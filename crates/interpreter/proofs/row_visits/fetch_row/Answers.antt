@@ -16,7 +16,7 @@ returns-clause-run g c =
     let f = c.args.function.now in
     let b = c.args.buffer in
     let old = c.args.state.now in
-    let new = c.fetch_places.new.state in
+    let new = c.fetch_cells.new.state in
     let others : List ℤ = drop 1 old.point.items in
     let low = c.args.numbers.low in
     let fits : SFits w64 low = search rules in
@@ -25,6 +25,6 @@ returns-clause-run g c =
     let here : (k : ℕ) → k < c.in-Some.count → IsSpot old.memory b ((low +ℤ pos k) ∷ others) c.in-Some-spot.spot k =
     λ k lt. subst (λ (q : List ℤ). IsSpot old.memory b q c.in-Some-spot.spot k) (λ i. (first i +ℤ pos k) ∷ behind i) (c.in-Some-spot.ensures.lies k lt) in
     let last : c.behind.result.low ≡ c.behind.result.high +ℤ pos 1 = c.behind.ensures.low ∙ c.in-Some.ensures.0 ∙ ap (λ (y : ℤ). y +ℤ pos 1) (sym c.behind.ensures.high) in
-    c.fetch_places.ensures.run x b here
+    c.fetch_cells.ensures.run x b here
     ∙ sym (taken_all x cell b f others c.behind.result.low c.behind.result.high (progress_of new)
     (steps (around x cell) (row_takes b f others c.behind.result.low c.behind.result.high) (progress_of new)) last refl)

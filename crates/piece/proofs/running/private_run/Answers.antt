@@ -1,10 +1,10 @@
 use Rattle.std.proofs.Common.{◌≡◌, ◌<◌, List, ℕ, ℤ, Option, Some, length, sym, ap, ◌∙◌, subst}
 use Rattle.std.specs.Prelude.{slice_get}
-use Rattle.algo.specs.View.{picture_of, samples_of, IsFor}
+use Rattle.algo.specs.View.{picture_of, samples_of}
 use Rattle.meaning.specs.Value.{Calls}
 use Rattle.plan.specs.Plan.{Plan}
-use Rattle.plan.specs.View.{group_of, plan_of}
-use Rattle.plan.specs.Certificate.Certificate.{Certificate, certificate_of}
+use Rattle.plan.specs.View.{group_of}
+use Rattle.plan.specs.Certificate.Certificate.{Certificate}
 use Rattle.plan.specs.Certificate.Cells.{pieces}
 use Rattle.checked_plan.specs.declared.checked.Checked.{Checked}
 use Rattle.checked_plan.specs.View.{algorithm_checked, certificate_checked, plan_checked}

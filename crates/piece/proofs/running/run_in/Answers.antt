@@ -1,5 +1,5 @@
-use Rattle.std.proofs.Common.{◌≡◌, List, ℕ, ℤ, Option, sym, ap, ◌∙◌, subst}
-use Rattle.meaning.specs.Image.View.{AreExtents, Picture, image_of}
+use Rattle.std.proofs.Common.{List, ℤ, Option, sym, ap, ◌∙◌, subst}
+use Rattle.meaning.specs.Image.View.{AreExtents, Picture}
 use Rattle.plan.specs.Plan.{Plan}
 use Rattle.plan.specs.View.{plan_of}
 use Rattle.plan.specs.Certificate.Certificate.{certificate_of}
