@@ -5,7 +5,7 @@ use Rattle.plan.specs.declared.stmt.Stmt.{Stmt}
 use Rattle.plan.specs.Plan.{Statements, Empty, Then, block}
 use Rattle.plan.specs.Lists.{list_statements}
 use Rattle.plan.specs.Certificate.Cells.{piece_count}
-use Rattle.validation.specs.Groups.Sizes.{more, block_allotted}
+use Rattle.validation.specs.Groups.Sizes.{more, block_allotted, block_bound_in, block_held_in}
 
 -- nothing is left behind the end of a list
 pub drop_end : {A : Type 0} (xs : List A) (i : ℕ) → length xs ≤ i → drop i xs ≡ []
@@ -13,6 +13,34 @@ drop_end [] zero h = refl
 drop_end [] (suc i) h = refl
 drop_end (x ∷ xs) zero h = absurd (omega (arith, h))
 drop_end (x ∷ xs) (suc i) h = drop_end xs i (omega (arith, h))
+
+-- counts of a block's statements that are counted to the end of a u64
+module _ (count : Statements → ℕ) (empty : count Empty ≡ 0) (small : (s : Statements) → count s ≤ 2 ^ 64 - 1) where
+  count_all : (xs : List Stmt) (i total : ℕ) → length xs ≤ i → total ≤ 2 ^ 64 - 1
+      → more total (count (block (list_statements (drop i xs)))) ≡ more 0 (count (block (list_statements xs)))
+      → total ≡ count (block (list_statements xs))
+  count_all xs i total h few sum =
+      let at_end : count (block (list_statements (drop i xs))) ≡ 0 = ap (λ (l : List Stmt). count (block (list_statements l))) (drop_end xs i h) ∙ empty in
+      let all = small (block (list_statements xs)) in
+      omega (arith, at_end, few, sum, all)
+
+bound_small : (s : Statements) → block_bound_in s ≤ 2 ^ 64 - 1
+bound_small Empty = omega arith
+bound_small (Then a rest) = omega arith
+
+held_small : (s : Statements) → block_held_in s ≤ 2 ^ 64 - 1
+held_small Empty = omega arith
+held_small (Then a rest) = omega arith
+
+pub bound_all : (xs : List Stmt) (i total : ℕ) → length xs ≤ i → total ≤ 2 ^ 64 - 1
+    → more total (block_bound_in (block (list_statements (drop i xs)))) ≡ more 0 (block_bound_in (block (list_statements xs)))
+    → total ≡ block_bound_in (block (list_statements xs))
+bound_all xs i total h few sum = count_all block_bound_in refl bound_small xs i total h few sum
+
+pub held_all : (xs : List Stmt) (i total : ℕ) → length xs ≤ i → total ≤ 2 ^ 64 - 1
+    → more total (block_held_in (block (list_statements (drop i xs)))) ≡ more 0 (block_held_in (block (list_statements xs)))
+    → total ≡ block_held_in (block (list_statements xs))
+held_all xs i total h few sum = count_all block_held_in refl held_small xs i total h few sum
 
 more_none : (s : Statements) → more 0 (block_allotted s) ≡ block_allotted s
 more_none Empty = omega arith

@@ -1,6 +1,6 @@
 -- Lines without flaws.
 use Rattle.std.proofs.Common.{◌≡◌, ℕ, zero, suc, ◌+◌, ◌≤◌, List, [], ◌∷◌, ◌++◌, take, length, Bool, true, false, Option, Some, None, refl, sym, ap, ◌∙◌, subst, arith}
-use Rattle.std.specs.Prelude.{◌&&◌, ◌||◌, ◌==◌, ◌^◌, not, nat_le, slice_get, MatchOption}
+use Rattle.std.specs.Prelude.{◌&&◌, ◌||◌, ◌==◌, ◌^◌, not, nat_le, nat_lt, slice_get, MatchOption}
 use Rattle.std.specs.List.{list_all, list_any}
 use Rattle.soundness.specs.Outline.Forms.{is_over, are_over, spans_are_over, are_within_limits, spans_are_within_limits, is_listed, grid_symbols}
 use Rattle.std.proofs.lemmas.Bool.{false≢true}
@@ -168,7 +168,7 @@ module _ (a : Algorithm) (p : Plan) (c : Certificate) (g : Group) (o : Outline) 
     bound_is_new outer (Seq all) here stay h i t = block_bound_is_new outer all here stay h i t
     bound_is_new outer (For j x kind body) here stay h i t = absurd (false≢true t)
     bound_is_new outer (Let j pick ls) here stay h i t =
-        let names = (fine here.line (is_new here.symbols j && are_over here.symbols ls) (are_within_limits ls) true (is_listed ls) h).names in
+        let names = (fine here.line (is_new here.symbols j && are_over here.symbols ls) (are_within_limits ls) true (is_listed ls && nat_lt here.bound 256) h).names in
         let new = (and_parts (is_new here.symbols j) (are_over here.symbols ls) names).0 in
         new_is_none outer here stay i (subst (λ n. is_new here.symbols n ≡ true) (eq_true j i t) new) (is_one_of outer i) refl
     bound_is_new outer (First j s r) here stay h i t = absurd (false≢true t)
@@ -271,16 +271,18 @@ module _ (a : Algorithm) (p : Plan) (c : Certificate) where
   published h owned n g at =
       let f = group_fine h n g at in
       let k = none_in (group_line_flaws a f.line (take n p.groups) g f.cells f.pieces) (flaws a p c g (outline_of p c n g) g.body (start f.line g)) f.none in
-      let few = nat_le f.cells (2 ^ 24) && (nat_le f.pieces (2 ^ 20) && publishes g.body) in
+      let last = publishes g.body && nat_le (length g.grid) 256 in
+      let few = nat_le f.cells (2 ^ 24) && (nat_le f.pieces (2 ^ 20) && last) in
       let limits = (fine f.line
       (not (list_any (λ h. same_name h.function g.function) (take n p.groups)) && (has_variables (parts_named a g.function) (length g.region) && spans_are_over [] g.region))
       (spans_are_within_limits g.region) true (list_all is_extent g.region && few) k.0).limits in
       let one = and_parts (list_all is_extent g.region) few limits in
-      let two = and_parts (nat_le f.cells (2 ^ 24)) (nat_le f.pieces (2 ^ 20) && publishes g.body) one.1 in
-      let three = and_parts (nat_le f.pieces (2 ^ 20)) (publishes g.body) two.1 in
+      let two = and_parts (nat_le f.cells (2 ^ 24)) (nat_le f.pieces (2 ^ 20) && last) one.1 in
+      let three = and_parts (nat_le f.pieces (2 ^ 20)) last two.1 in
+      let four = and_parts (publishes g.body) (nat_le (length g.grid) 256) three.1 in
       record {
         ends = ends_are g.region one.0;
-        last = last_is a p c g (outline_of p c n g) g.body (start f.line g) k.1 three.1;
+        last = last_is a p c g (outline_of p c n g) g.body (start f.line g) k.1 four.0;
         apart = λ i b. own_is_free (length g.region) (length g.grid) (own_region c.own n) i (owned n g at)
             (bound_is_new a p c g (outline_of p c n g) (grid_symbols (length g.grid)) g.body (start f.line g) (λ j e. e) k.1 i b);
       }

@@ -1,6 +1,6 @@
 -- The flaws of the lines of groups, each at its statement.
 use Rattle.std.proofs.Common.{◌≡◌, ℕ, zero, suc, ◌+◌, ◌-◌, ◌^◌, ◌<◌, ◌≤◌, min, List, [], ◌∷◌, ◌++◌, take, length, true, Option, Some, None, refl, sym, ap, subst, arith, inl, inr}
-use Rattle.std.specs.Prelude.{◌⊎◌, ◌&&◌, ◌||◌, ◌==◌, nat_le, not, slice_get}
+use Rattle.std.specs.Prelude.{◌⊎◌, ◌&&◌, ◌||◌, ◌==◌, nat_le, nat_lt, not, slice_get}
 use Rattle.std.specs.List.{list_all, list_any}
 use Rattle.meaning.specs.Names.{same_name}
 use Rattle.headline.specs.Sound.{publishes}
@@ -86,10 +86,16 @@ module _ (a : Algorithm) (p : Plan) (c : Certificate) (g : Group) (o : Outline) 
     names = is_new here.symbols i && (are_over here.symbols x.lower && are_over here.symbols x.upper);
     forms = are_within_limits x.lower && are_within_limits x.upper;
     third = fits_mark o.setting.dimensions i kind body;
-    limits = is_listed x.lower && is_listed x.upper;
+    limits = (is_listed x.lower && is_listed x.upper) && nat_lt here.bound 256;
     code = 13;
   }
-  tests (Let i pick ls) here = record { names = is_new here.symbols i && are_over here.symbols ls; forms = are_within_limits ls; third = true; limits = is_listed ls; code = 12 }
+  tests (Let i pick ls) here = record {
+    names = is_new here.symbols i && are_over here.symbols ls;
+    forms = are_within_limits ls;
+    third = true;
+    limits = is_listed ls && nat_lt here.bound 256;
+    code = 12;
+  }
   tests (First i s t) here = record { names = is_one_of here.loops i; forms = true; third = true; limits = true; code = 12 }
   tests (Guard low high body) here = record {
     names = is_over here.symbols low && is_over here.symbols high;
@@ -102,7 +108,7 @@ module _ (a : Algorithm) (p : Plan) (c : Certificate) (g : Group) (o : Outline) 
     names = has_variables (parts_named a f) (length places) && list_all (place_is_over here.symbols) places;
     forms = list_all place_is_within places;
     third = true;
-    limits = list_all is_foldable places && nat_le (more here.used (places_count places)) (2 ^ 22);
+    limits = list_all is_foldable places && (nat_le (more here.used (places_count places)) (2 ^ 22) && nat_lt here.held 256);
     code = 12;
   }
   tests (Fetch b h region) here = record {
@@ -285,7 +291,7 @@ module _ (a : Algorithm) (p : Plan) (c : Certificate) where
     names = not (list_any (λ h. same_name h.function g.function) (take n p.groups)) && (has_variables (parts_named a g.function) (length g.region) && spans_are_over [] g.region);
     forms = spans_are_within_limits g.region;
     third = true;
-    limits = list_all is_extent g.region && (nat_le cells (2 ^ 24) && (nat_le pieces (2 ^ 20) && publishes g.body));
+    limits = list_all is_extent g.region && (nat_le cells (2 ^ 24) && (nat_le pieces (2 ^ 20) && (publishes g.body && nat_le (length g.grid) 256)));
     code = 12;
   }
 

@@ -1,8 +1,9 @@
 -- Lines of groups that pass a limit.
-use Rattle.std.proofs.Common.{◌≡◌, ℕ, zero, suc, ◌+◌, ◌^◌, ◌<◌, List, [], ◌∷◌, take, map, length, Bool, false, Some, None, sym, arith, inl, inr}
-use Rattle.std.specs.Prelude.{◌&&◌, nat_le, slice_get}
+use Rattle.std.proofs.Common.{◌≡◌, ℕ, zero, suc, ◌+◌, ◌^◌, ◌<◌, ◌≤◌, List, [], ◌∷◌, take, map, length, Bool, false, Some, None, sym, arith, inl, inr}
+use Rattle.std.specs.Prelude.{◌&&◌, nat_le, nat_lt, slice_get}
 use Rattle.std.specs.List.{list_all}
 use Rattle.std.proofs.lemmas.Bool.{false≢true}
+use Rattle.std.proofs.lemmas.Bool.Decides.{nat_tests}
 use Rattle.lin.specs.declared.span.Span1.{Span1}
 use Rattle.meaning.specs.Algorithm.{Algorithm}
 use Rattle.plan.specs.declared.stmt.Places.{Places}
@@ -51,6 +52,16 @@ counted_past used places h = omega (arith, h)
 past_counted : (used places : ℕ) → 2 ^ 22 < used + places → 2 ^ 22 < more used (counted places)
 past_counted used places h = omega (arith, h)
 
+-- at most 256 together with the one that comes
+from_256 : (n : ℕ) → nat_lt n 256 ≡ false → 256 ≤ n
+from_256 n h = grind (arith, nat_tests, h)
+
+is_from_256 : (n : ℕ) → 256 ≤ n → nat_lt n 256 ≡ false
+is_from_256 n h = grind (arith, nat_tests, h)
+
+abbrev roomy : Here → List Places → Bool
+roomy here places = nat_le (more here.used (places_count places)) (2 ^ 22)
+
 abbrev small : Coordinate → Bool
 small x = index_is_small x.index
 
@@ -63,26 +74,32 @@ module _ (a : Algorithm) (p : Plan) (c : Certificate) (g : Group) (o : Outline) 
 
   limit_is : (s : Statement) (here : Here) → limits s here ≡ false → PassesLimit s here
   limit_is (Seq all) here h = absurd (false≢true (sym h))
-  limit_is (For i x kind body) here h = span_unlisted_is x h
-  limit_is (Let i pick fs) here h = unlisted_is fs h
+  limit_is (For i x kind body) here h = on_either (and_fails (is_listed x.lower && is_listed x.upper) (nat_lt here.bound 256) h) (λ e. inl (span_unlisted_is x e)) (λ e. inr (from_256 here.bound e))
+  limit_is (Let i pick fs) here h = on_either (and_fails (is_listed fs) (nat_lt here.bound 256) h) (λ e. inl (unlisted_is fs e)) (λ e. inr (from_256 here.bound e))
   limit_is (First i s t) here h = absurd (false≢true (sym h))
   limit_is (Guard low high body) here h = absurd (false≢true (sym h))
-  limit_is (Alloc b f places) here h = on_either (and_fails (list_all is_foldable places) (nat_le (more here.used (places_count places)) (2 ^ 22)) h)
+  limit_is (Alloc b f places) here h = on_either (and_fails (list_all is_foldable places) (roomy here places && nat_lt here.held 256) h)
       (λ e. inl (any_fails is_foldable FoldsNone fold_is places e))
-      (λ e. inr (counted_past here.used (product (map place_count places)) (past (more here.used (places_count places)) (2 ^ 22) e)))
+      (λ e. on_either (and_fails (roomy here places) (nat_lt here.held 256) e)
+      (λ k. inr (inl (counted_past here.used (product (map place_count places)) (past (more here.used (places_count places)) (2 ^ 22) k))))
+      (λ k. inr (inr (from_256 here.held k))))
   limit_is (Fetch b q region) here h = on_either (and_fails here.fetching (have_ends region) h) (λ e. inl e) (λ e. inr (region_unlisted_is region e))
   limit_is (Store b k at e) here h = on_either (and_fails (is_small e) (list_all small at) h) (λ q. inl (large_is e q)) (λ q. inr (any_fails small Large (λ x. index_large_is x.index) at q))
   limit_is (Publish k) here h = h
 
   is_limit : (s : Statement) (here : Here) → PassesLimit s here → limits s here ≡ false
   is_limit (Seq all) here h = absurd h
-  is_limit (For i x kind body) here h = span_is_unlisted x h
-  is_limit (Let i pick fs) here h = is_unlisted fs h
+  is_limit (For i x kind body) here (inl h) = fails_left (is_listed x.lower && is_listed x.upper) (nat_lt here.bound 256) (span_is_unlisted x h)
+  is_limit (For i x kind body) here (inr h) = fails_right (is_listed x.lower && is_listed x.upper) (nat_lt here.bound 256) (is_from_256 here.bound h)
+  is_limit (Let i pick fs) here (inl h) = fails_left (is_listed fs) (nat_lt here.bound 256) (is_unlisted fs h)
+  is_limit (Let i pick fs) here (inr h) = fails_right (is_listed fs) (nat_lt here.bound 256) (is_from_256 here.bound h)
   is_limit (First i s t) here h = absurd h
   is_limit (Guard low high body) here h = absurd h
-  is_limit (Alloc b f places) here (inl h) = fails_left (list_all is_foldable places) (nat_le (more here.used (places_count places)) (2 ^ 22)) (all_fail is_foldable FoldsNone is_fold places h)
-  is_limit (Alloc b f places) here (inr h) = fails_right (list_all is_foldable places) (nat_le (more here.used (places_count places)) (2 ^ 22))
-      (is_past (more here.used (places_count places)) (2 ^ 22) (past_counted here.used (product (map place_count places)) h))
+  is_limit (Alloc b f places) here (inl h) = fails_left (list_all is_foldable places) (roomy here places && nat_lt here.held 256) (all_fail is_foldable FoldsNone is_fold places h)
+  is_limit (Alloc b f places) here (inr (inl h)) = fails_right (list_all is_foldable places) (roomy here places && nat_lt here.held 256)
+      (fails_left (roomy here places) (nat_lt here.held 256) (is_past (more here.used (places_count places)) (2 ^ 22) (past_counted here.used (product (map place_count places)) h)))
+  is_limit (Alloc b f places) here (inr (inr h)) = fails_right (list_all is_foldable places) (roomy here places && nat_lt here.held 256)
+      (fails_right (roomy here places) (nat_lt here.held 256) (is_from_256 here.held h))
   is_limit (Fetch b q region) here (inl h) = fails_left here.fetching (have_ends region) h
   is_limit (Fetch b q region) here (inr h) = fails_right here.fetching (have_ends region) (region_is_unlisted region h)
   is_limit (Store b k at e) here (inl h) = fails_left (is_small e) (list_all small at) (is_large e h)
@@ -141,27 +158,35 @@ module _ (a : Algorithm) (p : Plan) (c : Certificate) where
   abbrev pieces : ℕ → Bool
   pieces n = nat_le (pieces_at p.groups n 0) (2 ^ 20)
 
+  abbrev last : Group → Bool
+  last g = publishes g.body && nat_le (length g.grid) 256
+
   head_is : (n : ℕ) (g : Group) → slice_get p.groups n ≡ Some g → (head n g).limits ≡ false → GroupPassesLimit p n g
-  head_is n g at h = on_either (and_fails (list_all is_extent g.region) (cells n && (pieces n && publishes g.body)) h)
+  head_is n g at h = on_either (and_fails (list_all is_extent g.region) (cells n && (pieces n && last g)) h)
       (λ e. inl (any_fails is_extent PassesExtent extent_is g.region e))
-      (λ e. on_either (and_fails (cells n) (pieces n && publishes g.body) e)
+      (λ e. on_either (and_fails (cells n) (pieces n && last g) e)
       (λ k. inr (inl (let lt = past (cells_at p.groups n 0) (2 ^ 24) k in let same = cells_are p.groups n 0 g at in omega (arith, lt, same))))
-      (λ k. on_either (and_fails (pieces n) (publishes g.body) k)
+      (λ k. on_either (and_fails (pieces n) (last g) k)
       (λ q. inr (inr (inl (let lt = past (pieces_at p.groups n 0) (2 ^ 20) q in let same = pieces_are p.groups n 0 g at in omega (arith, lt, same)))))
-      (λ q. inr (inr (inr q)))))
+      (λ q. on_either (and_fails (publishes g.body) (nat_le (length g.grid) 256) q)
+      (λ r. inr (inr (inr (inl r)))) (λ r. inr (inr (inr (inr (past (length g.grid) 256 r))))))))
 
   is_head : (n : ℕ) (g : Group) → slice_get p.groups n ≡ Some g → GroupPassesLimit p n g → (head n g).limits ≡ false
-  is_head n g at (inl h) = fails_left (list_all is_extent g.region) (cells n && (pieces n && publishes g.body)) (all_fail is_extent PassesExtent is_no_extent g.region h)
+  is_head n g at (inl h) = fails_left (list_all is_extent g.region) (cells n && (pieces n && last g)) (all_fail is_extent PassesExtent is_no_extent g.region h)
   is_head n g at (inr (inl h)) =
       let same = cells_are p.groups n 0 g at in
-      fails_right (list_all is_extent g.region) (cells n && (pieces n && publishes g.body))
-      (fails_left (cells n) (pieces n && publishes g.body) (is_past (cells_at p.groups n 0) (2 ^ 24) (omega (arith, h, same))))
+      fails_right (list_all is_extent g.region) (cells n && (pieces n && last g))
+      (fails_left (cells n) (pieces n && last g) (is_past (cells_at p.groups n 0) (2 ^ 24) (omega (arith, h, same))))
   is_head n g at (inr (inr (inl h))) =
       let same = pieces_are p.groups n 0 g at in
-      fails_right (list_all is_extent g.region) (cells n && (pieces n && publishes g.body))
-      (fails_right (cells n) (pieces n && publishes g.body) (fails_left (pieces n) (publishes g.body) (is_past (pieces_at p.groups n 0) (2 ^ 20) (omega (arith, h, same)))))
-  is_head n g at (inr (inr (inr h))) =
-      fails_right (list_all is_extent g.region) (cells n && (pieces n && publishes g.body)) (fails_right (cells n) (pieces n && publishes g.body) (fails_right (pieces n) (publishes g.body) h))
+      fails_right (list_all is_extent g.region) (cells n && (pieces n && last g))
+      (fails_right (cells n) (pieces n && last g) (fails_left (pieces n) (last g) (is_past (pieces_at p.groups n 0) (2 ^ 20) (omega (arith, h, same)))))
+  is_head n g at (inr (inr (inr (inl h)))) =
+      fails_right (list_all is_extent g.region) (cells n && (pieces n && last g))
+      (fails_right (cells n) (pieces n && last g) (fails_right (pieces n) (last g) (fails_left (publishes g.body) (nat_le (length g.grid) 256) h)))
+  is_head n g at (inr (inr (inr (inr h)))) =
+      fails_right (list_all is_extent g.region) (cells n && (pieces n && last g))
+      (fails_right (cells n) (pieces n && last g) (fails_right (pieces n) (last g) (fails_right (publishes g.body) (nat_le (length g.grid) 256) (is_past (length g.grid) 256 h))))
 
   below : (n : ℕ) (g : Group) (s : Statement) (here : Here) → (line n g s here).code < 14
   below n g s here = let e = (codes a p c g (outline_of p c n g) s here).1 in omega (arith, e)

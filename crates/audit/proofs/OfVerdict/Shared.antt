@@ -116,7 +116,7 @@ module _ (a : Algorithm) (p : Plan) (c : Certificate) (none : flaws_of_groups a 
 
   -- the forms of a line `let` are within the limits
   let_shared : (i : ℕ) (pick : Pick) (ls : List Form) (here : Here) → flaws a p c g o (Let i pick ls) here ≡ [] → LineIsShared p (Let i pick ls)
-  let_shared i pick ls here h = forms_limited ls (fine here.line (is_new here.symbols i && are_over here.symbols ls) (are_within_limits ls) true (is_listed ls) h).forms
+  let_shared i pick ls here h = forms_limited ls (fine here.line (is_new here.symbols i && are_over here.symbols ls) (are_within_limits ls) true (is_listed ls && nat_lt here.bound 256) h).forms
 
   split : (s : Statement) (rest : Statements) (here : Here) → block_flaws a p c g o (Then s rest) here ≡ [] → (flaws a p c g o s (before (is_empty rest) here) ≡ []) × (block_flaws a p c g o rest (after s here) ≡ [])
   split s rest here h = none_in (flaws a p c g o s (before (is_empty rest) here)) (block_flaws a p c g o rest (after s here)) h

@@ -130,15 +130,16 @@ module _ (a : Algorithm) (p : Plan) (c : Certificate) where
   group_line_fine line n g cells pieces h =
       let earlier = take n p.groups in
       let k = none_in (group_line_flaws a line earlier g cells pieces) (flaws a p c g (outline_of p c n g) g.body (start line g)) h in
-      let few = nat_le cells (2 ^ 24) && (nat_le pieces (2 ^ 20) && publishes g.body) in
+      let last = publishes g.body && nat_le (length g.grid) 256 in
+      let few = nat_le cells (2 ^ 24) && (nat_le pieces (2 ^ 20) && last) in
       let new = not (list_any (λ h. same_name h.function g.function) earlier) in
       let vars = has_variables (parts_named a g.function) (length g.region) in
       let f = fine line (new && (vars && spans_are_over [] g.region)) (spans_are_within_limits g.region) true (list_all is_extent g.region && few) k.0 in
       let names = and_parts new (vars && spans_are_over [] g.region) f.names in
       let over = and_parts vars (spans_are_over [] g.region) names.1 in
       let one = and_parts (list_all is_extent g.region) few f.limits in
-      let two = and_parts (nat_le cells (2 ^ 24)) (nat_le pieces (2 ^ 20) && publishes g.body) one.1 in
-      let three = and_parts (nat_le pieces (2 ^ 20)) (publishes g.body) two.1 in
+      let two = and_parts (nat_le cells (2 ^ 24)) (nat_le pieces (2 ^ 20) && last) one.1 in
+      let three = and_parts (nat_le pieces (2 ^ 20)) last two.1 in
       record {
         new = names.0;
         variables = over.0;

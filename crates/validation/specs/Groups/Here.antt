@@ -12,6 +12,8 @@ here_of group h last = record {
   loops = h.loops.items;
   buffers = h.buffers.items;
   used = h.used;
+  bound = h.bound;
+  held = h.held;
   fetching = h.fetching;
   last = last;
 }

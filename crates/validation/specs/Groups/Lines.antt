@@ -19,7 +19,7 @@ use Rattle.headline.specs.Sound.{publishes}
 use Rattle.soundness.specs.Outline.Forms.{is_over, are_over, spans_are_over, are_within_limits, spans_are_within_limits, is_listed, have_ends, grid_symbols}
 use Rattle.soundness.specs.Outline.Flaws.{Flaw, unless, line_told}
 use Rattle.validation.specs.Groups.Lanes.{fits_mark}
-use Rattle.validation.specs.Groups.Sizes.{more, places_count, allotted, cell_count, is_extent}
+use Rattle.validation.specs.Groups.Sizes.{more, places_count, allotted, bound_in, held_in, cell_count, is_extent}
 use Rattle.validation.specs.Stored.Sizes.{counted, is_small}
 use Rattle.validation.specs.Stored.Definitions.{parts_named, Definition, definition_in, function_in, has_variables}
 use Rattle.validation.specs.Stored.Stored.{has_names, is_named, is_known, index_is_over, index_is_within, index_is_small, index_is_known, has_line, is_call, is_defined}
@@ -30,8 +30,8 @@ abbrev pub line_flaws : ℕ → Bool → Bool → Bool → Bool → List Flaw
 line_flaws line named within defined limited = unless named 2 line ++ (unless within 3 line ++ (unless defined 12 line ++ unless limited 14 line))
 
 -- where a statement stands: the lines of its group, its line, the symbols in scope, those of them that loops around it have, the
--- buffers in scope, the places of buffers of earlier lines, whether lines `fetch` may still come, and whether it is the last of
--- its group
+-- buffers in scope, the places of buffers of earlier lines, how many symbols the grid and earlier lines bind and how many buffers
+-- those allocate, whether lines `fetch` may still come, and whether it is the last of its group
 pub record Here : Type 0 where
   pub group : GroupLines
   pub line : ℕ
@@ -39,6 +39,8 @@ pub record Here : Type 0 where
   pub loops : List ℕ
   pub buffers : List ℕ
   pub used : ℕ
+  pub bound : ℕ
+  pub held : ℕ
   pub fetching : Bool
   pub last : Bool
 
@@ -55,6 +57,8 @@ in_loop i here = record {
   loops = here.loops ++ i ∷ [];
   buffers = here.buffers;
   used = here.used;
+  bound = more here.bound 1;
+  held = here.held;
   fetching = false;
   last = false;
 }
@@ -68,6 +72,8 @@ inside here = record {
   loops = here.loops;
   buffers = here.buffers;
   used = here.used;
+  bound = here.bound;
+  held = here.held;
   fetching = false;
   last = false;
 }
@@ -81,6 +87,8 @@ in_later a here = record {
   loops = here.loops;
   buffers = here.buffers;
   used = more here.used (allotted a);
+  bound = more here.bound (bound_in a);
+  held = more here.held (held_in a);
   fetching = false;
   last = false;
 }
@@ -98,6 +106,8 @@ before none_behind here = record {
   loops = here.loops;
   buffers = here.buffers;
   used = here.used;
+  bound = here.bound;
+  held = here.held;
   fetching = here.fetching;
   last = here.last && none_behind;
 }
@@ -138,6 +148,8 @@ after a here = record {
   loops = here.loops;
   buffers = buffers_after a here.buffers;
   used = more here.used (allotted a);
+  bound = more here.bound (bound_in a);
+  held = more here.held (held_in a);
   fetching = here.fetching && may_precede a;
   last = here.last;
 }
@@ -178,7 +190,7 @@ module _ (a : Algorithm) (p : Plan) (c : Certificate) (g : Group) (outline : Out
       unless (is_new here.symbols i && (are_over here.symbols x.lower && are_over here.symbols x.upper)) 2 here.line
       ++ (unless (are_within_limits x.lower && are_within_limits x.upper) 3 here.line
       ++ (unless (fits_mark outline.setting.dimensions i kind body) 13 here.line
-      ++ unless (is_listed x.lower && is_listed x.upper) 14 here.line))
+      ++ unless ((is_listed x.lower && is_listed x.upper) && nat_lt here.bound 256) 14 here.line))
 
   abbrev pub alloc_flaws : Here → List ℕ → List Places → List Flaw
   alloc_flaws here f places =
@@ -186,7 +198,7 @@ module _ (a : Algorithm) (p : Plan) (c : Certificate) (g : Group) (outline : Out
       (has_variables (parts_named a f) (length places) && list_all (place_is_over here.symbols) places)
       (list_all place_is_within places)
       true
-      (list_all is_foldable places && nat_le (more here.used (places_count places)) (2 ^ 22))
+      (list_all is_foldable places && (nat_le (more here.used (places_count places)) (2 ^ 22) && nat_lt here.held 256))
 
   -- a known group of the buffer's function, and its region
   abbrev pub fetch_is_named : Here → ℕ → ℕ → List Span1 → Bool
@@ -235,7 +247,7 @@ module _ (a : Algorithm) (p : Plan) (c : Certificate) (g : Group) (outline : Out
     pub flaws : Statement → Here → List Flaw
     flaws (Seq all) here = block_flaws all here
     flaws (For i x kind body) here = loop_flaws here i x kind body ++ flaws body (in_loop i here)
-    flaws (Let i pick ls) here = line_flaws here.line (is_new here.symbols i && are_over here.symbols ls) (are_within_limits ls) true (is_listed ls)
+    flaws (Let i pick ls) here = line_flaws here.line (is_new here.symbols i && are_over here.symbols ls) (are_within_limits ls) true (is_listed ls && nat_lt here.bound 256)
     flaws (First i a b) here = line_flaws here.line (is_one_of here.loops i) true true true ++ (flaws a (inside here) ++ flaws b (in_later a here))
     flaws (Guard low high body) here =
         line_flaws here.line (is_over here.symbols low && is_over here.symbols high) (is_within_limits low && is_within_limits high) true true ++ flaws body (inside here)
@@ -258,7 +270,7 @@ group_line_flaws a line earlier g cells pieces =
     && (has_variables (parts_named a g.function) (length g.region) && spans_are_over [] g.region))
     (spans_are_within_limits g.region)
     true
-    (list_all is_extent g.region && (nat_le cells (2 ^ 24) && (nat_le pieces (2 ^ 20) && publishes g.body)))
+    (list_all is_extent g.region && (nat_le cells (2 ^ 24) && (nat_le pieces (2 ^ 20) && (publishes g.body && nat_le (length g.grid) 256))))
 
 -- the lines of a group whose line `group` is told so
 abbrev pub lines_from : ℕ → Group → GroupLines
@@ -273,6 +285,8 @@ start line g = record {
   loops = [];
   buffers = [];
   used = 0;
+  bound = length g.grid;
+  held = 0;
   fetching = true;
   last = true;
 }

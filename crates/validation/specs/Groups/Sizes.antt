@@ -43,6 +43,40 @@ abbrev mutual
   block_allotted Empty = 0
   block_allotted (Then a rest) = more (allotted a) (block_allotted rest)
 
+-- how many symbols a statement binds, by lines `for` and `let`, each line once
+abbrev mutual
+  pub bound_in : Statement → ℕ
+  bound_in (Seq all) = block_bound_in all
+  bound_in (For i x kind body) = more 1 (bound_in body)
+  bound_in (Let i pick ls) = 1
+  bound_in (First i a b) = more (bound_in a) (bound_in b)
+  bound_in (Guard low high body) = bound_in body
+  bound_in (Alloc b f places) = 0
+  bound_in (Fetch b g region) = 0
+  bound_in (Store b k at e) = 0
+  bound_in (Publish c) = 0
+
+  pub block_bound_in : Statements → ℕ
+  block_bound_in Empty = 0
+  block_bound_in (Then a rest) = more (bound_in a) (block_bound_in rest)
+
+-- how many buffers a statement allocates, each `alloc` line once
+abbrev mutual
+  pub held_in : Statement → ℕ
+  held_in (Seq all) = block_held_in all
+  held_in (For i x kind body) = held_in body
+  held_in (Let i pick ls) = 0
+  held_in (First i a b) = more (held_in a) (held_in b)
+  held_in (Guard low high body) = held_in body
+  held_in (Alloc b f places) = 1
+  held_in (Fetch b g region) = 0
+  held_in (Store b k at e) = 0
+  held_in (Publish c) = 0
+
+  pub block_held_in : Statements → ℕ
+  block_held_in Empty = 0
+  block_held_in (Then a rest) = more (held_in a) (block_held_in rest)
+
 -- how many numbers a span of constants has: from the largest lower one to the smallest upper one
 abbrev pub extent_of : Span1 → ℕ
 extent_of x = span_count no_symbols x

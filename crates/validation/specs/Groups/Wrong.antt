@@ -159,12 +159,13 @@ abbrev pub FoldsNone : Places → Type 0
 FoldsNone (From form n) = ⊥
 FoldsNone (Folded n) = n ≡ 0
 
--- Each end of a span has one to four forms. Folds are by one or more, and buffers up to a line have 2^22 places at most. A fetch
--- stands before loops, choices, guards and stores. Stored expressions are small. What publishes is the last line of its group.
+-- Each end of a span has one to four forms. Folds are by one or more, and buffers up to a line have 2^22 places at most. A
+-- symbol or a buffer is one of 256. A fetch stands before loops, choices, guards and stores. Stored expressions are small. What
+-- publishes is the last line of its group.
 abbrev pub PassesLimit : Statement → Here → Type 0
-PassesLimit (For i x kind body) here = SpanIsUnlisted x
-PassesLimit (Let i pick forms) here = IsUnlisted forms
-PassesLimit (Alloc b f places) here = Any FoldsNone places ⊎ (2 ^ 22 < here.used + product (map place_count places))
+PassesLimit (For i x kind body) here = SpanIsUnlisted x ⊎ (256 ≤ here.bound)
+PassesLimit (Let i pick forms) here = IsUnlisted forms ⊎ (256 ≤ here.bound)
+PassesLimit (Alloc b f places) here = Any FoldsNone places ⊎ ((2 ^ 22 < here.used + product (map place_count places)) ⊎ (256 ≤ here.held))
 PassesLimit (Fetch b h region) here = (here.fetching ≡ false) ⊎ RegionIsUnlisted region
 PassesLimit (Store b k at e) here = IsLarge e ⊎ Any (λ x. IndexIsLarge x.index) at
 PassesLimit (Publish k) here = here.last ≡ false
@@ -183,10 +184,10 @@ abbrev pub pieces_of : List Group → ℕ
 pieces_of [] = 0
 pieces_of (g ∷ rest) = piece_count g.grid + pieces_of rest
 
--- groups up to the one of this number have 2^24 cells and 2^20 pieces at most, and each publishes
+-- groups up to the one of this number have 2^24 cells and 2^20 pieces at most, and each publishes; its grid has 256 symbols at most
 abbrev pub GroupPassesLimit : Plan → ℕ → Group → Type 0
 GroupPassesLimit p n g =
-    Any PassesExtent g.region ⊎ ((2 ^ 24 < cells_of (take (suc n) p.groups)) ⊎ ((2 ^ 20 < pieces_of (take (suc n) p.groups)) ⊎ (publishes g.body ≡ false)))
+    Any PassesExtent g.region ⊎ ((2 ^ 24 < cells_of (take (suc n) p.groups)) ⊎ ((2 ^ 20 < pieces_of (take (suc n) p.groups)) ⊎ ((publishes g.body ≡ false) ⊎ (256 < length g.grid))))
 
 -- a limit of the format is passed at the line
 abbrev pub PassesLimitAt : Plan → ℕ → Type 0

@@ -39,6 +39,8 @@ use std::alloc::{AllocError, Global};
 const MOST_CELLS: u64 = 1 << 24;
 /// The most pieces of all groups together.
 const MOST_PIECES: u64 = 1 << 20;
+/// The most symbols of a grid, as of a group.
+const MOST_SYMBOLS: usize = 256;
 
 /// Whether some line of the statement publishes.
 #[cycle(publishes)]
@@ -113,14 +115,15 @@ fn group_is_named(algo: &Algo, earlier: &[Group], group: &Group) -> bool
         && spans_are_over(&[], region)
 }
 
-/// Whether the group's extents, the cells and pieces up to it, and the line that publishes are as they may be.
+/// Whether the group's extents, the cells and pieces up to it, the line that publishes and the grid's symbols are as they may be.
 fn group_is_limited(group: &Group, cells: u64, pieces: u64) -> bool
-    ensures { result ≡ (list_all is_extent (group_of group.now).region && (nat_le cells (2 ^ 24) && (nat_le pieces (2 ^ 20) && publishes (group_of group.now).body))) }
+    ensures { result ≡ (list_all is_extent (group_of group.now).region && (nat_le cells (2 ^ 24) && (nat_le pieces (2 ^ 20) && (publishes (group_of group.now).body && nat_le (length (group_of group.now).grid) 256)))) }
 {
     are_extents(group.region.as_slice())
         && cells <= MOST_CELLS
         && pieces <= MOST_PIECES
         && publishes(&group.body)
+        && group.grid.len() <= MOST_SYMBOLS
 }
 
 /// The lines of a group whose line `group` is this one.
@@ -137,14 +140,17 @@ fn lines_from(line: u32, group: &Group) -> GroupLines
 
 /// Where the body of a group begins, behind its line.
 fn start(line: u32, grid: Vec<Sym>, alloc: Global) -> Here
-    ensures { (group : GroupLines) → here_of group result true ≡ record { group = group; line = on line 1; symbols = grid.items; loops = []; buffers = []; used = 0; fetching = true; last = true } }
+    ensures { (group : GroupLines) → here_of group result true ≡ record { group = group; line = on line 1; symbols = grid.items; loops = []; buffers = []; used = 0; bound = length grid.items; held = 0; fetching = true; last = true } }
 {
+    let bound = grid.len() as u64;
     Here {
         line: line.saturating_add(1),
         symbols: grid,
         loops: Vec::new(alloc),
         buffers: Vec::new(alloc),
         used: 0,
+        bound,
+        held: 0,
         fetching: true,
     }
 }

@@ -8,13 +8,14 @@ ghost use Rattle.validation.specs.Groups.Here.{here_of};
 ghost use Rattle.validation.specs.declared.stored.lines.GroupLines.{GroupLines};
 ghost use Rattle.validation.specs.Groups.Lines.{after, in_later, in_loop, inside, may_precede, may_all_precede};
 
-use crate::groups::sizes::allotted;
+use crate::groups::sizes::{allotted, bound_in, held_in};
 use lin::Sym;
 use plan::Stmt;
 use std::alloc::AllocError;
 
 /// Where a statement stands: its line, the symbols in scope, those of them that loops around it have, the buffers in scope, the
-/// places of buffers of earlier lines, and whether lines `fetch` may still come.
+/// places of buffers of earlier lines, how many symbols the grid and earlier lines bind and how many buffers those allocate, and
+/// whether lines `fetch` may still come.
 #[derive(Drop)]
 pub(crate) struct Here {
     pub line: u32,
@@ -22,6 +23,8 @@ pub(crate) struct Here {
     pub loops: Vec<Sym>,
     pub buffers: Vec<u64>,
     pub used: u64,
+    pub bound: u64,
+    pub held: u64,
     pub fetching: bool,
 }
 
@@ -61,6 +64,8 @@ impl Here {
             loops: self.loops.clone()?,
             buffers: self.buffers.clone()?,
             used: self.used,
+            bound: self.bound,
+            held: self.held,
             fetching: self.fetching,
         })
     }
@@ -75,6 +80,8 @@ impl Here {
             loops: self.loops.clone()?,
             buffers: self.buffers.clone()?,
             used: self.used,
+            bound: self.bound,
+            held: self.held,
             fetching: false,
         })
     }
@@ -86,6 +93,7 @@ impl Here {
         let mut inner = self.inside()?;
         inner.symbols.push(symbol)?;
         inner.loops.push(symbol)?;
+        inner.bound = inner.bound.saturating_add(1);
         Ok(inner)
     }
 
@@ -99,6 +107,8 @@ impl Here {
             .saturating_add(first.line_count())
             .saturating_add(1);
         inner.used = inner.used.saturating_add(allotted(first));
+        inner.bound = inner.bound.saturating_add(bound_in(first));
+        inner.held = inner.held.saturating_add(held_in(first));
         Ok(inner)
     }
 
@@ -113,6 +123,8 @@ impl Here {
         }
         self.line = self.line.saturating_add(stmt.line_count());
         self.used = self.used.saturating_add(allotted(stmt));
+        self.bound = self.bound.saturating_add(bound_in(stmt));
+        self.held = self.held.saturating_add(held_in(stmt));
         self.fetching = self.fetching && may_precede(stmt);
         Ok(())
     }

@@ -40,6 +40,10 @@ use tree::Expr;
 
 /// The most places of all buffers of a group together.
 const MOST_PLACES: u64 = 1 << 22;
+/// The most symbols of a group.
+const MOST_SYMBOLS: u64 = 256;
+/// The most buffers of a group.
+const MOST_BUFFERS: u64 = 256;
 
 /// The flaw of a line by the lowest code whose test fails: names, forms, the definition, limits.
 pub(crate) fn line_flaw(
@@ -94,7 +98,7 @@ fn loop_flaw(
         Some(Flaw { code: K::K3, line })
     } else if !fits_mark(ground.outlined, symbol, kind, body) {
         Some(Flaw { code: K::K13, line })
-    } else if !(is_listed(&span.lower) && is_listed(&span.upper)) {
+    } else if !(is_listed(&span.lower) && is_listed(&span.upper) && here.bound < MOST_SYMBOLS) {
         Some(Flaw { code: K::K14, line })
     } else {
         None
@@ -107,7 +111,7 @@ fn let_flaw(here: &Here, symbol: Sym, forms: &Forms) -> Option<Flaw>
         (is_new here.now.symbols.items symbol && are_over here.now.symbols.items forms.now)
         (are_within_limits forms.now)
         true
-        (is_listed forms.now)) }
+        (is_listed forms.now && nat_lt here.now.bound 256)) }
 {
     let all = forms.as_slice();
     let named = is_new(&here.symbols, symbol) && are_over(&here.symbols, all);
@@ -116,7 +120,7 @@ fn let_flaw(here: &Here, symbol: Sym, forms: &Forms) -> Option<Flaw>
         named,
         are_within_limits(all),
         true,
-        is_listed(forms),
+        is_listed(forms) && here.bound < MOST_SYMBOLS,
     )
 }
 
@@ -211,11 +215,13 @@ fn alloc_is_named(ground: Ground<'_, '_>, here: &Here, function: &str, places: &
     has_variables(ground.algo, function, places.len()) && places_are_over(&here.symbols, places)
 }
 
-/// Whether all folds are by one or more, and with these the buffers of the group have few places.
+/// Whether all folds are by one or more, with these the buffers of the group have few places, and they are few.
 fn alloc_is_limited(here: &Here, places: &[Places]) -> bool
-    ensures { result ≡ (list_all is_foldable places.now && nat_le (more here.now.used (places_count places.now)) (2 ^ 22)) }
+    ensures { result ≡ (list_all is_foldable places.now && (nat_le (more here.now.used (places_count places.now)) (2 ^ 22) && nat_lt here.now.held 256)) }
 {
-    are_foldable(places) && here.used.saturating_add(places_count(places)) <= MOST_PLACES
+    are_foldable(places)
+        && here.used.saturating_add(places_count(places)) <= MOST_PLACES
+        && here.held < MOST_BUFFERS
 }
 
 /// Whether the buffer and the group of a line `fetch` are known and of one function, and the region is one of it.

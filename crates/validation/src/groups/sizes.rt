@@ -6,7 +6,7 @@ ghost use Rattle.plan.specs.Certificate.Cells.{piece_count};
 ghost use Rattle.plan.specs.Lists.{list_statements};
 ghost use Rattle.plan.specs.Plan.{block};
 ghost use Rattle.plan.specs.View.{statement_of};
-ghost use Rattle.validation.specs.Groups.Sizes.{product, place_count, places_count, allotted, block_allotted, extent_of, cell_count, is_extent};
+ghost use Rattle.validation.specs.Groups.Sizes.{product, place_count, places_count, allotted, block_allotted, bound_in, block_bound_in, held_in, block_held_in, extent_of, cell_count, is_extent};
 ghost use Rattle.validation.specs.Stored.Sizes.{counted};
 
 use crate::groups::ends::{high_end, low_end};
@@ -56,6 +56,59 @@ fn all_allotted(all: &[Stmt]) -> u64
     let mut total: u64 = 0;
     for stmt in all {
         total = total.saturating_add(allotted(stmt));
+    }
+    total
+}
+
+/// How many symbols a statement binds. More than a `u64` holds count as the greatest `u64`.
+#[cycle(bound)]
+pub(crate) fn bound_in(stmt: &Stmt) -> u64
+    ensures { result ≡ bound_in (statement_of stmt.now) }
+{
+    match stmt {
+        Stmt::Seq(all) => all_bound_in(all),
+        Stmt::For { body, .. } => bound_in(body).saturating_add(1),
+        Stmt::Guard { body, .. } => bound_in(body),
+        Stmt::First { first, later, .. } => bound_in(first).saturating_add(bound_in(later)),
+        Stmt::Let { .. } => 1,
+        Stmt::Alloc { .. } | Stmt::Fetch { .. } | Stmt::Store { .. } | Stmt::Publish { .. } => 0,
+    }
+}
+
+/// The same of a block's statements.
+#[cycle(bound)]
+fn all_bound_in(all: &[Stmt]) -> u64
+    ensures { result ≡ block_bound_in (block (list_statements all.now)) }
+{
+    let mut total: u64 = 0;
+    for stmt in all {
+        total = total.saturating_add(bound_in(stmt));
+    }
+    total
+}
+
+/// How many buffers a statement allocates. More than a `u64` holds count as the greatest `u64`.
+#[cycle(held)]
+pub(crate) fn held_in(stmt: &Stmt) -> u64
+    ensures { result ≡ held_in (statement_of stmt.now) }
+{
+    match stmt {
+        Stmt::Seq(all) => all_held_in(all),
+        Stmt::For { body, .. } | Stmt::Guard { body, .. } => held_in(body),
+        Stmt::First { first, later, .. } => held_in(first).saturating_add(held_in(later)),
+        Stmt::Alloc { .. } => 1,
+        Stmt::Let { .. } | Stmt::Fetch { .. } | Stmt::Store { .. } | Stmt::Publish { .. } => 0,
+    }
+}
+
+/// The same of a block's statements.
+#[cycle(held)]
+fn all_held_in(all: &[Stmt]) -> u64
+    ensures { result ≡ block_held_in (block (list_statements all.now)) }
+{
+    let mut total: u64 = 0;
+    for stmt in all {
+        total = total.saturating_add(held_in(stmt));
     }
     total
 }
