@@ -32,3 +32,6 @@ pub mod SlidePlan
 pub mod WorkedPlans
 pub mod OfPlans
 pub mod OfKinds
+pub mod OfTests
+pub mod OfOwed
+pub mod OfAlike

@@ -5,6 +5,9 @@ pub mod Clear
 pub mod Examples
 pub mod Indices
 pub mod Kinds
+pub mod Tests
+pub mod Owed
+pub mod Alike
 pub mod Faults
 pub mod Laws
 pub mod Plain

@@ -50,7 +50,7 @@ pub actions_stay : ActionsStay
 actions_stay setting a s = actions_same setting a s
 
 mutual
-  allocated_same : (a : Statement) (b : ℕ) → allocated a b ≡ allocated (rolled a) b
+  pub allocated_same : (a : Statement) (b : ℕ) → allocated a b ≡ allocated (rolled a) b
   allocated_same (Seq all) b = block_allocated_same all b
   allocated_same (For i x kind body) b = allocated_same body b
   allocated_same (Let i pick forms) b = refl
@@ -66,7 +66,7 @@ mutual
   block_allocated_same (Then a rest) b = λ j. or_else (allocated_same a b j) (block_allocated_same rest b j)
 
 mutual
-  lines_same : (a : Statement) → lines a ≡ lines (rolled a)
+  pub lines_same : (a : Statement) → lines a ≡ lines (rolled a)
   lines_same (Seq all) = block_lines_same all
   lines_same (For i x kind body) = λ j. lines_same body j + 2
   lines_same (Let i pick forms) = refl
@@ -83,20 +83,20 @@ mutual
 
 -- ---- groups
 
-groups_lines_same : (n : ℕ) (gs : List Group) → groups_lines (take n gs) ≡ groups_lines (take n (map group_rolled gs))
+pub groups_lines_same : (n : ℕ) (gs : List Group) → groups_lines (take n gs) ≡ groups_lines (take n (map group_rolled gs))
 groups_lines_same zero gs = refl
 groups_lines_same (suc n) [] = refl
 groups_lines_same (suc n) (g ∷ gs) = λ j. (lines_same g.body j + 1) + groups_lines_same n gs j
 
-all_lines_same : (gs : List Group) → groups_lines gs ≡ groups_lines (map group_rolled gs)
+pub all_lines_same : (gs : List Group) → groups_lines gs ≡ groups_lines (map group_rolled gs)
 all_lines_same [] = refl
 all_lines_same (g ∷ gs) = λ j. (lines_same g.body j + 1) + all_lines_same gs j
 
-cells_same : (k : ℕ) (gs : List Group) → cells_from k gs ≡ cells_from k (map group_rolled gs)
+pub cells_same : (k : ℕ) (gs : List Group) → cells_from k gs ≡ cells_from k (map group_rolled gs)
 cells_same k [] = refl
 cells_same k (g ∷ gs) = λ j. map (cell k) (group_points g) ++ cells_same (k + 1) gs j
 
-pieces_same : (k : ℕ) (gs : List Group) → pieces_from k gs ≡ pieces_from k (map group_rolled gs)
+pub pieces_same : (k : ℕ) (gs : List Group) → pieces_from k gs ≡ pieces_from k (map group_rolled gs)
 pieces_same k [] = refl
 pieces_same k (g ∷ gs) = λ j. map (piece g k) (range_with_len 0 (group_pieces g)) ++ pieces_same (k + 1) gs j
 
@@ -105,7 +105,7 @@ name_same [] n = refl
 name_same (g ∷ gs) zero = refl
 name_same (g ∷ gs) (suc n) = name_same gs n
 
-rolled_at : (gs : List Group) (n : ℕ) (g : Group) → slice_get gs n ≡ Some g → slice_get (map group_rolled gs) n ≡ Some (group_rolled g)
+pub rolled_at : (gs : List Group) (n : ℕ) (g : Group) → slice_get gs n ≡ Some g → slice_get (map group_rolled gs) n ≡ Some (group_rolled g)
 rolled_at [] n g at = absurd (cc at)
 rolled_at (x ∷ xs) zero g at = let same : x ≡ g = cc at in ap (λ (y : Group). Some (group_rolled y)) same
 rolled_at (x ∷ xs) (suc n) g at = rolled_at xs n g at
@@ -115,7 +115,7 @@ some_same g h e = cc e
 
 -- ---- plans
 
-setting_same : (p : Plan) (c : Certificate) (n : ℕ) (g : Group) → setting_of p c n g ≡ setting_of (plan_rolled p) c n (group_rolled g)
+pub setting_same : (p : Plan) (c : Certificate) (n : ℕ) (g : Group) → setting_of p c n g ≡ setting_of (plan_rolled p) c n (group_rolled g)
 setting_same p c n g j = record {
   group_function = λ h. name_same p.groups h j;
   buffer_function = λ b. function_in (allocated_same g.body b j);
