@@ -366,9 +366,9 @@ module _ (a : Algorithm) (p : Plan) (c : Certificate) (g : Group) (outline : Out
   named_same None here b at e = refl
   named_same (Some m) here b at e =
       λ j. has_names m at && (outline.setting.dimensions b == length (function_in m).variables
-          && (list_all (λ x. index_is_over here.symbols x.index) at
-          && (list_all (λ x. index_is_known (is_named at) (λ name n. call_same a p outline here.group (outline.source name) n j) x.index) at
-          && is_known (is_named at) (λ name n. call_same a p outline here.group (outline.source name) n j) e)))
+      && (list_all (λ x. index_is_over here.symbols x.index) at
+      && (list_all (λ x. index_is_known (is_named at) (λ name n. call_same a p outline here.group (outline.source name) n j) x.index) at
+      && is_known (is_named at) (λ name n. call_same a p outline here.group (outline.source name) n j) e)))
 
   definition_same : (o : Option Definition) (at : List Coordinate) (e : Term) → L.definition_is_stored a p c g outline o at e ≡ L.definition_is_stored a there c (group_rolled g) outline o at e
   definition_same None at e = refl
@@ -379,30 +379,30 @@ module _ (a : Algorithm) (p : Plan) (c : Certificate) (g : Group) (outline : Out
     flaws_same (Seq all) here = block_flaws_same all here
     flaws_same (For i x kind body) here =
         λ j. (unless (L.is_new here.symbols i && (are_over here.symbols x.lower && are_over here.symbols x.upper)) 2 here.line
-            ++ (unless (are_within_limits x.lower && are_within_limits x.upper) 3 here.line
-            ++ (unless (fits_same outline.setting.dimensions i kind body j) 13 here.line
-            ++ unless ((is_listed x.lower && is_listed x.upper) && nat_lt here.bound 256) 14 here.line))) ++ flaws_same body (L.in_loop i here) j
+        ++ (unless (are_within_limits x.lower && are_within_limits x.upper) 3 here.line
+        ++ (unless (fits_same outline.setting.dimensions i kind body j) 13 here.line
+        ++ unless ((is_listed x.lower && is_listed x.upper) && nat_lt here.bound 256) 14 here.line))) ++ flaws_same body (L.in_loop i here) j
     flaws_same (Let i pick forms) here = refl
     flaws_same (First i s t) here =
         let second = flaws_same t (L.in_later s here) ∙ (λ j. L.flaws a there c (group_rolled g) outline (rolled t) (later_here s here j)) in
         λ j. L.line_flaws here.line (L.is_one_of here.loops i) true true true ++ (flaws_same s (L.inside here) j ++ second j)
     flaws_same (Guard low high body) here =
         λ j. L.line_flaws here.line (is_over here.symbols low && is_over here.symbols high) (is_within_limits low && is_within_limits high) true true
-            ++ flaws_same body (L.inside here) j
+        ++ flaws_same body (L.inside here) j
     flaws_same (Alloc b f places) here = refl
     flaws_same (Fetch b h region) here =
         λ j. L.line_flaws here.line
-            (list_any (λ x. x == b) here.buffers && (nat_lt h (many_same p.groups j)
-            && (same_name (outline.setting.group_function h) (outline.setting.buffer_function b)
-            && (has_variables (parts_named a (outline.setting.group_function h)) (length region) && spans_are_over here.symbols region))))
-            (spans_are_within_limits region) true (L.fetch_is_taken here region)
+        (list_any (λ x. x == b) here.buffers && (nat_lt h (many_same p.groups j)
+        && (same_name (outline.setting.group_function h) (outline.setting.buffer_function b)
+        && (has_variables (parts_named a (outline.setting.group_function h)) (length region) && spans_are_over here.symbols region))))
+        (spans_are_within_limits region) true (L.fetch_is_taken here region)
     flaws_same (Store b k at e) here =
         let m = definition_in (parts_named a (outline.setting.buffer_function b)) k in
         λ j. L.line_flaws here.line
-            (list_any (λ x. x == b) here.buffers && named_same m here b at e j)
-            (list_all (λ x. index_is_within x.index) at)
-            (not (L.store_is_small a p c g outline at e) || definition_same m at e j)
-            (L.store_is_small a p c g outline at e)
+        (list_any (λ x. x == b) here.buffers && named_same m here b at e j)
+        (list_all (λ x. index_is_within x.index) at)
+        (not (L.store_is_small a p c g outline at e) || definition_same m at e j)
+        (L.store_is_small a p c g outline at e)
     flaws_same (Publish k) here = refl
 
     block_flaws_same : (all : Statements) (here : L.Here) → L.block_flaws a p c g outline all here ≡ L.block_flaws a there c (group_rolled g) outline (block_rolled all) here
@@ -444,19 +444,19 @@ module _ (a : Algorithm) (p : Plan) (c : Certificate) where
   group_same : (line n : ℕ) (g : Group) (cs ps : ℕ) → L.group_flaws a p c line n g cs ps ≡ L.group_flaws a (plan_rolled p) c line n (group_rolled g) cs ps
   group_same line n g cs ps =
       let inner = flaws_same a p c g (outline_of p c n g) g.body (L.start line g)
-          ∙ (λ j. L.flaws a (plan_rolled p) c (group_rolled g) (outline_same p c n g j) (rolled g.body) (start_same line g j)) in
+      ∙ (λ j. L.flaws a (plan_rolled p) c (group_rolled g) (outline_same p c n g j) (rolled g.body) (start_same line g j)) in
       λ j. L.line_flaws line
-          (not (earlier_same g.function n p.groups j) && (has_variables (parts_named a g.function) (length g.region) && spans_are_over [] g.region))
-          (spans_are_within_limits g.region)
-          true
-          (list_all is_extent g.region && (nat_le cs (2 ^ 24) && (nat_le ps (2 ^ 20) && (publishes_same g.body j && nat_le (length g.grid) 256))))
-          ++ inner j
+      (not (earlier_same g.function n p.groups j) && (has_variables (parts_named a g.function) (length g.region) && spans_are_over [] g.region))
+      (spans_are_within_limits g.region)
+      true
+      (list_all is_extent g.region && (nat_le cs (2 ^ 24) && (nat_le ps (2 ^ 20) && (publishes_same g.body j && nat_le (length g.grid) 256))))
+      ++ inner j
 
   groups_same : (gs : List Group) (n cs ps : ℕ) → L.groups_flaws a p c gs n cs ps ≡ L.groups_flaws a (plan_rolled p) c (map group_rolled gs) n cs ps
   groups_same [] n cs ps = refl
   groups_same (g ∷ gs) n cs ps =
       let one = group_same (line_told (group_line p n)) n g (more cs (cell_count g.region)) (more ps (counted (piece_count g.grid)))
-          ∙ (λ j. L.group_flaws a (plan_rolled p) c (line_told (groups_lines_same n p.groups j + 4)) n (group_rolled g) (more cs (cell_count g.region)) (more ps (counted (piece_count g.grid)))) in
+      ∙ (λ j. L.group_flaws a (plan_rolled p) c (line_told (groups_lines_same n p.groups j + 4)) n (group_rolled g) (more cs (cell_count g.region)) (more ps (counted (piece_count g.grid)))) in
       λ j. one j ++ groups_same gs (n + 1) (more cs (cell_count g.region)) (more ps (counted (piece_count g.grid))) j
 
 -- ---- flaws of the certificate
@@ -587,13 +587,13 @@ needed_groups n gs =
 certificate_same : (a : Algorithm) (p : Plan) (c : Certificate) → C.flaws_of_certificate a p c ≡ C.flaws_of_certificate a (plan_rolled p) c
 certificate_same a p c =
     λ j. (unless (C.are_owned c.own (many_same p.groups j)) 10 (cert_line_same p j)
-        ++ (each_line (λ i o. line_flaws (not (C.is_owned (take i c.own) o.group) && at_same (λ (g : Option Group). C.is_region_of g o.region) (λ g. refl) p.groups o.group j)
-            (spans_are_within_limits o.region) (have_ends o.region) (own_line (cert_line_same p j) i)) 0 c.own
-        ++ each_line (λ i n. line_flaws (needed_groups n p.groups j) (spans_are_within_limits n.region) (have_ends n.region) (need_line c (cert_line_same p j) i)) 0 c.needs))
-        ++ (each_line (λ i k. line_flaws (C.is_of_function (N.function_named a.functions k.function) k && claim_at k j)
-            (spans_are_within_limits k.region) (have_ends k.region && nat_lt i 4096) (claim_line c (cert_line_same p j) i)) 0 c.claims
-        ++ each_line (λ i w. window_line_flaws (window_known_same p.groups (slice_get c.claims w.claim) w j) (C.span_is_within_limits w.span)
-            (not (list_any (λ v. v.claim == w.claim) (take i c.windows)) && groups_keep_same (rules_of a p c 0) p c w 0 p.groups j) (C.has_ends w.span) (window_line c (cert_line_same p j) i)) 0 c.windows)
+    ++ (each_line (λ i o. line_flaws (not (C.is_owned (take i c.own) o.group) && at_same (λ (g : Option Group). C.is_region_of g o.region) (λ g. refl) p.groups o.group j)
+    (spans_are_within_limits o.region) (have_ends o.region) (own_line (cert_line_same p j) i)) 0 c.own
+    ++ each_line (λ i n. line_flaws (needed_groups n p.groups j) (spans_are_within_limits n.region) (have_ends n.region) (need_line c (cert_line_same p j) i)) 0 c.needs))
+    ++ (each_line (λ i k. line_flaws (C.is_of_function (N.function_named a.functions k.function) k && claim_at k j)
+    (spans_are_within_limits k.region) (have_ends k.region && nat_lt i 4096) (claim_line c (cert_line_same p j) i)) 0 c.claims
+    ++ each_line (λ i w. window_line_flaws (window_known_same p.groups (slice_get c.claims w.claim) w j) (C.span_is_within_limits w.span)
+    (not (list_any (λ v. v.claim == w.claim) (take i c.windows)) && groups_keep_same (rules_of a p c 0) p c w 0 p.groups j) (C.has_ends w.span) (window_line c (cert_line_same p j) i)) 0 c.windows)
   where
     claim_at : (k : Claim) → C.is_at (P.place_at p.groups k.line) k ≡ C.is_at (P.place_at (map group_rolled p.groups) k.line) k
     claim_at k = is_at_same (P.place_at p.groups k.line) k ∙ ap (λ o. C.is_at o k) (place_same p.groups k.line)
@@ -634,7 +634,7 @@ mutual
   block_fetch_lines_same n ls Empty line = refl
   block_fetch_lines_same n ls (Then a rest) line =
       let later = block_fetch_lines_same n (ls ++ naming a) rest (line + lines a)
-          ∙ (λ j. block_fetch_lines n (ls ++ naming_same a j) (block_rolled rest) (line + lines_same a j)) in
+      ∙ (λ j. block_fetch_lines n (ls ++ naming_same a j) (block_rolled rest) (line + lines_same a j)) in
       λ j. fetch_lines_same n ls a line j ++ later j
 
 fetch_from_same : (p : Plan) (n : ℕ) (gs : List Group) → fetch_lines_from p n gs ≡ fetch_lines_from (plan_rolled p) n (map group_rolled gs)
@@ -773,10 +773,10 @@ module _ (a : Algorithm) (p : Plan) (c : Certificate) where
   shown_same : (n : ℕ) (g : Group) →
       all_shown (rules_of a p c n) (slid_nests (outline_of p c n g) (rules_of a p c n) (domains_of a)) (obligations (outline_of p c n g) (rules_of a p c n) g.body (body_line p n) (start (grid_binders g.grid)))
       ≡ all_shown (rules_of a (plan_rolled p) c n) (slid_nests (outline_of (plan_rolled p) c n (group_rolled g)) (rules_of a (plan_rolled p) c n) (domains_of a))
-          (obligations (outline_of (plan_rolled p) c n (group_rolled g)) (rules_of a (plan_rolled p) c n) (rolled g.body) (body_line (plan_rolled p) n) (start (grid_binders g.grid)))
+      (obligations (outline_of (plan_rolled p) c n (group_rolled g)) (rules_of a (plan_rolled p) c n) (rolled g.body) (body_line (plan_rolled p) n) (start (grid_binders g.grid)))
   shown_same n g =
       (λ j. all_shown (rules_same n j) (slid_nests (outline_same p c n g j) (rules_same n j) (domains_of a))
-          (obligations (outline_same p c n g j) (rules_same n j) g.body ((groups_lines_same n p.groups j + 4) + 1) (start (grid_binders g.grid))))
+      (obligations (outline_same p c n g j) (rules_same n j) g.body ((groups_lines_same n p.groups j + 4) + 1) (start (grid_binders g.grid))))
       ∙ shown_stays (outline_of (plan_rolled p) c n (group_rolled g)) (rules_of a (plan_rolled p) c n) (domains_of a) g.body (body_line (plan_rolled p) n) (start (grid_binders g.grid))
 
 -- ---- the yes
