@@ -1,0 +1,14 @@
+//! What no command of the program shows of a crew: what a gate hears of its pieces, workers that wait at a gate, and single
+//! pieces by seats of the caller, run as tests. The crate holds tests alone.
+#![tactic(auto)]
+
+#[cfg(test)]
+mod chain_tests;
+#[cfg(test)]
+mod example_tests;
+#[cfg(test)]
+mod gate_tests;
+#[cfg(test)]
+mod seat_tests;
+#[cfg(test)]
+mod watching_tests;
