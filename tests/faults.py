@@ -52,6 +52,15 @@ EXAMPLE_FILES = {
     "blur3": ("blur3.alg", "blur3.plan", "shapes.pgm", "blur3-tiles.sched"),
 }
 
+# Examples of which only `FEW` commands are tried.
+MORE_FILES = {
+    "inc": ("inc.alg", "inc.plan", "inc.pgm", None),
+    "near": ("near.alg", "near.plan", "near.pgm", None),
+    "tri-shift": ("tri.alg", "tri-shift.plan", "tri.pgm", "tri-shift.sched"),
+    "tri-roundup": ("tri.alg", "tri-roundup.plan", "tri.pgm", "tri-roundup.sched"),
+    "tri-outside": ("tri.alg", "tri-outside.plan", "tri.pgm", "tri-outside.sched"),
+}
+
 # The case of which each growth that is refused by itself, and each file that can't be opened, is always tried.
 ALWAYS = "scan: plain A I out"
 
@@ -60,13 +69,20 @@ GIVEN = b"P5 2 10 255\n@ABCDEFGHIJKLMNOPQRS"
 ROW = b"P5\n4 1\n255\n\x0d\x14\x1e\x24"
 COPY = b"pipeline copy; input in u8 [4, 1]; func out u8 (x, y) = in[x, y]; output out [4, 1];"
 
-# What each command is given; of `A`, `P`, `I` and `S` there are files, `cut` is a plan and `bad` a schedule that is refused, and `out` is written.
+# What each command is given; of `A`, `P`, `I` and `S` there are files, `T` is a schedule without a word, `cut` is a plan and `bad` a
+# schedule that is refused, and `out` is written.
 COMMANDS = (
     "compile A S out", "check A P", "run A P I out", "run A P I out --workers 3", "run A P I out --workers 64", "replay A P I order",
     "plain A I out", "compare A I S", "compare A I S --by-first", "cost A P", "show A P", "draw A P out", "format A out",
     "crop A 0 0 1 1 out", "tiles A 8 1 .", "check A cut --explain", "check A P --explain",
     "compile A bad out --explain", "run A cut I out --explain",
+    "draw A P out --order order", "run A P I out --at-most 1000000", "plain A I out --at-most 1000000", "compare A I S T",
+    "check A cut", "compile A bad out", "run A cut I out",
+    "run A P I out --explain", "run A P I out --workers 3 --explain", "replay A P I order --explain", "plain A I out --explain",
+    "compare A I S --explain", "cost A cut --explain", "show A cut --explain", "draw A cut out --explain",
 )
+
+FEW = ("compile A S out", "check A P", "run A P I out", "run A P I out --workers 3", "replay A P I order", "plain A I out", "compare A I S")
 
 
 @dataclass
@@ -110,10 +126,10 @@ class Given:
 def cases():
     """Each command on each example, and the program without words."""
     found = []
-    for name, (algorithm, plan, image, schedule) in EXAMPLE_FILES.items():
+    for name, (algorithm, plan, image, schedule) in (EXAMPLE_FILES | MORE_FILES).items():
         files = {"A": (EXAMPLES / algorithm).read_bytes(), "P": (EXAMPLES / plan).read_bytes(), "I": (EXAMPLES / image).read_bytes()}
-        files |= {"S": (EXAMPLES / schedule).read_bytes() if schedule else b"", "order": b"0 1 0 2 " * 40, "cut": files["P"][:-5], "bad": b"none.parallel(x);"}
-        for command in COMMANDS:
+        files |= {"S": (EXAMPLES / schedule).read_bytes() if schedule else b"", "T": b"", "order": b"0 1 0 2 " * 40, "cut": files["P"][:-5], "bad": b"none.parallel(x);"}
+        for command in COMMANDS if name in EXAMPLE_FILES else FEW:
             words = command.split()
             given = {word: files[word] for word in words if word in files}
             found.append(Case(f"{name}: {command}", words, given | ({"out": OLD} if "out" in words else {})))
