@@ -17,7 +17,7 @@ out/stencil: $(SOURCES)
 # A first picture: compiles a schedule of the shipped 3x3 blur to a plan, checks the plan and runs it. This builds the program
 # without its proofs, with checks while it runs instead; `make` proves it. Where the proved program stands already, that one runs.
 run: out/blur3.pgm
-	@echo "the picture is in out/blur3.pgm, the plan in out/blur3.plan"
+	@echo "the picture before is examples/shapes.pgm, after out/blur3.pgm; the plan is out/blur3.plan"
 
 FIRST := compile $(CURDIR)/examples/blur3.alg $(CURDIR)/examples/blur3-tiles.sched $(CURDIR)/out/blur3.plan
 SECOND := check $(CURDIR)/examples/blur3.alg $(CURDIR)/out/blur3.plan
