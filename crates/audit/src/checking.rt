@@ -38,7 +38,7 @@ use std::thread::Threads;
 /// that is told: `K1` at line 1, 2 or 3. Else of all that is wrong the first is told, in the order of the lines, and at one
 /// line the lowest code:
 /// - at the lines of groups: names, limits and stored expressions (`K2`, `K3`, `K12`, `K14`), what loops, stores, fetches
-///   and `publish` owe (`K2`, `K4`, `K5`, `K7`), and in each group the first number not shown to be small (`K14`);
+///   and `publish` owe (`K2`, `K4`, `K5`, `K7`, `K12`), and in each group the first number not shown to be small (`K14`);
 /// - at the lines of own and needed regions: names and limits (`K2`, `K3`, `K14`, and `K10` at `cert`), how the pieces share
 ///   the cells (`K9`, `K10`, `K11`, `K14`), and whether the output's group has each point of the output (`K10`);
 /// - at the lines of claims and windows: names and limits (`K2`, `K3`, `K14`, `K8`), claims that their statements are not

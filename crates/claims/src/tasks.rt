@@ -57,7 +57,8 @@ fn told_by_tasks<R: Threads + Sync>(
 
 /// The first obligation of the lines of a plan's groups that is not shown, by its code and line, if there is one: it is the
 /// first in the order of the lines, and of those at one line that of the lowest code. The codes are `K2` for a symbol that
-/// stands twice or a buffer that is allocated twice, and `K4`, `K5`, `K6`, `K7` and `K8`.
+/// stands twice or a buffer that is allocated twice, `K4`, `K5`, `K6`, `K7` and `K8`, and `K12` for a call that an update makes of
+/// its own function at a point that its step does not meet.
 ///
 /// The lines and the claims of each group are asked for side by side, in as many threads as there are processors. Where a
 /// group has a flaw, it is asked again, about as often as its line's number has binary digits.
