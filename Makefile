@@ -59,12 +59,13 @@ test:
 faults: out/stencil
 	python3 tests/hostile.py out/stencil --all
 	python3 tests/faults.py out/stencil --all
+	python3 tests/faults.py out/stencil late
 
-# The applications of examples/gallery at their main size: every schedule's picture by one worker and by three, and how long it takes
-# to compile. Then the page docs/GALLERY.md and its pictures are written anew from what the program gives.
+# Writes the page docs/GALLERY.md and its pictures anew from what the program gives. Then the applications of examples/gallery at
+# their main size: every schedule's picture by one worker and by three, and how long it takes to compile and to check.
 gallery: out/stencil
-	python3 tests/gallery.py out/stencil --all
 	python3 bench/gallery.py out/stencil
+	python3 tests/gallery.py out/stencil --all
 
 # How long the proved program takes for `check` and `run` of plans with a piece a row, and for `plain`; and for `check` of plans
 # that are long, or have many pieces or cells; and for `run` of one plan by 1, 2, 4 and 64 workers; and how long `compile` takes for

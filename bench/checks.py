@@ -1,5 +1,5 @@
 #!/usr/bin/env python3
-"""Measures `check` of plans that are long, have many pieces or cells, or ask much of bounds: seconds and peak memory.
+"""Measures `check` of plans that are long, have many pieces or cells, ask much of bounds or need much: seconds and peak memory.
 
 usage: checks.py PROGRAM
 """
@@ -56,6 +56,24 @@ def empty_loops(count):
     return ALGORITHM, text.format(w=2, h=10, a=count + 1, b=count + 2, line=10 + 2 * count), 2, 10
 
 
+def many_needs(count, region):
+    """A group of 1024 x 1023 pieces with `count` need lines, each of which names some of the 16 pieces of another group."""
+    algorithm = (
+        "pipeline many; input in u8 [16]; func f u8 (x) = in[x] + 1u8; func out u8 (x, y) = f[0]; output out [{w}, {h}];"
+    )
+    needs = "".join(f"need 1 0 [{region(i)}]\n" for i in range(count))
+    text = (
+        "plan 1 many\ninput in u8 [16]\noutput out u8 [{w},{h}]\ngroup 0 f [0:15] grid 16\nalloc b0 f [0+1*s0#1]\n"
+        "for s1 0+1*s0:0+1*s0 serial\nstore b0 0 x=0+1*s1 (in[x]+1u8)\nend\npublish @0\n"
+        "group 1 out [0:{r};0:{b}] grid {w} {h}\nalloc b0 f [0#1]\nalloc b1 out [0+1*s0#1;0+1*s1#1]\nfetch b0 0 [0:0]\n"
+        "for s2 0+1*s1:0+1*s1 serial\nfor s3 0+1*s0:0+1*s0 serial\nstore b1 0 x=0+1*s3 y=0+1*s2 @1[0]\nend\nend\n"
+        "publish @2\ncert\nown 0 [0+1*s0:0+1*s0]\nown 1 [0+1*s0:0+1*s0;0+1*s1:0+1*s1]\n{needs}"
+        "claim 0 8 b0 f 0 [0+1*s0:0+1*s0]\nclaim 1 13 b0 f 0 [0:0]\n"
+        "claim 2 18 b1 out 0 [0+1*s0:0+1*s0;0+1*s1:0+1*s1]\nend\n"
+    )
+    return algorithm, text.format(w=1024, h=1023, r=1023, b=1022, needs=needs), 1024, 1023
+
+
 PLANS = {
     "2,000 flat stores": lambda: flat_stores(2000),
     "65,000 flat stores": lambda: flat_stores(65000),
@@ -63,6 +81,7 @@ PLANS = {
     "2^20 pieces of a cell": lambda: pieces(1024, 1024),
     "2^24 cells in 4096 pieces": lambda: rows_of(4096),
     "200 nested empty loops": lambda: empty_loops(200),
+    "65,500 need lines and 2^20 pieces": lambda: many_needs(65500, lambda i: f"0:{i % 16}"),
 }
 
 

@@ -3,21 +3,24 @@
 
 usage: gallery.py PROGRAM [--compare]
 
-The pictures are what the program writes at 320 by 240, of the scene that scene.py makes; the costs are those that it counts. With
-`--compare` nothing is written: it is told what on the page, or in a picture, is not what the program gives now.
+The pictures are what the program writes at 320 by 240, of the scene that scene.py makes; the costs are those that it counts, and
+the times are the best of three whole processes. With `--compare` nothing is written: it is told what on the page, but for times,
+or in a picture, is not what the program gives now.
 """
 
 import re
 import subprocess
 import sys
 import tempfile
+from dataclasses import dataclass
 from pathlib import Path
 
 ROOT = Path(__file__).resolve().parent.parent
-sys.path[:0] = [str(ROOT / "tests"), str(ROOT / "examples" / "gallery")]
+sys.path[:0] = [str(ROOT / folder) for folder in ("tests", "bench", "examples/gallery")]
 
 import png  # noqa: E402
 from gallery import MAIN, applications, kind_of, write  # noqa: E402
+from halide import machine, number, own_figures  # noqa: E402
 from size import sized  # noqa: E402
 
 PAGE = ROOT / "docs" / "GALLERY.md"
@@ -31,20 +34,32 @@ ORDER = ["photo", "shading", "median", "bilateral", "unsharp", "local", "equalis
 # Parts of a picture of 320 by 240: the first one of which both pictures stay below LARGEST is shown.
 PARTS = [(0, 0, 320, 240), (40, 60, 240, 160), (60, 80, 200, 130), (70, 90, 180, 110), (80, 90, 150, 100)]
 
+# So many runs of a schedule are measured; the columns of times, and where they stand on a line of the page.
+REPEATS = 3
+TIMES = ["compile", "check", "run 1", "run 4", "MiB"]
+TIMED = re.compile(r"^(\| `\w+` \|(?: [\d,]+ \|){5}).*$|^Times are .*$", re.MULTILINE)
+
 HEAD = """# The gallery
 
 Fifteen applications stand in `examples/gallery/`, each with an algorithm, schedules as one would write them for Halide, and a \
 README. Texts have `@W@` and `@H@` where a size stands; `size.py` fills them in, and `bench/scene.py` makes the pictures:
 
-    python3 bench/scene.py grey 320 240 in.pgm
-    python3 examples/gallery/size.py examples/gallery/canny/canny.alg 320 240 canny.alg
-    stencil compile canny.alg examples/gallery/canny/canny-slide.sched canny.plan
-    stencil run canny.alg canny.plan in.pgm edges.pgm --workers 4
+```console
+$ python3 bench/scene.py grey 320 240 in.pgm
+$ python3 examples/gallery/size.py examples/gallery/canny/canny.alg 320 240 canny.alg
+$ stencil compile canny.alg examples/gallery/canny/canny-slide.sched canny.plan
+$ stencil run canny.alg canny.plan in.pgm edges.pgm --workers 4
+$ stencil compare canny.alg in.pgm examples/gallery/canny/canny-slide.sched examples/gallery/canny/canny-tiles.sched --by-first
+%s```
 
 This page is written by `make gallery`, from what the program gives. Costs are counted at 320 by 240: an application's table has \
 for each schedule the sums of the columns that `stencil cost` prints, and under it stands each schedule with all of what it \
-prints. What bounds can't see, and so makes a piece fetch or compute more than it needs, stands in \
-[SCHEDULES.md](SCHEDULES.md#what-the-bounds-cant-see).
+prints, and last one that is refused, with what `--explain` tells of it. What bounds can't see, and so makes a piece fetch or \
+compute more than it needs, stands in [SCHEDULES.md](SCHEDULES.md#what-the-bounds-cant-see).
+
+Times are milliseconds of whole processes, files and the plan's check included, the best of %s: of `compile`, of `check`, and of \
+`run` by one worker and by four; `MiB` is the greatest peak of resident memory of them. Measured on %s. Halide's times for the \
+same schedules, measured in one run with the program's, stand in [SPEED.md](SPEED.md#beside-halide).
 """
 
 
@@ -56,12 +71,45 @@ def run(program, folder, *words):
     return done.stdout
 
 
-def cost_of(program, application, name, folder):
-    """The table of what a schedule costs, as the program prints it, and how many lines its plan has."""
+@dataclass
+class Figures:
+    """What is told of a schedule: the table of what it costs, how many lines its plan has, and its times by their columns."""
+
+    table: str
+    lines: int
+    times: dict
+
+
+def figures_of(program, application, name, folder, is_timed):
+    """The figures of a schedule; without times where they aren't asked for."""
     Path(folder, f"{name}.sched").write_text(sized(application.schedules[name], *MAIN))
     run(program, folder, "compile", "a.alg", f"{name}.sched", f"{name}.plan")
     lines = len(Path(folder, f"{name}.plan").read_text().splitlines())
-    return run(program, folder, "cost", "a.alg", f"{name}.plan"), lines
+    times = own_figures(program, folder, name, REPEATS) if is_timed else {}
+    return Figures(run(program, folder, "cost", "a.alg", f"{name}.plan"), lines, times)
+
+
+def told_of(program, application, folder):
+    """What the program tells with `--explain` of the schedule that an application keeps to show a refusal."""
+    text = f"{application.name}.alg"
+    Path(folder, text).write_text(sized(application.text, *MAIN))
+    Path(folder, "refused.sched").write_text(sized(application.refused, *MAIN))
+    words = [program, "compile", text, "refused.sched", "refused.plan", "--explain"]
+    return subprocess.run(words, cwd=folder, capture_output=True, text=True, timeout=3600).stderr
+
+
+def compared_by_first(program):
+    """What the last command of the page's first block prints."""
+    with tempfile.TemporaryDirectory() as folder:
+        for name in ("bench", "examples"):
+            Path(folder, name).symlink_to(ROOT / name)
+        for line in HEAD.split("```console\n")[1].splitlines():
+            if line.startswith("$ "):
+                words = [program if word == "stencil" else word for word in line[2:].split()]
+                done = subprocess.run(words, cwd=folder, capture_output=True, text=True, timeout=3600)
+                if done.returncode != 0:
+                    raise SystemExit(f"{line}: {done.stderr.strip()}")
+    return done.stdout
 
 
 def picture_of(program, application, folder):
@@ -108,38 +156,50 @@ def readme_of(application):
     return heading.lstrip("# "), rest.strip()
 
 
-def section(application, before, costs):
+def folded(name, schedule, told):
+    """A schedule with what is told of it, to be unfolded."""
+    return ["", "<details>", f"<summary><code>{name}.sched</code></summary>", "", "```", schedule.strip(), "```", "", "```text",
+            told.rstrip("\n"), "```", "", "</details>"]
+
+
+def section(application, before, found, refusal):
     """The part of the page about an application."""
     heading, text = readme_of(application)
+    columns = ["Schedule", "Stores", "Private", "Fetched", "Pieces", "Lines of the plan", *TIMES]
     lines = [f"## {heading}", "", text.replace("\n", "\n\n", 1).replace("\n- ", "\n\n- ", 1).replace("\nLook at", "\n\nLook at")
              .replace("\nRefused", "\n\nRefused"), "", f"![before](gallery/{before}.png) ![after](gallery/{application.name}.png)", "",
-             "| Schedule | Stores | Private | Fetched | Pieces | Lines of the plan |", "|---|---|---|---|---|---|"]
-    for name, (table, length) in costs.items():
-        lines.append(f"| `{name}` | " + " | ".join(f"{one:,}" for one in sums(table)) + f" | {length} |")
-    for name, (table, _) in costs.items():
-        lines += ["", "<details>", f"<summary><code>{application.name}-{name}.sched</code></summary>", "", "```",
-                  application.schedules[name].strip(), "```", "", "```text", table.rstrip("\n"), "```", "", "</details>"]
-    return "\n".join(lines) + "\n"
+             "| " + " | ".join(columns) + " |", "|" + "---|" * len(columns)]
+    for name, one in found.items():
+        costs = [f"{count:,}" for count in sums(one.table)]
+        lines.append("| " + " | ".join([f"`{name}`", *costs, str(one.lines), *(number(one.times.get(key)) for key in TIMES)]) + " |")
+    for name, one in found.items():
+        lines += folded(f"{application.name}-{name}", application.schedules[name], one.table)
+    return "\n".join(lines + folded(f"{application.name}-refused", application.refused, refusal)) + "\n"
 
 
-def made(program):
+def made(program, is_timed):
     """The page's text, and the files of its pictures by their names."""
     found = {one.name: one for one in applications(ORDER)}
-    parts, pictures = [HEAD], {}
+    parts, pictures = [HEAD % (compared_by_first(program), REPEATS, machine())], {}
     for name in ORDER:
         application = found[name]
         with tempfile.TemporaryDirectory() as folder:
             write(folder, application, MAIN, False)
             both = pair(name, kind_of(application.text, False), Path(folder, "in"), picture_of(program, application, folder))
             pictures.update(both)
-            costs = {one: cost_of(program, application, one, folder) for one in application.schedules}
-        parts.append(section(application, next(iter(both)), costs))
+            figures = {one: figures_of(program, application, one, folder, is_timed) for one in application.schedules}
+            parts.append(section(application, next(iter(both)), figures, told_of(program, application, folder)))
     return "\n".join(parts), pictures
+
+
+def without_times(page):
+    """A page without what is another at each run."""
+    return TIMED.sub(lambda found: found[1] or "", page)
 
 
 def differences(page, pictures):
     """What of the page and its pictures stands otherwise in docs."""
-    wrong = [] if PAGE.exists() and PAGE.read_text() == page else [f"{PAGE}: another text"]
+    wrong = [] if PAGE.exists() and without_times(PAGE.read_text()) == without_times(page) else [f"{PAGE}: another text"]
     for name, data in pictures.items():
         path = PICTURES / f"{name}.png"
         if not path.exists() or png.pixels(path.read_bytes()) != png.pixels(data):
@@ -150,7 +210,7 @@ def differences(page, pictures):
 def main():
     if len(sys.argv) < 2 or sys.argv[2:] not in ([], ["--compare"]):
         sys.exit(__doc__.splitlines()[2])
-    page, pictures = made(str(Path(sys.argv[1]).resolve()))
+    page, pictures = made(str(Path(sys.argv[1]).resolve()), not sys.argv[2:])
     if sys.argv[2:]:
         wrong = differences(page, pictures)
         for line in wrong:

@@ -108,7 +108,7 @@ def by_halide(python, folder, name, threads, words):
 
 
 def own_figures(program, folder, name, repeats):
-    """The program's milliseconds by command, and the memory that `run` by four workers takes."""
+    """The program's milliseconds by command, and the greatest peak of memory of these."""
     run = [program, "run", "a.alg", f"{name}.plan", "in", "own.out", "--workers"]
     commands = {
         "compile": [program, "compile", "a.alg", f"{name}.sched", "own.plan"],
@@ -120,7 +120,7 @@ def own_figures(program, folder, name, repeats):
     for what, words in commands.items():
         runs = [measured(words, folder) for _ in range(repeats)]
         figures[what] = min(seconds for seconds, _ in runs) * 1000
-        figures["MiB"] = max(memory for _, memory in runs)
+        figures["MiB"] = max(figures.get("MiB", 0), *(memory for _, memory in runs))
     return figures
 
 

@@ -3,14 +3,15 @@
 
     python3 tests/gallery.py PROGRAM [--all] [NAME..]
 
-At a tiny size the picture of each schedule, by one worker and by three, is the one that `plain` gives. At sizes 1x1, 2x3, 7x5 and
-13x11 each schedule gives the picture of the breadth-first one, or is refused by the code that REFUSED names, and no other. Where
-gallery_models.py has a model of an application, the pictures of all these sizes are the model's too, and all of them are those of
-gallery_reference.py, which reads the text by itself. The schedule that an application keeps to show a refusal is refused as its
-first line says.
+At a tiny size the picture of each schedule, by one worker and by three, is the one that `plain` gives. At sizes 1x1, 2x3, 7x5, 13x11
+and 67x53, which cuts the blocks of most schedules, each schedule gives the picture of the breadth-first one, or is refused by the
+code that REFUSED names, and no other. Where gallery_models.py has a model of an application, the pictures of all these sizes are the
+model's too, and all of them are those of gallery_reference.py, which reads the text by itself. The schedule that an application
+keeps to show a refusal is refused as its first line says. What `--explain` tells of it stands in docs/GALLERY.md; L11 is told soon,
+with `--all` within a tenth of a second.
 
-With `--all` each schedule is compiled at the main size, within a second and 200 MB, and its picture is that of the breadth-first
-one by one worker and by three, the reference's and the model's. It ends with `N passed, M failed`.
+With `--all` each schedule is compiled and its plan checked at the main size, both within a second and 200 MB, and its picture is
+that of the breadth-first one by one worker and by three, the reference's and the model's. It ends with `N passed, M failed`.
 """
 
 import argparse
@@ -19,13 +20,13 @@ import re
 import subprocess
 import sys
 import tempfile
-import time
 from concurrent.futures import ThreadPoolExecutor
 from dataclasses import dataclass
 from pathlib import Path
 
 ROOT = Path(__file__).resolve().parent.parent
 GALLERY = ROOT / "examples" / "gallery"
+PAGE = ROOT / "docs" / "GALLERY.md"
 sys.path[:0] = [str(ROOT / "bench"), str(GALLERY)]
 
 import gallery_reference  # noqa: E402
@@ -35,17 +36,27 @@ from scene import scene  # noqa: E402
 from size import sized  # noqa: E402
 
 MAIN = (320, 240)
-SIZES = [(1, 1), (2, 3), (7, 5), (13, 11)]
+SIZES = [(1, 1), (2, 3), (7, 5), (13, 11), (67, 53)]
+
+# Further sizes of an application: at these, too, a mosaic lacks a colour.
+FURTHER = {"photo": [(1, 3), (3, 1)]}
+
+# So many seconds compiling may take, and checking, and so many MiB.
+SECONDS, MEMORY = 1, 200
+# So many seconds until L11 is told: where much else runs beside it, and alone.
+TELLING, TELLING_ALONE = 2, 0.1
 
 # A size at which `plain` is done soon. What it costs grows with the calls that a call leads to.
 TINY = {"photo": (3, 2), "canny": (3, 2), "local": (3, 3), "chain": (4, 3), "box": (9, 7), "reduce": (15, 10), "median": (6, 5),
         "dither": (4, 3)}
 
-# So many of a chain's steps are compared with `plain`, which needs five times as long for each further one.
+# So many of a chain's steps are compared with `plain`, which needs five times as long for each further one. Where every eighth step
+# is stored, these are the last three of two eights.
 STEPS = 6
+EIGHTHS = {0: 0, 6: 1, 7: 2, 8: 3, 14: 4, 15: 5, 16: 6}
 
-# By which code an application is refused at a size that is too small for it: a mosaic of one pixel has no green and no blue.
-REFUSED = {("photo", (1, 1)): "L12"}
+# By which code an application is refused at a size that is too small for it: a mosaic of one row or column lacks a colour.
+REFUSED = {("photo", (1, 1)): "L12", ("photo", (1, 3)): "L12", ("photo", (3, 1)): "L12"}
 
 
 @dataclass
@@ -92,13 +103,15 @@ def shortened(application):
     if application.name != "chain":
         return application
 
-    def cut(text):
-        kept = [line for line in text.splitlines() if not re.match(r"(?:func )?b(\d+)\b", line)
-                or int(re.match(r"(?:func )?b(\d+)\b", line)[1]) <= STEPS]
-        return "\n".join(kept).replace("b32[", f"b{STEPS}[").replace("(b8,", "(out,") + "\n"
+    def cut(text, steps):
+        """The lines of these steps alone, with their new numbers; the output reads the last one."""
+        kept = [line for line in text.splitlines()
+                if not (found := re.match(r"(?:func )?b(\d+)\b", line)) or int(found[1]) in steps]
+        return re.sub(r"\bb(\d+)\b", lambda one: f"b{steps.get(int(one[1]), STEPS)}", "\n".join(kept)) + "\n"
 
-    schedules = {name: cut(text) for name, text in application.schedules.items() if "(b8," not in text}
-    return Application(application.name, cut(application.text), schedules, "")
+    firsts = {number: number for number in range(STEPS + 1)}
+    schedules = {name: cut(text, EIGHTHS if "(b8," in text else firsts) for name, text in application.schedules.items()}
+    return Application(application.name, cut(application.text, firsts), schedules, "")
 
 
 # ---- runs ----
@@ -198,15 +211,22 @@ def odd_size(program, application, size):
     return outcomes
 
 
-def refusal(program, application):
-    """Whether the application's refused schedule is refused at the main size as its first line says."""
+def refusal(program, application, telling):
+    """Whether the application's refused schedule is refused at the main size as its first line says, and told as on the page."""
     with tempfile.TemporaryDirectory() as folder:
-        Path(folder, "a.alg").write_text(sized(application.text, *MAIN))
+        text = f"{application.name}.alg"
+        Path(folder, text).write_text(sized(application.text, *MAIN))
         Path(folder, "a.sched").write_text(sized(application.refused, *MAIN))
-        done = run(program, folder, "compile", "a.alg", "a.sched", "a.plan")
-        wanted = "stencil: " + application.refused.splitlines()[0].removeprefix("# Refused: ")
-        line = done.stderr.decode(errors="replace").strip()
-        return Outcome(f"{application.name} refused", "" if line == wanted else f"{line or 'compiled'} where {wanted} is due")
+        told = run(program, folder, "compile", text, "a.sched", "a.plan", "--explain").stderr.decode(errors="replace")
+        seconds = min(measured([program, "compile", text, "a.sched", "a.plan"], folder)[0] for _ in range(3))
+    wanted = "stencil: " + application.refused.splitlines()[0].removeprefix("# Refused: ")
+    line = told.split("\n", 1)[0]
+    wrong = "" if line == wanted else f"{line or 'compiled'} where {wanted} is due"
+    if not wrong and f"```text\n{told}```\n" not in PAGE.read_text():
+        wrong = f"told otherwise than in {PAGE.name}:\n{told}"
+    if not wrong and " L11 " in line and seconds >= telling:
+        wrong = f"told in {seconds:.2f} s"
+    return Outcome(f"{application.name} refused", wrong)
 
 
 # What a small process tells of a run: a process counts, until it becomes the program, what its parent holds.
@@ -237,9 +257,10 @@ def main_size(program, application):
                 wrong = f"refused: {code}"
             if not wrong and picture != first:
                 wrong = "another picture than the breadth-first one"
-            seconds, memory = measured([program, "compile", "a.alg", f"{name}.sched", "again.plan"], folder)
-            if not wrong and (seconds >= 1 or memory >= 200):
-                wrong = f"compiled in {seconds:.2f} s, {memory:.0f} MiB"
+            for words in (["compile", "a.alg", f"{name}.sched", "again.plan"], ["check", "a.alg", f"{name}.plan"]):
+                seconds, memory = measured([program, *words], folder)
+                if not wrong and (seconds >= SECONDS or memory >= MEMORY):
+                    wrong = f"{words[0]}: {seconds:.2f} s, {memory:.0f} MiB"
             outcomes.append(Outcome(f"{application.name} {name} {MAIN}", wrong))
         if first is not None:
             outcomes += compared(application, MAIN, folder, first)
@@ -257,10 +278,12 @@ def main():
     with ThreadPoolExecutor(os.cpu_count()) as pool:
         for application in applications(given.names):
             jobs.append(pool.submit(tiny, program, application))
-            jobs += [pool.submit(odd_size, program, application, size) for size in SIZES]
-        refusals = list(pool.map(lambda one: refusal(program, one), applications(given.names)))
-        outcomes = [one for job in jobs for one in job.result()] + refusals
+            jobs += [pool.submit(odd_size, program, application, size) for size in SIZES + FURTHER.get(application.name, [])]
+        if not given.all:
+            jobs += [pool.submit(lambda one: [refusal(program, one, TELLING)], one) for one in applications(given.names)]
+        outcomes = [one for job in jobs for one in job.result()]
     if given.all:
+        outcomes += [refusal(program, one, TELLING_ALONE) for one in applications(given.names)]
         for application in applications(given.names):
             outcomes += main_size(program, application)
     for one in outcomes:

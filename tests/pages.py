@@ -5,7 +5,7 @@
 
 A block ```console of a page is run, and so is an indented one that begins with a command: a line that begins with `$ ` is a
 command, and the lines behind it, up to the next one, are what it prints. The blocks of a page run one after another in a
-folder of their own, in which `examples` lies. Without names the pages are README.md and those of docs, and what `explain`
+folder of their own, in which `examples` and `bench` lie. Without names the pages are README.md and those of docs, and what `explain`
 prints is compared with the page of codes.
 """
 
@@ -44,7 +44,8 @@ def run_page(program, page):
     """What differs on a page, and how many commands it has."""
     count, wrong = 0, []
     with tempfile.TemporaryDirectory() as folder:
-        shutil.copytree(ROOT / "examples", Path(folder, "examples"))
+        for name in ("examples", "bench"):
+            shutil.copytree(ROOT / name, Path(folder, name))
         Path(folder, "bin").mkdir()
         Path(folder, "bin", "stencil").symlink_to(program)
         surroundings = {**os.environ, "PATH": f"{folder}/bin:{os.environ['PATH']}"}

@@ -11,4 +11,6 @@ mod gate_tests;
 #[cfg(test)]
 mod seat_tests;
 #[cfg(test)]
+mod thread_tests;
+#[cfg(test)]
 mod watching_tests;

@@ -1,5 +1,5 @@
 -- The output's group, and the lists of pieces.
-use Rattle.std.proofs.Common.{◌≡◌, ℕ, zero, suc, ◌-◌, ◌^◌, min, List, [], ◌∷◌, get_or, Some, true, inr, ap, refl, sym, subst, ◌∙◌}
+use Rattle.std.proofs.Common.{◌≡◌, ℕ, zero, suc, ◌-◌, ◌^◌, min, List, [], ◌∷◌, get_or, Some, true, ap, refl, sym, subst, ◌∙◌}
 use Rattle.std.specs.Prelude.{map, slice_get, ℤ}
 use Rattle.meaning.specs.Image.Raster.{is_within}
 use Rattle.meaning.specs.Algorithm.{Algorithm}
@@ -20,7 +20,8 @@ use Rattle.shares.specs.Made as shares
 use Rattle.shares.specs.Made.{own_place}
 use Rattle.checked_plan.specs.Lists as checked
 use Rattle.audit.specs.Verdict.Shown.Wide.{HasOutput}
-use Rattle.audit.specs.Stand.{IsFlaw, IsGroupOf}
+use Rattle.audit.specs.Refused.{IsLacking}
+use Rattle.audit.specs.Stand.{IsGroupOf}
 
 -- a point of the group's region is a cell, and the other way round
 module _ (p : Plan) (n : ℕ) (g : Group) (at : slice_get p.groups n ≡ Some g) where
@@ -34,9 +35,9 @@ module _ (p : Plan) (n : ℕ) (g : Group) (at : slice_get p.groups n ≡ Some g)
     pub output_there : Inside → HasOutput a p
     output_there inside = record { number = n; group = g; stands = at; function = of; inside = λ q w. cell_is q ∙ inside q w }
 
-    pub output_lacks : (c : Certificate) (f : Flaw) → f ≡ record { code = K10; line = min (own_line (certificate_line p) (own_place c.own n)) (2 ^ 32 - 1) } → ¬ Inside → IsFlaw a p c f
+    pub output_lacks : (c : Certificate) (f : Flaw) → f ≡ record { code = K10; line = min (own_line (certificate_line p) (own_place c.own n)) (2 ^ 32 - 1) } → ¬ Inside → IsLacking a p c f
     output_lacks c f e lacks =
-        subst (IsFlaw a p c) (sym e) (inr (inr (inr (inr (inr (inr (record {
+        subst (IsLacking a p c) (sym e) (record {
           number = n;
           group = g;
           stands = at;
@@ -44,7 +45,7 @@ module _ (p : Plan) (n : ℕ) (g : Group) (at : slice_get p.groups n ≡ Some g)
           code_is = refl;
           line_is = refl;
           lacks = λ each. lacks (λ q w. sym (cell_is q) ∙ each q w);
-        })))))))
+        })
 
 -- lists that are made are lists of the work
 pub lists_same : (work : Work) (made : List Piece) → shares.AreListsOf work made → checked.AreListsOf work made

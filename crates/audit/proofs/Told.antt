@@ -23,7 +23,9 @@ use Rattle.validation.specs.Certificate.Certificate.{flaws_of_certificate, flaws
 use Rattle.soundness.specs.Binders.View.{grid_binders}
 use Rattle.claims.specs.First.{AllMet, IsFirstUnmet}
 use Rattle.audit.specs.Stand.{AreNarrow, AreShown, IsFlaw, IsNarrow}
-use Rattle.audit.specs.Refused.{but_symbols, told_first, wide_or_owed, with_owed}
+use Rattle.shares.specs.declared.answer.SharesError.{SharesError}
+use Rattle.shares.specs.declared.answer.SharesError.TheVariants.{Flaw as FlawTold, Memory}
+use Rattle.audit.specs.Refused.{AreOfPieces, IsOfPieces, IsTold, but_symbols, told_first, wide_or_owed, with_owed}
 use Rattle.audit.proofs.Named.{before_or_at}
 
 -- ---- the lesser of two
@@ -167,9 +169,18 @@ module _ (a : Algorithm) (p : Plan) (c : Certificate) where
       (wide_told (IsFlaw a p c) wide owed (AreNarrow a p c) (AllMet a p c) narrow
       (match_weaker owed (AllMet a p c) (AllMet a p c) (IsFirstUnmet a p c) (IsFlaw a p c) (λ m. m) owed_is met)))
 
-  -- one of some flaws that are faults
-  pub either_told : (f g r : Flaw) → r ≡ lesser f g → IsFlaw a p c f → IsFlaw a p c g → IsFlaw a p c r
-  either_told f g r is h k = subst (IsFlaw a p c) (sym is) (lesser_told (IsFlaw a p c) f g h k)
+  -- what is owed, where it is told
+  pub owed_first : (owed : Option Flaw) (f : Flaw) → MatchOption owed (AllMet a p c) (IsFirstUnmet a p c) → owed ≡ Some f → IsFlaw a p c f
+  owed_first owed f met is = owed_is f (some_of owed (AllMet a p c) (IsFirstUnmet a p c) met f is)
+
+  -- what is told of the pieces is a fault
+  pub pieces_told : (f : Flaw) → IsOfPieces a p c f → IsFlaw a p c f
+  pieces_told f (inl shares) = inr (inr (inr (inr (inr (inl shares)))))
+  pieces_told f (inr lacking) = inr (inr (inr (inr (inr (inr lacking)))))
+
+  pub error_told : (e : SharesError) → AreOfPieces a p c e → IsTold a p c e
+  error_told (FlawTold f) h = pieces_told f h
+  error_told Memory h = tt
 
   kept_told : (b : Bool) (g : Flaw) → IsFlaw a p c g → MatchOption (if b then None else Some g) (Unit {0}) (IsFlaw a p c)
   kept_told true g h = tt
@@ -201,11 +212,11 @@ module _ (a : Algorithm) (p : Plan) (c : Certificate) where
   pub regions_clear : flaws_of_certificate a p c ≡ [] → flaws_of_regions p c ≡ []
   regions_clear h = first_none (flaws_of_regions p c) (flaws_of_claims a p c) h
 
-pub any_flaw : (o : Option Flaw) (M : Type 0) (P : Flaw → Type 0) → MatchOption o M P → MatchOption o M (λ _. Unit {0})
-any_flaw None M P h = h
-any_flaw (Some f) M P h = tt
+-- where the first flaw of some is known they are not none
+some_flaws : (fs : List Said) (f : Said) → Some f ≡ first_of fs → ¬ (fs ≡ [])
+some_flaws [] f is none = absurd (cc is)
+some_flaws (g ∷ fs) f is none = absurd (cc none)
 
--- what the first flaw of own and needed regions leaves
-pub regions_told : (p : Plan) (c : Certificate) (found : Option Flaw) → told found ≡ first_of (flaws_of_regions p c) → MatchOption found (flaws_of_regions p c ≡ []) (λ _. Unit {0})
-regions_told p c None is = no_flaws (flaws_of_regions p c) is
-regions_told p c (Some f) is = tt
+pub first_known : (fs : List Said) (found : Option Flaw) → told found ≡ first_of fs → MatchOption found (fs ≡ []) (λ _. ¬ (fs ≡ []))
+first_known fs None is = no_flaws fs is
+first_known fs (Some f) is = some_flaws fs (record { code = number_of f.code; line = f.line }) is

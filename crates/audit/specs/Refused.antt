@@ -1,5 +1,5 @@
 -- What a refusal of the checker says, and which of the flaws of lines is told.
-use Rattle.std.specs.Prelude.{◌≡◌, ℕ, ◌+◌, ◌-◌, ◌<◌, ◌==◌, ◌&&◌, nat_lt, if◌then◌else◌, Bool, length, Option, Some, None}
+use Rattle.std.specs.Prelude.{◌≡◌, ◌⊎◌, ℕ, ◌+◌, ◌-◌, ◌<◌, ◌==◌, ◌&&◌, nat_lt, if◌then◌else◌, Bool, length, Option, Some, None}
 use Rattle.meaning.specs.Algorithm.{Algorithm}
 use Rattle.plan.specs.Lines.{group_line}
 use Rattle.plan.specs.Plan.{Plan}
@@ -7,13 +7,15 @@ use Rattle.plan.specs.Certificate.Certificate.{Certificate}
 use Rattle.soundness.specs.declared.outline.refusals.code.Flaw.{Flaw as FlawHeld}
 use Rattle.soundness.specs.Outline.Flaws.{line_told}
 use Rattle.soundness.specs.Outline.Refusals.Codes.{number_of, lesser}
+use Rattle.shares.specs.Has.{HasShares}
 use Rattle.shares.specs.Made.{own_place}
 use Rattle.shares.specs.declared.answer.SharesError.{SharesError}
 use Rattle.shares.specs.declared.answer.SharesError.TheVariants.{Flaw, Memory as Want}
 use Rattle.audit.specs.declared.refusal.CheckError.{CheckError}
 use Rattle.audit.specs.declared.refusal.CheckError.TheVariants.{Refused, Memory}
 use Rattle.audit.specs.Verdict.Accepted.{IsAccepted}
-use Rattle.audit.specs.Verdict.Faults.{IsFault}
+use Rattle.audit.specs.Verdict.Faults.{IsFault, IsOfOutput, IsOfShares}
+use Rattle.audit.specs.Verdict.Shown.Wide.{HasOutput}
 use Rattle.audit.specs.Stand.{IsFlaw}
 
 -- a yes: all that is asked of the plan is so
@@ -24,6 +26,24 @@ Accepts a p c = IsAccepted a p c
 abbrev pub IsTold : Algorithm → Plan → Certificate → SharesError → Type 0
 IsTold a p c (Flaw f) = IsFlaw a p c f
 IsTold a p c Want = Unit {0}
+
+-- the output's group lacks a point of the output
+abbrev pub IsLacking : Algorithm → Plan → Certificate → FlawHeld → Type 0
+IsLacking a p c f = IsOfOutput a p c (number_of f.code) f.line
+
+-- the pieces have no shares, or the output's group lacks a point of the output
+abbrev pub IsOfPieces : Algorithm → Plan → Certificate → FlawHeld → Type 0
+IsOfPieces a p c f = IsOfShares a p c (number_of f.code) f.line ⊎ IsLacking a p c f
+
+abbrev pub AreOfPieces : Algorithm → Plan → Certificate → SharesError → Type 0
+AreOfPieces a p c (Flaw f) = IsOfPieces a p c f
+AreOfPieces a p c Want = Unit {0}
+
+-- of a flaw and of what the pieces share the first is told: the flaw where they have shares and no point of the output is lacking,
+-- else the lesser of both
+abbrev pub IsBesidePieces : Algorithm → Plan → Certificate → FlawHeld → SharesError → Type 0
+IsBesidePieces a p c f (Flaw g) = ((HasShares p c × HasOutput a p) × (g ≡ f)) ⊎ ((other : FlawHeld) × IsOfPieces a p c other × (g ≡ lesser f other))
+IsBesidePieces a p c f Want = Unit {0}
 
 -- a refusal is right: its code and line are those of a fault, and the plan is not accepted; want of memory says nothing
 abbrev pub IsRefused : Algorithm → Plan → Certificate → CheckError → Type 0

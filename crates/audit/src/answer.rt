@@ -11,10 +11,11 @@ ghost use Rattle.validation.specs.Certificate.Certificate.{flaws_of_certificate,
 ghost use Rattle.checked_plan.specs.Lists.{ListsAreOf};
 ghost use Rattle.audit.specs.Verdict.Accepted.{IsAccepted};
 ghost use Rattle.audit.specs.Verdict.Shown.Wide.{HasHead};
-ghost use Rattle.audit.specs.Refused.{EndsUnowned, IsTold, IsUnownedEnd, but_symbols, told_first, wide_or_owed, with_owed};
+ghost use Rattle.audit.specs.Refused.{EndsUnowned, IsBesidePieces, IsTold, IsUnownedEnd, but_symbols, told_first, wide_or_owed, with_owed};
 ghost use Rattle.audit.specs.Stand.{AreShown, IsFlaw, IsGroupOf};
 
 use crate::groups::first_wide;
+use crate::leaving::left_first;
 use crate::output::own_place;
 use crate::shared::shares_with_output;
 use algo::Algo;
@@ -33,8 +34,10 @@ fn named_flaw(
     plan: &Plan,
     cert: &Cert,
 ) -> Result<Option<Flaw>, AllocError>
-    ensures { IfOk result (λ flaw. MatchOption flaw (flaws_of_groups (algorithm_of algo.now) (plan_of plan.now) (certificate_of cert.now) ≡ [])
+    ensures told { IfOk result (λ flaw. MatchOption flaw (flaws_of_groups (algorithm_of algo.now) (plan_of plan.now) (certificate_of cert.now) ≡ [])
         (IsFlaw (algorithm_of algo.now) (plan_of plan.now) (certificate_of cert.now))) }
+    ensures known { IfOk result (λ flaw. MatchOption flaw (flaws_of_groups (algorithm_of algo.now) (plan_of plan.now) (certificate_of cert.now) ≡ [])
+        (λ _. ¬ (flaws_of_groups (algorithm_of algo.now) (plan_of plan.now) (certificate_of cert.now) ≡ []))) }
 {
     let found = validation::groups::first_flaw(alloc, algo, plan, cert)?;
     Ok(found)
@@ -55,7 +58,7 @@ fn listed_flaw(
 }
 
 /// The first of a number that may be too large and of what lines owe: at one line the number, since what is owed is shown where
-/// numbers are small.
+/// numbers are small (but for a store that leaves its buffer, `left_first`).
 fn wide_or_owed(wide: Option<Flaw>, owed: Option<Flaw>) -> Option<Flaw>
     ensures { result ≡ wide_or_owed wide owed }
 {
@@ -101,6 +104,9 @@ fn owed_flaw<R: Threads + Sync>(
 {
     let wide = first_wide(alloc, algo, plan, cert)?;
     let owed = first_fault(rt, alloc, algo, plan, cert)?;
+    if let Some(flaw) = left_first(plan, wide, owed) {
+        return Ok(Some(flaw));
+    }
     Ok(wide_or_owed(wide, owed))
 }
 
@@ -195,7 +201,8 @@ fn told_with_shares(
     requires regions { flaws_of_regions (plan_of plan.now) (certificate_of cert.now) ≡ [] }
     requires number { IsGroupOf (plan_of plan.now).groups (algorithm_of algo.now).output number }
     requires flaw { IsFlaw (algorithm_of algo.now) (plan_of plan.now) (certificate_of cert.now) flaw }
-    ensures { IsTold (algorithm_of algo.now) (plan_of plan.now) (certificate_of cert.now) result }
+    ensures told { IsTold (algorithm_of algo.now) (plan_of plan.now) (certificate_of cert.now) result }
+    ensures first { IsBesidePieces (algorithm_of algo.now) (plan_of plan.now) (certificate_of cert.now) flaw result }
 {
     match shares_with_output(alloc, algo, plan, cert, number) {
         Ok(_) => SharesError::Flaw(flaw),
@@ -206,7 +213,8 @@ fn told_with_shares(
 
 /// The first flaw of the lines of own and needed regions by names and limits.
 fn region_flaw(alloc: Global, plan: &Plan, cert: &Cert) -> Result<Option<Flaw>, AllocError>
-    ensures { IfOk result (λ flaw. MatchOption flaw (flaws_of_regions (plan_of plan.now) (certificate_of cert.now) ≡ []) (λ _. Unit {0})) }
+    ensures { IfOk result (λ flaw. MatchOption flaw (flaws_of_regions (plan_of plan.now) (certificate_of cert.now) ≡ [])
+        (λ _. ¬ (flaws_of_regions (plan_of plan.now) (certificate_of cert.now) ≡ []))) }
 {
     let found = validation::certificate::first_region_flaw(alloc, plan, cert)?;
     Ok(found)
@@ -225,7 +233,9 @@ fn told_beside_claims(
     requires groups { flaws_of_groups (algorithm_of algo.now) (plan_of plan.now) (certificate_of cert.now) ≡ [] }
     requires number { IsGroupOf (plan_of plan.now).groups (algorithm_of algo.now).output number }
     requires flaw { IsFlaw (algorithm_of algo.now) (plan_of plan.now) (certificate_of cert.now) flaw }
-    ensures { IsTold (algorithm_of algo.now) (plan_of plan.now) (certificate_of cert.now) result }
+    ensures told { IsTold (algorithm_of algo.now) (plan_of plan.now) (certificate_of cert.now) result }
+    ensures first { flaws_of_regions (plan_of plan.now) (certificate_of cert.now) ≡ []
+        → IsBesidePieces (algorithm_of algo.now) (plan_of plan.now) (certificate_of cert.now) flaw result }
 {
     match region_flaw(alloc, plan, cert) {
         Ok(None) => told_with_shares(alloc, algo, plan, cert, number, flaw),
@@ -245,10 +255,14 @@ fn told_where_flawed(
     named: Option<Flaw>,
     flaw: Flaw,
 ) -> SharesError
-    requires named { MatchOption named (flaws_of_groups (algorithm_of algo.now) (plan_of plan.now) (certificate_of cert.now) ≡ []) (λ _. Unit {0}) }
+    requires named { MatchOption named (flaws_of_groups (algorithm_of algo.now) (plan_of plan.now) (certificate_of cert.now) ≡ [])
+        (λ _. ¬ (flaws_of_groups (algorithm_of algo.now) (plan_of plan.now) (certificate_of cert.now) ≡ [])) }
     requires number { IsGroupOf (plan_of plan.now).groups (algorithm_of algo.now).output number }
     requires flaw { IsFlaw (algorithm_of algo.now) (plan_of plan.now) (certificate_of cert.now) flaw }
-    ensures { IsTold (algorithm_of algo.now) (plan_of plan.now) (certificate_of cert.now) result }
+    ensures told { IsTold (algorithm_of algo.now) (plan_of plan.now) (certificate_of cert.now) result }
+    ensures first { flaws_of_groups (algorithm_of algo.now) (plan_of plan.now) (certificate_of cert.now) ≡ []
+        → flaws_of_regions (plan_of plan.now) (certificate_of cert.now) ≡ []
+        → IsBesidePieces (algorithm_of algo.now) (plan_of plan.now) (certificate_of cert.now) flaw result }
 {
     match named {
         None => told_beside_claims(alloc, algo, plan, cert, number, flaw),

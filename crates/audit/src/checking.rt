@@ -46,7 +46,8 @@ use std::thread::Threads;
 ///
 /// How the pieces share the cells, and whether the output's group has each point, is asked only where no line of a group and no
 /// line of own and needed regions has a flaw of names, limits or stored expressions; flaws of claims and windows hide nothing of
-/// it. At one line a number not shown to be small is told before what the line owes, which is shown where numbers are small.
+/// it. At one line a number not shown to be small is told before what the line owes, which is shown where numbers are small;
+/// but where a store of a pure definition is not shown to stay in a buffer whose places are near 0, that (`K4`) is told.
 /// Where a group has no own region (`K10` at `cert`), that is told in place of a `K5` at that group's last line, its `publish`,
 /// which would be the first; and a symbol that stands twice (`K2`) is told at the claim that names it where it is not bound.
 pub fn check<'a, R: Threads + Sync>(

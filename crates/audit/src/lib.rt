@@ -8,6 +8,7 @@ mod answer;
 mod checking;
 mod groups;
 mod head;
+mod leaving;
 mod names;
 mod output;
 mod refusal;

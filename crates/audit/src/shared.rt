@@ -10,8 +10,8 @@ ghost use Rattle.validation.specs.Certificate.Certificate.{flaws_of_regions};
 ghost use Rattle.shares.specs.Has.{HasShares};
 ghost use Rattle.audit.specs.Verdict.Shown.Wide.{HasOutput};
 ghost use Rattle.checked_plan.specs.Lists.{ListsAreOf};
-ghost use Rattle.audit.specs.Refused.{IsTold};
-ghost use Rattle.audit.specs.Stand.{IsFlaw, IsGroupOf};
+ghost use Rattle.audit.specs.Refused.{AreOfPieces, IsLacking};
+ghost use Rattle.audit.specs.Stand.{IsGroupOf};
 
 use crate::output::{has_extents, output_extents, own_line};
 use crate::verdict::clear::{groups_are_apart, plans_are_shared, regions_are_small};
@@ -27,7 +27,7 @@ use validation::certificate::laws::no_region_flaw_is_shared;
 fn output_flaw(algo: &Algo, plan: &Plan, cert: &Cert, number: usize) -> Option<Flaw>
     requires named { flaws_of_groups (algorithm_of algo.now) (plan_of plan.now) (certificate_of cert.now) ≡ [] }
     requires number { IsGroupOf (plan_of plan.now).groups (algorithm_of algo.now).output number }
-    ensures { MatchOption result (HasOutput (algorithm_of algo.now) (plan_of plan.now)) (IsFlaw (algorithm_of algo.now) (plan_of plan.now) (certificate_of cert.now)) }
+    ensures { MatchOption result (HasOutput (algorithm_of algo.now) (plan_of plan.now)) (IsLacking (algorithm_of algo.now) (plan_of plan.now) (certificate_of cert.now)) }
 {
     regions_are_small();
     groups_are_apart();
@@ -57,7 +57,7 @@ pub(crate) fn shares_with_output(
     ensures output { IfOk result (λ _. HasOutput (algorithm_of algo.now) (plan_of plan.now)) }
     ensures lists { IfOk result (λ made. ListsAreOf (algorithm_of algo.now) (plan_of plan.now) (certificate_of cert.now) made.pieces.items) }
     ensures counted { IfOk result (λ made. made.cells ≡ length (cells (plan_of plan.now))) }
-    ensures told { IfErr result (IsTold (algorithm_of algo.now) (plan_of plan.now) (certificate_of cert.now)) }
+    ensures told { IfErr result (AreOfPieces (algorithm_of algo.now) (plan_of plan.now) (certificate_of cert.now)) }
 {
     no_region_flaw_is_shared();
     plans_are_shared();

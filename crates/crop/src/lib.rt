@@ -1,4 +1,4 @@
-//! The algorithm of a tile: an algorithm cut to a rectangle of its output, whose picture is the tile of the picture.
+//! The algorithm of a tile: an algorithm cut to a rectangle of its output, whose picture is that rectangle of the picture.
 #![tactic(auto)]
 
 mod asking;

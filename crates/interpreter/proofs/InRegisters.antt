@@ -7,7 +7,7 @@ use Rattle.interpreter.specs.declared.evaluation.lanes.Lanes.TheVariants.{Broadc
 use Rattle.interpreter.specs.declared.evaluation.lanes.Number.{Number}
 use Rattle.interpreter.specs.Evaluation.Lanes.{lane_number, lanes_at, number_at}
 
-number_drop : (zs : List Number) (n j : ℕ) → number_at (drop n zs) j ≡ number_at zs (n + j)
+pub number_drop : (zs : List Number) (n j : ℕ) → number_at (drop n zs) j ≡ number_at zs (n + j)
 number_drop zs zero j = let e : j ≡ 0 + j = omega arith in ap (number_at zs) e
 number_drop [] (suc n) j = refl
 number_drop (z ∷ zs) (suc n) j = let e : suc (n + j) ≡ suc n + j = omega arith in number_drop zs n j ∙ ap (number_at (z ∷ zs)) e

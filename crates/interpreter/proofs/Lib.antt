@@ -33,3 +33,4 @@ pub mod SpotRuns
 pub mod InRegisters
 pub mod Pixels
 pub mod Points
+pub mod Updating

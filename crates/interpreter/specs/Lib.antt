@@ -16,6 +16,7 @@ pub mod Targets
 pub mod Visits
 pub mod RowVisits
 pub mod Runs
+pub mod Updates
 pub mod RunReadings
 pub mod StoreLines
 pub mod Scanlines

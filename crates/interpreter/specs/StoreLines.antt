@@ -1,9 +1,8 @@
--- Lines that store at a point whose coordinates are forms.
-use Rattle.std.specs.Prelude.{◌≡◌, ℕ, true, Option, Some, None, map}
+-- Lines that store.
+use Rattle.std.specs.Prelude.{◌≡◌, ℕ, Option, Some, None, map}
 use Rattle.tree.specs.Term.{term_of}
 use Rattle.plan.specs.Plan.{Statement, Seq, Store, Statements, Empty, Then}
 use Rattle.plan.specs.View.{coordinate_of}
-use Rattle.interpreter.specs.Runs.{are_forms}
 use Rattle.interpreter.specs.declared.runs.StoreLine.{StoreLine}
 
 -- the statement of a block that has one alone
@@ -21,7 +20,6 @@ one_line a = Some a
 pub record IsStore (a : Statement) (x : StoreLine) : Type 0 where
   pub definition : ℕ
   pub is : a ≡ Store x.buffer definition (map coordinate_of x.coordinates.now) (term_of x.value.now)
-  pub forms : are_forms x.coordinates.now ≡ true
 
 -- the statement is this line, or a block of it alone
 pub record IsStoreLine (a : Statement) (x : StoreLine) : Type 0 where

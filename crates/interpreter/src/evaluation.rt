@@ -15,8 +15,9 @@ mod whole;
 
 pub use evaluation::evaluate;
 pub use indices::indices_after;
-pub(crate) use kernels::fill_steps;
+pub(crate) use kernels::{copy_register, fill_steps};
 pub use lanes::{Lanes, Number};
+pub(crate) use operators::applied;
 pub use reader::Reader;
 pub use run::evaluate_run;
 pub use run_reader::RunReader;

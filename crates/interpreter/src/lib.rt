@@ -3,6 +3,7 @@
 
 pub mod buffers;
 mod cells;
+mod columns;
 pub mod evaluation;
 mod forms;
 mod loads;
@@ -22,6 +23,8 @@ mod state;
 mod store;
 mod symbols;
 mod turns;
+mod update_reading;
+mod updates;
 mod visits;
 
 pub use cells::{CellRow, Cells, NumberKind};

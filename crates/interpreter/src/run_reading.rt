@@ -342,7 +342,7 @@ impl RunReader for RunReading<'_, '_> {
 }
 
 /// The registers but the first so many numbers.
-fn registers_behind(registers: &[Number], count: usize) -> &[Number]
+pub(crate) fn registers_behind(registers: &[Number], count: usize) -> &[Number]
     ensures { result.now ≡ drop count registers.now }
 {
     if registers.len() < count {
@@ -365,7 +365,7 @@ fn number_in(lanes: Lanes, register: &[Number], turn: usize) -> Option<i64>
 
 /// The numbers of a coordinate at so many turns, by those of the first turn and of the second. They are put into the register
 /// where they neither stay nor rise by one.
-fn lanes_of(first: i64, second: i64, out: &mut [Number]) -> Option<Lanes>
+pub(crate) fn lanes_of(first: i64, second: i64, out: &mut [Number]) -> Option<Lanes>
     ensures narrow { IfSome result (IsNarrowFor (length out.new)) }
     ensures lanes { IfSome result (λ x. (k : ℕ) → k < length out.new → typed I32 (first +ℤ (second -ℤ first) *ℤ pos k) ≡ lane x out.new k) }
 {

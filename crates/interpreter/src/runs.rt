@@ -39,6 +39,7 @@ use crate::state::State;
 use crate::store::{known_numbers, of_function, store};
 use crate::symbols::{Binding, Symbols};
 use crate::turns::{Turns, turn};
+use crate::updates::{store_turns, update_part};
 use numeric::Ty;
 use plan::{Coordinate, Index, Stmt};
 use tree::Expr;
@@ -53,7 +54,7 @@ fn are_forms(coordinates: &[Coordinate]) -> bool
 }
 
 /// Notes the numbers of all coordinates at a turn.
-fn numbers_in(
+pub(crate) fn numbers_in(
     binding: Binding,
     coordinates: &[Coordinate],
     symbols: &mut Symbols,
@@ -90,7 +91,7 @@ fn alone(all: &[Stmt]) -> Option<&Stmt>
     }
 }
 
-/// A statement as a line that stores at a point whose coordinates are forms, if it is one.
+/// A statement as a line that stores, if it is one.
 fn stored(stmt: &Stmt) -> Option<StoreLine<'_>>
     ensures { IfSome result (IsStore (statement_of stmt.now)) }
 {
@@ -103,18 +104,14 @@ fn stored(stmt: &Stmt) -> Option<StoreLine<'_>>
     else {
         return None;
     };
-    if are_forms(coordinates) {
-        Some(StoreLine {
-            buffer: *buffer,
-            coordinates,
-            value,
-        })
-    } else {
-        None
-    }
+    Some(StoreLine {
+        buffer: *buffer,
+        coordinates,
+        value,
+    })
 }
 
-/// The line that stores at a point whose coordinates are forms, where a statement or a block is that line alone.
+/// The line that stores, where a statement or a block is that line alone.
 pub(crate) fn store_line(stmt: &Stmt) -> Option<StoreLine<'_>>
     ensures { IfSome result (IsStoreLine (statement_of stmt.now)) }
 {
@@ -126,10 +123,10 @@ pub(crate) fn store_line(stmt: &Stmt) -> Option<StoreLine<'_>>
 
 /// Some turns of a loop, one after another from this number on.
 #[derive(Clone, Copy, Drop)]
-struct Part {
-    turns: Turns,
-    low: i64,
-    count: usize,
+pub(crate) struct Part {
+    pub turns: Turns,
+    pub low: i64,
+    pub count: usize,
 }
 
 /// What the loop's symbol is in the turn that so many of these come before.
@@ -424,8 +421,8 @@ fn store_one_by_one<'a>(
     Ok(())
 }
 
-/// The store at some turns of a loop.
-fn store_part<'a>(
+/// The store at some turns of a loop. What it stores is found for all of them together, or else one by one.
+fn store_known_part<'a>(
     piece: &'a Piece<'a>,
     line: &StoreLine<'a>,
     part: Part,
@@ -433,7 +430,6 @@ fn store_part<'a>(
     state: &mut State,
 ) -> Result<(), Stop>
     requires ready { IsReady piece.now }
-    requires forms { are_forms line.now.coordinates.now ≡ true }
     requires narrow { (k : ℕ) → k < part.count → All (CoordinateIsNarrow (bind (symbols_of symbols.old) part.turns.symbol (part.low +ℤ pos k) (int_le (part.low +ℤ pos k) part.turns.low))) line.now.coordinates.now }
     requires few { part.count ≤ 128 }
     requires high { (part.low +ℤ pos part.count) ≤ℤ pos (2 ^ 63) }
@@ -445,9 +441,38 @@ fn store_part<'a>(
     ensures large { OnOk result (IsAsLarge state.old state.new) }
     ensures run { (definition : ℕ) (cell : List ℕ → List ℤ → ValueFound) → EndsIn state.old.given.capacity (λ _. progress_of state.new) result (steps (around piece.now cell) (flat_map (store_at piece.now line.now.buffer line.now.coordinates.now (term_of line.now.value.now) (symbols_of symbols.old) part.turns.symbol part.turns.low definition) (rising part.low part.count)) (progress_of state.old)) }
 {
+    if !are_forms(line.coordinates) {
+        return store_one_by_one(piece, line, part, symbols, state);
+    }
     match evaluate_part(piece, line, part, symbols, state) {
         Some(ty) => write_part(piece, line, ty, part, symbols, state),
         None => store_one_by_one(piece, line, part, symbols, state),
+    }
+}
+
+/// The store at some turns of a loop.
+fn store_part<'a>(
+    piece: &'a Piece<'a>,
+    line: &StoreLine<'a>,
+    part: Part,
+    symbols: &mut Symbols,
+    state: &mut State,
+) -> Result<(), Stop>
+    requires ready { IsReady piece.now }
+    requires narrow { (k : ℕ) → k < part.count → All (CoordinateIsNarrow (bind (symbols_of symbols.old) part.turns.symbol (part.low +ℤ pos k) (int_le (part.low +ℤ pos k) part.turns.low))) line.now.coordinates.now }
+    requires few { part.count ≤ 128 }
+    requires high { (part.low +ℤ pos part.count) ≤ℤ pos (2 ^ 63) }
+    requires symbols { length symbols.old.bound < symbols.old.room }
+    requires numbers { length line.now.coordinates.now ≤ state.old.numbers.room }
+    requires point { length line.now.coordinates.now ≤ state.old.point.room }
+    requires stack { indices_of_all line.now.coordinates.now + indices_in (term_of line.now.value.now) ≤ state.old.stack.room }
+    ensures symbols { OnOk result (symbols.new ≡ symbols.old) }
+    ensures large { OnOk result (IsAsLarge state.old state.new) }
+    ensures run { (definition : ℕ) (cell : List ℕ → List ℤ → ValueFound) → EndsIn state.old.given.capacity (λ _. progress_of state.new) result (steps (around piece.now cell) (flat_map (store_at piece.now line.now.buffer line.now.coordinates.now (term_of line.now.value.now) (symbols_of symbols.old) part.turns.symbol part.turns.low definition) (rising part.low part.count)) (progress_of state.old)) }
+{
+    match update_part(piece, line, part, symbols, state) {
+        Some(update) => store_turns(piece, line, update, part, symbols, state),
+        None => store_known_part(piece, line, part, symbols, state),
     }
 }
 
@@ -476,7 +501,6 @@ pub(crate) fn run_stores<'a>(
     state: &mut State,
 ) -> Result<(), Stop>
     requires ready { IsReady piece.now }
-    requires forms { are_forms line.now.coordinates.now ≡ true }
     requires narrow { (z : ℤ) → Contains (between turns.low turns.high) z → All (CoordinateIsNarrow (bind (symbols_of symbols.old) turns.symbol z (int_le z turns.low))) line.now.coordinates.now }
     requires symbols { length symbols.old.bound < symbols.old.room }
     requires numbers { length line.now.coordinates.now ≤ state.old.numbers.room }

@@ -9,4 +9,5 @@ number_of rule.OutsideUse = 6
 number_of rule.ShortShift = 8
 number_of rule.SmallFold = 9
 number_of rule.TooLarge = 11
+number_of rule.TooMuch = 11
 number_of rule.Unbounded = 12

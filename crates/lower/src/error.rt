@@ -21,8 +21,10 @@ pub enum RegionRule {
     ShortShift,
     /// L9: a fold of a dimension in which the function does not slide, or to fewer places than its window has numbers.
     SmallFold,
-    /// L11: an expression with calls put in, or the shared cells or pieces of all root functions so far, pass their limit.
+    /// L11: a definition with calls put in passes the limits of an expression.
     TooLarge,
+    /// L11 as well: the shared cells or the pieces of all root functions so far pass their limit.
+    TooMuch,
     /// L12: no region within the limits is found for the function, or nothing uses it, or an index of the input or of the
     /// function itself may leave what it has.
     Unbounded,
@@ -37,7 +39,7 @@ impl RegionRule {
             RegionRule::OutsideUse => 6,
             RegionRule::ShortShift => 8,
             RegionRule::SmallFold => 9,
-            RegionRule::TooLarge => 11,
+            RegionRule::TooLarge | RegionRule::TooMuch => 11,
             RegionRule::Unbounded => 12,
         }
     }

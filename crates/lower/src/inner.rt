@@ -9,7 +9,8 @@ use crate::reasons::readings::{Reading, add_readings};
 use crate::regions::symbols_from;
 use crate::scopes::{bind_steps, head_scope};
 use crate::sliding::{
-    Later, fold_of, folded, folds_fit, later_of, sliding_dimension, standstill, track_of,
+    Later, Sliding, fold_of, folded, folds_fit, held_region, later_of, sliding_dimension,
+    standstill, track_of,
 };
 use crate::turns::nests_over;
 use algo::Algo;
@@ -58,7 +59,7 @@ pub(crate) struct Inner<'a> {
     pub store: Spot,
     /// What stands around it.
     pub scope: Scope,
-    /// What is needed of it there.
+    /// What is needed of it there; where it slides, what it holds in each turn.
     pub region: Region,
     /// Of what its claims speak: of what updates set past the end too.
     pub claimed: Region,
@@ -472,33 +473,56 @@ fn store_spot(group: &Root<'_>, inners: &[Inner<'_>], root: &Root<'_>, home: Spo
 }
 
 // The dimension in which what is needed of a function slides along the loop where it is computed, where its buffer stands
-// outside of that, and the turns after the first one. What an update scatters does not slide.
+// outside of that. What an update scatters does not slide.
 fn sliding_of(
     alloc: Global,
     group: &Root<'_>,
     inners: &[Inner<'_>],
     root: &Root<'_>,
     spots: (Spot, Spot),
-    scope: &Scope,
     region: &Region,
-) -> Result<(Option<usize>, Option<Later>), Stop> {
+) -> Result<Option<Sliding>, AllocError> {
     let (home, store) = spots;
     if home == store {
-        return Ok((None, None));
+        return Ok(None);
     }
     let Some(steps) = steps_at(group, inners, home) else {
-        return Ok((None, None));
+        return Ok(None);
     };
     let Some(track) = track_of(alloc, steps)? else {
-        return Ok((None, None));
+        return Ok(None);
     };
     match sliding_dimension(region, &track) {
-        Some(dimension) if !is_scattered(root, dimension) => {
-            let later = later_of(alloc, root, scope, region, &track, dimension)?;
-            Ok((Some(dimension), later))
-        }
-        _ => Ok((None, None)),
+        Some(dimension) if !is_scattered(root, dimension) => Ok(Some(Sliding { track, dimension })),
+        _ => Ok(None),
     }
+}
+
+// Whether none of the functions is folded: a window behind lets is longer than what is needed.
+fn are_unfolded(functions: &[Root<'_>]) -> bool {
+    functions
+        .iter()
+        .all(|root| root.stored.placed.folds.is_empty())
+}
+
+// What a function holds in each turn, and the turns after the first one where these make what is new alone.
+fn turns_of(
+    alloc: Global,
+    functions: &[Root<'_>],
+    root: &Root<'_>,
+    scope: &Scope,
+    region: &Region,
+    sliding: &Option<Sliding>,
+) -> Result<(Region, Option<Later>), Stop> {
+    if let Some(sliding) = sliding {
+        if sliding.is_bare() || are_unfolded(functions) {
+            if let Some(held) = held_region(alloc, root, scope, region, sliding)? {
+                let later = later_of(alloc, root, scope, &held, sliding)?;
+                return Ok((held, later));
+            }
+        }
+    }
+    Ok((region.copy(alloc)?, None))
 }
 
 // The function at a place; none where nothing calls it there.
@@ -506,6 +530,7 @@ fn inner_at<'a>(
     alloc: Global,
     algo: &Algo,
     group: &Root<'a>,
+    functions: &[Root<'a>],
     inners: &[Inner<'a>],
     root: &Root<'a>,
     home: Spot,
@@ -516,20 +541,21 @@ fn inner_at<'a>(
         return Ok(None);
     }
     let scope = scope_at(alloc, group, inners, home)?;
-    let region = region_at(alloc, root, &scope, &sites)?;
-    let nests = nests_over(alloc, root, &scope, &region)?;
+    let needed = region_at(alloc, root, &scope, &sites)?;
     let store = store_spot(group, inners, root, home);
     let outer = scope_at(alloc, group, inners, store)?;
-    let spots = (home, store);
-    let (sliding, later) = sliding_of(alloc, group, inners, root, spots, &scope, &region)?;
-    let fits = folds_fit(alloc, root, &scope, &region, sliding)?;
+    let sliding = sliding_of(alloc, group, inners, root, (home, store), &needed)?;
+    let (region, later) = turns_of(alloc, functions, root, &scope, &needed, &sliding)?;
+    let nests = nests_over(alloc, root, &scope, &region)?;
+    let along = sliding.map(|one| one.dimension);
+    let fits = folds_fit(alloc, root, &scope, &needed, along)?;
     let arms = Arms {
         scope: &scope,
         nests: &nests,
         later: later.as_ref(),
     };
     let places = storage_of(alloc, &outer, arms, &region)?;
-    let places = folded(alloc, places, sliding, fold_of(root))?;
+    let places = folded(alloc, places, along, fold_of(root))?;
     Ok(Some(Inner {
         root: *root,
         home,
@@ -549,6 +575,7 @@ fn add_in_host<'a>(
     alloc: Global,
     algo: &Algo,
     group: &Root<'a>,
+    functions: &[Root<'a>],
     inners: &[Inner<'a>],
     root: &Root<'a>,
     home: &Home,
@@ -559,7 +586,7 @@ fn add_in_host<'a>(
     for definition in 0..nests_at(group, inners, host).len() {
         if let Some(spot) = spot_in(group, inners, host, definition, &home.turn) {
             if !over_grid {
-                if let Some(one) = inner_at(alloc, algo, group, inners, root, spot)? {
+                if let Some(one) = inner_at(alloc, algo, group, functions, inners, root, spot)? {
                     found.push(one)?;
                 }
             }
@@ -596,6 +623,7 @@ fn found_inside<'a>(
     alloc: Global,
     algo: &Algo,
     group: &Root<'a>,
+    functions: &[Root<'a>],
     inners: &[Inner<'a>],
     root: &Root<'a>,
 ) -> Result<Vec<Inner<'a>>, Stop> {
@@ -604,7 +632,9 @@ fn found_inside<'a>(
         return Ok(found);
     };
     for host in hosts_named(alloc, group, inners, &home.function)? {
-        add_in_host(alloc, algo, group, inners, root, home, host, &mut found)?;
+        add_in_host(
+            alloc, algo, group, functions, inners, root, home, host, &mut found,
+        )?;
     }
     Ok(found)
 }
@@ -619,7 +649,7 @@ pub(crate) fn inners_of<'a>(
 ) -> Result<Vec<Inner<'a>>, Stop> {
     let mut inners = Vec::new(alloc);
     for root in functions.iter().rev() {
-        let mut found = found_inside(alloc, algo, group, &inners, root)?;
+        let mut found = found_inside(alloc, algo, group, functions, &inners, root)?;
         inners.append(&mut found)?;
     }
     Ok(inners)

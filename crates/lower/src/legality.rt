@@ -1,5 +1,9 @@
 //! The rules of schedules that ask what a function's loops run over.
 
+ghost use Rattle.std.specs.Prelude.{IfOk, map};
+ghost use Rattle.lower.specs.Stored.{stored_of};
+ghost use Rattle.lower.specs.Large.{IsByRegion, IsFault, Finds};
+
 use crate::calls::{Call, calls_of};
 use crate::definitions::{Formula, Stored};
 use crate::error::{RegionRule, Stop};
@@ -12,7 +16,7 @@ use crate::scopes::{Around, around_in, head_scope, interval};
 use crate::uses::has_outside_use;
 use algo::Algo;
 use lin::{Region, Scope};
-use sched::{Nest, has_short_shift, loop_numbers};
+use sched::{Nest, Rule, has_short_shift, loop_numbers};
 use std::alloc::{AllocError, Global};
 use tree::Expr;
 use tree::token::Name;
@@ -159,12 +163,14 @@ fn fault_within(
     algo: &Algo,
     root: &Root<'_>,
     totals: Totals,
-) -> Result<Option<RegionRule>, AllocError> {
+) -> Result<Option<RegionRule>, AllocError>
+    ensures { IfOk result IsByRegion }
+{
     if has_shifted_little(alloc, root.stored, root.laid)? {
         return Ok(Some(RegionRule::ShortShift));
     }
     if totals.pass_limits() {
-        return Ok(Some(RegionRule::TooLarge));
+        return Ok(Some(RegionRule::TooMuch));
     }
     match is_root_bounded(alloc, algo, root) {
         Ok(true) => Ok(None),
@@ -173,19 +179,19 @@ fn fault_within(
     }
 }
 
-// The rule that a function breaks. Where some function is too large, no region of another one is missed.
-fn fault_of(
+// The rule that a function of these definitions breaks. Where some function is too large, no region of another one is missed.
+fn fault_by_region(
     alloc: Global,
     algo: &Algo,
     stored: &Stored<'_>,
-    laid: &Option<Laid>,
+    formulas: &[Formula],
+    laid: Option<&Laid>,
     parties: &[Party<'_>],
     has_large: bool,
     totals: &mut Totals,
-) -> Result<Option<RegionRule>, AllocError> {
-    let Some(formulas) = &stored.formulas else {
-        return Ok(Some(RegionRule::TooLarge));
-    };
+) -> Result<Option<RegionRule>, AllocError>
+    ensures { IfOk result IsByRegion }
+{
     let Some(laid) = laid else {
         return Ok(if has_large {
             None
@@ -205,7 +211,97 @@ fn fault_of(
     fault_within(alloc, algo, &root, *totals)
 }
 
-/// The first of so many functions, in the order of declaration, that breaks a rule, with the rule of the lowest number.
+// The rule that a function breaks.
+#[tactic(auto, using(crate::proofs::Sizes::fault_of_small, crate::proofs::Sizes::small_at, crate::proofs::Sizes::large_at))]
+fn fault_of(
+    alloc: Global,
+    algo: &Algo,
+    stored: &Stored<'_>,
+    laid: Option<&Laid>,
+    parties: &[Party<'_>],
+    has_large: bool,
+    totals: &mut Totals,
+) -> Result<Option<RegionRule>, AllocError>
+    ensures { IfOk result (IsFault (stored_of stored.now)) }
+{
+    match &stored.formulas {
+        None => Ok(Some(RegionRule::TooLarge)),
+        Some(formulas) => {
+            fault_by_region(
+                alloc, algo, stored, formulas, laid, parties, has_large, totals,
+            )
+        }
+    }
+}
+
+// The region of the next function, and those of the others.
+fn next_laid(laid: &[Option<Laid>]) -> (Option<&Laid>, &[Option<Laid>]) {
+    match laid {
+        [Some(first), rest @ ..] => (Some(first), rest),
+        [None, rest @ ..] => (None, rest),
+        [] => (None, laid),
+    }
+}
+
+// The first of so many functions that breaks a rule, among all stored ones.
+#[tactic(auto, using(crate::proofs::Sizes::found_later, crate::proofs::Sizes::told_here, crate::proofs::Sizes::none_asked, crate::proofs::Sizes::none_there))]
+fn fault_from<'a>(
+    alloc: Global,
+    algo: &Algo,
+    all: &[Stored<'a>],
+    parties: &[Party<'_>],
+    count: usize,
+    has_large: bool,
+    totals: &mut Totals,
+    stored: &[Stored<'a>],
+    laid: &[Option<Laid>],
+) -> Result<Option<(RegionRule, Name)>, AllocError>
+    ensures { IfOk result (Finds (map stored_of stored.now) count) }
+{
+    let Some(left) = count.checked_sub(1) else {
+        return Ok(None);
+    };
+    match stored {
+        [] => Ok(None),
+        [one, others @ ..] => {
+            if has_outside_use(alloc, all, one)? {
+                return Ok(Some((RegionRule::OutsideUse, one.subject.name)));
+            }
+            let (first, rest) = next_laid(laid);
+            match fault_of(alloc, algo, one, first, parties, has_large, totals)? {
+                Some(rule) => Ok(Some((rule, one.subject.name))),
+                None => {
+                    fault_from(
+                        alloc, algo, all, parties, left, has_large, totals, others, rest,
+                    )
+                }
+            }
+        }
+    }
+}
+
+// Whether some function leaves others without regions: it is computed at no loop that is there, too large, or used outside of the
+// loop at which it is computed.
+fn leaves_others(
+    alloc: Global,
+    stored: &[Stored<'_>],
+    fault: Option<(Rule, Name)>,
+) -> Result<bool, AllocError> {
+    if let Some((rule, _)) = fault {
+        if rule.number() == RegionRule::OutsideUse.number() {
+            return Ok(true);
+        }
+    }
+    for one in stored {
+        if one.formulas.is_none() || has_outside_use(alloc, stored, one)? {
+            return Ok(true);
+        }
+    }
+    Ok(false)
+}
+
+/// The first of so many functions, in the order of declaration, that breaks a rule, with the rule of the lowest number; behind
+/// them one may break a rule of its placing. A function that is broken may leave others without regions, of which that is not told.
 pub(crate) fn first_fault(
     alloc: Global,
     algo: &Algo,
@@ -213,21 +309,26 @@ pub(crate) fn first_fault(
     laid: &[Option<Laid>],
     parties: &[Party<'_>],
     count: usize,
-) -> Result<Option<(RegionRule, Name)>, AllocError> {
-    let has_large = stored.iter().any(|one| one.formulas.is_none());
+    fault: Option<(Rule, Name)>,
+) -> Result<Option<(RegionRule, Name)>, AllocError>
+    ensures { IfOk result (Finds (map stored_of stored.now) count) }
+{
+    let has_large = leaves_others(alloc, stored, fault)?;
     let mut totals = Totals {
         cells: 0,
         pieces: 0,
     };
-    for (one, laid) in stored.iter().zip(laid.iter()).take(count) {
-        if has_outside_use(alloc, stored, one)? {
-            return Ok(Some((RegionRule::OutsideUse, one.subject.name)));
-        }
-        if let Some(rule) = fault_of(alloc, algo, one, laid, parties, has_large, &mut totals)? {
-            return Ok(Some((rule, one.subject.name)));
-        }
-    }
-    Ok(None)
+    fault_from(
+        alloc,
+        algo,
+        stored,
+        parties,
+        count,
+        has_large,
+        &mut totals,
+        stored,
+        laid,
+    )
 }
 
 // ---- what is told of a refusal

@@ -1,10 +1,12 @@
 //! From an algorithm and a schedule to a plan and its certificate.
 
-ghost use Rattle.std.specs.Prelude.{IfOk, IfErr};
+ghost use Rattle.std.specs.Prelude.{◌≡◌, IfOk, IfErr, Some, None, length, map};
 ghost use Rattle.algo.specs.View.{algorithm_of};
 ghost use Rattle.sched.specs.View.{schedule_of};
+ghost use Rattle.sched.specs.Placing.{subject_of, placed_of};
 ghost use Rattle.sched.specs.Legal.{IsLegal};
-ghost use Rattle.lower.specs.Refused.{Answers, IsRefused, IsUnplanned};
+ghost use Rattle.lower.specs.Stored.{stored_of, stored_of_all};
+ghost use Rattle.lower.specs.Refused.{Answers, AreSmall, IsRefused, IsUnplanned, IsPlaced};
 
 use crate::definitions::{Stored, stored_functions};
 use crate::error::{LowerError, RegionRule, Stop};
@@ -124,7 +126,9 @@ fn stored_before(placement: &Placement, name: &Name) -> usize {
 }
 
 // How many stored functions are asked what they break: those before the first that breaks a rule which asks for no region.
-fn asked(placement: &Placement, stored: usize) -> usize {
+fn asked(placement: &Placement, stored: usize) -> usize
+    ensures { placement.now.fault ≡ None → result ≡ stored }
+{
     match &placement.fault {
         Some((_, name)) => stored_before(placement, name),
         None => stored,
@@ -169,25 +173,54 @@ fn laid_all(
     Ok(laid)
 }
 
-// The plan of a placement, unless some function breaks a rule: the first, in the order of declaration, is told.
-fn plan_placed(alloc: Global, algo: &Algo, placement: &Placement) -> Result<Lowered, LowerError>
-    ensures { Answers placement.now.fault result }
+// What is told of a placement that breaks a rule behind the last directive.
+fn broken(
+    alloc: Global,
+    stored: &[Stored<'_>],
+    rule: Rule,
+    name: Name,
+) -> Result<LowerError, AllocError>
+    ensures { IfOk result (IsPlaced (Some (rule, name))) }
 {
-    let stored = stored_functions(alloc, algo, placement)?;
-    let laid = laid_all(alloc, algo, &stored)?;
-    let parties = parties_of(alloc, algo, &stored, &laid)?;
+    if rule.number() > OUTSIDE_USE && uses_outside(alloc, stored, &name)? {
+        return Ok(LowerError::Broken(RegionRule::OutsideUse, name));
+    }
+    Ok(LowerError::Schedule(SchedError::Broken(rule, name)))
+}
+
+// The plan of the stored functions, unless one breaks a rule: the first, in the order of declaration, is told.
+#[tactic(auto, using(crate::proofs::Sizes::none_is_large, crate::proofs::Told::told_of, crate::proofs::Told::placed_told, crate::proofs::Told::unplanned_told))]
+fn plan_stored(
+    alloc: Global,
+    algo: &Algo,
+    placement: &Placement,
+    stored: &[Stored<'_>],
+) -> Result<Lowered, LowerError>
+    ensures { Answers (map stored_of stored.now) placement.now.fault result }
+{
+    let laid = laid_all(alloc, algo, stored)?;
+    let parties = parties_of(alloc, algo, stored, &laid)?;
     let count = asked(placement, stored.len());
-    if let Some((rule, name)) = first_fault(alloc, algo, &stored, &laid, &parties, count)? {
+    let fault = placement.fault;
+    if let Some((rule, name)) = first_fault(alloc, algo, stored, &laid, &parties, count, fault)? {
         return Err(LowerError::Broken(rule, name));
     }
     if let Some((rule, name)) = placement.fault {
-        if rule.number() > OUTSIDE_USE && uses_outside(alloc, &stored, &name)? {
-            return Err(LowerError::Broken(RegionRule::OutsideUse, name));
-        }
-        return Err(LowerError::Schedule(SchedError::Broken(rule, name)));
+        return Err(broken(alloc, stored, rule, name)?);
     }
-    let roots = roots_of(alloc, &stored, &laid, true)?;
+    let roots = roots_of(alloc, stored, &laid, true)?;
     planned(alloc, algo, &roots, &parties)
+}
+
+// The plan of a placement.
+fn plan_placed(alloc: Global, algo: &Algo, placement: &Placement) -> Result<Lowered, LowerError>
+    requires { length placement.now.subjects.items ≡ length (algorithm_of algo.now).functions }
+    ensures { Answers
+        (stored_of_all (algorithm_of algo.now) (map subject_of placement.now.subjects.items) (map placed_of placement.now.functions.items))
+        placement.now.fault result }
+{
+    let stored = stored_functions(alloc, algo, placement)?;
+    plan_stored(alloc, algo, placement, &stored)
 }
 
 /// The plan that a schedule makes of an algorithm, and its certificate: one group for each root function in the order of
@@ -199,6 +232,9 @@ fn plan_placed(alloc: Global, algo: &Algo, placement: &Placement) -> Result<Lowe
 /// over fewer points than the factor, L9 of a fold, L11 or L12. `Memory`.
 pub fn lower(alloc: Global, algo: &Algo, sched: &Sched) -> Result<Lowered, LowerError>
     ensures legal { IfOk result (λ _. IsLegal (algorithm_of algo.now) (schedule_of sched.now)) }
+
+    // L11: of no stored function a definition, with the calls put in, passes the limits of an expression.
+    ensures small { IfOk result (λ _. AreSmall (algorithm_of algo.now) (schedule_of sched.now)) }
     ensures refused { IfErr result (IsRefused (algorithm_of algo.now) (schedule_of sched.now)) }
 {
     let placement = followed(alloc, algo, sched)?;
@@ -220,14 +256,18 @@ fn placed_reason(
     placement: &Placement,
     rule: RegionRule,
     name: &Name,
-) -> Result<Option<Reason>, AllocError> {
+) -> Result<Option<Reason>, AllocError>
+    requires { length placement.now.subjects.items ≡ length (algorithm_of algo.now).functions }
+{
     let stored = stored_functions(alloc, algo, placement)?;
     let laid = laid_all(alloc, algo, &stored)?;
     let parties = parties_of(alloc, algo, &stored, &laid)?;
     match rule {
         RegionRule::OutsideUse | RegionRule::ShortShift => Ok(None),
         RegionRule::SmallFold => if_found(fold_reason(alloc, algo, &parties, name)),
-        RegionRule::TooLarge => size_reason(alloc, algo, placement, &stored, &laid, name),
+        RegionRule::TooLarge | RegionRule::TooMuch => {
+            size_reason(alloc, algo, placement, &stored, &laid, name)
+        }
         RegionRule::Unbounded => {
             if_found(bound_reason(alloc, algo, &stored, &laid, &parties, name))
         }
@@ -240,7 +280,9 @@ fn unwindowed_reason(
     algo: &Algo,
     placement: &Placement,
     name: &Name,
-) -> Result<Option<Reason>, AllocError> {
+) -> Result<Option<Reason>, AllocError>
+    requires { length placement.now.subjects.items ≡ length (algorithm_of algo.now).functions }
+{
     let stored = stored_functions(alloc, algo, placement)?;
     let laid = laid_all(alloc, algo, &stored)?;
     let parties = parties_of(alloc, algo, &stored, &laid)?;

@@ -1,6 +1,9 @@
 //! Root functions with those that are computed inside their loops: the rules that these break, and the regions that all of
 //! them ask for.
 
+ghost use Rattle.std.specs.Prelude.{IfOk};
+ghost use Rattle.lower.specs.Large.{IsByRegion};
+
 use crate::definitions::Stored;
 use crate::error::{RegionRule, Stop};
 use crate::fetching::{Root, Site, sites_of};
@@ -87,7 +90,9 @@ fn is_inner_bounded(alloc: Global, algo: &Algo, inner: &Inner<'_>) -> Result<boo
 }
 
 // The rule of the lowest number that a function breaks where it is computed.
-fn broken_by(alloc: Global, algo: &Algo, inner: &Inner<'_>) -> Result<Option<RegionRule>, Stop> {
+fn broken_by(alloc: Global, algo: &Algo, inner: &Inner<'_>) -> Result<Option<RegionRule>, Stop>
+    ensures { IfOk result IsByRegion }
+{
     if is_short(alloc, inner)? {
         return Ok(Some(RegionRule::ShortShift));
     }
@@ -100,7 +105,11 @@ fn broken_by(alloc: Global, algo: &Algo, inner: &Inner<'_>) -> Result<Option<Reg
     Ok(None)
 }
 
-fn lower_of(first: Option<RegionRule>, second: Option<RegionRule>) -> Option<RegionRule> {
+fn lower_of(first: Option<RegionRule>, second: Option<RegionRule>) -> Option<RegionRule>
+    requires first { IsByRegion first }
+    requires second { IsByRegion second }
+    ensures { IsByRegion result }
+{
     match (first, second) {
         (Some(one), Some(other)) if other.number() < one.number() => Some(other),
         (None, other) => other,
@@ -109,11 +118,9 @@ fn lower_of(first: Option<RegionRule>, second: Option<RegionRule>) -> Option<Reg
 }
 
 // The same where bounds are missing, which is L12.
-fn fault_at(
-    alloc: Global,
-    algo: &Algo,
-    inner: &Inner<'_>,
-) -> Result<Option<RegionRule>, AllocError> {
+fn fault_at(alloc: Global, algo: &Algo, inner: &Inner<'_>) -> Result<Option<RegionRule>, AllocError>
+    ensures { IfOk result IsByRegion }
+{
     match broken_by(alloc, algo, inner) {
         Ok(rule) => Ok(rule),
         Err(Stop::Limit) => Ok(Some(RegionRule::Unbounded)),
@@ -128,7 +135,10 @@ fn with_faults(
     root: &Root<'_>,
     inners: &[Inner<'_>],
     known: Option<RegionRule>,
-) -> Result<Option<RegionRule>, AllocError> {
+) -> Result<Option<RegionRule>, AllocError>
+    requires { IsByRegion known }
+    ensures { IfOk result IsByRegion }
+{
     let mut found = known;
     for inner in inners {
         if inner.root.stored.subject.name.as_str() == root.stored.subject.name.as_str() {
@@ -144,7 +154,9 @@ pub(crate) fn fault_inside(
     algo: &Algo,
     root: &Root<'_>,
     parties: &[Party<'_>],
-) -> Result<Option<RegionRule>, AllocError> {
+) -> Result<Option<RegionRule>, AllocError>
+    ensures { IfOk result IsByRegion }
+{
     let mut found = None;
     for party in parties {
         if let Some(inners) = &party.inners {

@@ -1,7 +1,7 @@
 //! How a function that is computed inside a loop keeps what the turns before have made.
 
 use crate::error::Stop;
-use crate::fetching::Root;
+use crate::fetching::{Root, freed};
 use crate::forms::raised;
 use crate::reasons::Standstill;
 use crate::turns::nests_over;
@@ -20,8 +20,15 @@ pub(crate) struct Track {
     symbol: Sym,
     /// The symbols of the lets behind the loop.
     lets: Vec<Sym>,
-    /// Whether nothing stands behind the loop.
-    is_bare: bool,
+    /// Whether a guard stands behind the loop.
+    is_guarded: bool,
+}
+
+/// The dimension in which a function slides, and along which loop.
+#[derive(Drop)]
+pub(crate) struct Sliding {
+    pub track: Track,
+    pub dimension: usize,
 }
 
 /// The nests of the turns after the first one, over what is new.
@@ -39,6 +46,13 @@ pub(crate) struct Later {
 }
 
 // ---- the loop
+
+impl Sliding {
+    /// Whether no let and no guard stands behind the loop.
+    pub(crate) fn is_bare(&self) -> bool {
+        self.track.lets.is_empty() && !self.track.is_guarded
+    }
+}
 
 // The lets of the steps.
 fn lets_of(alloc: Global, steps: &[Step]) -> Result<Vec<Sym>, AllocError> {
@@ -63,7 +77,9 @@ pub(crate) fn track_of(alloc: Global, steps: &[Step]) -> Result<Option<Track>, A
             return Ok(Some(Track {
                 symbol: *symbol,
                 lets: lets_of(alloc, behind)?,
-                is_bare: behind.is_empty(),
+                is_guarded: behind
+                    .iter()
+                    .any(|step| matches!(step, Step::Tested { .. })),
             }));
         }
     }
@@ -215,29 +231,117 @@ fn new_region(
     Ok(made)
 }
 
-/// The turns after the first one of a function without updates, where its loop is not behind lets or guards.
+// Whether the form is shown to be at most each of the others.
+fn is_below(alloc: Global, scope: &Scope, form: &Lin, others: &[Lin]) -> Result<bool, AllocError> {
+    for other in others {
+        if !scope.at_most(alloc, form, other)? {
+            return Ok(false);
+        }
+    }
+    Ok(true)
+}
+
+// Whether no turn begins past what the turn before has made.
+fn are_joined(alloc: Global, scope: &Scope, span: &Span1, symbol: Sym) -> Result<bool, Stop> {
+    let new = new_from(alloc, span, symbol)?;
+    for form in span.lower.as_slice() {
+        if form.factor(symbol) != 0 && !is_below(alloc, scope, form, new.as_slice())? {
+            return Ok(false);
+        }
+    }
+    Ok(true)
+}
+
+// The span over the loop's own symbol in place of the lets behind it, where it rises and the turns join.
+fn over_loop(
+    alloc: Global,
+    scope: &Scope,
+    span: &Span1,
+    track: &Track,
+) -> Result<Option<Span1>, Stop> {
+    let span = freed(alloc, scope, track.lets.as_slice(), span)?;
+    let is_open = span.lower.as_slice().is_empty() || span.upper.as_slice().is_empty();
+    if is_open || !rises(&span, track) || !are_joined(alloc, scope, &span, track.symbol)? {
+        return Ok(None);
+    }
+    Ok(Some(span))
+}
+
+// The region with another span in a dimension.
+fn with_span(
+    alloc: Global,
+    region: &Region,
+    along: usize,
+    span: &Span1,
+) -> Result<Region, AllocError> {
+    let mut made = Region::new(alloc);
+    for (dimension, one) in region.as_slice().iter().enumerate() {
+        let one = if dimension == along { span } else { one };
+        made.push(one.copy(alloc)?)?;
+    }
+    Ok(made)
+}
+
+// Whether the dimension's loop is split.
+fn is_split(root: &Root<'_>, dimension: usize) -> bool {
+    let Some(variable) = root.stored.subject.variables.get(dimension) else {
+        return false;
+    };
+    let cuts = &root.stored.placed.cuts;
+    cuts.iter()
+        .any(|cut| cut.whole.as_str() == variable.as_str())
+}
+
+/// What a function without updates holds in each turn of the loop along which it slides: what is needed of it; behind lets that
+/// over the loop's own symbol, where it has no folds and is not split there. None where it makes all in each turn: behind a
+/// guard, and where numbers that nobody needs might lie between the turns.
+pub(crate) fn held_region(
+    alloc: Global,
+    root: &Root<'_>,
+    scope: &Scope,
+    region: &Region,
+    sliding: &Sliding,
+) -> Result<Option<Region>, Stop> {
+    let track = &sliding.track;
+    if track.is_guarded || root.formulas.len() != 1 {
+        return Ok(None);
+    }
+    if track.lets.is_empty() {
+        return Ok(Some(region.copy(alloc)?));
+    }
+    let Some(span) = region.as_slice().get(sliding.dimension) else {
+        return Ok(None);
+    };
+    if is_split(root, sliding.dimension) {
+        return Ok(None);
+    }
+    match over_loop(alloc, scope, span, track) {
+        Ok(Some(span)) => Ok(Some(with_span(alloc, region, sliding.dimension, &span)?)),
+        Ok(None) | Err(Stop::Limit) => Ok(None),
+        Err(Stop::Memory) => Err(Stop::Memory),
+    }
+}
+
+/// The turns after the first one of a function that holds such a region in each turn.
 pub(crate) fn later_of(
     alloc: Global,
     root: &Root<'_>,
     scope: &Scope,
     region: &Region,
-    track: &Track,
-    dimension: usize,
+    sliding: &Sliding,
 ) -> Result<Option<Later>, Stop> {
-    if !track.is_bare || root.formulas.len() != 1 {
-        return Ok(None);
-    }
-    let Some(span) = region.as_slice().get(dimension) else {
+    let Sliding { track, dimension } = sliding;
+    let Some(span) = region.as_slice().get(*dimension) else {
         return Ok(None);
     };
     let first_new = new_from(alloc, span, track.symbol)?;
-    let new = new_region(alloc, scope, region, dimension)?;
+    let new = new_region(alloc, scope, region, *dimension)?;
     let mut inner = scope.copy(alloc)?;
     inner.push(Binding::LetMin(first_new.copy(alloc)?))?;
     let nests = nests_over(alloc, root, &inner, &new)?;
     Ok(Some(Later {
         symbol: track.symbol,
-        dimension,
+        dimension: *dimension,
         first_new,
         scope: inner,
         region: new,

@@ -86,5 +86,8 @@ none_shared p c f told has = elim told [
     | inl code ↦ no_code p c has code.0 f.code code.1
     | inr past ↦ elim past.1 [ inl line ↦ fetched_past p c line.0 line.1 has.few | inr line ↦ needed_past p c line.0 line.1 has.few ]
   ]
-  | inr far ↦ not_near p c has far.1.0 far.1.1 far.1.2 far.1.3
+  | inr refused ↦ elim refused.1 [
+    | inl far ↦ not_near p c has far.1.place far.0 far.1.stands far.1.far
+    | inr past ↦ fetched_past p c past.0 past.1 has.few
+  ]
 ]

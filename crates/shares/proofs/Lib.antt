@@ -15,6 +15,7 @@ pub mod Empty
 pub mod Grouped
 pub mod Counting
 pub mod Filing
+pub mod Gathering
 pub mod Noting
 pub mod Totals
 pub mod Prefixes

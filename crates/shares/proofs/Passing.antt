@@ -1,31 +1,30 @@
 -- The fetch lines of a plan as they are counted.
 use Rattle.std.proofs.Common.{◌≡◌, ℕ, zero, suc, ◌+◌, ◌-◌, ◌<◌, ◌≤◌, ◌^◌, List, [], ◌∷◌, ◌++◌, length, map, min, take, get_or, arith, ap, refl, sym, ◌∙◌, subst, Some}
-use Rattle.std.specs.Prelude.{◌==◌, sum_by, slice_get, All}
+use Rattle.std.specs.Prelude.{◌==◌, slice_get, All}
 use Rattle.std.proofs.lemmas.Bool.Decides.{nat_tests}
-use Rattle.std.proofs.lemmas.List.{take-map, take_all, take_more, map-append}
-use Rattle.std.proofs.lemmas.List.Elements.{All-get_or}
+use Rattle.std.proofs.lemmas.List.{get_or-map, length-map, length-take, take-map, take-take, take_all, take_more, map-append}
+use Rattle.std.proofs.lemmas.List.Elements.{All-map, All-more, All-same, All-take, All-weaker}
 use Rattle.std.proofs.lemmas.List.Sums.{sum_by_more, sum_by_push}
 use Rattle.plan.specs.Plan.{Plan}
 use Rattle.plan.specs.Symbols.{points}
 use Rattle.plan.specs.Certificate.Certificate.{Certificate}
 use Rattle.plan.specs.Certificate.Cells.{Piece, grid_symbols, pieces}
-use Rattle.soundness.specs.Outline.Flaws.{line_told}
 use Rattle.shares.specs.declared.counts.FetchLine.{FetchLine as LineHeld}
 use Rattle.shares.specs.declared.seats.Seat.{Seat}
 use Rattle.shares.specs.declared.boxes.Side.{Side}
-use Rattle.shares.specs.Boxes.{IsLimited, point_count, sides}
+use Rattle.shares.specs.Boxes.{point_count, sides}
 use Rattle.shares.specs.Counts.{FetchPasses}
-use Rattle.shares.specs.FetchLines.{FetchLine, LetsAreNear, LineIsNear, plan_fetch_lines, cells_by, fetched_by, fetched_by_lines}
-use Rattle.shares.specs.Lets.{NamingsAreLimited, AreNear, named}
+use Rattle.shares.specs.FetchLines.{FetchIsFar, FetchLine, IsFirstFar, IsFirstPast, LineIsLimited, LineIsNear, plan_fetch_lines, cells_by, fetched_by, fetched_by_lines}
+use Rattle.shares.specs.Lets.{named}
 use Rattle.shares.specs.Read.{IsOpen}
 use Rattle.shares.specs.Noted.{line_of, lines_noted, told_line}
 use Rattle.shares.specs.Has.{fetched_before}
 use Rattle.shares.specs.Seats.{piece_of, pieces_of}
 use Rattle.shares.specs.Shared.{AreShared}
-use Rattle.shares.proofs.Groups.{get_some}
+use Rattle.shares.proofs.Groups.{get_mapped, get_some, get_within, some_same}
 use Rattle.shares.proofs.Noting.{no_line, noted_at, noted_long, told_counts}
 use Rattle.shares.proofs.Shared.{points_counted}
-use Rattle.shares.proofs.Totals.{all_fetched, chosen, left_out, lines_open, region_of_open, same_number, other_number}
+use Rattle.shares.proofs.Totals.{all_fetched, chosen, left_out, region_of_open, same_number, other_number}
 
 -- ---- one line, piece after piece
 
@@ -51,79 +50,191 @@ adds_none x s count other =
 
 -- ---- line after line
 
-module _ (p : Plan) (c : Certificate) (shared : AreShared p c) (held : List LineHeld) (all : lines_noted held ≡ map told_line (plan_fetch_lines p)) where
+module _ (js : List Piece) (held : List LineHeld) where
+  abbrev L : List FetchLine
+  L = lines_noted held
+
+  long : length L ≡ length held
+  long = length-map held line_of
+
+  module _ (k : ℕ) (x : LineHeld) (less : k < length held) (is : x ≡ get_or held k x) where
+    within : k < length L
+    within = omega (arith, less, long)
+
+    line_here : get_or L k (line_of x) ≡ line_of x
+    line_here = get_or-map line_of held k x (line_of x) less ∙ ap line_of (sym is)
+
+    -- what holds of all lines holds of it
+    pub of_line : (P : FetchLine → Type 0) → All P L → P (line_of x)
+    of_line P h = subst P line_here (h k (line_of x) within)
+
+    next_count : fetched_by_lines js (take (k + 1) L) ≡ fetched_by_lines js (take k L) + fetched_by js (line_of x)
+    next_count = sum_by_more (fetched_by js) L k (line_of x) within ∙ ap (λ (y : FetchLine). fetched_by_lines js (take k L) + fetched_by js y) line_here
+
+    -- there is room for the line's cells
+    pub room_left : (room count : ℕ) → room + fetched_by_lines js (take k L) ≡ 2 ^ 26 → count ≡ min (fetched_by js (line_of x)) (2 ^ 64 - 1) → count ≤ room →
+        (room - count) + fetched_by_lines js (take (k + 1) L) ≡ 2 ^ 26
+    room_left room count before counts fits =
+        let more = next_count in
+        omega (arith, before, counts, fits, more)
+
+    -- there is not
+    pub passes_here : (room count : ℕ) → room + fetched_by_lines js (take k L) ≡ 2 ^ 26 → count ≡ min (fetched_by js (line_of x)) (2 ^ 64 - 1) → room < count → IsFirstPast js L k
+    passes_here room count before counts past =
+        let more = next_count in
+        record { within = within; before = omega (arith, before); past = omega (arith, before, more, counts, past) }
+
+    -- it is near, as those before it are
+    pub near_more : All (LineIsNear js) (take k L) → LineIsNear js (line_of x) → All (LineIsNear js) (take (k + 1) L)
+    near_more before near = All-more (LineIsNear js) L k (line_of x) within before (subst (LineIsNear js) (sym line_here) near)
+
+    -- it is the first that is far
+    pub far_here : All (LineIsNear js) (take k L) → ¬ LineIsNear js (line_of x) → IsFirstFar js L k
+    far_here near far = record {
+      line = line_of x;
+      stands = get_some L k (line_of x) within ∙ ap (λ (y : FetchLine). Some y) line_here;
+      near = near;
+      far = far;
+    }
+
+  -- all lines have room
+  pub all_have_room : (k room : ℕ) → length held ≤ k → room + fetched_by_lines js (take k L) ≡ 2 ^ 26 → fetched_by_lines js L ≤ 2 ^ 26
+  all_have_room k room end before =
+      let whole = ap (fetched_by_lines js) (take_all k L (omega (arith, end, long))) in
+      omega (arith, before, whole)
+
+  -- all lines are near
+  pub near_end : (k : ℕ) → length held ≤ k → All (LineIsNear js) (take k L) → All (LineIsNear js) L
+  near_end k end near = All-same (LineIsNear js) L (take k L) (sym (take_all k L (omega (arith, end, long)))) near
+
+  -- ---- the first of them, so many
+
+  module _ (count : ℕ) where
+    pub noted_first : lines_noted (take count held) ≡ take count L
+    noted_first = sym (take-map line_of count held)
+
+    pub firsts_limited : All LineIsLimited L → All LineIsLimited (lines_noted (take count held))
+    firsts_limited h = All-same LineIsLimited (lines_noted (take count held)) (take count L) noted_first (All-take LineIsLimited count L h)
+
+    pub firsts_near : All (LineIsNear js) (take count L) → All (LineIsNear js) (lines_noted (take count held))
+    firsts_near h = All-same (LineIsNear js) (lines_noted (take count held)) (take count L) noted_first h
+
+    pub firsts_counted : fetched_by_lines js (lines_noted (take count held)) ≤ 2 ^ 26 → fetched_by_lines js (take count L) ≤ 2 ^ 26
+    firsts_counted h = let same = ap (fetched_by_lines js) noted_first in omega (arith, h, same)
+
+    -- one of them with which too many cells are fetched
+    module _ (k : ℕ) (past : IsFirstPast js (lines_noted (take count held)) k) where
+      pub below : k < count
+      below =
+          let within = past.within in
+          let same = ap length noted_first in
+          let most = length-take count L in
+          omega (arith, within, same, most)
+
+      shorter : (m : ℕ) → m ≤ count → fetched_by_lines js (take m (lines_noted (take count held))) ≡ fetched_by_lines js (take m L)
+      shorter m most = ap (λ (xs : List FetchLine). fetched_by_lines js (take m xs)) noted_first ∙ ap (fetched_by_lines js) (take-take m count L most)
+
+      pub past_first : IsFirstPast js L k
+      past_first =
+          let within = past.within in
+          let same = ap length noted_first in
+          let most = length-take count L in
+          let one = shorter k (omega (arith, below)) in
+          let two = shorter (k + 1) (omega (arith, below)) in
+          let before = past.before in
+          let passed = past.past in
+          record { within = omega (arith, within, same, most); before = omega (arith, before, one); past = omega (arith, passed, two) }
+
+      pub near_first : All (LineIsNear js) (take count L) → All (LineIsNear js) (take k L)
+      near_first h = All-same (LineIsNear js) (take k L) (take k (take count L)) (sym (take-take k count L (omega (arith, below)))) (All-take (LineIsNear js) k (take count L) h)
+
+-- ---- a plan's lines
+
+near_untold : (js : List Piece) (xs : List FetchLine) → All (LineIsNear js) (map told_line xs) → All (LineIsNear js) xs
+near_untold js xs h k d less = subst (LineIsNear js) (get_or-map told_line xs k d (told_line d) less) (h k (told_line d) (let same = length-map xs told_line in omega (arith, less, same)))
+
+module _ (p : Plan) (held : List LineHeld) (all : lines_noted held ≡ map told_line (plan_fetch_lines p)) where
   abbrev F : List FetchLine
   F = plan_fetch_lines p
 
-  abbrev js : List Piece
-  js = pieces p
+  many : length held ≡ length F
+  many = noted_long p held all
 
-  abbrev none : FetchLine
-  none = no_line
+  firsts_are : (k : ℕ) → take k (lines_noted held) ≡ map told_line (take k F)
+  firsts_are k = ap (λ (xs : List FetchLine). take k xs) all ∙ take-map told_line k F
 
-  long : length held ≡ length F
-  long = noted_long p held all
+  first_counts : (js : List Piece) (k : ℕ) → fetched_by_lines js (take k (lines_noted held)) ≡ fetched_by_lines js (take k F)
+  first_counts js k = ap (fetched_by_lines js) (firsts_are k) ∙ told_counts js (take k F)
 
-  -- what the first lines count
-  first_counts : (k : ℕ) → fetched_by_lines js (take k (lines_noted held)) ≡ fetched_by_lines js (take k F)
-  first_counts k = ap (λ (xs : List FetchLine). fetched_by_lines js (take k xs)) all ∙ ap (fetched_by_lines js) (take-map told_line k F) ∙ told_counts js (take k F)
+  first_near : (js : List Piece) (k : ℕ) → All (LineIsNear js) (take k (lines_noted held)) → All (LineIsNear js) (take k F)
+  first_near js k h = near_untold js (take k F) (All-same (LineIsNear js) (map told_line (take k F)) (take k (lines_noted held)) (sym (firsts_are k)) h)
 
-  module _ (k : ℕ) (x : LineHeld) (less : k < length held) (is : x ≡ get_or held k x) where
+  pub all_near : (js : List Piece) → All (LineIsNear js) (lines_noted held) → All (LineIsNear js) F
+  all_near js h = near_untold js F (All-same (LineIsNear js) (map told_line F) (lines_noted held) (sym all) h)
+
+  pub near_noted : (js : List Piece) → All (LineIsNear js) F → All (LineIsNear js) (lines_noted held)
+  near_noted js h = All-same (LineIsNear js) (lines_noted held) (map told_line F) all (All-map (LineIsNear js) told_line F h)
+
+  pub limited_noted : All (IsOpen p) F → All LineIsLimited (lines_noted held)
+  limited_noted stand =
+      All-same LineIsLimited (lines_noted held) (map told_line F) all
+      (All-map LineIsLimited told_line F (All-weaker (IsOpen p) LineIsLimited (λ x h. (region_of_open p x h, h.lets)) F stand))
+
+  -- no more cells are fetched than may be
+  pub few_fetched : (c : Certificate) → AreShared p c → fetched_by_lines (pieces p) (lines_noted held) ≤ 2 ^ 26 → fetched_before p (length (pieces p)) ≤ 2 ^ 26
+  few_fetched c shared few =
+      let same : fetched_by_lines (pieces p) (lines_noted held) ≡ fetched_by_lines (pieces p) F = ap (fetched_by_lines (pieces p)) all ∙ told_counts (pieces p) F in
+      let fetched = all_fetched p c shared in
+      omega (arith, few, same, fetched)
+
+  module _ (js : List Piece) (same : js ≡ pieces p) (k : ℕ) (x : LineHeld) (is : x ≡ get_or held k x) where
     abbrev this : FetchLine
-    this = get_or F k none
+    this = get_or F k no_line
 
-    within : k < length F
-    within = omega (arith, less, long)
+    near_before : All (LineIsNear js) (take k (lines_noted held)) → All (LineIsNear (pieces p)) (take k F)
+    near_before h = subst (λ (ps : List Piece). All (LineIsNear ps) (take k F)) same (first_near js k h)
 
-    line_is : line_of x ≡ told_line this
-    line_is = noted_at p held all k x less is
+    few_before : fetched_by_lines js (take k (lines_noted held)) ≤ 2 ^ 26 → fetched_by_lines (pieces p) (take k F) ≤ 2 ^ 26
+    few_before h =
+        let first = first_counts js k in
+        let of_plan = ap (λ (ps : List Piece). fetched_by_lines ps (take k F)) same in
+        omega (arith, h, first, of_plan)
 
-    abbrev stands : IsOpen p this
-    stands = All-get_or (IsOpen p) F k none within (lines_open p c shared)
-
-    pub region_limited : IsLimited x.region.now
-    region_limited = subst (λ (y : FetchLine). IsLimited y.region) (sym line_is) (region_of_open p this stands)
-
-    pub lets_limited : NamingsAreLimited (line_of x).lets
-    lets_limited = subst (λ (y : FetchLine). NamingsAreLimited y.lets) (sym line_is) stands.lets
-
-    pub line_near : LetsAreNear p → LineIsNear js (line_of x)
-    line_near near = subst (LineIsNear js) (sym line_is) (All-get_or (LineIsNear js) F k none within near)
-
-    next_count : fetched_by_lines js (take (k + 1) F) ≡ fetched_by_lines js (take k F) + fetched_by js (line_of x)
-    next_count =
-        let more = sum_by_more (fetched_by js) F k none within in
-        let same = ap (fetched_by js) line_is in
-        omega (arith, more, same)
-
-    -- there is room for the line's cells
-    pub room_left : (room count : ℕ) → room + fetched_by_lines js (take k (lines_noted held)) ≡ 2 ^ 26 → count ≡ min (fetched_by js (line_of x)) (2 ^ 64 - 1) → count ≤ room → (room - count) + fetched_by_lines js (take (k + 1) (lines_noted held)) ≡ 2 ^ 26
-    room_left room count before counts fits =
-        let first = first_counts k in
-        let next = first_counts (k + 1) in
-        let more = next_count in
-        omega (arith, before, counts, fits, first, next, more)
-
-    -- there is not
-    pub passes_here : (room count : ℕ) → room + fetched_by_lines js (take k (lines_noted held)) ≡ 2 ^ 26 → count ≡ min (fetched_by js (line_of x)) (2 ^ 64 - 1) → room < count → FetchPasses p c x.line
-    passes_here room count before counts past =
-        let first = first_counts k in
-        let more = next_count in (
+    -- the line of this place is one with which too many cells are fetched
+    pub passes : (c : Certificate) → AreShared p c → All (LineIsNear js) (take k (lines_noted held)) → IsFirstPast js (lines_noted held) k → FetchPasses p c x.line
+    passes c shared near past =
+        let counted = length-map held line_of in
+        let within = past.within in
+        let passed = past.past in
+        let next = first_counts js (k + 1) in
+        let of_plan = ap (λ (ps : List Piece). fetched_by_lines ps (take (k + 1) F)) same in (
           this,
           record {
             shared = shared;
             place = k;
-            stands = get_some F k none within;
-            before = omega (arith, before, first);
-            passed = omega (arith, before, first, more, counts, past);
+            stands = get_some F k no_line (omega (arith, within, counted, many));
+            near = near_before near;
+            before = few_before past.before;
+            passed = omega (arith, passed, next, of_plan);
+          },
+          ap (λ (y : FetchLine). y.line) (noted_at p held all k x (omega (arith, within, counted)) is),
+        )
+
+    -- or the first one that is far
+    pub far_fetch : IsFirstFar js (lines_noted held) k → fetched_by_lines js (take k (lines_noted held)) ≤ 2 ^ 26 → FetchIsFar p x.line
+    far_fetch first few =
+        let counted = length-map held line_of in
+        let within = get_within (lines_noted held) k first.line first.stands in
+        let line_is : line_of x ≡ told_line this = noted_at p held all k x (omega (arith, within, counted)) is in
+        let at : slice_get (lines_noted held) k ≡ Some (line_of x) = get_mapped line_of held k x (omega (arith, within, counted)) ∙ ap (λ (y : LineHeld). Some (line_of y)) (sym is) in
+        let told : first.line ≡ told_line this = some_same first.line (line_of x) (sym first.stands ∙ at) ∙ line_is in (
+          this,
+          record {
+            place = k;
+            stands = get_some F k no_line (omega (arith, within, counted, many));
+            near = near_before first.near;
+            before = few_before few;
+            far = λ near. first.far (subst (LineIsNear js) (sym told) (subst (λ (ps : List Piece). LineIsNear ps this) (sym same) near));
           },
           ap (λ (y : FetchLine). y.line) line_is,
         )
-
-  -- all lines have room
-  pub all_have_room : (k room : ℕ) → length held ≤ k → room + fetched_by_lines js (take k (lines_noted held)) ≡ 2 ^ 26 → fetched_before p (length (pieces p)) ≤ 2 ^ 26
-  all_have_room k room end before =
-      let first = first_counts k in
-      let whole = ap (fetched_by_lines js) (take_all k F (omega (arith, end, long))) in
-      let fetched = all_fetched p c shared in
-      omega (arith, before, first, whole, fetched)

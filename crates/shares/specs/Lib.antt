@@ -11,6 +11,7 @@ pub mod Layout
 pub mod Faults
 pub mod Needed
 pub mod Filed
+pub mod Gathered
 pub mod Has
 pub mod Counts
 pub mod Noted

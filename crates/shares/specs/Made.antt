@@ -21,8 +21,7 @@ use Rattle.shares.specs.declared.lists.Trouble.TheVariants.{Unserved, Large, Mem
 use Rattle.shares.specs.declared.stop.Stop.{Stop}
 use Rattle.shares.specs.declared.stop.Stop.TheVariants.{Unserved as StopUnserved, Large as StopLarge, Memory as StopWant}
 use Rattle.shares.specs.Layout.{own_list, fetched_list, needs_list, FetchesCells, OwnIsInside}
-use Rattle.shares.specs.Counts.{FetchPasses, NeedPasses}
-use Rattle.shares.specs.FetchLines.{FetchIsFar}
+use Rattle.shares.specs.Counts.{FetchIsRefused, FetchPasses, NeedPasses}
 use Rattle.shares.specs.Faults.{IsApart}
 use Rattle.shares.specs.Has.{AreFew, NeedsPieces, IsServed, fetched_before}
 
@@ -132,10 +131,9 @@ pub record LinesStand (p : Plan) (c : Certificate) : Type 0 where
   pub fetched : fetched_before p (length (pieces p)) ≤ 2 ^ 26
   pub own : (f : FlawHeld) → ¬ IsOwnFlaw p c (length p.groups) f
 
--- the flaw holds, and of all at own lines none is told before it; or it tells that what a fetch line reads can't be told, since a
--- line `let` before it comes to no near number
+-- the flaw holds, and of all at own lines none is told before it; or it tells of the first fetch line at which something is wrong
 abbrev pub ErrorMeans : Plan → Certificate → SharesError → Type 0
-ErrorMeans p c (Flaw f) = (FlawMeans p c f × IsFirstOwn p c (length p.groups) f) ⊎ ((f.code ≡ K14) × FetchIsFar p f.line)
+ErrorMeans p c (Flaw f) = (FlawMeans p c f × IsFirstOwn p c (length p.groups) f) ⊎ ((f.code ≡ K14) × FetchIsRefused p c f.line)
 ErrorMeans p c Memory = Unit {0}
 
 -- what trouble tells of a piece, which is one of so many: it is not served, or with it more is fetched or needed than may be

@@ -140,8 +140,9 @@ fn line_flaw(alloc: Global, layout: &Layout<'_>, count: u32) -> Result<Option<Fl
 /// K14: more than 2^26 cells are fetched or 2^24 pieces needed in all, or some line `let` before a fetch line comes in some piece
 /// of its group to a number that is farther than 2^20 from 0. K9 and K10 stand at the own line of the group, K11 at
 /// its first need line, or its own line if there is none, K14 at the fetch line or need line with which the limit is passed, and
-/// at the first fetch line behind such a `let`, before all else.
-/// Of what is wrong at fetch lines and own lines the first is told, at one line the lowest code.
+/// at the first fetch line behind such a `let`.
+/// Of all that is wrong at fetch lines the first line is told, and of it and what is wrong at own lines the first, at one line the
+/// lowest code.
 ///
 /// The time is about linear in the pieces, the cells, the fetch lines for each piece, the fetched cells, the need lines, and the
 /// points that the need lines of each piece's group name for it.
@@ -157,12 +158,12 @@ pub fn shares_of(alloc: Global, plan: &Plan, cert: &Cert) -> Result<Shares, Shar
 {
     match layout_of(alloc, plan, cert)? {
         Ok(layout) => made_of(alloc, &layout),
-        Err(line) => Err(far(line)),
+        Err(line) => Err(refused(line)),
     }
 }
 
-/// K14 at a fetch line of which it can't be told what it reads.
-fn far(line: u32) -> SharesError
+/// K14 at a fetch line.
+fn refused(line: u32) -> SharesError
     ensures { result ≡ SharesError.Flaw (record { code = K14; line = line }) }
 {
     let code = K::K14;

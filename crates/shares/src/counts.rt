@@ -1,6 +1,6 @@
 //! How many cells the fetch lines of a plan read, line after line.
 
-ghost use Rattle.std.specs.Prelude.{◌≡◌, ℕ, ◌≤◌, ◌<◌, ◌+◌, ◌-◌, ◌^◌, ◌++◌, ◌∷◌, [], IfOk, OnOk, MatchOption, map, length, min, Some, slice_get};
+ghost use Rattle.std.specs.Prelude.{◌≡◌, ℕ, ◌≤◌, ◌<◌, ◌+◌, ◌-◌, ◌^◌, ◌++◌, ◌∷◌, [], IfOk, OnOk, MatchOption, All, map, length, min, Some, slice_get};
 ghost use Rattle.plan.specs.Lists.{list_statements};
 ghost use Rattle.plan.specs.Lines.{body_line};
 ghost use Rattle.plan.specs.Plan.{block, Group as NestGroup};
@@ -11,15 +11,17 @@ ghost use Rattle.soundness.specs.Outline.Flaws.{line_told};
 ghost use Rattle.soundness.specs.declared.outline.refusals.code.K.TheVariants.{K14};
 ghost use Rattle.shares.specs.Boxes.{IsLimited, IsSmall, sides};
 ghost use Rattle.shares.specs.Counts.{FetchPasses};
-ghost use Rattle.shares.specs.FetchLines.{LineIsNear, block_fetch_lines, fetch_lines, fetched_by, plan_fetch_lines};
+ghost use Rattle.shares.specs.FetchLines.{IsFirstPast, LineIsLimited, LineIsNear, block_fetch_lines, fetch_lines, fetched_by, fetched_by_lines, plan_fetch_lines};
 ghost use Rattle.shares.specs.Lets.{AreNear, NamingsAreLimited, named, namings_of};
 ghost use Rattle.shares.specs.Noted.{line_of, lines_noted, told_line};
 ghost use Rattle.shares.specs.Has.{fetched_before};
 ghost use Rattle.shares.specs.Layout.{IsLayout};
+ghost use Rattle.shares.specs.Seats.{AreSmall, pieces_of};
 
 use crate::boxes::{Side, box_by, most_points};
 use crate::layout::Layout;
 use crate::lets::{Naming, copy_lets, note_let, values_at};
+use crate::seats::Seat;
 use lin::Span1;
 use plan::{Plan, Stmt};
 use soundness::outline::refusals::{Flaw, K};
@@ -150,18 +152,18 @@ fn box_of(alloc: Global, line: &FetchLine<'_>, at: &[u64]) -> Result<Vec<Side>, 
     Ok(sides)
 }
 
-/// How many cells all pieces fetch by a line, or the greatest number of the machine where it is more.
+/// How many cells these pieces fetch by a line, or the greatest number of the machine where it is more.
 ///
 /// The time is linear in the pieces.
-fn cells_by(alloc: Global, layout: &Layout<'_>, line: &FetchLine<'_>) -> Result<u64, AllocError>
-    requires layout { IsLayout layout.now }
+fn cells_by(alloc: Global, seats: &[Seat], line: &FetchLine<'_>) -> Result<u64, AllocError>
+    requires small { AreSmall seats.now }
     requires region { IsLimited line.now.region.now }
     requires lets { NamingsAreLimited (namings_of line.now.lets.items) }
-    requires near { LineIsNear (pieces (plan_of layout.now.plan.now)) (line_of line.now) }
-    ensures { IfOk result (λ count. count ≡ min (fetched_by (pieces (plan_of layout.now.plan.now)) (line_of line.now)) (2 ^ 64 - 1)) }
+    requires near { LineIsNear (pieces_of seats.now) (line_of line.now) }
+    ensures { IfOk result (λ count. count ≡ min (fetched_by (pieces_of seats.now) (line_of line.now)) (2 ^ 64 - 1)) }
 {
     let mut count: u64 = 0;
-    for seat in &layout.seats {
+    for seat in seats {
         if seat.group == line.group {
             let sides = box_of(alloc, line, &seat.at)?;
             count = count.saturating_add(most_points(&sides));
@@ -170,25 +172,43 @@ fn cells_by(alloc: Global, layout: &Layout<'_>, line: &FetchLine<'_>) -> Result<
     Ok(count)
 }
 
-/// The flaw of the fetch line with which more than 2^26 cells are fetched, if there is one.
+/// The place of the line with which these pieces fetch more than 2^26 cells, if there is one.
 ///
-/// The time is linear in the fetch lines and the pieces: cells are counted by the boxes that they are.
+/// The time is linear in the lines and the pieces: cells are counted by the boxes that they are.
+pub(crate) fn passing_place(
+    alloc: Global,
+    lines: &[FetchLine<'_>],
+    seats: &[Seat],
+) -> Result<Option<usize>, AllocError>
+    requires limits { All LineIsLimited (lines_noted lines.now) }
+    requires near { All (LineIsNear (pieces_of seats.now)) (lines_noted lines.now) }
+    requires small { AreSmall seats.now }
+    ensures { IfOk result (λ found. MatchOption found (fetched_by_lines (pieces_of seats.now) (lines_noted lines.now) ≤ 2 ^ 26)
+        (IsFirstPast (pieces_of seats.now) (lines_noted lines.now))) }
+{
+    let mut room = MOST_FETCHED;
+    for (place, line) in lines.iter().enumerate() {
+        let count = cells_by(alloc, seats, line)?;
+        if count > room {
+            return Ok(Some(place));
+        }
+        room -= count;
+    }
+    Ok(None)
+}
+
+/// The flaw of the fetch line with which more than 2^26 cells are fetched, if there is one.
 pub(crate) fn fetch_flaw(alloc: Global, layout: &Layout<'_>) -> Result<Option<Flaw>, AllocError>
     requires { IsLayout layout.now }
     ensures { IfOk result (λ found. MatchOption found (fetched_before (plan_of layout.now.plan.now) (length (pieces (plan_of layout.now.plan.now))) ≤ 2 ^ 26)
         (λ f. (f.code ≡ K14) × FetchPasses (plan_of layout.now.plan.now) (certificate_of layout.now.cert.now) f.line)) }
 {
     let lines = fetch_lines(alloc, layout.plan)?;
-    let mut room = MOST_FETCHED;
-    for line in &lines {
-        let count = cells_by(alloc, layout, line)?;
-        if count > room {
-            return Ok(Some(Flaw {
-                code: K::K14,
-                line: line.line,
-            }));
-        }
-        room -= count;
+    match passing_place(alloc, &lines, &layout.seats)? {
+        Some(place) => Ok(Some(Flaw {
+            code: K::K14,
+            line: lines[place].line,
+        })),
+        None => Ok(None),
     }
-    Ok(None)
 }

@@ -1,15 +1,19 @@
-//! Fetch lines of which it can't be told what they read.
+//! The first fetch line at which something is wrong, where of some of them it can't be told what they read.
 
 ghost use Rattle.std.specs.Prelude.{◌≡◌, IfOk, IsTrue, IsFalse, All, MatchOption};
 ghost use Rattle.plan.specs.View.{plan_of};
+ghost use Rattle.plan.specs.Certificate.Certificate.{Certificate};
 ghost use Rattle.plan.specs.Certificate.Cells.{grid_symbols, pieces};
 ghost use Rattle.shares.specs.Boxes.{IsSmall};
-ghost use Rattle.shares.specs.FetchLines.{FetchIsFar, LetsAreNear, LineIsNear, plan_fetch_lines};
+ghost use Rattle.shares.specs.Counts.{FetchIsRefused};
+ghost use Rattle.shares.specs.FetchLines.{IsFirstFar, LetsAreNear, LineIsLimited, LineIsNear, plan_fetch_lines};
 ghost use Rattle.shares.specs.Lets.{AreNear, NamingsAreLimited, namings_of};
-ghost use Rattle.shares.specs.Noted.{line_of};
+ghost use Rattle.shares.specs.Noted.{line_of, lines_noted};
+ghost use Rattle.shares.specs.Read.{IsOpen};
 ghost use Rattle.shares.specs.Seats.{AreSmall, pieces_of};
+ghost use Rattle.shares.specs.Shared.{AreShared};
 
-use crate::counts::{FetchLine, fetch_lines};
+use crate::counts::{FetchLine, fetch_lines, passing_place};
 use crate::lets::near_values;
 use crate::seats::Seat;
 use plan::Plan;
@@ -46,24 +50,50 @@ fn is_far(alloc: Global, line: &FetchLine<'_>, seats: &[Seat]) -> Result<bool, A
     Ok(false)
 }
 
-/// The first fetch line before which some line `let` comes to no near number in some piece of its group, if there is one.
+/// The place of the first of some fetch lines before which some line `let` comes to no near number in some piece of its group,
+/// if there is one.
 ///
-/// The time is linear in the fetch lines, and for each of them in the pieces and the forms of the lines `let` before it.
-pub(crate) fn far_line(
+/// The time is linear in the lines, and for each of them in the pieces and the forms of the lines `let` before it.
+fn far_place(
+    alloc: Global,
+    lines: &[FetchLine<'_>],
+    seats: &[Seat],
+) -> Result<Option<usize>, AllocError>
+    requires limits { All LineIsLimited (lines_noted lines.now) }
+    requires small { AreSmall seats.now }
+    ensures { IfOk result (λ found. MatchOption found (All (LineIsNear (pieces_of seats.now)) (lines_noted lines.now))
+        (IsFirstFar (pieces_of seats.now) (lines_noted lines.now))) }
+{
+    for (place, line) in lines.iter().enumerate() {
+        if is_far(alloc, line, seats)? {
+            return Ok(Some(place));
+        }
+    }
+    Ok(None)
+}
+
+/// The first fetch line at which something is wrong, if before some fetch line a line `let` comes to no near number in some piece
+/// of its group: that line, or an earlier one with which more than 2^26 cells are fetched.
+///
+/// The time is linear in the fetch lines, and for each of them in the pieces and the forms of the lines `let` before it. Cells are
+/// counted only where there is such a line.
+pub(crate) fn refused_line(
     alloc: Global,
     plan: &Plan,
     seats: &[Seat],
 ) -> Result<Option<u32>, AllocError>
-    requires lets { All (λ x. NamingsAreLimited x.lets) (plan_fetch_lines (plan_of plan.now)) }
+    requires lines { All (IsOpen (plan_of plan.now)) (plan_fetch_lines (plan_of plan.now)) }
     requires seats { pieces_of seats.now ≡ pieces (plan_of plan.now) }
     requires small { AreSmall seats.now }
-    ensures { IfOk result (λ found. MatchOption found (LetsAreNear (plan_of plan.now)) (FetchIsFar (plan_of plan.now))) }
+    ensures { (c : Certificate) → AreShared (plan_of plan.now) c →
+        IfOk result (λ found. MatchOption found (LetsAreNear (plan_of plan.now)) (FetchIsRefused (plan_of plan.now) c)) }
 {
     let lines = fetch_lines(alloc, plan)?;
-    for line in &lines {
-        if is_far(alloc, line, seats)? {
-            return Ok(Some(line.line));
-        }
+    let Some(far) = far_place(alloc, &lines, seats)? else {
+        return Ok(None);
+    };
+    match passing_place(alloc, &lines[..far], seats)? {
+        Some(past) => Ok(Some(lines[past].line)),
+        None => Ok(Some(lines[far].line)),
     }
-    Ok(None)
 }

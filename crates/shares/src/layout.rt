@@ -5,10 +5,10 @@ ghost use Rattle.plan.specs.View.{plan_of};
 ghost use Rattle.plan.specs.Certificate.Certificate.{certificate_of};
 ghost use Rattle.plan.specs.Certificate.Cells.{cells};
 ghost use Rattle.shares.specs.Shared.{AreShared};
-ghost use Rattle.shares.specs.FetchLines.{FetchIsFar};
+ghost use Rattle.shares.specs.Counts.{FetchIsRefused};
 ghost use Rattle.shares.specs.Layout.{IsLayout, OwnIsInside, own_list};
 
-use crate::far::far_line;
+use crate::far::refused_line;
 use crate::filed::filed_needs;
 use crate::grounds::{Ground, grounds_of};
 use crate::seats::{Seat, seats_of};
@@ -28,8 +28,8 @@ pub struct Layout<'a> {
     pub needs: Vec<Vec<&'a Need>>,
 }
 
-/// The groups and pieces of a plan, or the first fetch line before which some line `let` comes to no near number in some piece
-/// of its group.
+/// The groups and pieces of a plan; or, where before some fetch line a line `let` comes to no near number in some piece of its
+/// group, the first fetch line at which something is wrong: that, or that with it more than 2^26 cells are fetched.
 pub(crate) fn layout_of<'a>(
     alloc: Global,
     plan: &'a Plan,
@@ -38,11 +38,11 @@ pub(crate) fn layout_of<'a>(
     requires { AreShared (plan_of plan.now) (certificate_of cert.now) }
     ensures layout { IfOk result (λ made. IfOk made (λ x. IsLayout x)) }
     ensures plan { IfOk result (λ made. IfOk made (λ x. (x.plan.now ≡ plan.now) × (x.cert.now ≡ cert.now))) }
-    ensures far { IfOk result (λ made. IfErr made (FetchIsFar (plan_of plan.now))) }
+    ensures refused { IfOk result (λ made. IfErr made (FetchIsRefused (plan_of plan.now) (certificate_of cert.now))) }
 {
     let grounds = grounds_of(alloc, plan, cert)?;
     let seats = seats_of(alloc, plan, &grounds)?;
-    if let Some(line) = far_line(alloc, plan, &seats)? {
+    if let Some(line) = refused_line(alloc, plan, &seats)? {
         return Ok(Err(line));
     }
     let needs = filed_needs(alloc, plan.groups.len(), &cert.needs)?;

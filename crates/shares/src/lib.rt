@@ -11,6 +11,7 @@ mod far;
 mod fetched;
 mod filed;
 mod forms;
+mod gathered;
 mod grounds;
 pub mod laws;
 mod layout;

@@ -9,6 +9,7 @@ ghost use Rattle.shares.specs.Has.{IsServed, needed_before};
 ghost use Rattle.shares.specs.Layout.{IsLayout};
 
 use crate::filed::filed_needs;
+use crate::gathered::gathered_needs;
 use crate::layout::Layout;
 use crate::needed::needs_by;
 use crate::stop::Stop;
@@ -31,9 +32,10 @@ fn needs_fit(
 {
     let lines = &layout.cert.needs[..count];
     let filed = filed_needs(alloc, layout.plan.groups.len(), lines)?;
+    let gathered = gathered_needs(alloc, layout, lines, &filed)?;
     let mut room = MOST_NEEDED;
     for piece in 0..layout.seats.len() as u32 {
-        match needs_by(alloc, layout, lines, &filed, piece, room) {
+        match needs_by(alloc, layout, lines, &gathered, piece, room) {
             Ok(needs) => room -= needs.as_slice().len() as u64,
             Err(Stop::Large) => return Ok(Ok(false)),
             Err(Stop::Unserved) => return Ok(Err(piece)),

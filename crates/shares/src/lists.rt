@@ -5,10 +5,12 @@ ghost use Rattle.plan.specs.View.{plan_of};
 ghost use Rattle.plan.specs.Certificate.Certificate.{certificate_of};
 ghost use Rattle.shares.specs.Layout.{IsLayout};
 ghost use Rattle.shares.specs.Has.{AreFew};
+ghost use Rattle.shares.specs.Gathered.{EachIsGathered};
 ghost use Rattle.shares.specs.Stops.{StopMeans};
 ghost use Rattle.shares.specs.Made.{IsMade, AreMade, TroubleMeans, trouble_of};
 
 use crate::fetched::fetched_of;
+use crate::gathered::{GroupNeeds, gathered_needs};
 use crate::layout::{Layout, own_of};
 use crate::limits::MOST_NEEDED;
 use crate::needed::needs_of;
@@ -45,11 +47,13 @@ fn trouble_of(piece: u32, stop: Stop) -> Trouble
 fn lists_at(
     alloc: Global,
     layout: &Layout<'_>,
+    gathered: &Vec<GroupNeeds<'_>>,
     piece: u32,
     cells: u64,
     pieces: u64,
 ) -> Result<Piece, Stop>
     requires layout { IsLayout layout.now }
+    requires gathered { EachIsGathered (plan_of layout.now.plan.now) layout.now.cert.now.needs.items (length layout.now.plan.now.groups.items) gathered.now.items }
     requires piece { piece < length layout.now.seats.items }
     ensures made { IfOk result (λ made. IsMade (plan_of layout.now.plan.now) (certificate_of layout.now.cert.now) piece made) }
     ensures cells { IfOk result (λ made. length made.fetched.items ≤ cells) }
@@ -61,7 +65,7 @@ fn lists_at(
         Ok(fetched) => fetched,
         Err(stop) => return Err(stop),
     };
-    let needs = match needs_of(alloc, layout, piece, pieces) {
+    let needs = match needs_of(alloc, layout, gathered, piece, pieces) {
         Ok(needs) => needs,
         Err(stop) => return Err(stop),
     };
@@ -88,11 +92,12 @@ pub(crate) fn lists_of(alloc: Global, layout: &Layout<'_>) -> Result<Vec<Piece>,
     ensures few { IfOk result (λ _. AreFew (plan_of layout.now.plan.now) (certificate_of layout.now.cert.now)) }
     ensures made { IfOk result (λ made. AreMade (plan_of layout.now.plan.now) (certificate_of layout.now.cert.now) made.items) }
 {
+    let gathered = gathered_needs(alloc, layout, &layout.cert.needs, &layout.needs)?;
     let mut lists = Vec::new(alloc);
     let mut cells = MOST_FETCHED;
     let mut pieces = MOST_NEEDED;
     for piece in 0..layout.seats.len() as u32 {
-        let made = match lists_at(alloc, layout, piece, cells, pieces) {
+        let made = match lists_at(alloc, layout, &gathered, piece, cells, pieces) {
             Ok(made) => made,
             Err(stop) => return Err(trouble_of(piece, stop)),
         };

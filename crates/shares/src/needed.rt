@@ -11,11 +11,13 @@ ghost use Rattle.shares.specs.Shared.{NeedIsShared};
 ghost use Rattle.shares.specs.Layout.{IsLayout, needs_list};
 ghost use Rattle.shares.specs.Needed.{NeedIsInside, NeedsAreInside, need_numbers, all_numbers};
 ghost use Rattle.shares.specs.Counts.{with_lines};
-ghost use Rattle.shares.specs.Filed.{AreFiled, AreLinesOf};
+ghost use Rattle.shares.specs.Filed.{AreLinesOf};
+ghost use Rattle.shares.specs.Gathered.{EachIsGathered};
 ghost use Rattle.shares.specs.Has.{NeedsPieces};
 ghost use Rattle.shares.specs.Stops.{NeedStops};
 
 use crate::fetched::push_all;
+use crate::gathered::GroupNeeds;
 use crate::layout::Layout;
 use crate::seats::Seat;
 use crate::spaces::found_in;
@@ -24,7 +26,7 @@ use plan::certificate::Need;
 use std::alloc::{AllocError, Global};
 
 /// Leaves numbers rising and each once.
-fn settle(numbers: &mut Vec<u32>) -> Result<(), AllocError>
+pub(crate) fn settle(numbers: &mut Vec<u32>) -> Result<(), AllocError>
     ensures rises { OnOk result (IsStrictlyIncreasing numbers.new.items) }
     ensures members { OnOk result ((i : ℕ) → Contains numbers.new.items i ↔ Contains numbers.old.items i) }
 {
@@ -35,7 +37,7 @@ fn settle(numbers: &mut Vec<u32>) -> Result<(), AllocError>
 
 /// Leaves each number once where there are more than twice as many as when this was done last, and says how many there
 /// were when it was.
-fn settle_doubled(numbers: &mut Vec<u32>, settled: usize) -> Result<usize, AllocError>
+pub(crate) fn settle_doubled(numbers: &mut Vec<u32>, settled: usize) -> Result<usize, AllocError>
     ensures { OnOk result ((i : ℕ) → Contains numbers.new.items i ↔ Contains numbers.old.items i) }
 {
     if numbers.as_slice().len() / 2 <= settled {
@@ -46,7 +48,7 @@ fn settle_doubled(numbers: &mut Vec<u32>, settled: usize) -> Result<usize, Alloc
 }
 
 /// Adds the pieces that a need line names at a piece of its group, where all are pieces.
-fn need_line(
+pub(crate) fn need_line(
     alloc: Global,
     layout: &Layout<'_>,
     seat: &Seat,
@@ -61,6 +63,7 @@ fn need_line(
     ensures known { OnOk result (NeedIsInside (plan_of layout.now.plan.now) (piece_of seat.now) need.now) }
     ensures unserved { result ≡ Err Unserved → ¬ NeedIsInside (plan_of layout.now.plan.now) (piece_of seat.now) need.now }
     ensures room { ¬ (result ≡ Err Large) }
+    ensures kept { result ≡ Err Unserved → needed.new.items ≡ needed.old.items }
 {
     let ground = &layout.grounds[need.needed as usize];
     let found = found_in(alloc, &ground.pieces, need.region.as_slice(), &seat.at)?;
@@ -96,21 +99,22 @@ fn named_by(
     Ok(needed)
 }
 
-/// The pieces that a piece needs by these need lines, which are filed by their groups, rising and each once, where they name
-/// only pieces and there is room for them.
+/// The pieces that a piece needs by these need lines, which are gathered by their groups, rising and each once, where they
+/// name only pieces and there is room for them.
 ///
-/// The time is about linear in the lines of the piece's group and the points that they name.
+/// The time is about linear in the pieces needed, those of the group's lines that are looked at for each piece, and the points
+/// that these name.
 pub(crate) fn needs_by(
     alloc: Global,
     layout: &Layout<'_>,
     lines: &[Need],
-    filed: &Vec<Vec<&Need>>,
+    gathered: &Vec<GroupNeeds<'_>>,
     piece: u32,
     room: u64,
 ) -> Result<Vec<u32>, Stop>
     requires layout { IsLayout layout.now }
     requires lines { All (NeedIsShared (plan_of layout.now.plan.now)) lines.now }
-    requires filed { AreFiled lines.now (length layout.now.plan.now.groups.items) (map (λ xs. map (λ n. n.now) xs.items) filed.now.items) }
+    requires gathered { EachIsGathered (plan_of layout.now.plan.now) lines.now (length layout.now.plan.now.groups.items) gathered.now.items }
     requires piece { piece < length layout.now.seats.items }
     ensures list { IfOk result (λ needed. needed.items ≡ needs_list (plan_of layout.now.plan.now) (with_lines (certificate_of layout.now.cert.now) lines.now) piece) }
     ensures known { IfOk result (λ _. NeedsPieces (plan_of layout.now.plan.now) (with_lines (certificate_of layout.now.cert.now) lines.now) piece) }
@@ -118,11 +122,12 @@ pub(crate) fn needs_by(
     ensures stop { IfErr result (NeedStops (plan_of layout.now.plan.now) (with_lines (certificate_of layout.now.cert.now) lines.now) piece room) }
 {
     let seat = &layout.seats[piece as usize];
-    let own_lines = &filed[seat.group];
-    let mut needed = match named_by(alloc, layout, seat, own_lines) {
+    let own_lines = &gathered[seat.group];
+    let mut needed = match named_by(alloc, layout, seat, &own_lines.moving) {
         Ok(needed) => needed,
         Err(stop) => return Err(stop),
     };
+    push_all(&mut needed, &own_lines.numbers)?;
     settle(&mut needed)?;
     if needed.as_slice().len() as u64 > room {
         return Err(Stop::Large);
@@ -134,22 +139,17 @@ pub(crate) fn needs_by(
 pub(crate) fn needs_of(
     alloc: Global,
     layout: &Layout<'_>,
+    gathered: &Vec<GroupNeeds<'_>>,
     piece: u32,
     room: u64,
 ) -> Result<Vec<u32>, Stop>
     requires layout { IsLayout layout.now }
+    requires gathered { EachIsGathered (plan_of layout.now.plan.now) layout.now.cert.now.needs.items (length layout.now.plan.now.groups.items) gathered.now.items }
     requires piece { piece < length layout.now.seats.items }
     ensures list { IfOk result (λ needed. needed.items ≡ needs_list (plan_of layout.now.plan.now) (certificate_of layout.now.cert.now) piece) }
     ensures known { IfOk result (λ _. NeedsPieces (plan_of layout.now.plan.now) (certificate_of layout.now.cert.now) piece) }
     ensures few { IfOk result (λ needed. length needed.items ≤ room) }
     ensures stop { IfErr result (NeedStops (plan_of layout.now.plan.now) (certificate_of layout.now.cert.now) piece room) }
 {
-    needs_by(
-        alloc,
-        layout,
-        &layout.cert.needs,
-        &layout.needs,
-        piece,
-        room,
-    )
+    needs_by(alloc, layout, &layout.cert.needs, gathered, piece, room)
 }

@@ -1,5 +1,6 @@
 pub mod Advanced
 pub mod Alike
+pub mod Assigned
 pub mod Blocks
 pub mod Chosen
 mod Computed

@@ -3,11 +3,15 @@ use Rattle.std.specs.Prelude.{◌≡◌, ℕ, Bool, List, [], ◌∷◌, map, So
 use Rattle.lin.specs.Forms.{Form}
 use Rattle.lin.specs.declared.span.Span1.{Span1}
 use Rattle.plan.specs.Symbols.{Symbols, form_value}
-use Rattle.soundness.specs.Claims.{In}
+use Rattle.plan.specs.Plan.{Statement}
+use Rattle.plan.specs.Semantics.Actions.{Setting, actions}
+use Rattle.plan.specs.Certificate.Certificate.{Claim}
+use Rattle.soundness.specs.Claims.{In, written}
 use Rattle.soundness.specs.Obligations.{Binder, Respects, LieIn, Rules}
-use Rattle.tails.specs.Steps.{Step, Allows, Keeps, along}
+use Rattle.tails.specs.Steps.{Step, Spine, Allows, Keeps, along, binder, spine_of}
 use Rattle.tails.specs.Moves.{reached}
-use Rattle.tails.specs.Maps.{visited, covers, is_once}
+use Rattle.tails.specs.Maps.{visited, covers, is_once, is_scoped}
+use Rattle.tails.specs.Stored.{forms_at}
 
 -- what the coordinates are
 abbrev pub point_at : List Form → Symbols → List ℤ
@@ -41,3 +45,11 @@ CoversIsVisited =
     (rules : Rules) (bs : List Binder) (steps : List Step) (fs : List Form) (region : List Span1) (s : Symbols) (p : List ℤ) →
     ((a b : Form) → rules.at_most bs a b ≡ true → form_value a s ≤ℤ form_value b s) → Respects bs s → covers rules bs steps fs region ≡ true →
     LieIn s region p → In p (visited steps fs s)
+
+-- a statement writes the point of the line that stores a claim's pure definition at each assignment that the steps down to it allow: the
+-- symbols around the statement have their values, and what the steps bind has those of the assignment
+abbrev pub AssignmentsAreWritten : Type 0
+AssignmentsAreWritten =
+    (setting : Setting) (claim : Claim) (a : Statement) (n : Spine) (fs : List Form) (s t : Symbols) →
+    spine_of a claim.buffer ≡ Some n → forms_at setting claim n.line ≡ Some fs → is_scoped (map binder n.steps) ≡ true →
+    Allows n.steps t → Keeps (along n.steps) s t → In (point_at fs t) (written claim.buffer (actions setting a s))

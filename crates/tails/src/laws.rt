@@ -1,6 +1,6 @@
 //! What is proved of the tests of split loops.
 
-ghost use Rattle.tails.specs.Laws.{CoversIsVisited, EachIsOnce, OnceIsDistinct, ReachedIsVisited};
+ghost use Rattle.tails.specs.Laws.{AssignmentsAreWritten, CoversIsVisited, EachIsOnce, OnceIsDistinct, ReachedIsVisited};
 ghost use Rattle.tails.specs.Nests.{PlainNestsAreTaken, SplitNestsAreRight};
 ghost use Rattle.tails.specs.Order.{OrderedIsRising};
 
@@ -10,6 +10,12 @@ use soundness::nests::laws::plain_nests_are_right;
 /// and with each guard in order.
 pub fn reached_is_visited()
     ensures { ReachedIsVisited }
+{}
+
+/// A statement writes the point of the line that stores a claim's pure definition at each assignment that the steps down to it
+/// allow: with each loop in one of its turns, each let's number, and each guard in order.
+pub fn assignments_are_written()
+    ensures { AssignmentsAreWritten }
 {}
 
 /// No point is met by different turns.

@@ -6,13 +6,11 @@ use Rattle.plan.specs.Certificate.Certificate.{certificate_of}
 use Rattle.validation.specs.Groups.Lines.{flaws_of_groups}
 use Rattle.validation.specs.Certificate.Certificate.{flaws_of_certificate}
 use Rattle.audit.specs.Stand.{AreShown, IsFlaw}
-use Rattle.audit.proofs.Told.{any_flaw, least_told, one_told, some_of}
+use Rattle.audit.proofs.Told.{least_told, one_told, some_of}
 use Rattle.audit.proofs.answer.shares_where_accepted.Goals as goal
 
 pub told_where_flawed-requires-clause-named : goal.told_where_flawed-requires-clause-named
-told_where_flawed-requires-clause-named g c =
-    any_flaw c.in_ok-named.named (flaws_of_groups (algorithm_of c.args.algo.now) (plan_of c.args.plan.now) (certificate_of c.args.cert.now) ≡ [])
-    (IsFlaw (algorithm_of c.args.algo.now) (plan_of c.args.plan.now) (certificate_of c.args.cert.now)) c.in_ok-named.ensures
+told_where_flawed-requires-clause-named g c = c.in_ok-named.ensures.known
 
 pub told_where_flawed-requires-clause-flaw : goal.told_where_flawed-requires-clause-flaw
 told_where_flawed-requires-clause-flaw g c =
@@ -23,6 +21,6 @@ told_where_flawed-requires-clause-flaw g c =
     let listed = c.in_ok-listed.listed in
     let N : Type 0 = flaws_of_groups a p d ≡ [] in
     let L : Type 0 = flaws_of_certificate a p d ≡ [] in
-    let both = least_told (IsFlaw a p d) named listed N L c.in_ok-named.ensures c.in_ok-listed.ensures in
+    let both = least_told (IsFlaw a p d) named listed N L c.in_ok-named.ensures.told c.in_ok-listed.ensures in
     let first = some_of (least named listed) (N × L) (IsFlaw a p d) both c.in-Some.flaw (sym c.least.ensures ∙ c.in-Some.is) in
     one_told a p d c.in-Some.flaw c.told_first-told.result c.in_ok-owed.owed listed c.ends_unowned-unowned.result (AreShown a p d) L c.told_first-told.ensures first c.in_ok-owed.ensures c.in_ok-listed.ensures

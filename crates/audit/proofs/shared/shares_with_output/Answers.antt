@@ -1,4 +1,4 @@
-use Rattle.std.proofs.Common.{subst, refl, inl, inr}
+use Rattle.std.proofs.Common.{sym, subst, refl, inl, inr}
 use Rattle.algo.specs.View.{algorithm_of}
 use Rattle.plan.specs.View.{plan_of}
 use Rattle.plan.specs.Certificate.Certificate.{certificate_of}
@@ -6,7 +6,8 @@ use Rattle.headline.specs.Work.{work_of}
 use Rattle.shares.specs.Made.{ErrorMeans}
 use Rattle.shares.specs.declared.answer.SharesError.{SharesError}
 use Rattle.audit.proofs.OutputGroup.{lists_same}
-use Rattle.audit.proofs.Told.{either_told}
+use Rattle.audit.specs.Refused.{IsOfPieces}
+use Rattle.audit.proofs.Told.{lesser_told}
 use Rattle.audit.proofs.shared.shares_with_output.Goals as goal
 
 pub shares_of-requires : goal.shares_of-requires
@@ -27,6 +28,7 @@ returns-in-Some-lacking-clause-told c =
     let p = plan_of c.args.plan.now in
     let d = certificate_of c.args.cert.now in
     let means = subst (λ (e : SharesError). ErrorMeans p d e) c.in-Err-Flaw.field-0-is c.in-Err-Flaw.ensures.flaw in
-    either_told a p d c.in-Err-Flaw.flaw c.in-Some-lacking.other c.lesser.result c.lesser.ensures
-    (inr (inr (inr (inr (inr (inl (record { flaw = c.in-Err-Flaw.flaw; code_is = refl; line_is = refl; means = means })))))))
-    c.in-Some-lacking.ensures
+    subst (IsOfPieces a p d) (sym c.lesser.ensures)
+    (lesser_told (IsOfPieces a p d) c.in-Err-Flaw.flaw c.in-Some-lacking.other
+    (inl (record { flaw = c.in-Err-Flaw.flaw; code_is = refl; line_is = refl; means = means }))
+    (inr c.in-Some-lacking.ensures))

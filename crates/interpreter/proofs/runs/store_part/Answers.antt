@@ -5,16 +5,9 @@ use Rattle.interpreter.specs.Bindings.{Bindings, symbols_of}
 use Rattle.interpreter.specs.Targets.{CoordinateIsNarrow}
 use Rattle.interpreter.proofs.runs.store_part.Goals as goal
 
-pub write_part-requires-clause-narrow : goal.write_part-requires-clause-narrow
-write_part-requires-clause-narrow c =
+pub store_known_part-requires-clause-narrow : goal.store_known_part-requires-clause-narrow
+store_known_part-requires-clause-narrow c =
     let part = c.args.part in
     let cs = c.args.line.now.coordinates.now in
     let P : Bindings → Type 0 = λ y. (k : ℕ) → k < part.count → All (CoordinateIsNarrow (bind (symbols_of y) part.turns.symbol (part.low +ℤ pos k) (int_le (part.low +ℤ pos k) part.turns.low))) cs in
-    subst P (sym c.evaluate_part.ensures.symbols) c.requires.narrow
-
-pub store_one_by_one-requires-clause-narrow : goal.store_one_by_one-requires-clause-narrow
-store_one_by_one-requires-clause-narrow c =
-    let part = c.args.part in
-    let cs = c.args.line.now.coordinates.now in
-    let P : Bindings → Type 0 = λ y. (k : ℕ) → k < part.count → All (CoordinateIsNarrow (bind (symbols_of y) part.turns.symbol (part.low +ℤ pos k) (int_le (part.low +ℤ pos k) part.turns.low))) cs in
-    subst P (sym c.evaluate_part.ensures.symbols) c.requires.narrow
+    subst P (sym c.update_part.ensures.symbols) c.requires.narrow

@@ -1,5 +1,7 @@
-use Rattle.std.proofs.Common.{◌≡◌, length}
+use Rattle.std.proofs.Common.{◌≡◌, ◌++◌, drop, map}
+use Rattle.sched.specs.Placing.{subject_of}
+use Rattle.lower.specs.Stored.{flags}
 use Rattle.lower.proofs.definitions.stored_flags.Given as goal
 
-abbrev pub invariant-loop-number : goal.invariant-loop-number
-invariant-loop-number l = length l.stored.items ≡ l.number
+abbrev pub invariant-loop-subject : goal.invariant-loop-subject
+invariant-loop-subject l = l.stored.items ++ flags (map subject_of (drop l.subject-index l.subjects)) ≡ flags (map subject_of l.subjects)

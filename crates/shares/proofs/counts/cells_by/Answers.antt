@@ -1,13 +1,10 @@
-use Rattle.std.proofs.Common.{◌≡◌, ◌∙◌, ◌+◌, ◌-◌, ◌<◌, ◌^◌, ℕ, List, length, get_or, min, ap, sym, subst, arith, take, Some}
-use Rattle.lin.specs.declared.span.Span1.{Span1}
+use Rattle.std.proofs.Common.{◌≡◌, ◌∙◌, ◌-◌, ◌<◌, ◌^◌, ℕ, List, length, min, ap, sym, subst, take, Some}
 use Rattle.std.specs.Prelude.{slice_get}
-use Rattle.plan.specs.Plan.{Plan}
-use Rattle.plan.specs.View.{plan_of}
-use Rattle.plan.specs.Certificate.Cells.{Piece, grid_symbols, pieces}
+use Rattle.plan.specs.Certificate.Cells.{Piece, grid_symbols}
 use Rattle.shares.specs.declared.seats.Seat.{Seat}
 use Rattle.shares.specs.Boxes.{sides}
-use Rattle.shares.specs.FetchLines.{cells_by, fetched_by}
-use Rattle.shares.specs.Lets.{AreNear, named, namings_of}
+use Rattle.shares.specs.FetchLines.{fetched_by}
+use Rattle.shares.specs.Lets.{AreNear, named}
 use Rattle.shares.specs.Noted.{line_of}
 use Rattle.shares.specs.Seats.{piece_of, pieces_of}
 use Rattle.shares.proofs.Groups.{all_at_place, get_mapped}
@@ -18,29 +15,22 @@ use Rattle.shares.proofs.counts.cells_by.Goals.{then-seat-line+in_ok-sides, else
 pub box_of-requires-clause-near : goal.box_of-requires-clause-near
 box_of-requires-clause-near c =
     let x = line_of c.args.line.now in
-    let p : Plan = plan_of c.args.layout.now.plan.now in
-    let xs = c.args.layout.now.seats.items in
+    let xs = c.args.seats.now in
     let k = c.loop-seat.seat-index in
     let s = c.seat-item.result in
-    let held = c.deref-seat-items.ensures.value in
-    let less : k < length xs = (let test = c.loop-seat-test.true in let long = ap length held in omega (arith, test, long)) in
-    let is : s ≡ get_or xs k s = c.seat-item.is ∙ ap (λ (ys : List Seat). get_or ys k s) held in
-    let at : slice_get (pieces p) k ≡ Some (piece_of s) =
-    ap (λ (js : List Piece). slice_get js k) (sym c.requires.layout.seats) ∙ get_mapped piece_of xs k s less ∙ ap (λ (y : Seat). Some (piece_of y)) (sym is) in
+    let at : slice_get (pieces_of xs) k ≡ Some (piece_of s) = get_mapped piece_of xs k s c.loop-seat-test.true ∙ ap (λ (y : Seat). Some (piece_of y)) (sym c.seat-item.is) in
     subst (λ (ys : List ℕ). AreNear x.lets (grid_symbols ys)) (sym c.deref.ensures.value)
-    (all_at_place (λ (j : Piece). j.group ≡ x.group → AreNear x.lets (grid_symbols j.at)) (pieces p) k (piece_of s) at c.requires.near c.if-seat-line.true)
+    (all_at_place (λ (j : Piece). j.group ≡ x.group → AreNear x.lets (grid_symbols j.at)) (pieces_of xs) k (piece_of s) at c.requires.near c.if-seat-line.true)
 
 pub loop-seat-preserved : goal.loop-seat-preserved
 loop-seat-preserved c =
     let x = line_of c.args.line.now in
-    let xs = c.args.layout.now.seats.items in
+    let xs = c.args.seats.now in
     let k = c.loop-seat.seat-index in
     let s = c.seat-item.result in
-    let held = c.deref-seat-items.ensures.value in
-    let less : k < length xs = (let test = c.loop-seat-test.true in let long = ap length held in omega (arith, test, long)) in
-    let is : s ≡ get_or xs k s = c.seat-item.is ∙ ap (λ (ys : List Seat). get_or ys k s) held in
+    let less : k < length xs = c.loop-seat-test.true in
     let count = fetched_by (pieces_of (take k xs)) x in
-    let more = seats_more x xs k s less is in
+    let more = seats_more x xs k s less c.seat-item.is in
     let Is : ℕ → Type 0 = λ n. c.if-seat-line.count ≡ min n (2 ^ 64 - 1) in
     elim c.if-seat-line.branch [
       | then-seat-line+in_ok-sides w ↦ subst Is (sym more)

@@ -5,4 +5,4 @@ use Rattle.shares.specs.Seats.{pieces_of}
 use Rattle.shares.proofs.counts.cells_by.Given as goal
 
 abbrev pub invariant-loop-seat : goal.invariant-loop-seat
-invariant-loop-seat l = l.count ≡ min (fetched_by (pieces_of (take l.seat-index l.layout.seats.items)) (line_of l.line)) (2 ^ 64 - 1)
+invariant-loop-seat l = l.count ≡ min (fetched_by (pieces_of (take l.seat-index l.seats)) (line_of l.line)) (2 ^ 64 - 1)

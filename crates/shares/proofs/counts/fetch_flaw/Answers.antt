@@ -1,54 +1,62 @@
-use Rattle.std.proofs.Common.{◌≡◌, ◌∙◌, List, length, map, ap, refl, arith}
+use Rattle.std.proofs.Common.{◌≡◌, ◌∙◌, List, map, take, ap, sym, subst, refl, arith}
+use Rattle.std.specs.Prelude.{All}
+use Rattle.std.proofs.lemmas.List.Elements.{All-take}
 use Rattle.plan.specs.Plan.{Plan}
 use Rattle.plan.specs.View.{plan_of}
 use Rattle.plan.specs.Certificate.Certificate.{Certificate, certificate_of}
-use Rattle.shares.specs.FetchLines.{plan_fetch_lines}
+use Rattle.plan.specs.Certificate.Cells.{Piece, pieces}
+use Rattle.shares.specs.declared.counts.FetchLine.{FetchLine as LineHeld}
+use Rattle.shares.specs.FetchLines.{IsFirstPast, LineIsNear, fetched_by_lines, plan_fetch_lines}
 use Rattle.shares.specs.Noted.{lines_noted, told_line}
-use Rattle.shares.proofs.Passing.{region_limited, lets_limited, line_near, room_left, passes_here, all_have_room}
+use Rattle.shares.specs.Seats.{AreSmall, pieces_of}
+use Rattle.shares.proofs.Passing.{few_fetched, limited_noted, near_noted, passes}
+use Rattle.shares.proofs.Totals.{lines_open}
 use Rattle.shares.proofs.counts.fetch_flaw.Goals as goal
 
-pub loop-line-init : goal.loop-line-init
-loop-line-init c = refl
-
-pub cells_by-requires-clause-region : goal.cells_by-requires-clause-region
-cells_by-requires-clause-region c =
+pub passing_place-requires-clause-limits : goal.passing_place-requires-clause-limits
+passing_place-requires-clause-limits c =
     let x = c.args.layout.now in
-    let held = c.deref-line-items.result.now in
-    let all : lines_noted held ≡ map told_line (plan_fetch_lines (plan_of x.plan.now)) = ap lines_noted c.deref-line-items.ensures.value ∙ c.in_ok-lines.ensures in
-    region_limited (plan_of x.plan.now) (certificate_of x.cert.now) c.requires.shared held all c.loop-line.line-index c.line-item.result c.loop-line-test.true c.line-item.is
+    let p : Plan = plan_of x.plan.now in
+    let held = c.deref.result.now in
+    let all : lines_noted held ≡ map told_line (plan_fetch_lines p) = ap lines_noted c.deref.ensures.value ∙ c.in_ok-lines.ensures in
+    limited_noted p held all (lines_open p (certificate_of x.cert.now) c.requires.shared)
 
-pub cells_by-requires-clause-lets : goal.cells_by-requires-clause-lets
-cells_by-requires-clause-lets c =
+pub passing_place-requires-clause-near : goal.passing_place-requires-clause-near
+passing_place-requires-clause-near c =
     let x = c.args.layout.now in
-    let held = c.deref-line-items.result.now in
-    let all : lines_noted held ≡ map told_line (plan_fetch_lines (plan_of x.plan.now)) = ap lines_noted c.deref-line-items.ensures.value ∙ c.in_ok-lines.ensures in
-    lets_limited (plan_of x.plan.now) (certificate_of x.cert.now) c.requires.shared held all c.loop-line.line-index c.line-item.result c.loop-line-test.true c.line-item.is
+    let p : Plan = plan_of x.plan.now in
+    let held = c.deref.result.now in
+    let all : lines_noted held ≡ map told_line (plan_fetch_lines p) = ap lines_noted c.deref.ensures.value ∙ c.in_ok-lines.ensures in
+    let js : List Piece = pieces_of c.deref-2.result.now in
+    let same : js ≡ pieces p = ap pieces_of c.deref-2.ensures.value ∙ c.requires.seats in
+    near_noted p held all js (subst (λ (ps : List Piece). All (LineIsNear ps) (plan_fetch_lines p)) (sym same) c.requires.near)
 
-pub cells_by-requires-clause-near : goal.cells_by-requires-clause-near
-cells_by-requires-clause-near c =
-    let x = c.args.layout.now in
-    let held = c.deref-line-items.result.now in
-    let all : lines_noted held ≡ map told_line (plan_fetch_lines (plan_of x.plan.now)) = ap lines_noted c.deref-line-items.ensures.value ∙ c.in_ok-lines.ensures in
-    line_near (plan_of x.plan.now) (certificate_of x.cert.now) c.requires.shared held all c.loop-line.line-index c.line-item.result c.loop-line-test.true c.line-item.is c.requires.near
+pub passing_place-requires-clause-small : goal.passing_place-requires-clause-small
+passing_place-requires-clause-small c = subst AreSmall (sym c.deref-2.ensures.value) c.requires.small
 
-pub returns-then-count-room : goal.returns-then-count-room
-returns-then-count-room c =
+pub returns-in-Some : goal.returns-in-Some
+returns-in-Some c =
     let x = c.args.layout.now in
-    let held = c.deref-line-items.result.now in
-    let all : lines_noted held ≡ map told_line (plan_fetch_lines (plan_of x.plan.now)) = ap lines_noted c.deref-line-items.ensures.value ∙ c.in_ok-lines.ensures in
-    (refl, passes_here (plan_of x.plan.now) (certificate_of x.cert.now) c.requires.shared held all c.loop-line.line-index c.line-item.result c.loop-line-test.true c.line-item.is c.loop-line.room c.in_ok-count.count c.loop-line.invariant c.in_ok-count.ensures c.if-count-room.true)
-
-pub loop-line-preserved : goal.loop-line-preserved
-loop-line-preserved c =
-    let x = c.args.layout.now in
-    let held = c.deref-line-items.result.now in
-    let all : lines_noted held ≡ map told_line (plan_fetch_lines (plan_of x.plan.now)) = ap lines_noted c.deref-line-items.ensures.value ∙ c.in_ok-lines.ensures in
-    room_left (plan_of x.plan.now) (certificate_of x.cert.now) c.requires.shared held all c.loop-line.line-index c.line-item.result c.loop-line-test.true c.line-item.is c.loop-line.room c.in_ok-count.count c.loop-line.invariant c.in_ok-count.ensures c.if-count-room.false
+    let p : Plan = plan_of x.plan.now in
+    let cert : Certificate = certificate_of x.cert.now in
+    let held = c.in_ok-lines.lines.items in
+    let js : List Piece = pieces_of c.deref-2.result.now in
+    let same : js ≡ pieces p = ap pieces_of c.deref-2.ensures.value ∙ c.requires.seats in
+    let k = c.in-Some.place in
+    let Past : List LineHeld → Type 0 = λ ls. IsFirstPast js (lines_noted ls) k in
+    let past : Past c.deref.result.now = rw c.in-Some.is at c.in_ok-place.ensures in
+    let of_pieces : All (LineIsNear js) (plan_fetch_lines p) = subst (λ (ps : List Piece). All (LineIsNear ps) (plan_fetch_lines p)) (sym same) c.requires.near in
+    let near : All (LineIsNear js) (take k (lines_noted held)) = All-take (LineIsNear js) k (lines_noted held) (near_noted p held c.in_ok-lines.ensures js of_pieces) in
+    (refl, passes p held c.in_ok-lines.ensures js same k c.index.result.now c.index.ensures cert c.requires.shared near (subst Past c.deref.ensures.value past))
 
 pub returns : goal.returns
 returns c =
     let x = c.args.layout.now in
-    let held = c.deref-line-items.result.now in
-    let all : lines_noted held ≡ map told_line (plan_fetch_lines (plan_of x.plan.now)) = ap lines_noted c.deref-line-items.ensures.value ∙ c.in_ok-lines.ensures in
-    let end = c.loop-line.auto.line-index-end in
-    all_have_room (plan_of x.plan.now) (certificate_of x.cert.now) c.requires.shared held all c.loop-line.line-index c.loop-line.room (omega (arith, c.loop-line-test.false, end)) c.loop-line.invariant
+    let p : Plan = plan_of x.plan.now in
+    let held = c.deref.result.now in
+    let all : lines_noted held ≡ map told_line (plan_fetch_lines p) = ap lines_noted c.deref.ensures.value ∙ c.in_ok-lines.ensures in
+    let js : List Piece = pieces_of c.deref-2.result.now in
+    let same : js ≡ pieces p = ap pieces_of c.deref-2.ensures.value ∙ c.requires.seats in
+    let few = rw c.in-None.is at c.in_ok-place.ensures in
+    let of_plan = ap (λ (ps : List Piece). fetched_by_lines ps (lines_noted held)) same in
+    few_fetched p held all (certificate_of x.cert.now) c.requires.shared (omega (arith, few, of_plan))

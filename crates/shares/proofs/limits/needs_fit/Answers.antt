@@ -1,4 +1,4 @@
-use Rattle.std.proofs.Common.{◌≡◌, ◌∙◌, ◌<◌, ℕ, List, length, map, take, sym, ap, subst, arith}
+use Rattle.std.proofs.Common.{◌≡◌, ◌∙◌, ◌<◌, ℕ, List, length, map, take, sym, ap, subst, arith, Bor, Vec, Global}
 use Rattle.std.proofs.lemmas.Bool.{false≢true}
 use Rattle.std.proofs.lemmas.List.{length-map}
 use Rattle.plan.specs.Plan.{Plan}
@@ -17,10 +17,14 @@ use Rattle.shares.proofs.Filing.{row}
 use Rattle.shares.proofs.Prefixes.{unserved_taken}
 use Rattle.shares.proofs.limits.needs_fit.Goals as goal
 
-pub needs_by-requires-clause-filed : goal.needs_by-requires-clause-filed
-needs_by-requires-clause-filed c =
-    subst (λ (n : ℕ). AreFiled (take c.args.count c.deref.result.now) n (map row c.in_ok-filed.filed.items))
-    (let a = c.len.ensures in let b = c.args.layout.now.plan.now.groups.ok.0 in let same : c.len.result ≡ length c.args.layout.now.plan.now.groups.items = omega (arith, a, b) in same) c.in_ok-filed.ensures
+pub gathered_needs-requires-clause-filed : goal.gathered_needs-requires-clause-filed
+gathered_needs-requires-clause-filed c =
+    let a = c.len.ensures in
+    let b = c.args.layout.now.plan.now.groups.ok.0 in
+    let same : c.len.result ≡ length c.args.layout.now.plan.now.groups.items = omega (arith, a, b) in
+    let lines = take c.args.count c.deref.result.now in
+    subst (λ (ls : List (Vec (Bor Need) Global)). AreFiled lines (length c.args.layout.now.plan.now.groups.items) (map row ls)) (sym c.deref-2.ensures.value)
+    (subst (λ (n : ℕ). AreFiled lines n (map row c.in_ok-filed.filed.items)) same c.in_ok-filed.ensures)
 
 pub returns-in-Err-Large-clause-fits : goal.returns-in-Err-Large-clause-fits
 returns-in-Err-Large-clause-fits c =

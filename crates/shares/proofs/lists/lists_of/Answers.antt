@@ -1,13 +1,23 @@
-use Rattle.std.proofs.Common.{◌≡◌, ◌∙◌, ◌+◌, ◌∷◌, ◌<◌, [], ℕ, sym, ap, subst, length, length-append, arith}
+use Rattle.std.proofs.Common.{◌≡◌, ◌∙◌, ◌+◌, ◌∷◌, ◌<◌, [], ℕ, List, map, sym, ap, subst, length, length-append, arith, Bor, Vec, Global}
 use Rattle.std.proofs.lemmas.List.{length-map}
 use Rattle.plan.specs.View.{plan_of}
+use Rattle.plan.specs.declared.certificate.cert.Need.{Need}
 use Rattle.plan.specs.Certificate.Certificate.{certificate_of}
 use Rattle.plan.specs.Certificate.Cells.{pieces}
+use Rattle.shares.specs.Filed.{AreFiled}
 use Rattle.shares.specs.Seats.{piece_of}
 use Rattle.shares.specs.Made.{IsMade, AreMade, TroubleMeans}
 use Rattle.shares.proofs.Counting.{trouble_means, fetched_next, needed_next, are_few}
+use Rattle.shares.proofs.Filing.{row}
 use Rattle.shares.proofs.Groups.{push_each}
 use Rattle.shares.proofs.lists.lists_of.Goals as goal
+
+pub gathered_needs-requires-clause-filed : goal.gathered_needs-requires-clause-filed
+gathered_needs-requires-clause-filed c =
+    let x = c.args.layout.now in
+    let n = length x.plan.now.groups.items in
+    subst (λ (ls : List (Vec (Bor Need) Global)). AreFiled c.deref.result.now n (map row ls)) (sym c.deref-2.ensures.value)
+    (subst (λ (ns : List Need). AreFiled ns n (map row x.needs.items)) (sym c.deref.ensures.value) c.requires.needs)
 
 pub loop-piece-preserved : goal.loop-piece-preserved
 loop-piece-preserved c =

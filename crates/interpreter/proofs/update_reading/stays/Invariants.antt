@@ -1,0 +1,6 @@
+use Rattle.std.proofs.Common.{◌≡◌, ◌<◌, ℕ}
+use Rattle.interpreter.specs.Evaluation.Lanes.{number_at}
+use Rattle.interpreter.proofs.update_reading.stays.Given as goal
+
+abbrev pub invariant-loop-turn : goal.invariant-loop-turn
+invariant-loop-turn l = (k : ℕ) → k < l.turn → number_at l.column k ≡ l.first

@@ -1,0 +1,420 @@
+//! Updates at several turns of a loop together: what is known for all turns goes into registers, and what the buffer that is
+//! stored to has is read and written turn by turn.
+
+ghost use Rattle.std.specs.Bool.{OnTrue};
+ghost use Rattle.std.specs.Prelude.{◌≡◌, ◌∷◌, ◌<◌, ◌≤◌, ◌+◌, ℕ, ℤ, List, pos, ◌+ℤ◌, ◌-ℤ◌, ◌*ℤ◌, ◌≤ℤ◌, ◌^◌, length, map, drop, flat_map, All, IfSome, OnOk, Some, int_le, string_bytes};
+ghost use Rattle.tree.specs.declared.value.Value.{Value as ValueFound};
+ghost use Rattle.tree.specs.Term.{term_of};
+ghost use Rattle.meaning.specs.Names.{bound};
+ghost use Rattle.plan.specs.View.{coordinate_of};
+ghost use Rattle.plan.specs.Semantics.Found.{found, with};
+ghost use Rattle.plan.specs.Semantics.Memory.{Memory, read};
+ghost use Rattle.plan.specs.Semantics.Run.{look};
+ghost use Rattle.plan.specs.Symbols.{bind, rising};
+ghost use Rattle.interpreter.specs.Bindings.{symbols_of};
+ghost use Rattle.interpreter.specs.Buffers.Blocks.{memory_of};
+ghost use Rattle.interpreter.specs.Evaluation.Lanes.{lane_number, number_at, IsNarrowFor};
+ghost use Rattle.interpreter.specs.Pieces.{around, no_cells, IsReady};
+ghost use Rattle.interpreter.specs.Runs.{numbers_at, store_at, IsBut};
+ghost use Rattle.interpreter.specs.Sizes.{size_in};
+ghost use Rattle.interpreter.specs.States.{progress_of, EndsIn, IsAsLarge};
+ghost use Rattle.interpreter.specs.Steps.{steps};
+ghost use Rattle.interpreter.specs.Targets.{CoordinateIsNarrow};
+ghost use Rattle.interpreter.specs.Updates.{columns_at, operand_at, operation_at, place_number, sets_or_none, variables_at, place_numbers, registers_of, FindsTurn, FindsUpdate, IsOperation, IsOwnCall, IsPoint, IsShort};
+
+use crate::buffers::Buffers;
+use crate::columns::{column_run, columns_run, first_of, number_of, numbers_at};
+use crate::evaluation::{Lanes, Number, Stop, applied, evaluate_run, spread};
+use crate::loads::claim_of;
+use crate::piece::Piece;
+use crate::reading::same_name;
+use crate::run_reading::{RunReading, lanes_of, registers_behind};
+use crate::runs::{Part, StoreLine, numbers_in};
+use crate::sizes::size_in;
+use crate::state::State;
+use crate::symbols::Symbols;
+use crate::turns::turn;
+use crate::update_reading::UpdateReading;
+use numeric::{Op, Ty};
+use plan::{Coordinate, Index};
+use tree::{Expr, Value};
+
+/// An operand at the turns of a run.
+#[derive(Clone, Copy, Drop)]
+pub(crate) enum Operand {
+    /// Its numbers, of this type, are known for all turns. They have a register.
+    Known(Ty),
+    /// What the buffer that is stored to has at a point of so many coordinates, which are known for all turns and have a
+    /// register each.
+    Own(usize),
+}
+
+/// An operator on two operands. The registers of the second lie so many numbers behind those of the first.
+#[derive(Clone, Copy, Drop)]
+pub(crate) struct Operation {
+    pub op: Op,
+    pub left: Operand,
+    pub right: Operand,
+    pub width: usize,
+}
+
+/// A store of an operation's value. Its coordinates have the first registers, and its operands those from a place on.
+#[derive(Clone, Copy, Drop)]
+pub(crate) struct Update {
+    pub start: usize,
+    pub operation: Operation,
+}
+
+/// How many registers an operand has.
+fn registers_of(operand: Operand) -> usize
+    ensures { result ≡ registers_of operand }
+{
+    match operand {
+        Operand::Known(_) => 1,
+        Operand::Own(width) => width,
+    }
+}
+
+/// The numbers of a coordinate at the turns of a run, by those of the first turn and of the second as far as a form tells
+/// them. Only one of a point is found by an expression.
+fn coordinate_lanes(
+    reader: &RunReading<'_, '_>,
+    coordinate: &Coordinate,
+    first: i64,
+    second: i64,
+    places: usize,
+    out: &mut [Number],
+    rest: &mut [Number],
+) -> Option<Lanes>
+    ensures narrow { IfSome result (IsNarrowFor (length out.new)) }
+    ensures finds { IfSome result (λ x. (m : Memory ValueFound) → IsBut reader.now.buffer (memory_of reader.now.memory.now) m → (k : ℕ) → k < length out.new → place_number (bound (map (λ c. string_bytes c.variable) reader.now.coordinates.now) (numbers_at reader.now.first.now reader.now.second.now k)) (look (around reader.now.piece.now no_cells) m) places (coordinate_of coordinate.now).index (first +ℤ (second -ℤ first) *ℤ pos k) ≡ Some (lane_number x out.new k)) }
+{
+    match &coordinate.index {
+        Index::Found(expr) if places > 0 => evaluate_run(expr, reader, out, rest),
+        _ => lanes_of(first, second, out),
+    }
+}
+
+/// The numbers of a coordinate at so many turns of a run, put into the first register.
+fn coordinate_run(
+    reader: &RunReading<'_, '_>,
+    coordinate: &Coordinate,
+    first: i64,
+    second: i64,
+    places: usize,
+    count: usize,
+    registers: &mut [Number],
+) -> Option<()>
+    ensures { IfSome result (λ _. (m : Memory ValueFound) → IsBut reader.now.buffer (memory_of reader.now.memory.now) m → (k : ℕ) → k < count → place_number (bound (map (λ c. string_bytes c.variable) reader.now.coordinates.now) (numbers_at reader.now.first.now reader.now.second.now k)) (look (around reader.now.piece.now no_cells) m) places (coordinate_of coordinate.now).index (first +ℤ (second -ℤ first) *ℤ pos k) ≡ Some (number_at registers.new k)) }
+{
+    if registers.len() < count {
+        return None;
+    }
+    let (out, rest) = registers.split_at_mut(count);
+    let lanes = coordinate_lanes(reader, coordinate, first, second, places, out, rest)?;
+    spread(lanes, out);
+    Some(())
+}
+
+/// The numbers of a store's coordinates at so many turns of a run, put into a register each, one behind the other. The first
+/// so many are those of the point.
+fn coordinates_run(
+    reader: &RunReading<'_, '_>,
+    coordinates: &[Coordinate],
+    first: &[i64],
+    second: &[i64],
+    places: usize,
+    count: usize,
+    registers: &mut [Number],
+) -> Option<()>
+    ensures { IfSome result (λ _. (m : Memory ValueFound) → IsBut reader.now.buffer (memory_of reader.now.memory.now) m → (k : ℕ) → k < count → place_numbers (bound (map (λ c. string_bytes c.variable) reader.now.coordinates.now) (numbers_at reader.now.first.now reader.now.second.now k)) (look (around reader.now.piece.now no_cells) m) places coordinates.now (numbers_at first.now second.now k) ≡ Some (columns_at count (length coordinates.now) registers.new k)) }
+{
+    match (coordinates, first, second) {
+        ([], _, _) => Some(()),
+        ([coordinate, coordinates @ ..], [number, first @ ..], [next, second @ ..]) => {
+            coordinate_run(reader, coordinate, *number, *next, places, count, registers)?;
+            if registers.len() < count {
+                return None;
+            }
+            let (_, rest) = registers.split_at_mut(count);
+            let places = places.saturating_sub(1);
+            coordinates_run(reader, coordinates, first, second, places, count, rest)
+        }
+        _ => None,
+    }
+}
+
+/// The buffer of the claim that a call's name means, if it means one and not the input.
+fn claimed_buffer(piece: &Piece<'_>, name: &str) -> Option<u64>
+    ensures { IfSome result (λ b. (m : Memory ValueFound) (p : List ℤ) → look (around piece.now no_cells) m name.now p ≡ read m b p) }
+{
+    if same_name(name, piece.plan.input.name.as_str()) {
+        return None;
+    }
+    let claim = piece.cert.claims.get(claim_of(name)?)?;
+    Some(claim.buffer)
+}
+
+/// The indices of a call of the buffer that is stored to, if an expression is one.
+fn own_call<'e>(piece: &Piece<'_>, buffer: u64, expr: &'e Expr) -> Option<&'e [Expr]>
+    ensures { IfSome result (λ at. IsOwnCall piece.now buffer (term_of expr.now) at.now) }
+{
+    let Expr::Call { name, at, .. } = expr else {
+        return None;
+    };
+    if claimed_buffer(piece, name.as_str())? == buffer {
+        Some(at)
+    } else {
+        None
+    }
+}
+
+/// An operand at so many turns of a run, of which the registers are the first ones.
+fn operand_run(
+    expr: &Expr,
+    reader: &UpdateReading<'_, '_>,
+    count: usize,
+    registers: &mut [Number],
+) -> Option<Operand>
+    ensures short { IfSome result IsShort }
+    ensures finds { IfSome result (λ o. (m : Memory ValueFound) → IsBut reader.now.reading.buffer (memory_of reader.now.reading.memory.now) m → (k : ℕ) → k < count → found (variables_at reader.now k) (look (around reader.now.reading.piece.now no_cells) m) (term_of expr.now) ≡ operand_at count o registers.new m reader.now.reading.buffer k) }
+{
+    match own_call(reader.reading.piece, reader.reading.buffer, expr) {
+        Some(indices) => {
+            if indices.len() > 4 {
+                return None;
+            }
+            columns_run(indices, reader, count, registers)?;
+            Some(Operand::Own(indices.len()))
+        }
+        None => Some(Operand::Known(column_run(expr, reader, count, registers)?)),
+    }
+}
+
+/// An operation at so many turns of a run, of which the registers are the first ones, if an expression is one.
+fn operation_run(
+    expr: &Expr,
+    reader: &UpdateReading<'_, '_>,
+    count: usize,
+    registers: &mut [Number],
+) -> Option<Operation>
+    ensures short { IfSome result IsOperation }
+    ensures finds { IfSome result (λ o. (m : Memory ValueFound) → IsBut reader.now.reading.buffer (memory_of reader.now.reading.memory.now) m → (k : ℕ) → k < count → found (variables_at reader.now k) (look (around reader.now.reading.piece.now no_cells) m) (term_of expr.now) ≡ operation_at count o registers.new m reader.now.reading.buffer k) }
+{
+    let Expr::Binary {
+        op,
+        left,
+        right,
+        ..
+    } = expr
+    else {
+        return None;
+    };
+    let left = operand_run(left, reader, count, registers)?;
+    let width = registers_of(left).checked_mul(count)?;
+    if registers.len() < width {
+        return None;
+    }
+    let (_, rest) = registers.split_at_mut(width);
+    let right = operand_run(right, reader, count, rest)?;
+    Some(Operation {
+        op: *op,
+        left,
+        right,
+        width,
+    })
+}
+
+/// A store to a point of so many coordinates at so many turns of a run, if its value is an operation.
+fn update_run(
+    value: &Expr,
+    size: usize,
+    reader: &RunReading<'_, '_>,
+    count: usize,
+    registers: &mut [Number],
+) -> Option<Update>
+    ensures point { IfSome result (λ _. IsPoint size (length reader.now.coordinates.now)) }
+    ensures operation { IfSome result (λ u. IsOperation u.operation) }
+    ensures finds { IfSome result (λ u. (m : Memory ValueFound) → IsBut reader.now.buffer (memory_of reader.now.memory.now) m → (k : ℕ) → k < count → FindsTurn (bound (map (λ c. string_bytes c.variable) reader.now.coordinates.now) (numbers_at reader.now.first.now reader.now.second.now k)) (numbers_at reader.now.first.now reader.now.second.now k) reader.now.buffer size count reader.now.coordinates.now (term_of value.now) (look (around reader.now.piece.now no_cells) m) u registers.new m k) }
+{
+    let coordinates = reader.coordinates;
+    if size > 4 || size > coordinates.len() {
+        return None;
+    }
+    coordinates_run(
+        reader,
+        coordinates,
+        reader.first,
+        reader.second,
+        size,
+        count,
+        registers,
+    )?;
+    let start = coordinates.len().checked_mul(count)?;
+    if registers.len() < start {
+        return None;
+    }
+    let (columns, rest) = registers.split_at_mut(start);
+    let inner = UpdateReading {
+        reading: *reader,
+        columns,
+        count,
+    };
+    let operation = operation_run(value, &inner, count, rest)?;
+    Some(Update { start, operation })
+}
+
+/// Whether a line stores an operation of which an operand is what the buffer that is stored to has.
+fn is_update(piece: &Piece<'_>, line: &StoreLine<'_>) -> bool {
+    match line.value {
+        Expr::Binary { left, right, .. } => {
+            own_call(piece, line.buffer, left).is_some()
+                || own_call(piece, line.buffer, right).is_some()
+        }
+        _ => false,
+    }
+}
+
+/// The update that a store's line is at some turns of a loop, if it is one and is known for all of them together.
+pub(crate) fn update_part<'a>(
+    piece: &'a Piece<'a>,
+    line: &StoreLine<'a>,
+    part: Part,
+    symbols: &mut Symbols,
+    state: &mut State,
+) -> Option<Update>
+    requires narrow { (k : ℕ) → k < part.count → All (CoordinateIsNarrow (bind (symbols_of symbols.old) part.turns.symbol (part.low +ℤ pos k) (int_le (part.low +ℤ pos k) part.turns.low))) line.now.coordinates.now }
+    requires high { (part.low +ℤ pos part.count) ≤ℤ pos (2 ^ 63) }
+    requires symbols { length symbols.old.bound < symbols.old.room }
+    requires numbers { length line.now.coordinates.now ≤ state.old.numbers.room }
+    requires point { length line.now.coordinates.now ≤ state.old.point.room }
+    ensures finds { IfSome result (λ u. FindsUpdate piece.now line.now.buffer (size_in piece.now.sizes.now line.now.buffer) line.now.coordinates.now (term_of line.now.value.now) (symbols_of symbols.old) part.turns.symbol part.turns.low part.low (memory_of state.old.memory) part.count u state.new.registers.items) }
+    ensures symbols { symbols.new ≡ symbols.old }
+    ensures memory { progress_of state.new ≡ progress_of state.old }
+    ensures large { IsAsLarge state.old state.new }
+{
+    if part.count < 2 {
+        return None;
+    }
+    if !is_update(piece, line) {
+        return None;
+    }
+    let second = part.low + 1;
+    numbers_in(
+        turn(part.turns, part.low),
+        line.coordinates,
+        symbols,
+        &mut state.numbers,
+    );
+    numbers_in(
+        turn(part.turns, second),
+        line.coordinates,
+        symbols,
+        &mut state.point,
+    );
+    let reader = RunReading {
+        piece,
+        coordinates: line.coordinates,
+        memory: &state.memory,
+        buffer: line.buffer,
+        first: state.numbers.as_slice(),
+        second: state.point.as_slice(),
+    };
+    let size = size_in(piece.sizes, line.buffer);
+    update_run(line.value, size, &reader, part.count, &mut state.registers)
+}
+
+/// What an operand has at a turn.
+#[inline(always)]
+fn operand_at(
+    operand: Operand,
+    memory: &Buffers,
+    buffer: u64,
+    registers: &[Number],
+    count: usize,
+    turn: usize,
+) -> Option<Value>
+    requires { IsShort operand }
+    ensures { result ≡ operand_at count operand registers.now (memory_of memory.now) buffer turn }
+{
+    match operand {
+        Operand::Known(ty) => Some(Value {
+            ty,
+            number: number_of(registers, turn),
+        }),
+        Operand::Own(width) => {
+            let point = numbers_at(registers, count, turn);
+            memory.read(buffer, first_of(&point, width))
+        }
+    }
+}
+
+/// What an operation has at a turn.
+#[inline(always)]
+fn operation_at(
+    operation: Operation,
+    memory: &Buffers,
+    buffer: u64,
+    registers: &[Number],
+    count: usize,
+    turn: usize,
+) -> Option<Value>
+    requires { IsOperation operation }
+    ensures { result ≡ operation_at count operation registers.now (memory_of memory.now) buffer turn }
+{
+    let behind = registers_behind(registers, operation.width);
+    let left = operand_at(operation.left, memory, buffer, registers, count, turn)?;
+    let right = operand_at(operation.right, memory, buffer, behind, count, turn)?;
+    Some(applied(operation.op, left, right))
+}
+
+/// An update at a turn.
+fn store_turn(
+    buffer: u64,
+    size: usize,
+    update: Update,
+    count: usize,
+    turn: usize,
+    state: &mut State,
+) -> Result<(), Stop>
+    requires size { size ≤ 4 }
+    requires operation { IsOperation update.operation }
+    ensures registers { state.new.registers.items ≡ state.old.registers.items }
+    ensures large { OnOk result (IsAsLarge state.old state.new) }
+    ensures but { IsBut buffer (memory_of state.old.memory) (memory_of state.new.memory) }
+    ensures run { EndsIn state.old.given.capacity (λ _. progress_of state.new) result (with (operation_at count update.operation (drop update.start state.old.registers.items) (memory_of state.old.memory) buffer turn) (sets_or_none buffer (progress_of state.old) (columns_at count size state.old.registers.items turn))) }
+{
+    let registers = state.registers.as_slice();
+    let values = registers_behind(registers, update.start);
+    let memory = &state.memory;
+    let Some(value) = operation_at(update.operation, memory, buffer, values, count, turn) else {
+        return Err(Stop::Fault);
+    };
+    let point = numbers_at(registers, count, turn);
+    if state.memory.write(buffer, first_of(&point, size), value) {
+        Ok(())
+    } else {
+        Err(Stop::Fault)
+    }
+}
+
+/// An update at some turns of a loop, one after another.
+pub(crate) fn store_turns<'a>(
+    piece: &'a Piece<'a>,
+    line: &StoreLine<'a>,
+    update: Update,
+    part: Part,
+    symbols: &Symbols,
+    state: &mut State,
+) -> Result<(), Stop>
+    requires ready { IsReady piece.now }
+    requires finds { FindsUpdate piece.now line.now.buffer (size_in piece.now.sizes.now line.now.buffer) line.now.coordinates.now (term_of line.now.value.now) (symbols_of symbols.now) part.turns.symbol part.turns.low part.low (memory_of state.old.memory) part.count update state.old.registers.items }
+    ensures large { OnOk result (IsAsLarge state.old state.new) }
+    ensures run { (definition : ℕ) (cell : List ℕ → List ℤ → ValueFound) → EndsIn state.old.given.capacity (λ _. progress_of state.new) result (steps (around piece.now cell) (flat_map (store_at piece.now line.now.buffer line.now.coordinates.now (term_of line.now.value.now) (symbols_of symbols.now) part.turns.symbol part.turns.low definition) (rising part.low part.count)) (progress_of state.old)) }
+{
+    let size = size_in(piece.sizes, line.buffer);
+    for index in 0..part.count {
+        store_turn(line.buffer, size, update, part.count, index, state)?;
+    }
+    Ok(())
+}

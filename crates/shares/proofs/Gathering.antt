@@ -1,0 +1,264 @@
+-- Need lines that are gathered by what they name.
+use Rattle.std.proofs.Common.{◌≡◌, ℕ, zero, suc, ◌+◌, ◌<◌, List, [], ◌∷◌, ◌++◌, length, map, true, arith, ap, refl, sym, ◌∙◌, subst, inl, inr, append_assoc, get_or, Option, Some, Bor}
+use Rattle.std.specs.Prelude.{ℤ, pos, ◌+ℤ◌, ◌-ℤ◌, fold, flat_map, All, IsTrue, ◌↔◌, ◌⊎◌, Contains, MatchOption}
+use Rattle.std.specs.Int.{int_max, int_min}
+use Rattle.std.specs.List.{AllByRecursion, list_all}
+use Rattle.std.specs.List.Sorted.{IsStrictlyIncreasing}
+use Rattle.std.proofs.lemmas.List.{append-nil}
+use Rattle.std.proofs.lemmas.List.Elements.{recursion_from_All, All-from_recursion, Contains-append_left, Contains-append_right, Contains-append_cases}
+use Rattle.lin.specs.Forms.{Form, sum_of}
+use Rattle.lin.specs.Search.{is_empty}
+use Rattle.lin.specs.declared.form.Multiple.{Multiple}
+use Rattle.lin.specs.declared.span.Span1.{Span1}
+use Rattle.plan.specs.Plan.{Plan}
+use Rattle.plan.specs.Symbols.{Symbols, clipped, form_value, largest, points, rising, smallest, turns}
+use Rattle.plan.specs.declared.certificate.cert.Need.{Need}
+use Rattle.plan.specs.Certificate.Cells.{Piece, first_piece, grid_symbols}
+use Rattle.soundness.proofs.Refines.{and_parts}
+use Rattle.plan.specs.View.{plan_of}
+use Rattle.plan.specs.Certificate.Certificate.{Certificate, certificate_of}
+use Rattle.headline.specs.Parts.{IsNeeded}
+use Rattle.headline.specs.Work.{of_piece, needed_pieces}
+use Rattle.headline.proofs.Parts.{needs_one}
+use Rattle.shares.specs.declared.gathered.GroupNeeds.{GroupNeeds}
+use Rattle.shares.specs.declared.layout.Layout.{Layout}
+use Rattle.shares.specs.declared.seats.Seat.{Seat}
+use Rattle.shares.specs.Boxes.{is_in_box, rank}
+use Rattle.shares.specs.Counts.{with_lines}
+use Rattle.shares.specs.Filed.{needs_in}
+use Rattle.shares.specs.Has.{NeedsPieces}
+use Rattle.shares.specs.Layout.{IsLayout, needs_list}
+use Rattle.shares.specs.Seats.{piece_of}
+use Rattle.shares.specs.Gathered.{AreGathered, EachIsGathered, IsGathered, is_free, is_fixed_span, is_fixed}
+use Rattle.shares.specs.Needed.{need_grid, need_points, need_numbers, all_numbers, NeedIsInside, NeedsAreInside}
+use Rattle.shares.specs.Shared.{NeedIsShared}
+use Rattle.shares.proofs.Groups.{get_some}
+use Rattle.shares.proofs.Grouped.{numbers_grouped, inside_grouped}
+use Rattle.shares.proofs.Needing.{needed_members, numbers_some}
+use Rattle.shares.proofs.Seated.{piece_is, group_listed}
+
+-- ---- regions that have the same points everywhere
+
+no_terms : (ts : List Multiple) → is_empty ts ≡ true → ts ≡ []
+no_terms [] e = refl
+no_terms (t ∷ ts) e = absurd (cc e)
+
+module _ (s t : Symbols) where
+  free_value : (f : Form) → is_free f ≡ true → form_value f s ≡ form_value f t
+  free_value f e =
+      let none = no_terms f.terms e in
+      ap (λ (ts : List Multiple). f.constant +ℤ sum_of ts s.value) none ∙ sym (ap (λ (ts : List Multiple). f.constant +ℤ sum_of ts t.value) none)
+
+  free_values : (fs : List Form) → list_all is_free fs ≡ true → map (λ f. form_value f s) fs ≡ map (λ f. form_value f t) fs
+  free_values [] e = refl
+  free_values (f ∷ fs) e = let both = and_parts (is_free f) (list_all is_free fs) e in λ i. free_value f both.0 i ∷ free_values fs both.1 i
+
+  free_largest : (fs : List Form) → list_all is_free fs ≡ true → largest s fs ≡ largest t fs
+  free_largest [] e = refl
+  free_largest (f ∷ fs) e = let both = and_parts (is_free f) (list_all is_free fs) e in λ i. fold int_max (free_value f both.0 i) (free_values fs both.1 i)
+
+  free_smallest : (fs : List Form) → list_all is_free fs ≡ true → smallest s fs ≡ smallest t fs
+  free_smallest [] e = refl
+  free_smallest (f ∷ fs) e = let both = and_parts (is_free f) (list_all is_free fs) e in λ i. fold int_min (free_value f both.0 i) (free_values fs both.1 i)
+
+  fixed_turns : (x : Span1) → is_fixed_span x ≡ true → turns s x ≡ turns t x
+  fixed_turns x e =
+      let both = and_parts (list_all is_free x.lower) (list_all is_free x.upper) e in
+      let low = free_largest x.lower both.0 in
+      let high = free_smallest x.upper both.1 in
+      λ i. rising (low i) (clipped ((high i +ℤ pos 1) -ℤ low i))
+
+  pub fixed_points : (xs : List Span1) → is_fixed xs ≡ true → points s xs ≡ points t xs
+  fixed_points [] e = refl
+  fixed_points (x ∷ xs) e =
+      let both = and_parts (is_fixed_span x) (is_fixed xs) e in
+      λ i. flat_map (λ p. map (λ z. z ∷ p) (fixed_turns x both.0 i)) (fixed_points xs both.1 i)
+
+-- ---- one line at two pieces of its group
+
+module _ (p : Plan) (j k : Piece) (n : Need) (fixed : is_fixed n.region ≡ true) where
+  same_points : need_points j n ≡ need_points k n
+  same_points = fixed_points (grid_symbols j.at) (grid_symbols k.at) n.region fixed
+
+  pub same_numbers : n.group ≡ j.group → n.group ≡ k.group → need_numbers p j n ≡ need_numbers p k n
+  same_numbers here there = sym (numbers_some p j n here) ∙ ap (map (λ q. first_piece p.groups n.needed + rank (need_grid p n) q)) same_points ∙ numbers_some p k n there
+
+  pub same_inside : n.group ≡ k.group → NeedIsInside p k n → NeedIsInside p j n
+  same_inside there inside here = subst (λ (qs : List (List ℤ)). All (λ q. IsTrue (is_in_box (need_grid p n) q)) qs) (sym same_points) (inside there)
+
+-- ---- lines one after another
+
+module _ (p : Plan) (j : Piece) where
+  numbers_push : (ns : List Need) (n : Need) → all_numbers p j (ns ++ n ∷ []) ≡ all_numbers p j ns ++ need_numbers p j n
+  numbers_push [] n = append-nil (need_numbers p j n)
+  numbers_push (m ∷ ns) n = ap (λ (rest : List ℕ). need_numbers p j m ++ rest) (numbers_push ns n) ∙ sym (append_assoc (need_numbers p j m) (all_numbers p j ns) (need_numbers p j n))
+
+  module _ (i : ℕ) where
+    push_to : (ns : List Need) (n : Need) → Contains (all_numbers p j ns) i ⊎ Contains (need_numbers p j n) i → Contains (all_numbers p j (ns ++ n ∷ [])) i
+    push_to ns n h =
+        let Has : List ℕ → Type 0 = λ xs. Contains xs i in
+        subst Has (sym (numbers_push ns n)) (elim h [ inl a ↦ Contains-append_left (all_numbers p j ns) (need_numbers p j n) i a | inr b ↦ Contains-append_right (all_numbers p j ns) (need_numbers p j n) i b ])
+
+    push_from : (ns : List Need) (n : Need) → Contains (all_numbers p j (ns ++ n ∷ [])) i → Contains (all_numbers p j ns) i ⊎ Contains (need_numbers p j n) i
+    push_from ns n m =
+        let Has : List ℕ → Type 0 = λ xs. Contains xs i in
+        Contains-append_cases (all_numbers p j ns) (need_numbers p j n) i (subst Has (numbers_push ns n) m)
+
+single : (x m : Need) (k : ℕ) → k < length (x ∷ []) → get_or (x ∷ []) k m ≡ m → x ≡ m
+single x m zero less e = e
+single x m (suc k) less e = absurd (omega (arith, less))
+
+named_before : (p : Plan) (j : Piece) (i : ℕ) (ms : List Need) (m : Need) → Contains ms m → Contains (need_numbers p j m) i → Contains (all_numbers p j ms) i
+named_before p j i [] m at has = let less : at.0 < 0 = at.1 in absurd (omega (arith, less))
+named_before p j i (x ∷ ms) m at has = elim (Contains-append_cases (x ∷ []) ms m at) [
+  | inl here ↦
+      let Has : Need → Type 0 = λ y. Contains (need_numbers p j y) i in
+      Contains-append_left (need_numbers p j x) (all_numbers p j ms) i (subst Has (sym (single x m here.0 here.1 here.2)) has)
+  | inr later ↦ Contains-append_right (need_numbers p j x) (all_numbers p j ms) i (named_before p j i ms m later has)
+]
+
+each_push : (P : Need → Type 0) (ns : List Need) (n : Need) → AllByRecursion P ns → P n → AllByRecursion P (ns ++ n ∷ [])
+each_push P [] n h k = (k, tt)
+each_push P (m ∷ ns) n h k = (h.0, each_push P ns n h.1 k)
+
+each_before : (P : Need → Type 0) (ns : List Need) (n : Need) → AllByRecursion P (ns ++ n ∷ []) → AllByRecursion P ns × P n
+each_before P [] n h = (tt, h.0)
+each_before P (m ∷ ns) n h = let rest = each_before P ns n h.1 in ((h.0, rest.0), rest.1)
+
+all_push : (P : Need → Type 0) (ns : List Need) (n : Need) → All P ns → P n → All P (ns ++ n ∷ [])
+all_push P ns n h k = All-from_recursion P (ns ++ n ∷ []) (each_push P ns n (recursion_from_All P ns h) k)
+
+all_before : (P : Need → Type 0) (ns : List Need) (n : Need) → All P (ns ++ n ∷ []) → All P ns × P n
+all_before P ns n h = let both = each_before P ns n (recursion_from_All P (ns ++ n ∷ []) h) in (All-from_recursion P ns both.0, both.1)
+
+-- ---- gathering
+
+pub nothing_gathered : (p : Plan) (g : ℕ) (numbers : List ℕ) (moving : List Need) → numbers ≡ [] → moving ≡ [] → AreGathered p g [] numbers moving
+nothing_gathered p g numbers moving a b = subst (λ (ns : List ℕ). AreGathered p g [] ns moving) (sym a) (subst (AreGathered p g [] []) (sym b) (record {
+  lines = λ k d less. absurd (omega (arith, less));
+  named = λ j same i. ((λ h. elim h [ inl m ↦ m | inr m ↦ m ]), (λ m. inl m));
+  inside = λ j same. ((λ h. h), (λ h. h));
+}))
+
+module _ (p : Plan) (g : ℕ) (ns : List Need) (numbers : List ℕ) (moving : List Need) (h : AreGathered p g ns numbers moving) where
+  -- the same numbers in another order
+  pub numbers_settled : (now : List ℕ) → ((i : ℕ) → Contains now i ↔ Contains numbers i) → AreGathered p g ns now moving
+  numbers_settled now same = record {
+    lines = h.lines;
+    named = λ j of i. (
+      (λ m. (h.named j of i).0 (elim m [ inl a ↦ inl a | inr b ↦ inr ((same i).0 b) ])),
+      (λ m. elim ((h.named j of i).1 m) [ inl a ↦ inl a | inr b ↦ inr ((same i).1 b) ]),
+    );
+    inside = h.inside;
+  }
+
+  module _ (n : Need) (of_group : n.group ≡ g) where
+    -- a line that is looked at for each piece
+    pub line_kept : NeedIsShared p n → AreGathered p g (ns ++ n ∷ []) numbers (moving ++ n ∷ [])
+    line_kept shared = record {
+      lines = all_push (λ (m : Need). (m.group ≡ g) × NeedIsShared p m) moving n h.lines (of_group, shared);
+      named = λ j of i. (
+        (λ m. elim m [
+          | inl a ↦ elim (push_from p j i moving n a) [ inl b ↦ push_to p j i ns n (inl ((h.named j of i).0 (inl b))) | inr b ↦ push_to p j i ns n (inr b) ]
+          | inr a ↦ push_to p j i ns n (inl ((h.named j of i).0 (inr a)))
+        ]),
+        (λ m. elim (push_from p j i ns n m) [
+          | inl a ↦ elim ((h.named j of i).1 a) [ inl b ↦ inl (push_to p j i moving n (inl b)) | inr b ↦ inr b ]
+          | inr a ↦ inl (push_to p j i moving n (inr a))
+        ]),
+      );
+      inside = λ j of. (
+        (λ all. let both = all_before (NeedIsInside p j) moving n all in all_push (NeedIsInside p j) ns n ((h.inside j of).0 both.0) both.1),
+        (λ all. let both = all_before (NeedIsInside p j) ns n all in all_push (NeedIsInside p j) moving n ((h.inside j of).1 both.0) both.1),
+      );
+    }
+
+    -- a line that names the same pieces at all grid points
+    pub line_named : (k : Piece) → k.group ≡ g → is_fixed n.region ≡ true → NeedIsInside p k n → AreGathered p g (ns ++ n ∷ []) (numbers ++ need_numbers p k n) moving
+    line_named k at fixed inside = record {
+      lines = h.lines;
+      named = λ j of i.
+          let Has : List ℕ → Type 0 = λ xs. Contains xs i in
+          let same = same_numbers p j k n fixed (of_group ∙ sym of) (of_group ∙ sym at) in (
+            (λ m. elim m [
+              | inl a ↦ push_to p j i ns n (inl ((h.named j of i).0 (inl a)))
+              | inr a ↦ elim (Contains-append_cases numbers (need_numbers p k n) i a) [ inl b ↦ push_to p j i ns n (inl ((h.named j of i).0 (inr b))) | inr b ↦ push_to p j i ns n (inr (subst Has (sym same) b)) ]
+            ]),
+            (λ m. elim (push_from p j i ns n m) [
+              | inl a ↦ elim ((h.named j of i).1 a) [ inl b ↦ inl b | inr b ↦ inr (Contains-append_left numbers (need_numbers p k n) i b) ]
+              | inr a ↦ inr (Contains-append_right numbers (need_numbers p k n) i (subst Has same a))
+            ]),
+          );
+      inside = λ j of. (
+        (λ all. all_push (NeedIsInside p j) ns n ((h.inside j of).0 all) (same_inside p j k n fixed (of_group ∙ sym at) inside)),
+        (λ all. (h.inside j of).1 (all_before (NeedIsInside p j) ns n all).0),
+      );
+    }
+
+    -- a line that stands before in the same words
+    pub line_again : Contains ns n → AreGathered p g (ns ++ n ∷ []) numbers moving
+    line_again before = record {
+      lines = h.lines;
+      named = λ j of i. (
+        (λ m. push_to p j i ns n (inl ((h.named j of i).0 m))),
+        (λ m. elim (push_from p j i ns n m) [ inl a ↦ (h.named j of i).1 a | inr a ↦ (h.named j of i).1 (named_before p j i ns n before a) ]),
+      );
+      inside = λ j of. (
+        (λ all. let inside = (h.inside j of).0 all in all_push (NeedIsInside p j) ns n inside (subst (NeedIsInside p j) before.2 (inside before.0 n before.1))),
+        (λ all. (h.inside j of).1 (all_before (NeedIsInside p j) ns n all).0),
+      );
+    }
+
+-- ---- a piece of a layout
+
+pub joined : (settled named numbers all : List ℕ) → ((i : ℕ) → Contains settled i ↔ Contains (named ++ numbers) i) → ((i : ℕ) → Contains named i ↔ Contains all i) → (i : ℕ) → Contains settled i ↔ (Contains all i ⊎ Contains numbers i)
+joined settled named numbers all h k i = (
+  (λ m. elim (Contains-append_cases named numbers i ((h i).0 m)) [ inl a ↦ inl ((k i).0 a) | inr b ↦ inr b ]),
+  (λ m. (h i).1 (elim m [ inl a ↦ Contains-append_left named numbers i ((k i).1 a) | inr b ↦ Contains-append_right named numbers i b ])),
+)
+
+-- what was gathered of a piece's group
+module _ (x : Layout) (ready : IsLayout x) (ns : List Need) (piece : ℕ) (s : Seat) (less : piece < length x.seats.items) (is : s ≡ get_or x.seats.items piece s) where
+  abbrev P : Plan
+  P = plan_of x.plan.now
+
+  abbrev C : Certificate
+  C = with_lines (certificate_of x.cert.now) ns
+
+  abbrev J : Piece
+  J = piece_of s
+
+  module _ (xs : List GroupNeeds) (each : EachIsGathered P ns (length x.plan.now.groups.items) xs) where
+    pub needs_within : s.group < length xs
+    needs_within =
+        let listed = group_listed x ready piece s less is in
+        let all = each.count in
+        omega (arith, listed, all)
+
+    module _ (y : GroupNeeds) (this : y ≡ get_or xs s.group y) where
+      pub needs_here : IsGathered P s.group (needs_in ns s.group) y
+      needs_here = each.each s.group y (get_some xs s.group y needs_within ∙ ap (λ (z : GroupNeeds). Some z) (sym this))
+
+      pub inside_here : NeedsAreInside P J (map (λ (n : Bor Need). n.now) y.moving.items) ↔ NeedsPieces P C piece
+      inside_here =
+          let k = needs_here.inside J refl in
+          let all = inside_grouped P J ns in
+          let at = piece_is x ready piece s less is in
+          let Has : Option Piece → Type 0 = λ o. MatchOption o (Unit {0}) (λ j. NeedsAreInside P j ns) in (
+            (λ h. subst Has (sym at) (all.0 (k.0 h))),
+            (λ h. k.1 (all.1 (subst Has at h))),
+          )
+
+      pub list_here : All (NeedIsShared P) ns → NeedsPieces P C piece → (now : List ℕ) → IsStrictlyIncreasing now →
+          ((i : ℕ) → Contains now i ↔ (Contains (all_numbers P J (map (λ (n : Bor Need). n.now) y.moving.items)) i ⊎ Contains y.numbers.items i)) → now ≡ needs_list P C piece
+      list_here shared pieces now rises members =
+          let at = piece_is x ready piece s less is in
+          let Has : Option Piece → Type 0 = λ o. MatchOption o (Unit {0}) (λ j. NeedsAreInside P j ns) in
+          let inside : NeedsAreInside P J ns = subst Has at pieces in
+          let all : (i : ℕ) → Contains now i ↔ IsNeeded P C J i = λ i.
+          let In : List ℕ → Type 0 = λ zs. Contains zs i in
+          let k = needs_here.named J refl i in
+          let known = needed_members P C J inside shared i in
+          let e = numbers_grouped P J ns in
+          ((λ m. known.0 (subst In e (k.0 ((members i).0 m)))), (λ m. (members i).1 (k.1 (subst In (sym e) (known.1 m))))) in
+          needs_one.only P C J now rises all ∙ ap (λ (o : Option Piece). of_piece o [] (needed_pieces P C)) (sym at)
