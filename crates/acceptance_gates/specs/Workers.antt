@@ -5,7 +5,7 @@ use Rattle.board.specs.Layout.{Layout}
 use Rattle.board.specs.Views.{IsIdle}
 use Rattle.crew.specs.Crews.{IsDeskFor}
 use Rattle.crew.specs.declared.values.Pieces.{Pieces}
-use Rattle.acceptance_gates.specs.declared.thread_tests.Worker.{Worker}
+use Rattle.acceptance_gates.specs.declared.worker.Worker.{Worker}
 
 -- its seat is of this board and has no piece to finish, and its desk has all the memory that it takes
 pub record IsReady (table : TableId) (layout : Layout) (p : Pieces) (w : Worker) : Type 0 where

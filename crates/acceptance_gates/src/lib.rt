@@ -1,6 +1,8 @@
 //! What no command of the program shows of a crew: what a gate hears of its pieces, workers that wait at a gate, and single
-//! pieces by seats of the caller, run as tests. The crate holds tests alone.
+//! pieces by seats of the caller, run as tests. Beside its tests the crate holds only the worker that they hire.
 #![tactic(auto)]
+
+pub mod worker;
 
 #[cfg(test)]
 mod chain_tests;

@@ -9,6 +9,7 @@ ghost use Rattle.acceptance_gates.specs.Workers.{IsBack, IsReady};
 
 use crate::example_tests::{Case, TRI, TRI_PICTURE, case_of};
 use crate::watching_tests::Meeting;
+use crate::worker::Worker;
 use algo::{Algo, Inputs};
 use board::{Board, BoardSeat, Run};
 use checked_plan::Checked;
@@ -20,13 +21,6 @@ use std::marker::Brand;
 use std::sync::Wait;
 use std::test::Fail;
 use std::thread::{Threads, for_each_mut};
-
-// A worker: its seat at the board, and its desk.
-#[derive(Drop)]
-struct Worker<'a> {
-    seat: BoardSeat,
-    desk: Desk<'a>,
-}
 
 // Pieces that threads share.
 trait Held {

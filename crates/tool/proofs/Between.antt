@@ -1,5 +1,5 @@
 -- What is done, and what stands after a refusal, step by step of the way from a text to a picture.
-use Rattle.std.proofs.Common.{◌≡◌, ◌^◌, inl, inr, ℕ, List, [], Option, None, Some, Err, refl, sym, subst}
+use Rattle.std.proofs.Common.{◌≡◌, inl, inr, ℕ, List, [], Option, Err, refl, sym, subst}
 use Rattle.std.specs.Io.KnownBytes.{Appends}
 use Rattle.std.proofs.KnownBytes.{Consumes-nil, Keeps-refl}
 use Rattle.meaning.specs.Image.View.{Picture}
@@ -28,8 +28,8 @@ use Rattle.tool.specs.declared.pipeline.fault.Fault.{Fault}
 use Rattle.tool.specs.declared.pipeline.fault.Fault.TheVariants.{Memory, Algo, Schedule, Rule, Names, Plan, Form, Limit, Order, Image, Budget, Unfinished, Outside, Uncut, Difference}
 use Rattle.tool.specs.Pipeline.Faults.{image_fault, plain_fault, plan_fault, read_fault}
 use Rattle.tool.specs.Pipeline.Texts.{IsImageRefused, IsTextRefused}
-use Rattle.tool.specs.Pipeline.PlanFiles.{IsFileRefused}
-use Rattle.tool.specs.Pipeline.Pictures.{PlanText, IsReady, IsBudgetSpent, IsDone, IsRefused}
+use Rattle.tool.specs.Pipeline.PlanFiles.{HasPlan, IsFileRefused}
+use Rattle.tool.specs.Pipeline.Pictures.{IsBudgetSpent, IsDone, IsRefused}
 
 -- what the reader of plan files, the checker and `plain` answer as refusals of the program
 pub refuses_file : (a : Algorithm) (file : List ℕ) (e : TextError) → IsRefusedFile file e → IsFileRefused a file (read_fault e)
@@ -48,24 +48,24 @@ refuses_pixel a samples most plain.Budget h = h refl
 
 module _ (text : List ℕ) (read held : Option (List ℕ)) where
   -- nothing is read or written before the text and the plan file are accepted
-  pub text_refused : (plan : PlanText) (fault : Fault) → IsTextRefused text fault → IsRefused text plan read read held held fault
-  text_refused plan Memory h = (([], Consumes-nil read), Keeps-refl held)
-  text_refused plan (Algo code span) h = (h, (Keeps-refl read, Keeps-refl held))
-  text_refused plan (Schedule code span) h = absurd h
-  text_refused plan (Rule rule function) h = absurd h
-  text_refused plan Names h = absurd h
-  text_refused plan (Plan code line) h = absurd h
-  text_refused plan (Form line) h = absurd h
-  text_refused plan (Limit line) h = absurd h
-  text_refused plan Order h = absurd h
-  text_refused plan (Image e) h = absurd h
-  text_refused plan Budget h = absurd h
-  text_refused plan (Unfinished piece) h = absurd h
-  text_refused plan Outside h = absurd h
-  text_refused plan (Uncut name) h = absurd h
-  text_refused plan Difference h = absurd h
+  pub text_refused : (file : List ℕ) (fault : Fault) → IsTextRefused text fault → IsRefused text file read read held held fault
+  text_refused file Memory h = (([], Consumes-nil read), Keeps-refl held)
+  text_refused file (Algo code span) h = (h, (Keeps-refl read, Keeps-refl held))
+  text_refused file (Schedule code span) h = absurd h
+  text_refused file (Rule rule function) h = absurd h
+  text_refused file Names h = absurd h
+  text_refused file (Plan code line) h = absurd h
+  text_refused file (Form line) h = absurd h
+  text_refused file (Limit line) h = absurd h
+  text_refused file Order h = absurd h
+  text_refused file (Image e) h = absurd h
+  text_refused file Budget h = absurd h
+  text_refused file (Unfinished piece) h = absurd h
+  text_refused file Outside h = absurd h
+  text_refused file (Uncut name) h = absurd h
+  text_refused file Difference h = absurd h
 
-  pub file_refused : (file : List ℕ) (a : Algorithm) (fault : Fault) → IsAlgorithmText text a → IsFileRefused a file fault → IsRefused text (Some file) read read held held fault
+  pub file_refused : (file : List ℕ) (a : Algorithm) (fault : Fault) → IsAlgorithmText text a → IsFileRefused a file fault → IsRefused text file read read held held fault
   file_refused file a Memory said h = (([], Consumes-nil read), Keeps-refl held)
   file_refused file a (Algo code span) said h = absurd h
   file_refused file a (Schedule code span) said h = absurd h
@@ -82,9 +82,9 @@ module _ (text : List ℕ) (read held : Option (List ℕ)) where
   file_refused file a (Uncut name) said h = absurd h
   file_refused file a Difference said h = absurd h
 
-module _ (text : List ℕ) (plan : PlanText) (a : Algorithm) (said : IsAlgorithmText text a) (ready : IsReady plan a) (read left held : Option (List ℕ)) where
+module _ (text : List ℕ) (file : List ℕ) (a : Algorithm) (said : IsAlgorithmText text a) (ready : HasPlan a file) (read left held : Option (List ℕ)) where
   -- nothing is written before the image is read whole
-  pub image_refused : (fault : Fault) → IsImageRefused (input_frame a) read left fault → IsRefused text plan read left held held fault
+  pub image_refused : (fault : Fault) → IsImageRefused (input_frame a) read left fault → IsRefused text file read left held held fault
   image_refused Memory h = (h, Keeps-refl held)
   image_refused (Algo code span) h = absurd h
   image_refused (Schedule code span) h = absurd h
@@ -103,35 +103,15 @@ module _ (text : List ℕ) (plan : PlanText) (a : Algorithm) (said : IsAlgorithm
 
   module _ (samples : List ℕ) (reads : ReadsFile (wanted_of (input_frame a)) read left samples) where
     -- nothing is written where there is no memory for the picture
-    pub no_memory : (fault : Fault) → fault ≡ Memory → IsRefused text plan read left held held fault
-    no_memory fault is = subst (IsRefused text plan read left held held) (sym is) ((reads.bytes, reads.takes), Keeps-refl held)
+    pub no_memory : (fault : Fault) → fault ≡ Memory → IsRefused text file read left held held fault
+    no_memory fault is = subst (IsRefused text file read left held held) (sym is) ((reads.bytes, reads.takes), Keeps-refl held)
 
     module _ (holds : Option (List ℕ)) (p : Picture) (whole : p ≡ picture_said a samples) where
-      pub writer_failed : (e : PnmError) → Sends held holds (text_of p) (Err e) → IsRefused text plan read left held holds (image_fault e)
+      pub writer_failed : (e : PnmError) → Sends held holds (text_of p) (Err e) → IsRefused text file read left held holds (image_fault e)
       writer_failed e h =
           let sends = subst (λ (q : Picture). Sends held holds (text_of q) (Err e)) whole h in
-          subst (λ (x : PnmError). IsRefused text plan read left held holds (image_fault x)) (sym h.0)
+          subst (λ (x : PnmError). IsRefused text file read left held holds (image_fault x)) (sym h.0)
           (inr (refl, record { algorithm = a; samples = samples; is_text = said; ready = ready; reads = reads; writes = subst (λ (x : PnmError). Sends held holds (text_of (picture_said a samples)) (Err x)) h.0 sends }))
 
-      pub picture_done : Appends held holds (text_of p) → IsDone text plan read left held holds
+      pub picture_done : Appends held holds (text_of p) → IsDone text file read left held holds
       picture_done h = record { algorithm = a; samples = samples; is_text = said; ready = ready; reads = reads; writes = subst (λ (q : Picture). Appends held holds (text_of q)) whole h }
-
--- nor where a pixel takes too many evaluations
-pub pixel_refused : (text : List ℕ) (a : Algorithm) (said : IsAlgorithmText text a) (read left held : Option (List ℕ)) (samples : List ℕ)
-    (reads : ReadsFile (wanted_of (input_frame a)) read left samples) (fault : Fault) → IsBudgetSpent a samples (2 ^ 32) fault → IsRefused text None read left held held fault
-pixel_refused text a said read left held samples reads Memory h = ((reads.bytes, reads.takes), Keeps-refl held)
-pixel_refused text a said read left held samples reads (Algo code span) h = absurd h
-pixel_refused text a said read left held samples reads (Schedule code span) h = absurd h
-pixel_refused text a said read left held samples reads (Rule rule function) h = absurd h
-pixel_refused text a said read left held samples reads Names h = absurd h
-pixel_refused text a said read left held samples reads (Plan code line) h = absurd h
-pixel_refused text a said read left held samples reads (Image e) h = absurd h
-pixel_refused text a said read left held samples reads (Form line) h = absurd h
-pixel_refused text a said read left held samples reads (Limit line) h = absurd h
-pixel_refused text a said read left held samples reads Order h = absurd h
-pixel_refused text a said read left held samples reads (Unfinished piece) h = absurd h
-pixel_refused text a said read left held samples reads Outside h = absurd h
-pixel_refused text a said read left held samples reads (Uncut name) h = absurd h
-pixel_refused text a said read left held samples reads Difference h = absurd h
-pixel_refused text a said read left held samples reads Budget h =
-    (record { algorithm = a; samples = samples; is_text = said; ready = tt; reads = reads; refused = h }, Keeps-refl held)

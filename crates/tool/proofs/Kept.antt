@@ -3,7 +3,7 @@ use Rattle.std.proofs.Common.{◌≡◌, ◌∙◌, sym, ℕ, List, Option, None
 use Rattle.std.specs.Prelude.{IfErr, MatchResult, OnOk}
 use Rattle.std.specs.Io.KnownBytes.{Appends, Keeps}
 use Rattle.tool.specs.declared.pipeline.fault.Fault.{Fault}
-use Rattle.tool.specs.Pipeline.Pictures.{IsDone, PlanText}
+use Rattle.tool.specs.Pipeline.Pictures.{IsDone}
 use Rattle.tool.specs.declared.device.FileError.{FileError}
 use Rattle.tool.specs.declared.device.FileError.TheVariants.{Device, Memory}
 use Rattle.tool.specs.Files.{Contents, Holds, SameFiles, SameOthers}
@@ -54,8 +54,8 @@ appends_then (Some xs) (Some ys) None bytes h k = absurd k
 appends_then (Some xs) (Some ys) (Some zs) bytes h k = k ∙ h
 
 -- what a writer holds it still holds where it hands it on
-pub done_then : (text : List ℕ) (plan : PlanText) (read left held mid holds : Option (List ℕ)) → IsDone text plan read left held mid → Keeps mid holds → IsDone text plan read left held holds
-done_then text plan read left held mid holds d k = record {
+pub done_then : (text : List ℕ) (file : List ℕ) (read left held mid holds : Option (List ℕ)) → IsDone text file read left held mid → Keeps mid holds → IsDone text file read left held holds
+done_then text file read left held mid holds d k = record {
   algorithm = d.algorithm;
   samples = d.samples;
   is_text = d.is_text;

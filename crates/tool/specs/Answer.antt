@@ -1,5 +1,5 @@
 -- What the program does on its words, and the status that it answers.
-use Rattle.std.specs.Prelude.{◌≡◌, ◌⊎◌, ℕ, List, Option, Some, Result, Ok, Err, IfErr, MatchResult}
+use Rattle.std.specs.Prelude.{◌≡◌, ◌⊎◌, ℕ, List, Option, Result, Ok, Err, IfErr, MatchResult}
 use Rattle.clap.specs.Words.{Text}
 use Rattle.tool.specs.declared.pipeline.fault.Fault.{Fault}
 use Rattle.tool.specs.Pipeline.Pictures as streams
@@ -25,8 +25,8 @@ status_after (Err fault) = status_of fault
 -- without words, from the input to the output: all is done; or it is, but the output could not hand it on; or there is a refusal
 abbrev pub StreamsAnswer : List ℕ → List ℕ → Option (List ℕ) → Option (List ℕ) → Option (List ℕ) → Option (List ℕ) → ℕ → Type 0
 StreamsAnswer text file read left held holds status =
-    (((status ≡ 0) ⊎ (status ≡ 5)) × streams.IsDone text (Some file) read left held holds)
-    ⊎ ((fault : Fault) × (status ≡ status_of fault) × streams.IsRefused text (Some file) read left held holds fault)
+    (((status ≡ 0) ⊎ (status ≡ 5)) × streams.IsDone text file read left held holds)
+    ⊎ ((fault : Fault) × (status ≡ status_of fault) × streams.IsRefused text file read left held holds fault)
 
 -- what came of this command
 abbrev pub Ends : Contents → Contents → Asked → Result (Unit {0}) Fault → Type 0

@@ -16,6 +16,6 @@ pub use fault::Fault;
 pub use image_file::plan_file;
 pub use reading::{read_algorithm, read_inputs};
 pub use rule::BrokenRule;
-pub use without_plan::{BUDGET, plain_between, plain_over, plain_picture};
+pub use without_plan::{BUDGET, plain_picture};
 /// What replays the steps of a checked plan.
 pub use steps::{State, replay};

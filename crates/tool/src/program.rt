@@ -1,6 +1,6 @@
 //! The program, but for its real files and streams.
 
-ghost use Rattle.std.specs.Prelude.{◌≡◌, ◌≢◌, ◌⊎◌, [], map, filter, Some, IfOk, IfErr, OnOk, IsErrOf};
+ghost use Rattle.std.specs.Prelude.{◌≡◌, ◌≢◌, ◌⊎◌, [], map, filter, IfOk, IfErr, OnOk, IsErrOf};
 ghost use Rattle.std.specs.Io.KnownBytes.{Keeps};
 ghost use Rattle.clap.specs.Words.{kind_of};
 ghost use Rattle.tool.specs.Pipeline.Pictures.{IsDone, IsRefused};
@@ -79,9 +79,9 @@ fn increment<T: Threads + Sync, R: Read, W: Write>(
     input: &mut R,
     out: &mut W,
 ) -> Result<(), Fault>
-    ensures done { OnOk result (IsDone INCREMENT.now (Some INCREMENT_PLAN.now) (R.remaining input.old) (R.remaining input.new) (W.contents out.old) (W.contents out.new)) }
-    ensures refused { IfErr result (λ fault. IsRefused INCREMENT.now (Some INCREMENT_PLAN.now) (R.remaining input.old) (R.remaining input.new) (W.contents out.old) (W.contents out.new) fault
-        ⊎ ((fault ≡ Fault.Image PnmError.Device) × IsDone INCREMENT.now (Some INCREMENT_PLAN.now) (R.remaining input.old) (R.remaining input.new) (W.contents out.old) (W.contents out.new))) }
+    ensures done { OnOk result (IsDone INCREMENT.now INCREMENT_PLAN.now (R.remaining input.old) (R.remaining input.new) (W.contents out.old) (W.contents out.new)) }
+    ensures refused { IfErr result (λ fault. IsRefused INCREMENT.now INCREMENT_PLAN.now (R.remaining input.old) (R.remaining input.new) (W.contents out.old) (W.contents out.new) fault
+        ⊎ ((fault ≡ Fault.Image PnmError.Device) × IsDone INCREMENT.now INCREMENT_PLAN.now (R.remaining input.old) (R.remaining input.new) (W.contents out.old) (W.contents out.new))) }
 {
     run_over(rt, alloc, INCREMENT, INCREMENT_PLAN, input, out)?;
     flush(out)

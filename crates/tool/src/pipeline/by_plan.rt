@@ -1,6 +1,6 @@
 //! From an algorithm's text, a plan file and an image file to the picture, by that plan and one worker.
 
-ghost use Rattle.std.specs.Prelude.{◌≡◌, ◌⊎◌, true, false, Some, IfErr, IfOk, IsErrOf, OnOk};
+ghost use Rattle.std.specs.Prelude.{◌≡◌, ◌⊎◌, true, false, IfErr, IfOk, IsErrOf, OnOk};
 ghost use Rattle.algo.specs.View.{algorithm_of, picture_said, samples_of, IsFor};
 ghost use Rattle.checked_plan.specs.View.{algorithm_checked};
 ghost use Rattle.crew.specs.Opening.Layouts.{layout_of, values_of};
@@ -96,8 +96,8 @@ pub fn run_between<T: Threads + Sync, S: Source, K: Sink>(
 ) -> Result<(), Fault>
     requires source { S.has_failed source.old ≡ false }
     requires sink { K.has_failed sink.old ≡ false }
-    ensures done { OnOk result (IsDone text.now (Some file.now) (S.remaining source.old) (S.remaining source.new) (K.contents sink.old) (K.contents sink.new)) }
-    ensures refused { IfErr result (IsRefused text.now (Some file.now) (S.remaining source.old) (S.remaining source.new) (K.contents sink.old) (K.contents sink.new)) }
+    ensures done { OnOk result (IsDone text.now file.now (S.remaining source.old) (S.remaining source.new) (K.contents sink.old) (K.contents sink.new)) }
+    ensures refused { IfErr result (IsRefused text.now file.now (S.remaining source.old) (S.remaining source.new) (K.contents sink.old) (K.contents sink.new)) }
     ensures failed { (S.has_failed source.new ≡ true) ⊎ (K.has_failed sink.new ≡ true) → IsErrOf result (FaultOf.Image Device) }
     ensures device { IsErrOf result (FaultOf.Image Device) → ((S.has_failed source.new ≡ true) ⊎ (K.has_failed sink.new ≡ true)) ⊎ IsEndless (S.remaining source.old) (S.remaining source.new) }
     ensures same_source { S.identity source.new ≡ S.identity source.old }
@@ -124,8 +124,8 @@ pub fn run_over<T: Threads + Sync, R: Read, W: Write>(
     input: &mut R,
     output: &mut W,
 ) -> Result<(), Fault>
-    ensures done { OnOk result (IsDone text.now (Some file.now) (R.remaining input.old) (R.remaining input.new) (W.contents output.old) (W.contents output.new)) }
-    ensures refused { IfErr result (IsRefused text.now (Some file.now) (R.remaining input.old) (R.remaining input.new) (W.contents output.old) (W.contents output.new)) }
+    ensures done { OnOk result (IsDone text.now file.now (R.remaining input.old) (R.remaining input.new) (W.contents output.old) (W.contents output.new)) }
+    ensures refused { IfErr result (IsRefused text.now file.now (R.remaining input.old) (R.remaining input.new) (W.contents output.old) (W.contents output.new)) }
 {
     let mut source = Watched {
         device: input,

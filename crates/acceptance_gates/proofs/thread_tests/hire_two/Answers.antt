@@ -4,7 +4,7 @@ use Rattle.std.proofs.lemmas.List.Elements.{All-nil, All-push, All-same}
 use Rattle.board.specs.Seats.{Place}
 use Rattle.board.specs.Views.{IsIdle}
 use Rattle.acceptance_gates.specs.Workers.{IsReady}
-use Rattle.acceptance_gates.specs.declared.thread_tests.Worker.{Worker}
+use Rattle.acceptance_gates.specs.declared.worker.Worker.{Worker}
 use Rattle.acceptance_gates.proofs.thread_tests.hire_two.Goals as goal
 
 pub returns : goal.returns

@@ -1,15 +1,22 @@
 use Rattle.std.proofs.Common.{sym, subst, arith}
 use contract.Lifetimes.{Lfts}
+use denote.Ref.{NamedLft}
 use denote.Param.{param}
 use denote.Exit.{no}
 use denote.Param.Send.{IsSend, IsSync, arg_send, param_send, sendable}
 use Rattle.std.proofs.Crossing.{crosses}
+use Rattle.board.proofs.seat.BoardSeat.TheSendSync as seat
+use Rattle.crew.proofs.Shared.{desk_field_send}
+use Rattle.acceptance_gates.specs.contracts.worker.Worker as Worker
 use Rattle.acceptance_gates.specs.contracts.thread_tests.work_both.{J-row, P-row, R-row, G-row}
 use Rattle.acceptance_gates.specs.Workers.{IsBack, IsReady}
-use Rattle.acceptance_gates.proofs.Shared.{worker_send}
 use Rattle.acceptance_gates.proofs.thread_tests.work_both.Given.{Over}
 use Rattle.acceptance_gates.proofs.thread_tests.work_both.Lts.{impl_arg-0-0, impl_arg-0-1, impl_arg-0-2, impl_arg-0-3}
 use Rattle.acceptance_gates.proofs.thread_tests.work_both.Goals as goal
+
+-- Workers may be sent to threads.
+worker_send : (κ : NamedLft) → IsSend (Worker.the_row κ)
+worker_send κ = search (sendable, crosses, seat.the_send, desk_field_send) depth 40 fits 100000
 
 sent_run : (g : Over) (κs : Lfts 10) → IsSend (J-row g.row.J g.row.P g.row.R g.row.G) → IsSend (param 0 (impl_arg-0-0 g.row.J g.row.P g.row.R g.row.G g.J.laws g.P.laws g.R.laws g.G.laws g.J.Run g.J.Run-dict g.P.Held g.P.Held-dict g.R.Threads g.R.Threads-dict g.R.Wait g.R.Wait-dict g.G.Gate g.G.Gate-dict κs))
 sent_run g κs h = param_send 0 _ (arg_send _ no _ h)

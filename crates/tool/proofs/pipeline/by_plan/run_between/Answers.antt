@@ -1,4 +1,4 @@
-use Rattle.std.proofs.Common.{Err, Ok, Some, ap, refl, ◌∙◌}
+use Rattle.std.proofs.Common.{Err, Ok, ap, refl, ◌∙◌}
 use Rattle.std.proofs.lemmas.Result.{err_from_is_err_and}
 use Rattle.meaning.specs.Image.View.{image_of}
 use Rattle.algo.specs.declared.algorithm.Algo.{Algo}
@@ -21,7 +21,7 @@ returns-in_err-algo-clause-refused g c =
     let held = g.K.Sink.contents c.args.sink.now in
     let e = c.in_err-algo.field-0.0 in
     let p = err_from_is_err_and c.from_residual.result c.from_residual.ensures.1 in
-    told (IsRefused text (Some file) read read held held) c.from_residual.result p.0 e p.1 p.2 (text_refused text read held (Some file) e c.in_err-algo.ensures.refused)
+    told (IsRefused text file read read held held) c.from_residual.result p.0 e p.1 p.2 (text_refused text read held file e c.in_err-algo.ensures.refused)
 
 pub returns-in_err-checked-clause-refused : goal.returns-in_err-checked-clause-refused
 returns-in_err-checked-clause-refused g c =
@@ -31,7 +31,7 @@ returns-in_err-checked-clause-refused g c =
     let held = g.K.Sink.contents c.args.sink.now in
     let e = c.in_err-checked.field-0.0 in
     let p = err_from_is_err_and c.from_residual-in_err-checked.result c.from_residual-in_err-checked.ensures.1 in
-    told (IsRefused text (Some file) read read held held) c.from_residual-in_err-checked.result p.0 e p.1 p.2
+    told (IsRefused text file read read held held) c.from_residual-in_err-checked.result p.0 e p.1 p.2
     (file_refused text read held file (algorithm_of c.in_ok-algo.algo) e c.in_ok-algo.ensures.said c.in_err-checked.ensures.refused)
 
 pub returns-in_err-inputs-clause-refused : goal.returns-in_err-inputs-clause-refused
@@ -45,8 +45,8 @@ returns-in_err-inputs-clause-refused g c =
     let held = g.K.Sink.contents c.args.sink.now in
     let e = c.in_err-inputs.field-0.0 in
     let p = err_from_is_err_and c.from_residual-in_err-inputs.result c.from_residual-in_err-inputs.ensures.1 in
-    told (IsRefused text (Some file) read left held held) c.from_residual-in_err-inputs.result p.0 e p.1 p.2
-    (image_refused text (Some file) a c.in_ok-algo.ensures.said plan read left held e c.in_err-inputs.ensures.refused)
+    told (IsRefused text file read left held held) c.from_residual-in_err-inputs.result p.0 e p.1 p.2
+    (image_refused text file a c.in_ok-algo.ensures.said plan read left held e c.in_err-inputs.ensures.refused)
 
 pub returns-in_err-image-clause-refused : goal.returns-in_err-image-clause-refused
 returns-in_err-image-clause-refused g c =
@@ -59,8 +59,8 @@ returns-in_err-image-clause-refused g c =
     let held = g.K.Sink.contents c.args.sink.now in
     let e = c.in_err-image.field-0.0 in
     let p = err_from_is_err_and c.from_residual-in_err-image.result c.from_residual-in_err-image.ensures.1 in
-    told (IsRefused text (Some file) read left held held) c.from_residual-in_err-image.result p.0 e p.1 p.2
-    (no_memory text (Some file) a c.in_ok-algo.ensures.said plan read left held (samples_of c.in_ok-inputs.inputs) c.in_ok-inputs.ensures.file e c.in_err-image.ensures.refused)
+    told (IsRefused text file read left held held) c.from_residual-in_err-image.result p.0 e p.1 p.2
+    (no_memory text file a c.in_ok-algo.ensures.said plan read left held (samples_of c.in_ok-inputs.inputs) c.in_ok-inputs.ensures.file e c.in_err-image.ensures.refused)
 
 pub returns-in_err-write_to-clause-refused : goal.returns-in_err-write_to-clause-refused
 returns-in_err-write_to-clause-refused g c =
@@ -76,8 +76,8 @@ returns-in_err-write_to-clause-refused g c =
     let whole = c.in_ok-image.ensures.picture ∙ ap (λ (x : Algo). picture_said (algorithm_of x) samples) c.in_ok-checked.ensures.checked in
     let e = c.in_err-write_to.field-0.0 in
     let p = err_from_is_err_and c.from_residual-in_err-write_to.result c.from_residual-in_err-write_to.ensures.1 in
-    told (IsRefused text (Some file) read left held holds) c.from_residual-in_err-write_to.result p.0 (image_fault e) p.1 p.2
-    (writer_failed text (Some file) a c.in_ok-algo.ensures.said plan read left held samples c.in_ok-inputs.ensures.file holds (image_of c.in_ok-image.image) whole e c.in_err-write_to.ensures.bytes)
+    told (IsRefused text file read left held holds) c.from_residual-in_err-write_to.result p.0 (image_fault e) p.1 p.2
+    (writer_failed text file a c.in_ok-algo.ensures.said plan read left held samples c.in_ok-inputs.ensures.file holds (image_of c.in_ok-image.image) whole e c.in_err-write_to.ensures.bytes)
 
 pub returns-clause-done : goal.returns-clause-done
 returns-clause-done g c =
@@ -91,7 +91,7 @@ returns-clause-done g c =
     let holds = g.K.Sink.contents c.write_to.new.sink in
     let samples = samples_of c.in_ok-inputs.inputs in
     let whole = c.in_ok-image.ensures.picture ∙ ap (λ (x : Algo). picture_said (algorithm_of x) samples) c.in_ok-checked.ensures.checked in
-    picture_done text (Some file) a c.in_ok-algo.ensures.said plan read left held samples c.in_ok-inputs.ensures.file holds (image_of c.in_ok-image.image) whole c.in_ok-write_to.ensures.bytes
+    picture_done text file a c.in_ok-algo.ensures.said plan read left held samples c.in_ok-inputs.ensures.file holds (image_of c.in_ok-image.image) whole c.in_ok-write_to.ensures.bytes
 
 pub returns-in_err-inputs-clause-failed : goal.returns-in_err-inputs-clause-failed
 returns-in_err-inputs-clause-failed g c = λ h.
