@@ -73,7 +73,7 @@ $ stencil compile a.alg a.sched a.plan
 stencil: L6 f
 ```
 
-Name a loop that the consumer has when all its directives are done: here `y`, or split it first.
+Name a loop that the consumer has when all its directives are done, or split it first; a reduction's variable is no such loop. Where something outside of that loop reads the function too, name a loop with all its readers inside, or store it by `compute_root`.
 ";
 
 const L7: &str =
@@ -86,7 +86,7 @@ $ stencil compile a.alg a.sched a.plan
 stencil: L7 f
 ```
 
-Name a loop further outside: here `y`.
+Name a loop of the same function that stands outside of the one where it is computed.
 ";
 
 const L8: &str = "`shift` of a function with updates, or over fewer points than the factor.
