@@ -13,7 +13,7 @@ mod without_plan;
 pub use by_plan::{check_plan, plan_picture, run_between, run_over};
 pub use compiling::{compile, compile_checked, read_schedule};
 pub use fault::Fault;
-pub use image_file::plan_file;
+pub use image_file::{file_alone, file_by_crew, plan_file};
 pub use reading::{read_algorithm, read_inputs};
 pub use rule::BrokenRule;
 pub use without_plan::{BUDGET, plain_picture};

@@ -21,8 +21,9 @@ use std::thread::Threads;
 /// The most workers that compute at once.
 const MOST_WORKERS: usize = 64;
 
-/// The image file of a picture that one worker computes. Once it has begun it takes no memory, and nothing is refused.
-fn file_alone<J: Run, G: Gate>(
+/// The image file of a picture that one worker computes, in a list that is empty and has room for it. All memory is taken before:
+/// nothing is refused.
+pub fn file_alone<J: Run, G: Gate>(
     alloc: Global,
     run: PreparedAlone<'_, J>,
     file: Vec<u8>,
@@ -36,8 +37,9 @@ fn file_alone<J: Run, G: Gate>(
     file_of(file, &image)
 }
 
-/// The image file of a picture that a crew computes. Once the first worker has begun it takes no memory, and nothing is refused.
-fn file_by_crew<J: Run + Send + Sync, T: Threads + Wait + Sync, G: Gate>(
+/// The image file of a picture that a crew computes, in a list that is empty and has room for it. All memory is taken before: once
+/// the first worker has begun nothing is refused.
+pub fn file_by_crew<J: Run + Send + Sync, T: Threads + Wait + Sync, G: Gate>(
     rt: &T,
     alloc: Global,
     run: Prepared<'_, J>,
@@ -96,7 +98,7 @@ fn crew_on<J: Run + Send + Sync, T: Threads + Wait + Sync, G: Gate>(
 /// 64 are 64. One alone waits for nobody. The gate hears of each piece.
 ///
 /// All memory, that of the file's bytes included, is taken before the first worker starts. What computes the picture and puts
-/// its bytes has no refusal in its type.
+/// its bytes, `file_alone` or `file_by_crew`, has no refusal in its type.
 ///
 /// # Errors
 /// `Memory` where memory runs out.
