@@ -25,12 +25,13 @@ use Rattle.shares.specs.declared.layout.Layout.{Layout}
 use Rattle.shares.specs.declared.seats.Seat.{Seat}
 use Rattle.shares.specs.Boxes.{is_in_box, rank}
 use Rattle.shares.specs.Counts.{with_lines}
-use Rattle.shares.specs.Filed.{needs_in}
+use Rattle.shares.specs.Filed.{needs_in, AreLinesOf}
 use Rattle.shares.specs.Has.{NeedsPieces}
 use Rattle.shares.specs.Layout.{IsLayout, needs_list}
 use Rattle.shares.specs.Seats.{piece_of}
 use Rattle.shares.specs.Gathered.{AreGathered, EachIsGathered, IsGathered, is_free, is_fixed_span, is_fixed}
 use Rattle.shares.specs.Needed.{need_grid, need_points, need_numbers, all_numbers, NeedIsInside, NeedsAreInside}
+use Rattle.shares.specs.Repeated.{AreSameLines}
 use Rattle.shares.specs.Shared.{NeedIsShared}
 use Rattle.shares.proofs.Groups.{get_some}
 use Rattle.shares.proofs.Grouped.{numbers_grouped, inside_grouped}
@@ -195,19 +196,40 @@ module _ (p : Plan) (g : ℕ) (ns : List Need) (numbers : List ℕ) (moving : Li
       );
     }
 
-    -- a line that stands before in the same words
-    pub line_again : Contains ns n → AreGathered p g (ns ++ n ∷ []) numbers moving
-    line_again before = record {
-      lines = h.lines;
-      named = λ j of i. (
-        (λ m. push_to p j i ns n (inl ((h.named j of i).0 m))),
-        (λ m. elim (push_from p j i ns n m) [ inl a ↦ (h.named j of i).1 a | inr a ↦ (h.named j of i).1 (named_before p j i ns n before a) ]),
-      );
-      inside = λ j of. (
-        (λ all. let inside = (h.inside j of).0 all in all_push (NeedIsInside p j) ns n inside (subst (NeedIsInside p j) before.2 (inside before.0 n before.1))),
-        (λ all. (h.inside j of).1 (all_before (NeedIsInside p j) ns n all).0),
-      );
-    }
+-- ---- the same lines, of which some are left out
+
+named_in : (p : Plan) (j : Piece) (i : ℕ) (all ms : List Need) → ((m : Need) → Contains ms m → Contains all m) → Contains (all_numbers p j ms) i → Contains (all_numbers p j all) i
+named_in p j i all [] h has = let less : has.0 < 0 = has.1 in absurd (omega (arith, less))
+named_in p j i all (x ∷ ms) h has = elim (Contains-append_cases (need_numbers p j x) (all_numbers p j ms) i has) [
+  | inl a ↦ named_before p j i all x (h x (0, omega arith, refl)) a
+  | inr b ↦ named_in p j i all ms (λ m at. h m (Contains-append_right (x ∷ []) ms m at)) b
+]
+
+each_among : (P : Need → Type 0) (all ms : List Need) → ((m : Need) → Contains ms m → Contains all m) → All P all → AllByRecursion P ms
+each_among P all [] h every = tt
+each_among P all (x ∷ ms) h every =
+    let at = h x (0, omega arith, refl) in
+    (subst P at.2 (every at.0 x at.1), each_among P all ms (λ m a. h m (Contains-append_right (x ∷ []) ms m a)) every)
+
+all_among : (P : Need → Type 0) (all ms : List Need) → ((m : Need) → Contains ms m → Contains all m) → All P all → All P ms
+all_among P all ms h every = All-from_recursion P ms (each_among P all ms h every)
+
+module _ (p : Plan) (g : ℕ) (ns ms : List Need) (same : AreSameLines ms ns) where
+  pub lines_within : AreLinesOf p g ns → AreLinesOf p g ms
+  lines_within = all_among (λ (n : Need). (n.group ≡ g) × NeedIsShared p n) ns ms (λ n. (same n).0)
+
+  pub lines_same : (numbers : List ℕ) (moving : List Need) → AreGathered p g ms numbers moving → AreGathered p g ns numbers moving
+  lines_same numbers moving h = record {
+    lines = h.lines;
+    named = λ j of i. (
+      (λ m. named_in p j i ns ms (λ n. (same n).0) ((h.named j of i).0 m)),
+      (λ m. (h.named j of i).1 (named_in p j i ms ns (λ n. (same n).1) m)),
+    );
+    inside = λ j of. (
+      (λ all. all_among (NeedIsInside p j) ms ns (λ n. (same n).1) ((h.inside j of).0 all)),
+      (λ all. (h.inside j of).1 (all_among (NeedIsInside p j) ns ms (λ n. (same n).0) all)),
+    );
+  }
 
 -- ---- a piece of a layout
 

@@ -16,6 +16,7 @@ pub mod Grouped
 pub mod Counting
 pub mod Filing
 pub mod Gathering
+pub mod Repeating
 pub mod Noting
 pub mod Totals
 pub mod Prefixes

@@ -12,6 +12,7 @@ pub mod Faults
 pub mod Needed
 pub mod Filed
 pub mod Gathered
+pub mod Repeated
 pub mod Has
 pub mod Counts
 pub mod Noted

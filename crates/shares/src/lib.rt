@@ -21,6 +21,7 @@ mod lists;
 mod needed;
 mod own;
 mod owners;
+mod repeated;
 mod seats;
 mod spaces;
 mod stands;
