@@ -82,6 +82,9 @@ PLANS = {
     "2^24 cells in 4096 pieces": lambda: rows_of(4096),
     "200 nested empty loops": lambda: empty_loops(200),
     "65,500 need lines and 2^20 pieces": lambda: many_needs(65500, lambda i: f"0:{i % 16}"),
+    "65,500 need lines that repeat 8 with a symbol, and 2^20 pieces": lambda: many_needs(
+        65500, lambda i: f"0,{-1023 - i % 8}+1*s0:0"
+    ),
 }
 
 
