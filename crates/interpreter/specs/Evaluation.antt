@@ -1,2 +1,3 @@
 pub mod Indices
 pub mod Lanes
+pub mod Repeats

@@ -8,8 +8,10 @@ mod looking;
 mod operators;
 mod quotients;
 mod reader;
+mod repeats;
 mod run;
 mod run_reader;
+mod sameness;
 mod stop;
 mod whole;
 

@@ -232,7 +232,7 @@ pub(crate) fn copy_register(from: &[Number], out: &mut [Number]) -> Option<()>
 }
 
 /// Puts the first numbers of another register in.
-fn copy_each(from: &[Number], out: &mut [Number])
+pub(crate) fn copy_each(from: &[Number], out: &mut [Number])
     requires { length out.old ≤ length from.now }
     ensures { (k : ℕ) → k < length out.new → number_at out.new k ≡ number_at from.now k }
 {

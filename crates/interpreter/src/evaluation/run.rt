@@ -11,9 +11,10 @@ ghost use Rattle.interpreter.specs.declared.evaluation.lanes.Lanes.TheVariants.{
 use crate::evaluation::kernels::{both_each, either_each, not_each};
 use crate::evaluation::lanes::{Lanes, Number};
 use crate::evaluation::looking::look_run;
+use crate::evaluation::repeats::repeat_of;
 use crate::evaluation::run_reader::RunReader;
 use crate::evaluation::whole::{
-    apply_lanes, choose_lanes, clamp_lanes, compare_lanes, negate_lanes, wrap_lanes,
+    apply_lanes, apply_repeated, choose_lanes, clamp_lanes, compare_lanes, negate_lanes, wrap_lanes,
 };
 use numeric::Ty;
 use tree::{Cond, Expr, Value};
@@ -46,20 +47,7 @@ pub fn evaluate_run<R: RunReader>(
             let value = evaluate_run(value, reader, out, rest)?;
             Some(negate_lanes(value, out))
         }
-        Expr::Binary {
-            op,
-            left,
-            right,
-            ..
-        } => {
-            let left = evaluate_run(left, reader, out, rest)?;
-            if rest.len() < out.len() {
-                return None;
-            }
-            let (other, rest) = rest.split_at_mut(out.len());
-            let right = evaluate_run(right, reader, other, rest)?;
-            Some(apply_lanes(*op, left, right, out, other))
-        }
+        Expr::Binary { .. } => binary_run(expr, reader, out, rest),
         Expr::Clamp { .. } => clamp_run(expr, reader, out, rest),
         Expr::Cast { ty, value, .. } => {
             let value = evaluate_run(value, reader, out, rest)?;
@@ -67,6 +55,38 @@ pub fn evaluate_run<R: RunReader>(
         }
         Expr::Select { .. } => select_run(expr, reader, out, rest),
     }
+}
+
+/// The values of an operator, of an expression that is one on two others. A second operand that repeats the first is not evaluated.
+#[cycle(evaluate_run)]
+fn binary_run<R: RunReader>(
+    expr: &Expr,
+    reader: &R,
+    out: &mut [Number],
+    rest: &mut [Number],
+) -> Option<Lanes>
+    ensures narrow { IfSome result (IsNarrowFor (length out.new)) }
+    ensures value { IfSome result (λ x. (m : Memory ValueFound) → R.agrees reader.now m → FindsRun (length out.new) x out.new (λ k. found (R.variables reader.now k) (R.look reader.now m) (term_of expr.now))) }
+{
+    let Expr::Binary {
+        op,
+        left,
+        right,
+        ..
+    } = expr
+    else {
+        return None;
+    };
+    let first = evaluate_run(left, reader, out, rest)?;
+    if rest.len() < out.len() {
+        return None;
+    }
+    let (other, rest) = rest.split_at_mut(out.len());
+    if let Some(repeat) = repeat_of(*op, left, right) {
+        return Some(apply_repeated(*op, repeat, first, out, other));
+    }
+    let second = evaluate_run(right, reader, other, rest)?;
+    Some(apply_lanes(*op, first, second, out, other))
 }
 
 /// The values between two others, of an expression that is such.

@@ -9,14 +9,16 @@ ghost use Rattle.tree.specs.Meaning.{applied, clamped, negated, typed};
 ghost use Rattle.interpreter.specs.declared.evaluation.lanes.Lanes.TheVariants.{Ramp};
 ghost use Rattle.interpreter.specs.declared.evaluation.lanes.Number.{Number as NumberHeld};
 ghost use Rattle.interpreter.specs.Evaluation.Lanes.{lane, lane_number, mask_at, number_at, type_of, IsNarrowFor, IsRamp};
+ghost use Rattle.interpreter.specs.Evaluation.Repeats.{repeated_value};
 
 use crate::evaluation::kernels::{
-    apply_all, apply_by, choose_each, clamp_between, clamp_each, compare_all, compare_with, fill,
-    fill_rising, negate_each, wrap_all,
+    apply_all, apply_by, choose_each, clamp_between, clamp_each, compare_all, compare_with,
+    copy_each, fill, fill_rising, negate_each, wrap_all,
 };
 use crate::evaluation::lanes::{Lanes, Number};
 use crate::evaluation::operators::{applied, clamped, negated, wrapped};
 use crate::evaluation::quotients::{divide_each, reduce_each};
+use crate::evaluation::repeats::Repeat;
 use numeric::{Comparison, Op, Ty};
 use tree::Value;
 
@@ -170,6 +172,37 @@ pub(crate) fn apply_lanes(
             Lanes::Vector(type_of(left))
         }
     }
+}
+
+/// The lanes of an operand that repeats another, put over a register of its own. The other's lie over this register.
+fn repeat_lanes(repeat: Repeat, lanes: Lanes, register: &[Number], out: &mut [Number]) -> Lanes
+    requires length { length register.now ≡ length out.old }
+    requires lanes { IsNarrowFor (length out.old) lanes }
+    ensures narrow { IsNarrowFor (length out.new) result }
+    ensures lanes { (k : ℕ) → k < length out.new → lane result out.new k ≡ repeated_value repeat (lane lanes register.now k) }
+{
+    copy_each(register, out);
+    match repeat {
+        Repeat::Same => lanes,
+        Repeat::Opposite => negate_lanes(lanes, out),
+    }
+}
+
+/// The operator on lanes over this register and on those of an operand that repeats them, which take another register.
+pub(crate) fn apply_repeated(
+    op: Op,
+    repeat: Repeat,
+    lanes: Lanes,
+    out: &mut [Number],
+    other: &mut [Number],
+) -> Lanes
+    requires length { length other.old ≡ length out.old }
+    requires lanes { IsNarrowFor (length out.old) lanes }
+    ensures narrow { IsNarrowFor (length out.new) result }
+    ensures lanes { (k : ℕ) → k < length out.new → lane result out.new k ≡ applied op (lane lanes out.old k) (repeated_value repeat (lane lanes out.old k)) }
+{
+    let second = repeat_lanes(repeat, lanes, out, other);
+    apply_lanes(op, lanes, second, out, other)
 }
 
 /// The negation of lanes.

@@ -6,9 +6,9 @@ use Rattle.plan.specs.Semantics.Found.{found, with, all_found}
 use Rattle.tree.specs.declared.expr.Expr.{Expr}
 use Rattle.tree.specs.declared.value.Value.{Value}
 use Rattle.tree.specs.Meaning.{typed}
-use Rattle.tree.specs.Term.{term_of, list_terms, indices, Minus, Binary, Cast}
+use Rattle.tree.specs.Term.{term_of, list_terms, indices, Minus, Cast}
 use Rattle.interpreter.specs.Evaluation.Lanes.{lane, lane_number, lanes_at, number_at}
-use Rattle.interpreter.proofs.FoundRuns.{found_minus, found_cast, found_binary, found_call, if_some}
+use Rattle.interpreter.proofs.FoundRuns.{found_minus, found_cast, found_call, if_some}
 use Rattle.interpreter.proofs.Indices.{one_more}
 use Rattle.interpreter.proofs.InRegisters.{lanes_more}
 use Rattle.interpreter.proofs.evaluation.run.+evaluate_run.Goals as goal
@@ -33,22 +33,6 @@ evaluate_run-returns-in_ok-value-in-Cast-clause-value g t c = λ m ok k lt.
     ∙ ap (λ (e : Expr). found vs look (Cast ty (term_of e))) (sym same)
     ∙ found_cast vs look ty (term_of c.deref-in-Cast.result.now) (lane c.in_ok-value-in-Cast.value c.evaluate_run-in-Cast.new.out k) (c.in_ok-value-in-Cast.ensures.value m ok k (omega arith))
     ∙ ap (λ (v : Value). Some v) (sym (c.wrap_lanes.ensures.lanes k lt))
-
-pub evaluate_run-returns-in_ok-right-in-Binary-clause-value : goal.evaluate_run-returns-in_ok-right-in-Binary-clause-value
-evaluate_run-returns-in_ok-right-in-Binary-clause-value g t c = λ m ok k lt.
-    let vs = g.R.RunReader.variables c.args.reader.now k in
-    let look = g.R.RunReader.look c.args.reader.now m in
-    let op = c.in-Binary.op in
-    let a = c.deref-in-Binary.result.now in
-    let b = c.deref-in-Binary-2.result.now in
-    let first : a ≡ c.in-Binary.left.value = search rules in
-    let second : b ≡ c.in-Binary.right.value = search rules in
-    let x = lane c.in_ok-left-in-Binary.left c.evaluate_run-in-Binary.new.out k in
-    let y = lane c.in_ok-right-in-Binary.right c.evaluate_run-in-Binary-2.new.out k in
-    ap (λ (e : Expr). found vs look (term_of e)) c.in-Binary.is
-    ∙ (λ i. found vs look (Binary op (term_of (sym first i)) (term_of (sym second i))))
-    ∙ found_binary vs look op (term_of a) (term_of b) x y (c.in_ok-left-in-Binary.ensures.value m ok k (omega arith)) (c.in_ok-right-in-Binary.ensures.value m ok k (omega arith))
-    ∙ ap (λ (v : Value). Some v) (sym (c.apply_lanes.ensures.lanes k lt))
 
 pub evaluate_run-returns-in-Literal-clause-value : goal.evaluate_run-returns-in-Literal-clause-value
 evaluate_run-returns-in-Literal-clause-value g t c = λ m ok k lt.
