@@ -1,5 +1,13 @@
+pub mod Bindings
+pub mod Calling
 pub mod Entries
+pub mod First
+pub mod Inputs
 pub mod Named
+pub mod Places
 pub mod Puts
+pub mod Rounds
 pub mod Sizes
+pub mod Stops
 pub mod Told
+pub mod Within

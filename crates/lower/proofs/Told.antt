@@ -1,5 +1,5 @@
 -- What the refusal of a placement, or its plan, says of an algorithm and a schedule.
-use Rattle.std.proofs.Common.{◌≡◌, ℕ, false, List, Option, Some, None, Result, Ok, Err, subst, inl, inr}
+use Rattle.std.proofs.Common.{◌≡◌, ℕ, true, false, List, length, take, Option, Some, None, Result, Ok, Err, subst, refl, inl, inr}
 use Rattle.std.specs.Prelude.{IfOk, IfErr}
 use Rattle.meaning.specs.Algorithm.{Algorithm}
 use Rattle.sched.specs.Schedule.{Schedule}
@@ -13,7 +13,11 @@ use Rattle.lower.specs.declared.error.RegionRule.TheVariants as rule
 use Rattle.lower.specs.declared.lowering.Lowered.{Lowered}
 use Rattle.lower.specs.Stored.{StoredText, has_large, stored_functions}
 use Rattle.lower.specs.Large.{IsTold, IsToldOf}
-use Rattle.lower.specs.Refused.{Answers, AreSmall, IsRefused, IsUnplanned, IsPlaced}
+use Rattle.lower.specs.Regions.{LaidText, laid_functions}
+use Rattle.lower.specs.Faults.{are_whole, no_totals, IsFirstOf}
+use Rattle.lower.specs.Refused.{Answers, AreSmall, AreRegionsKept, KeepsRegions, IsRefused, IsUnplanned, IsPlaced}
+use Rattle.lower.proofs.Sizes.{none_is_large}
+use Rattle.lower.proofs.First.{first_of, none_of}
 
 -- ---- the stored functions
 
@@ -25,26 +29,38 @@ told_of gs rule.SmallFold x h = h
 told_of gs rule.TooMuch x h = h
 told_of gs rule.Unbounded x h = inl h
 
-pub placed_told : (gs : List StoredText) (o : Option (Rule × List ℕ)) (e : LowerError) → IsPlaced o e → Answers gs o (Err e)
-placed_told gs o error.Memory h = absurd h
-placed_told gs o (error.Schedule e) h = h
-placed_told gs o (error.Broken rule.OutsideUse x) h = tt
-placed_told gs o (error.Broken rule.TooLarge x) h = absurd h
-placed_told gs o (error.Broken rule.ShortShift x) h = absurd h
-placed_told gs o (error.Broken rule.SmallFold x) h = absurd h
-placed_told gs o (error.Broken rule.TooMuch x) h = absurd h
-placed_told gs o (error.Broken rule.Unbounded x) h = absurd h
+-- the first of so many functions breaks a rule, over regions that are those of whole functions
+pub fault_told : (a : Algorithm) (gs : List StoredText) (o : Option (Rule × List ℕ)) (ls : List (Option LaidText)) (n : ℕ) (e : RegionRule × List ℕ)
+    → IsTold gs e.0 e.1 → IsFirstOf a (has_large gs) no_totals n gs ls (Some e) → (are_whole gs ≡ true → ls ≡ laid_functions a gs) → Answers a gs o (Err (error.Broken e.0 e.1))
+fault_told a gs o ls n (r, x) h f laid = (told_of gs r x h, first_of a gs ls n r x f laid)
 
-pub unplanned_told : (gs : List StoredText) (o : Option (Rule × List ℕ)) (r : Result Lowered LowerError) → o ≡ None → has_large gs ≡ false → IfErr r IsUnplanned → Answers gs o r
-unplanned_told gs o (Ok l) e h is = (e, h)
-unplanned_told gs o (Err error.Memory) e h is = tt
-unplanned_told gs o (Err (error.Schedule s)) e h is = absurd is
-unplanned_told gs o (Err (error.Broken rule.OutsideUse x)) e h is = absurd is
-unplanned_told gs o (Err (error.Broken rule.TooLarge x)) e h is = absurd is
-unplanned_told gs o (Err (error.Broken rule.ShortShift x)) e h is = absurd is
-unplanned_told gs o (Err (error.Broken rule.SmallFold x)) e h is = absurd is
-unplanned_told gs o (Err (error.Broken rule.TooMuch x)) e h is = absurd is
-unplanned_told gs o (Err (error.Broken rule.Unbounded x)) e h is = inr h
+pub placed_told : (a : Algorithm) (gs : List StoredText) (o : Option (Rule × List ℕ)) (e : LowerError) → IsPlaced gs o e → Answers a gs o (Err e)
+placed_told a gs o error.Memory h = absurd h
+placed_told a gs o (error.Schedule e) h = h
+placed_told a gs o (error.Broken rule.OutsideUse x) h = (tt, λ w. absurd (h w))
+placed_told a gs o (error.Broken rule.TooLarge x) h = absurd h
+placed_told a gs o (error.Broken rule.ShortShift x) h = absurd h
+placed_told a gs o (error.Broken rule.SmallFold x) h = absurd h
+placed_told a gs o (error.Broken rule.TooMuch x) h = absurd h
+placed_told a gs o (error.Broken rule.Unbounded x) h = absurd h
+
+answers_unplanned : (a : Algorithm) (gs : List StoredText) (o : Option (Rule × List ℕ)) (r : Result Lowered LowerError)
+    → o ≡ None → has_large gs ≡ false → KeepsRegions a gs → IfErr r IsUnplanned → Answers a gs o r
+answers_unplanned a gs o (Ok l) e h k is = (e, h, k)
+answers_unplanned a gs o (Err error.Memory) e h k is = tt
+answers_unplanned a gs o (Err (error.Schedule s)) e h k is = absurd is
+answers_unplanned a gs o (Err (error.Broken rule.OutsideUse x)) e h k is = absurd is
+answers_unplanned a gs o (Err (error.Broken rule.TooLarge x)) e h k is = absurd is
+answers_unplanned a gs o (Err (error.Broken rule.ShortShift x)) e h k is = absurd is
+answers_unplanned a gs o (Err (error.Broken rule.SmallFold x)) e h k is = absurd is
+answers_unplanned a gs o (Err (error.Broken rule.TooMuch x)) e h k is = absurd is
+answers_unplanned a gs o (Err (error.Broken rule.Unbounded x)) e h k is = (inr h, λ w. inr (refl, k w))
+
+-- none of them does, and no plan, or one, is made
+pub unplanned_told : (a : Algorithm) (gs : List StoredText) (o : Option (Rule × List ℕ)) (ls : List (Option LaidText)) (n : ℕ) (r : Result Lowered LowerError)
+    → o ≡ None → n ≡ length gs → has_large (take n gs) ≡ false → IsFirstOf a (has_large gs) no_totals n gs ls None → (are_whole gs ≡ true → ls ≡ laid_functions a gs)
+    → IfErr r IsUnplanned → Answers a gs o r
+unplanned_told a gs o ls n r e c h f laid is = answers_unplanned a gs o r e (none_is_large gs n c h) (none_of a gs ls n f laid c) is
 
 -- ---- the algorithm and its schedule
 
@@ -56,13 +72,14 @@ is_followed a s (Some e) h = h.followed
 pub record Told (a : Algorithm) (s : Schedule) (r : Result Lowered LowerError) : Type 0 where
   pub legal : IfOk r (λ l. IsLegal a s)
   pub small : IfOk r (λ l. AreSmall a s)
+  pub regions : IfOk r (λ l. AreRegionsKept a s)
   pub refused : IfErr r (IsRefused a s)
 
 err_told : (a : Algorithm) (s : Schedule) (e : LowerError) → IsRefused a s e → Told a s (Err e)
-err_told a s e is = record { legal = tt; small = tt; refused = is }
+err_told a s e is = record { legal = tt; small = tt; regions = tt; refused = is }
 
-answers_told : (a : Algorithm) (s : Schedule) (o : Option (Rule × List ℕ)) → IsFault a s o → (r : Result Lowered LowerError) → Answers (stored_functions a s) o r → Told a s r
-answers_told a s o h (Ok l) is = record { legal = subst (IsFault a s) is.0 h; small = is.1; refused = tt }
+answers_told : (a : Algorithm) (s : Schedule) (o : Option (Rule × List ℕ)) → IsFault a s o → (r : Result Lowered LowerError) → Answers a (stored_functions a s) o r → Told a s r
+answers_told a s o h (Ok l) is = record { legal = subst (IsFault a s) is.0 h; small = is.1; regions = is.2; refused = tt }
 answers_told a s o h (Err error.Memory) is = err_told a s error.Memory tt
 answers_told a s o h (Err (error.Schedule (refusal.Broken r x))) is = err_told a s (error.Schedule (refusal.Broken r x)) (inr (subst (IsFault a s) is h))
 answers_told a s o h (Err (error.Schedule refusal.Memory)) is = absurd is
@@ -70,8 +87,8 @@ answers_told a s o h (Err (error.Schedule (refusal.BadToken span))) is = absurd 
 answers_told a s o h (Err (error.Schedule (refusal.BadForm span))) is = absurd is
 answers_told a s o h (Err (error.Schedule (refusal.TooLarge span))) is = absurd is
 answers_told a s o h (Err (error.Schedule refusal.UnfitNames)) is = absurd is
-answers_told a s o h (Err (error.Broken r x)) is = err_told a s (error.Broken r x) (is_followed a s o h, is)
+answers_told a s o h (Err (error.Broken r x)) is = err_told a s (error.Broken r x) (is_followed a s o h, is.0, is.1)
 
 pub stored_told : (a : Algorithm) (s : Schedule) (o : Option (Rule × List ℕ)) (gs : List StoredText) → IsFault a s o → gs ≡ stored_functions a s
-    → (r : Result Lowered LowerError) → Answers gs o r → Told a s r
-stored_told a s o gs h e r is = answers_told a s o h r (subst (λ (xs : List StoredText). Answers xs o r) e is)
+    → (r : Result Lowered LowerError) → Answers a gs o r → Told a s r
+stored_told a s o gs h e r is = answers_told a s o h r (subst (λ (xs : List StoredText). Answers a xs o r) e is)

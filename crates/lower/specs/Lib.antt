@@ -1,6 +1,12 @@
+pub mod Around
+pub mod Bounded
 pub mod Called
+pub mod Calls
+pub mod Faults
 pub mod Large
+pub mod Limited
 pub mod Refused
+pub mod Regions
 pub mod Rules
 pub mod Stored
 pub mod Windows

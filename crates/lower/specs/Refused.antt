@@ -1,5 +1,5 @@
 -- Why an algorithm and a schedule give no plan.
-use Rattle.std.specs.Prelude.{◌≡◌, ℕ, false, List, Option, Some, None, Result, Ok, Err}
+use Rattle.std.specs.Prelude.{◌≡◌, ◌≢◌, ◌⊎◌, ℕ, true, false, List, Option, Some, None, Result, Ok, Err}
 use Rattle.lin.specs.declared.form.LinError.{LinError}
 use Rattle.lin.specs.declared.form.LinError.TheVariants as form
 use Rattle.meaning.specs.Algorithm.{Algorithm}
@@ -11,9 +11,11 @@ use Rattle.sched.specs.declared.error.SchedError.{SchedError}
 use Rattle.sched.specs.declared.error.SchedError.TheVariants as refusal
 use Rattle.sched.specs.Legal.{IsFollowed}
 use Rattle.lower.specs.declared.lowering.Lowered.{Lowered}
+use Rattle.lower.specs.declared.error.RegionRule.{RegionRule}
 use Rattle.lower.specs.declared.error.RegionRule.TheVariants as rule
 use Rattle.lower.specs.Stored.{StoredText, has_large, stored_functions}
 use Rattle.lower.specs.Large.{IsToldOf}
+use Rattle.lower.specs.Faults.{are_whole, region_fault}
 use Rattle.sched.specs.Legal as sched
 use Rattle.sched.specs.declared.skeleton.SkeletonError.{SkeletonError}
 use Rattle.sched.specs.declared.skeleton.SkeletonError.TheVariants as skeleton
@@ -26,25 +28,38 @@ use Rattle.lower.specs.declared.error.Stop.TheVariants as stop
 abbrev pub AreSmall : Algorithm → Schedule → Type 0
 AreSmall a s = has_large (stored_functions a s) ≡ false
 
+-- where each stored function is a root function that is computed at no loop, none breaks a rule by its region
+abbrev pub KeepsRegions : Algorithm → List StoredText → Type 0
+KeepsRegions a gs = are_whole gs ≡ true → region_fault a gs ≡ None
+
+-- then this is the first function that breaks one, and the rule; of missing bounds it may be told too that the lines of the function's group lack
+-- them, where none breaks one
+abbrev pub IsFirst : Algorithm → List StoredText → RegionRule → List ℕ → Type 0
+IsFirst a gs r x = are_whole gs ≡ true → (region_fault a gs ≡ Some (r, x)) ⊎ ((r ≡ rule.Unbounded) × (region_fault a gs ≡ None))
+
+abbrev pub AreRegionsKept : Algorithm → Schedule → Type 0
+AreRegionsKept a s = KeepsRegions a (stored_functions a s)
+
 -- A directive breaks one of L1 to L5, or a function a rule that asks for no region. L11 for a definition is told only of the first stored function
--- of which one passes the limits. Of the other rules that ask for a region it is said only that no directive breaks one of L1 to L5, and that, but for
--- L6, no definition of the function or of one before it passes the limits: what a region is is not stated here.
+-- of which one passes the limits. The other rules that ask for a region are told only where no directive breaks one of L1 to L5 and, but for L6, no
+-- definition of the function or of one before it passes the limits; where each stored function is a root function, only the first that is broken,
+-- of the first function that breaks one.
 abbrev pub IsRefused : Algorithm → Schedule → LowerError → Type 0
 IsRefused a s error.Memory = Unit {0}
 IsRefused a s (error.Schedule e) = sched.IsRefused a s e
-IsRefused a s (error.Broken r x) = IsFollowed a s × IsToldOf (stored_functions a s) r x
+IsRefused a s (error.Broken r x) = IsFollowed a s × IsToldOf (stored_functions a s) r x × IsFirst a (stored_functions a s) r x
 
 -- it is the first rule that asks for no region and is broken
 abbrev pub IsThat : Option (Rule × List ℕ) → SchedError → Type 0
 IsThat o (refusal.Broken r x) = o ≡ Some (r, x)
 IsThat o e = ⊥
 
--- a plan comes only where no such rule is broken, and no definition passes the limits
-abbrev pub Answers : List StoredText → Option (Rule × List ℕ) → Result Lowered LowerError → Type 0
-Answers gs o (Ok l) = (o ≡ None) × (has_large gs ≡ false)
-Answers gs o (Err error.Memory) = Unit {0}
-Answers gs o (Err (error.Schedule e)) = IsThat o e
-Answers gs o (Err (error.Broken r x)) = IsToldOf gs r x
+-- a plan comes only where no such rule is broken, no definition passes the limits, and no rule is broken by a region
+abbrev pub Answers : Algorithm → List StoredText → Option (Rule × List ℕ) → Result Lowered LowerError → Type 0
+Answers a gs o (Ok l) = (o ≡ None) × (has_large gs ≡ false) × KeepsRegions a gs
+Answers a gs o (Err error.Memory) = Unit {0}
+Answers a gs o (Err (error.Schedule e)) = IsThat o e
+Answers a gs o (Err (error.Broken r x)) = IsToldOf gs r x × IsFirst a gs r x
 
 -- no plan was made, and no rule is told but that bounds are missing
 abbrev pub IsUnplanned : LowerError → Type 0
@@ -54,11 +69,11 @@ IsUnplanned (error.Broken rule.Unbounded x) = Unit {0}
 IsUnplanned (error.Broken r x) = ⊥
 
 -- it is said of a rule that is told behind the last directive, or of a use outside of a loop
-abbrev pub IsPlaced : Option (Rule × List ℕ) → LowerError → Type 0
-IsPlaced o error.Memory = ⊥
-IsPlaced o (error.Schedule e) = IsThat o e
-IsPlaced o (error.Broken rule.OutsideUse x) = Unit {0}
-IsPlaced o (error.Broken r x) = ⊥
+abbrev pub IsPlaced : List StoredText → Option (Rule × List ℕ) → LowerError → Type 0
+IsPlaced gs o error.Memory = ⊥
+IsPlaced gs o (error.Schedule e) = IsThat o e
+IsPlaced gs o (error.Broken rule.OutsideUse x) = are_whole gs ≢ true
+IsPlaced gs o (error.Broken r x) = ⊥
 
 abbrev pub stop_of_form : LinError → Stop
 stop_of_form form.Memory = stop.Memory

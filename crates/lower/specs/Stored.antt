@@ -1,13 +1,15 @@
 -- The stored functions, and their definitions with the calls of other functions put in.
-use Rattle.std.specs.Prelude.{◌≡◌, ℕ, Bool, true, false, ◌&&◌, not, nat_le, if◌then◌else◌, List, [], ◌∷◌, map, Option, Some, None, Result, Ok, Err}
+use Rattle.std.specs.Prelude.{◌≡◌, ℕ, Bool, true, false, ◌&&◌, not, nat_le, if◌then◌else◌, List, [], ◌∷◌, ◌++◌, map, Option, Some, None, Result, Ok, Err, slice_get}
 use Rattle.std.specs.Option.{option_map}
-use Rattle.std.specs.List.{list_any}
+use Rattle.std.specs.List.{flat_map, list_any}
 use Rattle.tree.specs.Term.{Term, term_of}
 use Rattle.tree.specs.Tree.{node_count, depth}
 use Rattle.meaning.specs.Algorithm.{Change, Function, Algorithm}
+use Rattle.meaning.specs.Names.{same_name}
 use Rattle.meaning.specs.Conditions.{is_variable}
 use Rattle.meaning.specs.Inlining.PutIn.{put_in, calls_updates}
 use Rattle.algo.specs.Parts.{change_of, names_of}
+use Rattle.algo.specs.Scoping.Standing.{Written, calls_of}
 use Rattle.subst.specs.declared.error.SubstError.{SubstError}
 use Rattle.subst.specs.declared.error.SubstError.TheVariants as subst
 use Rattle.sched.specs.Schedule.{Schedule}
@@ -31,6 +33,27 @@ pub record StoredText : Type 0 where
   pub variables : List (List ℕ)
   pub changes : List Change
   pub formulas : Option (List FormulaText)
+
+-- ---- the calls of a definition
+
+abbrev pub calls_left : Option Term → List Written
+calls_left None = []
+calls_left (Some e) = calls_of e
+
+-- those of its left indices, and then those of its value
+abbrev pub calls_in : FormulaText → List Written
+calls_in f = flat_map calls_left f.at ++ calls_of f.value
+
+-- it calls the function of this name
+abbrev pub are_calls_of : List ℕ → List Written → Bool
+are_calls_of x cs = list_any (λ c. same_name c.name x) cs
+
+abbrev pub some_calls : List ℕ → List FormulaText → Bool
+some_calls x fs = list_any (λ f. are_calls_of x (calls_in f)) fs
+
+-- its left index at a place, where that is not the variable alone
+abbrev pub left_at : FormulaText → ℕ → Option Term
+left_at f d = elim (slice_get f.at d) [ Some i ↦ i | None ↦ None ]
 
 -- ---- calls put in
 

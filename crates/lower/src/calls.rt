@@ -1,5 +1,11 @@
 //! The calls of an expression, in the order of the text.
 
+ghost use Rattle.std.specs.Prelude.{◌≡◌, ◌++◌, IfOk, map};
+ghost use Rattle.tree.specs.Term.{term_of, test_of, list_terms, indices};
+ghost use Rattle.algo.specs.Scoping.Standing.{calls_of, calls_of_test, calls_of_all};
+ghost use Rattle.lower.specs.Stored.{formula_of, calls_in};
+ghost use Rattle.lower.specs.Calls.{call_of};
+
 use crate::definitions::Formula;
 use std::alloc::{AllocError, Global};
 use tree::{Cond, Expr};
@@ -13,10 +19,13 @@ pub(crate) struct Call<'a> {
 
 /// The calls so far and those of an expression; a call comes before those of its indices.
 #[cycle(calls)]
+#[tactic(auto, using(crate::proofs::Calling::behind_two, crate::proofs::Calling::behind_three))]
 pub(crate) fn with_calls<'a>(
     known: Vec<Call<'a>>,
     expr: &'a Expr,
-) -> Result<Vec<Call<'a>>, AllocError> {
+) -> Result<Vec<Call<'a>>, AllocError>
+    ensures { IfOk result (λ v. map call_of v.items ≡ map call_of known.entry.items ++ calls_of (term_of expr.now)) }
+{
     match expr {
         Expr::Literal { .. } | Expr::Variable { .. } => Ok(known),
         Expr::Call { name, at, .. } => {
@@ -52,10 +61,10 @@ pub(crate) fn with_calls<'a>(
 
 // The same of a condition.
 #[cycle(calls)]
-fn with_calls_of_test<'a>(
-    known: Vec<Call<'a>>,
-    cond: &'a Cond,
-) -> Result<Vec<Call<'a>>, AllocError> {
+#[tactic(auto, using(crate::proofs::Calling::behind_two))]
+fn with_calls_of_test<'a>(known: Vec<Call<'a>>, cond: &'a Cond) -> Result<Vec<Call<'a>>, AllocError>
+    ensures { IfOk result (λ v. map call_of v.items ≡ map call_of known.entry.items ++ calls_of_test (test_of cond.now)) }
+{
     match cond {
         Cond::Compare { left, right, .. } => {
             let known = with_calls(known, left)?;
@@ -71,10 +80,10 @@ fn with_calls_of_test<'a>(
 
 // The same of indices.
 #[cycle(calls)]
-fn with_calls_of_all<'a>(
-    known: Vec<Call<'a>>,
-    at: &'a [Expr],
-) -> Result<Vec<Call<'a>>, AllocError> {
+#[tactic(auto, using(crate::proofs::Calling::behind_two))]
+fn with_calls_of_all<'a>(known: Vec<Call<'a>>, at: &'a [Expr]) -> Result<Vec<Call<'a>>, AllocError>
+    ensures { IfOk result (λ v. map call_of v.items ≡ map call_of known.entry.items ++ calls_of_all (indices (list_terms at.now))) }
+{
     let mut known = known;
     for index in at {
         known = with_calls(known, index)?;
@@ -83,10 +92,9 @@ fn with_calls_of_all<'a>(
 }
 
 /// The calls of a definition: those of its left indices, and then those of its value.
-pub(crate) fn calls_of<'a>(
-    alloc: Global,
-    formula: &'a Formula,
-) -> Result<Vec<Call<'a>>, AllocError> {
+pub(crate) fn calls_of<'a>(alloc: Global, formula: &'a Formula) -> Result<Vec<Call<'a>>, AllocError>
+    ensures { IfOk result (λ v. map call_of v.items ≡ calls_in (formula_of formula.now)) }
+{
     let mut calls = Vec::new(alloc);
     for index in &formula.at {
         if let Some(index) = index {

@@ -1,33 +1,47 @@
 //! Spans and regions of numbers and forms.
 
+ghost use Rattle.std.specs.Prelude.{◌≡◌, [], ◌∷◌, ◌+◌, ◌-◌, ◌+ℤ◌, ◌-ℤ◌, pos, IfOk};
+ghost use Rattle.lin.specs.Regions.{span_inside};
+ghost use Rattle.bounds.specs.Spans.{numbers};
+ghost use Rattle.lower.specs.Around as spec;
+ghost use Rattle.lower.specs.Bounded as limits;
+
 use crate::error::Stop;
 use lin::{Forms, Lin, Multiple, Region, Scope, Span1};
 use sched::Extent;
 use std::alloc::{AllocError, Global};
 
 /// The list of one form.
-pub(crate) fn one_form(alloc: Global, form: Lin) -> Result<Forms, AllocError> {
+pub(crate) fn one_form(alloc: Global, form: Lin) -> Result<Forms, AllocError>
+    ensures { IfOk result (λ forms. forms ≡ form ∷ []) }
+{
     let mut forms = Forms::new(alloc);
     forms.push(form)?;
     Ok(forms)
 }
 
 /// The span of a form alone.
-pub(crate) fn exactly(alloc: Global, form: &Lin) -> Result<Span1, AllocError> {
+pub(crate) fn exactly(alloc: Global, form: &Lin) -> Result<Span1, AllocError>
+    ensures { IfOk result (λ span. span ≡ spec.exactly form.now) }
+{
     let lower = one_form(alloc, form.copy(alloc)?)?;
     let upper = one_form(alloc, form.copy(alloc)?)?;
     Ok(Span1 { lower, upper })
 }
 
 /// The span of these numbers and those between them.
-pub(crate) fn between(alloc: Global, low: i64, high: i64) -> Result<Span1, AllocError> {
+pub(crate) fn between(alloc: Global, low: i64, high: i64) -> Result<Span1, AllocError>
+    ensures { IfOk result (λ span. span ≡ numbers low high) }
+{
     let lower = one_form(alloc, Lin::number(alloc, low))?;
     let upper = one_form(alloc, Lin::number(alloc, high))?;
     Ok(Span1 { lower, upper })
 }
 
 /// The span without forms, which holds every number.
-pub(crate) fn anything(alloc: Global) -> Span1 {
+pub(crate) fn anything(alloc: Global) -> Span1
+    ensures { result ≡ spec.anything }
+{
     Span1 {
         lower: Forms::new(alloc),
         upper: Forms::new(alloc),
@@ -35,12 +49,16 @@ pub(crate) fn anything(alloc: Global) -> Span1 {
 }
 
 /// The last number of an extent; one below the first where it has none.
-pub(crate) fn last_of(extent: &Extent) -> i64 {
+pub(crate) fn last_of(extent: &Extent) -> i64
+    ensures { result ≡ extent.now.low +ℤ pos extent.now.count -ℤ pos 1 }
+{
     i64::from(extent.low) + i64::from(extent.count) - 1
 }
 
 /// All numbers of the extent.
-pub(crate) fn whole(alloc: Global, extent: &Extent) -> Result<Span1, AllocError> {
+pub(crate) fn whole(alloc: Global, extent: &Extent) -> Result<Span1, AllocError>
+    ensures { IfOk result (λ span. span ≡ limits.whole extent.now) }
+{
     between(alloc, i64::from(extent.low), last_of(extent))
 }
 
@@ -55,7 +73,9 @@ pub(crate) fn raised(alloc: Global, form: &Lin, by: i64) -> Result<Lin, Stop> {
 }
 
 // The region of one span.
-fn alone(alloc: Global, span: &Span1) -> Result<Region, AllocError> {
+fn alone(alloc: Global, span: &Span1) -> Result<Region, AllocError>
+    ensures { IfOk result (λ region. region ≡ span.now ∷ []) }
+{
     let mut region = Region::new(alloc);
     region.push(span.copy(alloc)?)?;
     Ok(region)
@@ -67,7 +87,9 @@ pub(crate) fn is_inside(
     scope: &Scope,
     inner: &Span1,
     outer: &Span1,
-) -> Result<bool, AllocError> {
+) -> Result<bool, AllocError>
+    ensures { IfOk result (λ yes. yes ≡ span_inside scope.now inner.now outer.now) }
+{
     let inner = alone(alloc, inner)?;
     let outer = alone(alloc, outer)?;
     scope.inside(alloc, &inner, &outer)

@@ -1,8 +1,18 @@
 //! The rules of schedules that ask what a function's loops run over.
 
-ghost use Rattle.std.specs.Prelude.{IfOk, map};
-ghost use Rattle.lower.specs.Stored.{stored_of};
+ghost use Rattle.std.specs.Prelude.{◌≡◌, ◌++◌, IfOk, OnOk, true, map};
+ghost use Rattle.std.specs.Option.{option_map};
+ghost use Rattle.tree.specs.Term.{term_of, list_terms, indices};
+ghost use Rattle.algo.specs.View.{algorithm_of};
+ghost use Rattle.sched.specs.Skeleton.{nest_seen};
+ghost use Rattle.lower.specs.Limited.{Gives};
+ghost use Rattle.lower.specs.Stored.{formula_of, stored_of, is_large, has_large as have_large};
 ghost use Rattle.lower.specs.Large.{IsByRegion, IsFault, Finds};
+ghost use Rattle.lower.specs.Calls.{call_of};
+ghost use Rattle.lower.specs.Around.{around_of};
+ghost use Rattle.lower.specs.Regions.{laid_of};
+ghost use Rattle.lower.specs.Bounded as spec;
+ghost use Rattle.lower.specs.Faults as faults;
 
 use crate::calls::{Call, calls_of};
 use crate::definitions::{Formula, Stored};
@@ -13,10 +23,11 @@ use crate::parties::{Party, fault_inside};
 use crate::reasons::SizeCause;
 use crate::regions::{Laid, counts};
 use crate::scopes::{Around, around_in, head_scope, interval};
-use crate::uses::has_outside_use;
+use crate::uses::{are_whole, has_outside_use};
 use algo::Algo;
-use lin::{Region, Scope};
-use sched::{Nest, Rule, has_short_shift, loop_numbers};
+use algo::scoping::same_name;
+use lin::{Region, Scope, Span1};
+use sched::{Extent, Nest, Rule, has_short_shift, loop_numbers};
 use std::alloc::{AllocError, Global};
 use tree::Expr;
 use tree::token::Name;
@@ -29,72 +40,150 @@ const MOST_PIECES: u64 = 1 << 20;
 
 /// What the root functions so far have together.
 #[derive(Clone, Copy, Drop)]
-struct Totals {
+pub(crate) struct Totals {
     cells: u64,
     pieces: u64,
 }
 
-fn product(counts: &[u32]) -> u64 {
-    let mut product: u64 = 1;
-    for count in counts {
-        product = product.saturating_mul(u64::from(*count));
+fn product(counts: &[u32]) -> u64
+    ensures { result ≡ faults.product counts.now }
+{
+    match counts {
+        [] => 1,
+        [count, rest @ ..] => product(rest).saturating_mul(u64::from(*count)),
     }
-    product
 }
 
-fn cells_of(laid: &Laid) -> u64 {
-    let mut cells: u64 = 1;
-    for extent in &laid.region {
-        cells = cells.saturating_mul(u64::from(extent.count));
+fn cells_of(region: &[Extent]) -> u64
+    ensures { result ≡ faults.cells_of region.now }
+{
+    match region {
+        [] => 1,
+        [extent, rest @ ..] => cells_of(rest).saturating_mul(u64::from(extent.count)),
     }
-    cells
 }
 
 impl Totals {
-    fn add(&mut self, laid: &Laid) {
-        self.cells = self.cells.saturating_add(cells_of(laid));
-        self.pieces = self.pieces.saturating_add(product(&laid.skeleton.grid));
+    fn joined(self, laid: &Laid) -> Totals
+        ensures { result ≡ faults.with_laid self (laid_of laid.now) }
+    {
+        Totals {
+            cells: self.cells.saturating_add(cells_of(&laid.region)),
+            pieces: self.pieces.saturating_add(product(&laid.skeleton.grid)),
+        }
     }
 
-    fn pass_limits(&self) -> bool {
+    fn pass_limits(&self) -> bool
+        ensures { result ≡ faults.pass_limits self.now }
+    {
         self.cells > MOST_CELLS || self.pieces > MOST_PIECES
     }
 }
 
-fn has_shifted_little(alloc: Global, stored: &Stored<'_>, laid: &Laid) -> Result<bool, AllocError> {
+fn has_shifted_little(alloc: Global, stored: &Stored<'_>, laid: &Laid) -> Result<bool, AllocError>
+    ensures { IfOk result (λ yes. yes ≡ faults.is_shifted_little (stored_of stored.now) (laid_of laid.now)) }
+{
     let cuts = &stored.placed.cuts;
     let numbers = loop_numbers(alloc, &stored.subject.variables, cuts, &laid.region)?;
     Ok(has_short_shift(&numbers, cuts))
 }
 
 // Whether each index of a call of the input is shown to lie on its extents.
-fn is_on_input(alloc: Global, algo: &Algo, around: &Around<'_>, at: &[Expr]) -> Result<bool, Stop> {
-    for (index, extent) in at.iter().zip(algo.input().shape.extents.iter()) {
-        let span = interval(alloc, algo, around, index)?;
-        let extents = between(alloc, 0, i64::from(*extent) - 1)?;
-        if !is_inside(alloc, &around.scope, &span, &extents)? {
-            return Ok(false);
-        }
+fn is_on_input(
+    alloc: Global,
+    algo: &Algo,
+    around: &Around<'_>,
+    at: &[Expr],
+    extents: &[u32],
+) -> Result<bool, Stop>
+    ensures { Gives result (λ yes. yes) (spec.is_on_input (algorithm_of algo.now) (around_of around.now) (indices (list_terms at.now)) extents.now) }
+{
+    match at {
+        [] => Ok(true),
+        [index, indices @ ..] => match extents {
+            [] => Ok(true),
+            [extent, rest @ ..] => {
+                let span = interval(alloc, algo, around, index)?;
+                let numbers = between(alloc, 0, i64::from(*extent) - 1)?;
+                if is_inside(alloc, &around.scope, &span, &numbers)? {
+                    is_on_input(alloc, algo, around, indices, rest)
+                } else {
+                    Ok(false)
+                }
+            }
+        },
     }
-    Ok(true)
 }
 
-// Whether an update's call of its own function is shown to lie in the region, where its left index is not the variable.
+// Whether an index is shown to lie in a span, where the definition's left index is not the variable.
+fn is_place_bounded(
+    alloc: Global,
+    algo: &Algo,
+    around: &Around<'_>,
+    formula: &Formula,
+    place: usize,
+    index: &Expr,
+    extents: &Span1,
+) -> Result<bool, Stop>
+    ensures { Gives result (λ yes. yes) (spec.is_place_bounded (algorithm_of algo.now) (around_of around.now) (formula_of formula.now) place
+        (term_of index.now) extents.now) }
+{
+    if !counts(Some(formula), place) {
+        return Ok(true);
+    }
+    let span = interval(alloc, algo, around, index)?;
+    Ok(is_inside(alloc, &around.scope, &span, extents)?)
+}
+
+// Whether an update's call of its own function is shown to lie in the region, from a place on.
 fn is_in_region(
     alloc: Global,
     algo: &Algo,
     around: &Around<'_>,
     formula: &Formula,
-    region: &Region,
+    place: usize,
     at: &[Expr],
-) -> Result<bool, Stop> {
-    for (place, (index, extents)) in at.iter().zip(region.as_slice().iter()).enumerate() {
-        if counts(Some(formula), place) {
-            let span = interval(alloc, algo, around, index)?;
-            if !is_inside(alloc, &around.scope, &span, extents)? {
-                return Ok(false);
+    region: &[Span1],
+) -> Result<bool, Stop>
+    ensures { Gives result (λ yes. yes) (spec.is_in_region (algorithm_of algo.now) (around_of around.now) (formula_of formula.now) place
+        (indices (list_terms at.now)) region.now) }
+{
+    match at {
+        [] => Ok(true),
+        [index, indices @ ..] => match region {
+            [] => Ok(true),
+            [extents, rest @ ..] => {
+                let Some(next) = place.checked_add(1) else {
+                    return Err(Stop::Memory);
+                };
+                if is_place_bounded(alloc, algo, around, formula, place, index, extents)? {
+                    is_in_region(alloc, algo, around, formula, next, indices, rest)
+                } else {
+                    Ok(false)
+                }
             }
-        }
+        },
+    }
+}
+
+fn is_call_bounded(
+    alloc: Global,
+    algo: &Algo,
+    around: &Around<'_>,
+    formula: &Formula,
+    region: &[Span1],
+    own: &str,
+    call: &Call<'_>,
+) -> Result<bool, Stop>
+    ensures { Gives result (λ yes. yes) (spec.is_call_bounded (algorithm_of algo.now) (around_of around.now) (formula_of formula.now) region.now own.now
+        (call_of call.now)) }
+{
+    let input = algo.input();
+    if same_name(call.name, input.name.as_str()) {
+        return is_on_input(alloc, algo, around, call.at, &input.shape.extents);
+    }
+    if same_name(call.name, own) {
+        return is_in_region(alloc, algo, around, formula, 0, call.at, region);
     }
     Ok(true)
 }
@@ -104,23 +193,76 @@ fn are_bounded(
     algo: &Algo,
     around: &Around<'_>,
     formula: &Formula,
-    region: &Region,
-    own: &Name,
+    region: &[Span1],
+    own: &str,
     calls: &[Call<'_>],
-) -> Result<bool, Stop> {
-    for call in calls {
-        let is_bounded = if call.name == algo.input().name.as_str() {
-            is_on_input(alloc, algo, around, call.at)?
-        } else if call.name == own.as_str() {
-            is_in_region(alloc, algo, around, formula, region, call.at)?
-        } else {
-            true
-        };
-        if !is_bounded {
-            return Ok(false);
+) -> Result<bool, Stop>
+    ensures { Gives result (λ yes. yes) (spec.are_bounded (algorithm_of algo.now) (around_of around.now) (formula_of formula.now) region.now own.now
+        (map call_of calls.now)) }
+{
+    match calls {
+        [] => Ok(true),
+        [call, rest @ ..] => {
+            if !is_call_bounded(alloc, algo, around, formula, region, own, call)? {
+                return Ok(false);
+            }
+            are_bounded(alloc, algo, around, formula, region, own, rest)
         }
     }
-    Ok(true)
+}
+
+// Whether the indices of the definition of this number are.
+fn is_definition_bounded(
+    alloc: Global,
+    algo: &Algo,
+    stored: &Stored<'_>,
+    outer: &Scope,
+    region: &[Span1],
+    definition: usize,
+    formula: &Formula,
+    nest: &Nest,
+) -> Result<bool, Stop>
+    ensures { Gives result (λ yes. yes) (spec.is_definition_bounded (algorithm_of algo.now) (stored_of stored.now) outer.now region.now definition
+        (formula_of formula.now) (nest_seen nest.now)) }
+{
+    let around = around_in(alloc, algo, stored, outer, nest, formula, definition)?;
+    let calls = calls_of(alloc, formula)?;
+    let own = stored.subject.name.as_str();
+    are_bounded(alloc, algo, &around, formula, region, own, &calls)
+}
+
+// Those of the definitions from this number on.
+fn are_definitions_bounded(
+    alloc: Global,
+    algo: &Algo,
+    stored: &Stored<'_>,
+    outer: &Scope,
+    region: &[Span1],
+    definition: usize,
+    formulas: &[Formula],
+    nests: &[Nest],
+) -> Result<bool, Stop>
+    ensures { Gives result (λ yes. yes) (spec.is_bounded (algorithm_of algo.now) (stored_of stored.now) outer.now region.now definition
+        (map formula_of formulas.now) (map nest_seen nests.now)) }
+{
+    match formulas {
+        [] => Ok(true),
+        [formula, others @ ..] => match nests {
+            [] => Ok(false),
+            [nest, rest @ ..] => {
+                let Some(next) = definition.checked_add(1) else {
+                    return Err(Stop::Memory);
+                };
+                if is_definition_bounded(
+                    alloc, algo, stored, outer, region, definition, formula, nest,
+                )? {
+                    are_definitions_bounded(alloc, algo, stored, outer, region, next, others, rest)
+                } else {
+                    Ok(false)
+                }
+            }
+        },
+    }
 }
 
 /// Whether each index of the input and of the function itself is shown to lie where it may, in these nests over a region.
@@ -131,27 +273,47 @@ pub(crate) fn is_bounded(
     outer: &Scope,
     nests: &[Nest],
     region: &Region,
-) -> Result<bool, Stop> {
-    for (definition, formula) in root.formulas.iter().enumerate() {
-        let Some(nest) = nests.get(definition) else {
-            return Ok(false);
-        };
-        let around = around_in(alloc, algo, root.stored, outer, nest, formula, definition)?;
-        let calls = calls_of(alloc, formula)?;
-        let own = &root.stored.subject.name;
-        if !are_bounded(alloc, algo, &around, formula, region, own, &calls)? {
-            return Ok(false);
+) -> Result<bool, Stop>
+    ensures { Gives result (λ yes. yes) (spec.is_bounded (algorithm_of algo.now) (stored_of root.now.stored.now) outer.now region.now 0
+        (map formula_of root.now.formulas.now) (map nest_seen nests.now)) }
+{
+    let region = region.as_slice();
+    are_definitions_bounded(
+        alloc,
+        algo,
+        root.stored,
+        outer,
+        region,
+        0,
+        root.formulas,
+        nests,
+    )
+}
+
+/// Adds all numbers of each dimension of a region.
+pub(crate) fn add_whole(
+    alloc: Global,
+    extents: &[Extent],
+    region: &mut Region,
+) -> Result<(), AllocError>
+    ensures { OnOk result (region.new ≡ region.old ++ map spec.whole extents.now) }
+{
+    match extents {
+        [] => Ok(()),
+        [extent, rest @ ..] => {
+            region.push(whole(alloc, extent)?)?;
+            add_whole(alloc, rest, region)
         }
     }
-    Ok(true)
 }
 
 // The same of a root function.
-fn is_root_bounded(alloc: Global, algo: &Algo, root: &Root<'_>) -> Result<bool, Stop> {
+fn is_root_bounded(alloc: Global, algo: &Algo, root: &Root<'_>) -> Result<bool, Stop>
+    ensures { Gives result (λ yes. yes) (spec.is_root_bounded (algorithm_of algo.now) (stored_of root.now.stored.now) (map formula_of root.now.formulas.now)
+        (laid_of root.now.laid.now)) }
+{
     let mut region = Region::new(alloc);
-    for extent in &root.laid.region {
-        region.push(whole(alloc, extent)?)?;
-    }
+    add_whole(alloc, &root.laid.region, &mut region)?;
     let skeleton = &root.laid.skeleton;
     let outer = head_scope(alloc, skeleton)?;
     is_bounded(alloc, algo, root, &outer, &skeleton.nests, &region)
@@ -164,7 +326,9 @@ fn fault_within(
     root: &Root<'_>,
     totals: Totals,
 ) -> Result<Option<RegionRule>, AllocError>
-    ensures { IfOk result IsByRegion }
+    ensures kind { IfOk result IsByRegion }
+    ensures rule { IfOk result (λ rule. rule ≡ faults.fault_within (algorithm_of algo.now)
+        (stored_of root.now.stored.now) (map formula_of root.now.formulas.now) totals (laid_of root.now.laid.now)) }
 {
     if has_shifted_little(alloc, root.stored, root.laid)? {
         return Ok(Some(RegionRule::ShortShift));
@@ -179,7 +343,8 @@ fn fault_within(
     }
 }
 
-// The rule that a function of these definitions breaks. Where some function is too large, no region of another one is missed.
+// The rule that a function of these definitions breaks. Where others may have left it without a region, none is missed.
+#[tactic(auto, using(crate::proofs::First::unless_root))]
 fn fault_by_region(
     alloc: Global,
     algo: &Algo,
@@ -188,9 +353,11 @@ fn fault_by_region(
     laid: Option<&Laid>,
     parties: &[Party<'_>],
     has_large: bool,
-    totals: &mut Totals,
+    totals: Totals,
 ) -> Result<Option<RegionRule>, AllocError>
-    ensures { IfOk result IsByRegion }
+    ensures kind { IfOk result IsByRegion }
+    ensures rule { IfOk result (λ rule. faults.is_whole (stored_of stored.now) ≡ true → rule ≡ faults.fault_by_region (algorithm_of algo.now)
+        has_large totals (stored_of stored.now) (map formula_of formulas.now) (option_map (λ l. laid_of l.now) laid.entry)) }
 {
     let Some(laid) = laid else {
         return Ok(if has_large {
@@ -207,12 +374,11 @@ fn fault_by_region(
     if !stored.subject.is_root {
         return fault_inside(alloc, algo, &root, parties);
     }
-    totals.add(laid);
-    fault_within(alloc, algo, &root, *totals)
+    fault_within(alloc, algo, &root, totals.joined(laid))
 }
 
 // The rule that a function breaks.
-#[tactic(auto, using(crate::proofs::Sizes::fault_of_small, crate::proofs::Sizes::small_at, crate::proofs::Sizes::large_at))]
+#[tactic(auto, using(crate::proofs::Sizes::fault_of_small, crate::proofs::Sizes::small_at, crate::proofs::Sizes::large_at, crate::proofs::First::fault_found, crate::proofs::First::fault_large))]
 fn fault_of(
     alloc: Global,
     algo: &Algo,
@@ -220,9 +386,11 @@ fn fault_of(
     laid: Option<&Laid>,
     parties: &[Party<'_>],
     has_large: bool,
-    totals: &mut Totals,
+    totals: Totals,
 ) -> Result<Option<RegionRule>, AllocError>
-    ensures { IfOk result (IsFault (stored_of stored.now)) }
+    ensures kind { IfOk result (IsFault (stored_of stored.now)) }
+    ensures rule { IfOk result (λ rule. faults.is_whole (stored_of stored.now) ≡ true → rule ≡ faults.fault_of (algorithm_of algo.now)
+        has_large totals (stored_of stored.now) (option_map (λ l. laid_of l.now) laid.entry)) }
 {
     match &stored.formulas {
         None => Ok(Some(RegionRule::TooLarge)),
@@ -234,17 +402,70 @@ fn fault_of(
     }
 }
 
-// The region of the next function, and those of the others.
-fn next_laid(laid: &[Option<Laid>]) -> (Option<&Laid>, &[Option<Laid>]) {
-    match laid {
-        [Some(first), rest @ ..] => (Some(first), rest),
-        [None, rest @ ..] => (None, rest),
-        [] => (None, laid),
+// The rule that one of all functions breaks: a use outside of its loop, or one by its region.
+fn rule_broken<'a>(
+    alloc: Global,
+    algo: &Algo,
+    all: &[Stored<'a>],
+    stored: &Stored<'a>,
+    laid: Option<&Laid>,
+    parties: &[Party<'_>],
+    has_large: bool,
+    totals: Totals,
+) -> Result<Option<RegionRule>, AllocError>
+    ensures kind { IfOk result (IsFault (stored_of stored.now)) }
+    ensures rule { IfOk result (λ rule. faults.is_whole (stored_of stored.now) ≡ true → rule ≡ faults.fault_of (algorithm_of algo.now)
+        has_large totals (stored_of stored.now) (option_map (λ l. laid_of l.now) laid.entry)) }
+{
+    if has_outside_use(alloc, all, stored)? {
+        return Ok(Some(RegionRule::OutsideUse));
+    }
+    fault_of(alloc, algo, stored, laid, parties, has_large, totals)
+}
+
+// What the root functions have together with one more, where that has definitions and a region.
+#[tactic(auto, using(crate::proofs::First::totals_found, crate::proofs::First::totals_large))]
+fn totals_with(totals: Totals, stored: &Stored<'_>, laid: Option<&Laid>) -> Totals
+    ensures { faults.is_whole (stored_of stored.now) ≡ true → result ≡ faults.totals_with totals (stored_of stored.now)
+        (option_map (λ l. laid_of l.now) laid.entry) }
+{
+    if !stored.subject.is_root {
+        return totals;
+    }
+    match &stored.formulas {
+        None => totals,
+        Some(_) => match laid {
+            Some(laid) => totals.joined(laid),
+            None => totals,
+        },
     }
 }
 
-// The first of so many functions that breaks a rule, among all stored ones.
-#[tactic(auto, using(crate::proofs::Sizes::found_later, crate::proofs::Sizes::told_here, crate::proofs::Sizes::none_asked, crate::proofs::Sizes::none_there))]
+// The region of the next function.
+fn first_laid(laid: &[Option<Laid>]) -> Option<&Laid>
+    ensures { option_map (λ l. laid_of l.now) result ≡ faults.first_laid (map (option_map laid_of) laid.now) }
+{
+    match laid {
+        [] => None,
+        [first, _others @ ..] => match first {
+            Some(found) => Some(found),
+            None => None,
+        },
+    }
+}
+
+// Those of the others.
+fn other_laid(laid: &[Option<Laid>]) -> &[Option<Laid>]
+    ensures { map (option_map laid_of) result.now ≡ faults.other_laid (map (option_map laid_of) laid.now) }
+{
+    match laid {
+        [] => laid,
+        [_first, others @ ..] => others,
+    }
+}
+
+// The first of so many functions that breaks a rule, among all stored ones, behind others that have these totals.
+#[tactic(auto, using(crate::proofs::Sizes::found_later, crate::proofs::Sizes::told_here, crate::proofs::Sizes::none_asked, crate::proofs::Sizes::none_there, crate::proofs::First::none_asked, crate::proofs::First::none_there))]
 fn fault_from<'a>(
     alloc: Global,
     algo: &Algo,
@@ -252,11 +473,13 @@ fn fault_from<'a>(
     parties: &[Party<'_>],
     count: usize,
     has_large: bool,
-    totals: &mut Totals,
+    totals: Totals,
     stored: &[Stored<'a>],
     laid: &[Option<Laid>],
 ) -> Result<Option<(RegionRule, Name)>, AllocError>
-    ensures { IfOk result (Finds (map stored_of stored.now) count) }
+    ensures sizes { IfOk result (Finds (map stored_of stored.now) count) }
+    ensures first { IfOk result (faults.IsFirstOf (algorithm_of algo.now) has_large totals count
+        (map stored_of stored.now) (map (option_map laid_of) laid.now)) }
 {
     let Some(left) = count.checked_sub(1) else {
         return Ok(None);
@@ -264,13 +487,12 @@ fn fault_from<'a>(
     match stored {
         [] => Ok(None),
         [one, others @ ..] => {
-            if has_outside_use(alloc, all, one)? {
-                return Ok(Some((RegionRule::OutsideUse, one.subject.name)));
-            }
-            let (first, rest) = next_laid(laid);
-            match fault_of(alloc, algo, one, first, parties, has_large, totals)? {
+            let first = first_laid(laid);
+            match rule_broken(alloc, algo, all, one, first, parties, has_large, totals)? {
                 Some(rule) => Ok(Some((rule, one.subject.name))),
                 None => {
+                    let totals = totals_with(totals, one, first);
+                    let rest = other_laid(laid);
                     fault_from(
                         alloc, algo, all, parties, left, has_large, totals, others, rest,
                     )
@@ -280,9 +502,30 @@ fn fault_from<'a>(
     }
 }
 
+// Whether a definition of it passes the limits.
+#[tactic(auto, using(crate::proofs::Sizes::small_at, crate::proofs::Sizes::large_at))]
+fn is_large(one: &Stored<'_>) -> bool
+    ensures { result ≡ is_large (stored_of one.now) }
+{
+    match &one.formulas {
+        Some(_) => false,
+        None => true,
+    }
+}
+
+// The same of one of them.
+fn has_large(stored: &[Stored<'_>]) -> bool
+    ensures { result ≡ have_large (map stored_of stored.now) }
+{
+    match stored {
+        [] => false,
+        [one, rest @ ..] => is_large(one) || has_large(rest),
+    }
+}
+
 // Whether some function leaves others without regions: it is computed at no loop that is there, too large, or used outside of the
 // loop at which it is computed.
-fn leaves_others(
+fn leaves_some(
     alloc: Global,
     stored: &[Stored<'_>],
     fault: Option<(Rule, Name)>,
@@ -300,8 +543,24 @@ fn leaves_others(
     Ok(false)
 }
 
+// The same, where of whole functions only one that is too large does.
+#[tactic(auto, using(crate::proofs::First::unless))]
+fn leaves_others(
+    alloc: Global,
+    stored: &[Stored<'_>],
+    fault: Option<(Rule, Name)>,
+) -> Result<bool, AllocError>
+    ensures { IfOk result (λ yes. faults.are_whole (map stored_of stored.now) ≡ true → yes ≡ have_large (map stored_of stored.now)) }
+{
+    if are_whole(stored) {
+        return Ok(has_large(stored));
+    }
+    leaves_some(alloc, stored, fault)
+}
+
 /// The first of so many functions, in the order of declaration, that breaks a rule, with the rule of the lowest number; behind
 /// them one may break a rule of its placing. A function that is broken may leave others without regions, of which that is not told.
+#[tactic(auto, using(crate::proofs::First::where_large))]
 pub(crate) fn first_fault(
     alloc: Global,
     algo: &Algo,
@@ -311,23 +570,17 @@ pub(crate) fn first_fault(
     count: usize,
     fault: Option<(Rule, Name)>,
 ) -> Result<Option<(RegionRule, Name)>, AllocError>
-    ensures { IfOk result (Finds (map stored_of stored.now) count) }
+    ensures sizes { IfOk result (Finds (map stored_of stored.now) count) }
+    ensures first { IfOk result (faults.IsFirstOf (algorithm_of algo.now) (have_large (map stored_of stored.now)) faults.no_totals count
+        (map stored_of stored.now) (map (option_map laid_of) laid.now)) }
 {
     let has_large = leaves_others(alloc, stored, fault)?;
-    let mut totals = Totals {
+    let totals = Totals {
         cells: 0,
         pieces: 0,
     };
     fault_from(
-        alloc,
-        algo,
-        stored,
-        parties,
-        count,
-        has_large,
-        &mut totals,
-        stored,
-        laid,
+        alloc, algo, stored, parties, count, has_large, totals, stored, laid,
     )
 }
 
@@ -353,8 +606,8 @@ pub(crate) fn excess_of(
     for (one, laid) in stored.iter().zip(laid.iter()) {
         if let Some(laid) = laid {
             if one.subject.is_root {
-                totals.add(laid);
-                cells = more(cells, cells_of(laid), one.subject.name);
+                totals = totals.joined(laid);
+                cells = more(cells, cells_of(&laid.region), one.subject.name);
                 pieces = more(pieces, product(&laid.skeleton.grid), one.subject.name);
             }
         }

@@ -1,12 +1,16 @@
 //! From an algorithm and a schedule to a plan and its certificate.
 
-ghost use Rattle.std.specs.Prelude.{◌≡◌, IfOk, IfErr, Some, None, length, map};
+ghost use Rattle.std.specs.Prelude.{◌≡◌, IfOk, IfErr, Some, None, true, length, map};
+ghost use Rattle.std.specs.Option.{option_map};
 ghost use Rattle.algo.specs.View.{algorithm_of};
 ghost use Rattle.sched.specs.View.{schedule_of};
 ghost use Rattle.sched.specs.Placing.{subject_of, placed_of};
 ghost use Rattle.sched.specs.Legal.{IsLegal};
+ghost use Rattle.lower.specs.declared.error.LowerError.TheVariants.{Broken};
 ghost use Rattle.lower.specs.Stored.{stored_of, stored_of_all};
-ghost use Rattle.lower.specs.Refused.{Answers, AreSmall, IsRefused, IsUnplanned, IsPlaced};
+ghost use Rattle.lower.specs.Regions.{laid_of, laid_functions};
+ghost use Rattle.lower.specs.Faults.{are_whole};
+ghost use Rattle.lower.specs.Refused.{Answers, AreSmall, AreRegionsKept, IsRefused, IsUnplanned, IsPlaced};
 
 use crate::definitions::{Stored, stored_functions};
 use crate::error::{LowerError, RegionRule, Stop};
@@ -19,7 +23,7 @@ use crate::reasons::reach::bound_reason;
 use crate::reasons::sizes::size_reason;
 use crate::reasons::{Cause, Reason};
 use crate::regions::{Laid, laid_functions};
-use crate::uses::uses_outside;
+use crate::uses::{are_whole, uses_outside};
 use algo::{Algo, Port};
 use plan::certificate::Cert;
 use plan::{Declaration, Group, Plan};
@@ -154,13 +158,14 @@ fn planned<'a>(
     Ok(Lowered { plan, certificate })
 }
 
-// The regions of all stored functions, as the turns of the loops ask for them.
-fn laid_all(
+// The regions as the turns of loops ask for them, where functions are computed inside loops.
+fn laid_by_loops(
     alloc: Global,
     algo: &Algo,
     stored: &[Stored<'_>],
+    first: Vec<Option<Laid>>,
 ) -> Result<Vec<Option<Laid>>, AllocError> {
-    let mut laid = laid_functions(alloc, algo, stored)?;
+    let mut laid = first;
     if stored.iter().all(|one| one.subject.is_root) {
         return Ok(laid);
     }
@@ -173,6 +178,22 @@ fn laid_all(
     Ok(laid)
 }
 
+// The regions of all stored functions, as the turns of the loops ask for them.
+fn laid_all(
+    alloc: Global,
+    algo: &Algo,
+    stored: &[Stored<'_>],
+) -> Result<Vec<Option<Laid>>, AllocError>
+    ensures { IfOk result (λ v. are_whole (map stored_of stored.now) ≡ true →
+        map (option_map laid_of) v.items ≡ laid_functions (algorithm_of algo.now) (map stored_of stored.now)) }
+{
+    let laid = laid_functions(alloc, algo, stored)?;
+    if are_whole(stored) {
+        return Ok(laid);
+    }
+    laid_by_loops(alloc, algo, stored, laid)
+}
+
 // What is told of a placement that breaks a rule behind the last directive.
 fn broken(
     alloc: Global,
@@ -180,7 +201,7 @@ fn broken(
     rule: Rule,
     name: Name,
 ) -> Result<LowerError, AllocError>
-    ensures { IfOk result (IsPlaced (Some (rule, name))) }
+    ensures { IfOk result (IsPlaced (map stored_of stored.now) (Some (rule, name))) }
 {
     if rule.number() > OUTSIDE_USE && uses_outside(alloc, stored, &name)? {
         return Ok(LowerError::Broken(RegionRule::OutsideUse, name));
@@ -188,22 +209,29 @@ fn broken(
     Ok(LowerError::Schedule(SchedError::Broken(rule, name)))
 }
 
+// What is told of a function that breaks a rule by its region.
+fn refusal(found: (RegionRule, Name)) -> LowerError
+    ensures { result ≡ Broken found.0 found.1 }
+{
+    LowerError::Broken(found.0, found.1)
+}
+
 // The plan of the stored functions, unless one breaks a rule: the first, in the order of declaration, is told.
-#[tactic(auto, using(crate::proofs::Sizes::none_is_large, crate::proofs::Told::told_of, crate::proofs::Told::placed_told, crate::proofs::Told::unplanned_told))]
+#[tactic(auto, using(crate::proofs::Told::fault_told, crate::proofs::Told::placed_told, crate::proofs::Told::unplanned_told))]
 fn plan_stored(
     alloc: Global,
     algo: &Algo,
     placement: &Placement,
     stored: &[Stored<'_>],
 ) -> Result<Lowered, LowerError>
-    ensures { Answers (map stored_of stored.now) placement.now.fault result }
+    ensures { Answers (algorithm_of algo.now) (map stored_of stored.now) placement.now.fault result }
 {
     let laid = laid_all(alloc, algo, stored)?;
     let parties = parties_of(alloc, algo, stored, &laid)?;
     let count = asked(placement, stored.len());
     let fault = placement.fault;
-    if let Some((rule, name)) = first_fault(alloc, algo, stored, &laid, &parties, count, fault)? {
-        return Err(LowerError::Broken(rule, name));
+    if let Some(found) = first_fault(alloc, algo, stored, &laid, &parties, count, fault)? {
+        return Err(refusal(found));
     }
     if let Some((rule, name)) = placement.fault {
         return Err(broken(alloc, stored, rule, name)?);
@@ -215,7 +243,7 @@ fn plan_stored(
 // The plan of a placement.
 fn plan_placed(alloc: Global, algo: &Algo, placement: &Placement) -> Result<Lowered, LowerError>
     requires { length placement.now.subjects.items ≡ length (algorithm_of algo.now).functions }
-    ensures { Answers
+    ensures { Answers (algorithm_of algo.now)
         (stored_of_all (algorithm_of algo.now) (map subject_of placement.now.subjects.items) (map placed_of placement.now.functions.items))
         placement.now.fault result }
 {
@@ -235,6 +263,9 @@ pub fn lower(alloc: Global, algo: &Algo, sched: &Sched) -> Result<Lowered, Lower
 
     // L11: of no stored function a definition, with the calls put in, passes the limits of an expression.
     ensures small { IfOk result (λ _. AreSmall (algorithm_of algo.now) (schedule_of sched.now)) }
+
+    // Where each stored function is a root function, none breaks L8, L11 or L12 by its region.
+    ensures regions { IfOk result (λ _. AreRegionsKept (algorithm_of algo.now) (schedule_of sched.now)) }
     ensures refused { IfErr result (IsRefused (algorithm_of algo.now) (schedule_of sched.now)) }
 {
     let placement = followed(alloc, algo, sched)?;

@@ -1,53 +1,133 @@
 //! The loops, lets and guards of a stored function's definitions over its region.
 
+ghost use Rattle.std.specs.Prelude.{◌≡◌, ◌++◌, IfOk, OnOk, map, drop};
+ghost use Rattle.std.specs.Option.{option_map};
+ghost use Rattle.tree.specs.Term.{term_of};
+ghost use Rattle.algo.specs.Parts.{change_of, range_of};
+ghost use Rattle.sched.specs.Placing.{placed_of};
+ghost use Rattle.sched.specs.Skeleton.{body_of, skeleton_in, skeleton_seen};
+ghost use Rattle.lower.specs.Stored.{formula_of, stored_of};
+ghost use Rattle.lower.specs.Limited.{Gives};
+ghost use Rattle.lower.specs.Regions as spec;
+
 use crate::definitions::{Formula, Stored};
 use crate::error::Stop;
-use algo::{Function, Range};
+use crate::scopes::ranges_of;
+use algo::Range;
 use plan::Kind;
-use sched::{Body, Extent, Skeleton, Turning, skeleton_over};
+use sched::{Body, Extent, Placed, Skeleton, Turning, skeleton_over};
 use std::alloc::{AllocError, Global};
+use tree::Expr;
 use tree::token::Name;
 
-// The dimensions that the definition has no pure variable for.
-fn missing(alloc: Global, formula: &Formula) -> Result<Vec<usize>, AllocError> {
-    let mut found = Vec::new(alloc);
-    for (dimension, index) in formula.at.iter().enumerate() {
-        if index.is_some() {
-            found.push(dimension)?;
+// Adds the places from this one on at which a left index is not the variable.
+fn add_missing(place: usize, at: &[Option<Expr>], found: &mut Vec<usize>) -> Result<(), AllocError>
+    ensures { OnOk result (found.new.items ≡ found.old.items ++ spec.missing_from place (map (option_map term_of) at.now)) }
+{
+    match at {
+        [] => Ok(()),
+        [index, rest @ ..] => {
+            let Some(next) = place.checked_add(1) else {
+                return Err(AllocError);
+            };
+            if index.is_some() {
+                found.push(place)?;
+            }
+            add_missing(next, rest, found)
         }
     }
-    Ok(found)
 }
 
-// The loops of these reduction variables; the names are those of all that follow.
-fn turnings(alloc: Global, ranges: &[Range], names: &[Name]) -> Result<Vec<Turning>, AllocError> {
-    let mut found = Vec::new(alloc);
-    for (range, name) in ranges.iter().zip(names.iter()) {
-        found.push(Turning {
-            name: *name,
-            low: i64::from(range.low),
-            last: i64::from(range.high),
-            kind: Kind::Serial,
-        })?;
+// The loop of a reduction variable, by this name.
+fn turning(range: &Range, name: &Name) -> Turning
+    ensures { result ≡ spec.turning (range_of range.now) name.now }
+{
+    Turning {
+        name: *name,
+        low: i64::from(range.low),
+        last: i64::from(range.high),
+        kind: Kind::Serial,
     }
-    Ok(found)
 }
 
-// The reduction variables of the definition of this number.
-fn ranges_of(function: &Function, definition: usize) -> &[Range] {
-    match definition.checked_sub(1) {
-        Some(number) => match function.updates.get(number) {
-            Some(update) => &update.ranges,
-            None => &[],
+// Adds the loops of reduction variables, by these names.
+fn add_turnings(
+    ranges: &[Range],
+    names: &[Name],
+    found: &mut Vec<Turning>,
+) -> Result<(), AllocError>
+    ensures { OnOk result (found.new.items ≡ found.old.items ++ spec.turnings (map range_of ranges.now) names.now) }
+{
+    match ranges {
+        [] => Ok(()),
+        [range, others @ ..] => match names {
+            [] => Ok(()),
+            [name, rest @ ..] => {
+                found.push(turning(range, name))?;
+                add_turnings(others, rest, found)
+            }
         },
-        None => &[],
     }
 }
 
-fn rest_of(names: &[Name], from: usize) -> &[Name] {
+fn rest_of(names: &[Name], from: usize) -> &[Name]
+    ensures { result.now ≡ drop from names.now }
+{
     match names.get(from..) {
         Some(rest) => rest,
         None => &[],
+    }
+}
+
+// What a nest has to know of a definition, whose reduction variables have these names.
+fn body(
+    alloc: Global,
+    ranges: &[Range],
+    names: &[Name],
+    formula: &Formula,
+) -> Result<Body, AllocError>
+    ensures { IfOk result (λ body. body_of body ≡ spec.body_by (map range_of ranges.now) names.now (formula_of formula.now)) }
+{
+    let mut missing = Vec::new(alloc);
+    add_missing(0, &formula.at, &mut missing)?;
+    let mut turnings = Vec::new(alloc);
+    add_turnings(ranges, names, &mut turnings)?;
+    Ok(Body {
+        missing,
+        ranges: turnings,
+    })
+}
+
+// Adds what nests have to know of the definitions from this number on, whose reduction variables have the next of these names.
+#[tactic(auto, using(crate::proofs::Places::pushed, crate::proofs::Places::range_count))]
+fn add_bodies(
+    alloc: Global,
+    stored: &Stored<'_>,
+    definition: usize,
+    names: &[Name],
+    formulas: &[Formula],
+    found: &mut Vec<Body>,
+) -> Result<(), AllocError>
+    ensures { OnOk result (map body_of found.new.items ≡ map body_of found.old.items ++ spec.bodies_from
+        (map change_of stored.now.function.now.updates.items) definition names.now (map formula_of formulas.now)) }
+{
+    match formulas {
+        [] => Ok(()),
+        [formula, others @ ..] => {
+            let Some(next) = definition.checked_add(1) else {
+                return Err(AllocError);
+            };
+            let ranges = ranges_of(stored.function, definition);
+            found.push(body(alloc, ranges, names, formula)?)?;
+            add_bodies(
+                alloc,
+                stored,
+                next,
+                rest_of(names, ranges.len()),
+                others,
+                found,
+            )
+        }
     }
 }
 
@@ -56,18 +136,37 @@ pub(crate) fn bodies(
     alloc: Global,
     stored: &Stored<'_>,
     formulas: &[Formula],
-) -> Result<Vec<Body>, AllocError> {
+) -> Result<Vec<Body>, AllocError>
+    ensures { IfOk result (λ v. map body_of v.items ≡ spec.bodies_from
+        (map change_of stored.now.function.now.updates.items) 0 stored.now.subject.now.reductions.items (map formula_of formulas.now)) }
+{
     let mut found = Vec::new(alloc);
-    let mut names = stored.subject.reductions.as_slice();
-    for (definition, formula) in formulas.iter().enumerate() {
-        let ranges = ranges_of(stored.function, definition);
-        found.push(Body {
-            missing: missing(alloc, formula)?,
-            ranges: turnings(alloc, ranges, names)?,
-        })?;
-        names = rest_of(names, ranges.len());
-    }
+    add_bodies(
+        alloc,
+        stored,
+        0,
+        &stored.subject.reductions,
+        formulas,
+        &mut found,
+    )?;
     Ok(found)
+}
+
+// The loops, lets and guards of nests over a region.
+#[tactic(auto, using(crate::proofs::Stops::skeleton_gives))]
+fn laid_out(
+    alloc: Global,
+    variables: &[Name],
+    bodies: &[Body],
+    placed: &Placed,
+    region: &[Extent],
+) -> Result<Skeleton, Stop>
+    ensures { Gives result skeleton_seen (skeleton_in variables.now (map body_of bodies.now) (placed_of placed.now) region.now) }
+{
+    match skeleton_over(alloc, variables, bodies, placed, region) {
+        Ok(skeleton) => Ok(skeleton),
+        Err(error) => Err(Stop::from(error)),
+    }
 }
 
 /// What of a stored function stands in its plan, over a region.
@@ -76,14 +175,15 @@ pub(crate) fn skeleton_of(
     stored: &Stored<'_>,
     formulas: &[Formula],
     region: &[Extent],
-) -> Result<Skeleton, Stop> {
+) -> Result<Skeleton, Stop>
+    ensures { Gives result skeleton_seen (spec.skeleton_of (stored_of stored.now) (map formula_of formulas.now) region.now) }
+{
     let bodies = bodies(alloc, stored, formulas)?;
-    let skeleton = skeleton_over(
+    laid_out(
         alloc,
         &stored.subject.variables,
         &bodies,
         stored.placed,
         region,
-    )?;
-    Ok(skeleton)
+    )
 }

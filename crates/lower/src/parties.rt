@@ -227,7 +227,7 @@ fn laid_again(
         add_party(alloc, algo, party, root, &mut reach)?;
     }
     if root.stored.subject.is_output {
-        add_extents(algo, &mut reach);
+        add_extents(algo, &mut reach)?;
     }
     closed(alloc, algo, root.stored, root.formulas, reach)
 }

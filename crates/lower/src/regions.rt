@@ -1,19 +1,32 @@
 //! The region that is needed of each stored function, from the output backwards.
 
+ghost use Rattle.std.specs.Prelude.{◌≡◌, ◌-◌, IfOk, OnOk, map};
+ghost use Rattle.std.specs.Option.{option_map};
+ghost use Rattle.tree.specs.Term.{term_of, list_terms, indices};
+ghost use Rattle.bounds.specs.Projection.Projection.{projected_span};
+ghost use Rattle.algo.specs.View.{algorithm_of};
+ghost use Rattle.sched.specs.Skeleton.{nest_seen};
+ghost use Rattle.lower.specs.Limited.{Tells, Gives};
+ghost use Rattle.lower.specs.Stored.{formula_of, stored_of, are_calls_of, some_calls};
+ghost use Rattle.lower.specs.Calls.{call_of};
+ghost use Rattle.lower.specs.Around.{around_of};
+ghost use Rattle.lower.specs.Regions as spec;
+
 use crate::calls::{Call, calls_of};
 use crate::definitions::{Formula, Stored};
 use crate::error::Stop;
 use crate::nests::skeleton_of;
-use crate::scopes::{Around, around_store, interval};
+use crate::scopes::{Around, around_in, head_scope, interval, left_index};
 use algo::Algo;
+use algo::scoping::same_name;
 use bounds::projection::project_span;
 use lin::{Lin, Scope, Span1, Sym};
-use sched::{Extent, Skeleton};
+use sched::{Extent, Nest, Skeleton};
 use std::alloc::{AllocError, Global};
 use tree::Expr;
 
-/// The greatest extent of a stored function.
-const MOST_EXTENT: i64 = 8192;
+/// The greatest distance between the ends of a stored function's region: 8192 numbers.
+const MOST_DISTANCE: i64 = 8191;
 
 /// How often the region of a function with updates is asked again for what its own calls need.
 const MOST_ROUNDS: usize = 4;
@@ -32,38 +45,73 @@ pub(crate) struct Ends {
     high: i64,
 }
 
-fn greatest_number(forms: &[Lin]) -> Option<i64> {
-    let mut found: Option<i64> = None;
-    for form in forms {
-        if form.is_number() {
-            found = Some(match found {
-                Some(known) => known.max(form.constant()),
-                None => form.constant(),
-            });
-        }
+// ---- the ends of a span
+
+// The number that a form is.
+fn number_of(form: &Lin) -> Option<i64>
+    ensures { result ≡ spec.number_of form.now }
+{
+    match form.terms() {
+        [] => Some(form.constant()),
+        [_, ..] => None,
     }
-    found
 }
 
-fn least_number(forms: &[Lin]) -> Option<i64> {
-    let mut found: Option<i64> = None;
-    for form in forms {
-        if form.is_number() {
-            found = Some(match found {
-                Some(known) => known.min(form.constant()),
-                None => form.constant(),
-            });
+fn greater(one: Option<i64>, other: Option<i64>) -> Option<i64>
+    ensures { result ≡ spec.greater one other }
+{
+    match (one, other) {
+        (Some(first), Some(second)) => {
+            if second <= first {
+                Some(first)
+            } else {
+                Some(second)
+            }
         }
+        (Some(first), None) => Some(first),
+        (None, second) => second,
     }
-    found
+}
+
+fn less(one: Option<i64>, other: Option<i64>) -> Option<i64>
+    ensures { result ≡ spec.less one other }
+{
+    match (one, other) {
+        (Some(first), Some(second)) => {
+            if first <= second {
+                Some(first)
+            } else {
+                Some(second)
+            }
+        }
+        (Some(first), None) => Some(first),
+        (None, second) => second,
+    }
+}
+
+fn greatest_number(forms: &[Lin]) -> Option<i64>
+    ensures { result ≡ spec.greatest_number forms.now }
+{
+    match forms {
+        [] => None,
+        [form, rest @ ..] => greater(number_of(form), greatest_number(rest)),
+    }
+}
+
+fn least_number(forms: &[Lin]) -> Option<i64>
+    ensures { result ≡ spec.least_number forms.now }
+{
+    match forms {
+        [] => None,
+        [form, rest @ ..] => less(number_of(form), least_number(rest)),
+    }
 }
 
 /// So many symbols, from one of them on.
-pub(crate) fn symbols_from(
-    alloc: Global,
-    first: Sym,
-    count: usize,
-) -> Result<Vec<Sym>, AllocError> {
+#[tactic(auto, using(crate::proofs::Places::symbols_next, crate::proofs::Places::symbols_none))]
+pub(crate) fn symbols_from(alloc: Global, first: Sym, count: usize) -> Result<Vec<Sym>, AllocError>
+    ensures { IfOk result (λ v. v.items ≡ spec.symbols_from first (count - first)) }
+{
     let mut symbols = Vec::new(alloc);
     for symbol in first..count {
         symbols.push(symbol)?;
@@ -71,43 +119,87 @@ pub(crate) fn symbols_from(
     Ok(symbols)
 }
 
-/// The ends of a span over all values of the symbols.
-pub(crate) fn ends_of(alloc: Global, scope: &Scope, span: &Span1) -> Result<Ends, Stop> {
-    let symbols = symbols_from(alloc, 0, scope.len())?;
-    let found = project_span(alloc, scope, &symbols, span)?;
-    match (
-        greatest_number(found.lower.as_slice()),
-        least_number(found.upper.as_slice()),
-    ) {
+fn ends_between(low: Option<i64>, high: Option<i64>) -> Result<Ends, Stop>
+    ensures { Gives result (λ ends. ends) (spec.ends_between low high) }
+{
+    match (low, high) {
         (Some(low), Some(high)) => Ok(Ends { low, high }),
         _ => Err(Stop::Limit),
     }
 }
 
-fn widened(known: Option<Ends>, next: Ends) -> Ends {
+// The span freed of symbols.
+#[tactic(auto, using(crate::proofs::Stops::form_gives))]
+fn projected(alloc: Global, scope: &Scope, symbols: &[Sym], span: &Span1) -> Result<Span1, Stop>
+    ensures { Gives result (λ found. found) (projected_span scope.now symbols.now span.now) }
+{
+    match project_span(alloc, scope, symbols, span) {
+        Ok(found) => Ok(found),
+        Err(error) => Err(Stop::from(error)),
+    }
+}
+
+/// The ends of a span over all values of the symbols.
+pub(crate) fn ends_of(alloc: Global, scope: &Scope, span: &Span1) -> Result<Ends, Stop>
+    ensures { Gives result (λ ends. ends) (spec.ends_of scope.now span.now) }
+{
+    let symbols = symbols_from(alloc, 0, scope.len())?;
+    let found = projected(alloc, scope, &symbols, span)?;
+    ends_between(
+        greatest_number(found.lower.as_slice()),
+        least_number(found.upper.as_slice()),
+    )
+}
+
+// ---- the hull
+
+fn lower_end(one: i64, other: i64) -> i64
+    ensures { result ≡ spec.lower_end one other }
+{
+    if one <= other { one } else { other }
+}
+
+fn upper_end(one: i64, other: i64) -> i64
+    ensures { result ≡ spec.upper_end one other }
+{
+    if other <= one { one } else { other }
+}
+
+fn hull(known: Option<Ends>, next: Ends) -> Ends
+    ensures { result ≡ spec.hull known next }
+{
     match known {
         Some(known) => Ends {
-            low: known.low.min(next.low),
-            high: known.high.max(next.high),
+            low: lower_end(known.low, next.low),
+            high: upper_end(known.high, next.high),
         },
         None => next,
     }
 }
 
 /// Widens the ends of a place.
-pub(crate) fn widen(reach: &mut Vec<Option<Ends>>, place: usize, next: Ends) {
-    if let Some(slot) = reach.get_mut(place) {
-        *slot = Some(widened(*slot, next));
+pub(crate) fn widen(reach: &mut Vec<Option<Ends>>, place: usize, next: Ends)
+    ensures { reach.new.items ≡ spec.widen reach.old.items place next }
+{
+    if place < reach.len() {
+        reach[place] = Some(hull(reach[place], next));
     }
 }
 
 /// Whether an index at this place is looked at: of an update's own calls only where its left index is not the variable.
-pub(crate) fn counts(own: Option<&Formula>, place: usize) -> bool {
+pub(crate) fn counts(own: Option<&Formula>, place: usize) -> bool
+    ensures { result ≡ spec.counts (option_map (λ f. formula_of f.now) own.entry) place }
+{
     match own {
-        Some(formula) => matches!(formula.at.get(place), Some(Some(_))),
+        Some(formula) => match left_index(formula, place) {
+            Some(_) => true,
+            None => false,
+        },
         None => true,
     }
 }
+
+// ---- what definitions call
 
 fn add_index(
     alloc: Global,
@@ -116,48 +208,90 @@ fn add_index(
     place: usize,
     index: &Expr,
     reach: &mut Vec<Option<Ends>>,
-) -> Result<(), Stop> {
+) -> Result<(), Stop>
+    ensures { Tells result reach.new.items (spec.add_index (algorithm_of algo.now) (around_of around.now) place (term_of index.now) reach.old.items) }
+{
     let span = interval(alloc, algo, around, index)?;
     let ends = ends_of(alloc, &around.scope, &span)?;
     widen(reach, place, ends);
     Ok(())
 }
 
+fn add_counted(
+    alloc: Global,
+    algo: &Algo,
+    around: &Around<'_>,
+    own: Option<&Formula>,
+    place: usize,
+    index: &Expr,
+    reach: &mut Vec<Option<Ends>>,
+) -> Result<(), Stop>
+    ensures { Tells result reach.new.items (spec.add_counted (algorithm_of algo.now) (around_of around.now)
+        (option_map (λ f. formula_of f.now) own.entry) place (term_of index.now) reach.old.items) }
+{
+    if counts(own, place) {
+        add_index(alloc, algo, around, place, index, reach)
+    } else {
+        Ok(())
+    }
+}
+
+// The indices of a call, from a place on.
 fn add_call(
     alloc: Global,
     algo: &Algo,
     around: &Around<'_>,
     own: Option<&Formula>,
+    place: usize,
     at: &[Expr],
     reach: &mut Vec<Option<Ends>>,
-) -> Result<(), Stop> {
-    for (place, index) in at.iter().enumerate() {
-        if counts(own, place) {
-            add_index(alloc, algo, around, place, index, reach)?;
+) -> Result<(), Stop>
+    ensures { Tells result reach.new.items (spec.add_call (algorithm_of algo.now) (around_of around.now) (option_map (λ f. formula_of f.now) own.entry) place
+        (indices (list_terms at.now)) reach.old.items) }
+{
+    match at {
+        [] => Ok(()),
+        [index, rest @ ..] => {
+            let Some(next) = place.checked_add(1) else {
+                return Err(Stop::Memory);
+            };
+            add_counted(alloc, algo, around, own, place, index, reach)?;
+            add_call(alloc, algo, around, own, next, rest, reach)
         }
     }
-    Ok(())
 }
 
+// Those of the calls that are of one function.
 fn add_calls(
     alloc: Global,
     algo: &Algo,
     around: &Around<'_>,
     own: Option<&Formula>,
-    calls: &[Call<'_>],
     callee: &str,
+    calls: &[Call<'_>],
     reach: &mut Vec<Option<Ends>>,
-) -> Result<(), Stop> {
-    for call in calls {
-        if call.name == callee {
-            add_call(alloc, algo, around, own, call.at, reach)?;
+) -> Result<(), Stop>
+    ensures { Tells result reach.new.items (spec.add_calls (algorithm_of algo.now) (around_of around.now)
+        (option_map (λ f. formula_of f.now) own.entry) callee.now (map call_of calls.now) reach.old.items) }
+{
+    match calls {
+        [] => Ok(()),
+        [call, rest @ ..] => {
+            if same_name(call.name, callee) {
+                add_call(alloc, algo, around, own, 0, call.at, reach)?;
+            }
+            add_calls(alloc, algo, around, own, callee, rest, reach)
         }
     }
-    Ok(())
 }
 
-fn calls_name(calls: &[Call<'_>], callee: &str) -> bool {
-    calls.iter().any(|call| call.name == callee)
+fn are_calls_of(callee: &str, calls: &[Call<'_>]) -> bool
+    ensures { result ≡ are_calls_of callee.now (map call_of calls.now) }
+{
+    match calls {
+        [] => false,
+        [call, rest @ ..] => same_name(call.name, callee) || are_calls_of(callee, rest),
+    }
 }
 
 /// Whether one of the definitions calls the function of this name.
@@ -165,123 +299,270 @@ pub(crate) fn formulas_call(
     alloc: Global,
     formulas: &[Formula],
     callee: &str,
-) -> Result<bool, AllocError> {
-    for formula in formulas {
-        let calls = calls_of(alloc, formula)?;
-        if calls_name(&calls, callee) {
-            return Ok(true);
+) -> Result<bool, AllocError>
+    ensures { IfOk result (λ yes. yes ≡ some_calls callee.now (map formula_of formulas.now)) }
+{
+    match formulas {
+        [] => Ok(false),
+        [formula, rest @ ..] => {
+            let calls = calls_of(alloc, formula)?;
+            if are_calls_of(callee, &calls) {
+                return Ok(true);
+            }
+            formulas_call(alloc, rest, callee)
         }
     }
-    Ok(false)
 }
 
-// Adds the points that a user's definitions call.
-fn add_user(
+// What the definition of this number calls of a function.
+fn add_definition(
     alloc: Global,
     algo: &Algo,
     user: &Stored<'_>,
-    formulas: &[Formula],
-    laid: &Laid,
+    outer: &Scope,
     callee: &str,
+    definition: usize,
+    formula: &Formula,
+    nest: &Nest,
     reach: &mut Vec<Option<Ends>>,
-) -> Result<(), Stop> {
-    for (definition, formula) in formulas.iter().enumerate() {
-        let Some(nest) = laid.skeleton.nests.get(definition) else {
-            return Err(Stop::Limit);
-        };
-        let calls = calls_of(alloc, formula)?;
-        if calls_name(&calls, callee) {
-            let around = around_store(
-                alloc,
-                algo,
-                user,
-                &laid.skeleton,
-                nest,
-                formula,
-                definition,
-            )?;
-            add_calls(alloc, algo, &around, None, &calls, callee, reach)?;
-        }
+) -> Result<(), Stop>
+    ensures { Tells result reach.new.items (spec.add_definition (algorithm_of algo.now) (stored_of user.now) outer.now callee.now definition
+        (formula_of formula.now) (nest_seen nest.now) reach.old.items) }
+{
+    let calls = calls_of(alloc, formula)?;
+    if !are_calls_of(callee, &calls) {
+        return Ok(());
     }
-    Ok(())
+    let around = around_in(alloc, algo, user, outer, nest, formula, definition)?;
+    add_calls(alloc, algo, &around, None, callee, &calls, reach)
 }
 
-// Adds the left indices of an update.
+// Those from this number on.
+fn add_definitions(
+    alloc: Global,
+    algo: &Algo,
+    user: &Stored<'_>,
+    outer: &Scope,
+    callee: &str,
+    definition: usize,
+    formulas: &[Formula],
+    nests: &[Nest],
+    reach: &mut Vec<Option<Ends>>,
+) -> Result<(), Stop>
+    ensures { Tells result reach.new.items (spec.add_definitions (algorithm_of algo.now) (stored_of user.now) outer.now callee.now definition
+        (map formula_of formulas.now) (map nest_seen nests.now) reach.old.items) }
+{
+    match formulas {
+        [] => Ok(()),
+        [formula, others @ ..] => match nests {
+            [] => Err(Stop::Limit),
+            [nest, rest @ ..] => {
+                let Some(next) = definition.checked_add(1) else {
+                    return Err(Stop::Memory);
+                };
+                add_definition(
+                    alloc, algo, user, outer, callee, definition, formula, nest, reach,
+                )?;
+                add_definitions(alloc, algo, user, outer, callee, next, others, rest, reach)
+            }
+        },
+    }
+}
+
+// The left indices of an update, from a place on.
 fn add_left(
     alloc: Global,
     algo: &Algo,
     around: &Around<'_>,
-    formula: &Formula,
+    place: usize,
+    at: &[Option<Expr>],
     reach: &mut Vec<Option<Ends>>,
-) -> Result<(), Stop> {
-    for (place, index) in formula.at.iter().enumerate() {
-        if let Some(index) = index {
-            add_index(alloc, algo, around, place, index, reach)?;
+) -> Result<(), Stop>
+    ensures { Tells result reach.new.items (spec.add_left (algorithm_of algo.now) (around_of around.now) place
+        (map (option_map term_of) at.now) reach.old.items) }
+{
+    match at {
+        [] => Ok(()),
+        [index, rest @ ..] => {
+            let Some(next) = place.checked_add(1) else {
+                return Err(Stop::Memory);
+            };
+            if let Some(index) = index {
+                add_index(alloc, algo, around, place, index, reach)?;
+            }
+            add_left(alloc, algo, around, next, rest, reach)
         }
     }
-    Ok(())
 }
 
-// Adds what the updates set, and what they call of the function itself.
+// What a definition sets by left indices, and calls of its own function.
 fn add_own(
     alloc: Global,
     algo: &Algo,
     stored: &Stored<'_>,
-    formulas: &[Formula],
-    skeleton: &Skeleton,
+    outer: &Scope,
+    definition: usize,
+    formula: &Formula,
+    nest: &Nest,
     reach: &mut Vec<Option<Ends>>,
-) -> Result<(), Stop> {
-    for (definition, formula) in formulas.iter().enumerate() {
-        let Some(nest) = skeleton.nests.get(definition) else {
-            return Err(Stop::Limit);
-        };
-        let around = around_store(alloc, algo, stored, skeleton, nest, formula, definition)?;
-        let calls = calls_of(alloc, formula)?;
-        add_left(alloc, algo, &around, formula, reach)?;
-        add_calls(
-            alloc,
-            algo,
-            &around,
-            Some(formula),
-            &calls,
-            stored.subject.name.as_str(),
-            reach,
-        )?;
-    }
-    Ok(())
+) -> Result<(), Stop>
+    ensures { Tells result reach.new.items (spec.add_own (algorithm_of algo.now) (stored_of stored.now) outer.now definition (formula_of formula.now)
+        (nest_seen nest.now) reach.old.items) }
+{
+    let around = around_in(alloc, algo, stored, outer, nest, formula, definition)?;
+    let calls = calls_of(alloc, formula)?;
+    add_left(alloc, algo, &around, 0, &formula.at, reach)?;
+    let name = stored.subject.name.as_str();
+    add_calls(alloc, algo, &around, Some(formula), name, &calls, reach)
 }
 
-// The extent of these ends, where it is within the limits.
-fn extent_of(ends: Option<Ends>) -> Option<Extent> {
-    let ends = ends?;
-    let low = i32::try_from(ends.low).ok()?;
-    let _high = i32::try_from(ends.high).ok()?;
-    let count = ends.high.checked_sub(ends.low)?.checked_add(1)?;
-    if count < 1 || count > MOST_EXTENT {
+// Those from this number on.
+fn add_all_own(
+    alloc: Global,
+    algo: &Algo,
+    stored: &Stored<'_>,
+    outer: &Scope,
+    definition: usize,
+    formulas: &[Formula],
+    nests: &[Nest],
+    reach: &mut Vec<Option<Ends>>,
+) -> Result<(), Stop>
+    ensures { Tells result reach.new.items (spec.add_all_own (algorithm_of algo.now) (stored_of stored.now) outer.now definition
+        (map formula_of formulas.now) (map nest_seen nests.now) reach.old.items) }
+{
+    match formulas {
+        [] => Ok(()),
+        [formula, others @ ..] => match nests {
+            [] => Err(Stop::Limit),
+            [nest, rest @ ..] => {
+                let Some(next) = definition.checked_add(1) else {
+                    return Err(Stop::Memory);
+                };
+                add_own(alloc, algo, stored, outer, definition, formula, nest, reach)?;
+                add_all_own(alloc, algo, stored, outer, next, others, rest, reach)
+            }
+        },
+    }
+}
+
+// ---- regions
+
+fn is_i32(number: i64) -> bool
+    ensures { result ≡ spec.is_i32 number }
+{
+    i64::from(i32::MIN) <= number && number <= i64::from(i32::MAX)
+}
+
+// Whether the ends are i32, with 1 to 8192 numbers from the one to the other.
+#[tactic(auto, using(crate::proofs::Within::i32_bounds))]
+fn are_within(ends: Ends) -> bool
+    ensures { result ≡ spec.are_within ends }
+{
+    is_i32(ends.low)
+        && is_i32(ends.high)
+        && ends.low <= ends.high
+        && ends.high - ends.low <= MOST_DISTANCE
+}
+
+// The extent between these ends, where it is within the limits.
+#[tactic(auto, using(crate::proofs::Within::low_fits, crate::proofs::Within::high_fits, crate::proofs::Within::distance_fits, crate::proofs::Within::counted))]
+fn extent_between(ends: Ends) -> Option<Extent>
+    ensures { result ≡ spec.extent_between ends }
+{
+    if !are_within(ends) {
         return None;
     }
     Some(Extent {
-        low,
-        count: u32::try_from(count).ok()?,
+        low: ends.low as i32,
+        count: (ends.high - ends.low) as u32 + 1,
     })
 }
 
-// The region of these ends.
-fn region_of(alloc: Global, reach: &[Option<Ends>]) -> Result<Vec<Extent>, Stop> {
-    let mut region = Vec::new(alloc);
-    for ends in reach {
-        match extent_of(*ends) {
-            Some(extent) => region.push(extent)?,
-            None => return Err(Stop::Limit),
-        }
+fn extent_of(ends: Option<Ends>) -> Option<Extent>
+    ensures { result ≡ spec.extent_of ends }
+{
+    match ends {
+        Some(ends) => extent_between(ends),
+        None => None,
     }
-    Ok(region)
+}
+
+// The region of these ends.
+fn region_of(alloc: Global, reach: &[Option<Ends>]) -> Result<Vec<Extent>, Stop>
+    ensures { Gives result (λ v. v.items) (spec.region_of reach.now) }
+{
+    match reach {
+        [] => Ok(Vec::new(alloc)),
+        [ends, rest @ ..] => match extent_of(*ends) {
+            Some(extent) => {
+                let mut region = region_of(alloc, rest)?;
+                region.insert(0, extent)?;
+                Ok(region)
+            }
+            None => Err(Stop::Limit),
+        },
+    }
+}
+
+fn same_extent(one: &Extent, other: &Extent) -> bool
+    ensures { result ≡ spec.same_extent one.now other.now }
+{
+    one.low == other.low && one.count == other.count
 }
 
 /// Whether two regions are the same.
-pub(crate) fn is_same(first: &[Extent], second: &[Extent]) -> bool {
-    first.iter().zip(second.iter()).all(|(one, other)| one.low == other.low
-        && one.count == other.count)
+pub(crate) fn is_same(first: &[Extent], second: &[Extent]) -> bool
+    ensures { result ≡ spec.same_region first.now second.now }
+{
+    match first {
+        [] => true,
+        [one, ones @ ..] => match second {
+            [] => true,
+            [other, others @ ..] => same_extent(one, other) && is_same(ones, others),
+        },
+    }
+}
+
+// The loops over a region.
+fn over(
+    alloc: Global,
+    stored: &Stored<'_>,
+    formulas: &[Formula],
+    region: Vec<Extent>,
+) -> Result<Laid, Stop>
+    ensures { Gives result spec.laid_of (spec.over (stored_of stored.now) (map formula_of formulas.now) region.items) }
+{
+    let skeleton = skeleton_of(alloc, stored, formulas, &region)?;
+    Ok(Laid { region, skeleton })
+}
+
+// With what the function's own updates need, asked again for so many rounds while it grows.
+#[tactic(auto, using(crate::proofs::Rounds::no_round, crate::proofs::Rounds::not_called, crate::proofs::Rounds::not_bounded, crate::proofs::Rounds::same, crate::proofs::Rounds::not_laid, crate::proofs::Rounds::wider))]
+fn closed_within(
+    alloc: Global,
+    algo: &Algo,
+    stored: &Stored<'_>,
+    formulas: &[Formula],
+    rounds: usize,
+    reach: Vec<Option<Ends>>,
+    laid: Laid,
+) -> Result<Laid, Stop>
+    ensures { Gives result spec.laid_of (spec.closed (algorithm_of algo.now) (stored_of stored.now) (map formula_of formulas.now) rounds reach.items
+        (spec.laid_of laid)) }
+{
+    let Some(left) = rounds.checked_sub(1) else {
+        return Ok(laid);
+    };
+    let mut reach = reach;
+    let outer = head_scope(alloc, &laid.skeleton)?;
+    let nests = &laid.skeleton.nests;
+    add_all_own(alloc, algo, stored, &outer, 0, formulas, nests, &mut reach)?;
+    let region = region_of(alloc, &reach)?;
+    if is_same(&laid.region, &region) {
+        return Ok(laid);
+    }
+    let wider = over(alloc, stored, formulas, region)?;
+    closed_within(alloc, algo, stored, formulas, left, reach, wider)
 }
 
 /// The region with what the function's own updates need, and the loops over it.
@@ -291,79 +572,124 @@ pub(crate) fn closed(
     stored: &Stored<'_>,
     formulas: &[Formula],
     reach: Vec<Option<Ends>>,
-) -> Result<Laid, Stop> {
-    let mut reach = reach;
-    let mut region = region_of(alloc, &reach)?;
-    let mut skeleton = skeleton_of(alloc, stored, formulas, &region)?;
-    for _round in 0..MOST_ROUNDS {
-        add_own(alloc, algo, stored, formulas, &skeleton, &mut reach)?;
-        let wider = region_of(alloc, &reach)?;
-        if is_same(&region, &wider) {
-            return Ok(Laid { region, skeleton });
+) -> Result<Laid, Stop>
+    ensures { Gives result spec.laid_of (spec.laid_over (algorithm_of algo.now) (stored_of stored.now) (map formula_of formulas.now) reach.items) }
+{
+    let region = region_of(alloc, &reach)?;
+    let laid = over(alloc, stored, formulas, region)?;
+    closed_within(alloc, algo, stored, formulas, MOST_ROUNDS, reach, laid)
+}
+
+// ---- what the others need
+
+// From 0 to each extent less 1, from a place on.
+fn add_all_extents(
+    place: usize,
+    extents: &[u32],
+    reach: &mut Vec<Option<Ends>>,
+) -> Result<(), AllocError>
+    ensures { OnOk result (reach.new.items ≡ spec.add_extents place extents.now reach.old.items) }
+{
+    match extents {
+        [] => Ok(()),
+        [extent, rest @ ..] => {
+            let Some(next) = place.checked_add(1) else {
+                return Err(AllocError);
+            };
+            let ends = Ends {
+                low: 0,
+                high: i64::from(*extent) - 1,
+            };
+            widen(reach, place, ends);
+            add_all_extents(next, rest, reach)
         }
-        skeleton = skeleton_of(alloc, stored, formulas, &wider)?;
-        region = wider;
     }
-    Ok(Laid { region, skeleton })
 }
 
 /// Adds the extents of the output.
-pub(crate) fn add_extents(algo: &Algo, reach: &mut Vec<Option<Ends>>) {
-    for (place, extent) in algo.output().shape.extents.iter().enumerate() {
-        let ends = Ends {
-            low: 0,
-            high: i64::from(*extent) - 1,
-        };
-        widen(reach, place, ends);
-    }
+pub(crate) fn add_extents(algo: &Algo, reach: &mut Vec<Option<Ends>>) -> Result<(), AllocError>
+    ensures { OnOk result (reach.new.items ≡ spec.add_extents 0 (algorithm_of algo.now).output_extents reach.old.items) }
+{
+    add_all_extents(0, &algo.output().shape.extents, reach)
 }
 
 /// No ends of so many places.
-pub(crate) fn unreached(alloc: Global, count: usize) -> Result<Vec<Option<Ends>>, AllocError> {
+pub(crate) fn unreached(alloc: Global, count: usize) -> Result<Vec<Option<Ends>>, AllocError>
+    ensures { IfOk result (λ v. v.items ≡ spec.unreached count) }
+{
     let mut reach = Vec::new(alloc);
-    for _place in 0..count {
+    for place in 0..count {
         reach.push(None)?;
     }
     Ok(reach)
 }
 
-// Adds what a function that is declared later calls of it; no region is found where that one has none.
-fn add_later(
+// What a function that is declared later calls of one; no region is found where it calls it and has none.
+fn add_user(
     alloc: Global,
     algo: &Algo,
+    callee: &str,
     user: &Stored<'_>,
     found: &Option<Laid>,
-    callee: &str,
     reach: &mut Vec<Option<Ends>>,
-) -> Result<(), Stop> {
+) -> Result<(), Stop>
+    ensures { Tells result reach.new.items (spec.add_user (algorithm_of algo.now) callee.now (stored_of user.now)
+        (option_map spec.laid_of found.now) reach.old.items) }
+{
     let Some(formulas) = &user.formulas else {
         return Ok(());
     };
     if !formulas_call(alloc, formulas, callee)? {
         return Ok(());
     }
-    match found {
-        Some(laid) => add_user(alloc, algo, user, formulas, laid, callee, reach),
-        None => Err(Stop::Limit),
+    let Some(laid) = found else {
+        return Err(Stop::Limit);
+    };
+    let outer = head_scope(alloc, &laid.skeleton)?;
+    let nests = &laid.skeleton.nests;
+    add_definitions(alloc, algo, user, &outer, callee, 0, formulas, nests, reach)
+}
+
+// What those that are declared later call of it.
+fn add_users(
+    alloc: Global,
+    algo: &Algo,
+    callee: &str,
+    later: &[Stored<'_>],
+    found: &[Option<Laid>],
+    reach: &mut Vec<Option<Ends>>,
+) -> Result<(), Stop>
+    ensures { Tells result reach.new.items (spec.add_users (algorithm_of algo.now) callee.now (map stored_of later.now)
+        (map (option_map spec.laid_of) found.now) reach.old.items) }
+{
+    match later {
+        [] => Ok(()),
+        [user, others @ ..] => match found {
+            [] => Ok(()),
+            [laid, rest @ ..] => {
+                add_user(alloc, algo, callee, user, laid, reach)?;
+                add_users(alloc, algo, callee, others, rest, reach)
+            }
+        },
     }
 }
 
-// The points of a function that the later ones call, and those of the output. Of the later ones the last stands first in
-// what was found.
+// The points of a function that the later ones call, and those of the output.
 fn reach_of(
     alloc: Global,
     algo: &Algo,
     stored: &Stored<'_>,
     later: &[Stored<'_>],
     found: &[Option<Laid>],
-) -> Result<Vec<Option<Ends>>, Stop> {
+) -> Result<Vec<Option<Ends>>, Stop>
+    ensures { Gives result (λ v. v.items) (spec.reach_of (algorithm_of algo.now) (stored_of stored.now) (map stored_of later.now)
+        (map (option_map spec.laid_of) found.now)) }
+{
     let mut reach = unreached(alloc, stored.subject.variables.len())?;
     let name = stored.subject.name.as_str();
-    for (user, laid) in later.iter().zip(found.iter().rev()) {
-        add_later(alloc, algo, user, laid, name, &mut reach)?;
-    }
+    add_users(alloc, algo, name, later, found, &mut reach)?;
     if stored.subject.is_output {
-        add_extents(algo, &mut reach);
+        add_extents(algo, &mut reach)?;
     }
     Ok(reach)
 }
@@ -374,7 +700,10 @@ fn laid_within(
     stored: &Stored<'_>,
     later: &[Stored<'_>],
     found: &[Option<Laid>],
-) -> Result<Laid, Stop> {
+) -> Result<Laid, Stop>
+    ensures { Gives result spec.laid_of (spec.laid_within (algorithm_of algo.now) (stored_of stored.now) (map stored_of later.now)
+        (map (option_map spec.laid_of) found.now)) }
+{
     let Some(formulas) = &stored.formulas else {
         return Err(Stop::Limit);
     };
@@ -383,17 +712,17 @@ fn laid_within(
 }
 
 // None where there is no region within the limits.
-fn laid_of(
+fn laid_or_none(
     alloc: Global,
     algo: &Algo,
-    stored: &[Stored<'_>],
-    number: usize,
+    stored: &Stored<'_>,
+    later: &[Stored<'_>],
     found: &[Option<Laid>],
-) -> Result<Option<Laid>, AllocError> {
-    let Some([one, later @ ..]) = stored.get(number..) else {
-        return Ok(None);
-    };
-    match laid_within(alloc, algo, one, later, found) {
+) -> Result<Option<Laid>, AllocError>
+    ensures { IfOk result (λ laid. option_map spec.laid_of laid ≡ spec.laid_within (algorithm_of algo.now) (stored_of stored.now) (map stored_of later.now)
+        (map (option_map spec.laid_of) found.now)) }
+{
+    match laid_within(alloc, algo, stored, later, found) {
         Ok(laid) => Ok(Some(laid)),
         Err(Stop::Limit) => Ok(None),
         Err(Stop::Memory) => Err(AllocError),
@@ -406,14 +735,18 @@ pub(crate) fn laid_functions(
     alloc: Global,
     algo: &Algo,
     stored: &[Stored<'_>],
-) -> Result<Vec<Option<Laid>>, AllocError> {
-    let mut found = Vec::new(alloc);
-    for number in (0..stored.len()).rev() {
-        let one = laid_of(alloc, algo, stored, number, &found)?;
-        found.push(one)?;
+) -> Result<Vec<Option<Laid>>, AllocError>
+    ensures { IfOk result (λ v. map (option_map spec.laid_of) v.items ≡ spec.laid_functions (algorithm_of algo.now) (map stored_of stored.now)) }
+{
+    match stored {
+        [] => Ok(Vec::new(alloc)),
+        [one, later @ ..] => {
+            let mut found = laid_functions(alloc, algo, later)?;
+            let laid = laid_or_none(alloc, algo, one, later, &found)?;
+            found.insert(0, laid)?;
+            Ok(found)
+        }
     }
-    found.reverse();
-    Ok(found)
 }
 
 // ---- what is told of a refusal

@@ -1,5 +1,9 @@
 //! Where functions that are computed inside loops are used.
 
+ghost use Rattle.std.specs.Prelude.{◌≡◌, IfOk, true, false, map};
+ghost use Rattle.lower.specs.Stored.{stored_of};
+ghost use Rattle.lower.specs.Faults as spec;
+
 use crate::definitions::{Formula, Stored};
 use crate::regions::formulas_call;
 use sched::{Home, Loop};
@@ -76,8 +80,38 @@ fn calls_inside(
     Ok(true)
 }
 
-/// Whether a function that is computed at a loop is used outside of it, or in a definition that lacks it.
-pub(crate) fn has_outside_use(
+// ---- whole functions
+
+fn is_homeless(homes: &[Home]) -> bool
+    ensures { result ≡ spec.is_homeless homes.now }
+{
+    match homes {
+        [] => true,
+        [_first, _rest @ ..] => false,
+    }
+}
+
+// Whether a root function is computed at no loop.
+fn is_whole(one: &Stored<'_>) -> bool
+    ensures { result ≡ spec.is_whole (stored_of one.now) }
+{
+    one.subject.is_root && is_homeless(&one.placed.homes)
+}
+
+/// Whether each is a root function that is computed at no loop.
+pub(crate) fn are_whole(stored: &[Stored<'_>]) -> bool
+    ensures { result ≡ spec.are_whole (map stored_of stored.now) }
+{
+    match stored {
+        [] => true,
+        [one, rest @ ..] => is_whole(one) && are_whole(rest),
+    }
+}
+
+// ---- uses outside of loops
+
+// Whether a function is used outside of the loop at which it is computed, or in a definition that lacks it.
+fn is_used_outside(
     alloc: Global,
     stored: &[Stored<'_>],
     one: &Stored<'_>,
@@ -98,14 +132,40 @@ pub(crate) fn has_outside_use(
     Ok(false)
 }
 
-/// The same of the function of this name.
-pub(crate) fn uses_outside(
+/// Whether a function that is computed at a loop is used outside of it, or in a definition that lacks it.
+#[tactic(auto, using(crate::proofs::First::unless))]
+pub(crate) fn has_outside_use(
     alloc: Global,
     stored: &[Stored<'_>],
-    name: &Name,
-) -> Result<bool, AllocError> {
+    one: &Stored<'_>,
+) -> Result<bool, AllocError>
+    ensures { IfOk result (λ yes. spec.is_homeless one.now.placed.now.homes.items ≡ true → yes ≡ false) }
+{
+    if is_homeless(&one.placed.homes) {
+        return Ok(false);
+    }
+    is_used_outside(alloc, stored, one)
+}
+
+// The same of the function of this name.
+fn is_named_used(alloc: Global, stored: &[Stored<'_>], name: &Name) -> Result<bool, AllocError> {
     match stored_named(stored, name) {
         Some(one) => has_outside_use(alloc, stored, one),
         None => Ok(false),
     }
+}
+
+/// The same of the function of this name; of whole functions none is.
+#[tactic(auto, using(crate::proofs::First::unless))]
+pub(crate) fn uses_outside(
+    alloc: Global,
+    stored: &[Stored<'_>],
+    name: &Name,
+) -> Result<bool, AllocError>
+    ensures { IfOk result (λ yes. spec.are_whole (map stored_of stored.now) ≡ true → yes ≡ false) }
+{
+    if are_whole(stored) {
+        return Ok(false);
+    }
+    is_named_used(alloc, stored, name)
 }

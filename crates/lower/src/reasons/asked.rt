@@ -444,7 +444,7 @@ pub(crate) fn read_reason<'a>(
     };
     let mut reach = unreached(alloc, one.subject.variables.len())?;
     if one.subject.is_output {
-        add_extents(algo, &mut reach);
+        add_extents(algo, &mut reach)?;
     }
     let found = asked_reason(alloc, algo, stored, laid, one, readings, &mut reach)?;
     if found.is_some() {

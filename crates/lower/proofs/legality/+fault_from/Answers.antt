@@ -1,0 +1,34 @@
+use Rattle.std.proofs.Common.{◌≡◌, ◌+◌, ◌-◌, ◌<◌, length, take, drop, map, Some, None, ap, sym, ◌∙◌, arith}
+use Rattle.std.specs.Option.{option_map}
+use Rattle.algo.specs.View.{algorithm_of}
+use Rattle.lower.specs.Stored.{stored_of}
+use Rattle.lower.specs.Regions.{laid_of}
+use Rattle.lower.specs.Faults.{fault_of, totals_with}
+use Rattle.lower.proofs.First.{here_in, rest_is, later_in}
+use Rattle.lower.proofs.legality.+fault_from.Goals as goal
+
+pub returns-in-Some-2-clause-first : goal.returns-in-Some-2-clause-first
+returns-in-Some-2-clause-first t c =
+    let a = algorithm_of c.args.algo.now in
+    let large = c.args.has_large in
+    let totals = c.args.totals in
+    let one = c.one-item.result in
+    let next : c.args.count ≡ c.in-Some.left + 1 = omega (arith, c.in-Some.ensures) in
+    here_in a large totals c.args.stored.now one (map (option_map laid_of) c.args.laid.now) c.in-Some-2.rule c.in-Some.left c.args.count next
+    (omega (arith, c.in-len1-up.len_at_least)) c.one-item.is
+    (λ w. sym c.in-Some-2.is ∙ c.in_ok-rule-in-len1-up.ensures.rule w ∙ ap (λ l. fault_of a large totals (stored_of one) l) c.first_laid-first.ensures)
+
+pub returns-in-None-clause-first : goal.returns-in-None-clause-first
+returns-in-None-clause-first t c =
+    let a = algorithm_of c.args.algo.now in
+    let large = c.args.has_large in
+    let totals = c.args.totals in
+    let one = c.one-item.result in
+    let next : c.args.count ≡ c.in-Some.left + 1 = omega (arith, c.in-Some.ensures) in
+    let all = c.args.stored.now in
+    let some : 0 < length all = omega (arith, c.in-len1-up.len_at_least) in
+    later_in a large totals c.totals_with-totals.result all (take (length all - 1) (drop 1 all)) one (map (option_map laid_of) c.args.laid.now)
+    (map (option_map laid_of) c.other_laid-rest.result.now) c.in-Some.left c.args.count c.fault_from.result next
+    some c.one-item.is
+    (λ w. sym c.in-None.is ∙ c.in_ok-rule-in-len1-up.ensures.rule w ∙ ap (λ l. fault_of a large totals (stored_of one) l) c.first_laid-first.ensures)
+    (λ w. c.totals_with-totals.ensures w ∙ ap (λ l. totals_with totals (stored_of one) l) c.first_laid-first.ensures) c.other_laid-rest.ensures (rest_is all some) c.fault_from.ensures.first

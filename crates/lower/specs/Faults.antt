@@ -1,0 +1,113 @@
+-- The first function that breaks a rule by what its loops run over, where each stored function is a root function.
+use Rattle.std.specs.Prelude.{◌≡◌, ℕ, ◌+◌, ◌*◌, ◌^◌, ◌-◌, min, nat_lt, Bool, true, false, ◌&&◌, ◌||◌, if◌then◌else◌, List, [], ◌∷◌, take, Option, Some, None}
+use Rattle.std.specs.List.{list_all}
+use Rattle.meaning.specs.Algorithm.{Algorithm}
+use Rattle.sched.specs.declared.schedule.Home.{Home}
+use Rattle.sched.specs.declared.numbers.Extent.{Extent}
+use Rattle.sched.specs.Numbers.{loop_numbers, has_short_shift}
+use Rattle.lower.specs.declared.error.RegionRule.{RegionRule}
+use Rattle.lower.specs.declared.error.RegionRule.TheVariants.{ShortShift, TooLarge, TooMuch, Unbounded}
+use Rattle.lower.specs.declared.legality.Totals.{Totals}
+use Rattle.lower.specs.Stored.{FormulaText, StoredText, has_large}
+use Rattle.lower.specs.Regions.{LaidText, laid_functions}
+use Rattle.lower.specs.Bounded.{is_root_bounded}
+
+abbrev pub is_homeless : List Home → Bool
+is_homeless [] = true
+is_homeless (h ∷ hs) = false
+
+-- a root function that is computed at no loop
+abbrev pub is_whole : StoredText → Bool
+is_whole g = g.subject.is_root && is_homeless g.placed.homes
+
+abbrev pub are_whole : List StoredText → Bool
+are_whole gs = list_all is_whole gs
+
+-- ---- cells and pieces, as 64 bits count them
+
+abbrev pub counted : ℕ → ℕ
+counted n = min n (2 ^ 64 - 1)
+
+abbrev pub product : List ℕ → ℕ
+product [] = 1
+product (n ∷ ns) = counted (product ns * n)
+
+abbrev pub cells_of : List Extent → ℕ
+cells_of [] = 1
+cells_of (e ∷ es) = counted (cells_of es * e.count)
+
+abbrev pub no_totals : Totals
+no_totals = record { cells = 0; pieces = 0 }
+
+abbrev pub with_laid : Totals → LaidText → Totals
+with_laid t l = record { cells = counted (t.cells + cells_of l.region); pieces = counted (t.pieces + product l.skeleton.grid) }
+
+abbrev pub pass_limits : Totals → Bool
+pass_limits t = nat_lt (2 ^ 24) t.cells || nat_lt (2 ^ 20) t.pieces
+
+-- ---- rules
+
+-- a loop that is split with `shift` has fewer numbers than a block
+abbrev pub is_shifted_little : StoredText → LaidText → Bool
+is_shifted_little g l = has_short_shift (loop_numbers g.subject.variables g.placed.cuts l.region) g.placed.cuts
+
+-- L12 where an index is not shown to lie where it may, or has no bound
+abbrev pub unless_bounded : Option Bool → Option RegionRule
+unless_bounded (Some true) = None
+unless_bounded (Some false) = Some Unbounded
+unless_bounded None = Some Unbounded
+
+-- the lowest rule that a function of this region breaks, where the root functions have so much together: L8, L11, L12
+abbrev pub fault_within : Algorithm → StoredText → List FormulaText → Totals → LaidText → Option RegionRule
+fault_within a g fs t l =
+    if is_shifted_little g l then Some ShortShift else (if pass_limits t then Some TooMuch else unless_bounded (is_root_bounded a g fs l))
+
+-- without a region L12, but where others may have left it without one
+abbrev pub fault_by_region : Algorithm → Bool → Totals → StoredText → List FormulaText → Option LaidText → Option RegionRule
+fault_by_region a large t g fs None = if large then None else Some Unbounded
+fault_by_region a large t g fs (Some l) = fault_within a g fs (with_laid t l) l
+
+-- without definitions L11
+abbrev pub fault_by : Algorithm → Bool → Totals → StoredText → Option (List FormulaText) → Option LaidText → Option RegionRule
+fault_by a large t g None l = Some TooLarge
+fault_by a large t g (Some fs) l = fault_by_region a large t g fs l
+
+abbrev pub fault_of : Algorithm → Bool → Totals → StoredText → Option LaidText → Option RegionRule
+fault_of a large t g l = fault_by a large t g g.formulas l
+
+abbrev pub totals_by : Totals → Option (List FormulaText) → Option LaidText → Totals
+totals_by t None l = t
+totals_by t (Some fs) None = t
+totals_by t (Some fs) (Some l) = with_laid t l
+
+abbrev pub totals_with : Totals → StoredText → Option LaidText → Totals
+totals_with t g l = totals_by t g.formulas l
+
+abbrev pub or_later : StoredText → Option RegionRule → Option (RegionRule × List ℕ) → Option (RegionRule × List ℕ)
+or_later g (Some r) later = Some (r, g.subject.name)
+or_later g None later = later
+
+-- the region of the next function, and those of the others
+abbrev pub first_laid : List (Option LaidText) → Option LaidText
+first_laid [] = None
+first_laid (l ∷ ls) = l
+
+abbrev pub other_laid : List (Option LaidText) → List (Option LaidText)
+other_laid [] = []
+other_laid (l ∷ ls) = ls
+
+-- the first in the order of declaration that breaks one, and the rule
+abbrev pub fault_from : Algorithm → Bool → Totals → List StoredText → List (Option LaidText) → Option (RegionRule × List ℕ)
+fault_from a large t [] ls = None
+fault_from a large t (g ∷ gs) ls =
+    or_later g (fault_of a large t g (first_laid ls)) (fault_from a large (totals_with t g (first_laid ls)) gs (other_laid ls))
+
+-- over the regions that are needed of them; where some function is too large, no region of another one is missed
+abbrev pub region_fault : Algorithm → List StoredText → Option (RegionRule × List ℕ)
+region_fault a gs = fault_from a (has_large gs) no_totals gs (laid_functions a gs)
+
+-- ---- as far as it is asked
+
+-- of whole functions this is what the first of so many breaks, behind others that have these totals
+abbrev pub IsFirstOf : Algorithm → Bool → Totals → ℕ → List StoredText → List (Option LaidText) → Option (RegionRule × List ℕ) → Type 0
+IsFirstOf a large t n gs ls o = are_whole gs ≡ true → o ≡ fault_from a large t (take n gs) ls

@@ -1,0 +1,15 @@
+-- What is told of what a function makes: it, or that there is none within the limits; of want of memory nothing.
+use Rattle.std.specs.Prelude.{◌≡◌, Option, Some, None, Result, Ok, Err}
+use Rattle.lower.specs.declared.error.Stop.{Stop}
+use Rattle.lower.specs.declared.error.Stop.TheVariants.{Memory, Limit}
+
+abbrev pub Tells : {X A : Type 0} → Result X Stop → A → Option A → Type 0
+Tells (Ok x) made told = told ≡ Some made
+Tells (Err Memory) made told = Unit {0}
+Tells (Err Limit) made told = told ≡ None
+
+-- the same of what is answered, as it is seen
+abbrev pub Gives : {X A : Type 0} → Result X Stop → (X → A) → Option A → Type 0
+Gives (Ok x) seen told = told ≡ Some (seen x)
+Gives (Err Memory) seen told = Unit {0}
+Gives (Err Limit) seen told = told ≡ None
