@@ -2,8 +2,6 @@
 //! pieces by seats of the caller, run as tests. Beside its tests the crate holds only the worker that they hire.
 #![tactic(auto)]
 
-pub mod worker;
-
 #[cfg(test)]
 mod chain_tests;
 #[cfg(test)]
@@ -16,3 +14,4 @@ mod seat_tests;
 mod thread_tests;
 #[cfg(test)]
 mod watching_tests;
+pub mod worker;
