@@ -139,7 +139,13 @@ def standing(room):
     found = {}
     for path in sorted(room.rglob("*")):
         name = str(path.relative_to(room))
-        found[name] = path.read_bytes() if path.is_file() else "a folder" if path.is_dir() else "a pipe"
+        try:
+            held = path.read_bytes() if path.is_file() else "a folder" if path.is_dir() else "a pipe"
+        except FileNotFoundError:
+            continue
+        # (another run may have taken it away meanwhile)
+        if os.path.lexists(path):
+            found[name] = held
     return found
 
 

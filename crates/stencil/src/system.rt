@@ -106,11 +106,14 @@ fn is_of(rt: &HostRuntime, name: &str, file: &fs::File) -> io::Result<bool> {
     Ok(there.dev() == opened.dev() && there.ino() == opened.ino())
 }
 
-/// Takes a new file for this run, so that no other run takes it for left over. The answer is whether its name is still its own;
-/// it is where the system locks no files, or can't tell.
+/// Takes a new file for this run, so that no other run takes it for left over. The answer is whether its name is still its own: not
+/// where a run that came between took it for left over and removed it. It is where the system locks no files, or can't tell.
 fn take(rt: &HostRuntime, name: &str, file: &fs::File) -> bool {
     match file.try_lock() {
-        Ok(()) => is_of(rt, name, file).unwrap_or(true),
+        Ok(()) => match is_of(rt, name, file) {
+            Ok(is_own) => is_own,
+            Err(error) => error.kind() != ErrorKind::NotFound,
+        },
         Err(TryLockError::WouldBlock) => false,
         Err(TryLockError::Error(_)) => true,
     }
