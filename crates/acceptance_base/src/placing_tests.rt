@@ -1,7 +1,7 @@
 //! Schedules of which no function breaks a rule that asks for no region.
 
 use algo::Algo;
-use sched::{Rule, Sched, SchedError, placed};
+use sched::{Sched, placed};
 use std::test::Fail;
 
 const CHAIN: &str = "pipeline chain; input in u8 [8];
@@ -17,19 +17,5 @@ fn a_schedule_is_placed(rt: HostRuntime) -> Result<(), Fail> {
     let placement = placed(rt.alloc(), &algo, &sched)?;
     assert!(rt; placement.functions.len() == 2);
     assert!(rt; placement.fault.is_none());
-    Ok(())
-}
-
-#[test]
-fn a_broken_rule_is_told(rt: HostRuntime) -> Result<(), Fail> {
-    let algo = Algo::read(rt.alloc(), CHAIN)?;
-    let sched = Sched::read(rt.alloc(), "f.compute_root();\nf.parallel(y);\n")?;
-    match placed(rt.alloc(), &algo, &sched) {
-        Err(SchedError::Broken(rule, function)) => {
-            assert!(rt; rule == Rule::UnknownName);
-            assert!(rt; function.as_str() == "f");
-        }
-        _ => assert!(rt; false),
-    }
     Ok(())
 }
