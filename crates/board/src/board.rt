@@ -1,18 +1,19 @@
 //! The board.
 
 ghost use Rattle.std.specs.Slots.{slots_items, slots_len, IsFull};
-ghost use Rattle.std.specs.Prelude.{◌≡◌, ◌≢◌, ℕ, ◌+◌, ◌^◌, ◌<◌, ◌≤◌, ◌↔◌, true, false, length, map, slice_index, IfSome, IfNone, IfOk, IfErr, IsOk, IsTrue, MatchBool, ⊤};
+ghost use Rattle.std.specs.Prelude.{◌≡◌, ◌≢◌, [], ℕ, ◌+◌, ◌^◌, ◌<◌, ◌≤◌, ◌↔◌, true, false, length, map, slice_index, IfSome, IfNone, IfOk, IfErr, IsOk, IsTrue, MatchBool, ⊤};
 ghost use Rattle.std.specs.List.{range_with_len};
 ghost use Rattle.meaning.specs.Image.View.{image_of};
-ghost use Rattle.board.specs.Words.{bits_of};
-ghost use Rattle.board.specs.Layout.{pieces_of, own_of, own_cell, value_at, picture_of, ShowsSamples};
+ghost use Rattle.board.specs.Views.{first_view};
+ghost use Rattle.board.specs.Words.{bits_of, word_count};
+ghost use Rattle.board.specs.Layout.{pieces_of, own_of, own_cell, value_at, picture_of, IsSound, ShowsSamples};
 
 use crate::law::{Ask, Draw, Finish, Hire, Law, Look, Merge, Put, Run};
 use crate::rows::{Rows, shown_cells};
 use crate::seat::{BoardSeat, Ticket};
 use crate::source::Source;
 use crate::view::View;
-use atomic_table::{Closed, Table};
+use atomic_table::{Closed, Seat, Table};
 use meaning::image::{Image, Shape};
 use numeric::{Ty, wrap};
 use std::alloc::{AllocError, Global};
@@ -64,12 +65,11 @@ impl<J: Run> Board<J> {
         requires values { ShowsSamples J.layout J.values }
         ensures { IfOk result (λ b. b.1 ≡ place b.0 first_view) }
     {
-        let words = vec![in alloc; 0u64; 1 + source.pieces() + source.cells()]?;
+        let (table, seat) = blank_table::<J, S>(alloc, source)?;
         let own = Rows::of(alloc, source)?;
         let shown = shown_cells(alloc, source)?;
         let shape = source.shape().copy(alloc)?;
         let samples = vec![in alloc; 0u16; shown.len()]?;
-        let (table, seat) = Table::of_words(alloc, words.as_slice(), &())?;
         let board = Board {
             table,
             own,
@@ -269,6 +269,21 @@ pub enum SeatError {
 /// The lowest piece that is not finished.
 #[derive(Clone, Copy, Debug, PartialEq, Eq, Drop)]
 pub struct Unfinished(pub u32);
+
+// A table of which nothing is drawn or set, for the pieces and the cells of a source, and its first seat. The words stand twice
+// until it is made.
+fn blank_table<J: Run, S: Source>(
+    alloc: Global,
+    source: &S,
+) -> Result<(Table<u8, View, (), Law<J>, Global>, Seat<u8, View>), AllocError>
+    requires layout { S.layout source.now ≡ J.layout }
+    ensures sound { IsSound J.layout }
+    ensures blank { IfOk result (λ t. (t.0.shared.table_id.words ≡ word_count J.layout) × (t.0.shared.table_id.slots ≡ 0) × (t.1.table_id ≡ t.0.shared.table_id) × (t.1.me ≡ (first_view, []))) }
+{
+    let words = vec![in alloc; 0u64; 1 + source.pieces() + source.cells()]?;
+    let made = Table::of_words(alloc, words.as_slice(), &())?;
+    Ok(made)
+}
 
 // The 32 bits of a value.
 fn bits(value: i64) -> u64

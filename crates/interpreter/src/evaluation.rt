@@ -11,7 +11,6 @@ mod reader;
 mod repeats;
 mod run;
 mod run_reader;
-mod sameness;
 mod stop;
 mod whole;
 

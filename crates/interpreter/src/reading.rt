@@ -2,13 +2,14 @@
 
 ghost use Rattle.std.specs.Prelude.{◌≡◌, map, string_bytes};
 ghost use Rattle.meaning.specs.Image.Raster.{is_within};
-ghost use Rattle.meaning.specs.Names.{bound, same_name};
+ghost use Rattle.meaning.specs.Names.{bound};
 ghost use Rattle.interpreter.specs.Pieces.{found_in};
 
 use crate::buffers::Buffers;
 use crate::evaluation::Reader;
 use crate::loads::claim_of;
 use crate::piece::Piece;
+use meaning::sameness::same_name;
 use plan::Coordinate;
 use tree::Value;
 
@@ -19,13 +20,6 @@ pub(crate) struct Reading<'a, 'm> {
     pub coordinates: &'a [Coordinate],
     pub memory: &'m Buffers,
     pub numbers: &'m [i64],
-}
-
-/// Whether the names are the same.
-pub(crate) fn same_name(left: &str, right: &str) -> bool
-    ensures { result ≡ same_name left.now right.now }
-{
-    left == right
 }
 
 /// The number of the first coordinate of a variable's name, 0 where there is none.

@@ -16,11 +16,12 @@ use crate::buffers::Buffers;
 use crate::evaluation::{Lanes, Number, RunReader, fill_steps};
 use crate::loads::claim_of;
 use crate::piece::Piece;
-use crate::reading::{Reading, number_bound, same_name};
+use crate::reading::{Reading, number_bound};
 use crate::scanlines::{
     Pixels, copy_numbers, copy_samples, distance, pixels_beside, samples_beside, take_numbers,
     take_pixels, take_samples, type_held, window,
 };
+use meaning::sameness::same_name;
 use numeric::Ty;
 use plan::Coordinate;
 use tree::Value;

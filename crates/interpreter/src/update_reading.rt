@@ -13,8 +13,8 @@ ghost use Rattle.interpreter.specs.Runs.{IsBut};
 ghost use Rattle.interpreter.specs.Updates.{columns_at};
 
 use crate::evaluation::{Lanes, Number, RunReader, copy_register};
-use crate::reading::same_name;
 use crate::run_reading::RunReading;
+use meaning::sameness::same_name;
 use numeric::Ty;
 use plan::Coordinate;
 use tree::Value;

@@ -4,9 +4,10 @@ use crate::calls::{Call, calls_of};
 use crate::definitions::{Formula, Stored};
 use crate::error::Stop;
 use crate::forms::{between, divided, is_inside, last_of, one_form, raised, whole};
-use crate::inner::Inner;
+use crate::inner::{Inner, is_rounded};
 use crate::regions::{Laid, symbols_from};
 use crate::scopes::{Around, around_in, grid_scope, head_scope, interval};
+use crate::sliding::Later;
 use algo::Algo;
 use bounds::projection::project_span;
 use lin::{Forms, Lin, Region, Scope, Span1, Sym};
@@ -116,6 +117,31 @@ pub(crate) fn add_sites(
     Ok(())
 }
 
+/// Adds the calls of a function in the nests of one that is computed inside loops: in those over what is new too, where their
+/// last block runs past the end of what is needed.
+pub(crate) fn add_inner_sites(
+    alloc: Global,
+    algo: &Algo,
+    inner: &Inner<'_>,
+    callee: &str,
+    sites: &mut Vec<Site>,
+) -> Result<(), Stop> {
+    let Inner {
+        root,
+        scope,
+        nests,
+        ..
+    } = inner;
+    add_sites(alloc, algo, root, scope, nests, None, callee, sites)?;
+    match &inner.later {
+        Some(later) if is_rounded(root, later.dimension) => {
+            let Later { scope, nests, .. } = later;
+            add_sites(alloc, algo, root, scope, nests, None, callee, sites)
+        }
+        _ => Ok(()),
+    }
+}
+
 /// The calls of the function in a group: in the nests of its own function, and of those that are computed inside.
 pub(crate) fn sites_of(
     alloc: Global,
@@ -138,16 +164,7 @@ pub(crate) fn sites_of(
         &mut sites,
     )?;
     for inner in inners {
-        add_sites(
-            alloc,
-            algo,
-            &inner.root,
-            &inner.scope,
-            &inner.nests,
-            None,
-            callee,
-            &mut sites,
-        )?;
+        add_inner_sites(alloc, algo, inner, callee, &mut sites)?;
     }
     Ok(sites)
 }

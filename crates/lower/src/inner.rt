@@ -2,8 +2,10 @@
 
 use crate::definitions::Formula;
 use crate::error::Stop;
-use crate::fetching::{Root, Site, add_sites, count_from, freed, needed_span, places_of, run_of};
-use crate::forms::{raised, whole};
+use crate::fetching::{
+    Root, Site, add_inner_sites, add_sites, count_from, freed, needed_span, places_of, run_of,
+};
+use crate::forms::whole;
 use crate::reasons::Standstill;
 use crate::reasons::readings::{Reading, add_readings};
 use crate::regions::symbols_from;
@@ -12,11 +14,11 @@ use crate::sliding::{
     Later, Sliding, fold_of, folded, folds_fit, held_region, later_of, sliding_dimension,
     standstill, track_of,
 };
-use crate::turns::nests_over;
+use crate::turns::{has_further, nests_over, rounding, told_span};
 use algo::Algo;
 use lin::{Forms, Lin, Region, Scope, Span1};
 use plan::Places;
-use sched::{Home, Loop, Mark, Nest, Step, Tail};
+use sched::{Home, Loop, Mark, Nest, Step};
 use std::alloc::{AllocError, Global};
 use tree::token::Name;
 
@@ -258,16 +260,7 @@ pub(crate) fn sites_at(
     )?;
     for (number, inner) in inners.iter().enumerate() {
         if is_inside_spot(inners, number, spot) {
-            add_sites(
-                alloc,
-                algo,
-                &inner.root,
-                &inner.scope,
-                &inner.nests,
-                None,
-                callee,
-                &mut sites,
-            )?;
+            add_inner_sites(alloc, algo, inner, callee, &mut sites)?;
         }
     }
     Ok(sites)
@@ -397,35 +390,44 @@ fn storage_of(
 
 // ---- claims
 
-// Whether the dimension's loop is split with `roundup`.
-fn is_rounded(root: &Root<'_>, dimension: usize) -> bool {
-    let Some(variable) = root.stored.subject.variables.get(dimension) else {
-        return false;
-    };
-    let cuts = &root.stored.placed.cuts;
-    cuts.iter().any(|cut| cut.tail == Tail::Roundup && cut.whole.as_str() == variable.as_str())
+// The factor by which the dimension's loop is split with `roundup`, where it is.
+fn rounding_of(root: &Root<'_>, dimension: usize) -> Option<u32> {
+    let variable = root.stored.subject.variables.get(dimension)?;
+    rounding(&root.stored.placed.cuts, variable)
 }
 
-// From the first number of a span to the last that the nests store, where that is the same in each turn.
+/// Whether the dimension's loop is split with `roundup`.
+pub(crate) fn is_rounded(root: &Root<'_>, dimension: usize) -> bool {
+    rounding_of(root, dimension).is_some()
+}
+
+// From the first number of a span to the last that the nests store in blocks of so many numbers, where that is the same in each
+// turn.
 fn rounded(
     alloc: Global,
     scope: &Scope,
     nests: &[Nest],
     dimension: usize,
+    factor: u32,
     span: &Span1,
 ) -> Result<Option<Span1>, Stop> {
-    let ([low], [high]) = (span.lower.as_slice(), span.upper.as_slice()) else {
+    let span = told_span(alloc, scope, span)?;
+    let [low] = span.lower.as_slice() else {
         return Ok(None);
     };
     let Some(most) = count_from(alloc, scope, low, span.upper.as_slice())? else {
         return Ok(None);
     };
-    if !scope.at_most(alloc, &raised(alloc, low, most.saturating_sub(1))?, high)? {
+    let Some(count) = stored_from(alloc, scope, nests, dimension, low, most)? else {
         return Ok(None);
-    }
-    match stored_from(alloc, scope, nests, dimension, low, most)? {
-        Some(count) => Ok(Some(run_of(alloc, low, count)?)),
-        None => Ok(None),
+    };
+    let begun = count.saturating_sub(i64::from(factor));
+    let is_same = has_further(alloc, scope, &span, begun)?
+        || has_further(alloc, scope, &span, most.saturating_sub(1))?;
+    if is_same {
+        Ok(Some(run_of(alloc, low, count)?))
+    } else {
+        Ok(None)
     }
 }
 
@@ -439,10 +441,11 @@ fn claim_of(
 ) -> Result<Region, Stop> {
     let mut claimed = Region::new(alloc);
     for (dimension, span) in region.as_slice().iter().enumerate() {
-        let wide = if nests.len() > 1 && is_rounded(root, dimension) {
-            rounded(alloc, scope, nests, dimension, span)?
-        } else {
-            None
+        let wide = match rounding_of(root, dimension) {
+            Some(factor) if nests.len() > 1 => {
+                rounded(alloc, scope, nests, dimension, factor, span)?
+            }
+            _ => None,
         };
         claimed.push(match wide {
             Some(span) => span,

@@ -2,7 +2,7 @@
 
 use crate::error::Stop;
 use crate::fetching::{Root, shortest};
-use crate::forms::{between, multiple_from, raised};
+use crate::forms::{between, multiple_from, one_form, raised};
 use crate::nests::bodies;
 use lin::{Forms, Lin, Region, Scope, Span1, Sym};
 use plan::{Kind, Pick};
@@ -21,6 +21,8 @@ struct Reach {
     last: Lin,
     /// Whether there are not in each turn as many numbers as there are at most.
     varies: bool,
+    /// Whether its blocks run past the end, and each turn is shown to have as many of them as there are at most.
+    is_even: bool,
 }
 
 /// A loop, and what it runs over.
@@ -111,6 +113,49 @@ fn most_of(alloc: Global, scope: &Scope, span: &Span1) -> Result<i64, Stop> {
     }
 }
 
+// Whether the form is shown to be at most each of the others, or at least.
+fn is_telling(
+    alloc: Global,
+    scope: &Scope,
+    form: &Lin,
+    others: &[Lin],
+    pick: Pick,
+) -> Result<bool, AllocError> {
+    for other in others {
+        let is_shown = match pick {
+            Pick::Min => scope.at_most(alloc, form, other)?,
+            Pick::Max => scope.at_most(alloc, other, form)?,
+        };
+        if !is_shown {
+            return Ok(false);
+        }
+    }
+    Ok(true)
+}
+
+// The form alone that is shown to be the smallest or largest of some; all of them where none is.
+fn told_forms(
+    alloc: Global,
+    scope: &Scope,
+    forms: &Forms,
+    pick: Pick,
+) -> Result<Forms, AllocError> {
+    for form in forms.as_slice() {
+        if is_telling(alloc, scope, form, forms.as_slice(), pick)? {
+            return one_form(alloc, form.copy(alloc)?);
+        }
+    }
+    forms.copy(alloc)
+}
+
+/// The span by one form on each side where on that one is shown to be its end, as of two numbers one is.
+pub(crate) fn told_span(alloc: Global, scope: &Scope, span: &Span1) -> Result<Span1, AllocError> {
+    Ok(Span1 {
+        lower: told_forms(alloc, scope, &span.lower, Pick::Max)?,
+        upper: told_forms(alloc, scope, &span.upper, Pick::Min)?,
+    })
+}
+
 // A form for the smallest or largest of some: the only one, or a let.
 fn one_of(
     alloc: Global,
@@ -144,19 +189,61 @@ fn varies(alloc: Global, scope: &Scope, span: &Span1, most: i64) -> Result<bool,
     }
 }
 
+/// Whether so many numbers behind each lower form no upper form of the span is passed.
+pub(crate) fn has_further(
+    alloc: Global,
+    scope: &Scope,
+    span: &Span1,
+    by: i64,
+) -> Result<bool, Stop> {
+    for low in span.lower.as_slice() {
+        let form = raised(alloc, low, by)?;
+        if !is_telling(alloc, scope, &form, span.upper.as_slice(), Pick::Min)? {
+            return Ok(false);
+        }
+    }
+    Ok(true)
+}
+
+/// The factor of the variable's split with `roundup`, where it has one.
+pub(crate) fn rounding(cuts: &[Split], variable: &Name) -> Option<u32> {
+    cuts.iter()
+        .find(|cut| cut.tail == Tail::Roundup && cut.whole.as_str() == variable.as_str())
+        .map(|cut| cut.factor)
+}
+
+// Whether blocks of so many numbers are as many in each turn as there are at most.
+fn are_even(
+    alloc: Global,
+    scope: &Scope,
+    span: &Span1,
+    factor: Option<u32>,
+    most: i64,
+) -> Result<bool, Stop> {
+    let Some(factor) = factor else {
+        return Ok(false);
+    };
+    let last = most.saturating_sub(1);
+    let rest = last.checked_rem(i64::from(factor)).unwrap_or(0);
+    has_further(alloc, scope, span, last.saturating_sub(rest))
+}
+
 fn reach_of(
     alloc: Global,
     scope: &Scope,
     name: Name,
+    rounding: Option<u32>,
     span: &Span1,
     lets: &mut Vec<Step>,
 ) -> Result<Reach, Stop> {
     let most = most_of(alloc, scope, span)?;
+    let span = &told_span(alloc, scope, span)?;
     Ok(Reach {
         name,
         low: one_of(alloc, &span.lower, Pick::Max, scope.len(), lets)?,
         last: one_of(alloc, &span.upper, Pick::Min, scope.len(), lets)?,
         varies: varies(alloc, scope, span, most)?,
+        is_even: are_even(alloc, scope, span, rounding, most)?,
     })
 }
 
@@ -167,6 +254,7 @@ fn half_reach(alloc: Global, numbers: &[Numbers], name: Name) -> Reach {
         low: Lin::number(alloc, 0),
         last: Lin::number(alloc, i64::from(count) - 1),
         varies: false,
+        is_even: false,
     }
 }
 
@@ -196,7 +284,8 @@ fn variable_reaches(
     let mut reaches = Vec::new(alloc);
     for (variable, span) in variables.iter().zip(region.as_slice().iter()) {
         if is_whole(cuts, variable) {
-            reaches.push(reach_of(alloc, scope, *variable, span, lets)?)?;
+            let rounding = rounding(cuts, variable);
+            reaches.push(reach_of(alloc, scope, *variable, rounding, span, lets)?)?;
         }
     }
     Ok(reaches)
@@ -248,9 +337,15 @@ fn all_limited(
     Ok(made)
 }
 
-// The position in a loop that is split; in a block of one number that is where the block begins.
-fn told_form(alloc: Global, cut: &Split, start: &Lin, form: &Lin) -> Result<Lin, AllocError> {
-    if cut.factor == 1 {
+// The position in a loop that is split; in one of several blocks of one number that is where the block begins.
+fn told_form(
+    alloc: Global,
+    cut: &Split,
+    blocks: u32,
+    start: &Lin,
+    form: &Lin,
+) -> Result<Lin, AllocError> {
+    if cut.factor == 1 && blocks > 1 {
         start.copy(alloc)
     } else {
         form.copy(alloc)
@@ -298,7 +393,7 @@ impl Standing {
         let factor = i64::from(cut.factor);
         let form = own.low.plus_multiple(alloc, factor, outer)?;
         let is_kept = cut.tail == Tail::Guard && form_named(&self.known, &cut.inner).is_some();
-        if own.varies && !is_kept {
+        if own.varies && !own.is_even && !is_kept {
             self.test(alloc, &form, &own.last)?;
         }
         let form = match cut.tail {
@@ -357,6 +452,7 @@ impl Standing {
         is_lane: bool,
         is_guarded: bool,
         cut: &Split,
+        blocks: u32,
         own: &Reach,
     ) -> Result<(), Stop> {
         if form_named(&self.known, &cut.whole).is_some() {
@@ -369,7 +465,7 @@ impl Standing {
             return Ok(());
         };
         let form = start.plus_multiple(alloc, 1, inner)?;
-        let told = told_form(alloc, cut, start, &form)?;
+        let told = told_form(alloc, cut, blocks, start, &form)?;
         let form = if is_guarded {
             self.keep(alloc, is_lane, own, form, &told)?
         } else {
@@ -396,7 +492,8 @@ impl Standing {
                 && (own.varies
                     || has_rest(cut, number_named(&frame.numbers, &cut.whole))
                     || is_overrun(&frame.numbers, cuts, cut));
-            self.join(alloc, is_lane, is_guarded, cut, own)?;
+            let blocks = number_named(&frame.numbers, &cut.outer);
+            self.join(alloc, is_lane, is_guarded, cut, blocks, own)?;
         }
         Ok(())
     }
@@ -498,6 +595,23 @@ fn runs_of(
 
 // ---- splits
 
+// A block of one number begins at no smaller number where `shift` moves it back: it is kept as with `guard`, unless its halves are
+// split again.
+fn as_kept(cuts: &[Split], cut: &Split) -> Split {
+    let is_alone = !cuts.iter().any(|other| is_half(cut, &other.whole));
+    let tail = match cut.tail {
+        Tail::Shift if cut.factor == 1 && is_alone => Tail::Guard,
+        tail => tail,
+    };
+    Split {
+        whole: cut.whole,
+        outer: cut.outer,
+        inner: cut.inner,
+        factor: cut.factor,
+        tail,
+    }
+}
+
 // The splits of the variable and of what these make, later ones first.
 fn cuts_of(alloc: Global, cuts: &[Split], variable: &Name) -> Result<Vec<Split>, AllocError> {
     let mut names = Vec::new(alloc);
@@ -505,7 +619,7 @@ fn cuts_of(alloc: Global, cuts: &[Split], variable: &Name) -> Result<Vec<Split>,
     let mut found = Vec::new(alloc);
     for cut in cuts {
         if names.iter().any(|name| name.as_str() == cut.whole.as_str()) {
-            found.push(*cut)?;
+            found.push(as_kept(cuts, cut))?;
             names.push(cut.outer)?;
             names.push(cut.inner)?;
         }

@@ -4,4 +4,5 @@
 pub mod image;
 pub mod inlining;
 pub mod laws;
+pub mod sameness;
 pub mod worked;

@@ -1,6 +1,6 @@
 -- Need lines that are gathered by what they name.
 use Rattle.std.proofs.Common.{◌≡◌, ℕ, zero, suc, ◌+◌, ◌<◌, List, [], ◌∷◌, ◌++◌, length, map, true, arith, ap, refl, sym, ◌∙◌, subst, inl, inr, append_assoc, get_or, Option, Some, Bor}
-use Rattle.std.specs.Prelude.{ℤ, pos, ◌+ℤ◌, ◌-ℤ◌, fold, flat_map, All, IsTrue, ◌↔◌, ◌⊎◌, Contains, MatchOption}
+use Rattle.std.specs.Prelude.{ℤ, pos, ◌+ℤ◌, ◌-ℤ◌, fold, flat_map, All, IsTrue, ◌↔◌, ◌⊎◌, Contains, MatchOption, slice_get}
 use Rattle.std.specs.Int.{int_max, int_min}
 use Rattle.std.specs.List.{AllByRecursion, list_all}
 use Rattle.std.specs.List.Sorted.{IsStrictlyIncreasing}
@@ -14,16 +14,20 @@ use Rattle.plan.specs.Plan.{Plan}
 use Rattle.plan.specs.Symbols.{Symbols, clipped, form_value, largest, points, rising, smallest, turns}
 use Rattle.plan.specs.declared.certificate.cert.Need.{Need}
 use Rattle.plan.specs.Certificate.Cells.{Piece, first_piece, grid_symbols}
+use Rattle.soundness.specs.Claims.{In}
 use Rattle.soundness.proofs.Refines.{and_parts}
+use Rattle.soundness.proofs.Turns.{in_map}
 use Rattle.plan.specs.View.{plan_of}
 use Rattle.plan.specs.Certificate.Certificate.{Certificate, certificate_of}
 use Rattle.headline.specs.Parts.{IsNeeded}
+use Rattle.headline.specs.Numbers.{group_grid}
 use Rattle.headline.specs.Work.{of_piece, needed_pieces}
+use Rattle.headline.proofs.Members.{in_of, contains_of}
 use Rattle.headline.proofs.Parts.{needs_one}
 use Rattle.shares.specs.declared.gathered.GroupNeeds.{GroupNeeds}
 use Rattle.shares.specs.declared.layout.Layout.{Layout}
 use Rattle.shares.specs.declared.seats.Seat.{Seat}
-use Rattle.shares.specs.Boxes.{is_in_box, rank}
+use Rattle.shares.specs.Boxes.{grid_sides, is_in_box, rank}
 use Rattle.shares.specs.Counts.{with_lines}
 use Rattle.shares.specs.Filed.{needs_in, AreLinesOf}
 use Rattle.shares.specs.Has.{NeedsPieces}
@@ -31,11 +35,12 @@ use Rattle.shares.specs.Layout.{IsLayout, needs_list}
 use Rattle.shares.specs.Seats.{piece_of}
 use Rattle.shares.specs.Gathered.{AreGathered, EachIsGathered, IsGathered, is_free, is_fixed_span, is_fixed}
 use Rattle.shares.specs.Needed.{need_grid, need_points, need_numbers, all_numbers, NeedIsInside, NeedsAreInside}
-use Rattle.shares.specs.Repeated.{AreSameLines}
+use Rattle.shares.specs.Repeated.{AreOuterOf, LiesIn}
 use Rattle.shares.specs.Shared.{NeedIsShared}
 use Rattle.shares.proofs.Groups.{get_some}
 use Rattle.shares.proofs.Grouped.{numbers_grouped, inside_grouped}
 use Rattle.shares.proofs.Needing.{needed_members, numbers_some}
+use Rattle.shares.proofs.Repeating.{in_mapped}
 use Rattle.shares.proofs.Seated.{piece_is, group_listed}
 
 -- ---- regions that have the same points everywhere
@@ -196,7 +201,7 @@ module _ (p : Plan) (g : ℕ) (ns : List Need) (numbers : List ℕ) (moving : Li
       );
     }
 
--- ---- the same lines, of which some are left out
+-- ---- lines of which some that lie in others are left out
 
 named_in : (p : Plan) (j : Piece) (i : ℕ) (all ms : List Need) → ((m : Need) → Contains ms m → Contains all m) → Contains (all_numbers p j ms) i → Contains (all_numbers p j all) i
 named_in p j i all [] h has = let less : has.0 < 0 = has.1 in absurd (omega (arith, less))
@@ -214,20 +219,62 @@ each_among P all (x ∷ ms) h every =
 all_among : (P : Need → Type 0) (all ms : List Need) → ((m : Need) → Contains ms m → Contains all m) → All P all → All P ms
 all_among P all ms h every = All-from_recursion P ms (each_among P all ms h every)
 
-module _ (p : Plan) (g : ℕ) (ns ms : List Need) (same : AreSameLines ms ns) where
-  pub lines_within : AreLinesOf p g ns → AreLinesOf p g ms
-  lines_within = all_among (λ (n : Need). (n.group ≡ g) × NeedIsShared p n) ns ms (λ n. (same n).0)
+holds_of : {A : Type 0} (P : A → Type 0) (xs : List A) (x : A) → All P xs → Contains xs x → P x
+holds_of P xs x every at = subst P at.2 (every at.0 x at.1)
 
-  pub lines_same : (numbers : List ℕ) (moving : List Need) → AreGathered p g ms numbers moving → AreGathered p g ns numbers moving
-  lines_same numbers moving h = record {
+each_of : {A : Type 0} (P : A → Type 0) (xs : List A) → ((x : A) → In x xs → P x) → AllByRecursion P xs
+each_of P [] h = tt
+each_of P (x ∷ xs) h = (h x (inl refl), each_of P xs (λ y m. h y (inr m)))
+
+all_of : {A : Type 0} (P : A → Type 0) (xs : List A) → ((x : A) → Contains xs x → P x) → All P xs
+all_of P xs h = All-from_recursion P xs (each_of P xs (λ x m. h x (contains_of xs x m)))
+
+module _ (p : Plan) (j : Piece) (n m : Need) (lies : LiesIn n m) where
+  -- what a line names is named by one in which it lies
+  lying_numbers : m.group ≡ j.group → (i : ℕ) → Contains (need_numbers p j n) i → Contains (need_numbers p j m) i
+  lying_numbers of i has =
+      let S = grid_symbols j.at in
+      let number : ℕ → List ℤ → ℕ = λ h q. first_piece p.groups h + rank (grid_sides (group_grid (slice_get p.groups h))) q in
+      let found = in_map (number n.needed) i (points S n.region) (in_of (map (number n.needed) (points S n.region)) i (subst (λ (xs : List ℕ). Contains xs i) (sym (numbers_some p j n (lies.group ∙ of))) has)) in
+      let point : In found.0 (points S m.region) = in_of (points S m.region) found.0 (lies.within S found.0 (contains_of (points S n.region) found.0 found.1)) in
+      let there : In (number m.needed found.0) (map (number m.needed) (points S m.region)) = in_mapped (number m.needed) found.0 (points S m.region) point in
+      let is : number m.needed found.0 ≡ i = ap (λ (h : ℕ). number h found.0) (sym lies.needed) ∙ sym found.2 in
+      subst (λ (xs : List ℕ). Contains xs i) (numbers_some p j m of) (subst (λ (k : ℕ). Contains (map (number m.needed) (points S m.region)) k) is (contains_of (map (number m.needed) (points S m.region)) (number m.needed found.0) there))
+
+  -- and inside where that one is
+  lying_inside : NeedIsInside p j m → NeedIsInside p j n
+  lying_inside inside here =
+      let S = grid_symbols j.at in
+      let all = inside (sym lies.group ∙ here) in
+      all_of (λ q. IsTrue (is_in_box (need_grid p n) q)) (points S n.region) (λ q at.
+      subst (λ (h : ℕ). IsTrue (is_in_box (grid_sides (group_grid (slice_get p.groups h))) q)) (sym lies.needed)
+      (holds_of (λ q. IsTrue (is_in_box (need_grid p m) q)) (points S m.region) q all (lies.within S q at)))
+
+module _ (p : Plan) (g : ℕ) (ns ms : List Need) (outer : AreOuterOf ms ns) where
+  pub lines_within : AreLinesOf p g ns → AreLinesOf p g ms
+  lines_within = all_among (λ (n : Need). (n.group ≡ g) × NeedIsShared p n) ns ms outer.among
+
+  -- what some of the lines name is named by those in which they lie
+  named_out : (j : Piece) → j.group ≡ g → AreLinesOf p g ms → (i : ℕ) (ks : List Need) → ((k : Need) → Contains ks k → Contains ns k) → Contains (all_numbers p j ks) i → Contains (all_numbers p j ms) i
+  named_out j of lines i [] h has = let less : has.0 < 0 = has.1 in absurd (omega (arith, less))
+  named_out j of lines i (x ∷ ks) h has = elim (Contains-append_cases (need_numbers p j x) (all_numbers p j ks) i has) [
+    | inl a ↦
+        let one = outer.all x (h x (0, omega arith, refl)) in
+        let group = (holds_of (λ (n : Need). (n.group ≡ g) × NeedIsShared p n) ms one.0 lines one.1).0 in
+        named_before p j i ms one.0 one.1 (lying_numbers p j x one.0 one.2 (group ∙ sym of) i a)
+    | inr b ↦ named_out j of lines i ks (λ k at. h k (Contains-append_right (x ∷ []) ks k at)) b
+  ]
+
+  pub lines_outer : AreLinesOf p g ns → (numbers : List ℕ) (moving : List Need) → AreGathered p g ms numbers moving → AreGathered p g ns numbers moving
+  lines_outer lines numbers moving h = record {
     lines = h.lines;
     named = λ j of i. (
-      (λ m. named_in p j i ns ms (λ n. (same n).0) ((h.named j of i).0 m)),
-      (λ m. (h.named j of i).1 (named_in p j i ms ns (λ n. (same n).1) m)),
+      (λ m. named_in p j i ns ms outer.among ((h.named j of i).0 m)),
+      (λ m. (h.named j of i).1 (named_out j of (lines_within lines) i ns (λ k at. at) m)),
     );
     inside = λ j of. (
-      (λ all. all_among (NeedIsInside p j) ms ns (λ n. (same n).1) ((h.inside j of).0 all)),
-      (λ all. (h.inside j of).1 (all_among (NeedIsInside p j) ns ms (λ n. (same n).0) all)),
+      (λ all. all_of (NeedIsInside p j) ns (λ n at. let one = outer.all n at in lying_inside p j n one.0 one.2 (holds_of (NeedIsInside p j) ms one.0 ((h.inside j of).0 all) one.1))),
+      (λ all. (h.inside j of).1 (all_among (NeedIsInside p j) ns ms outer.among all)),
     );
   }
 

@@ -28,4 +28,5 @@ pub mod Standing
 pub mod Near
 pub mod Passing
 pub mod Codes
+pub mod Parted
 pub mod WorkedShares

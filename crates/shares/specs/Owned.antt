@@ -1,16 +1,18 @@
 -- The own cells of one group's pieces, and the first flaw at own lines.
-use Rattle.std.specs.Prelude.{◌≡◌, ℕ, ◌≤◌, ◌<◌, ◌==◌, if◌then◌else◌, List, [], map, Option, Some, None, MatchOption, slice_get}
+use Rattle.std.specs.Prelude.{◌≡◌, ℕ, ◌≤◌, ◌<◌, ◌==◌, if◌then◌else◌, List, [], length, map, IsTrue, Option, Some, None, MatchOption, slice_get}
 use Rattle.plan.specs.Plan.{Plan}
 use Rattle.plan.specs.Certificate.Certificate.{Certificate}
-use Rattle.plan.specs.Certificate.Cells.{pieces}
+use Rattle.plan.specs.Certificate.Cells.{cells, pieces}
+use Rattle.orders.specs.Claimed.{IsClaimedBy}
 use Rattle.headline.specs.Numbers.{cell_number}
 use Rattle.headline.specs.Work.{of_piece, own_cells}
 use Rattle.soundness.specs.Outline.Refusals.Codes.{number_of}
 use Rattle.soundness.specs.declared.outline.refusals.code.Flaw.{Flaw}
 use Rattle.soundness.specs.declared.outline.refusals.code.K.{K}
 use Rattle.shares.specs.Has.{IsServed}
-use Rattle.shares.specs.Layout.{OwnIsInside}
-use Rattle.shares.specs.Made.{IsPieceOf, OwnCode, IsOwnFlaw, IsFirstOwn}
+use Rattle.shares.specs.declared.owners.Owned.{Owned}
+use Rattle.shares.specs.Layout.{OwnIsInside, own_list}
+use Rattle.shares.specs.Made.{HasGap, IsPieceOf, Leaves, OwnCode, IsOwnFlaw, IsFirstOwn, Overlaps}
 
 -- the own cells of each piece of the group, and none of any other piece
 abbrev pub own_in : Plan → Certificate → ℕ → ℕ → List ℕ
@@ -19,6 +21,18 @@ own_in p c n i = of_piece (slice_get (pieces p) i) [] (λ j. if j.group == n the
 -- the own regions of the group's pieces lie in its region
 abbrev pub GroupIsInside : Plan → Certificate → ℕ → Type 0
 GroupIsInside p c n = (i : ℕ) → IsPieceOf p n i → OwnIsInside p c i
+
+-- the owners of all cells among all pieces, and that all own regions stay inside where it is said
+pub record AreOwners (p : Plan) (c : Certificate) (x : Owned) : Type 0 where
+  pub claimed : IsClaimedBy (own_list p c) x.owners.items (length (pieces p))
+  pub count : length x.owners.items ≡ length (cells p)
+  pub inside : IsTrue x.inside → (i : ℕ) → i < length (pieces p) → OwnIsInside p c i
+
+-- each of the group's cells is in the own region of one piece, and its pieces' own regions stay inside
+pub record IsParted (p : Plan) (c : Certificate) (n : ℕ) : Type 0 where
+  pub apart : ¬ Overlaps p c n
+  pub inside : ¬ Leaves p c n
+  pub whole : ¬ HasGap p c n
 
 -- the piece is the group's, and is not served
 abbrev pub IsLeftAlone : Plan → Certificate → ℕ → ℕ → Type 0

@@ -1,7 +1,29 @@
--- Need lines that are said more than once.
-use Rattle.std.specs.Prelude.{List, Contains, ◌↔◌}
+-- Need lines that name no more than another.
+use Rattle.std.specs.Prelude.{◌≡◌, List, ℤ, ◌≤ℤ◌, Contains}
+use Rattle.std.specs.List.{AllZip}
+use Rattle.lin.specs.Forms.{Form}
+use Rattle.lin.specs.declared.span.Span1.{Span1}
+use Rattle.plan.specs.Symbols.{Symbols, points}
 use Rattle.plan.specs.declared.certificate.cert.Need.{Need}
 
--- the same lines, however often and in whatever order
-abbrev pub AreSameLines : List Need → List Need → Type 0
-AreSameLines ms ns = (n : Need) → Contains ms n ↔ Contains ns n
+-- a form that is at most another whatever the symbols are: the same multiples, and a constant that is at most the other's
+abbrev pub IsUnder : Form → Form → Type 0
+IsUnder f g = (f.terms ≡ g.terms) × (f.constant ≤ℤ g.constant)
+
+-- a span whose ends lie within those of another, form by form
+abbrev pub SpanLiesIn : Span1 → Span1 → Type 0
+SpanLiesIn x y = AllZip IsUnder y.lower x.lower × AllZip IsUnder x.upper y.upper
+
+-- a need line between the same groups as another, all of whose points are points of that one, whatever the symbols are
+pub record LiesIn (n m : Need) : Type 0 where
+  pub group : n.group ≡ m.group
+  pub needed : n.needed ≡ m.needed
+  pub within : (s : Symbols) (q : List ℤ) → Contains (points s n.region) q → Contains (points s m.region) q
+
+abbrev pub LiesInOne : Need → List Need → Type 0
+LiesInOne n ms = (m : Need) × Contains ms m × LiesIn n m
+
+-- some of these lines, in which all of them lie
+pub record AreOuterOf (ms ns : List Need) : Type 0 where
+  pub among : (m : Need) → Contains ms m → Contains ns m
+  pub all : (n : Need) → Contains ns n → LiesInOne n ms

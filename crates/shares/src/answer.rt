@@ -10,6 +10,7 @@ ghost use Rattle.headline.specs.Work.{work_of};
 ghost use Rattle.shares.specs.Shared.{AreShared};
 ghost use Rattle.shares.specs.Layout.{IsLayout, FetchesCells, OwnIsInside};
 ghost use Rattle.soundness.specs.declared.outline.refusals.code.K.TheVariants.{K9, K11, K14};
+ghost use Rattle.shares.specs.Owned.{AreOwners};
 ghost use Rattle.shares.specs.Has.{HasShares, fetched_before, needed_before};
 ghost use Rattle.shares.specs.Made.{AreListsOf, CodeMeans, ErrorMeans, Holds, IsPieceOf, LinesStand, TroubleMeans};
 
@@ -19,7 +20,7 @@ use crate::layout::{Layout, layout_of};
 use crate::limits::need_past;
 use crate::lists::{Trouble, lists_of};
 use crate::own::own_flaw;
-use crate::owners::owners_of;
+use crate::owners::{Owned, owners_of};
 use crate::stands::{needs_line, own_line};
 use orders::{Piece, first_unserved};
 use plan::Plan;
@@ -122,13 +123,19 @@ fn error_of(alloc: Global, layout: &Layout<'_>, trouble: Trouble) -> SharesError
 }
 
 /// The first of what is wrong at fetch lines and at own lines, if anything is.
-fn line_flaw(alloc: Global, layout: &Layout<'_>, count: u32) -> Result<Option<Flaw>, AllocError>
+fn line_flaw(
+    alloc: Global,
+    layout: &Layout<'_>,
+    count: u32,
+    owned: &Result<Owned, u32>,
+) -> Result<Option<Flaw>, AllocError>
     requires layout { IsLayout layout.now }
     requires count { count ≡ length (cells (plan_of layout.now.plan.now)) }
+    requires owned { IfOk owned.now (AreOwners (plan_of layout.now.plan.now) (certificate_of layout.now.cert.now)) }
     ensures { IfOk result (λ found. MatchOption found (LinesStand (plan_of layout.now.plan.now) (certificate_of layout.now.cert.now)) (λ f. ErrorMeans (plan_of layout.now.plan.now) (certificate_of layout.now.cert.now) (SharesError.Flaw f))) }
 {
     let fetched = fetch_flaw(alloc, layout)?;
-    let own = own_flaw(alloc, layout, count)?;
+    let own = own_flaw(alloc, layout, count, owned)?;
     Ok(least(fetched, own))
 }
 
@@ -182,11 +189,12 @@ fn made_of(alloc: Global, layout: &Layout<'_>) -> Result<Shares, SharesError>
     ensures flaw { IfErr result (ErrorMeans (plan_of layout.now.plan.now) (certificate_of layout.now.cert.now)) }
 {
     let cells = cell_count(layout);
-    if let Some(flaw) = line_flaw(alloc, layout, cells)? {
+    let owned = owners_of(alloc, layout, cells)?;
+    if let Some(flaw) = line_flaw(alloc, layout, cells, &owned)? {
         return Err(SharesError::Flaw(flaw));
     }
-    let owners = match owners_of(alloc, layout, cells)? {
-        Ok(owners) => owners,
+    let owners = match owned {
+        Ok(owned) => owned.owners,
         Err(piece) => return Err(overlap(layout, group_of(layout, piece))),
     };
     let pieces = match lists_of(alloc, layout) {

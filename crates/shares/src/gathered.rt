@@ -12,7 +12,7 @@ ghost use Rattle.shares.specs.Shared.{NeedIsShared};
 
 use crate::layout::Layout;
 use crate::needed::{need_line, settle, settle_doubled};
-use crate::repeated::without_repeats;
+use crate::repeated::outer_lines;
 use crate::seats::Seat;
 use crate::stop::Stop;
 use lin::{Lin, Span1};
@@ -126,7 +126,7 @@ pub(crate) fn gathered_needs<'a>(
 {
     let mut made = Vec::new(alloc);
     for (group, own_lines) in filed.iter().enumerate() {
-        let kept = without_repeats(alloc, own_lines)?;
+        let kept = outer_lines(alloc, own_lines)?;
         let needs = group_needs(alloc, layout, group, kept.as_slice())?;
         made.push(needs)?;
     }

@@ -9,23 +9,16 @@ ghost use Rattle.soundness.specs.declared.outline.refusals.code.K.TheVariants.{K
 ghost use Rattle.shares.specs.declared.stop.Stop.TheVariants.{Memory};
 ghost use Rattle.shares.specs.Layout.{IsLayout, OwnIsInside};
 ghost use Rattle.shares.specs.Made.{IsPieceOf, IsUnserved, Leaves, Overlaps, need_place, owns_line};
-ghost use Rattle.shares.specs.Owned.{GroupIsInside, IsFirstFlaw, IsLeftAlone, IsLowestCode, own_in};
+ghost use Rattle.shares.specs.Owned.{AreOwners, GroupIsInside, IsFirstFlaw, IsLeftAlone, IsLowestCode, IsParted, own_in};
 
 use crate::boxes::most_points;
 use crate::fetched::fetched_of;
 use crate::layout::{Layout, own_of};
-use crate::owners::claim_cells;
+use crate::owners::{Owned, claim_cells};
 use crate::stands::{need_place, own_line};
 use crate::stop::Stop;
 use soundness::outline::refusals::{Flaw, K, least};
 use std::alloc::{AllocError, Global};
-
-/// The owner of each cell among the pieces of a group, and whether all their own regions stay inside.
-#[derive(Drop)]
-struct Owned {
-    owners: Vec<Option<u32>>,
-    inside: bool,
-}
 
 /// Whether both hold.
 fn both(one: bool, other: bool) -> bool
@@ -184,9 +177,52 @@ fn own_code(
     if has_gap(&owned.owners, space.first, some) {
         return Ok(Some(K::K10));
     }
+    code_of_parted(alloc, layout, group)
+}
+
+/// The lowest code of what is wrong at the own line of a group of which each cell is in one own region, and these stay inside.
+fn code_of_parted(alloc: Global, layout: &Layout<'_>, group: usize) -> Result<Option<K>, AllocError>
+    requires layout { IsLayout layout.now }
+    requires parted { IsParted (plan_of layout.now.plan.now) (certificate_of layout.now.cert.now) group }
+    ensures { IfOk result (IsLowestCode (plan_of layout.now.plan.now) (certificate_of layout.now.cert.now) group) }
+{
     match need_place(&layout.cert.needs, group) {
         Some(_) => Ok(None),
         None => alone_code(alloc, layout, group),
+    }
+}
+
+/// Whether each cell of the plan is in one own region, and these stay inside.
+fn is_parted(layout: &Layout<'_>, owned: &Result<Owned, u32>, count: u32) -> bool
+    requires layout { IsLayout layout.now }
+    requires count { count ≡ length (cells (plan_of layout.now.plan.now)) }
+    requires owned { IfOk owned.now (AreOwners (plan_of layout.now.plan.now) (certificate_of layout.now.cert.now)) }
+    ensures { IsTrue result → (n : ℕ) → IsParted (plan_of layout.now.plan.now) (certificate_of layout.now.cert.now) n }
+{
+    match owned {
+        Ok(owned) => owned.inside && !has_gap(&owned.owners, 0, count),
+        Err(_) => false,
+    }
+}
+
+/// The lowest code of what is wrong at the own line of a group: nothing but K11 where the plan's cells are parted.
+fn code_at(
+    alloc: Global,
+    layout: &Layout<'_>,
+    group: usize,
+    count: u32,
+    parted: bool,
+) -> Result<Option<K>, AllocError>
+    requires layout { IsLayout layout.now }
+    requires group { group < length layout.now.grounds.items }
+    requires count { count ≡ length (cells (plan_of layout.now.plan.now)) }
+    requires parted { IsTrue parted → IsParted (plan_of layout.now.plan.now) (certificate_of layout.now.cert.now) group }
+    ensures { IfOk result (IsLowestCode (plan_of layout.now.plan.now) (certificate_of layout.now.cert.now) group) }
+{
+    if parted {
+        code_of_parted(alloc, layout, group)
+    } else {
+        own_code(alloc, layout, group, count)
     }
 }
 
@@ -218,19 +254,23 @@ fn flaw_at(layout: &Layout<'_>, group: usize, code: Option<K>) -> Option<Flaw>
 
 /// The first flaw at the own lines of the groups, if there is one: K9, K10, or K11 of a group that needs no pieces.
 ///
-/// The time is linear in the cells of each group and in the pieces.
+/// Where the pieces part the plan's cells the time is linear in the cells, and for each group in the pieces; else in all cells and
+/// the pieces for each group.
 pub(crate) fn own_flaw(
     alloc: Global,
     layout: &Layout<'_>,
     count: u32,
+    owned: &Result<Owned, u32>,
 ) -> Result<Option<Flaw>, AllocError>
     requires layout { IsLayout layout.now }
     requires count { count ≡ length (cells (plan_of layout.now.plan.now)) }
+    requires owned { IfOk owned.now (AreOwners (plan_of layout.now.plan.now) (certificate_of layout.now.cert.now)) }
     ensures { IfOk result (IsFirstFlaw (plan_of layout.now.plan.now) (certificate_of layout.now.cert.now) (length (plan_of layout.now.plan.now).groups)) }
 {
+    let parted = is_parted(layout, owned, count);
     let mut found: Option<Flaw> = None;
     for group in 0..layout.grounds.as_slice().len() {
-        let code = own_code(alloc, layout, group, count)?;
+        let code = code_at(alloc, layout, group, count, parted)?;
         found = least(found, flaw_at(layout, group, code));
     }
     Ok(found)

@@ -4,7 +4,7 @@ ghost use Rattle.std.specs.Prelude.{◌≡◌, IfSome, IsTrue};
 ghost use Rattle.tree.specs.Term.{term_of, Minus};
 ghost use Rattle.interpreter.specs.Evaluation.Repeats.{repeated};
 
-use crate::evaluation::sameness::same_expr;
+use meaning::sameness::same_expr;
 use numeric::Op;
 use tree::Expr;
 

@@ -13,7 +13,7 @@ use Rattle.orders.specs.declared.lists.Piece.{Piece}
 use Rattle.orders.proofs.Verdict.{none_verdict}
 use Rattle.shares.specs.Made.{LinesStand}
 use Rattle.shares.specs.Seats.{piece_of}
-use Rattle.shares.specs.Layout.{own_list}
+use Rattle.shares.specs.Owned.{AreOwners}
 use Rattle.shares.proofs.Standing.{all_inside, all_owned, holds_first}
 use Rattle.shares.proofs.Told.{lists_are, known_all, pieces_all, cells_sound, not_served, claimed_lists}
 use Rattle.shares.proofs.answer.made_of.Goals as goal
@@ -26,7 +26,7 @@ returns-in-Err-clause-flaw c =
     let seats = x.seats.items in
     let many : length seats ≡ length (pieces p) = sym (length-map seats piece_of) ∙ ap length c.requires.seats in
     let stands : LinesStand p cert = rw c.in_default.is at c.in_ok-flaw.ensures in
-    let k = rw c.in-Err.is at c.in_ok-owners.ensures.overlap in
+    let k = rw c.in-Err.is at c.in_ok-owned.ensures.overlap in
     holds_first p cert stands.own c.overlap.result (c.overlap.ensures (c.in-Err.piece, c.group_of.ensures, k.1))
 
 pub first_unserved-requires-clause-claimed : goal.first_unserved-requires-clause-claimed
@@ -36,14 +36,13 @@ first_unserved-requires-clause-claimed c =
     let cert : Certificate = certificate_of x.cert.now in
     let seats = x.seats.items in
     let many : length seats ≡ length (pieces p) = sym (length-map seats piece_of) ∙ ap length c.requires.seats in
-    let own = own_list p cert in
-    let owners = c.in-Ok.owners.items in
-    let claimed : IsClaimedBy own owners (length seats) = rw c.in-Ok.is at c.in_ok-owners.ensures.claimed in
-    let long : length owners ≡ c.cell_count-cells.result = rw c.in-Ok.is at c.in_ok-owners.ensures.cells in
+    let of : AreOwners p cert c.in-Ok.owned = rw c.in-Ok.is at c.in_ok-owned.ensures.owned in
+    let owners = c.in-Ok.owned.owners.items in
+    let long : length owners ≡ c.cell_count-cells.result = of.count ∙ sym c.cell_count-cells.ensures in
     let ps = c.in-Ok-lists_of.pieces.items in
     let count : length ps ≡ length (pieces p) = c.in-Ok-lists_of.ensures.count ∙ many in
     let made = c.in-Ok-lists_of.ensures.made in
-    let lists : IsClaimedBy (own_lists ps) owners (length ps) = claimed_lists p cert ps count made owners (subst (λ (n : ℕ). IsClaimedBy own owners n) many claimed) in
+    let lists : IsClaimedBy (own_lists ps) owners (length ps) = claimed_lists p cert ps count made owners of.claimed in
     subst (λ (os : List (Option ℕ)). IsClaimedBy (own_lists c.deref-2.result.now) os (length c.deref-2.result.now)) (sym c.deref.ensures.value)
     (subst (λ (qs : List Piece). IsClaimedBy (own_lists qs) owners (length qs)) (sym c.deref-2.ensures.value) lists)
 
@@ -67,16 +66,14 @@ returns-clause-sound c =
     let seats = x.seats.items in
     let many : length seats ≡ length (pieces p) = sym (length-map seats piece_of) ∙ ap length c.requires.seats in
     let stands : LinesStand p cert = rw c.in_default.is at c.in_ok-flaw.ensures in
-    let own = own_list p cert in
-    let owners = c.in-Ok.owners.items in
-    let claimed : IsClaimedBy own owners (length seats) = rw c.in-Ok.is at c.in_ok-owners.ensures.claimed in
-    let long : length owners ≡ c.cell_count-cells.result = rw c.in-Ok.is at c.in_ok-owners.ensures.cells in
+    let of : AreOwners p cert c.in-Ok.owned = rw c.in-Ok.is at c.in_ok-owned.ensures.owned in
+    let owners = c.in-Ok.owned.owners.items in
+    let long : length owners ≡ c.cell_count-cells.result = of.count ∙ sym c.cell_count-cells.ensures in
     let ps = c.in-Ok-lists_of.pieces.items in
     let count : length ps ≡ length (pieces p) = c.in-Ok-lists_of.ensures.count ∙ many in
     let made = c.in-Ok-lists_of.ensures.made in
-    let whole : IsClaimedBy own owners (length (pieces p)) = subst (λ (n : ℕ). IsClaimedBy own owners n) many claimed in
-    let lists : IsClaimedBy (own_lists ps) owners (length ps) = claimed_lists p cert ps count made owners whole in
-    let all : All (λ o. IsSome o) owners = all_owned p cert stands.own owners whole (long ∙ c.cell_count-cells.ensures) in
+    let lists : IsClaimedBy (own_lists ps) owners (length ps) = claimed_lists p cert ps count made owners of.claimed in
+    let all : All (λ o. IsSome o) owners = all_owned p cert stands.own owners of.claimed of.count in
     let Serve : List Piece → Type 0 = λ qs. NeedsServe (length qs) (own_lists qs) (fetched_lists qs) (needs_lists qs) in
     let serves : Serve c.deref-2.result.now = rw c.in_default-2.is at c.in_ok-piece.ensures in
     let sound : AreSound c.cell_count-cells.result ps = none_verdict c.cell_count-cells.result ps owners lists long all (subst Serve c.deref-2.ensures.value serves) in
@@ -112,16 +109,14 @@ returns-clause-shares c =
     let seats = x.seats.items in
     let many : length seats ≡ length (pieces p) = sym (length-map seats piece_of) ∙ ap length c.requires.seats in
     let stands : LinesStand p cert = rw c.in_default.is at c.in_ok-flaw.ensures in
-    let own = own_list p cert in
-    let owners = c.in-Ok.owners.items in
-    let claimed : IsClaimedBy own owners (length seats) = rw c.in-Ok.is at c.in_ok-owners.ensures.claimed in
-    let long : length owners ≡ c.cell_count-cells.result = rw c.in-Ok.is at c.in_ok-owners.ensures.cells in
+    let of : AreOwners p cert c.in-Ok.owned = rw c.in-Ok.is at c.in_ok-owned.ensures.owned in
+    let owners = c.in-Ok.owned.owners.items in
+    let long : length owners ≡ c.cell_count-cells.result = of.count ∙ sym c.cell_count-cells.ensures in
     let ps = c.in-Ok-lists_of.pieces.items in
     let count : length ps ≡ length (pieces p) = c.in-Ok-lists_of.ensures.count ∙ many in
     let made = c.in-Ok-lists_of.ensures.made in
-    let whole : IsClaimedBy own owners (length (pieces p)) = subst (λ (n : ℕ). IsClaimedBy own owners n) many claimed in
-    let lists : IsClaimedBy (own_lists ps) owners (length ps) = claimed_lists p cert ps count made owners whole in
-    let all : All (λ o. IsSome o) owners = all_owned p cert stands.own owners whole (long ∙ c.cell_count-cells.ensures) in
+    let lists : IsClaimedBy (own_lists ps) owners (length ps) = claimed_lists p cert ps count made owners of.claimed in
+    let all : All (λ o. IsSome o) owners = all_owned p cert stands.own owners of.claimed of.count in
     let Serve : List Piece → Type 0 = λ qs. NeedsServe (length qs) (own_lists qs) (fetched_lists qs) (needs_lists qs) in
     let serves : Serve c.deref-2.result.now = rw c.in_default-2.is at c.in_ok-piece.ensures in
     let sound : AreSound c.cell_count-cells.result ps = none_verdict c.cell_count-cells.result ps owners lists long all (subst Serve c.deref-2.ensures.value serves) in

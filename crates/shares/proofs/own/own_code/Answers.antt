@@ -1,18 +1,15 @@
 use Rattle.std.proofs.Common.{◌≡◌, ◌∙◌, ◌+◌, ◌<◌, ◌≤◌, ℕ, List, length, arith, ap, sym, subst, Option, Some, None, inl, inr}
-use Rattle.std.specs.Prelude.{IsTrue, IsFalse, slice_get, MatchOption}
+use Rattle.std.specs.Prelude.{IsTrue, IsFalse, slice_get}
 use Rattle.std.proofs.lemmas.List.{length-map}
-use Rattle.lin.proofs.Limits.{if_ok}
 use Rattle.plan.specs.Plan.{Plan}
 use Rattle.plan.specs.View.{plan_of}
 use Rattle.plan.specs.Certificate.Certificate.{Certificate, certificate_of}
 use Rattle.plan.specs.Certificate.Cells.{first_cell, pieces}
-use Rattle.plan.specs.declared.certificate.cert.Need.{Need}
 use Rattle.orders.specs.Claimed.{IsClaimedBy}
-use Rattle.soundness.specs.declared.outline.refusals.code.K.TheVariants.{K11}
-use Rattle.shares.specs.Made.{HasGap, IsUnserved, Leaves, Overlaps, need_place}
-use Rattle.shares.specs.Owned.{GroupIsInside, IsLowestCode, own_in}
+use Rattle.shares.specs.Made.{HasGap, Leaves, Overlaps}
+use Rattle.shares.specs.Owned.{GroupIsInside, own_in}
 use Rattle.shares.specs.Seats.{piece_of}
-use Rattle.shares.proofs.Codes.{HasRow, row_of, lowest_ten, lowest_none, lowest_alone, none_overlaps, none_leaves}
+use Rattle.shares.proofs.Codes.{HasRow, row_of, lowest_ten, none_overlaps, none_leaves}
 use Rattle.shares.proofs.Having.{cells_within}
 use Rattle.shares.proofs.Owning.{gap_found, gap_none}
 use Rattle.shares.proofs.own.own_code.Goals as goal
@@ -76,8 +73,8 @@ returns-then-has_gap c =
     let free = subst (λ (os : List (Option ℕ)). slice_get os gap.0 ≡ Some None) c.deref-2.ensures.value gap.3 in
     lowest_ten p cert n apart (inr (gap_found p cert c.requires.layout.shared n gap.0 owners claimed free (omega (arith, low, first)) (omega (arith, high, end))))
 
-pub returns-in-Some-need_place : goal.returns-in-Some-need_place
-returns-in-Some-need_place c =
+pub code_of_parted-requires-clause-parted : goal.code_of_parted-requires-clause-parted
+code_of_parted-requires-clause-parted c =
     let x = c.args.layout.now in
     let p : Plan = plan_of x.plan.now in
     let cert : Certificate = certificate_of x.cert.now in
@@ -99,31 +96,4 @@ returns-in-Some-need_place c =
     let most = cells_within 0 p.groups (n + 1) in
     let whole : ¬ HasGap p cert n = gap_none p cert c.requires.layout.shared n owners claimed (omega (arith, long, all, most))
     (λ y low high. subst (λ (os : List (Option ℕ)). ¬ (slice_get os y ≡ Some None)) c.deref-2.ensures.value (c.has_gap.ensures.none c.if-has_gap.false y (omega (arith, low, first)) (omega (arith, high, end)))) in
-    let place : need_place cert.needs n ≡ Some c.in-Some-need_place.field-0 = ap (λ (ns : List Need). need_place ns n) (sym c.deref-3.ensures.value) ∙ sym c.need_place.ensures ∙ c.in-Some-need_place.is in
-    lowest_none p cert n apart inside whole c.in-Some-need_place.field-0 place
-
-pub returns : goal.returns
-returns c =
-    let x = c.args.layout.now in
-    let p : Plan = plan_of x.plan.now in
-    let cert : Certificate = certificate_of x.cert.now in
-    let n = c.args.group in
-    let seats = x.seats.items in
-    let many : length seats ≡ length (pieces p) = sym (length-map seats piece_of) ∙ ap length c.requires.layout.seats in
-    let owners = c.in-Some.owned.owners.items in
-    let held : IsClaimedBy (own_in p cert n) owners (length seats) = rw c.in-Some.is at c.in_ok-owned.ensures.claimed in
-    let claimed : IsClaimedBy (own_in p cert n) owners (length (pieces p)) = subst (λ (k : ℕ). IsClaimedBy (own_in p cert n) owners k) many held in
-    let apart : ¬ Overlaps p cert n = none_overlaps p cert c.requires.layout.shared n owners claimed in
-    let d = c.index.result.now in
-    let row : HasRow p n d.cells.first c.most_points-some.result = row_of x c.requires.layout n d c.requires.group c.index.ensures c.deref.result.now c.most_points-some.result c.deref.ensures.value c.most_points-some.ensures in
-    let stays : IsTrue c.in-Some.owned.inside → GroupIsInside p cert n = rw c.in-Some.is at c.in_ok-owned.ensures.inside in
-    let inside : ¬ Leaves p cert n = none_leaves p cert n (stays c.if-not-owned.false) in
-    let long : length owners ≡ c.args.count = rw c.in-Some.is at c.in_ok-owned.ensures.cells in
-    let first = row.from in
-    let end = row.to in
-    let all = c.requires.count in
-    let most = cells_within 0 p.groups (n + 1) in
-    let whole : ¬ HasGap p cert n = gap_none p cert c.requires.layout.shared n owners claimed (omega (arith, long, all, most))
-    (λ y low high. subst (λ (os : List (Option ℕ)). ¬ (slice_get os y ≡ Some None)) c.deref-2.ensures.value (c.has_gap.ensures.none c.if-has_gap.false y (omega (arith, low, first)) (omega (arith, high, end)))) in
-    let alone : need_place cert.needs n ≡ None = ap (λ (ns : List Need). need_place ns n) (sym c.deref-3.ensures.value) ∙ sym c.need_place.ensures ∙ c.in-None.is in
-    if_ok c.alone_code.result (λ code. MatchOption code (¬ IsUnserved p cert n) (λ k. (k ≡ K11) × IsUnserved p cert n)) (IsLowestCode p cert n) (λ code told. lowest_alone p cert n apart inside whole alone code told) c.alone_code.ensures
+    record { apart = apart; inside = inside; whole = whole }

@@ -27,3 +27,6 @@ returns c =
     let end = c.loop-group.auto.group-end in
     let is : c.loop-group.group ≡ length p.groups = omega (arith, c.loop-group-test.false, end, same, all, long) in
     subst (λ (n : ℕ). IsFirstFlaw p cert n c.loop-group.found) is c.loop-group.invariant
+
+pub code_at-requires-clause-parted : goal.code_at-requires-clause-parted
+code_at-requires-clause-parted c parted = c.is_parted-parted.ensures parted c.loop-group.group

@@ -1,7 +1,0 @@
-use Rattle.std.proofs.Common.{map, take, Bor}
-use Rattle.plan.specs.declared.certificate.cert.Need.{Need}
-use Rattle.shares.specs.Repeated.{AreSameLines}
-use Rattle.shares.proofs.repeated.without_repeats.Given as goal
-
-abbrev pub invariant-loop-need : goal.invariant-loop-need
-invariant-loop-need l = AreSameLines (map (λ (n : Bor Need). n.now) l.kept.items) (map (λ (n : Bor Need). n.now) (take l.need-index l.lines))
