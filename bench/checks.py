@@ -74,6 +74,17 @@ def many_needs(count, region):
     return algorithm, text.format(w=1024, h=1023, r=1023, b=1022, needs=needs), 1024, 1023
 
 
+def self_needs(count, region):
+    """A group of 2^20 pieces in one coordinate, of which the first 1024 own a column each, with `count` need lines of itself."""
+    needs = "".join(f"need 0 0 [{region(i)}]\n" for i in range(1, count + 1))
+    text = HEAD + (
+        "group 0 out [0:{r};0:{r}] grid 1048576\nalloc b0 out [0+1*s0#1;0#{w}]\nfor s1 0:{r} serial\n"
+        "for s2 0+1*s0:0+1*s0,{r} serial\nstore b0 0 x=0+1*s2 y=0+1*s1 (in[x,y]+1u8)\nend\nend\npublish @0\ncert\n"
+        "own 0 [0+1*s0:0+1*s0,{r};0:{r}]\n{needs}claim 0 10 b0 out 0 [0+1*s0:0+1*s0,{r};0:{r}]\nend\n"
+    )
+    return ALGORITHM, text.format(w=1024, h=1024, r=1023, needs=needs), 1024, 1024
+
+
 PLANS = {
     "2,000 flat stores": lambda: flat_stores(2000),
     "65,000 flat stores": lambda: flat_stores(65000),
@@ -84,6 +95,13 @@ PLANS = {
     "65,500 need lines and 2^20 pieces": lambda: many_needs(65500, lambda i: f"0:{i % 16}"),
     "65,500 need lines that repeat 8 with a symbol, and 2^20 pieces": lambda: many_needs(
         65500, lambda i: f"0,{-1023 - i % 8}+1*s0:0"
+    ),
+    "65,000 need lines with a symbol, each in the next, and 2^20 pieces": lambda: self_needs(
+        65000, lambda i: f"0,{-i}+1*s0:-1+1*s0"
+    ),
+    "65,000 need lines of a piece each, and 2^20 pieces": lambda: self_needs(65000, lambda i: f"0,{-i}+1*s0:{-i}+1*s0"),
+    "65,000 need lines without a point at most of 2^20 pieces": lambda: self_needs(
+        65000, lambda i: f"{i}+1*s0:1000-1*s0"
     ),
 }
 

@@ -34,3 +34,4 @@ pub mod InRegisters
 pub mod Pixels
 pub mod Points
 pub mod Updating
+pub mod PlaceNumbers

@@ -14,13 +14,13 @@ use Rattle.plan.specs.declared.stmt.Coordinate.{Coordinate}
 use Rattle.plan.specs.Plan.{Index, At, Found}
 use Rattle.plan.specs.View.{coordinate_of}
 use Rattle.plan.specs.Symbols.{Symbols, bind, rising, form_value}
-use Rattle.plan.specs.Semantics.Actions.{Action, fixed, index_target, stored}
+use Rattle.plan.specs.Semantics.Actions.{fixed, index_target, stored}
 use Rattle.plan.specs.Semantics.Found.{with, found, all_found}
 use Rattle.plan.specs.Semantics.Memory.{Memory, read}
 use Rattle.plan.specs.Semantics.Run.{Around, look, found_target}
 use Rattle.interpreter.specs.Evaluation.Lanes.{number_at}
 use Rattle.interpreter.specs.Pieces.{around, no_cells, setting}
-use Rattle.interpreter.specs.Runs.{numbers_of, store_at, IsBut}
+use Rattle.interpreter.specs.Runs.{store_at, IsBut}
 use Rattle.interpreter.specs.Steps.{Progress, steps}
 use Rattle.interpreter.specs.Targets.{known_number, target_of}
 use Rattle.interpreter.specs.Updates.{columns_at, operand_at, operation_at, place_number, place_numbers, registers_of, sets_or_none, FindsTurn, FindsUpdate, IsOwnCall}
@@ -157,18 +157,6 @@ first_update x cell b d n i size cs e s j begin low memory u zs p whole is finds
     ∙ ap (λ (q : List ℤ). with (with (operation_at n u.operation (drop u.start zs) p.memory b i) (sets b p q)) go) (columns_take n size (length cs) i zs finds.point.within)
 
 -- ---- registers that are filled one after another
-
-pub four_columns : (n k w : ℕ) (zs ys ws vs : List Number) (a b c d : ℤ) → ys ≡ drop n zs → ws ≡ drop n ys → vs ≡ drop n ws →
-    a ≡ number_at zs k → b ≡ number_at ys k → c ≡ number_at ws k → d ≡ number_at vs k → w ≤ 4 → take w (a ∷ b ∷ c ∷ d ∷ []) ≡ columns_at n w zs k
-four_columns n k zero zs ys ws vs a b c d y w v e f g h le = refl
-four_columns n k (suc zero) zs ys ws vs a b c d y w v e f g h le = λ i. e i ∷ []
-four_columns n k (suc (suc zero)) zs ys ws vs a b c d y w v e f g h le = (λ i. e i ∷ f i ∷ []) ∙ (λ i. number_at zs k ∷ number_at (y i) k ∷ [])
-four_columns n k (suc (suc (suc zero))) zs ys ws vs a b c d y w v e f g h le =
-    (λ i. e i ∷ f i ∷ g i ∷ []) ∙ (λ i. number_at zs k ∷ number_at (y i) k ∷ number_at ((w ∙ ap (drop n) y) i) k ∷ [])
-four_columns n k (suc (suc (suc (suc zero)))) zs ys ws vs a b c d y w v e f g h le =
-    let third = w ∙ ap (drop n) y in
-    (λ i. e i ∷ f i ∷ g i ∷ h i ∷ []) ∙ (λ i. number_at zs k ∷ number_at (y i) k ∷ number_at (third i) k ∷ number_at ((v ∙ ap (drop n) third) i) k ∷ [])
-four_columns n k (suc (suc (suc (suc (suc m))))) zs ys ws vs a b c d y w v e f g h le = absurd (omega arith)
 
 -- one column more in front of others
 pub column_front : (n w k : ℕ) (zs : List Number) (z : ℤ) (l : List ℤ) → z ≡ number_at zs k → l ≡ columns_at n w (drop n zs) k → z ∷ l ≡ columns_at n (suc w) zs k

@@ -7,7 +7,6 @@ use Rattle.std.proofs.lemmas.Option.{none-some, get_or_from_slice_get, slice_get
 use Rattle.numeric.specs.declared.ty.Ty.{Ty}
 use Rattle.tree.specs.declared.value.Value.{Value}
 use Rattle.tree.specs.Meaning.{typed}
-use Rattle.meaning.specs.Image.Raster.{sample}
 use Rattle.plan.specs.Rooms.{Room, Straight, below, seat, place}
 use Rattle.plan.specs.Semantics.Memory.{held_at}
 use Rattle.interpreter.specs.Buffers.Blocks.{held_by_number}

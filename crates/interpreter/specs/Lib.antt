@@ -17,6 +17,7 @@ pub mod Visits
 pub mod RowVisits
 pub mod Runs
 pub mod Updates
+pub mod PlaceNumbers
 pub mod RunReadings
 pub mod StoreLines
 pub mod Scanlines

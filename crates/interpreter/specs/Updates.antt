@@ -1,5 +1,5 @@
 -- Updates at the turns of a run: what registers hold for all turns, and what is left to each turn.
-use Rattle.std.specs.Prelude.{◌≡◌, ◌<◌, ◌≤◌, ◌*◌, ◌-◌, ℕ, zero, suc, List, [], ◌∷◌, drop, length, map, Option, Some, None, ℤ, pos, ◌+ℤ◌, int_le, string_bytes}
+use Rattle.std.specs.Prelude.{◌≡◌, ◌<◌, ◌≤◌, ◌-◌, ℕ, zero, suc, List, [], ◌∷◌, drop, length, map, Option, Some, None, ℤ, pos, ◌+ℤ◌, string_bytes}
 use Rattle.tree.specs.declared.value.Value.{Value}
 use Rattle.tree.specs.Meaning.{typed, applied}
 use Rattle.tree.specs.Term.{Term, indices, list_terms}

@@ -1,6 +1,6 @@
 //! Registers side by side, which hold the numbers of a point at the turns of a run.
 
-ghost use Rattle.std.specs.Prelude.{◌≡◌, ◌<◌, ◌≤◌, ℕ, IfSome, Some, drop, length, take};
+ghost use Rattle.std.specs.Prelude.{◌≡◌, ◌<◌, ℕ, IfSome, Some, length};
 ghost use Rattle.plan.specs.Semantics.Found.{all_found, found};
 ghost use Rattle.plan.specs.Semantics.Memory.{Memory};
 ghost use Rattle.tree.specs.Meaning.{typed};
@@ -10,7 +10,6 @@ ghost use Rattle.interpreter.specs.Evaluation.Lanes.{number_at};
 ghost use Rattle.interpreter.specs.Updates.{columns_at};
 
 use crate::evaluation::{Number, RunReader, evaluate_run, spread, type_of};
-use crate::run_reading::registers_behind;
 use numeric::Ty;
 use tree::Expr;
 
@@ -23,30 +22,6 @@ pub(crate) fn number_of(register: &[Number], turn: usize) -> i64
         Some(number) => number.value,
         None => 0,
     }
-}
-
-/// The numbers of four registers at a turn.
-#[inline(always)]
-pub(crate) fn numbers_at(registers: &[Number], count: usize, turn: usize) -> [i64; 4]
-    ensures { (w : ℕ) → w ≤ 4 → take w result ≡ columns_at count w registers.now turn }
-{
-    let seconds = registers_behind(registers, count);
-    let thirds = registers_behind(seconds, count);
-    let fourths = registers_behind(thirds, count);
-    let first = number_of(registers, turn);
-    let second = number_of(seconds, turn);
-    let third = number_of(thirds, turn);
-    let fourth = number_of(fourths, turn);
-    [first, second, third, fourth]
-}
-
-/// The first so many of four numbers.
-#[inline(always)]
-pub(crate) fn first_of(numbers: &[i64; 4], count: usize) -> &[i64]
-    requires { count ≤ 4 }
-    ensures { result.now ≡ take count numbers.now }
-{
-    &numbers[..count]
 }
 
 /// The numbers of an expression at so many turns of a run, put into the first register: their type.

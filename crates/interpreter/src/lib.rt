@@ -9,6 +9,7 @@ mod forms;
 mod loads;
 mod needs;
 mod piece;
+mod placing;
 mod reading;
 mod registers;
 mod row;

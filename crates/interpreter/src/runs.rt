@@ -23,14 +23,17 @@ ghost use Rattle.interpreter.specs.Evaluation.Lanes.{number_at};
 ghost use Rattle.interpreter.specs.Pieces.{around, no_cells, IsReady};
 ghost use Rattle.interpreter.specs.Rows.{listed};
 ghost use Rattle.interpreter.specs.Runs.{are_forms, numbers_at, numbers_of, store_at, FindsTurns, IsBut};
+ghost use Rattle.interpreter.specs.Sizes.{size_in};
 ghost use Rattle.interpreter.specs.States.{progress_of, EndsIn, IsAsLarge};
 ghost use Rattle.interpreter.specs.Steps.{steps};
 ghost use Rattle.interpreter.specs.Targets.{known_number, indices_of_all, CoordinateIsNarrow};
+ghost use Rattle.interpreter.specs.Updates.{FindsUpdate};
 ghost use Rattle.interpreter.specs.Visits.{between};
 
 use crate::buffers::{Buffers, Spot};
 use crate::evaluation::{Number, Stop, evaluate_run, spread, type_of};
 use crate::piece::Piece;
+use crate::placing::{Places, Target, place_update};
 use crate::registers::value_at;
 use crate::row::Row;
 use crate::run_reading::RunReading;
@@ -39,7 +42,7 @@ use crate::state::State;
 use crate::store::{known_numbers, of_function, store};
 use crate::symbols::{Binding, Symbols};
 use crate::turns::{Turns, turn};
-use crate::updates::{store_turns, update_part};
+use crate::updates::{Update, store_turns, update_part};
 use numeric::Ty;
 use plan::{Coordinate, Index, Stmt};
 use tree::Expr;
@@ -450,6 +453,63 @@ fn store_known_part<'a>(
     }
 }
 
+/// An update at some turns of a loop, which is known for all of them. Where one of its points has no place, the store is found
+/// anew.
+fn store_update<'a>(
+    piece: &'a Piece<'a>,
+    line: &StoreLine<'a>,
+    update: Update,
+    part: Part,
+    symbols: &mut Symbols,
+    state: &mut State,
+) -> Result<(), Stop>
+    requires ready { IsReady piece.now }
+    requires narrow { (k : ℕ) → k < part.count → All (CoordinateIsNarrow (bind (symbols_of symbols.old) part.turns.symbol (part.low +ℤ pos k) (int_le (part.low +ℤ pos k) part.turns.low))) line.now.coordinates.now }
+    requires few { part.count ≤ 128 }
+    requires high { (part.low +ℤ pos part.count) ≤ℤ pos (2 ^ 63) }
+    requires symbols { length symbols.old.bound < symbols.old.room }
+    requires numbers { length line.now.coordinates.now ≤ state.old.numbers.room }
+    requires point { length line.now.coordinates.now ≤ state.old.point.room }
+    requires stack { indices_of_all line.now.coordinates.now + indices_in (term_of line.now.value.now) ≤ state.old.stack.room }
+    requires finds { FindsUpdate piece.now line.now.buffer (size_in piece.now.sizes.now line.now.buffer) line.now.coordinates.now (term_of line.now.value.now) (symbols_of symbols.old) part.turns.symbol part.turns.low part.low (memory_of state.old.memory) part.count update state.old.registers.items }
+    ensures symbols { OnOk result (symbols.new ≡ symbols.old) }
+    ensures large { OnOk result (IsAsLarge state.old state.new) }
+    ensures run { (definition : ℕ) (cell : List ℕ → List ℤ → ValueFound) → EndsIn state.old.given.capacity (λ _. progress_of state.new) result (steps (around piece.now cell) (flat_map (store_at piece.now line.now.buffer line.now.coordinates.now (term_of line.now.value.now) (symbols_of symbols.old) part.turns.symbol part.turns.low definition) (rising part.low part.count)) (progress_of state.old)) }
+{
+    let Some(position) = state.memory.position_of(line.buffer) else {
+        return store_known_part(piece, line, part, symbols, state);
+    };
+    let target = Target {
+        buffer: line.buffer,
+        position,
+        size: size_in(piece.sizes, line.buffer),
+        count: part.count,
+    };
+    let mut point = [0; 128];
+    let mut left = [0; 128];
+    let mut right = [0; 128];
+    match place_update(
+        &state.memory,
+        target,
+        update,
+        &state.registers,
+        &mut point,
+        &mut left,
+        &mut right,
+    ) {
+        Some(()) => {
+            let places = Places {
+                position,
+                point: &point,
+                left: &left,
+                right: &right,
+            };
+            store_turns(piece, line, update, &places, part, symbols, state)
+        }
+        None => store_known_part(piece, line, part, symbols, state),
+    }
+}
+
 /// The store at some turns of a loop.
 fn store_part<'a>(
     piece: &'a Piece<'a>,
@@ -471,7 +531,7 @@ fn store_part<'a>(
     ensures run { (definition : ℕ) (cell : List ℕ → List ℤ → ValueFound) → EndsIn state.old.given.capacity (λ _. progress_of state.new) result (steps (around piece.now cell) (flat_map (store_at piece.now line.now.buffer line.now.coordinates.now (term_of line.now.value.now) (symbols_of symbols.old) part.turns.symbol part.turns.low definition) (rising part.low part.count)) (progress_of state.old)) }
 {
     match update_part(piece, line, part, symbols, state) {
-        Some(update) => store_turns(piece, line, update, part, symbols, state),
+        Some(update) => store_update(piece, line, update, part, symbols, state),
         None => store_known_part(piece, line, part, symbols, state),
     }
 }

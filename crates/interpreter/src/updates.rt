@@ -13,7 +13,9 @@ ghost use Rattle.plan.specs.Semantics.Run.{look};
 ghost use Rattle.plan.specs.Symbols.{bind, rising};
 ghost use Rattle.interpreter.specs.Bindings.{symbols_of};
 ghost use Rattle.interpreter.specs.Buffers.Blocks.{memory_of};
+ghost use Rattle.interpreter.specs.Buffers.Spots.{HasPlace, IsSpot};
 ghost use Rattle.interpreter.specs.Evaluation.Lanes.{lane_number, number_at, IsNarrowFor};
+ghost use Rattle.interpreter.specs.PlaceNumbers.{OperandStands, OperationStands, UpdateStands};
 ghost use Rattle.interpreter.specs.Pieces.{around, no_cells, IsReady};
 ghost use Rattle.interpreter.specs.Runs.{numbers_at, store_at, IsBut};
 ghost use Rattle.interpreter.specs.Sizes.{size_in};
@@ -21,12 +23,14 @@ ghost use Rattle.interpreter.specs.States.{progress_of, EndsIn, IsAsLarge};
 ghost use Rattle.interpreter.specs.Steps.{steps};
 ghost use Rattle.interpreter.specs.Targets.{CoordinateIsNarrow};
 ghost use Rattle.interpreter.specs.Updates.{columns_at, operand_at, operation_at, place_number, sets_or_none, variables_at, place_numbers, registers_of, FindsTurn, FindsUpdate, IsOperation, IsOwnCall, IsPoint, IsShort};
+ghost use Rattle.interpreter.specs.declared.buffers.spot.Spot.{Spot as SpotHeld};
 
 use crate::buffers::Buffers;
-use crate::columns::{column_run, columns_run, first_of, number_of, numbers_at};
+use crate::columns::{column_run, columns_run, number_of};
 use crate::evaluation::{Lanes, Number, Stop, applied, evaluate_run, spread};
 use crate::loads::claim_of;
 use crate::piece::Piece;
+use crate::placing::{Places, Target, spot_at};
 use crate::run_reading::{RunReading, lanes_of, registers_behind};
 use crate::runs::{Part, StoreLine, numbers_in};
 use crate::sizes::size_in;
@@ -324,78 +328,71 @@ pub(crate) fn update_part<'a>(
     update_run(line.value, size, &reader, part.count, &mut state.registers)
 }
 
-/// What an operand has at a turn.
+/// What an operand has at a turn. Its own point has the place of a number.
 #[inline(always)]
 fn operand_at(
+    target: Target,
     operand: Operand,
     memory: &Buffers,
-    buffer: u64,
     registers: &[Number],
-    count: usize,
+    places: &[usize],
     turn: usize,
 ) -> Option<Value>
-    requires { IsShort operand }
-    ensures { result ≡ operand_at count operand registers.now (memory_of memory.now) buffer turn }
+    requires { OperandStands memory.now target.buffer target.count target.position operand registers.now places.now turn }
+    ensures { result ≡ operand_at target.count operand registers.now (memory_of memory.now) target.buffer turn }
 {
     match operand {
         Operand::Known(ty) => Some(Value {
             ty,
             number: number_of(registers, turn),
         }),
-        Operand::Own(width) => {
-            let point = numbers_at(registers, count, turn);
-            memory.read(buffer, first_of(&point, width))
-        }
+        Operand::Own(_) => memory.held(spot_at(target.position, places, turn)),
     }
 }
 
-/// What an operation has at a turn.
+/// What an operation has at a turn. Its own points have the places of numbers.
 #[inline(always)]
 fn operation_at(
+    target: Target,
     operation: Operation,
     memory: &Buffers,
-    buffer: u64,
     registers: &[Number],
-    count: usize,
+    places: &Places<'_>,
     turn: usize,
 ) -> Option<Value>
-    requires { IsOperation operation }
-    ensures { result ≡ operation_at count operation registers.now (memory_of memory.now) buffer turn }
+    requires { OperationStands memory.now target.buffer target.count target.position operation registers.now places.now.left.now places.now.right.now turn }
+    ensures { result ≡ operation_at target.count operation registers.now (memory_of memory.now) target.buffer turn }
 {
     let behind = registers_behind(registers, operation.width);
-    let left = operand_at(operation.left, memory, buffer, registers, count, turn)?;
-    let right = operand_at(operation.right, memory, buffer, behind, count, turn)?;
+    let left = operand_at(target, operation.left, memory, registers, places.left, turn)?;
+    let right = operand_at(target, operation.right, memory, behind, places.right, turn)?;
     Some(applied(operation.op, left, right))
 }
 
 /// An update at a turn.
 fn store_turn(
-    buffer: u64,
-    size: usize,
+    target: Target,
     update: Update,
-    count: usize,
+    places: &Places<'_>,
     turn: usize,
     state: &mut State,
 ) -> Result<(), Stop>
-    requires size { size ≤ 4 }
-    requires operation { IsOperation update.operation }
+    requires { UpdateStands state.old.memory target.buffer target.size target.count target.position update state.old.registers.items places.now.point.now places.now.left.now places.now.right.now turn }
     ensures registers { state.new.registers.items ≡ state.old.registers.items }
     ensures large { OnOk result (IsAsLarge state.old state.new) }
-    ensures but { IsBut buffer (memory_of state.old.memory) (memory_of state.new.memory) }
-    ensures run { EndsIn state.old.given.capacity (λ _. progress_of state.new) result (with (operation_at count update.operation (drop update.start state.old.registers.items) (memory_of state.old.memory) buffer turn) (sets_or_none buffer (progress_of state.old) (columns_at count size state.old.registers.items turn))) }
+    ensures but { IsBut target.buffer (memory_of state.old.memory) (memory_of state.new.memory) }
+    ensures places { (i n : ℕ) → HasPlace state.old.memory i n → HasPlace state.new.memory i n }
+    ensures spots { (b : ℕ) (p : List ℤ) (s : SpotHeld) (k : ℕ) → IsSpot state.old.memory b p s k → IsSpot state.new.memory b p s k }
+    ensures run { EndsIn state.old.given.capacity (λ _. progress_of state.new) result (with (operation_at target.count update.operation (drop update.start state.old.registers.items) (memory_of state.old.memory) target.buffer turn) (sets_or_none target.buffer (progress_of state.old) (columns_at target.count target.size state.old.registers.items turn))) }
 {
-    let registers = state.registers.as_slice();
-    let values = registers_behind(registers, update.start);
+    let registers = registers_behind(&state.registers, update.start);
     let memory = &state.memory;
-    let Some(value) = operation_at(update.operation, memory, buffer, values, count, turn) else {
+    let Some(value) = operation_at(target, update.operation, memory, registers, places, turn) else {
         return Err(Stop::Fault);
     };
-    let point = numbers_at(registers, count, turn);
-    if state.memory.write(buffer, first_of(&point, size), value) {
-        Ok(())
-    } else {
-        Err(Stop::Fault)
-    }
+    let spot = spot_at(target.position, places.point, turn);
+    state.memory.put(spot, 0, value);
+    Ok(())
 }
 
 /// An update at some turns of a loop, one after another.
@@ -403,18 +400,25 @@ pub(crate) fn store_turns<'a>(
     piece: &'a Piece<'a>,
     line: &StoreLine<'a>,
     update: Update,
+    places: &Places<'_>,
     part: Part,
     symbols: &Symbols,
     state: &mut State,
 ) -> Result<(), Stop>
     requires ready { IsReady piece.now }
     requires finds { FindsUpdate piece.now line.now.buffer (size_in piece.now.sizes.now line.now.buffer) line.now.coordinates.now (term_of line.now.value.now) (symbols_of symbols.now) part.turns.symbol part.turns.low part.low (memory_of state.old.memory) part.count update state.old.registers.items }
+    requires stands { (k : ℕ) → k < part.count → UpdateStands state.old.memory line.now.buffer (size_in piece.now.sizes.now line.now.buffer) part.count places.now.position update state.old.registers.items places.now.point.now places.now.left.now places.now.right.now k }
     ensures large { OnOk result (IsAsLarge state.old state.new) }
     ensures run { (definition : ℕ) (cell : List ℕ → List ℤ → ValueFound) → EndsIn state.old.given.capacity (λ _. progress_of state.new) result (steps (around piece.now cell) (flat_map (store_at piece.now line.now.buffer line.now.coordinates.now (term_of line.now.value.now) (symbols_of symbols.now) part.turns.symbol part.turns.low definition) (rising part.low part.count)) (progress_of state.old)) }
 {
-    let size = size_in(piece.sizes, line.buffer);
+    let target = Target {
+        buffer: line.buffer,
+        position: places.position,
+        size: size_in(piece.sizes, line.buffer),
+        count: part.count,
+    };
     for index in 0..part.count {
-        store_turn(line.buffer, size, update, part.count, index, state)?;
+        store_turn(target, update, places, index, state)?;
     }
     Ok(())
 }

@@ -1,4 +1,4 @@
-//! Algorithms as text: the canonical text of an algorithm, which is read as that algorithm again.
+//! Algorithms as text: the canonical text of an algorithm, which is read as that algorithm and no other.
 #![tactic(auto)]
 
 pub mod error;

@@ -13,3 +13,16 @@ pub mod Ending
 pub mod Skeletons
 pub mod Nests
 pub mod Updates
+pub mod Leading
+pub mod Told
+pub mod Standings
+pub mod Passing
+pub mod Closing
+pub mod Looping
+pub mod Rooting
+pub mod Visiting
+pub mod Numbering
+pub mod Arranging
+pub mod Directing
+pub mod Starting
+pub mod Scheduling

@@ -12,3 +12,4 @@ pub mod Numbers
 pub mod Standing
 pub mod Skeleton
 pub mod Worked
+pub mod Visits

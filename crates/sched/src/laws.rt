@@ -5,6 +5,7 @@ ghost use Rattle.tree.specs.declared.token.token.Token.{Token as AnyToken};
 ghost use Rattle.sched.specs.Schedule.{Schedule};
 ghost use Rattle.sched.specs.Reading.{file};
 ghost use Rattle.sched.specs.Grammar.{schedule_then, IsWhole, StandsFor};
+ghost use Rattle.sched.specs.Visits.{SchedulesVisitTheirRegions, SkeletonsVisitTheirRegion};
 
 /// What the grammar allows is read as what it stands for.
 pub fn grammar_is_read()
@@ -14,4 +15,17 @@ pub fn grammar_is_read()
 /// What is read is what the grammar allows.
 pub fn read_is_grammar()
     ensures { (tokens : List AnyToken) (schedule : Schedule) → file tokens ≡ Ok schedule → StandsFor tokens schedule }
+{}
+
+/// Whatever directives were applied to a root function, the loops of its skeleton visit its region whole: for each of its definitions,
+/// each point of the region and each value of the definition's reduction variables there are a piece of the grid and turns of the
+/// loops, as a plan runs them past the guards, at which the store's coordinates come to that point. A coordinate that an expression
+/// of an update finds is left open.
+pub fn skeletons_visit_their_region()
+    ensures { SkeletonsVisitTheirRegion }
+{}
+
+/// The same of each function of an algorithm, with the loops that a whole schedule makes of it where no directive breaks a rule.
+pub fn schedules_visit_their_regions()
+    ensures { SchedulesVisitTheirRegions }
 {}

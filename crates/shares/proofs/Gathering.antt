@@ -1,6 +1,6 @@
 -- Need lines that are gathered by what they name.
-use Rattle.std.proofs.Common.{◌≡◌, ℕ, zero, suc, ◌+◌, ◌<◌, List, [], ◌∷◌, ◌++◌, length, map, true, arith, ap, refl, sym, ◌∙◌, subst, inl, inr, append_assoc, get_or, Option, Some, Bor}
-use Rattle.std.specs.Prelude.{ℤ, pos, ◌+ℤ◌, ◌-ℤ◌, fold, flat_map, All, IsTrue, ◌↔◌, ◌⊎◌, Contains, MatchOption, slice_get}
+use Rattle.std.proofs.Common.{◌≡◌, ℕ, zero, suc, ◌+◌, ◌<◌, List, [], ◌∷◌, ◌++◌, length, map, Bool, true, false, arith, ap, refl, sym, ◌∙◌, subst, inl, inr, append_assoc, get_or, Option, Some, Bor}
+use Rattle.std.specs.Prelude.{ℤ, pos, ◌+ℤ◌, ◌-ℤ◌, fold, flat_map, All, IsTrue, ◌↔◌, ◌⊎◌, Contains, MatchOption, slice_get, ◌==◌, if◌then◌else◌}
 use Rattle.std.specs.Int.{int_max, int_min}
 use Rattle.std.specs.List.{AllByRecursion, list_all}
 use Rattle.std.specs.List.Sorted.{IsStrictlyIncreasing}
@@ -28,6 +28,7 @@ use Rattle.shares.specs.declared.gathered.GroupNeeds.{GroupNeeds}
 use Rattle.shares.specs.declared.layout.Layout.{Layout}
 use Rattle.shares.specs.declared.seats.Seat.{Seat}
 use Rattle.shares.specs.Boxes.{grid_sides, is_in_box, rank}
+use Rattle.shares.specs.Blocks.{AreThoseAt, HaveLinesOf, StandFor}
 use Rattle.shares.specs.Counts.{with_lines}
 use Rattle.shares.specs.Filed.{needs_in, AreLinesOf}
 use Rattle.shares.specs.Has.{NeedsPieces}
@@ -278,6 +279,38 @@ module _ (p : Plan) (g : ℕ) (ns ms : List Need) (outer : AreOuterOf ms ns) whe
     );
   }
 
+-- ---- lines of which those that name no point at a piece are left out
+
+module _ (p : Plan) (j : Piece) (ms ns : List Need) (those : AreThoseAt j.at ms ns) where
+  none_named : (n : Need) → points (grid_symbols j.at) n.region ≡ [] → (i : ℕ) → Contains (need_numbers p j n) i → ⊥
+  none_named n e i = of (n.group == j.group)
+    where
+      f : List ℤ → ℕ
+      f = λ q. first_piece p.groups n.needed + rank (need_grid p n) q
+
+      of : (b : Bool) → Contains (if b then map f (need_points j n) else []) i → ⊥
+      of true m = let none : Contains [] i = subst (λ (qs : List (List ℤ)). Contains (map f qs) i) e m in let less : none.0 < 0 = none.1 in omega (arith, less)
+      of false m = let less : m.0 < 0 = m.1 in omega (arith, less)
+
+  named_left : (i : ℕ) (ks : List Need) → ((k : Need) → Contains ks k → Contains ns k) → Contains (all_numbers p j ks) i → Contains (all_numbers p j ms) i
+  named_left i [] h has = let less : has.0 < 0 = has.1 in absurd (omega (arith, less))
+  named_left i (x ∷ ks) h has = elim (Contains-append_cases (need_numbers p j x) (all_numbers p j ks) i has) [
+    | inl a ↦ elim (those.left x (h x (0, omega arith, refl))) [ inl b ↦ named_before p j i ms x b a | inr e ↦ absurd (none_named x e i a) ]
+    | inr b ↦ named_left i ks (λ k at. h k (Contains-append_right (x ∷ []) ks k at)) b
+  ]
+
+  those_numbers : (i : ℕ) → Contains (all_numbers p j ms) i ↔ Contains (all_numbers p j ns) i
+  those_numbers i = (named_in p j i ns ms those.among, named_left i ns (λ k at. at))
+
+  those_inside : NeedsAreInside p j ms ↔ NeedsAreInside p j ns
+  those_inside = (
+    (λ all. all_of (NeedIsInside p j) ns (λ n at. elim (those.left n at) [
+      | inl b ↦ holds_of (NeedIsInside p j) ms n all b
+      | inr e ↦ λ same. subst (λ (qs : List (List ℤ)). All (λ q. IsTrue (is_in_box (need_grid p n) q)) qs) (sym e) (λ k d less. absurd (omega (arith, less)))
+    ])),
+    (λ all. all_among (NeedIsInside p j) ns ms those.among all),
+  )
+
 -- ---- a piece of a layout
 
 pub joined : (settled named numbers all : List ℕ) → ((i : ℕ) → Contains settled i ↔ Contains (named ++ numbers) i) → ((i : ℕ) → Contains named i ↔ Contains all i) → (i : ℕ) → Contains settled i ↔ (Contains all i ⊎ Contains numbers i)
@@ -285,6 +318,9 @@ joined settled named numbers all h k i = (
   (λ m. elim (Contains-append_cases named numbers i ((h i).0 m)) [ inl a ↦ inl ((k i).0 a) | inr b ↦ inr b ]),
   (λ m. (h i).1 (elim m [ inl a ↦ Contains-append_left named numbers i ((k i).1 a) | inr b ↦ Contains-append_right named numbers i b ])),
 )
+
+pub have_lines : (p : Plan) (ns : List Need) (groups : ℕ) (xs : List GroupNeeds) → EachIsGathered p ns groups xs → HaveLinesOf p groups xs
+have_lines p ns groups xs h = record { count = h.count; each = λ g y at. (h.each g y at).lines }
 
 -- what was gathered of a piece's group
 module _ (x : Layout) (ready : IsLayout x) (ns : List Need) (piece : ℕ) (s : Seat) (less : piece < length x.seats.items) (is : s ≡ get_or x.seats.items piece s) where
@@ -308,26 +344,39 @@ module _ (x : Layout) (ready : IsLayout x) (ns : List Need) (piece : ℕ) (s : S
       pub needs_here : IsGathered P s.group (needs_in ns s.group) y
       needs_here = each.each s.group y (get_some xs s.group y needs_within ∙ ap (λ (z : GroupNeeds). Some z) (sym this))
 
-      pub inside_here : NeedsAreInside P J (map (λ (n : Bor Need). n.now) y.moving.items) ↔ NeedsPieces P C piece
-      inside_here =
-          let k = needs_here.inside J refl in
-          let all = inside_grouped P J ns in
-          let at = piece_is x ready piece s less is in
-          let Has : Option Piece → Type 0 = λ o. MatchOption o (Unit {0}) (λ j. NeedsAreInside P j ns) in (
-            (λ h. subst Has (sym at) (all.0 (k.0 h))),
-            (λ h. k.1 (all.1 (subst Has at h))),
-          )
+      -- and lines that are looked at for the piece in place of those of its group
+      module _ (ms : List Need) (stand : StandFor x.seats.items xs piece ms) where
+        those_here : AreThoseAt s.at.items ms (map (λ (n : Bor Need). n.now) y.moving.items)
+        those_here =
+            stand s y (get_some x.seats.items piece s less ∙ ap (λ (z : Seat). Some z) (sym is)) (get_some xs s.group y needs_within ∙ ap (λ (z : GroupNeeds). Some z) (sym this))
 
-      pub list_here : All (NeedIsShared P) ns → NeedsPieces P C piece → (now : List ℕ) → IsStrictlyIncreasing now →
-          ((i : ℕ) → Contains now i ↔ (Contains (all_numbers P J (map (λ (n : Bor Need). n.now) y.moving.items)) i ⊎ Contains y.numbers.items i)) → now ≡ needs_list P C piece
-      list_here shared pieces now rises members =
-          let at = piece_is x ready piece s less is in
-          let Has : Option Piece → Type 0 = λ o. MatchOption o (Unit {0}) (λ j. NeedsAreInside P j ns) in
-          let inside : NeedsAreInside P J ns = subst Has at pieces in
-          let all : (i : ℕ) → Contains now i ↔ IsNeeded P C J i = λ i.
-          let In : List ℕ → Type 0 = λ zs. Contains zs i in
-          let k = needs_here.named J refl i in
-          let known = needed_members P C J inside shared i in
-          let e = numbers_grouped P J ns in
-          ((λ m. known.0 (subst In e (k.0 ((members i).0 m)))), (λ m. (members i).1 (k.1 (subst In (sym e) (known.1 m))))) in
-          needs_one.only P C J now rises all ∙ ap (λ (o : Option Piece). of_piece o [] (needed_pieces P C)) (sym at)
+        pub lines_here : AreLinesOf P s.group ms
+        lines_here = all_among (λ (n : Need). (n.group ≡ s.group) × NeedIsShared P n) (map (λ (n : Bor Need). n.now) y.moving.items) ms those_here.among needs_here.lines
+
+        pub inside_here : NeedsAreInside P J ms ↔ NeedsPieces P C piece
+        inside_here =
+            let those = those_inside P J ms (map (λ (n : Bor Need). n.now) y.moving.items) those_here in
+            let k = needs_here.inside J refl in
+            let all = inside_grouped P J ns in
+            let at = piece_is x ready piece s less is in
+            let Has : Option Piece → Type 0 = λ o. MatchOption o (Unit {0}) (λ j. NeedsAreInside P j ns) in (
+              (λ h. subst Has (sym at) (all.0 (k.0 (those.0 h)))),
+              (λ h. those.1 (k.1 (all.1 (subst Has at h)))),
+            )
+
+        pub list_here : All (NeedIsShared P) ns → NeedsPieces P C piece → (now : List ℕ) → IsStrictlyIncreasing now →
+            ((i : ℕ) → Contains now i ↔ (Contains (all_numbers P J ms) i ⊎ Contains y.numbers.items i)) → now ≡ needs_list P C piece
+        list_here shared pieces now rises members =
+            let at = piece_is x ready piece s less is in
+            let Has : Option Piece → Type 0 = λ o. MatchOption o (Unit {0}) (λ j. NeedsAreInside P j ns) in
+            let inside : NeedsAreInside P J ns = subst Has at pieces in
+            let all : (i : ℕ) → Contains now i ↔ IsNeeded P C J i = λ i.
+            let In : List ℕ → Type 0 = λ zs. Contains zs i in
+            let those = those_numbers P J ms (map (λ (n : Bor Need). n.now) y.moving.items) those_here i in
+            let k = needs_here.named J refl i in
+            let known = needed_members P C J inside shared i in
+            let e = numbers_grouped P J ns in (
+              (λ m. known.0 (subst In e (k.0 (elim ((members i).0 m) [ inl a ↦ inl (those.0 a) | inr b ↦ inr b ])))),
+              (λ m. (members i).1 (elim (k.1 (subst In (sym e) (known.1 m))) [ inl a ↦ inl (those.1 a) | inr b ↦ inr b ])),
+            ) in
+            needs_one.only P C J now rises all ∙ ap (λ (o : Option Piece). of_piece o [] (needed_pieces P C)) (sym at)

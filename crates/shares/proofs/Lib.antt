@@ -1,4 +1,6 @@
 pub mod Values
+pub mod Cornered
+pub mod Blocking
 pub mod Summing
 pub mod Rows
 pub mod Shared

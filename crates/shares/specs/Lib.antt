@@ -2,6 +2,8 @@ pub mod Boxes
 pub mod Lets
 pub mod FetchLines
 pub mod Walked
+pub mod Corners
+pub mod Blocks
 pub mod Spaces
 pub mod Seats
 pub mod Shared

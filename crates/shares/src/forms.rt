@@ -25,7 +25,7 @@ fn coordinate(at: &[u64], symbol: Sym) -> Option<u64>
 }
 
 /// The value of one of the grid's symbols, 0 where the grid has not so many.
-fn grid_value(at: &[u64], symbol: Sym) -> i64
+pub(crate) fn grid_value(at: &[u64], symbol: Sym) -> i64
     requires { IsSmall at.now }
     ensures value { result ≡ grid_value at.now symbol }
     ensures small { IsWithin (2 ^ 20) result }

@@ -5,7 +5,9 @@
 #![tactic(auto)]
 
 mod answer;
+mod blocks;
 mod boxes;
+mod corners;
 mod counts;
 mod far;
 mod fetched;

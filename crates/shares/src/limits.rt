@@ -8,6 +8,7 @@ ghost use Rattle.shares.specs.Counts.{PassesNeeded, with_needs};
 ghost use Rattle.shares.specs.Has.{IsServed, needed_before};
 ghost use Rattle.shares.specs.Layout.{IsLayout};
 
+use crate::blocks::{new_walk, step_to};
 use crate::filed::filed_needs;
 use crate::gathered::gathered_needs;
 use crate::layout::Layout;
@@ -33,9 +34,19 @@ fn needs_fit(
     let lines = &layout.cert.needs[..count];
     let filed = filed_needs(alloc, layout.plan.groups.len(), lines)?;
     let gathered = gathered_needs(alloc, layout, lines, &filed)?;
+    let mut walk = new_walk(alloc);
     let mut room = MOST_NEEDED;
     for piece in 0..layout.seats.len() as u32 {
-        match needs_by(alloc, layout, lines, &gathered, piece, room) {
+        step_to(alloc, layout, &gathered, &mut walk, piece)?;
+        match needs_by(
+            alloc,
+            layout,
+            lines,
+            &gathered,
+            &walk.small.moving,
+            piece,
+            room,
+        ) {
             Ok(needs) => room -= needs.as_slice().len() as u64,
             Err(Stop::Large) => return Ok(Ok(false)),
             Err(Stop::Unserved) => return Ok(Err(piece)),

@@ -1,14 +1,16 @@
 //! The lists of all pieces.
 
-ghost use Rattle.std.specs.Prelude.{◌≡◌, ℕ, ◌<◌, ◌≤◌, ◌++◌, [], ◌∷◌, IfOk, IfErr, OnOk, length};
+ghost use Rattle.std.specs.Prelude.{◌≡◌, ℕ, ◌<◌, ◌≤◌, ◌++◌, [], ◌∷◌, IfOk, IfErr, OnOk, length, map};
 ghost use Rattle.plan.specs.View.{plan_of};
 ghost use Rattle.plan.specs.Certificate.Certificate.{certificate_of};
 ghost use Rattle.shares.specs.Layout.{IsLayout};
 ghost use Rattle.shares.specs.Has.{AreFew};
+ghost use Rattle.shares.specs.Blocks.{StandFor};
 ghost use Rattle.shares.specs.Gathered.{EachIsGathered};
 ghost use Rattle.shares.specs.Stops.{StopMeans};
 ghost use Rattle.shares.specs.Made.{IsMade, AreMade, TroubleMeans, trouble_of};
 
+use crate::blocks::{new_walk, step_to};
 use crate::fetched::fetched_of;
 use crate::gathered::{GroupNeeds, gathered_needs};
 use crate::layout::{Layout, own_of};
@@ -16,6 +18,7 @@ use crate::limits::MOST_NEEDED;
 use crate::needed::needs_of;
 use crate::stop::Stop;
 use orders::Piece;
+use plan::certificate::Need;
 use std::alloc::{AllocError, Global};
 
 /// The most cells that the pieces of a plan fetch.
@@ -48,12 +51,14 @@ fn lists_at(
     alloc: Global,
     layout: &Layout<'_>,
     gathered: &Vec<GroupNeeds<'_>>,
+    moving: &[&Need],
     piece: u32,
     cells: u64,
     pieces: u64,
 ) -> Result<Piece, Stop>
     requires layout { IsLayout layout.now }
     requires gathered { EachIsGathered (plan_of layout.now.plan.now) layout.now.cert.now.needs.items (length layout.now.plan.now.groups.items) gathered.now.items }
+    requires moving { StandFor layout.now.seats.items gathered.now.items piece (map (λ n. n.now) moving.now) }
     requires piece { piece < length layout.now.seats.items }
     ensures made { IfOk result (λ made. IsMade (plan_of layout.now.plan.now) (certificate_of layout.now.cert.now) piece made) }
     ensures cells { IfOk result (λ made. length made.fetched.items ≤ cells) }
@@ -65,7 +70,7 @@ fn lists_at(
         Ok(fetched) => fetched,
         Err(stop) => return Err(stop),
     };
-    let needs = match needs_of(alloc, layout, gathered, piece, pieces) {
+    let needs = match needs_of(alloc, layout, gathered, moving, piece, pieces) {
         Ok(needs) => needs,
         Err(stop) => return Err(stop),
     };
@@ -93,11 +98,14 @@ pub(crate) fn lists_of(alloc: Global, layout: &Layout<'_>) -> Result<Vec<Piece>,
     ensures made { IfOk result (λ made. AreMade (plan_of layout.now.plan.now) (certificate_of layout.now.cert.now) made.items) }
 {
     let gathered = gathered_needs(alloc, layout, &layout.cert.needs, &layout.needs)?;
+    let mut walk = new_walk(alloc);
     let mut lists = Vec::new(alloc);
     let mut cells = MOST_FETCHED;
     let mut pieces = MOST_NEEDED;
     for piece in 0..layout.seats.len() as u32 {
-        let made = match lists_at(alloc, layout, &gathered, piece, cells, pieces) {
+        step_to(alloc, layout, &gathered, &mut walk, piece)?;
+        let moving = &walk.small.moving;
+        let made = match lists_at(alloc, layout, &gathered, moving, piece, cells, pieces) {
             Ok(made) => made,
             Err(stop) => return Err(trouble_of(piece, stop)),
         };

@@ -13,6 +13,7 @@ ghost use Rattle.shares.specs.Needed.{NeedIsInside, NeedsAreInside, need_numbers
 ghost use Rattle.shares.specs.Counts.{with_lines};
 ghost use Rattle.shares.specs.Filed.{AreLinesOf};
 ghost use Rattle.shares.specs.Gathered.{EachIsGathered};
+ghost use Rattle.shares.specs.Blocks.{StandFor};
 ghost use Rattle.shares.specs.Has.{NeedsPieces};
 ghost use Rattle.shares.specs.Stops.{NeedStops};
 
@@ -99,22 +100,23 @@ fn named_by(
     Ok(needed)
 }
 
-/// The pieces that a piece needs by these need lines, which are gathered by their groups, rising and each once, where they
-/// name only pieces and there is room for them.
+/// The pieces that a piece needs by these need lines, which are gathered by their groups and of which `moving` are looked at for
+/// the piece, rising and each once, where they name only pieces and there is room for them.
 ///
-/// The time is about linear in the pieces needed, those of the group's lines that are looked at for each piece, and the points
-/// that these name.
+/// The time is about linear in the pieces needed, the lines that are looked at for the piece, and the points that these name.
 pub(crate) fn needs_by(
     alloc: Global,
     layout: &Layout<'_>,
     lines: &[Need],
     gathered: &Vec<GroupNeeds<'_>>,
+    moving: &[&Need],
     piece: u32,
     room: u64,
 ) -> Result<Vec<u32>, Stop>
     requires layout { IsLayout layout.now }
     requires lines { All (NeedIsShared (plan_of layout.now.plan.now)) lines.now }
     requires gathered { EachIsGathered (plan_of layout.now.plan.now) lines.now (length layout.now.plan.now.groups.items) gathered.now.items }
+    requires moving { StandFor layout.now.seats.items gathered.now.items piece (map (λ n. n.now) moving.now) }
     requires piece { piece < length layout.now.seats.items }
     ensures list { IfOk result (λ needed. needed.items ≡ needs_list (plan_of layout.now.plan.now) (with_lines (certificate_of layout.now.cert.now) lines.now) piece) }
     ensures known { IfOk result (λ _. NeedsPieces (plan_of layout.now.plan.now) (with_lines (certificate_of layout.now.cert.now) lines.now) piece) }
@@ -123,7 +125,7 @@ pub(crate) fn needs_by(
 {
     let seat = &layout.seats[piece as usize];
     let own_lines = &gathered[seat.group];
-    let mut needed = match named_by(alloc, layout, seat, &own_lines.moving) {
+    let mut needed = match named_by(alloc, layout, seat, moving) {
         Ok(needed) => needed,
         Err(stop) => return Err(stop),
     };
@@ -135,21 +137,32 @@ pub(crate) fn needs_by(
     Ok(needed)
 }
 
-/// The pieces that a piece needs, rising and each once, where its need lines name only pieces and there is room for them.
+/// The pieces that a piece needs, by the need lines that are looked at for it and what was gathered of its group, rising and each
+/// once, where its need lines name only pieces and there is room for them.
 pub(crate) fn needs_of(
     alloc: Global,
     layout: &Layout<'_>,
     gathered: &Vec<GroupNeeds<'_>>,
+    moving: &[&Need],
     piece: u32,
     room: u64,
 ) -> Result<Vec<u32>, Stop>
     requires layout { IsLayout layout.now }
     requires gathered { EachIsGathered (plan_of layout.now.plan.now) layout.now.cert.now.needs.items (length layout.now.plan.now.groups.items) gathered.now.items }
+    requires moving { StandFor layout.now.seats.items gathered.now.items piece (map (λ n. n.now) moving.now) }
     requires piece { piece < length layout.now.seats.items }
     ensures list { IfOk result (λ needed. needed.items ≡ needs_list (plan_of layout.now.plan.now) (certificate_of layout.now.cert.now) piece) }
     ensures known { IfOk result (λ _. NeedsPieces (plan_of layout.now.plan.now) (certificate_of layout.now.cert.now) piece) }
     ensures few { IfOk result (λ needed. length needed.items ≤ room) }
     ensures stop { IfErr result (NeedStops (plan_of layout.now.plan.now) (certificate_of layout.now.cert.now) piece room) }
 {
-    needs_by(alloc, layout, &layout.cert.needs, gathered, piece, room)
+    needs_by(
+        alloc,
+        layout,
+        &layout.cert.needs,
+        gathered,
+        moving,
+        piece,
+        room,
+    )
 }

@@ -10,11 +10,14 @@ ghost use Rattle.interpreter.specs.Scanlines.{along};
 ghost use Rattle.interpreter.specs.Buffers.Raster.{place_count, LiesAt};
 ghost use Rattle.interpreter.specs.Buffers.Blocks.{held_in, unused, IsSetAt};
 ghost use Rattle.interpreter.specs.Buffers.Spots.{with_place};
+ghost use Rattle.interpreter.specs.PlaceNumbers.{place_at};
+ghost use Rattle.interpreter.specs.Updates.{columns_at};
 
 use crate::buffers::limit::Limit;
-use crate::buffers::raster::{place_count, place_number};
+use crate::buffers::raster::{place_columns, place_count, place_number};
 use crate::buffers::room::Rooms;
 use crate::buffers::stretch::stretch_of;
+use crate::evaluation::Number;
 use crate::scanlines::{Scanline, distance, window};
 use smallvec::SmallVec;
 use std::alloc::{AllocError, Global};
@@ -161,6 +164,34 @@ impl Buffer {
         }
         let place = sum(stretch.start, skipped)?;
         Some(place)
+    }
+
+    /// Puts in the numbers of the places of points at so many turns; nothing where one has no place. Each of so many
+    /// coordinates has a register of so many numbers, one behind the other.
+    pub(crate) fn place_columns(
+        &self,
+        width: usize,
+        count: usize,
+        registers: &[Number],
+        places: &mut [usize],
+    ) -> Option<()>
+        requires { count ≤ length places.old }
+        ensures lies { IfSome result (λ _. (k : ℕ) → k < count → LiesAt self.now.rooms (columns_at count width registers.now k) (place_at places.new k)) }
+        ensures inside { IfSome result (λ _. (k : ℕ) → k < count → place_at places.new k < length self.now.places) }
+    {
+        if self.rooms.len() != width {
+            return None;
+        }
+        place_columns(&self.rooms, count, registers, places)
+    }
+
+    /// What the place of a number holds.
+    #[inline(always)]
+    pub(crate) fn held(&self, number: usize) -> Option<Value>
+        requires { number < length self.now.places }
+        ensures { (p : List ℤ) → LiesAt self.now.rooms p number → held_at (held_in self.now) (place self.now.rooms p) ≡ result }
+    {
+        self.places[number]
     }
 
     /// Sets the place that so many come behind another.

@@ -12,6 +12,8 @@ ghost use Rattle.interpreter.specs.Evaluation.Lanes.{number_at};
 ghost use Rattle.interpreter.specs.Buffers.Spots.{set_all, HasPlace, IsSpot};
 ghost use Rattle.interpreter.specs.declared.buffers.spot.Spot.{Spot as SpotHeld};
 ghost use Rattle.interpreter.specs.Buffers.Blocks.{limits_of, memory_of, HasMemoryFor};
+ghost use Rattle.interpreter.specs.PlaceNumbers.{place_at, StandsAt};
+ghost use Rattle.interpreter.specs.Updates.{columns_at};
 
 use crate::buffers::buffer::Buffer;
 use crate::buffers::limit::Limit;
@@ -177,6 +179,39 @@ impl Buffers {
             buffer: found,
             place,
         })
+    }
+
+    /// The position among all of the buffer of a number that is in use.
+    pub(crate) fn position_of(&self, buffer: u64) -> Option<usize>
+        ensures { result ≡ position (λ block. block.used && (buffer == block.number)) self.now }
+    {
+        used_position(&self.buffers, buffer)
+    }
+
+    /// Puts in the numbers of the places that points at so many turns have in the buffer at a position; nothing where one has no
+    /// place. Each of so many coordinates has a register of so many numbers, one behind the other.
+    pub(crate) fn place_columns(
+        &self,
+        found: usize,
+        width: usize,
+        count: usize,
+        registers: &[Number],
+        places: &mut [usize],
+    ) -> Option<()>
+        requires { count ≤ length places.old }
+        ensures { IfSome result (λ _. (b : ℕ) → position (λ block. block.used && (b == block.number)) self.now ≡ Some found → (k : ℕ) → k < count → StandsAt self.now b (columns_at count width registers.now k) found (place_at places.new k)) }
+    {
+        let buffer = self.buffers.get(found)?;
+        buffer.place_columns(width, count, registers, places)
+    }
+
+    /// What the place at a spot holds.
+    #[inline(always)]
+    pub(crate) fn held(&self, spot: Spot) -> Option<Value>
+        requires { HasPlace self.now spot.buffer spot.place }
+        ensures { (b : ℕ) (p : List ℤ) → IsSpot self.now b p spot 0 → read (memory_of self.now) b p ≡ result }
+    {
+        self.buffers[spot.buffer].held(spot.place)
     }
 
     /// Sets the place that so many come behind a spot.

@@ -1,11 +1,17 @@
 //! Where the places of a buffer stand in its vector.
 
-ghost use Rattle.std.specs.Prelude.{◌≡◌, ◌<◌, ◌^◌, SomeIff, MatchOption, map, None};
+ghost use Rattle.std.specs.Prelude.{◌≡◌, ◌<◌, ◌≤◌, ◌^◌, ℕ, length, IfSome, SomeIff, MatchOption, map, None};
 ghost use Rattle.plan.specs.Rooms.{place};
 ghost use Rattle.interpreter.specs.Buffers.Rooms.{room_of};
 ghost use Rattle.interpreter.specs.Buffers.Raster.{place_count, LiesAt};
+ghost use Rattle.interpreter.specs.Evaluation.Lanes.{number_at};
+ghost use Rattle.interpreter.specs.PlaceNumbers.{place_at, IsOneMore};
+ghost use Rattle.interpreter.specs.Updates.{columns_at};
 
 use crate::buffers::room::Room;
+use crate::columns::number_of;
+use crate::evaluation::Number;
+use crate::run_reading::registers_behind;
 
 /// How many places the rooms make, where that is a `usize`.
 pub(crate) fn place_count(rooms: &[Room]) -> Option<usize>
@@ -34,4 +40,55 @@ pub(crate) fn place_number(rooms: &[Room], at: &[i64]) -> Option<usize>
         }
         _ => None,
     }
+}
+
+/// The number of a place with one coordinate more, which is this number in the room, where the place of the later ones has a
+/// number.
+#[inline(always)]
+fn place_more(room: Room, number: i64, place: usize) -> Option<usize>
+    ensures { IfSome result (IsOneMore (room_of room) number place) }
+{
+    let seat = room.seat(number)?;
+    let before = place.checked_mul(room.count() as usize)?;
+    before.checked_add(seat)
+}
+
+/// The first so many places are the first one.
+fn begin_places(count: usize, places: &mut [usize])
+    requires { count ≤ length places.old }
+    ensures { (k : ℕ) → k < count → place_at places.new k ≡ 0 }
+{
+    for turn in 0..count {
+        places[turn] = 0;
+    }
+}
+
+/// Takes one coordinate more into the numbers of the first so many places. Its own numbers are a register's.
+fn place_column(room: Room, count: usize, numbers: &[Number], places: &mut [usize]) -> Option<()>
+    requires { count ≤ length places.old }
+    ensures { IfSome result (λ _. (k : ℕ) → k < count → IsOneMore (room_of room) (number_at numbers.now k) (place_at places.old k) (place_at places.new k)) }
+{
+    for turn in 0..count {
+        places[turn] = place_more(room, number_of(numbers, turn), places[turn])?;
+    }
+    Some(())
+}
+
+/// Puts in the numbers of the places of points at so many turns; nothing where one has no place. Each coordinate has a
+/// register of so many numbers, one behind the other.
+pub(crate) fn place_columns(
+    rooms: &[Room],
+    count: usize,
+    registers: &[Number],
+    places: &mut [usize],
+) -> Option<()>
+    requires { count ≤ length places.old }
+    ensures { IfSome result (λ _. (k : ℕ) → k < count → LiesAt (map room_of rooms.now) (columns_at count (length rooms.now) registers.now k) (place_at places.new k)) }
+{
+    let [room, later @ ..] = rooms else {
+        begin_places(count, places);
+        return Some(());
+    };
+    place_columns(later, count, registers_behind(registers, count), places)?;
+    place_column(*room, count, registers, places)
 }

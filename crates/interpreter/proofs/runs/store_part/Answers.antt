@@ -11,3 +11,10 @@ store_known_part-requires-clause-narrow c =
     let cs = c.args.line.now.coordinates.now in
     let P : Bindings → Type 0 = λ y. (k : ℕ) → k < part.count → All (CoordinateIsNarrow (bind (symbols_of y) part.turns.symbol (part.low +ℤ pos k) (int_le (part.low +ℤ pos k) part.turns.low))) cs in
     subst P (sym c.update_part.ensures.symbols) c.requires.narrow
+
+pub store_update-requires-clause-narrow : goal.store_update-requires-clause-narrow
+store_update-requires-clause-narrow c =
+    let part = c.args.part in
+    let cs = c.args.line.now.coordinates.now in
+    let P : Bindings → Type 0 = λ y. (k : ℕ) → k < part.count → All (CoordinateIsNarrow (bind (symbols_of y) part.turns.symbol (part.low +ℤ pos k) (int_le (part.low +ℤ pos k) part.turns.low))) cs in
+    subst P (sym c.update_part.ensures.symbols) c.requires.narrow

@@ -1,4 +1,4 @@
-use Rattle.std.proofs.Common.{◌≡◌, ◌<◌, ℕ, ℤ, List, Option, Some, length, map, pos, ◌+ℤ◌, sym, ap, ◌∙◌, rules, arith, w64, SFits}
+use Rattle.std.proofs.Common.{◌<◌, ℕ, ℤ, List, Option, Some, length, map, pos, ◌+ℤ◌, sym, ap, ◌∙◌, rules, arith, w64, SFits}
 use Rattle.std.specs.Prelude.{◌-ℤ◌, ◌*ℤ◌, string_bytes}
 use Rattle.std.proofs.lemmas.Int.{to_z-of_z}
 use Rattle.meaning.specs.Names.{bound}

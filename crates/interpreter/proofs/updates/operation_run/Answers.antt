@@ -1,4 +1,4 @@
-use Rattle.std.proofs.Common.{◌≡◌, ◌<◌, ◌*◌, ◌++◌, ℕ, List, drop, length, sym, ap, ◌∙◌, rules, arith}
+use Rattle.std.proofs.Common.{◌≡◌, ◌*◌, ◌++◌, ℕ, List, drop, length, sym, ap, ◌∙◌, rules, arith}
 use Rattle.std.proofs.Math.Seq.{drop-append_seam}
 use Rattle.tree.specs.declared.expr.Expr.{Expr}
 use Rattle.tree.specs.Term.{term_of, Binary}

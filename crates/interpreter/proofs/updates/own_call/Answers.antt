@@ -1,4 +1,4 @@
-use Rattle.std.proofs.Common.{◌≡◌, ℕ, ℤ, List, Option, sym, ap, ◌∙◌, rules, arith}
+use Rattle.std.proofs.Common.{◌≡◌, ℕ, List, Option, sym, ap, ◌∙◌}
 use Rattle.tree.specs.declared.expr.Expr.{Expr}
 use Rattle.tree.specs.declared.value.Value.{Value}
 use Rattle.tree.specs.Term.{term_of, list_terms, indices}

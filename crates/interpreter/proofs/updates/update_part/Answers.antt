@@ -1,19 +1,15 @@
-use Rattle.std.proofs.Common.{◌≡◌, ℕ, ◌<◌, ◌≤◌, length, ℤ, List, Some, pos, ◌+ℤ◌, map, sym, ap, ◌∙◌, subst, arith, rules, w64, SFits}
+use Rattle.std.proofs.Common.{◌≡◌, ℕ, ◌<◌, length, ℤ, List, pos, ◌+ℤ◌, map, sym, ap, ◌∙◌, subst, arith, rules, w64, SFits}
 use Rattle.std.specs.Prelude.{All, int_le, string_bytes}
 use Rattle.std.proofs.lemmas.Bool.{ltb-false}
 use Rattle.std.proofs.lemmas.Int.{ints, to_z-of_z}
 use Rattle.plan.specs.Symbols.{bind}
 use Rattle.plan.specs.Semantics.Memory.{Memory}
 use Rattle.plan.specs.Semantics.Run.{look}
-use Rattle.plan.specs.Semantics.Found.{found}
 use Rattle.tree.specs.declared.value.Value.{Value}
-use Rattle.tree.specs.Meaning.{typed}
 use Rattle.tree.specs.Term.{term_of}
 use Rattle.meaning.specs.Names.{bound}
-use Rattle.numeric.specs.declared.ty.Ty.{Ty}
 use Rattle.interpreter.specs.Bindings.{symbols_of, Bindings}
 use Rattle.interpreter.specs.Buffers.Blocks.{memory_of}
-use Rattle.interpreter.specs.Evaluation.Lanes.{number_at}
 use Rattle.interpreter.specs.Pieces.{around, no_cells}
 use Rattle.interpreter.specs.Rows.{Listed}
 use Rattle.interpreter.specs.Runs.{numbers_at, IsBut}

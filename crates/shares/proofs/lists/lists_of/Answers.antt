@@ -7,6 +7,9 @@ use Rattle.plan.specs.Certificate.Cells.{pieces}
 use Rattle.shares.specs.Filed.{AreFiled}
 use Rattle.shares.specs.Seats.{piece_of}
 use Rattle.shares.specs.Made.{IsMade, AreMade, TroubleMeans}
+use Rattle.shares.specs.Blocks.{StandFor}
+use Rattle.shares.proofs.Blocking.{walk_later}
+use Rattle.shares.proofs.Gathering.{have_lines}
 use Rattle.shares.proofs.Counting.{trouble_means, fetched_next, needed_next, are_few}
 use Rattle.shares.proofs.Filing.{row}
 use Rattle.shares.proofs.Groups.{push_each}
@@ -18,6 +21,25 @@ gathered_needs-requires-clause-filed c =
     let n = length x.plan.now.groups.items in
     subst (λ (ls : List (Vec (Bor Need) Global)). AreFiled c.deref.result.now n (map row ls)) (sym c.deref-2.ensures.value)
     (subst (λ (ns : List Need). AreFiled ns n (map row x.needs.items)) (sym c.deref.ensures.value) c.requires.needs)
+
+pub step_to-requires-clause-gathered : goal.step_to-requires-clause-gathered
+step_to-requires-clause-gathered c =
+    have_lines (plan_of c.args.layout.now.plan.now) c.deref.result.now (length c.args.layout.now.plan.now.groups.items) c.in_ok-gathered.gathered.items c.in_ok-gathered.ensures
+
+pub lists_at-requires-clause-moving : goal.lists_at-requires-clause-moving
+lists_at-requires-clause-moving c =
+    subst (λ (ls : List (Bor Need)). StandFor c.args.layout.now.seats.items c.in_ok-gathered.gathered.items c.loop-piece.piece (map (λ n. n.now) ls)) (sym c.deref-in-loop-piece.ensures.value) c.in_ok-step_to.ensures.moving
+
+pub loop-piece-init : goal.loop-piece-init
+loop-piece-init c =
+    let x = c.args.layout.now in
+    record {
+      count = ap length c.new-lists.ensures.items;
+      made = subst (AreMade (plan_of x.plan.now) (certificate_of x.cert.now)) (sym c.new-lists.ensures.items) (λ n made e. absurd (cc e));
+      cells = omega arith;
+      pieces = omega arith;
+      walk = c.new_walk-walk.ensures x.seats.items c.in_ok-gathered.gathered.items 0;
+    }
 
 pub loop-piece-preserved : goal.loop-piece-preserved
 loop-piece-preserved c =
@@ -40,6 +62,7 @@ loop-piece-preserved c =
       made = subst (AreMade p cert) (sym c.in_ok-push_lists.ensures) (push_each (IsMade p cert) old made c.loop-piece.invariant.made (subst (λ (n : ℕ). IsMade p cert n made) (sym c.loop-piece.invariant.count) c.in-Ok.ensures.made));
       cells = omega (arith, fetched, has, more, cells, room);
       pieces = omega (arith, needs, wants, further, counted, places);
+      walk = walk_later c.args.layout.now.seats.items c.in_ok-gathered.gathered.items n (n + 1) c.step_to.new.walk (omega arith) c.in_ok-step_to.ensures.walk;
     }
 
 pub returns-in-Err-clause-trouble : goal.returns-in-Err-clause-trouble

@@ -1,6 +1,7 @@
 use Rattle.std.proofs.Common.{◌≡◌, ◌+◌, ◌^◌, length}
 use Rattle.plan.specs.View.{plan_of}
 use Rattle.plan.specs.Certificate.Certificate.{certificate_of}
+use Rattle.shares.specs.Blocks.{IsWalkFrom}
 use Rattle.shares.specs.Has.{fetched_before, needed_before}
 use Rattle.shares.specs.Made.{AreMade}
 use Rattle.shares.proofs.lists.lists_of.Given as goal
@@ -11,4 +12,5 @@ invariant-loop-piece l = record {
   made : AreMade (plan_of l.layout.plan.now) (certificate_of l.layout.cert.now) l.lists.items;
   cells : l.cells + fetched_before (plan_of l.layout.plan.now) l.piece ≡ 2 ^ 26;
   pieces : l.pieces + needed_before (plan_of l.layout.plan.now) (certificate_of l.layout.cert.now) l.piece ≡ 2 ^ 24;
+  walk : IsWalkFrom l.layout.seats.items l.gathered.items l.piece l.walk;
 }

@@ -1,0 +1,291 @@
+//! The need lines that are looked at for pieces that stand one after another: those that may name a point at one of them.
+
+ghost use Rattle.std.specs.Prelude.{◌≡◌, ℕ, List, ◌≤◌, ◌<◌, ◌+◌, ◌++◌, ◌∷◌, ◌^◌, ◌↔◌, [], IsTrue, IfOk, OnOk, All, Some, length, map, slice_get, slice_index_or, take};
+ghost use Rattle.plan.specs.View.{plan_of};
+ghost use Rattle.plan.specs.declared.certificate.cert.Need.{Need as CertNeed};
+ghost use Rattle.shares.specs.declared.gathered.GroupNeeds.{GroupNeeds as Gathered};
+ghost use Rattle.shares.specs.declared.seats.Seat.{Seat as CodeSeat};
+ghost use Rattle.shares.specs.Boxes.{IsLimited, IsSmall};
+ghost use Rattle.shares.specs.Seats.{AreSmall};
+ghost use Rattle.shares.specs.Layout.{IsLayout};
+ghost use Rattle.shares.specs.Blocks.{AreHighs, AreLows, AreOf, AreThoseAt, AreThoseBetween, HaveLinesOf, IsBlockFrom, IsBlockOf, IsWalkFrom, LinesAreLimited, StandFor};
+
+use crate::corners::may_have_point;
+use crate::gathered::GroupNeeds;
+use crate::layout::Layout;
+use crate::seats::Seat;
+use plan::certificate::Need;
+use std::alloc::{AllocError, Global};
+
+/// The most pieces of a large block.
+const LARGE: usize = 1 << 14;
+
+/// The most pieces of a small block, of which a large one has 128.
+const SMALL: usize = 1 << 7;
+
+/// The need lines that are looked at for the pieces up to the one behind a block.
+#[derive(Drop)]
+pub struct Block<'a> {
+    pub end: usize,
+    pub moving: Vec<&'a Need>,
+}
+
+/// The blocks in which a piece stands: the need lines of a large one are looked at once for each small one of it.
+#[derive(Drop)]
+pub struct Walk<'a> {
+    pub large: Block<'a>,
+    pub small: Block<'a>,
+}
+
+/// A coordinate of a grid point, 0 where it has not so many.
+fn number_at(at: &[u64], place: usize) -> u64
+    ensures { result ≡ slice_index_or at.now place 0 }
+{
+    match at.get(place) {
+        Some(number) => *number,
+        None => 0,
+    }
+}
+
+/// The least of the coordinates of some pieces at a place, or a smaller number.
+fn least_at(seats: &[Seat], place: usize) -> u64
+    ensures least { All (λ x. result ≤ slice_index_or x.at.items place 0) seats.now }
+    ensures small { result ≤ 2 ^ 20 }
+{
+    let mut found: u64 = 1 << 20;
+    for seat in seats {
+        found = found.min(number_at(&seat.at, place));
+    }
+    found
+}
+
+/// The greatest of the coordinates of some pieces at a place.
+fn greatest_at(seats: &[Seat], place: usize) -> u64
+    requires { AreSmall seats.now }
+    ensures greatest { All (λ x. slice_index_or x.at.items place 0 ≤ result) seats.now }
+    ensures small { result ≤ 2 ^ 20 }
+{
+    let mut found: u64 = 0;
+    for seat in seats {
+        found = found.max(number_at(&seat.at, place));
+    }
+    found
+}
+
+/// The least coordinates of some pieces, so many.
+fn lows(alloc: Global, seats: &[Seat], count: usize) -> Result<Vec<u64>, AllocError>
+    ensures lows { IfOk result (λ low. AreLows seats.now low.items) }
+    ensures small { IfOk result (λ low. IsSmall low.items) }
+{
+    let mut low = Vec::new(alloc);
+    for place in 0..count {
+        low.push(least_at(seats, place))?;
+    }
+    Ok(low)
+}
+
+/// The greatest coordinates of some pieces, so many.
+fn highs(alloc: Global, seats: &[Seat], count: usize) -> Result<Vec<u64>, AllocError>
+    requires { AreSmall seats.now }
+    ensures highs { IfOk result (λ high. AreHighs seats.now high.items) }
+    ensures small { IfOk result (λ high. IsSmall high.items) }
+    ensures long { IfOk result (λ high. length high.items ≡ count) }
+{
+    let mut high = Vec::new(alloc);
+    for place in 0..count {
+        high.push(greatest_at(seats, place))?;
+    }
+    Ok(high)
+}
+
+/// Whether a piece is a group's and has at most so many coordinates.
+fn is_of(seat: &Seat, group: usize, count: usize) -> bool
+    ensures { IsTrue result ↔ ((seat.now.group ≡ group) × (length seat.now.at.items ≤ count)) }
+{
+    seat.group == group && seat.at.len() <= count
+}
+
+/// How many of these pieces, from the first on, are a group's and have at most so many coordinates.
+fn shared_front(seats: &[Seat], group: usize, count: usize) -> usize
+    ensures within { result ≤ length seats.now }
+    ensures all { AreOf group count (take result seats.now) }
+    ensures some { (s : CodeSeat) → slice_get seats.now 0 ≡ Some s → s.group ≡ group → length s.at.items ≤ count → 1 ≤ result }
+{
+    for (place, seat) in seats.iter().enumerate() {
+        if !is_of(seat, group, count) {
+            return place;
+        }
+    }
+    seats.len()
+}
+
+/// Adds a need line to those kept, if it may name a point at a grid point between two.
+fn keep_between<'a>(
+    kept: &mut Vec<&'a Need>,
+    need: &'a Need,
+    low: &[u64],
+    high: &[u64],
+) -> Result<(), AllocError>
+    requires limits { IsLimited need.now.region }
+    requires low { IsSmall low.now }
+    requires high { IsSmall high.now }
+    ensures { OnOk result ((ns : List CertNeed) → AreThoseBetween low.now high.now (map (λ n. n.now) kept.old.items) ns → AreThoseBetween low.now high.now (map (λ n. n.now) kept.new.items) (ns ++ need.now ∷ [])) }
+{
+    if may_have_point(need.region.as_slice(), low, high) {
+        kept.push(need)?;
+    }
+    Ok(())
+}
+
+/// Those of some need lines that may name a point at a grid point between two.
+fn lines_between<'a>(
+    alloc: Global,
+    lines: &[&'a Need],
+    low: &[u64],
+    high: &[u64],
+) -> Result<Vec<&'a Need>, AllocError>
+    requires limits { LinesAreLimited (map (λ n. n.now) lines.now) }
+    requires low { IsSmall low.now }
+    requires high { IsSmall high.now }
+    ensures { IfOk result (λ kept. AreThoseBetween low.now high.now (map (λ n. n.now) kept.items) (map (λ n. n.now) lines.now)) }
+{
+    let mut kept = Vec::new(alloc);
+    for need in lines {
+        keep_between(&mut kept, need, low, high)?;
+    }
+    Ok(kept)
+}
+
+/// Those of some need lines that may name a point at the grid point of one of these pieces, which have at most so many
+/// coordinates.
+fn lines_of<'a>(
+    alloc: Global,
+    seats: &[Seat],
+    lines: &[&'a Need],
+    count: usize,
+) -> Result<Vec<&'a Need>, AllocError>
+    requires small { AreSmall seats.now }
+    requires long { All (λ x. length x.at.items ≤ count) seats.now }
+    requires limits { LinesAreLimited (map (λ n. n.now) lines.now) }
+    ensures { IfOk result (λ kept. All (λ x. AreThoseAt x.at.items (map (λ n. n.now) kept.items) (map (λ n. n.now) lines.now)) seats.now) }
+{
+    let low = lows(alloc, seats, count)?;
+    let high = highs(alloc, seats, count)?;
+    let kept = lines_between(alloc, lines, &low, &high)?;
+    Ok(kept)
+}
+
+/// The block of a piece and those behind it, at most so many, that are of its group, with those of some need lines that may
+/// name a point at one of them.
+fn block_of<'a>(
+    alloc: Global,
+    seats: &[Seat],
+    lines: &[&'a Need],
+    first: usize,
+    most: usize,
+) -> Result<Block<'a>, AllocError>
+    requires small { AreSmall seats.now }
+    requires first { first < length seats.now }
+    requires most { 1 ≤ most }
+    requires limits { LinesAreLimited (map (λ n. n.now) lines.now) }
+    ensures block { IfOk result (λ b. IsBlockOf seats.now first (map (λ n. n.now) lines.now) b) }
+    ensures some { IfOk result (λ b. first < b.end) }
+    ensures most { IfOk result (λ b. b.end ≤ first + most) }
+{
+    let group = seats[first].group;
+    let count = seats[first].at.len();
+    let window = &seats[first..first + most.min(seats.len() - first)];
+    let long = shared_front(window, group, count);
+    let moving = lines_of(alloc, &window[..long], lines, count)?;
+    Ok(Block {
+        end: first + long,
+        moving,
+    })
+}
+
+/// Takes a large block that begins with a piece, if the piece stands behind the one before.
+fn renew_large<'a>(
+    alloc: Global,
+    seats: &[Seat],
+    gathered: &Vec<GroupNeeds<'a>>,
+    block: &mut Block<'a>,
+    piece: usize,
+) -> Result<(), AllocError>
+    requires small { AreSmall seats.now }
+    requires piece { piece < length seats.now }
+    requires group { (s : CodeSeat) → slice_get seats.now piece ≡ Some s → s.group < length gathered.now.items }
+    requires limits { (g : ℕ) (y : Gathered) → slice_get gathered.now.items g ≡ Some y → LinesAreLimited (map (λ n. n.now) y.moving.items) }
+    requires block { IsBlockFrom seats.now gathered.now.items piece block.old }
+    ensures block { OnOk result (IsBlockFrom seats.now gathered.now.items piece block.new) }
+    ensures some { OnOk result (piece < block.new.end) }
+{
+    if piece < block.end {
+        return Ok(());
+    }
+    let group = seats[piece].group;
+    *block = block_of(alloc, seats, &gathered[group].moving, piece, LARGE)?;
+    Ok(())
+}
+
+/// Takes a small block of a large one that begins with a piece, if the piece stands behind the one before.
+fn renew_small<'a>(
+    alloc: Global,
+    seats: &[Seat],
+    large: &Block<'a>,
+    block: &mut Block<'a>,
+    piece: usize,
+) -> Result<(), AllocError>
+    requires small { AreSmall seats.now }
+    requires piece { piece < length seats.now }
+    requires large { piece < large.now.end }
+    requires limits { LinesAreLimited (map (λ n. n.now) large.now.moving.items) }
+    ensures block { OnOk result ((gathered : List Gathered) → IsBlockFrom seats.now gathered piece large.now → IsBlockFrom seats.now gathered piece block.old → IsBlockFrom seats.now gathered piece block.new) }
+    ensures some { OnOk result (piece < block.new.end) }
+{
+    if piece < block.end {
+        return Ok(());
+    }
+    let most = SMALL.min(large.end - piece);
+    *block = block_of(alloc, seats, &large.moving, piece, most)?;
+    Ok(())
+}
+
+/// A walk that has not begun.
+pub(crate) fn new_walk<'a>(alloc: Global) -> Walk<'a>
+    ensures { (seats : List CodeSeat) (gathered : List Gathered) (first : ℕ) → IsWalkFrom seats gathered first result }
+{
+    Walk {
+        large: Block {
+            end: 0,
+            moving: Vec::new(alloc),
+        },
+        small: Block {
+            end: 0,
+            moving: Vec::new(alloc),
+        },
+    }
+}
+
+/// Goes to a piece, of those that are behind the ones before.
+///
+/// The time of a walk over all pieces is about that of the need lines of each group for each of its large blocks, and of those
+/// that may name a point in a block for each small block of it.
+pub(crate) fn step_to<'a>(
+    alloc: Global,
+    layout: &Layout<'_>,
+    gathered: &Vec<GroupNeeds<'a>>,
+    walk: &mut Walk<'a>,
+    piece: u32,
+) -> Result<(), AllocError>
+    requires layout { IsLayout layout.now }
+    requires piece { piece < length layout.now.seats.items }
+    requires gathered { HaveLinesOf (plan_of layout.now.plan.now) (length layout.now.plan.now.groups.items) gathered.now.items }
+    requires walk { IsWalkFrom layout.now.seats.items gathered.now.items piece walk.old }
+    ensures walk { OnOk result (IsWalkFrom layout.now.seats.items gathered.now.items piece walk.new) }
+    ensures moving { OnOk result (StandFor layout.now.seats.items gathered.now.items piece (map (λ n. n.now) walk.new.small.moving.items)) }
+{
+    let seats = layout.seats.as_slice();
+    renew_large(alloc, seats, gathered, &mut walk.large, piece as usize)?;
+    renew_small(alloc, seats, &walk.large, &mut walk.small, piece as usize)?;
+    Ok(())
+}
