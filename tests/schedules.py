@@ -14,7 +14,10 @@ not stored. Any other rule that is told is a failure, and so is a plan of a sche
 
 With `--placing` functions are computed inside the loops of others too: wherever all that reads them is inside, stored at that
 loop or at one outside of it, folded or not. Such a schedule may also be refused by L6 (a definition that lacks the loop), L9
-(a fold) and L12 (`roundup` inside a loop), where its text gives cause; what the checker refuses is a failure, but for K14.
+(a fold) and L12 (`roundup` inside a loop), where its text gives cause. What the checker refuses is a failure, but for K14,
+and where a function that is computed inside a loop is split by `roundup`: K6 and K8 of one that is folded, since what is
+computed past the end takes the places of what is still read, and K5 of one with updates, since the end of its blocks is no
+form where turns need more of them or fewer.
 """
 
 import argparse
@@ -303,6 +306,16 @@ def has_cause(text, made, code, function):
     return code == "L10" and has_updates(text, function) and not is_stored(text, made, function)
 
 
+def runs_past(text, made, code):
+    """Whether the text gives cause for the checker to refuse a function that is computed past the end."""
+    for one in functions(text):
+        said = directives_of(made, one.name)
+        if "compute_at(" in said and "roundup" in said:
+            if (code in ("K6", "K8") and "fold(" in said) or (code == "K5" and has_updates(text, one.name)):
+                return True
+    return False
+
+
 def breaks_rule(text, made):
     """Whether a schedule surely breaks L8 or L10."""
     return any(
@@ -341,7 +354,8 @@ def outcome(program, workers, text, image, picture, made, kind):
             code, place = (told.stderr.decode().split() + ["", "", ""])[1:3]
             is_right = not Path(folder, "a.plan").exists() and (
                 (told.returncode == 3 and has_cause(text, made, code, place))
-                or (told.returncode == 1 and code[:1] == "K" and (kind == "split again" or code == "K14")))
+                or (told.returncode == 1 and code[:1] == "K"
+                    and (kind == "split again" or code == "K14" or runs_past(text, made, code))))
             return code, is_right
         if breaks_rule(text, made):
             return "compiled, against a rule", False

@@ -202,7 +202,7 @@ module _ (a : Algorithm) (p : Plan) (c : Certificate) where
   first_told_is named owed None unowned M N h k l = with_told named owed M h k
   first_told_is named owed (Some o) unowned M N h k l =
       let kept = but_symbols owed in
-      either_way (number_of (with_owed named kept).code == 5 && unowned) o (with_owed named kept) l (with_told named kept (Unit {0}) h (but_told owed M k))
+      either_way (number_of (with_owed named kept).code == 5 && unowned) named (with_owed named kept) h (with_told named kept (Unit {0}) h (but_told owed M k))
 
   pub one_told : (named r : Flaw) (owed listed : Option Flaw) (unowned : Bool) (M N : Type 0) → r ≡ told_first named owed listed unowned
       → IsFlaw a p c named → MatchOption owed M (IsFlaw a p c) → MatchOption listed N (IsFlaw a p c) → IsFlaw a p c r

@@ -77,7 +77,7 @@ EndsUnowned p c line = (n : ℕ) × (n < length p.groups) × IsUnownedEnd p c li
 
 -- the one of them that is told, where that of the certificate is known: a symbol that stands elsewhere is told as the claim that
 -- names it, and where a K5 would be the first and stands at the last line of a group without an own region, as the test says, it
--- is that of the certificate
+-- is the flaw by names and limits
 abbrev pub told_first : FlawHeld → Option FlawHeld → Option FlawHeld → Bool → FlawHeld
 told_first f owed None unowned = with_owed f owed
-told_first f owed (Some h) unowned = if number_of (with_owed f (but_symbols owed)).code == 5 && unowned then h else with_owed f (but_symbols owed)
+told_first f owed (Some h) unowned = if number_of (with_owed f (but_symbols owed)).code == 5 && unowned then f else with_owed f (but_symbols owed)

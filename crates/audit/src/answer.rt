@@ -133,16 +133,16 @@ fn ends_unowned(plan: &Plan, cert: &Cert, line: u32) -> bool
 
 /// The one that is told of a flaw by names and limits and of one by bounds, where that of the certificate is known. A symbol
 /// that stands elsewhere is told as the flaw of the claim that names it. Where the first is a K5 at the last line of a group
-/// without an own region, as the test says, the flaw of the certificate is told: what such a `publish` owes is not shown.
+/// without an own region, as the test says, the flaw by names and limits is told: what such a `publish` owes is not shown.
 fn told_first(named: Flaw, owed: Option<Flaw>, listed: Option<Flaw>, unowned: bool) -> Flaw
     ensures { result ≡ told_first named owed listed unowned }
 {
     match listed {
         None => with_owed(named, owed),
-        Some(other) => {
+        Some(_) => {
             let first = with_owed(named, but_symbols(owed));
             if first.code.number() == 5 && unowned {
-                other
+                named
             } else {
                 first
             }

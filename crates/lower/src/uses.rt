@@ -45,6 +45,9 @@ fn is_inside(stored: &[Stored<'_>], first: &Home, outer: &Home) -> bool {
         if home.function.as_str() == outer.function.as_str() {
             return is_within(&host.placed.loops, &home.turn, &outer.turn);
         }
+        if host.subject.is_root {
+            return false;
+        }
         match host.placed.homes.first() {
             Some(next) => home = *next,
             None => return false,
@@ -64,7 +67,7 @@ fn calls_inside(
 ) -> Result<bool, AllocError> {
     if user.subject.name.as_str() != home.function.as_str() {
         let is_placed = match user.placed.homes.first() {
-            Some(own) => is_inside(stored, own, home),
+            Some(own) => !user.subject.is_root && is_inside(stored, own, home),
             None => false,
         };
         return Ok(is_placed || !formulas_call(alloc, formulas, name)?);

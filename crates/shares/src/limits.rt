@@ -59,7 +59,8 @@ fn needs_fit(
 /// The place of the need line with which more than 2^24 pieces are needed in all, where they are; or a piece that needs a grid
 /// point that is no piece.
 ///
-/// It halves the lines: the time is that of the lists of all pieces for each half.
+/// It doubles the lines until they are too many, and halves what lies between then: the time is that of the lists of all pieces
+/// for each number of lines that is tried, at most twice as many as it has digits in base 2.
 pub(crate) fn need_past(
     alloc: Global,
     layout: &Layout<'_>,
@@ -72,7 +73,7 @@ pub(crate) fn need_past(
     let mut low: usize = 0;
     let mut high = layout.cert.needs.len();
     while low + 1 < high {
-        let middle = low + (high - low) / 2;
+        let middle = low + (low + 1).min((high - low) / 2);
         match needs_fit(alloc, layout, middle)? {
             Ok(true) => low = middle,
             Ok(false) => high = middle,
