@@ -16,9 +16,12 @@ is no `gcc`, or the program can't be run with such a library, nothing is tried, 
 
 import argparse
 import errno
+import gc
+import multiprocessing
 import os
 import random
 import resource
+import shutil
 import subprocess
 import sys
 import tempfile
@@ -137,18 +140,32 @@ def cases():
 
 
 def run(program, case, settings=None, before=None, room=None):
-    """Runs a case with the library's settings, in a folder of its own or in one where it ran before."""
-    with tempfile.TemporaryDirectory() as own:
-        place = Path(room or own)
-        if room is None:
-            lay(case, place)
-        environment = {"PATH": "/usr/bin:/bin", **(settings or {})}
-        try:
-            done = subprocess.run([program, *case.words], cwd=place, env=environment, input=case.given, capture_output=True,
-                                  timeout=300, check=False, preexec_fn=before)
-            return Given(done.returncode, done.stdout, done.stderr, standing(place))
-        except subprocess.TimeoutExpired as late:
-            return Given(None, late.stdout or b"", late.stderr or b"", standing(place))
+    """Runs a case with the library's settings, in a folder where nothing but its files lies or in one where it ran before."""
+    place = Path(room or laid(case))
+    environment = {"PATH": "/usr/bin:/bin", **(settings or {})}
+    try:
+        done = subprocess.run([program, *case.words], cwd=place, env=environment, input=case.given, capture_output=True,
+                              timeout=300, check=False, preexec_fn=before)
+        given = Given(done.returncode, done.stdout, done.stderr, standing(place))
+    except subprocess.TimeoutExpired as late:
+        given = Given(None, late.stdout or b"", late.stderr or b"", standing(place))
+    if room is None:
+        ROOM["files"] = given.files
+    return given
+
+
+# This process's folder for runs, and what lies in it.
+ROOM = {}
+
+
+def laid(case):
+    """This process's folder with the files of a case: laid anew where something else lies there, as after a run that wrote."""
+    if ROOM.get("files") != case.files:
+        if ROOM:
+            shutil.rmtree(ROOM["folder"])
+        ROOM["folder"] = tempfile.mkdtemp()
+        lay(case, Path(ROOM["folder"]))
+    return ROOM["folder"]
 
 
 def lay(case, room):
@@ -381,6 +398,32 @@ def outcome(program, library, case, fault):
     return way, got
 
 
+def judged(program, library, case, fault):
+    """In which way a fault came out; its run besides, where that is wrong."""
+    way, got = outcome(program, library, case, fault)
+    return way, got if way.startswith("WRONG") else None
+
+
+# What a process that was forked does, and the items to which it does it.
+WORK = {}
+
+
+def of_item(number):
+    """What comes of the item of this number."""
+    return WORK["work"](WORK["items"][number])
+
+
+def spread(work, items, together):
+    """What comes of each item, in their order, by as many processes as there are processors, each taking so many at once.
+
+    Threads would wait for one another, since what is done here beside a run takes Python longer than the run."""
+    WORK.update(work=work, items=items)
+    gc.freeze()
+    # (what stands here is shared with the processes, and their collectors leave it alone)
+    with multiprocessing.get_context("fork").Pool(os.cpu_count()) as pool:
+        yield from pool.imap(of_item, range(len(items)), together)
+
+
 def told(fault, case, came, got):
     """Tells of a fault that came out wrong."""
     print(f"FAILED {case.name}: {fault.name}: {came}")
@@ -400,18 +443,19 @@ def main():
     words.add_argument("--only", default="", help="cases whose names have this text")
     given = words.parse_intermixed_args()
     program, chance = str(Path(given.program).resolve()), random.Random(given.seed)
-    with tempfile.TemporaryDirectory() as folder, ThreadPoolExecutor(os.cpu_count()) as pool:
+    with tempfile.TemporaryDirectory() as folder:
+        tempfile.tempdir = folder
         library = library_in(folder)
         if library is None:
             print("not tried: no gcc that makes the library")
             return 0
-        ready = list(pool.map(lambda case: with_counts(program, library, case), [one for one in cases() if given.only in one.name]))
+        ready = list(spread(lambda case: with_counts(program, library, case), [one for one in cases() if given.only in one.name], 1))
         if None in ready:
             print("not tried: the program does not run with the library")
             return 0
         chosen = [(case, fault) for case in ready for fault in faults(case, given.kinds or USUAL) if given.all or fault.always or chance.randrange(PART[fault.kind]) == 0]
         came, failed = {}, 0
-        for (case, fault), (way, got) in zip(chosen, pool.map(lambda one: outcome(program, library, *one), chosen)):
+        for (case, fault), (way, got) in zip(chosen, spread(lambda one: judged(program, library, *one), chosen, 32)):
             came.setdefault(fault.kind, Counter())[way.split(":")[0]] += 1
             if way.startswith("WRONG"):
                 failed += 1
