@@ -443,7 +443,9 @@ def main():
     words.add_argument("--only", default="", help="cases whose names have this text")
     given = words.parse_intermixed_args()
     program, chance = str(Path(given.program).resolve()), random.Random(given.seed)
-    with tempfile.TemporaryDirectory() as folder:
+    # (a folder in memory, where the machine has one: some faults write and sync a dozen files)
+    memory = "/dev/shm" if os.access("/dev/shm", os.W_OK) else None
+    with tempfile.TemporaryDirectory(dir=memory) as folder:
         tempfile.tempdir = folder
         library = library_in(folder)
         if library is None:

@@ -151,8 +151,9 @@ fn line_flaw(
 /// Of all that is wrong at fetch lines the first line is told, and of it and what is wrong at own lines the first, at one line the
 /// lowest code.
 ///
-/// The time is about linear in the pieces, the cells, the fetch lines for each piece, the fetched cells, the need lines, and the
-/// points that the need lines of each piece's group name for it.
+/// The time is about linear in the pieces, the cells, the fetch lines for each piece, the fetched cells, the need lines for each
+/// block of 2^14 pieces of their group, those of them that may name a point in such a block for each block of 2^7 pieces in it,
+/// those that may in the small block for each of its pieces, and the points named.
 pub fn shares_of(alloc: Global, plan: &Plan, cert: &Cert) -> Result<Shares, SharesError>
     requires { AreShared (plan_of plan.now) (certificate_of cert.now) }
     ensures lists { (a : Algorithm) (samples : List ℕ) → IfOk result (λ made. AreListsOf (work_of a (plan_of plan.now) (certificate_of cert.now) samples) made.pieces.items) }
