@@ -11,7 +11,7 @@ use Rattle.sched.specs.declared.placing.Loop.{Loop}
 use Rattle.sched.specs.declared.numbers.Extent.{Extent}
 use Rattle.sched.specs.declared.numbers.Numbers.{Numbers}
 use Rattle.sched.specs.Placing.{has_loop, cut_loop}
-use Rattle.sched.specs.Numbers.{numbers_named, last_number, blocks, halves, loop_numbers, whole_numbers}
+use Rattle.sched.specs.Numbers.{numbers_found, numbers_named, last_number, blocks, halves, loop_numbers, whole_numbers}
 use Rattle.sched.proofs.Leading.{In, in_left, in_right}
 use Rattle.sched.proofs.Standings.{first_number}
 use Rattle.sched.proofs.Passing.{IsCut}
@@ -19,7 +19,7 @@ use Rattle.sched.proofs.Closing.{IsApart}
 use Rattle.sched.proofs.Looping.{all_last}
 use Rattle.sched.proofs.Rooting.{all_both, all_two, all_at, among_left, among_right, among_first, among_second, IsAlong, AreApart, HaveDimensions, IsHeld, AreHeld}
 use Rattle.sched.proofs.Visiting.{IsLoopOf}
-use Rattle.sched.proofs.Numbering.{apart_names, with_two, with_first, with_second, with_other, Found, found_more, found_later, named_more, named_later, none_found, cut_last, outer_found, inner_found, half_outer, half_inner, IsInBlock, in_block}
+use Rattle.sched.proofs.Numbering.{apart_names, with_two, with_first, with_second, with_other, Found, found_more, found_later, named_more, named_later, none_found, cut_last, outer_found, inner_found, half_none, half_outer, half_inner, IsInBlock, in_block}
 
 -- ---- numbers that fit loops and splits
 
@@ -37,6 +37,8 @@ pub record SplitFits (rs : List Numbers) (w b : List ℕ → ℤ) (dim : List �
   pub outer : is_among used c.outer ≡ true
   pub inner : is_among used c.inner ≡ true
   pub found : Found rs c.whole
+  pub outer_numbers : numbers_found rs c.outer ≡ Some (record { name = c.outer; low = pos 0; count = blocks (numbers_named rs c.whole).count c.factor })
+  pub inner_numbers : numbers_found rs c.inner ≡ Some (record { name = c.inner; low = pos 0; count = c.factor })
 
 -- no loop has the name of a loop that was split
 abbrev pub IsGone : List Loop → Split → Type 0
@@ -59,6 +61,7 @@ pub record IsArranged (xs first : List (List ℕ)) (region : List Extent) (given
   pub used_first : (y : List ℕ) → is_among first y ≡ true → is_among used y ≡ true
   pub used_numbers : AllByRecursion (λ r. is_among used r.name ≡ true) rs
   pub used_variables : AllByRecursion (λ x. is_among first x ≡ true) xs
+  pub others : (y : List ℕ) → is_among first y ≡ true → is_among xs y ≡ false → numbers_found rs y ≡ None
 
 -- ---- one split more
 
@@ -69,12 +72,14 @@ abbrev pub outer_of : Split → Loop → Loop
 outer_of s l = record { name = s.outer; dimension = l.dimension; within = None; mark = None }
 
 -- what holds of all loops behind a split
-all_cut : (s : Split) (P Q : Loop → Type 0) → ((l : Loop) → Q l → l.name ≡ s.whole → P (inner_of s l) × P (outer_of s l)) → ((l : Loop) → Q l → (l.name ≡ s.whole → ⊥) → P l) → (ls : List Loop) → AllByRecursion Q ls →
+all_cut : (s : Split) (P Q : Loop → Type 0) → ((l : Loop) → Q l → l.name ≡ s.whole → P (inner_of s l) × P (outer_of s l)) → ((l : Loop) → Q l → (l.name ≡ s.whole → ⊥) → P l) → (ls : List Loop) →
+    AllByRecursion Q ls →
     AllByRecursion P (flat_map (cut_loop s) ls)
 all_cut s P Q split keep [] a = tt
 all_cut s P Q split keep (l ∷ ls) a = of (same_name l.name s.whole) refl (all_cut s P Q split keep ls a.1)
   where
-    of : (v : Bool) → same_name l.name s.whole ≡ v → AllByRecursion P (flat_map (cut_loop s) ls) → AllByRecursion P ((if v then inner_of s l ∷ outer_of s l ∷ [] else l ∷ []) ++ flat_map (cut_loop s) ls)
+    of : (v : Bool) → same_name l.name s.whole ≡ v → AllByRecursion P (flat_map (cut_loop s) ls) →
+        AllByRecursion P ((if v then inner_of s l ∷ outer_of s l ∷ [] else l ∷ []) ++ flat_map (cut_loop s) ls)
     of true e rest = let k = split l a.0 (same_name_is l.name s.whole e) in (k.0, (k.1, rest))
     of false e rest = (keep l a.0 (λ same. let taken = name_same l.name s.whole same in let clash : true ≡ false = sym taken ∙ e in cc clash), rest)
 
@@ -113,7 +118,8 @@ held_on s ls cs x (inl h) = of (same_name h.0.name s.whole) refl
     of true e = inr (s, in_right s cs (s ∷ []) (inl refl), sym (same_name_is h.0.name s.whole e) ∙ h.2)
     of false e = inl (h.0, in_cut_kept s h.0 ls h.1 e, h.2)
 
-all_held_on : (s : Split) (ls : List Loop) (cs : List Split) → IsHeld (flat_map (cut_loop s) ls) [] s.outer → IsHeld (flat_map (cut_loop s) ls) [] s.inner → AreHeld ls cs → AreHeld (flat_map (cut_loop s) ls) (cs ++ s ∷ [])
+all_held_on : (s : Split) (ls : List Loop) (cs : List Split) → IsHeld (flat_map (cut_loop s) ls) [] s.outer → IsHeld (flat_map (cut_loop s) ls) [] s.inner → AreHeld ls cs →
+    AreHeld (flat_map (cut_loop s) ls) (cs ++ s ∷ [])
 all_held_on s ls [] outside inside h = (outside, inside, tt)
 all_held_on s ls (c ∷ cs) outside inside h = (held_on s ls cs c.outer h.0, held_on s ls cs c.inner h.1, all_held_on s ls cs outside inside h.2)
 
@@ -197,7 +203,8 @@ module _
   numbers_outer = named_later h.rs (halves s (numbers_named h.rs s.whole).count) s.outer (none_found used s.outer new_outer h.rs h.used_numbers) ∙ half_outer s (numbers_named h.rs s.whole).count
 
   numbers_inner : numbers_named rs' s.inner ≡ record { name = s.inner; low = pos 0; count = s.factor }
-  numbers_inner = named_later h.rs (halves s (numbers_named h.rs s.whole).count) s.inner (none_found used s.inner new_inner h.rs h.used_numbers) ∙ half_inner s (numbers_named h.rs s.whole).count differ
+  numbers_inner = named_later h.rs (halves s (numbers_named h.rs s.whole).count) s.inner (none_found used s.inner new_inner h.rs h.used_numbers)
+      ∙ half_inner s (numbers_named h.rs s.whole).count differ
 
   used_on : (x : List ℕ) → is_among used x ≡ true → is_among used' x ≡ true
   used_on x taken = among_left used (s.outer ∷ s.inner ∷ []) x taken
@@ -293,9 +300,14 @@ module _
         outer = used_on c.outer k.outer;
         inner = used_on c.inner k.inner;
         found = found_on c.whole k.found;
+        outer_numbers = found_more h.rs (halves s (numbers_named h.rs s.whole).count) c.outer
+            (record { name = c.outer; low = pos 0; count = blocks (numbers_named h.rs c.whole).count c.factor }) k.outer_numbers
+            ∙ ap (λ (q : Numbers). Some (record { name = c.outer; low = pos 0; count = blocks q.count c.factor })) (sym numbers);
+        inner_numbers = found_more h.rs (halves s (numbers_named h.rs s.whole).count) c.inner (record { name = c.inner; low = pos 0; count = c.factor }) k.inner_numbers;
       }
 
   split_fits : SplitFits rs' w' b' dim' used' s
+  unfolding found_outer found_inner
   split_fits =
       let numbers = numbers_on s.whole whole_found in
       let same = name_same s.whole s.whole refl in
@@ -314,6 +326,8 @@ module _
         outer = used_outer;
         inner = used_inner;
         found = found_on s.whole whole_found;
+        outer_numbers = found_outer.1 ∙ ap (λ (q : Numbers). Some (record { name = s.outer; low = pos 0; count = blocks q.count s.factor })) (sym numbers);
+        inner_numbers = found_inner.1;
       }
 
   own_outer : s.whole ≡ s.outer → ⊥
@@ -344,8 +358,13 @@ module _
             (all_two (SplitFits h.rs h.w h.b h.dim used) (IsGone ls) (SplitFits rs' w' b' dim' used') (λ c k g. split_on c k g) cs h.cuts h.gone) split_fits;
         apart = apart_on s cs own_outer own_inner
             (all_two (SplitFits h.rs h.w h.b h.dim used) (IsGone ls) (λ d. IsApart s d)
-            (λ d k g. record { whole = not_whole d g; outer = apart_names used d.whole s.outer k.whole new_outer; inner = apart_names used d.whole s.inner k.whole new_inner }) cs h.cuts h.gone) h.apart;
-        gone = all_last (IsGone (flat_map (cut_loop s) ls)) cs s (all_two (SplitFits h.rs h.w h.b h.dim used) (IsGone ls) (IsGone (flat_map (cut_loop s) ls)) (λ c k g. gone_on c k g) cs h.cuts h.gone) gone_now;
+            (λ d k g. record {
+              whole = not_whole d g;
+              outer = apart_names used d.whole s.outer k.whole new_outer;
+              inner = apart_names used d.whole s.inner k.whole new_inner;
+            }) cs h.cuts h.gone) h.apart;
+        gone = all_last (IsGone (flat_map (cut_loop s) ls)) cs s
+            (all_two (SplitFits h.rs h.w h.b h.dim used) (IsGone ls) (IsGone (flat_map (cut_loop s) ls)) (λ c k g. gone_on c k g) cs h.cuts h.gone) gone_now;
         held = all_held_on s ls cs (inl (outer_of s one, made.1, refl)) (inl (inner_of s one, made.0, refl)) h.held;
         variables = all_weaker (IsHeld ls cs) (IsHeld (flat_map (cut_loop s) ls) (cs ++ s ∷ [])) (λ x k. held_on s ls cs x k) xs h.variables;
         dimensions = dimensions_on h.dim dim' 0 xs (all_weaker (λ x. is_among first x ≡ true) (λ x. dim' x ≡ h.dim x) (λ x taken. dim_on x (h.used_first x taken)) xs h.used_variables) h.dimensions;
@@ -354,4 +373,8 @@ module _
         used_numbers = all_both (λ q. is_among used' q.name ≡ true) h.rs (halves s (numbers_named h.rs s.whole).count)
             (all_weaker (λ q. is_among used q.name ≡ true) (λ q. is_among used' q.name ≡ true) (λ q taken. used_on q.name taken) h.rs h.used_numbers) (used_outer, (used_inner, tt));
         used_variables = h.used_variables;
+        others = (λ y taken other.
+            let used_up = h.used_first y taken in
+            found_later h.rs (halves s (numbers_named h.rs s.whole).count) y (h.others y taken other)
+            ∙ half_none s (numbers_named h.rs s.whole).count y (λ e. apart_names used y s.outer used_up new_outer (sym e)) (λ e. apart_names used y s.inner used_up new_inner (sym e)));
       }

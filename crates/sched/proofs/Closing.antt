@@ -1,5 +1,5 @@
 -- Behind a settling of all splits, one pass over them in their order, whatever stands by what is there stands.
-use Rattle.std.proofs.Common.{◌≡◌, ℕ, ◌≤◌, List, [], ◌∷◌, ◌++◌, Option, Some, None, refl, sym, subst, inl, inr, arith}
+use Rattle.std.proofs.Common.{◌≡◌, ℕ, ◌≤◌, Bool, List, [], ◌∷◌, ◌++◌, Option, Some, None, refl, sym, subst, inl, inr, arith}
 use Rattle.std.specs.Prelude.{◌⊎◌}
 use Rattle.std.specs.List.{AllByRecursion}
 use Rattle.lin.specs.Forms.{Form}
@@ -10,18 +10,20 @@ use Rattle.sched.specs.declared.skeleton.Within.{Within}
 use Rattle.sched.specs.declared.skeleton.Within.TheVariants as within
 use Rattle.sched.specs.Numbers.{numbers_named, last_number}
 use Rattle.sched.specs.Standing.{◌>>=◌, StandingText, form_named, alone, is_now, starts_at, name_smaller, test, room, begin, join, is_guarded, settle_some}
+use Rattle.sched.proofs.Leading.{In, in_left}
 use Rattle.sched.proofs.Standings.{Stands, stands_not, stands_more, stands_last, found_more, Begins, stood, waits, plainly, shifted, begins, Puts, freely, by_loop, by_guard, by_test, Joins, stays, puts, joins}
 use Rattle.sched.proofs.Passing.{IsClosed}
 
 -- ---- what one split changes of the names that stand
 
 -- other starts stand as before
-record Begun (c : Split) (st new : StandingText) : Type 0 where
-  known : new.known ≡ st.known
-  more : (x : List ℕ) → Stands st.starts x → Stands new.starts x
-  only : (x : List ℕ) → Stands new.starts x → Stands st.starts x ⊎ (c.whole ≡ x)
-  here : Stands st.known c.outer → Stands new.starts c.whole
-  next : st.next ≤ new.next
+pub record Begun (c : Split) (st new : StandingText) : Type 0 where
+  pub known : new.known ≡ st.known
+  pub more : (x : List ℕ) → Stands st.starts x → Stands new.starts x
+  pub only : (x : List ℕ) → Stands new.starts x → Stands st.starts x ⊎ (c.whole ≡ x)
+  pub here : Stands st.known c.outer → Stands new.starts c.whole
+  pub next : st.next ≤ new.next
+  pub limits : new.limits ≡ st.limits
 
 only_more : (ks : List Known) (k : Known) (x : List ℕ) → Stands (ks ++ k ∷ []) x → Stands ks x ⊎ (k.name ≡ x)
 only_more ks k x h = of (found_more ks k x h.0 h.1)
@@ -32,10 +34,10 @@ only_more ks k x h = of (found_more ks k x h.0 h.1)
 
 module _ (c : Split) (r : Numbers) (st new : StandingText) where
   begun_stood : new ≡ st → (Stands st.known c.outer → Stands st.starts c.whole) → Begun c st new
-  begun_stood e k = subst (Begun c st) (sym e) (record { known = refl; more = (λ x h. h); only = (λ x h. inl h); here = k; next = omega arith })
+  begun_stood e k = subst (Begun c st) (sym e) (record { known = refl; more = (λ x h. h); only = (λ x h. inl h); here = k; next = omega arith; limits = refl })
 
-  begun_starts : (form : Form) (mid : StandingText) → mid.starts ≡ st.starts → mid.known ≡ st.known → st.next ≤ mid.next → new ≡ starts_at c.whole form mid → Begun c st new
-  begun_starts form mid same other le e =
+  begun_starts : (form : Form) (mid : StandingText) → mid.starts ≡ st.starts → mid.known ≡ st.known → st.next ≤ mid.next → mid.limits ≡ st.limits → new ≡ starts_at c.whole form mid → Begun c st new
+  begun_starts form mid same other le bounds e =
       let k : Known = record { name = c.whole; form = form } in
       subst (Begun c st) (sym e) (record {
         known = other;
@@ -43,25 +45,28 @@ module _ (c : Split) (r : Numbers) (st new : StandingText) where
         only = (λ x h. subst (λ (ks : List Known). Stands ks x ⊎ (c.whole ≡ x)) same (only_more mid.starts k x h));
         here = (λ h. stands_last mid.starts k);
         next = le;
+        limits = bounds;
       })
 
   begun : Begins c r st new → Begun c st new
   begun (stood k e) = begun_stood e (λ h. k)
   begun (waits k e) = begun_stood e (λ h. absurd (stands_not st.known c.outer k h))
-  begun (plainly outer form none some sum is e) = begun_starts form st refl refl (omega arith) e
-  begun (shifted outer form none some sum is e) = begun_starts (alone st.next) (name_smaller form (room r c.factor) st) refl refl (omega arith) e
+  begun (plainly outer form none some sum is e) = begun_starts form st refl refl (omega arith) refl e
+  begun (shifted outer form none some sum is e) = begun_starts (alone st.next) (name_smaller form (room r c.factor) st) refl refl (omega arith) refl e
 
 -- other positions stand as before
-record Joined (v : Within) (c : Split) (st new : StandingText) : Type 0 where
-  starts : new.starts ≡ st.starts
-  more : (x : List ℕ) → Stands st.known x → Stands new.known x
-  only : (x : List ℕ) → Stands new.known x → Stands st.known x ⊎ (c.whole ≡ x)
-  here : (v ≡ within.Grid → ⊥) → Stands st.starts c.whole → Stands st.known c.inner → Stands new.known c.whole
-  next : st.next ≤ new.next
+pub record Joined (v : Within) (c : Split) (st new : StandingText) : Type 0 where
+  pub starts : new.starts ≡ st.starts
+  pub more : (x : List ℕ) → Stands st.known x → Stands new.known x
+  pub only : (x : List ℕ) → Stands new.known x → Stands st.known x ⊎ (c.whole ≡ x)
+  pub here : (v ≡ within.Grid → ⊥) → Stands st.starts c.whole → Stands st.known c.inner → Stands new.known c.whole
+  pub next : st.next ≤ new.next
+  pub limits : (l : Form) → In l st.limits → In l new.limits
 
-module _ (v : Within) (c : Split) (r : Numbers) (st new : StandingText) where
-  joined_now : (form : Form) (mid : StandingText) → mid.starts ≡ st.starts → mid.known ≡ st.known → st.next ≤ mid.next → new ≡ is_now c.whole form mid → Joined v c st new
-  joined_now form mid same other le e =
+module _ (v : Within) (guarded : Bool) (c : Split) (r : Numbers) (st new : StandingText) where
+  joined_now : (form : Form) (mid : StandingText) → mid.starts ≡ st.starts → mid.known ≡ st.known → st.next ≤ mid.next → ((l : Form) → In l st.limits → In l mid.limits) →
+      new ≡ is_now c.whole form mid → Joined v c st new
+  joined_now form mid same other le bounds e =
       let k : Known = record { name = c.whole; form = form } in
       subst (Joined v c st) (sym e) (record {
         starts = same;
@@ -69,18 +74,20 @@ module _ (v : Within) (c : Split) (r : Numbers) (st new : StandingText) where
         only = (λ x h. subst (λ (ks : List Known). Stands ks x ⊎ (c.whole ≡ x)) other (only_more mid.known k x h));
         here = (λ g h m. stands_last mid.known k);
         next = le;
+        limits = bounds;
       })
 
-  joined_by : (form : Form) → Puts c.whole (last_number r) form st new → Joined v c st new
-  joined_by form (freely e) = joined_now form st refl refl (omega arith) e
-  joined_by form (by_loop s limit inner sum e) = joined_now form (record st { limits = st.limits ++ limit ∷ [] }) refl refl (omega arith) e
-  joined_by form (by_guard e) = joined_now (alone st.next) (name_smaller form (last_number r) (test form (last_number r) st)) refl refl (omega arith) e
-  joined_by form (by_test e) = joined_now form (test form (last_number r) st) refl refl (omega arith) e
+  joined_by : (form : Form) → Puts guarded c.whole (last_number r) form st new → Joined v c st new
+  joined_by form (freely free e) = joined_now form st refl refl (omega arith) (λ l m. m) e
+  joined_by form (by_loop s limit inner sum e) = joined_now form (record st { limits = st.limits ++ limit ∷ [] }) refl refl (omega arith) (λ l m. in_left l st.limits (limit ∷ []) m) e
+  joined_by form (by_guard e) = joined_now (alone st.next) (name_smaller form (last_number r) (test form (last_number r) st)) refl refl (omega arith) (λ l m. m) e
+  joined_by form (by_test e) = joined_now form (test form (last_number r) st) refl refl (omega arith) (λ l m. m) e
 
-  joined : Joins v c r st new → Joined v c st new
-  joined (stays e k) = subst (Joined v c st) (sym e) (record { starts = refl; more = (λ x h. h); only = (λ x h. inl h); here = (λ g h m. of k g h m); next = omega arith })
+  joined : Joins v guarded c r st new → Joined v c st new
+  joined (stays e k) = subst (Joined v c st) (sym e) (record { starts = refl; more = (λ x h. h); only = (λ x h. inl h); here = (λ g h m. of k g h m); next = omega arith; limits = (λ l m. m) })
     where
-      of : (v ≡ within.Grid) ⊎ (Stands st.starts c.whole → Stands st.known c.inner → Stands st.known c.whole) → (v ≡ within.Grid → ⊥) → Stands st.starts c.whole → Stands st.known c.inner → Stands st.known c.whole
+      of : (v ≡ within.Grid) ⊎ (Stands st.starts c.whole → Stands st.known c.inner → Stands st.known c.whole) → (v ≡ within.Grid → ⊥) → Stands st.starts c.whole → Stands st.known c.inner →
+          Stands st.known c.whole
       of (inl k) g h m = absurd (g k)
       of (inr k) g h m = k h m
   joined (puts start inner form none one two sum k) = joined_by form k
@@ -135,25 +142,38 @@ some_text : (a b : StandingText) → Some a ≡ Some b → a ≡ b
 some_text a b e = cc
 
 -- one split, and those behind it
-record Next (v : Within) (rs : List Numbers) (all : List Split) (c : Split) (cs : List Split) (st new : StandingText) : Type 0 where
-  begins : StandingText
-  joins : StandingText
-  first : Begun c st begins
-  second : Joined v c begins joins
-  rest : settle_some v rs all cs joins ≡ Some new
+pub record Next (v : Within) (rs : List Numbers) (all : List Split) (c : Split) (cs : List Split) (st new : StandingText) : Type 0 where
+  pub begins : StandingText
+  pub joins : StandingText
+  pub begun : Begins c (numbers_named rs c.whole) st begins
+  pub joined : Joins v (is_guarded rs all c) c (numbers_named rs c.whole) begins joins
+  pub first : Begun c st begins
+  pub second : Joined v c begins joins
+  pub rest : settle_some v rs all cs joins ≡ Some new
 
 module _ (v : Within) (rs : List Numbers) (all : List Split) where
-  next_of : (c : Split) (cs : List Split) (st new : StandingText) → settle_some v rs all (c ∷ cs) st ≡ Some new → Next v rs all c cs st new
+  pub next_of : (c : Split) (cs : List Split) (st new : StandingText) → settle_some v rs all (c ∷ cs) st ≡ Some new → Next v rs all c cs st new
   next_of c cs st new e = first (begin c (numbers_named rs c.whole) st) refl e
     where
-      second : (mid : StandingText) (o : Option StandingText) → Begun c st mid → join v (is_guarded rs all c) c (numbers_named rs c.whole) mid ≡ o → (o >>= settle_some v rs all cs) ≡ Some new → Next v rs all c cs st new
+      second : (mid : StandingText) (o : Option StandingText) → Begins c (numbers_named rs c.whole) st mid → join v (is_guarded rs all c) c (numbers_named rs c.whole) mid ≡ o →
+          (o >>= settle_some v rs all cs) ≡ Some new → Next v rs all c cs st new
       second mid None b j e = absurd (cc e)
       second mid (Some after) b j e =
-          record { begins = mid; joins = after; first = b; second = joined v c (numbers_named rs c.whole) mid after (joins c (numbers_named rs c.whole) mid after v (is_guarded rs all c) j); rest = e }
+          let k = joins c (numbers_named rs c.whole) mid after v (is_guarded rs all c) j in
+          record {
+            begins = mid;
+            joins = after;
+            begun = b;
+            joined = k;
+            first = begun c (numbers_named rs c.whole) st mid b;
+            second = joined v (is_guarded rs all c) c (numbers_named rs c.whole) mid after k;
+            rest = e;
+          }
 
-      first : (o : Option StandingText) → begin c (numbers_named rs c.whole) st ≡ o → (o >>= λ mid. join v (is_guarded rs all c) c (numbers_named rs c.whole) mid >>= settle_some v rs all cs) ≡ Some new → Next v rs all c cs st new
+      first : (o : Option StandingText) → begin c (numbers_named rs c.whole) st ≡ o →
+          (o >>= λ mid. join v (is_guarded rs all c) c (numbers_named rs c.whole) mid >>= settle_some v rs all cs) ≡ Some new → Next v rs all c cs st new
       first None j e = absurd (cc e)
-      first (Some mid) j e = second mid (join v (is_guarded rs all c) c (numbers_named rs c.whole) mid) (begun c (numbers_named rs c.whole) st mid (begins c (numbers_named rs c.whole) st mid j)) refl e
+      first (Some mid) j e = second mid (join v (is_guarded rs all c) c (numbers_named rs c.whole) mid) (begins c (numbers_named rs c.whole) st mid j) refl e
 
   -- what stood stands, and symbols are numbered on
   pub settle_more : (cs : List Split) (st new : StandingText) → settle_some v rs all cs st ≡ Some new → (x : List ℕ) → Stands st.known x → Stands new.known x
@@ -170,6 +190,13 @@ module _ (v : Within) (rs : List Numbers) (all : List Split) where
       let b = k.second.next in
       let d = settle_rises cs k.joins new k.rest in
       omega (arith, a, b, d)
+
+  -- limits that were found stay
+  pub settle_limits : (cs : List Split) (st new : StandingText) → settle_some v rs all cs st ≡ Some new → (l : Form) → In l st.limits → In l new.limits
+  settle_limits [] st new e l h = subst (λ (a : StandingText). In l a.limits) (some_text st new e) h
+  settle_limits (c ∷ cs) st new e l h =
+      let k = next_of c cs st new e in
+      settle_limits cs k.joins new k.rest l (k.second.limits l (subst (λ (ls : List Form). In l ls) (sym k.first.limits) h))
 
   stays_closed : (c : Split) (cs : List Split) (st new : StandingText) → settle_some v rs all cs st ≡ Some new → AllByRecursion (IsApart c) cs → IsClosed st c → IsClosed new c
   stays_closed c [] st new e apart h = subst (λ (a : StandingText). IsClosed a c) (some_text st new e) h

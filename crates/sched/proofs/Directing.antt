@@ -32,7 +32,8 @@ all_held_like ls ms f [] h = tt
 all_held_like ls ms f (c ∷ cs) h = (held_like ls ms f cs c.outer h.0, held_like ls ms f cs c.inner h.1, all_held_like ls ms f cs h.2)
 
 module _ (xs first : List (List ℕ)) (region : List Extent) (given : List ℕ → ℤ) (ls : List Loop) (cs : List Split) (used : List (List ℕ)) (h : IsArranged xs first region given ls cs used) where
-  rearranged : (ms : List Loop) → AllByRecursion (LoopFits h.rs h.w h.dim used) ms → AllByRecursion (IsGone ms) cs → ((l : Loop) → In l ls → (m : Loop) × In m ms × (m.name ≡ l.name)) → IsArranged xs first region given ms cs used
+  rearranged : (ms : List Loop) → AllByRecursion (LoopFits h.rs h.w h.dim used) ms → AllByRecursion (IsGone ms) cs → ((l : Loop) → In l ls → (m : Loop) × In m ms × (m.name ≡ l.name)) →
+      IsArranged xs first region given ms cs used
   rearranged ms fit gone f = record {
     rs = h.rs;
     w = h.w;
@@ -50,6 +51,7 @@ module _ (xs first : List (List ℕ)) (region : List Extent) (given : List ℕ �
     used_first = h.used_first;
     used_numbers = h.used_numbers;
     used_variables = h.used_variables;
+    others = h.others;
   }
 
 -- ---- reorder
@@ -63,7 +65,8 @@ all_filled P names [] (l ∷ ls) a b = of (is_among names l.name) (all_filled P 
     of false k = (b.0, k)
 all_filled P names (n ∷ ns) (l ∷ ls) a b = of (is_among names l.name) (all_filled P names ns ls a.1 b.1) (all_filled P names (n ∷ ns) ls a b.1)
   where
-    of : (v : Bool) → AllByRecursion P (filled names ns ls) → AllByRecursion P (filled names (n ∷ ns) ls) → AllByRecursion P (if v then or_next l (n ∷ ns) (λ others. filled names others ls) else l ∷ filled names (n ∷ ns) ls)
+    of : (v : Bool) → AllByRecursion P (filled names ns ls) → AllByRecursion P (filled names (n ∷ ns) ls) →
+        AllByRecursion P (if v then or_next l (n ∷ ns) (λ others. filled names others ls) else l ∷ filled names (n ∷ ns) ls)
     of true k m = (a.0, k)
     of false k m = (b.0, m)
 
@@ -118,7 +121,8 @@ in_next names [] ls l m le = absurd m
 in_next names (n ∷ ns) [] l m le = absurd (omega (arith, le))
 in_next names (n ∷ ns) (x ∷ ls) l m le = of (is_among names x.name) le m (λ k g. in_next names ns ls l k g) (λ g. in_next names (n ∷ ns) ls l m g)
   where
-    of : (v : Bool) → suc (length ns) ≤ (if v then suc (places names ls) else places names ls) → In l (n ∷ ns) → (In l ns → length ns ≤ places names ls → In l (filled names ns ls)) → (suc (length ns) ≤ places names ls → In l (filled names (n ∷ ns) ls)) →
+    of : (v : Bool) → suc (length ns) ≤ (if v then suc (places names ls) else places names ls) → In l (n ∷ ns) → (In l ns → length ns ≤ places names ls → In l (filled names ns ls)) →
+        (suc (length ns) ≤ places names ls → In l (filled names (n ∷ ns) ls)) →
         In l (if v then or_next x (n ∷ ns) (λ others. filled names others ls) else x ∷ filled names (n ∷ ns) ls)
     of true g (inl same) one two = inl same
     of true g (inr k) one two = inr (one k (omega (arith, g)))
@@ -140,7 +144,8 @@ unfolding places
 places_more x xs [] e f = absurd (cc e)
 places_more x xs (l ∷ ls) e f = of (same_name l.name x) (same_name x l.name) (is_among xs l.name) refl refl refl e (places_grow x xs ls) (λ k. places_more x xs ls k f)
   where
-    of : (t u v : Bool) → same_name l.name x ≡ t → same_name x l.name ≡ u → is_among xs l.name ≡ v → (t || has_loop ls x) ≡ true → places xs ls ≤ places (x ∷ xs) ls → (has_loop ls x ≡ true → suc (places xs ls) ≤ places (x ∷ xs) ls) →
+    of : (t u v : Bool) → same_name l.name x ≡ t → same_name x l.name ≡ u → is_among xs l.name ≡ v → (t || has_loop ls x) ≡ true → places xs ls ≤ places (x ∷ xs) ls →
+        (has_loop ls x ≡ true → suc (places xs ls) ≤ places (x ∷ xs) ls) →
         suc (if v then suc (places xs ls) else places xs ls) ≤ (if u || v then suc (places (x ∷ xs) ls) else places (x ∷ xs) ls)
     of true u true is back among g k rest = absurd (let same = same_name_is l.name x is in let clash : true ≡ false = sym among ∙ ap (is_among xs) same ∙ f in cc clash)
     of true true false is back among g k rest = omega (arith, k)
@@ -183,7 +188,8 @@ find_at : (ls : List Loop) (x : List ℕ) → has_loop ls x ≡ true → (m : Lo
 find_at [] x e = absurd (cc e)
 find_at (l ∷ ls) x e = of (same_name l.name x) refl e (λ k. find_at ls x k)
   where
-    of : (v : Bool) → same_name l.name x ≡ v → (v || has_loop ls x) ≡ true → (has_loop ls x ≡ true → (m : Loop) × (loop_named ls x ≡ Some m) × (m.name ≡ x)) → (m : Loop) × ((if v then Some l else loop_named ls x) ≡ Some m) × (m.name ≡ x)
+    of : (v : Bool) → same_name l.name x ≡ v → (v || has_loop ls x) ≡ true → (has_loop ls x ≡ true → (m : Loop) × (loop_named ls x ≡ Some m) × (m.name ≡ x)) →
+        (m : Loop) × ((if v then Some l else loop_named ls x) ≡ Some m) × (m.name ≡ x)
     of true h k rest = (l, refl, same_name_is l.name x h)
     of false h k rest = rest k
 
@@ -195,7 +201,8 @@ in_named : (ls : List Loop) (names : List (List ℕ)) (x : List ℕ) → has_loo
 in_named ls [] x has e = absurd (cc e)
 in_named ls (y ∷ ys) x has e = of (same_name y x) refl e (λ k. in_named ls ys x has k)
   where
-    of : (v : Bool) → same_name y x ≡ v → (v || is_among ys x) ≡ true → (is_among ys x ≡ true → (m : Loop) × In m (loops_named ls ys) × (m.name ≡ x)) → (m : Loop) × In m (with_next (loop_named ls y) (loops_named ls ys)) × (m.name ≡ x)
+    of : (v : Bool) → same_name y x ≡ v → (v || is_among ys x) ≡ true → (is_among ys x ≡ true → (m : Loop) × In m (loops_named ls ys) × (m.name ≡ x)) →
+        (m : Loop) × In m (with_next (loop_named ls y) (loops_named ls ys)) × (m.name ≡ x)
     of true h k rest =
         let same = same_name_is y x h in
         let m = find_at ls y (subst (λ z. has_loop ls z ≡ true) (sym same) has) in
@@ -203,7 +210,8 @@ in_named ls (y ∷ ys) x has e = of (same_name y x) refl e (λ k. in_named ls ys
     of false h k rest = let m = rest k in (m.0, in_with_next (loop_named ls y) (loops_named ls ys) m.0 m.1, m.2)
 
 -- each loop's name is that of a loop behind a reorder
-reordered : (ls : List Loop) (names : List (List ℕ)) → has_double names ≡ false → AllByRecursion (λ x. has_loop ls x ≡ true) names → (l : Loop) → In l ls → (m : Loop) × In m (filled names (loops_named ls names) ls) × (m.name ≡ l.name)
+reordered : (ls : List Loop) (names : List (List ℕ)) → has_double names ≡ false → AllByRecursion (λ x. has_loop ls x ≡ true) names → (l : Loop) → In l ls →
+    (m : Loop) × In m (filled names (loops_named ls names) ls) × (m.name ≡ l.name)
 reordered ls names single known l k = of (is_among names l.name) refl
   where
     of : (v : Bool) → is_among names l.name ≡ v → (m : Loop) × In m (filled names (loops_named ls names) ls) × (m.name ≡ l.name)
@@ -328,7 +336,8 @@ module _ (f : SubjectText) (first : List (List ℕ)) (region : List Extent) (giv
       let c = let_through test rule.BadParallel (Ok (marked mark.Parallel x p)) q a.1 in
       subst Arranged (some_placed (marked mark.Parallel x p) q c.1) (marked_keeps mark.Parallel x p h)
 
-  next_keeps : (o : Result PlacedText Rule) (go : PlacedText → Result PlacedText Rule) (q : PlacedText) → ((p : PlacedText) → o ≡ Ok p → Arranged p) → ((p : PlacedText) → go p ≡ Ok q → Arranged p → Arranged q) → and_next o go ≡ Ok q → Arranged q
+  next_keeps : (o : Result PlacedText Rule) (go : PlacedText → Result PlacedText Rule) (q : PlacedText) → ((p : PlacedText) → o ≡ Ok p → Arranged p) →
+      ((p : PlacedText) → go p ≡ Ok q → Arranged p → Arranged q) → and_next o go ≡ Ok q → Arranged q
   next_keeps (Ok p) go q one two e = two p e (one p refl)
   next_keeps (Err r) go q one two e = absurd (cc e)
 

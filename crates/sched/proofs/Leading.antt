@@ -1,5 +1,5 @@
 -- Steps that lead from symbols to symbols: what they lead to is among what the steps, as plans run them, arrive with.
-use Rattle.std.proofs.Common.{◌≡◌, ℕ, zero, suc, Bool, true, false, List, [], ◌∷◌, ◌++◌, map, refl, sym, subst, inl, inr, arith}
+use Rattle.std.proofs.Common.{◌≡◌, ℕ, zero, suc, ◌<◌, Bool, true, false, List, [], ◌∷◌, ◌++◌, length, map, get_or, refl, sym, subst, inl, inr, arith}
 use Rattle.std.specs.Prelude.{ℤ, pos, negsuc, ◌+ℤ◌, ◌-ℤ◌, ◌≤ℤ◌, ◌<ℤ◌, ◌⊎◌, if◌then◌else◌, fold, int_le, int_lt, cond, Contains}
 use Rattle.std.specs.List.{AllByRecursion, flat_map}
 use Rattle.std.specs.Int.{int_min}
@@ -85,6 +85,13 @@ leads_on (Turns i x kind ∷ xs) ys s t u h k = (h.0, h.1, leads_on xs ys (bind 
 leads_on (Named i pick ls ∷ xs) ys s t u h k = leads_on xs ys (bind s i (picked pick ls s) true) t u h k
 leads_on (Tested low high ∷ xs) ys s t u h k = (h.0, leads_on xs ys s t u h.1 k)
 
+-- the way there, and on
+pub leads_apart : (xs ys : List Step) (s u : Symbols) → Leads (xs ++ ys) s u → (t : Symbols) × Leads xs s t × Leads ys t u
+leads_apart [] ys s u h = (s, refl, h)
+leads_apart (Turns i x kind ∷ xs) ys s u h = let k = leads_apart xs ys (bind s i h.0 (int_le h.0 (largest s x.lower))) u h.2 in (k.0, (h.0, h.1, k.1), k.2)
+leads_apart (Named i pick ls ∷ xs) ys s u h = leads_apart xs ys (bind s i (picked pick ls s) true) u h
+leads_apart (Tested low high ∷ xs) ys s u h = let k = leads_apart xs ys s u h.1 in (k.0, (h.0, k.1), k.2)
+
 int_le_is : (a b : ℤ) → a ≤ℤ b → int_le a b ≡ true
 int_le_is a b h = grind (ints, arith)
 
@@ -102,3 +109,83 @@ arrives (Tested low high ∷ steps) s t h = of (int_le (form_value low s) (form_
 
 pub arrives_at : (steps : List Step) (s t : Symbols) → Leads steps s t → Contains (arrivals steps s) t
 arrives_at steps s t h = contained t (arrivals steps s) (arrives steps s t h)
+
+-- ---- and back
+
+int_le_says : (a b : ℤ) → int_le a b ≡ true → a ≤ℤ b
+int_le_says a b e = grind (ints, arith)
+
+pub in_append : {A : Type 0} (a : A) (xs ys : List A) → In a (xs ++ ys) → In a xs ⊎ In a ys
+in_append a [] ys m = inr m
+in_append a (x ∷ xs) ys (inl e) = inl (inl e)
+in_append a (x ∷ xs) ys (inr m) = of (in_append a xs ys m)
+  where
+    of : In a xs ⊎ In a ys → In a (x ∷ xs) ⊎ In a ys
+    of (inl n) = inl (inr n)
+    of (inr n) = inr n
+
+flat_in : {A B : Type 0} (f : A → List B) (b : B) (xs : List A) → In b (flat_map f xs) → (a : A) × In a xs × In b (f a)
+flat_in f b [] m = absurd m
+flat_in f b (x ∷ xs) m = of (in_append b (f x) (flat_map f xs) m) (λ n. flat_in f b xs n)
+  where
+    of : In b (f x) ⊎ In b (flat_map f xs) → (In b (flat_map f xs) → (a : _) × In a xs × In b (f a)) → (a : _) × In a (x ∷ xs) × In b (f a)
+    of (inl n) rest = (x, inl refl, n)
+    of (inr n) rest = let k = rest n in (k.0, inr k.1, k.2)
+
+leads_to : (steps : List Step) (s t : Symbols) → In t (arrivals steps s) → Leads steps s t
+leads_to [] s t (inl e) = e
+leads_to [] s t (inr m) = absurd m
+leads_to (Turns i x kind ∷ steps) s t m =
+    let k = flat_in (λ z. arrivals steps (bind s i z (int_le z (largest s x.lower)))) t (turns s x) m in
+    (k.0, k.1, leads_to steps (bind s i k.0 (int_le k.0 (largest s x.lower))) t k.2)
+leads_to (Named i pick ls ∷ steps) s t m = leads_to steps (bind s i (picked pick ls s) true) t m
+leads_to (Tested low high ∷ steps) s t m = of (int_le (form_value low s) (form_value high s)) refl m (λ k. leads_to steps s t k)
+  where
+    of : (v : Bool) → int_le (form_value low s) (form_value high s) ≡ v → In t (if v then arrivals steps s else []) → (In t (arrivals steps s) → Leads steps s t) →
+        (form_value low s ≤ℤ form_value high s) × Leads steps s t
+    of true e k rest = (int_le_says (form_value low s) (form_value high s) e, rest k)
+    of false e k rest = absurd k
+
+in_contained : {A : Type 0} (xs : List A) (a : A) (n : ℕ) → n < length xs → get_or xs n a ≡ a → In a xs
+in_contained [] a n lt e = absurd (omega (arith, lt))
+in_contained (x ∷ xs) a zero lt e = inl (sym e)
+in_contained (x ∷ xs) a (suc n) lt e = inr (in_contained xs a n (omega (arith, lt)) e)
+
+pub arrived : (steps : List Step) (s t : Symbols) → Contains (arrivals steps s) t → Leads steps s t
+arrived steps s t h = leads_to steps s t (in_contained (arrivals steps s) t h.0 h.1 h.2)
+
+-- ---- what a turn of a loop says
+
+rising_says : (n : ℕ) (low z : ℤ) → In z (rising low n) → (low ≤ℤ z) × (z <ℤ (low +ℤ pos n))
+rising_says zero low z m = absurd m
+rising_says (suc n) low z (inl e) = (omega (arith, ints, e), omega (arith, ints, e))
+rising_says (suc n) low z (inr m) = let k = rising_says n (low +ℤ pos 1) z m in (let a = k.0 in omega (arith, ints, a), let a = k.1 in omega (arith, ints, a))
+
+clip_says : (w low high z : ℤ) → w ≡ (high +ℤ pos 1) -ℤ low → In z (rising low (clipped w)) → (low ≤ℤ z) × (z ≤ℤ high)
+clip_says (pos n) low high z e m = let k = rising_says n low z m in (k.0, let a = k.1 in omega (arith, ints, a, e))
+clip_says (negsuc n) low high z e m = absurd m
+
+pub min_says : (a b z : ℤ) → z ≤ℤ int_min a b → (z ≤ℤ a) × (z ≤ℤ b)
+min_says a b z h = of (int_lt b a) refl h
+  where
+    of : (v : Bool) → int_lt b a ≡ v → z ≤ℤ cond v b a → (z ≤ℤ a) × (z ≤ℤ b)
+    of true e k = (let less : b <ℤ a = grind (ints, arith) in omega (arith, ints, k, less), k)
+    of false e k = (k, let less : a ≤ℤ b = grind (ints, arith) in omega (arith, ints, k, less))
+
+fold_says : (s : Symbols) (z low : ℤ) (ls : List Form) → z ≤ℤ fold int_min low (map (λ m. form_value m s) ls) → (z ≤ℤ low) × AllByRecursion (λ l. z ≤ℤ form_value l s) ls
+fold_says s z low [] h = (h, tt)
+fold_says s z low (l ∷ ls) h =
+    let k = fold_says s z (int_min low (form_value l s)) ls h in
+    let m = min_says low (form_value l s) z k.0 in
+    (m.0, (m.1, k.1))
+
+-- it is from low to last, and at most each limit
+pub turn_says : (s : Symbols) (low last z : ℤ) (limits : List Form) → In z (turns s (span low last limits)) → (low ≤ℤ z) × (z ≤ℤ last) × AllByRecursion (λ l. z ≤ℤ form_value l s) limits
+turn_says s low last z limits m =
+    let first : largest s (span low last limits).lower ≡ low = number_is low s in
+    let k = clip_says _ (largest s (span low last limits).lower) (smallest s (span low last limits).upper) z refl m in
+    let end = number_is last s in
+    let low_is = k.0 in
+    let all = fold_says s z (form_value (number last) s) limits k.1 in
+    let last_is = all.0 in
+    (omega (arith, ints, low_is, first), omega (arith, ints, last_is, end), all.1)

@@ -26,3 +26,8 @@ pub mod Arranging
 pub mod Directing
 pub mod Starting
 pub mod Scheduling
+pub mod Keeping
+pub mod Bounding
+pub mod Staying
+pub mod Running
+pub mod Overrunning

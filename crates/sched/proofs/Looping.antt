@@ -40,13 +40,13 @@ pub record OnGround (w b : List ℕ → ℤ) (st : StandingText) (s : Symbols) :
   pub some : 0 < st.next
   pub limits : AllByRecursion (IsLimit 0 (s.value 0) s) st.limits
 
+pub closed_bare : (st : StandingText) (ds : List Split) → AllByRecursion (IsClosed (record st { known = []; starts = [] })) ds
+closed_bare st [] = tt
+closed_bare st (d ∷ ds) = (record { begun = (λ h. absurd (cc h.1)); joined = (λ h k. absurd (cc h.1)) }, closed_bare st ds)
+
 module _ (rs : List Numbers) (all cs : List Split) (w b : List ℕ → ℤ) (cuts : AllByRecursion (IsCut rs w b) cs) where
   ground_left : (st new : StandingText) (z : ℤ) (t : Symbols) → Passing w b (record st { known = []; starts = [] }) 0 z [] (λ f. Unit {0}) new t → OnGround w b new t
   ground_left st new z t h = record { agrees = h.agrees; bound = h.bound; some = h.inside; limits = subst (λ y. AllByRecursion (IsLimit 0 y t) new.limits) (sym h.here) h.limits }
-
-  closed_bare : (st : StandingText) (ds : List Split) → AllByRecursion (IsClosed (record st { known = []; starts = [] })) ds
-  closed_bare st [] = tt
-  closed_bare st (d ∷ ds) = (record { begun = (λ h. absurd (cc h.1)); joined = (λ h k. absurd (cc h.1)) }, closed_bare st ds)
 
   pub ground_moves : (v : Within) (st new : StandingText) (s : Symbols) → OnGround w b st s → settle_some v rs all cs st ≡ Some new → Moved st new s (OnGround w b new)
   ground_moves v st new s h e =
@@ -85,7 +85,7 @@ pub record Turned (cs : List Split) (w b : List ℕ → ℤ) (base : StandingTex
 abbrev pub IsRun : (List ℕ → ℤ) → Turning → Type 0
 IsRun w t = (t.low ≤ℤ w t.name) × (w t.name ≤ℤ t.last)
 
-no_grid : (k : Kind) → inside k ≡ within.Grid → ⊥
+pub no_grid : (k : Kind) → inside k ≡ within.Grid → ⊥
 no_grid Serial e = cc e
 no_grid Unroll e = cc e
 no_grid Vector e = cc e
@@ -112,9 +112,11 @@ module _ (rs : List Numbers) (cs : List Split) (w b : List ℕ → ℤ) (cuts : 
         record {
           agrees = record {
             known = all_more (λ k. IsTold (st.next + 1) within_loop (w k.name) k.form) st.known one
-                (all_weaker (λ k. IsTold st.next s (w k.name) k.form) (λ k. IsTold (st.next + 1) within_loop (w k.name) k.form) (λ k g. told_on st.next (st.next + 1) s within_loop (w k.name) k.form g keeps (omega arith)) st.known h.agrees.known)
+                (all_weaker (λ k. IsTold st.next s (w k.name) k.form) (λ k. IsTold (st.next + 1) within_loop (w k.name) k.form)
+                (λ k g. told_on st.next (st.next + 1) s within_loop (w k.name) k.form g keeps (omega arith)) st.known h.agrees.known)
                 (told_alone (st.next + 1) st.next within_loop (w t.name) (omega arith) here);
-            starts = all_weaker (λ k. IsTold st.next s (b k.name) k.form) (λ k. IsTold (st.next + 1) within_loop (b k.name) k.form) (λ k g. told_on st.next (st.next + 1) s within_loop (b k.name) k.form g keeps (omega arith)) st.starts h.agrees.starts;
+            starts = all_weaker (λ k. IsTold st.next s (b k.name) k.form) (λ k. IsTold (st.next + 1) within_loop (b k.name) k.form)
+                (λ k g. told_on st.next (st.next + 1) s within_loop (b k.name) k.form g keeps (omega arith)) st.starts h.agrees.starts;
           };
           bound = refl;
           here = here;
@@ -158,7 +160,12 @@ module _ (rs : List Numbers) (cs : List Split) (w b : List ℕ → ℤ) (cuts : 
             end = m.end;
             steps = Turns st.next (span t.low t.last turned.limits) t.kind ∷ turned.steps;
             are = refl;
-            leads = (w t.name, is_turn s t.low t.last (w t.name) turned.limits run.0 run.1 (limited m.end keeps turned.limits p.limits), subst (λ (l : List Step). Leads l within_loop m.end) (sym m.are) m.leads);
+            leads = (
+              w t.name,
+              is_turn s t.low t.last (w t.name) turned.limits run.0 run.1 (limited m.end keeps turned.limits p.limits),
+              subst (λ (l : List Step). Leads l within_loop m.end)
+                  (sym m.are) m.leads,
+            );
             keeps = keeps;
             more = omega (arith, rises);
             there = record {
@@ -176,12 +183,14 @@ module _ (rs : List Numbers) (cs : List Split) (w b : List ℕ → ℤ) (cuts : 
     pub turn_moves : (new : StandingText) → turn rs cs t st ≡ Some new → Moved st new s (Turned cs w b st (t.name ∷ []) new)
     turn_moves new e = of (settle_some (inside t.kind) rs cs cs (enter t.name st)) refl e
       where
-        of : (o : Option StandingText) → settle_some (inside t.kind) rs cs cs (enter t.name st) ≡ o → (o >>= λ turned. Some (leave st.steps st.next t turned)) ≡ Some new → Moved st new s (Turned cs w b st (t.name ∷ []) new)
+        of : (o : Option StandingText) → settle_some (inside t.kind) rs cs cs (enter t.name st) ≡ o → (o >>= λ turned. Some (leave st.steps st.next t turned)) ≡ Some new →
+            Moved st new s (Turned cs w b st (t.name ∷ []) new)
         of None k e = absurd (cc e)
         of (Some turned) k e = subst (λ (a : StandingText). Moved st a s (Turned cs w b st (t.name ∷ []) a)) (sym (some_text (leave st.steps st.next t turned) new e)) (left turned k)
 
   -- each inside the one before
-  pub turns_move : (ts : List Turning) (st new : StandingText) (s : Symbols) → InNest cs w b st s → AllByRecursion (IsRun w) ts → turn_all rs cs ts st ≡ Some new → Moved st new s (Turned cs w b st (map (λ t. t.name) ts) new)
+  pub turns_move : (ts : List Turning) (st new : StandingText) (s : Symbols) → InNest cs w b st s → AllByRecursion (IsRun w) ts → turn_all rs cs ts st ≡ Some new →
+      Moved st new s (Turned cs w b st (map (λ t. t.name) ts) new)
   turns_move [] st new s h runs e =
       subst (λ (a : StandingText). Moved st a s (Turned cs w b st [] a)) (sym (some_text st new e))
       (stay st st s (Turned cs w b st [] st) refl (omega arith) (record { nest = h; more = (λ x k. k); named = tt }))

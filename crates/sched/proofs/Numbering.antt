@@ -1,10 +1,11 @@
 -- The numbers of loops that are split, and the block and the place in it of each number.
-use Rattle.std.proofs.Common.{◌≡◌, ℕ, ◌+◌, ◌-◌, ◌*◌, ◌/◌, ◌<◌, Bool, true, false, List, [], ◌∷◌, ◌++◌, Option, Some, None, refl, sym, ap, ◌∙◌, inl, inr, arith, div-add-mod', mul_comm}
+use Rattle.std.proofs.Common.{◌≡◌, ℕ, suc, ◌+◌, ◌-◌, ◌*◌, ◌/◌, ◌%◌, ◌<◌, ◌≤◌, Bool, true, false, List, [], ◌∷◌, ◌++◌, Option, Some, None, refl, sym, ap, ◌∙◌, inl, inr, arith, div-add-mod', mul_comm, mul-le-mul_right, lt_of_mul-lt-mul_right, suc-mul, ⊎_elim}
 use Rattle.std.specs.Prelude.{ℤ, pos, negsuc, ◌+ℤ◌, ◌-ℤ◌, ◌*ℤ◌, ◌≤ℤ◌, ◌<ℤ◌, ◌==◌, ◌⊎◌, if◌then◌else◌, int_lt, cond}
 use Rattle.std.specs.List.{AllByRecursion}
 use Rattle.std.specs.Int.{int_min}
 use Rattle.std.proofs.lemmas.Int.{ints}
 use Rattle.std.proofs.lemmas.Nat.{mod_below, le-div}
+use Rattle.std.proofs.lemmas.Bool.{cases_lt}
 use Rattle.std.proofs.lemmas.Bool.Decides.{nat_tests}
 use Rattle.plan.specs.Symbols.{clipped}
 use Rattle.meaning.specs.Names.{same_name, is_among}
@@ -49,7 +50,8 @@ pub found_more : (rs ts : List Numbers) (x : List ℕ) (r : Numbers) → numbers
 found_more [] ts x r e = absurd (cc e)
 found_more (a ∷ rs) ts x r e = of (same_name a.name x) e (λ k. found_more rs ts x r k)
   where
-    of : (v : Bool) → (if v then Some a else numbers_found rs x) ≡ Some r → (numbers_found rs x ≡ Some r → numbers_found (rs ++ ts) x ≡ Some r) → (if v then Some a else numbers_found (rs ++ ts) x) ≡ Some r
+    of : (v : Bool) → (if v then Some a else numbers_found rs x) ≡ Some r → (numbers_found rs x ≡ Some r → numbers_found (rs ++ ts) x ≡ Some r) →
+        (if v then Some a else numbers_found (rs ++ ts) x) ≡ Some r
     of true k rest = k
     of false k rest = rest k
 
@@ -57,7 +59,8 @@ pub found_later : (rs ts : List Numbers) (x : List ℕ) → numbers_found rs x �
 found_later [] ts x e = refl
 found_later (a ∷ rs) ts x e = of (same_name a.name x) e (λ k. found_later rs ts x k)
   where
-    of : (v : Bool) → (if v then Some a else numbers_found rs x) ≡ None → (numbers_found rs x ≡ None → numbers_found (rs ++ ts) x ≡ numbers_found ts x) → (if v then Some a else numbers_found (rs ++ ts) x) ≡ numbers_found ts x
+    of : (v : Bool) → (if v then Some a else numbers_found rs x) ≡ None → (numbers_found rs x ≡ None → numbers_found (rs ++ ts) x ≡ numbers_found ts x) →
+        (if v then Some a else numbers_found (rs ++ ts) x) ≡ numbers_found ts x
     of true k rest = absurd (cc k)
     of false k rest = rest k
 
@@ -89,6 +92,11 @@ pub inner_found : (c : Split) (n : ℕ) → (c.outer ≡ c.inner → ⊥) → nu
 inner_found c n ne =
     ap (λ (v : Bool). if v then Some (outer_numbers c n) else (if same_name c.inner c.inner then Some (inner_numbers c n) else None)) (name_differs c.outer c.inner ne)
     ∙ ap (λ (v : Bool). if v then Some (inner_numbers c n) else None) (name_same c.inner c.inner refl)
+
+pub half_none : (c : Split) (n : ℕ) (y : List ℕ) → (c.outer ≡ y → ⊥) → (c.inner ≡ y → ⊥) → numbers_found (halves c n) y ≡ None
+half_none c n y one two =
+    ap (λ (v : Bool). if v then Some (outer_numbers c n) else (if same_name c.inner y then Some (inner_numbers c n) else None)) (name_differs c.outer y one)
+    ∙ ap (λ (v : Bool). if v then Some (inner_numbers c n) else None) (name_differs c.inner y two)
 
 pub half_outer : (c : Split) (n : ℕ) → numbers_named (halves c n) c.outer ≡ record { name = c.outer; low = pos 0; count = blocks n c.factor }
 half_outer c n = ap (numbers_or c.outer) (outer_found c n)
@@ -122,7 +130,7 @@ min_parts a b = of (int_lt b a) refl
     of true e = (inr refl, let k : b <ℤ a = grind (ints, arith) in omega (arith, ints, k))
     of false e = (inl refl, omega (arith, ints))
 
-times_is : (n k : ℕ) → pos n *ℤ pos k ≡ pos (k * n)
+pub times_is : (n k : ℕ) → pos n *ℤ pos k ≡ pos (k * n)
 times_is n k = ap pos (mul_comm n k)
 
 module _ (r : Numbers) (n : ℕ) (some : 0 < n) (y : ℤ) (low : r.low ≤ℤ y) (last : y ≤ℤ last_number r) where
@@ -154,3 +162,24 @@ module _ (r : Numbers) (n : ℕ) (some : 0 < n) (y : ℤ) (low : r.low ≤ℤ y)
 
   pub in_block : (tail : Tail) → IsInBlock r tail n y
   in_block tail = by_tail tail (clipped (y -ℤ r.low)) (pos_clipped (y -ℤ r.low) (omega (arith, ints, low)))
+
+-- ---- blocks within their loop
+
+pub whole_blocks : (count n k : ℕ) → 0 < n → k < blocks count n → count % n ≡ 0 → k * n + n ≤ count
+whole_blocks count n k some lt none = ⊎_elim (λ empty. absurd (few empty)) (λ many. by many) (cases_lt count 1)
+  where
+    few : count < 1 → ⊥
+    few empty = let e : (count == 0) ≡ true = grind (arith, nat_tests) in let nothing : blocks count n ≡ 0 = rw e refl in omega (arith, nothing, lt)
+
+    by : 1 ≤ count → k * n + n ≤ count
+    by many =
+        let are = blocks_are count n (omega (arith, many)) some in
+        let most : k ≤ (count - 1) / n = omega (arith, are, lt) in
+        let parts = div-add-mod' (count - 1) n in
+        let scaled : k * n ≤ (count - 1) / n * n = mul-le-mul_right n most in
+        let whole = div-add-mod' count n in
+        let less : k * n < count / n * n = omega (arith, parts, scaled, whole, none, many) in
+        let fewer : k < count / n = lt_of_mul-lt-mul_right n less in
+        let next : suc k * n ≤ count / n * n = mul-le-mul_right n fewer in
+        let more : suc k * n ≡ k * n + n = suc-mul k n in
+        omega (arith, next, more, whole, none)

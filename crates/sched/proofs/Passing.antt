@@ -80,17 +80,18 @@ pub record Passing (w b : List ℕ → ℤ) (base : StandingText) (n : ℕ) (z :
   pub more : (x : List ℕ) → Stands base.known x → Stands st.known x
   pub more_starts : (x : List ℕ) → Stands base.starts x → Stands st.starts x
 
-min_first : (a b : ℤ) → a ≤ℤ b → int_min a b ≡ a
+pub min_first : (a b : ℤ) → a ≤ℤ b → int_min a b ≡ a
 min_first a b h = of (int_lt b a) refl
   where
     of : (v : Bool) → int_lt b a ≡ v → cond v b a ≡ a
     of true e = absurd (let k : b <ℤ a = grind (ints, arith) in omega (arith, ints, h, k))
     of false e = refl
 
-named_least : (s : Symbols) (form : Form) (y last : ℤ) → form_value form s ≡ y → picked Min (form ∷ number last ∷ []) s ≡ int_min y last
+pub named_least : (s : Symbols) (form : Form) (y last : ℤ) → form_value form s ≡ y → picked Min (form ∷ number last ∷ []) s ≡ int_min y last
 named_least s form y last e = ap₂ int_min e (number_is last s)
 
-told_all : (v : List ℕ → ℤ) (n m : ℕ) (s t : Symbols) (ks : List Known) → Keeps n s t → n ≤ m → AllByRecursion (λ k. IsTold n s (v k.name) k.form) ks → AllByRecursion (λ k. IsTold m t (v k.name) k.form) ks
+told_all : (v : List ℕ → ℤ) (n m : ℕ) (s t : Symbols) (ks : List Known) → Keeps n s t → n ≤ m → AllByRecursion (λ k. IsTold n s (v k.name) k.form) ks →
+    AllByRecursion (λ k. IsTold m t (v k.name) k.form) ks
 told_all v n m s t ks k le a = all_weaker (λ k. IsTold n s (v k.name) k.form) (λ k. IsTold m t (v k.name) k.form) (λ m' h. told_on n m s t (v m'.name) m'.form h k le) ks a
 
 pub agrees_on : (w b : List ℕ → ℤ) (s t : Symbols) (st : StandingText) (m : ℕ) → Keeps st.next s t → st.next ≤ m → Agrees w b s st → Agrees w b t (record st { next = m })
@@ -101,10 +102,36 @@ module _ (w b : List ℕ → ℤ) (base : StandingText) (n : ℕ) (z : ℤ) (bd 
   Pass st s = Passing w b base n z bd N st s
 
   with_steps : (st : StandingText) (s : Symbols) (steps : List Step) → Pass st s → Pass (record st { steps = steps }) s
-  with_steps st s steps h = record { agrees = record { known = h.agrees.known; starts = h.agrees.starts }; bound = h.bound; here = h.here; inside = h.inside; limits = h.limits; known = h.known; starts = h.starts; more = h.more; more_starts = h.more_starts }
+  with_steps st s steps h = record {
+    agrees = record {
+      known = h.agrees.known;
+      starts = h.agrees.starts;
+    };
+    bound = h.bound;
+    here = h.here;
+    inside = h.inside;
+    limits = h.limits;
+    known = h.known;
+    starts = h.starts;
+    more = h.more;
+    more_starts = h.more_starts;
+  }
 
   with_limit : (st : StandingText) (s : Symbols) (l : Form) → IsLimit n z s l → Pass st s → Pass (record st { limits = st.limits ++ l ∷ [] }) s
-  with_limit st s l k h = record { agrees = record { known = h.agrees.known; starts = h.agrees.starts }; bound = h.bound; here = h.here; inside = h.inside; limits = limits_more st.limits h.limits; known = h.known; starts = h.starts; more = h.more; more_starts = h.more_starts }
+  with_limit st s l k h = record {
+    agrees = record {
+      known = h.agrees.known;
+      starts = h.agrees.starts;
+    };
+    bound = h.bound;
+    here = h.here;
+    inside = h.inside;
+    limits = limits_more st.limits h.limits;
+    known = h.known;
+    starts = h.starts;
+    more = h.more;
+    more_starts = h.more_starts;
+  }
     where
       limits_more : (ls : List Form) → AllByRecursion (IsLimit n z s) ls → AllByRecursion (IsLimit n z s) (ls ++ l ∷ [])
       limits_more [] a = (k, tt)
@@ -115,7 +142,11 @@ module _ (w b : List ℕ → ℤ) (base : StandingText) (n : ℕ) (z : ℤ) (bd 
       let keeps = bind_keeps s st.next y true in
       let lt = h.inside in
       record {
-        agrees = record { known = told_all w st.next (st.next + 1) s (bind s st.next y true) st.known keeps (omega arith) h.agrees.known; starts = told_all b st.next (st.next + 1) s (bind s st.next y true) st.starts keeps (omega arith) h.agrees.starts };
+        agrees = record {
+          known = told_all w st.next (st.next + 1) s (bind s st.next y true) st.known keeps (omega arith) h.agrees.known;
+          starts = told_all b st.next (st.next + 1) s
+              (bind s st.next y true) st.starts keeps (omega arith) h.agrees.starts;
+        };
         bound = h.bound;
         here = keeps n h.inside ∙ h.here;
         inside = omega (arith, lt);
@@ -192,8 +223,10 @@ module _
             (found_all (λ x f. IsTold st.next s (w x) f) st.known c.outer outer h.agrees.known some).positive k
 
     begin_moves : Begins c r st new → Moved st new s (Pass' new)
-    begin_moves (stood k e) = stay st new s (Pass' new) (ap (λ (a : StandingText). a.steps) e) (let same = ap (λ (a : StandingText). a.next) e in omega (arith, same)) (subst (λ (a : StandingText). Pass' a s) (sym e) h)
-    begin_moves (waits k e) = stay st new s (Pass' new) (ap (λ (a : StandingText). a.steps) e) (let same = ap (λ (a : StandingText). a.next) e in omega (arith, same)) (subst (λ (a : StandingText). Pass' a s) (sym e) h)
+    begin_moves (stood k e) = stay st new s (Pass' new) (ap (λ (a : StandingText). a.steps) e) (let same = ap (λ (a : StandingText). a.next) e in omega (arith, same))
+        (subst (λ (a : StandingText). Pass' a s) (sym e) h)
+    begin_moves (waits k e) = stay st new s (Pass' new) (ap (λ (a : StandingText). a.steps) e) (let same = ap (λ (a : StandingText). a.next) e in omega (arith, same))
+        (subst (λ (a : StandingText). Pass' a s) (sym e) h)
     begin_moves (plainly outer form none some sum is e) =
         let told = subst (λ y. IsTold st.next s y form) (sym (cut.start ∙ is (w c.outer))) (start_told outer form some sum) in
         let k = put_start w b base n z bd N st s c.whole form told (start_new outer form none some sum) h in
@@ -204,7 +237,8 @@ module _
         let mid = name_smaller form (room r c.factor) st in
         let value : y ≡ b c.whole = named_least s form (r.low +ℤ pos c.factor *ℤ w c.outer) (room r c.factor) (start_told outer form some sum).value ∙ sym (cut.start ∙ is (w c.outer)) in
         let lt = h.inside in
-        let k = put_start w b base n z bd N mid t c.whole (alone st.next) (told_alone (st.next + 1) st.next t (b c.whole) (omega arith) (bind_here s st.next y true ∙ value)) (later st.next (omega (arith, lt)))
+        let k = put_start w b base n z bd N mid t c.whole (alone st.next) (told_alone (st.next + 1) st.next t (b c.whole) (omega arith) (bind_here s st.next y true ∙ value))
+        (later st.next (omega (arith, lt)))
         (named_next w b base n z bd N st s y form (room r c.factor) h) in
         subst (λ (a : StandingText). Moved st a s (Pass' a)) (sym e)
         (record { end = t; steps = Named st.next Min (form ∷ number (room r c.factor) ∷ []) ∷ []; are = refl; leads = refl; keeps = bind_keeps s st.next y true; more = omega arith; there = k })
@@ -213,7 +247,8 @@ module _
     abbrev last : ℤ
     last = last_number r
 
-    whole_told : (start inside form : Form) → form_named st.starts c.whole ≡ Some start → form_named st.known c.inner ≡ Some inside → combined start (pos 1) inside ≡ Some form → IsTold st.next s (w c.whole) form
+    whole_told : (start inside form : Form) → form_named st.starts c.whole ≡ Some start → form_named st.known c.inner ≡ Some inside → combined start (pos 1) inside ≡ Some form →
+        IsTold st.next s (w c.whole) form
     whole_told start inside form one two sum =
         let value : (b c.whole +ℤ pos 1 *ℤ w c.inner) ≡ w c.whole = (let k = cut.whole in omega (arith, ints, k)) in
         subst (λ y. IsTold st.next s y form) value
@@ -221,7 +256,8 @@ module _
         (found_all (λ x f. IsTold st.next s (b x) f) st.starts c.whole start h.agrees.starts one)
         (found_all (λ x f. IsTold st.next s (w x) f) st.known c.inner inside h.agrees.known two))
 
-    whole_new : (start inside form : Form) → form_named st.known c.whole ≡ None → form_named st.starts c.whole ≡ Some start → form_named st.known c.inner ≡ Some inside → combined start (pos 1) inside ≡ Some form → N form
+    whole_new : (start inside form : Form) → form_named st.known c.whole ≡ None → form_named st.starts c.whole ≡ Some start → form_named st.known c.inner ≡ Some inside →
+        combined start (pos 1) inside ≡ Some form → N form
     whole_new start inside form none one two sum = of (h.starts c.whole start one) (h.known c.inner inside two)
       where
         a : IsTold st.next s (b c.whole) start
@@ -239,25 +275,26 @@ module _
       passes_test : form_value form s ≤ℤ form_value (number last) s
       passes_test = let k = told.value in let most = cut.most in let e = number_is last s in omega (arith, ints, k, most, e)
 
-      puts_move : Puts c.whole last form st new → Moved st new s (Pass' new)
-      puts_move (freely e) =
+      puts_move : (guarded : Bool) → Puts guarded c.whole last form st new → Moved st new s (Pass' new)
+      puts_move guarded (freely free e) =
           subst (λ (a : StandingText). Moved st a s (Pass' a)) (sym e)
           (stay st (is_now c.whole form st) s (Pass' (is_now c.whole form st)) refl (omega arith) (put_now w b base n z bd N st s c.whole form told fresh h))
-      puts_move (by_loop i limit innermost_at sum e) =
+      puts_move guarded (by_loop i limit innermost_at sum e) =
           let is = inner form i told.rising fresh (ap (λ l. innermost l form) (sym h.bound) ∙ innermost_at) in
           let l = subst (λ y. IsLimit n y s limit) h.here (limit_of n s form limit (w c.whole) last i told.value cut.most is sum) in
           let mid = record st { limits = st.limits ++ limit ∷ [] } in
           subst (λ (a : StandingText). Moved st a s (Pass' a)) (sym e)
           (stay st (is_now c.whole form mid) s (Pass' (is_now c.whole form mid)) refl (omega arith)
           (put_now w b base n z bd N mid s c.whole form told fresh (with_limit w b base n z bd N st s limit l h)))
-      puts_move (by_guard e) =
+      puts_move guarded (by_guard e) =
           let tested = test form last st in
           let y = picked Min (form ∷ number last ∷ []) s in
           let t = bind s st.next y true in
           let mid = name_smaller form last tested in
           let value : y ≡ w c.whole = named_least s form (w c.whole) last told.value ∙ min_first (w c.whole) last cut.most in
           let lt = h.inside in
-          let k = put_now w b base n z bd N mid t c.whole (alone st.next) (told_alone (st.next + 1) st.next t (w c.whole) (omega arith) (bind_here s st.next y true ∙ value)) (later st.next (omega (arith, lt)))
+          let k = put_now w b base n z bd N mid t c.whole (alone st.next) (told_alone (st.next + 1) st.next t (w c.whole) (omega arith) (bind_here s st.next y true ∙ value))
+          (later st.next (omega (arith, lt)))
           (named_next w b base n z bd N tested s y form last (with_steps w b base n z bd N st s (st.steps ++ Tested form (number last) ∷ []) h)) in
           subst (λ (a : StandingText). Moved st a s (Pass' a)) (sym e)
           (record {
@@ -269,7 +306,7 @@ module _
             more = omega arith;
             there = k;
           })
-      puts_move (by_test e) =
+      puts_move guarded (by_test e) =
           let tested = test form last st in
           subst (λ (a : StandingText). Moved st a s (Pass' a)) (sym e)
           (record {
@@ -282,24 +319,29 @@ module _
             there = put_now w b base n z bd N tested s c.whole form told fresh (with_steps w b base n z bd N st s (st.steps ++ Tested form (number last) ∷ []) h);
           })
 
-    join_moves : (v : Within) → Joins v c r st new → Moved st new s (Pass' new)
-    join_moves v (stays e k) = stay st new s (Pass' new) (ap (λ (a : StandingText). a.steps) e) (let same = ap (λ (a : StandingText). a.next) e in omega (arith, same)) (subst (λ (a : StandingText). Pass' a s) (sym e) h)
-    join_moves v (puts start inside form none one two sum k) = puts_move form (whole_told start inside form one two sum) (whole_new start inside form none one two sum) k
+    join_moves : (v : Within) (guarded : Bool) → Joins v guarded c r st new → Moved st new s (Pass' new)
+    join_moves v guarded (stays e k) = stay st new s (Pass' new) (ap (λ (a : StandingText). a.steps) e) (let same = ap (λ (a : StandingText). a.next) e in omega (arith, same))
+        (subst (λ (a : StandingText). Pass' a s) (sym e) h)
+    join_moves v guarded (puts start inside form none one two sum k) = puts_move form (whole_told start inside form one two sum) (whole_new start inside form none one two sum) guarded k
 
   -- one split after another
-  pub passes : (v : Within) (all cs : List Split) (st new : StandingText) (s : Symbols) → AllByRecursion (IsCut rs w b) cs → AllByRecursion (IsClosed base) cs → settle_some v rs all cs st ≡ Some new → Pass' st s → Moved st new s (Pass' new)
-  passes v all [] st new s cuts closed e h = let same : new ≡ st = cc in stay st new s (Pass' new) (ap (λ (a : StandingText). a.steps) same) (let k = ap (λ (a : StandingText). a.next) same in omega (arith, k)) (subst (λ (a : StandingText). Pass' a s) (sym same) h)
+  pub passes : (v : Within) (all cs : List Split) (st new : StandingText) (s : Symbols) → AllByRecursion (IsCut rs w b) cs → AllByRecursion (IsClosed base) cs →
+      settle_some v rs all cs st ≡ Some new → Pass' st s → Moved st new s (Pass' new)
+  passes v all [] st new s cuts closed e h = let same : new ≡ st = cc in stay st new s (Pass' new) (ap (λ (a : StandingText). a.steps) same)
+      (let k = ap (λ (a : StandingText). a.next) same in omega (arith, k)) (subst (λ (a : StandingText). Pass' a s) (sym same) h)
   passes v all (c ∷ cs) st new s cuts closed e h = begun (begin c (numbers_named rs c.whole) st) refl e (λ after u d m. passes v all cs after new u cuts.1 closed.1 d m)
     where
-      joined : (mid : StandingText) (o : Option StandingText) (t : Symbols) → join v (is_guarded rs all c) c (numbers_named rs c.whole) mid ≡ o → (o >>= settle_some v rs all cs) ≡ Some new → Pass' mid t →
+      joined : (mid : StandingText) (o : Option StandingText) (t : Symbols) → join v (is_guarded rs all c) c (numbers_named rs c.whole) mid ≡ o → (o >>= settle_some v rs all cs) ≡ Some new →
+          Pass' mid t →
           ((after : StandingText) (u : Symbols) → settle_some v rs all cs after ≡ Some new → Pass' after u → Moved after new u (Pass' new)) → Moved mid new t (Pass' new)
       joined mid None t j e k rest = absurd (cc e)
       joined mid (Some after) t j e k rest =
           moved_on mid after new t (Pass' after) (Pass' new)
-          (join_moves c cuts.0 closed.0 mid after t k v (joins c (numbers_named rs c.whole) mid after v (is_guarded rs all c) j))
+          (join_moves c cuts.0 closed.0 mid after t k v (is_guarded rs all c) (joins c (numbers_named rs c.whole) mid after v (is_guarded rs all c) j))
           (λ u m. rest after u e m)
 
-      begun : (o : Option StandingText) → begin c (numbers_named rs c.whole) st ≡ o → (o >>= λ mid. join v (is_guarded rs all c) c (numbers_named rs c.whole) mid >>= settle_some v rs all cs) ≡ Some new →
+      begun : (o : Option StandingText) → begin c (numbers_named rs c.whole) st ≡ o →
+          (o >>= λ mid. join v (is_guarded rs all c) c (numbers_named rs c.whole) mid >>= settle_some v rs all cs) ≡ Some new →
           ((after : StandingText) (u : Symbols) → settle_some v rs all cs after ≡ Some new → Pass' after u → Moved after new u (Pass' new)) → Moved st new s (Pass' new)
       begun None j e rest = absurd (cc e)
       begun (Some mid) j e rest =

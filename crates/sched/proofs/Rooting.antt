@@ -91,7 +91,8 @@ pub all_cuts_of : (P : Split → Type 0) (cs : List Split) (names : List (List �
 all_cuts_of P [] names a = tt
 all_cuts_of P (c ∷ cs) names a = of (is_among names c.whole) (all_cuts_of P cs (names ++ c.outer ∷ c.inner ∷ []) a.1) (all_cuts_of P cs names a.1)
   where
-    of : (v : Bool) → AllByRecursion P (cuts_of cs (names ++ c.outer ∷ c.inner ∷ [])) → AllByRecursion P (cuts_of cs names) → AllByRecursion P (if v then c ∷ cuts_of cs (names ++ c.outer ∷ c.inner ∷ []) else cuts_of cs names)
+    of : (v : Bool) → AllByRecursion P (cuts_of cs (names ++ c.outer ∷ c.inner ∷ [])) → AllByRecursion P (cuts_of cs names) →
+        AllByRecursion P (if v then c ∷ cuts_of cs (names ++ c.outer ∷ c.inner ∷ []) else cuts_of cs names)
     of true k m = (a.0, k)
     of false k m = m
 
@@ -99,12 +100,14 @@ apart_cuts_of : (cs : List Split) (names : List (List ℕ)) → AreApart cs → 
 apart_cuts_of [] names a = tt
 apart_cuts_of (c ∷ cs) names a = of (is_among names c.whole) (apart_cuts_of cs (names ++ c.outer ∷ c.inner ∷ []) a.3) (apart_cuts_of cs names a.3)
   where
-    of : (v : Bool) → AreApart (cuts_of cs (names ++ c.outer ∷ c.inner ∷ [])) → AreApart (cuts_of cs names) → AreApart (if v then c ∷ cuts_of cs (names ++ c.outer ∷ c.inner ∷ []) else cuts_of cs names)
+    of : (v : Bool) → AreApart (cuts_of cs (names ++ c.outer ∷ c.inner ∷ [])) → AreApart (cuts_of cs names) →
+        AreApart (if v then c ∷ cuts_of cs (names ++ c.outer ∷ c.inner ∷ []) else cuts_of cs names)
     of true k m = (a.0, a.1, all_cuts_of (λ d. IsApart d c) cs (names ++ c.outer ∷ c.inner ∷ []) a.2, k)
     of false k m = m
 
 module _ (dim : List ℕ → ℕ) (D : ℕ) where
-  named_along : (c : Split) (names : List (List ℕ)) → AllByRecursion (λ x. dim x ≡ D) names → is_among names c.whole ≡ true → IsAlong dim c → AllByRecursion (λ x. dim x ≡ D) (names ++ c.outer ∷ c.inner ∷ [])
+  named_along : (c : Split) (names : List (List ℕ)) → AllByRecursion (λ x. dim x ≡ D) names → is_among names c.whole ≡ true → IsAlong dim c →
+      AllByRecursion (λ x. dim x ≡ D) (names ++ c.outer ∷ c.inner ∷ [])
   named_along c names a e h =
       let here = among_all (λ x. dim x ≡ D) names c.whole a e in
       all_both (λ x. dim x ≡ D) names (c.outer ∷ c.inner ∷ []) a (h.outer ∙ here, (h.inner ∙ here, tt))
@@ -113,7 +116,8 @@ module _ (dim : List ℕ → ℕ) (D : ℕ) where
   dims_of [] names a h = tt
   dims_of (c ∷ cs) names a h = of (is_among names c.whole) refl (λ k. dims_of cs (names ++ c.outer ∷ c.inner ∷ []) k h.1) (dims_of cs names a h.1)
     where
-      of : (v : Bool) → is_among names c.whole ≡ v → (AllByRecursion (λ x. dim x ≡ D) (names ++ c.outer ∷ c.inner ∷ []) → AllByRecursion (λ c. dim c.whole ≡ D) (cuts_of cs (names ++ c.outer ∷ c.inner ∷ []))) →
+      of : (v : Bool) → is_among names c.whole ≡ v → (AllByRecursion (λ x. dim x ≡ D) (names ++ c.outer ∷ c.inner ∷ []) →
+          AllByRecursion (λ c. dim c.whole ≡ D) (cuts_of cs (names ++ c.outer ∷ c.inner ∷ []))) →
           AllByRecursion (λ c. dim c.whole ≡ D) (cuts_of cs names) → AllByRecursion (λ c. dim c.whole ≡ D) (if v then c ∷ cuts_of cs (names ++ c.outer ∷ c.inner ∷ []) else cuts_of cs names)
       of true e k m = (among_all (λ x. dim x ≡ D) names c.whole a e, k (named_along c names a e h.0))
       of false e k m = m
@@ -146,7 +150,8 @@ module _ (dim : List ℕ → ℕ) (cs : List Split) (along : AllByRecursion (IsA
   higher n (x ∷ xs) a =
       let lt = a.0 in
       all_both (λ d. n < dim d.whole) (reverse (cuts_of cs (x ∷ []))) (cuts_by_variable cs xs)
-      (all_reverse (λ d. n < dim d.whole) (cuts_of cs (x ∷ [])) (all_weaker (λ d. dim d.whole ≡ dim x) (λ d. n < dim d.whole) (λ d e. omega (arith, e, lt)) (cuts_of cs (x ∷ [])) (dims_of dim (dim x) cs (x ∷ []) (refl, tt) along)))
+      (all_reverse (λ d. n < dim d.whole) (cuts_of cs (x ∷ []))
+      (all_weaker (λ d. dim d.whole ≡ dim x) (λ d. n < dim d.whole) (λ d e. omega (arith, e, lt)) (cuts_of cs (x ∷ [])) (dims_of dim (dim x) cs (x ∷ []) (refl, tt) along)))
       (higher n xs a.1)
 
   other : (n : ℕ) (c d : Split) → dim c.whole ≡ n → IsAlong dim c → n < dim d.whole → IsApart c d
@@ -216,7 +221,8 @@ module _ (dim : List ℕ → ℕ) (D : ℕ) (ls : List Loop) (st : StandingText)
   by_loop x is h = subst (Stands st.known) h.2 (loops h.0 h.1 (ap dim h.2 ∙ is))
 
   -- of the names that these splits begin with and make, each stands
-  pub names_stand : (cs : List Split) (names : List (List ℕ)) → AllByRecursion (λ x. dim x ≡ D) names → AllByRecursion (IsAlong dim) cs → AreHeld ls cs → AllByRecursion (IsClosed st) (cuts_of cs names) →
+  pub names_stand : (cs : List Split) (names : List (List ℕ)) → AllByRecursion (λ x. dim x ≡ D) names → AllByRecursion (IsAlong dim) cs → AreHeld ls cs →
+      AllByRecursion (IsClosed st) (cuts_of cs names) →
       (x : List ℕ) → is_among names x ≡ true → IsHeld ls cs x → Stands st.known x
   names_stand [] names a along held closed x e (inl h) = by_loop x (among_all (λ y. dim y ≡ D) names x a e) h
   names_stand [] names a along held closed x e (inr h) = absurd h.1
@@ -230,7 +236,8 @@ module _ (dim : List ℕ → ℕ) (D : ℕ) (ls : List Loop) (st : StandingText)
       here = among_all (λ y. dim y ≡ D) names x a e
 
       whole : is_among names c.whole ≡ true → AllByRecursion (IsClosed st) (c ∷ cuts_of cs (names ++ c.outer ∷ c.inner ∷ [])) →
-          (AllByRecursion (λ x. dim x ≡ D) (names ++ c.outer ∷ c.inner ∷ []) → (y : List ℕ) → AllByRecursion (IsClosed st) (cuts_of cs (names ++ c.outer ∷ c.inner ∷ [])) → is_among (names ++ c.outer ∷ c.inner ∷ []) y ≡ true → IsHeld ls cs y → Stands st.known y) →
+          (AllByRecursion (λ x. dim x ≡ D) (names ++ c.outer ∷ c.inner ∷ []) → (y : List ℕ) → AllByRecursion (IsClosed st) (cuts_of cs (names ++ c.outer ∷ c.inner ∷ [])) → is_among
+          (names ++ c.outer ∷ c.inner ∷ []) y ≡ true → IsHeld ls cs y → Stands st.known y) →
           Stands st.known c.whole
       whole t k rest =
           let dims = named_along dim D c names a t along.0 in
@@ -239,10 +246,12 @@ module _ (dim : List ℕ → ℕ) (D : ℕ) (ls : List Loop) (st : StandingText)
           k.0.joined (k.0.begun outside) inside
 
       of : (v : Bool) → is_among names c.whole ≡ v → AllByRecursion (IsClosed st) (if v then c ∷ cuts_of cs (names ++ c.outer ∷ c.inner ∷ []) else cuts_of cs names) → IsHeld ls (c ∷ cs) x →
-          (AllByRecursion (λ x. dim x ≡ D) (names ++ c.outer ∷ c.inner ∷ []) → (y : List ℕ) → AllByRecursion (IsClosed st) (cuts_of cs (names ++ c.outer ∷ c.inner ∷ [])) → is_among (names ++ c.outer ∷ c.inner ∷ []) y ≡ true → IsHeld ls cs y → Stands st.known y) →
+          (AllByRecursion (λ x. dim x ≡ D) (names ++ c.outer ∷ c.inner ∷ []) → (y : List ℕ) → AllByRecursion (IsClosed st) (cuts_of cs (names ++ c.outer ∷ c.inner ∷ [])) → is_among
+          (names ++ c.outer ∷ c.inner ∷ []) y ≡ true → IsHeld ls cs y → Stands st.known y) →
           (AllByRecursion (IsClosed st) (cuts_of cs names) → IsHeld ls cs x → Stands st.known x) → Stands st.known x
       of v t k (inl m) made kept = by_loop x here m
       of true t k (inr (d, inl same, is)) made kept = subst (Stands st.known) (ap (λ (g : Split). g.whole) (sym same) ∙ is) (whole t k made)
       of true t k (inr (d, inr m, is)) made kept = made (named_along dim D c names a t along.0) x k.1 (among_left names (c.outer ∷ c.inner ∷ []) x e) (inr (d, m, is))
-      of false t k (inr (d, inl same, is)) made kept = absurd (let clash : is_among names c.whole ≡ true = ap (is_among names) (ap (λ (g : Split). g.whole) (sym same) ∙ is) ∙ e in let no : true ≡ false = sym clash ∙ t in cc no)
+      of false t k (inr (d, inl same, is)) made kept = absurd
+          (let clash : is_among names c.whole ≡ true = ap (is_among names) (ap (λ (g : Split). g.whole) (sym same) ∙ is) ∙ e in let no : true ≡ false = sym clash ∙ t in cc no)
       of false t k (inr (d, inr m, is)) made kept = kept k (inr (d, m, is))

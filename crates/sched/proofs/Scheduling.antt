@@ -22,7 +22,7 @@ get_set (z ∷ zs) (suc j) x (suc i) y e = of (get_set zs j x i y e)
     of (inl k) = inl (ap suc k.0, k.1)
     of (inr k) = inr k
 
-get_map : {A B : Type 0} (f : A → B) (xs : List A) (i : ℕ) (x : A) → slice_get xs i ≡ Some x → slice_get (map f xs) i ≡ Some (f x)
+pub get_map : {A B : Type 0} (f : A → B) (xs : List A) (i : ℕ) (x : A) → slice_get xs i ≡ Some x → slice_get (map f xs) i ≡ Some (f x)
 get_map f [] i x e = absurd (cc e)
 get_map f (y ∷ ys) zero x e = (let same : y ≡ x = cc in ap (λ z. Some (f z)) same)
 get_map f (y ∷ ys) (suc i) x e = get_map f ys i x e
@@ -33,15 +33,16 @@ all_behind : (f : SubjectText) (ds es : List DirectiveText) (p : PlacedText) →
 all_behind f [] es p = refl
 all_behind f (d ∷ ds) es p = of (applied f d p) (λ q. all_behind f ds es q)
   where
-    of : (o : Result PlacedText Rule) → ((q : PlacedText) → all_in f (ds ++ es) q ≡ and_next (all_in f ds q) (all_in f es)) → and_next o (all_in f (ds ++ es)) ≡ and_next (and_next o (all_in f ds)) (all_in f es)
+    of : (o : Result PlacedText Rule) → ((q : PlacedText) → all_in f (ds ++ es) q ≡ and_next (all_in f ds q) (all_in f es)) →
+        and_next o (all_in f (ds ++ es)) ≡ and_next (and_next o (all_in f ds)) (all_in f es)
     of (Ok q) rest = rest q
     of (Err r) rest = refl
 
 -- each function's loops are what some directives make of its first ones
-abbrev ArePlaced : List SubjectText → List PlacedText → Type 0
+abbrev pub ArePlaced : List SubjectText → List PlacedText → Type 0
 ArePlaced fs ps = (i : ℕ) (f : SubjectText) (p : PlacedText) → slice_get fs i ≡ Some f → slice_get ps i ≡ Some p → (ds : List DirectiveText) × (all_in f ds (start f) ≡ Ok p)
 
-starts_placed : (fs : List SubjectText) → ArePlaced fs (map start fs)
+pub starts_placed : (fs : List SubjectText) → ArePlaced fs (map start fs)
 starts_placed fs i f p at is = ([], let e : Some (start f) ≡ Some p = sym (get_map start fs i f at) ∙ is in cc e)
 
 some_outcome : (ps qs : List PlacedText) → ◌≡◌ {A = Outcome} (Ok ps) (Ok qs) → ps ≡ qs
@@ -60,10 +61,12 @@ module _ (fs : List SubjectText) where
           let same : Some g ≡ Some f = sym at ∙ ap (slice_get fs) (sym m.0) ∙ there in
           let is_same : g ≡ f = cc same in
           let before = h j g q at is in
-          let made : all_in g (before.0 ++ t.directives) (start g) ≡ Ok p = all_behind g before.0 t.directives (start g) ∙ ap (λ o. and_next o (all_in g t.directives)) before.1 ∙ k ∙ ap (λ m. Ok m) m.1 in
+          let made : all_in g (before.0 ++ t.directives) (start g) ≡ Ok p = all_behind g before.0 t.directives (start g) ∙ ap (λ o. and_next o (all_in g t.directives)) before.1 ∙ k
+          ∙ ap (λ m. Ok m) m.1 in
           (before.0 ++ t.directives, subst (λ s. all_in s (before.0 ++ t.directives) (start s) ≡ Ok p) is_same made)
 
-  at_number : (ps qs : List PlacedText) (j : ℕ) (t : ScheduledText) (a : Option SubjectText) (b : Option PlacedText) → slice_get fs j ≡ a → slice_get ps j ≡ b → ArePlaced fs ps → placed_at ps j t a b ≡ Ok qs → ArePlaced fs qs
+  at_number : (ps qs : List PlacedText) (j : ℕ) (t : ScheduledText) (a : Option SubjectText) (b : Option PlacedText) → slice_get fs j ≡ a → slice_get ps j ≡ b → ArePlaced fs ps →
+      placed_at ps j t a b ≡ Ok qs → ArePlaced fs qs
   at_number ps qs j t (Some g) (Some q) at is h e = one_placed ps qs j t g q at is h (all_in g t.directives q) refl e
   at_number ps qs j t (Some g) None at is h e = absurd (cc e)
   at_number ps qs j t None b at is h e = absurd (cc e)
@@ -72,11 +75,12 @@ module _ (fs : List SubjectText) where
   by_number ps qs t (Some j) h e = at_number ps qs j t (slice_get fs j) (slice_get ps j) refl refl h e
   by_number ps qs t None h e = absurd (cc e)
 
-  all_placed : (s : Schedule) (ps qs : List PlacedText) → ArePlaced fs ps → schedule_in fs s ps ≡ Ok qs → ArePlaced fs qs
+  pub all_placed : (s : Schedule) (ps qs : List PlacedText) → ArePlaced fs ps → schedule_in fs s ps ≡ Ok qs → ArePlaced fs qs
   all_placed [] ps qs h e = subst (ArePlaced fs) (some_outcome ps qs e) h
   all_placed (t ∷ s) ps qs h e = of (scheduled_in fs t ps) refl e (λ ms k d. all_placed s ms qs k d)
     where
-      of : (o : Outcome) → scheduled_in fs t ps ≡ o → and_then o (schedule_in fs s) ≡ Ok qs → ((ms : List PlacedText) → ArePlaced fs ms → schedule_in fs s ms ≡ Ok qs → ArePlaced fs qs) → ArePlaced fs qs
+      of : (o : Outcome) → scheduled_in fs t ps ≡ o → and_then o (schedule_in fs s) ≡ Ok qs → ((ms : List PlacedText) → ArePlaced fs ms → schedule_in fs s ms ≡ Ok qs → ArePlaced fs qs) →
+          ArePlaced fs qs
       of (Ok ms) k e rest = rest ms (by_number ps ms t (position (λ f. same_name f.name t.function) fs) h k) e
       of (Err r) k e rest = absurd (cc e)
 

@@ -46,7 +46,8 @@ pub stands_more : (ks : List Known) (k : Known) (x : List ℕ) → Stands ks x �
 stands_more [] k x h = absurd (cc h.1)
 stands_more (m ∷ ks) k x h = of (same_name m.name x) h.1 (λ e. stands_more ks k x (h.0, e))
   where
-    of : (v : Bool) → one_of v m (find (λ m. same_name m.name x) ks) ≡ Some h.0 → (form_named ks x ≡ Some h.0 → Stands (ks ++ k ∷ []) x) → (f : Form) × (one_of v m (find (λ m. same_name m.name x) (ks ++ k ∷ [])) ≡ Some f)
+    of : (v : Bool) → one_of v m (find (λ m. same_name m.name x) ks) ≡ Some h.0 → (form_named ks x ≡ Some h.0 → Stands (ks ++ k ∷ []) x) →
+        (f : Form) × (one_of v m (find (λ m. same_name m.name x) (ks ++ k ∷ [])) ≡ Some f)
     of true e rest = (m.form, refl)
     of false e rest = rest e
 
@@ -67,7 +68,8 @@ found_more [] k x f e = of (same_name k.name x) refl e
     of false h e = absurd (cc e)
 found_more (m ∷ ks) k x f e = of (same_name m.name x) e (λ d. found_more ks k x f d)
   where
-    of : (v : Bool) → one_of v m (find (λ m. same_name m.name x) (ks ++ k ∷ [])) ≡ Some f → (form_named (ks ++ k ∷ []) x ≡ Some f → (form_named ks x ≡ Some f) ⊎ ((k.name ≡ x) × (k.form ≡ f))) → (one_of v m (find (λ m. same_name m.name x) ks) ≡ Some f) ⊎ ((k.name ≡ x) × (k.form ≡ f))
+    of : (v : Bool) → one_of v m (find (λ m. same_name m.name x) (ks ++ k ∷ [])) ≡ Some f → (form_named (ks ++ k ∷ []) x ≡ Some f → (form_named ks x ≡ Some f) ⊎ ((k.name ≡ x) × (k.form ≡ f))) →
+        (one_of v m (find (λ m. same_name m.name x) ks) ≡ Some f) ⊎ ((k.name ≡ x) × (k.form ≡ f))
     of true e rest = inl e
     of false e rest = rest e
 
@@ -122,54 +124,56 @@ module _ (c : Split) (r : Numbers) (st new : StandingText) where
 -- ---- the position
 
 -- how the position of the split's loop is kept within it
-pub data Puts (x : List ℕ) (last : ℤ) (form : Form) (st new : StandingText) : Type 0 where
-  freely : new ≡ is_now x form st → Puts x last form st new
+pub data Puts (guarded : Bool) (x : List ℕ) (last : ℤ) (form : Form) (st new : StandingText) : Type 0 where
+  freely : guarded ≡ false → new ≡ is_now x form st → Puts guarded x last form st new
   by_loop : (s : ℕ) (limit : Form) → innermost st.bound form ≡ Some s → combined (number last) (negsuc 0) (without form s) ≡ Some limit →
-      new ≡ is_now x form (record st { limits = st.limits ++ limit ∷ [] }) → Puts x last form st new
-  by_guard : new ≡ keep_by_guard x form last st → Puts x last form st new
-  by_test : new ≡ keep_by_test x form last st → Puts x last form st new
+      new ≡ is_now x form (record st { limits = st.limits ++ limit ∷ [] }) → Puts guarded x last form st new
+  by_guard : new ≡ keep_by_guard x form last st → Puts guarded x last form st new
+  by_test : new ≡ keep_by_test x form last st → Puts guarded x last form st new
 
-pub data Joins (v : Within) (c : Split) (r : Numbers) (st new : StandingText) : Type 0 where
-  stays : new ≡ st → (v ≡ within.Grid) ⊎ (Stands st.starts c.whole → Stands st.known c.inner → Stands st.known c.whole) → Joins v c r st new
-  puts : (start inner form : Form) → form_named st.known c.whole ≡ None → form_named st.starts c.whole ≡ Some start → form_named st.known c.inner ≡ Some inner → combined start (pos 1) inner ≡ Some form →
-      Puts c.whole (last_number r) form st new → Joins v c r st new
+pub data Joins (v : Within) (guarded : Bool) (c : Split) (r : Numbers) (st new : StandingText) : Type 0 where
+  stays : new ≡ st → (v ≡ within.Grid) ⊎ (Stands st.starts c.whole → Stands st.known c.inner → Stands st.known c.whole) → Joins v guarded c r st new
+  puts : (start inner form : Form) → form_named st.known c.whole ≡ None → form_named st.starts c.whole ≡ Some start → form_named st.known c.inner ≡ Some inner →
+      combined start (pos 1) inner ≡ Some form →
+      Puts guarded c.whole (last_number r) form st new → Joins v guarded c r st new
 
 module _ (c : Split) (r : Numbers) (st new : StandingText) where
   by_limit : (form : Form) (s : ℕ) → innermost st.bound form ≡ Some s → (o : Option Form) → combined (number (last_number r)) (negsuc 0) (without form s) ≡ o →
-      (o >>= λ limit. Some (is_now c.whole form (record st { limits = st.limits ++ limit ∷ [] }))) ≡ Some new → Puts c.whole (last_number r) form st new
+      (o >>= λ limit. Some (is_now c.whole form (record st { limits = st.limits ++ limit ∷ [] }))) ≡ Some new → Puts true c.whole (last_number r) form st new
   by_limit form s inner (Some limit) h e = by_loop s limit inner h (some_standing _ new e)
   by_limit form s inner None h e = absurd (cc e)
 
-  kept : (v : Within) (form : Form) (o : Option ℕ) → innermost st.bound form ≡ o → keep_within v c.whole form (last_number r) st o ≡ Some new → (v ≡ within.Grid) × (new ≡ st) ⊎ Puts c.whole (last_number r) form st new
+  kept : (v : Within) (form : Form) (o : Option ℕ) → innermost st.bound form ≡ o → keep_within v c.whole form (last_number r) st o ≡ Some new →
+      (v ≡ within.Grid) × (new ≡ st) ⊎ Puts true c.whole (last_number r) form st new
   kept within.Grid form o h e = inl (refl, some_standing st new e)
   kept within.Nest form (Some s) h e = inr (by_limit form s h (combined (number (last_number r)) (negsuc 0) (without form s)) refl e)
   kept within.Nest form None h e = inr (by_guard (some_standing _ new e))
   kept within.Lanes form (Some s) h e = inr (by_limit form s h (combined (number (last_number r)) (negsuc 0) (without form s)) refl e)
   kept within.Lanes form None h e = inr (by_test (some_standing _ new e))
 
-  put : (v : Within) (guarded : Bool) (form : Form) → put_together v guarded c r form st ≡ Some new → (v ≡ within.Grid) × (new ≡ st) ⊎ Puts c.whole (last_number r) form st new
-  put v false form e = inr (freely (some_standing _ new e))
+  put : (v : Within) (guarded : Bool) (form : Form) → put_together v guarded c r form st ≡ Some new → (v ≡ within.Grid) × (new ≡ st) ⊎ Puts guarded c.whole (last_number r) form st new
+  put v false form e = inr (freely refl (some_standing _ new e))
   put v true form e = kept v form (innermost st.bound form) refl e
 
   by_parts : (v : Within) (guarded : Bool) (start inner : Form) → form_named st.known c.whole ≡ None → form_named st.starts c.whole ≡ Some start → form_named st.known c.inner ≡ Some inner →
-      (o : Option Form) → combined start (pos 1) inner ≡ o → (o >>= λ form. put_together v guarded c r form st) ≡ Some new → Joins v c r st new
+      (o : Option Form) → combined start (pos 1) inner ≡ o → (o >>= λ form. put_together v guarded c r form st) ≡ Some new → Joins v guarded c r st new
   by_parts v guarded start inner none first second (Some form) h e = of (put v guarded form e)
     where
-      of : (v ≡ within.Grid) × (new ≡ st) ⊎ Puts c.whole (last_number r) form st new → Joins v c r st new
+      of : (v ≡ within.Grid) × (new ≡ st) ⊎ Puts guarded c.whole (last_number r) form st new → Joins v guarded c r st new
       of (inl k) = stays k.1 (inl k.0)
       of (inr k) = puts start inner form none first second h k
   by_parts v guarded start inner none first second None h e = absurd (cc e)
 
   by_both : (v : Within) (guarded : Bool) → form_named st.known c.whole ≡ None → (a b : Option Form) → form_named st.starts c.whole ≡ a → form_named st.known c.inner ≡ b →
-      join_over v guarded c r a b st ≡ Some new → Joins v c r st new
+      join_over v guarded c r a b st ≡ Some new → Joins v guarded c r st new
   by_both v guarded none (Some start) (Some inner) first second e = by_parts v guarded start inner none first second (combined start (pos 1) inner) refl e
   by_both v guarded none (Some start) None first second e = stays (some_standing st new e) (inr (λ h k. absurd (stands_not st.known c.inner second k)))
   by_both v guarded none None b first second e = stays (some_standing st new e) (inr (λ h k. absurd (stands_not st.starts c.whole first h)))
 
-  pub joins : (v : Within) (guarded : Bool) → join v guarded c r st ≡ Some new → Joins v c r st new
+  pub joins : (v : Within) (guarded : Bool) → join v guarded c r st ≡ Some new → Joins v guarded c r st new
   joins v guarded e = of (form_named st.known c.whole) refl e
     where
       of : (o : Option Form) → form_named st.known c.whole ≡ o →
-          (elim o [ Some form ↦ Some st | None ↦ join_over v guarded c r (form_named st.starts c.whole) (form_named st.known c.inner) st ]) ≡ Some new → Joins v c r st new
+          (elim o [ Some form ↦ Some st | None ↦ join_over v guarded c r (form_named st.starts c.whole) (form_named st.known c.inner) st ]) ≡ Some new → Joins v guarded c r st new
       of (Some form) h e = stays (some_standing st new e) (inr (λ first second. (form, h)))
       of None h e = by_both v guarded h (form_named st.starts c.whole) (form_named st.known c.inner) refl refl e

@@ -27,7 +27,7 @@ use Rattle.sched.proofs.Directing.{or_parts, directives_keep}
 
 -- ---- names that differ
 
-differ_all : (x : List ℕ) (xs : List (List ℕ)) → is_among xs x ≡ false → AllByRecursion (λ y. same_name x y ≡ false) xs
+pub differ_all : (x : List ℕ) (xs : List (List ℕ)) → is_among xs x ≡ false → AllByRecursion (λ y. same_name x y ≡ false) xs
 differ_all x [] e = tt
 differ_all x (y ∷ ys) e =
     let k = or_parts (same_name y x) (is_among ys x) e in
@@ -49,7 +49,8 @@ have_dimensions d (x ∷ xs) e =
     let k = or_parts (is_among xs x) (has_double xs) e in (
       ap (λ (v : Bool). if v then d else place_from (d + 1) xs x) (name_same x x refl),
       dimensions_on (place_from (d + 1) xs) (place_from d (x ∷ xs)) (d + 1) xs
-          (all_weaker (λ y. same_name x y ≡ false) (λ y. place_from d (x ∷ xs) y ≡ place_from (d + 1) xs y) (λ y no_same. ap (λ (v : Bool). if v then d else place_from (d + 1) xs y) no_same) xs (differ_all x xs k.0))
+          (all_weaker (λ y. same_name x y ≡ false) (λ y. place_from d (x ∷ xs) y ≡ place_from (d + 1) xs y) (λ y no_same. ap (λ (v : Bool). if v then d else place_from (d + 1) xs y) no_same) xs
+          (differ_all x xs k.0))
           (have_dimensions (d + 1) xs k.1),
     )
 
@@ -64,7 +65,7 @@ gives_like w v (x ∷ xs) (z ∷ zs) a g = (a.0 ∙ g.0, gives_like w v xs zs a.
 abbrev chosen : ℤ → List (List ℕ) → List ℤ → List ℕ → Bool → ℤ
 chosen z xs zs y v = elim v [ true ↦ z | false ↦ bound xs zs y ]
 
-gives_bound : (xs : List (List ℕ)) (zs : List ℤ) → has_double xs ≡ false → length xs ≡ length zs → Gives (bound xs zs) xs zs
+pub gives_bound : (xs : List (List ℕ)) (zs : List ℤ) → has_double xs ≡ false → length xs ≡ length zs → Gives (bound xs zs) xs zs
 gives_bound [] [] e l = tt
 gives_bound [] (z ∷ zs) e l = absurd (omega (arith, l))
 gives_bound (x ∷ xs) [] e l = absurd (omega (arith, l))
@@ -82,7 +83,7 @@ gives_parts w [] ys (z ∷ zs) us l g = absurd (omega (arith, l))
 gives_parts w (x ∷ xs) ys [] us l g = absurd (omega (arith, l))
 gives_parts w (x ∷ xs) ys (z ∷ zs) us l g = let k = gives_parts w xs ys zs us (omega (arith, l)) g.1 in ((g.0, k.0), k.1)
 
-extents_long : (es : List Extent) (q : List ℤ) → IsInExtents es q → length es ≡ length q
+pub extents_long : (es : List Extent) (q : List ℤ) → IsInExtents es q → length es ≡ length q
 extents_long [] [] h = refl
 extents_long [] (z ∷ zs) h = absurd h
 extents_long (e ∷ es) [] h = absurd h
@@ -133,7 +134,8 @@ fits_first r rs w low last =
       found = (r, same);
     }
 
-variables_fit : (xs : List (List ℕ)) (es : List Extent) (q : List ℤ) (w : List ℕ → ℤ) → has_double xs ≡ false → IsInExtents es q → Gives w xs q → AllByRecursion (VariableFits (whole_numbers xs es) w) xs
+variables_fit : (xs : List (List ℕ)) (es : List Extent) (q : List ℤ) (w : List ℕ → ℤ) → has_double xs ≡ false → IsInExtents es q → Gives w xs q →
+    AllByRecursion (VariableFits (whole_numbers xs es) w) xs
 variables_fit [] es q w d h g = tt
 variables_fit (x ∷ xs) es [] w d h g = absurd g
 variables_fit (x ∷ xs) [] (z ∷ zs) w d h g = absurd h
@@ -148,7 +150,8 @@ variables_fit (x ∷ xs) (e ∷ es) (z ∷ zs) w d h g =
           (differ_all x xs k.0) (variables_fit xs es zs w k.1 h.2 g.1),
     )
 
-loops_fit : (rs : List Numbers) (w : List ℕ → ℤ) (dim : List ℕ → ℕ) (used : List (List ℕ)) (d : ℕ) (xs : List (List ℕ)) → HaveDimensions dim d xs → AllByRecursion (VariableFits rs w) xs → AllByRecursion (λ x. is_among used x ≡ true) xs →
+loops_fit : (rs : List Numbers) (w : List ℕ → ℤ) (dim : List ℕ → ℕ) (used : List (List ℕ)) (d : ℕ) (xs : List (List ℕ)) → HaveDimensions dim d xs → AllByRecursion (VariableFits rs w) xs →
+    AllByRecursion (λ x. is_among used x ≡ true) xs →
     AllByRecursion (LoopFits rs w dim used) (starting d xs)
 loops_fit rs w dim used d [] h a u = tt
 loops_fit rs w dim used d (x ∷ xs) h a u =
@@ -164,12 +167,22 @@ start_held d (x ∷ xs) =
     more y (inl k) = inl (k.0, inr k.1, k.2)
     more y (inr k) = absurd k.1
 
-numbers_used : (used : List (List ℕ)) (xs : List (List ℕ)) (es : List Extent) → AllByRecursion (λ x. is_among used x ≡ true) xs → AllByRecursion (λ r. is_among used r.name ≡ true) (whole_numbers xs es)
+numbers_used : (used : List (List ℕ)) (xs : List (List ℕ)) (es : List Extent) → AllByRecursion (λ x. is_among used x ≡ true) xs →
+    AllByRecursion (λ r. is_among used r.name ≡ true) (whole_numbers xs es)
 numbers_used used [] es a = tt
 numbers_used used (x ∷ xs) [] a = tt
 numbers_used used (x ∷ xs) (e ∷ es) a = (a.0, numbers_used used xs es a.1)
 
-start_arranged : (xs reductions : List (List ℕ)) (region : List Extent) (q : List ℤ) (w : List ℕ → ℤ) → has_double xs ≡ false → IsInExtents region q → Gives w xs q → IsArranged xs (xs ++ reductions) region w (starting 0 xs) [] (xs ++ reductions)
+-- no numbers of other names
+whole_none : (xs : List (List ℕ)) (es : List Extent) (y : List ℕ) → is_among xs y ≡ false → numbers_found (whole_numbers xs es) y ≡ None
+whole_none [] es y other = refl
+whole_none (x ∷ xs) [] y other = refl
+whole_none (x ∷ xs) (e ∷ es) y other =
+    let k = or_parts (same_name x y) (is_among xs y) other in
+    ap (λ (v : Bool). if v then Some (record { name = x; low = e.low; count = e.count }) else numbers_found (whole_numbers xs es) y) k.0 ∙ whole_none xs es y k.1
+
+pub start_arranged : (xs reductions : List (List ℕ)) (region : List Extent) (q : List ℤ) (w : List ℕ → ℤ) → has_double xs ≡ false → IsInExtents region q → Gives w xs q →
+    IsArranged xs (xs ++ reductions) region w (starting 0 xs) [] (xs ++ reductions)
 start_arranged xs reductions region q w d h g =
     let used = xs ++ reductions in
     let taken = all_weaker (λ x. is_among xs x ≡ true) (λ x. is_among (xs ++ reductions) x ≡ true) (λ x e. among_left xs reductions x e) xs (all_among xs) in
@@ -191,11 +204,13 @@ start_arranged xs reductions region q w d h g =
       used_first = (λ y e. e);
       used_numbers = numbers_used used xs region taken;
       used_variables = taken;
+      others = (λ y t other. whole_none xs region y other);
     }
 
 -- ---- behind the last directive
 
-laid_out : (xs first : List (List ℕ)) (region : List Extent) (given : List ℕ → ℤ) (p : PlacedText) (h : IsArranged xs first region given p.loops p.cuts p.used) → IsLaidOut xs p (loop_numbers xs p.cuts region) h.w h.b h.dim
+laid_out : (xs first : List (List ℕ)) (region : List Extent) (given : List ℕ → ℤ) (p : PlacedText) (h : IsArranged xs first region given p.loops p.cuts p.used) →
+    IsLaidOut xs p (loop_numbers xs p.cuts region) h.w h.b h.dim
 laid_out xs first region given p h =
     let here : IsLaidOut xs p h.rs h.w h.b h.dim = record {
       cuts = all_weaker (SplitFits h.rs h.w h.b h.dim p.used) (IsCut h.rs h.w h.b) (λ c k. k.cut) p.cuts h.cuts;
@@ -249,14 +264,15 @@ names_are [] = refl
 names_are (d ∷ ds) = ap (λ (l : List (List ℕ)). d.variable ∷ l) (names_are ds)
 
 -- the definition's reduction variables are the function's own
-record BodyFits (xs reductions : List (List ℕ)) (b : BodyText) : Type 0 where
-  own : has_double (xs ++ names_of b.ranges) ≡ false
-  among : AllByRecursion (λ x. is_among reductions x ≡ true) (names_of b.ranges)
+pub record BodyFits (xs reductions : List (List ℕ)) (b : BodyText) : Type 0 where
+  pub own : has_double (xs ++ names_of b.ranges) ≡ false
+  pub among : AllByRecursion (λ x. is_among reductions x ≡ true) (names_of b.ranges)
 
 some_body : (a b : BodyText) → Some a ≡ Some b → a ≡ b
 some_body a b e = cc
 
-change_fits : (xs : List (List ℕ)) (us : List Change) → AllByRecursion (λ u. has_double (xs ++ range_names u.ranges) ≡ false) us → (n : ℕ) (b : BodyText) → slice_get (map (change_body xs) us) n ≡ Some b → BodyFits xs (reductions_of us) b
+change_fits : (xs : List (List ℕ)) (us : List Change) → AllByRecursion (λ u. has_double (xs ++ range_names u.ranges) ≡ false) us → (n : ℕ) (b : BodyText) →
+    slice_get (map (change_body xs) us) n ≡ Some b → BodyFits xs (reductions_of us) b
 change_fits xs [] a n b e = absurd (cc e)
 change_fits xs (u ∷ us) a zero b e =
     let same = names_are u.ranges in
@@ -264,13 +280,18 @@ change_fits xs (u ∷ us) a zero b e =
     (record {
       own = ap (λ (l : List (List ℕ)). has_double (xs ++ l)) same ∙ a.0;
       among = subst (AllByRecursion (λ x. is_among (reductions_of (u ∷ us)) x ≡ true)) (sym same)
-          (all_weaker (λ x. is_among (range_names u.ranges) x ≡ true) (λ x. is_among (reductions_of (u ∷ us)) x ≡ true) (λ x h. among_left (range_names u.ranges) (reductions_of us) x h) (range_names u.ranges) (all_among (range_names u.ranges)));
+          (all_weaker (λ x. is_among (range_names u.ranges) x ≡ true) (λ x. is_among (reductions_of (u ∷ us)) x ≡ true) (λ x h. among_left (range_names u.ranges) (reductions_of us) x h)
+          (range_names u.ranges) (all_among (range_names u.ranges)));
     })
 change_fits xs (u ∷ us) a (suc n) b e =
     let k = change_fits xs us a.1 n b e in
-    record { own = k.own; among = all_weaker (λ x. is_among (reductions_of us) x ≡ true) (λ x. is_among (reductions_of (u ∷ us)) x ≡ true) (λ x h. among_right (range_names u.ranges) (reductions_of us) x h) (names_of b.ranges) k.among }
+    record {
+      own = k.own;
+      among = all_weaker (λ x. is_among (reductions_of us) x ≡ true) (λ x. is_among (reductions_of (u ∷ us)) x ≡ true)
+          (λ x h. among_right (range_names u.ranges) (reductions_of us) x h) (names_of b.ranges) k.among;
+    }
 
-body_fits : (f : Function) → HasOwnNames f → (n : ℕ) (b : BodyText) → slice_get (bodies_of f) n ≡ Some b → BodyFits f.variables (reductions_of f.changes) b
+pub body_fits : (f : Function) → HasOwnNames f → (n : ℕ) (b : BodyText) → slice_get (bodies_of f) n ≡ Some b → BodyFits f.variables (reductions_of f.changes) b
 body_fits f h zero b e =
     subst (BodyFits f.variables (reductions_of f.changes)) (some_body (record { missing = []; ranges = [] }) b e)
     (record { own = ap has_double (append-nil f.variables) ∙ h.variables; among = tt })

@@ -132,7 +132,8 @@ factor_of-least (t ∷ ts) i a =
 made_factor : (a b c : Form) (k : ℤ) (i : ℕ) → combined a k b ≡ Some c → factor_of c.terms i ≡ factor_of a.terms i +ℤ k *ℤ factor_of b.terms i
 made_factor a b c k i e = ap (λ (f : Form). factor_of f.terms i) (combined-means a k b c e).is ∙ factor_of-sum a.terms k b.terms i
 
-module _ (n : ℕ) (a b c : Form) (k : ℤ) (some : pos 0 <ℤ k) (e : combined a k b ≡ Some c) (first : AllByRecursion (λ t. pos 0 <ℤ t.factor) a.terms) (second : AllByRecursion (λ t. pos 0 <ℤ t.factor) b.terms) where
+module _ (n : ℕ) (a b c : Form) (k : ℤ) (some : pos 0 <ℤ k) (e : combined a k b ≡ Some c) (first : AllByRecursion (λ t. pos 0 <ℤ t.factor) a.terms)
+    (second : AllByRecursion (λ t. pos 0 <ℤ t.factor) b.terms) where
   pub new_first : IsNew n a → IsNew n c
   new_first h =
       let sum = made_factor a b c k h.0 e in
@@ -205,7 +206,8 @@ pub record IsInnermost (n : ℕ) (f : Form) (i : ℕ) : Type 0 where
 counted_means : (bound : List ℕ) (t : Multiple) (i : ℕ) → counted_once bound t ≡ Some i → (is_bound bound t.symbol ≡ true) × (t.factor ≡ pos 1) × (t.symbol ≡ i)
 counted_means bound t i e = of (is_bound bound t.symbol) (int_eq t.factor (pos 1)) refl refl e
   where
-    of : (u v : Bool) → is_bound bound t.symbol ≡ u → int_eq t.factor (pos 1) ≡ v → (if u && v then Some t.symbol else None) ≡ Some i → (is_bound bound t.symbol ≡ true) × (t.factor ≡ pos 1) × (t.symbol ≡ i)
+    of : (u v : Bool) → is_bound bound t.symbol ≡ u → int_eq t.factor (pos 1) ≡ v → (if u && v then Some t.symbol else None) ≡ Some i →
+        (is_bound bound t.symbol ≡ true) × (t.factor ≡ pos 1) × (t.symbol ≡ i)
     of true true h k e = (h, grind (arith, nat_tests, Decides-int_eq t.factor (pos 1)), cc)
     of true false h k e = absurd (cc e)
     of false v h k e = absurd (cc e)
@@ -215,7 +217,8 @@ from_new n f m new a = ⊎_elim
     (λ lt. let none = above_none f.terms m new.0 a (let le = new.1 in omega (arith, lt, le)) in let some = new.2 in absurd (omega (arith, ints, none, some)))
     (λ le. le) (cases_lt m n)
 
-last_of : (n : ℕ) (bound : List ℕ) (f : Form) (i : ℕ) (t : Multiple) → IsNew n f → AllByRecursion (λ j. j ≤ n) bound → IsLast f.terms t → is_bound bound t.symbol ≡ true → t.factor ≡ pos 1 → t.symbol ≡ i → IsInnermost n f i
+last_of : (n : ℕ) (bound : List ℕ) (f : Form) (i : ℕ) (t : Multiple) → IsNew n f → AllByRecursion (λ j. j ≤ n) bound → IsLast f.terms t → is_bound bound t.symbol ≡ true → t.factor ≡ pos 1 →
+    t.symbol ≡ i → IsInnermost n f i
 last_of n bound f i t new a last counted one is =
     let below = bound_below bound n t.symbol a counted in
     let above = from_new n f t.symbol new last.highest in
@@ -261,17 +264,24 @@ limit_on n m z s t l k le h = record {
 minus_one : (v : ℤ) → negsuc 0 *ℤ v +ℤ v ≡ pos 0
 minus_one v = omega (arith, ints)
 
-pub limit_of : (n : ℕ) (s : Symbols) (f limit : Form) (y last : ℤ) (i : ℕ) → form_value f s ≡ y → y ≤ℤ last → IsInnermost n f i →
-    combined (number last) (negsuc 0) (without f i) ≡ Some limit → IsLimit n (s.value n) s limit
-limit_of n s f limit y last i value most inner e =
+-- what the limit of a form comes to
+pub limit_value : (n : ℕ) (s : Symbols) (f limit : Form) (last : ℤ) (i : ℕ) → IsInnermost n f i → combined (number last) (negsuc 0) (without f i) ≡ Some limit →
+    (form_value limit s +ℤ form_value f s) ≡ last +ℤ s.value n
+limit_value n s f limit last i inner e =
     let parts : form_value f s ≡ form_value (without f i) s +ℤ factor_of f.terms i *ℤ s.value i = (let k = sum_of-without i f.terms s.value in omega (arith, ints, k)) in
     let once : factor_of f.terms i *ℤ s.value i ≡ s.value n = ap (λ k. k *ℤ s.value i) inner.once ∙ one_times (s.value i) ∙ ap s.value inner.is in
     let sum = ap (λ g. form_value g s) (combined-means (number last) (negsuc 0) (without f i) limit e).is ∙ value_of-plus_multiple (number last) (negsuc 0) (without f i) s.value in
     let end = number_is last s in
     let less = minus_one (form_value (without f i) s) in
-    record {
-      most = omega (arith, ints, parts, once, sum, end, less, value, most);
-      outer = subst (λ (g : Form). AllByRecursion (λ t. t.symbol < n) g.terms) (sym (combined-means (number last) (negsuc 0) (without f i) limit e).is)
-          (plus_terms_all (λ t. t.symbol < n) (negsuc 0) (λ x t l m. m) [] (without f i).terms tt
-          (subst (λ m. AllByRecursion (λ u. u.symbol < m) (without f i).terms) inner.is (less_all i f.terms inner.highest)));
-    }
+    omega (arith, ints, parts, once, sum, end, less)
+
+pub limit_outer : (n : ℕ) (f limit : Form) (last : ℤ) (i : ℕ) → IsInnermost n f i → combined (number last) (negsuc 0) (without f i) ≡ Some limit → AllByRecursion (λ t. t.symbol < n) limit.terms
+limit_outer n f limit last i inner e =
+    subst (λ (g : Form). AllByRecursion (λ t. t.symbol < n) g.terms) (sym (combined-means (number last) (negsuc 0) (without f i) limit e).is)
+    (plus_terms_all (λ t. t.symbol < n) (negsuc 0) (λ x t l m. m) [] (without f i).terms tt
+    (subst (λ m. AllByRecursion (λ u. u.symbol < m) (without f i).terms) inner.is (less_all i f.terms inner.highest)))
+
+pub limit_of : (n : ℕ) (s : Symbols) (f limit : Form) (y last : ℤ) (i : ℕ) → form_value f s ≡ y → y ≤ℤ last → IsInnermost n f i →
+    combined (number last) (negsuc 0) (without f i) ≡ Some limit → IsLimit n (s.value n) s limit
+limit_of n s f limit y last i value most inner e =
+    record { most = (let k = limit_value n s f limit last i inner e in omega (arith, ints, k, value, most)); outer = limit_outer n f limit last i inner e }

@@ -33,7 +33,7 @@ use Rattle.sched.proofs.Rooting.{all_both, all_at, all_reverse, reverse_all, amo
 
 -- ---- lists
 
-in_reverse : {A : Type 0} (x : A) (xs : List A) → In x xs → In x (reverse xs)
+pub in_reverse : {A : Type 0} (x : A) (xs : List A) → In x xs → In x (reverse xs)
 in_reverse x [] m = absurd m
 in_reverse x (y ∷ ys) m = subst (In x) (sym (reverse-append (y ∷ []) ys)) (of m (λ k. in_reverse x ys k))
   where
@@ -146,7 +146,8 @@ module _ (rs : List Numbers) (w : List ℕ → ℤ) (dim : List ℕ → ℕ) whe
   some [] = omega arith
   some (n ∷ ns) = omega arith
 
-  told_all : (ls : List Loop) → AllByRecursion (IsLoopOf rs w dim) ls → AllByRecursion (λ k. IsTold (length (or_one (grid_counts rs ls))) (grid_symbols (piece_of rs w ls)) (w k.name) k.form) (grid_forms rs 0 ls)
+  told_all : (ls : List Loop) → AllByRecursion (IsLoopOf rs w dim) ls →
+      AllByRecursion (λ k. IsTold (length (or_one (grid_counts rs ls))) (grid_symbols (piece_of rs w ls)) (w k.name) k.form) (grid_forms rs 0 ls)
   told_all [] a = tt
   told_all (l ∷ ls) a =
       told_from (piece_of rs w (l ∷ ls)) (length (or_one (grid_counts rs (l ∷ ls)))) 0 (l ∷ ls) a
@@ -176,7 +177,7 @@ module _ (rs : List Numbers) (cs : List Split) where
   some_text : (a b : StandingText) → Some a ≡ Some b → a ≡ b
   some_text a b e = cc
 
-  turn_rises : (t : Turning) (st new : StandingText) → turn rs cs t st ≡ Some new → st.next ≤ new.next
+  pub turn_rises : (t : Turning) (st new : StandingText) → turn rs cs t st ≡ Some new → st.next ≤ new.next
   turn_rises t st new e = of (settle_some (inside t.kind) rs cs cs (enter t.name st)) refl e
     where
       of : (o : Option StandingText) → settle_some (inside t.kind) rs cs cs (enter t.name st) ≡ o → (o >>= λ turned. Some (leave st.steps st.next t turned)) ≡ Some new → st.next ≤ new.next
@@ -185,7 +186,7 @@ module _ (rs : List Numbers) (cs : List Split) where
           let rises = settle_rises (inside t.kind) rs cs cs (enter t.name st) turned k in
           subst (λ (a : StandingText). st.next ≤ a.next) (some_text (leave st.steps st.next t turned) new e) (omega (arith, rises))
 
-  turns_rise : (ts : List Turning) (st new : StandingText) → turn_all rs cs ts st ≡ Some new → st.next ≤ new.next
+  pub turns_rise : (ts : List Turning) (st new : StandingText) → turn_all rs cs ts st ≡ Some new → st.next ≤ new.next
   turns_rise [] st new e = subst (λ (a : StandingText). st.next ≤ a.next) (some_text st new e) (omega arith)
   turns_rise (t ∷ ts) st new e = of (turn rs cs t st) refl e (λ mid k. turns_rise ts mid new k)
     where
@@ -238,11 +239,13 @@ module _ (xs : List (List ℕ)) (p : PlacedText) (rs : List Numbers) (head : Sta
       two mid a (Some end) k e = three mid end a k (nests_in xs p rs head bs end.next) refl e
 
       one : (o : Option StandingText) → settle_some within.Nest rs (cuts_by_variable p.cuts (kept_from b 0 xs)) (cuts_by_variable p.cuts (kept_from b 0 xs)) (begun next head) ≡ o →
-          ((o >>= turn_all rs (cuts_by_variable p.cuts (kept_from b 0 xs)) (nest_turns b rs p.loops)) >>= λ st. nests_in xs p rs head bs st.next >>= λ nests. Some (nest_of xs b st ∷ nests)) ≡ Some nests → First b bs next nests
+          ((o >>= turn_all rs (cuts_by_variable p.cuts (kept_from b 0 xs)) (nest_turns b rs p.loops)) >>= λ st. nests_in xs p rs head bs st.next >>= λ nests. Some
+          (nest_of xs b st ∷ nests)) ≡ Some nests → First b bs next nests
       one None k e = absurd (cc e)
       one (Some mid) k e = two mid k (turn_all rs (cuts_by_variable p.cuts (kept_from b 0 xs)) (nest_turns b rs p.loops) mid) refl e
 
-  pub nest_of_body : (bs : List BodyText) (next : ℕ) (nests : List NestText) (number : ℕ) (b : BodyText) → nests_in xs p rs head bs next ≡ Some nests → slice_get bs number ≡ Some b → head.next ≤ next →
+  pub nest_of_body : (bs : List BodyText) (next : ℕ) (nests : List NestText) (number : ℕ) (b : BodyText) → nests_in xs p rs head bs next ≡ Some nests → slice_get bs number ≡ Some b →
+      head.next ≤ next →
       IsNestOf xs p rs head nests number b
   nest_of_body [] next nests number b e at le = absurd (cc at)
   nest_of_body (d ∷ bs) next nests zero b e at le =
@@ -280,7 +283,8 @@ all_right P (x ∷ xs) ys a = all_right P xs ys a.1
 -- the splits of one of the variables are among those of all
 of_variable : (P : Split → Type 0) (cs : List Split) (x : List ℕ) (xs : List (List ℕ)) → AllByRecursion P (cuts_by_variable cs xs) → In x xs → AllByRecursion P (cuts_of cs (x ∷ []))
 of_variable P cs x [] a m = absurd m
-of_variable P cs x (y ∷ ys) a (inl e) = subst (λ z. AllByRecursion P (cuts_of cs (z ∷ []))) (sym e) (reverse_all P (cuts_of cs (y ∷ [])) (all_left P (reverse (cuts_of cs (y ∷ []))) (cuts_by_variable cs ys) a))
+of_variable P cs x (y ∷ ys) a (inl e) = subst (λ z. AllByRecursion P (cuts_of cs (z ∷ []))) (sym e)
+    (reverse_all P (cuts_of cs (y ∷ [])) (all_left P (reverse (cuts_of cs (y ∷ []))) (cuts_by_variable cs ys) a))
 of_variable P cs x (y ∷ ys) a (inr m) = of_variable P cs x ys (all_right P (reverse (cuts_of cs (y ∷ []))) (cuts_by_variable cs ys) a) m
 
 same_self : (v : Bool) → is_same v v ≡ true
@@ -382,11 +386,13 @@ module _
         turning : is_in_nest body (is_vectorized l) l ≡ true → (v : Bool) → is_vectorized l ≡ v → In (loop_turning rs l) (nest_turns body rs p.loops)
         turning e true k =
             in_right (loop_turning rs l) (nest_loops body false rs p.loops ++ reverse body.ranges) (nest_loops body true rs p.loops)
-            (in_map (loop_turning rs) l (filter (is_in_nest body true) (reverse p.loops)) (in_filter (is_in_nest body true) l (reverse p.loops) (in_reverse l p.loops m) (ap (λ v. is_in_nest body v l) (sym k) ∙ e)))
+            (in_map (loop_turning rs) l (filter (is_in_nest body true) (reverse p.loops))
+            (in_filter (is_in_nest body true) l (reverse p.loops) (in_reverse l p.loops m) (ap (λ v. is_in_nest body v l) (sym k) ∙ e)))
         turning e false k =
             in_left (loop_turning rs l) (nest_loops body false rs p.loops ++ reverse body.ranges) (nest_loops body true rs p.loops)
             (in_left (loop_turning rs l) (nest_loops body false rs p.loops) (reverse body.ranges)
-            (in_map (loop_turning rs) l (filter (is_in_nest body false) (reverse p.loops)) (in_filter (is_in_nest body false) l (reverse p.loops) (in_reverse l p.loops m) (ap (λ v. is_in_nest body v l) (sym k) ∙ e))))
+            (in_map (loop_turning rs) l (filter (is_in_nest body false) (reverse p.loops))
+            (in_filter (is_in_nest body false) l (reverse p.loops) (in_reverse l p.loops m) (ap (λ v. is_in_nest body v l) (sym k) ∙ e))))
 
         of : (v : Bool) → is_parallel l ≡ v → Stands nest.end.known l.name
         of true e =
@@ -407,7 +413,8 @@ module _
         (of_variable (IsClosed nest.end) p.cuts x (kept_from body 0 xs) nest_moves.there.nest.closed (in_kept dim body x 0 xs laid.dimensions m here))
         x (among_first x []) held
 
-    variables_stand : (ys : List (List ℕ)) → ((x : List ℕ) → In x ys → In x xs) → AllByRecursion (IsHeld p.loops p.cuts) ys → AllByRecursion (λ x. is_missing body (dim x) ≡ false → Stands nest.end.known x) ys
+    variables_stand : (ys : List (List ℕ)) → ((x : List ℕ) → In x ys → In x xs) → AllByRecursion (IsHeld p.loops p.cuts) ys →
+        AllByRecursion (λ x. is_missing body (dim x) ≡ false → Stands nest.end.known x) ys
     variables_stand [] f a = tt
     variables_stand (y ∷ ys) f a = (variable_stands y (f y (inl refl)) a.0, variables_stand ys (λ x m. f x (inr m)) a.1)
 
@@ -419,7 +426,8 @@ module _
       ranges_stand ds (λ u m. f u (inr m)),
     )
 
-    pub nest_visits : (k : SkeletonText) (q r : List ℤ) → k.grid ≡ piece_counts rs p.loops → k.head ≡ head.steps → Gives w xs q → Gives w (map (λ t. t.name) body.ranges) r → IsVisited k body (nest_of xs body nest.end) (q ++ r)
+    pub nest_visits : (k : SkeletonText) (q r : List ℤ) → k.grid ≡ piece_counts rs p.loops → k.head ≡ head.steps → Gives w xs q → Gives w (map (λ t. t.name) body.ranges) r →
+        IsVisited k body (nest_of xs body nest.end) (q ++ r)
     nest_visits k q r grid first gives more =
         let a = head_moves in
         let m = nest_moves in
@@ -449,19 +457,30 @@ pub record IsSkeletonOf (xs : List (List ℕ)) (bs : List BodyText) (p : PlacedT
   pub grid : k.grid ≡ piece_counts rs p.loops
   pub first : k.head ≡ head.steps
 
-pub skeleton_parts : (xs : List (List ℕ)) (bs : List BodyText) (p : PlacedText) (region : List Extent) (k : SkeletonText) → skeleton_in xs bs p region ≡ Some k → IsSkeletonOf xs bs p (loop_numbers xs p.cuts region) k
-skeleton_parts xs bs p region k e = one (settle_some within.Grid (loop_numbers xs p.cuts region) (cuts_by_variable p.cuts xs) (cuts_by_variable p.cuts xs) (over_grid (loop_numbers xs p.cuts region) p)) refl e
+pub skeleton_parts : (xs : List (List ℕ)) (bs : List BodyText) (p : PlacedText) (region : List Extent) (k : SkeletonText) → skeleton_in xs bs p region ≡ Some k →
+    IsSkeletonOf xs bs p (loop_numbers xs p.cuts region) k
+skeleton_parts xs bs p region k e = one (settle_some within.Grid (loop_numbers xs p.cuts region) (cuts_by_variable p.cuts xs) (cuts_by_variable p.cuts xs)
+    (over_grid (loop_numbers xs p.cuts region) p)) refl e
   where
-    two : (head : StandingText) → settle_some within.Grid (loop_numbers xs p.cuts region) (cuts_by_variable p.cuts xs) (cuts_by_variable p.cuts xs) (over_grid (loop_numbers xs p.cuts region) p) ≡ Some head →
+    two : (head : StandingText) → settle_some within.Grid (loop_numbers xs p.cuts region) (cuts_by_variable p.cuts xs) (cuts_by_variable p.cuts xs)
+        (over_grid (loop_numbers xs p.cuts region) p) ≡ Some head →
         (o : Option (List NestText)) → nests_in xs p (loop_numbers xs p.cuts region) head bs head.next ≡ o →
         (o >>= λ nests. Some (record { grid = piece_counts (loop_numbers xs p.cuts region) p.loops; head = head.steps; nests = nests; known = head.known; starts = head.starts })) ≡ Some k →
         IsSkeletonOf xs bs p (loop_numbers xs p.cuts region) k
     two head a None j e = absurd (cc e)
     two head a (Some nests) j e =
         let same = some_skeleton (record { grid = piece_counts (loop_numbers xs p.cuts region) p.loops; head = head.steps; nests = nests; known = head.known; starts = head.starts }) k e in
-        record { head = head; settled = a; nests = j ∙ ap (λ (s : SkeletonText). Some s.nests) same; grid = ap (λ (s : SkeletonText). s.grid) (sym same); first = ap (λ (s : SkeletonText). s.head) (sym same) }
+        record {
+          head = head;
+          settled = a;
+          nests = j ∙ ap (λ (s : SkeletonText). Some s.nests) same;
+          grid = ap (λ (s : SkeletonText). s.grid) (sym same);
+          first = ap (λ (s : SkeletonText). s.head)
+              (sym same);
+        }
 
-    one : (o : Option StandingText) → settle_some within.Grid (loop_numbers xs p.cuts region) (cuts_by_variable p.cuts xs) (cuts_by_variable p.cuts xs) (over_grid (loop_numbers xs p.cuts region) p) ≡ o →
+    one : (o : Option StandingText) → settle_some within.Grid (loop_numbers xs p.cuts region) (cuts_by_variable p.cuts xs) (cuts_by_variable p.cuts xs)
+        (over_grid (loop_numbers xs p.cuts region) p) ≡ o →
         (o >>= λ head. nests_in xs p (loop_numbers xs p.cuts region) head bs head.next >>= λ nests.
         Some (record { grid = piece_counts (loop_numbers xs p.cuts region) p.loops; head = head.steps; nests = nests; known = head.known; starts = head.starts })) ≡ Some k →
         IsSkeletonOf xs bs p (loop_numbers xs p.cuts region) k

@@ -13,3 +13,5 @@ pub mod Standing
 pub mod Skeleton
 pub mod Worked
 pub mod Visits
+pub mod Stays
+pub mod Runs
