@@ -1,6 +1,6 @@
 -- What does not depend on which forms are shown to be at most which.
 use Rattle.std.proofs.Common.{◌≡◌, ℕ, List, [], ◌∷◌, Bool, false, Option, Some, None, refl, ap, ◌∙◌}
-use Rattle.std.specs.Prelude.{if◌then◌else◌, option_and_then}
+use Rattle.std.specs.Prelude.{◌&&◌, not, if◌then◌else◌, option_and_then}
 use Rattle.std.specs.List.{list_any}
 use Rattle.std.specs.Option.{option_map}
 use Rattle.lin.specs.Forms.{Form, factor_of}
@@ -9,7 +9,7 @@ use Rattle.plan.specs.declared.stmt.Pick.{Pick}
 use Rattle.plan.specs.declared.stmt.Pick.TheVariants.{Min, Max}
 use Rattle.plan.specs.Semantics.Setting.{or_else}
 use Rattle.soundness.specs.Obligations.{Binder, Ranged, Picked, Passed, form_has, span_has}
-use Rattle.tails.specs.Moves.{Choice, choices, State, Ready, joined, single, each_replaced, is_positive, span_from, first_some, expanded, opened, below, above, over_loop, taken, after_loop, by_loop, best, without_let, is_free_let, after_let, by_let, last_under, with_last, bounded}
+use Rattle.tails.specs.Moves.{Choice, choices, State, Ready, joined, single, each_replaced, is_positive, span_from, first_some, expanded, opened, below, above, over_loop, taken, after_loop, by_loop, best, is_alone, without_let, is_free_let, after_let, by_let, last_under, with_last, bounded}
 
 abbrev left : List Binder → List Span1 → State
 left others zs = record { steps = others; spans = zs }
@@ -64,7 +64,7 @@ module _ (exact : Bool) (shows other : Form → Form → Bool) where
       (ap (λ (ms : List Form). expanded exact shows i ms y.upper) (above_alike also pick ls) ∙ expanded_alike also i (above also other pick ls) y.upper)
 
   without_alike : (i : ℕ) (pick : Pick) (ls : List Form) (ys : List Span1) → without_let exact shows i pick ls ys ≡ without_let exact other i pick ls ys
-  without_alike i pick ls ys = ap (λ (o : Option (List Span1)). if list_any (span_has i) ys then (if exact then None else o) else Some ys) (opened_alike exact i pick ls ys)
+  without_alike i pick ls ys = ap (λ (o : Option (List Span1)). if list_any (span_has i) ys then (if exact && not (is_alone ls) then None else o) else Some ys) (opened_alike exact i pick ls ys)
 
   after_alike : (ys : List Span1) (b : Binder) (others : List Binder) → after_let exact shows ys b others ≡ after_let exact other ys b others
   after_alike ys (Ranged i x) others = refl

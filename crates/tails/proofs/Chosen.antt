@@ -10,7 +10,7 @@ use Rattle.plan.specs.Semantics.Setting.{or_else}
 use Rattle.soundness.specs.Claims.{In}
 use Rattle.soundness.specs.Obligations.{Binder, Ranged, Picked, Passed, Respects, span_has}
 use Rattle.soundness.proofs.Turns.{in_map}
-use Rattle.tails.specs.Moves.{Choice, behind, choices, first_some, only, span_from, Ready, is_free_loop, lower_factor, ready, preferred, best, is_before, is_single, State, opened, is_free_let, after_idle, after_let}
+use Rattle.tails.specs.Moves.{Choice, behind, choices, first_some, only, span_from, Ready, is_free_loop, lower_factor, ready, preferred, best, is_before, is_single, State, opened, is_alone, is_free_let, after_idle, after_let}
 
 pub and_then_parts : {A B : Type 0} (f : A → Option B) (a : Option A) (z : B) → option_and_then f a ≡ Some z → (x : A) × (a ≡ Some x) × (f x ≡ Some z)
 and_then_parts f None z e = absurd (cc e)
@@ -151,6 +151,6 @@ idle_case false w o others ys later e = absurd (cc e)
 pub idle_is_let : (exact : Bool) (shows : Form → Form → Bool) (ys : List Span1) (b : Binder) (others : List Binder) (later : State) → after_idle ys b others ≡ Some later →
     after_let exact shows ys b others ≡ Some later
 idle_is_let exact shows ys (Picked i pick ls) others later e =
-    idle_case (is_free_let exact shows i ls others) (list_any (span_has i) ys) (if exact then None else opened exact shows i pick ls ys) others ys later e
+    idle_case (is_free_let exact shows i ls others) (list_any (span_has i) ys) (if exact && not (is_alone ls) then None else opened exact shows i pick ls ys) others ys later e
 idle_is_let exact shows ys (Ranged i x) others later e = absurd (cc e)
 idle_is_let exact shows ys (Passed low high) others later e = absurd (cc e)

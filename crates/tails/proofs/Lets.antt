@@ -1,6 +1,6 @@
 -- Spans without a let, and under a guard.
 use Rattle.std.proofs.Common.{◌≡◌, ℕ, Bool, true, false, List, [], ◌∷◌, ◌++◌, map, Option, Some, None, refl, sym, ap, ◌∙◌, subst, arith}
-use Rattle.std.specs.Prelude.{ℤ, pos, negsuc, ◌+ℤ◌, ◌-ℤ◌, ◌*ℤ◌, ◌≤ℤ◌, not, if◌then◌else◌, fold, option_and_then}
+use Rattle.std.specs.Prelude.{ℤ, pos, negsuc, ◌+ℤ◌, ◌-ℤ◌, ◌*ℤ◌, ◌≤ℤ◌, ◌||◌, not, if◌then◌else◌, fold, option_and_then}
 use Rattle.std.specs.List.{AllByRecursion, list_any, list_all}
 use Rattle.std.specs.Int.{int_max, int_min}
 use Rattle.std.proofs.lemmas.Int.{ints, clamps, by_lt_z, fold-int_max_bounds, fold-int_min_bounds}
@@ -18,7 +18,7 @@ use Rattle.soundness.proofs.Refines.{and_parts}
 use Rattle.tails.specs.Steps.{binds, Keeps}
 use Rattle.tails.specs.Moves.{single, joined, each_replaced, is_positive, span_from, is_outer, first_some, below, above, expanded, opened, if_outer, last_under, with_last, bounded}
 use Rattle.tails.proofs.Chosen.{and_then_parts, map_parts, if_parts, some_same, span_parts, first_some_parts, all_at}
-use Rattle.tails.proofs.Values.{joined_parts, single_part, rest_of, beside_value, bind_beside, bound_value, made_all, made_value, int_le_true}
+use Rattle.tails.proofs.Values.{Beside, joined_parts, single_part, all_both, rest_of, split_value, beside_value, bind_beside, bound_value, made_all, all_made, made_beside, made_value, int_le_true}
 
 -- ---- the smallest and the largest of forms
 
@@ -123,6 +123,115 @@ module _ (exact : Bool) (shows : Form → Form → Bool) (i : ℕ) where
             ),
             rest zs qs e lie.1,
           )
+
+-- ---- a let of one form
+
+pub one_below : (exact : Bool) (shows : Form → Form → Bool) (pick : Pick) (l : Form) → below exact shows pick (l ∷ []) ≡ l ∷ []
+one_below exact shows Min l = refl
+one_below exact shows Max l = refl
+
+pub one_above : (exact : Bool) (shows : Form → Form → Bool) (pick : Pick) (l : Form) → above exact shows pick (l ∷ []) ≡ l ∷ []
+one_above exact shows Min l = refl
+one_above exact shows Max l = refl
+
+pub one_picked : (pick : Pick) (l : Form) (s : Symbols) → picked pick (l ∷ []) s ≡ form_value l s
+one_picked Min l s = refl
+one_picked Max l s = refl
+
+module _ (exact : Bool) (shows : Form → Form → Bool) (i : ℕ) where
+  -- what holds of a form at the name's number holds of it with the form in the name's place
+  pub expanded_on : (P : ℤ → Type 0) (s : Symbols) (l : Form) → s.value i ≡ form_value l s → (fs gs : List Form) → expanded exact shows i (l ∷ []) fs ≡ Some gs → AllByRecursion (λ f. P (form_value f s)) fs →
+      AllByRecursion (λ g. P (form_value g s)) gs
+  expanded_on P s l is [] gs e h = subst (AllByRecursion (λ g. P (form_value g s))) (some_same [] gs e) tt
+  expanded_on P s l is (f ∷ fs) gs e h = of (form_has i f) refl e (λ gs e. expanded_on P s l is fs gs e h.1)
+    where
+      of : (v : Bool) → form_has i f ≡ v →
+          (if v then (if is_positive (factor_of f.terms i) then joined (each_replaced f i (factor_of f.terms i) (l ∷ [])) (expanded exact shows i (l ∷ []) fs) else None) else joined (Some (f ∷ [])) (expanded exact shows i (l ∷ []) fs)) ≡ Some gs →
+          ((gs : List Form) → expanded exact shows i (l ∷ []) fs ≡ Some gs → AllByRecursion (λ g. P (form_value g s)) gs) → AllByRecursion (λ g. P (form_value g s)) gs
+      of true has e rest =
+          let c = factor_of f.terms i in
+          let a = if_parts (is_positive c) (joined (each_replaced f i c (l ∷ [])) (expanded exact shows i (l ∷ []) fs)) gs e in
+          let j = joined_parts (each_replaced f i c (l ∷ [])) (expanded exact shows i (l ∷ []) fs) gs a.1 in
+          let there : form_value f s ≡ rest_of f i s +ℤ c *ℤ form_value l s = split_value f i s ∙ ap (λ z. rest_of f i s +ℤ c *ℤ z) is in
+          let here = all_made P f i c s (l ∷ []) j.left j.is_left (subst P there h.0, tt) in
+          subst (AllByRecursion (λ g. P (form_value g s))) (sym j.all) (all_both (λ g. P (form_value g s)) j.left j.right here (rest j.right j.is_right))
+      of false lacks e rest =
+          let j = joined_parts (Some (f ∷ [])) (expanded exact shows i (l ∷ []) fs) gs e in
+          let here : AllByRecursion (λ g. P (form_value g s)) j.left = subst (AllByRecursion (λ g. P (form_value g s))) (some_same (f ∷ []) j.left j.is_left) (h.0, tt) in
+          subst (AllByRecursion (λ g. P (form_value g s))) (sym j.all) (all_both (λ g. P (form_value g s)) j.left j.right here (rest j.right j.is_right))
+
+  -- the forms that are made do not name it
+  pub expanded_beside : (P : ℤ → Type 0) (s t : Symbols) → Beside i s t → (ms : List Form) → list_any (form_has i) ms ≡ false → (fs gs : List Form) → expanded exact shows i ms fs ≡ Some gs → AllByRecursion (λ g. P (form_value g s)) gs →
+      AllByRecursion (λ g. P (form_value g t)) gs
+  expanded_beside P s t b ms lacks [] gs e h = subst (AllByRecursion (λ g. P (form_value g t))) (some_same [] gs e) tt
+  expanded_beside P s t b ms lacks (f ∷ fs) gs e h = of (form_has i f) refl e (λ gs e h. expanded_beside P s t b ms lacks fs gs e h)
+    where
+      of : (v : Bool) → form_has i f ≡ v →
+          (if v then (if is_positive (factor_of f.terms i) then joined (each_replaced f i (factor_of f.terms i) ms) (expanded exact shows i ms fs) else None) else joined (Some (f ∷ [])) (expanded exact shows i ms fs)) ≡ Some gs →
+          ((gs : List Form) → expanded exact shows i ms fs ≡ Some gs → AllByRecursion (λ g. P (form_value g s)) gs → AllByRecursion (λ g. P (form_value g t)) gs) → AllByRecursion (λ g. P (form_value g t)) gs
+      of true has e rest =
+          let c = factor_of f.terms i in
+          let a = if_parts (is_positive c) (joined (each_replaced f i c ms) (expanded exact shows i ms fs)) gs e in
+          let j = joined_parts (each_replaced f i c ms) (expanded exact shows i ms fs) gs a.1 in
+          let all : AllByRecursion (λ g. P (form_value g s)) (j.left ++ j.right) = subst (AllByRecursion (λ g. P (form_value g s))) j.all h in
+          let here = made_beside P f i c s t b ms j.left lacks j.is_left (rec_left (λ g. P (form_value g s)) j.left j.right all) in
+          subst (AllByRecursion (λ g. P (form_value g t))) (sym j.all)
+          (all_both (λ g. P (form_value g t)) j.left j.right here (rest j.right j.is_right (rec_right (λ g. P (form_value g s)) j.left j.right all)))
+      of false without e rest =
+          let j = joined_parts (Some (f ∷ [])) (expanded exact shows i ms fs) gs e in
+          let one = some_same (f ∷ []) j.left j.is_left in
+          let all : AllByRecursion (λ g. P (form_value g s)) ((f ∷ []) ++ j.right) = subst (AllByRecursion (λ g. P (form_value g s))) (j.all ∙ ap (λ l. l ++ j.right) (sym one)) h in
+          let here : AllByRecursion (λ g. P (form_value g t)) j.left = subst (AllByRecursion (λ g. P (form_value g t))) one (subst P (sym (beside_value f i s t b without)) all.0, tt) in
+          subst (AllByRecursion (λ g. P (form_value g t))) (sym j.all) (all_both (λ g. P (form_value g t)) j.left j.right here (rest j.right j.is_right all.1))
+
+  -- the first span without the name, and the others
+  record Opened (pick : Pick) (ls : List Form) (y : Span1) (ys zs : List Span1) : Type 0 where
+    pub first : Span1
+    pub more : List Span1
+    pub low : expanded exact shows i (below exact shows pick ls) y.lower ≡ Some first.lower
+    pub high : expanded exact shows i (above exact shows pick ls) y.upper ≡ Some first.upper
+    pub rest : opened exact shows i pick ls ys ≡ Some more
+    pub all : zs ≡ first ∷ more
+
+  opened_parts : (pick : Pick) (ls : List Form) (y : Span1) (ys zs : List Span1) → opened exact shows i pick ls (y ∷ ys) ≡ Some zs → Opened pick ls y ys zs
+  opened_parts pick ls y ys zs e =
+      let lows = expanded exact shows i (below exact shows pick ls) y.lower in
+      let highs = expanded exact shows i (above exact shows pick ls) y.upper in
+      let j = joined_parts (single (span_from lows highs)) (opened exact shows i pick ls ys) zs e in
+      let o = single_part (span_from lows highs) j.left j.is_left in
+      let b = span_parts lows highs o.0 o.1 in
+      record { first = o.0; more = j.right; low = b.0; high = b.1; rest = j.is_right; all = j.all ∙ ap (λ l. l ++ j.right) o.2 }
+
+  pub opened_on : (s : Symbols) (pick : Pick) (l : Form) → s.value i ≡ form_value l s → (ys zs : List Span1) (p : List ℤ) → opened exact shows i pick (l ∷ []) ys ≡ Some zs → LieIn s ys p → LieIn s zs p
+  opened_on s pick l is [] zs p e lie = subst (λ zs. LieIn s zs p) (some_same [] zs e) lie
+  opened_on s pick l is (y ∷ ys) zs [] e lie = absurd lie
+  opened_on s pick l is (y ∷ ys) zs (q ∷ qs) e lie =
+      let o = opened_parts pick (l ∷ []) y ys zs e in
+      let low = subst (λ ms. expanded exact shows i ms y.lower ≡ Some o.first.lower) (one_below exact shows pick l) o.low in
+      let high = subst (λ ms. expanded exact shows i ms y.upper ≡ Some o.first.upper) (one_above exact shows pick l) o.high in
+      subst (λ zs. LieIn s zs (q ∷ qs)) (sym o.all)
+      ((expanded_on (λ v. v ≤ℤ q) s l is y.lower o.first.lower low lie.0.0, expanded_on (λ v. q ≤ℤ v) s l is y.upper o.first.upper high lie.0.1), opened_on s pick l is ys o.more qs o.rest lie.1)
+
+  pub opened_beside : (s t : Symbols) → Beside i s t → (pick : Pick) (l : Form) → form_has i l ≡ false → (ys zs : List Span1) (p : List ℤ) → opened exact shows i pick (l ∷ []) ys ≡ Some zs → LieIn s zs p → LieIn t zs p
+  opened_beside s t b pick l lacks [] zs p e lie =
+      let none : [] ≡ zs = some_same [] zs e in
+      subst (λ zs. LieIn t zs p) none (empty p (subst (λ zs. LieIn s zs p) (sym none) lie))
+    where
+      empty : (p : List ℤ) → LieIn s [] p → LieIn t [] p
+      empty [] h = tt
+      empty (q ∷ qs) h = absurd h
+  opened_beside s t b pick l lacks (y ∷ ys) zs p e lie =
+      let o = opened_parts pick (l ∷ []) y ys zs e in
+      let none : list_any (form_has i) (l ∷ []) ≡ false = ap (λ v. v || false) lacks in
+      let low = subst (λ ms. expanded exact shows i ms y.lower ≡ Some o.first.lower) (one_below exact shows pick l) o.low in
+      let high = subst (λ ms. expanded exact shows i ms y.upper ≡ Some o.first.upper) (one_above exact shows pick l) o.high in
+      subst (λ zs. LieIn t zs p) (sym o.all) (on p o.first o.more none low high (subst (λ zs. LieIn s zs p) o.all lie) (λ qs lie. opened_beside s t b pick l lacks ys o.more qs o.rest lie))
+    where
+      on : (p : List ℤ) (z : Span1) (more : List Span1) → list_any (form_has i) (l ∷ []) ≡ false → expanded exact shows i (l ∷ []) y.lower ≡ Some z.lower → expanded exact shows i (l ∷ []) y.upper ≡ Some z.upper →
+          LieIn s (z ∷ more) p → ((qs : List ℤ) → LieIn s more qs → LieIn t more qs) → LieIn t (z ∷ more) p
+      on [] z more none low high lie rest = absurd lie
+      on (q ∷ qs) z more none low high lie rest =
+          ((expanded_beside (λ v. v ≤ℤ q) s t b (l ∷ []) none y.lower z.lower low lie.0.0, expanded_beside (λ v. q ≤ℤ v) s t b (l ∷ []) none y.upper z.upper high lie.0.1), rest qs lie.1)
 
 -- ---- a guard
 

@@ -16,12 +16,14 @@ use Rattle.soundness.specs.Obligations.{Binder, Ranged, Picked, Passed, Respects
 use Rattle.soundness.specs.Nests.Tests.{has_ends}
 use Rattle.soundness.proofs.Forms.{respects_on, picked_same, is_not}
 use Rattle.soundness.proofs.Refines.{and_parts, eq_true}
+use Rattle.soundness.proofs.Sound.{or_left}
 use Rattle.tails.specs.Steps.{binder, along, binds, Keeps}
-use Rattle.tails.specs.Moves.{Choice, choices, is_loose, paired, State, is_free_loop, best, taken, after_loop, by_loop, without_let, is_free_let, after_idle, by_idle, after_let, by_let, after_guard, by_guard, next, ended, run, spans_over}
+use Rattle.tails.specs.Moves.{Choice, choices, is_loose, paired, State, is_free_loop, best, taken, after_loop, by_loop, is_alone, opened, without_let, is_free_let, after_idle, by_idle, after_let, by_let, after_guard, by_guard, next, ended, run, spans_over}
 use Rattle.tails.specs.Maps.{is_scoped, is_some}
 use Rattle.tails.specs.Laws.{point_at, EachIsOnce}
 use Rattle.tails.proofs.Chosen.{and_then_parts, map_parts, if_parts, some_same, or_else_parts, first_some_parts, idle_is_let, Split, split_of, ready_parts, best_parts}
 use Rattle.tails.proofs.Values.{Beside, bind_beside, bind_here}
+use Rattle.tails.proofs.Lets.{one_picked, opened_on, opened_beside}
 use Rattle.tails.proofs.Loops.{turns_within, turns_free, turns_fixed, lie_beside}
 use Rattle.tails.proofs.Reaching.{none_left}
 use Rattle.tails.proofs.Pairs.{paired_alike}
@@ -97,6 +99,24 @@ module _ (shows : Form → Form → Bool) (p : List ℤ) where
       let u_pick = picked_same t i (s.value i) true pick ls own in
       all_same i s t b ((sp.left t rt).0 ∙ sym u_pick ∙ picked_by s u same pick ls ∙ sym (sp.left s rs).0)
 
+  -- a let of one form may be opened: its number is told by the others'
+  let_opened : (bs : List Binder) (ys zs : List Span1) (i : ℕ) (pick : Pick) (l : Form) (others : List Binder) → Split (Picked i pick (l ∷ [])) others bs → is_free_let true shows i (l ∷ []) others ≡ true →
+      opened true shows i pick (l ∷ []) ys ≡ Some zs → Fixed others zs → Fixed bs ys
+  let_opened bs ys zs i pick l others sp free e fixed s t rs rt l1 l2 k =
+      let f = and_parts (is_loose i others) (not (list_any (form_has i) (l ∷ [])) && not (is_empty (l ∷ []))) free in
+      let g = and_parts (not (list_any (form_has i) (l ∷ []))) (not (is_empty (l ∷ []))) f.1 in
+      let own : list_any (form_has i) (l ∷ []) ≡ false = is_not (list_any (form_has i) (l ∷ [])) g.0 in
+      let lacks : form_has i l ≡ false = or_left (form_has i l) false own in
+      let loose : list_any (binder_has i) others ≡ false = is_not (list_any (binder_has i) others) f.0 in
+      let u = bind t i (s.value i) true in
+      let s_in = opened_on true shows i s pick l ((sp.left s rs).0 ∙ one_picked pick l s) ys zs p e l1 in
+      let t_in = opened_on true shows i t pick l ((sp.left t rt).0 ∙ one_picked pick l t) ys zs p e l2 in
+      let u_in = opened_beside true shows i t u (bind_beside t i (s.value i) true) pick l lacks ys zs p e t_in in
+      let same = fixed s u (sp.right s rs) (respects_on t i (s.value i) true others loose (sp.right t rt)) s_in u_in (moved (Picked i pick (l ∷ [])) others bs i s t sp (λ j h. h) k) in
+      let b = beside_of i s t same in
+      let u_pick = picked_same t i (s.value i) true pick (l ∷ []) own in
+      all_same i s t b ((sp.left t rt).0 ∙ sym u_pick ∙ picked_by s u same pick (l ∷ []) ∙ sym (sp.left s rs).0)
+
   guard_fixed : (bs : List Binder) (ys : List Span1) (low high : Form) (others : List Binder) → Split (Passed low high) others bs → Fixed others ys → Fixed bs ys
   guard_fixed bs ys low high others sp fixed s t rs rt l1 l2 k = fixed s t (sp.right s rs) (sp.right t rt) l1 l2 (λ j h. k j (sp.any (binds j) ∙ h))
 
@@ -108,8 +128,13 @@ module _ (shows : Form → Form → Bool) (p : List ℤ) where
       let m = map_parts (λ zs. record { steps = others; spans = zs }) (without_let true shows i pick ls ys) later a.1 in
       of m.0 (list_any (span_has i) ys) refl m.1 a.0 (by_state others m.0 later m.2 fixed)
     where
-      of : (zs : List Span1) (v : Bool) → list_any (span_has i) ys ≡ v → (if v then None else Some ys) ≡ Some zs → is_free_let true shows i ls others ≡ true → Fixed others zs → Fixed bs ys
-      of zs true h e free fixed = absurd (cc e)
+      open_one : (ls : List Form) (zs : List Span1) → Split (Picked i pick ls) others bs → (if true && not (is_alone ls) then None else opened true shows i pick ls ys) ≡ Some zs → is_free_let true shows i ls others ≡ true → Fixed others zs → Fixed bs ys
+      open_one [] zs sp e free fixed = absurd (cc e)
+      open_one (l ∷ []) zs sp e free fixed = let_opened bs ys zs i pick l others sp free e fixed
+      open_one (l ∷ m ∷ ls) zs sp e free fixed = absurd (cc e)
+
+      of : (zs : List Span1) (v : Bool) → list_any (span_has i) ys ≡ v → (if v then (if true && not (is_alone ls) then None else opened true shows i pick ls ys) else Some ys) ≡ Some zs → is_free_let true shows i ls others ≡ true → Fixed others zs → Fixed bs ys
+      of zs true h e free fixed = open_one ls zs sp e free fixed
       of zs false h e free fixed = let_fixed bs ys i pick ls others sp free h (subst (Fixed others) (sym (some_same ys zs e)) fixed)
 
   after_guard_fixed : (bs : List Binder) (ys : List Span1) (one : Binder) (others : List Binder) (later : State) → Split one others bs → after_guard true shows ys one others ≡ Some later → Fixed later.steps later.spans → Fixed bs ys

@@ -1,16 +1,17 @@
 -- A guard and the let behind it, and the loop of one turn that stands for both.
-use Rattle.std.proofs.Common.{◌≡◌, ℕ, Bool, true, false, List, [], ◌∷◌, Option, Some, None, refl, ap, ◌∙◌, subst, arith}
+use Rattle.std.proofs.Common.{◌≡◌, ℕ, Bool, true, false, List, [], ◌∷◌, Option, Some, None, refl, sym, ap, ◌∙◌, subst, arith}
 use Rattle.std.specs.Prelude.{◌≤ℤ◌, ◌==◌, ◌||◌, ◌&&◌, if◌then◌else◌}
-use Rattle.std.specs.List.{list_any}
+use Rattle.std.specs.List.{AllByRecursion, list_any}
 use Rattle.std.specs.Ordering.{int_eq}
 use Rattle.std.proofs.lemmas.Int.{ints, clamps}
 use Rattle.lin.specs.Forms.{Form, same_form, same_terms}
 use Rattle.plan.specs.declared.stmt.Pick.TheVariants.{Min, Max}
 use Rattle.plan.specs.Symbols.{Symbols, form_value}
-use Rattle.soundness.specs.Obligations.{Binder, Ranged, Picked, Passed, Respects}
+use Rattle.soundness.specs.Obligations.{Binder, Ranged, Picked, Passed, Respects, picked}
 use Rattle.soundness.proofs.Refines.{and_parts, number_true}
 use Rattle.tails.specs.Steps.{binds}
-use Rattle.tails.specs.Moves.{then_more, unguarded, turned, paired}
+use Rattle.lin.specs.declared.span.Span1.{Span1}
+use Rattle.tails.specs.Moves.{then_more, unguarded, turned, is_fixed, settled, paired}
 use Rattle.tails.proofs.Chosen.{map_parts, some_same, respects_more, respects_head, respects_tail}
 use Rattle.tails.proofs.Values.{same_terms_sum}
 
@@ -95,9 +96,45 @@ alike_turned i a c bs cs h = of (unguarded a c cs) refl
               (((omega (arith, ints, clamps, is, guard), tt), (omega (arith, ints, clamps, is, guard), (omega (arith, ints, clamps, is, guard), tt))), w.rest t cs_hold);
         }
 
+alike_settled : (i : ℕ) (x : Span1) (bs cs : List Binder) → Alike bs cs → Alike (Ranged i x ∷ bs) (settled (Ranged i x) ∷ cs)
+alike_settled i x bs cs h = of x.lower x.upper refl refl
+  where
+    loop : is_fixed x.lower x.upper ≡ false → Alike (Ranged i x ∷ bs) (settled (Ranged i x) ∷ cs)
+    loop e = subst (λ v. Alike (Ranged i x ∷ bs) ((if v then Picked i Min x.lower else Ranged i x) ∷ cs)) (sym e) (alike_more (Ranged i x) bs cs h)
+
+    name : (l u : Form) → x.lower ≡ l ∷ [] → x.upper ≡ u ∷ [] → same_form l u ≡ true → Alike (Ranged i x ∷ bs) (Picked i Min x.lower ∷ cs)
+    name l u low high same = record {
+      any = λ j. ap (λ v. (j == i) || v) (h.any j);
+      back = λ t r.
+          let is : t.value i ≡ form_value l t = subst (λ ls. t.value i ≡ picked Min ls t) low r.0 in
+          let equal = same_value l u t same in
+          let below : AllByRecursion (λ f. form_value f t ≤ℤ t.value i) x.lower = subst (AllByRecursion (λ f. form_value f t ≤ℤ t.value i)) (sym low) (omega (arith, ints, is), tt) in
+          let above : AllByRecursion (λ f. t.value i ≤ℤ form_value f t) x.upper = subst (AllByRecursion (λ f. t.value i ≤ℤ form_value f t)) (sym high) (omega (arith, ints, is, equal), tt) in
+          ((below, above), h.back t r.1);
+      on = λ t r.
+          let begins = (subst (AllByRecursion (λ f. form_value f t ≤ℤ t.value i)) low r.0.0).0 in
+          let ends = (subst (AllByRecursion (λ f. t.value i ≤ℤ form_value f t)) high r.0.1).0 in
+          let equal = same_value l u t same in
+          let is : t.value i ≡ form_value l t = omega (arith, ints, begins, ends, equal) in
+          (subst (λ ls. t.value i ≡ picked Min ls t) (sym low) is, h.on t r.1);
+    }
+
+    of : (ls us : List Form) → x.lower ≡ ls → x.upper ≡ us → Alike (Ranged i x ∷ bs) (settled (Ranged i x) ∷ cs)
+    of [] us low high = loop (ap (λ ls. is_fixed ls x.upper) low)
+    of (l ∷ []) [] low high = loop (ap (λ ls. is_fixed ls x.upper) low ∙ ap (is_fixed (l ∷ [])) high)
+    of (l ∷ []) (u ∷ v ∷ us) low high = loop (ap (λ ls. is_fixed ls x.upper) low ∙ ap (is_fixed (l ∷ [])) high)
+    of (l ∷ m ∷ ls) us low high = loop (ap (λ ls. is_fixed ls x.upper) low)
+    of (l ∷ []) (u ∷ []) low high = on (same_form l u) refl
+      where
+        on : (v : Bool) → same_form l u ≡ v → Alike (Ranged i x ∷ bs) (settled (Ranged i x) ∷ cs)
+        on false e = loop (ap (λ ls. is_fixed ls x.upper) low ∙ ap (is_fixed (l ∷ [])) high ∙ e)
+        on true e =
+            let fixed : is_fixed x.lower x.upper ≡ true = ap (λ ls. is_fixed ls x.upper) low ∙ ap (is_fixed (l ∷ [])) high ∙ e in
+            subst (λ v. Alike (Ranged i x ∷ bs) ((if v then Picked i Min x.lower else Ranged i x) ∷ cs)) (sym fixed) (name l u low high e)
+
 pub paired_alike : (bs : List Binder) → Alike bs (paired bs)
 paired_alike [] = record { any = λ i. refl; back = λ t r. r; on = λ t r. r }
-paired_alike (Ranged i x ∷ bs) = alike_more (Ranged i x) bs (paired bs) (paired_alike bs)
+paired_alike (Ranged i x ∷ bs) = alike_settled i x bs (paired bs) (paired_alike bs)
 paired_alike (Passed low high ∷ bs) = alike_more (Passed low high) bs (paired bs) (paired_alike bs)
 paired_alike (Picked i Max ls ∷ bs) = alike_more (Picked i Max ls) bs (paired bs) (paired_alike bs)
 paired_alike (Picked i Min [] ∷ bs) = alike_more (Picked i Min []) bs (paired bs) (paired_alike bs)

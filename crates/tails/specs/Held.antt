@@ -4,7 +4,7 @@ use Rattle.lin.specs.Forms.{Form, factor_of, same_form}
 use Rattle.lin.specs.declared.span.Span1.{Span1}
 use Rattle.plan.specs.declared.stmt.Pick.TheVariants.{Min}
 use Rattle.soundness.specs.Obligations.{Binder, Ranged, Picked, Passed, form_has}
-use Rattle.tails.specs.Moves.{turned, unguarded, is_positive, each_replaced, is_free_let, without_let, under_guard}
+use Rattle.tails.specs.Moves.{turned, unguarded, settled, is_positive, each_replaced, is_free_let, without_let, under_guard}
 use Rattle.tails.specs.declared.pending.Pending.{Pending}
 use Rattle.tails.specs.declared.pending.Pending.TheVariants as V
 use Rattle.tails.specs.declared.pending.Others.{Others}
@@ -30,7 +30,7 @@ others_at steps k = pendings_of (take k steps) ++ pendings_of (drop (suc k) step
 -- the steps that are left before a step, and the step
 abbrev pub paired_step : Binder → List Binder → List Binder
 paired_step (Picked i Min (a ∷ c ∷ [])) bs = turned i a c bs (unguarded a c bs)
-paired_step b bs = b ∷ bs
+paired_step b bs = settled b ∷ bs
 
 -- ---- lists that come about, or do not
 

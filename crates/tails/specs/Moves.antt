@@ -91,11 +91,31 @@ abbrev pub turned : ℕ → Form → Form → List Binder → Option (List Binde
 turned i a c bs None = Picked i Min (a ∷ c ∷ []) ∷ bs
 turned i a c bs (Some others) = Ranged i (record { lower = a ∷ []; upper = a ∷ c ∷ [] }) ∷ others
 
+-- the one form, and it alone
+abbrev pub is_alone : List Form → Bool
+is_alone [] = false
+is_alone (f ∷ []) = true
+is_alone (f ∷ g ∷ fs) = false
+
+-- one form below and the same one above
+abbrev pub is_fixed : List Form → List Form → Bool
+is_fixed (l ∷ []) (u ∷ []) = same_form l u
+is_fixed [] us = false
+is_fixed (l ∷ []) [] = false
+is_fixed (l ∷ []) (u ∷ v ∷ us) = false
+is_fixed (l ∷ m ∷ ls) us = false
+
+-- a loop from a form to the same form has just one turn, so that its symbol is a name for the form
+abbrev pub settled : Binder → Binder
+settled (Ranged i x) = if is_fixed x.lower x.upper then Picked i Min x.lower else Ranged i x
+settled (Picked i pick ls) = Picked i pick ls
+settled (Passed low high) = Passed low high
+
 -- behind a guard that `a` is at most `c`, the smaller of the two is `a`: a loop of one turn, or of none where the guard fails
 abbrev pub paired : List Binder → List Binder
 paired [] = []
 paired (Picked i Min (a ∷ c ∷ []) ∷ bs) = turned i a c (paired bs) (unguarded a c (paired bs))
-paired (b ∷ bs) = b ∷ paired bs
+paired (b ∷ bs) = settled b ∷ paired bs
 
 -- ---- moves
 
@@ -221,7 +241,7 @@ module _ (exact : Bool) (shows : Form → Form → Bool) where
   opened i pick ls (y ∷ ys) = joined (single (span_from (expanded i (below pick ls) y.lower) (expanded i (above pick ls) y.upper))) (opened i pick ls ys)
 
   abbrev pub without_let : ℕ → Pick → List Form → List Span1 → Option (List Span1)
-  without_let i pick ls ys = if list_any (span_has i) ys then (if exact then None else opened i pick ls ys) else Some ys
+  without_let i pick ls ys = if list_any (span_has i) ys then (if exact && not (is_alone ls) then None else opened i pick ls ys) else Some ys
 
   abbrev pub is_free_let : ℕ → List Form → List Binder → Bool
   is_free_let i ls others = is_loose i others && (not (list_any (form_has i) ls) && not (is_empty ls))

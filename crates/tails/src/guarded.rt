@@ -1,11 +1,11 @@
 //! Steps from the innermost on, with each guard and the name behind it taken together.
 
 ghost use Rattle.std.specs.Prelude.{◌≡◌, ◌∷◌, length, map, IfOk, MatchOption, None, Some};
-ghost use Rattle.soundness.specs.Obligations.{Picked};
+ghost use Rattle.soundness.specs.Obligations.{Picked, Ranged};
 ghost use Rattle.tails.specs.Steps.{along, binder};
-ghost use Rattle.tails.specs.Moves.{paired, unguarded};
+ghost use Rattle.tails.specs.Moves.{is_fixed, paired, settled, unguarded};
 ghost use Rattle.tails.specs.View.{step_of};
-ghost use Rattle.tails.specs.Held.{is_guard, paired_step, pending_of, pendings_of};
+ghost use Rattle.tails.specs.Held.{is_guard, paired_step, pending_of, pendings_of, span_of};
 
 use crate::descent::Step;
 use crate::moves::copied;
@@ -116,7 +116,39 @@ fn turned<'a>(
     }
 }
 
-/// The step before others with which it is taken together, if it is a name for the smaller of two forms.
+/// Whether there is one form below, and the same one above.
+fn is_fixed(lower: &[Lin], upper: &[Lin]) -> bool
+    ensures { result ≡ is_fixed lower.now upper.now }
+{
+    match lower {
+        [first] => match upper {
+            [last] => first.is_same(last),
+            _ => false,
+        },
+        _ => false,
+    }
+}
+
+/// The loop; if it has just one turn, the name that its symbol is for a form.
+fn settled<'a>(symbol: Sym, lower: &'a [Lin], upper: &'a [Lin]) -> Pending<'a>
+    ensures { pending_of result ≡ settled (Ranged symbol (span_of lower.now upper.now)) }
+{
+    if is_fixed(lower, upper) {
+        Pending::Picked {
+            symbol,
+            pick: Pick::Min,
+            forms: lower,
+        }
+    } else {
+        Pending::Ranged {
+            symbol,
+            lower,
+            upper,
+        }
+    }
+}
+
+/// The step before others with which it is taken together, if it is a name for the smaller of two forms; a loop of one turn as a name.
 #[tactic(auto, using(crate::proofs::Pairing::alone_many))]
 fn with_guard<'a>(
     alloc: Global,
@@ -137,11 +169,15 @@ fn with_guard<'a>(
                 behind(step, steps)
             }
         }
+        Pending::Ranged {
+            symbol,
+            lower,
+            upper,
+        } => behind(settled(symbol, lower, upper), steps),
         Pending::Picked {
             pick: Pick::Max,
             ..
         }
-        | Pending::Ranged { .. }
         | Pending::Passed { .. } => behind(step, steps),
     }
 }

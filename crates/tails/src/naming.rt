@@ -1,7 +1,7 @@
 //! Names that are opened: the smallest or largest of some forms.
 
 ghost use Rattle.std.specs.Prelude.{◌≡◌, false, IfOk};
-ghost use Rattle.tails.specs.Moves.{above, below, expanded, is_free_let, is_idle, opened, span_from, without_let};
+ghost use Rattle.tails.specs.Moves.{above, below, expanded, is_alone, is_free_let, is_idle, opened, span_from, without_let};
 ghost use Rattle.tails.specs.Held.{let_spans, others_of, pending_of};
 
 use crate::forms::expanded;
@@ -85,7 +85,17 @@ fn opened(
     }
 }
 
-/// The spans without the name; where no number may be met twice, only if none of them has it.
+/// Whether there is one form, and no other.
+fn is_alone(forms: &[Lin]) -> bool
+    ensures { result ≡ is_alone forms.now }
+{
+    match forms {
+        [_] => true,
+        _ => false,
+    }
+}
+
+/// The spans without the name; where no number may be met twice, only if none of them has it, or it stands for one form.
 #[tactic(auto, using(crate::proofs::Alike::opened_plain))]
 fn without_let(
     alloc: Global,
@@ -100,7 +110,7 @@ fn without_let(
     if !spans_have(symbol, spans) {
         return Ok(Some(copied(alloc, spans)?));
     }
-    if exact {
+    if exact && !is_alone(forms) {
         Ok(None)
     } else {
         opened(alloc, symbol, pick, forms, spans)
