@@ -35,3 +35,4 @@ pub mod OfKinds
 pub mod OfTests
 pub mod OfOwed
 pub mod OfAlike
+pub mod OfFolds

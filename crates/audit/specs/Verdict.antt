@@ -8,6 +8,8 @@ pub mod Kinds
 pub mod Tests
 pub mod Owed
 pub mod Alike
+pub mod Folds
+pub mod Raised
 pub mod Faults
 pub mod Laws
 pub mod Plain

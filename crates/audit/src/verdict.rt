@@ -3,6 +3,7 @@
 pub mod bounded;
 pub mod clear;
 pub mod examples;
+pub mod folds;
 pub mod indices;
 pub mod kinds;
 pub mod laws;
