@@ -211,7 +211,7 @@ like_limited : (o : Option Group) (xs : List Span1) → MatchOption o ⊥ (λ g.
 like_limited None xs h = absurd h
 like_limited (Some g) xs h = h.0
 
-shared_limited : (p : Plan) (n : Need) → NeedIsShared p n → IsLimited n.region
+pub shared_limited : (p : Plan) (n : Need) → NeedIsShared p n → IsLimited n.region
 shared_limited p n h = like_limited (slice_get p.groups n.needed) n.region h
 
 -- the line at a place of lines that are lent
@@ -268,4 +268,9 @@ pub no_block : (seats : List Seat) (gathered : List GroupNeeds) (first : ℕ) (b
 no_block seats gathered first b none k from to = absurd (omega (arith, to, none))
 
 pub walk_later : (seats : List Seat) (gathered : List GroupNeeds) (first later : ℕ) (w : Walk) → first ≤ later → IsWalkFrom seats gathered first w → IsWalkFrom seats gathered later w
-walk_later seats gathered first later w behind h = record { large = block_later seats gathered first later w.large behind h.large; small = block_later seats gathered first later w.small behind h.small }
+walk_later seats gathered first later w behind h = record {
+  large = block_later seats gathered first later w.large behind h.large;
+  middle = block_later seats gathered first later w.middle behind h.middle;
+  lesser = block_later seats gathered first later w.lesser behind h.lesser;
+  small = block_later seats gathered first later w.small behind h.small;
+}

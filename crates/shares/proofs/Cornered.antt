@@ -77,7 +77,7 @@ le_false (negsuc a) (negsuc b) e = omega (arith, ints, leb-false b a e)
 
 module _ (low high at : List ℕ) (between : IsBetween low high at) where
   -- of one multiple
-  end_above : (f : ℤ) (i : ℕ) → (f *ℤ grid_value at i) ≤ℤ (f *ℤ grid_value (if int_le (pos 0) f then high else low) i)
+  pub end_above : (f : ℤ) (i : ℕ) → (f *ℤ grid_value at i) ≤ℤ (f *ℤ grid_value (if int_le (pos 0) f then high else low) i)
   end_above (pos n) i =
       subst (λ (b : Bool). (pos n *ℤ grid_value at i) ≤ℤ (pos n *ℤ grid_value (if b then high else low) i)) (sym (zero_le n))
       (multiply_order (pos n) (grid_value at i) (grid_value high i) (omega (arith, ints)) (value_le at high i (between i).1))
@@ -127,12 +127,12 @@ module _ (s : Symbols) where
   fold_min_has b (f ∷ fs) zero d less = fold_min_most (form_value f s) (int_min b (form_value f s)) (omega (arith, ints, clamps)) fs
   fold_min_has b (f ∷ fs) (suc k) d less = fold_min_has (int_min b (form_value f s)) fs k d (omega (arith, less))
 
-  largest_has : (fs : List Form) (k : ℕ) (d : Form) → k < length fs → form_value (get_or fs k d) s ≤ℤ largest s fs
+  pub largest_has : (fs : List Form) (k : ℕ) (d : Form) → k < length fs → form_value (get_or fs k d) s ≤ℤ largest s fs
   largest_has [] k d less = absurd (omega (arith, less))
   largest_has (f ∷ fs) zero d less = fold_max_least (form_value f s) (form_value f s) (omega (arith, ints)) fs
   largest_has (f ∷ fs) (suc k) d less = fold_max_has (form_value f s) fs k d (omega (arith, less))
 
-  smallest_has : (fs : List Form) (k : ℕ) (d : Form) → k < length fs → smallest s fs ≤ℤ form_value (get_or fs k d) s
+  pub smallest_has : (fs : List Form) (k : ℕ) (d : Form) → k < length fs → smallest s fs ≤ℤ form_value (get_or fs k d) s
   smallest_has [] k d less = absurd (omega (arith, less))
   smallest_has (f ∷ fs) zero d less = fold_min_most (form_value f s) (form_value f s) (omega (arith, ints)) fs
   smallest_has (f ∷ fs) (suc k) d less = fold_min_has (form_value f s) fs k d (omega (arith, less))
@@ -184,7 +184,7 @@ high_none low high (f ∷ fs) e at between = absurd (omega (arith, e))
 
 -- ---- spans and regions without a point
 
-no_turn : (a b : ℤ) → b <ℤ a → clipped ((b +ℤ pos 1) -ℤ a) ≡ 0
+pub no_turn : (a b : ℤ) → b <ℤ a → clipped ((b +ℤ pos 1) -ℤ a) ≡ 0
 no_turn a b h = of ((b +ℤ pos 1) -ℤ a) refl
   where
     of : (d : ℤ) → d ≡ (b +ℤ pos 1) -ℤ a → clipped d ≡ 0

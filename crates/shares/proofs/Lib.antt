@@ -1,5 +1,6 @@
 pub mod Values
 pub mod Cornered
+pub mod Gapped
 pub mod Blocking
 pub mod Summing
 pub mod Rows

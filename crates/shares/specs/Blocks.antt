@@ -56,4 +56,6 @@ IsBlockOf seats first ns b = (k : ℕ) (s f : Seat) → first ≤ k → k < b.en
 -- the blocks in which a piece stands
 pub record IsWalkFrom (seats : List Seat) (gathered : List GroupNeeds) (first : ℕ) (w : Walk) : Type 0 where
   pub large : IsBlockFrom seats gathered first w.large
+  pub middle : IsBlockFrom seats gathered first w.middle
+  pub lesser : IsBlockFrom seats gathered first w.lesser
   pub small : IsBlockFrom seats gathered first w.small

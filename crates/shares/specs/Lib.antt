@@ -3,6 +3,7 @@ pub mod Lets
 pub mod FetchLines
 pub mod Walked
 pub mod Corners
+pub mod Gaps
 pub mod Blocks
 pub mod Spaces
 pub mod Seats

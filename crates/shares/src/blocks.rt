@@ -11,6 +11,7 @@ ghost use Rattle.shares.specs.Layout.{IsLayout};
 ghost use Rattle.shares.specs.Blocks.{AreHighs, AreLows, AreOf, AreThoseAt, AreThoseBetween, HaveLinesOf, IsBlockFrom, IsBlockOf, IsWalkFrom, LinesAreLimited, StandFor};
 
 use crate::corners::may_have_point;
+use crate::gaps::ends_may_meet;
 use crate::gathered::GroupNeeds;
 use crate::layout::Layout;
 use crate::seats::Seat;
@@ -20,8 +21,14 @@ use std::alloc::{AllocError, Global};
 /// The most pieces of a large block.
 const LARGE: usize = 1 << 14;
 
-/// The most pieces of a small block, of which a large one has 128.
-const SMALL: usize = 1 << 7;
+/// The most pieces of a middle block, of which a large one has 16.
+const MIDDLE: usize = 1 << 10;
+
+/// The most pieces of a lesser block, of which a middle one has 8.
+const LESSER: usize = 1 << 7;
+
+/// The most pieces of a small block, of which a lesser one has 8.
+const SMALL: usize = 1 << 4;
 
 /// The need lines that are looked at for the pieces up to the one behind a block.
 #[derive(Drop)]
@@ -30,10 +37,12 @@ pub struct Block<'a> {
     pub moving: Vec<&'a Need>,
 }
 
-/// The blocks in which a piece stands: the need lines of a large one are looked at once for each small one of it.
+/// The blocks in which a piece stands: the need lines of each are looked at once for each of the next that lies in it.
 #[derive(Drop)]
 pub struct Walk<'a> {
     pub large: Block<'a>,
+    pub middle: Block<'a>,
+    pub lesser: Block<'a>,
     pub small: Block<'a>,
 }
 
@@ -131,6 +140,9 @@ fn keep_between<'a>(
     requires high { IsSmall high.now }
     ensures { OnOk result ((ns : List CertNeed) → AreThoseBetween low.now high.now (map (λ n. n.now) kept.old.items) ns → AreThoseBetween low.now high.now (map (λ n. n.now) kept.new.items) (ns ++ need.now ∷ [])) }
 {
+    if !ends_may_meet(need.region.as_slice(), low, high) {
+        return Ok(());
+    }
     if may_have_point(need.region.as_slice(), low, high) {
         kept.push(need)?;
     }
@@ -227,17 +239,19 @@ fn renew_large<'a>(
     Ok(())
 }
 
-/// Takes a small block of a large one that begins with a piece, if the piece stands behind the one before.
-fn renew_small<'a>(
+/// Takes a block of a larger one, of at most so many pieces, that begins with a piece, if the piece stands behind the one before.
+fn renew_within<'a>(
     alloc: Global,
     seats: &[Seat],
     large: &Block<'a>,
     block: &mut Block<'a>,
     piece: usize,
+    size: usize,
 ) -> Result<(), AllocError>
     requires small { AreSmall seats.now }
     requires piece { piece < length seats.now }
     requires large { piece < large.now.end }
+    requires size { 1 ≤ size }
     requires limits { LinesAreLimited (map (λ n. n.now) large.now.moving.items) }
     ensures block { OnOk result ((gathered : List Gathered) → IsBlockFrom seats.now gathered piece large.now → IsBlockFrom seats.now gathered piece block.old → IsBlockFrom seats.now gathered piece block.new) }
     ensures some { OnOk result (piece < block.new.end) }
@@ -245,9 +259,19 @@ fn renew_small<'a>(
     if piece < block.end {
         return Ok(());
     }
-    let most = SMALL.min(large.end - piece);
+    let most = size.min(large.end - piece);
     *block = block_of(alloc, seats, &large.moving, piece, most)?;
     Ok(())
+}
+
+/// A block without a piece.
+fn no_block<'a>(alloc: Global) -> Block<'a>
+    ensures { result.end ≡ 0 }
+{
+    Block {
+        end: 0,
+        moving: Vec::new(alloc),
+    }
 }
 
 /// A walk that has not begun.
@@ -255,21 +279,17 @@ pub(crate) fn new_walk<'a>(alloc: Global) -> Walk<'a>
     ensures { (seats : List CodeSeat) (gathered : List Gathered) (first : ℕ) → IsWalkFrom seats gathered first result }
 {
     Walk {
-        large: Block {
-            end: 0,
-            moving: Vec::new(alloc),
-        },
-        small: Block {
-            end: 0,
-            moving: Vec::new(alloc),
-        },
+        large: no_block(alloc),
+        middle: no_block(alloc),
+        lesser: no_block(alloc),
+        small: no_block(alloc),
     }
 }
 
 /// Goes to a piece, of those that are behind the ones before.
 ///
 /// The time of a walk over all pieces is about that of the need lines of each group for each of its large blocks, and of those
-/// that may name a point in a block for each small block of it.
+/// that may name a point in a block for each of the next smaller blocks of it.
 pub(crate) fn step_to<'a>(
     alloc: Global,
     layout: &Layout<'_>,
@@ -285,7 +305,10 @@ pub(crate) fn step_to<'a>(
     ensures moving { OnOk result (StandFor layout.now.seats.items gathered.now.items piece (map (λ n. n.now) walk.new.small.moving.items)) }
 {
     let seats = layout.seats.as_slice();
-    renew_large(alloc, seats, gathered, &mut walk.large, piece as usize)?;
-    renew_small(alloc, seats, &walk.large, &mut walk.small, piece as usize)?;
+    let first = piece as usize;
+    renew_large(alloc, seats, gathered, &mut walk.large, first)?;
+    renew_within(alloc, seats, &walk.large, &mut walk.middle, first, MIDDLE)?;
+    renew_within(alloc, seats, &walk.middle, &mut walk.lesser, first, LESSER)?;
+    renew_within(alloc, seats, &walk.lesser, &mut walk.small, first, SMALL)?;
     Ok(())
 }

@@ -12,7 +12,7 @@ use crate::forms::grid_value;
 use lin::{Lin, Multiple, Span1};
 
 /// What a multiple's symbol is at the one corner where its factor is not negative, else at the other.
-fn end_value(term: &Multiple, up: &[u64], down: &[u64]) -> i64
+pub(crate) fn end_value(term: &Multiple, up: &[u64], down: &[u64]) -> i64
     requires up { IsSmall up.now }
     requires down { IsSmall down.now }
     ensures value { result ≡ end_value up.now down.now term.now }

@@ -13,6 +13,7 @@ mod far;
 mod fetched;
 mod filed;
 mod forms;
+mod gaps;
 mod gathered;
 mod grounds;
 pub mod laws;

@@ -17,6 +17,7 @@ ghost use Rattle.shares.specs.Blocks.{StandFor};
 ghost use Rattle.shares.specs.Has.{NeedsPieces};
 ghost use Rattle.shares.specs.Stops.{NeedStops};
 
+use crate::corners::may_have_point;
 use crate::fetched::push_all;
 use crate::gathered::GroupNeeds;
 use crate::layout::Layout;
@@ -48,8 +49,8 @@ pub(crate) fn settle_doubled(numbers: &mut Vec<u32>, settled: usize) -> Result<u
     Ok(numbers.as_slice().len())
 }
 
-/// Adds the pieces that a need line names at a piece of its group, where all are pieces.
-pub(crate) fn need_line(
+/// Adds the pieces that a need line names at a piece of its group, where all are pieces, by the points that it has.
+fn found_line(
     alloc: Global,
     layout: &Layout<'_>,
     seat: &Seat,
@@ -73,6 +74,31 @@ pub(crate) fn need_line(
     }
     push_all(needed, &found.numbers)?;
     Ok(())
+}
+
+/// Adds the pieces that a need line names at a piece of its group, where all are pieces.
+pub(crate) fn need_line(
+    alloc: Global,
+    layout: &Layout<'_>,
+    seat: &Seat,
+    need: &Need,
+    needed: &mut Vec<u32>,
+) -> Result<(), Stop>
+    requires layout { IsLayout layout.now }
+    requires need { NeedIsShared (plan_of layout.now.plan.now) need.now }
+    requires group { need.now.group ≡ seat.now.group }
+    requires at { IsSmall seat.now.at.items }
+    ensures numbers { OnOk result (needed.new.items ≡ needed.old.items ++ need_numbers (plan_of layout.now.plan.now) (piece_of seat.now) need.now) }
+    ensures known { OnOk result (NeedIsInside (plan_of layout.now.plan.now) (piece_of seat.now) need.now) }
+    ensures unserved { result ≡ Err Unserved → ¬ NeedIsInside (plan_of layout.now.plan.now) (piece_of seat.now) need.now }
+    ensures room { ¬ (result ≡ Err Large) }
+    ensures kept { result ≡ Err Unserved → needed.new.items ≡ needed.old.items }
+{
+    let at = seat.at.as_slice();
+    if !may_have_point(need.region.as_slice(), at, at) {
+        return Ok(());
+    }
+    found_line(alloc, layout, seat, need, needed)
 }
 
 /// The numbers of the pieces that the need lines of a piece's group name, where all are pieces; a number that several lines

@@ -16,9 +16,16 @@ returns-in_ok-push c ns h at between =
     let path = ap (map f) c.in_ok-push.ensures.items ∙ map-append f old (c.args.need ∷ []) in
     subst (λ (ms : List Need). AreThoseAt at ms (ns ++ n ∷ [])) (sym path) (those_kept at (map f old) ns n (h at between))
 
+pub returns-then-not-ends_may_meet : goal.returns-then-not-ends_may_meet
+returns-then-not-ends_may_meet c ns h at between =
+    let n : Need = c.args.need.now in
+    let f : Bor Need → Need = λ m. m.now in
+    those_left at (map f c.args.kept.now.items) ns n
+    (subst (λ (xs : List Span1). points (grid_symbols at) xs ≡ []) c.as_slice.ensures (c.ends_may_meet.ensures c.if-not-ends_may_meet.true at between)) (h at between)
+
 pub returns-else-may_have_point : goal.returns-else-may_have_point
 returns-else-may_have_point c ns h at between =
     let n : Need = c.args.need.now in
     let f : Bor Need → Need = λ m. m.now in
     those_left at (map f c.args.kept.now.items) ns n
-    (subst (λ (xs : List Span1). points (grid_symbols at) xs ≡ []) c.as_slice.ensures (c.may_have_point.ensures c.if-may_have_point.false at between)) (h at between)
+    (subst (λ (xs : List Span1). points (grid_symbols at) xs ≡ []) c.as_slice-2.ensures (c.may_have_point.ensures c.if-may_have_point.false at between)) (h at between)

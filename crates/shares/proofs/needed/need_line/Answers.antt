@@ -1,103 +1,48 @@
-use Rattle.std.proofs.Common.{◌≡◌, ◌∙◌, ◌+◌, ◌++◌, ℕ, List, sym, ap, subst, map, length, arith, Option}
-use Rattle.std.specs.Prelude.{All, IsTrue, ℤ, slice_get}
-use Rattle.std.proofs.lemmas.Bool.{false≢true}
-use Rattle.std.proofs.lemmas.List.{length-map}
-use Rattle.std.proofs.lemmas.List.Elements.{recursion_from_All}
-use Rattle.plan.specs.Plan.{Group, Plan}
+use Rattle.std.proofs.Common.{◌≡◌, ◌∙◌, ◌+◌, ◌++◌, [], ℕ, List, map, sym, ap, subst, arith}
+use Rattle.std.specs.Prelude.{All, IsTrue, ℤ}
+use Rattle.std.proofs.lemmas.List.{append-nil}
+use Rattle.plan.specs.Plan.{Plan}
 use Rattle.plan.specs.Symbols.{points}
 use Rattle.plan.specs.View.{plan_of}
-use Rattle.plan.specs.Certificate.Cells.{Piece, grid_symbols}
-use Rattle.headline.specs.Numbers.{group_grid}
-use Rattle.shares.specs.declared.boxes.Side.{Side}
-use Rattle.shares.specs.Boxes.{IsLimited, grid_sides, is_in_box, rank}
-use Rattle.shares.specs.Seats.{piece_of}
-use Rattle.shares.specs.Shared.{IsLike}
-use Rattle.shares.specs.Spaces.{numbers_in}
+use Rattle.plan.specs.declared.certificate.cert.Need.{Need}
+use Rattle.plan.specs.Certificate.Cells.{Piece, first_piece, grid_symbols}
+use Rattle.lin.specs.declared.span.Span1.{Span1}
+use Rattle.shares.specs.Boxes.{IsLimited, IsSmall, is_in_box, rank}
+use Rattle.shares.specs.Corners.{IsBetween}
 use Rattle.shares.specs.Needed.{need_grid, need_points, need_numbers}
-use Rattle.shares.proofs.Shared.{all_filtered}
-use Rattle.shares.proofs.Seated.{named_group, ground_within, ground_at}
+use Rattle.shares.specs.Seats.{piece_of}
+use Rattle.shares.proofs.Blocking.{shared_limited}
 use Rattle.shares.proofs.Needing.{numbers_some}
 use Rattle.shares.proofs.needed.need_line.Goals as goal
 
-pub index-ground-requires : goal.index-ground-requires
-index-ground-requires c =
-    let x = c.args.layout.now in
-    let n = c.args.need.now in
-    let k = named_group (slice_get (plan_of x.plan.now).groups n.needed) (λ g. IsLike n.region (length g.grid)) c.requires.need in
-    let less = ground_within x c.requires.layout n.needed k.0 k.1 in
-    omega (arith, less, x.grounds.ok.0)
+no_points : (at xs : List ℕ) (ys zs : List Span1) → xs ≡ at → ys ≡ zs → ((bs : List ℕ) → IsBetween xs xs bs → points (grid_symbols bs) ys ≡ []) → points (grid_symbols at) zs ≡ []
+no_points at xs ys zs e f h =
+    let same : IsBetween xs xs xs = λ i. (omega arith, omega arith) in
+    (λ t. points (grid_symbols (sym e t)) (sym f t)) ∙ h xs same
 
-pub found_in-requires-clause-space : goal.found_in-requires-clause-space
-found_in-requires-clause-space c =
-    let x = c.args.layout.now in
-    let n = c.args.need.now in
-    let k = named_group (slice_get (plan_of x.plan.now).groups n.needed) (λ g. IsLike n.region (length g.grid)) c.requires.need in
-    let y = c.index-ground.result.now in
-    let known = ground_at x c.requires.layout n.needed k.0 k.1 y c.index-ground.ensures in
-    known.pieces
+pub may_have_point-requires-clause-limits : goal.may_have_point-requires-clause-limits
+may_have_point-requires-clause-limits c = subst IsLimited (sym c.as_slice.ensures) (shared_limited (plan_of c.args.layout.now.plan.now) c.args.need.now c.requires.need)
 
-pub found_in-requires-clause-limits : goal.found_in-requires-clause-limits
-found_in-requires-clause-limits c =
-    let x = c.args.layout.now in
-    let n = c.args.need.now in
-    let k = named_group (slice_get (plan_of x.plan.now).groups n.needed) (λ g. IsLike n.region (length g.grid)) c.requires.need in
-    subst IsLimited (sym c.as_slice.ensures) k.2.0
+pub may_have_point-requires-clause-low : goal.may_have_point-requires-clause-low
+may_have_point-requires-clause-low c = subst IsSmall (sym c.as_slice-at.ensures.value) c.requires.at
 
-pub found_in-requires-clause-dimensions : goal.found_in-requires-clause-dimensions
-found_in-requires-clause-dimensions c =
-    let x = c.args.layout.now in
-    let n = c.args.need.now in
-    let k = named_group (slice_get (plan_of x.plan.now).groups n.needed) (λ g. IsLike n.region (length g.grid)) c.requires.need in
-    let y = c.index-ground.result.now in
-    let known = ground_at x c.requires.layout n.needed k.0 k.1 y c.index-ground.ensures in
-    ap length c.as_slice.ensures ∙ k.2.1 ∙ sym (length-map k.0.grid _) ∙ ap length (sym known.piece_sides)
+pub may_have_point-requires-clause-high : goal.may_have_point-requires-clause-high
+may_have_point-requires-clause-high c = subst IsSmall (sym c.as_slice-at.ensures.value) c.requires.at
 
-pub returns-then-not-found-clause-unserved : goal.returns-then-not-found-clause-unserved
-returns-then-not-found-clause-unserved c _ inside =
-    let x = c.args.layout.now in
-    let n = c.args.need.now in
-    let k = named_group (slice_get (plan_of x.plan.now).groups n.needed) (λ g. IsLike n.region (length g.grid)) c.requires.need in
-    let y = c.index-ground.result.now in
-    let known = ground_at x c.requires.layout n.needed k.0 k.1 y c.index-ground.ensures in
-    let p : Plan = plan_of x.plan.now in
-    let R = y.pieces.sides.items in
-    let sides : R ≡ need_grid p n = known.piece_sides ∙ ap (λ (o : Option Group). grid_sides (group_grid o)) (sym k.1) in
-    let Inside : List Side → List (List ℤ) → Type 0 = λ ss qs. All (λ q. IsTrue (is_in_box ss q)) qs in
-    let qs : points (grid_symbols c.deref.result.now) c.as_slice.result.now ≡ need_points (piece_of c.args.seat.now) n = λ t. points (grid_symbols (c.deref.ensures.value t)) (c.as_slice.ensures t) in
-    let here = subst (λ (ss : List Side). Inside ss (points (grid_symbols c.deref.result.now) c.as_slice.result.now)) (sym sides) (subst (Inside (need_grid p n)) (sym qs) (inside c.requires.group)) in
-    false≢true (sym c.if-not-found.true ∙ c.in_ok-found.ensures.whole.1 here)
-
-pub returns-clause-numbers : goal.returns-clause-numbers
-returns-clause-numbers c =
-    let x = c.args.layout.now in
-    let n = c.args.need.now in
-    let k = named_group (slice_get (plan_of x.plan.now).groups n.needed) (λ g. IsLike n.region (length g.grid)) c.requires.need in
-    let y = c.index-ground.result.now in
-    let known = ground_at x c.requires.layout n.needed k.0 k.1 y c.index-ground.ensures in
-    let p : Plan = plan_of x.plan.now in
+pub returns-then-not-may_have_point-clause-numbers : goal.returns-then-not-may_have_point-clause-numbers
+returns-then-not-may_have_point-clause-numbers c =
+    let p : Plan = plan_of c.args.layout.now.plan.now in
     let j : Piece = piece_of c.args.seat.now in
-    let R = y.pieces.sides.items in
-    let qs = points (grid_symbols c.deref.result.now) c.as_slice.result.now in
-    let whole = c.in_ok-found.ensures.whole.0 c.if-not-found.false in
-    let sides : R ≡ need_grid p n = known.piece_sides ∙ ap (λ (o : Option Group). grid_sides (group_grid o)) (sym k.1) in
-    let kept = c.in_ok-found.ensures.numbers ∙ ap (numbers_in y.pieces) (all_filtered (is_in_box R) qs (recursion_from_All (λ (q : List ℤ). IsTrue (is_in_box R q)) qs whole)) in
-    let same : c.deref-2.result.now ≡ need_numbers p j n =
-    c.deref-2.ensures.value ∙ kept
-    ∙ (λ t. map (λ q. known.first_piece t + rank (sides t) q) (points (grid_symbols (c.deref.ensures.value t)) (c.as_slice.ensures t)))
-    ∙ numbers_some p j n c.requires.group in
-    c.in_ok-push_all.ensures ∙ ap (λ (ns : List ℕ). c.args.needed.now.items ++ ns) same
+    let n : Need = c.args.need.now in
+    let old = c.args.needed.now.items in
+    let none : need_points j n ≡ [] = no_points j.at c.as_slice-at.result.now c.as_slice.result.now n.region c.as_slice-at.ensures.value c.as_slice.ensures (c.may_have_point.ensures c.if-not-may_have_point.true) in
+    let empty : need_numbers p j n ≡ [] = sym (numbers_some p j n c.requires.group) ∙ ap (map (λ q. first_piece p.groups n.needed + rank (need_grid p n) q)) none in
+    sym (append-nil old) ∙ ap (λ (ns : List ℕ). old ++ ns) (sym empty)
 
-pub returns-clause-known : goal.returns-clause-known
-returns-clause-known c _ =
-    let x = c.args.layout.now in
-    let n = c.args.need.now in
-    let k = named_group (slice_get (plan_of x.plan.now).groups n.needed) (λ g. IsLike n.region (length g.grid)) c.requires.need in
-    let y = c.index-ground.result.now in
-    let known = ground_at x c.requires.layout n.needed k.0 k.1 y c.index-ground.ensures in
-    let p : Plan = plan_of x.plan.now in
-    let R = y.pieces.sides.items in
-    let whole = c.in_ok-found.ensures.whole.0 c.if-not-found.false in
-    let sides : R ≡ need_grid p n = known.piece_sides ∙ ap (λ (o : Option Group). grid_sides (group_grid o)) (sym k.1) in
-    let Inside : List Side → List (List ℤ) → Type 0 = λ ss qs. All (λ q. IsTrue (is_in_box ss q)) qs in
-    let qs : points (grid_symbols c.deref.result.now) c.as_slice.result.now ≡ need_points (piece_of c.args.seat.now) n = λ t. points (grid_symbols (c.deref.ensures.value t)) (c.as_slice.ensures t) in
-    subst (Inside (need_grid p n)) qs (subst (λ (ss : List Side). Inside ss (points (grid_symbols c.deref.result.now) c.as_slice.result.now)) sides whole)
+pub returns-then-not-may_have_point-clause-known : goal.returns-then-not-may_have_point-clause-known
+returns-then-not-may_have_point-clause-known c _ =
+    let p : Plan = plan_of c.args.layout.now.plan.now in
+    let j : Piece = piece_of c.args.seat.now in
+    let n : Need = c.args.need.now in
+    let none : need_points j n ≡ [] = no_points j.at c.as_slice-at.result.now c.as_slice.result.now n.region c.as_slice-at.ensures.value c.as_slice.ensures (c.may_have_point.ensures c.if-not-may_have_point.true) in
+    subst (λ (qs : List (List ℤ)). All (λ q. IsTrue (is_in_box (need_grid p n) q)) qs) (sym none) (λ k d less. absurd (omega (arith, less)))

@@ -2,7 +2,7 @@ use Rattle.std.proofs.Common.{◌≡◌, ◌≤◌, List, map, sym, subst, arith
 use Rattle.plan.specs.declared.certificate.cert.Need.{Need}
 use Rattle.shares.specs.Blocks.{IsBlockOf, LinesAreLimited}
 use Rattle.shares.proofs.Blocking.{block_within, some_at}
-use Rattle.shares.proofs.blocks.renew_small.Goals as goal
+use Rattle.shares.proofs.blocks.renew_within.Goals as goal
 
 pub block_of-requires-clause-limits : goal.block_of-requires-clause-limits
 block_of-requires-clause-limits c = subst (λ (ls : List (Bor Need)). LinesAreLimited (map (λ n. n.now) ls)) (sym c.deref.ensures.value) c.requires.limits
