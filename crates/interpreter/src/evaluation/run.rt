@@ -57,6 +57,28 @@ pub fn evaluate_run<R: RunReader>(
     }
 }
 
+/// The values of an expression at the turns of a run. Those without parts, which are more than half of all, take no further call.
+#[cycle(evaluate_run)]
+#[inline(always)]
+fn operand_run<R: RunReader>(
+    expr: &Expr,
+    reader: &R,
+    out: &mut [Number],
+    rest: &mut [Number],
+) -> Option<Lanes>
+    ensures narrow { IfSome result (IsNarrowFor (length out.new)) }
+    ensures value { IfSome result (λ x. (m : Memory ValueFound) → R.agrees reader.now m → FindsRun (length out.new) x out.new (λ k. found (R.variables reader.now k) (R.look reader.now m) (term_of expr.now))) }
+{
+    match expr {
+        Expr::Literal { ty, number, .. } => Some(Lanes::Broadcast(Value {
+            ty: *ty,
+            number: *number,
+        })),
+        Expr::Variable { name, .. } => reader.variable(name.as_str(), out),
+        _ => evaluate_run(expr, reader, out, rest),
+    }
+}
+
 /// The values of an operator, of an expression that is one on two others. A second operand that repeats the first is not evaluated.
 #[cycle(evaluate_run)]
 fn binary_run<R: RunReader>(
@@ -77,7 +99,7 @@ fn binary_run<R: RunReader>(
     else {
         return None;
     };
-    let first = evaluate_run(left, reader, out, rest)?;
+    let first = operand_run(left, reader, out, rest)?;
     if rest.len() < out.len() {
         return None;
     }
@@ -85,7 +107,7 @@ fn binary_run<R: RunReader>(
     if let Some(repeat) = repeat_of(*op, left, right) {
         return Some(apply_repeated(*op, repeat, first, out, other));
     }
-    let second = evaluate_run(right, reader, other, rest)?;
+    let second = operand_run(right, reader, other, rest)?;
     Some(apply_lanes(*op, first, second, out, other))
 }
 
@@ -109,17 +131,17 @@ fn clamp_run<R: RunReader>(
     else {
         return None;
     };
-    let value = evaluate_run(value, reader, out, rest)?;
+    let value = operand_run(value, reader, out, rest)?;
     if rest.len() < out.len() {
         return None;
     }
     let (lows, rest) = rest.split_at_mut(out.len());
-    let low = evaluate_run(low, reader, lows, rest)?;
+    let low = operand_run(low, reader, lows, rest)?;
     if rest.len() < out.len() {
         return None;
     }
     let (highs, rest) = rest.split_at_mut(out.len());
-    let high = evaluate_run(high, reader, highs, rest)?;
+    let high = operand_run(high, reader, highs, rest)?;
     Some(clamp_lanes(value, low, high, out, lows, highs))
 }
 
@@ -142,12 +164,12 @@ fn select_run<R: RunReader>(
         return None;
     }
     let (yeses, rest) = rest.split_at_mut(out.len());
-    let yes = evaluate_run(yes, reader, yeses, rest)?;
+    let yes = operand_run(yes, reader, yeses, rest)?;
     if rest.len() < out.len() {
         return None;
     }
     let (noes, rest) = rest.split_at_mut(out.len());
-    let no = evaluate_run(no, reader, noes, rest)?;
+    let no = operand_run(no, reader, noes, rest)?;
     let ty = choose_lanes(yes, no, out, yeses, noes)?;
     Some(Lanes::Vector(ty))
 }
@@ -211,12 +233,12 @@ fn compare_run<R: RunReader>(
     else {
         return None;
     };
-    let left = evaluate_run(left, reader, out, rest)?;
+    let left = operand_run(left, reader, out, rest)?;
     if rest.len() < out.len() {
         return None;
     }
     let (other, rest) = rest.split_at_mut(out.len());
-    let right = evaluate_run(right, reader, other, rest)?;
+    let right = operand_run(right, reader, other, rest)?;
     compare_lanes(*by, left, right, out, other);
     Some(())
 }
@@ -277,5 +299,5 @@ fn register_run<R: RunReader>(
         return None;
     }
     let (out, rest) = registers.split_at_mut(count);
-    evaluate_run(expr, reader, out, rest)
+    operand_run(expr, reader, out, rest)
 }

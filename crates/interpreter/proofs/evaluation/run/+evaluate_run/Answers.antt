@@ -43,6 +43,15 @@ evaluate_run-returns-in-Literal-clause-value g t c = λ m ok k lt.
     ap (λ (e : Expr). found vs look (term_of e)) c.in-Literal.is
     ∙ ap (λ (z : ℤ). Some (typed c.in-Literal.ty z)) (sym (to_z-of_z w64 n fits))
 
+pub operand_run-returns-in-Literal-clause-value : goal.operand_run-returns-in-Literal-clause-value
+operand_run-returns-in-Literal-clause-value g t c = λ m ok k lt.
+    let vs = g.R.RunReader.variables c.args.reader.now k in
+    let look = g.R.RunReader.look c.args.reader.now m in
+    let n : ℤ = c.in-Literal.number in
+    let fits : SFits w64 n = search rules in
+    ap (λ (e : Expr). found vs look (term_of e)) c.in-Literal.is
+    ∙ ap (λ (z : ℤ). Some (typed c.in-Literal.ty z)) (sym (to_z-of_z w64 n fits))
+
 pub evaluate_run-returns-in_ok-ty-in-Call-clause-value : goal.evaluate_run-returns-in_ok-ty-in-Call-clause-value
 evaluate_run-returns-in_ok-ty-in-Call-clause-value g t c = λ m ok k lt.
     let vs = g.R.RunReader.variables c.args.reader.now k in
