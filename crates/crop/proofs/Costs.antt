@@ -19,7 +19,7 @@ use Rattle.tree.proofs.Typed.{both_true, some_only_if, some_operator, some_of, i
 use Rattle.bounds.proofs.Fitting.{both_typed, all_typed}
 use Rattle.meaning.specs.Count.{Costs, cost_of}
 use Rattle.crop.specs.declared.cut.Stretch.{Stretch}
-use Rattle.crop.specs.Moving.{Move, is_i32, moved, test_moved, all_moved, constant, against, literal, number_in, multiple_in, plus, both_fit, clamp_to, Moving, plain_moved, sum_moved, difference_moved, product_moved, quotient_moved, remainder_moved, bounded, least_moved, greatest_moved, operator_moved, clamp_of, clamp_plain, clamp_moved, compare_moved, compare_plain}
+use Rattle.crop.specs.Moving.{Move, is_i32, moved, test_moved, all_moved, constant, against, least, is_least, literal, number_in, multiple_in, plus, both_fit, clamp_to, Moving, negated_moved, plain_moved, sum_moved, difference_moved, product_moved, quotient_moved, remainder_moved, bounded, least_moved, greatest_moved, operator_moved, clamp_of, clamp_plain, clamp_moved, compare_moved, compare_plain}
 use Rattle.crop.proofs.Operators.{either}
 
 -- a side that is a literal makes no calls
@@ -45,14 +45,20 @@ module _ (v : List ℕ → ℤ) (k : List ℕ → List ℤ → Value) (costs : C
   pub three : (xs ys zs : List Asked) → sum_by price (xs ++ ys ++ zs) ≡ sum_by price xs + sum_by price ys + sum_by price zs
   three xs ys zs = two (xs ++ ys) zs ∙ ap (λ n. n + sum_by price zs) (two xs ys)
 
+  number_behind : (e : Term) (n : ℕ) → K (Binary Sub e (Number I32 (pos n))) ≡ K e
+  number_behind e n = let s = two (calls_made v k e) [] in omega (arith, s)
+
   pub plus_cost : (e : Term) (c : ℤ) → K (plus e c) ≡ K e
   plus_cost e (pos zero) = refl
   plus_cost e (pos (suc n)) = let s = two (calls_made v k e) [] in omega (arith, s)
-  plus_cost e (negsuc n) = let s = two (calls_made v k e) [] in omega (arith, s)
+  plus_cost e (negsuc n) =
+      let most = Binary Sub e (Number I32 (pos 2147483647)) in
+      either (λ t. K t ≡ K e) (is_least (negsuc n)) (Binary Sub most (Number I32 (pos 1))) (Binary Sub e (Number I32 (pos (suc n))))
+      (λ t. number_behind most 1 ∙ number_behind e 2147483647) (λ t. number_behind e (suc n))
 
   pub literal_cost : (z : ℤ) → K (literal z) ≡ 0
   literal_cost (pos n) = refl
-  literal_cost (negsuc n) = refl
+  literal_cost (negsuc n) = either (λ t. K t ≡ 0) (is_least (negsuc n)) least (Minus (Number I32 (pos (suc n)))) (λ t. refl) (λ t. refl)
 
   pub number_cost : (e : Term) (n : ℤ) → number_in e ≡ Some n → K e ≡ 0
   number_cost (Number I32 m) n h = refl
@@ -197,6 +203,11 @@ module _ (m : Move) (known : List ℕ → Bool) (v w : List ℕ → ℤ) (k q : 
   literal_if true t n c = literal_cost w q others (wrap I32 (wrap I32 n +ℤ c))
   literal_if false t n c = refl
 
+  -- a number with a minus before it makes no calls
+  negated_cost : (a : Term) (c : ℤ) (found : Option ℤ) → number_in (Minus a) ≡ found → W (moved m (against c) a) ≡ V a → W (negated_moved c found (λ d. moved m d a)) ≡ V a
+  negated_cost a c (Some z) d h = literal_cost w q others (wrap I32 (z +ℤ c)) ∙ sym (number_cost v k costs (Minus a) z d)
+  negated_cost a c None d h = h
+
   -- an operator whose sides cost what they did
   operated : (d : Bool) (op : Op) (c : ℤ) (a b : Term) → ((c : ℤ) → W (moved m c a) ≡ V a) → ((c : ℤ) → W (moved m c b) ≡ V b)
       → W (elim d [
@@ -249,7 +260,7 @@ module _ (m : Move) (known : List ℕ → Bool) (v w : List ℕ → ℤ) (k q : 
         ∙ sum_by_push (λ (x : Asked). others x.name x.at) (calls_made_by_all w q at') (asked name (numbers_of w q at'))
         ∙ (λ i. rest i + this i)
         ∙ sym (sum_by_push old (calls_made_by_all v k at) (asked name (numbers_of v k at)))
-    cost_moved (Minus a) h r c = cost_moved a h r (against c)
+    cost_moved (Minus a) h r c = negated_cost a c (number_in (Minus a)) refl (cost_moved a h r (against c))
     cost_moved (Binary op a b) h r c =
         let s = both_typed known m.functions a b (some_operator op (common (type_of known m.functions a) (type_of known m.functions b)) h) in
         let ra = left (calls_made v k a) (calls_made v k b) r in

@@ -24,7 +24,7 @@ use Rattle.tree.proofs.Typed.{both_true, is_of-true, same_type-true, some_only_i
 use Rattle.tree.proofs.Soundness.{does_as_typed}
 use Rattle.crop.specs.declared.cut.Stretch.{Stretch}
 use Rattle.bounds.proofs.Fitting.{both_typed, all_typed, shape, one_shape}
-use Rattle.crop.specs.Moving.{Move, moved, test_moved, all_moved, constant, shifted, against, moved_point, literal, number_in, plus, clamp_to, clamp_moved, operator_moved, Moving, compare_moved, compare_plain}
+use Rattle.crop.specs.Moving.{Move, moved, test_moved, all_moved, constant, shifted, against, moved_point, literal, number_in, plus, clamp_to, negated_moved, clamp_moved, operator_moved, Moving, compare_moved, compare_plain}
 use Rattle.crop.proofs.Rings.{equal, same, wrapped, sum, opposite, through, wraps_alike, add_left}
 use Rattle.crop.proofs.Operators.{Within, IsIf, Adds, at_none, plus-is, literal-is, number-is, operator-is, clamp-is, either}
 
@@ -168,6 +168,13 @@ module _ (m : Move) (known : List ℕ → Bool) (v w : List ℕ → ℤ) (k q : 
   bare : (e : Term) (c z : ℤ) → IsOf I32 z → value_of w q e ≡ typed I32 z → value_of w q (plus e c) ≡ typed I32 (wrap I32 (z +ℤ c))
   bare e c z i h = plus-is w q e z c (h ∙ ap (typed I32) (sym (wrap_of_value I32 z i)))
 
+  -- a number with a minus before it, and another expression with one
+  negated-is : (a : Term) (c : ℤ) (found : Option ℤ) → number_in (Minus a) ≡ found → value_of w q (Minus (moved m (against c) a)) ≡ typed I32 (wrap I32 (n (Minus a) +ℤ c))
+      → value_of w q (negated_moved c found (λ d. moved m d a)) ≡ typed I32 (wrap I32 (n (Minus a) +ℤ c))
+  negated-is a c (Some z) d h =
+      literal-is w q (wrap I32 (z +ℤ c)) (wraps_to I32 (z +ℤ c)).within ∙ ap (λ y. typed I32 (wrap I32 (y +ℤ c))) (sym (literal_if (Minus a) z d))
+  negated-is a c None d h = h
+
   abbrev two_typed : (a b : Term) → IsSome (common (type_of known m.functions a) (type_of known m.functions b)) → Rattle.bounds.proofs.Fitting.BothTyped known m.functions a b
   two_typed a b h = both_typed known m.functions a b h
 
@@ -217,12 +224,12 @@ module _ (m : Move) (known : List ℕ → Bool) (v w : List ℕ → ℤ) (k q : 
         let x = n a in
         let t = value-is a I32 h e in
         let whole : n (Minus a) ≡ wrap I32 (neg_ℤ x) = ap (λ u. (negated u).number) t in
-        ap negated (added a h e r (against c))
+        negated-is a c (number_in (Minus a)) refl (ap negated (added a h e r (against c))
         ∙ ap (typed I32) (wraps_alike (neg_ℤ (wrap I32 (x +ℤ against c))) (wrap I32 (neg_ℤ x) +ℤ c) (neg_ℤ (x +ℤ neg_ℤ c)) (neg_ℤ x +ℤ c)
         (opposite (wrap I32 (x +ℤ against c)) (x +ℤ neg_ℤ c) (through (wrap I32 (x +ℤ against c)) (x +ℤ against c) (x +ℤ neg_ℤ c) (wrapped (x +ℤ against c)) (sum x x (against c) (neg_ℤ c)
         (same x) (wrapped (neg_ℤ c)))))
         (sum (wrap I32 (neg_ℤ x)) (neg_ℤ x) c c (wrapped (neg_ℤ x)) (same c)) (omega (arith, ints)))
-        ∙ ap (λ z. typed I32 (wrap I32 (z +ℤ c))) (sym whole)
+        ∙ ap (λ z. typed I32 (wrap I32 (z +ℤ c))) (sym whole))
     added (Binary op a b) h e r c =
         let s = two_typed a b (some_operator op (common (type_of known m.functions a) (type_of known m.functions b)) h) in
         let f = second a b s.first s.second s.same e in
@@ -296,7 +303,7 @@ module _ (m : Move) (known : List ℕ → Bool) (v w : List ℕ → ℤ) (k q : 
     other (Number t z) h d r = ap (λ u. value_of w q (elim u [ true ↦ literal (wrap I32 (wrap I32 z +ℤ pos 0)) | false ↦ Number t z ])) d
     other (Name name) h d r = cc
     other (Call name at) h d r = called name at h r (numbered (m.origins name) at (indices_typed name at h) (in_indices name at r))
-    other (Minus a) h d r = ap negated (other a h d r)
+    other (Minus a) h d r = ap (λ o. value_of w q (negated_moved (pos 0) o (λ c. moved m c a))) (no_literal (Minus a) d) ∙ ap negated (other a h d r)
     other (Binary op a b) h d r =
         let s = two_typed a b (some_operator op (common (type_of known m.functions a) (type_of known m.functions b)) h) in
         let ra = all-left (λ x. InQ x.name x.at) (calls_made v k a) (calls_made v k b) r in

@@ -2,6 +2,8 @@
 use Rattle.std.proofs.Common.{◌≡◌, ℕ, zero, suc, List, Bool, true, false, Option, Some, None, ℤ, pos, negsuc, neg_ℤ, ◌+ℤ◌, ◌-ℤ◌, ◌*ℤ◌, ◌≤ℤ◌, refl, sym, ap, ◌∙◌, subst, arith, ◌&&◌, if◌then◌else◌, IsTrue}
 use Rattle.std.specs.Prelude.{int_le}
 use Rattle.std.specs.Int.{int_max, int_min}
+use Rattle.std.specs.Ordering.{int_eq}
+use Rattle.std.proofs.lemmas.Bool.Decides.{Decides-int_eq, nat_tests}
 use Rattle.std.proofs.lemmas.Int.{ints, clamps}
 use Rattle.numeric.specs.declared.ty.Ty.TheVariants.{I32}
 use Rattle.numeric.specs.declared.op.Op.{Op}
@@ -18,7 +20,7 @@ use Rattle.tree.specs.Meaning.{value_of, typed, applied, clamped}
 use Rattle.tree.specs.Typing.{is_of}
 use Rattle.tree.proofs.Typed.{both_true, is_of-true}
 use Rattle.crop.specs.declared.cut.Stretch.{Stretch}
-use Rattle.crop.specs.Moving.{against, literal, number_in, multiple_in, plus, both_fit, clamp_to, Moving, plain_moved, sum_moved, difference_moved, product_moved, quotient_moved, remainder_moved, least_of, least_moved, greatest_of, greatest_moved, operator_moved, clamp_of, clamp_plain, clamp_moved}
+use Rattle.crop.specs.Moving.{against, least, is_least, literal, number_in, multiple_in, plus, both_fit, clamp_to, Moving, plain_moved, sum_moved, difference_moved, product_moved, quotient_moved, remainder_moved, least_of, least_moved, greatest_of, greatest_moved, operator_moved, clamp_of, clamp_plain, clamp_moved}
 use Rattle.crop.proofs.Rings.{Same, same, wrapped, sum, difference, product, through, wraps_alike, add_left}
 
 some_number : (x y : ℤ) → Some x ≡ Some y → x ≡ y
@@ -31,6 +33,13 @@ guarded false m n h = cc
 pub either : {A : Type 0} (P : A → Type 0) (b : Bool) (x y : A) → (b ≡ true → P x) → (b ≡ false → P y) → P (if b then x else y)
 either P true x y h k = h refl
 either P false x y h k = k refl
+
+same_number : (x y : ℤ) → int_eq x y ≡ true → x ≡ y
+same_number x y e = grind (arith, nat_tests, Decides-int_eq x y)
+
+-- the least number of i32 is told by its test
+pub least_told : (z : ℤ) → is_least z ≡ true → negsuc 2147483647 ≡ z
+least_told z e = sym (same_number z (negsuc 2147483647) e)
 
 -- the value lies between ends, if there are any
 abbrev pub Within : Option Stretch → ℤ → Type 0
@@ -72,16 +81,31 @@ module _ (v : List ℕ → ℤ) (k : List ℕ → List ℤ → Value) where
   pub at_none : (f : Moving) (x : ℤ) → IsOf I32 x → Adds f x → value_of v k (f (pos 0)) ≡ typed I32 x
   at_none f x i h = let e : x +ℤ pos 0 ≡ x = omega (arith, ints) in h (pos 0) ∙ ap (λ z. typed I32 (wrap I32 z)) e ∙ ap (typed I32) (wrap_of_value I32 x i)
 
+  -- a number from 1 up taken away
+  taken : (e : Term) (x : ℤ) (n : ℕ) → value_of v k e ≡ typed I32 (wrap I32 x) → value_of v k (Binary Sub e (Number I32 (pos (suc n)))) ≡ typed I32 (wrap I32 (x +ℤ negsuc n))
+  taken e x n h =
+      let q : wrap I32 x -ℤ pos (suc n) ≡ wrap I32 x +ℤ negsuc n = omega (arith, ints) in
+      ap (λ u. applied Sub u (typed I32 (pos (suc n)))) h ∙ ap (λ z. typed I32 (wrap I32 z)) q ∙ ap (typed I32) (add_left x (negsuc n))
+
+  -- the least number of i32, as it is written
+  least_number-is : value_of v k least ≡ typed I32 (negsuc 2147483647)
+  least_number-is = refl
+
   pub plus-is : (e : Term) (x c : ℤ) → value_of v k e ≡ typed I32 (wrap I32 x) → value_of v k (plus e c) ≡ typed I32 (wrap I32 (x +ℤ c))
   plus-is e x (pos zero) h = let q : x ≡ x +ℤ pos 0 = omega (arith, ints) in h ∙ ap (λ z. typed I32 (wrap I32 z)) q
   plus-is e x (pos (suc n)) h = ap (λ u. applied Add u (typed I32 (pos (suc n)))) h ∙ ap (typed I32) (add_left x (pos (suc n)))
   plus-is e x (negsuc n) h =
-      let q : wrap I32 x -ℤ pos (suc n) ≡ wrap I32 x +ℤ negsuc n = omega (arith, ints) in
-      ap (λ u. applied Sub u (typed I32 (pos (suc n)))) h ∙ ap (λ z. typed I32 (wrap I32 z)) q ∙ ap (typed I32) (add_left x (negsuc n))
+      let most = Binary Sub e (Number I32 (pos 2147483647)) in
+      let q : (y : ℤ) → y +ℤ negsuc 2147483646 +ℤ negsuc 0 ≡ y +ℤ negsuc 2147483647 = λ y. omega (arith, ints) in
+      either (λ t. value_of v k t ≡ typed I32 (wrap I32 (x +ℤ negsuc n))) (is_least (negsuc n)) (Binary Sub most (Number I32 (pos 1))) (Binary Sub e (Number I32 (pos (suc n))))
+      (λ t. taken most (x +ℤ negsuc 2147483646) 0 (taken e x 2147483646 h) ∙ ap (λ z. typed I32 (wrap I32 z)) (q x ∙ ap (λ y. x +ℤ y) (least_told (negsuc n) t)))
+      (λ t. taken e x n h)
 
   pub literal-is : (z : ℤ) → IsOf I32 z → value_of v k (literal z) ≡ typed I32 z
   literal-is (pos n) h = refl
-  literal-is (negsuc n) h = ap (typed I32) (wrap_of_value I32 (negsuc n) h)
+  literal-is (negsuc n) h =
+      either (λ t. value_of v k t ≡ typed I32 (negsuc n)) (is_least (negsuc n)) least (Minus (Number I32 (pos (suc n))))
+      (λ t. least_number-is ∙ ap (typed I32) (least_told (negsuc n) t)) (λ t. ap (typed I32) (wrap_of_value I32 (negsuc n) h))
 
   pub number-is : (e : Term) (n : ℤ) → number_in e ≡ Some n → value_of v k e ≡ typed I32 n
   number-is (Number I32 m) n h = ap (typed I32) (some_number m n (guarded (is_of I32 m) m n h))

@@ -1,6 +1,7 @@
 -- Expressions moved to an origin: the same tree with other numbers.
 use Rattle.std.specs.Prelude.{ℕ, zero, suc, ℤ, pos, negsuc, ◌+ℤ◌, ◌-ℤ◌, ◌*ℤ◌, neg_ℤ, int_le, List, [], ◌∷◌, Bool, true, false, ◌&&◌, ◌||◌, if◌then◌else◌, Option, Some, None, is_some}
 use Rattle.std.specs.Int.{int_max, int_min}
+use Rattle.std.specs.Ordering.{int_eq}
 use Rattle.numeric.specs.declared.ty.Ty.{Ty}
 use Rattle.numeric.specs.declared.ty.Ty.TheVariants.{I32}
 use Rattle.numeric.specs.declared.op.Op.{Op}
@@ -26,10 +27,17 @@ moved_point (o ∷ os) (z ∷ zs) = shifted o z ∷ moved_point os zs
 moved_point [] zs = zs
 moved_point (o ∷ os) [] = []
 
--- a number as it stands in a text, where no literal is below 0
+-- the least number of i32, which no literal with a minus before it can write
+abbrev pub least : Term
+least = Binary Sub (Minus (Number I32 (pos 2147483647))) (Number I32 (pos 1))
+
+abbrev pub is_least : ℤ → Bool
+is_least z = int_eq z (negsuc 2147483647)
+
+-- a number as it stands in a text, where no literal is below 0 or above the greatest number of its type
 abbrev pub literal : ℤ → Term
 literal (pos n) = Number I32 (pos n)
-literal (negsuc n) = Minus (Number I32 (pos (suc n)))
+literal (negsuc n) = if is_least (negsuc n) then least else Minus (Number I32 (pos (suc n)))
 
 -- the number that an i32 literal is, with a minus or without
 abbrev pub number_in : Term → Option ℤ
@@ -41,7 +49,8 @@ number_in _ = None
 abbrev pub plus : Term → ℤ → Term
 plus e (pos zero) = e
 plus e (pos (suc n)) = Binary Add e (Number I32 (pos (suc n)))
-plus e (negsuc n) = Binary Sub e (Number I32 (pos (suc n)))
+plus e (negsuc n) =
+    if is_least (negsuc n) then Binary Sub (Binary Sub e (Number I32 (pos 2147483647))) (Number I32 (pos 1)) else Binary Sub e (Number I32 (pos (suc n)))
 
 -- by how much the variables of a definition are moved, the origin of each thing that is called, its type, and the ends
 -- between which the value of an expression lies
@@ -64,6 +73,11 @@ clamp_to low high z = int_max (int_min z high) low
 
 abbrev pub Moving : Type 0
 Moving = ℤ → Term
+
+-- a number with a minus before it is one number; else the minus stays before what it stands before
+abbrev pub negated_moved : ℤ → Option ℤ → Moving → Term
+negated_moved c (Some n) f = literal (wrap I32 (n +ℤ c))
+negated_moved c None f = Minus (f (against c))
 
 abbrev pub plain_moved : Op → ℤ → Moving → Moving → Term
 plain_moved op c f g = plus (Binary op (f (pos 0)) (g (pos 0))) c
@@ -179,7 +193,7 @@ module _ (m : Move) where
     moved c (Number t n) = elim (is_i32 (Number t n)) [ true ↦ literal (wrap I32 (wrap I32 n +ℤ c)) | false ↦ Number t n ]
     moved c (Name name) = plus (Name name) (wrap I32 (m.variables name +ℤ c))
     moved c (Call name at) = plus (Call name (all_moved (m.origins name) at)) c
-    moved c (Minus a) = Minus (moved (against c) a)
+    moved c (Minus a) = negated_moved c (number_in (Minus a)) (λ d. moved d a)
     moved c (Binary op a b) = elim (is_i32 a) [
       | true ↦ operator_moved op c (number_in a) (number_in b) (m.ends a) (constant a) (constant b) a b (λ d. moved d a) (λ d. moved d b)
       | false ↦ Binary op (moved (pos 0) a) (moved (pos 0) b)

@@ -4,7 +4,7 @@ ghost use Rattle.std.specs.Prelude.{◌≡◌, IfOk, ◌*ℤ◌, pos, if◌then�
 ghost use Rattle.numeric.specs.declared.ty.Ty.TheVariants.{I32 as Index};
 ghost use Rattle.numeric.specs.Wrap.{wrap as wrap_of};
 ghost use Rattle.tree.specs.Term.{term_of, test_of, list_terms, indices, Name, Call, Binary, Clamp, Choice, Compares};
-ghost use Rattle.crop.specs.Moving.{constant, constant_of, moved, test_moved};
+ghost use Rattle.crop.specs.Moving.{constant, constant_of, moved, negated_moved, test_moved};
 ghost use Rattle.crop.specs.Cutting.{small_ends};
 ghost use Rattle.crop.specs.Plan.{IsOperatorPlan, coordinate_against, each_moved, literal_with, side_of};
 ghost use Rattle.crop.specs.View.{move_of, span_in};
@@ -197,8 +197,7 @@ pub(crate) fn moved(
         Expr::Variable { name, span } => variable_moved(alloc, mover, c, name, *span),
         Expr::Call { name, at, span } => call_moved(alloc, mover, c, name, at, *span),
         Expr::Negate { value, span } => {
-            let side = Side::Moved(against(c));
-            Ok(negate(side_boxed(alloc, mover, side, value, *span)?, *span))
+            negated_moved(alloc, mover, c, number_in(expr), value, *span)
         }
         Expr::Binary {
             op,
@@ -255,6 +254,27 @@ fn side_boxed(
     ensures { IfOk result (λ e. term_of e.value ≡ side_of side (term_of expr.now) (λ d. moved (move_of mover.now) d (term_of expr.now))) }
 {
     boxed(alloc, side_moved(alloc, mover, side, expr, span)?)
+}
+
+// An expression with a minus before it, to which a number is added; where both are one number, that is given.
+#[cycle(moving)]
+fn negated_moved(
+    alloc: Global,
+    mover: &Mover<'_, '_>,
+    c: i32,
+    number: Option<i32>,
+    value: &Expr,
+    span: Span,
+) -> Result<Expr, AllocError>
+    ensures { IfOk result (λ e. term_of e ≡ negated_moved c number (λ d. moved (move_of mover.now) d (term_of value.now))) }
+{
+    match number {
+        Some(number) => literal(alloc, added(number, c), span),
+        None => {
+            let side = Side::Moved(against(c));
+            Ok(negate(side_boxed(alloc, mover, side, value, span)?, span))
+        }
+    }
 }
 
 // An operator on two expressions, to which a number is added.

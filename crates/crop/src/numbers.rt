@@ -3,9 +3,10 @@
 ghost use Rattle.std.specs.Prelude.{◌≡◌, IfOk, pos, negsuc, ◌≤ℤ◌, ◌<ℤ◌, ◌+ℤ◌, ◌-ℤ◌, ◌*ℤ◌, Some, None, if◌then◌else◌, string_bytes};
 ghost use Rattle.tree.specs.Typing.{is_of};
 ghost use Rattle.numeric.specs.declared.ty.Ty.TheVariants.{I32 as Index};
+ghost use Rattle.numeric.specs.declared.op.Op.TheVariants.{Sub};
 ghost use Rattle.numeric.specs.Wrap.{wrap as wrap_of};
-ghost use Rattle.tree.specs.Term.{term_of, test_of, list_terms, indices, Name, Call, Minus, Binary, Clamp, Cast, Choice, Fails, Both, Either};
-ghost use Rattle.crop.specs.Moving.{against, literal, number_in, plus, multiple_in};
+ghost use Rattle.tree.specs.Term.{term_of, test_of, list_terms, indices, Number, Name, Call, Minus, Binary, Clamp, Cast, Choice, Fails, Both, Either};
+ghost use Rattle.crop.specs.Moving.{against, least, literal, number_in, plus, multiple_in};
 
 use numeric::{Op, Ty, apply, wrap};
 use std::alloc::{AllocError, Global};
@@ -94,27 +95,51 @@ pub(crate) fn number_in(expr: &Expr) -> Option<i32>
     }
 }
 
-/// A number as it stands in a text, where no literal is below 0.
+/// A literal of i32.
+fn whole(number: i64, span: Span) -> Expr
+    ensures { term_of result ≡ Number Index number }
+{
+    Expr::Literal {
+        ty: Ty::I32,
+        number,
+        span,
+    }
+}
+
+/// An operator on an expression and a number from 0 up.
+fn with_number(
+    alloc: Global,
+    op: Op,
+    expr: Expr,
+    number: i64,
+    span: Span,
+) -> Result<Expr, AllocError>
+    ensures { IfOk result (λ e. term_of e ≡ Binary op (term_of expr) (Number Index number)) }
+{
+    let left = boxed(alloc, expr)?;
+    Ok(binary(op, left, boxed(alloc, whole(number, span))?, span))
+}
+
+/// The least number of i32, which no literal with a minus before it can write: -2147483647 - 1.
+fn least(alloc: Global, span: Span) -> Result<Expr, AllocError>
+    ensures { IfOk result (λ e. term_of e ≡ least) }
+{
+    let greatest = boxed(alloc, whole(2_147_483_647, span))?;
+    with_number(alloc, Op::Sub, negate(greatest, span), 1, span)
+}
+
+/// A number as it stands in a text, where no literal is below 0 or above the greatest number of its type.
 pub(crate) fn literal(alloc: Global, number: i32, span: Span) -> Result<Expr, AllocError>
     ensures { IfOk result (λ e. term_of e ≡ literal number) }
 {
+    if number == -2_147_483_648 {
+        return least(alloc, span);
+    }
     let number = i64::from(number);
     if number >= 0 {
-        return Ok(Expr::Literal {
-            ty: Ty::I32,
-            number,
-            span,
-        });
+        return Ok(whole(number, span));
     }
-    let positive = Expr::Literal {
-        ty: Ty::I32,
-        number: -number,
-        span,
-    };
-    Ok(Expr::Negate {
-        value: Box::new(alloc, positive)?,
-        span,
-    })
+    Ok(negate(boxed(alloc, whole(-number, span))?, span))
 }
 
 /// An expression on the heap.
@@ -155,6 +180,14 @@ pub(crate) fn clamp(value: Box<Expr>, low: Box<Expr>, high: Box<Expr>, span: Spa
     }
 }
 
+/// An expression less 2147483647 and 1, where no literal writes both.
+fn less_most(alloc: Global, expr: Expr, span: Span) -> Result<Expr, AllocError>
+    ensures { IfOk result (λ e. term_of e ≡ Binary Sub (Binary Sub (term_of expr) (Number Index (pos 2147483647))) (Number Index (pos 1))) }
+{
+    let less = with_number(alloc, Op::Sub, expr, 2_147_483_647, span)?;
+    with_number(alloc, Op::Sub, less, 1, span)
+}
+
 /// An expression and a number.
 pub(crate) fn plus(alloc: Global, expr: Expr, number: i32, span: Span) -> Result<Expr, AllocError>
     ensures { IfOk result (λ e. term_of e ≡ plus (term_of expr) number) }
@@ -162,19 +195,15 @@ pub(crate) fn plus(alloc: Global, expr: Expr, number: i32, span: Span) -> Result
     if number == 0 {
         return Ok(expr);
     }
+    if number == -2_147_483_648 {
+        return less_most(alloc, expr, span);
+    }
     let number = i64::from(number);
-    let (op, size) = if number > 0 {
-        (Op::Add, number)
+    if number > 0 {
+        with_number(alloc, Op::Add, expr, number, span)
     } else {
-        (Op::Sub, -number)
-    };
-    let left = boxed(alloc, expr)?;
-    let size = Expr::Literal {
-        ty: Ty::I32,
-        number: size,
-        span,
-    };
-    Ok(binary(op, left, boxed(alloc, size)?, span))
+        with_number(alloc, Op::Sub, expr, -number, span)
+    }
 }
 
 /// The greatest multiple of a positive number up to another.

@@ -3,9 +3,9 @@ use Rattle.std.specs.Prelude.{IfOk, string_bytes}
 use Rattle.std.proofs.lemmas.Int.{to_z-of_z}
 use Rattle.std.proofs.lemmas.List.{length_push}
 use Rattle.tree.specs.declared.expr.Cond.{Cond}
-use Rattle.tree.specs.Term.{Term, Test, term_of, test_of, list_terms, indices, Call, Binary, Clamp, Compares}
+use Rattle.tree.specs.Term.{Term, Test, term_of, test_of, list_terms, indices, Call, Minus, Binary, Clamp, Compares}
 use Rattle.tree.proofs.Rows.{term_of-call}
-use Rattle.crop.specs.Moving.{moved, test_moved, plus, clamp_moved, compare_moved}
+use Rattle.crop.specs.Moving.{moved, test_moved, number_in, plus, negated_moved, clamp_moved, compare_moved}
 use Rattle.crop.specs.Plan.{coordinate_against, operator_of, operator_with}
 use Rattle.crop.specs.View.{move_of}
 use Rattle.crop.proofs.Steps.{more_moved, call_made, call_nodes, index_within}
@@ -21,6 +21,15 @@ moved-returns-in-Call t c =
     let node = sym (term_of-call c.in-Call.name c.in-Call.at c.in-Call.span) in
     let same = (λ i. Call (string_bytes c.in-Call.name) (indices (list_terms (c.deref.ensures.value i)))) ∙ node ∙ ap term_of (sym c.in-Call.is) in
     subst (λ (x : Term). IfOk c.call_moved.result (λ e. term_of e ≡ x)) (λ i. moved m (kept i) (same i)) c.call_moved.ensures
+
+pub moved-returns-in-Negate : goal.moved-returns-in-Negate
+moved-returns-in-Negate t c =
+    let m = move_of c.args.mover.now in
+    let a = term_of c.deref-in-Negate.result.now in
+    let kept = to_z-of_z w32 c.args.c c.ranges.c in
+    let same : Minus a ≡ term_of c.args.expr.now = search rules in
+    let whole = (λ i. negated_moved (kept i) ((c.number_in.ensures ∙ ap number_in (sym same)) i) (λ d. moved m d a)) ∙ ap (moved m c.args.c) same in
+    subst (λ (x : Term). IfOk c.negated_moved.result (λ e. term_of e ≡ x)) whole c.negated_moved.ensures
 
 pub moved-returns-in-Binary : goal.moved-returns-in-Binary
 moved-returns-in-Binary t c =

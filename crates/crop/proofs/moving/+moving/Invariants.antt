@@ -14,6 +14,9 @@ decreases-side_moved l = 4 * node_count (term_of l.expr.now) + 1
 abbrev pub decreases-side_boxed : goal.decreases-side_boxed
 decreases-side_boxed l = 4 * node_count (term_of l.expr.now) + 2
 
+abbrev pub decreases-negated_moved : goal.decreases-negated_moved
+decreases-negated_moved l = 4 * node_count (term_of l.value.now) + 3
+
 abbrev pub decreases-operator_moved : goal.decreases-operator_moved
 decreases-operator_moved l = 4 * (node_count (term_of l.left.now) + node_count (term_of l.right.now)) + 3
 
