@@ -15,8 +15,9 @@ not stored. Any other rule that is told is a failure, and so is a plan of a sche
 With `--placing` functions are computed inside the loops of others too: wherever all that reads them is inside, stored at that
 loop or at one outside of it, folded or not. Such a schedule may also be refused by L6 (a definition that lacks the loop), L9
 (a fold) and L12 (`roundup` inside a loop), where its text gives cause. What the checker refuses is a failure, but for K14,
-and where a function that is computed inside a loop is split by `roundup` and folded: K6 and K8, since what is computed past
-the end takes the places of what is still read.
+and where a function that is computed inside a loop is split by `roundup`: K6 and K8 of one that is folded, since what is
+computed past the end takes the places of what is still read, and K5 of one with updates, since the end of its blocks is no
+form where turns need more of them or fewer.
 """
 
 import argparse
@@ -310,7 +311,7 @@ def runs_past(text, made, code):
     for one in functions(text):
         said = directives_of(made, one.name)
         if "compute_at(" in said and "roundup" in said:
-            if (code in ("K6", "K8") and "fold(" in said):
+            if (code in ("K6", "K8") and "fold(" in said) or (code == "K5" and has_updates(text, one.name)):
                 return True
     return False
 
