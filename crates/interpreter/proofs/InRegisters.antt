@@ -13,8 +13,8 @@ number_drop [] (suc n) j = refl
 number_drop (z ∷ zs) (suc n) j = let e : suc (n + j) ≡ suc n + j = omega arith in number_drop zs n j ∙ ap (number_at (z ∷ zs)) e
 
 lane_same : (x : Lanes) (k : ℕ) (old new : List Number) → number_at new k ≡ number_at old k → lane_number x new k ≡ lane_number x old k
-lane_same (Broadcast v) k old new h = refl
-lane_same (Ramp v) k old new h = refl
+lane_same (Broadcast t z) k old new h = refl
+lane_same (Ramp t z) k old new h = refl
 lane_same (Vector t) k old new h = h
 
 lanes_same : (n k : ℕ) (xs : List Lanes) (old new : List Number) → k < n → ((j : ℕ) → j < length xs * n → number_at new j ≡ number_at old j) → lanes_at n xs new k ≡ lanes_at n xs old k

@@ -358,8 +358,8 @@ fn number_in(lanes: Lanes, register: &[Number], turn: usize) -> Option<i64>
     ensures { IfSome result (λ z. z ≡ lane_number lanes register.now turn) }
 {
     match lanes {
-        Lanes::Broadcast(value) => Some(value.number),
-        Lanes::Ramp(value) => value.number.checked_add(i64::try_from(turn).ok()?),
+        Lanes::Broadcast(_, number) => Some(number.value),
+        Lanes::Ramp(_, number) => number.value.checked_add(i64::try_from(turn).ok()?),
         Lanes::Vector(_) => Some(register.get(turn)?.value),
     }
 }
@@ -370,16 +370,13 @@ pub(crate) fn lanes_of(first: i64, second: i64, out: &mut [Number]) -> Option<La
     ensures narrow { IfSome result (IsNarrowFor (length out.new)) }
     ensures lanes { IfSome result (λ x. (k : ℕ) → k < length out.new → typed I32 (first +ℤ (second -ℤ first) *ℤ pos k) ≡ lane x out.new k) }
 {
-    let value = Value {
-        ty: Ty::I32,
-        number: first,
-    };
+    let number = Number { value: first };
     if second == first {
-        return Some(Lanes::Broadcast(value));
+        return Some(Lanes::Broadcast(Ty::I32, number));
     }
     let step = second.checked_sub(first)?;
     if out.len() < 1 << 60 && first < 1 << 60 && step == 1 {
-        return Some(Lanes::Ramp(value));
+        return Some(Lanes::Ramp(Ty::I32, number));
     }
     fill_steps(first, step, out)?;
     Some(Lanes::Vector(Ty::I32))

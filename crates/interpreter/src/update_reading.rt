@@ -17,7 +17,6 @@ use crate::run_reading::RunReading;
 use meaning::sameness::same_name;
 use numeric::Ty;
 use plan::Coordinate;
-use tree::Value;
 
 /// Registers of so many numbers, which hold the numbers of all coordinates of a store at the turns of a run.
 #[derive(Clone, Copy, Drop)]
@@ -89,15 +88,12 @@ fn lanes_in(column: &[Number], out: &mut [Number]) -> Option<Lanes>
     ensures lanes { IfSome result (λ x. (k : ℕ) → k < length out.new → typed I32 (number_at column.now k) ≡ lane x out.new k) }
 {
     let first = column.first()?.value;
-    let value = Value {
-        ty: Ty::I32,
-        number: first,
-    };
+    let number = Number { value: first };
     if stays(column, first) {
-        return Some(Lanes::Broadcast(value));
+        return Some(Lanes::Broadcast(Ty::I32, number));
     }
     if are_few(column.len(), first) && rises(column, first) {
-        return Some(Lanes::Ramp(value));
+        return Some(Lanes::Ramp(Ty::I32, number));
     }
     copy_register(column, out)?;
     Some(Lanes::Vector(Ty::I32))

@@ -14,14 +14,14 @@ abbrev pub number_at : List Number → ℕ → ℤ
 number_at zs k = (slice_index_or zs k (record { value = pos 0 })).value
 
 abbrev pub type_of : Lanes → Ty
-type_of (Broadcast v) = v.ty
-type_of (Ramp v) = v.ty
+type_of (Broadcast t z) = t
+type_of (Ramp t z) = t
 type_of (Vector t) = t
 
 -- the number at a turn, where the register holds these
 abbrev pub lane_number : Lanes → List Number → ℕ → ℤ
-lane_number (Broadcast v) zs k = v.number
-lane_number (Ramp v) zs k = v.number +ℤ pos k
+lane_number (Broadcast t z) zs k = z.value
+lane_number (Ramp t z) zs k = z.value +ℤ pos k
 lane_number (Vector t) zs k = number_at zs k
 
 abbrev pub lane : Lanes → List Number → ℕ → Value
@@ -40,8 +40,8 @@ pub record IsRamp (n : ℕ) (first : Value) : Type 0 where
 
 -- at so many turns, all numbers are of 64 bits
 abbrev pub IsNarrowFor : ℕ → Lanes → Type 0
-IsNarrowFor n (Broadcast v) = Unit {0}
-IsNarrowFor n (Ramp v) = IsShortRamp n v.number
+IsNarrowFor n (Broadcast t z) = Unit {0}
+IsNarrowFor n (Ramp t z) = IsShortRamp n z.value
 IsNarrowFor n (Vector t) = Unit {0}
 
 -- at each of so many turns, this is found

@@ -1,7 +1,6 @@
 //! What an expression comes to at the turns of a run.
 
 use numeric::Ty;
-use tree::Value;
 
 /// A number of a register, which has one for each turn of a run.
 #[derive(Clone, Copy, Debug, Drop)]
@@ -13,9 +12,9 @@ pub struct Number {
 #[derive(Clone, Copy, Debug, Drop)]
 pub enum Lanes {
     /// One value at all turns.
-    Broadcast(Value),
+    Broadcast(Ty, Number),
     /// This value at the first turn, and one more at each turn after it.
-    Ramp(Value),
+    Ramp(Ty, Number),
     /// The numbers that a register holds.
     Vector(Ty),
 }

@@ -17,7 +17,7 @@ fn fixed(lanes: Lanes) -> Option<i64>
     ensures { IfSome result (λ z. (zs : List NumberHeld) (k : ℕ) → lane_number lanes zs k ≡ z) }
 {
     match lanes {
-        Lanes::Broadcast(value) => Some(value.number),
+        Lanes::Broadcast(_, number) => Some(number.value),
         _ => None,
     }
 }
@@ -61,14 +61,9 @@ fn look_along<R: RunReader>(
     ensures { IfSome result (λ t. (m : Memory ValueFound) → R.agrees reader.now m → (k : ℕ) → k < length out.new → R.look reader.now m name.now (lane_number first registers.now k ∷ others.now) ≡ Some (typed t (number_at out.new k))) }
 {
     match first {
-        Lanes::Ramp(value) => look_rising(name, value.number, others, reader, out),
-        Lanes::Broadcast(value) => {
-            fill(
-                Number {
-                    value: value.number,
-                },
-                out,
-            );
+        Lanes::Ramp(_, number) => look_rising(name, number.value, others, reader, out),
+        Lanes::Broadcast(_, number) => {
+            fill(number, out);
             reader.look_each(name, others, out)
         }
         Lanes::Vector(_) => {

@@ -17,7 +17,7 @@ use crate::evaluation::whole::{
     apply_lanes, apply_repeated, choose_lanes, clamp_lanes, compare_lanes, negate_lanes, wrap_lanes,
 };
 use numeric::Ty;
-use tree::{Cond, Expr, Value};
+use tree::{Cond, Expr};
 
 /// The values of an expression at the turns of a run, as many as the register has numbers. Nothing where it is not taken
 /// for all turns together; then it may still have values.
@@ -34,10 +34,7 @@ pub fn evaluate_run<R: RunReader>(
     ensures value { IfSome result (λ x. (m : Memory ValueFound) → R.agrees reader.now m → FindsRun (length out.new) x out.new (λ k. found (R.variables reader.now k) (R.look reader.now m) (term_of expr.now))) }
 {
     match expr {
-        Expr::Literal { ty, number, .. } => Some(Lanes::Broadcast(Value {
-            ty: *ty,
-            number: *number,
-        })),
+        Expr::Literal { ty, number, .. } => Some(Lanes::Broadcast(*ty, Number { value: *number })),
         Expr::Variable { name, .. } => reader.variable(name.as_str(), out),
         Expr::Call { name, at, .. } => {
             let ty = call_run(name.as_str(), at, reader, out, rest)?;
@@ -70,10 +67,7 @@ fn operand_run<R: RunReader>(
     ensures value { IfSome result (λ x. (m : Memory ValueFound) → R.agrees reader.now m → FindsRun (length out.new) x out.new (λ k. found (R.variables reader.now k) (R.look reader.now m) (term_of expr.now))) }
 {
     match expr {
-        Expr::Literal { ty, number, .. } => Some(Lanes::Broadcast(Value {
-            ty: *ty,
-            number: *number,
-        })),
+        Expr::Literal { ty, number, .. } => Some(Lanes::Broadcast(*ty, Number { value: *number })),
         Expr::Variable { name, .. } => reader.variable(name.as_str(), out),
         _ => evaluate_run(expr, reader, out, rest),
     }

@@ -6,9 +6,8 @@ ghost use Rattle.std.specs.Bool.{OnTrue};
 ghost use Rattle.std.specs.Int.{int_max, int_min};
 ghost use Rattle.numeric.specs.Wrap.{wrap};
 ghost use Rattle.tree.specs.Meaning.{applied, clamped, negated, typed};
-ghost use Rattle.interpreter.specs.declared.evaluation.lanes.Lanes.TheVariants.{Ramp};
 ghost use Rattle.interpreter.specs.declared.evaluation.lanes.Number.{Number as NumberHeld};
-ghost use Rattle.interpreter.specs.Evaluation.Lanes.{lane, lane_number, mask_at, number_at, type_of, IsNarrowFor, IsRamp};
+ghost use Rattle.interpreter.specs.Evaluation.Lanes.{lane, lane_number, mask_at, number_at, type_of, IsNarrowFor, IsRamp, IsShortRamp};
 ghost use Rattle.interpreter.specs.Evaluation.Repeats.{repeated_value};
 
 use crate::evaluation::kernels::{
@@ -27,7 +26,7 @@ pub(crate) fn type_of(lanes: Lanes) -> Ty
     ensures { result ≡ type_of lanes }
 {
     match lanes {
-        Lanes::Broadcast(value) | Lanes::Ramp(value) => value.ty,
+        Lanes::Broadcast(ty, _) | Lanes::Ramp(ty, _) => ty,
         Lanes::Vector(ty) => ty,
     }
 }
@@ -42,24 +41,43 @@ fn number_of(value: Value) -> Number
     }
 }
 
+/// The value of a number of a type.
+#[inline(always)]
+fn value_of(ty: Ty, number: Number) -> Value
+    ensures { result ≡ typed ty number.value }
+{
+    Value {
+        ty,
+        number: number.value,
+    }
+}
+
+/// One value at all turns.
+#[inline(always)]
+fn broadcast(value: Value) -> Lanes
+    ensures narrow { (n : ℕ) → IsNarrowFor n result }
+    ensures lanes { (zs : List NumberHeld) (k : ℕ) → lane result zs k ≡ value }
+{
+    Lanes::Broadcast(value.ty, number_of(value))
+}
+
+/// This value at the first turn, and one more at each turn after it.
+#[inline(always)]
+fn ramp(value: Value) -> Lanes
+    ensures narrow { (n : ℕ) → IsShortRamp n value.number → IsNarrowFor n result }
+    ensures lanes { (zs : List NumberHeld) (k : ℕ) → lane result zs k ≡ typed value.ty (value.number +ℤ pos k) }
+{
+    Lanes::Ramp(value.ty, number_of(value))
+}
+
 /// Puts the numbers into the register.
 pub(crate) fn spread(lanes: Lanes, out: &mut [Number])
     requires { IsNarrowFor (length out.old) lanes }
     ensures { (k : ℕ) → k < length out.new → number_at out.new k ≡ lane_number lanes out.old k }
 {
     match lanes {
-        Lanes::Broadcast(value) => fill(
-            Number {
-                value: value.number,
-            },
-            out,
-        ),
-        Lanes::Ramp(value) => fill_rising(
-            Number {
-                value: value.number,
-            },
-            out,
-        ),
+        Lanes::Broadcast(_, value) => fill(value, out),
+        Lanes::Ramp(_, value) => fill_rising(value, out),
         Lanes::Vector(_) => {}
     }
 }
@@ -98,7 +116,7 @@ fn is_ramp(first: Value, count: usize) -> bool
 
 /// A ramp with the same number added at all turns, or taken away, where that is a ramp of its type.
 fn move_ramp(op: Op, left: Value, right: Value, count: usize) -> Option<Value>
-    ensures narrow { IfSome result (λ v. IsNarrowFor count (Ramp v)) }
+    ensures narrow { IfSome result (λ v. IsShortRamp count v.number) }
     ensures lanes { IfSome result (λ v. (k : ℕ) → k < count → typed v.ty (v.number +ℤ pos k) ≡ applied op (typed left.ty (left.number +ℤ pos k)) right) }
 {
     let moved = exact_sum(op, left, right)?;
@@ -114,12 +132,15 @@ fn apply_whole(op: Op, left: Lanes, right: Lanes, count: usize) -> Option<Lanes>
     ensures narrow { IfSome result (IsNarrowFor count) }
     ensures lanes { IfSome result (λ x. (us vs ws : List NumberHeld) (k : ℕ) → k < count → lane x us k ≡ applied op (lane left vs k) (lane right ws k)) }
 {
-    let Lanes::Broadcast(right) = right else {
+    let Lanes::Broadcast(ty, number) = right else {
         return None;
     };
+    let right = value_of(ty, number);
     match left {
-        Lanes::Broadcast(left) => Some(Lanes::Broadcast(applied(op, left, right))),
-        Lanes::Ramp(left) => Some(Lanes::Ramp(move_ramp(op, left, right, count)?)),
+        Lanes::Broadcast(ty, number) => Some(broadcast(applied(op, value_of(ty, number), right))),
+        Lanes::Ramp(ty, number) => {
+            Some(ramp(move_ramp(op, value_of(ty, number), right, count)?))
+        }
         Lanes::Vector(_) => None,
     }
 }
@@ -142,7 +163,7 @@ fn apply_right(op: Op, ty: Ty, right: Lanes, out: &mut [Number], other: &mut [Nu
     ensures { (k : ℕ) → k < length out.new → number_at out.new k ≡ apply op ty (number_at out.old k) (lane_number right other.old k) }
 {
     match right {
-        Lanes::Broadcast(value) => apply_one(op, ty, out, number_of(value)),
+        Lanes::Broadcast(_, value) => apply_one(op, ty, out, value),
         _ => {
             spread(right, other);
             apply_all(op, ty, out, other);
@@ -212,7 +233,7 @@ pub(crate) fn negate_lanes(lanes: Lanes, out: &mut [Number]) -> Lanes
     ensures lanes { (k : ℕ) → k < length out.new → lane result out.new k ≡ negated (lane lanes out.old k) }
 {
     match lanes {
-        Lanes::Broadcast(value) => Lanes::Broadcast(negated(value)),
+        Lanes::Broadcast(ty, number) => broadcast(negated(value_of(ty, number))),
         _ => {
             spread(lanes, out);
             negate_each(type_of(lanes), out);
@@ -228,7 +249,7 @@ pub(crate) fn wrap_lanes(ty: Ty, lanes: Lanes, out: &mut [Number]) -> Lanes
     ensures lanes { (k : ℕ) → k < length out.new → lane result out.new k ≡ typed ty (wrap ty (lane_number lanes out.old k)) }
 {
     match lanes {
-        Lanes::Broadcast(value) => Lanes::Broadcast(wrapped(ty, value.number)),
+        Lanes::Broadcast(_, number) => broadcast(wrapped(ty, number.value)),
         _ => {
             spread(lanes, out);
             wrap_all(ty, out);
@@ -251,15 +272,17 @@ fn clamp_whole(value: Lanes, low: Lanes, high: Lanes, count: usize) -> Option<La
     ensures narrow { IfSome result (IsNarrowFor count) }
     ensures lanes { IfSome result (λ x. (ts us vs ws : List NumberHeld) (k : ℕ) → k < count → lane x ts k ≡ clamped (lane value us k) (lane low vs k) (lane high ws k)) }
 {
-    let Lanes::Broadcast(low) = low else {
+    let Lanes::Broadcast(ty, number) = low else {
         return None;
     };
-    let Lanes::Broadcast(high) = high else {
+    let low = value_of(ty, number);
+    let Lanes::Broadcast(ty, number) = high else {
         return None;
     };
+    let high = value_of(ty, number);
     match value {
-        Lanes::Broadcast(value) => Some(Lanes::Broadcast(clamped(value, low, high))),
-        Lanes::Ramp(first) if is_between(first.number, low.number, high.number, count) => {
+        Lanes::Broadcast(ty, number) => Some(broadcast(clamped(value_of(ty, number), low, high))),
+        Lanes::Ramp(_, first) if is_between(first.value, low.number, high.number, count) => {
             Some(value)
         }
         _ => None,
@@ -281,8 +304,8 @@ fn clamp_register(
     ensures { (k : ℕ) → k < length out.new → number_at out.new k ≡ int_max (int_min (number_at out.old k) (lane_number high highs.old k)) (lane_number low lows.old k) }
 {
     match (low, high) {
-        (Lanes::Broadcast(low), Lanes::Broadcast(high)) => {
-            clamp_between(out, number_of(low), number_of(high));
+        (Lanes::Broadcast(_, low), Lanes::Broadcast(_, high)) => {
+            clamp_between(out, low, high);
         }
         _ => {
             spread(low, lows);
@@ -334,7 +357,7 @@ pub(crate) fn compare_lanes(
 {
     spread(left, out);
     match right {
-        Lanes::Broadcast(value) => compare_with(by, out, number_of(value)),
+        Lanes::Broadcast(_, value) => compare_with(by, out, value),
         _ => {
             spread(right, other);
             compare_all(by, out, other);

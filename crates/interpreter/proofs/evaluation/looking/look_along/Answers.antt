@@ -1,5 +1,4 @@
-use Rattle.std.proofs.Common.{◌≡◌, ◌∷◌, ◌<◌, ℕ, ℤ, Some, length, ap, sym, ◌∙◌, arith, rules, w64, SFits}
-use Rattle.std.proofs.lemmas.Int.{to_z-of_z}
+use Rattle.std.proofs.Common.{◌≡◌, ◌∷◌, ◌<◌, ℕ, ℤ, Some, length, ap, sym, ◌∙◌, arith}
 use Rattle.plan.specs.Semantics.Memory.{Memory}
 use Rattle.tree.specs.declared.value.Value.{Value}
 use Rattle.tree.specs.Meaning.{typed}
@@ -15,12 +14,10 @@ returns-in-Broadcast g c =
     let others = c.args.others.now in
     let registers = c.args.registers.now in
     let out = c.look_each.new.out in
-    let n : ℤ = c.in-Broadcast.value.number in
-    let fits : SFits w64 n = search rules in
     if_some c.look_each.result
     (λ t. (m : Memory Value) → g.R.RunReader.agrees r m → (k : ℕ) → k < length out → g.R.RunReader.look r m name (number_at c.fill.new.out k ∷ others) ≡ Some (typed t (number_at out k))) _
     (λ t h m ok k lt.
     ap (λ (x : Lanes). g.R.RunReader.look r m name (lane_number x registers k ∷ others)) c.in-Broadcast.is
-    ∙ ap (λ (z : ℤ). g.R.RunReader.look r m name (z ∷ others)) (sym (c.fill.ensures k (omega arith) ∙ to_z-of_z w64 n fits))
+    ∙ ap (λ (z : ℤ). g.R.RunReader.look r m name (z ∷ others)) (sym (c.fill.ensures k (omega arith)))
     ∙ h m ok k lt)
     c.look_each.ensures

@@ -16,7 +16,7 @@ returns-in-Some g c =
     let r = c.args.reader.now in
     let name = c.args.name.now in
     let registers = c.args.registers.now in
-    let d : Lanes = Broadcast (record { ty = U8; number = pos 0 }) in
+    let d : Lanes = Broadcast U8 (record { value = pos 0 }) in
     let x : Lanes = get_or c.args.indices.now 0 d in
     let y : ℤ = c.in-Some.second in
     let fits : SFits w64 y = search rules in
@@ -33,7 +33,7 @@ returns-in-Some-Some g c =
     let r = c.args.reader.now in
     let name = c.args.name.now in
     let registers = c.args.registers.now in
-    let d : Lanes = Broadcast (record { ty = U8; number = pos 0 }) in
+    let d : Lanes = Broadcast U8 (record { value = pos 0 }) in
     let x : Lanes = get_or c.args.indices.now 0 d in
     let y : ℤ = c.in-Some-Some.second in
     let w : ℤ = c.in-Some-Some.third in

@@ -13,7 +13,7 @@ pub returns-in_ok-second-in-len2 : goal.returns-in_ok-second-in-len2
 returns-in_ok-second-in-len2 c =
     let r = c.args.self.now in
     let indices = c.args.indices.now in
-    let d : Lanes = Broadcast (record { ty = U8; number = pos 0 }) in
+    let d : Lanes = Broadcast U8 (record { value = pos 0 }) in
     let x : ℤ = c.in_ok-first-in-len2.first in
     let x_fits : SFits w64 x = search rules in
     let y : ℤ = c.in_ok-second-in-len2.second in
@@ -30,7 +30,7 @@ pub returns-in_ok-third-in-len3 : goal.returns-in_ok-third-in-len3
 returns-in_ok-third-in-len3 c =
     let r = c.args.self.now in
     let indices = c.args.indices.now in
-    let d : Lanes = Broadcast (record { ty = U8; number = pos 0 }) in
+    let d : Lanes = Broadcast U8 (record { value = pos 0 }) in
     let x : ℤ = c.in_ok-first-in-len3.first in
     let x_fits : SFits w64 x = search rules in
     let y : ℤ = c.in_ok-second-in-len3.second in
@@ -50,7 +50,7 @@ pub returns-in_ok-fourth-in-len4 : goal.returns-in_ok-fourth-in-len4
 returns-in_ok-fourth-in-len4 c =
     let r = c.args.self.now in
     let indices = c.args.indices.now in
-    let d : Lanes = Broadcast (record { ty = U8; number = pos 0 }) in
+    let d : Lanes = Broadcast U8 (record { value = pos 0 }) in
     let x : ℤ = c.in_ok-first-in-len4.first in
     let x_fits : SFits w64 x = search rules in
     let y : ℤ = c.in_ok-second-in-len4.second in
