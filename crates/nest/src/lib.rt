@@ -1,4 +1,4 @@
-//! Plans as text: each plan has one text, and only that text is read as the plan.
+//! Plans as text: each plan has one text, and no other text is read as that plan.
 #![tactic(auto)]
 
 pub mod blocks;
