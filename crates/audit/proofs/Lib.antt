@@ -4,5 +4,6 @@ mod Heads
 mod Named
 mod Grids
 mod Told
+mod Broken
 mod OutputGroup
 pub mod OfVerdict

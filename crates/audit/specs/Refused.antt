@@ -5,12 +5,14 @@ use Rattle.plan.specs.Lines.{group_line}
 use Rattle.plan.specs.Plan.{Plan}
 use Rattle.plan.specs.Certificate.Certificate.{Certificate}
 use Rattle.soundness.specs.declared.outline.refusals.code.Flaw.{Flaw as FlawHeld}
-use Rattle.soundness.specs.Outline.Flaws.{line_told}
+use Rattle.soundness.specs.Outline.Flaws.{first_of, line_told, told}
 use Rattle.soundness.specs.Outline.Refusals.Codes.{number_of, lesser}
+use Rattle.shares.specs.Before.{OwnLinesStand}
 use Rattle.shares.specs.Has.{HasShares}
 use Rattle.shares.specs.Made.{own_place}
 use Rattle.shares.specs.declared.answer.SharesError.{SharesError}
 use Rattle.shares.specs.declared.answer.SharesError.TheVariants.{Flaw, Memory as Want}
+use Rattle.validation.specs.Certificate.Certificate.{flaws_of_regions}
 use Rattle.audit.specs.declared.refusal.CheckError.{CheckError}
 use Rattle.audit.specs.declared.refusal.CheckError.TheVariants.{Refused, Memory}
 use Rattle.audit.specs.Verdict.Accepted.{IsAccepted}
@@ -44,6 +46,16 @@ AreOfPieces a p c Want = Unit {0}
 abbrev pub IsBesidePieces : Algorithm → Plan → Certificate → FlawHeld → SharesError → Type 0
 IsBesidePieces a p c f (Flaw g) = ((HasShares p c × HasOutput a p) × (g ≡ f)) ⊎ ((other : FlawHeld) × IsOfPieces a p c other × (g ≡ lesser f other))
 IsBesidePieces a p c f Want = Unit {0}
+
+-- of a flaw and of what is wrong at own lines before a line, at fetch lines and with the output's group, the first is told: the flaw
+-- where nothing is, else the lesser of both
+abbrev pub IsBesideOwnLines : Algorithm → Plan → Certificate → ℕ → FlawHeld → SharesError → Type 0
+IsBesideOwnLines a p c line f (Flaw g) = ((OwnLinesStand p c line × HasOutput a p) × (g ≡ f)) ⊎ ((other : FlawHeld) × IsOfPieces a p c other × (g ≡ lesser f other))
+IsBesideOwnLines a p c line f Want = Unit {0}
+
+-- the same of the first broken line of own and needed regions, where one is broken
+abbrev pub IsBesideBroken : Algorithm → Plan → Certificate → FlawHeld → SharesError → Type 0
+IsBesideBroken a p c f e = (broken : FlawHeld) → told (Some broken) ≡ first_of (flaws_of_regions p c) → IsBesideOwnLines a p c broken.line f e
 
 -- a refusal is right: its code and line are those of a fault, and the plan is not accepted; want of memory says nothing
 abbrev pub IsRefused : Algorithm → Plan → Certificate → CheckError → Type 0

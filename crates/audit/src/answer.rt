@@ -1,7 +1,7 @@
 //! What is told of a plan whose head is the algorithm's: the first of all that is wrong with its lines, its certificate's
 //! lines, its shares and its output.
 
-ghost use Rattle.std.specs.Prelude.{◌≡◌, ◌<◌, ◌↔◌, [], MatchOption, IfOk, IfErr, IsTrue, length};
+ghost use Rattle.std.specs.Prelude.{◌≡◌, ◌<◌, ◌↔◌, [], Some, MatchOption, IfOk, IfErr, IsTrue, length};
 ghost use Rattle.algo.specs.View.{algorithm_of};
 ghost use Rattle.plan.specs.View.{plan_of};
 ghost use Rattle.plan.specs.Certificate.Cells.{cells};
@@ -9,15 +9,16 @@ ghost use Rattle.plan.specs.Certificate.Certificate.{certificate_of};
 ghost use Rattle.validation.specs.Groups.Lines.{flaws_of_groups};
 ghost use Rattle.validation.specs.Certificate.Certificate.{flaws_of_certificate, flaws_of_regions};
 ghost use Rattle.checked_plan.specs.Lists.{ListsAreOf};
+ghost use Rattle.soundness.specs.Outline.Flaws.{first_of, told};
 ghost use Rattle.audit.specs.Verdict.Accepted.{IsAccepted};
 ghost use Rattle.audit.specs.Verdict.Shown.Wide.{HasHead};
-ghost use Rattle.audit.specs.Refused.{EndsUnowned, IsBesidePieces, IsTold, IsUnownedEnd, but_symbols, told_first, wide_or_owed, with_owed};
+ghost use Rattle.audit.specs.Refused.{EndsUnowned, IsBesideBroken, IsBesideOwnLines, IsBesidePieces, IsTold, IsUnownedEnd, but_symbols, told_first, wide_or_owed, with_owed};
 ghost use Rattle.audit.specs.Stand.{AreShown, IsFlaw, IsGroupOf};
 
 use crate::groups::first_wide;
 use crate::leaving::left_first;
 use crate::output::own_place;
-use crate::shared::shares_with_output;
+use crate::shared::{flaw_before_broken, shares_with_output};
 use algo::Algo;
 use claims::first_fault;
 use plan::Plan;
@@ -213,15 +214,43 @@ fn told_with_shares(
 
 /// The first flaw of the lines of own and needed regions by names and limits.
 fn region_flaw(alloc: Global, plan: &Plan, cert: &Cert) -> Result<Option<Flaw>, AllocError>
-    ensures { IfOk result (λ flaw. MatchOption flaw (flaws_of_regions (plan_of plan.now) (certificate_of cert.now) ≡ [])
+    ensures first { IfOk result (λ flaw. told flaw ≡ first_of (flaws_of_regions (plan_of plan.now) (certificate_of cert.now))) }
+    ensures known { IfOk result (λ flaw. MatchOption flaw (flaws_of_regions (plan_of plan.now) (certificate_of cert.now) ≡ [])
         (λ _. ¬ (flaws_of_regions (plan_of plan.now) (certificate_of cert.now) ≡ []))) }
 {
     let found = validation::certificate::first_region_flaw(alloc, plan, cert)?;
     Ok(found)
 }
 
+/// What is told of a plan of which no line of a group has a flaw by names and limits and this line of own and needed regions is
+/// the first broken one, where this flaw is the first of all else: it, or what is wrong at an own line before the broken one, at a
+/// fetch line, or with the output's group.
+fn told_beside_broken(
+    alloc: Global,
+    algo: &Algo,
+    plan: &Plan,
+    cert: &Cert,
+    number: usize,
+    flaw: Flaw,
+    broken: Flaw,
+) -> SharesError
+    requires groups { flaws_of_groups (algorithm_of algo.now) (plan_of plan.now) (certificate_of cert.now) ≡ [] }
+    requires broken { told (Some broken) ≡ first_of (flaws_of_regions (plan_of plan.now) (certificate_of cert.now)) }
+    requires number { IsGroupOf (plan_of plan.now).groups (algorithm_of algo.now).output number }
+    requires flaw { IsFlaw (algorithm_of algo.now) (plan_of plan.now) (certificate_of cert.now) flaw }
+    ensures told { IsTold (algorithm_of algo.now) (plan_of plan.now) (certificate_of cert.now) result }
+    ensures first { IsBesideOwnLines (algorithm_of algo.now) (plan_of plan.now) (certificate_of cert.now) broken.line flaw result }
+{
+    match flaw_before_broken(alloc, algo, plan, cert, number, broken) {
+        Ok(None) => SharesError::Flaw(flaw),
+        Ok(Some(other)) => SharesError::Flaw(lesser(flaw, other)),
+        Err(_) => SharesError::Memory,
+    }
+}
+
 /// What is told of a plan of which no line of a group has a flaw by names and limits, where this flaw is the first of all else:
-/// it, or what the pieces share, where that can be told.
+/// it, or what the pieces share: of that, where a line of own and needed regions is broken, what stands at own lines before it, at
+/// fetch lines, and with the output's group.
 fn told_beside_claims(
     alloc: Global,
     algo: &Algo,
@@ -236,10 +265,11 @@ fn told_beside_claims(
     ensures told { IsTold (algorithm_of algo.now) (plan_of plan.now) (certificate_of cert.now) result }
     ensures first { flaws_of_regions (plan_of plan.now) (certificate_of cert.now) ≡ []
         → IsBesidePieces (algorithm_of algo.now) (plan_of plan.now) (certificate_of cert.now) flaw result }
+    ensures own { IsBesideBroken (algorithm_of algo.now) (plan_of plan.now) (certificate_of cert.now) flaw result }
 {
     match region_flaw(alloc, plan, cert) {
         Ok(None) => told_with_shares(alloc, algo, plan, cert, number, flaw),
-        Ok(Some(_)) => SharesError::Flaw(flaw),
+        Ok(Some(broken)) => told_beside_broken(alloc, algo, plan, cert, number, flaw, broken),
         Err(_) => SharesError::Memory,
     }
 }
@@ -263,6 +293,8 @@ fn told_where_flawed(
     ensures first { flaws_of_groups (algorithm_of algo.now) (plan_of plan.now) (certificate_of cert.now) ≡ []
         → flaws_of_regions (plan_of plan.now) (certificate_of cert.now) ≡ []
         → IsBesidePieces (algorithm_of algo.now) (plan_of plan.now) (certificate_of cert.now) flaw result }
+    ensures own { flaws_of_groups (algorithm_of algo.now) (plan_of plan.now) (certificate_of cert.now) ≡ []
+        → IsBesideBroken (algorithm_of algo.now) (plan_of plan.now) (certificate_of cert.now) flaw result }
 {
     match named {
         None => told_beside_claims(alloc, algo, plan, cert, number, flaw),

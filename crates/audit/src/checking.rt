@@ -44,9 +44,10 @@ use std::thread::Threads;
 /// - at the lines of claims and windows: names and limits (`K2`, `K3`, `K14`, `K8`), claims that their statements are not
 ///   shown to make (`K6`), and windows that are not shown to hold (`K8`).
 ///
-/// How the pieces share the cells, and whether the output's group has each point, is asked only where no line of a group and no
-/// line of own and needed regions has a flaw of names, limits or stored expressions; flaws of claims and windows hide nothing of
-/// it. At one line a number not shown to be small is told before what the line owes, which is shown where numbers are small;
+/// How the pieces share the cells, and whether the output's group has each point, is asked only where no line of a group has a flaw
+/// of names, limits or stored expressions; flaws of claims and windows hide nothing of it. Where a line of own and needed regions
+/// has such a flaw, what is wrong at own lines before it and at fetch lines is told, and that the output's group lacks a point; what
+/// stands at need lines (`K11`, `K14`) is not. At one line a number not shown to be small is told before what the line owes, which is shown where numbers are small;
 /// but where a store of a pure definition is not shown to stay in a buffer whose places are near 0, that (`K4`) is told.
 /// Where a group has no own region (`K10` at `cert`), that is told in place of a `K5` at that group's last line, its `publish`,
 /// which would be the first; and a symbol that stands twice (`K2`) is told at the claim that names it where it is not bound.

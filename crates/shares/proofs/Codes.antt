@@ -21,7 +21,7 @@ use Rattle.shares.specs.Layout.{IsLayout}
 use Rattle.shares.proofs.Groups.{group_below, get_some, cells_next}
 use Rattle.shares.proofs.Known.{cells_counted}
 use Rattle.shares.proofs.Firsts.{from_nine}
-use Rattle.shares.proofs.Owning.{all_apart, piece_below}
+use Rattle.shares.proofs.Owning.{all_apart, ends_of, piece_below}
 
 module _ (p : Plan) (c : Certificate) (n : ℕ) where
   pub lowest_nine : Overlaps p c n → IsLowestCode p c n (Some K9)
@@ -76,7 +76,7 @@ module _ (p : Plan) (c : Certificate) (n : ℕ) where
     )
 
 pub none_overlaps : (p : Plan) (c : Certificate) → AreShared p c → (n : ℕ) (owners : List (Option ℕ)) → IsClaimedBy (own_in p c n) owners (length (pieces p)) → ¬ Overlaps p c n
-none_overlaps p c shared n owners claimed h = h.2 (all_apart p c shared n owners claimed h.0 (piece_below p n h.0 h.1) h.1)
+none_overlaps p c shared n owners claimed h = h.2 (all_apart p c (ends_of p c shared) n owners claimed h.0 (piece_below p n h.0 h.1) h.1)
 
 pub none_leaves : (p : Plan) (c : Certificate) (n : ℕ) → GroupIsInside p c n → ¬ Leaves p c n
 none_leaves p c n inside h = h.2 (inside h.0 h.1)

@@ -32,4 +32,6 @@ pub mod Near
 pub mod Passing
 pub mod Codes
 pub mod Parted
+pub mod Replaced
+pub mod Cutting
 pub mod WorkedShares

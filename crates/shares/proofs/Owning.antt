@@ -92,12 +92,12 @@ passed f (q ∷ qs) = of (f q) refl (passed f qs)
     of true e rest = (e, rest)
     of false e rest = rest
 
-module _ (p : Plan) (c : Certificate) (shared : AreShared p c) where
-  ends : GroupsHaveEnds p
-  ends n g at = (shared.groups n g at).ends
+pub ends_of : (p : Plan) (c : Certificate) → AreShared p c → GroupsHaveEnds p
+ends_of p c shared n g at = (shared.groups n g at).ends
 
+module _ (p : Plan) (c : Certificate) (ends : GroupsHaveEnds p) where
   -- the cell of this number is of the group
-  abbrev IsOf : ℕ → ℕ → Type 0
+  abbrev pub IsOf : ℕ → ℕ → Type 0
   IsOf n x = (y : Cell) × (slice_get (cells p) x ≡ Some y) × (y.group ≡ n)
 
   numbers_of : (n : ℕ) (g : Group) → slice_get p.groups n ≡ Some g → (qs : List (List ℤ)) → AllByRecursion (λ q. is_in_region no_symbols g.region q ≡ true) qs → AllByRecursion (IsOf n) (map (cell_number p) (map (cell n) qs))
@@ -125,7 +125,7 @@ module _ (p : Plan) (c : Certificate) (shared : AreShared p c) where
   pub own_cell : (n i x : ℕ) → IsPieceOf p n i → Contains (own_list p c i) x → IsOf n x
   own_cell n i x h has = own_of n i x (slice_get (pieces p) i) refl h has
 
-  group_same : (n m x : ℕ) → IsOf n x → IsOf m x → n ≡ m
+  pub group_same : (n m x : ℕ) → IsOf n x → IsOf m x → n ≡ m
   group_same n m x a b = sym a.2 ∙ ap (λ (y : Cell). y.group) (some_same a.0 b.0 (sym a.1 ∙ b.1)) ∙ b.2
 
   -- ---- apart
@@ -174,7 +174,7 @@ module _ (p : Plan) (c : Certificate) (shared : AreShared p c) where
       let rest = row_group (k + 1) gs n (x - long) y (omega (arith, low)) (omega (arith, low, high)) later in
       omega (arith, rest)
 
-  cell_group : (n x : ℕ) (y : Cell) → first_cell p.groups n ≤ x → x < first_cell p.groups (n + 1) → slice_get (cells p) x ≡ Some y → y.group ≡ n
+  pub cell_group : (n x : ℕ) (y : Cell) → first_cell p.groups n ≤ x → x < first_cell p.groups (n + 1) → slice_get (cells p) x ≡ Some y → y.group ≡ n
   cell_group n x y low high at =
       let one : n + 1 ≡ suc n = omega arith in
       let next = ap (first_cell p.groups) one in

@@ -24,7 +24,7 @@ use Rattle.shares.specs.Shared.{AreShared}
 use Rattle.shares.proofs.Groups.{get_mapped, get_some, get_within, some_same}
 use Rattle.shares.proofs.Noting.{no_line, noted_at, noted_long, told_counts}
 use Rattle.shares.proofs.Shared.{points_counted}
-use Rattle.shares.proofs.Totals.{all_fetched, chosen, left_out, region_of_open, same_number, other_number}
+use Rattle.shares.proofs.Totals.{all_fetched, chosen, fetch_open, left_out, region_of_open, same_number, other_number}
 
 -- ---- one line, piece after piece
 
@@ -184,7 +184,7 @@ module _ (p : Plan) (held : List LineHeld) (all : lines_noted held ≡ map told_
   pub few_fetched : (c : Certificate) → AreShared p c → fetched_by_lines (pieces p) (lines_noted held) ≤ 2 ^ 26 → fetched_before p (length (pieces p)) ≤ 2 ^ 26
   few_fetched c shared few =
       let same : fetched_by_lines (pieces p) (lines_noted held) ≡ fetched_by_lines (pieces p) F = ap (fetched_by_lines (pieces p)) all ∙ told_counts (pieces p) F in
-      let fetched = all_fetched p c shared in
+      let fetched = all_fetched p (fetch_open p c shared) in
       omega (arith, few, same, fetched)
 
   module _ (js : List Piece) (same : js ≡ pieces p) (k : ℕ) (x : LineHeld) (is : x ≡ get_or held k x) where
@@ -210,7 +210,7 @@ module _ (p : Plan) (held : List LineHeld) (all : lines_noted held ≡ map told_
         let of_plan = ap (λ (ps : List Piece). fetched_by_lines ps (take (k + 1) F)) same in (
           this,
           record {
-            shared = shared;
+            bodies = fetch_open p c shared;
             place = k;
             stands = get_some F k no_line (omega (arith, within, counted, many));
             near = near_before near;

@@ -1,6 +1,6 @@
 -- What holds where nothing is wrong at own lines.
 use Rattle.std.proofs.Common.{◌≡◌, ℕ, zero, suc, ◌+◌, ◌-◌, ◌^◌, ◌<◌, ◌≤◌, List, [], ◌∷◌, ◌++◌, length, length-append, map, min, get_or, Bool, true, false, cond, arith, ap, refl, sym, ◌∙◌, subst, Option, Some, None, inl, inr}
-use Rattle.std.specs.Prelude.{All, IsTrue, IsSome, ℤ, slice_get, MatchOption}
+use Rattle.std.specs.Prelude.{All, IsTrue, IsSome, ℤ, slice_get, MatchOption, ◌⊎◌}
 use Rattle.std.proofs.lemmas.Bool.{cases_lt, false≢true}
 use Rattle.std.proofs.lemmas.List.{length-map}
 use Rattle.plan.specs.Plan.{Group, Plan}
@@ -17,7 +17,7 @@ use Rattle.headline.proofs.Places.{piece_from}
 use Rattle.shares.specs.declared.answer.SharesError.{SharesError}
 use Rattle.shares.specs.declared.answer.SharesError.TheVariants.{Flaw as Told, Memory}
 use Rattle.shares.specs.Layout.{own_list, OwnIsInside, PieceIsInside, region_points}
-use Rattle.shares.specs.Made.{CodeMeans, StandsAt, FlawMeans, OwnCode, IsOwnFlaw, IsFirstOwn, LinesStand, owns_line, line_at, Holds, ErrorMeans}
+use Rattle.shares.specs.Made.{CodeMeans, StandsAt, FlawMeans, OwnCode, IsOwnFlaw, IsFirstOwn, LineMeans, LinesStand, owns_line, line_at, Holds, ErrorMeans}
 use Rattle.shares.specs.Counts.{FetchPasses}
 use Rattle.shares.specs.Has.{fetched_before}
 use Rattle.shares.specs.Owned.{IsFirstFlaw}
@@ -94,31 +94,40 @@ module _ (p : Plan) (c : Certificate) where
   own_code_means n K13 line h at = absurd h
   own_code_means n K14 line h at = absurd h
 
-  own_means : (groups : ℕ) (f : Flaw) → IsOwnFlaw p c groups f → FlawMeans p c f
+  pub own_means : (groups : ℕ) (f : Flaw) → IsOwnFlaw p c groups f → FlawMeans p c f
   own_means groups f h = let k = own_code_means h.0 f.code f.line h.2 h.3 in inl (h.0, k.0, k.1)
 
   abbrev groups : ℕ
   groups = length p.groups
 
-  lesser_means : (b : Bool) (f g : Flaw) → FlawMeans p c f → FlawMeans p c g → FlawMeans p c (cond b g f)
-  lesser_means true f g h k = k
-  lesser_means false f g h k = h
+  abbrev Told14 : Flaw → Type 0
+  Told14 f = (f.code ≡ K14) × FetchPasses p c f.line
+
+  abbrev IsLine : Flaw → Type 0
+  IsLine f = IsOwnFlaw p c groups f ⊎ Told14 f
+
+  lesser_line : (b : Bool) (f g : Flaw) → IsLine f → IsLine g → IsLine (cond b g f)
+  lesser_line true f g h k = k
+  lesser_line false f g h k = h
 
   lesser_first : (b : Bool) (f g : Flaw) → is_before g f ≡ b → IsFirstOwn p c groups g → IsFirstOwn p c groups (cond b g f)
   lesser_first true f g e first h own = first h own
   lesser_first false f g e first h own = not_on f g h e (first h own)
 
-  abbrev Told14 : Flaw → Type 0
-  Told14 f = (f.code ≡ K14) × FetchPasses p c f.line
-
   first_of : (fetched own : Option Flaw) → MatchOption fetched (fetched_before p (length (pieces p)) ≤ 2 ^ 26) Told14 → IsFirstFlaw p c groups own →
-      MatchOption (least fetched own) (LinesStand p c) (λ f. ErrorMeans p c (Told f))
+      MatchOption (least fetched own) (LinesStand p c) (LineMeans p c)
   first_of None None few none = record { fetched = few; own = none }
-  first_of None (Some g) few first = inl (own_means groups g first.0, first.1)
-  first_of (Some f) None past none = inl (inr (past.0, inl past.1), λ g own. absurd (none g own))
-  first_of (Some f) (Some g) past first =
-      inl (lesser_means (is_before g f) f g (inr (past.0, inl past.1)) (own_means groups g first.0), lesser_first (is_before g f) f g refl first.1)
+  first_of None (Some g) few first = (inl first.0, first.1)
+  first_of (Some f) None past none = (inr past, λ g own. absurd (none g own))
+  first_of (Some f) (Some g) past first = (lesser_line (is_before g f) f g (inr past) (inl first.0), lesser_first (is_before g f) f g refl first.1)
 
   pub first_line : (fetched own found : Option Flaw) → MatchOption fetched (fetched_before p (length (pieces p)) ≤ 2 ^ 26) Told14 → IsFirstFlaw p c groups own → found ≡ least fetched own →
-      MatchOption found (LinesStand p c) (λ f. ErrorMeans p c (Told f))
-  first_line fetched own found past first is = subst (λ (o : Option Flaw). MatchOption o (LinesStand p c) (λ f. ErrorMeans p c (Told f))) (sym is) (first_of fetched own past first)
+      MatchOption found (LinesStand p c) (LineMeans p c)
+  first_line fetched own found past first is = subst (λ (o : Option Flaw). MatchOption o (LinesStand p c) (LineMeans p c)) (sym is) (first_of fetched own past first)
+
+  -- what stands at fetch lines and own lines is what is wrong
+  pub line_error : (f : Flaw) → LineMeans p c f → ErrorMeans p c (Told f)
+  line_error f h = elim h.0 [
+    | inl own ↦ inl (own_means groups f own, h.1)
+    | inr past ↦ inl (inr (past.0, inl past.1), h.1)
+  ]

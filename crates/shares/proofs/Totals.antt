@@ -18,7 +18,7 @@ use Rattle.headline.specs.Work.{of_piece, cells_fetched, group_fetched}
 use Rattle.headline.proofs.Parts.{none_fetched}
 use Rattle.headline.proofs.Places.{piece_from}
 use Rattle.shares.specs.Boxes.{AreLimited, IsLimited}
-use Rattle.shares.specs.Counts.{PassesFetched}
+use Rattle.shares.specs.Counts.{FetchInTheOpen, PassesFetched}
 use Rattle.shares.specs.FetchLines.{FetchLine, fetch_lines, block_fetch_lines, fetch_lines_from, plan_fetch_lines, cells_by, fetched_by, fetched_by_lines}
 use Rattle.shares.specs.Lets.{Naming, NamingsAreLimited, naming, named}
 use Rattle.shares.specs.Read.{IsOpen}
@@ -149,11 +149,11 @@ module _ (p : Plan) (j : Piece) where
       let more = groups_here (k + 1) xs m g (λ i h. all (suc i) h) (omega (arith, e)) at in
       omega (arith, whole, first, more)
 
-module _ (p : Plan) (c : Certificate) (shared : AreShared p c) where
+module _ (p : Plan) (bodies : FetchInTheOpen p) where
   one_piece : (i : ℕ) (j : Piece) → slice_get (pieces p) i ≡ Some j → by j (plan_fetch_lines p) ≡ length (fetched_list p i)
   one_piece i j at =
       let k = piece_from p i j at in
-      let here = groups_here p j 0 p.groups j.group k.g (λ m h e. (shared.groups m h e).body) (omega arith) k.group in
+      let here = groups_here p j 0 p.groups j.group k.g bodies (omega arith) k.group in
       let cells = ap (λ (o : Option Group). length (group_fetched o j)) k.group in
       let list = ap (λ (o : Option Piece). length (of_piece o [] (λ x. map (cell_number p) (cells_fetched p x)))) at in
       let long = length-map (cells_fetched p j) (cell_number p) in
@@ -183,7 +183,7 @@ module _ (p : Plan) (c : Certificate) (shared : AreShared p c) where
 -- where the limit of fetched cells is passed there are not few
 pub fetched_past : (p : Plan) (c : Certificate) (x : FetchLine) → PassesFetched p c x → ¬ AreFew p c
 fetched_past p c x h few =
-    let all = all_fetched p c h.shared in
+    let all = all_fetched p h.bodies in
     let most = sum_by-take-le (fetched_by (pieces p)) (plan_fetch_lines p) (h.place + 1) in
     let past = h.passed in
     let fits = few.fetched in
@@ -240,8 +240,11 @@ open_groups p k (g ∷ gs) all =
     let here = firsts (IsOpen p) (λ x. x.group ≡ k) (fetch_lines k [] g.body (body_line p k)) (open_lines p k [] g.body (body_line p k) no_lets (all 0 g refl)) in
     joined (IsOpen p) (fetch_lines k [] g.body (body_line p k)) (fetch_lines_from p (k + 1) gs) here (open_groups p (k + 1) gs (λ i h. all (suc i) h))
 
+pub fetch_open : (p : Plan) (c : Certificate) → AreShared p c → FetchInTheOpen p
+fetch_open p c shared n g at = (shared.groups n g at).body
+
 pub lines_open : (p : Plan) (c : Certificate) → AreShared p c → All (IsOpen p) (plan_fetch_lines p)
-lines_open p c shared = All-from_recursion (IsOpen p) (plan_fetch_lines p) (open_groups p 0 p.groups (λ i h e. (shared.groups i h e).body))
+lines_open p c shared = All-from_recursion (IsOpen p) (plan_fetch_lines p) (open_groups p 0 p.groups (fetch_open p c shared))
 
 pub region_of_open : (p : Plan) (x : FetchLine) → IsOpen p x → IsLimited x.region
 region_of_open p x h = (named_group (slice_get p.groups x.fetched) (λ g. IsLike x.region (length g.region)) h.region).2.0

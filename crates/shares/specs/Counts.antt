@@ -1,6 +1,6 @@
 -- With which fetch line too many cells are read, and with which need line too many pieces are named.
 use Rattle.std.specs.Prelude.{◌≡◌, ℕ, ◌+◌, ◌<◌, ◌≤◌, ◌^◌, ◌⊎◌, List, length, take, Some, slice_get, All}
-use Rattle.plan.specs.Plan.{Plan}
+use Rattle.plan.specs.Plan.{Group, Plan}
 use Rattle.plan.specs.Lines.{certificate_line}
 use Rattle.plan.specs.declared.certificate.cert.Need.{Need}
 use Rattle.plan.specs.Certificate.Certificate.{Certificate}
@@ -8,13 +8,17 @@ use Rattle.plan.specs.Certificate.Cells.{pieces}
 use Rattle.plan.specs.Certificate.Lines.{need_line}
 use Rattle.soundness.specs.Outline.Flaws.{line_told}
 use Rattle.shares.specs.Has.{needed_before}
-use Rattle.shares.specs.Shared.{AreShared}
+use Rattle.shares.specs.Shared.{LineIsShared}
 use Rattle.shares.specs.FetchLines.{FetchIsFar, FetchLine, LineIsNear, plan_fetch_lines, fetched_by_lines}
+
+-- the lines of groups fetch in the open
+abbrev pub FetchInTheOpen : Plan → Type 0
+FetchInTheOpen p = (n : ℕ) (g : Group) → slice_get p.groups n ≡ Some g → LineIsShared p g.body
 
 -- of a plan whose lines fetch in the open: with this fetch line more than 2^26 cells are fetched, and with those before it not, of
 -- which each can be read: the lines `let` before it come to near numbers
 pub record PassesFetched (p : Plan) (c : Certificate) (x : FetchLine) : Type 0 where
-  pub shared : AreShared p c
+  pub bodies : FetchInTheOpen p
   pub place : ℕ
   pub stands : slice_get (plan_fetch_lines p) place ≡ Some x
   pub near : All (LineIsNear (pieces p)) (take place (plan_fetch_lines p))

@@ -21,6 +21,7 @@ pub mod Counts
 pub mod Noted
 pub mod Stops
 pub mod Made
+pub mod Before
 pub mod Owned
 pub mod Laws
 pub mod Worked

@@ -126,6 +126,10 @@ abbrev pub Holds : Plan → Certificate → SharesError → Type 0
 Holds p c (Flaw f) = FlawMeans p c f
 Holds p c Memory = Unit {0}
 
+-- the first of what is wrong at fetch lines and own lines
+abbrev pub LineMeans : Plan → Certificate → FlawHeld → Type 0
+LineMeans p c f = (IsOwnFlaw p c (length p.groups) f ⊎ ((f.code ≡ K14) × FetchPasses p c f.line)) × IsFirstOwn p c (length p.groups) f
+
 -- nothing is wrong at fetch lines and own lines
 pub record LinesStand (p : Plan) (c : Certificate) : Type 0 where
   pub fetched : fetched_before p (length (pieces p)) ≤ 2 ^ 26

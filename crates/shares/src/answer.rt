@@ -12,7 +12,7 @@ ghost use Rattle.shares.specs.Layout.{IsLayout, FetchesCells, OwnIsInside};
 ghost use Rattle.soundness.specs.declared.outline.refusals.code.K.TheVariants.{K9, K11, K14};
 ghost use Rattle.shares.specs.Owned.{AreOwners};
 ghost use Rattle.shares.specs.Has.{HasShares, fetched_before, needed_before};
-ghost use Rattle.shares.specs.Made.{AreListsOf, CodeMeans, ErrorMeans, Holds, IsPieceOf, LinesStand, TroubleMeans};
+ghost use Rattle.shares.specs.Made.{AreListsOf, CodeMeans, ErrorMeans, Holds, IsPieceOf, LineMeans, LinesStand, TroubleMeans};
 
 use crate::boxes::most_points;
 use crate::counts::fetch_flaw;
@@ -55,7 +55,7 @@ impl From<AllocError> for SharesError {
 }
 
 /// How many cells a plan has.
-fn cell_count(layout: &Layout<'_>) -> u32
+pub(crate) fn cell_count(layout: &Layout<'_>) -> u32
     requires { IsLayout layout.now }
     ensures { result ≡ length (cells (plan_of layout.now.plan.now)) }
 {
@@ -123,7 +123,7 @@ fn error_of(alloc: Global, layout: &Layout<'_>, trouble: Trouble) -> SharesError
 }
 
 /// The first of what is wrong at fetch lines and at own lines, if anything is.
-fn line_flaw(
+pub(crate) fn line_flaw(
     alloc: Global,
     layout: &Layout<'_>,
     count: u32,
@@ -132,7 +132,7 @@ fn line_flaw(
     requires layout { IsLayout layout.now }
     requires count { count ≡ length (cells (plan_of layout.now.plan.now)) }
     requires owned { IfOk owned.now (AreOwners (plan_of layout.now.plan.now) (certificate_of layout.now.cert.now)) }
-    ensures { IfOk result (λ found. MatchOption found (LinesStand (plan_of layout.now.plan.now) (certificate_of layout.now.cert.now)) (λ f. ErrorMeans (plan_of layout.now.plan.now) (certificate_of layout.now.cert.now) (SharesError.Flaw f))) }
+    ensures { IfOk result (λ found. MatchOption found (LinesStand (plan_of layout.now.plan.now) (certificate_of layout.now.cert.now)) (LineMeans (plan_of layout.now.plan.now) (certificate_of layout.now.cert.now))) }
 {
     let fetched = fetch_flaw(alloc, layout)?;
     let own = own_flaw(alloc, layout, count, owned)?;

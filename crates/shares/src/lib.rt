@@ -5,6 +5,7 @@
 #![tactic(auto)]
 
 mod answer;
+mod before;
 mod blocks;
 mod boxes;
 mod corners;
@@ -32,3 +33,4 @@ mod stop;
 mod walked;
 
 pub use answer::{Shares, SharesError, shares_of};
+pub use before::flaw_before;

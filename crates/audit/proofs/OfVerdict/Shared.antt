@@ -27,7 +27,7 @@ use Rattle.validation.specs.Groups.Sizes.{is_extent, extent_of}
 use Rattle.validation.specs.Stored.Definitions.{Parts, parts_named, has_variables}
 use Rattle.validation.specs.Groups.Lines.{Here, before, after, in_later, in_loop, inside, is_empty, is_new, may_precede, flaws, block_flaws, flaws_of_groups, start}
 use Rattle.validation.proofs.Flawless.{ends_are, fine, none_in, group_fine, body_fine}
-use Rattle.audit.specs.Verdict.Clear.{PlansAreShared}
+use Rattle.audit.specs.Verdict.Clear.{PlansAreDrawn, PlansAreShared}
 use Rattle.audit.proofs.OfVerdict.Lists.{lt_true, forms_limited, spans_limited, looked_up}
 use Rattle.audit.proofs.OfVerdict.Small.{extent, count_is, line_fine, plans_small}
 use Rattle.audit.proofs.OfVerdict.Near.{fetch_fine}
@@ -145,8 +145,8 @@ module _ (a : Algorithm) (p : Plan) (c : Certificate) (none : flaws_of_groups a 
 
 -- ---- plans
 
-pub plans_shared : PlansAreShared
-plans_shared a p c none clear =
+pub plans_drawn : PlansAreDrawn
+plans_drawn a p c none =
     let small = plans_small a p c none in
     record {
       groups = λ n g at.
@@ -157,10 +157,27 @@ plans_shared a p c none clear =
             limits = spans_limited g.region l.limits;
             extents = All-from_recursion (λ (x : Side). x.count ≤ 8192) (sides no_symbols g.region) (few_sides g.region l.extents);
             grid = grids_small a p c none n g at;
-            own = own_like (length g.region) (length g.grid) (own_region c.own n) (clear.own n g at);
             body = line_shared a p c none n g g.body (start f.line g) (body_fine a p c n g f);
           };
-      needs = All-from_recursion (NeedIsShared p) c.needs (looked_up (NeedIsShared p) c.needs (λ i m at. need_like m (slice_get p.groups m.group) (slice_get p.groups m.needed) (clear.needs i m at)));
       cells = small.cells;
       pieces = small.pieces;
+    }
+
+pub plans_shared : PlansAreShared
+plans_shared a p c none clear =
+    let drawn = plans_drawn a p c none in
+    record {
+      groups = λ n g at.
+          let k = drawn.groups n g at in
+          record {
+            ends = k.ends;
+            limits = k.limits;
+            extents = k.extents;
+            grid = k.grid;
+            own = own_like (length g.region) (length g.grid) (own_region c.own n) (clear.own n g at);
+            body = k.body;
+          };
+      needs = All-from_recursion (NeedIsShared p) c.needs (looked_up (NeedIsShared p) c.needs (λ i m at. need_like m (slice_get p.groups m.group) (slice_get p.groups m.needed) (clear.needs i m at)));
+      cells = drawn.cells;
+      pieces = drawn.pieces;
     }

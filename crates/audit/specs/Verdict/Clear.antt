@@ -13,6 +13,7 @@ use Rattle.headline.specs.Parts.{FunctionsAreDistinct}
 use Rattle.rules.specs.Widths.Widths.{wide_lines}
 use Rattle.soundness.specs.Binders.View.{grid_binders}
 use Rattle.audit.specs.Verdict.Shown.Wide.{IsFree, stored_in}
+use Rattle.shares.specs.Before.{IsDrawn}
 use Rattle.shares.specs.Shared.{AreShared}
 use Rattle.audit.specs.Verdict.Bounded.Near.{GroupIsNear}
 use Rattle.checked_plan.specs.Ready.Ready.{IsSmallSpan}
@@ -27,6 +28,10 @@ GroupsAreFree =
 -- what the shares of pieces rest on
 abbrev pub PlansAreShared : Type 0
 PlansAreShared = (a : Algorithm) (p : Plan) (c : Certificate) → flaws_of_groups a p c ≡ [] → HasRegions p c → AreShared p c
+
+-- and of the lines of groups alone, whatever the certificate
+abbrev pub PlansAreDrawn : Type 0
+PlansAreDrawn = (a : Algorithm) (p : Plan) (c : Certificate) → flaws_of_groups a p c ≡ [] → IsDrawn p
 
 -- forms stand, by rules that find no line wide
 abbrev pub GroupsAreNear : Type 0

@@ -1,6 +1,6 @@
 //! What follows where no line of a plan, and none of its certificate, has a flaw.
 
-ghost use Rattle.audit.specs.Verdict.Clear.{GridsAreSmall, GroupsAreApart, GroupsAreFree, GroupsAreNear, PlansAreShared, PlansAreSmall, RegionsAreSmall};
+ghost use Rattle.audit.specs.Verdict.Clear.{GridsAreSmall, GroupsAreApart, GroupsAreFree, GroupsAreNear, PlansAreDrawn, PlansAreShared, PlansAreSmall, RegionsAreSmall};
 
 /// No definition that a line of a group stores comes to a function that has updates and is not stored.
 pub fn groups_are_free()
@@ -10,6 +10,11 @@ pub fn groups_are_free()
 /// What the shares of the pieces rest on holds, so that they can be told.
 pub fn plans_are_shared()
     ensures { PlansAreShared }
+{}
+
+/// What the shares of the pieces rest on in the lines of groups holds, whatever the certificate.
+pub fn plans_are_drawn()
+    ensures { PlansAreDrawn }
 {}
 
 /// The forms of each group stand, where its loops' symbols and its stores' coordinates are shown to be narrow.

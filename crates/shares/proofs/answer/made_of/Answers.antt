@@ -11,10 +11,10 @@ use Rattle.orders.specs.Faults.{IsFirstUnserved}
 use Rattle.orders.specs.Work.{NeedsServe}
 use Rattle.orders.specs.declared.lists.Piece.{Piece}
 use Rattle.orders.proofs.Verdict.{none_verdict}
-use Rattle.shares.specs.Made.{LinesStand}
+use Rattle.shares.specs.Made.{LineMeans, LinesStand}
 use Rattle.shares.specs.Seats.{piece_of}
 use Rattle.shares.specs.Owned.{AreOwners}
-use Rattle.shares.proofs.Standing.{all_inside, all_owned, holds_first}
+use Rattle.shares.proofs.Standing.{all_inside, all_owned, holds_first, line_error}
 use Rattle.shares.proofs.Told.{lists_are, known_all, pieces_all, cells_sound, not_served, claimed_lists}
 use Rattle.shares.proofs.answer.made_of.Goals as goal
 
@@ -28,6 +28,14 @@ returns-in-Err-clause-flaw c =
     let stands : LinesStand p cert = rw c.in_default.is at c.in_ok-flaw.ensures in
     let k = rw c.in-Err.is at c.in_ok-owned.ensures.overlap in
     holds_first p cert stands.own c.overlap.result (c.overlap.ensures (c.in-Err.piece, c.group_of.ensures, k.1))
+
+pub returns-in-Some-clause-flaw : goal.returns-in-Some-clause-flaw
+returns-in-Some-clause-flaw c =
+    let x = c.args.layout.now in
+    let p : Plan = plan_of x.plan.now in
+    let cert : Certificate = certificate_of x.cert.now in
+    let means : LineMeans p cert c.in-Some.flaw = rw c.in-Some.is at c.in_ok-flaw.ensures in
+    line_error p cert c.in-Some.flaw means
 
 pub first_unserved-requires-clause-claimed : goal.first_unserved-requires-clause-claimed
 first_unserved-requires-clause-claimed c =

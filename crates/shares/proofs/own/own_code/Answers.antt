@@ -11,7 +11,7 @@ use Rattle.shares.specs.Owned.{GroupIsInside, own_in}
 use Rattle.shares.specs.Seats.{piece_of}
 use Rattle.shares.proofs.Codes.{HasRow, row_of, lowest_ten, none_overlaps, none_leaves}
 use Rattle.shares.proofs.Having.{cells_within}
-use Rattle.shares.proofs.Owning.{gap_found, gap_none}
+use Rattle.shares.proofs.Owning.{ends_of, gap_found, gap_none}
 use Rattle.shares.proofs.own.own_code.Goals as goal
 
 pub returns-then-not-owned : goal.returns-then-not-owned
@@ -71,7 +71,7 @@ returns-then-has_gap c =
     let low = gap.1 in
     let high = gap.2 in
     let free = subst (λ (os : List (Option ℕ)). slice_get os gap.0 ≡ Some None) c.deref-2.ensures.value gap.3 in
-    lowest_ten p cert n apart (inr (gap_found p cert c.requires.layout.shared n gap.0 owners claimed free (omega (arith, low, first)) (omega (arith, high, end))))
+    lowest_ten p cert n apart (inr (gap_found p cert (ends_of p cert c.requires.layout.shared) n gap.0 owners claimed free (omega (arith, low, first)) (omega (arith, high, end))))
 
 pub code_of_parted-requires-clause-parted : goal.code_of_parted-requires-clause-parted
 code_of_parted-requires-clause-parted c =
@@ -94,6 +94,6 @@ code_of_parted-requires-clause-parted c =
     let end = row.to in
     let all = c.requires.count in
     let most = cells_within 0 p.groups (n + 1) in
-    let whole : ¬ HasGap p cert n = gap_none p cert c.requires.layout.shared n owners claimed (omega (arith, long, all, most))
+    let whole : ¬ HasGap p cert n = gap_none p cert (ends_of p cert c.requires.layout.shared) n owners claimed (omega (arith, long, all, most))
     (λ y low high. subst (λ (os : List (Option ℕ)). ¬ (slice_get os y ≡ Some None)) c.deref-2.ensures.value (c.has_gap.ensures.none c.if-has_gap.false y (omega (arith, low, first)) (omega (arith, high, end)))) in
     record { apart = apart; inside = inside; whole = whole }
