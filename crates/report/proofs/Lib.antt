@@ -1,5 +1,6 @@
 mod Sums
 mod Places
+mod Nothing
 mod Named
 mod Bindings
 mod Ends

@@ -19,11 +19,12 @@ use Rattle.interpreter.proofs.Counting.{between_has}
 use Rattle.report.specs.declared.known.Binding.{Binding}
 use Rattle.report.specs.declared.counting.Turns.{Turns}
 use Rattle.report.specs.declared.ranges.Range.{Range}
-use Rattle.report.specs.Costs.{capped}
+use Rattle.report.specs.Costs.{capped, up_to}
 use Rattle.report.specs.Counting.{Fits, in_turn, IsPointCount, IsTally, IsBlockTally, IsTurnsTally}
 use Rattle.report.specs.Known.{known_of, Allows, AllowsAll, IsSettled, AllSettled}
 use Rattle.report.specs.Ranges.{numbers, Holds, HoldsEnds, IsOne}
 use Rattle.report.specs.Tally.{block_tally, tally, Counted}
+use Rattle.report.proofs.Sums.{lower_limit}
 use Rattle.report.proofs.Tallies.{is_le, le_true, le_false, lt_true}
 
 -- what is known of a name
@@ -54,7 +55,7 @@ loop_tally x known i span kind body r t n is ends tally_is = record {
       let e : HoldsEnds s span r = ends s allows fits.0 in
       let one : IsTurnsTally x known body (record { symbol = i; start = r.low; range = r }) n = subst (λ (u : Turns). IsTurnsTally x known body u n) is tally_is in
       one.is s allows (turn_fits i span body s r e (λ z from to. fits.1 z (between_has (largest s span.lower) (smallest s span.upper) z from to)))
-      ∙ ap capped (same_sum x i body s (largest s span.lower) r.low (smallest s span.upper) r.high e.low e.high);
+      ∙ ap (up_to x.enough) (same_sum x i body s (largest s span.lower) r.low (smallest s span.upper) r.high e.low e.high);
 }
 
 -- ---- lines that ask which turn it is
@@ -78,18 +79,20 @@ not_first : (b : Binding) (z : ℤ) (f : Bool) → b.first ≡ false → Allows 
 not_first b z true e h = absurd (let g : b.first ≡ true = h.first refl in cc)
 not_first b z false e h = refl
 
-pub first_tally : (x : Counted) (known : List Binding) (i : ℕ) (b : Binding) (one other : Statement) (n : ℕ) → b ≡ known_of known i → b.later ≡ false → IsTally x known one n → IsTally x known (First i one other) n
+pub first_tally : (x : Counted) (known : List Binding) (i : ℕ) (b : Binding) (one other : Statement) (n : ℕ) → b ≡ known_of known i → b.later ≡ false → IsTally x known one n →
+    IsTally x known (First i one other) n
 first_tally x known i b one other n is later sum = record {
   is = λ s allows fits.
       let turn : s.first i ≡ true = not_later b (s.value i) (s.first i) later (subst (λ (c : Binding). Allows c (s.value i) (s.first i)) (sym is) (allows i)) in
-      sum.is s allows (fits.0 turn) ∙ ap capped (sym (first_branch (s.first i) (tally x one s) (tally x other s) turn));
+      sum.is s allows (fits.0 turn) ∙ ap (up_to x.enough) (sym (first_branch (s.first i) (tally x one s) (tally x other s) turn));
 }
 
-pub later_tally : (x : Counted) (known : List Binding) (i : ℕ) (b : Binding) (one other : Statement) (n : ℕ) → b ≡ known_of known i → b.first ≡ false → IsTally x known other n → IsTally x known (First i one other) n
+pub later_tally : (x : Counted) (known : List Binding) (i : ℕ) (b : Binding) (one other : Statement) (n : ℕ) → b ≡ known_of known i → b.first ≡ false → IsTally x known other n →
+    IsTally x known (First i one other) n
 later_tally x known i b one other n is first sum = record {
   is = λ s allows fits.
       let turn : s.first i ≡ false = not_first b (s.value i) (s.first i) first (subst (λ (c : Binding). Allows c (s.value i) (s.first i)) (sym is) (allows i)) in
-      sum.is s allows (fits.1 turn) ∙ ap capped (sym (later_branch (s.first i) (tally x one s) (tally x other s) turn));
+      sum.is s allows (fits.1 turn) ∙ ap (up_to x.enough) (sym (later_branch (s.first i) (tally x one s) (tally x other s) turn));
 }
 
 both_turns : {P : Type 0} (b : Binding) → IsSettled b → b.later ≡ true → b.first ≡ true → P
@@ -116,7 +119,7 @@ guard_tally x known low high l h body n lows highs lt sum = record {
       let a : Holds l (form_value low s) = lows s allows fits.0 in
       let b : Holds h (form_value high s) = highs s allows fits.1 in
       let t : int_le (form_value low s) (form_value high s) ≡ true = is_le (form_value low s) (form_value high s) (omega (arith, ints, a.high, b.low)) in
-      sum.is s allows (fits.2 t) ∙ ap capped (sym (first_branch (int_le (form_value low s) (form_value high s)) (tally x body s) 0 t));
+      sum.is s allows (fits.2 t) ∙ ap (up_to x.enough) (sym (first_branch (int_le (form_value low s) (form_value high s)) (tally x body s) 0 t));
 }
 
 pub guard_none : (x : Counted) (known : List Binding) (low high : Form) (l h : Range) (body : Statement) →
@@ -127,31 +130,27 @@ guard_none x known low high l h body lows highs lt = record {
       let a : Holds l (form_value low s) = lows s allows fits.0 in
       let b : Holds h (form_value high s) = highs s allows fits.1 in
       let t : int_le (form_value low s) (form_value high s) ≡ false = over (form_value low s) (form_value high s) (omega (arith, ints, a.low, b.high)) in
-      let e : 0 ≡ capped 0 = omega arith in
-      e ∙ ap capped (sym (later_branch (int_le (form_value low s) (form_value high s)) (tally x body s) 0 t));
+      ap (up_to x.enough) (sym (later_branch (int_le (form_value low s) (form_value high s)) (tally x body s) 0 t));
 }
 
 -- ---- lines that fetch or store
 
-pub fetch_tally : (x : Counted) (known : List Binding) (b g : ℕ) (region : List Span1) (n : ℕ) → x.group g ≡ true → IsPointCount known region n → IsTally x known (Fetch b g region) n
-fetch_tally x known b g region n is points_are = record {
-  is = λ s allows fits. points_are s allows fits ∙ ap capped (sym (first_branch (x.group g) (length (points s region)) 0 is));
+pub fetch_tally : (x : Counted) (known : List Binding) (b g : ℕ) (region : List Span1) (n : ℕ) → x.enough < 2 ^ 64 → x.group g ≡ true → IsPointCount known region n →
+    IsTally x known (Fetch b g region) n
+fetch_tally x known b g region n small is points_are = record {
+  is = λ s allows fits. lower_limit x.enough n (length (points s region)) small (points_are s allows fits) ∙ ap (up_to x.enough) (sym (first_branch (x.group g) (length (points s region)) 0 is));
 }
 
 pub fetch_none : (x : Counted) (known : List Binding) (b g : ℕ) (region : List Span1) → x.group g ≡ false → IsTally x known (Fetch b g region) 0
 fetch_none x known b g region is = record {
-  is = λ s allows fits. (let e : 0 ≡ capped 0 = omega arith in e ∙ ap capped (sym (later_branch (x.group g) (length (points s region)) 0 is)));
+  is = λ s allows fits. ap (up_to x.enough) (sym (later_branch (x.group g) (length (points s region)) 0 is));
 }
 
-once : (t : Bool) → (if t then 1 else 0) ≡ capped (if t then 1 else 0)
-once true = omega arith
-once false = omega arith
-
 pub store_tally : (x : Counted) (known : List Binding) (a : Statement) (t : Bool) (n : ℕ) → ((s : Symbols) → tally x a s ≡ (if t then 1 else 0)) → n ≡ (if t then 1 else 0) → IsTally x known a n
-store_tally x known a t n is e = record { is = λ s allows fits. e ∙ once t ∙ ap capped (sym (is s)) }
+store_tally x known a t n is e = record { is = λ s allows fits. ap (up_to x.enough) (e ∙ sym (is s)) }
 
 pub none_tally : (x : Counted) (known : List Binding) (a : Statement) → ((s : Symbols) → tally x a s ≡ 0) → IsTally x known a 0
-none_tally x known a is = record { is = λ s allows fits. (let e : 0 ≡ capped 0 = omega arith in e ∙ ap capped (sym (is s))) }
+none_tally x known a is = record { is = λ s allows fits. ap (up_to x.enough) (sym (is s)) }
 
 -- ---- what a call found
 

@@ -4,7 +4,7 @@ use Rattle.std.specs.List.{list_any}
 use Rattle.std.specs.Prelude.{◌&&◌, if◌then◌else◌, int_le, slice_get, Contains, IfSome}
 use Rattle.std.proofs.Props.{props}
 use Rattle.std.proofs.Math.Logic.{∥∥₁_elim}
-use Rattle.std.proofs.lemmas.List.Sums.{sum_by_more}
+use Rattle.std.proofs.lemmas.List.Sums.{sum_by_more, sum_by-take-le}
 use Rattle.meaning.specs.Algorithm.{Algorithm}
 use Rattle.meaning.specs.Names.{same_name}
 use Rattle.tree.specs.Term.{Term}
@@ -27,7 +27,7 @@ use Rattle.piece.specs.Places.Places.{IsPlaceOf}
 use Rattle.report.specs.declared.subject.Deed.{Deed}
 use Rattle.report.specs.declared.subject.Deed.TheVariants.{Store as StoreDeed, Fetch as FetchDeed}
 use Rattle.report.specs.Actions.{group_actions, is_fetch_of, is_store_of, piece_actions}
-use Rattle.report.specs.Costs.{capped, is_stored}
+use Rattle.report.specs.Costs.{is_stored, up_to}
 use Rattle.report.specs.Memory.{has_function}
 use Rattle.report.specs.Subject.{is_fetch, is_store}
 use Rattle.report.specs.declared.known.Binding.{Binding}
@@ -40,7 +40,8 @@ use Rattle.report.proofs.Grids.{grid_allowed}
 
 -- ---- the tests
 
-stores_by : (t : Bool) (b : ℕ) (g : List ℕ) (k : ℕ) (names : List (List ℕ)) (at : List Target) (over : List ℤ) (e : Term) (f : List ℕ) → is_store_of f (action_for t b g k names at over e) ≡ same_name g f
+stores_by : (t : Bool) (b : ℕ) (g : List ℕ) (k : ℕ) (names : List (List ℕ)) (at : List Target) (over : List ℤ) (e : Term) (f : List ℕ) →
+    is_store_of f (action_for t b g k names at over e) ≡ same_name g f
 stores_by true b g k names at over e f = refl
 stores_by false b g k names at over e f = refl
 
@@ -48,14 +49,14 @@ fetches_none : (t : Bool) (b : ℕ) (g : List ℕ) (k : ℕ) (names : List (List
 fetches_none true b g k names at over e f = refl
 fetches_none false b g k names at over e f = refl
 
-tests : (p : Plan) (c : Certificate) (n : ℕ) (g : Group) (d : Deed) (f : List ℕ) → Tests (setting_of p c n g) (is_deed_of d f) (counts_in p g d f)
-tests p c n g StoreDeed f = record {
+tests : (p : Plan) (c : Certificate) (n : ℕ) (g : Group) (d : Deed) (f : List ℕ) (m : ℕ) → Tests (setting_of p c n g) (is_deed_of d f) (counts_in p g d f m)
+tests p c n g StoreDeed f m = record {
   allots = λ b rooms. refl;
   takes = λ b h q. refl;
   stores = λ b k at e s. stores_by _ b _ k _ _ _ e f;
   gives = λ k q. refl;
 }
-tests p c n g FetchDeed f = record {
+tests p c n g FetchDeed f m = record {
   allots = λ b rooms. refl;
   takes = λ b h q. refl;
   stores = λ b k at e s. fetches_none _ b _ k _ _ _ e f;
@@ -83,18 +84,19 @@ module _ (Own : Symbols → Type 0) where
 
 -- ---- a piece
 
-pub piece_counted : (p : Plan) (c : Certificate) (d : Deed) (f : List ℕ) (j n k : ℕ) (place : IsPlaceOf p.groups j n k) (total : ℕ) → PiecesAreNumbered → PieceIsNarrow c n place.g (grid_point place.g.grid k)
-    → IsPieceTally (counts_in p place.g d f) place.g k total → total ≡ capped (deeds_in p c d f (slice_get (pieces p) j))
-piece_counted p c d f j n k place total law narrow one =
+pub piece_counted : (p : Plan) (c : Certificate) (d : Deed) (f : List ℕ) (m j n k : ℕ) (place : IsPlaceOf p.groups j n k) (total : ℕ) → PiecesAreNumbered →
+    PieceIsNarrow c n place.g (grid_point place.g.grid k)
+    → IsPieceTally (counts_in p place.g d f m) place.g k total → up_to m total ≡ up_to m (deeds_in p c d f (slice_get (pieces p) j))
+piece_counted p c d f m j n k place total law narrow one =
     let g = place.g in
     let s = grid_symbols (grid_point g.grid k) in
     let test = is_deed_of d f in
     let here : slice_get (pieces p) j ≡ Some (piece g n k) = ap (λ (i : ℕ). slice_get (pieces p) i) place.number ∙ law.stands p n g k place.at place.inside in
-    let same : count_by test (actions (setting_of p c n g) g.body s) ≡ tally (counts_in p g d f) g.body s = counted (setting_of p c n g) test (counts_in p g d f) (tests p c n g d f) g.body s in
+    let same : count_by test (actions (setting_of p c n g) g.body s) ≡ tally (counts_in p g d f m) g.body s = counted (setting_of p c n g) test (counts_in p g d f m) (tests p c n g d f m) g.body s in
     one.is (fits (OwnIsNarrow c n g) g.body s narrow)
-    ∙ ap capped (sym same)
-    ∙ ap (λ (o : Option Group). capped (count_by test (group_actions p c (piece g n k) o))) (sym place.at)
-    ∙ ap (λ (o : Option Piece). capped (deeds_in p c d f o)) (sym here)
+    ∙ ap (up_to m) (sym same)
+    ∙ ap (λ (o : Option Group). up_to m (count_by test (group_actions p c (piece g n k) o))) (sym place.at)
+    ∙ ap (λ (o : Option Piece). up_to m (deeds_in p c d f o)) (sym here)
 
 -- the group of a number
 pub group_there : (gs : List CodeGroup) (n : ℕ) (g : Group) (x : CodeGroup) → slice_get (map group_of gs) n ≡ Some g → x ≡ get_or gs n x → group_of x ≡ g
@@ -120,7 +122,8 @@ nowhere = record { group = 0; at = [] }
 abbrev pub deeds_before : Plan → Certificate → Deed → List ℕ → ℕ → ℕ
 deeds_before p c d f j = sum_by (λ x. deeds_in p c d f (Some x)) (take j (pieces p))
 
-pub before_more : (p : Plan) (c : Certificate) (d : Deed) (f : List ℕ) (j : ℕ) → j < length (pieces p) → deeds_before p c d f (j + 1) ≡ deeds_before p c d f j + deeds_in p c d f (slice_get (pieces p) j)
+pub before_more : (p : Plan) (c : Certificate) (d : Deed) (f : List ℕ) (j : ℕ) → j < length (pieces p) →
+    deeds_before p c d f (j + 1) ≡ deeds_before p c d f j + deeds_in p c d f (slice_get (pieces p) j)
 before_more p c d f j h =
     sum_by_more (λ x. deeds_in p c d f (Some x)) (pieces p) j nowhere h
     ∙ ap (λ (o : Option Piece). deeds_before p c d f j + deeds_in p c d f o) (sym (at_get (pieces p) j nowhere h))
@@ -135,6 +138,10 @@ take_whole xs j e = ap (λ (n : ℕ). take n xs) e ∙ whole xs
 pub before_all : (p : Plan) (c : Certificate) (d : Deed) (f : List ℕ) (j : ℕ) → j ≡ length (pieces p) → deeds_before p c d f j ≡ deeds p c d f
 before_all p c d f j e = ap (sum_by (λ x. deeds_in p c d f (Some x))) (take_whole (pieces p) j e) ∙ sym (count-flat_map (is_deed_of d f) (piece_actions p c) (pieces p))
 
+pub before_at_most : (p : Plan) (c : Certificate) (d : Deed) (f : List ℕ) (j : ℕ) → deeds_before p c d f j ≤ deeds p c d f
+before_at_most p c d f j =
+    subst (λ (n : ℕ). deeds_before p c d f j ≤ n) (sym (count-flat_map (is_deed_of d f) (piece_actions p c) (pieces p))) (sum_by-take-le (λ x. deeds_in p c d f (Some x)) (pieces p) j)
+
 -- the numbers of pieces are 32-bit numbers
 pub few : (a : Algorithm) (p : Plan) (c : Certificate) → ∥ Ready a p c ∥₁ → length (pieces p) < 2 ^ 32
 few a p c ready = ∥∥₁_elim ready (search props) (λ r. let most : length (pieces p) ≤ 2 ^ 20 = r.few_pieces in omega arith)
@@ -145,32 +152,38 @@ pub some_is : (P : ℕ → Type 0) (o : Option ℕ) (n : ℕ) → o ≡ Some n �
 some_is P None n e h = absurd (cc)
 some_is P (Some m) n e h = let f : m ≡ n = cc in subst P f h
 
-pub piece_tally : (x : Counted) (known here : List Binding) (grid : List ℕ) (g : Group) (rank n : ℕ) → grid ≡ g.grid → known ≡ grid_bindings 0 (grid_point grid rank) → here ≡ known → IsTally x here g.body n → IsPieceTally x g rank n
+pub piece_tally : (x : Counted) (known here : List Binding) (grid : List ℕ) (g : Group) (rank n : ℕ) → grid ≡ g.grid → known ≡ grid_bindings 0 (grid_point grid rank) → here ≡ known →
+    IsTally x here g.body n → IsPieceTally x g rank n
 piece_tally x known here grid g rank n eg ek eh t = record {
   is = λ fits.
       t.is (grid_symbols (grid_point g.grid rank)) (grid_allowed here (grid_point g.grid rank) (eh ∙ ek ∙ ap (λ (l : List ℕ). grid_bindings 0 (grid_point l rank)) eg)) fits;
 }
 
 -- what counts in the lines of a group among these
-abbrev pub counts_by : List CodeGroup → Group → Deed → List ℕ → Counted
-counts_by gs g d f = record {
+abbrev pub counts_by : List CodeGroup → Group → Deed → List ℕ → ℕ → Counted
+counts_by gs g d f m = record {
   buffer = λ b. is_store d && same_name (function_in (allocated g.body b)) f;
   group = λ h. is_fetch d && same_name (group_name (slice_get (map group_of gs) h)) f;
+  enough = m;
 }
 
-pub piece_here : (x : Checked) (plan : CodePlan) (groups : List CodeGroup) (group : CodeGroup) (d : Deed) (f : List ℕ) (j n k : ℕ) → plan_of plan ≡ plan_checked x → groups ≡ plan.groups.items → IsPlaceOf (plan_of plan).groups j n k
-    → group ≡ get_or plan.groups.items n group → PiecesAreNumbered → PiecesAreNarrow → (total : ℕ) → IsPieceTally (counts_by groups (group_of group) d f) (group_of group) k total
-    → total ≡ capped (deeds_in (plan_checked x) (certificate_checked x) d f (slice_get (pieces (plan_checked x)) j))
-piece_here x plan groups group d f j n k ep eg place here law narrow total h =
+pub piece_here : (x : Checked) (plan : CodePlan) (groups : List CodeGroup) (group : CodeGroup) (d : Deed) (f : List ℕ) (m j n k : ℕ) → plan_of plan ≡ plan_checked x → groups ≡ plan.groups.items →
+    IsPlaceOf (plan_of plan).groups j n k
+    → group ≡ get_or plan.groups.items n group → PiecesAreNumbered → PiecesAreNarrow → (total : ℕ) → IsPieceTally (counts_by groups (group_of group) d f m) (group_of group) k total
+    → up_to m total ≡ up_to m (deeds_in (plan_checked x) (certificate_checked x) d f (slice_get (pieces (plan_checked x)) j))
+piece_here x plan groups group d f m j n k ep eg place here law narrow total h =
     let there : IsPlaceOf (plan_checked x).groups j n k = subst (λ (q : Plan). IsPlaceOf q.groups j n k) ep place in
     let at : slice_get (map group_of plan.groups.items) n ≡ Some there.g = ap (λ (q : Plan). slice_get q.groups n) ep ∙ there.at in
     let same : group_of group ≡ there.g = group_there plan.groups.items n there.g group at here in
-    let a : IsPieceTally (counts_by plan.groups.items (group_of group) d f) (group_of group) k total = subst (λ (gs : List CodeGroup). IsPieceTally (counts_by gs (group_of group) d f) (group_of group) k total) eg h in
-    let b : IsPieceTally (counts_in (plan_checked x) (group_of group) d f) (group_of group) k total = subst (λ (q : Plan). IsPieceTally (counts_in q (group_of group) d f) (group_of group) k total) ep a in
-    let e : IsPieceTally (counts_in (plan_checked x) there.g d f) there.g k total = subst (λ (g : Group). IsPieceTally (counts_in (plan_checked x) g d f) g k total) same b in
-    piece_counted (plan_checked x) (certificate_checked x) d f j n k there total law (narrow x j n k there) e
+    let a : IsPieceTally (counts_by plan.groups.items (group_of group) d f m) (group_of group) k total =
+    subst (λ (gs : List CodeGroup). IsPieceTally (counts_by gs (group_of group) d f m) (group_of group) k total) eg h in
+    let b : IsPieceTally (counts_in (plan_checked x) (group_of group) d f m) (group_of group) k total =
+    subst (λ (q : Plan). IsPieceTally (counts_in q (group_of group) d f m) (group_of group) k total) ep a in
+    let e : IsPieceTally (counts_in (plan_checked x) there.g d f m) there.g k total = subst (λ (g : Group). IsPieceTally (counts_in (plan_checked x) g d f m) g k total) same b in
+    piece_counted (plan_checked x) (certificate_checked x) d f m j n k there total law (narrow x j n k there) e
 
-pub stored_is : (p : Plan) (plan : CodePlan) (groups : List CodeGroup) (f name : List ℕ) (r : Bool) → plan_of plan ≡ p → groups ≡ plan.groups.items → f ≡ name → r ≡ list_any (has_function f) (map group_of groups) → r ≡ is_stored p name
+pub stored_is : (p : Plan) (plan : CodePlan) (groups : List CodeGroup) (f name : List ℕ) (r : Bool) → plan_of plan ≡ p → groups ≡ plan.groups.items → f ≡ name →
+    r ≡ list_any (has_function f) (map group_of groups) → r ≡ is_stored p name
 stored_is p plan groups f name r ep eg ef er =
     er ∙ ap (λ (gs : List CodeGroup). list_any (has_function f) (map group_of gs)) eg
     ∙ ap (λ (q : Plan). list_any (has_function f) q.groups) ep

@@ -28,7 +28,7 @@ names es = map (λ f. Function.name f) (map function_of es)
 abbrev pub rows_from : Plan → Certificate → List Entry → ℕ → List Row
 rows_from p c es k = map (row p c) (filter (is_stored p) (names (drop k es)))
 
-next_rows : (p : Plan) (c : Certificate) (es : List Entry) (k : ℕ) (e : Entry) → slice_get es k ≡ Some e →
+pub next_rows : (p : Plan) (c : Certificate) (es : List Entry) (k : ℕ) (e : Entry) → slice_get es k ≡ Some e →
     rows_from p c es k ≡ map (row p c) (cond (is_stored p (function_of e).name) ((function_of e).name ∷ filter (is_stored p) (names (drop (k + 1) es))) (filter (is_stored p) (names (drop (k + 1) es))))
 next_rows p c es k e at =
     ap (λ (l : List Entry). map (row p c) (filter (is_stored p) (names l))) (drop_at es k e at)

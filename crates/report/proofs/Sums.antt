@@ -1,11 +1,53 @@
 -- Counts that stop at a limit.
-use Rattle.std.proofs.Common.{◌≡◌, ℕ, zero, suc, ◌+◌, ◌*◌, ◌^◌, ◌-◌, ◌≤◌, min, refl, sym, ap, ◌∙◌, arith, inl, inr}
+use Rattle.std.proofs.Common.{◌≡◌, ℕ, zero, suc, ◌+◌, ◌*◌, ◌^◌, ◌-◌, ◌<◌, ◌≤◌, min, refl, sym, ap, ◌∙◌, arith, inl, inr}
 use Rattle.std.proofs.Math.Nat.{mul_comm}
 use Rattle.std.proofs.lemmas.Bool.{cases_lt}
-use Rattle.report.specs.Costs.{capped}
+use Rattle.report.specs.Costs.{capped, up_to}
 
 pub capped_sum : (a b c : ℕ) → c ≡ a + b → min (capped a + capped b) (2 ^ 64 - 1) ≡ capped c
 capped_sum a b c e = omega arith
+
+pub capped_small : (n : ℕ) → capped n < 2 ^ 64
+capped_small n = omega arith
+
+pub capped_most : (n total : ℕ) → n ≤ total → capped n ≤ total
+capped_most n total h = omega arith
+
+pub capped_is : (n : ℕ) → n < 2 ^ 64 → capped n ≡ n
+capped_is n small = omega arith
+
+-- a number of 64 bits that goes as far as the greatest does
+pub whole_is : (n k : ℕ) → n < 2 ^ 64 → up_to (2 ^ 64 - 1) n ≡ up_to (2 ^ 64 - 1) k → n ≡ capped k
+whole_is n k small h = omega arith
+
+-- two numbers that are the same as far as a limit, added
+pub both_up_to : (m a b c d : ℕ) → up_to m a ≡ up_to m c → up_to m b ≡ up_to m d → up_to m (a + b) ≡ up_to m (c + d)
+both_up_to m a b c d e f = omega arith
+
+-- a number that stops at the greatest goes as far as a lower limit as the whole one does
+pub lower_limit : (m n k : ℕ) → m < 2 ^ 64 → n ≡ capped k → up_to m n ≡ up_to m k
+lower_limit m n k h e = omega arith
+
+-- a sum that has stopped, and what is left
+pub added : (m total more a b whole n : ℕ) → m < 2 ^ 64 → up_to m more ≡ up_to m a → n ≡ min (total + more) (2 ^ 64 - 1) →
+    up_to m (total + (a + b)) ≡ up_to m whole → up_to m (n + b) ≡ up_to m whole
+added m total more a b whole n small e f h = omega arith
+
+-- what is enough is enough whatever is left
+pub enough_is : (m total rest whole : ℕ) → m ≤ total → up_to m (total + rest) ≡ up_to m whole → up_to m total ≡ up_to m whole
+enough_is m total rest whole le h = omega arith
+
+-- one number more, of a sum that has stopped
+pub more_before : (m total more a b n : ℕ) → m < 2 ^ 64 → up_to m total ≡ up_to m a → up_to m more ≡ up_to m b → n ≡ min (total + more) (2 ^ 64 - 1) → up_to m n ≡ up_to m (a + b)
+more_before m total more a b n small e f h = omega arith
+
+-- enough of a sum is enough of the whole
+pub enough_before : (m total part whole : ℕ) → m ≤ total → part ≤ whole → up_to m total ≡ up_to m part → up_to m total ≡ up_to m whole
+enough_before m total part whole le most h = omega arith
+
+-- nothing is left
+pub none_left : (m total rest whole : ℕ) → rest ≡ 0 → up_to m (total + rest) ≡ up_to m whole → up_to m total ≡ up_to m whole
+none_left m total rest whole e h = omega arith
 
 at_least : (m c : ℕ) → m ≤ m * suc c
 at_least m c = let e : m * suc c ≡ suc c * m = mul_comm m (suc c) in omega (arith, e)

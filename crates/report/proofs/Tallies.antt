@@ -18,12 +18,13 @@ use Rattle.interpreter.proofs.Counting.{between_none}
 use Rattle.report.specs.declared.known.Binding.{Binding}
 use Rattle.report.specs.declared.counting.Turns.{Turns}
 use Rattle.report.specs.declared.ranges.Range.{Range}
-use Rattle.report.specs.Costs.{capped}
+use Rattle.report.specs.Costs.{capped, up_to}
 use Rattle.report.specs.Counting.{Fits, BlockFits, in_turn, IsTally, IsBlockTally, IsTurnsTally}
 use Rattle.report.specs.Known.{known_of, unbound, Allows, AllowsAll, IsSettled, AllSettled}
 use Rattle.report.specs.Ranges.{numbers, Holds, IsOne}
 use Rattle.report.specs.Tally.{block_tally, tally, Counted}
 use Rattle.report.proofs.Bindings.{step}
+use Rattle.report.proofs.Sums.{added, enough_is, lower_limit, none_left}
 use Rattle.report.proofs.Turns.{between_alike, between_parts, multiplied}
 
 -- ---- one more symbol bound
@@ -103,13 +104,13 @@ turn_settled t e = record { value = e; turn = by (int_le t.range.low t.start) re
     by false f = is_lt t.start t.range.high (let l : t.start <ℤ t.range.low = le_false t.range.low t.start f in omega (arith, ints, e)) ∙ ap not (sym f)
 
 -- turns that count the same
-pub alike : (x : Counted) (known more : List Binding) (a : Statement) (t : Turns) (each n total : ℕ) → each < 2 ^ 64 →
+pub alike : (x : Counted) (known more : List Binding) (a : Statement) (t : Turns) (each n total : ℕ) → x.enough < 2 ^ 64 →
     more ≡ known ++ turns_binding t ∷ [] → IsTally x more a each → n ≡ capped (length (numbers t.range)) → total ≡ min (each * n) (2 ^ 64 - 1) → IsTurnsTally x known a t total
 alike x known more a t each n total small is one count e = record {
   is = λ s allows fits.
       let f : ℤ → ℕ = λ z. tally x a (in_turn s t z) in
-      e ∙ ap (λ (m : ℕ). min (each * m) (2 ^ 64 - 1)) count ∙ multiplied each (length (numbers t.range))
-      ∙ sym (between_alike f each t.range.low t.range.high small (λ z from to.
+      lower_limit x.enough total (length (numbers t.range) * each) small (e ∙ ap (λ (m : ℕ). min (each * m) (2 ^ 64 - 1)) count ∙ multiplied each (length (numbers t.range)))
+      ∙ sym (between_alike x.enough f each t.range.low t.range.high (λ z from to.
       let h : Holds t.range z = record { low = from; high = to } in
       one.is (in_turn s t z) (allows_more known more (turns_binding t) s z (int_le z t.start) is allows (turn_allowed t z h)) (fits z h)));
 }
@@ -117,39 +118,47 @@ alike x known more a t each n total small is one count e = record {
 -- so much is counted, and what is left from a turn on
 pub record IsTurnsSum (x : Counted) (known : List Binding) (a : Statement) (t : Turns) (low : ℤ) (total : ℕ) : Type 0 where
   pub is : (s : Symbols) → AllowsAll known s → ((z : ℤ) → Holds t.range z → Fits a (in_turn s t z))
-      → capped (total + sum_by (λ z. tally x a (in_turn s t z)) (between low t.range.high)) ≡ capped (sum_by (λ z. tally x a (in_turn s t z)) (numbers t.range))
+      → up_to x.enough (total + sum_by (λ z. tally x a (in_turn s t z)) (between low t.range.high)) ≡ up_to x.enough (sum_by (λ z. tally x a (in_turn s t z)) (numbers t.range))
 
 abbrev pub part : Turns → ℤ → ℤ → Turns
 part t low high = record { symbol = t.symbol; start = t.start; range = record { low = low; high = high } }
 
-added : (total more a b whole n : ℕ) → more ≡ capped a → n ≡ min (total + more) (2 ^ 64 - 1) → capped (total + (a + b)) ≡ capped whole → capped (n + b) ≡ capped whole
-added total more a b whole n e f h = omega arith
-
 pub turns_begun : (x : Counted) (known : List Binding) (a : Statement) (t : Turns) → IsTurnsSum x known a t t.range.low 0
-turns_begun x known a t = record { is = λ s allows fits. let f : ℤ → ℕ = λ z. tally x a (in_turn s t z) in let e : 0 + sum_by f (numbers t.range) ≡ sum_by f (numbers t.range) = omega arith in ap capped e }
+turns_begun x known a t = record {
+  is = λ s allows fits.
+      let f : ℤ → ℕ = λ z. tally x a (in_turn s t z) in
+      let e : 0 + sum_by f (numbers t.range) ≡ sum_by f (numbers t.range) = omega arith in
+      ap (up_to x.enough) e;
+}
 
 -- some turns more
-pub turns_more : (x : Counted) (known : List Binding) (a : Statement) (t : Turns) (low high : ℤ) (total more n : ℕ) → t.range.low ≤ℤ low → low ≤ℤ high → high ≤ℤ t.range.high →
+pub turns_more : (x : Counted) (known : List Binding) (a : Statement) (t : Turns) (low high : ℤ) (total more n : ℕ) → x.enough < 2 ^ 64 → t.range.low ≤ℤ low → low ≤ℤ high → high ≤ℤ t.range.high →
     IsTurnsSum x known a t low total → IsTurnsTally x known a (part t low high) more → n ≡ min (total + more) (2 ^ 64 - 1) → IsTurnsSum x known a t (high +ℤ pos 1) n
-turns_more x known a t low high total more n first from to sum one e = record {
+turns_more x known a t low high total more n small first from to sum one e = record {
   is = λ s allows fits.
       let f : ℤ → ℕ = λ z. tally x a (in_turn s t z) in
       let parts : sum_by f (between low t.range.high) ≡ sum_by f (between low high) + sum_by f (between (high +ℤ pos 1) t.range.high) =
       ap (sum_by f) (between_parts low high t.range.high from to) ∙ sum_by-append f (between low high) (between (high +ℤ pos 1) t.range.high) in
-      added total more (sum_by f (between low high)) (sum_by f (between (high +ℤ pos 1) t.range.high)) (sum_by f (numbers t.range)) n
+      added x.enough total more (sum_by f (between low high)) (sum_by f (between (high +ℤ pos 1) t.range.high)) (sum_by f (numbers t.range)) n small
       (one.is s allows (λ z h. fits z (record { low = omega (arith, ints, h.low); high = omega (arith, ints, h.high) })))
       e
-      (ap (λ (m : ℕ). capped (total + m)) (sym parts) ∙ sum.is s allows fits);
+      (ap (λ (m : ℕ). up_to x.enough (total + m)) (sym parts) ∙ sum.is s allows fits);
 }
 
 -- no turn is left
-pub turns_done : (x : Counted) (known : List Binding) (a : Statement) (t : Turns) (low : ℤ) (total : ℕ) → t.range.high <ℤ low → total < 2 ^ 64 → IsTurnsSum x known a t low total → IsTurnsTally x known a t total
-turns_done x known a t low total none small sum = record {
+pub turns_done : (x : Counted) (known : List Binding) (a : Statement) (t : Turns) (low : ℤ) (total : ℕ) → t.range.high <ℤ low → IsTurnsSum x known a t low total → IsTurnsTally x known a t total
+turns_done x known a t low total none sum = record {
   is = λ s allows fits.
       let f : ℤ → ℕ = λ z. tally x a (in_turn s t z) in
-      let e : sum_by f (between low t.range.high) ≡ 0 = ap (sum_by f) (between_none low t.range.high none) in
-      let h : capped (total + sum_by f (between low t.range.high)) ≡ capped (sum_by f (numbers t.range)) = sum.is s allows fits in
-      omega arith;
+      none_left x.enough total (sum_by f (between low t.range.high)) (sum_by f (numbers t.range)) (ap (sum_by f) (between_none low t.range.high none)) (sum.is s allows fits);
+}
+
+-- enough turns were counted
+pub turns_enough : (x : Counted) (known : List Binding) (a : Statement) (t : Turns) (low : ℤ) (total : ℕ) → x.enough ≤ total → IsTurnsSum x known a t low total → IsTurnsTally x known a t total
+turns_enough x known a t low total most sum = record {
+  is = λ s allows fits.
+      let f : ℤ → ℕ = λ z. tally x a (in_turn s t z) in
+      enough_is x.enough total (sum_by f (between low t.range.high)) (sum_by f (numbers t.range)) most (sum.is s allows fits);
 }
 
 -- ---- blocks
@@ -159,36 +168,49 @@ pub record Left (x : Counted) (here : List Binding) (rest : Statements) (total w
   pub s : Symbols
   pub allows : AllowsAll here s
   pub fits : BlockFits rest s
-  pub sum : capped (total + block_tally x rest s) ≡ capped whole
+  pub sum : up_to x.enough (total + block_tally x rest s) ≡ up_to x.enough whole
 
 pub record IsBlockSum (x : Counted) (known : List Binding) (all : Statements) (here : List Binding) (rest : Statements) (total : ℕ) : Type 0 where
   pub is : (s : Symbols) → AllowsAll known s → BlockFits all s → Left x here rest total (block_tally x all s)
 
 pub block_begun : (x : Counted) (known here : List Binding) (all : Statements) → here ≡ known → IsBlockSum x known all here all 0
-block_begun x known here all e = record { is = λ s allows fits. record { s = s; allows = subst (λ (l : List Binding). AllowsAll l s) (sym e) allows; fits = fits; sum = (let e : 0 + block_tally x all s ≡ block_tally x all s = omega arith in ap capped e) } }
+block_begun x known here all e = record {
+  is = λ s allows fits.
+      let none : 0 + block_tally x all s ≡ block_tally x all s = omega arith in
+      record { s = s; allows = subst (λ (l : List Binding). AllowsAll l s) (sym e) allows; fits = fits; sum = ap (up_to x.enough) none };
+}
 
-left_more : (x : Counted) (here next : List Binding) (a : Statement) (rest : Statements) (total more n whole : ℕ) → Left x here (Then a rest) total whole → IsTally x here a more → n ≡ min (total + more) (2 ^ 64 - 1)
+left_more : (x : Counted) (here next : List Binding) (a : Statement) (rest : Statements) (total more n whole : ℕ) → x.enough < 2 ^ 64 → Left x here (Then a rest) total whole →
+    IsTally x here a more → n ≡ min (total + more) (2 ^ 64 - 1)
     → ((s : Symbols) → AllowsAll here s → Fits a s → AllowsAll next (after a s)) → Left x next rest n whole
-left_more x here next a rest total more n whole l one e goes = record {
+left_more x here next a rest total more n whole small l one e goes = record {
   s = after a l.s;
   allows = goes l.s l.allows l.fits.0;
   fits = l.fits.1;
-  sum = added total more (tally x a l.s) (block_tally x rest (after a l.s)) whole n (one.is l.s l.allows l.fits.0) e l.sum;
+  sum = added x.enough total more (tally x a l.s) (block_tally x rest (after a l.s)) whole n small (one.is l.s l.allows l.fits.0) e l.sum;
 }
 
-pub block_more : (x : Counted) (known here next : List Binding) (all rest from : Statements) (a : Statement) (total more n : ℕ) → from ≡ Then a rest → IsBlockSum x known all here from total → IsTally x here a more
+pub block_more : (x : Counted) (known here next : List Binding) (all rest from : Statements) (a : Statement) (total more n : ℕ) → x.enough < 2 ^ 64 → from ≡ Then a rest →
+    IsBlockSum x known all here from total → IsTally x here a more
     → n ≡ min (total + more) (2 ^ 64 - 1) → ((s : Symbols) → AllowsAll here s → Fits a s → AllowsAll next (after a s)) → IsBlockSum x known all next rest n
-block_more x known here next all rest from a total more n is sum one e goes = record {
+block_more x known here next all rest from a total more n small is sum one e goes = record {
   is = λ s allows fits.
-      left_more x here next a rest total more n (block_tally x all s) (subst (λ (l : Statements). Left x here l total (block_tally x all s)) is (sum.is s allows fits)) one e goes;
+      left_more x here next a rest total more n (block_tally x all s) small (subst (λ (l : Statements). Left x here l total (block_tally x all s)) is (sum.is s allows fits)) one e goes;
 }
 
-pub block_done : (x : Counted) (known here : List Binding) (all rest : Statements) (total : ℕ) → rest ≡ Empty → total < 2 ^ 64 → IsBlockSum x known all here rest total → IsBlockTally x known all total
-block_done x known here all rest total none small sum = record {
+pub block_done : (x : Counted) (known here : List Binding) (all rest : Statements) (total : ℕ) → rest ≡ Empty → IsBlockSum x known all here rest total → IsBlockTally x known all total
+block_done x known here all rest total none sum = record {
   is = λ s allows fits.
       let l : Left x here Empty total (block_tally x all s) = subst (λ (r : Statements). Left x here r total (block_tally x all s)) none (sum.is s allows fits) in
-      let h : capped (total + 0) ≡ capped (block_tally x all s) = l.sum in
-      omega arith;
+      none_left x.enough total 0 (block_tally x all s) refl l.sum;
+}
+
+-- enough of the block was counted
+pub block_enough : (x : Counted) (known here : List Binding) (all rest : Statements) (total : ℕ) → x.enough ≤ total → IsBlockSum x known all here rest total → IsBlockTally x known all total
+block_enough x known here all rest total most sum = record {
+  is = λ s allows fits.
+      let l : Left x here rest total (block_tally x all s) = sum.is s allows fits in
+      enough_is x.enough total (block_tally x rest l.s) (block_tally x all s) most l.sum;
 }
 
 -- ---- what is known behind a `let`

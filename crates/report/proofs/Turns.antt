@@ -12,8 +12,8 @@ use Rattle.std.proofs.Math.Nat.{mul_comm}
 use Rattle.plan.specs.Symbols.{Symbols, rising, clipped, points, turns}
 use Rattle.interpreter.specs.Visits.{between}
 use Rattle.interpreter.proofs.Counting.{between_none}
-use Rattle.report.specs.Costs.{capped}
-use Rattle.report.proofs.Sums.{saturated, saturated_both}
+use Rattle.report.specs.Costs.{capped, up_to}
+use Rattle.report.proofs.Sums.{both_up_to, saturated, saturated_both}
 use lib.IntN.{nat_abs}
 
 pub length-rising : (n : ℕ) (low : ℤ) → length (rising low n) ≡ n
@@ -46,30 +46,26 @@ between_parts low m high h k =
     ∙ ap (λ (d : ℤ). rising low (clipped d) ++ rising (m +ℤ pos 1) b) (sym f)
     ∙ ap (λ (d : ℤ). between low m ++ rising (m +ℤ pos 1) (clipped d)) (sym g)
 
-both_capped : (a b c d : ℕ) → capped a ≡ capped c → capped b ≡ capped d → capped (a + b) ≡ capped (c + d)
-both_capped a b c d e f = omega arith
-
--- the sum of terms that come to the same
-rising_alike : (f : ℤ → ℕ) (each : ℕ) (n : ℕ) (low : ℤ) → each < 2 ^ 64 → ((z : ℤ) → low ≤ℤ z → z <ℤ (low +ℤ pos n) → each ≡ capped (f z)) → capped (sum_by f (rising low n)) ≡ capped (n * each)
-rising_alike f each zero low small h = let e : 0 * each ≡ 0 = omega arith in ap capped (sym e)
-rising_alike f each (suc n) low small h =
-    let here : each ≡ capped (f low) = h low (omega (arith, ints)) (omega (arith, ints)) in
-    let first : capped (f low) ≡ capped each = omega arith in
+-- the sum of terms that come to the same as far as a limit
+rising_alike : (m : ℕ) (f : ℤ → ℕ) (each : ℕ) (n : ℕ) (low : ℤ) → ((z : ℤ) → low ≤ℤ z → z <ℤ (low +ℤ pos n) → up_to m each ≡ up_to m (f z)) → up_to m (sum_by f (rising low n)) ≡ up_to m (n * each)
+rising_alike m f each zero low h = let e : 0 * each ≡ 0 = omega arith in ap (up_to m) (sym e)
+rising_alike m f each (suc n) low h =
     let e : suc n * each ≡ each + n * each = omega arith in
-    ap capped (sum_by-cons f low (rising (low +ℤ pos 1) n))
-    ∙ both_capped (f low) (sum_by f (rising (low +ℤ pos 1) n)) each (n * each) first
-    (rising_alike f each n (low +ℤ pos 1) small (λ z a b. h z (omega (arith, ints)) (omega (arith, ints))))
-    ∙ ap capped (sym e)
+    ap (up_to m) (sum_by-cons f low (rising (low +ℤ pos 1) n))
+    ∙ both_up_to m (f low) (sum_by f (rising (low +ℤ pos 1) n)) each (n * each) (sym (h low (omega (arith, ints)) (omega (arith, ints))))
+    (rising_alike m f each n (low +ℤ pos 1) (λ z a b. h z (omega (arith, ints)) (omega (arith, ints))))
+    ∙ ap (up_to m) (sym e)
 
 last : (low high z d : ℤ) → d ≡ (high +ℤ pos 1) -ℤ low → low ≤ℤ z → z <ℤ (low +ℤ pos (clipped d)) → z ≤ℤ high
 last low high z (pos k) e a b = omega (arith, ints)
 last low high z (negsuc k) e a b = omega (arith, ints)
 
-pub between_alike : (f : ℤ → ℕ) (each : ℕ) (low high : ℤ) → each < 2 ^ 64 → ((z : ℤ) → low ≤ℤ z → z ≤ℤ high → each ≡ capped (f z)) → capped (sum_by f (between low high)) ≡ capped (length (between low high) * each)
-between_alike f each low high small h =
+pub between_alike : (m : ℕ) (f : ℤ → ℕ) (each : ℕ) (low high : ℤ) → ((z : ℤ) → low ≤ℤ z → z ≤ℤ high → up_to m each ≡ up_to m (f z))
+    → up_to m (sum_by f (between low high)) ≡ up_to m (length (between low high) * each)
+between_alike m f each low high h =
     let n : ℕ = clipped ((high +ℤ pos 1) -ℤ low) in
-    rising_alike f each n low small (λ z a b. h z a (last low high z ((high +ℤ pos 1) -ℤ low) refl a b))
-    ∙ ap (λ (m : ℕ). capped (m * each)) (sym (length-rising n low))
+    rising_alike m f each n low (λ z a b. h z a (last low high z ((high +ℤ pos 1) -ℤ low) refl a b))
+    ∙ ap (λ (k : ℕ). up_to m (k * each)) (sym (length-rising n low))
 
 -- a count that stopped, times another
 pub multiplied : (each n : ℕ) → min (each * capped n) (2 ^ 64 - 1) ≡ capped (n * each)
@@ -83,7 +79,8 @@ lt_false (negsuc a) (pos b) e = absurd (cc)
 lt_false (negsuc a) (negsuc b) e = omega (arith, ints, ltb-false b a e)
 
 -- how many numbers lie between two
-pub gap_counted : (r : Range) (high low : ℤ) (d total : ℕ) → high ≡ r.high → low ≡ r.low → int_lt high low ≡ false → d ≡ nat_abs (high -ℤ low) → total ≡ min (d + 1) (2 ^ 64 - 1) → total ≡ capped (length (numbers r))
+pub gap_counted : (r : Range) (high low : ℤ) (d total : ℕ) → high ≡ r.high → low ≡ r.low → int_lt high low ≡ false → d ≡ nat_abs (high -ℤ low) → total ≡ min (d + 1) (2 ^ 64 - 1) →
+    total ≡ capped (length (numbers r))
 gap_counted r high low d total eh el le ed et =
     let h : low ≤ℤ high = lt_false high low le in
     let e : (r.high +ℤ pos 1) -ℤ r.low ≡ pos (d + 1) = omega (arith, ints) in

@@ -1,5 +1,5 @@
 -- What a plan costs, told for each stored function in the order of the algorithm.
-use Rattle.std.specs.Prelude.{ℕ, ◌-◌, ◌^◌, Bool, List, filter, map, min, sum_by}
+use Rattle.std.specs.Prelude.{ℕ, ◌-◌, ◌^◌, Bool, List, if◌then◌else◌, filter, map, min, sum_by}
 use Rattle.std.specs.List.{list_any}
 use Rattle.meaning.specs.Algorithm.{Algorithm}
 use Rattle.meaning.specs.Names.{same_name}
@@ -12,6 +12,10 @@ use Rattle.report.specs.Memory.{has_function, private_cells}
 -- a number, but the greatest of 64 bits where it is more
 abbrev pub capped : ℕ → ℕ
 capped n = min n (2 ^ 64 - 1)
+
+-- a number, but the limit where it is more
+abbrev pub up_to : ℕ → ℕ → ℕ
+up_to limit n = min n limit
 
 -- how many pieces the function's group has, none where it has no group
 abbrev pub pieces_of : Plan → List ℕ → ℕ
@@ -35,6 +39,10 @@ row p c f = record { name = f; stores = capped (stores p c f); private = capped 
 -- what the plan costs
 abbrev pub rows : Algorithm → Plan → Certificate → List Row
 rows a p c = map (row p c) (filter (is_stored p) (map (λ f. f.name) a.functions))
+
+-- how many stores a function adds to those of the others, none where it is not told
+abbrev pub row_stores : Plan → Certificate → List ℕ → ℕ
+row_stores p c f = if is_stored p f then capped (stores p c f) else 0
 
 -- how many stores the functions of these rows have together
 abbrev pub all_stores : List Row → ℕ

@@ -6,7 +6,7 @@ use Rattle.plan.specs.Symbols.{Symbols, bind, points}
 use Rattle.interpreter.specs.Narrow.{BlockIsNarrow, RegionIsNarrow, StatementIsNarrow}
 use Rattle.report.specs.declared.known.Binding.{Binding}
 use Rattle.report.specs.declared.counting.Turns.{Turns}
-use Rattle.report.specs.Costs.{capped}
+use Rattle.report.specs.Costs.{capped, up_to}
 use Rattle.report.specs.Known.{AllowsAll}
 use Rattle.report.specs.Ranges.{numbers, Holds}
 use Rattle.report.specs.Tally.{block_tally, tally, Counted}
@@ -22,18 +22,18 @@ Fits a s = StatementIsNarrow (λ _. Unit {0}) a s
 abbrev pub BlockFits : Statements → Symbols → Type 0
 BlockFits all s = BlockIsNarrow (λ _. Unit {0}) all s
 
--- the lines of the statement count so often, whatever of these values the symbols have
+-- the lines of the statement count so often, as far as is counted, whatever of these values the symbols have
 pub record IsTally (x : Counted) (known : List Binding) (a : Statement) (n : ℕ) : Type 0 where
-  pub is : (s : Symbols) → AllowsAll known s → Fits a s → n ≡ capped (tally x a s)
+  pub is : (s : Symbols) → AllowsAll known s → Fits a s → up_to x.enough n ≡ up_to x.enough (tally x a s)
 
 pub record IsBlockTally (x : Counted) (known : List Binding) (all : Statements) (n : ℕ) : Type 0 where
-  pub is : (s : Symbols) → AllowsAll known s → BlockFits all s → n ≡ capped (block_tally x all s)
+  pub is : (s : Symbols) → AllowsAll known s → BlockFits all s → up_to x.enough n ≡ up_to x.enough (block_tally x all s)
 
 -- the symbols in a turn of a loop
 abbrev pub in_turn : Symbols → Turns → ℤ → Symbols
 in_turn s turns z = bind s turns.symbol z (int_le z turns.start)
 
--- the lines of a loop's body count so often in these turns
+-- the lines of a loop's body count so often in these turns, as far as is counted
 pub record IsTurnsTally (x : Counted) (known : List Binding) (body : Statement) (turns : Turns) (n : ℕ) : Type 0 where
   pub is : (s : Symbols) → AllowsAll known s → ((z : ℤ) → Holds turns.range z → Fits body (in_turn s turns z))
-      → n ≡ capped (sum_by (λ z. tally x body (in_turn s turns z)) (numbers turns.range))
+      → up_to x.enough n ≡ up_to x.enough (sum_by (λ z. tally x body (in_turn s turns z)) (numbers turns.range))

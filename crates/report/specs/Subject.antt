@@ -6,6 +6,7 @@ use Rattle.plan.specs.View.{group_of, statement_of}
 use Rattle.report.specs.declared.subject.Deed.{Deed}
 use Rattle.report.specs.declared.subject.Deed.TheVariants.{Store, Fetch}
 use Rattle.report.specs.declared.subject.Subject.{Subject}
+use Rattle.report.specs.Costs.{capped}
 use Rattle.report.specs.Tally.{Counted}
 
 -- the function of a buffer that is allocated
@@ -20,9 +21,10 @@ abbrev pub is_fetch : Deed → Bool
 is_fetch Store = false
 is_fetch Fetch = true
 
--- which buffers and groups count
+-- which buffers and groups count, and how many are enough, at most the greatest number of 64 bits
 abbrev pub counted_of : Subject → Counted
 counted_of x = record {
   buffer = λ b. is_store x.deed && same_name (function_in (allocated (statement_of x.body.now) b)) x.function.now;
   group = λ g. is_fetch x.deed && same_name (group_name (slice_get (map group_of x.groups.now) g)) x.function.now;
+  enough = capped x.enough;
 }

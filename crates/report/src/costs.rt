@@ -8,7 +8,7 @@ ghost use Rattle.plan.specs.Lists.{list_groups};
 ghost use Rattle.plan.specs.View.{group_of, plan_of};
 ghost use Rattle.report.specs.Memory.{has_function, private_cells};
 ghost use Rattle.checked_plan.specs.View.{algorithm_checked, certificate_checked, plan_checked};
-ghost use Rattle.report.specs.Costs.{capped, row, rows};
+ghost use Rattle.report.specs.Costs.{capped, row, rows, up_to};
 ghost use Rattle.report.specs.Deeds.{deeds, deeds_in};
 ghost use Rattle.report.specs.Grid.{grid_bindings, point_binding, IsPieceTally};
 ghost use Rattle.report.specs.Subject.{counted_of};
@@ -92,7 +92,7 @@ fn known_at(alloc: Global, grid: &[u64], rank: u32) -> Result<Vec<Binding>, Allo
     Ok(known)
 }
 
-/// How often a group's piece stores or fetches.
+/// How often a group's piece stores or fetches, as far as is enough.
 fn count_at(
     alloc: Global,
     subject: &Subject<'_>,
@@ -109,16 +109,17 @@ fn count_at(
     }
 }
 
-/// How often a piece stores or fetches the function's cells.
+/// How often a piece stores or fetches the function's cells, as far as is enough.
 fn count_in_piece(
     alloc: Global,
     checked: &Checked<'_>,
     function: &str,
     deed: Deed,
     piece: u32,
+    enough: u64,
 ) -> Result<u64, AllocError>
     requires { piece < length (pieces (plan_checked checked.now)) }
-    ensures { IfOk result (λ n. n ≡ capped (deeds_in (plan_checked checked.now) (certificate_checked checked.now) deed function.now (slice_get (pieces (plan_checked checked.now)) piece))) }
+    ensures { IfOk result (λ n. up_to enough n ≡ up_to enough (deeds_in (plan_checked checked.now) (certificate_checked checked.now) deed function.now (slice_get (pieces (plan_checked checked.now)) piece))) }
 {
     pieces_are_numbered();
     pieces_are_narrow();
@@ -130,11 +131,33 @@ fn count_in_piece(
         function,
         groups: &plan.groups,
         body: &group.body,
+        enough,
     };
     count_at(alloc, &subject, group, place.rank)
 }
 
-/// How often all pieces do.
+/// How often all pieces do, as far as is enough: behind pieces that do it so often none is looked at.
+pub(crate) fn count_as_far(
+    alloc: Global,
+    checked: &Checked<'_>,
+    function: &str,
+    deed: Deed,
+    enough: u64,
+) -> Result<u64, AllocError>
+    ensures { IfOk result (λ n. up_to enough n ≡ up_to enough (deeds (plan_checked checked.now) (certificate_checked checked.now) deed function.now)) }
+{
+    let mut total: u64 = 0;
+    for piece in 0..checked.pieces() {
+        if enough <= total {
+            return Ok(total);
+        }
+        let more = count_in_piece(alloc, checked, function, deed, piece as u32, enough)?;
+        total = total.saturating_add(more);
+    }
+    Ok(total)
+}
+
+/// How often all pieces do. A number above the greatest `u64` is given as that.
 fn count_in_pieces(
     alloc: Global,
     checked: &Checked<'_>,
@@ -143,12 +166,8 @@ fn count_in_pieces(
 ) -> Result<u64, AllocError>
     ensures { IfOk result (λ n. n ≡ capped (deeds (plan_checked checked.now) (certificate_checked checked.now) deed function.now)) }
 {
-    let mut total: u64 = 0;
-    for piece in 0..checked.pieces() {
-        let more = count_in_piece(alloc, checked, function, deed, piece as u32)?;
-        total = total.saturating_add(more);
-    }
-    Ok(total)
+    let count = count_as_far(alloc, checked, function, deed, u64::MAX)?;
+    Ok(count)
 }
 
 /// The private cells of a function's buffers.
@@ -197,7 +216,7 @@ fn has_function(group: &Group, function: &str) -> bool
 
 /// Whether the plan has a group or a buffer of the function.
 #[tactic(auto, using(crate::proofs::Places::group_here, crate::proofs::Places::group_later))]
-fn is_stored(groups: &[Group], function: &str) -> bool
+pub(crate) fn is_stored(groups: &[Group], function: &str) -> bool
     ensures { result ≡ list_any (has_function function.now) (list_groups groups.now) }
 {
     for group in groups {

@@ -1,4 +1,4 @@
-//! How often the lines of a statement store or fetch a function's cells, counted by multiplying.
+//! How often the lines of a statement store or fetch a function's cells, counted by multiplying, as far as is enough.
 
 ghost use Rattle.std.specs.Prelude.{◌≡◌, ◌≤ℤ◌, ◌<ℤ◌, ◌+ℤ◌, pos, int_le, int_lt, if◌then◌else◌, IfOk, IfSome, Ok, None, OnOk};
 ghost use Rattle.plan.specs.Lists.{list_statements};
@@ -15,7 +15,7 @@ ghost use Rattle.report.specs.Subject.{counted_of};
 
 use crate::known::{Binding, bound, known_of};
 use crate::ranges::{Range, count_of, ends_of, largest, range_of, smallest};
-use crate::subject::Subject;
+use crate::subject::{Subject, counts};
 use lin::{Forms, Span1, Sym};
 use plan::{Pick, Stmt};
 use std::alloc::{AllocError, Global};
@@ -137,6 +137,29 @@ fn farther(reach: i64) -> i64
     reach.saturating_add(reach).saturating_add(1)
 }
 
+/// How often the lines of a statement count. Where none does, that is 0 whatever values the symbols may have.
+#[cycle(count)]
+fn count_line(
+    alloc: Global,
+    subject: &Subject<'_>,
+    stmt: &Stmt,
+    known: &[Binding],
+) -> Result<Option<u64>, AllocError>
+    ensures holds { IfOk result (λ o. IfSome o (IsTally (counted_of subject.now) known.now (statement_of stmt.now))) }
+    ensures some { AllSettled known.now → result ≡ Ok None → ⊥ }
+{
+    match count(alloc, subject, stmt, known)? {
+        Some(count) => Ok(Some(count)),
+        None => {
+            if counts(subject, stmt) {
+                Ok(None)
+            } else {
+                Ok(Some(0))
+            }
+        }
+    }
+}
+
 /// How often the lines of a loop's body count in these turns, where each is seen to count the same.
 #[cycle(count)]
 fn count_alike(
@@ -150,7 +173,7 @@ fn count_alike(
     ensures some { AllSettled known.now → turns.range.low ≡ turns.range.high → result ≡ Ok None → ⊥ }
 {
     let together = bound(alloc, known, binding_of(turns))?;
-    let Some(each) = count(alloc, subject, body, &together)? else {
+    let Some(each) = count_line(alloc, subject, body, &together)? else {
         return Ok(None);
     };
     Ok(Some(each.saturating_mul(count_of(turns.range))))
@@ -158,7 +181,7 @@ fn count_alike(
 
 /// How often the lines of a loop's body count in all of its turns, where it is the same for all values that the symbols may
 /// have. As many turns as are seen to count the same are counted at once: half as many are tried where they are not, and
-/// twice as many where they are.
+/// twice as many where they are. Behind turns that count enough none is tried.
 #[cycle(count)]
 fn count_turns(
     alloc: Global,
@@ -174,6 +197,9 @@ fn count_turns(
     let mut low = turns.range.low;
     let mut reach = i64::MAX;
     while low <= turns.range.high {
+        if subject.enough <= total {
+            return Ok(Some(total));
+        }
         let high = reached(low, reach, turns.range.high);
         match count_alike(alloc, subject, body, known, part_of(turns, low, high))? {
             Some(more) => {
@@ -195,7 +221,8 @@ fn count_turns(
     Ok(Some(total))
 }
 
-/// How often the lines of a block's statements count, where that is the same for all values that the symbols may have.
+/// How often the lines of a block's statements count, where that is the same for all values that the symbols may have. Behind
+/// lines that count enough none is looked at.
 #[cycle(count)]
 fn count_block(
     alloc: Global,
@@ -209,7 +236,10 @@ fn count_block(
     let mut here = Vec::from_slice(alloc, known)?;
     let mut total: u64 = 0;
     for stmt in all {
-        let Some(more) = count(alloc, subject, stmt, &here)? else {
+        if subject.enough <= total {
+            return Ok(Some(total));
+        }
+        let Some(more) = count_line(alloc, subject, stmt, &here)? else {
             return Ok(None);
         };
         total = total.saturating_add(more);

@@ -11,6 +11,8 @@ pub mod nests;
 mod ranges;
 mod subject;
 mod table;
+mod within;
 
 pub use costs::{Costs, FunctionCost, cost};
 pub use table::text;
+pub use within::stores_within;

@@ -1,4 +1,4 @@
-//! What is counted: the stores of a function, or the cells that are fetched of it.
+//! What is counted: the stores of a function, or the cells that are fetched of it; and whether a statement has any.
 
 ghost use Rattle.std.specs.Prelude.{◌≡◌, map, option_map, slice_get};
 ghost use Rattle.plan.specs.Lists.{list_statements};
@@ -6,6 +6,7 @@ ghost use Rattle.plan.specs.Plan.{block};
 ghost use Rattle.plan.specs.View.{group_of, statement_of};
 ghost use Rattle.plan.specs.Semantics.Setting.{allocated, block_allocated, function_in, group_name};
 ghost use Rattle.report.specs.Subject.{counted_of, named};
+ghost use Rattle.report.specs.Tally.{block_counts, some_counts};
 
 use plan::{Group, Stmt};
 
@@ -18,13 +19,14 @@ pub(crate) enum Deed {
     Fetch,
 }
 
-/// What is counted, of which function, in which group.
+/// What is counted, of which function, in which group, and how many are enough: counting may stop there.
 #[derive(Drop)]
 pub(crate) struct Subject<'a> {
     pub deed: Deed,
     pub function: &'a str,
     pub groups: &'a [Group],
     pub body: &'a Stmt,
+    pub enough: u64,
 }
 
 /// The function of the first line of a statement that allocates a buffer.
@@ -107,4 +109,34 @@ impl Subject<'_> {
             Deed::Fetch => group_name(self.groups, group) == self.function,
         }
     }
+}
+
+/// Whether some line of a statement counts.
+#[tactic(auto, using(crate::proofs::Nothing::counts_later))]
+#[cycle(counts)]
+pub(crate) fn counts(subject: &Subject<'_>, stmt: &Stmt) -> bool
+    ensures { result ≡ some_counts (counted_of subject.now) (statement_of stmt.now) }
+{
+    match stmt {
+        Stmt::Seq(all) => block_counts(subject, all),
+        Stmt::For { body, .. } | Stmt::Guard { body, .. } => counts(subject, body),
+        Stmt::First { first, later, .. } => counts(subject, first) || counts(subject, later),
+        Stmt::Fetch { group, .. } => subject.counts_group(*group),
+        Stmt::Store { buffer, .. } => subject.counts_buffer(*buffer),
+        Stmt::Let { .. } | Stmt::Alloc { .. } | Stmt::Publish { .. } => false,
+    }
+}
+
+/// The same of a block's statements.
+#[tactic(auto, using(crate::proofs::Nothing::counts_later))]
+#[cycle(counts)]
+fn block_counts(subject: &Subject<'_>, all: &[Stmt]) -> bool
+    ensures { result ≡ block_counts (counted_of subject.now) (block (list_statements all.now)) }
+{
+    for stmt in all {
+        if counts(subject, stmt) {
+            return true;
+        }
+    }
+    false
 }

@@ -12,7 +12,6 @@ abbrev pub invariant-count_turns-loop-low : goal.invariant-count_turns-loop-low
 invariant-count_turns-loop-low l = record {
   low : l.turns.range.low ≤ℤ l.low;
   reach : pos 0 ≤ℤ l.reach;
-  small : l.total < 2 ^ 64;
   total : IsTurnsSum (counted_of l.subject) l.known (statement_of l.body) l.turns l.low l.total;
 }
 
@@ -21,7 +20,6 @@ decreases-count_turns-loop-low l = nat_abs ((l.turns.range.high +ℤ pos 1) -ℤ
 
 abbrev pub invariant-count_block-loop-stmt : goal.invariant-count_block-loop-stmt
 invariant-count_block-loop-stmt l = record {
-  small : l.total < 2 ^ 64;
   total : IsBlockSum (counted_of l.subject) l.known (block (list_statements l.all)) l.here.items (from l.all l.stmt-index) l.total;
   settled : AllSettled l.known → AllSettled l.here.items;
 }
