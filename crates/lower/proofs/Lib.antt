@@ -3,11 +3,15 @@ pub mod Calling
 pub mod Entries
 pub mod First
 pub mod Inputs
+pub mod Laying
+pub mod Made
 pub mod Named
 pub mod Places
 pub mod Puts
+pub mod Rooted
 pub mod Rounds
 pub mod Sizes
 pub mod Stops
 pub mod Told
+pub mod Wholes
 pub mod Within

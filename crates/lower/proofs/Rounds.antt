@@ -19,7 +19,7 @@ module _ (a : Algorithm) (g : StoredText) (fs : List FormulaText) (n : ℕ) (rea
   with_region k wide o = o >>= λ region. laid_wider k wide region (same_region l.region region)
 
   abbrev with_reach : ℕ → Option (List (Option Ends)) → Option LaidText
-  with_reach k o = o >>= λ wide. with_region k wide (region_of wide)
+  with_reach k o = o >>= λ wide. with_region k wide (region_of g.subject.is_root wide)
 
   next : (k : ℕ) → n ≡ k + 1 → closed a g fs n reach l ≡ with_reach k asked
   next k e = rw (e, add-one) refl
@@ -31,21 +31,21 @@ module _ (a : Algorithm) (g : StoredText) (fs : List FormulaText) (n : ℕ) (rea
   not_called k e h = next k e ∙ ap (with_reach k) h
 
   pub not_bounded : (k : ℕ) (wide : List (Option Ends)) → n ≡ k + 1 → add_all_own a g (head_scope l.skeleton) 0 fs l.skeleton.nests reach ≡ Some wide
-      → region_of wide ≡ None → closed a g fs n reach l ≡ None
+      → region_of g.subject.is_root wide ≡ None → closed a g fs n reach l ≡ None
   not_bounded k wide e h f = next k e ∙ ap (with_reach k) h ∙ ap (with_region k wide) f
 
-  with_found : (k : ℕ) (wide : List (Option Ends)) (region : List Extent) (is : Bool) → n ≡ k + 1 → asked ≡ Some wide → region_of wide ≡ Some region → same_region l.region region ≡ is
+  with_found : (k : ℕ) (wide : List (Option Ends)) (region : List Extent) (is : Bool) → n ≡ k + 1 → asked ≡ Some wide → region_of g.subject.is_root wide ≡ Some region → same_region l.region region ≡ is
       → closed a g fs n reach l ≡ laid_wider k wide region is
   with_found k wide region is e h f s = next k e ∙ ap (with_reach k) h ∙ ap (with_region k wide) f ∙ ap (laid_wider k wide region) s
 
   pub same : (k : ℕ) (wide : List (Option Ends)) (region : List Extent) → n ≡ k + 1 → add_all_own a g (head_scope l.skeleton) 0 fs l.skeleton.nests reach ≡ Some wide
-      → region_of wide ≡ Some region → same_region l.region region ≡ true → closed a g fs n reach l ≡ Some l
+      → region_of g.subject.is_root wide ≡ Some region → same_region l.region region ≡ true → closed a g fs n reach l ≡ Some l
   same k wide region e h f s = with_found k wide region true e h f s
 
   pub not_laid : (k : ℕ) (wide : List (Option Ends)) (region : List Extent) → n ≡ k + 1 → add_all_own a g (head_scope l.skeleton) 0 fs l.skeleton.nests reach ≡ Some wide
-      → region_of wide ≡ Some region → same_region l.region region ≡ false → over g fs region ≡ None → closed a g fs n reach l ≡ None
+      → region_of g.subject.is_root wide ≡ Some region → same_region l.region region ≡ false → over g fs region ≡ None → closed a g fs n reach l ≡ None
   not_laid k wide region e h f s o = with_found k wide region false e h f s ∙ ap (λ p. p >>= closed a g fs k wide) o
 
   pub wider : (k : ℕ) (wide : List (Option Ends)) (region : List Extent) (m : LaidText) → n ≡ k + 1 → add_all_own a g (head_scope l.skeleton) 0 fs l.skeleton.nests reach ≡ Some wide
-      → region_of wide ≡ Some region → same_region l.region region ≡ false → over g fs region ≡ Some m → closed a g fs n reach l ≡ closed a g fs k wide m
+      → region_of g.subject.is_root wide ≡ Some region → same_region l.region region ≡ false → over g fs region ≡ Some m → closed a g fs n reach l ≡ closed a g fs k wide m
   wider k wide region m e h f s o = with_found k wide region false e h f s ∙ ap (λ p. p >>= closed a g fs k wide) o

@@ -1,6 +1,7 @@
 -- What the refusal of a placement, or its plan, says of an algorithm and a schedule.
 use Rattle.std.proofs.Common.{◌≡◌, ℕ, true, false, List, length, take, Option, Some, None, Result, Ok, Err, subst, refl, inl, inr}
 use Rattle.std.specs.Prelude.{IfOk, IfErr}
+use Rattle.std.proofs.lemmas.Result.{IfOk-weaker}
 use Rattle.meaning.specs.Algorithm.{Algorithm}
 use Rattle.sched.specs.Schedule.{Schedule}
 use Rattle.sched.specs.Legal.{IsFault, IsFollowed, IsLegal}
@@ -15,9 +16,11 @@ use Rattle.lower.specs.Stored.{StoredText, has_large, stored_functions}
 use Rattle.lower.specs.Large.{IsTold, IsToldOf}
 use Rattle.lower.specs.Regions.{LaidText, laid_functions}
 use Rattle.lower.specs.Faults.{are_whole, no_totals, IsFirstOf}
+use Rattle.lower.specs.Groups.{AreGroupsMade, HasGroups, IsPlanOf}
 use Rattle.lower.specs.Refused.{Answers, AreSmall, AreRegionsKept, KeepsRegions, IsRefused, IsUnplanned, IsPlaced}
 use Rattle.lower.proofs.Sizes.{none_is_large}
 use Rattle.lower.proofs.First.{first_of, none_of}
+use Rattle.lower.proofs.Made.{groups_made}
 
 -- ---- the stored functions
 
@@ -45,22 +48,24 @@ placed_told a gs o (error.Broken rule.TooMuch x) h = absurd h
 placed_told a gs o (error.Broken rule.Unbounded x) h = absurd h
 
 answers_unplanned : (a : Algorithm) (gs : List StoredText) (o : Option (Rule × List ℕ)) (r : Result Lowered LowerError)
-    → o ≡ None → has_large gs ≡ false → KeepsRegions a gs → IfErr r IsUnplanned → Answers a gs o r
-answers_unplanned a gs o (Ok l) e h k is = (e, h, k)
-answers_unplanned a gs o (Err error.Memory) e h k is = tt
-answers_unplanned a gs o (Err (error.Schedule s)) e h k is = absurd is
-answers_unplanned a gs o (Err (error.Broken rule.OutsideUse x)) e h k is = absurd is
-answers_unplanned a gs o (Err (error.Broken rule.TooLarge x)) e h k is = absurd is
-answers_unplanned a gs o (Err (error.Broken rule.ShortShift x)) e h k is = absurd is
-answers_unplanned a gs o (Err (error.Broken rule.SmallFold x)) e h k is = absurd is
-answers_unplanned a gs o (Err (error.Broken rule.TooMuch x)) e h k is = absurd is
-answers_unplanned a gs o (Err (error.Broken rule.Unbounded x)) e h k is = (inr h, λ w. inr (refl, k w))
+    → o ≡ None → has_large gs ≡ false → KeepsRegions a gs → IfOk r (HasGroups a gs) → IfErr r IsUnplanned → Answers a gs o r
+answers_unplanned a gs o (Ok l) e h k made is = (e, h, k, made)
+answers_unplanned a gs o (Err error.Memory) e h k made is = tt
+answers_unplanned a gs o (Err (error.Schedule s)) e h k made is = absurd is
+answers_unplanned a gs o (Err (error.Broken rule.OutsideUse x)) e h k made is = absurd is
+answers_unplanned a gs o (Err (error.Broken rule.TooLarge x)) e h k made is = absurd is
+answers_unplanned a gs o (Err (error.Broken rule.ShortShift x)) e h k made is = absurd is
+answers_unplanned a gs o (Err (error.Broken rule.SmallFold x)) e h k made is = absurd is
+answers_unplanned a gs o (Err (error.Broken rule.TooMuch x)) e h k made is = absurd is
+answers_unplanned a gs o (Err (error.Broken rule.Unbounded x)) e h k made is = (inr h, λ w. inr (refl, k w))
 
 -- none of them does, and no plan, or one, is made
 pub unplanned_told : (a : Algorithm) (gs : List StoredText) (o : Option (Rule × List ℕ)) (ls : List (Option LaidText)) (n : ℕ) (r : Result Lowered LowerError)
     → o ≡ None → n ≡ length gs → has_large (take n gs) ≡ false → IsFirstOf a (has_large gs) no_totals n gs ls None → (are_whole gs ≡ true → ls ≡ laid_functions a gs)
-    → IfErr r IsUnplanned → Answers a gs o r
-unplanned_told a gs o ls n r e c h f laid is = answers_unplanned a gs o r e (none_is_large gs n c h) (none_of a gs ls n f laid c) is
+    → IfOk r (IsPlanOf gs ls) → IfErr r IsUnplanned → Answers a gs o r
+unplanned_told a gs o ls n r e c h f laid made is =
+    answers_unplanned a gs o r e (none_is_large gs n c h) (none_of a gs ls n f laid c)
+    (IfOk-weaker r (IsPlanOf gs ls) (HasGroups a gs) (λ l p. groups_made a gs ls l p laid) made) is
 
 -- ---- the algorithm and its schedule
 
@@ -73,13 +78,14 @@ pub record Told (a : Algorithm) (s : Schedule) (r : Result Lowered LowerError) :
   pub legal : IfOk r (λ l. IsLegal a s)
   pub small : IfOk r (λ l. AreSmall a s)
   pub regions : IfOk r (λ l. AreRegionsKept a s)
+  pub groups : IfOk r (AreGroupsMade a s)
   pub refused : IfErr r (IsRefused a s)
 
 err_told : (a : Algorithm) (s : Schedule) (e : LowerError) → IsRefused a s e → Told a s (Err e)
-err_told a s e is = record { legal = tt; small = tt; regions = tt; refused = is }
+err_told a s e is = record { legal = tt; small = tt; regions = tt; groups = tt; refused = is }
 
 answers_told : (a : Algorithm) (s : Schedule) (o : Option (Rule × List ℕ)) → IsFault a s o → (r : Result Lowered LowerError) → Answers a (stored_functions a s) o r → Told a s r
-answers_told a s o h (Ok l) is = record { legal = subst (IsFault a s) is.0 h; small = is.1; regions = is.2; refused = tt }
+answers_told a s o h (Ok l) is = record { legal = subst (IsFault a s) is.0 h; small = is.1; regions = is.2; groups = is.3; refused = tt }
 answers_told a s o h (Err error.Memory) is = err_told a s error.Memory tt
 answers_told a s o h (Err (error.Schedule (refusal.Broken r x))) is = err_told a s (error.Schedule (refusal.Broken r x)) (inr (subst (IsFault a s) is h))
 answers_told a s o h (Err (error.Schedule refusal.Memory)) is = absurd is

@@ -16,18 +16,18 @@ i32_bounds z h =
 
 pub low_fits : (e : Ends) → are_within e ≡ true → (negsuc 2147483647 ≤ℤ e.low) × (e.low ≤ℤ pos 2147483647)
 low_fits e h =
-    let b = both (is_i32 e.low && is_i32 e.high) (int_le e.low e.high && int_le (e.high -ℤ e.low) (pos 8191)) h in
+    let b = both (is_i32 e.low && is_i32 e.high) (int_le e.low e.high && int_le (e.high -ℤ e.low) (pos 2147483647)) h in
     i32_bounds e.low (both (is_i32 e.low) (is_i32 e.high) b.0).0
 
 pub high_fits : (e : Ends) → are_within e ≡ true → (negsuc 2147483647 ≤ℤ e.high) × (e.high ≤ℤ pos 2147483647)
 high_fits e h =
-    let b = both (is_i32 e.low && is_i32 e.high) (int_le e.low e.high && int_le (e.high -ℤ e.low) (pos 8191)) h in
+    let b = both (is_i32 e.low && is_i32 e.high) (int_le e.low e.high && int_le (e.high -ℤ e.low) (pos 2147483647)) h in
     i32_bounds e.high (both (is_i32 e.low) (is_i32 e.high) b.0).1
 
-pub distance_fits : (e : Ends) → are_within e ≡ true → (pos 0 ≤ℤ (e.high -ℤ e.low)) × ((e.high -ℤ e.low) ≤ℤ pos 8191)
+pub distance_fits : (e : Ends) → are_within e ≡ true → (pos 0 ≤ℤ (e.high -ℤ e.low)) × ((e.high -ℤ e.low) ≤ℤ pos 2147483647)
 distance_fits e h =
-    let b = both (is_i32 e.low && is_i32 e.high) (int_le e.low e.high && int_le (e.high -ℤ e.low) (pos 8191)) h in
-    let c = both (int_le e.low e.high) (int_le (e.high -ℤ e.low) (pos 8191)) b.1 in
+    let b = both (is_i32 e.low && is_i32 e.high) (int_le e.low e.high && int_le (e.high -ℤ e.low) (pos 2147483647)) h in
+    let c = both (int_le e.low e.high) (int_le (e.high -ℤ e.low) (pos 2147483647)) b.1 in
     (omega (arith, ints, c.0), omega (arith, ints, c.1))
 
 pub counted : (z : ℤ) (n : ℕ) → z ≡ pos n → count_of (z +ℤ pos 1) ≡ n + 1

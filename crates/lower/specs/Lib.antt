@@ -1,8 +1,10 @@
 pub mod Around
+pub mod Bodies
 pub mod Bounded
 pub mod Called
 pub mod Calls
 pub mod Faults
+pub mod Groups
 pub mod Large
 pub mod Limited
 pub mod Refused

@@ -16,6 +16,7 @@ use Rattle.lower.specs.declared.error.RegionRule.TheVariants as rule
 use Rattle.lower.specs.Stored.{StoredText, has_large, stored_functions}
 use Rattle.lower.specs.Large.{IsToldOf}
 use Rattle.lower.specs.Faults.{are_whole, region_fault}
+use Rattle.lower.specs.Groups.{HasGroups}
 use Rattle.sched.specs.Legal as sched
 use Rattle.sched.specs.declared.skeleton.SkeletonError.{SkeletonError}
 use Rattle.sched.specs.declared.skeleton.SkeletonError.TheVariants as skeleton
@@ -54,9 +55,9 @@ abbrev pub IsThat : Option (Rule × List ℕ) → SchedError → Type 0
 IsThat o (refusal.Broken r x) = o ≡ Some (r, x)
 IsThat o e = ⊥
 
--- a plan comes only where no such rule is broken, no definition passes the limits, and no rule is broken by a region
+-- a plan comes only where no such rule is broken, no definition passes the limits, and no rule is broken by a region; it has the groups
 abbrev pub Answers : Algorithm → List StoredText → Option (Rule × List ℕ) → Result Lowered LowerError → Type 0
-Answers a gs o (Ok l) = (o ≡ None) × (has_large gs ≡ false) × KeepsRegions a gs
+Answers a gs o (Ok l) = (o ≡ None) × (has_large gs ≡ false) × KeepsRegions a gs × HasGroups a gs l
 Answers a gs o (Err error.Memory) = Unit {0}
 Answers a gs o (Err (error.Schedule e)) = IsThat o e
 Answers a gs o (Err (error.Broken r x)) = IsToldOf gs r x × IsFirst a gs r x

@@ -1,6 +1,6 @@
 -- The region that is needed of a stored function: the hull of what the definitions of the others call of it, of the output its extents
 -- too, and of what its own updates set and call.
-use Rattle.std.specs.Prelude.{ℕ, zero, suc, ◌+◌, ◌-◌, ◌==◌, ℤ, pos, negsuc, ◌+ℤ◌, ◌-ℤ◌, int_le, Bool, true, false, ◌&&◌, if◌then◌else◌, List, [], ◌∷◌, length, drop, replicate, nat_lt, get_or, slice_set, Option, Some, None}
+use Rattle.std.specs.Prelude.{ℕ, zero, suc, ◌+◌, ◌-◌, ◌==◌, ℤ, pos, negsuc, ◌+ℤ◌, ◌-ℤ◌, int_le, Bool, true, false, ◌&&◌, if◌then◌else◌, List, [], ◌∷◌, length, drop, replicate, nat_lt, nat_le, get_or, slice_set, Option, Some, None}
 use Rattle.std.specs.Ordering.{int_eq}
 use Rattle.tree.specs.Term.{Term, Terms, End, More}
 use Rattle.lin.specs.Forms.{Form}
@@ -136,20 +136,24 @@ count_of (negsuc n) = 0
 abbrev pub is_i32 : ℤ → Bool
 is_i32 z = int_le (negsuc 2147483647) z && int_le z (pos 2147483647)
 
--- the ends are i32, with 1 to 8192 numbers from the one to the other
+-- the ends are i32, in their order and no farther apart than any may be
 abbrev pub are_within : Ends → Bool
-are_within e = (is_i32 e.low && is_i32 e.high) && (int_le e.low e.high && int_le (e.high -ℤ e.low) (pos 8191))
+are_within e = (is_i32 e.low && is_i32 e.high) && (int_le e.low e.high && int_le (e.high -ℤ e.low) (pos 2147483647))
 
 abbrev pub extent_between : Ends → Option Extent
 extent_between e = if are_within e then Some (record { low = e.low; count = count_of (e.high -ℤ e.low +ℤ pos 1) }) else None
 
-abbrev pub extent_of : Option Ends → Option Extent
-extent_of None = None
-extent_of (Some e) = extent_between e
+-- a root function has 1 to 8192 numbers in a dimension; what is told here of a function that is computed inside a loop is what all turns need together, of which each
+-- alone is held to that limit
+abbrev pub may_have : Bool → ℕ → Bool
+may_have is_root n = if is_root then nat_le n 8192 else true
 
-abbrev pub region_of : List (Option Ends) → Option (List Extent)
-region_of [] = Some []
-region_of (o ∷ os) = extent_of o >>= λ x. region_of os >>= λ xs. Some (x ∷ xs)
+abbrev pub extent_of : Bool → Option Ends → Option Extent
+extent_of is_root o = o >>= extent_between >>= λ x. if may_have is_root x.count then Some x else None
+
+abbrev pub region_of : Bool → List (Option Ends) → Option (List Extent)
+region_of is_root [] = Some []
+region_of is_root (o ∷ os) = extent_of is_root o >>= λ x. region_of is_root os >>= λ xs. Some (x ∷ xs)
 
 -- ---- the loops over a region
 
@@ -202,11 +206,11 @@ module _ (a : Algorithm) (g : StoredText) (fs : List FormulaText) where
   abbrev pub closed : ℕ → List (Option Ends) → LaidText → Option LaidText
   closed zero reach l = Some l
   closed (suc k) reach l =
-      add_all_own a g (head_scope l.skeleton) 0 fs l.skeleton.nests reach >>= λ wider. region_of wider >>= λ region.
+      add_all_own a g (head_scope l.skeleton) 0 fs l.skeleton.nests reach >>= λ wider. region_of g.subject.is_root wider >>= λ region.
       if same_region l.region region then Some l else over g fs region >>= closed k wider
 
   abbrev pub laid_over : List (Option Ends) → Option LaidText
-  laid_over reach = region_of reach >>= over g fs >>= closed 4 reach
+  laid_over reach = region_of g.subject.is_root reach >>= over g fs >>= closed 4 reach
 
 -- ---- what the others need
 

@@ -1,32 +1,41 @@
 //! The group of a root function: what its pieces do, and what a certificate says of them.
 
+ghost use Rattle.std.specs.Prelude.{◌≡◌, [], IfOk, map};
+ghost use Rattle.lin.specs.Regions.{IsInside};
+ghost use Rattle.plan.specs.Lists.{list_statements};
+ghost use Rattle.plan.specs.View.{statement_of};
+ghost use Rattle.sched.specs.Skeleton.{nest_seen, skeleton_seen};
+ghost use Rattle.lower.specs.Around.{grid_scope as grid_scope_of};
+ghost use Rattle.lower.specs.Bounded.{whole as whole_of};
+ghost use Rattle.lower.specs.Stored.{stored_of};
+ghost use Rattle.lower.specs.Bodies.{AreNests, IsBody, body};
+ghost use Rattle.lower.specs.Groups.{IsBodyOf, IsOver, IsOwnOver, grid_over as counts_over, root_of};
+
 use crate::blocks::{Dimension, dimensions};
 use crate::error::Stop;
 use crate::fetching::{Fetched, Root, fetch_of};
-use crate::forms::whole;
 use crate::inner::{Host, Inner, Spot, later_at, nests_at, root_at};
+use crate::legality::add_whole;
 use crate::loading::{Load, loaded};
 use crate::outline::{Line, statements_of};
 use crate::regions::symbols_from;
 use crate::renaming::{renamed, renamed_places, renamed_region, renamed_span, renamed_step};
-use crate::scopes::variables_of;
+use crate::scopes::{grid_scope, variables_of};
 use crate::sliding::{Later, fold_of, name_of};
+use crate::whole::{Fetch, block_of, body_with, fetch_lines, line_count, nest_of};
 use algo::Algo;
 use lin::{Lin, Region, Sym};
-use plan::certificate::{Claim, Need, Own, Window};
+use plan::certificate::{Cert, Claim, Need, Own, Window};
 use plan::{Coordinate, Group, Index, Places, Stmt};
-use sched::{Nest, Step};
+use sched::{Nest, Step, loop_numbers, piece_counts};
 use std::alloc::{AllocError, Global};
 use tree::Expr;
 
-/// A group, and what a certificate says of it.
+/// A group, and what its pieces own.
 #[derive(Drop)]
 pub(crate) struct Made {
     pub group: Group,
     pub own: Own,
-    pub needs: Vec<Need>,
-    pub claims: Vec<Claim>,
-    pub windows: Vec<Window>,
     /// The line behind the group's last one.
     pub line: u64,
 }
@@ -34,7 +43,10 @@ pub(crate) struct Made {
 /// What a piece does so far, and the claims of it.
 #[derive(Drop)]
 struct Body<'a> {
+    /// The lines of its nests, where functions are computed inside them.
     lines: Vec<Line>,
+    /// What it does, once that is known.
+    statements: Vec<Stmt>,
     /// The line of the next statement.
     line: u64,
     needs: Vec<Need>,
@@ -85,6 +97,9 @@ enum Task {
     /// So many loads stay.
     Forget(usize),
 }
+
+/// How many lines a buffer and what is fetched into it make.
+const FETCH_LINES: u64 = 2;
 
 /// The most lines and claims of a piece, and places at which something may stand.
 const MOST_TASKS: u64 = 1 << 24;
@@ -261,14 +276,6 @@ fn store_line(
 
 // ---- regions
 
-fn own_region(alloc: Global, dimensions: &[Dimension]) -> Result<Region, AllocError> {
-    let mut region = Region::new(alloc);
-    for one in dimensions {
-        region.push(one.own.copy(alloc)?)?;
-    }
-    Ok(region)
-}
-
 fn claim_region(alloc: Global, dimensions: &[Dimension]) -> Result<Region, AllocError> {
     let mut region = Region::new(alloc);
     for one in dimensions {
@@ -277,11 +284,11 @@ fn claim_region(alloc: Global, dimensions: &[Dimension]) -> Result<Region, Alloc
     Ok(region)
 }
 
-fn group_region(alloc: Global, root: &Root<'_>) -> Result<Region, AllocError> {
+fn group_region(alloc: Global, root: &Root<'_>) -> Result<Region, AllocError>
+    ensures { IfOk result (λ region. region ≡ map whole_of root.now.laid.now.region.items) }
+{
     let mut region = Region::new(alloc);
-    for extent in &root.laid.region {
-        region.push(whole(alloc, extent)?)?;
-    }
+    add_whole(alloc, &root.laid.region, &mut region)?;
     Ok(region)
 }
 
@@ -293,15 +300,7 @@ fn places_of(alloc: Global, dimensions: Vec<Dimension>) -> Result<Vec<Places>, A
     Ok(places)
 }
 
-// ---- the body
-
-// The lets over the grid.
-fn push_head(alloc: Global, body: &mut Body<'_>, map: &[Sym], head: &[Step]) -> Result<(), Stop> {
-    for step in head {
-        body.push_line(step_line(renamed_step(alloc, map, step)?))?;
-    }
-    Ok(())
-}
+// ---- fetches
 
 // How many definitions the function has behind the pure one: the number of the last.
 fn last_definition(root: &Root<'_>) -> u64 {
@@ -309,39 +308,40 @@ fn last_definition(root: &Root<'_>) -> u64 {
 }
 
 // Fetches what the piece needs of another function.
-fn push_fetch<'a>(
+fn fetch_into<'a>(
     alloc: Global,
     body: &mut Body<'a>,
     callee: &Root<'a>,
     number: usize,
     group: usize,
     found: Fetched,
-) -> Result<(), AllocError> {
+) -> Result<Fetch<'a>, AllocError> {
     let name = callee.stored.subject.name.as_str();
     let buffer = body.next_buffer;
     body.next_buffer = buffer.saturating_add(1);
-    let region = found.region.copy(alloc)?;
-    body.push(alloc_line(alloc, buffer, name, found.places)?)?;
-    body.push(Stmt::Fetch {
-        buffer,
-        group: group as u64,
-        region: found.region,
-    })?;
+    body.line = body.line.saturating_add(FETCH_LINES);
     body.needs.push(Need {
         group: number as u64,
         needed: group as u64,
         region: found.needed,
     })?;
+    let region = found.region.copy(alloc)?;
     let claim = body.claim(alloc, buffer, name, last_definition(callee), region)?;
     body.loads.push(Load {
         function: name,
         claim,
     })?;
-    Ok(())
+    Ok(Fetch {
+        buffer,
+        function: name,
+        places: found.places,
+        group: group as u64,
+        region: found.region,
+    })
 }
 
 // What the piece fetches of each other function, in the order of declaration.
-fn push_fetches<'a>(
+fn fetches_of<'a>(
     alloc: Global,
     algo: &Algo,
     body: &mut Body<'a>,
@@ -349,15 +349,16 @@ fn push_fetches<'a>(
     user: &Root<'a>,
     inners: &[Inner<'a>],
     number: usize,
-) -> Result<(), Stop> {
+) -> Result<Vec<Fetch<'a>>, Stop> {
+    let mut fetches = Vec::new(alloc);
     for (group, callee) in roots.iter().enumerate() {
         if group != number {
             if let Some(found) = fetch_of(alloc, algo, user, inners, callee)? {
-                push_fetch(alloc, body, callee, number, group, found)?;
+                fetches.push(fetch_into(alloc, body, callee, number, group, found)?)?;
             }
         }
     }
-    Ok(())
+    Ok(fetches)
 }
 
 // ---- nests
@@ -566,6 +567,22 @@ impl<'a> Body<'a> {
         Ok(map)
     }
 
+    // Names the beginnings of blocks, and plans the nests of the function of this number, which makes all in each turn.
+    fn plan_all(
+        &mut self,
+        alloc: Global,
+        cast: Cast<'_, 'a>,
+        number: usize,
+        map: Vec<Sym>,
+    ) -> Result<(), Stop> {
+        let Some(inner) = cast.inners.get(number) else {
+            return Err(Stop::Limit);
+        };
+        let named = self.name_all(alloc, map, &inner.lets)?;
+        self.plan_nests(alloc, Host::Inner(number), inner.nests.len(), &named)?;
+        Ok(())
+    }
+
     // Plans the nest of a host behind so many lets; its loads go behind it.
     fn plan_arm(&mut self, host: Host, depth: usize, map: Vec<Sym>) -> Result<(), AllocError> {
         self.agenda.push(Task::Forget(self.loads.len()))?;
@@ -668,10 +685,7 @@ impl<'a> Body<'a> {
             Task::Alloc(number, map) => self.alloc_inner(alloc, cast, number, &map),
             Task::Inner(number, map) => match later_at(cast.inners, number) {
                 Some(later) => self.plan_slide(alloc, cast, number, later, map),
-                None => {
-                    let count = nests_at(cast.root, cast.inners, Host::Inner(number)).len();
-                    Ok(self.plan_nests(alloc, Host::Inner(number), count, &map)?)
-                }
+                None => self.plan_all(alloc, cast, number, map),
             },
             Task::Window(number, map) => self.hold(alloc, cast, number, &map),
             Task::Claim(host, definition, map) => {
@@ -682,6 +696,87 @@ impl<'a> Body<'a> {
                 Ok(())
             }
         }
+    }
+
+    // The claim of a definition of the group's own function behind its nest, in whose loops nothing is computed.
+    fn claim_whole(
+        &mut self,
+        alloc: Global,
+        cast: Cast<'_, 'a>,
+        definition: usize,
+        nest: &Nest,
+    ) -> Result<(), AllocError> {
+        let count = line_count(&nest.steps).saturating_add(1);
+        self.line = self.line.saturating_add(count);
+        let region = cast.claimed.copy(alloc)?;
+        let function = cast.root.stored.subject.name.as_str();
+        let claim = self.claim(alloc, 0, function, definition as u64, region)?;
+        self.loads.push(Load { function, claim })?;
+        Ok(())
+    }
+
+    // The nests of the definitions from this number on, in whose loops nothing is computed, each with its claim.
+    #[tactic(auto, using(crate::proofs::Wholes::nests_made))]
+    fn whole_nests(
+        &mut self,
+        alloc: Global,
+        cast: Cast<'_, 'a>,
+        definition: usize,
+        nests: &[Nest],
+    ) -> Result<Vec<Stmt>, Stop>
+        ensures { IfOk result (λ v. AreNests (stored_of cast.entry.root.now.stored.now) definition (map nest_seen nests.now) (list_statements v.items)) }
+    {
+        match nests {
+            [] => Ok(Vec::new(alloc)),
+            [nest, rest @ ..] => {
+                let Some(next) = definition.checked_add(1) else {
+                    return Err(Stop::Memory);
+                };
+                let mut first = nest_of(alloc, cast.root, definition, nest, &self.loads)?;
+                self.claim_whole(alloc, cast, definition, nest)?;
+                let mut others = self.whole_nests(alloc, cast, next, rest)?;
+                first.append(&mut others)?;
+                Ok(first)
+            }
+        }
+    }
+
+    // Those in which others are computed, and what is computed before them.
+    fn mixed_nests(&mut self, alloc: Global, cast: Cast<'_, 'a>) -> Result<Vec<Stmt>, Stop> {
+        let map = over_grid(alloc, cast.root)?;
+        plan_inners(alloc, cast, OVER_GRID, &map, &mut self.agenda)?;
+        self.work(alloc, cast)?;
+        self.plan_nests(alloc, Host::Own, cast.root.formulas.len(), &map)?;
+        self.work(alloc, cast)?;
+        let mut lines = Vec::new(alloc);
+        lines.append(&mut self.lines)?;
+        statements_of(alloc, lines)
+    }
+
+    // The nests of a group, with their claims.
+    fn nests_of(&mut self, alloc: Global, cast: Cast<'_, 'a>) -> Result<Vec<Stmt>, Stop>
+        ensures { IfOk result (λ v. cast.entry.inners.now ≡ [] → AreNests (stored_of cast.entry.root.now.stored.now) 0
+            (map nest_seen cast.entry.root.now.laid.now.skeleton.nests.items) (list_statements v.items)) }
+    {
+        match cast.inners {
+            [] => self.whole_nests(alloc, cast, 0, &cast.root.laid.skeleton.nests),
+            [_first, _rest @ ..] => self.mixed_nests(alloc, cast),
+        }
+    }
+
+    // What the certificate says of it is added.
+    fn certify(&mut self, certificate: &mut Cert) -> Result<(), AllocError> {
+        certificate.needs.append(&mut self.needs)?;
+        certificate.claims.append(&mut self.claims)?;
+        certificate.windows.append(&mut self.windows)?;
+        Ok(())
+    }
+
+    // This is what the piece does.
+    fn finish(&mut self, statements: Vec<Stmt>)
+        ensures { self.new.statements ≡ statements }
+    {
+        self.statements = statements;
     }
 
     // Does all that is to do.
@@ -696,37 +791,77 @@ impl<'a> Body<'a> {
     }
 }
 
+// Before the nests of a root function, with so many functions inside: behind the lets over the grid and its buffer.
 fn begun<'a>(
     alloc: Global,
     beginning: Beginning,
-    symbols: usize,
+    root: &Root<'_>,
     inners: usize,
 ) -> Result<Body<'a>, AllocError> {
     let mut buffers = Vec::new(alloc);
     for _inner in 0..inners {
         buffers.push(0)?;
     }
+    let skeleton = &root.laid.skeleton;
+    let lets = skeleton.head.len();
     Ok(Body {
         lines: Vec::new(alloc),
-        line: beginning.line.saturating_add(1),
+        statements: Vec::new(alloc),
+        line: beginning.line.saturating_add(lets as u64).saturating_add(2),
         needs: Vec::new(alloc),
         claims: Vec::new(alloc),
         windows: Vec::new(alloc),
         loads: Vec::new(alloc),
         next_claim: beginning.claim,
         next_buffer: 1,
-        next_symbol: symbols,
+        next_symbol: skeleton.grid.len().saturating_add(lets),
         buffers,
         agenda: Vec::new(alloc),
     })
 }
 
-fn grid_of(alloc: Global, counts: &[u32]) -> Result<Vec<u64>, AllocError> {
+fn grid_of(alloc: Global, counts: &[u32]) -> Result<Vec<u64>, AllocError>
+    ensures { IfOk result (λ grid. grid.items ≡ counts.now) }
+{
     let mut grid = Vec::new(alloc);
     for count in counts {
         grid.push(u64::from(*count))?;
     }
     Ok(grid)
+}
+
+// How many turns each parallel loop of a root function has over its region.
+fn grid_over(alloc: Global, root: &Root<'_>) -> Result<Vec<u32>, AllocError>
+    ensures { IfOk result (λ grid. grid.items ≡ counts_over (stored_of root.now.stored.now) root.now.laid.now.region.items) }
+{
+    let variables = &root.stored.subject.variables;
+    let placed = root.stored.placed;
+    let numbers = loop_numbers(alloc, variables, &placed.cuts, &root.laid.region)?;
+    piece_counts(alloc, &numbers, &placed.loops)
+}
+
+fn owned_by(alloc: Global, dimensions: &[Dimension]) -> Result<Region, AllocError> {
+    let mut region = Region::new(alloc);
+    for one in dimensions {
+        region.push(one.own.copy(alloc)?)?;
+    }
+    Ok(region)
+}
+
+// What a piece owns, where forms show it to lie in the region.
+fn own_region(alloc: Global, root: &Root<'_>, dimensions: &[Dimension]) -> Result<Region, Stop>
+    ensures { IfOk result (λ own. IsInside (grid_scope_of (counts_over (stored_of root.now.stored.now) root.now.laid.now.region.items)) own
+        (map whole_of root.now.laid.now.region.items)) }
+{
+    let own = owned_by(alloc, dimensions)?;
+    let region = group_region(alloc, root)?;
+    let counts = grid_over(alloc, root)?;
+    let scope = grid_scope(alloc, &counts)?;
+    if scope.inside(alloc, &own, &region)? {
+        Ok(own)
+    } else {
+        Err(Stop::Limit)
+    }
 }
 
 // The symbols that stand over the grid, each for itself.
@@ -739,7 +874,8 @@ fn over_grid(alloc: Global, root: &Root<'_>) -> Result<Vec<Sym>, AllocError> {
     )
 }
 
-// What a piece of the group does.
+// What a piece of the group does; what the certificate says of it is added.
+#[tactic(auto, using(crate::proofs::Wholes::whole_made))]
 fn body_of<'a>(
     alloc: Global,
     algo: &Algo,
@@ -748,37 +884,50 @@ fn body_of<'a>(
     inners: &[Inner<'a>],
     dimensions: Vec<Dimension>,
     beginning: Beginning,
-) -> Result<Body<'a>, Stop> {
+    certificate: &mut Cert,
+) -> Result<Body<'a>, Stop>
+    ensures { IfOk result (λ v. inners.now ≡ [] → IsBody (stored_of root.now.stored.now) (skeleton_seen root.now.laid.now.skeleton)
+        (body (list_statements v.statements.items))) }
+{
     let claimed = claim_region(alloc, &dimensions)?;
-    let map = over_grid(alloc, root)?;
-    let mut body = begun(alloc, beginning, map.len(), inners.len())?;
-    push_head(alloc, &mut body, &map, &root.laid.skeleton.head)?;
-    let places = places_of(alloc, dimensions)?;
-    body.push(alloc_line(alloc, 0, root.stored.subject.name.as_str(), places)?)?;
-    push_fetches(
-        alloc,
-        algo,
-        &mut body,
-        roots,
-        root,
-        inners,
-        beginning.number,
-    )?;
+    let mut body = begun(alloc, beginning, root, inners.len())?;
+    let number = beginning.number;
+    let fetches = fetches_of(alloc, algo, &mut body, roots, root, inners, number)?;
+    let fetches = fetch_lines(alloc, fetches)?;
     let cast = Cast {
         root,
         inners,
         claimed: &claimed,
     };
-    plan_inners(alloc, cast, OVER_GRID, &map, &mut body.agenda)?;
-    body.work(alloc, cast)?;
-    body.plan_nests(alloc, Host::Own, root.formulas.len(), &map)?;
-    body.work(alloc, cast)?;
+    let nests = body.nests_of(alloc, cast)?;
     let claim = body.next_claim.saturating_sub(1);
-    body.push(Stmt::Publish { claim })?;
+    let places = places_of(alloc, dimensions)?;
+    let statements = body_with(alloc, root, places, fetches, nests, claim)?;
+    body.certify(certificate)?;
+    body.finish(statements);
     Ok(body)
 }
 
-/// The group of a root function, with those that are computed inside its loops.
+// The group of a root function, whose pieces do this.
+fn group_with(alloc: Global, root: &Root<'_>, statements: Vec<Stmt>) -> Result<Group, AllocError>
+    ensures over { IfOk result (IsOver (root_of root.now)) }
+    ensures does { IfOk result (λ group. statement_of group.body ≡ body (list_statements statements.items)) }
+{
+    let function = String::from_str(alloc, root.stored.subject.name.as_str())?;
+    let region = group_region(alloc, root)?;
+    let counts = grid_over(alloc, root)?;
+    let grid = grid_of(alloc, &counts)?;
+    Ok(Group {
+        function,
+        region,
+        grid,
+        body: block_of(statements),
+    })
+}
+
+/// The group of a root function, with those that are computed inside its loops. What needs, claims and windows a certificate has of
+/// it is added.
+#[tactic(auto, using(crate::proofs::Wholes::done))]
 pub(crate) fn group_of<'a>(
     alloc: Global,
     algo: &Algo,
@@ -786,27 +935,30 @@ pub(crate) fn group_of<'a>(
     root: &Root<'a>,
     inners: &[Inner<'a>],
     beginning: Beginning,
-) -> Result<Made, Stop> {
+    certificate: &mut Cert,
+) -> Result<Made, Stop>
+    ensures over { IfOk result (λ made. IsOver (root_of root.now) made.group) }
+    ensures own { IfOk result (λ made. IsOwnOver (root_of root.now) beginning.number made.own) }
+    ensures does { IfOk result (λ made. inners.now ≡ [] → IsBodyOf (root_of root.now) made.group) }
+{
     let dimensions = dimensions(alloc, root.stored, root.laid)?;
-    let own = own_region(alloc, &dimensions)?;
-    let region = group_region(alloc, root)?;
-    let function = String::from_str(alloc, root.stored.subject.name.as_str())?;
-    let grid = grid_of(alloc, &root.laid.skeleton.grid)?;
-    let body = body_of(alloc, algo, roots, root, inners, dimensions, beginning)?;
+    let own = own_region(alloc, root, &dimensions)?;
+    let body = body_of(
+        alloc,
+        algo,
+        roots,
+        root,
+        inners,
+        dimensions,
+        beginning,
+        certificate,
+    )?;
     Ok(Made {
-        group: Group {
-            function,
-            region,
-            grid,
-            body: Stmt::Seq(statements_of(alloc, body.lines)?),
-        },
+        group: group_with(alloc, root, body.statements)?,
         own: Own {
             group: beginning.number as u64,
             region: own,
         },
-        needs: body.needs,
-        claims: body.claims,
-        windows: body.windows,
-        line: body.line,
+        line: body.line.saturating_add(1),
     })
 }

@@ -3,24 +3,30 @@
 use crate::definitions::Formula;
 use crate::error::Stop;
 use crate::fetching::{
-    Root, Site, add_inner_sites, add_sites, count_from, freed, needed_span, places_of, run_of,
+    Root, Site, add_inner_sites, add_sites, count_from, freed, needed_span, places_of, shortest,
 };
-use crate::forms::whole;
+use crate::forms::{is_inside, whole};
+use crate::guarded::{Over, told_nests};
 use crate::reasons::Standstill;
+use crate::reasons::reach::whole_region;
 use crate::reasons::readings::{Reading, add_readings};
 use crate::regions::symbols_from;
+use crate::rounded::{Lain, claim_of, is_rounded, lain_over};
 use crate::scopes::{bind_steps, head_scope};
 use crate::sliding::{
     Later, Sliding, fold_of, folded, folds_fit, held_region, later_of, sliding_dimension,
     standstill, track_of,
 };
-use crate::turns::{has_further, nests_over, rounding, told_span};
+use crate::turns::Needed;
 use algo::Algo;
-use lin::{Forms, Lin, Region, Scope, Span1};
+use lin::{Forms, Lin, Region, Scope, Span1, Sym};
 use plan::Places;
 use sched::{Home, Loop, Mark, Nest, Step};
 use std::alloc::{AllocError, Global};
 use tree::token::Name;
+
+/// The most numbers that a function has in a dimension.
+const MOST_NUMBERS: i64 = 8192;
 
 /// Whose nests: those of the group's own function, of one that is computed inside by its number, or of that one over what is
 /// new where it slides.
@@ -59,18 +65,22 @@ pub(crate) struct Inner<'a> {
     pub home: Spot,
     /// Where its buffer stands.
     pub store: Spot,
-    /// What stands around it.
+    /// What stands around its nests, their lets last.
     pub scope: Scope,
     /// What is needed of it there; where it slides, what it holds in each turn.
     pub region: Region,
     /// Of what its claims speak: of what updates set past the end too.
     pub claimed: Region,
+    /// The lets before all nests, for the beginnings of blocks of which the claims speak.
+    pub lets: Vec<Step>,
     pub nests: Vec<Nest>,
     pub places: Vec<Places>,
     /// The turns after the first one, where these make what is new alone.
     pub later: Option<Later>,
     /// Whether each of its folds is of the dimension in which it slides, with places for its window.
     pub fits: bool,
+    /// Whether one turn needs no more numbers of a dimension than a function may have, nor do all for which its buffer stands.
+    pub is_small: bool,
 }
 
 // ---- places
@@ -266,6 +276,106 @@ pub(crate) fn sites_at(
     Ok(sites)
 }
 
+// Over what the nests of a function among those computed inside go, or of the group's own.
+fn region_over(
+    alloc: Global,
+    group: &Root<'_>,
+    inners: &[Inner<'_>],
+    host: Host,
+) -> Result<Region, AllocError> {
+    match host {
+        Host::Own => whole_region(alloc, group.laid),
+        Host::Inner(number) => match inners.get(number) {
+            Some(inner) => inner.region.copy(alloc),
+            None => Ok(Region::new(alloc)),
+        },
+        Host::Later(number) => match later_at(inners, number) {
+            Some(later) => later.region.copy(alloc),
+            None => Ok(Region::new(alloc)),
+        },
+    }
+}
+
+// Adds the calls of a function in nests as guarded splits tell them.
+fn add_told_sites(
+    alloc: Global,
+    algo: &Algo,
+    user: &Root<'_>,
+    over: Over<'_>,
+    from: Sym,
+    only: Option<usize>,
+    callee: &str,
+    sites: &mut Vec<Site>,
+) -> Result<(), Stop> {
+    let nests = told_nests(alloc, user, over, from)?;
+    add_sites(alloc, algo, user, over.scope, &nests, only, callee, sites)
+}
+
+// The same of a function that is computed inside loops.
+fn add_told_inner(
+    alloc: Global,
+    algo: &Algo,
+    inner: &Inner<'_>,
+    from: Sym,
+    callee: &str,
+    sites: &mut Vec<Site>,
+) -> Result<(), Stop> {
+    let over = Over {
+        scope: &inner.scope,
+        nests: &inner.nests,
+        region: &inner.region,
+    };
+    add_told_sites(alloc, algo, &inner.root, over, from, None, callee, sites)?;
+    match &inner.later {
+        Some(later) if is_rounded(&inner.root, later.dimension) => {
+            let over = Over {
+                scope: &later.scope,
+                nests: &later.nests,
+                region: &later.region,
+            };
+            add_told_sites(alloc, algo, &inner.root, over, from, None, callee, sites)
+        }
+        _ => Ok(()),
+    }
+}
+
+// The calls of a function at the place and inside of it, as guarded splits tell them; the symbols inside begin with `from`.
+fn told_sites_at(
+    alloc: Global,
+    algo: &Algo,
+    group: &Root<'_>,
+    inners: &[Inner<'_>],
+    spot: Spot,
+    from: Sym,
+    callee: &str,
+) -> Result<Vec<Site>, Stop> {
+    let mut sites = Vec::new(alloc);
+    let host = root_at(group, inners, spot.host);
+    let scope = scope_over(alloc, group, inners, spot.host)?;
+    let region = region_over(alloc, group, inners, spot.host)?;
+    let over = Over {
+        scope: &scope,
+        nests: nests_at(group, inners, spot.host),
+        region: &region,
+    };
+    add_told_sites(
+        alloc,
+        algo,
+        &host,
+        over,
+        from,
+        spot.definition,
+        callee,
+        &mut sites,
+    )?;
+    for (number, inner) in inners.iter().enumerate() {
+        if is_inside_spot(inners, number, spot) {
+            add_told_inner(alloc, algo, inner, from, callee, &mut sites)?;
+        }
+    }
+    Ok(sites)
+}
+
 fn is_scattered(root: &Root<'_>, dimension: usize) -> bool {
     root.stored
         .subject
@@ -293,6 +403,99 @@ pub(crate) fn region_at(
     Ok(region)
 }
 
+// Whether what is needed of a function is shown to lie in its region.
+fn is_within(
+    alloc: Global,
+    scope: &Scope,
+    region: &Region,
+    whole: &Region,
+) -> Result<bool, AllocError> {
+    for (span, all) in region.as_slice().iter().zip(whole.as_slice().iter()) {
+        if !is_inside(alloc, scope, span, all)? {
+            return Ok(false);
+        }
+    }
+    Ok(true)
+}
+
+// A span, or another one where that alone is shown to lie in what there is.
+fn better_span(
+    alloc: Global,
+    scope: &Scope,
+    span: &Span1,
+    told: Option<&Span1>,
+    whole: Option<&Span1>,
+) -> Result<Span1, AllocError> {
+    let (Some(told), Some(whole)) = (told, whole) else {
+        return span.copy(alloc);
+    };
+    if !is_inside(alloc, scope, span, whole)? && is_inside(alloc, scope, told, whole)? {
+        told.copy(alloc)
+    } else {
+        span.copy(alloc)
+    }
+}
+
+// The region, with the spans of another one where these alone are shown to lie in what there is.
+fn chosen(
+    alloc: Global,
+    scope: &Scope,
+    region: &Region,
+    told: &Region,
+    whole: &Region,
+) -> Result<Region, AllocError> {
+    let mut made = Region::new(alloc);
+    for (dimension, span) in region.as_slice().iter().enumerate() {
+        let other = told.as_slice().get(dimension);
+        let all = whole.as_slice().get(dimension);
+        made.push(better_span(alloc, scope, span, other, all)?)?;
+    }
+    Ok(made)
+}
+
+// What is needed of a function at a place. Where that is not shown to lie in the function's region, it is asked what guarded
+// splits say of their numbers too.
+fn needed_at(
+    alloc: Global,
+    algo: &Algo,
+    group: &Root<'_>,
+    inners: &[Inner<'_>],
+    root: &Root<'_>,
+    spot: Spot,
+    scope: &Scope,
+    sites: &[Site],
+) -> Result<Region, Stop> {
+    let whole = whole_region(alloc, root.laid)?;
+    let needed = region_at(alloc, root, scope, sites);
+    match &needed {
+        Ok(region) if is_within(alloc, scope, region, &whole)? => return needed,
+        Ok(_) | Err(Stop::Limit) => {}
+        Err(Stop::Memory) => return Err(Stop::Memory),
+    }
+    let name = root.stored.subject.name;
+    let told = told_sites_at(alloc, algo, group, inners, spot, scope.len(), name.as_str())?;
+    let told = match region_at(alloc, root, scope, &told) {
+        Ok(told) => told,
+        Err(Stop::Limit) => return needed,
+        Err(Stop::Memory) => return Err(Stop::Memory),
+    };
+    match needed {
+        Ok(region) => Ok(chosen(alloc, scope, &region, &told, &whole)?),
+        Err(_) => Ok(told),
+    }
+}
+
+// Whether a region has no more numbers in a dimension than a function may have.
+fn is_small(alloc: Global, scope: &Scope, region: &Region) -> Result<bool, AllocError> {
+    for span in region.as_slice() {
+        match shortest(alloc, scope, span)? {
+            Some((_, count)) if count <= MOST_NUMBERS => {}
+            _ => return Ok(false),
+        }
+    }
+    Ok(true)
+}
+
 // ---- storage
 
 /// What a function stores in all turns.
@@ -303,9 +506,9 @@ struct Arms<'b> {
     later: Option<&'b Later>,
 }
 
-// How many places there are from a form on, at least so many, up to the last number that the nests store; none where bounds do
-// not tell it.
-fn stored_from(
+/// How many places there are from a form on, at least so many, up to the last number that the nests store; none where bounds do
+/// not tell it.
+pub(crate) fn stored_from(
     alloc: Global,
     scope: &Scope,
     nests: &[Nest],
@@ -348,28 +551,119 @@ fn seats_from(
     }
 }
 
-// The places of a dimension: from the lower form on that asks for the fewest.
+// How many places there are from a form on up to what a call needs of a dimension; none where the form is not shown to be at most
+// that, or bounds do not tell it.
+fn called_from(
+    alloc: Global,
+    scope: &Scope,
+    span: &Span1,
+    origin: &Lin,
+) -> Result<Option<i64>, AllocError> {
+    for low in span.lower.as_slice() {
+        match scope.sup_of_difference(alloc, origin, low)? {
+            Some(most) if most <= 0 => {
+                return count_from(alloc, scope, origin, span.upper.as_slice());
+            }
+            _ => {}
+        }
+    }
+    Ok(None)
+}
+
+// The same of all calls at a site, at least so many.
+fn site_from(
+    alloc: Global,
+    site: &Site,
+    dimension: usize,
+    origin: &Lin,
+    least: i64,
+) -> Result<Option<i64>, AllocError> {
+    let mut count = least;
+    for call in &site.calls {
+        if let Some(span) = call.as_slice().get(dimension) {
+            match called_from(alloc, &site.scope, span, origin)? {
+                Some(most) => count = count.max(most),
+                None => return Ok(None),
+            }
+        }
+    }
+    Ok(Some(count))
+}
+
+// The same of all sites.
+fn sites_from(
+    alloc: Global,
+    sites: &[Site],
+    dimension: usize,
+    origin: &Lin,
+    least: i64,
+) -> Result<Option<i64>, AllocError> {
+    let mut count = least;
+    for site in sites {
+        match site_from(alloc, site, dimension, origin, count)? {
+            Some(most) => count = most,
+            None => return Ok(None),
+        }
+    }
+    Ok(Some(count))
+}
+
+// The places of a dimension: from the lower form on that asks for the fewest and is shown to hold what these sites call, where
+// there is one.
 fn places_over(
     alloc: Global,
     outer: &Scope,
     arms: Arms<'_>,
+    sites: &[Site],
     dimension: usize,
     span: &Span1,
-) -> Result<Places, Stop> {
+) -> Result<Option<Places>, Stop> {
     let mut best: Option<Places> = None;
     let mut least = i64::MAX;
     for origin in span.lower.as_slice() {
-        if let Some(count) = seats_from(alloc, outer, arms, dimension, origin, &span.upper)? {
-            if count < least {
-                least = count;
-                best = Some(places_of(alloc, origin, count)?);
+        if let Some(held) = seats_from(alloc, outer, arms, dimension, origin, &span.upper)? {
+            if let Some(count) = sites_from(alloc, sites, dimension, origin, held)? {
+                if count < least {
+                    least = count;
+                    best = Some(places_of(alloc, origin, count)?);
+                }
             }
         }
     }
-    match best {
+    Ok(best)
+}
+
+// The places of a dimension, shown to hold what is called where bounds tell such places.
+fn places_for(
+    alloc: Global,
+    outer: &Scope,
+    arms: Arms<'_>,
+    sites: &[Site],
+    dimension: usize,
+    span: &Span1,
+) -> Result<Places, Stop> {
+    if let Some(places) = places_over(alloc, outer, arms, sites, dimension, span)? {
+        return Ok(places);
+    }
+    match places_over(alloc, outer, arms, &[], dimension, span)? {
         Some(places) => Ok(places),
         None => Err(Stop::Limit),
     }
+}
+
+// What is needed of a function in all turns inside of where its buffer stands.
+fn kept_region(
+    alloc: Global,
+    outer: &Scope,
+    scope: &Scope,
+    region: &Region,
+) -> Result<Region, Stop> {
+    let inside = symbols_from(alloc, outer.len(), scope.len())?;
+    let mut kept = Region::new(alloc);
+    for span in region.as_slice() {
+        kept.push(freed(alloc, scope, &inside, span)?)?;
+    }
+    Ok(kept)
 }
 
 // The places of a region where its buffer stands.
@@ -377,82 +671,14 @@ fn storage_of(
     alloc: Global,
     outer: &Scope,
     arms: Arms<'_>,
-    region: &Region,
+    sites: &[Site],
+    kept: &Region,
 ) -> Result<Vec<Places>, Stop> {
-    let inside = symbols_from(alloc, outer.len(), arms.scope.len())?;
     let mut places = Vec::new(alloc);
-    for (dimension, span) in region.as_slice().iter().enumerate() {
-        let kept = freed(alloc, arms.scope, &inside, span)?;
-        places.push(places_over(alloc, outer, arms, dimension, &kept)?)?;
+    for (dimension, span) in kept.as_slice().iter().enumerate() {
+        places.push(places_for(alloc, outer, arms, sites, dimension, span)?)?;
     }
     Ok(places)
-}
-
-// ---- claims
-
-// The factor by which the dimension's loop is split with `roundup`, where it is.
-fn rounding_of(root: &Root<'_>, dimension: usize) -> Option<u32> {
-    let variable = root.stored.subject.variables.get(dimension)?;
-    rounding(&root.stored.placed.cuts, variable)
-}
-
-/// Whether the dimension's loop is split with `roundup`.
-pub(crate) fn is_rounded(root: &Root<'_>, dimension: usize) -> bool {
-    rounding_of(root, dimension).is_some()
-}
-
-// From the first number of a span to the last that the nests store in blocks of so many numbers, where that is the same in each
-// turn.
-fn rounded(
-    alloc: Global,
-    scope: &Scope,
-    nests: &[Nest],
-    dimension: usize,
-    factor: u32,
-    span: &Span1,
-) -> Result<Option<Span1>, Stop> {
-    let span = told_span(alloc, scope, span)?;
-    let [low] = span.lower.as_slice() else {
-        return Ok(None);
-    };
-    let Some(most) = count_from(alloc, scope, low, span.upper.as_slice())? else {
-        return Ok(None);
-    };
-    let Some(count) = stored_from(alloc, scope, nests, dimension, low, most)? else {
-        return Ok(None);
-    };
-    let begun = count.saturating_sub(i64::from(factor));
-    let is_same = has_further(alloc, scope, &span, begun)?
-        || has_further(alloc, scope, &span, most.saturating_sub(1))?;
-    if is_same {
-        Ok(Some(run_of(alloc, low, count)?))
-    } else {
-        Ok(None)
-    }
-}
-
-// Of what the claims of a function speak: what is needed, and where blocks run past the end what its updates set there.
-fn claim_of(
-    alloc: Global,
-    root: &Root<'_>,
-    scope: &Scope,
-    region: &Region,
-    nests: &[Nest],
-) -> Result<Region, Stop> {
-    let mut claimed = Region::new(alloc);
-    for (dimension, span) in region.as_slice().iter().enumerate() {
-        let wide = match rounding_of(root, dimension) {
-            Some(factor) if nests.len() > 1 => {
-                rounded(alloc, scope, nests, dimension, factor, span)?
-            }
-            _ => None,
-        };
-        claimed.push(match wide {
-            Some(span) => span,
-            None => span.copy(alloc)?,
-        })?;
-    }
-    Ok(claimed)
 }
 
 // ---- functions
@@ -513,14 +739,17 @@ fn turns_of(
     alloc: Global,
     functions: &[Root<'_>],
     root: &Root<'_>,
+    outer: &Scope,
     scope: &Scope,
     region: &Region,
     sliding: &Option<Sliding>,
 ) -> Result<(Region, Option<Later>), Stop> {
     if let Some(sliding) = sliding {
-        if sliding.is_bare() || are_unfolded(functions) {
+        let may_slide = sliding.is_bare() || are_unfolded(functions);
+        if may_slide && sliding.is_repeated(alloc, scope)? {
             if let Some(held) = held_region(alloc, root, scope, region, sliding)? {
-                let later = later_of(alloc, root, scope, &held, sliding)?;
+                let kept = kept_region(alloc, outer, scope, &held)?;
+                let later = later_of(alloc, root, scope, &held, &kept, sliding)?;
                 return Ok((held, later));
             }
         }
@@ -544,12 +773,22 @@ fn inner_at<'a>(
         return Ok(None);
     }
     let scope = scope_at(alloc, group, inners, home)?;
-    let needed = region_at(alloc, root, &scope, &sites)?;
+    let needed = needed_at(alloc, algo, group, inners, root, home, &scope, &sites)?;
     let store = store_spot(group, inners, root, home);
     let outer = scope_at(alloc, group, inners, store)?;
     let sliding = sliding_of(alloc, group, inners, root, (home, store), &needed)?;
-    let (region, later) = turns_of(alloc, functions, root, &scope, &needed, &sliding)?;
-    let nests = nests_over(alloc, root, &scope, &region)?;
+    let (region, later) = turns_of(alloc, functions, root, &outer, &scope, &needed, &sliding)?;
+    let kept = kept_region(alloc, &outer, &scope, &region)?;
+    let need = Needed {
+        scope: &scope,
+        region: &region,
+        kept: &kept,
+    };
+    let Lain {
+        scope,
+        begun,
+        nests,
+    } = lain_over(alloc, algo, root, need)?;
     let along = sliding.map(|one| one.dimension);
     let fits = folds_fit(alloc, root, &scope, &needed, along)?;
     let arms = Arms {
@@ -557,19 +796,23 @@ fn inner_at<'a>(
         nests: &nests,
         later: later.as_ref(),
     };
-    let places = storage_of(alloc, &outer, arms, &region)?;
+    let is_small = is_small(alloc, &scope, &needed)? && is_small(alloc, &outer, &kept)?;
+    let seats = kept_region(alloc, &outer, &scope, &begun.region)?;
+    let places = storage_of(alloc, &outer, arms, &sites, &seats)?;
     let places = folded(alloc, places, along, fold_of(root))?;
     Ok(Some(Inner {
         root: *root,
         home,
         store,
-        claimed: claim_of(alloc, root, &scope, &region, &nests)?,
+        claimed: claim_of(alloc, root, &scope, &region, &begun, &nests)?,
         scope,
         region,
+        lets: begun.lets,
         nests,
         places,
         later,
         fits,
+        is_small,
     }))
 }
 

@@ -1,6 +1,6 @@
 //! From an algorithm and a schedule to a plan and its certificate.
 
-ghost use Rattle.std.specs.Prelude.{◌≡◌, IfOk, IfErr, Some, None, true, length, map};
+ghost use Rattle.std.specs.Prelude.{◌≡◌, [], ◌∷◌, IfOk, IfErr, Some, None, true, false, length, map};
 ghost use Rattle.std.specs.Option.{option_map};
 ghost use Rattle.algo.specs.View.{algorithm_of};
 ghost use Rattle.sched.specs.View.{schedule_of};
@@ -10,6 +10,7 @@ ghost use Rattle.lower.specs.declared.error.LowerError.TheVariants.{Broken};
 ghost use Rattle.lower.specs.Stored.{stored_of, stored_of_all};
 ghost use Rattle.lower.specs.Regions.{laid_of, laid_functions};
 ghost use Rattle.lower.specs.Faults.{are_whole};
+ghost use Rattle.lower.specs.Groups.{AreAlone, AreBodies, AreGroupsMade, AreMade, IsAlone, IsBodyOf, IsOver, IsOwnOver, IsPlanOf, party_of, rooted};
 ghost use Rattle.lower.specs.Refused.{Answers, AreSmall, AreRegionsKept, IsRefused, IsUnplanned, IsPlaced};
 
 use crate::definitions::{Stored, stored_functions};
@@ -17,7 +18,7 @@ use crate::error::{LowerError, RegionRule, Stop};
 use crate::fetching::Root;
 use crate::group::{Beginning, Made, group_of};
 use crate::legality::first_fault;
-use crate::parties::{Party, laid_by_turns, parties_of, roots_of};
+use crate::parties::{Party, laid_by_turns, parties_of, roots_of, unlaid};
 use crate::reasons::folds::{fold_reason, form_reason};
 use crate::reasons::reach::bound_reason;
 use crate::reasons::sizes::size_reason;
@@ -25,7 +26,7 @@ use crate::reasons::{Cause, Reason};
 use crate::regions::{Laid, laid_functions};
 use crate::uses::{are_whole, uses_outside};
 use algo::{Algo, Port};
-use plan::certificate::Cert;
+use plan::certificate::{Cert, Own};
 use plan::{Declaration, Group, Plan};
 use sched::{Placement, Rule, Sched, SchedError, followed};
 use std::alloc::{AllocError, Global};
@@ -65,25 +66,84 @@ fn empty_certificate(alloc: Global) -> Cert {
     }
 }
 
-// The group of a root function; without bounds it breaks L12.
+// The group of a root function; without bounds it breaks L12. What needs, claims and windows a certificate has of it is added.
+#[tactic(auto, using(crate::proofs::Rooted::alone_at))]
 fn group_at<'a>(
     alloc: Global,
     algo: &Algo,
     roots: &[Root<'a>],
     party: &Party<'a>,
     beginning: Beginning,
+    certificate: &mut Cert,
 ) -> Result<Made, LowerError>
-    ensures { IfErr result IsUnplanned }
+    ensures over { IfOk result (λ made. IsOver (party_of party.now) made.group) }
+    ensures own { IfOk result (λ made. IsOwnOver (party_of party.now) beginning.number made.own) }
+    ensures does { IfOk result (λ made. IsAlone party.now → IsBodyOf (party_of party.now) made.group) }
+    ensures unplanned { IfErr result IsUnplanned }
 {
     let unbounded = LowerError::Broken(RegionRule::Unbounded, party.root.stored.subject.name);
     let Some(inners) = &party.inners else {
         return Err(unbounded);
     };
-    match group_of(alloc, algo, roots, &party.root, inners, beginning) {
+    match group_of(
+        alloc,
+        algo,
+        roots,
+        &party.root,
+        inners,
+        beginning,
+        certificate,
+    ) {
         Ok(made) => Ok(made),
         Err(Stop::Memory) => Err(LowerError::Memory),
         Err(Stop::Limit) => Err(unbounded),
     }
+}
+
+// A group and its line before others.
+fn put_first(
+    group: Group,
+    own: Own,
+    others: (Vec<Group>, Vec<Own>),
+) -> Result<(Vec<Group>, Vec<Own>), AllocError>
+    ensures groups { IfOk result (λ v. v.0.items ≡ group ∷ others.0.items) }
+    ensures owned { IfOk result (λ v. v.1.items ≡ own ∷ others.1.items) }
+{
+    let (mut groups, mut owned) = others;
+    groups.insert(0, group)?;
+    owned.insert(0, own)?;
+    Ok((groups, owned))
+}
+
+// The groups of these root functions, of which the first begins so, and what their pieces own; the rest that the certificate says of
+// them is added to it.
+#[tactic(auto, using(crate::proofs::Made::made_first))]
+fn groups_from<'a>(
+    alloc: Global,
+    algo: &Algo,
+    roots: &[Root<'a>],
+    parties: &[Party<'a>],
+    beginning: Beginning,
+    certificate: &mut Cert,
+) -> Result<(Vec<Group>, Vec<Own>), LowerError>
+    ensures made { IfOk result (λ v. AreMade (map party_of parties.now) beginning.number v.0.items v.1.items) }
+    ensures bodies { IfOk result (λ v. AreAlone parties.now → AreBodies (map party_of parties.now) v.0.items) }
+    ensures unplanned { IfErr result IsUnplanned }
+{
+    let [party, rest @ ..] = parties else {
+        return Ok((Vec::new(alloc), Vec::new(alloc)));
+    };
+    let Some(number) = beginning.number.checked_add(1) else {
+        return Err(LowerError::Memory);
+    };
+    let Made { group, own, line } = group_at(alloc, algo, roots, party, beginning, certificate)?;
+    let next = Beginning {
+        number,
+        line,
+        claim: certificate.claims.len() as u64,
+    };
+    let others = groups_from(alloc, algo, roots, rest, next, certificate)?;
+    Ok(put_first(group, own, others)?)
 }
 
 // The groups of all root functions, in the order of declaration, and the certificate.
@@ -93,25 +153,18 @@ fn groups_of<'a>(
     roots: &[Root<'a>],
     parties: &[Party<'a>],
 ) -> Result<(Vec<Group>, Cert), LowerError>
-    ensures { IfErr result IsUnplanned }
+    ensures made { IfOk result (λ v. AreMade (map party_of parties.now) 0 v.0.items v.1.own.items) }
+    ensures bodies { IfOk result (λ v. AreAlone parties.now → AreBodies (map party_of parties.now) v.0.items) }
+    ensures unplanned { IfErr result IsUnplanned }
 {
-    let mut groups = Vec::new(alloc);
     let mut certificate = empty_certificate(alloc);
-    let mut line = FIRST_GROUP;
-    for (number, party) in parties.iter().enumerate() {
-        let beginning = Beginning {
-            number,
-            line,
-            claim: certificate.claims.len() as u64,
-        };
-        let mut made = group_at(alloc, algo, roots, party, beginning)?;
-        line = made.line;
-        groups.push(made.group)?;
-        certificate.own.push(made.own)?;
-        certificate.needs.append(&mut made.needs)?;
-        certificate.claims.append(&mut made.claims)?;
-        certificate.windows.append(&mut made.windows)?;
-    }
+    let beginning = Beginning {
+        number: 0,
+        line: FIRST_GROUP,
+        claim: 0,
+    };
+    let (groups, owned) = groups_from(alloc, algo, roots, parties, beginning, &mut certificate)?;
+    certificate.own = owned;
     Ok((groups, certificate))
 }
 
@@ -139,22 +192,38 @@ fn asked(placement: &Placement, stored: usize) -> usize
     }
 }
 
-// The plan of roots that break no rule.
-fn planned<'a>(
-    alloc: Global,
-    algo: &Algo,
-    roots: &[Root<'a>],
-    parties: &[Party<'a>],
-) -> Result<Lowered, LowerError>
-    ensures { IfErr result IsUnplanned }
+// The plan of these groups.
+fn plan_of(alloc: Global, algo: &Algo, groups: Vec<Group>) -> Result<Plan, AllocError>
+    ensures { IfOk result (λ plan. plan.groups ≡ groups) }
 {
-    let (groups, certificate) = groups_of(alloc, algo, roots, parties)?;
-    let plan = Plan {
+    Ok(Plan {
         name: String::from_str(alloc, algo.name())?,
         input: declaration(alloc, algo.input())?,
         output: declaration(alloc, algo.output())?,
         groups,
-    };
+    })
+}
+
+// The plan of functions that break no rule. Without a region one would break L12.
+#[tactic(auto, using(crate::proofs::Made::plan_made))]
+fn planned<'a>(
+    alloc: Global,
+    algo: &Algo,
+    stored: &'a [Stored<'a>],
+    laid: &'a [Option<Laid>],
+    parties: &[Party<'a>],
+) -> Result<Lowered, LowerError>
+    requires roots { map party_of parties.now ≡ rooted true (map stored_of stored.now) (map (option_map laid_of) laid.now) }
+    requires alone { rooted false (map stored_of stored.now) (map (option_map laid_of) laid.now) ≡ [] → AreAlone parties.now }
+    ensures made { IfOk result (IsPlanOf (map stored_of stored.now) (map (option_map laid_of) laid.now)) }
+    ensures unplanned { IfErr result IsUnplanned }
+{
+    if let Some(name) = unlaid(stored, laid) {
+        return Err(LowerError::Broken(RegionRule::Unbounded, name));
+    }
+    let roots = roots_of(alloc, stored, laid, true)?;
+    let (groups, certificate) = groups_of(alloc, algo, &roots, parties)?;
+    let plan = plan_of(alloc, algo, groups)?;
     Ok(Lowered { plan, certificate })
 }
 
@@ -216,8 +285,32 @@ fn refusal(found: (RegionRule, Name)) -> LowerError
     LowerError::Broken(found.0, found.1)
 }
 
-// The plan of the stored functions, unless one breaks a rule: the first, in the order of declaration, is told.
+// The plan of the stored functions over their regions, unless one breaks a rule: the first, in the order of declaration, is told.
 #[tactic(auto, using(crate::proofs::Told::fault_told, crate::proofs::Told::placed_told, crate::proofs::Told::unplanned_told))]
+fn plan_laid<'a>(
+    alloc: Global,
+    algo: &Algo,
+    placement: &Placement,
+    stored: &'a [Stored<'a>],
+    laid: &'a [Option<Laid>],
+) -> Result<Lowered, LowerError>
+    requires { are_whole (map stored_of stored.now) ≡ true →
+        map (option_map laid_of) laid.now ≡ laid_functions (algorithm_of algo.now) (map stored_of stored.now) }
+    ensures { Answers (algorithm_of algo.now) (map stored_of stored.now) placement.now.fault result }
+{
+    let parties = parties_of(alloc, algo, stored, laid)?;
+    let count = asked(placement, stored.len());
+    let fault = placement.fault;
+    if let Some(found) = first_fault(alloc, algo, stored, laid, &parties, count, fault)? {
+        return Err(refusal(found));
+    }
+    if let Some((rule, name)) = placement.fault {
+        return Err(broken(alloc, stored, rule, name)?);
+    }
+    planned(alloc, algo, stored, laid, &parties)
+}
+
+// The plan of the stored functions.
 fn plan_stored(
     alloc: Global,
     algo: &Algo,
@@ -227,17 +320,7 @@ fn plan_stored(
     ensures { Answers (algorithm_of algo.now) (map stored_of stored.now) placement.now.fault result }
 {
     let laid = laid_all(alloc, algo, stored)?;
-    let parties = parties_of(alloc, algo, stored, &laid)?;
-    let count = asked(placement, stored.len());
-    let fault = placement.fault;
-    if let Some(found) = first_fault(alloc, algo, stored, &laid, &parties, count, fault)? {
-        return Err(refusal(found));
-    }
-    if let Some((rule, name)) = placement.fault {
-        return Err(broken(alloc, stored, rule, name)?);
-    }
-    let roots = roots_of(alloc, stored, &laid, true)?;
-    planned(alloc, algo, &roots, &parties)
+    plan_laid(alloc, algo, placement, stored, &laid)
 }
 
 // The plan of a placement.
@@ -266,6 +349,9 @@ pub fn lower(alloc: Global, algo: &Algo, sched: &Sched) -> Result<Lowered, Lower
 
     // Where each stored function is a root function, none breaks L8, L11 or L12 by its region.
     ensures regions { IfOk result (λ _. AreRegionsKept (algorithm_of algo.now) (schedule_of sched.now)) }
+
+    // One group for each stored root function, over its region, with a piece for each turn of its parallel loops.
+    ensures groups { IfOk result (AreGroupsMade (algorithm_of algo.now) (schedule_of sched.now)) }
     ensures refused { IfErr result (IsRefused (algorithm_of algo.now) (schedule_of sched.now)) }
 {
     let placement = followed(alloc, algo, sched)?;

@@ -1,8 +1,12 @@
 //! Root functions with those that are computed inside their loops: the rules that these break, and the regions that all of
 //! them ask for.
 
-ghost use Rattle.std.specs.Prelude.{IfOk};
+ghost use Rattle.std.specs.Prelude.{◌≡◌, [], IfOk, true, false, None, map};
+ghost use Rattle.std.specs.Option.{option_map};
 ghost use Rattle.lower.specs.Large.{IsByRegion};
+ghost use Rattle.lower.specs.Stored.{stored_of};
+ghost use Rattle.lower.specs.Regions.{laid_of};
+ghost use Rattle.lower.specs.Groups as spec;
 
 use crate::definitions::Stored;
 use crate::error::{RegionRule, Stop};
@@ -13,6 +17,7 @@ use crate::regions::{Ends, Laid, add_extents, closed, ends_of, is_same, unreache
 use crate::turns::has_short_turn;
 use algo::Algo;
 use std::alloc::{AllocError, Global};
+use tree::token::Name;
 
 /// A root function, and those that are computed inside its loops.
 #[derive(Drop)]
@@ -22,46 +27,172 @@ pub(crate) struct Party<'a> {
     pub inners: Option<Vec<Inner<'a>>>,
 }
 
+// ---- root functions
+
+fn is_of_kind(one: &Stored<'_>, is_root: bool) -> bool
+    ensures { result ≡ spec.is_same (stored_of one.now).subject.is_root is_root }
+{
+    if is_root {
+        one.subject.is_root
+    } else {
+        !one.subject.is_root
+    }
+}
+
+// A stored function before others, where it has definitions and a region, and is a root function or is none.
+#[tactic(auto, using(crate::proofs::Rooted::not_defined, crate::proofs::Rooted::not_laid, crate::proofs::Rooted::of_kind, crate::proofs::Rooted::of_other))]
+fn before_roots<'a>(
+    is_root: bool,
+    stored: &'a Stored<'a>,
+    laid: &'a Option<Laid>,
+    roots: Vec<Root<'a>>,
+) -> Result<Vec<Root<'a>>, AllocError>
+    ensures { IfOk result (λ v. map spec.root_of v.items ≡ spec.rooted_by is_root (stored_of stored.now) (stored_of stored.now).formulas
+        (option_map laid_of laid.entry.now) (map spec.root_of roots.entry.items)) }
+{
+    let Some(formulas) = &stored.formulas else {
+        return Ok(roots);
+    };
+    let Some(laid) = laid else {
+        return Ok(roots);
+    };
+    if !is_of_kind(stored, is_root) {
+        return Ok(roots);
+    }
+    let mut roots = roots;
+    let root = Root {
+        stored,
+        formulas,
+        laid,
+    };
+    roots.insert(0, root)?;
+    Ok(roots)
+}
+
 /// The stored functions that have a region and definitions: those that are root, or those that are computed inside loops.
 pub(crate) fn roots_of<'a>(
     alloc: Global,
     stored: &'a [Stored<'a>],
     laid: &'a [Option<Laid>],
     is_root: bool,
-) -> Result<Vec<Root<'a>>, AllocError> {
-    let mut roots = Vec::new(alloc);
-    for (one, laid) in stored.iter().zip(laid.iter()) {
-        if let (Some(formulas), Some(laid)) = (&one.formulas, laid) {
-            if one.subject.is_root == is_root {
-                roots.push(Root {
-                    stored: one,
-                    formulas,
-                    laid,
-                })?;
+) -> Result<Vec<Root<'a>>, AllocError>
+    ensures { IfOk result (λ v. map spec.root_of v.items ≡ spec.rooted is_root (map stored_of stored.now) (map (option_map laid_of) laid.now)) }
+{
+    match stored {
+        [] => Ok(Vec::new(alloc)),
+        [one, others @ ..] => match laid {
+            [] => Ok(Vec::new(alloc)),
+            [first, rest @ ..] => {
+                let roots = roots_of(alloc, others, rest, is_root)?;
+                before_roots(is_root, one, first, roots)
             }
+        },
+    }
+}
+
+// Those of some functions that are computed inside the loops of a root function; none where a bound is missing.
+fn inside_of<'a>(
+    alloc: Global,
+    algo: &Algo,
+    functions: &[Root<'a>],
+    root: &Root<'a>,
+) -> Result<Option<Vec<Inner<'a>>>, AllocError>
+    ensures { IfOk result (λ inners. functions.now ≡ [] → spec.HasNone inners) }
+{
+    if functions.is_empty() {
+        return Ok(Some(Vec::new(alloc)));
+    }
+    match inners_of(alloc, algo, root, functions) {
+        Ok(inners) => Ok(Some(inners)),
+        Err(Stop::Limit) => Ok(None),
+        Err(Stop::Memory) => Err(AllocError),
+    }
+}
+
+// A root function with those that are computed inside its loops.
+fn party_of<'a>(
+    alloc: Global,
+    algo: &Algo,
+    functions: &[Root<'a>],
+    root: &Root<'a>,
+) -> Result<Party<'a>, AllocError>
+    ensures root { IfOk result (λ party. party.root ≡ root.now) }
+    ensures alone { IfOk result (λ party. functions.now ≡ [] → spec.IsAlone party) }
+{
+    Ok(Party {
+        root: *root,
+        inners: inside_of(alloc, algo, functions, root)?,
+    })
+}
+
+// Each of these root functions with those of the functions that are computed inside its loops.
+fn parties_from<'a>(
+    alloc: Global,
+    algo: &Algo,
+    functions: &[Root<'a>],
+    roots: &[Root<'a>],
+) -> Result<Vec<Party<'a>>, AllocError>
+    ensures roots { IfOk result (λ v. map spec.party_of v.items ≡ map spec.root_of roots.now) }
+    ensures alone { IfOk result (λ v. functions.now ≡ [] → spec.AreAlone v.items) }
+{
+    match roots {
+        [] => Ok(Vec::new(alloc)),
+        [root, rest @ ..] => {
+            let first = party_of(alloc, algo, functions, root)?;
+            let mut parties = parties_from(alloc, algo, functions, rest)?;
+            parties.insert(0, first)?;
+            Ok(parties)
         }
     }
-    Ok(roots)
 }
 
 /// Each root function with those that are computed inside its loops, in the order of declaration.
+#[tactic(auto, using(crate::proofs::Rooted::no_entries))]
 pub(crate) fn parties_of<'a>(
     alloc: Global,
     algo: &Algo,
     stored: &'a [Stored<'a>],
     laid: &'a [Option<Laid>],
-) -> Result<Vec<Party<'a>>, AllocError> {
+) -> Result<Vec<Party<'a>>, AllocError>
+    ensures roots { IfOk result (λ v. map spec.party_of v.items ≡ spec.rooted true (map stored_of stored.now) (map (option_map laid_of) laid.now)) }
+    ensures alone { IfOk result (λ v. spec.rooted false (map stored_of stored.now) (map (option_map laid_of) laid.now) ≡ [] → spec.AreAlone v.items) }
+{
     let functions = roots_of(alloc, stored, laid, false)?;
-    let mut parties = Vec::new(alloc);
-    for root in roots_of(alloc, stored, laid, true)? {
-        let inners = match inners_of(alloc, algo, &root, &functions) {
-            Ok(inners) => Some(inners),
-            Err(Stop::Limit) => None,
-            Err(Stop::Memory) => return Err(AllocError),
-        };
-        parties.push(Party { root, inners })?;
+    let roots = roots_of(alloc, stored, laid, true)?;
+    parties_from(alloc, algo, &functions, &roots)
+}
+
+// Whether a function has definitions and a region, where it is a root function.
+#[tactic(auto, using(crate::proofs::Rooted::has_both, crate::proofs::Rooted::is_no_root))]
+fn is_laid(one: &Stored<'_>, laid: &Option<Laid>) -> bool
+    ensures { result ≡ true → (stored_of one.now).subject.is_root ≡ true → spec.has_region (stored_of one.now).formulas (option_map laid_of laid.now) ≡ true }
+{
+    if !one.subject.is_root {
+        return true;
     }
-    Ok(parties)
+    match (&one.formulas, laid) {
+        (Some(_), Some(_)) => true,
+        _ => false,
+    }
+}
+
+/// The first root function that lacks definitions or a region.
+pub(crate) fn unlaid(stored: &[Stored<'_>], laid: &[Option<Laid>]) -> Option<Name>
+    ensures { result ≡ None → spec.AreLaid (map stored_of stored.now) (map (option_map laid_of) laid.now) }
+{
+    match stored {
+        [] => None,
+        [one, others @ ..] => match laid {
+            [] => Some(one.subject.name),
+            [first, rest @ ..] => {
+                if is_laid(one, first) {
+                    unlaid(others, rest)
+                } else {
+                    Some(one.subject.name)
+                }
+            }
+        },
+    }
 }
 
 // ---- rules
@@ -80,6 +211,9 @@ fn is_short(alloc: Global, inner: &Inner<'_>) -> Result<bool, Stop> {
 // Whether each index of the input and of the function itself is shown to lie where it may.
 fn is_inner_bounded(alloc: Global, algo: &Algo, inner: &Inner<'_>) -> Result<bool, Stop> {
     let root = &inner.root;
+    if !inner.is_small {
+        return Ok(false);
+    }
     if !is_bounded(alloc, algo, root, &inner.scope, &inner.nests, &inner.region)? {
         return Ok(false);
     }

@@ -25,8 +25,11 @@ use sched::{Extent, Nest, Skeleton};
 use std::alloc::{AllocError, Global};
 use tree::Expr;
 
-/// The greatest distance between the ends of a stored function's region: 8192 numbers.
-const MOST_DISTANCE: i64 = 8191;
+/// The greatest distance between the ends of what all turns together need of a function.
+const MOST_DISTANCE: i64 = 2147483647;
+
+/// The most numbers of a dimension of a root function's region.
+const MOST_NUMBERS: u32 = 8192;
 
 /// How often the region of a function with updates is asked again for what its own calls need.
 const MOST_ROUNDS: usize = 4;
@@ -453,7 +456,7 @@ fn is_i32(number: i64) -> bool
     i64::from(i32::MIN) <= number && number <= i64::from(i32::MAX)
 }
 
-// Whether the ends are i32, with 1 to 8192 numbers from the one to the other.
+// Whether the ends are i32, in their order and no farther apart than any may be.
 #[tactic(auto, using(crate::proofs::Within::i32_bounds))]
 fn are_within(ends: Ends) -> bool
     ensures { result ≡ spec.are_within ends }
@@ -464,7 +467,7 @@ fn are_within(ends: Ends) -> bool
         && ends.high - ends.low <= MOST_DISTANCE
 }
 
-// The extent between these ends, where it is within the limits.
+// The extent between these ends, where it is within the limits of all.
 #[tactic(auto, using(crate::proofs::Within::low_fits, crate::proofs::Within::high_fits, crate::proofs::Within::distance_fits, crate::proofs::Within::counted))]
 fn extent_between(ends: Ends) -> Option<Extent>
     ensures { result ≡ spec.extent_between ends }
@@ -478,24 +481,34 @@ fn extent_between(ends: Ends) -> Option<Extent>
     })
 }
 
-fn extent_of(ends: Option<Ends>) -> Option<Extent>
-    ensures { result ≡ spec.extent_of ends }
+// Whether so many numbers may be needed of a root function, or of one that is computed inside a loop.
+fn may_have(is_root: bool, count: u32) -> bool
+    ensures { result ≡ spec.may_have is_root count }
 {
-    match ends {
-        Some(ends) => extent_between(ends),
-        None => None,
+    if is_root { count <= MOST_NUMBERS } else { true }
+}
+
+// The extent between these ends, where it is within the limits of a root function, or of one that is computed inside a loop.
+fn extent_of(is_root: bool, ends: Option<Ends>) -> Option<Extent>
+    ensures { result ≡ spec.extent_of is_root ends }
+{
+    let extent = extent_between(ends?)?;
+    if may_have(is_root, extent.count) {
+        Some(extent)
+    } else {
+        None
     }
 }
 
 // The region of these ends.
-fn region_of(alloc: Global, reach: &[Option<Ends>]) -> Result<Vec<Extent>, Stop>
-    ensures { Gives result (λ v. v.items) (spec.region_of reach.now) }
+fn region_of(alloc: Global, is_root: bool, reach: &[Option<Ends>]) -> Result<Vec<Extent>, Stop>
+    ensures { Gives result (λ v. v.items) (spec.region_of is_root reach.now) }
 {
     match reach {
         [] => Ok(Vec::new(alloc)),
-        [ends, rest @ ..] => match extent_of(*ends) {
+        [ends, rest @ ..] => match extent_of(is_root, *ends) {
             Some(extent) => {
-                let mut region = region_of(alloc, rest)?;
+                let mut region = region_of(alloc, is_root, rest)?;
                 region.insert(0, extent)?;
                 Ok(region)
             }
@@ -557,7 +570,7 @@ fn closed_within(
     let outer = head_scope(alloc, &laid.skeleton)?;
     let nests = &laid.skeleton.nests;
     add_all_own(alloc, algo, stored, &outer, 0, formulas, nests, &mut reach)?;
-    let region = region_of(alloc, &reach)?;
+    let region = region_of(alloc, stored.subject.is_root, &reach)?;
     if is_same(&laid.region, &region) {
         return Ok(laid);
     }
@@ -575,7 +588,7 @@ pub(crate) fn closed(
 ) -> Result<Laid, Stop>
     ensures { Gives result spec.laid_of (spec.laid_over (algorithm_of algo.now) (stored_of stored.now) (map formula_of formulas.now) reach.items) }
 {
-    let region = region_of(alloc, &reach)?;
+    let region = region_of(alloc, stored.subject.is_root, &reach)?;
     let laid = over(alloc, stored, formulas, region)?;
     closed_within(alloc, algo, stored, formulas, MOST_ROUNDS, reach, laid)
 }
@@ -760,5 +773,10 @@ impl Ends {
 
 /// Whether the ends are those of an extent within the limits.
 pub(crate) fn is_extent(ends: Option<Ends>) -> bool {
-    extent_of(ends).is_some()
+    extent_of(true, ends).is_some()
+}
+
+/// Whether the numbers between the ends may be needed of the function by all that reads it.
+pub(crate) fn may_be_needed(stored: &Stored<'_>, ends: Ends) -> bool {
+    extent_of(stored.subject.is_root, Some(ends)).is_some()
 }

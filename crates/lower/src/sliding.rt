@@ -1,10 +1,10 @@
 //! How a function that is computed inside a loop keeps what the turns before have made.
 
 use crate::error::Stop;
-use crate::fetching::{Root, freed};
+use crate::fetching::{Root, freed, shortest};
 use crate::forms::raised;
 use crate::reasons::Standstill;
-use crate::turns::nests_over;
+use crate::turns::{Needed, nests_over};
 use crate::windows::{all_fit, window_size};
 use lin::{Binding, Forms, Lin, Region, Scope, Span1, Sym};
 use plan::{Pick, Places};
@@ -18,6 +18,8 @@ const MOST_FORMS: usize = 4;
 #[derive(Drop)]
 pub(crate) struct Track {
     symbol: Sym,
+    /// What the loop runs over.
+    span: Span1,
     /// The symbols of the lets behind the loop.
     lets: Vec<Sym>,
     /// Whether a guard stands behind the loop.
@@ -52,6 +54,14 @@ impl Sliding {
     pub(crate) fn is_bare(&self) -> bool {
         self.track.lets.is_empty() && !self.track.is_guarded
     }
+
+    /// Whether the loop may have a second turn.
+    pub(crate) fn is_repeated(&self, alloc: Global, scope: &Scope) -> Result<bool, AllocError> {
+        match shortest(alloc, scope, &self.track.span)? {
+            Some((_, count)) => Ok(count > 1),
+            None => Ok(true),
+        }
+    }
 }
 
 // The lets of the steps.
@@ -69,13 +79,14 @@ fn lets_of(alloc: Global, steps: &[Step]) -> Result<Vec<Sym>, AllocError> {
 pub(crate) fn track_of(alloc: Global, steps: &[Step]) -> Result<Option<Track>, AllocError> {
     for inner in 0..steps.len() {
         let place = steps.len() - 1 - inner;
-        if let Step::Turns { symbol, .. } = &steps[place] {
+        if let Step::Turns { symbol, span, .. } = &steps[place] {
             let behind = match steps.get(place + 1..) {
                 Some(behind) => behind,
                 None => &[],
             };
             return Ok(Some(Track {
                 symbol: *symbol,
+                span: span.copy(alloc)?,
                 lets: lets_of(alloc, behind)?,
                 is_guarded: behind
                     .iter()
@@ -328,6 +339,7 @@ pub(crate) fn later_of(
     root: &Root<'_>,
     scope: &Scope,
     region: &Region,
+    kept: &Region,
     sliding: &Sliding,
 ) -> Result<Option<Later>, Stop> {
     let Sliding { track, dimension } = sliding;
@@ -338,7 +350,12 @@ pub(crate) fn later_of(
     let new = new_region(alloc, scope, region, *dimension)?;
     let mut inner = scope.copy(alloc)?;
     inner.push(Binding::LetMin(first_new.copy(alloc)?))?;
-    let nests = nests_over(alloc, root, &inner, &new)?;
+    let needed = Needed {
+        scope: &inner,
+        region: &new,
+        kept,
+    };
+    let nests = nests_over(alloc, root, needed)?;
     Ok(Some(Later {
         symbol: track.symbol,
         dimension: *dimension,

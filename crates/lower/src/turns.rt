@@ -4,6 +4,7 @@ use crate::error::Stop;
 use crate::fetching::{Root, shortest};
 use crate::forms::{between, multiple_from, one_form, raised};
 use crate::nests::bodies;
+use crate::rounded::{Begun, Blocks, counted_at};
 use lin::{Forms, Lin, Region, Scope, Span1, Sym};
 use plan::{Kind, Pick};
 use sched::{
@@ -23,6 +24,18 @@ struct Reach {
     varies: bool,
     /// Whether its blocks run past the end, and each turn is shown to have as many of them as there are at most.
     is_even: bool,
+    /// Whether the last number is shown to be at least the first one that is kept.
+    is_told: bool,
+}
+
+/// What a turn needs of a function.
+#[derive(Clone, Copy, Drop)]
+pub(crate) struct Needed<'b> {
+    /// What stands around its nests.
+    pub scope: &'b Scope,
+    pub region: &'b Region,
+    /// What is kept of it where its buffer stands.
+    pub kept: &'b Region,
 }
 
 /// A loop, and what it runs over.
@@ -42,6 +55,15 @@ struct Frame {
     reaches: Vec<Reach>,
     /// The lets around the nest.
     lets: Vec<Step>,
+    /// The loops over blocks of which one turn has more than another.
+    counted: Vec<Counted>,
+}
+
+/// A loop, and further upper forms of it.
+#[derive(Drop)]
+struct Counted {
+    name: Name,
+    further: Forms,
 }
 
 /// What stands at a place of a nest.
@@ -205,11 +227,14 @@ pub(crate) fn has_further(
     Ok(true)
 }
 
+// The variable's split with `roundup`, where it has one.
+fn rounded_cut<'a>(cuts: &'a [Split], variable: &Name) -> Option<&'a Split> {
+    cuts.iter().find(|cut| cut.tail == Tail::Roundup && cut.whole.as_str() == variable.as_str())
+}
+
 /// The factor of the variable's split with `roundup`, where it has one.
 pub(crate) fn rounding(cuts: &[Split], variable: &Name) -> Option<u32> {
-    cuts.iter()
-        .find(|cut| cut.tail == Tail::Roundup && cut.whole.as_str() == variable.as_str())
-        .map(|cut| cut.factor)
+    rounded_cut(cuts, variable).map(|cut| cut.factor)
 }
 
 // Whether blocks of so many numbers are as many in each turn as there are at most.
@@ -228,22 +253,59 @@ fn are_even(
     has_further(alloc, scope, span, last.saturating_sub(rest))
 }
 
+// Whether each of the forms is shown to be at least the first number that is kept. Of an update it is not asked.
+fn is_behind(
+    alloc: Global,
+    scope: &Scope,
+    kept: Option<&Span1>,
+    forms: &Forms,
+) -> Result<bool, AllocError> {
+    let Some(kept) = kept else {
+        return Ok(true);
+    };
+    for form in kept.lower.as_slice() {
+        if !is_telling(alloc, scope, form, forms.as_slice(), Pick::Min)? {
+            return Ok(false);
+        }
+    }
+    Ok(true)
+}
+
+// The forms that tell the first number: one alone, where that is shown to be at least what is kept; else all of them.
+fn lower_of(
+    alloc: Global,
+    scope: &Scope,
+    span: &Span1,
+    told: &Span1,
+    kept: Option<&Span1>,
+) -> Result<Forms, AllocError> {
+    if is_behind(alloc, scope, kept, &told.lower)? {
+        told.lower.copy(alloc)
+    } else {
+        span.lower.copy(alloc)
+    }
+}
+
+// What the loops that a split makes run over.
 fn reach_of(
     alloc: Global,
     scope: &Scope,
     name: Name,
     rounding: Option<u32>,
     span: &Span1,
+    kept: Option<&Span1>,
     lets: &mut Vec<Step>,
 ) -> Result<Reach, Stop> {
     let most = most_of(alloc, scope, span)?;
-    let span = &told_span(alloc, scope, span)?;
+    let told = told_span(alloc, scope, span)?;
+    let lower = lower_of(alloc, scope, span, &told, kept)?;
     Ok(Reach {
         name,
-        low: one_of(alloc, &span.lower, Pick::Max, scope.len(), lets)?,
-        last: one_of(alloc, &span.upper, Pick::Min, scope.len(), lets)?,
-        varies: varies(alloc, scope, span, most)?,
-        is_even: are_even(alloc, scope, span, rounding, most)?,
+        low: one_of(alloc, &lower, Pick::Max, scope.len(), lets)?,
+        last: one_of(alloc, &told.upper, Pick::Min, scope.len(), lets)?,
+        varies: varies(alloc, scope, &told, most)?,
+        is_even: are_even(alloc, scope, &told, rounding, most)?,
+        is_told: is_behind(alloc, scope, kept, &told.upper)?,
     })
 }
 
@@ -255,6 +317,7 @@ fn half_reach(alloc: Global, numbers: &[Numbers], name: Name) -> Reach {
         last: Lin::number(alloc, i64::from(count) - 1),
         varies: false,
         is_even: false,
+        is_told: true,
     }
 }
 
@@ -275,28 +338,64 @@ fn extents_of(alloc: Global, scope: &Scope, region: &Region) -> Result<Vec<Exten
 fn variable_reaches(
     alloc: Global,
     root: &Root<'_>,
-    scope: &Scope,
-    region: &Region,
+    needed: Needed<'_>,
+    blocks: &[Option<Blocks>],
+    definition: usize,
     lets: &mut Vec<Step>,
 ) -> Result<Vec<Reach>, Stop> {
     let cuts = &root.stored.placed.cuts;
     let variables = &root.stored.subject.variables;
+    let kept = if definition == 0 {
+        needed.kept.as_slice()
+    } else {
+        &[]
+    };
     let mut reaches = Vec::new(alloc);
-    for (variable, span) in variables.iter().zip(region.as_slice().iter()) {
+    let spans = variables.iter().zip(needed.region.as_slice().iter());
+    for (dimension, (variable, span)) in spans.enumerate() {
         if is_whole(cuts, variable) {
             let rounding = rounding(cuts, variable);
-            reaches.push(reach_of(alloc, scope, *variable, rounding, span, lets)?)?;
+            let kept = kept.get(dimension);
+            let scope = needed.scope;
+            let mut reach = reach_of(alloc, scope, *variable, rounding, span, kept, lets)?;
+            reach.is_even = reach.is_even || counted_at(blocks, dimension).is_some();
+            reaches.push(reach)?;
         }
     }
     Ok(reaches)
 }
 
-fn frame_of(alloc: Global, root: &Root<'_>, scope: &Scope, region: &Region) -> Result<Frame, Stop> {
+// The loops over blocks that are counted.
+fn counted_loops(
+    alloc: Global,
+    root: &Root<'_>,
+    blocks: &[Option<Blocks>],
+) -> Result<Vec<Counted>, AllocError> {
+    let mut found = Vec::new(alloc);
+    for (dimension, variable) in root.stored.subject.variables.iter().enumerate() {
+        let cut = rounded_cut(&root.stored.placed.cuts, variable);
+        if let (Some(cut), Some(blocks)) = (cut, counted_at(blocks, dimension)) {
+            found.push(Counted {
+                name: cut.outer,
+                further: blocks.further.copy(alloc)?,
+            })?;
+        }
+    }
+    Ok(found)
+}
+
+fn frame_of(
+    alloc: Global,
+    root: &Root<'_>,
+    needed: Needed<'_>,
+    blocks: &[Option<Blocks>],
+    definition: usize,
+) -> Result<Frame, Stop> {
     let cuts = &root.stored.placed.cuts;
-    let extents = extents_of(alloc, scope, region)?;
+    let extents = extents_of(alloc, needed.scope, needed.region)?;
     let numbers = loop_numbers(alloc, &root.stored.subject.variables, cuts, &extents)?;
     let mut lets = Vec::new(alloc);
-    let mut reaches = variable_reaches(alloc, root, scope, region, &mut lets)?;
+    let mut reaches = variable_reaches(alloc, root, needed, blocks, definition, &mut lets)?;
     for cut in cuts {
         reaches.push(half_reach(alloc, &numbers, cut.outer))?;
         reaches.push(half_reach(alloc, &numbers, cut.inner))?;
@@ -305,6 +404,7 @@ fn frame_of(alloc: Global, root: &Root<'_>, scope: &Scope, region: &Region) -> R
         numbers,
         reaches,
         lets,
+        counted: counted_loops(alloc, root, blocks)?,
     })
 }
 
@@ -324,7 +424,8 @@ fn limited(alloc: Global, step: Step, of: Sym, limit: &Lin) -> Result<Step, Allo
     }
 }
 
-fn all_limited(
+/// The steps, of which the loop of the symbol has a further upper form.
+pub(crate) fn all_limited(
     alloc: Global,
     steps: Vec<Step>,
     of: Sym,
@@ -366,8 +467,14 @@ impl Standing {
         Ok(())
     }
 
-    // A symbol for the smaller of two forms.
-    fn smaller(&mut self, alloc: Global, first: Lin, second: Lin) -> Result<Lin, AllocError> {
+    // A symbol for the smaller or the greater of two forms.
+    fn picked(
+        &mut self,
+        alloc: Global,
+        pick: Pick,
+        first: Lin,
+        second: Lin,
+    ) -> Result<Lin, AllocError> {
         let symbol = self.next;
         self.next = symbol.saturating_add(1);
         let mut forms = Forms::new(alloc);
@@ -375,7 +482,7 @@ impl Standing {
         forms.push(second)?;
         self.steps.push(Step::Named {
             symbol,
-            pick: Pick::Min,
+            pick,
             forms,
         })?;
         Lin::symbol(alloc, symbol)
@@ -399,7 +506,7 @@ impl Standing {
         let form = match cut.tail {
             Tail::Shift => {
                 let room = raised(alloc, &own.last, 1 - factor)?;
-                self.smaller(alloc, form, room)?
+                self.picked(alloc, Pick::Min, form, room)?
             }
             Tail::Guard | Tail::Roundup => form,
         };
@@ -418,6 +525,16 @@ impl Standing {
         } else {
             None
         }
+    }
+
+    // A number that is guarded to be at most the last one, by a let that tells it. Where the last number is not shown to be at
+    // least the first one, a let tells that this number is: bounds read no guards.
+    fn told(&mut self, alloc: Global, own: &Reach, form: Lin) -> Result<Lin, AllocError> {
+        let kept = self.picked(alloc, Pick::Min, form, own.last.copy(alloc)?)?;
+        if own.is_told {
+            return Ok(kept);
+        }
+        self.picked(alloc, Pick::Max, kept, own.low.copy(alloc)?)
     }
 
     // A number within the loop that is split: by a further upper form of the innermost loop, or by a guard and a let. The form
@@ -441,8 +558,7 @@ impl Standing {
         if is_lane {
             return Ok(form);
         }
-        let last = own.last.copy(alloc)?;
-        Ok(self.smaller(alloc, form, last)?)
+        Ok(self.told(alloc, own, form)?)
     }
 
     // The position stands as soon as the block's first number and the inner loop do.
@@ -515,6 +631,13 @@ fn is_missing(body: &Body, dimension: usize) -> bool {
     body.missing.iter().any(|one| *one == dimension)
 }
 
+fn push_forms(alloc: Global, known: &mut Forms, others: &Forms) -> Result<(), AllocError> {
+    for form in others.as_slice() {
+        known.push(form.copy(alloc)?)?;
+    }
+    Ok(())
+}
+
 // What a loop runs over: a variable over what is needed, a loop that a split makes over its numbers.
 fn span_of(
     alloc: Global,
@@ -532,7 +655,13 @@ fn span_of(
         }
     }
     let count = number_named(&frame.numbers, &one.name);
-    Ok(between(alloc, 0, i64::from(count) - 1)?)
+    let mut span = between(alloc, 0, i64::from(count) - 1)?;
+    for counted in &frame.counted {
+        if counted.name.as_str() == one.name.as_str() {
+            push_forms(alloc, &mut span.upper, &counted.further)?;
+        }
+    }
+    Ok(span)
 }
 
 fn kind_of(mark: Option<Mark>) -> Kind {
@@ -682,21 +811,22 @@ fn ranges_at(
 fn nest_over(
     alloc: Global,
     root: &Root<'_>,
-    scope: &Scope,
-    region: &Region,
+    needed: Needed<'_>,
+    blocks: &[Option<Blocks>],
+    definition: usize,
     body: &Body,
 ) -> Result<Nest, Stop> {
-    let mut frame = frame_of(alloc, root, scope, region)?;
+    let mut frame = frame_of(alloc, root, needed, blocks, definition)?;
     let cuts = body_cuts(alloc, root, body)?;
     let steps = mem::replace(&mut frame.lets, Vec::new(alloc));
     let mut standing = Standing {
         known: Vec::new(alloc),
         starts: Vec::new(alloc),
         bound: Vec::new(alloc),
-        next: scope.len().saturating_add(steps.len()),
+        next: needed.scope.len().saturating_add(steps.len()),
         steps,
     };
-    for run in runs_of(alloc, root, region, &frame, body)? {
+    for run in runs_of(alloc, root, needed.region, &frame, body)? {
         standing.turn(alloc, &frame, &cuts, run)?;
     }
     let mut at = variables_at(alloc, root, body, &standing.known)?;
@@ -708,18 +838,43 @@ fn nest_over(
     })
 }
 
-/// The nests of a function's definitions over a region, in which the symbols are numbered from those of the scope on.
+fn nests_with(
+    alloc: Global,
+    root: &Root<'_>,
+    needed: Needed<'_>,
+    blocks: &[Option<Blocks>],
+) -> Result<Vec<Nest>, Stop> {
+    let mut nests = Vec::new(alloc);
+    let bodies = bodies(alloc, root.stored, root.formulas)?;
+    for (definition, body) in bodies.iter().enumerate() {
+        nests.push(nest_over(alloc, root, needed, blocks, definition, body)?)?;
+    }
+    Ok(nests)
+}
+
+/// The nests of a function's definitions over what a turn needs, in which the symbols are numbered from those around on.
 pub(crate) fn nests_over(
     alloc: Global,
     root: &Root<'_>,
-    scope: &Scope,
-    region: &Region,
+    needed: Needed<'_>,
 ) -> Result<Vec<Nest>, Stop> {
-    let mut nests = Vec::new(alloc);
-    for body in bodies(alloc, root.stored, root.formulas)? {
-        nests.push(nest_over(alloc, root, scope, region, &body)?)?;
-    }
-    Ok(nests)
+    nests_with(alloc, root, needed, &[])
+}
+
+/// The same behind names that stand before them.
+pub(crate) fn nests_begun(
+    alloc: Global,
+    root: &Root<'_>,
+    scope: &Scope,
+    begun: &Begun,
+    kept: &Region,
+) -> Result<Vec<Nest>, Stop> {
+    let needed = Needed {
+        scope,
+        region: &begun.region,
+        kept,
+    };
+    nests_with(alloc, root, needed, &begun.blocks)
 }
 
 // ---- short blocks

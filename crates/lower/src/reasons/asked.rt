@@ -12,7 +12,8 @@ use crate::reasons::readings::{Reading, own_readings};
 use crate::reasons::turned::turned_region;
 use crate::reasons::{BoundCause, Cause, LargestSplit, Reason};
 use crate::regions::{
-    Ends, Laid, add_extents, formulas_call, is_extent, laid_functions, unreached, widen,
+    Ends, Laid, add_extents, formulas_call, is_extent, laid_functions, may_be_needed, unreached,
+    widen,
 };
 use crate::scopes::{Around, head_scope, interval, variables_of};
 use algo::Algo;
@@ -292,11 +293,11 @@ fn add_reach(
     Ok(())
 }
 
-// The first dimension of which too many numbers are asked for.
-fn first_wide(reach: &[Option<Ends>]) -> Option<(usize, Ends)> {
+// The first dimension of a function of which too many numbers are asked for.
+fn first_wide(one: &Stored<'_>, reach: &[Option<Ends>]) -> Option<(usize, Ends)> {
     for (dimension, ends) in reach.iter().enumerate() {
         if let Some(ends) = ends {
-            if !is_extent(Some(*ends)) {
+            if !may_be_needed(one, *ends) {
                 return Some((dimension, *ends));
             }
         }
@@ -319,7 +320,7 @@ fn asked_reason<'a>(
         return Ok(Some(reason));
     }
     add_reach(alloc, readings, reach)?;
-    match first_wide(reach) {
+    match first_wide(one, reach) {
         Some((dimension, ends)) => {
             wide_reason(alloc, algo, stored, laid, one, readings, dimension, ends)
         }

@@ -93,9 +93,10 @@ fn write_small<W: Write>(
 ) -> fmt::Result {
     let place = (function.as_str(), along.as_str());
     let turn = turn.as_str();
+    let things = if places == 1 { "place" } else { "places" };
     write!(
         f,
-        "A turn of `{turn}` needs {window} numbers of `{}.{}`, and the fold has {places} places.",
+        "A turn of `{turn}` needs {window} numbers of `{}.{}`, and the fold has {places} {things}.",
         place.0, place.1
     )
 }

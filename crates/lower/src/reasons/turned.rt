@@ -13,7 +13,7 @@ use crate::reasons::readings::{Reading, add_readings};
 use crate::reasons::{BoundCause, Cause, Reason, TurnCause};
 use crate::regions::{Laid, laid_functions};
 use crate::scopes::head_scope;
-use crate::turns::nests_over;
+use crate::turns::{Needed, nests_over};
 use algo::Algo;
 use lin::{Region, Scope};
 use sched::Nest;
@@ -121,7 +121,12 @@ fn loops_reason(
         });
         return Ok(Some(at_first(alloc, readings, dimension, cause)?));
     }
-    if passes_limits(nests_over(alloc, root, scope, region))? {
+    let needed = Needed {
+        scope,
+        region,
+        kept: region,
+    };
+    if passes_limits(nests_over(alloc, root, needed))? {
         let cause = BoundCause::Turn(TurnCause::Forms { function, turn });
         return Ok(Some(at_first(alloc, readings, first_cut(root), cause)?));
     }

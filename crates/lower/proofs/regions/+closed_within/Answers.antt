@@ -21,7 +21,7 @@ returns t c =
     let next : c.args.rounds ≡ k + 1 = omega (arith, c.in-Some.ensures) in
     let called : add_all_own a g (head_scope l.skeleton) 0 fs l.skeleton.nests reach ≡ Some wide =
     (λ i. add_all_own a g (sym c.in_ok-outer.ensures i) 0 fs (map nest_seen (sym c.deref.ensures.value i)) reach) ∙ c.in_ok-add_all_own.ensures in
-    let bounded : region_of wide ≡ Some region = ap region_of (sym c.deref-2.ensures.value) ∙ c.in_ok-region.ensures in
+    let bounded : region_of g.subject.is_root wide ≡ Some region = ap (region_of g.subject.is_root) (sym c.deref-2.ensures.value) ∙ c.in_ok-region.ensures in
     let other : same_region l.region region ≡ false =
     (λ i. same_region (sym c.deref-3.ensures.value i) (sym c.deref-4.ensures.value i)) ∙ sym c.is_same.ensures ∙ c.if-is_same.false in
     let is = wider a g fs c.args.rounds reach l k wide region (laid_of c.in_ok-wider.wider) next called bounded other c.in_ok-wider.ensures in

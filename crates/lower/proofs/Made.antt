@@ -1,0 +1,163 @@
+-- What the groups of a plan are, as they are made one after another.
+use Rattle.std.proofs.Common.{◌≡◌, ℕ, ◌+◌, Bool, true, false, not, ◌&&◌, List, [], ◌∷◌, map, Option, Some, None, refl, sym, ap, subst, ◌∙◌}
+use Rattle.std.specs.Prelude.{if◌then◌else◌}
+use Rattle.std.proofs.lemmas.Bool.{false≢true}
+use Rattle.lin.specs.Regions.{IsInside}
+use Rattle.lin.specs.declared.span.Span1.{Span1}
+use Rattle.plan.specs.declared.plan.Group.{Group}
+use Rattle.plan.specs.declared.certificate.cert.Own.{Own}
+use Rattle.meaning.specs.Algorithm.{Algorithm}
+use Rattle.lower.specs.declared.lowering.Lowered.{Lowered}
+use Rattle.lower.specs.Stored.{FormulaText, StoredText}
+use Rattle.lower.specs.Regions.{LaidText, laid_within, laid_functions}
+use Rattle.lower.specs.Around.{grid_scope}
+use Rattle.lower.specs.Faults.{is_homeless, is_whole, are_whole}
+use Rattle.lower.specs.declared.parties.Party.{Party}
+use Rattle.lower.specs.Groups.{IsGroupOf, AreGroupsOf, IsOwnOf, AreOwned, HaveBodies, grid_over, root_functions, region_of, HasGroups, rooted_if, rooted, has_region, AreLaid, IsOver, IsOwnOver, AreMade, AreBodies, AreAlone, IsPlanOf}
+use Rattle.lower.proofs.Rooted.{Entry}
+use Rattle.lower.proofs.Laying.{IsLaidOver, laid_over_it}
+
+both : (a b : Bool) → (a && b) ≡ true → (a ≡ true) × (b ≡ true)
+both true b h = (refl, h)
+both false b h = absurd (false≢true h)
+
+whole_root : (g : StoredText) (gs : List StoredText) → are_whole (g ∷ gs) ≡ true → g.subject.is_root ≡ true
+whole_root g gs w = (both g.subject.is_root (is_homeless g.placed.homes) (both (is_whole g) (are_whole gs) w).0).0
+
+whole_rest : (g : StoredText) (gs : List StoredText) → are_whole (g ∷ gs) ≡ true → are_whole gs ≡ true
+whole_rest g gs w = (both (is_whole g) (are_whole gs) w).1
+
+-- ---- one for each root function
+
+group_of : (g : StoredText) (l : LaidText) (p : Group) → IsOver (g, l) p → IsGroupOf g p
+group_of g l p m = record { extents = l.region; named = m.named; region = m.region; grid = m.grid }
+
+each_with : (g : StoredText) (b : Bool) (o : Option (List FormulaText)) (l : Option LaidText) (es : List Entry) (gs : List StoredText) → (b ≡ true → has_region o l ≡ true)
+    → ((n : ℕ) (ps : List Group) (os : List Own) → AreMade es n ps os → AreGroupsOf gs ps)
+    → (n : ℕ) (ps : List Group) (os : List Own) → AreMade (rooted_if b g o l es) n ps os → AreGroupsOf (if b then g ∷ gs else gs) ps
+each_with g true (Some fs) (Some l) es gs h f n [] os m = absurd m
+each_with g true (Some fs) (Some l) es gs h f n (p ∷ ps) [] m = absurd m
+each_with g true (Some fs) (Some l) es gs h f n (p ∷ ps) (o ∷ os) m = (group_of g l p m.0, f (n + 1) ps os m.2)
+each_with g true (Some fs) None es gs h f n ps os m = absurd (false≢true (h refl))
+each_with g true None l es gs h f n ps os m = absurd (false≢true (h refl))
+each_with g false (Some fs) (Some l) es gs h f n ps os m = f n ps os m
+each_with g false (Some fs) None es gs h f n ps os m = f n ps os m
+each_with g false None l es gs h f n ps os m = f n ps os m
+
+each_of : (gs : List StoredText) (ls : List (Option LaidText)) → AreLaid gs ls → (n : ℕ) (ps : List Group) (os : List Own) → AreMade (rooted true gs ls) n ps os
+    → AreGroupsOf (root_functions gs) ps
+each_of [] ls h n [] [] m = tt
+each_of [] ls h n [] (o ∷ os) m = absurd m
+each_of [] ls h n (p ∷ ps) os m = absurd m
+each_of (g ∷ gs) [] h n ps os m = absurd h
+each_of (g ∷ gs) (l ∷ ls) h n ps os m = each_with g g.subject.is_root g.formulas l (rooted true gs ls) (root_functions gs) h.0 (each_of gs ls h.1) n ps os m
+
+-- ---- a line for each
+
+own_of : (e : Entry) (n : ℕ) (p : Group) (o : Own) → IsOver e p → IsOwnOver e n o → IsOwnOf n p o
+own_of e n p o m w =
+    let grid = grid_over e.0 e.1.region in
+    let there = subst (λ (r : List Span1). IsInside (grid_scope grid) o.region r) (sym m.region) w.inside in
+    record { numbered = w.numbered; inside = subst (λ (c : List ℕ). IsInside (grid_scope c) o.region p.region) (sym m.grid) there }
+
+owned : (es : List Entry) (n : ℕ) (ps : List Group) (os : List Own) → AreMade es n ps os → AreOwned n ps os
+owned [] n [] [] m = tt
+owned [] n [] (o ∷ os) m = absurd m
+owned [] n (p ∷ ps) os m = absurd m
+owned (e ∷ es) n [] os m = absurd m
+owned (e ∷ es) n (p ∷ ps) [] m = absurd m
+owned (e ∷ es) n (p ∷ ps) (o ∷ os) m = (own_of e n p o m.0 m.1, owned es (n + 1) ps os m.2)
+
+-- ---- the regions that are needed
+
+abbrev pub regions : List Group → List (List Span1)
+regions ps = map (λ p. p.region) ps
+
+needed_with : (g : StoredText) (b : Bool) (o : Option (List FormulaText)) (l : Option LaidText) (es : List Entry) (xs : List (List Span1)) → b ≡ true → (b ≡ true → has_region o l ≡ true)
+    → ((n : ℕ) (ps : List Group) (os : List Own) → AreMade es n ps os → regions ps ≡ xs)
+    → (n : ℕ) (ps : List Group) (os : List Own) → AreMade (rooted_if b g o l es) n ps os → regions ps ≡ region_of l ∷ xs
+needed_with g true (Some fs) (Some l) es xs is h f n [] os m = absurd m
+needed_with g true (Some fs) (Some l) es xs is h f n (p ∷ ps) [] m = absurd m
+needed_with g true (Some fs) (Some l) es xs is h f n (p ∷ ps) (o ∷ os) m = λ i. m.0.region i ∷ f (n + 1) ps os m.2 i
+needed_with g true (Some fs) None es xs is h f n ps os m = absurd (false≢true (h refl))
+needed_with g true None l es xs is h f n ps os m = absurd (false≢true (h refl))
+needed_with g false o l es xs is h f n ps os m = absurd (false≢true is)
+
+needed : (a : Algorithm) (gs : List StoredText) → are_whole gs ≡ true → AreLaid gs (laid_functions a gs) → (n : ℕ) (ps : List Group) (os : List Own)
+    → AreMade (rooted true gs (laid_functions a gs)) n ps os → regions ps ≡ map region_of (laid_functions a gs)
+needed a [] w h n [] [] m = refl
+needed a [] w h n [] (o ∷ os) m = absurd m
+needed a [] w h n (p ∷ ps) os m = absurd m
+needed a (g ∷ gs) w h n ps os m =
+    let found = laid_functions a gs in
+    needed_with g g.subject.is_root g.formulas (laid_within a g gs found) (rooted true gs found) (map region_of found)
+    (whole_root g gs w) h.0 (needed a gs (whole_rest g gs w) h.1) n ps os m
+
+-- ---- bodies
+
+none_with : (g : StoredText) (b : Bool) (o : Option (List FormulaText)) (l : Option LaidText) (es : List Entry) → b ≡ false → es ≡ [] → rooted_if b g o l es ≡ []
+none_with g true o l es isnt e = absurd (false≢true (sym isnt))
+none_with g false (Some fs) (Some l) es isnt e = e
+none_with g false (Some fs) None es isnt e = e
+none_with g false None l es isnt e = e
+
+-- whole functions are root functions
+none_else : (gs : List StoredText) (ls : List (Option LaidText)) → are_whole gs ≡ true → rooted false gs ls ≡ []
+none_else [] ls w = refl
+none_else (g ∷ gs) [] w = refl
+none_else (g ∷ gs) (l ∷ ls) w =
+    none_with g (not g.subject.is_root) g.formulas l (rooted false gs ls) (ap not (whole_root g gs w)) (none_else gs ls (whole_rest g gs w))
+
+bodies_with : (g : StoredText) (b : Bool) (o : Option (List FormulaText)) (l : Option LaidText) (es : List Entry) (gs : List StoredText) → b ≡ true → (b ≡ true → has_region o l ≡ true)
+    → g.formulas ≡ o → ((fs : List FormulaText) (x : LaidText) → o ≡ Some fs → l ≡ Some x → IsLaidOver g fs x)
+    → ((n : ℕ) (ps : List Group) (os : List Own) → AreMade es n ps os → AreBodies es ps → HaveBodies gs ps)
+    → (n : ℕ) (ps : List Group) (os : List Own) → AreMade (rooted_if b g o l es) n ps os → AreBodies (rooted_if b g o l es) ps → HaveBodies (g ∷ gs) ps
+bodies_with g true (Some fs) (Some l) es gs is h e laid f n [] os m k = absurd m
+bodies_with g true (Some fs) (Some l) es gs is h e laid f n (p ∷ ps) [] m k = absurd m
+bodies_with g true (Some fs) (Some l) es gs is h e laid f n (p ∷ ps) (o ∷ os) m k =
+    (record { formulas = fs; extents = l.region; skeleton = l.skeleton; defined = e; region = m.0.region; laid = laid fs l refl refl; body = k.0 }, f (n + 1) ps os m.2 k.1)
+bodies_with g true (Some fs) None es gs is h e laid f n ps os m k = absurd (false≢true (h refl))
+bodies_with g true None l es gs is h e laid f n ps os m k = absurd (false≢true (h refl))
+bodies_with g false o l es gs is h e laid f n ps os m k = absurd (false≢true is)
+
+bodies : (a : Algorithm) (gs : List StoredText) → are_whole gs ≡ true → AreLaid gs (laid_functions a gs) → (n : ℕ) (ps : List Group) (os : List Own)
+    → AreMade (rooted true gs (laid_functions a gs)) n ps os → AreBodies (rooted true gs (laid_functions a gs)) ps → HaveBodies gs ps
+bodies a [] w h n [] [] m k = tt
+bodies a [] w h n [] (o ∷ os) m k = absurd m
+bodies a [] w h n (p ∷ ps) os m k = absurd m
+bodies a (g ∷ gs) w h n ps os m k =
+    let found = laid_functions a gs in
+    bodies_with g g.subject.is_root g.formulas (laid_within a g gs found) (rooted true gs found) gs (whole_root g gs w) h.0 refl
+    (λ fs x e is. laid_over_it a g gs found fs x e is) (bodies a gs (whole_rest g gs w) h.1) n ps os m k
+
+-- ---- all of it
+
+pub plan_made : (gs : List StoredText) (ls : List (Option LaidText)) (qs : List Party) (es : List Entry) (l : Lowered) (ps : List Group) (os : List Own) → AreLaid gs ls
+    → es ≡ rooted true gs ls → (rooted false gs ls ≡ [] → AreAlone qs) → AreMade es 0 ps os → (AreAlone qs → AreBodies es ps) → l.plan.groups.items ≡ ps
+    → l.certificate.own.items ≡ os → IsPlanOf gs ls l
+plan_made gs ls qs es l ps os laid e alone made does is_groups is_own =
+    record {
+      laid = laid;
+      made = subst (λ (xs : List Entry). AreMade xs 0 l.plan.groups.items l.certificate.own.items) e
+          (subst (λ (xs : List Group). AreMade es 0 xs l.certificate.own.items) (sym is_groups) (subst (λ (xs : List Own). AreMade es 0 ps xs) (sym is_own) made));
+      bodies = λ w. subst (λ (xs : List Entry). AreBodies xs l.plan.groups.items) e
+          (subst (λ (xs : List Group). AreBodies es xs) (sym is_groups) (does (alone (none_else gs ls w))));
+    }
+
+pub made_first : (e : Entry) (es : List Entry) (n m : ℕ) (p : Group) (o : Own) (ps qs : List Group) (os rs : List Own) → IsOver e p → IsOwnOver e n o → AreMade es m ps os
+    → m ≡ n + 1 → qs ≡ p ∷ ps → rs ≡ o ∷ os → AreMade (e ∷ es) n qs rs
+made_first e es n m p o ps qs os rs is own are next h k =
+    let behind : AreMade es (n + 1) ps os = subst (λ (i : ℕ). AreMade es i ps os) next are in
+    subst (λ (xs : List Group). AreMade (e ∷ es) n xs rs) (sym h) (subst (λ (xs : List Own). AreMade (e ∷ es) n (p ∷ ps) xs) (sym k) (is, own, behind))
+
+pub groups_made : (a : Algorithm) (gs : List StoredText) (ls : List (Option LaidText)) (l : Lowered) → IsPlanOf gs ls l → (are_whole gs ≡ true → ls ≡ laid_functions a gs) → HasGroups a gs l
+groups_made a gs ls l is laid =
+    let ps = l.plan.groups.items in
+    let os = l.certificate.own.items in
+    record {
+      each = each_of gs ls is.laid 0 ps os is.made;
+      owned = owned (rooted true gs ls) 0 ps os is.made;
+      bodies = λ w. bodies a gs w (subst (AreLaid gs) (laid w) is.laid) 0 ps os (subst (λ (xs : List (Option LaidText)). AreMade (rooted true gs xs) 0 ps os) (laid w) is.made)
+          (subst (λ (xs : List (Option LaidText)). AreBodies (rooted true gs xs) ps) (laid w) (is.bodies w));
+      needed = λ w. needed a gs w (subst (AreLaid gs) (laid w) is.laid) 0 ps os (subst (λ (xs : List (Option LaidText)). AreMade (rooted true gs xs) 0 ps os) (laid w) is.made);
+    }

@@ -1,0 +1,37 @@
+use Rattle.std.proofs.Common.{◌≡◌, Some, None, Err, length, map, sym, subst, ◌∙◌}
+use Rattle.std.proofs.lemmas.List.{length-map}
+use Rattle.std.specs.Option.{option_map}
+use Rattle.algo.specs.View.{algorithm_of}
+use Rattle.lower.specs.declared.error.LowerError.{LowerError}
+use Rattle.lower.specs.Stored.{stored_of, has_large}
+use Rattle.lower.specs.Large.{Finds}
+use Rattle.lower.specs.Regions.{laid_of}
+use Rattle.lower.specs.Faults.{no_totals, IsFirstOf}
+use Rattle.lower.specs.Refused.{Answers}
+use Rattle.lower.proofs.Told.{fault_told, unplanned_told}
+use Rattle.lower.proofs.lowering.plan_laid.Goals as goal
+
+pub returns-in-Some : goal.returns-in-Some
+returns-in-Some c =
+    let a = algorithm_of c.args.algo.now in
+    let gs = map stored_of c.args.stored.now in
+    let ls = map (option_map laid_of) c.args.laid.now in
+    let n = c.asked-count.result in
+    let found = c.in-Some.found in
+    let told = subst (Finds gs n) c.in-Some.is c.in_ok-found.ensures.sizes in
+    let first = subst (IsFirstOf a (has_large gs) no_totals n gs ls) c.in-Some.is c.in_ok-found.ensures.first in
+    let is = fault_told a gs c.args.placement.now.fault ls n found told first c.requires in
+    let P : LowerError → Type 0 = λ e. Answers a gs c.args.placement.now.fault (Err e) in
+    subst P (sym c.refusal.ensures) is
+
+pub returns : goal.returns
+returns c =
+    let a = algorithm_of c.args.algo.now in
+    let gs = map stored_of c.args.stored.now in
+    let ls = map (option_map laid_of) c.args.laid.now in
+    let n = c.asked-count.result in
+    let unbroken : c.args.placement.now.fault ≡ None = c.in_default-fault.is in
+    let all : n ≡ length gs = c.asked-count.ensures unbroken ∙ sym (length-map c.args.stored.now stored_of) in
+    let small = subst (Finds gs n) c.in_default.is c.in_ok-found.ensures.sizes in
+    let first = subst (IsFirstOf a (has_large gs) no_totals n gs ls) c.in_default.is c.in_ok-found.ensures.first in
+    unplanned_told a gs c.args.placement.now.fault ls n c.planned.result unbroken all small first c.requires c.planned.ensures.made c.planned.ensures.unplanned

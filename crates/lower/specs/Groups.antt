@@ -1,0 +1,180 @@
+-- The groups of a plan: one for each stored root function, in the order of declaration, over its region, with a piece for each turn of
+-- its parallel loops.
+use Rattle.std.specs.Prelude.{◌≡◌, ℕ, ◌+◌, Bool, true, false, not, if◌then◌else◌, List, [], ◌∷◌, map, Option, Some, None, string_bytes}
+use Rattle.std.specs.Global.{Vec}
+use Rattle.lin.specs.Regions.{IsInside}
+use Rattle.lin.specs.declared.span.Span1.{Span1}
+use Rattle.plan.specs.declared.plan.Group.{Group}
+use Rattle.plan.specs.declared.certificate.cert.Own.{Own}
+use Rattle.plan.specs.View.{statement_of}
+use Rattle.meaning.specs.Algorithm.{Algorithm}
+use Rattle.sched.specs.Schedule.{Schedule}
+use Rattle.sched.specs.declared.numbers.Extent.{Extent}
+use Rattle.sched.specs.Numbers.{loop_numbers, piece_counts}
+use Rattle.sched.specs.Skeleton.{SkeletonText}
+use Rattle.lower.specs.declared.fetching.Root.{Root}
+use Rattle.lower.specs.declared.lowering.Lowered.{Lowered}
+use Rattle.lower.specs.declared.inner.Inner.{Inner}
+use Rattle.lower.specs.declared.parties.Party.{Party}
+use Rattle.lower.specs.Stored.{FormulaText, StoredText, stored_of, stored_functions}
+use Rattle.lower.specs.Regions.{LaidText, laid_of, laid_functions, skeleton_of}
+use Rattle.lower.specs.Bodies.{IsBody}
+use Rattle.lower.specs.Around.{grid_scope}
+use Rattle.lower.specs.Bounded.{whole}
+use Rattle.lower.specs.Faults.{are_whole}
+
+-- ---- a group
+
+-- how many turns each of a function's parallel loops has over a region, the innermost first; one piece where no loop is parallel
+abbrev pub grid_over : StoredText → List Extent → List ℕ
+grid_over g region = piece_counts (loop_numbers g.subject.variables g.placed.cuts region) g.placed.loops
+
+-- the group of a function: its name, the numbers of its region, and as many pieces as its parallel loops have turns over that
+pub record IsGroupOf (g : StoredText) (p : Group) : Type 0 where
+  pub extents : List Extent
+  pub named : string_bytes p.function ≡ g.subject.name
+  pub region : p.region ≡ map whole extents
+  pub grid : p.grid.items ≡ grid_over g extents
+
+-- one for each of these functions, in their order
+abbrev pub AreGroupsOf : List StoredText → List Group → Type 0
+AreGroupsOf [] [] = Unit {0}
+AreGroupsOf [] (p ∷ ps) = ⊥
+AreGroupsOf (g ∷ gs) [] = ⊥
+AreGroupsOf (g ∷ gs) (p ∷ ps) = IsGroupOf g p × AreGroupsOf gs ps
+
+-- the line of the group of this number: each point that a piece owns is one of the group's region
+pub record IsOwnOf (n : ℕ) (p : Group) (o : Own) : Type 0 where
+  pub numbered : o.group ≡ n
+  pub inside : IsInside (grid_scope p.grid.items) o.region p.region
+
+-- one line for each of these groups, from this number on
+abbrev pub AreOwned : ℕ → List Group → List Own → Type 0
+AreOwned n [] [] = Unit {0}
+AreOwned n [] (o ∷ os) = ⊥
+AreOwned n (p ∷ ps) [] = ⊥
+AreOwned n (p ∷ ps) (o ∷ os) = IsOwnOf n p o × AreOwned (n + 1) ps os
+
+-- what its pieces do: the skeleton's loops, lets and guards over its region, down to each of its stores
+pub record HasBody (g : StoredText) (p : Group) : Type 0 where
+  pub formulas : List FormulaText
+  pub extents : List Extent
+  pub skeleton : SkeletonText
+  pub defined : g.formulas ≡ Some formulas
+  pub region : p.region ≡ map whole extents
+  pub laid : skeleton_of g formulas extents ≡ Some skeleton
+  pub body : IsBody g skeleton (statement_of p.body)
+
+-- each of these functions' groups
+abbrev pub HaveBodies : List StoredText → List Group → Type 0
+HaveBodies [] [] = Unit {0}
+HaveBodies [] (p ∷ ps) = ⊥
+HaveBodies (g ∷ gs) [] = ⊥
+HaveBodies (g ∷ gs) (p ∷ ps) = HasBody g p × HaveBodies gs ps
+
+-- ---- all of them
+
+abbrev pub root_functions : List StoredText → List StoredText
+root_functions [] = []
+root_functions (g ∷ gs) = if g.subject.is_root then g ∷ root_functions gs else root_functions gs
+
+-- all numbers of a region; none where there is no region
+abbrev pub region_of : Option LaidText → List Span1
+region_of None = []
+region_of (Some l) = map whole l.region
+
+-- the stored root functions have the groups, and the certificate tells of each what its pieces own; where each stored function is a root function
+-- that is computed at no loop, the regions are those that are needed, and the pieces do what the skeletons say
+pub record HasGroups (a : Algorithm) (gs : List StoredText) (l : Lowered) : Type 0 where
+  pub each : AreGroupsOf (root_functions gs) l.plan.groups.items
+  pub owned : AreOwned 0 l.plan.groups.items l.certificate.own.items
+  pub needed : are_whole gs ≡ true → map (λ p. p.region) l.plan.groups.items ≡ map region_of (laid_functions a gs)
+  pub bodies : are_whole gs ≡ true → HaveBodies gs l.plan.groups.items
+
+abbrev pub AreGroupsMade : Algorithm → Schedule → Lowered → Type 0
+AreGroupsMade a s l = HasGroups a (stored_functions a s) l
+
+-- ---- while they are made
+
+-- as memory keeps a stored function that has definitions and a region
+abbrev pub root_of : Root → StoredText × LaidText
+root_of r = (stored_of r.stored.now, laid_of r.laid.now)
+
+abbrev pub party_of : Party → StoredText × LaidText
+party_of p = root_of p.root
+
+-- nothing is computed inside its loops
+abbrev pub HasNone : Option (Vec Inner) → Type 0
+HasNone None = Unit {0}
+HasNone (Some v) = v.items ≡ []
+
+abbrev pub IsAlone : Party → Type 0
+IsAlone p = HasNone p.inners
+
+abbrev pub AreAlone : List Party → Type 0
+AreAlone [] = Unit {0}
+AreAlone (p ∷ ps) = IsAlone p × AreAlone ps
+
+abbrev pub is_same : Bool → Bool → Bool
+is_same b true = b
+is_same b false = not b
+
+-- a function before others, where it is one of those that are asked for
+abbrev pub rooted_if : Bool → StoredText → Option (List FormulaText) → Option LaidText → List (StoredText × LaidText) → List (StoredText × LaidText)
+rooted_if b g (Some fs) (Some l) rest = if b then (g, l) ∷ rest else rest
+rooted_if b g (Some fs) None rest = rest
+rooted_if b g None l rest = rest
+
+abbrev pub rooted_by : Bool → StoredText → Option (List FormulaText) → Option LaidText → List (StoredText × LaidText) → List (StoredText × LaidText)
+rooted_by is g o l rest = rooted_if (is_same g.subject.is_root is) g o l rest
+
+-- those that are root functions, or those that are not, of the ones that have definitions and a region
+abbrev pub rooted : Bool → List StoredText → List (Option LaidText) → List (StoredText × LaidText)
+rooted is (g ∷ gs) (l ∷ ls) = rooted_by is g g.formulas l (rooted is gs ls)
+rooted is (g ∷ gs) [] = []
+rooted is [] ls = []
+
+-- the group of a function over this region
+pub record IsOver (e : StoredText × LaidText) (p : Group) : Type 0 where
+  pub named : string_bytes p.function ≡ e.0.subject.name
+  pub region : p.region ≡ map whole e.1.region
+  pub grid : p.grid.items ≡ grid_over e.0 e.1.region
+
+pub record IsOwnOver (e : StoredText × LaidText) (n : ℕ) (o : Own) : Type 0 where
+  pub numbered : o.group ≡ n
+  pub inside : IsInside (grid_scope (grid_over e.0 e.1.region)) o.region (map whole e.1.region)
+
+-- one for each of these, with a line for each, from this number on
+abbrev pub AreMade : List (StoredText × LaidText) → ℕ → List Group → List Own → Type 0
+AreMade [] n [] [] = Unit {0}
+AreMade [] n [] (o ∷ os) = ⊥
+AreMade [] n (p ∷ ps) os = ⊥
+AreMade (e ∷ es) n [] os = ⊥
+AreMade (e ∷ es) n (p ∷ ps) [] = ⊥
+AreMade (e ∷ es) n (p ∷ ps) (o ∷ os) = IsOver e p × IsOwnOver e n o × AreMade es (n + 1) ps os
+
+-- its pieces do what the skeleton over the region says
+abbrev pub IsBodyOf : StoredText × LaidText → Group → Type 0
+IsBodyOf e p = IsBody e.0 e.1.skeleton (statement_of p.body)
+
+abbrev pub AreBodies : List (StoredText × LaidText) → List Group → Type 0
+AreBodies [] ps = Unit {0}
+AreBodies (e ∷ es) [] = Unit {0}
+AreBodies (e ∷ es) (p ∷ ps) = IsBodyOf e p × AreBodies es ps
+
+-- each root function has definitions and a region
+abbrev pub has_region : Option (List FormulaText) → Option LaidText → Bool
+has_region (Some fs) (Some l) = true
+has_region (Some fs) None = false
+has_region None l = false
+
+abbrev pub AreLaid : List StoredText → List (Option LaidText) → Type 0
+AreLaid [] ls = Unit {0}
+AreLaid (g ∷ gs) [] = ⊥
+AreLaid (g ∷ gs) (l ∷ ls) = (g.subject.is_root ≡ true → has_region g.formulas l ≡ true) × AreLaid gs ls
+
+-- the plan of these functions over these regions
+pub record IsPlanOf (gs : List StoredText) (ls : List (Option LaidText)) (l : Lowered) : Type 0 where
+  pub laid : AreLaid gs ls
+  pub made : AreMade (rooted true gs ls) 0 l.plan.groups.items l.certificate.own.items
+  pub bodies : are_whole gs ≡ true → AreBodies (rooted true gs ls) l.plan.groups.items

@@ -1,0 +1,292 @@
+//! The statements of a function inside whose loops nothing is computed: those of its skeleton, whose symbols are the plan's.
+
+ghost use Rattle.std.specs.Prelude.{◌≡◌, ◌∷◌, [], ◌++◌, IfOk, map, ◌+◌};
+ghost use Rattle.plan.specs.Lists.{list_statements};
+ghost use Rattle.plan.specs.Plan.{block, Empty, Then};
+ghost use Rattle.plan.specs.View.{coordinate_of, index_of as told_index, statement_of};
+ghost use Rattle.sched.specs.Runs.{lines_to as steps_to};
+ghost use Rattle.sched.specs.Skeleton.{nest_seen, skeleton_seen};
+ghost use Rattle.lower.specs.Stored.{stored_of};
+ghost use Rattle.lower.specs.Bodies as spec;
+
+use crate::error::Stop;
+use crate::fetching::Root;
+use crate::loading::{Load, loaded};
+use crate::scopes::variables_of;
+use lin::{Lin, Region};
+use plan::{Coordinate, Index, Places, Stmt};
+use sched::{Nest, Step};
+use std::alloc::{AllocError, Global};
+use tree::Expr;
+
+/// A buffer of another function, and what of a group is fetched into it.
+#[derive(Drop)]
+pub(crate) struct Fetch<'a> {
+    pub buffer: u64,
+    pub function: &'a str,
+    pub places: Vec<Places>,
+    pub group: u64,
+    pub region: Region,
+}
+
+// ---- steps
+
+fn alone(alloc: Global, statement: Stmt) -> Result<Vec<Stmt>, AllocError>
+    ensures { IfOk result (λ v. v.items ≡ statement ∷ []) }
+{
+    let mut statements = Vec::new(alloc);
+    statements.push(statement)?;
+    Ok(statements)
+}
+
+/// The statement of a block.
+pub(crate) fn block_of(inside: Vec<Stmt>) -> Stmt
+    ensures { statement_of result ≡ spec.body (list_statements inside.items) }
+{
+    Stmt::Seq(inside)
+}
+
+// A loop or a guard around what follows, or a let in front of it.
+fn with_step(alloc: Global, step: &Step, inside: Vec<Stmt>) -> Result<Vec<Stmt>, AllocError>
+    ensures { IfOk result (λ v. block (list_statements v.items) ≡ spec.with_step step.now (block (list_statements inside.items))) }
+{
+    match step {
+        Step::Turns { symbol, span, kind } => {
+            let span = span.copy(alloc)?;
+            let body = Box::new(alloc, block_of(inside))?;
+            let statement = Stmt::For {
+                symbol: *symbol,
+                span,
+                kind: *kind,
+                body,
+            };
+            alone(alloc, statement)
+        }
+        Step::Named {
+            symbol,
+            pick,
+            forms,
+        } => {
+            let forms = forms.copy(alloc)?;
+            let mut statements = inside;
+            let statement = Stmt::Let {
+                symbol: *symbol,
+                pick: *pick,
+                forms,
+            };
+            statements.insert(0, statement)?;
+            Ok(statements)
+        }
+        Step::Tested { low, high } => {
+            let low = low.copy(alloc)?;
+            let high = high.copy(alloc)?;
+            let body = Box::new(alloc, block_of(inside))?;
+            alone(alloc, Stmt::Guard { low, high, body })
+        }
+    }
+}
+
+/// The lines that come to these, by the steps.
+#[tactic(auto, using(crate::proofs::Wholes::stepped))]
+pub(crate) fn lines_to(
+    alloc: Global,
+    steps: &[Step],
+    inner: Vec<Stmt>,
+) -> Result<Vec<Stmt>, AllocError>
+    ensures { IfOk result (λ v. block (list_statements v.items) ≡ steps_to steps.now (block (list_statements inner.items))) }
+{
+    match steps {
+        [] => Ok(inner),
+        [step, rest @ ..] => {
+            let inside = lines_to(alloc, rest, inner)?;
+            with_step(alloc, step, inside)
+        }
+    }
+}
+
+/// How many lines the steps make: a loop and a guard have an `end`.
+pub(crate) fn line_count(steps: &[Step]) -> u64 {
+    let mut count: u64 = 0;
+    for step in steps {
+        let own = match step {
+            Step::Named { .. } => 1,
+            Step::Turns { .. } | Step::Tested { .. } => 2,
+        };
+        count = count.saturating_add(own);
+    }
+    count
+}
+
+// ---- stores
+
+// A coordinate: the skeleton's form, or what the left index comes to where that has none.
+fn index_of(
+    alloc: Global,
+    form: &Option<Lin>,
+    index: Option<&Expr>,
+    loads: &[Load<'_>],
+) -> Result<Index, Stop>
+    ensures { IfOk result (λ index. spec.IsIndex form.now (told_index index)) }
+{
+    match form {
+        Some(form) => Ok(Index::Form(form.copy(alloc)?)),
+        None => match index {
+            Some(index) => Ok(Index::Found(loaded(alloc, index, loads)?)),
+            None => Err(Stop::Limit),
+        },
+    }
+}
+
+// The left index of a variable, where it is not the variable alone.
+fn first_index(at: &[Option<Expr>]) -> Option<&Expr> {
+    match at {
+        [first, _rest @ ..] => first.as_ref(),
+        [] => None,
+    }
+}
+
+fn other_indices(at: &[Option<Expr>]) -> &[Option<Expr>] {
+    match at {
+        [_first, rest @ ..] => rest,
+        [] => at,
+    }
+}
+
+fn coordinates_of(
+    alloc: Global,
+    names: &[&str],
+    forms: &[Option<Lin>],
+    at: &[Option<Expr>],
+    loads: &[Load<'_>],
+) -> Result<Vec<Coordinate>, Stop>
+    ensures { IfOk result (λ v. spec.AreCoordinates (map (λ x. x.now) names.now) forms.now (map coordinate_of v.items)) }
+{
+    match forms {
+        [] => Ok(Vec::new(alloc)),
+        [form, others @ ..] => match names {
+            [] => Err(Stop::Limit),
+            [name, rest @ ..] => {
+                let index = index_of(alloc, form, first_index(at), loads)?;
+                let variable = String::from_str(alloc, name)?;
+                let first = Coordinate { variable, index };
+                let mut found = coordinates_of(alloc, rest, others, other_indices(at), loads)?;
+                found.insert(0, first)?;
+                Ok(found)
+            }
+        },
+    }
+}
+
+/// The store of the definition of this number at the coordinates of its nest, into the piece's own buffer.
+pub(crate) fn store_of(
+    alloc: Global,
+    root: &Root<'_>,
+    definition: usize,
+    nest: &Nest,
+    loads: &[Load<'_>],
+) -> Result<Stmt, Stop>
+    ensures { IfOk result (λ store. spec.IsStore (stored_of root.now.stored.now) definition (nest_seen nest.now) (statement_of store)) }
+{
+    let Some(formula) = root.formulas.get(definition) else {
+        return Err(Stop::Limit);
+    };
+    let names = variables_of(alloc, root.stored.function, definition)?;
+    let coordinates = coordinates_of(alloc, &names, &nest.at, &formula.at, loads)?;
+    let value = loaded(alloc, &formula.value, loads)?;
+    Ok(Stmt::Store {
+        buffer: 0,
+        definition: definition as u64,
+        coordinates,
+        value,
+    })
+}
+
+/// The lines down to that store, with it.
+#[tactic(auto, using(crate::proofs::Wholes::nest_made))]
+pub(crate) fn nest_of(
+    alloc: Global,
+    root: &Root<'_>,
+    definition: usize,
+    nest: &Nest,
+    loads: &[Load<'_>],
+) -> Result<Vec<Stmt>, Stop>
+    ensures { IfOk result (λ v. spec.IsNest (stored_of root.now.stored.now) definition (nest_seen nest.now) (list_statements v.items)) }
+{
+    let store = store_of(alloc, root, definition, nest, loads)?;
+    let inner = alone(alloc, store)?;
+    Ok(lines_to(alloc, &nest.steps, inner)?)
+}
+
+// ---- fetches
+
+// The lines of these fetches before others.
+fn before_fetches(
+    alloc: Global,
+    fetch: Fetch<'_>,
+    others: Vec<Stmt>,
+) -> Result<Vec<Stmt>, AllocError>
+    requires { spec.AreFetches (list_statements others.items) }
+    ensures { IfOk result (λ v. spec.AreFetches (list_statements v.items)) }
+{
+    let function = String::from_str(alloc, fetch.function)?;
+    let mut statements = others;
+    statements.insert(
+        0,
+        Stmt::Fetch {
+            buffer: fetch.buffer,
+            group: fetch.group,
+            region: fetch.region,
+        },
+    )?;
+    statements.insert(
+        0,
+        Stmt::Alloc {
+            buffer: fetch.buffer,
+            function,
+            places: fetch.places,
+        },
+    )?;
+    Ok(statements)
+}
+
+/// The lines of these fetches, in their order.
+pub(crate) fn fetch_lines(alloc: Global, fetches: Vec<Fetch<'_>>) -> Result<Vec<Stmt>, AllocError>
+    ensures { IfOk result (λ v. spec.AreFetches (list_statements v.items)) }
+{
+    let mut fetches = fetches;
+    let mut statements = Vec::new(alloc);
+    while let Some(fetch) = fetches.pop() {
+        statements = before_fetches(alloc, fetch, statements)?;
+    }
+    Ok(statements)
+}
+
+// ---- the whole
+
+/// What a piece does: the lets over the grid, its buffer, what it fetches, these nests, and what it publishes.
+#[tactic(auto, using(crate::proofs::Wholes::body_made))]
+pub(crate) fn body_with(
+    alloc: Global,
+    root: &Root<'_>,
+    places: Vec<Places>,
+    fetches: Vec<Stmt>,
+    nests: Vec<Stmt>,
+    claim: u64,
+) -> Result<Vec<Stmt>, Stop>
+    requires { spec.AreFetches (list_statements fetches.items) }
+    ensures { IfOk result (λ v. spec.IsBodyWith (stored_of root.now.stored.now) (skeleton_seen root.now.laid.now.skeleton)
+        (list_statements nests.items) (spec.body (list_statements v.items))) }
+{
+    let function = String::from_str(alloc, root.stored.subject.name.as_str())?;
+    let own = Stmt::Alloc {
+        buffer: 0,
+        function,
+        places,
+    };
+    let mut nests = nests;
+    nests.push(Stmt::Publish { claim })?;
+    let mut inner = fetches;
+    inner.append(&mut nests)?;
+    inner.insert(0, own)?;
+    Ok(lines_to(alloc, &root.laid.skeleton.head, inner)?)
+}
