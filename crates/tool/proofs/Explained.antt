@@ -1,12 +1,12 @@
 -- Files that stay as they are behind a refusal, and the words that are left.
-use Rattle.std.proofs.Common.{◌≡◌, ◌∙◌, ap, sym, subst, refl, ℕ, Bool, true, false, cond, length, List, [], ◌∷◌, map, filter, None, Some, inl, inr, Result, Ok, Err}
-use Rattle.std.specs.Prelude.{OnOk}
+use Rattle.std.proofs.Common.{◌≡◌, ◌∙◌, ap, sym, subst, ℕ, Bool, length, List, map, None, Some, inl, inr, Result, Ok, Err}
+use Rattle.std.specs.Prelude.{OnOk, if◌then◌else◌}
 use Rattle.clap.specs.Words.{Text}
 use Rattle.tool.specs.declared.pipeline.fault.Fault.{Fault}
 use Rattle.tool.specs.Answer.{CommandAnswers, Ends}
 use Rattle.tool.specs.Asked.{Asked, Picture, Format, Explain, Compile, Check, Cost, Show, Draw, Replay, Compare, Crop, Tiles}
 use Rattle.tool.specs.Files.{Contents, SameFiles, SameOthers}
-use Rattle.tool.specs.Line.{is_stated, stated}
+use Rattle.tool.specs.Line.{stated}
 use Rattle.tool.specs.Tilings.{SameBeside}
 use Rattle.tool.proofs.Kept.{same_then}
 
@@ -52,18 +52,12 @@ pub ended_then : {S : Type 0} (contents : S → Contents) (a : Asked) (old : Con
 ended_then contents a old mid new (Ok u) h same k = subst (λ s. Ends old (contents s) a (Ok u)) (sym same) h
 ended_then contents a old mid new (Err fault) h same k = refused_then a old (contents mid) (contents new) fault h k
 
-said_step : {A : Type 0} (said : A → Text) (b : Bool) (w : A) (words : List A) → map said (cond b (w ∷ words) words) ≡ cond b (said w ∷ map said words) (map said words)
-said_step said true w words = refl
-said_step said false w words = refl
-
--- a test of what is said of elements tells of what is said
-pub filter_said : {A : Type 0} (said : A → Text) (test : Text → Bool) (words : List A) → map said (filter (λ w. test (said w)) words) ≡ filter test (map said words)
-filter_said said test [] = refl
-filter_said said test (w ∷ words) =
-    said_step said (test (said w)) w (filter (λ v. test (said v)) words) ∙ ap (λ ys. cond (test (said w)) (said w ∷ ys) ys) (filter_said said test words)
+-- what is left of the words from a place on: all of them, where `--` stands before it
+abbrev pub left_of : Bool → List Text → List Text
+left_of are_names words = if are_names then words else stated words
 
 -- what the program answers on the words that are left
-pub stated_answer : {A : Type 0} (said : A → Text) (names kept words : List A) (old new : Contents) (status : ℕ) → names ≡ kept → kept ≡ filter (λ w. is_stated (said w)) words
+pub stated_answer : {A : Type 0} (said : A → Text) (names kept words : List A) (old new : Contents) (status : ℕ) → names ≡ kept → map said kept ≡ stated (map said words)
     → CommandAnswers (map said names) old new status → CommandAnswers (stated (map said words)) old new status
 stated_answer said names kept words old new status slice left h =
-    subst (λ (said_words : List Text). CommandAnswers said_words old new status) (ap (map said) (slice ∙ left) ∙ filter_said said is_stated words) h
+    subst (λ (said_words : List Text). CommandAnswers said_words old new status) (ap (map said) slice ∙ left) h

@@ -1,5 +1,5 @@
 -- The command line: the words that it takes, and what they ask for.
-use Rattle.std.specs.Prelude.{◌≡◌, ◌≢◌, ◌⊎◌, ℕ, Bool, List, [], Option, None, Some, ◌^◌, true, false, codes, option_and_then, option_map, filter, not, if◌then◌else◌}
+use Rattle.std.specs.Prelude.{◌≡◌, ◌≢◌, ◌⊎◌, ℕ, Bool, List, [], ◌∷◌, Option, None, Some, ◌^◌, true, false, codes, option_and_then, option_map, not, if◌then◌else◌}
 use Rattle.std.specs.Str.{bytes_eq}
 use Rattle.clap.specs.declared.builder.action.ArgAction.TheVariants.{SetTrue}
 use Rattle.clap.specs.declared.error.kind.ErrorKind.{ErrorKind}
@@ -70,19 +70,19 @@ abbrev pub plain_line : App
 plain_line = with_rule named_plain_line at_most_rule
 
 abbrev pub named_run_line : App
-named_run_line = with_rule (with_rule (with_rule (with_rule (new_app (codes "run")) (needed (codes "ALG"))) (needed (codes "PLAN"))) (needed (codes "IN"))) (needed (codes "OUT"))
+named_run_line = with_rule (with_rule (plan_line (codes "run")) (needed (codes "IN"))) (needed (codes "OUT"))
 
 abbrev pub run_line : App
 run_line = with_rule (with_rule named_run_line workers_rule) at_most_rule
 
 abbrev pub named_draw_line : App
-named_draw_line = with_rule (with_rule (with_rule (new_app (codes "draw")) (needed (codes "ALG"))) (needed (codes "PLAN"))) (needed (codes "OUT"))
+named_draw_line = with_rule (plan_line (codes "draw")) (needed (codes "OUT"))
 
 abbrev pub draw_line : App
 draw_line = with_rule named_draw_line order_rule
 
 abbrev pub replay_line : App
-replay_line = with_rule (with_rule (with_rule (with_rule (new_app (codes "replay")) (needed (codes "ALG"))) (needed (codes "PLAN"))) (needed (codes "IN"))) (needed (codes "ORDER"))
+replay_line = with_rule (with_rule (plan_line (codes "replay")) (needed (codes "IN"))) (needed (codes "ORDER"))
 
 -- crop ALG X Y, and with these W H OUT
 abbrev pub placed_line : App
@@ -114,8 +114,12 @@ told = with_subcommand (with_subcommand (with_subcommand (with_subcommand schedu
 abbrev pub cut : App
 cut = with_subcommand (with_subcommand told crop_line.top) tiles_line.top
 
+-- with them those that compute by a plan file
+abbrev pub computed : App
+computed = with_subcommand (with_subcommand cut run_line.top) replay_line.top
+
 abbrev pub line : App
-line = with_subcommand (with_subcommand (with_subcommand cut run_line.top) replay_line.top) draw_line.top
+line = with_subcommand computed draw_line.top
 
 -- a picture, where all three names are there
 abbrev pub all_three : AskedWay → Option Text → Option Text → Option Text → Option Asked
@@ -284,9 +288,14 @@ asked words = option_and_then asked_of_command (subcommand_of line words)
 abbrev pub is_stated : Text → Bool
 is_stated word = not (bytes_eq word (codes "--explain"))
 
--- the words without those that do, wherever they stand
+-- a word behind which each word is a name
+abbrev pub names_follow : Text → Bool
+names_follow word = bytes_eq word (codes "--")
+
+-- the words without those that ask for more, wherever they stand before `--`
 abbrev pub stated : List Text → List Text
-stated words = filter is_stated words
+stated [] = []
+stated (word ∷ words) = if names_follow word then word ∷ words else (if is_stated word then word ∷ stated words else stated words)
 
 -- nothing is wrong with the words, and they ask for this
 abbrev pub AsksFor : List Text → Asked → Type 0

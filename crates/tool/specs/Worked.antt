@@ -103,9 +103,11 @@ ReplayWithNames =
     AsksFor (codes "replay" ∷ codes "a.alg" ∷ codes "p.plan" ∷ codes "b.pgm" ∷ codes "o.txt" ∷ [])
     (Replay (record { check = record { algorithm = codes "a.alg"; plan = codes "p.plan" }; input = codes "b.pgm"; order = codes "o.txt" }))
 
--- the word that asks for more of a refusal, before and behind the others
+-- the word that asks for more of a refusal, before and behind the others, and as a name
 abbrev pub ExplainedWords : Type 0
-ExplainedWords = stated (codes "--explain" ∷ codes "check" ∷ codes "a.alg" ∷ codes "p.plan" ∷ codes "--explain" ∷ []) ≡ codes "check" ∷ codes "a.alg" ∷ codes "p.plan" ∷ []
+ExplainedWords =
+    (stated (codes "--explain" ∷ codes "check" ∷ codes "a.alg" ∷ codes "p.plan" ∷ codes "--explain" ∷ []) ≡ codes "check" ∷ codes "a.alg" ∷ codes "p.plan" ∷ [])
+    × (stated (codes "check" ∷ codes "--" ∷ codes "--explain" ∷ codes "p.plan" ∷ []) ≡ codes "check" ∷ codes "--" ∷ codes "--explain" ∷ codes "p.plan" ∷ [])
 
 abbrev pub HelpWords : Type 0
 HelpWords = AsksHelp (codes "--help" ∷ []) × AsksHelp (codes "help" ∷ []) × AsksHelp (codes "plain" ∷ codes "--help" ∷ [])

@@ -5,7 +5,7 @@ ghost use Rattle.tool.specs.Files.{SameFiles};
 
 use crate::device::Files;
 use crate::pipeline::Fault;
-use crate::reasons::reason_again;
+use crate::reasons::{reason_again, refused_among};
 use crate::request::{Request, Way};
 use report::codes::page;
 use std::alloc::Global;
@@ -13,7 +13,7 @@ use std::io::Write;
 use std::{slice, str};
 use tree::token::Span;
 
-/// The most bytes of a line before the place that is marked, and of the marks.
+/// The most columns of a line before the place that is marked, and the most marks.
 const MOST_MARKED: usize = 400;
 
 /// How much is told of a refusal.
@@ -66,25 +66,20 @@ fn line_at(text: &[u8], place: Place) -> Line {
     line
 }
 
-/// Which file a refusal is of, and where in it.
-fn place_of<'a>(request: &Request<'a>, fault: &Fault) -> Option<(&'a str, Place)> {
+/// A place of these bytes.
+fn bytes_of(span: &Span) -> Place {
+    Place::Bytes {
+        start: span.start,
+        end: span.end,
+    }
+}
+
+/// Where in its file a refusal is.
+fn place_of(fault: &Fault) -> Option<Place> {
     match fault {
-        Fault::Algo { span, .. } => Some((
-            algorithm_of(request)?,
-            Place::Bytes {
-                start: span.start,
-                end: span.end,
-            },
-        )),
-        Fault::Schedule { span, .. } => Some((
-            schedule_of(request)?,
-            Place::Bytes {
-                start: span.start,
-                end: span.end,
-            },
-        )),
+        Fault::Algo { span, .. } | Fault::Schedule { span, .. } => Some(bytes_of(span)),
         Fault::Plan { line, .. } | Fault::Form { line } | Fault::Limit { line } => {
-            Some((plan_of(request)?, Place::Line(*line)))
+            Some(Place::Line(*line))
         }
         _ => None,
     }
@@ -105,14 +100,6 @@ fn algorithm_of<'a>(request: &Request<'a>) -> Option<&'a str> {
         Request::Crop(asked) => Some(asked.algorithm),
         Request::Tiles(asked) => Some(asked.algorithm),
         Request::Explain(_) => None,
-    }
-}
-
-/// The schedule's file, where there is one.
-fn schedule_of<'a>(request: &Request<'a>) -> Option<&'a str> {
-    match request {
-        Request::Compile(asked) => Some(asked.schedule),
-        _ => None,
     }
 }
 
@@ -139,13 +126,41 @@ fn plan_of<'a>(request: &Request<'a>) -> Option<&'a str> {
     }
 }
 
-/// Puts a mark under each byte of a place, as far as it stands in the line.
-fn mark<E: Write>(line: Line, start: usize, end: usize, err: &mut E) {
-    let before = start.saturating_sub(line.start).min(MOST_MARKED);
-    let marked = end
-        .min(line.end)
-        .saturating_sub(start)
-        .clamp(1, MOST_MARKED);
+/// How many columns a byte takes where its line is shown: a control byte is shown as its escape.
+fn columns_of(byte: u8) -> usize {
+    match byte {
+        b'\t' | b'\r' => 2,
+        _ if byte.is_ascii_control() => 4,
+        _ => 1,
+    }
+}
+
+/// How many columns the bytes of a text from one to another take, as far as these are there.
+fn columns(text: &[u8], start: usize, end: usize) -> usize {
+    let Some(bytes) = text.get(start..end) else {
+        return 0;
+    };
+    let mut columns: usize = 0;
+    for byte in bytes {
+        columns = columns.saturating_add(columns_of(*byte));
+    }
+    columns
+}
+
+/// How many columns stand in a line before a place.
+fn columns_before(text: &[u8], line: Line, start: usize) -> usize {
+    columns(text, line.start, start).min(MOST_MARKED)
+}
+
+/// How many marks stand under a place, as far as it stands in the line: one at least.
+fn marks_under(text: &[u8], line: Line, start: usize, end: usize) -> usize {
+    columns(text, start, end.min(line.end)).clamp(1, MOST_MARKED)
+}
+
+/// Puts marks under a place, as far as it stands in the line.
+fn mark<E: Write>(text: &[u8], line: Line, start: usize, end: usize, err: &mut E) {
+    let before = columns_before(text, line, start);
+    let marked = marks_under(text, line, start, end);
     let _ = writeln!(err, "{:before$}{:^<marked$}", "", "");
 }
 
@@ -161,32 +176,16 @@ fn show<E: Write>(name: &str, text: &[u8], place: Place, err: &mut E) {
     let _ = writeln!(err, "{name}, line {}:", line.number);
     let _ = writeln!(err, "{said}");
     if let Place::Bytes { start, end } = place {
-        mark(line, start, end, err);
+        mark(text, line, start, end, err);
     }
 }
 
-/// A place of these bytes.
-fn bytes_of(span: &Span) -> Place {
-    Place::Bytes {
-        start: span.start,
-        end: span.end,
-    }
-}
-
-/// How many marks stand under a place.
-fn marks_under(line: Line, span: &Span) -> usize {
-    span.end
-        .min(line.end)
-        .saturating_sub(span.start)
-        .clamp(1, MOST_MARKED)
-}
-
-/// Puts a mark under each byte of two places of a line, of which the first ends before the second begins.
-fn mark_two<E: Write>(line: Line, first: &Span, second: &Span, err: &mut E) {
-    let before = first.start.saturating_sub(line.start).min(MOST_MARKED);
-    let left = marks_under(line, first);
-    let between = second.start.saturating_sub(first.end).min(MOST_MARKED);
-    let right = marks_under(line, second);
+/// Puts marks under two places of a line, of which the first ends before the second begins.
+fn mark_two<E: Write>(text: &[u8], line: Line, first: &Span, second: &Span, err: &mut E) {
+    let before = columns_before(text, line, first.start);
+    let left = marks_under(text, line, first.start, first.end);
+    let between = columns(text, first.end, second.start).min(MOST_MARKED);
+    let right = marks_under(text, line, second.start, second.end);
     let _ = writeln!(
         err,
         "{:before$}{:^<left$}{:between$}{:^<right$}",
@@ -200,10 +199,10 @@ fn show_two<E: Write>(name: &str, text: &[u8], first: &Span, second: &Span, err:
     let is_one = line_at(text, bytes_of(second)) == line;
     if is_one && first.end <= second.start {
         show(name, text, Place::Line(line.number), err);
-        mark_two(line, first, second, err);
+        mark_two(text, line, first, second, err);
     } else if is_one && second.end <= first.start {
         show(name, text, Place::Line(line.number), err);
-        mark_two(line, second, first, err);
+        mark_two(text, line, second, first, err);
     } else {
         show(name, text, bytes_of(first), err);
         if !is_one {
@@ -235,7 +234,24 @@ fn tell<E: Write>(page: &str, err: &mut E) {
     let _ = write!(err, "{mend}");
 }
 
+/// Which file a refusal is of, where that is known.
+fn file_of<'a, F: Files>(
+    alloc: Global,
+    files: &mut F,
+    request: &Request<'a>,
+    fault: &Fault,
+) -> Option<&'a str>
+    ensures { SameFiles (F.contents files.old) (F.contents files.new) }
+{
+    match fault {
+        Fault::Schedule { .. } => refused_among(alloc, files, schedules_of(request)),
+        Fault::Algo { .. } => algorithm_of(request),
+        _ => plan_of(request),
+    }
+}
+
 /// Shows where in its file something is refused, where that can be read again.
+#[tactic(auto, using(crate::proofs::Kept::same_then))]
 fn show_place<F: Files, E: Write>(
     alloc: Global,
     files: &mut F,
@@ -245,7 +261,10 @@ fn show_place<F: Files, E: Write>(
 )
     ensures { SameFiles (F.contents files.old) (F.contents files.new) }
 {
-    let Some((name, place)) = place_of(request, fault) else {
+    let Some(place) = place_of(fault) else {
+        return;
+    };
+    let Some(name) = file_of(alloc, files, request, fault) else {
         return;
     };
     if name == "-" {

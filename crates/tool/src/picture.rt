@@ -21,7 +21,7 @@ use crate::request::{PictureRequest, Way};
 use algo::{Algo, Inputs};
 use checked_plan::Checked;
 use pnm::PnmError;
-use report::cost;
+use report::stores_within;
 use std::alloc::Global;
 use std::str;
 use std::sync::Wait;
@@ -61,10 +61,10 @@ fn stays_within(alloc: Global, checked: &Checked<'_>, most: Option<u64>) -> Resu
     let Some(most) = most else {
         return Ok(());
     };
-    if cost(alloc, checked)?.stores() > most {
-        Err(Fault::Budget)
-    } else {
+    if stores_within(alloc, checked, most)? {
         Ok(())
+    } else {
+        Err(Fault::Budget)
     }
 }
 

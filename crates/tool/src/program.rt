@@ -1,13 +1,13 @@
 //! The program, but for its real files and streams.
 
-ghost use Rattle.std.specs.Prelude.{◌≡◌, ◌≢◌, ◌⊎◌, [], map, filter, IfOk, IfErr, OnOk, IsErrOf};
+ghost use Rattle.std.specs.Prelude.{◌≡◌, ◌≢◌, ◌⊎◌, [], map, IfOk, IfErr, OnOk, IsErrOf};
 ghost use Rattle.std.specs.Io.KnownBytes.{Keeps};
 ghost use Rattle.clap.specs.Words.{kind_of};
 ghost use Rattle.tool.specs.Pipeline.Pictures.{IsDone, IsRefused};
 ghost use Rattle.tool.specs.declared.pipeline.fault.Fault.{Fault};
 ghost use Rattle.pnm.specs.declared.error.PnmError.{PnmError};
 ghost use Rattle.tool.specs.Asked.{asked_by};
-ghost use Rattle.tool.specs.Line.{is_stated, stated};
+ghost use Rattle.tool.specs.Line.{stated};
 ghost use Rattle.tool.specs.Answer.{CommandAnswers, Ends, HasEnded, StreamsAnswer, status_after};
 
 use crate::compare::compare_command;
@@ -60,6 +60,9 @@ const MISUSED: u8 = 2;
 
 // The word that asks for more of a refusal.
 const EXPLAIN: &str = "--explain";
+
+// The word behind which each word is a name.
+const NAMES_FOLLOW: &str = "--";
 
 /// Hands on what a writer holds back.
 pub(crate) fn flush<W: Write>(out: &mut W) -> Result<(), Fault>
@@ -172,13 +175,15 @@ fn carry_out<T: Threads + Wait + Sync, F: Files, W: Write, E: Write>(
     status
 }
 
-/// The words without those that ask for more of a refusal.
+/// The words without those that ask for more of a refusal. Behind `--` each word is a name, and none asks for more.
 fn stated_words<'a>(alloc: Global, words: &[&'a str]) -> Result<Vec<&'a str>, AllocError>
-    ensures { IfOk result (λ kept. kept.items ≡ filter (λ word. is_stated word.now) words.now) }
+    ensures { IfOk result (λ kept. map (λ word. word.now) kept.items ≡ stated (map (λ word. word.now) words.now)) }
 {
     let mut kept = Vec::with_capacity(alloc, words.len())?;
+    let mut are_names = false;
     for word in words {
-        if *word != EXPLAIN {
+        are_names = are_names || *word == NAMES_FOLLOW;
+        if are_names || *word != EXPLAIN {
             kept.push(*word)?;
         }
     }
@@ -212,8 +217,8 @@ fn tool_on<T: Threads + Wait + Sync, F: Files, W: Write, E: Write>(
     }
 }
 
-/// Runs the program on the words after its name, and answers its exit status. A word `--explain`, wherever it stands, asks
-/// for more of a refusal than its line, and changes nothing else. Pieces and pixels are computed in the caller's
+/// Runs the program on the words after its name, and answers its exit status. A word `--explain`, wherever it stands before a
+/// word `--`, asks for more of a refusal than its line, and changes nothing else. Pieces and pixels are computed in the caller's
 /// thread and in threads that are started through `rt`; where none can be started the caller computes all.
 pub fn tool<T: Threads + Wait + Sync, F: Files, R: Read, W: Write, E: Write>(
     rt: &T,

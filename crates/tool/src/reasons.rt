@@ -4,6 +4,7 @@ ghost use Rattle.tool.specs.Files.{SameFiles};
 
 use crate::device::Files;
 use crate::picture::algorithm_in;
+use crate::pipeline::Fault;
 use crate::schedule_command::schedule_in;
 use algo::Algo;
 use lower::{LowerError, Reason, lower, reason};
@@ -33,6 +34,31 @@ fn answer_to(alloc: Global, algo: &Algo, sched: &Sched) -> Answer {
         return Answer::Taken;
     };
     Answer::Refused(reason_of(alloc, algo, sched, &error))
+}
+
+/// The first of these schedules whose text is refused, where one is; none where one before it can't be read again.
+#[tactic(auto, using(crate::proofs::Kept::same_then))]
+pub(crate) fn refused_among<'a, F: Files>(
+    alloc: Global,
+    files: &mut F,
+    names: &[&'a str],
+) -> Option<&'a str>
+    ensures { SameFiles (F.contents files.old) (F.contents files.new) }
+{
+    match names {
+        [] => None,
+        [last] => Some(*last),
+        [name, rest @ ..] => {
+            if *name == "-" {
+                return None;
+            }
+            match schedule_in(alloc, files, name) {
+                Ok(_) => refused_among(alloc, files, rest),
+                Err(Fault::Schedule { .. }) => Some(*name),
+                Err(_) => None,
+            }
+        }
+    }
 }
 
 /// What made the first of these schedules that breaks a rule do so; none where one can't be read again.

@@ -3,9 +3,9 @@
 ghost use Rattle.std.specs.Prelude.{◌≡◌, codes, false, IfOk};
 ghost use Rattle.clap.specs.Words.{app_of, new_app, rule_of, with_subcommand};
 ghost use Rattle.clap.specs.declared.builder.command.Command.TheViews.{out-Command};
-ghost use Rattle.tool.specs.Line.{at_most_rule, by_first_rule, compare_line, compile_line, draw_line, explain_line, format_line, line, named_compare_line, named_draw_line, named_plain_line, named_run_line, needed};
+ghost use Rattle.tool.specs.Line.{at_most_rule, by_first_rule, compare_line, compile_line, computed, draw_line, explain_line, format_line, line, named_compare_line, named_draw_line, named_plain_line, named_run_line, needed};
 ghost use Rattle.tool.specs.Line.{crop_line, cut, order_rule, placed_line, sized_line, tiles_line};
-ghost use Rattle.tool.specs.Line.{plain_line, plan_line, planless, replay_line, run_line, scheduled, several, told, workers_rule};
+ghost use Rattle.tool.specs.Line.{plain_line, plan_line, planless, program, replay_line, run_line, scheduled, several, told, workers_rule};
 
 use crate::help;
 use crate::words::names::{
@@ -15,6 +15,9 @@ use crate::words::names::{
 };
 use clap::{Arg, ArgAction, Command};
 use std::alloc::{AllocError, Global};
+
+// The program's name.
+const PROGRAM: &str = "stencil";
 
 // What `--version` prints behind the program's name: its own version, and the toolchain's line.
 const VERSION: &str = "0.1.0 (rattle-kit-13f logic dac8208d650f15bf)";
@@ -178,7 +181,7 @@ fn compare_described<'a>(alloc: Global) -> Result<Command<'a>, AllocError>
     named_compare_described(alloc)?.arg(by_first_described(alloc))
 }
 
-/// A command that tells something of a plan file.
+/// A command with a plan file, and the files that each of them names.
 fn plan_described<'a>(
     alloc: Global,
     name: &'a str,
@@ -198,14 +201,12 @@ fn named_run_described<'a>(alloc: Global) -> Result<Command<'a>, AllocError>
     ensures line { IfOk result (λ command. app_of command ≡ named_run_line) }
     ensures local { IfOk result (λ command. (out-Command command).has_globals ≡ false) }
 {
-    titled(
+    plan_described(
         alloc,
         RUN,
         "Check a plan file and write the picture, computed by the plan",
         help::RUN,
-    )
-    .arg(word(alloc, ALGORITHM, "The algorithm's text"))?
-    .arg(word(alloc, PLAN, "The plan file"))?
+    )?
     .arg(word(alloc, INPUT, "The image, a PGM or PPM file"))?
     .arg(word(alloc, OUTPUT, "Where the picture is written"))
 }
@@ -227,14 +228,12 @@ fn named_draw_described<'a>(alloc: Global) -> Result<Command<'a>, AllocError>
     ensures line { IfOk result (λ command. app_of command ≡ named_draw_line) }
     ensures local { IfOk result (λ command. (out-Command command).has_globals ≡ false) }
 {
-    titled(
+    plan_described(
         alloc,
         DRAW,
         "Check a plan file and draw which piece owns each pixel",
         help::DRAW,
-    )
-    .arg(word(alloc, ALGORITHM, "The algorithm's text"))?
-    .arg(word(alloc, PLAN, "The plan file"))?
+    )?
     .arg(word(alloc, OUTPUT, "Where the drawing is written, a PPM file"))
 }
 
@@ -249,14 +248,12 @@ fn replay_described<'a>(alloc: Global) -> Result<Command<'a>, AllocError>
     ensures line { IfOk result (λ command. app_of command ≡ replay_line) }
     ensures local { IfOk result (λ command. (out-Command command).has_globals ≡ false) }
 {
-    titled(
+    plan_described(
         alloc,
         REPLAY,
         "Check a plan file and replay an order of workers' steps",
         help::REPLAY,
-    )
-    .arg(word(alloc, ALGORITHM, "The algorithm's text"))?
-    .arg(word(alloc, PLAN, "The plan file"))?
+    )?
     .arg(word(alloc, INPUT, "The image, a PGM or PPM file"))?
     .arg(word(
         alloc,
@@ -318,19 +315,28 @@ fn tiles_described<'a>(alloc: Global) -> Result<Command<'a>, AllocError>
     ))
 }
 
-/// The program's line with the commands that write something of an algorithm alone.
+/// The program's line without its commands. Usage lines of its commands begin with its name.
+fn program_described<'a>(alloc: Global) -> Result<Command<'a>, AllocError>
+    ensures line { IfOk result (λ command. app_of command ≡ program) }
+    ensures local { IfOk result (λ command. (out-Command command).has_globals ≡ false) }
+{
+    Command::new(alloc, PROGRAM)
+        .about("Compile, check and run integer image pipelines")
+        .after_help(help::PROGRAM)
+        .version(VERSION)
+        .no_binary_name(true)
+        .subcommand_required(true)
+        .bin_name(PROGRAM)
+}
+
+/// With it the commands that write something of an algorithm alone.
 fn planless_described<'a>(alloc: Global) -> Result<Command<'a>, AllocError>
     ensures line { IfOk result (λ command. app_of command ≡ planless) }
     ensures local { IfOk result (λ command. (out-Command command).has_globals ≡ false) }
 {
     let plain = plain_described(alloc)?;
     let format = format_described(alloc)?;
-    Command::new(alloc, "stencil")
-        .about("Compile, check and run integer image pipelines")
-        .after_help(help::PROGRAM)
-        .version(VERSION)
-        .no_binary_name(true)
-        .subcommand_required(true)
+    program_described(alloc)?
         .subcommand(plain)?
         .subcommand(format)
 }
@@ -389,15 +395,20 @@ fn cut_described<'a>(alloc: Global) -> Result<Command<'a>, AllocError>
     told_described(alloc)?.subcommand(crop)?.subcommand(tiles)
 }
 
+/// With them the commands that compute by a plan file.
+fn computed_described<'a>(alloc: Global) -> Result<Command<'a>, AllocError>
+    ensures line { IfOk result (λ command. app_of command ≡ computed) }
+    ensures local { IfOk result (λ command. (out-Command command).has_globals ≡ false) }
+{
+    let run = run_described(alloc)?;
+    let replay = replay_described(alloc)?;
+    cut_described(alloc)?.subcommand(run)?.subcommand(replay)
+}
+
 /// The program's line.
 pub(super) fn command_line<'a>(alloc: Global) -> Result<Command<'a>, AllocError>
     ensures { IfOk result (λ command. app_of command ≡ line) }
 {
-    let run = run_described(alloc)?;
-    let replay = replay_described(alloc)?;
     let draw = draw_described(alloc)?;
-    cut_described(alloc)?
-        .subcommand(run)?
-        .subcommand(replay)?
-        .subcommand(draw)
+    computed_described(alloc)?.subcommand(draw)
 }
