@@ -1,9 +1,11 @@
 pub mod Bindings
 pub mod Calling
+pub mod Claimed
 pub mod Entries
 pub mod First
 pub mod Inputs
 pub mod Laying
+pub mod Loads
 pub mod Made
 pub mod Named
 pub mod Places

@@ -6,6 +6,7 @@ use Rattle.lin.specs.Regions.{IsInside}
 use Rattle.lin.specs.declared.span.Span1.{Span1}
 use Rattle.plan.specs.declared.plan.Group.{Group}
 use Rattle.plan.specs.declared.certificate.cert.Own.{Own}
+use Rattle.plan.specs.declared.certificate.cert.Claim.{Claim}
 use Rattle.meaning.specs.Algorithm.{Algorithm}
 use Rattle.lower.specs.declared.lowering.Lowered.{Lowered}
 use Rattle.lower.specs.Stored.{FormulaText, StoredText}
@@ -29,15 +30,15 @@ whole_rest g gs w = (both (is_whole g) (are_whole gs) w).1
 
 -- ---- one for each root function
 
-group_of : (g : StoredText) (l : LaidText) (p : Group) → IsOver (g, l) p → IsGroupOf g p
-group_of g l p m = record { extents = l.region; named = m.named; region = m.region; grid = m.grid }
+group_of : (g : StoredText) (l : LaidText) (fs : List FormulaText) (p : Group) → IsOver (g, l, fs) p → IsGroupOf g p
+group_of g l fs p m = record { extents = l.region; named = m.named; region = m.region; grid = m.grid }
 
 each_with : (g : StoredText) (b : Bool) (o : Option (List FormulaText)) (l : Option LaidText) (es : List Entry) (gs : List StoredText) → (b ≡ true → has_region o l ≡ true)
     → ((n : ℕ) (ps : List Group) (os : List Own) → AreMade es n ps os → AreGroupsOf gs ps)
     → (n : ℕ) (ps : List Group) (os : List Own) → AreMade (rooted_if b g o l es) n ps os → AreGroupsOf (if b then g ∷ gs else gs) ps
 each_with g true (Some fs) (Some l) es gs h f n [] os m = absurd m
 each_with g true (Some fs) (Some l) es gs h f n (p ∷ ps) [] m = absurd m
-each_with g true (Some fs) (Some l) es gs h f n (p ∷ ps) (o ∷ os) m = (group_of g l p m.0, f (n + 1) ps os m.2)
+each_with g true (Some fs) (Some l) es gs h f n (p ∷ ps) (o ∷ os) m = (group_of g l fs p m.0, f (n + 1) ps os m.2)
 each_with g true (Some fs) None es gs h f n ps os m = absurd (false≢true (h refl))
 each_with g true None l es gs h f n ps os m = absurd (false≢true (h refl))
 each_with g false (Some fs) (Some l) es gs h f n ps os m = f n ps os m
@@ -108,40 +109,42 @@ none_else (g ∷ gs) [] w = refl
 none_else (g ∷ gs) (l ∷ ls) w =
     none_with g (not g.subject.is_root) g.formulas l (rooted false gs ls) (ap not (whole_root g gs w)) (none_else gs ls (whole_rest g gs w))
 
-bodies_with : (g : StoredText) (b : Bool) (o : Option (List FormulaText)) (l : Option LaidText) (es : List Entry) (gs : List StoredText) → b ≡ true → (b ≡ true → has_region o l ≡ true)
-    → g.formulas ≡ o → ((fs : List FormulaText) (x : LaidText) → o ≡ Some fs → l ≡ Some x → IsLaidOver g fs x)
-    → ((n : ℕ) (ps : List Group) (os : List Own) → AreMade es n ps os → AreBodies es ps → HaveBodies gs ps)
-    → (n : ℕ) (ps : List Group) (os : List Own) → AreMade (rooted_if b g o l es) n ps os → AreBodies (rooted_if b g o l es) ps → HaveBodies (g ∷ gs) ps
-bodies_with g true (Some fs) (Some l) es gs is h e laid f n [] os m k = absurd m
-bodies_with g true (Some fs) (Some l) es gs is h e laid f n (p ∷ ps) [] m k = absurd m
-bodies_with g true (Some fs) (Some l) es gs is h e laid f n (p ∷ ps) (o ∷ os) m k =
-    (record { formulas = fs; extents = l.region; skeleton = l.skeleton; defined = e; region = m.0.region; laid = laid fs l refl refl; body = k.0 }, f (n + 1) ps os m.2 k.1)
-bodies_with g true (Some fs) None es gs is h e laid f n ps os m k = absurd (false≢true (h refl))
-bodies_with g true None l es gs is h e laid f n ps os m k = absurd (false≢true (h refl))
-bodies_with g false o l es gs is h e laid f n ps os m k = absurd (false≢true is)
+module _ (claims : List Claim) where
+  bodies_with : (g : StoredText) (b : Bool) (o : Option (List FormulaText)) (l : Option LaidText) (es : List Entry) (gs : List StoredText) → b ≡ true → (b ≡ true → has_region o l ≡ true)
+      → g.formulas ≡ o → ((fs : List FormulaText) (x : LaidText) → o ≡ Some fs → l ≡ Some x → IsLaidOver g fs x)
+      → ((n : ℕ) (ps : List Group) (os : List Own) → AreMade es n ps os → AreBodies claims es ps → HaveBodies claims gs ps)
+      → (n : ℕ) (ps : List Group) (os : List Own) → AreMade (rooted_if b g o l es) n ps os → AreBodies claims (rooted_if b g o l es) ps → HaveBodies claims (g ∷ gs) ps
+  bodies_with g true (Some fs) (Some l) es gs is h e laid f n [] os m k = absurd m
+  bodies_with g true (Some fs) (Some l) es gs is h e laid f n (p ∷ ps) [] m k = absurd m
+  bodies_with g true (Some fs) (Some l) es gs is h e laid f n (p ∷ ps) (o ∷ os) m k =
+      (record { formulas = fs; extents = l.region; skeleton = l.skeleton; defined = e; region = m.0.region; laid = laid fs l refl refl; body = k.0 }, f (n + 1) ps os m.2 k.1)
+  bodies_with g true (Some fs) None es gs is h e laid f n ps os m k = absurd (false≢true (h refl))
+  bodies_with g true None l es gs is h e laid f n ps os m k = absurd (false≢true (h refl))
+  bodies_with g false o l es gs is h e laid f n ps os m k = absurd (false≢true is)
 
-bodies : (a : Algorithm) (gs : List StoredText) → are_whole gs ≡ true → AreLaid gs (laid_functions a gs) → (n : ℕ) (ps : List Group) (os : List Own)
-    → AreMade (rooted true gs (laid_functions a gs)) n ps os → AreBodies (rooted true gs (laid_functions a gs)) ps → HaveBodies gs ps
-bodies a [] w h n [] [] m k = tt
-bodies a [] w h n [] (o ∷ os) m k = absurd m
-bodies a [] w h n (p ∷ ps) os m k = absurd m
-bodies a (g ∷ gs) w h n ps os m k =
-    let found = laid_functions a gs in
-    bodies_with g g.subject.is_root g.formulas (laid_within a g gs found) (rooted true gs found) gs (whole_root g gs w) h.0 refl
-    (λ fs x e is. laid_over_it a g gs found fs x e is) (bodies a gs (whole_rest g gs w) h.1) n ps os m k
+  bodies : (a : Algorithm) (gs : List StoredText) → are_whole gs ≡ true → AreLaid gs (laid_functions a gs) → (n : ℕ) (ps : List Group) (os : List Own)
+      → AreMade (rooted true gs (laid_functions a gs)) n ps os → AreBodies claims (rooted true gs (laid_functions a gs)) ps → HaveBodies claims gs ps
+  bodies a [] w h n [] [] m k = tt
+  bodies a [] w h n [] (o ∷ os) m k = absurd m
+  bodies a [] w h n (p ∷ ps) os m k = absurd m
+  bodies a (g ∷ gs) w h n ps os m k =
+      let found = laid_functions a gs in
+      bodies_with g g.subject.is_root g.formulas (laid_within a g gs found) (rooted true gs found) gs (whole_root g gs w) h.0 refl
+      (λ fs x e is. laid_over_it a g gs found fs x e is) (bodies a gs (whole_rest g gs w) h.1) n ps os m k
 
 -- ---- all of it
 
-pub plan_made : (gs : List StoredText) (ls : List (Option LaidText)) (qs : List Party) (es : List Entry) (l : Lowered) (ps : List Group) (os : List Own) → AreLaid gs ls
-    → es ≡ rooted true gs ls → (rooted false gs ls ≡ [] → AreAlone qs) → AreMade es 0 ps os → (AreAlone qs → AreBodies es ps) → l.plan.groups.items ≡ ps
-    → l.certificate.own.items ≡ os → IsPlanOf gs ls l
-plan_made gs ls qs es l ps os laid e alone made does is_groups is_own =
+pub plan_made : (claims : List Claim) (gs : List StoredText) (ls : List (Option LaidText)) (qs : List Party) (es : List Entry) (l : Lowered) (ps : List Group) (os : List Own) → AreLaid gs ls
+    → es ≡ rooted true gs ls → (rooted false gs ls ≡ [] → AreAlone qs) → AreMade es 0 ps os → (AreAlone qs → AreBodies claims es ps) → l.plan.groups.items ≡ ps
+    → l.certificate.own.items ≡ os → l.certificate.claims.items ≡ claims → IsPlanOf gs ls l
+plan_made claims gs ls qs es l ps os laid e alone made does is_groups is_own is_claims =
     record {
       laid = laid;
       made = subst (λ (xs : List Entry). AreMade xs 0 l.plan.groups.items l.certificate.own.items) e
           (subst (λ (xs : List Group). AreMade es 0 xs l.certificate.own.items) (sym is_groups) (subst (λ (xs : List Own). AreMade es 0 ps xs) (sym is_own) made));
-      bodies = λ w. subst (λ (xs : List Entry). AreBodies xs l.plan.groups.items) e
-          (subst (λ (xs : List Group). AreBodies es xs) (sym is_groups) (does (alone (none_else gs ls w))));
+      bodies = λ w. subst (λ (cs : List Claim). AreBodies cs (rooted true gs ls) l.plan.groups.items) (sym is_claims)
+          (subst (λ (xs : List Entry). AreBodies claims xs l.plan.groups.items) e
+          (subst (λ (xs : List Group). AreBodies claims es xs) (sym is_groups) (does (alone (none_else gs ls w)))));
     }
 
 pub made_first : (e : Entry) (es : List Entry) (n m : ℕ) (p : Group) (o : Own) (ps qs : List Group) (os rs : List Own) → IsOver e p → IsOwnOver e n o → AreMade es m ps os
@@ -154,10 +157,11 @@ pub groups_made : (a : Algorithm) (gs : List StoredText) (ls : List (Option Laid
 groups_made a gs ls l is laid =
     let ps = l.plan.groups.items in
     let os = l.certificate.own.items in
+    let cs = l.certificate.claims.items in
     record {
       each = each_of gs ls is.laid 0 ps os is.made;
       owned = owned (rooted true gs ls) 0 ps os is.made;
-      bodies = λ w. bodies a gs w (subst (AreLaid gs) (laid w) is.laid) 0 ps os (subst (λ (xs : List (Option LaidText)). AreMade (rooted true gs xs) 0 ps os) (laid w) is.made)
-          (subst (λ (xs : List (Option LaidText)). AreBodies (rooted true gs xs) ps) (laid w) (is.bodies w));
+      bodies = λ w. bodies cs a gs w (subst (AreLaid gs) (laid w) is.laid) 0 ps os (subst (λ (xs : List (Option LaidText)). AreMade (rooted true gs xs) 0 ps os) (laid w) is.made)
+          (subst (λ (xs : List (Option LaidText)). AreBodies cs (rooted true gs xs) ps) (laid w) (is.bodies w));
       needed = λ w. needed a gs w (subst (AreLaid gs) (laid w) is.laid) 0 ps os (subst (λ (xs : List (Option LaidText)). AreMade (rooted true gs xs) 0 ps os) (laid w) is.made);
     }

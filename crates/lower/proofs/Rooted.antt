@@ -16,7 +16,7 @@ use Rattle.lower.specs.Groups.{root_of, HasNone, IsAlone, is_same, rooted_if, ro
 use Rattle.lower.proofs.First.{formulas_at, no_formulas}
 
 abbrev pub Entry : Type 0
-Entry = StoredText × LaidText
+Entry = StoredText × LaidText × List FormulaText
 
 -- ---- as a function's own definitions and region are found
 
@@ -34,12 +34,12 @@ not_laid is s v l rest e h = sym (by_parts is s l rest (Some (map formula_of v.i
 pub of_other : (is : Bool) (s : Stored) (v : Vec Formula) (l : Option Laid) (x : Laid) (rest : List Entry) → s.formulas ≡ Some v → l ≡ Some x
     → is_same (stored_of s).subject.is_root is ≡ false → rest ≡ rooted_by is (stored_of s) (stored_of s).formulas (option_map laid_of l) rest
 of_other is s v l x rest e h isnt = sym (by_parts is s l rest (Some (map formula_of v.items)) (Some x) (formulas_at s v e) h
-    ∙ ap (λ (b : Bool). if b then (stored_of s, laid_of x) ∷ rest else rest) isnt)
+    ∙ ap (λ (b : Bool). if b then (stored_of s, laid_of x, map formula_of v.items) ∷ rest else rest) isnt)
 
 pub of_kind : (is : Bool) (s : Stored) (v : Vec Formula) (l : Option Laid) (x : Laid) (rest : List Entry) → s.formulas ≡ Some v → l ≡ Some x
-    → is_same (stored_of s).subject.is_root is ≡ true → (stored_of s, laid_of x) ∷ rest ≡ rooted_by is (stored_of s) (stored_of s).formulas (option_map laid_of l) rest
+    → is_same (stored_of s).subject.is_root is ≡ true → (stored_of s, laid_of x, map formula_of v.items) ∷ rest ≡ rooted_by is (stored_of s) (stored_of s).formulas (option_map laid_of l) rest
 of_kind is s v l x rest e h is_so = sym (by_parts is s l rest (Some (map formula_of v.items)) (Some x) (formulas_at s v e) h
-    ∙ ap (λ (b : Bool). if b then (stored_of s, laid_of x) ∷ rest else rest) is_so)
+    ∙ ap (λ (b : Bool). if b then (stored_of s, laid_of x, map formula_of v.items) ∷ rest else rest) is_so)
 
 pub no_entries : (rs : List Root) → map root_of rs ≡ [] → rs ≡ []
 no_entries [] h = refl

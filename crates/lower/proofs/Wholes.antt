@@ -1,17 +1,29 @@
 -- The statements of a function in whose loops nothing is computed.
-use Rattle.std.proofs.Common.{◌≡◌, ℕ, ◌+◌, List, [], ◌∷◌, ◌++◌, map, refl, sym, ap, subst, ◌∙◌}
+use Rattle.std.proofs.Common.{◌≡◌, ℕ, ◌+◌, List, [], ◌∷◌, ◌++◌, map, Option, Some, refl, sym, ap, subst, ◌∙◌}
+use Rattle.std.specs.Prelude.{IsSomeAnd, slice_get}
+use Rattle.std.specs.Option.{option_map}
+use Rattle.std.specs.Global.{Vec}
+use Rattle.std.proofs.lemmas.Option.{slice_get-map}
 use Rattle.std.proofs.lemmas.List.{map-append}
 use Rattle.plan.specs.declared.stmt.Places.{Places}
 use Rattle.plan.specs.declared.stmt.Stmt.{Stmt}
-use Rattle.plan.specs.Plan.{Statement, Seq, Alloc, Publish, Statements, Empty, Then, block}
-use Rattle.plan.specs.View.{statement_of}
+use Rattle.plan.specs.declared.stmt.Coordinate.{Coordinate as CodeCoordinate}
+use Rattle.plan.specs.Plan.{Coordinate, Statement, Seq, Alloc, Publish, Statements, Empty, Then, block}
+use Rattle.lin.specs.Forms.{Form}
+use Rattle.tree.specs.Term.{Term, term_of}
+use Rattle.tree.specs.Substitution.{with_calls}
+use Rattle.plan.specs.View.{coordinate_of, statement_of}
 use Rattle.plan.specs.Lists.{list_statements}
 use Rattle.sched.specs.declared.skeleton.Step.{Step}
 use Rattle.sched.specs.declared.skeleton.Step.TheVariants.{Turns, Named, Tested}
 use Rattle.sched.specs.Runs.{lines_to}
 use Rattle.sched.specs.Skeleton.{NestText, SkeletonText}
-use Rattle.lower.specs.Stored.{StoredText}
-use Rattle.lower.specs.Bodies.{IsStore, with_step, IsNest, AreNests, AreFetches, IsBodyWith, IsBody, body}
+use Rattle.lower.specs.declared.definitions.Formula.{Formula}
+use Rattle.lower.specs.Stored.{FormulaText, StoredText, formula_of}
+use Rattle.lower.specs.declared.loading.Load.{Load}
+use Rattle.lower.specs.Loading.{Loads, as_load, load_of}
+use Rattle.lower.specs.Around.{names_with}
+use Rattle.lower.specs.Bodies.{first_left, other_lefts, IsIndex, AreCoordinates, IsStored, IsStore, with_step, IsNest, AreNests, AreFetches, IsBodyWith, IsBody, body}
 
 step_of : (s : Step) (steps : List Step) (inner : Statements) → lines_to (s ∷ steps) inner ≡ with_step s (lines_to steps inner)
 step_of (Turns i x kind) steps inner = refl
@@ -21,21 +33,37 @@ step_of (Tested low high) steps inner = refl
 pub stepped : (s : Step) (steps : List Step) (inner m n : Statements) → n ≡ with_step s m → m ≡ lines_to steps inner → n ≡ lines_to (s ∷ steps) inner
 stepped s steps inner m n h e = h ∙ (ap (with_step s) e ∙ sym (step_of s steps inner))
 
-pub nest_made : (g : StoredText) (d : ℕ) (n : NestText) (store : Stmt) (inner xs : List Stmt) → IsStore g d n (statement_of store) → inner ≡ store ∷ []
-    → block (list_statements xs) ≡ lines_to n.steps (block (list_statements inner)) → IsNest g d n (list_statements xs)
-nest_made g d n store inner xs is e comes =
-    record { store = statement_of store; stores = is; comes = comes ∙ ap (λ (l : List Stmt). lines_to n.steps (block (list_statements l))) e }
+-- the first coordinate, before others
+pub coordinates_made : (ls : Loads) (x : List ℕ) (xs : List (List ℕ)) (o : Option Form) (os : List (Option Form)) (a : Option Term) (lefts rest : List (Option Term))
+    (c : CodeCoordinate) (cs ds : List CodeCoordinate) → (coordinate_of c).variable ≡ x → IsIndex ls o a (coordinate_of c).index → a ≡ first_left lefts
+    → AreCoordinates ls xs os rest (map coordinate_of cs) → rest ≡ other_lefts lefts → ds ≡ c ∷ cs → AreCoordinates ls (x ∷ xs) (o ∷ os) lefts (map coordinate_of ds)
+coordinates_made ls x xs o os a lefts rest c cs ds named is e are f h =
+    let here = subst (λ (b : Option Term). IsIndex ls o b (coordinate_of c).index) e is in
+    let behind = subst (λ (l : List (Option Term)). AreCoordinates ls xs os l (map coordinate_of cs)) f are in
+    subst (λ (l : List CodeCoordinate). AreCoordinates ls (x ∷ xs) (o ∷ os) lefts (map coordinate_of l)) (sym h) (named, here, behind)
 
-pub nests_made : (g : StoredText) (d m : ℕ) (n : NestText) (ns : List NestText) (xs ys zs : List Stmt) → IsNest g d n (list_statements xs) → AreNests g m ns (list_statements ys)
-    → m ≡ d + 1 → zs ≡ xs ++ ys → AreNests g d (n ∷ ns) (list_statements zs)
-nests_made g d m n ns xs ys zs is are next e =
-    record {
-      first = list_statements xs;
-      others = list_statements ys;
-      are = ap list_statements e ∙ map-append statement_of xs ys;
-      here = is;
-      behind = subst (λ (k : ℕ). AreNests g k ns (list_statements ys)) next are;
-    }
+-- what the definition of this number stores
+pub store_made : (ls : Loads) (xs ys : List (List ℕ)) (n : NestText) (cs : List Coordinate) (e : Term) (fs : List Formula) (d : ℕ) (f : Formula) → slice_get fs d ≡ Some f → xs ≡ ys
+    → AreCoordinates ls xs n.at (map (option_map term_of) f.at.items) cs → e ≡ with_calls (as_load ls) (term_of f.value)
+    → IsSomeAnd (slice_get (map formula_of fs) d) (IsStored ls ys n cs e)
+store_made ls xs ys n cs e fs d f is same are value =
+    let at = subst (λ (zs : List (List ℕ)). AreCoordinates ls zs n.at (map (option_map term_of) f.at.items) cs) same are in
+    let found : slice_get (map formula_of fs) d ≡ Some (formula_of f) = slice_get-map formula_of fs d ∙ ap (option_map formula_of) is in
+    let stored : IsStored ls ys n cs e (formula_of f) = record { at = at; value = value } in
+    subst (λ (o : Option FormulaText). IsSomeAnd o (IsStored ls ys n cs e)) (sym found) stored
+
+-- a function is loaded by one more claim
+pub load_more : (old kept : Vec Load) (now : List Load) (load : Load) (x : List ℕ) → kept ≡ old → now ≡ kept.items ++ load ∷ [] → load.function.now ≡ x
+    → map load_of now ≡ map load_of old.items ++ (x, load.claim) ∷ []
+load_more old kept now load x same pushed named =
+    ap (map load_of) pushed ∙ (map-append load_of kept.items (load ∷ []) ∙ (λ i. map load_of (same i).items ++ (named i, load.claim) ∷ []))
+
+-- the nest of this definition, its calls as these loads
+module _ (g : StoredText) (fs : List FormulaText) (ls : Loads) (d : ℕ) (n : NestText) where
+  pub nest_made : (store : Stmt) (inner xs : List Stmt) → IsStore g fs ls d n (statement_of store) → inner ≡ store ∷ []
+      → block (list_statements xs) ≡ lines_to n.steps (block (list_statements inner)) → IsNest g fs ls d n (list_statements xs)
+  nest_made store inner xs is e comes =
+      record { store = statement_of store; stores = is; comes = comes ∙ ap (λ (l : List Stmt). lines_to n.steps (block (list_statements l))) e }
 
 pub body_made : (g : StoredText) (k : SkeletonText) (places : List Places) (claim : ℕ) (own publish : Stmt) (fetches nests ns all inner ys : List Stmt)
     → AreFetches (list_statements fetches) → ns ≡ nests ++ publish ∷ [] → all ≡ fetches ++ ns → inner ≡ own ∷ all → statement_of own ≡ Alloc 0 g.subject.name places
@@ -54,9 +82,3 @@ body_made g k places claim own publish fetches nests ns all inner ys fetched e f
       fetched = fetched;
       is = ap Seq (comes ∙ ap (λ (l : List Statement). lines_to k.head (block l)) made);
     }
-
-pub whole_made : (g : StoredText) (k : SkeletonText) (nests : List Statement) (b : Statement) → AreNests g 0 k.nests nests → IsBodyWith g k nests b → IsBody g k b
-whole_made g k nests b are with = record { nests = nests; nested = are; with = with }
-
-pub done : (g : StoredText) (k : SkeletonText) (xs : List Statement) (p : Statement) (A : Type 0) → p ≡ body xs → (A → IsBody g k (body xs)) → A → IsBody g k p
-done g k xs p A e f a = subst (IsBody g k) (sym e) (f a)

@@ -6,6 +6,7 @@ use Rattle.lin.specs.Regions.{IsInside}
 use Rattle.lin.specs.declared.span.Span1.{Span1}
 use Rattle.plan.specs.declared.plan.Group.{Group}
 use Rattle.plan.specs.declared.certificate.cert.Own.{Own}
+use Rattle.plan.specs.declared.certificate.cert.Claim.{Claim}
 use Rattle.plan.specs.View.{statement_of}
 use Rattle.meaning.specs.Algorithm.{Algorithm}
 use Rattle.sched.specs.Schedule.{Schedule}
@@ -16,9 +17,11 @@ use Rattle.lower.specs.declared.fetching.Root.{Root}
 use Rattle.lower.specs.declared.lowering.Lowered.{Lowered}
 use Rattle.lower.specs.declared.inner.Inner.{Inner}
 use Rattle.lower.specs.declared.parties.Party.{Party}
-use Rattle.lower.specs.Stored.{FormulaText, StoredText, stored_of, stored_functions}
+use Rattle.lower.specs.declared.group.Body.{Body}
+use Rattle.lower.specs.Stored.{FormulaText, StoredText, formula_of, stored_of, stored_functions}
 use Rattle.lower.specs.Regions.{LaidText, laid_of, laid_functions, skeleton_of}
-use Rattle.lower.specs.Bodies.{IsBody}
+use Rattle.lower.specs.Bodies.{IsBody, AreKnown}
+use Rattle.lower.specs.Loading.{load_of}
 use Rattle.lower.specs.Around.{grid_scope}
 use Rattle.lower.specs.Bounded.{whole}
 use Rattle.lower.specs.Faults.{are_whole}
@@ -55,22 +58,22 @@ AreOwned n [] (o ∷ os) = ⊥
 AreOwned n (p ∷ ps) [] = ⊥
 AreOwned n (p ∷ ps) (o ∷ os) = IsOwnOf n p o × AreOwned (n + 1) ps os
 
--- what its pieces do: the skeleton's loops, lets and guards over its region, down to each of its stores
-pub record HasBody (g : StoredText) (p : Group) : Type 0 where
+-- what its pieces do, by these claims of the certificate: the skeleton's loops, lets and guards over its region, down to a store of each of its definitions
+pub record HasBody (claims : List Claim) (g : StoredText) (p : Group) : Type 0 where
   pub formulas : List FormulaText
   pub extents : List Extent
   pub skeleton : SkeletonText
   pub defined : g.formulas ≡ Some formulas
   pub region : p.region ≡ map whole extents
   pub laid : skeleton_of g formulas extents ≡ Some skeleton
-  pub body : IsBody g skeleton (statement_of p.body)
+  pub body : IsBody g formulas skeleton claims (statement_of p.body)
 
 -- each of these functions' groups
-abbrev pub HaveBodies : List StoredText → List Group → Type 0
-HaveBodies [] [] = Unit {0}
-HaveBodies [] (p ∷ ps) = ⊥
-HaveBodies (g ∷ gs) [] = ⊥
-HaveBodies (g ∷ gs) (p ∷ ps) = HasBody g p × HaveBodies gs ps
+abbrev pub HaveBodies : List Claim → List StoredText → List Group → Type 0
+HaveBodies claims [] [] = Unit {0}
+HaveBodies claims [] (p ∷ ps) = ⊥
+HaveBodies claims (g ∷ gs) [] = ⊥
+HaveBodies claims (g ∷ gs) (p ∷ ps) = HasBody claims g p × HaveBodies claims gs ps
 
 -- ---- all of them
 
@@ -89,7 +92,7 @@ pub record HasGroups (a : Algorithm) (gs : List StoredText) (l : Lowered) : Type
   pub each : AreGroupsOf (root_functions gs) l.plan.groups.items
   pub owned : AreOwned 0 l.plan.groups.items l.certificate.own.items
   pub needed : are_whole gs ≡ true → map (λ p. p.region) l.plan.groups.items ≡ map region_of (laid_functions a gs)
-  pub bodies : are_whole gs ≡ true → HaveBodies gs l.plan.groups.items
+  pub bodies : are_whole gs ≡ true → HaveBodies l.certificate.claims.items gs l.plan.groups.items
 
 abbrev pub AreGroupsMade : Algorithm → Schedule → Lowered → Type 0
 AreGroupsMade a s l = HasGroups a (stored_functions a s) l
@@ -97,10 +100,10 @@ AreGroupsMade a s l = HasGroups a (stored_functions a s) l
 -- ---- while they are made
 
 -- as memory keeps a stored function that has definitions and a region
-abbrev pub root_of : Root → StoredText × LaidText
-root_of r = (stored_of r.stored.now, laid_of r.laid.now)
+abbrev pub root_of : Root → StoredText × LaidText × List FormulaText
+root_of r = (stored_of r.stored.now, laid_of r.laid.now, map formula_of r.formulas.now)
 
-abbrev pub party_of : Party → StoredText × LaidText
+abbrev pub party_of : Party → StoredText × LaidText × List FormulaText
 party_of p = root_of p.root
 
 -- nothing is computed inside its loops
@@ -120,32 +123,32 @@ is_same b true = b
 is_same b false = not b
 
 -- a function before others, where it is one of those that are asked for
-abbrev pub rooted_if : Bool → StoredText → Option (List FormulaText) → Option LaidText → List (StoredText × LaidText) → List (StoredText × LaidText)
-rooted_if b g (Some fs) (Some l) rest = if b then (g, l) ∷ rest else rest
+abbrev pub rooted_if : Bool → StoredText → Option (List FormulaText) → Option LaidText → List (StoredText × LaidText × List FormulaText) → List (StoredText × LaidText × List FormulaText)
+rooted_if b g (Some fs) (Some l) rest = if b then (g, l, fs) ∷ rest else rest
 rooted_if b g (Some fs) None rest = rest
 rooted_if b g None l rest = rest
 
-abbrev pub rooted_by : Bool → StoredText → Option (List FormulaText) → Option LaidText → List (StoredText × LaidText) → List (StoredText × LaidText)
+abbrev pub rooted_by : Bool → StoredText → Option (List FormulaText) → Option LaidText → List (StoredText × LaidText × List FormulaText) → List (StoredText × LaidText × List FormulaText)
 rooted_by is g o l rest = rooted_if (is_same g.subject.is_root is) g o l rest
 
 -- those that are root functions, or those that are not, of the ones that have definitions and a region
-abbrev pub rooted : Bool → List StoredText → List (Option LaidText) → List (StoredText × LaidText)
+abbrev pub rooted : Bool → List StoredText → List (Option LaidText) → List (StoredText × LaidText × List FormulaText)
 rooted is (g ∷ gs) (l ∷ ls) = rooted_by is g g.formulas l (rooted is gs ls)
 rooted is (g ∷ gs) [] = []
 rooted is [] ls = []
 
 -- the group of a function over this region
-pub record IsOver (e : StoredText × LaidText) (p : Group) : Type 0 where
+pub record IsOver (e : StoredText × LaidText × List FormulaText) (p : Group) : Type 0 where
   pub named : string_bytes p.function ≡ e.0.subject.name
   pub region : p.region ≡ map whole e.1.region
   pub grid : p.grid.items ≡ grid_over e.0 e.1.region
 
-pub record IsOwnOver (e : StoredText × LaidText) (n : ℕ) (o : Own) : Type 0 where
+pub record IsOwnOver (e : StoredText × LaidText × List FormulaText) (n : ℕ) (o : Own) : Type 0 where
   pub numbered : o.group ≡ n
   pub inside : IsInside (grid_scope (grid_over e.0 e.1.region)) o.region (map whole e.1.region)
 
 -- one for each of these, with a line for each, from this number on
-abbrev pub AreMade : List (StoredText × LaidText) → ℕ → List Group → List Own → Type 0
+abbrev pub AreMade : List (StoredText × LaidText × List FormulaText) → ℕ → List Group → List Own → Type 0
 AreMade [] n [] [] = Unit {0}
 AreMade [] n [] (o ∷ os) = ⊥
 AreMade [] n (p ∷ ps) os = ⊥
@@ -154,13 +157,13 @@ AreMade (e ∷ es) n (p ∷ ps) [] = ⊥
 AreMade (e ∷ es) n (p ∷ ps) (o ∷ os) = IsOver e p × IsOwnOver e n o × AreMade es (n + 1) ps os
 
 -- its pieces do what the skeleton over the region says
-abbrev pub IsBodyOf : StoredText × LaidText → Group → Type 0
-IsBodyOf e p = IsBody e.0 e.1.skeleton (statement_of p.body)
+abbrev pub IsBodyOf : List Claim → StoredText × LaidText × List FormulaText → Group → Type 0
+IsBodyOf claims e p = IsBody e.0 e.2 e.1.skeleton claims (statement_of p.body)
 
-abbrev pub AreBodies : List (StoredText × LaidText) → List Group → Type 0
-AreBodies [] ps = Unit {0}
-AreBodies (e ∷ es) [] = Unit {0}
-AreBodies (e ∷ es) (p ∷ ps) = IsBodyOf e p × AreBodies es ps
+abbrev pub AreBodies : List Claim → List (StoredText × LaidText × List FormulaText) → List Group → Type 0
+AreBodies claims [] ps = Unit {0}
+AreBodies claims (e ∷ es) [] = Unit {0}
+AreBodies claims (e ∷ es) (p ∷ ps) = IsBodyOf claims e p × AreBodies claims es ps
 
 -- each root function has definitions and a region
 abbrev pub has_region : Option (List FormulaText) → Option LaidText → Bool
@@ -177,4 +180,11 @@ AreLaid (g ∷ gs) (l ∷ ls) = (g.subject.is_root ≡ true → has_region g.for
 pub record IsPlanOf (gs : List StoredText) (ls : List (Option LaidText)) (l : Lowered) : Type 0 where
   pub laid : AreLaid gs ls
   pub made : AreMade (rooted true gs ls) 0 l.plan.groups.items l.certificate.own.items
-  pub bodies : are_whole gs ≡ true → AreBodies (rooted true gs ls) l.plan.groups.items
+  pub bodies : are_whole gs ≡ true → AreBodies l.certificate.claims.items (rooted true gs ls) l.plan.groups.items
+
+-- what a piece claims so far, behind these claims of other groups
+abbrev pub IsKnown : List Claim → Body → Type 0
+IsKnown before b = AreKnown before b.claims.items (map load_of b.loads.items) b.next_claim
+
+abbrev pub KeepsKnown : Body → Body → Type 0
+KeepsKnown b c = (before : List Claim) → IsKnown before b → IsKnown before c

@@ -7,6 +7,7 @@ pub mod Faults
 pub mod Groups
 pub mod Large
 pub mod Limited
+pub mod Loading
 pub mod Refused
 pub mod Regions
 pub mod Rules

@@ -11,12 +11,24 @@ use lin::{Forms, Lin, Multiple, Region, Scope, Span1};
 use sched::Extent;
 use std::alloc::{AllocError, Global};
 
+/// The most forms that a side of a span has.
+pub(crate) const MOST_FORMS: usize = 4;
+
 /// The list of one form.
 pub(crate) fn one_form(alloc: Global, form: Lin) -> Result<Forms, AllocError>
     ensures { IfOk result (λ forms. forms ≡ form ∷ []) }
 {
     let mut forms = Forms::new(alloc);
     forms.push(form)?;
+    Ok(forms)
+}
+
+/// The list of two forms.
+pub(crate) fn two_forms(alloc: Global, first: Lin, second: Lin) -> Result<Forms, AllocError>
+    ensures { IfOk result (λ forms. forms ≡ first ∷ second ∷ []) }
+{
+    let mut forms = one_form(alloc, first)?;
+    forms.push(second)?;
     Ok(forms)
 }
 

@@ -1,20 +1,22 @@
 //! The group of a root function: what its pieces do, and what a certificate says of them.
 
-ghost use Rattle.std.specs.Prelude.{◌≡◌, [], IfOk, map};
+ghost use Rattle.std.specs.Prelude.{◌≡◌, ◌+◌, List, [], ◌∷◌, ◌++◌, IfOk, OnOk, length, map};
 ghost use Rattle.lin.specs.Regions.{IsInside};
+ghost use Rattle.plan.specs.declared.certificate.cert.Claim.{Claim as CodeClaim};
 ghost use Rattle.plan.specs.Lists.{list_statements};
 ghost use Rattle.plan.specs.View.{statement_of};
 ghost use Rattle.sched.specs.Skeleton.{nest_seen, skeleton_seen};
 ghost use Rattle.lower.specs.Around.{grid_scope as grid_scope_of};
 ghost use Rattle.lower.specs.Bounded.{whole as whole_of};
-ghost use Rattle.lower.specs.Stored.{stored_of};
-ghost use Rattle.lower.specs.Bodies.{AreNests, IsBody, body};
-ghost use Rattle.lower.specs.Groups.{IsBodyOf, IsOver, IsOwnOver, grid_over as counts_over, root_of};
+ghost use Rattle.lower.specs.Loading.{load_of};
+ghost use Rattle.lower.specs.Stored.{formula_of, stored_of};
+ghost use Rattle.lower.specs.Bodies.{AddsClaim, AreNests, Extends, IsBody, body};
+ghost use Rattle.lower.specs.Groups.{IsBodyOf, IsKnown, IsOver, IsOwnOver, KeepsKnown, grid_over as counts_over, root_of};
 
 use crate::blocks::{Dimension, dimensions};
 use crate::error::Stop;
 use crate::fetching::{Fetched, Root, fetch_of};
-use crate::inner::{Host, Inner, Spot, later_at, nests_at, root_at};
+use crate::inner::Inner;
 use crate::legality::add_whole;
 use crate::loading::{Load, loaded};
 use crate::outline::{Line, statements_of};
@@ -22,6 +24,7 @@ use crate::regions::symbols_from;
 use crate::renaming::{renamed, renamed_places, renamed_region, renamed_span, renamed_step};
 use crate::scopes::{grid_scope, variables_of};
 use crate::sliding::{Later, fold_of, name_of};
+use crate::spots::{Host, Spot, later_at, nests_at, root_at};
 use crate::whole::{Fetch, block_of, body_with, fetch_lines, line_count, nest_of};
 use algo::Algo;
 use lin::{Lin, Region, Sym};
@@ -131,6 +134,7 @@ impl<'a> Body<'a> {
     }
 
     // Claims what the statements so far have made of a buffer.
+    #[tactic(auto, using(crate::proofs::Claimed::claim_added))]
     fn claim(
         &mut self,
         alloc: Global,
@@ -138,8 +142,16 @@ impl<'a> Body<'a> {
         function: &str,
         definition: u64,
         region: Region,
-    ) -> Result<u64, AllocError> {
+    ) -> Result<u64, AllocError>
+        ensures numbered { IfOk result (λ number. number ≡ self.old.next_claim) }
+        ensures next { OnOk result (self.new.next_claim ≡ self.old.next_claim + 1) }
+        ensures claimed { OnOk result (AddsClaim function.now definition self.old.claims.items self.new.claims.items) }
+        ensures loads { OnOk result (self.new.loads ≡ self.old.loads) }
+    {
         let number = self.next_claim;
+        let Some(next) = number.checked_add(1) else {
+            return Err(AllocError);
+        };
         let function = String::from_str(alloc, function)?;
         self.claims.push(Claim {
             line: self.line.saturating_sub(1),
@@ -148,7 +160,7 @@ impl<'a> Body<'a> {
             definition,
             region,
         })?;
-        self.next_claim = number.saturating_add(1);
+        self.next_claim = next;
         Ok(number)
     }
 }
@@ -307,7 +319,7 @@ fn last_definition(root: &Root<'_>) -> u64 {
     root.formulas.len().saturating_sub(1) as u64
 }
 
-// Fetches what the piece needs of another function.
+// Fetches what the piece needs of another function, which is loaded by the claim of that.
 fn fetch_into<'a>(
     alloc: Global,
     body: &mut Body<'a>,
@@ -315,7 +327,9 @@ fn fetch_into<'a>(
     number: usize,
     group: usize,
     found: Fetched,
-) -> Result<Fetch<'a>, AllocError> {
+) -> Result<Fetch<'a>, AllocError>
+    ensures { OnOk result (KeepsKnown body.old body.new) }
+{
     let name = callee.stored.subject.name.as_str();
     let buffer = body.next_buffer;
     body.next_buffer = buffer.saturating_add(1);
@@ -349,7 +363,9 @@ fn fetches_of<'a>(
     user: &Root<'a>,
     inners: &[Inner<'a>],
     number: usize,
-) -> Result<Vec<Fetch<'a>>, Stop> {
+) -> Result<Vec<Fetch<'a>>, Stop>
+    ensures { OnOk result (KeepsKnown body.old body.new) }
+{
     let mut fetches = Vec::new(alloc);
     for (group, callee) in roots.iter().enumerate() {
         if group != number {
@@ -698,25 +714,34 @@ impl<'a> Body<'a> {
         }
     }
 
-    // The claim of a definition of the group's own function behind its nest, in whose loops nothing is computed.
+    // The claim of a definition of the group's own function behind its nest, in whose loops nothing is computed: the function is
+    // loaded by it.
+    #[tactic(auto, using(crate::proofs::Wholes::load_more))]
     fn claim_whole(
         &mut self,
         alloc: Global,
         cast: Cast<'_, 'a>,
         definition: usize,
         nest: &Nest,
-    ) -> Result<(), AllocError> {
+    ) -> Result<u64, AllocError>
+        ensures loaded { IfOk result (λ claim. map load_of self.new.loads.items ≡ map load_of self.old.loads.items
+            ++ ((stored_of cast.entry.root.now.stored.now).subject.name, claim) ∷ []) }
+        ensures numbered { IfOk result (λ claim. claim ≡ self.old.next_claim) }
+        ensures next { OnOk result (self.new.next_claim ≡ self.old.next_claim + 1) }
+        ensures claimed { OnOk result (AddsClaim (stored_of cast.entry.root.now.stored.now).subject.name definition
+            self.old.claims.items self.new.claims.items) }
+    {
         let count = line_count(&nest.steps).saturating_add(1);
         self.line = self.line.saturating_add(count);
         let region = cast.claimed.copy(alloc)?;
         let function = cast.root.stored.subject.name.as_str();
         let claim = self.claim(alloc, 0, function, definition as u64, region)?;
         self.loads.push(Load { function, claim })?;
-        Ok(())
+        Ok(claim)
     }
 
     // The nests of the definitions from this number on, in whose loops nothing is computed, each with its claim.
-    #[tactic(auto, using(crate::proofs::Wholes::nests_made))]
+    #[tactic(auto, using(crate::proofs::Claimed::extends_none, crate::proofs::Claimed::extends_added))]
     fn whole_nests(
         &mut self,
         alloc: Global,
@@ -724,7 +749,10 @@ impl<'a> Body<'a> {
         definition: usize,
         nests: &[Nest],
     ) -> Result<Vec<Stmt>, Stop>
-        ensures { IfOk result (λ v. AreNests (stored_of cast.entry.root.now.stored.now) definition (map nest_seen nests.now) (list_statements v.items)) }
+        ensures nests { IfOk result (λ v. (before : List CodeClaim) → length (before ++ self.old.claims.items) ≡ self.old.next_claim →
+            AreNests (stored_of cast.entry.root.now.stored.now) (map formula_of cast.entry.root.now.formulas.now)
+            (before ++ self.new.claims.items) (map load_of self.old.loads.items) definition (map nest_seen nests.now) (list_statements v.items)) }
+        ensures more { OnOk result (Extends self.old.claims.items self.new.claims.items) }
     {
         match nests {
             [] => Ok(Vec::new(alloc)),
@@ -755,7 +783,10 @@ impl<'a> Body<'a> {
 
     // The nests of a group, with their claims.
     fn nests_of(&mut self, alloc: Global, cast: Cast<'_, 'a>) -> Result<Vec<Stmt>, Stop>
-        ensures { IfOk result (λ v. cast.entry.inners.now ≡ [] → AreNests (stored_of cast.entry.root.now.stored.now) 0
+        ensures more { OnOk result (cast.entry.inners.now ≡ [] → Extends self.old.claims.items self.new.claims.items) }
+        ensures nests { IfOk result (λ v. cast.entry.inners.now ≡ [] → (before : List CodeClaim) →
+            length (before ++ self.old.claims.items) ≡ self.old.next_claim → AreNests (stored_of cast.entry.root.now.stored.now)
+            (map formula_of cast.entry.root.now.formulas.now) (before ++ self.new.claims.items) (map load_of self.old.loads.items) 0
             (map nest_seen cast.entry.root.now.laid.now.skeleton.nests.items) (list_statements v.items)) }
     {
         match cast.inners {
@@ -765,7 +796,9 @@ impl<'a> Body<'a> {
     }
 
     // What the certificate says of it is added.
-    fn certify(&mut self, certificate: &mut Cert) -> Result<(), AllocError> {
+    fn certify(&mut self, certificate: &mut Cert) -> Result<(), AllocError>
+        ensures { OnOk result (certificate.new.claims.items ≡ certificate.old.claims.items ++ self.old.claims.items) }
+    {
         certificate.needs.append(&mut self.needs)?;
         certificate.claims.append(&mut self.claims)?;
         certificate.windows.append(&mut self.windows)?;
@@ -792,12 +825,15 @@ impl<'a> Body<'a> {
 }
 
 // Before the nests of a root function, with so many functions inside: behind the lets over the grid and its buffer.
+#[tactic(auto, using(crate::proofs::Claimed::known_none))]
 fn begun<'a>(
     alloc: Global,
     beginning: Beginning,
     root: &Root<'_>,
     inners: usize,
-) -> Result<Body<'a>, AllocError> {
+) -> Result<Body<'a>, AllocError>
+    ensures { IfOk result (λ body. (before : List CodeClaim) → length before ≡ beginning.claim → IsKnown before body) }
+{
     let mut buffers = Vec::new(alloc);
     for _inner in 0..inners {
         buffers.push(0)?;
@@ -875,7 +911,7 @@ fn over_grid(alloc: Global, root: &Root<'_>) -> Result<Vec<Sym>, AllocError> {
 }
 
 // What a piece of the group does; what the certificate says of it is added.
-#[tactic(auto, using(crate::proofs::Wholes::whole_made))]
+#[tactic(auto, using(crate::proofs::Claimed::extends_appended))]
 fn body_of<'a>(
     alloc: Global,
     algo: &Algo,
@@ -886,8 +922,10 @@ fn body_of<'a>(
     beginning: Beginning,
     certificate: &mut Cert,
 ) -> Result<Body<'a>, Stop>
-    ensures { IfOk result (λ v. inners.now ≡ [] → IsBody (stored_of root.now.stored.now) (skeleton_seen root.now.laid.now.skeleton)
-        (body (list_statements v.statements.items))) }
+    requires { length certificate.old.claims.items ≡ beginning.claim }
+    ensures more { OnOk result (Extends certificate.old.claims.items certificate.new.claims.items) }
+    ensures does { IfOk result (λ v. inners.now ≡ [] → IsBody (stored_of root.now.stored.now) (map formula_of root.now.formulas.now)
+        (skeleton_seen root.now.laid.now.skeleton) certificate.new.claims.items (body (list_statements v.statements.items))) }
 {
     let claimed = claim_region(alloc, &dimensions)?;
     let mut body = begun(alloc, beginning, root, inners.len())?;
@@ -927,7 +965,7 @@ fn group_with(alloc: Global, root: &Root<'_>, statements: Vec<Stmt>) -> Result<G
 
 /// The group of a root function, with those that are computed inside its loops. What needs, claims and windows a certificate has of
 /// it is added.
-#[tactic(auto, using(crate::proofs::Wholes::done))]
+#[tactic(auto, using(crate::proofs::Claimed::done))]
 pub(crate) fn group_of<'a>(
     alloc: Global,
     algo: &Algo,
@@ -937,9 +975,11 @@ pub(crate) fn group_of<'a>(
     beginning: Beginning,
     certificate: &mut Cert,
 ) -> Result<Made, Stop>
+    requires { length certificate.old.claims.items ≡ beginning.claim }
     ensures over { IfOk result (λ made. IsOver (root_of root.now) made.group) }
     ensures own { IfOk result (λ made. IsOwnOver (root_of root.now) beginning.number made.own) }
-    ensures does { IfOk result (λ made. inners.now ≡ [] → IsBodyOf (root_of root.now) made.group) }
+    ensures does { IfOk result (λ made. inners.now ≡ [] → IsBodyOf certificate.new.claims.items (root_of root.now) made.group) }
+    ensures more { OnOk result (Extends certificate.old.claims.items certificate.new.claims.items) }
 {
     let dimensions = dimensions(alloc, root.stored, root.laid)?;
     let own = own_region(alloc, root, &dimensions)?;

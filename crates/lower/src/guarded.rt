@@ -1,20 +1,19 @@
 //! What a guarded split says of its loop's numbers, also where no guard has to stand for it.
 
+use crate::ends::told_span;
 use crate::error::Stop;
 use crate::fetching::Root;
+use crate::forms::{MOST_FORMS, two_forms};
 use crate::regions::symbols_from;
 use crate::renaming::{renamed, renamed_steps};
 use crate::scopes::bind_steps;
-use crate::turns::{all_limited, told_span};
-use lin::{Forms, Lin, Region, Scope, Sym};
+use crate::standing::all_limited;
+use lin::{Lin, Region, Scope, Sym};
 use plan::Pick;
 use sched::{Nest, Split, Step, Tail};
 use std::alloc::{AllocError, Global};
 use std::mem;
 use tree::token::Name;
-
-/// The most forms that a side of a span has.
-const MOST_FORMS: usize = 4;
 
 /// The nests of a function over a region, and what stands around them.
 #[derive(Clone, Copy, Drop)]
@@ -102,9 +101,7 @@ impl Told {
     fn smaller(&mut self, alloc: Global, form: &Lin, last: &Lin) -> Result<Lin, AllocError> {
         let symbol = self.next;
         self.next = symbol.saturating_add(1);
-        let mut forms = Forms::new(alloc);
-        forms.push(form.copy(alloc)?)?;
-        forms.push(last.copy(alloc)?)?;
+        let forms = two_forms(alloc, form.copy(alloc)?, last.copy(alloc)?)?;
         self.steps.push(Step::Named {
             symbol,
             pick: Pick::Min,

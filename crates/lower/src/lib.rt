@@ -4,6 +4,8 @@
 mod blocks;
 mod calls;
 mod definitions;
+mod demand;
+mod ends;
 mod error;
 mod fetching;
 mod forms;
@@ -23,6 +25,9 @@ mod renaming;
 mod rounded;
 mod scopes;
 mod sliding;
+mod spots;
+mod standing;
+mod storage;
 mod turns;
 mod uses;
 mod whole;

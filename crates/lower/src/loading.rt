@@ -1,5 +1,10 @@
 //! Expressions as a plan stores them: each call of a stored function is a load by a claim.
 
+ghost use Rattle.std.specs.Prelude.{◌≡◌, IfOk, None, map, string_bytes};
+ghost use Rattle.tree.specs.Term.{term_of, test_of, list_terms, indices, Call};
+ghost use Rattle.tree.specs.Substitution.{with_calls, test_with_calls, all_with_calls};
+ghost use Rattle.lower.specs.Loading.{as_load, last_of, load_of, loaded_name as name_after};
+
 use std::alloc::{AllocError, Global};
 use tree::token::Span;
 use tree::{Cond, Expr};
@@ -11,31 +16,51 @@ pub(crate) struct Load<'a> {
     pub claim: u64,
 }
 
-// The name by which the function is loaded, by the last claim of it; another name stays.
-fn loaded_name(alloc: Global, name: &str, loads: &[Load<'_>]) -> Result<String, AllocError> {
-    for load in loads.iter().rev() {
+// The claim of the last load of this function.
+fn last_claim(loads: &[Load<'_>], name: &str) -> Option<u64>
+    ensures { result ≡ last_of None (map load_of loads.now) name.now }
+{
+    let mut found = None;
+    for load in loads {
         if load.function == name {
-            return format!(in alloc; "@{}", load.claim);
+            found = Some(load.claim);
         }
     }
-    String::from_str(alloc, name)
+    found
 }
 
-fn loaded_box(alloc: Global, expr: Expr) -> Result<Box<Expr>, AllocError> {
+// The name by which the function is loaded, by the last claim of it; another name stays.
+fn loaded_name(alloc: Global, name: &str, loads: &[Load<'_>]) -> Result<String, AllocError>
+    ensures { IfOk result (λ s. string_bytes s ≡ name_after (map load_of loads.now) name.now) }
+{
+    match last_claim(loads, name) {
+        Some(claim) => format!(in alloc; "@{claim}"),
+        None => String::from_str(alloc, name),
+    }
+}
+
+fn loaded_box(alloc: Global, expr: Expr) -> Result<Box<Expr>, AllocError>
+    ensures { IfOk result (λ b. term_of b.value ≡ term_of expr) }
+{
     Ok(Box::new(alloc, expr)?)
 }
 
-fn test_box(alloc: Global, cond: Cond) -> Result<Box<Cond>, AllocError> {
+fn test_box(alloc: Global, cond: Cond) -> Result<Box<Cond>, AllocError>
+    ensures { IfOk result (λ b. test_of b.value ≡ test_of cond) }
+{
     Ok(Box::new(alloc, cond)?)
 }
 
+#[tactic(auto, using(crate::proofs::Loads::call_made))]
 fn loaded_call(
     alloc: Global,
     name: &str,
     at: Vec<Expr>,
     span: Span,
     loads: &[Load<'_>],
-) -> Result<Expr, AllocError> {
+) -> Result<Expr, AllocError>
+    ensures { IfOk result (λ e. term_of e ≡ Call (name_after (map load_of loads.now) name.now) (indices (list_terms at.items))) }
+{
     Ok(Expr::Call {
         name: loaded_name(alloc, name, loads)?,
         at,
@@ -45,7 +70,10 @@ fn loaded_call(
 
 /// The expression with each call of one of these functions as a load by its claim.
 #[cycle(load)]
-pub(crate) fn loaded(alloc: Global, expr: &Expr, loads: &[Load<'_>]) -> Result<Expr, AllocError> {
+#[tactic(auto, using(crate::proofs::Loads::call_loaded))]
+pub(crate) fn loaded(alloc: Global, expr: &Expr, loads: &[Load<'_>]) -> Result<Expr, AllocError>
+    ensures { IfOk result (λ e. term_of e ≡ with_calls (as_load (map load_of loads.now)) (term_of expr.now)) }
+{
     match expr {
         Expr::Literal { .. } | Expr::Variable { .. } => tree::copy(alloc, expr),
         Expr::Call { name, at, span } => {
@@ -113,7 +141,9 @@ pub(crate) fn loaded(alloc: Global, expr: &Expr, loads: &[Load<'_>]) -> Result<E
 
 // The same of a condition.
 #[cycle(load)]
-fn loaded_test(alloc: Global, cond: &Cond, loads: &[Load<'_>]) -> Result<Cond, AllocError> {
+fn loaded_test(alloc: Global, cond: &Cond, loads: &[Load<'_>]) -> Result<Cond, AllocError>
+    ensures { IfOk result (λ c. test_of c ≡ test_with_calls (as_load (map load_of loads.now)) (test_of cond.now)) }
+{
     match cond {
         Cond::Compare {
             by,
@@ -165,7 +195,10 @@ fn loaded_test(alloc: Global, cond: &Cond, loads: &[Load<'_>]) -> Result<Cond, A
 
 // The same of indices.
 #[cycle(load)]
-fn loaded_all(alloc: Global, at: &[Expr], loads: &[Load<'_>]) -> Result<Vec<Expr>, AllocError> {
+#[tactic(auto, using(crate::proofs::Loads::more_loaded, crate::proofs::Loads::all_loaded))]
+fn loaded_all(alloc: Global, at: &[Expr], loads: &[Load<'_>]) -> Result<Vec<Expr>, AllocError>
+    ensures { IfOk result (λ v. indices (list_terms v.items) ≡ all_with_calls (as_load (map load_of loads.now)) (indices (list_terms at.now))) }
+{
     let mut made = Vec::new(alloc);
     for index in at {
         let one = loaded(alloc, index, loads)?;

@@ -1,6 +1,6 @@
 //! From an algorithm and a schedule to a plan and its certificate.
 
-ghost use Rattle.std.specs.Prelude.{◌≡◌, [], ◌∷◌, IfOk, IfErr, Some, None, true, false, length, map};
+ghost use Rattle.std.specs.Prelude.{◌≡◌, [], ◌∷◌, IfOk, IfErr, OnOk, Some, None, true, false, length, map};
 ghost use Rattle.std.specs.Option.{option_map};
 ghost use Rattle.algo.specs.View.{algorithm_of};
 ghost use Rattle.sched.specs.View.{schedule_of};
@@ -10,6 +10,7 @@ ghost use Rattle.lower.specs.declared.error.LowerError.TheVariants.{Broken};
 ghost use Rattle.lower.specs.Stored.{stored_of, stored_of_all};
 ghost use Rattle.lower.specs.Regions.{laid_of, laid_functions};
 ghost use Rattle.lower.specs.Faults.{are_whole};
+ghost use Rattle.lower.specs.Bodies.{Extends};
 ghost use Rattle.lower.specs.Groups.{AreAlone, AreBodies, AreGroupsMade, AreMade, IsAlone, IsBodyOf, IsOver, IsOwnOver, IsPlanOf, party_of, rooted};
 ghost use Rattle.lower.specs.Refused.{Answers, AreSmall, AreRegionsKept, IsRefused, IsUnplanned, IsPlaced};
 
@@ -57,7 +58,9 @@ fn declaration(alloc: Global, port: &Port) -> Result<Declaration, AllocError> {
     })
 }
 
-fn empty_certificate(alloc: Global) -> Cert {
+fn empty_certificate(alloc: Global) -> Cert
+    ensures { result.claims.items ≡ [] }
+{
     Cert {
         own: Vec::new(alloc),
         needs: Vec::new(alloc),
@@ -76,9 +79,11 @@ fn group_at<'a>(
     beginning: Beginning,
     certificate: &mut Cert,
 ) -> Result<Made, LowerError>
+    requires { length certificate.old.claims.items ≡ beginning.claim }
     ensures over { IfOk result (λ made. IsOver (party_of party.now) made.group) }
     ensures own { IfOk result (λ made. IsOwnOver (party_of party.now) beginning.number made.own) }
-    ensures does { IfOk result (λ made. IsAlone party.now → IsBodyOf (party_of party.now) made.group) }
+    ensures does { IfOk result (λ made. IsAlone party.now → IsBodyOf certificate.new.claims.items (party_of party.now) made.group) }
+    ensures more { OnOk result (Extends certificate.old.claims.items certificate.new.claims.items) }
     ensures unplanned { IfErr result IsUnplanned }
 {
     let unbounded = LowerError::Broken(RegionRule::Unbounded, party.root.stored.subject.name);
@@ -117,7 +122,7 @@ fn put_first(
 
 // The groups of these root functions, of which the first begins so, and what their pieces own; the rest that the certificate says of
 // them is added to it.
-#[tactic(auto, using(crate::proofs::Made::made_first))]
+#[tactic(auto, using(crate::proofs::Made::made_first, crate::proofs::Claimed::extends_more, crate::proofs::Claimed::extends_none))]
 fn groups_from<'a>(
     alloc: Global,
     algo: &Algo,
@@ -126,8 +131,10 @@ fn groups_from<'a>(
     beginning: Beginning,
     certificate: &mut Cert,
 ) -> Result<(Vec<Group>, Vec<Own>), LowerError>
+    requires { length certificate.old.claims.items ≡ beginning.claim }
     ensures made { IfOk result (λ v. AreMade (map party_of parties.now) beginning.number v.0.items v.1.items) }
-    ensures bodies { IfOk result (λ v. AreAlone parties.now → AreBodies (map party_of parties.now) v.0.items) }
+    ensures bodies { IfOk result (λ v. AreAlone parties.now → AreBodies certificate.new.claims.items (map party_of parties.now) v.0.items) }
+    ensures more { OnOk result (Extends certificate.old.claims.items certificate.new.claims.items) }
     ensures unplanned { IfErr result IsUnplanned }
 {
     let [party, rest @ ..] = parties else {
@@ -154,7 +161,7 @@ fn groups_of<'a>(
     parties: &[Party<'a>],
 ) -> Result<(Vec<Group>, Cert), LowerError>
     ensures made { IfOk result (λ v. AreMade (map party_of parties.now) 0 v.0.items v.1.own.items) }
-    ensures bodies { IfOk result (λ v. AreAlone parties.now → AreBodies (map party_of parties.now) v.0.items) }
+    ensures bodies { IfOk result (λ v. AreAlone parties.now → AreBodies v.1.claims.items (map party_of parties.now) v.0.items) }
     ensures unplanned { IfErr result IsUnplanned }
 {
     let mut certificate = empty_certificate(alloc);

@@ -8,6 +8,7 @@ mod mends;
 pub(crate) mod reach;
 pub(crate) mod readings;
 pub(crate) mod sizes;
+pub(crate) mod slides;
 mod texts;
 pub(crate) mod turned;
 

@@ -28,8 +28,8 @@ use tree::Expr;
 /// The greatest distance between the ends of what all turns together need of a function.
 const MOST_DISTANCE: i64 = 2147483647;
 
-/// The most numbers of a dimension of a root function's region.
-const MOST_NUMBERS: u32 = 8192;
+/// The most numbers that a stored function has in a dimension: all of a root function, one turn of another.
+pub(crate) const MOST_NUMBERS: u32 = 8192;
 
 /// How often the region of a function with updates is asked again for what its own calls need.
 const MOST_ROUNDS: usize = 4;

@@ -2,12 +2,13 @@
 //! claims speak.
 
 use crate::calls::calls_of;
+use crate::ends::{Needed, has_further, rounding, told_span};
 use crate::error::Stop;
 use crate::fetching::{Root, count_from, run_of, shortest};
-use crate::forms::{one_form, raised};
-use crate::inner::stored_from;
+use crate::forms::{one_form, raised, two_forms};
 use crate::legality::is_bounded;
-use crate::turns::{Needed, has_further, nests_begun, nests_over, rounding, told_span};
+use crate::storage::stored_from;
+use crate::turns::{nests_begun, nests_over};
 use algo::Algo;
 use lin::{Binding, Forms, Lin, Region, Scope, Span1};
 use plan::Pick;
@@ -81,9 +82,7 @@ impl Names {
         first: Lin,
         second: Lin,
     ) -> Result<Lin, AllocError> {
-        let mut forms = Forms::new(alloc);
-        forms.push(first)?;
-        forms.push(second)?;
+        let forms = two_forms(alloc, first, second)?;
         self.name(alloc, pick, forms)
     }
 

@@ -1,18 +1,16 @@
 //! How a function that is computed inside a loop keeps what the turns before have made.
 
+use crate::ends::Needed;
 use crate::error::Stop;
 use crate::fetching::{Root, freed, shortest};
-use crate::forms::raised;
+use crate::forms::{MOST_FORMS, raised};
 use crate::reasons::Standstill;
-use crate::turns::{Needed, nests_over};
+use crate::turns::nests_over;
 use crate::windows::{all_fit, window_size};
 use lin::{Binding, Forms, Lin, Region, Scope, Span1, Sym};
 use plan::{Pick, Places};
 use sched::{Nest, Step};
 use std::alloc::{AllocError, Global};
-
-/// The most forms that a side of a span has.
-const MOST_FORMS: usize = 4;
 
 /// The loop along which a function may slide, and what stands in it.
 #[derive(Drop)]
@@ -252,30 +250,36 @@ fn is_below(alloc: Global, scope: &Scope, form: &Lin, others: &[Lin]) -> Result<
     Ok(true)
 }
 
-// Whether no turn begins past what the turn before has made.
-fn are_joined(alloc: Global, scope: &Scope, span: &Span1, symbol: Sym) -> Result<bool, Stop> {
-    let new = new_from(alloc, span, symbol)?;
-    for form in span.lower.as_slice() {
-        if form.factor(symbol) != 0 && !is_below(alloc, scope, form, new.as_slice())? {
+// Whether what a turn needs begins at most one past what the turn before holds.
+fn are_joined(
+    alloc: Global,
+    scope: &Scope,
+    needed: &Span1,
+    held: &Span1,
+    track: &Track,
+) -> Result<bool, Stop> {
+    let new = new_from(alloc, held, track.symbol)?;
+    for form in needed.lower.as_slice() {
+        if is_named(form, track) && !is_below(alloc, scope, form, new.as_slice())? {
             return Ok(false);
         }
     }
     Ok(true)
 }
 
-// The span over the loop's own symbol in place of the lets behind it, where it rises and the turns join.
+// The span that is needed over the loop's own symbol in place of the lets behind it, where it rises and the turns join.
 fn over_loop(
     alloc: Global,
     scope: &Scope,
-    span: &Span1,
+    needed: &Span1,
     track: &Track,
 ) -> Result<Option<Span1>, Stop> {
-    let span = freed(alloc, scope, track.lets.as_slice(), span)?;
-    let is_open = span.lower.as_slice().is_empty() || span.upper.as_slice().is_empty();
-    if is_open || !rises(&span, track) || !are_joined(alloc, scope, &span, track.symbol)? {
+    let held = freed(alloc, scope, track.lets.as_slice(), needed)?;
+    let is_open = held.lower.as_slice().is_empty() || held.upper.as_slice().is_empty();
+    if is_open || !rises(&held, track) || !are_joined(alloc, scope, needed, &held, track)? {
         return Ok(None);
     }
-    Ok(Some(span))
+    Ok(Some(held))
 }
 
 // The region with another span in a dimension.
@@ -304,8 +308,8 @@ fn is_split(root: &Root<'_>, dimension: usize) -> bool {
 }
 
 /// What a function without updates holds in each turn of the loop along which it slides: what is needed of it; behind lets that
-/// over the loop's own symbol, where it has no folds and is not split there. None where it makes all in each turn: behind a
-/// guard, and where numbers that nobody needs might lie between the turns.
+/// over the loop's own symbol, where it is not split there. None where it makes all in each turn: behind a guard, and where
+/// numbers that nobody needs might lie between the turns.
 pub(crate) fn held_region(
     alloc: Global,
     root: &Root<'_>,

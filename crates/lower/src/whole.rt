@@ -1,12 +1,15 @@
 //! The statements of a function inside whose loops nothing is computed: those of its skeleton, whose symbols are the plan's.
 
 ghost use Rattle.std.specs.Prelude.{◌≡◌, ◌∷◌, [], ◌++◌, IfOk, map, ◌+◌};
+ghost use Rattle.std.specs.Option.{option_copied, option_map};
+ghost use Rattle.tree.specs.Term.{term_of};
 ghost use Rattle.plan.specs.Lists.{list_statements};
 ghost use Rattle.plan.specs.Plan.{block, Empty, Then};
 ghost use Rattle.plan.specs.View.{coordinate_of, index_of as told_index, statement_of};
 ghost use Rattle.sched.specs.Runs.{lines_to as steps_to};
 ghost use Rattle.sched.specs.Skeleton.{nest_seen, skeleton_seen};
-ghost use Rattle.lower.specs.Stored.{stored_of};
+ghost use Rattle.lower.specs.Loading.{load_of};
+ghost use Rattle.lower.specs.Stored.{formula_of, stored_of};
 ghost use Rattle.lower.specs.Bodies as spec;
 
 use crate::error::Stop;
@@ -119,14 +122,14 @@ pub(crate) fn line_count(steps: &[Step]) -> u64 {
 
 // ---- stores
 
-// A coordinate: the skeleton's form, or what the left index comes to where that has none.
+// A coordinate: the skeleton's form, or the left index with its calls as loads where that has none.
 fn index_of(
     alloc: Global,
     form: &Option<Lin>,
     index: Option<&Expr>,
     loads: &[Load<'_>],
 ) -> Result<Index, Stop>
-    ensures { IfOk result (λ index. spec.IsIndex form.now (told_index index)) }
+    ensures { IfOk result (λ made. spec.IsIndex (map load_of loads.now) form.now (option_map term_of (option_copied index.entry)) (told_index made)) }
 {
     match form {
         Some(form) => Ok(Index::Form(form.copy(alloc)?)),
@@ -138,20 +141,25 @@ fn index_of(
 }
 
 // The left index of a variable, where it is not the variable alone.
-fn first_index(at: &[Option<Expr>]) -> Option<&Expr> {
+fn first_index(at: &[Option<Expr>]) -> Option<&Expr>
+    ensures { option_map term_of (option_copied result) ≡ spec.first_left (map (option_map term_of) at.now) }
+{
     match at {
         [first, _rest @ ..] => first.as_ref(),
         [] => None,
     }
 }
 
-fn other_indices(at: &[Option<Expr>]) -> &[Option<Expr>] {
+fn other_indices(at: &[Option<Expr>]) -> &[Option<Expr>]
+    ensures { map (option_map term_of) result.now ≡ spec.other_lefts (map (option_map term_of) at.now) }
+{
     match at {
         [_first, rest @ ..] => rest,
         [] => at,
     }
 }
 
+#[tactic(auto, using(crate::proofs::Wholes::coordinates_made))]
 fn coordinates_of(
     alloc: Global,
     names: &[&str],
@@ -159,7 +167,8 @@ fn coordinates_of(
     at: &[Option<Expr>],
     loads: &[Load<'_>],
 ) -> Result<Vec<Coordinate>, Stop>
-    ensures { IfOk result (λ v. spec.AreCoordinates (map (λ x. x.now) names.now) forms.now (map coordinate_of v.items)) }
+    ensures { IfOk result (λ v. spec.AreCoordinates (map load_of loads.now) (map (λ x. x.now) names.now) forms.now
+        (map (option_map term_of) at.now) (map coordinate_of v.items)) }
 {
     match forms {
         [] => Ok(Vec::new(alloc)),
@@ -177,7 +186,8 @@ fn coordinates_of(
     }
 }
 
-/// The store of the definition of this number at the coordinates of its nest, into the piece's own buffer.
+/// The store of the definition of this number, its calls as loads, at the coordinates of its nest, into the piece's own buffer.
+#[tactic(auto, using(crate::proofs::Wholes::store_made))]
 pub(crate) fn store_of(
     alloc: Global,
     root: &Root<'_>,
@@ -185,7 +195,8 @@ pub(crate) fn store_of(
     nest: &Nest,
     loads: &[Load<'_>],
 ) -> Result<Stmt, Stop>
-    ensures { IfOk result (λ store. spec.IsStore (stored_of root.now.stored.now) definition (nest_seen nest.now) (statement_of store)) }
+    ensures { IfOk result (λ store. spec.IsStore (stored_of root.now.stored.now) (map formula_of root.now.formulas.now) (map load_of loads.now)
+        definition (nest_seen nest.now) (statement_of store)) }
 {
     let Some(formula) = root.formulas.get(definition) else {
         return Err(Stop::Limit);
@@ -210,7 +221,8 @@ pub(crate) fn nest_of(
     nest: &Nest,
     loads: &[Load<'_>],
 ) -> Result<Vec<Stmt>, Stop>
-    ensures { IfOk result (λ v. spec.IsNest (stored_of root.now.stored.now) definition (nest_seen nest.now) (list_statements v.items)) }
+    ensures { IfOk result (λ v. spec.IsNest (stored_of root.now.stored.now) (map formula_of root.now.formulas.now) (map load_of loads.now)
+        definition (nest_seen nest.now) (list_statements v.items)) }
 {
     let store = store_of(alloc, root, definition, nest, loads)?;
     let inner = alone(alloc, store)?;

@@ -3,11 +3,13 @@
 use crate::definitions::Stored;
 use crate::error::Stop;
 use crate::fetching::{Root, freed};
-use crate::inner::{Inner, Slide, readings_at, root_at, slide_of, slide_outside};
+use crate::inner::Inner;
 use crate::parties::Party;
 use crate::reasons::readings::Reading;
+use crate::reasons::slides::{Slide, readings_at, slide_of, slide_outside};
 use crate::reasons::{Amount, Cause, FoldCause, Link, Reason, Standstill, Storage};
 use crate::regions::symbols_from;
+use crate::spots::root_at;
 use crate::windows::window_size;
 use algo::Algo;
 use lin::{Forms, Scope, Span1};

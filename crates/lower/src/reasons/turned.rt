@@ -1,19 +1,21 @@
 //! Why no bounds are found of what the turns of loops need.
 
 use crate::definitions::Stored;
+use crate::demand::{region_at, sites_at};
+use crate::ends::Needed;
 use crate::error::Stop;
 use crate::fetching::{Root, shortest};
-use crate::inner::{
-    Host, Inner, Spot, inners_of, readings_at, region_at, root_at, scope_at, sites_at, spots_of,
-};
+use crate::inner::{Inner, inners_of};
 use crate::parties::{Party, laid_by_turns, parties_of, roots_of};
 use crate::reasons::asked::{read_reason, unbounded_at};
 use crate::reasons::reach::number_named;
 use crate::reasons::readings::{Reading, add_readings};
+use crate::reasons::slides::readings_at;
 use crate::reasons::{BoundCause, Cause, Reason, TurnCause};
 use crate::regions::{Laid, laid_functions};
 use crate::scopes::head_scope;
-use crate::turns::{Needed, nests_over};
+use crate::spots::{Host, Spot, root_at, scope_at, spots_of};
+use crate::turns::nests_over;
 use algo::Algo;
 use lin::{Region, Scope};
 use sched::Nest;

@@ -14,6 +14,6 @@ returns-clause-made c =
     let gs = map stored_of c.args.stored.now in
     let ls = map (option_map laid_of) c.args.laid.now in
     let made : Lowered = record { plan = c.in_ok-plan.plan; certificate = c.in_ok-groups.certificate } in
-    plan_made gs ls c.args.parties.now (map party_of c.args.parties.now) made c.in_ok-groups.groups.items c.in_ok-groups.certificate.own.items
+    plan_made c.in_ok-groups.certificate.claims.items gs ls c.args.parties.now (map party_of c.args.parties.now) made c.in_ok-groups.groups.items c.in_ok-groups.certificate.own.items
     (c.unlaid.ensures c.in_default.is) c.requires.roots c.requires.alone c.in_ok-groups.ensures.made c.in_ok-groups.ensures.bodies
-    (ap (λ (v : Vec Group). v.items) c.in_ok-plan.ensures) refl
+    (ap (λ (v : Vec Group). v.items) c.in_ok-plan.ensures) refl refl

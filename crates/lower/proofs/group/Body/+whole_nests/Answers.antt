@@ -1,0 +1,33 @@
+use Rattle.std.proofs.Common.{◌≡◌, ℕ, ◌+◌, ◌-◌, List, ◌++◌, length, map, take, drop, sym, subst, arith}
+use Rattle.plan.specs.Lists.{list_statements}
+use Rattle.sched.specs.declared.nest.Nest.{Nest}
+use Rattle.sched.specs.Skeleton.{nest_seen}
+use Rattle.lower.specs.declared.loading.Load.{Load}
+use Rattle.lower.specs.Loading.{load_of}
+use Rattle.lower.specs.Stored.{formula_of, stored_of}
+use Rattle.lower.specs.Bodies.{IsNest, AreNests}
+use Rattle.lower.proofs.Claimed.{nests_made, one_first}
+use Rattle.lower.proofs.group.Body.+whole_nests.Goals as goal
+
+pub returns-in_ok-append-in-len1-up-clause-nests : goal.returns-in_ok-append-in-len1-up-clause-nests
+returns-in_ok-append-in-len1-up-clause-nests t c = λ before counted.
+    let g = stored_of c.args.cast.root.now.stored.now in
+    let fs = map formula_of c.args.cast.root.now.formulas.now in
+    let old = c.args.self.now in
+    let one = c.claim_whole.new.self in
+    let new = c.whole_nests.new.self in
+    let ls = map load_of old.loads.items in
+    let d = c.args.definition in
+    let ns = c.args.nests.now in
+    let n = c.nest-item.result in
+    let rest = take (length ns - 1) (drop 1 ns) in
+    let xs = c.in_ok-first-in-len1-up.first.items in
+    let ys = c.in_ok-others-in-len1-up.others.items in
+    let zs = c.append.new.self.items in
+    let own = c.in_ok-claim_whole-in-len1-up in
+    let later = c.in_ok-others-in-len1-up.ensures in
+    let here = subst (λ (l : List Load). IsNest g fs (map load_of l) d (nest_seen n) (list_statements xs)) c.deref.ensures.value c.in_ok-first-in-len1-up.ensures in
+    let next : c.in-Some.next ≡ d + 1 = omega (arith, c.in-Some.ensures) in
+    let made = nests_made g fs ls d (nest_seen n) before old.claims.items one.claims.items new.claims.items own.field-0 old.next_claim one.next_claim c.in-Some.next (map load_of one.loads.items)
+    (map nest_seen rest) xs ys zs here own.ensures.claimed later.more own.ensures.numbered own.ensures.next own.ensures.loaded later.nests next c.in_ok-append-in-len1-up.ensures.items counted in
+    subst (λ (l : List Nest). AreNests g fs (before ++ new.claims.items) ls d (map nest_seen l) (list_statements zs)) (sym (one_first ns n c.in-len1-up.len_at_least c.nest-item.is)) made

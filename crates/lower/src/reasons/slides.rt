@@ -1,0 +1,91 @@
+//! In which dimension a function slides, or why in none, and the indices at which it is called.
+
+use crate::demand::is_scattered;
+use crate::error::Stop;
+use crate::fetching::Root;
+use crate::inner::Inner;
+use crate::reasons::Standstill;
+use crate::reasons::readings::{Reading, add_readings};
+use crate::sliding::{sliding_dimension, standstill, track_of};
+use crate::spots::{Spot, is_inside_spot, nests_at, root_at, scope_over, steps_at};
+use algo::Algo;
+use std::alloc::{AllocError, Global};
+
+/// Whether a function slides in the turns of the loop at which it is computed.
+#[derive(Clone, Copy, PartialEq, Eq, Drop)]
+pub(crate) enum Slide {
+    /// In this dimension.
+    Along(usize),
+    Nowhere(Standstill),
+}
+
+/// In which dimension a function slides that is computed inside a group, or why in none.
+pub(crate) fn slide_of(
+    alloc: Global,
+    group: &Root<'_>,
+    inners: &[Inner<'_>],
+    inner: &Inner<'_>,
+) -> Result<Slide, AllocError> {
+    if inner.home == inner.store {
+        return Ok(Slide::Nowhere(Standstill::OneTurn));
+    }
+    slide_outside(alloc, group, inners, inner)
+}
+
+/// The same where it is stored outside of the loop at which it is computed.
+pub(crate) fn slide_outside(
+    alloc: Global,
+    group: &Root<'_>,
+    inners: &[Inner<'_>],
+    inner: &Inner<'_>,
+) -> Result<Slide, AllocError> {
+    let Some(steps) = steps_at(group, inners, inner.home) else {
+        return Ok(Slide::Nowhere(Standstill::OneTurn));
+    };
+    let Some(track) = track_of(alloc, steps)? else {
+        return Ok(Slide::Nowhere(Standstill::OneTurn));
+    };
+    match sliding_dimension(&inner.region, &track) {
+        Some(dimension) if is_scattered(&inner.root, dimension) => {
+            Ok(Slide::Nowhere(Standstill::Scattered))
+        }
+        Some(dimension) => Ok(Slide::Along(dimension)),
+        None => Ok(Slide::Nowhere(standstill(&inner.region, &track))),
+    }
+}
+
+/// The indices at which a function is called at a place and inside of it.
+pub(crate) fn readings_at<'a>(
+    alloc: Global,
+    algo: &Algo,
+    group: &Root<'a>,
+    inners: &[Inner<'a>],
+    spot: Spot,
+    callee: &str,
+) -> Result<Vec<Reading<'a>>, Stop> {
+    let mut found = Vec::new(alloc);
+    let scope = scope_over(alloc, group, inners, spot.host)?;
+    let host = root_at(group, inners, spot.host);
+    let nests = nests_at(group, inners, spot.host);
+    let number = spot.host.number();
+    let only = spot.definition;
+    add_readings(
+        alloc, algo, &host, number, &scope, nests, only, callee, &mut found,
+    )?;
+    for (number, inner) in inners.iter().enumerate() {
+        if is_inside_spot(inners, number, spot) {
+            add_readings(
+                alloc,
+                algo,
+                &inner.root,
+                Some(number),
+                &inner.scope,
+                &inner.nests,
+                None,
+                callee,
+                &mut found,
+            )?;
+        }
+    }
+    Ok(found)
+}
