@@ -1,5 +1,5 @@
 -- What the words are once the table is closed.
-use Rattle.std.proofs.Common.{◌≡◌, ℕ, ◌+◌, ◌<◌, ℤ, List, map, length, get_or, false, sym, ap, ◌∙◌, subst, ⊎_elim, arith}
+use Rattle.std.proofs.Common.{◌≡◌, ℕ, ◌+◌, ◌*◌, ◌<◌, ◌≤◌, ℤ, List, length, get_or, false, sym, ap, ◌∙◌, subst, ⊎_elim, arith}
 use Rattle.std.specs.Prelude.{slice_index, Contains}
 use mathlib.Core.Logic.{dite}
 use mathlib.Core.Option.{some, some-injective}
@@ -8,16 +8,18 @@ use lib.ListN.{get_elem?}
 use Rattle.atomic_table.specs.Table.{State, Final, Seen}
 use Rattle.board.specs.Layout.{Layout, pieces_of, own_cell, samples_in, shown_cell, value_at, IsSound, ShowsSamples, picture_of}
 use Rattle.board.specs.declared.view.View.{View}
-use Rattle.board.specs.Words.{flag, cell, cell_place, bits_of, word_of}
+use Rattle.board.specs.Shown.{AreShown, HasAll, StandInPlanes}
+use Rattle.board.specs.declared.source.Planes.{Planes}
+use Rattle.board.specs.Words.{flag, cell, cell_place, word_of}
 use Rattle.board.specs.Rule.{IsDrawn, IsFinished, Kept}
 use Rattle.board.specs.Views.{IsDone}
 use Rattle.board.specs.Seats.{KnowsAll}
 use Rattle.meaning.specs.Image.Raster.{natural}
-use Rattle.std.specs.List.{range_with_len}
 use Rattle.std.proofs.lemmas.List.FromFn.{fill_by_all, get_or-map-range_with_len, length-map-range_with_len}
 use Rattle.board.proofs.Parts.{IsParted}
 use Rattle.board.proofs.Sums.{sum_two}
 use Rattle.board.proofs.Samples.{sample_bits}
+use Rattle.board.proofs.Colours.{place_below}
 
 -- where one seat stands for all, all pieces are drawn and it has finished what was drawn, it knows each piece
 pub done_knows : (plan : Layout) (values : List ℤ) (words : List ℕ) (views : List View) (id : ℕ) (v : View) → Kept plan values words views → get_elem? views id ≡ some v → v.spent ≡ false → IsDone v
@@ -52,7 +54,7 @@ module _ (plan : Layout) (values : List ℤ) (id : ℕ) (v : View) (items slots 
   ended_done (s, seen, same, homes, slots_are) active done = done_knows plan values s.words s.views id v seen.0 seen.1 active done
 
   -- where all flags are set, each cell has its value
-  pub ended_cells : Ended → IsParted plan → ((j : ℕ) → j < pieces_of plan → slice_index items (1 + j) ≡ 1) → (c : ℕ) → c < plan.cells → slice_index items (cell_place plan c) ≡ word_of (value_at values c)
+  pub ended_cells : Ended → IsParted plan → ((j : ℕ) → j < pieces_of plan → slice_index items (1 + j) ≡ 1) → HasAll plan values items
   ended_cells (s, seen, same, homes, slots_are) parted all c in_range =
       let place = parted.covered c in_range in
       let j : ℕ = place.0 in
@@ -64,27 +66,44 @@ module _ (plan : Layout) (values : List ℤ) (id : ℕ) (v : View) (items slots 
       subst (λ (x : List ℕ × ℕ). cell plan x.0 x.1 ≡ word_of (value_at values x.1)) (λ i. (same i, place.4 i)) set
 
 -- the cell of a place of the raster, in the list of the cells that are shown
-pub shown_at : (plan : Layout) (shown : List ℕ) (k : ℕ) → shown ≡ map (λ n. shown_cell plan n) (range_with_len 0 (samples_in plan)) → k < samples_in plan → slice_index shown k ≡ shown_cell plan k
+pub shown_at : (plan : Layout) (shown : List ℕ) (k : ℕ) → AreShown plan shown → k < samples_in plan → slice_index shown k ≡ shown_cell plan k
 shown_at plan shown k is lt =
     ap (λ (xs : List ℕ). get_or xs k 0) is ∙ get_or-map-range_with_len (λ n. shown_cell plan n) 0 (samples_in plan) k k 0 lt (omega arith)
 
 -- how many cells are shown
-pub shown_count : (plan : Layout) (shown : List ℕ) → shown ≡ map (λ n. shown_cell plan n) (range_with_len 0 (samples_in plan)) → length shown ≡ samples_in plan
+pub shown_count : (plan : Layout) (shown : List ℕ) → AreShown plan shown → length shown ≡ samples_in plan
 shown_count plan shown is = ap length is ∙ length-map-range_with_len (λ n. shown_cell plan n) 0 (samples_in plan)
 
--- the samples are read off the words
-pub shows : (plan : Layout) (values : List ℤ) (items shown samples : List ℕ) (base : ℕ) → IsSound plan → ShowsSamples plan values → shown ≡ map (λ n. shown_cell plan n) (range_with_len 0 (samples_in plan)) → base ≡ 1 + pieces_of plan → length samples ≡ samples_in plan
-    → ((c : ℕ) → c < plan.cells → slice_index items (cell_place plan c) ≡ word_of (value_at values c))
-    → ((k : ℕ) → k < length shown → slice_index samples k + 1 ≡ slice_index items (base + slice_index shown k))
-    → samples ≡ (picture_of plan values).samples
-shows plan values items shown samples base sound right is at_base long cells reads =
-    fill_by_all (λ n. natural (value_at values (shown_cell plan n))) samples (samples_in plan) 0 long (λ k lt.
-    let here : slice_index shown k ≡ shown_cell plan k = shown_at plan shown k is lt in
-    let count : length shown ≡ samples_in plan = shown_count plan shown is in
-    let one : slice_index samples k + 1 ≡ slice_index items (base + slice_index shown k) = reads k (omega arith) in
-    let place : slice_index items (base + slice_index shown k) ≡ slice_index items (cell_place plan (shown_cell plan k)) = λ i. slice_index items (at_base i + here i) in
-    let two = cells (shown_cell plan k) (sound.shown k lt) in
-    let bits = sample_bits plan.frame.ty (value_at values (shown_cell plan k)) sound.shape.ty (right k lt) in
-    let all : slice_index samples k + 1 ≡ 1 + bits_of (value_at values (shown_cell plan k)) = one ∙ place ∙ two in
-    let same = bits.0 in
-    omega arith)
+-- the word of a cell that is shown
+pub record IsRead (plan : Layout) (values : List ℤ) (words : List ℕ) (n : ℕ) : Type 0 where
+  pub word : slice_index words (cell_place plan (shown_cell plan n)) ≡ 1 + natural (value_at values (shown_cell plan n))
+  pub small : natural (value_at values (shown_cell plan n)) ≤ 65535
+  pub inside : shown_cell plan n < plan.cells
+
+module _ (plan : Layout) (values : List ℤ) (words : List ℕ) (sound : IsSound plan) (right : ShowsSamples plan values) (all : HasAll plan values words) where
+  pub read_at : (n : ℕ) → n < samples_in plan → IsRead plan values words n
+  read_at n lt =
+      let bits = sample_bits plan.frame.ty (value_at values (shown_cell plan n)) sound.shape.ty (right n lt) in
+      record { word = all (shown_cell plan n) (sound.shown n lt) ∙ ap (λ (b : ℕ). 1 + b) bits.0; small = bits.1; inside = sound.shown n lt }
+
+  -- samples that are one less than the words of their cells are the picture's
+  pub read_off : (samples : List ℕ) → length samples ≡ samples_in plan → ((n : ℕ) → n < samples_in plan → slice_index samples n + 1 ≡ slice_index words (cell_place plan (shown_cell plan n))) →
+      samples ≡ (picture_of plan values).samples
+  read_off samples long reads = fill_by_all (λ n. natural (value_at values (shown_cell plan n))) samples (samples_in plan) 0 long (λ k lt.
+      let one = reads k lt in
+      let two = (read_at k lt).word in
+      omega (arith, one, two))
+
+-- where a listed cell's word stands
+pub listed_place : (plan : Layout) (shown : List ℕ) (base k : ℕ) → AreShown plan shown → base ≡ 1 + pieces_of plan → k < samples_in plan →
+    base + slice_index shown k ≡ cell_place plan (shown_cell plan k)
+listed_place plan shown base k is at_base lt = let here = shown_at plan shown k is lt in λ i. at_base i + here i
+
+module _ (plan : Layout) (x : Planes) (stand : StandInPlanes plan x) (k c : ℕ) (in_plane : k < x.pixels) (a_colour : c < x.colours) where
+  -- a colour of a pixel is one of the samples
+  pub plane_sample : k * x.colours + c < samples_in plan
+  plane_sample = let below = place_below k c x.pixels x.colours in_plane a_colour in let count = stand.all in omega (arith, below, count)
+
+  -- where its cell's word stands
+  pub plane_place : (start : ℕ) → start ≡ 1 + pieces_of plan + x.first → start + c * x.pixels + k ≡ cell_place plan (shown_cell plan (k * x.colours + c))
+  plane_place start at_start = let here = stand.cell k c in_plane a_colour in omega (arith, here, at_start)

@@ -5,3 +5,4 @@ pub mod Keeps
 pub mod Told
 pub mod Samples
 pub mod Closing
+pub mod Colours

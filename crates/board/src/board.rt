@@ -1,16 +1,16 @@
 //! The board.
 
 ghost use Rattle.std.specs.Slots.{slots_items, slots_len, IsFull};
-ghost use Rattle.std.specs.Prelude.{◌≡◌, ◌≢◌, [], ℕ, ◌+◌, ◌^◌, ◌<◌, ◌≤◌, ◌↔◌, true, false, length, map, slice_index, IfSome, IfNone, IfOk, IfErr, IsOk, IsTrue, MatchBool, ⊤};
-ghost use Rattle.std.specs.List.{range_with_len};
+ghost use Rattle.std.specs.Prelude.{◌≡◌, ◌≢◌, [], ℕ, ◌+◌, ◌^◌, ◌<◌, ◌≤◌, ◌↔◌, true, false, length, slice_index, IfSome, IfNone, IfOk, IfErr, IsOk, IsTrue, MatchBool, ⊤};
 ghost use Rattle.meaning.specs.Image.View.{image_of};
 ghost use Rattle.board.specs.Views.{first_view};
 ghost use Rattle.board.specs.Words.{bits_of, word_count};
 ghost use Rattle.board.specs.Layout.{pieces_of, own_of, own_cell, value_at, picture_of, IsSound, ShowsSamples};
 
 use crate::law::{Ask, Draw, Finish, Hire, Law, Look, Merge, Put, Run};
-use crate::rows::{Rows, shown_cells};
+use crate::rows::Rows;
 use crate::seat::{BoardSeat, Ticket};
+use crate::shown::{Shown, show, word_at};
 use crate::source::Source;
 use crate::view::View;
 use atomic_table::{Closed, Seat, Table};
@@ -22,22 +22,23 @@ use std::marker::Model;
 /// How many seats may be split off the first.
 const ALLOWANCE: u32 = 63;
 
-/// The table that the workers of one run share. Contracts see it as the table's name, which its seats have too.
+/// The table that the workers of one run share, with the lists of own cells, which it borrows. Contracts see it as the table's
+/// name, which its seats have too.
 #[derive(Drop)]
-pub struct Board<J: Run> {
+pub struct Board<'a, J: Run> {
     table: Table<u8, View, (), Law<J>, Global>,
-    own: Rows,
-    shown: Vec<u32>,
+    own: Rows<'a>,
+    shown: Shown,
     shape: Shape,
     samples: Vec<u16>,
 }
 
-impl<J: Run> Model for Board<J> {
-    ghost use Rattle.std.specs.Prelude.{◌≡◌, length, map};
-    ghost use Rattle.std.specs.List.{range_with_len};
+impl<'a, J: Run> Model for Board<'a, J> {
+    ghost use Rattle.std.specs.Prelude.{◌≡◌, length};
     ghost use Rattle.atomic_table.specs.Seated.{TableId, table_id_coded};
     ghost use Rattle.meaning.specs.Image.View.{shape_of};
-    ghost use Rattle.board.specs.Layout.{IsSound, ShowsSamples, samples_in, shown_cell};
+    ghost use Rattle.board.specs.Layout.{IsSound, ShowsSamples, samples_in};
+    ghost use Rattle.board.specs.Shown.{Tells};
     ghost use Rattle.board.specs.Words.{word_count};
 
     ghost Value = { TableId };
@@ -46,10 +47,10 @@ impl<J: Run> Model for Board<J> {
 
     ghost view = { λ b. b.table.shared.table_id };
 
-    ghost invariant = { λ b. (b.own ≡ J.layout.own) × IsSound J.layout × (b.table.shared.table_id.words ≡ word_count J.layout) × (length b.samples.items ≡ samples_in J.layout) × (b.table.shared.table_id.slots ≡ 0) × (b.shown.items ≡ map (λ n. shown_cell J.layout n) (range_with_len 0 (samples_in J.layout))) × (shape_of b.shape ≡ J.layout.frame) × ShowsSamples J.layout J.values };
+    ghost invariant = { λ b. (b.own ≡ J.layout.own) × IsSound J.layout × (b.table.shared.table_id.words ≡ word_count J.layout) × (length b.samples.items ≡ samples_in J.layout) × (b.table.shared.table_id.slots ≡ 0) × Tells J.layout b.shown × (shape_of b.shape ≡ J.layout.frame) × ShowsSamples J.layout J.values };
 }
 
-impl<J: Run> Board<J> {
+impl<'a, J: Run> Board<'a, J> {
     ghost use Rattle.board.specs.Views.{first_view, drew, found_none, knowing, after_put, next_after, splitter, split_off, joined, Knows, IsDone, IsIdle};
     ghost use Rattle.board.specs.Seats.{Task, place, seeing, task, IsTicketOf, IsKnownCell, KnowsAll, IsFirstUnfinished};
     ghost use Rattle.board.specs.Words.{counter, cell, flag};
@@ -57,19 +58,22 @@ impl<J: Run> Board<J> {
 
     /// A board with nothing drawn, and its first seat, which may split off 63 more.
     ///
-    /// It takes 8 bytes for each piece and each cell (twice as much while it opens), and keeps the own cells and the
-    /// cells of the picture, 4 bytes each, and the picture's samples, 2 bytes each.
-    #[tactic(auto, using(crate::proofs::Closing::shown_count))]
-    pub fn open<S: Source>(alloc: Global, source: &S) -> Result<(Board<J>, BoardSeat), AllocError>
+    /// It takes 8 bytes for each piece and each cell (twice as much while it opens), 16 for each piece, which are where its own
+    /// cells stand, and 2 for each sample of the picture. Where the cells of the samples don't stand in planes it keeps these too,
+    /// 4 bytes each.
+    pub fn open<S: Source<'a>>(
+        alloc: Global,
+        source: &S,
+    ) -> Result<(Board<'a, J>, BoardSeat), AllocError>
         requires layout { S.layout source.now ≡ J.layout }
         requires values { ShowsSamples J.layout J.values }
         ensures { IfOk result (λ b. b.1 ≡ place b.0 first_view) }
     {
         let (table, seat) = blank_table::<J, S>(alloc, source)?;
         let own = Rows::of(alloc, source)?;
-        let shown = shown_cells(alloc, source)?;
+        let shown = Shown::of(alloc, source)?;
         let shape = source.shape().copy(alloc)?;
-        let samples = vec![in alloc; 0u16; shown.len()]?;
+        let samples = vec![in alloc; 0u16; shape.sample_count()]?;
         let board = Board {
             table,
             own,
@@ -243,12 +247,7 @@ impl<J: Run> Board<J> {
             closed.free();
             return Err(Unfinished(piece));
         }
-        show(
-            &closed,
-            1 + pieces,
-            shown.as_slice(),
-            samples.as_mut_slice(),
-        );
+        show::<J>(&closed, 1 + pieces, &shown, samples.as_mut_slice());
         closed.free();
         let Shape { ty, extents } = shape;
         Ok(Image {
@@ -272,7 +271,7 @@ pub struct Unfinished(pub u32);
 
 // A table of which nothing is drawn or set, for the pieces and the cells of a source, and its first seat. The words stand twice
 // until it is made.
-fn blank_table<J: Run, S: Source>(
+fn blank_table<'a, J: Run, S: Source<'a>>(
     alloc: Global,
     source: &S,
 ) -> Result<(Table<u8, View, (), Law<J>, Global>, Seat<u8, View>), AllocError>
@@ -292,14 +291,6 @@ fn bits(value: i64) -> u64
     wrap(Ty::U32, value) as u64
 }
 
-// The word at a place.
-fn word_at(closed: &Closed<u8, Global>, place: usize) -> u64
-    requires { (place < slots_len closed.now.words) × IsFull closed.now.words }
-    ensures { result ≡ slice_index (slots_items closed.now.words) place }
-{
-    closed.word(place)
-}
-
 // The first piece whose flag is not set.
 fn first_unfinished(closed: &Closed<u8, Global>, pieces: usize) -> Option<u32>
     requires words { IsFull closed.now.words × (pieces < slots_len closed.now.words) × (pieces < 2 ^ 32) }
@@ -312,17 +303,4 @@ fn first_unfinished(closed: &Closed<u8, Global>, pieces: usize) -> Option<u32>
         }
     }
     None
-}
-
-// Writes the values of the cells that the picture shows, whose words begin at `base`.
-fn show(closed: &Closed<u8, Global>, base: usize, shown: &[u32], samples: &mut [u16])
-    requires full { IsFull closed.now.words × (slots_len closed.now.words < 2 ^ 62) × (base < 2 ^ 32) }
-    requires fits { length samples.old ≡ length shown.now }
-    requires inside { (k : ℕ) → k < length shown.now → base + slice_index shown.now k < slots_len closed.now.words }
-    requires set { (k : ℕ) → k < length shown.now → (0 < slice_index (slots_items closed.now.words) (base + slice_index shown.now k)) × (slice_index (slots_items closed.now.words) (base + slice_index shown.now k) ≤ 2 ^ 16) }
-    ensures { (k : ℕ) → k < length shown.now → slice_index samples.new k + 1 ≡ slice_index (slots_items closed.now.words) (base + slice_index shown.now k) }
-{
-    for i in 0..shown.len() {
-        samples[i] = (word_at(closed, base + shown[i] as usize) - 1) as u16;
-    }
 }

@@ -8,11 +8,12 @@ mod board;
 mod law;
 mod rows;
 mod seat;
+mod shown;
 mod source;
 mod view;
 
 pub use board::{Board, SeatError, Unfinished};
 pub use law::{Law, Run};
 pub use seat::{BoardSeat, Ticket};
-pub use source::Source;
+pub use source::{Planes, Source};
 pub use view::View;

@@ -1,47 +1,38 @@
 //! Lists of cells that a board keeps.
 
-ghost use Rattle.std.specs.Prelude.{◌≡◌, ◌<◌, ℕ, [], IfOk, length, map, slice_index_or, true};
-ghost use Rattle.std.specs.List.{range_with_len};
-ghost use Rattle.meaning.specs.Image.Raster.{is_within, raster_point, sample_count};
+ghost use Rattle.std.specs.Prelude.{◌≡◌, ◌<◌, [], IfOk, length, slice_index_or};
+ghost use Rattle.meaning.specs.Image.Raster.{raster_point, sample_count};
 ghost use Rattle.meaning.specs.Image.View.{AreExtents};
-ghost use Rattle.board.specs.Layout.{samples_in, shown_cell};
+ghost use Rattle.board.specs.Shown.{AreShown};
 
 use crate::source::Source;
 use meaning::image::laws::raster_is_order;
 use std::alloc::{AllocError, Global};
 use std::marker::Model;
 
-/// The own cells of each piece.
+/// The own cells of each piece, where the source has them.
 #[derive(Drop)]
-pub(crate) struct Rows {
-    rows: Vec<Vec<u32>>,
+pub(crate) struct Rows<'a> {
+    rows: Vec<&'a [u32]>,
 }
 
-impl Model for Rows {
+impl<'a> Model for Rows<'a> {
     ghost use Rattle.std.specs.Prelude.{ℕ, List, map};
 
     ghost Value = { List (List ℕ) };
 
-    ghost view = { λ r. map (λ v. v.items) r.rows.items };
+    ghost view = { λ r. map (λ v. v.now) r.rows.items };
 }
 
-/// The same numbers in memory of their own.
-fn copy_row(alloc: Global, row: &[u32]) -> Result<Vec<u32>, AllocError>
-    ensures { IfOk result (λ v. v.items ≡ row.now) }
-{
-    let mut copy = Vec::new(alloc);
-    copy.extend_from_slice(row)?;
-    Ok(copy)
-}
-
-impl Rows {
-    /// The own cells of the source's pieces, in memory of their own.
-    pub(crate) fn of<S: Source>(alloc: Global, source: &S) -> Result<Rows, AllocError>
+impl<'a> Rows<'a> {
+    /// The own cells of the source's pieces.
+    pub(crate) fn of<S: Source<'a>>(alloc: Global, source: &S) -> Result<Rows<'a>, AllocError>
         ensures { IfOk result (λ rows. rows ≡ (S.layout source.now).own) }
     {
-        let mut rows = Vec::new(alloc);
-        for piece in 0..source.pieces() {
-            rows.push(copy_row(alloc, source.own(piece))?)?;
+        let pieces = source.pieces();
+        let mut rows = Vec::with_capacity(alloc, pieces)?;
+        for piece in 0..pieces {
+            rows.push(source.own(piece))?;
         }
         Ok(Rows { rows })
     }
@@ -54,16 +45,16 @@ impl Rows {
     }
 
     /// The own cells of a piece.
-    pub(crate) fn get(&self, piece: usize) -> &[u32]
+    pub(crate) fn get(&self, piece: usize) -> &'a [u32]
         requires { piece < length self.now }
         ensures { result.now ≡ slice_index_or self.now piece [] }
     {
-        self.rows[piece].as_slice()
+        self.rows[piece]
     }
 }
 
 /// The cell of the sample at a place of the raster.
-fn cell_at<S: Source>(source: &S, extents: &[u32], place: usize) -> u32
+fn cell_at<'a, S: Source<'a>>(source: &S, extents: &[u32], place: usize) -> u32
     requires extents { AreExtents extents.now × (extents.now ≡ (S.layout source.now).frame.extents) }
     requires place { place < sample_count extents.now }
     ensures { result ≡ (S.layout source.now).cell_of (raster_point extents.now place) }
@@ -90,13 +81,16 @@ fn cell_at<S: Source>(source: &S, extents: &[u32], place: usize) -> u32
 }
 
 /// The cell of each sample of the picture, in raster order.
-pub(crate) fn shown_cells<S: Source>(alloc: Global, source: &S) -> Result<Vec<u32>, AllocError>
-    ensures { IfOk result (λ v. v.items ≡ map (λ n. shown_cell (S.layout source.now) n) (range_with_len 0 (samples_in (S.layout source.now)))) }
+pub(crate) fn shown_cells<'a, S: Source<'a>>(
+    alloc: Global,
+    source: &S,
+) -> Result<Vec<u32>, AllocError>
+    ensures { IfOk result (λ v. AreShown (S.layout source.now) v.items) }
 {
     source.pieces();
     let shape = source.shape();
     let count = shape.sample_count();
-    let mut cells = Vec::new(alloc);
+    let mut cells = Vec::with_capacity(alloc, count)?;
     for place in 0..count {
         cells.push(cell_at(source, shape.extents.as_slice(), place))?;
     }

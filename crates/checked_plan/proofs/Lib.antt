@@ -5,3 +5,4 @@ pub mod Plans
 pub mod Ranks
 pub mod Regions
 pub mod Spans
+pub mod Following

@@ -22,7 +22,7 @@ use Rattle.checked_plan.proofs.Spans.{length-rising}
 le_is : (y z : ℤ) → int_le y z ≡ true → y ≤ℤ z
 le_is y z h = grind (arith, ints)
 
-is_le : (y z : ℤ) → y ≤ℤ z → int_le y z ≡ true
+pub is_le : (y z : ℤ) → y ≤ℤ z → int_le y z ≡ true
 is_le y z h = grind (arith, ints)
 
 alike : (v w : Bool) → (v ≡ true → w ≡ true) → (w ≡ true → v ≡ true) → v ≡ w
@@ -118,7 +118,7 @@ both v w h k = rw (h, k) refl
 lt_is : (y z : ℤ) → int_lt y z ≡ true → (y +ℤ pos 1) ≤ℤ z
 lt_is y z h = grind (arith, ints)
 
-is_lt : (y z : ℤ) → (y +ℤ pos 1) ≤ℤ z → int_lt y z ≡ true
+pub is_lt : (y z : ℤ) → (y +ℤ pos 1) ≤ℤ z → int_lt y z ≡ true
 is_lt y z h = grind (arith, ints)
 
 -- it tells whether the span has the number

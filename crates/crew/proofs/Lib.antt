@@ -16,3 +16,4 @@ pub mod Shared
 pub mod Runs
 pub mod Joining
 pub mod Begun
+pub mod Standing

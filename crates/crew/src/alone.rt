@@ -26,7 +26,7 @@ use std::marker::{Brand, Model};
 /// Each piece needs earlier ones alone, so it waits for nobody. It takes no memory.
 fn fill_all<J: Run, G: Gate>(
     alloc: Global,
-    board: &Board<J>,
+    board: &Board<'_, J>,
     seat: &mut BoardSeat,
     pieces: &Pieces<'_>,
     desk: &mut Desk<'_>,
@@ -53,7 +53,7 @@ fn fill_all<J: Run, G: Gate>(
 /// first seat, and a desk. Contracts see it as the picture that the algorithm says of the input.
 #[derive(Drop)]
 pub struct PreparedAlone<'a, J: Run> {
-    board: Board<J>,
+    board: Board<'a, J>,
     seat: BoardSeat,
     pieces: Pieces<'a>,
     desk: Desk<'a>,

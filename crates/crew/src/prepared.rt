@@ -28,7 +28,7 @@ use std::thread::Threads;
 /// worker a seat and a desk. Contracts see it as the picture that the algorithm says of the input.
 #[derive(Drop)]
 pub struct Prepared<'a, J: Run> {
-    board: Board<J>,
+    board: Board<'a, J>,
     pieces: Pieces<'a>,
     workers: Vec<Worker<'a>>,
 }
@@ -49,7 +49,7 @@ impl<'a, J: Run> Model for Prepared<'a, J> {
 fn work_on<J: Run + Send + Sync, R: Threads + Wait + Sync, G: Gate>(
     rt: &R,
     alloc: Global,
-    board: &Board<J>,
+    board: &Board<'_, J>,
     pieces: &Pieces<'_>,
     mut workers: Vec<Worker<'_>>,
     gate: &G,

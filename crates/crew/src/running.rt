@@ -99,9 +99,9 @@ fn run_on<J: Run + Send + Sync, G: Gate, R: Threads + Wait + Sync>(
 /// The gate hears of each piece from the worker that drew it, after the draw and after it is finished. The worker goes on once
 /// the gate's call returns.
 ///
-/// The board takes 8 bytes for each piece and each cell (twice as much while it opens), and keeps the own cells and the
-/// cells of the picture, 4 bytes each, and the picture's samples, 2 bytes each. For each coordinate of a group's region
-/// 16 bytes are kept. Each worker has a desk. On it lies a scratch for each group, which takes 24 bytes for each place of the
+/// The board takes 8 bytes for each piece and each cell (twice as much while it opens), 16 for each piece, and 2 for each sample
+/// of the picture. Where the region of the output's group is larger than the picture it also takes 4 for each sample. For each
+/// coordinate of a group's region 16 bytes are kept. Each worker has a desk. On it lies a scratch for each group, which takes 24 bytes for each place of the
 /// group's buffers and for each line that binds a symbol, 4 for each count of its grid, 16 for each coordinate at which its
 /// lines fetch and store, 8 for each index of the calls in its stores, and 8 for each own cell of the piece that owns most; and
 /// for each fetched cell of the piece that fetches most 8 bytes, and 16 or more in an index of these cells. All this is taken

@@ -17,7 +17,7 @@ use std::alloc::Global;
 use std::sync::Wait;
 
 /// Asks of each of these pieces, once, whether it is finished. The seat knows those that are.
-fn ask_all<J: Run>(board: &Board<J>, seat: &mut BoardSeat, pieces: &[u32]) -> bool
+fn ask_all<J: Run>(board: &Board<'_, J>, seat: &mut BoardSeat, pieces: &[u32]) -> bool
     requires board { seat.old.board ≡ board.now }
     requires pieces { (k : ℕ) → k < length pieces.now → slice_index pieces.now k < pieces_of J.layout }
     ensures board { seat.new.board ≡ seat.old.board }
@@ -38,7 +38,7 @@ fn ask_all<J: Run>(board: &Board<J>, seat: &mut BoardSeat, pieces: &[u32]) -> bo
 /// Looks at the cells that a piece fetches, each of which is a known piece's, and leaves their bits in the order of its
 /// list. It takes no memory.
 fn look_at<J: Run>(
-    board: &Board<J>,
+    board: &Board<'_, J>,
     seat: &mut BoardSeat,
     looked: &mut LookedCells<'_>,
     piece: u32,
@@ -60,7 +60,7 @@ fn look_at<J: Run>(
 }
 
 /// Puts the values of all own cells of the ticket's piece, and finishes it.
-fn complete<J: Run>(board: &Board<J>, seat: &mut BoardSeat, mut ticket: Ticket, values: &[i64])
+fn complete<J: Run>(board: &Board<'_, J>, seat: &mut BoardSeat, mut ticket: Ticket, values: &[i64])
     requires board { seat.old.board ≡ board.now }
     requires ticket { IsTicketOf J.layout seat.old.view ticket }
     requires fresh { ticket.puts ≡ 0 }
@@ -77,7 +77,7 @@ fn complete<J: Run>(board: &Board<J>, seat: &mut BoardSeat, mut ticket: Ticket, 
 /// its own cells and finishes it. It waits for nobody, and takes no memory.
 fn fill<J: Run, P: PrivateRuns<J>>(
     alloc: Global,
-    board: &Board<J>,
+    board: &Board<'_, J>,
     seat: &mut BoardSeat,
     ticket: Ticket,
     runs: &P,
@@ -104,7 +104,7 @@ fn fill<J: Run, P: PrivateRuns<J>>(
 /// ticket back. It waits for nobody, and takes no memory.
 pub(crate) fn try_fill<J: Run, P: PrivateRuns<J>>(
     alloc: Global,
-    board: &Board<J>,
+    board: &Board<'_, J>,
     seat: &mut BoardSeat,
     ticket: Ticket,
     runs: &P,
@@ -137,7 +137,7 @@ pub(crate) fn try_fill<J: Run, P: PrivateRuns<J>>(
 fn fill_in_time<J: Run, P: PrivateRuns<J>, R: Wait>(
     rt: &R,
     alloc: Global,
-    board: &Board<J>,
+    board: &Board<'_, J>,
     seat: &mut BoardSeat,
     mut ticket: Ticket,
     runs: &P,
@@ -171,7 +171,7 @@ fn fill_in_time<J: Run, P: PrivateRuns<J>, R: Wait>(
 pub(crate) fn draw_and_fill<J: Run, P: PrivateRuns<J>, R: Wait, G: Gate>(
     rt: &R,
     alloc: Global,
-    board: &Board<J>,
+    board: &Board<'_, J>,
     seat: &mut BoardSeat,
     runs: &P,
     desk: &mut Desk<'_>,
@@ -203,7 +203,7 @@ pub(crate) fn draw_and_fill<J: Run, P: PrivateRuns<J>, R: Wait, G: Gate>(
 /// found finished. It waits for nobody, and takes no memory.
 pub fn try_piece<J: Run>(
     alloc: Global,
-    board: &Board<J>,
+    board: &Board<'_, J>,
     seat: &mut BoardSeat,
     ticket: Ticket,
     pieces: &Pieces<'_>,
@@ -230,7 +230,7 @@ pub fn try_piece<J: Run>(
 pub fn work<J: Run, R: Wait, G: Gate>(
     rt: &R,
     alloc: Global,
-    board: &Board<J>,
+    board: &Board<'_, J>,
     seat: &mut BoardSeat,
     pieces: &Pieces<'_>,
     desk: &mut Desk<'_>,

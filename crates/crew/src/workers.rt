@@ -69,7 +69,7 @@ impl<'a> Desk<'a> {
 /// So many workers, of whom one has the first seat. All memory that they take is taken here.
 pub(crate) fn hire<'a, J: Run, P: PrivateRuns<J>>(
     alloc: Global,
-    board: &Board<J>,
+    board: &Board<'_, J>,
     mut first: BoardSeat,
     runs: &P,
     cells: &'a PlanCells<'a>,
@@ -102,7 +102,7 @@ pub(crate) fn hire<'a, J: Run, P: PrivateRuns<J>>(
 fn work_at<J: Run, P: PrivateRuns<J>, R: Wait, G: Gate>(
     rt: &R,
     alloc: Global,
-    board: &Board<J>,
+    board: &Board<'_, J>,
     runs: &P,
     gate: &G,
     worker: &mut Worker<'_>,
@@ -130,7 +130,7 @@ pub(crate) fn work_all<
     P: PrivateRuns<J> + Sync,
     R: Threads + Wait + Sync,
     G: Gate,
->(rt: &R, alloc: Global, board: &Board<J>, runs: &P, gate: &G, workers: &mut [Worker<'_>])
+>(rt: &R, alloc: Global, board: &Board<'_, J>, runs: &P, gate: &G, workers: &mut [Worker<'_>])
     requires some { 0 < length workers.old }
     requires runs { P.gives runs.now }
     requires ready { All (IsReady board.now (P.plan runs.now) (pieces_of J.layout) (P.suffices runs.now)) workers.old }
@@ -146,7 +146,7 @@ pub(crate) fn work_all<
 }
 
 /// The seats of all workers in one, which stands for all seats of the board, and knows all that was drawn.
-pub(crate) fn united<J: Run>(board: &Board<J>, mut workers: Vec<Worker<'_>>) -> BoardSeat
+pub(crate) fn united<J: Run>(board: &Board<'_, J>, mut workers: Vec<Worker<'_>>) -> BoardSeat
     requires some { 0 < vec_len workers }
     requires drawn { All (HasDrawnAll board.now) workers.items }
     requires seats { seats_held workers.items ≡ 64 }

@@ -46,3 +46,7 @@ abbrev pub is_on : List Axis → List ℤ → Bool
 is_on [] [] = true
 is_on (x ∷ xs) (z ∷ zs) = int_le x.low z && int_lt z (x.low +ℤ pos x.count) && is_on xs zs
 is_on _ _ = false
+
+-- the coordinates whose numbers are those from 0 on, as many as each extent has
+abbrev pub from_zero : List ℕ → List Axis
+from_zero extents = map (λ e. record { low = pos 0; count = e }) extents

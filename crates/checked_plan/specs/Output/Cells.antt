@@ -1,7 +1,8 @@
 -- The cell of each point of a group, and of the output, by its number.
-use Rattle.std.specs.Prelude.{◌≡◌, ℕ, ◌-◌, ◌^◌, ◌<◌, List, length, min, if◌then◌else◌, Option, Some, None, ℤ, slice_get}
+use Rattle.std.specs.Prelude.{◌≡◌, ℕ, ◌+◌, ◌-◌, ◌*◌, ◌^◌, ◌<◌, List, ◌∷◌, length, min, true, if◌then◌else◌, Option, Some, None, ℤ, slice_get}
 use Rattle.meaning.specs.Algorithm.{Algorithm}
 use Rattle.meaning.specs.Functions.{AreSamples}
+use Rattle.meaning.specs.Image.Raster.{is_within, natural}
 use Rattle.meaning.specs.Value.{output_value}
 use Rattle.plan.specs.Plan.{Group, Plan}
 use Rattle.plan.specs.Certificate.Cells.{cell, cells, first_cell}
@@ -32,6 +33,19 @@ number_in p n at = if is_cell p (cell n at) then Some (cell_number p (cell n at)
 -- the number of the cell that has a point of the output
 abbrev pub number_of_point : Algorithm → Plan → List ℤ → ℕ
 number_of_point a p at = cell_number p (cell (place_of_group p.groups a.output) at)
+
+-- how many points of the extents come before this one, the first coordinate fastest
+abbrev pub points_before : List ℕ → List ℤ → ℕ
+points_before (e ∷ es) (z ∷ zs) = natural z + e * points_before es zs
+points_before _ _ = 0
+
+-- the cells of a group at the points of the extents follow each other from this number on, the first coordinate fastest
+abbrev pub FollowFrom : Plan → ℕ → List ℕ → ℕ → Type 0
+FollowFrom p n extents first = (at : List ℤ) → is_within extents at ≡ true → cell_number p (cell n at) ≡ first + points_before extents at
+
+-- the same of the output's cells at the points of its extents
+abbrev pub OutputFollows : Algorithm → Plan → ℕ → Type 0
+OutputFollows a p first = FollowFrom p (place_of_group p.groups a.output) a.output_extents first
 
 -- it is a cell of the plan, and its right value is what the algorithm says of the output there
 pub record HoldsOutput (a : Algorithm) (p : Plan) (at : List ℤ) : Type 0 where

@@ -1,8 +1,8 @@
 //! The coordinates of a region.
 
-ghost use Rattle.std.specs.Prelude.{◌≡◌, ◌≤◌, ◌^◌, All, IfOk};
+ghost use Rattle.std.specs.Prelude.{◌≡◌, ◌≤◌, ◌^◌, All, IfOk, IsTrue};
 ghost use Rattle.std.specs.List.{AllByRecursion};
-ghost use Rattle.checked_plan.specs.Output.Axes.{IsNear, IsOn, axes_of, axis_of, is_on, point_count, rank_of};
+ghost use Rattle.checked_plan.specs.Output.Axes.{IsNear, IsOn, axes_of, axis_of, from_zero, is_on, point_count, rank_of};
 ghost use Rattle.checked_plan.specs.Ready.Ready.{IsSmallSpan};
 
 use crate::output::ends::{high_end, low_end};
@@ -64,6 +64,21 @@ pub(crate) fn is_on(axes: &[Axis], at: &[i64]) -> bool
             [] => false,
             [z, at @ ..] => {
                 axis.low <= *z && *z < axis.low + i64::from(axis.count) && is_on(axes, at)
+            }
+        },
+    }
+}
+
+/// Whether the numbers of each coordinate are those from 0 on, as many as its extent has.
+pub(crate) fn are_from_zero(axes: &[Axis], extents: &[u32]) -> bool
+    ensures { IsTrue result → axes.now ≡ from_zero extents.now }
+{
+    match axes {
+        [] => extents.is_empty(),
+        [axis, axes @ ..] => match extents {
+            [] => false,
+            [extent, extents @ ..] => {
+                axis.low == 0 && axis.count == *extent && are_from_zero(axes, extents)
             }
         },
     }

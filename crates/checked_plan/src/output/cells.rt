@@ -1,9 +1,9 @@
 //! The cells of the output.
 
-ghost use Rattle.std.specs.Prelude.{◌≡◌, IfOk, true};
+ghost use Rattle.std.specs.Prelude.{◌≡◌, IfOk, IfSome, true};
 ghost use Rattle.meaning.specs.Image.Raster.{is_within};
 ghost use Rattle.checked_plan.specs.View.{algorithm_checked, plan_checked};
-ghost use Rattle.checked_plan.specs.Output.Cells.{HoldsOutput, number_of_point};
+ghost use Rattle.checked_plan.specs.Output.Cells.{HoldsOutput, OutputFollows, number_of_point};
 ghost use Rattle.checked_plan.specs.Ready.Ready.{place_of_group};
 
 use crate::Checked;
@@ -49,5 +49,16 @@ impl<'a> OutputCells<'a> {
             Some(number) => number,
             None => unreachable!(),
         }
+    }
+
+    /// The number of the output's first cell, where the region of its group is just the output's extents, so that the cells of its
+    /// points follow each other from there on, the first coordinate fastest. `None` where the region has another form.
+    ///
+    /// It allocates nothing, and the time is linear in the coordinates.
+    pub fn first(&self) -> Option<u32>
+        ensures { IfSome result (OutputFollows (algorithm_checked self.now.checked.now) (plan_checked self.now.checked.now)) }
+    {
+        let extents = self.checked.algo().output().shape.extents.as_slice();
+        self.cells.first(self.place, extents)
     }
 }

@@ -1,15 +1,15 @@
 //! The cells of a plan's groups.
 
-ghost use Rattle.std.specs.Prelude.{◌≡◌, ◌-◌, ◌^◌, map, length, min, IfOk, All};
+ghost use Rattle.std.specs.Prelude.{◌≡◌, ◌-◌, ◌^◌, map, length, min, IfOk, IfSome, All};
 ghost use Rattle.std.specs.List.{AllByRecursion, range_with_len};
 ghost use Rattle.checked_plan.specs.View.{plan_checked};
 ghost use Rattle.plan.specs.View.{group_of};
 ghost use Rattle.checked_plan.specs.Output.Axes.{point_count};
-ghost use Rattle.checked_plan.specs.Output.Cells.{cells_of_group, counted, number_in};
+ghost use Rattle.checked_plan.specs.Output.Cells.{cells_of_group, counted, number_in, FollowFrom};
 ghost use Rattle.checked_plan.specs.Ready.Ready.{IsSmallSpan, place_of_group};
 
 use crate::Checked;
-use crate::output::axis::{Axis, axes_of, is_on, rank_of};
+use crate::output::axis::{Axis, are_from_zero, axes_of, is_on, rank_of};
 use algo::scoping::same_name;
 use plan::Group;
 use std::alloc::{AllocError, Global};
@@ -111,6 +111,23 @@ impl<'a> PlanCells<'a> {
                 }
             }
             None => None,
+        }
+    }
+
+    /// The number of a group's first cell, where its region is just the points of these extents, so that its cells follow each
+    /// other from there on, the first coordinate fastest. `None` where the region has another form.
+    ///
+    /// It allocates nothing, and the time is linear in the coordinates.
+    pub fn first(&self, group: usize, extents: &[u32]) -> Option<u32>
+        ensures { IfSome result (FollowFrom (plan_checked self.now.checked.now) group extents.now) }
+    {
+        let Some(cells) = self.groups.as_slice().get(group) else {
+            return None;
+        };
+        if are_from_zero(&cells.axes, extents) {
+            Some(cells.first)
+        } else {
+            None
         }
     }
 }

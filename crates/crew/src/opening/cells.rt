@@ -2,9 +2,11 @@
 
 ghost use Rattle.std.specs.Prelude.{◌≡◌, IfOk};
 ghost use Rattle.crew.specs.Opening.Layouts.{layout_of};
+ghost use Rattle.crew.specs.Opening.Planes.{planes_from};
+ghost use Rattle.meaning.specs.Image.View.{AreExtents};
 
 use crate::opening::laws::layouts_are_sound;
-use board::Source;
+use board::{Planes, Source};
 use checked_plan::Checked;
 use checked_plan::output::OutputCells;
 use meaning::image::Shape;
@@ -31,7 +33,25 @@ impl<'a> CheckedCells<'a> {
     }
 }
 
-impl Source for CheckedCells<'_> {
+/// The planes of a picture of these extents, whose cells follow each other from this number on.
+fn planes_from(first: u32, extents: &[u32]) -> Planes
+    requires { AreExtents extents.now }
+    ensures { result ≡ planes_from first extents.now }
+{
+    let (colours, pixels) = match extents {
+        [width] => (1, *width as usize),
+        [width, height] => (1, *width as usize * *height as usize),
+        [width, height, colours] => (*colours as usize, *width as usize * *height as usize),
+        _ => unreachable!(),
+    };
+    Planes {
+        first,
+        colours,
+        pixels,
+    }
+}
+
+impl<'a> Source<'a> for CheckedCells<'a> {
     ghost layout = { λ cells. layout_of cells.checked.now };
 
     fn pieces(&self) -> usize {
@@ -43,12 +63,20 @@ impl Source for CheckedCells<'_> {
         self.checked.cells() as usize
     }
 
-    fn own(&self, piece: usize) -> &[u32] {
+    fn own(&self, piece: usize) -> &'a [u32] {
         self.checked.own(piece)
     }
 
     fn shape(&self) -> &Shape {
         &self.checked.algo().output().shape
+    }
+
+    fn planes(&self) -> Option<Planes> {
+        let Some(first) = self.cells.first() else {
+            return None;
+        };
+        let output = self.checked.algo().output();
+        Some(planes_from(first, output.shape.extents.as_slice()))
     }
 
     fn cell_of(&self, point: &[i64]) -> u32 {

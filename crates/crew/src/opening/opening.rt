@@ -16,16 +16,17 @@ use std::alloc::{AllocError, Global};
 /// A board for the pieces of a checked plan on an input of its algorithm, with nothing drawn, and its first seat, which
 /// may split off 63 more.
 ///
-/// It takes 8 bytes for each piece and each cell (twice as much while it opens), and keeps the own cells and the cells of
-/// the picture, 4 bytes each, and the picture's samples, 2 bytes each. The picture that `close` gives is made here.
+/// It takes 8 bytes for each piece and each cell (twice as much while it opens), 16 for each piece, whose own cells stand in
+/// the checked plan, and 2 for each sample of the picture. Where the region of the output's group is larger than the picture it
+/// also keeps the cell of each sample, 4 bytes each. The picture that `close` gives is made here.
 ///
 /// # Errors
 /// `AllocError` where memory runs out.
-pub fn open<J: Run>(
+pub fn open<'a, J: Run>(
     alloc: Global,
-    checked: &Checked<'_>,
+    checked: &'a Checked<'a>,
     inputs: &Inputs,
-) -> Result<(Board<J>, BoardSeat), AllocError>
+) -> Result<(Board<'a, J>, BoardSeat), AllocError>
     requires layout { J.layout ≡ layout_of checked.now }
     requires values { J.values ≡ values_of checked.now inputs.now }
     requires input { IsFor checked.now.algo.now inputs.now }

@@ -18,19 +18,19 @@ use Rattle.acceptance_gates.proofs.thread_tests.work_both.Goals as goal
 worker_send : (κ : NamedLft) → IsSend (Worker.the_row κ)
 worker_send κ = search (sendable, crosses, seat.the_send, desk_field_send) depth 40 fits 100000
 
-sent_run : (g : Over) (κs : Lfts 10) → IsSend (J-row g.row.J g.row.P g.row.R g.row.G) → IsSend (param 0 (impl_arg-0-0 g.row.J g.row.P g.row.R g.row.G g.J.laws g.P.laws g.R.laws g.G.laws g.J.Run g.J.Run-dict g.P.Held g.P.Held-dict g.R.Threads g.R.Threads-dict g.R.Wait g.R.Wait-dict g.G.Gate g.G.Gate-dict κs))
+sent_run : (g : Over) (κs : Lfts 11) → IsSend (J-row g.row.J g.row.P g.row.R g.row.G) → IsSend (param 0 (impl_arg-0-0 g.row.J g.row.P g.row.R g.row.G g.J.laws g.P.laws g.R.laws g.G.laws g.J.Run g.J.Run-dict g.P.Held g.P.Held-dict g.R.Threads g.R.Threads-dict g.R.Wait g.R.Wait-dict g.G.Gate g.G.Gate-dict κs))
 sent_run g κs h = param_send 0 _ (arg_send _ no _ h)
 
-shared_run : (g : Over) (κs : Lfts 10) → IsSync (J-row g.row.J g.row.P g.row.R g.row.G) → IsSync (param 0 (impl_arg-0-0 g.row.J g.row.P g.row.R g.row.G g.J.laws g.P.laws g.R.laws g.G.laws g.J.Run g.J.Run-dict g.P.Held g.P.Held-dict g.R.Threads g.R.Threads-dict g.R.Wait g.R.Wait-dict g.G.Gate g.G.Gate-dict κs))
+shared_run : (g : Over) (κs : Lfts 11) → IsSync (J-row g.row.J g.row.P g.row.R g.row.G) → IsSync (param 0 (impl_arg-0-0 g.row.J g.row.P g.row.R g.row.G g.J.laws g.P.laws g.R.laws g.G.laws g.J.Run g.J.Run-dict g.P.Held g.P.Held-dict g.R.Threads g.R.Threads-dict g.R.Wait g.R.Wait-dict g.G.Gate g.G.Gate-dict κs))
 shared_run g κs h = search (sendable, crosses, h) depth 20
 
-shared_pieces : (g : Over) (κs : Lfts 10) → IsSync (P-row g.row.J g.row.P g.row.R g.row.G) → IsSync (param 1 (impl_arg-0-1 g.row.J g.row.P g.row.R g.row.G g.J.laws g.P.laws g.R.laws g.G.laws g.J.Run g.J.Run-dict g.P.Held g.P.Held-dict g.R.Threads g.R.Threads-dict g.R.Wait g.R.Wait-dict g.G.Gate g.G.Gate-dict κs))
+shared_pieces : (g : Over) (κs : Lfts 11) → IsSync (P-row g.row.J g.row.P g.row.R g.row.G) → IsSync (param 1 (impl_arg-0-1 g.row.J g.row.P g.row.R g.row.G g.J.laws g.P.laws g.R.laws g.G.laws g.J.Run g.J.Run-dict g.P.Held g.P.Held-dict g.R.Threads g.R.Threads-dict g.R.Wait g.R.Wait-dict g.G.Gate g.G.Gate-dict κs))
 shared_pieces g κs h = search (sendable, crosses, h) depth 20
 
-shared_runtime : (g : Over) (κs : Lfts 10) → IsSync (R-row g.row.J g.row.P g.row.R g.row.G) → IsSync (param 2 (impl_arg-0-2 g.row.J g.row.P g.row.R g.row.G g.J.laws g.P.laws g.R.laws g.G.laws g.J.Run g.J.Run-dict g.P.Held g.P.Held-dict g.R.Threads g.R.Threads-dict g.R.Wait g.R.Wait-dict g.G.Gate g.G.Gate-dict κs))
+shared_runtime : (g : Over) (κs : Lfts 11) → IsSync (R-row g.row.J g.row.P g.row.R g.row.G) → IsSync (param 2 (impl_arg-0-2 g.row.J g.row.P g.row.R g.row.G g.J.laws g.P.laws g.R.laws g.G.laws g.J.Run g.J.Run-dict g.P.Held g.P.Held-dict g.R.Threads g.R.Threads-dict g.R.Wait g.R.Wait-dict g.G.Gate g.G.Gate-dict κs))
 shared_runtime g κs h = search (sendable, crosses, h) depth 20
 
-shared_gate : (g : Over) (κs : Lfts 10) → IsSync (G-row g.row.J g.row.P g.row.R g.row.G) → IsSync (param 3 (impl_arg-0-3 g.row.J g.row.P g.row.R g.row.G g.J.laws g.P.laws g.R.laws g.G.laws g.J.Run g.J.Run-dict g.P.Held g.P.Held-dict g.R.Threads g.R.Threads-dict g.R.Wait g.R.Wait-dict g.G.Gate g.G.Gate-dict κs))
+shared_gate : (g : Over) (κs : Lfts 11) → IsSync (G-row g.row.J g.row.P g.row.R g.row.G) → IsSync (param 3 (impl_arg-0-3 g.row.J g.row.P g.row.R g.row.G g.J.laws g.P.laws g.R.laws g.G.laws g.J.Run g.J.Run-dict g.P.Held g.P.Held-dict g.R.Threads g.R.Threads-dict g.R.Wait g.R.Wait-dict g.G.Gate g.G.Gate-dict κs))
 shared_gate g κs h = search (sendable, crosses, h) depth 20
 
 pub for_each_mut-requires-send-T : goal.for_each_mut-requires-send-T
