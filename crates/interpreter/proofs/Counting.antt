@@ -30,8 +30,14 @@ at_rising (suc n) zero low d h = omega (arith, ints)
 at_rising (suc n) (suc k) low d h =
     at_rising n k (low +ℤ pos 1) d (omega arith) ∙ (let e : low +ℤ pos 1 +ℤ pos k ≡ low +ℤ pos (suc k) = omega (arith, ints) in e)
 
-rising_has : (n k : ℕ) (low z : ℤ) → k < n → z ≡ low +ℤ pos k → Contains (rising low n) z
+pub rising_has : (n k : ℕ) (low z : ℤ) → k < n → z ≡ low +ℤ pos k → Contains (rising low n) z
 rising_has n k low z h e = (k, subst (λ (m : ℕ). k < m) (sym (length-rising n low)) h, at_rising n k low z h ∙ sym e)
+
+-- each number of them is so many behind the first
+pub in_rising : (n : ℕ) (low z : ℤ) (P : Type 0) → Contains (rising low n) z → ((k : ℕ) → k < n → z ≡ low +ℤ pos k → P) → P
+in_rising n low z P (k, lt, at) f =
+    let less : k < n = subst (λ (m : ℕ). k < m) (length-rising n low) lt in
+    f k less (sym at ∙ at_rising n k low z less)
 
 pub between_has : (low high z : ℤ) → low ≤ℤ z → z ≤ℤ high → Contains (between low high) z
 between_has low high z from to =

@@ -26,6 +26,7 @@ pub mod Divisions
 pub mod Aside
 pub mod StoreRuns
 pub mod OneLines
+pub mod TwoLoops
 pub mod Windows
 pub mod Spots
 pub mod RowVisits

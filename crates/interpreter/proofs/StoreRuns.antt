@@ -60,7 +60,7 @@ set_there b p q v m h = ap (λ (o : Option (Memory Value)). with o (λ n. Some (
 pub set_nowhere : (b : ℕ) (p : Progress) (q : List ℤ) (v : Value) → write p.memory b q v ≡ None → sets b p q v ≡ None
 set_nowhere b p q v h = ap (λ (o : Option (Memory Value)). with o (λ n. Some (record { memory = n; given = p.given }))) h
 
-rising_append : (z : ℤ) (m n : ℕ) → rising z (m + n) ≡ rising z m ++ rising (z +ℤ pos m) n
+pub rising_append : (z : ℤ) (m n : ℕ) → rising z (m + n) ≡ rising z m ++ rising (z +ℤ pos m) n
 rising_append z zero n =
     let e : z ≡ z +ℤ pos 0 = omega (arith, ints) in
     let g : 0 + n ≡ n = omega arith in

@@ -20,5 +20,6 @@ pub mod Updates
 pub mod PlaceNumbers
 pub mod RunReadings
 pub mod StoreLines
+pub mod Joining
 pub mod Scanlines
 pub mod CellRows

@@ -6,6 +6,7 @@ mod cells;
 mod columns;
 pub mod evaluation;
 mod forms;
+mod joining;
 mod loads;
 mod needs;
 mod piece;

@@ -23,6 +23,7 @@ ghost use Rattle.interpreter.specs.Visits.{between};
 use crate::cells::Cells;
 use crate::evaluation::Stop;
 use crate::forms::{largest, smallest, value_of};
+use crate::joining::{joined_loops, run_joined};
 use crate::piece::Piece;
 use crate::runs::{run_stores, store_line};
 use crate::scratch::Scratch;
@@ -167,6 +168,10 @@ fn run_turns<'a, C: Cells>(
 {
     if let Some(line) = store_line(body) {
         return run_stores(piece, &line, turns, symbols, state);
+    }
+    if let Some(both) = joined_loops(turns, body) {
+        let line = &both.inner.line;
+        return run_joined(piece, line, turns, both.turns, both.ends, symbols, state);
     }
     let mark = symbols.bound_count();
     for value in turns.low..=turns.high {

@@ -84,7 +84,7 @@ pub(crate) struct StoreLine<'a> {
 }
 
 /// The statement of a block that has one alone.
-fn alone(all: &[Stmt]) -> Option<&Stmt>
+pub(crate) fn alone(all: &[Stmt]) -> Option<&Stmt>
     ensures { option_map (λ one. statement_of one.now) result ≡ alone (block (list_statements all.now)) }
 {
     match all {

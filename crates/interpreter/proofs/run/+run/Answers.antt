@@ -31,6 +31,7 @@ use Rattle.interpreter.specs.Evaluation.Indices.{indices_in}
 use Rattle.interpreter.specs.Runs.{store_at}
 use Rattle.interpreter.proofs.Fitting.{indices_mapped}
 use Rattle.interpreter.proofs.OneLines.{line_actions, line_narrow, line_fits}
+use Rattle.interpreter.proofs.TwoLoops.{loops_run, loops_narrow, loops_end, loops_fit}
 use Rattle.interpreter.proofs.run.+run.Goals as goal
 
 pub run-run_block-requires : goal.run-run_block-requires
@@ -325,3 +326,49 @@ run_turns-returns-in-Some-clause-run g t c =
     let same : stores ≡ f = λ i z. each z i in
     subst (λ (h : ℤ → List Action). EndsIn c.args.state.now.given.capacity (λ (_ : Unit {0}). progress_of c.run_stores.new.state) c.run_stores.result (steps A (flat_map h (between turns.low turns.high)) p)) same
     (c.run_stores.ensures.run is.store.definition cell)
+
+pub run_turns-run_joined-requires-clause-narrow : goal.run_turns-run_joined-requires-clause-narrow
+run_turns-run_joined-requires-clause-narrow g t c =
+    loops_narrow (OwnIsSmall c.args.piece.now) (symbols_of c.args.symbols.now) c.args.turns (statement_of c.args.body.now) c.in-Some-joined_loops.both c.in-Some-joined_loops.ensures c.requires.narrow
+
+pub run_turns-run_joined-requires-clause-form : goal.run_turns-run_joined-requires-clause-form
+run_turns-run_joined-requires-clause-form g t c =
+    loops_end (OwnIsSmall c.args.piece.now) (symbols_of c.args.symbols.now) c.args.turns (statement_of c.args.body.now) c.in-Some-joined_loops.both c.in-Some-joined_loops.ensures c.requires.narrow
+
+pub run_turns-run_joined-requires-clause-symbols : goal.run_turns-run_joined-requires-clause-symbols
+run_turns-run_joined-requires-clause-symbols g t c =
+    let own = own_of c.args.piece.now in
+    let space = space_of c.args.state.now in
+    let n = length c.args.symbols.now.bound + 1 in
+    (loops_fit own space c.args.symbols.now.room n (statement_of c.args.body.now) c.in-Some-joined_loops.both.inner c.in-Some-joined_loops.ensures.loop c.requires.fits).symbols
+
+pub run_turns-run_joined-requires-clause-numbers : goal.run_turns-run_joined-requires-clause-numbers
+run_turns-run_joined-requires-clause-numbers g t c =
+    let own = own_of c.args.piece.now in
+    let space = space_of c.args.state.now in
+    let n = length c.args.symbols.now.bound + 1 in
+    (loops_fit own space c.args.symbols.now.room n (statement_of c.args.body.now) c.in-Some-joined_loops.both.inner c.in-Some-joined_loops.ensures.loop c.requires.fits).numbers
+
+pub run_turns-run_joined-requires-clause-point : goal.run_turns-run_joined-requires-clause-point
+run_turns-run_joined-requires-clause-point g t c =
+    let own = own_of c.args.piece.now in
+    let space = space_of c.args.state.now in
+    let n = length c.args.symbols.now.bound + 1 in
+    (loops_fit own space c.args.symbols.now.room n (statement_of c.args.body.now) c.in-Some-joined_loops.both.inner c.in-Some-joined_loops.ensures.loop c.requires.fits).point
+
+pub run_turns-run_joined-requires-clause-stack : goal.run_turns-run_joined-requires-clause-stack
+run_turns-run_joined-requires-clause-stack g t c =
+    let own = own_of c.args.piece.now in
+    let space = space_of c.args.state.now in
+    let n = length c.args.symbols.now.bound + 1 in
+    (loops_fit own space c.args.symbols.now.room n (statement_of c.args.body.now) c.in-Some-joined_loops.both.inner c.in-Some-joined_loops.ensures.loop c.requires.fits).stack
+
+pub run_turns-returns-in-Some-joined_loops-clause-run : goal.run_turns-returns-in-Some-joined_loops-clause-run
+run_turns-returns-in-Some-joined_loops-clause-run g t c =
+    let x = c.args.piece.now in
+    let cell = g.C.Cells.cell c.args.cells.now in
+    let p = progress_of c.args.state.now in
+    let h = c.in-Some-joined_loops.ensures in
+    let same = loops_run x (symbols_of c.args.symbols.now) c.args.turns (statement_of c.args.body.now) c.in-Some-joined_loops.both h in
+    subst (λ (l : List Action). EndsIn c.args.state.now.given.capacity (λ (_ : Unit {0}). progress_of c.run_joined.new.state) c.run_joined.result (steps (around x cell) l p)) (sym same)
+    (c.run_joined.ensures.run h.loop.is.line.store.definition cell)
