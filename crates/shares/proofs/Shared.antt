@@ -287,6 +287,13 @@ pub raised_ranks : (first : ℕ) (R : List Side) (qs : List (List ℤ)) → map 
 raised_ranks first R [] = refl
 raised_ranks first R (q ∷ qs) = ap (λ (ns : List ℕ). (first + rank R q) ∷ ns) (raised_ranks first R qs)
 
+-- numbers raised by none
+pub raised_by_none : (first : ℕ) (xs : List ℕ) → first ≡ 0 → xs ≡ map (λ n. first + n) xs
+raised_by_none first [] e = refl
+raised_by_none first (x ∷ xs) e =
+    let head : x ≡ first + x = omega (arith, e) in
+    let rest = raised_by_none first xs e in λ i. head i ∷ rest i
+
 pub whole_test : (s : Symbols) (own : List Span1) (R : List Side) (len most : ℕ) → length own ≡ length R → point_count R ≤ 2 ^ 24 → len ≡ length (shared_cells (sides s own) R) → most ≡ min (point_count (sides s own)) (2 ^ 64 - 1) →
     IsTrue (eqb len most) ↔ All (λ q. IsTrue (is_in_box R q)) (points s own)
 whole_test s own R len most e few l m =

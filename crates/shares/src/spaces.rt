@@ -29,12 +29,16 @@ pub struct Found {
 }
 
 /// Each number raised by `first`.
-fn raised(alloc: Global, first: u32, numbers: &[u32]) -> Result<Vec<u32>, AllocError>
-    requires { All (λ n. first + n < 2 ^ 32) numbers.now }
-    ensures { IfOk result (λ made. made.items ≡ map (λ n. first + n) numbers.now) }
+#[tactic(auto, using(crate::proofs::Shared::raised_by_none))]
+fn raised(alloc: Global, first: u32, numbers: Vec<u32>) -> Result<Vec<u32>, AllocError>
+    requires { All (λ n. first + n < 2 ^ 32) numbers.items }
+    ensures { IfOk result (λ made. made.items ≡ map (λ n. first + n) numbers.items) }
 {
-    let mut made = Vec::new(alloc);
-    for number in numbers {
+    if first == 0 {
+        return Ok(numbers);
+    }
+    let mut made = Vec::with_capacity(alloc, numbers.len())?;
+    for number in &numbers {
         made.push(first + *number)?;
     }
     Ok(made)
@@ -82,7 +86,7 @@ fn some_found(
     let own = box_by(alloc, region, at, lets)?;
     let shared = shared_cells(alloc, &own, &space.sides)?;
     let whole = shared.as_slice().len() as u64 == most_points(&own);
-    let numbers = raised(alloc, space.first, &shared)?;
+    let numbers = raised(alloc, space.first, shared)?;
     Ok(Found { numbers, whole })
 }
 

@@ -44,7 +44,7 @@ fn rows_of(
     requires { All (λ m. offset + count + extent * m < 2 ^ 32) rows.now }
     ensures { IfOk result (λ cells. cells.items ≡ flat_map (λ m. range_with_len (offset + extent * m) count) rows.now) }
 {
-    let mut cells = Vec::new(alloc);
+    let mut cells = Vec::with_capacity(alloc, rows.len().saturating_mul(count as usize))?;
     for row in rows {
         push_row(&mut cells, offset + extent * *row, count)?;
     }
