@@ -87,7 +87,7 @@ def self_needs(count, region):
 
 PLANS = {
     "2,000 flat stores": lambda: flat_stores(2000),
-    "65,000 flat stores": lambda: flat_stores(65000),
+    "65,521 flat stores, 65,536 lines": lambda: flat_stores(65521),
     "65,536 pieces of a cell": lambda: pieces(256, 256),
     "2^20 pieces of a cell": lambda: pieces(1024, 1024),
     "2^24 cells in 4096 pieces": lambda: rows_of(4096),
@@ -100,6 +100,9 @@ PLANS = {
         65000, lambda i: f"0,{-i}+1*s0:-1+1*s0"
     ),
     "65,000 need lines of a piece each, and 2^20 pieces": lambda: self_needs(65000, lambda i: f"0,{-i}+1*s0:{-i}+1*s0"),
+    "65,000 need lines each of which is one piece's alone, and 2^20 pieces": lambda: self_needs(
+        65000, lambda i: f"{i},{-6 * i - 3}+1*s0,{8 * i + 3}-1*s0:{i}"
+    ),
     "65,000 need lines without a point at most of 2^20 pieces": lambda: self_needs(
         65000, lambda i: f"{i}+1*s0:1000-1*s0"
     ),
