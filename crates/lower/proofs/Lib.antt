@@ -4,10 +4,12 @@ pub mod Claimed
 pub mod Entries
 pub mod First
 pub mod Inputs
+pub mod Insides
 pub mod Laying
 pub mod Loads
 pub mod Made
 pub mod Named
+pub mod Outsides
 pub mod Places
 pub mod Puts
 pub mod Rooted

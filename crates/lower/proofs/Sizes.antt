@@ -29,7 +29,7 @@ large_at s e = ap (large_with s) e
 -- a function whose definitions are within the limits breaks none but a rule that asks for a region
 pub fault_small : (g : StoredText) (o : Option RegionRule) → is_large g ≡ false → IsByRegion o → IsFault g o
 fault_small g None h b = h
-fault_small g (Some rule.OutsideUse) h b = tt
+fault_small g (Some rule.OutsideUse) h b = absurd b
 fault_small g (Some rule.TooLarge) h b = absurd b
 fault_small g (Some rule.ShortShift) h b = h
 fault_small g (Some rule.SmallFold) h b = h

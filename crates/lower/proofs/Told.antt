@@ -1,6 +1,7 @@
 -- What the refusal of a placement, or its plan, says of an algorithm and a schedule.
 use Rattle.std.proofs.Common.{◌≡◌, ℕ, true, false, List, length, take, Option, Some, None, Result, Ok, Err, subst, refl, inl, inr}
 use Rattle.std.specs.Prelude.{IfOk, IfErr}
+use Rattle.std.specs.List.{list_any}
 use Rattle.std.proofs.lemmas.Result.{IfOk-weaker}
 use Rattle.meaning.specs.Algorithm.{Algorithm}
 use Rattle.sched.specs.Schedule.{Schedule}
@@ -16,55 +17,60 @@ use Rattle.lower.specs.Stored.{StoredText, has_large, stored_functions}
 use Rattle.lower.specs.Large.{IsTold, IsToldOf}
 use Rattle.lower.specs.Regions.{LaidText, laid_functions}
 use Rattle.lower.specs.Faults.{are_whole, no_totals, IsFirstOf}
+use Rattle.lower.specs.Uses.{is_used_outside, AreUsedInside, TellsUse}
 use Rattle.lower.specs.Groups.{AreGroupsMade, HasGroups, IsPlanOf}
-use Rattle.lower.specs.Refused.{Answers, AreSmall, AreRegionsKept, KeepsRegions, IsRefused, IsUnplanned, IsPlaced}
+use Rattle.lower.specs.Refused.{Answers, AreSmall, AreRegionsKept, AreUsesInside, KeepsRegions, IsRefused, IsUnplanned, IsPlaced}
 use Rattle.lower.proofs.Sizes.{none_is_large}
 use Rattle.lower.proofs.First.{first_of, none_of}
 use Rattle.lower.proofs.Made.{groups_made}
+use Rattle.lower.proofs.Outsides.{tells_is, none_is, told_at, large_at, not_whole}
 
 -- ---- the stored functions
 
-pub told_of : (gs : List StoredText) (r : RegionRule) (x : List ℕ) → IsTold gs r x → IsToldOf gs r x
-told_of gs rule.OutsideUse x h = tt
-told_of gs rule.TooLarge x h = h
-told_of gs rule.ShortShift x h = h
-told_of gs rule.SmallFold x h = h
-told_of gs rule.TooMuch x h = h
-told_of gs rule.Unbounded x h = inl h
+pub told_of : (gs : List StoredText) (r : RegionRule) (x : List ℕ) → IsTold gs r x → TellsUse gs gs r x → IsToldOf gs r x
+told_of gs rule.OutsideUse x h told_use = (h, tells_is gs gs rule.OutsideUse x told_use)
+told_of gs rule.TooLarge x h told_use = (h, tells_is gs gs rule.TooLarge x told_use)
+told_of gs rule.ShortShift x h told_use = (h, tells_is gs gs rule.ShortShift x told_use)
+told_of gs rule.SmallFold x h told_use = (h, tells_is gs gs rule.SmallFold x told_use)
+told_of gs rule.TooMuch x h told_use = (h, tells_is gs gs rule.TooMuch x told_use)
+told_of gs rule.Unbounded x h told_use = inl (h, tells_is gs gs rule.Unbounded x told_use)
 
 -- the first of so many functions breaks a rule, over regions that are those of whole functions
 pub fault_told : (a : Algorithm) (gs : List StoredText) (o : Option (Rule × List ℕ)) (ls : List (Option LaidText)) (n : ℕ) (e : RegionRule × List ℕ)
-    → IsTold gs e.0 e.1 → IsFirstOf a (has_large gs) no_totals n gs ls (Some e) → (are_whole gs ≡ true → ls ≡ laid_functions a gs) → Answers a gs o (Err (error.Broken e.0 e.1))
-fault_told a gs o ls n (r, x) h f laid = (told_of gs r x h, first_of a gs ls n r x f laid)
+    → IsTold gs e.0 e.1 → TellsUse gs gs e.0 e.1 → IsFirstOf a (has_large gs) no_totals n gs ls (Some e)
+    → (are_whole gs ≡ true → ls ≡ laid_functions a gs) → Answers a gs o (Err (error.Broken e.0 e.1))
+fault_told a gs o ls n (r, x) h told_use f laid = (told_of gs r x h told_use, first_of a gs ls n r x f laid)
 
-pub placed_told : (a : Algorithm) (gs : List StoredText) (o : Option (Rule × List ℕ)) (e : LowerError) → IsPlaced gs o e → Answers a gs o (Err e)
-placed_told a gs o error.Memory h = absurd h
-placed_told a gs o (error.Schedule e) h = h
-placed_told a gs o (error.Broken rule.OutsideUse x) h = (tt, λ w. absurd (h w))
-placed_told a gs o (error.Broken rule.TooLarge x) h = absurd h
-placed_told a gs o (error.Broken rule.ShortShift x) h = absurd h
-placed_told a gs o (error.Broken rule.SmallFold x) h = absurd h
-placed_told a gs o (error.Broken rule.TooMuch x) h = absurd h
-placed_told a gs o (error.Broken rule.Unbounded x) h = absurd h
+pub placed_told : (a : Algorithm) (gs : List StoredText) (o : Option (Rule × List ℕ)) (n : ℕ) (e : LowerError)
+    → has_large (take n gs) ≡ false → list_any (is_used_outside gs) (take n gs) ≡ false → IsPlaced gs n o e → Answers a gs o (Err e)
+placed_told a gs o n error.Memory small none h = absurd h
+placed_told a gs o n (error.Schedule e) small none h = h
+placed_told a gs o n (error.Broken rule.OutsideUse x) small none h =
+    ((large_at gs gs n x small h, tells_is gs gs rule.OutsideUse x (told_at gs gs n x none h)), λ w. absurd (not_whole gs n x h w))
+placed_told a gs o n (error.Broken rule.TooLarge x) small none h = absurd h
+placed_told a gs o n (error.Broken rule.ShortShift x) small none h = absurd h
+placed_told a gs o n (error.Broken rule.SmallFold x) small none h = absurd h
+placed_told a gs o n (error.Broken rule.TooMuch x) small none h = absurd h
+placed_told a gs o n (error.Broken rule.Unbounded x) small none h = absurd h
 
 answers_unplanned : (a : Algorithm) (gs : List StoredText) (o : Option (Rule × List ℕ)) (r : Result Lowered LowerError)
-    → o ≡ None → has_large gs ≡ false → KeepsRegions a gs → IfOk r (HasGroups a gs) → IfErr r IsUnplanned → Answers a gs o r
-answers_unplanned a gs o (Ok l) e h k made is = (e, h, k, made)
-answers_unplanned a gs o (Err error.Memory) e h k made is = tt
-answers_unplanned a gs o (Err (error.Schedule s)) e h k made is = absurd is
-answers_unplanned a gs o (Err (error.Broken rule.OutsideUse x)) e h k made is = absurd is
-answers_unplanned a gs o (Err (error.Broken rule.TooLarge x)) e h k made is = absurd is
-answers_unplanned a gs o (Err (error.Broken rule.ShortShift x)) e h k made is = absurd is
-answers_unplanned a gs o (Err (error.Broken rule.SmallFold x)) e h k made is = absurd is
-answers_unplanned a gs o (Err (error.Broken rule.TooMuch x)) e h k made is = absurd is
-answers_unplanned a gs o (Err (error.Broken rule.Unbounded x)) e h k made is = (inr h, λ w. inr (refl, k w))
+    → o ≡ None → has_large gs ≡ false → KeepsRegions a gs → AreUsedInside gs → IfOk r (HasGroups a gs) → IfErr r IsUnplanned → Answers a gs o r
+answers_unplanned a gs o (Ok l) e h k inside made is = (e, h, k, made, inside)
+answers_unplanned a gs o (Err error.Memory) e h k inside made is = tt
+answers_unplanned a gs o (Err (error.Schedule s)) e h k inside made is = absurd is
+answers_unplanned a gs o (Err (error.Broken rule.OutsideUse x)) e h k inside made is = absurd is
+answers_unplanned a gs o (Err (error.Broken rule.TooLarge x)) e h k inside made is = absurd is
+answers_unplanned a gs o (Err (error.Broken rule.ShortShift x)) e h k inside made is = absurd is
+answers_unplanned a gs o (Err (error.Broken rule.SmallFold x)) e h k inside made is = absurd is
+answers_unplanned a gs o (Err (error.Broken rule.TooMuch x)) e h k inside made is = absurd is
+answers_unplanned a gs o (Err (error.Broken rule.Unbounded x)) e h k inside made is = (inr (h, inside), λ w. inr (refl, k w))
 
 -- none of them does, and no plan, or one, is made
 pub unplanned_told : (a : Algorithm) (gs : List StoredText) (o : Option (Rule × List ℕ)) (ls : List (Option LaidText)) (n : ℕ) (r : Result Lowered LowerError)
-    → o ≡ None → n ≡ length gs → has_large (take n gs) ≡ false → IsFirstOf a (has_large gs) no_totals n gs ls None → (are_whole gs ≡ true → ls ≡ laid_functions a gs)
-    → IfOk r (IsPlanOf gs ls) → IfErr r IsUnplanned → Answers a gs o r
-unplanned_told a gs o ls n r e c h f laid made is =
-    answers_unplanned a gs o r e (none_is_large gs n c h) (none_of a gs ls n f laid c)
+    → o ≡ None → n ≡ length gs → has_large (take n gs) ≡ false → IsFirstOf a (has_large gs) no_totals n gs ls None → list_any (is_used_outside gs) (take n gs) ≡ false
+    → (are_whole gs ≡ true → ls ≡ laid_functions a gs) → IfOk r (IsPlanOf gs ls) → IfErr r IsUnplanned → Answers a gs o r
+unplanned_told a gs o ls n r e c h f told_use laid made is =
+    answers_unplanned a gs o r e (none_is_large gs n c h) (none_of a gs ls n f laid c) (none_is gs n c told_use)
     (IfOk-weaker r (IsPlanOf gs ls) (HasGroups a gs) (λ l p. groups_made a gs ls l p laid) made) is
 
 -- ---- the algorithm and its schedule
@@ -78,14 +84,15 @@ pub record Told (a : Algorithm) (s : Schedule) (r : Result Lowered LowerError) :
   pub legal : IfOk r (λ l. IsLegal a s)
   pub small : IfOk r (λ l. AreSmall a s)
   pub regions : IfOk r (λ l. AreRegionsKept a s)
+  pub uses : IfOk r (λ l. AreUsesInside a s)
   pub groups : IfOk r (AreGroupsMade a s)
   pub refused : IfErr r (IsRefused a s)
 
 err_told : (a : Algorithm) (s : Schedule) (e : LowerError) → IsRefused a s e → Told a s (Err e)
-err_told a s e is = record { legal = tt; small = tt; regions = tt; groups = tt; refused = is }
+err_told a s e is = record { legal = tt; small = tt; regions = tt; uses = tt; groups = tt; refused = is }
 
 answers_told : (a : Algorithm) (s : Schedule) (o : Option (Rule × List ℕ)) → IsFault a s o → (r : Result Lowered LowerError) → Answers a (stored_functions a s) o r → Told a s r
-answers_told a s o h (Ok l) is = record { legal = subst (IsFault a s) is.0 h; small = is.1; regions = is.2; groups = is.3; refused = tt }
+answers_told a s o h (Ok l) is = record { legal = subst (IsFault a s) is.0 h; small = is.1; regions = is.2; uses = is.4; groups = is.3; refused = tt }
 answers_told a s o h (Err error.Memory) is = err_told a s error.Memory tt
 answers_told a s o h (Err (error.Schedule (refusal.Broken r x))) is = err_told a s (error.Schedule (refusal.Broken r x)) (inr (subst (IsFault a s) is h))
 answers_told a s o h (Err (error.Schedule refusal.Memory)) is = absurd is

@@ -3,6 +3,7 @@ use Rattle.std.specs.Prelude.{◌≡◌, ◌⊎◌, ℕ, true, false, List, [], 
 use Rattle.lower.specs.declared.error.RegionRule.{RegionRule}
 use Rattle.lower.specs.declared.error.RegionRule.TheVariants as rule
 use Rattle.lower.specs.Stored.{StoredText, is_large, has_large}
+use Rattle.lower.specs.Uses.{AreUsedInside, IsUseTold}
 
 -- L11 for a definition only where one passes the limits, L8, L9, L11 for cells or pieces and L12 only where none does; L6, which comes first,
 -- in either case
@@ -27,7 +28,7 @@ IsFault g (Some r) = Breaks g r
 -- a rule that asks for a region
 abbrev pub IsByRegion : Option RegionRule → Type 0
 IsByRegion None = Unit {0}
-IsByRegion (Some rule.OutsideUse) = Unit {0}
+IsByRegion (Some rule.OutsideUse) = ⊥
 IsByRegion (Some rule.TooLarge) = ⊥
 IsByRegion (Some rule.ShortShift) = Unit {0}
 IsByRegion (Some rule.SmallFold) = Unit {0}
@@ -39,12 +40,13 @@ abbrev pub Finds : List StoredText → ℕ → Option (RegionRule × List ℕ) �
 Finds gs n None = has_large (take n gs) ≡ false
 Finds gs n (Some e) = IsTold gs e.0 e.1
 
--- what is told where no such rule is broken by one function before the others: L6 for a use, of which nothing is said here, and that the lines
--- of a group are not bounded, only where no definition passes the limits
+-- what is told where no such rule is broken by one function before the others: L6 for a use, only of the first function that is used outside of
+-- its loop; another rule, only where neither its function nor one before it is; that the lines of a group are not bounded, only where no definition passes the
+-- limits and no function is used so
 abbrev pub IsToldOf : List StoredText → RegionRule → List ℕ → Type 0
-IsToldOf gs rule.OutsideUse x = Unit {0}
-IsToldOf gs rule.TooLarge x = IsTold gs rule.TooLarge x
-IsToldOf gs rule.ShortShift x = IsTold gs rule.ShortShift x
-IsToldOf gs rule.SmallFold x = IsTold gs rule.SmallFold x
-IsToldOf gs rule.TooMuch x = IsTold gs rule.TooMuch x
-IsToldOf gs rule.Unbounded x = IsTold gs rule.Unbounded x ⊎ (has_large gs ≡ false)
+IsToldOf gs rule.OutsideUse x = IsTold gs rule.OutsideUse x × IsUseTold gs gs rule.OutsideUse x
+IsToldOf gs rule.TooLarge x = IsTold gs rule.TooLarge x × IsUseTold gs gs rule.TooLarge x
+IsToldOf gs rule.ShortShift x = IsTold gs rule.ShortShift x × IsUseTold gs gs rule.ShortShift x
+IsToldOf gs rule.SmallFold x = IsTold gs rule.SmallFold x × IsUseTold gs gs rule.SmallFold x
+IsToldOf gs rule.TooMuch x = IsTold gs rule.TooMuch x × IsUseTold gs gs rule.TooMuch x
+IsToldOf gs rule.Unbounded x = (IsTold gs rule.Unbounded x × IsUseTold gs gs rule.Unbounded x) ⊎ ((has_large gs ≡ false) × AreUsedInside gs)

@@ -12,4 +12,5 @@ pub mod Refused
 pub mod Regions
 pub mod Rules
 pub mod Stored
+pub mod Uses
 pub mod Windows

@@ -1,5 +1,5 @@
 -- Why an algorithm and a schedule give no plan.
-use Rattle.std.specs.Prelude.{◌≡◌, ◌≢◌, ◌⊎◌, ℕ, true, false, List, Option, Some, None, Result, Ok, Err}
+use Rattle.std.specs.Prelude.{◌≡◌, ◌⊎◌, ℕ, true, false, List, Option, Some, None, Result, Ok, Err}
 use Rattle.lin.specs.declared.form.LinError.{LinError}
 use Rattle.lin.specs.declared.form.LinError.TheVariants as form
 use Rattle.meaning.specs.Algorithm.{Algorithm}
@@ -16,6 +16,7 @@ use Rattle.lower.specs.declared.error.RegionRule.TheVariants as rule
 use Rattle.lower.specs.Stored.{StoredText, has_large, stored_functions}
 use Rattle.lower.specs.Large.{IsToldOf}
 use Rattle.lower.specs.Faults.{are_whole, region_fault}
+use Rattle.lower.specs.Uses.{AreUsedInside, is_used_at}
 use Rattle.lower.specs.Groups.{HasGroups}
 use Rattle.sched.specs.Legal as sched
 use Rattle.sched.specs.declared.skeleton.SkeletonError.{SkeletonError}
@@ -41,7 +42,13 @@ IsFirst a gs r x = are_whole gs ≡ true → (region_fault a gs ≡ Some (r, x))
 abbrev pub AreRegionsKept : Algorithm → Schedule → Type 0
 AreRegionsKept a s = KeepsRegions a (stored_functions a s)
 
--- A directive breaks one of L1 to L5, or a function a rule that asks for no region. L11 for a definition is told only of the first stored function
+-- no stored function is used outside of the loop at which it is computed, or in a definition that lacks it
+abbrev pub AreUsesInside : Algorithm → Schedule → Type 0
+AreUsesInside a s = AreUsedInside (stored_functions a s)
+
+-- A directive breaks one of L1 to L5, or a function a rule that asks for no region. L6 of a use is told only of the first stored function that
+-- is used outside of the loop at which it is computed, or in a definition that lacks it, and another rule that asks for a region only where neither its
+-- function nor one before it is. L11 for a definition is told only of the first stored function
 -- of which one passes the limits. The other rules that ask for a region are told only where no directive breaks one of L1 to L5 and, but for L6, no
 -- definition of the function or of one before it passes the limits; where each stored function is a root function, only the first that is broken,
 -- of the first function that breaks one.
@@ -55,9 +62,10 @@ abbrev pub IsThat : Option (Rule × List ℕ) → SchedError → Type 0
 IsThat o (refusal.Broken r x) = o ≡ Some (r, x)
 IsThat o e = ⊥
 
--- a plan comes only where no such rule is broken, no definition passes the limits, and no rule is broken by a region; it has the groups
+-- a plan comes only where no such rule is broken, no definition passes the limits, no rule is broken by a region, and no function is used outside of
+-- its loop; it has the groups
 abbrev pub Answers : Algorithm → List StoredText → Option (Rule × List ℕ) → Result Lowered LowerError → Type 0
-Answers a gs o (Ok l) = (o ≡ None) × (has_large gs ≡ false) × KeepsRegions a gs × HasGroups a gs l
+Answers a gs o (Ok l) = (o ≡ None) × (has_large gs ≡ false) × KeepsRegions a gs × HasGroups a gs l × AreUsedInside gs
 Answers a gs o (Err error.Memory) = Unit {0}
 Answers a gs o (Err (error.Schedule e)) = IsThat o e
 Answers a gs o (Err (error.Broken r x)) = IsToldOf gs r x × IsFirst a gs r x
@@ -69,12 +77,12 @@ IsUnplanned (error.Schedule e) = ⊥
 IsUnplanned (error.Broken rule.Unbounded x) = Unit {0}
 IsUnplanned (error.Broken r x) = ⊥
 
--- it is said of a rule that is told behind the last directive, or of a use outside of a loop
-abbrev pub IsPlaced : List StoredText → Option (Rule × List ℕ) → LowerError → Type 0
-IsPlaced gs o error.Memory = ⊥
-IsPlaced gs o (error.Schedule e) = IsThat o e
-IsPlaced gs o (error.Broken rule.OutsideUse x) = are_whole gs ≢ true
-IsPlaced gs o (error.Broken r x) = ⊥
+-- it is said of a rule that is told behind the last directive, or of a use of the function at this place outside of its loop
+abbrev pub IsPlaced : List StoredText → ℕ → Option (Rule × List ℕ) → LowerError → Type 0
+IsPlaced gs n o error.Memory = ⊥
+IsPlaced gs n o (error.Schedule e) = IsThat o e
+IsPlaced gs n o (error.Broken rule.OutsideUse x) = is_used_at gs gs n x ≡ true
+IsPlaced gs n o (error.Broken r x) = ⊥
 
 abbrev pub stop_of_form : LinError → Stop
 stop_of_form form.Memory = stop.Memory

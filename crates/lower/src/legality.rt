@@ -1,6 +1,6 @@
 //! The rules of schedules that ask what a function's loops run over.
 
-ghost use Rattle.std.specs.Prelude.{◌≡◌, ◌++◌, IfOk, OnOk, true, map};
+ghost use Rattle.std.specs.Prelude.{◌≡◌, ◌++◌, IfOk, OnOk, true, false, map};
 ghost use Rattle.std.specs.Option.{option_map};
 ghost use Rattle.tree.specs.Term.{term_of, list_terms, indices};
 ghost use Rattle.algo.specs.View.{algorithm_of};
@@ -13,6 +13,7 @@ ghost use Rattle.lower.specs.Around.{around_of};
 ghost use Rattle.lower.specs.Regions.{laid_of};
 ghost use Rattle.lower.specs.Bounded as spec;
 ghost use Rattle.lower.specs.Faults as faults;
+ghost use Rattle.lower.specs.Uses.{FindsUse, is_use, is_used_outside};
 
 use crate::calls::{Call, calls_of};
 use crate::definitions::{Formula, Stored};
@@ -378,7 +379,7 @@ fn fault_by_region(
 }
 
 // The rule that a function breaks.
-#[tactic(auto, using(crate::proofs::Sizes::fault_of_small, crate::proofs::Sizes::small_at, crate::proofs::Sizes::large_at, crate::proofs::First::fault_found, crate::proofs::First::fault_large))]
+#[tactic(auto, using(crate::proofs::Sizes::fault_of_small, crate::proofs::Sizes::small_at, crate::proofs::Sizes::large_at, crate::proofs::First::fault_found, crate::proofs::First::fault_large, crate::proofs::Outsides::by_region))]
 fn fault_of(
     alloc: Global,
     algo: &Algo,
@@ -391,6 +392,7 @@ fn fault_of(
     ensures kind { IfOk result (IsFault (stored_of stored.now)) }
     ensures rule { IfOk result (λ rule. faults.is_whole (stored_of stored.now) ≡ true → rule ≡ faults.fault_of (algorithm_of algo.now)
         has_large totals (stored_of stored.now) (option_map (λ l. laid_of l.now) laid.entry)) }
+    ensures other { IfOk result (λ rule. is_use rule ≡ false) }
 {
     match &stored.formulas {
         None => Ok(Some(RegionRule::TooLarge)),
@@ -403,6 +405,7 @@ fn fault_of(
 }
 
 // The rule that one of all functions breaks: a use outside of its loop, or one by its region.
+#[tactic(auto, using(crate::proofs::Outsides::no_use_told))]
 fn rule_broken<'a>(
     alloc: Global,
     algo: &Algo,
@@ -416,6 +419,7 @@ fn rule_broken<'a>(
     ensures kind { IfOk result (IsFault (stored_of stored.now)) }
     ensures rule { IfOk result (λ rule. faults.is_whole (stored_of stored.now) ≡ true → rule ≡ faults.fault_of (algorithm_of algo.now)
         has_large totals (stored_of stored.now) (option_map (λ l. laid_of l.now) laid.entry)) }
+    ensures uses { IfOk result (λ rule. is_use rule ≡ is_used_outside (map stored_of all.now) (stored_of stored.now)) }
 {
     if has_outside_use(alloc, all, stored)? {
         return Ok(Some(RegionRule::OutsideUse));
@@ -465,7 +469,7 @@ fn other_laid(laid: &[Option<Laid>]) -> &[Option<Laid>]
 }
 
 // The first of so many functions that breaks a rule, among all stored ones, behind others that have these totals.
-#[tactic(auto, using(crate::proofs::Sizes::found_later, crate::proofs::Sizes::told_here, crate::proofs::Sizes::none_asked, crate::proofs::Sizes::none_there, crate::proofs::First::none_asked, crate::proofs::First::none_there))]
+#[tactic(auto, using(crate::proofs::Sizes::found_later, crate::proofs::Sizes::told_here, crate::proofs::Sizes::none_asked, crate::proofs::Sizes::none_there, crate::proofs::First::none_asked, crate::proofs::First::none_there, crate::proofs::Outsides::none_asked, crate::proofs::Outsides::none_there))]
 fn fault_from<'a>(
     alloc: Global,
     algo: &Algo,
@@ -480,6 +484,7 @@ fn fault_from<'a>(
     ensures sizes { IfOk result (Finds (map stored_of stored.now) count) }
     ensures first { IfOk result (faults.IsFirstOf (algorithm_of algo.now) has_large totals count
         (map stored_of stored.now) (map (option_map laid_of) laid.now)) }
+    ensures uses { IfOk result (FindsUse (map stored_of all.now) (map stored_of stored.now) count) }
 {
     let Some(left) = count.checked_sub(1) else {
         return Ok(None);
@@ -573,6 +578,7 @@ pub(crate) fn first_fault(
     ensures sizes { IfOk result (Finds (map stored_of stored.now) count) }
     ensures first { IfOk result (faults.IsFirstOf (algorithm_of algo.now) (have_large (map stored_of stored.now)) faults.no_totals count
         (map stored_of stored.now) (map (option_map laid_of) laid.now)) }
+    ensures uses { IfOk result (FindsUse (map stored_of stored.now) (map stored_of stored.now) count) }
 {
     let has_large = leaves_others(alloc, stored, fault)?;
     let totals = Totals {

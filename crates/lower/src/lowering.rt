@@ -12,7 +12,7 @@ ghost use Rattle.lower.specs.Regions.{laid_of, laid_functions};
 ghost use Rattle.lower.specs.Faults.{are_whole};
 ghost use Rattle.lower.specs.Bodies.{Extends};
 ghost use Rattle.lower.specs.Groups.{AreAlone, AreBodies, AreGroupsMade, AreMade, IsAlone, IsBodyOf, IsOver, IsOwnOver, IsPlanOf, party_of, rooted};
-ghost use Rattle.lower.specs.Refused.{Answers, AreSmall, AreRegionsKept, IsRefused, IsUnplanned, IsPlaced};
+ghost use Rattle.lower.specs.Refused.{Answers, AreSmall, AreRegionsKept, AreUsesInside, IsRefused, IsUnplanned, IsPlaced};
 
 use crate::definitions::{Stored, stored_functions};
 use crate::error::{LowerError, RegionRule, Stop};
@@ -270,16 +270,17 @@ fn laid_all(
     laid_by_loops(alloc, algo, stored, laid)
 }
 
-// What is told of a placement that breaks a rule behind the last directive.
+// What is told of a placement that breaks a rule behind the last directive. Where its function is stored, it is the one at this place.
 fn broken(
     alloc: Global,
     stored: &[Stored<'_>],
+    place: usize,
     rule: Rule,
     name: Name,
 ) -> Result<LowerError, AllocError>
-    ensures { IfOk result (IsPlaced (map stored_of stored.now) (Some (rule, name))) }
+    ensures { IfOk result (IsPlaced (map stored_of stored.now) place (Some (rule, name))) }
 {
-    if rule.number() > OUTSIDE_USE && uses_outside(alloc, stored, &name)? {
+    if rule.number() > OUTSIDE_USE && uses_outside(alloc, stored, place, &name)? {
         return Ok(LowerError::Broken(RegionRule::OutsideUse, name));
     }
     Ok(LowerError::Schedule(SchedError::Broken(rule, name)))
@@ -312,7 +313,7 @@ fn plan_laid<'a>(
         return Err(refusal(found));
     }
     if let Some((rule, name)) = placement.fault {
-        return Err(broken(alloc, stored, rule, name)?);
+        return Err(broken(alloc, stored, count, rule, name)?);
     }
     planned(alloc, algo, stored, laid, &parties)
 }
@@ -356,6 +357,9 @@ pub fn lower(alloc: Global, algo: &Algo, sched: &Sched) -> Result<Lowered, Lower
 
     // Where each stored function is a root function, none breaks L8, L11 or L12 by its region.
     ensures regions { IfOk result (λ _. AreRegionsKept (algorithm_of algo.now) (schedule_of sched.now)) }
+
+    // L6: no stored function is used outside of the loop at which it is computed, or in a definition that lacks it.
+    ensures uses { IfOk result (λ _. AreUsesInside (algorithm_of algo.now) (schedule_of sched.now)) }
 
     // One group for each stored root function, over its region, with a piece for each turn of its parallel loops.
     ensures groups { IfOk result (AreGroupsMade (algorithm_of algo.now) (schedule_of sched.now)) }

@@ -288,7 +288,8 @@ fn add_calls(
     }
 }
 
-fn are_calls_of(callee: &str, calls: &[Call<'_>]) -> bool
+/// Whether one of the calls is of the function of this name.
+pub(crate) fn are_calls_of(callee: &str, calls: &[Call<'_>]) -> bool
     ensures { result ≡ are_calls_of callee.now (map call_of calls.now) }
 {
     match calls {

@@ -1,86 +1,267 @@
 //! Where functions that are computed inside loops are used.
 
-ghost use Rattle.std.specs.Prelude.{◌≡◌, IfOk, true, false, map};
-ghost use Rattle.lower.specs.Stored.{stored_of};
+ghost use Rattle.std.specs.Prelude.{◌≡◌, Decides, IfOk, true, false, map};
+ghost use Rattle.std.specs.List.{list_any};
+ghost use Rattle.std.specs.Option.{option_map};
+ghost use Rattle.lower.specs.Stored.{formula_of, stored_of};
 ghost use Rattle.lower.specs.Faults as spec;
+ghost use Rattle.lower.specs.Uses as uses;
 
+use crate::calls::calls_of;
 use crate::definitions::{Formula, Stored};
-use crate::regions::formulas_call;
+use crate::regions::{are_calls_of, counts};
+use algo::scoping::same_name;
 use sched::{Home, Loop};
 use std::alloc::{AllocError, Global};
 use tree::token::Name;
 
-fn stored_named<'b, 'a>(stored: &'b [Stored<'a>], name: &Name) -> Option<&'b Stored<'a>> {
-    stored
-        .iter()
-        .find(|one| one.subject.name.as_str() == name.as_str())
+// ---- loops
+
+// The first stored function of this name.
+fn stored_named<'b, 'a>(stored: &'b [Stored<'a>], name: &Name) -> Option<&'b Stored<'a>>
+    ensures { option_map (λ s. stored_of s.now) result ≡ uses.stored_named (map stored_of stored.now) name.now }
+{
+    match stored {
+        [] => None,
+        [one, rest @ ..] => {
+            if same_name(one.subject.name.as_str(), name.as_str()) {
+                Some(one)
+            } else {
+                stored_named(rest, name)
+            }
+        }
+    }
+}
+
+fn first_home(homes: &[Home]) -> Option<Home>
+    ensures { result ≡ uses.first_home homes.now }
+{
+    match homes {
+        [] => None,
+        [home, _rest @ ..] => Some(*home),
+    }
+}
+
+// The loop at which a function is computed; a root function is computed at none.
+fn home_of(one: &Stored<'_>) -> Option<Home>
+    ensures { result ≡ uses.home_of (stored_of one.now) }
+{
+    if one.subject.is_root {
+        None
+    } else {
+        first_home(&one.placed.homes)
+    }
+}
+
+// Whether a loop has this name and the definition leaves the index of its dimension the variable alone.
+fn is_loop_of(formula: &Formula, name: &Name, one: &Loop) -> bool
+    ensures { result ≡ uses.is_loop_of (formula_of formula.now) name.now one.now }
+{
+    same_name(one.name.as_str(), name.as_str()) && !counts(Some(formula), one.dimension)
 }
 
 // Whether the definition has the loop of this name.
-fn has_loop(loops: &[Loop], formula: &Formula, name: &Name) -> bool {
-    loops.iter().any(|one| one.name.as_str() == name.as_str()
-        && !matches!(formula.at.get(one.dimension), Some(Some(_))))
+fn has_loop(loops: &[Loop], formula: &Formula, name: &Name) -> bool
+    ensures { result ≡ uses.has_loop_of loops.now (formula_of formula.now) name.now }
+{
+    match loops {
+        [] => false,
+        [one, rest @ ..] => is_loop_of(formula, name, one) || has_loop(rest, formula, name),
+    }
 }
 
-// Whether the first loop is the second one or stands inside it.
-fn is_within(loops: &[Loop], inner: &Name, outer: &Name) -> bool {
-    for one in loops {
-        if one.name.as_str() == inner.as_str() {
-            return true;
-        }
-        if one.name.as_str() == outer.as_str() {
-            return false;
+// Whether of these loops the first one of this name is the other one or stands inside it.
+fn is_within(inner: &Name, outer: &Name, loops: &[Loop]) -> bool
+    ensures { result ≡ uses.is_within inner.now outer.now loops.now }
+{
+    match loops {
+        [] => false,
+        [one, rest @ ..] => {
+            if same_name(one.name.as_str(), inner.as_str()) {
+                return true;
+            }
+            if same_name(one.name.as_str(), outer.as_str()) {
+                return false;
+            }
+            is_within(inner, outer, rest)
         }
     }
-    false
 }
 
-// Whether what is computed at the loop of the one is, through its own homes, computed at the other loop or inside of it.
-fn is_inside(stored: &[Stored<'_>], first: &Home, outer: &Home) -> bool {
-    let mut home = *first;
-    for _step in 0..stored.len() {
-        let Some(host) = stored_named(stored, &home.function) else {
-            return false;
-        };
-        if home.function.as_str() == outer.function.as_str() {
-            return is_within(&host.placed.loops, &home.turn, &outer.turn);
-        }
-        if host.subject.is_root {
-            return false;
-        }
-        match host.placed.homes.first() {
-            Some(next) => home = *next,
-            None => return false,
-        }
+// Whether what is computed at the first loop is computed at the other one or inside it, by at most one home for each of `steps`.
+fn leads_inside<'a>(stored: &[Stored<'a>], steps: &[Stored<'a>], home: &Home, outer: &Home) -> bool
+    ensures { result ≡ uses.leads_inside (map stored_of stored.now) (map stored_of steps.now) home.now outer.now }
+{
+    match steps {
+        [] => false,
+        [_step, rest @ ..] => match stored_named(stored, &home.function) {
+            None => false,
+            Some(host) => {
+                if same_name(home.function.as_str(), outer.function.as_str()) {
+                    is_within(&home.turn, &outer.turn, &host.placed.loops)
+                } else {
+                    match home_of(host) {
+                        None => false,
+                        Some(next) => leads_inside(stored, rest, &next, outer),
+                    }
+                }
+            }
+        },
     }
-    false
 }
 
-// Whether a function of these definitions calls the other one only inside that one's loop.
-fn calls_inside(
+// ---- uses
+
+// Whether this definition of a function stands inside the loop.
+fn stands_inside(stored: &[Stored<'_>], outer: &Home, user: &Stored<'_>, formula: &Formula) -> bool
+    ensures { result ≡ uses.stands_inside (map stored_of stored.now) outer.now (stored_of user.now) (formula_of formula.now) }
+{
+    if same_name(user.subject.name.as_str(), outer.function.as_str()) {
+        return has_loop(&user.placed.loops, formula, &outer.turn);
+    }
+    match home_of(user) {
+        None => false,
+        Some(home) => leads_inside(stored, stored, &home, outer),
+    }
+}
+
+// Whether this definition of a function calls another one and does not stand inside its loop.
+fn is_outside(
     alloc: Global,
     stored: &[Stored<'_>],
+    name: &str,
+    outer: &Home,
+    user: &Stored<'_>,
+    formula: &Formula,
+) -> Result<bool, AllocError>
+    ensures { IfOk result (λ yes. yes ≡ uses.is_outside (map stored_of stored.now) name.now outer.now (stored_of user.now) (formula_of formula.now)) }
+{
+    let calls = calls_of(alloc, formula)?;
+    Ok(are_calls_of(name, &calls) && !stands_inside(stored, outer, user, formula))
+}
+
+// The same of one of these definitions.
+fn some_outside(
+    alloc: Global,
+    stored: &[Stored<'_>],
+    name: &str,
+    outer: &Home,
     user: &Stored<'_>,
     formulas: &[Formula],
-    name: &str,
-    home: &Home,
-) -> Result<bool, AllocError> {
-    if user.subject.name.as_str() != home.function.as_str() {
-        let is_placed = match user.placed.homes.first() {
-            Some(own) => !user.subject.is_root && is_inside(stored, own, home),
-            None => false,
-        };
-        return Ok(is_placed || !formulas_call(alloc, formulas, name)?);
-    }
-    for (place, formula) in formulas.iter().enumerate() {
-        let Some(one) = formulas.get(place..place.saturating_add(1)) else {
-            return Ok(false);
-        };
-        if !has_loop(&user.placed.loops, formula, &home.turn) && formulas_call(alloc, one, name)? {
-            return Ok(false);
+) -> Result<bool, AllocError>
+    ensures { IfOk result (λ yes. yes ≡ list_any (uses.is_outside (map stored_of stored.now) name.now outer.now (stored_of user.now))
+        (map formula_of formulas.now)) }
+{
+    match formulas {
+        [] => Ok(false),
+        [formula, rest @ ..] => {
+            if is_outside(alloc, stored, name, outer, user, formula)? {
+                return Ok(true);
+            }
+            some_outside(alloc, stored, name, outer, user, rest)
         }
     }
-    Ok(true)
+}
+
+// Whether another function than that of this name uses it outside of its loop.
+#[tactic(auto, using(crate::proofs::Insides::outside_found, crate::proofs::Insides::outside_large))]
+fn uses_it_outside(
+    alloc: Global,
+    stored: &[Stored<'_>],
+    name: &str,
+    outer: &Home,
+    user: &Stored<'_>,
+) -> Result<bool, AllocError>
+    ensures { IfOk result (λ yes. yes ≡ uses.uses_outside (map stored_of stored.now) name.now outer.now (stored_of user.now)) }
+{
+    if same_name(user.subject.name.as_str(), name) {
+        return Ok(false);
+    }
+    match &user.formulas {
+        None => Ok(false),
+        Some(formulas) => some_outside(alloc, stored, name, outer, user, formulas),
+    }
+}
+
+// Whether one of these does.
+fn some_use_outside<'a>(
+    alloc: Global,
+    stored: &[Stored<'a>],
+    name: &str,
+    outer: &Home,
+    users: &[Stored<'a>],
+) -> Result<bool, AllocError>
+    ensures { IfOk result (λ yes. yes ≡ list_any (uses.uses_outside (map stored_of stored.now) name.now outer.now) (map stored_of users.now)) }
+{
+    match users {
+        [] => Ok(false),
+        [user, rest @ ..] => {
+            if uses_it_outside(alloc, stored, name, outer, user)? {
+                return Ok(true);
+            }
+            some_use_outside(alloc, stored, name, outer, rest)
+        }
+    }
+}
+
+// Whether a function is used outside of the loop at which it is computed, or in a definition that lacks it.
+fn is_used_outside(
+    alloc: Global,
+    stored: &[Stored<'_>],
+    one: &Stored<'_>,
+) -> Result<bool, AllocError>
+    ensures { IfOk result (λ yes. yes ≡ uses.is_used_outside (map stored_of stored.now) (stored_of one.now)) }
+{
+    match first_home(&one.placed.homes) {
+        None => Ok(false),
+        Some(outer) => some_use_outside(alloc, stored, one.subject.name.as_str(), &outer, stored),
+    }
+}
+
+/// Whether a function that is computed at a loop is used outside of it, or in a definition that lacks it.
+#[tactic(auto, using(crate::proofs::Outsides::homeless_told))]
+pub(crate) fn has_outside_use(
+    alloc: Global,
+    stored: &[Stored<'_>],
+    one: &Stored<'_>,
+) -> Result<bool, AllocError>
+    ensures told { IfOk result (λ yes. yes ≡ uses.is_used_outside (map stored_of stored.now) (stored_of one.now)) }
+    ensures homeless { IfOk result (λ yes. spec.is_homeless one.now.placed.now.homes.items ≡ true → yes ≡ false) }
+    ensures decides { IfOk result (λ yes. Decides yes (uses.IsUsedOutside (map stored_of stored.now) (stored_of one.now))) }
+{
+    is_used_outside(alloc, stored, one)
+}
+
+// Whether it has this name and is used so.
+fn is_used_named(
+    alloc: Global,
+    stored: &[Stored<'_>],
+    name: &Name,
+    one: &Stored<'_>,
+) -> Result<bool, AllocError>
+    ensures { IfOk result (λ yes. yes ≡ uses.is_used_named (map stored_of stored.now) name.now (stored_of one.now)) }
+{
+    if same_name(one.subject.name.as_str(), name.as_str()) {
+        is_used_outside(alloc, stored, one)
+    } else {
+        Ok(false)
+    }
+}
+
+/// The same of the function at this place, where it has this name.
+#[tactic(auto, using(crate::proofs::Outsides::used_at, crate::proofs::Outsides::none_at))]
+pub(crate) fn uses_outside(
+    alloc: Global,
+    stored: &[Stored<'_>],
+    place: usize,
+    name: &Name,
+) -> Result<bool, AllocError>
+    ensures { IfOk result (λ yes. yes ≡ uses.is_used_at (map stored_of stored.now) (map stored_of stored.now) place name.now) }
+{
+    match stored.get(place) {
+        None => Ok(false),
+        Some(one) => is_used_named(alloc, stored, name, one),
+    }
 }
 
 // ---- whole functions
@@ -109,66 +290,4 @@ pub(crate) fn are_whole(stored: &[Stored<'_>]) -> bool
         [] => true,
         [one, rest @ ..] => is_whole(one) && are_whole(rest),
     }
-}
-
-// ---- uses outside of loops
-
-// Whether a function is used outside of the loop at which it is computed, or in a definition that lacks it.
-fn is_used_outside(
-    alloc: Global,
-    stored: &[Stored<'_>],
-    one: &Stored<'_>,
-) -> Result<bool, AllocError> {
-    let Some(home) = one.placed.homes.first() else {
-        return Ok(false);
-    };
-    let name = one.subject.name.as_str();
-    for user in stored {
-        if user.subject.name.as_str() != name {
-            if let Some(formulas) = &user.formulas {
-                if !calls_inside(alloc, stored, user, formulas, name, home)? {
-                    return Ok(true);
-                }
-            }
-        }
-    }
-    Ok(false)
-}
-
-/// Whether a function that is computed at a loop is used outside of it, or in a definition that lacks it.
-#[tactic(auto, using(crate::proofs::First::unless))]
-pub(crate) fn has_outside_use(
-    alloc: Global,
-    stored: &[Stored<'_>],
-    one: &Stored<'_>,
-) -> Result<bool, AllocError>
-    ensures { IfOk result (λ yes. spec.is_homeless one.now.placed.now.homes.items ≡ true → yes ≡ false) }
-{
-    if is_homeless(&one.placed.homes) {
-        return Ok(false);
-    }
-    is_used_outside(alloc, stored, one)
-}
-
-// The same of the function of this name.
-fn is_named_used(alloc: Global, stored: &[Stored<'_>], name: &Name) -> Result<bool, AllocError> {
-    match stored_named(stored, name) {
-        Some(one) => has_outside_use(alloc, stored, one),
-        None => Ok(false),
-    }
-}
-
-/// The same of the function of this name; of whole functions none is.
-#[tactic(auto, using(crate::proofs::First::unless))]
-pub(crate) fn uses_outside(
-    alloc: Global,
-    stored: &[Stored<'_>],
-    name: &Name,
-) -> Result<bool, AllocError>
-    ensures { IfOk result (λ yes. spec.are_whole (map stored_of stored.now) ≡ true → yes ≡ false) }
-{
-    if are_whole(stored) {
-        return Ok(false);
-    }
-    is_named_used(alloc, stored, name)
 }

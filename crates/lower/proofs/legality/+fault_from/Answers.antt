@@ -1,10 +1,12 @@
-use Rattle.std.proofs.Common.{◌≡◌, ◌+◌, ◌-◌, ◌<◌, length, take, drop, map, Some, None, ap, sym, ◌∙◌, arith}
+use Rattle.std.proofs.Common.{◌≡◌, ◌+◌, ◌-◌, ◌<◌, length, take, drop, map, ap, sym, ◌∙◌, arith}
 use Rattle.std.specs.Option.{option_map}
 use Rattle.algo.specs.View.{algorithm_of}
 use Rattle.lower.specs.Stored.{stored_of}
 use Rattle.lower.specs.Regions.{laid_of}
 use Rattle.lower.specs.Faults.{fault_of, totals_with}
+use Rattle.lower.specs.Uses.{is_use}
 use Rattle.lower.proofs.First.{here_in, rest_is, later_in}
+use Rattle.lower.proofs.Outsides as uses
 use Rattle.lower.proofs.legality.+fault_from.Goals as goal
 
 pub returns-in-Some-2-clause-first : goal.returns-in-Some-2-clause-first
@@ -32,3 +34,17 @@ returns-in-None-clause-first t c =
     some c.one-item.is
     (λ w. sym c.in-None.is ∙ c.in_ok-rule-in-len1-up.ensures.rule w ∙ ap (λ l. fault_of a large totals (stored_of one) l) c.first_laid-first.ensures)
     (λ w. c.totals_with-totals.ensures w ∙ ap (λ l. totals_with totals (stored_of one) l) c.first_laid-first.ensures) c.other_laid-rest.ensures (rest_is all some) c.fault_from.ensures.first
+
+pub returns-in-Some-2-clause-uses : goal.returns-in-Some-2-clause-uses
+returns-in-Some-2-clause-uses t c =
+    let told = ap is_use (sym c.in-Some-2.is) ∙ c.in_ok-rule-in-len1-up.ensures.uses in
+    uses.here_in (map stored_of c.args.all.now) c.args.stored.now c.one-item.result c.in-Some-2.rule (omega (arith, c.in-len1-up.len_at_least)) c.one-item.is told
+
+pub returns-in-None-clause-uses : goal.returns-in-None-clause-uses
+returns-in-None-clause-uses t c =
+    let ss = c.args.stored.now in
+    let next : c.args.count ≡ c.in-Some.left + 1 = omega (arith, c.in-Some.ensures) in
+    let some : 0 < length ss = omega (arith, c.in-len1-up.len_at_least) in
+    let none = sym c.in_ok-rule-in-len1-up.ensures.uses ∙ ap is_use c.in-None.is in
+    uses.later_in (map stored_of c.args.all.now) ss (take (length ss - 1) (drop 1 ss)) c.one-item.result c.in-Some.left c.args.count c.fault_from.result next
+    some c.one-item.is none (rest_is ss some) c.fault_from.ensures.uses

@@ -26,6 +26,16 @@ returns-clause-regions c =
     let same : stored ≡ stored_functions a s = (λ i. stored_of_all a (found.subjects i) (found.loops i)) in
     (stored_told a s p.fault stored found.fault same c.plan_placed.result c.plan_placed.ensures).regions
 
+pub returns-clause-uses : goal.returns-clause-uses
+returns-clause-uses c =
+    let a = algorithm_of c.args.algo.now in
+    let s = schedule_of c.args.sched.now in
+    let p = c.in_ok-placement.placement in
+    let found = c.in_ok-placement.ensures in
+    let stored = stored_of_all a (map subject_of p.subjects.items) (map placed_of p.functions.items) in
+    let same : stored ≡ stored_functions a s = (λ i. stored_of_all a (found.subjects i) (found.loops i)) in
+    (stored_told a s p.fault stored found.fault same c.plan_placed.result c.plan_placed.ensures).uses
+
 pub returns-clause-groups : goal.returns-clause-groups
 returns-clause-groups c =
     let a = algorithm_of c.args.algo.now in

@@ -1,4 +1,4 @@
-use Rattle.std.proofs.Common.{◌≡◌, Some, None, Err, length, map, sym, subst, ◌∙◌}
+use Rattle.std.proofs.Common.{◌≡◌, None, Err, length, map, sym, subst, ◌∙◌}
 use Rattle.std.proofs.lemmas.List.{length-map}
 use Rattle.std.specs.Option.{option_map}
 use Rattle.algo.specs.View.{algorithm_of}
@@ -8,6 +8,7 @@ use Rattle.lower.specs.Large.{Finds}
 use Rattle.lower.specs.Regions.{laid_of}
 use Rattle.lower.specs.Faults.{no_totals, IsFirstOf}
 use Rattle.lower.specs.Refused.{Answers}
+use Rattle.lower.specs.Uses.{FindsUse}
 use Rattle.lower.proofs.Told.{fault_told, unplanned_told}
 use Rattle.lower.proofs.lowering.plan_laid.Goals as goal
 
@@ -20,7 +21,8 @@ returns-in-Some c =
     let found = c.in-Some.found in
     let told = subst (Finds gs n) c.in-Some.is c.in_ok-found.ensures.sizes in
     let first = subst (IsFirstOf a (has_large gs) no_totals n gs ls) c.in-Some.is c.in_ok-found.ensures.first in
-    let is = fault_told a gs c.args.placement.now.fault ls n found told first c.requires in
+    let told_use = subst (FindsUse gs gs n) c.in-Some.is c.in_ok-found.ensures.uses in
+    let is = fault_told a gs c.args.placement.now.fault ls n found told told_use first c.requires in
     let P : LowerError → Type 0 = λ e. Answers a gs c.args.placement.now.fault (Err e) in
     subst P (sym c.refusal.ensures) is
 
@@ -34,4 +36,5 @@ returns c =
     let all : n ≡ length gs = c.asked-count.ensures unbroken ∙ sym (length-map c.args.stored.now stored_of) in
     let small = subst (Finds gs n) c.in_default.is c.in_ok-found.ensures.sizes in
     let first = subst (IsFirstOf a (has_large gs) no_totals n gs ls) c.in_default.is c.in_ok-found.ensures.first in
-    unplanned_told a gs c.args.placement.now.fault ls n c.planned.result unbroken all small first c.requires c.planned.ensures.made c.planned.ensures.unplanned
+    let told_use = subst (FindsUse gs gs n) c.in_default.is c.in_ok-found.ensures.uses in
+    unplanned_told a gs c.args.placement.now.fault ls n c.planned.result unbroken all small first told_use c.requires c.planned.ensures.made c.planned.ensures.unplanned

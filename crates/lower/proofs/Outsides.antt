@@ -1,0 +1,171 @@
+-- What is told of the uses of functions outside of their loops.
+use Rattle.std.proofs.Common.{◌≡◌, ◌≢◌, inl, inr, ℕ, zero, suc, ◌+◌, ◌-◌, ◌<◌, Bool, true, false, ◌&&◌, ◌||◌, List, [], ◌∷◌, length, map, take, drop, Option, Some, None, Result, refl, sym, ap, subst, ◌∙◌, arith, add-one}
+use Rattle.std.specs.Prelude.{IfOk, get_or, slice_get}
+use Rattle.std.specs.Option.{option_map}
+use Rattle.std.specs.List.{list_any}
+use Rattle.std.proofs.Math.Seq.{take-length}
+use Rattle.std.proofs.lemmas.Bool.{false≢true}
+use Rattle.std.proofs.lemmas.Bool.Decides.{not_from_Decides}
+use Rattle.std.proofs.lemmas.Option.{slice_get-map}
+use Rattle.std.proofs.lemmas.Result.{IfOk-weaker}
+use Rattle.meaning.specs.Names.{same_name}
+use Rattle.sched.specs.declared.schedule.Home.{Home}
+use Rattle.sched.proofs.Deciding.{any_decides, name_decides}
+use Rattle.lower.specs.declared.error.RegionRule.{RegionRule}
+use Rattle.lower.specs.declared.error.RegionRule.TheVariants as rule
+use Rattle.lower.specs.declared.definitions.Stored.{Stored}
+use Rattle.lower.specs.Stored.{StoredText, stored_of, is_large, has_large}
+use Rattle.lower.specs.Large.{IsByRegion, IsTold}
+use Rattle.lower.specs.Faults.{is_homeless, is_whole, are_whole}
+use Rattle.lower.specs.Uses.{first_home, passes, uses_outside, is_used_outside, is_used_named, is_used_at, IsUsedOutside, AreUsedInside, TellsOf, IsUseTold, is_use, TellsUse, FindsUse}
+use Rattle.lower.proofs.Insides.{used_decides}
+
+abbrev pub Told : Type 0
+Told = RegionRule × List ℕ
+
+-- ---- one function
+
+unused_at : (all : List StoredText) (g : StoredText) (hs : List Home) → is_homeless hs ≡ true → passes (λ v. list_any (uses_outside all g.subject.name v) all) (first_home hs) ≡ false
+unused_at all g [] e = refl
+unused_at all g (h ∷ hs) e = absurd (false≢true e)
+
+-- a function that is computed at no loop is not used outside of one
+pub homeless_unused : (all : List StoredText) (g : StoredText) → is_homeless g.placed.homes ≡ true → is_used_outside all g ≡ false
+homeless_unused all g e = unused_at all g g.placed.homes e
+
+pub homeless_told : {E : Type 0} (all : List StoredText) (g : StoredText) (r : Result Bool E)
+    → IfOk r (λ yes. yes ≡ is_used_outside all g) → IfOk r (λ yes. is_homeless g.placed.homes ≡ true → yes ≡ false)
+homeless_told all g r h = IfOk-weaker r (λ yes. yes ≡ is_used_outside all g) (λ yes. is_homeless g.placed.homes ≡ true → yes ≡ false) (λ yes e w. e ∙ homeless_unused all g w) h
+
+no_use_by : (o : Option RegionRule) → IsByRegion o → is_use o ≡ false
+no_use_by None h = refl
+no_use_by (Some rule.OutsideUse) h = absurd h
+no_use_by (Some rule.TooLarge) h = refl
+no_use_by (Some rule.ShortShift) h = refl
+no_use_by (Some rule.SmallFold) h = refl
+no_use_by (Some rule.TooMuch) h = refl
+no_use_by (Some rule.Unbounded) h = refl
+
+-- a rule that asks for a region is not L6
+pub by_region : {E : Type 0} (r : Result (Option RegionRule) E) → IfOk r IsByRegion → IfOk r (λ o. is_use o ≡ false)
+by_region r h = IfOk-weaker r IsByRegion (λ o. is_use o ≡ false) no_use_by h
+
+pub no_use_told : {E : Type 0} (all : List StoredText) (g : StoredText) (r : Result (Option RegionRule) E)
+    → is_used_outside all g ≡ false → IfOk r (λ o. is_use o ≡ false) → IfOk r (λ o. is_use o ≡ is_used_outside all g)
+no_use_told all g r e h = IfOk-weaker r (λ o. is_use o ≡ false) (λ o. is_use o ≡ is_used_outside all g) (λ o f. f ∙ sym e) h
+
+-- ---- one after another
+
+pub none_asked : (all gs : List StoredText) (n : ℕ) → n ≡ 0 → list_any (is_used_outside all) (take n gs) ≡ false
+none_asked all gs n e = rw (e) refl
+
+pub none_there : (all : List StoredText) (n : ℕ) → list_any (is_used_outside all) (take n []) ≡ false
+none_there all zero = refl
+none_there all (suc n) = refl
+
+none_before : (all : List StoredText) (g : StoredText) (gs : List StoredText)
+    → is_used_outside all g ≡ false → list_any (is_used_outside all) gs ≡ false → list_any (is_used_outside all) (g ∷ gs) ≡ false
+none_before all g gs h f = ap (λ b. b || list_any (is_used_outside all) gs) h ∙ f
+
+finds_later : (all : List StoredText) (g : StoredText) (gs : List StoredText) (n : ℕ) (o : Option Told) → is_used_outside all g ≡ false → FindsUse all gs n o → FindsUse all (g ∷ gs) (suc n) o
+finds_later all g gs n None h f = none_before all g (take n gs) h f
+finds_later all g gs n (Some e) h f = inr (h, f)
+
+found_later : {E : Type 0} (all : List StoredText) (g : StoredText) (gs : List StoredText) (n k : ℕ) (r : Result (Option Told) E)
+    → k ≡ n + 1 → is_used_outside all g ≡ false → IfOk r (FindsUse all gs n) → IfOk r (FindsUse all (g ∷ gs) k)
+found_later all g gs n k r e h is = rw (e, add-one) (IfOk-weaker r (FindsUse all gs n) (FindsUse all (g ∷ gs) (suc n)) (λ o f. finds_later all g gs n o h f) is)
+
+next_of : (x y : Stored) (xs : List Stored) → x ≡ get_or (y ∷ xs) 0 x → x ≡ y
+next_of x y xs is = is
+
+-- it is told of this one
+pub here_in : (all : List StoredText) (ss : List Stored) (s : Stored) (r : RegionRule) → 0 < length ss → s ≡ get_or ss 0 s → is_use (Some r) ≡ is_used_outside all (stored_of s)
+    → TellsUse all (map stored_of ss) r (stored_of s).subject.name
+here_in all [] s r lt is h = absurd (omega (arith, lt))
+here_in all (x ∷ ss) s r lt is h =
+    inl (subst (λ (z : Stored). is_use (Some r) ≡ is_used_outside all (stored_of z)) (next_of s x ss is) h, ap (λ (z : Stored). (stored_of z).subject.name) (sym (next_of s x ss is)))
+
+-- it is told of the others
+pub later_in : {E : Type 0} (all : List StoredText) (ss rest : List Stored) (s : Stored) (n k : ℕ) (r : Result (Option Told) E) → k ≡ n + 1 → 0 < length ss → s ≡ get_or ss 0 s
+    → is_used_outside all (stored_of s) ≡ false → rest ≡ drop 1 ss → IfOk r (FindsUse all (map stored_of rest) n) → IfOk r (FindsUse all (map stored_of ss) k)
+later_in all [] rest s n k r e lt is h others f = absurd (omega (arith, lt))
+later_in all (x ∷ ss) rest s n k r e lt is h others f =
+    let here : is_used_outside all (stored_of x) ≡ false = subst (λ (z : Stored). is_used_outside all (stored_of z) ≡ false) (next_of s x ss is) h in
+    found_later all (stored_of x) (map stored_of ss) n k r e here (subst (λ (ys : List Stored). IfOk r (FindsUse all (map stored_of ys) n)) others f)
+
+-- ---- all of them
+
+both : (a b : Bool) → (a && b) ≡ true → (a ≡ true) × (b ≡ true)
+both true b h = (refl, h)
+both false b h = absurd (false≢true h)
+
+neither : (a b : Bool) → (a || b) ≡ false → (a ≡ false) × (b ≡ false)
+neither true b h = absurd (false≢true (sym h))
+neither false b h = (refl, h)
+
+-- L6 is told of the function at a place, where none before it is
+pub told_at : (all gs : List StoredText) (n : ℕ) (x : List ℕ) → list_any (is_used_outside all) (take n gs) ≡ false → is_used_at all gs n x ≡ true → TellsUse all gs rule.OutsideUse x
+told_at all [] zero x h e = absurd (false≢true e)
+told_at all [] (suc n) x h e = absurd (false≢true e)
+told_at all (g ∷ gs) zero x h e =
+    let it = both (same_name g.subject.name x) (is_used_outside all g) e in
+    inl (sym it.1, (name_decides g.subject.name x).0 it.0)
+told_at all (g ∷ gs) (suc n) x h e =
+    let none = neither (is_used_outside all g) (list_any (is_used_outside all) (take n gs)) h in
+    inr (none.0, told_at all gs n x none.1 e)
+
+pub large_at : (all gs : List StoredText) (n : ℕ) (x : List ℕ) → has_large (take n gs) ≡ false → is_used_at all gs n x ≡ true → IsTold gs rule.OutsideUse x
+large_at all [] zero x h e = absurd (false≢true e)
+large_at all [] (suc n) x h e = absurd (false≢true e)
+large_at all (g ∷ gs) zero x h e = inl (tt, (name_decides g.subject.name x).0 (both (same_name g.subject.name x) (is_used_outside all g) e).0)
+large_at all (g ∷ gs) (suc n) x h e =
+    let none = neither (is_large g) (has_large (take n gs)) h in
+    inr (none.0, large_at all gs n x none.1 e)
+
+unused_is : (all : List StoredText) (g : StoredText) → is_used_outside all g ≡ false → ¬ IsUsedOutside all g
+unused_is all g e = not_from_Decides (is_used_outside all g) (used_decides all g) e
+
+tells_of : (all : List StoredText) (g : StoredText) (r : RegionRule) → is_use (Some r) ≡ is_used_outside all g → TellsOf all g r
+tells_of all g rule.OutsideUse e = (used_decides all g).0 (sym e)
+tells_of all g rule.TooLarge e = unused_is all g (sym e)
+tells_of all g rule.ShortShift e = unused_is all g (sym e)
+tells_of all g rule.SmallFold e = unused_is all g (sym e)
+tells_of all g rule.TooMuch e = unused_is all g (sym e)
+tells_of all g rule.Unbounded e = unused_is all g (sym e)
+
+-- a rule is told behind functions none of which is
+pub tells_is : (all gs : List StoredText) (r : RegionRule) (x : List ℕ) → TellsUse all gs r x → IsUseTold all gs r x
+tells_is all [] r x h = absurd h
+tells_is all (g ∷ gs) r x (inl h) = inl (tells_of all g r h.0, h.1)
+tells_is all (g ∷ gs) r x (inr h) = inr (unused_is all g h.0, tells_is all gs r x h.1)
+
+-- none is told of, and none is
+pub none_is : (gs : List StoredText) (n : ℕ) → n ≡ length gs → list_any (is_used_outside gs) (take n gs) ≡ false → AreUsedInside gs
+none_is gs n e h =
+    let all : take n gs ≡ gs = ap (λ k. take k gs) e ∙ take-length gs in
+    not_from_Decides (list_any (is_used_outside gs) gs) (any_decides (is_used_outside gs) (IsUsedOutside gs) (used_decides gs) gs)
+    (subst (λ (xs : List StoredText). list_any (is_used_outside gs) xs ≡ false) all h)
+
+whole_at : (all gs : List StoredText) (n : ℕ) (x : List ℕ) → are_whole gs ≡ true → is_used_at all gs n x ≡ true → ⊥
+whole_at all [] zero x w e = false≢true e
+whole_at all [] (suc n) x w e = false≢true e
+whole_at all (g ∷ gs) zero x w e =
+    let here = both (is_whole g) (are_whole gs) w in
+    let own = both g.subject.is_root (is_homeless g.placed.homes) here.0 in
+    let it = both (same_name g.subject.name x) (is_used_outside all g) e in
+    false≢true (sym (homeless_unused all g own.1) ∙ it.1)
+whole_at all (g ∷ gs) (suc n) x w e = whole_at all gs n x (both (is_whole g) (are_whole gs) w).1 e
+
+-- of whole functions none is
+pub not_whole : (gs : List StoredText) (n : ℕ) (x : List ℕ) → is_used_at gs gs n x ≡ true → are_whole gs ≢ true
+not_whole gs n x e w = whole_at gs gs n x w e
+
+-- ---- a place of memory
+
+pub used_at : {E : Type 0} (all : List StoredText) (ss : List Stored) (s : Stored) (n : ℕ) (x : List ℕ) (r : Result Bool E) → slice_get ss n ≡ Some s
+    → IfOk r (λ yes. yes ≡ is_used_named all x (stored_of s)) → IfOk r (λ yes. yes ≡ is_used_at all (map stored_of ss) n x)
+used_at all ss s n x r at h = IfOk-weaker r (λ yes. yes ≡ is_used_named all x (stored_of s)) (λ yes. yes ≡ is_used_at all (map stored_of ss) n x)
+    (λ yes e. e ∙ sym (ap (passes (is_used_named all x)) (slice_get-map stored_of ss n ∙ ap (option_map stored_of) at))) h
+
+pub none_at : (all : List StoredText) (ss : List Stored) (n : ℕ) (x : List ℕ) → slice_get ss n ≡ None → false ≡ is_used_at all (map stored_of ss) n x
+none_at all ss n x at = sym (ap (passes (is_used_named all x)) (slice_get-map stored_of ss n ∙ ap (option_map stored_of) at))
