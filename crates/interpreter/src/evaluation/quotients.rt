@@ -133,7 +133,8 @@ fn remainder_number(ty: Ty, number: Number, divisor: u32, reciprocal: u64) -> Nu
 }
 
 /// Each number divided by one, wrapped to the type.
-pub(crate) fn divide_each(ty: Ty, out: &mut [Number], divisor: u32)
+#[inline(always)]
+fn divide_each(ty: Ty, out: &mut [Number], divisor: u32)
     ensures { (k : ℕ) → k < length out.new → number_at out.new k ≡ apply Div ty (number_at out.old k) (pos divisor) }
 {
     let reciprocal = reciprocal(divisor);
@@ -142,12 +143,41 @@ pub(crate) fn divide_each(ty: Ty, out: &mut [Number], divisor: u32)
     }
 }
 
+/// Each number divided by one, wrapped to the type, by a loop of the type's own.
+pub(crate) fn divide_all(ty: Ty, out: &mut [Number], divisor: u32)
+    ensures { (k : ℕ) → k < length out.new → number_at out.new k ≡ apply Div ty (number_at out.old k) (pos divisor) }
+{
+    match ty {
+        Ty::U8 => divide_each(Ty::U8, out, divisor),
+        Ty::U16 => divide_each(Ty::U16, out, divisor),
+        Ty::U32 => divide_each(Ty::U32, out, divisor),
+        Ty::I8 => divide_each(Ty::I8, out, divisor),
+        Ty::I16 => divide_each(Ty::I16, out, divisor),
+        Ty::I32 => divide_each(Ty::I32, out, divisor),
+    }
+}
+
 /// The remainder of each number by one, wrapped to the type.
-pub(crate) fn reduce_each(ty: Ty, out: &mut [Number], divisor: u32)
+#[inline(always)]
+fn reduce_each(ty: Ty, out: &mut [Number], divisor: u32)
     ensures { (k : ℕ) → k < length out.new → number_at out.new k ≡ apply Rem ty (number_at out.old k) (pos divisor) }
 {
     let reciprocal = reciprocal(divisor);
     for turn in 0..out.len() {
         out[turn] = remainder_number(ty, out[turn], divisor, reciprocal);
+    }
+}
+
+/// The remainder of each number by one, wrapped to the type, by a loop of the type's own.
+pub(crate) fn reduce_all(ty: Ty, out: &mut [Number], divisor: u32)
+    ensures { (k : ℕ) → k < length out.new → number_at out.new k ≡ apply Rem ty (number_at out.old k) (pos divisor) }
+{
+    match ty {
+        Ty::U8 => reduce_each(Ty::U8, out, divisor),
+        Ty::U16 => reduce_each(Ty::U16, out, divisor),
+        Ty::U32 => reduce_each(Ty::U32, out, divisor),
+        Ty::I8 => reduce_each(Ty::I8, out, divisor),
+        Ty::I16 => reduce_each(Ty::I16, out, divisor),
+        Ty::I32 => reduce_each(Ty::I32, out, divisor),
     }
 }

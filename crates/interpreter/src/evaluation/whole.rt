@@ -16,7 +16,7 @@ use crate::evaluation::kernels::{
 };
 use crate::evaluation::lanes::{Lanes, Number};
 use crate::evaluation::operators::{applied, clamped, negated, wrapped};
-use crate::evaluation::quotients::{divide_each, reduce_each};
+use crate::evaluation::quotients::{divide_all, reduce_all};
 use crate::evaluation::repeats::Repeat;
 use numeric::{Comparison, Op, Ty};
 use tree::Value;
@@ -150,8 +150,8 @@ fn apply_one(op: Op, ty: Ty, out: &mut [Number], right: Number)
     ensures { (k : ℕ) → k < length out.new → number_at out.new k ≡ apply op ty (number_at out.old k) right.value }
 {
     match (op, u32::try_from(right.value)) {
-        (Op::Div, Ok(divisor)) => divide_each(ty, out, divisor),
-        (Op::Rem, Ok(divisor)) => reduce_each(ty, out, divisor),
+        (Op::Div, Ok(divisor)) => divide_all(ty, out, divisor),
+        (Op::Rem, Ok(divisor)) => reduce_all(ty, out, divisor),
         _ => apply_by(op, ty, out, right),
     }
 }
