@@ -1,23 +1,35 @@
--- Claims of a certificate, and the loads by them.
-use Rattle.std.proofs.Common.{◌≡◌, ℕ, zero, suc, ◌+◌, ◌-◌, ◌≤◌, List, [], ◌∷◌, ◌++◌, length, map, take, drop, get_or, Option, Some, refl, sym, ap, subst, ◌∙◌, arith}
-use Rattle.std.specs.Prelude.{IsSomeAnd, slice_get, string_bytes}
-use Rattle.std.specs.Global.{Vec}
+-- What is known of a piece's claims, need lines and loads while its body is made.
+use Rattle.std.proofs.Common.{◌≡◌, ℕ, ◌+◌, ◌-◌, ◌*◌, ◌≤◌, ◌<◌, Bool, true, false, List, [], ◌∷◌, ◌++◌, length, map, take, drop, get_or, Option, Some, None, refl, sym, ap, subst, ◌∙◌, arith}
+use Rattle.std.specs.Prelude.{string_bytes}
+use Rattle.std.specs.Prelude.{not, ◌&&◌, ◌==◌}
+use Rattle.std.proofs.Math.Bool.{and-false}
+use Rattle.std.proofs.lemmas.Bool.{eq-eqb, eqb-true}
 use Rattle.std.proofs.Math.Seq.{take-length}
 use Rattle.std.proofs.lemmas.List.{append_assoc, append-nil, length-append, map-append}
+use Rattle.lin.specs.declared.span.Span1.{Span1}
 use Rattle.plan.specs.declared.certificate.cert.Claim.{Claim}
+use Rattle.plan.specs.declared.certificate.cert.Need.{Need}
 use Rattle.plan.specs.declared.plan.Group.{Group}
 use Rattle.plan.specs.declared.stmt.Stmt.{Stmt}
-use Rattle.plan.specs.Plan.{Statement}
+use Rattle.plan.specs.Plan.{Statement, Seq, For, Let, First, Guard, Alloc, Fetch, Store, Publish, Statements, Empty, Then, block}
+use Rattle.plan.specs.Lines.{lines, block_lines}
 use Rattle.plan.specs.View.{statement_of}
 use Rattle.plan.specs.Lists.{list_statements}
+use Rattle.sched.specs.declared.skeleton.Step.{Step}
+use Rattle.sched.specs.declared.skeleton.Step.TheVariants.{Turns, Named, Tested}
+use Rattle.sched.specs.Runs.{lines_to}
 use Rattle.sched.specs.Skeleton.{NestText, SkeletonText}
 use Rattle.lower.specs.declared.group.Body.{Body}
+use Rattle.lower.specs.declared.fetching.Root.{Root}
 use Rattle.lower.specs.declared.loading.Load.{Load}
-use Rattle.lower.specs.Stored.{FormulaText, StoredText}
+use Rattle.lower.specs.declared.parties.Party.{Party}
+use Rattle.lower.specs.declared.whole.Fetch.{Fetch as CodeFetch}
+use Rattle.lower.specs.Stored.{FormulaText, StoredText, some_calls}
 use Rattle.lower.specs.Loading.{Loads, load_of}
-use Rattle.lower.specs.Bodies.{Claims, IsClaimAt, AreClaimed, IsNest, AreNests, IsBodyWith, IsBody, AddsClaim, Extends, AreKnown}
-use Rattle.lower.specs.Groups.{IsBodyOf, AreBodies, IsKnown, KeepsKnown}
-use Rattle.lower.proofs.Rooted.{Entry}
+use Rattle.lower.specs.Fetches.{Entry, FetchText, is_fetched, fetched_if, fetched_groups, Claims, last_number, AreFetched, with_fetches, loads_from, fetch_seen}
+use Rattle.lower.specs.Bodies.{IsStore, step_lines, IsNest, AreNests, IsBodyWith, last_claim, first_lines}
+use Rattle.lower.specs.Making.{AddsClaim, IsBegun, FetchMade, MayMake, with_first, FetchesMade, NestsMade, BodyMade, GroupMade}
+use Rattle.lower.specs.Groups.{line_behind, root_of, party_of, AreBodies, BodiesMade}
 
 -- ---- lists
 
@@ -28,148 +40,317 @@ one_first (y ∷ xs) x some is =
     let all : length (y ∷ xs) - 1 ≡ length xs = omega arith in
     λ i. sym is i ∷ sym (ap (λ (n : ℕ). take n xs) all ∙ take-length xs) i
 
--- ---- more claims
-
-pub extends_none : (old new : List Claim) → new ≡ old → Extends old new
-extends_none old new e = ([], e ∙ sym (append-nil old))
-
-pub extends_more : (first second third : List Claim) → Extends first second → Extends second third → Extends first third
-extends_more first second third e f =
-    (e.0 ++ f.0, f.1 ∙ (ap (λ (l : List Claim). l ++ f.0) e.1 ∙ append_assoc first e.0 f.0))
-
-pub extends_added : (x : List ℕ) (d : ℕ) (first second third : List Claim) → AddsClaim x d first second → Extends second third → Extends first third
-extends_added x d first second third a e = extends_more first second third (a.claim ∷ [], a.added) e
-
-pub extends_appended : (old new more : List Claim) → new ≡ old ++ more → Extends old new
-extends_appended old new more e = (more, e)
-
-wider : (before old new more : List Claim) → new ≡ old ++ more → before ++ new ≡ (before ++ old) ++ more
-wider before old new more e = ap (λ (l : List Claim). before ++ l) e ∙ sym (append_assoc before old more)
-
--- what stands among claims stands among more
-claim_left : (claims more : List Claim) (c : ℕ) (x : List ℕ) (d : ℕ) → IsClaimAt claims c x d → IsClaimAt (claims ++ more) c x d
-claim_left [] more c x d h = absurd h
-claim_left (z ∷ claims) more zero x d h = h
-claim_left (z ∷ claims) more (suc c) x d h = claim_left claims more c x d h
-
-claims_left : (claims more : List Claim) (ls : Loads) → AreClaimed claims ls → AreClaimed (claims ++ more) ls
-claims_left claims more [] h = tt
-claims_left claims more (l ∷ ls) h = ((h.0.0, claim_left claims more l.1 l.0 h.0.0 h.0.1), claims_left claims more ls h.1)
-
-module _ (g : StoredText) (fs : List FormulaText) where
-  nests_left : (claims more : List Claim) (ls : Loads) (d : ℕ) (ns : List NestText) (xs : List Statement) → AreNests g fs claims ls d ns xs → AreNests g fs (claims ++ more) ls d ns xs
-  nests_left claims more ls d [] xs h = h
-  nests_left claims more ls d (n ∷ ns) xs h =
-      let c = h.behind.0 in
-      let later = nests_left claims more (ls ++ (g.subject.name, c) ∷ []) (d + 1) ns h.others h.behind.2 in
-      record { first = h.first; others = h.others; are = h.are; here = h.here; behind = (c, claim_left claims more c g.subject.name d h.behind.1, later) }
-
-  body_left : (k : SkeletonText) (old new : List Claim) (b : Statement) → Extends old new → IsBody g fs k old b → IsBody g fs k new b
-  body_left k old new b e is =
-      let more = e.0 in
-      subst (λ (l : List Claim). IsBody g fs k l b) (sym e.1)
-      (record {
-        loads = is.loads;
-        claimed = claims_left old more is.loads is.claimed;
-        nests = is.nests;
-        nested = nests_left old more is.loads 0 k.nests is.nests is.nested;
-        with = is.with;
-      })
-
-bodies_left : (old new : List Claim) (es : List Entry) (ps : List Group) → Extends old new → AreBodies old es ps → AreBodies new es ps
-bodies_left old new [] ps e h = tt
-bodies_left old new (x ∷ es) [] e h = tt
-bodies_left old new (x ∷ es) (p ∷ ps) e h = (body_left x.0 x.2 x.1.skeleton old new (statement_of p.body) e h.0, bodies_left old new es ps e h.1)
-
--- the first of some groups, and the others
-pub bodies_first : (one last : List Claim) (e : Entry) (es : List Entry) (p : Group) (ps qs : List Group) (A B : Type 0) → (A → IsBodyOf one e p) → Extends one last → (B → AreBodies last es ps)
-    → qs ≡ p ∷ ps → A → B → AreBodies last (e ∷ es) qs
-bodies_first one last e es p ps qs A B f more h is a b =
-    subst (λ (l : List Group). AreBodies last (e ∷ es) l) (sym is) (body_left e.0 e.2 e.1.skeleton one last (statement_of p.body) more (f a), h b)
+-- some behind others, and more behind these
+behind_more : {A : Type 0} (old one new xs ys : List A) → one ≡ old ++ xs → new ≡ one ++ ys → new ≡ old ++ (xs ++ ys)
+behind_more old one new xs ys e h = h ∙ (ap (λ l. l ++ ys) e ∙ append_assoc old xs ys)
 
 -- ---- one more claim
 
-pub claim_added : (x : List ℕ) (d : ℕ) (old new : List Claim) (claim : Claim) → string_bytes claim.function ≡ x → claim.definition ≡ d → new ≡ old ++ claim ∷ [] → AddsClaim x d old new
-claim_added x d old new claim named defined added = record { claim = claim; claims = record { named = named; defined = defined }; added = added }
+pub claim_added : (line b d : ℕ) (x : List ℕ) (r : List Span1) (old new : List Claim) (claim : Claim) → claim.line ≡ line → claim.buffer ≡ b → string_bytes claim.function ≡ x
+    → claim.definition ≡ d → claim.region ≡ r
+    → new ≡ old ++ claim ∷ [] → AddsClaim line b x d r old new
+claim_added line b d x r old new claim after buffered named defined over added =
+    record { claim = claim; claims = record { after = after; buffered = buffered; named = named; defined = defined; over = over }; added = added }
 
-there : (claims : List Claim) (claim : Claim) (P : Claim → Type 0) → P claim → IsSomeAnd (slice_get (claims ++ claim ∷ []) (length claims)) P
-there [] claim P h = h
-there (z ∷ claims) claim P h = there claims claim P h
+-- ---- what is fetched
 
-claim_last : (before old new : List Claim) (n : ℕ) (x : List ℕ) (d : ℕ) → length (before ++ old) ≡ n → AddsClaim x d old new → IsClaimAt (before ++ new) n x d
-claim_last before old new n x d counted a =
-    let at : IsClaimAt ((before ++ old) ++ a.claim ∷ []) (length (before ++ old)) x d = there (before ++ old) a.claim (Claims x d) a.claims in
-    let here : IsClaimAt ((before ++ old) ++ a.claim ∷ []) n x d = subst (λ (i : ℕ). IsClaimAt ((before ++ old) ++ a.claim ∷ []) i x d) counted at in
-    subst (λ (l : List Claim). IsClaimAt l n x d) (sym (wider before old new (a.claim ∷ []) a.added)) here
-
-counted_more : (before old new : List Claim) (n m : ℕ) (x : List ℕ) (d : ℕ) → length (before ++ old) ≡ n → m ≡ n + 1 → AddsClaim x d old new → length (before ++ new) ≡ m
-counted_more before old new n m x d counted next a =
-    let more : length (before ++ new) ≡ length (before ++ old) + 1 =
-    ap length (wider before old new (a.claim ∷ []) a.added) ∙ length-append (before ++ old) (a.claim ∷ []) in
-    more ∙ (ap (λ (i : ℕ). i + 1) counted ∙ sym next)
-
-claimed_more : (claims : List Claim) (ls : Loads) (x : List ℕ) (c d : ℕ) → AreClaimed claims ls → IsClaimAt claims c x d → AreClaimed claims (ls ++ (x, c) ∷ [])
-claimed_more claims [] x c d h is = ((d, is), tt)
-claimed_more claims (l ∷ ls) x c d h is = (h.0, claimed_more claims ls x c d h.1 is)
-
--- ---- what is claimed so far
-
-pub known_none : (before : List Claim) (n : ℕ) → length before ≡ n → AreKnown before [] [] n
-known_none before n e = record { counted = ap length (append-nil before) ∙ e; claimed = tt }
-
-pub known_more : (before old new : List Claim) (ls kept : Vec Load) (ks : List Load) (load : Load) (n m d : ℕ) → load.claim ≡ n → m ≡ n + 1 → AddsClaim load.function.now d old new → kept ≡ ls
-    → ks ≡ kept.items ++ load ∷ [] → AreKnown before old (map load_of ls.items) n → AreKnown before new (map load_of ks) m
-known_more before old new ls kept ks load n m d number next a same pushed known =
-    let x = load.function.now in
-    let at : IsClaimAt (before ++ new) load.claim x d = subst (λ (i : ℕ). IsClaimAt (before ++ new) i x d) (sym number) (claim_last before old new n x d known.counted a) in
-    let wide : AreClaimed (before ++ new) (map load_of ls.items) =
-    subst (λ (l : List Claim). AreClaimed l (map load_of ls.items)) (sym (wider before old new (a.claim ∷ []) a.added))
-    (claims_left (before ++ old) (a.claim ∷ []) (map load_of ls.items) known.claimed) in
-    let loads : map load_of ks ≡ map load_of ls.items ++ (x, load.claim) ∷ [] =
-    ap (map load_of) pushed ∙ (map-append load_of kept.items (load ∷ []) ∙ ap (λ (v : Vec Load). map load_of v.items ++ (x, load.claim) ∷ []) same) in
+pub fetch_made : (n h b k : ℕ) (e : Entry) (f : FetchText) (need : Need) (load : Load) (old new : Body) (one : List Load)
+    → AddsClaim k b e.0.subject.name (last_number e.2) f.region old.claims.items new.claims.items
+    → f.buffer ≡ b → f.function ≡ e.0.subject.name → f.group ≡ h → need.group ≡ n → need.needed ≡ h → new.needs.items ≡ old.needs.items ++ need ∷ []
+    → one ≡ old.loads.items → new.loads.items ≡ one ++ load ∷ [] → load.function.now ≡ f.function → load.claim ≡ old.next_claim
+    → new.next_claim ≡ old.next_claim + 1 → old.next_buffer ≡ b → new.next_buffer ≡ b + 1 → new.line ≡ old.line + 2 → k ≡ new.line - 1 → FetchMade n h e f old new
+fetch_made n h b k e f need load old new one a buffered named grouped needing needed needs loads pushed function number next is_next numbered lined after =
+    let at : k ≡ old.line + 1 = omega (arith, lined, after) in
     record {
-      counted = counted_more before old new n m x d known.counted next a;
-      claimed = subst (AreClaimed (before ++ new)) (sym loads) (claimed_more (before ++ new) (map load_of ls.items) x load.claim d wide at);
+      need = need;
+      claim = a.claim;
+      is = record {
+        buffered = buffered ∙ sym is_next;
+        named = named;
+        grouped = grouped;
+        needing = needing;
+        needed = needed;
+        claimed = subst (λ (l : ℕ). Claims l old.next_buffer e.0.subject.name (last_number e.2) f.region a.claim) at
+            (subst (λ (q : ℕ). Claims k q e.0.subject.name (last_number e.2) f.region a.claim) (sym is_next) a.claims);
+      };
+      needed = needs;
+      claimed = a.added;
+      loaded = ap (map load_of) (pushed ∙ ap (λ (l : List Load). l ++ load ∷ []) loads) ∙ (map-append load_of old.loads.items (load ∷ []) ∙ (λ i. map load_of old.loads.items ++
+          (function i, number i) ∷ []));
+      counted = next;
+      numbered = numbered ∙ ap (λ (q : ℕ). q + 1) (sym is_next);
+      lined = lined;
     }
+
+by_test : (b : Bool) → (b ≡ true → ⊥) → b ≡ false
+by_test true h = absurd (h refl)
+by_test false h = refl
+
+-- nothing is fetched of the piece's own group
+pub own_left : (us : List FormulaText) (n h : ℕ) (e : Entry) (b : Body) → h ≡ n → MayMake n (is_fetched us n h e) h e None b b
+own_left us n h e b is = (ap (λ (q : Bool). not q && some_calls e.0.subject.name us) (eq-eqb h n is), refl)
+
+-- nor of a function that is not called
+pub uncalled_left : (us : List FormulaText) (n h : ℕ) (e : Entry) (b : Body) (found : Bool) → found ≡ some_calls e.0.subject.name us → found ≡ false → MayMake n (is_fetched us n h e) h e None b b
+uncalled_left us n h e b found called isnt =
+    (ap (λ (q : Bool). not (h == n) && q) (sym called ∙ isnt) ∙ and-false (not (h == n)), refl)
+
+-- of another one that is called something is
+pub called_made : (us : List FormulaText) (n h : ℕ) (e : Entry) (f : FetchText) (old new : Body) (found : Bool) → (h ≡ n → ⊥) → found ≡ some_calls e.0.subject.name us → found ≡ true
+    → FetchMade n h e f old new → MayMake n (is_fetched us n h e) h e (Some f) old new
+called_made us n h e f old new found differs called is made =
+    ((λ i. not (by_test (h == n) (λ q. differs (eqb-true h n q)) i) && (sym called ∙ is) i), made)
+
+pub fetches_none : (us : List FormulaText) (n h : ℕ) (rs : List Root) (fs : List CodeFetch) (b : Body) → length rs < 1 → fs ≡ []
+    → FetchesMade n (fetched_groups us n h (map root_of rs)) (map fetch_seen fs) b b
+fetches_none us n h [] [] b none nothing =
+    record {
+      needs = [];
+      claims = [];
+      fetched = tt;
+      needed = sym (append-nil b.needs.items);
+      claimed = sym (append-nil b.claims.items);
+      loaded = sym (append-nil (map load_of b.loads.items));
+      counted = omega arith;
+      lined = omega arith;
+    }
+fetches_none us n h [] (f ∷ fs) b none nothing = absurd cc
+fetches_none us n h (r ∷ rs) fs b none nothing = absurd (omega (arith, none))
+
+fetches_skipped : (n : ℕ) (xs : List (ℕ × Entry)) (fs : List FetchText) (old one new : Body) → one ≡ old → FetchesMade n xs fs one new → FetchesMade n xs fs old new
+fetches_skipped n xs fs old one new e m = subst (λ (b : Body). FetchesMade n xs fs b new) e m
+
+fetches_put : (n h : ℕ) (e : Entry) (f : FetchText) (xs : List (ℕ × Entry)) (fs : List FetchText) (old one new : Body) → FetchMade n h e f old one → FetchesMade n xs fs one new
+    → FetchesMade n ((h, e) ∷ xs) (f ∷ fs) old new
+fetches_put n h e f xs fs old one new m rest =
+    let by_line : AreFetched n one.next_buffer (old.line + 2) xs fs rest.needs rest.claims = subst (λ (l : ℕ). AreFetched n one.next_buffer l xs fs rest.needs rest.claims) m.lined rest.fetched in
+    let behind : AreFetched n (old.next_buffer + 1) (old.line + 2) xs fs rest.needs rest.claims = subst (λ (b : ℕ). AreFetched n b (old.line + 2) xs fs rest.needs rest.claims) m.numbered by_line in
+    let loads : map load_of new.loads.items ≡ map load_of one.loads.items ++ loads_from (old.next_claim + 1) fs =
+    rest.loaded ∙ ap (λ (c : ℕ). map load_of one.loads.items ++ loads_from c fs) m.counted in
+    let number : one.next_claim ≡ old.next_claim + 1 = m.counted in
+    let count : new.next_claim ≡ one.next_claim + length fs = rest.counted in
+    let line : one.line ≡ old.line + 2 = m.lined in
+    let lines_of : new.line ≡ one.line + 2 * length fs = rest.lined in
+    record {
+      needs = m.need ∷ rest.needs;
+      claims = m.claim ∷ rest.claims;
+      fetched = (m.is, behind);
+      needed = behind_more old.needs.items one.needs.items new.needs.items (m.need ∷ []) rest.needs m.needed rest.needed;
+      claimed = behind_more old.claims.items one.claims.items new.claims.items (m.claim ∷ []) rest.claims m.claimed rest.claimed;
+      loaded = behind_more (map load_of old.loads.items) (map load_of one.loads.items) (map load_of new.loads.items) ((f.function, old.next_claim) ∷ []) (loads_from
+          (old.next_claim + 1) fs) m.loaded loads;
+      counted = omega (arith, number, count);
+      lined = omega (arith, line, lines_of);
+    }
+
+-- what is fetched of one function, if anything, and then of the others
+pub fetches_first : (us : List FormulaText) (n h m : ℕ) (e : Entry) (es : List Entry) (o : Option FetchText) (fs gs : List FetchText) (old one new : Body)
+    → MayMake n (is_fetched us n h e) h e o old one
+    → FetchesMade n (fetched_groups us n m es) fs one new → m ≡ h + 1 → gs ≡ with_first o fs → FetchesMade n (fetched_groups us n h (e ∷ es)) gs old new
+fetches_first us n h m e es None fs gs old one new may rest next is =
+    let others : FetchesMade n (fetched_groups us n (h + 1) es) fs old new =
+    subst (λ (q : ℕ). FetchesMade n (fetched_groups us n q es) fs old new) next (fetches_skipped n (fetched_groups us n m es) fs old one new may.1 rest) in
+    subst (λ (l : List FetchText). FetchesMade n (fetched_groups us n h (e ∷ es)) l old new) (sym is)
+    (subst (λ (b : Bool). FetchesMade n (fetched_if b h e (fetched_groups us n (h + 1) es)) fs old new) (sym may.0) others)
+fetches_first us n h m e es (Some f) fs gs old one new may rest next is =
+    let others : FetchesMade n (fetched_groups us n (h + 1) es) fs one new = subst (λ (q : ℕ). FetchesMade n (fetched_groups us n q es) fs one new) next rest in
+    subst (λ (l : List FetchText). FetchesMade n (fetched_groups us n h (e ∷ es)) l old new) (sym is)
+    (subst (λ (b : Bool). FetchesMade n (fetched_if b h e (fetched_groups us n (h + 1) es)) (f ∷ fs) old new) (sym may.0)
+    (fetches_put n h e f (fetched_groups us n (h + 1) es) fs old one new may.1 others))
+
+-- ---- lines
+
+lines_append : (xs ys : List Statement) → block_lines (block (xs ++ ys)) ≡ block_lines (block xs) + block_lines (block ys)
+lines_append [] ys = omega arith
+lines_append (x ∷ xs) ys =
+    let rest = lines_append xs ys in
+    omega (arith, rest)
+
+lines_stepped : (steps : List Step) (inner : Statements) → block_lines (lines_to steps inner) ≡ step_lines steps + block_lines inner
+lines_stepped [] inner = omega arith
+lines_stepped (Turns i x kind ∷ steps) inner = let rest = lines_stepped steps inner in omega (arith, rest)
+lines_stepped (Named i pick forms ∷ steps) inner = let rest = lines_stepped steps inner in omega (arith, rest)
+lines_stepped (Tested low high ∷ steps) inner = let rest = lines_stepped steps inner in omega (arith, rest)
+
+store_lines : (g : StoredText) (fs : List FormulaText) (ls : Loads) (d : ℕ) (n : NestText) (s : Statement) → IsStore g fs ls d n s → lines s ≡ 1
+store_lines g fs ls d n (Store b k cs e) h = refl
+store_lines g fs ls d n (Seq all) h = absurd h
+store_lines g fs ls d n (For i x kind body) h = absurd h
+store_lines g fs ls d n (Let i pick forms) h = absurd h
+store_lines g fs ls d n (First i a b) h = absurd h
+store_lines g fs ls d n (Guard low high body) h = absurd h
+store_lines g fs ls d n (Alloc b f places) h = absurd h
+store_lines g fs ls d n (Fetch b h region) is = absurd is
+store_lines g fs ls d n (Publish c) h = absurd h
+
+-- a nest takes the lines of its steps, and one for the store
+nest_lines : (g : StoredText) (fs : List FormulaText) (ls : Loads) (d : ℕ) (n : NestText) (xs : List Statement) → IsNest g fs ls d n xs → block_lines (block xs) ≡ step_lines n.steps + 1
+nest_lines g fs ls d n xs h =
+    let one : lines h.store ≡ 1 = store_lines g fs ls d n h.store h.stores in
+    let all : block_lines (block xs) ≡ step_lines n.steps + block_lines (Then h.store Empty) = ap block_lines h.comes ∙ lines_stepped n.steps (Then h.store Empty) in
+    omega (arith, one, all)
+
+fetches_long : (fs : List FetchText) (xs : List Statement) → block_lines (block (with_fetches fs xs)) ≡ 2 * length fs + block_lines (block xs)
+fetches_long [] xs = omega arith
+fetches_long (f ∷ fs) xs = let rest = fetches_long fs xs in omega (arith, rest)
+
+body_long : (g : StoredText) (k : SkeletonText) (fetches : List FetchText) (nests : List Statement) (p : ℕ) (b : Statement) → IsBodyWith g k fetches nests p b
+    → lines b ≡ step_lines k.head + (1 + (2 * length fetches + (block_lines (block nests) + 1)))
+body_long g k fetches nests p b with =
+    let last = nests ++ Publish p ∷ [] in
+    let inner = Alloc 0 g.subject.name with.places ∷ with_fetches fetches last in
+    let all : lines b ≡ step_lines k.head + block_lines (block inner) = ap lines with.is ∙ lines_stepped k.head (block inner) in
+    let middle : block_lines (block (with_fetches fetches last)) ≡ 2 * length fetches + block_lines (block last) = fetches_long fetches last in
+    let end : block_lines (block last) ≡ block_lines (block nests) + 1 = lines_append nests (Publish p ∷ []) in
+    omega (arith, all, middle, end)
 
 -- ---- nests
 
--- a nest and its claim, before those of the later definitions
-module _ (g : StoredText) (fs : List FormulaText) (ls : Loads) (d : ℕ) (n : NestText) where
-  pub nests_made : (before old one new : List Claim) (c k m j : ℕ) (ks : Loads) (ns : List NestText) (xs ys zs : List Stmt) → IsNest g fs ls d n (list_statements xs)
-      → AddsClaim g.subject.name d old one → Extends one new → c ≡ k → m ≡ k + 1 → ks ≡ ls ++ (g.subject.name, c) ∷ []
-      → ((first : List Claim) → length (first ++ one) ≡ m → AreNests g fs (first ++ new) ks j ns (list_statements ys)) → j ≡ d + 1 → zs ≡ xs ++ ys
-      → length (before ++ old) ≡ k → AreNests g fs (before ++ new) ls d (n ∷ ns) (list_statements zs)
-  nests_made before old one new c k m j ks ns xs ys zs is a more number next loads are i e counted =
+module _ (g : StoredText) (fs : List FormulaText) (r : List Span1) (d : ℕ) where
+  pub nests_none : (xs : List Statement) (b : Body) → xs ≡ [] → NestsMade g fs r d [] xs b b
+  nests_none xs b e =
+      let line : b.line ≡ b.line + block_lines (block xs) = rw e (omega arith) in
+      record { claims = []; nested = (e, refl); claimed = sym (append-nil b.claims.items); counted = omega arith; lined = line; needed = refl }
+
+  -- a nest and its claim, before those of the later definitions
+  pub nests_made : (n : NestText) (ns : List NestText) (j c k : ℕ) (xs ys zs : List Stmt) (old one new : Body) → IsNest g fs (map load_of old.loads.items) d n (list_statements xs)
+      → AddsClaim k 0 g.subject.name d r old.claims.items one.claims.items → one.next_claim ≡ old.next_claim + 1 → c ≡ old.next_claim
+      → map load_of one.loads.items ≡ map load_of old.loads.items ++ (g.subject.name, c) ∷ [] → one.needs.items ≡ old.needs.items → NestsMade g fs r j ns (list_statements ys) one new
+      → j ≡ d + 1 → zs ≡ xs ++ ys → one.line ≡ old.line + (step_lines n.steps + 1) → k ≡ one.line - 1 → NestsMade g fs r d (n ∷ ns) (list_statements zs) old new
+  nests_made n ns j c k xs ys zs old one new here a next number loads kept rest i e lined after =
       let x = g.subject.name in
-      let at : IsClaimAt (before ++ one) c x d = subst (λ (q : ℕ). IsClaimAt (before ++ one) q x d) (sym number) (claim_last before old one k x d counted a) in
-      let here : IsClaimAt (before ++ new) c x d =
-      subst (λ (l : List Claim). IsClaimAt l c x d) (sym (wider before one new more.0 more.1)) (claim_left (before ++ one) more.0 c x d at) in
-      let later = are before (counted_more before old one k m x d counted next a) in
-      let there_on : AreNests g fs (before ++ new) ks (d + 1) ns (list_statements ys) = subst (λ (q : ℕ). AreNests g fs (before ++ new) ks q ns (list_statements ys)) i later in
+      let m = block_lines (block (list_statements xs)) in
+      let long : m ≡ step_lines n.steps + 1 = nest_lines g fs (map load_of old.loads.items) d n (list_statements xs) here in
+      let line : one.line ≡ old.line + m = omega (arith, lined, long) in
+      let at : k ≡ (old.line + m) - 1 = omega (arith, after, line) in
+      let known : map load_of one.loads.items ≡ map load_of old.loads.items ++ (x, old.next_claim) ∷ [] =
+      loads ∙ ap (λ (q : ℕ). map load_of old.loads.items ++ (x, q) ∷ []) number in
+      let by_loads : AreNests g fs r (map load_of old.loads.items ++ (x, old.next_claim) ∷ []) one.next_claim one.line j ns (list_statements ys) rest.claims =
+      subst (λ (l : Loads). AreNests g fs r l one.next_claim one.line j ns (list_statements ys) rest.claims) known rest.nested in
+      let by_number : AreNests g fs r (map load_of old.loads.items ++ (x, old.next_claim) ∷ []) (old.next_claim + 1) one.line j ns (list_statements ys) rest.claims =
+      subst (λ (q : ℕ). AreNests g fs r (map load_of old.loads.items ++ (x, old.next_claim) ∷ []) q one.line j ns (list_statements ys) rest.claims) next by_loads in
+      let by_line : AreNests g fs r (map load_of old.loads.items ++ (x, old.next_claim) ∷ []) (old.next_claim + 1) (old.line + m) j ns (list_statements ys) rest.claims =
+      subst (λ (q : ℕ). AreNests g fs r (map load_of old.loads.items ++ (x, old.next_claim) ∷ []) (old.next_claim + 1) q j ns (list_statements ys) rest.claims) line by_number in
+      let later : AreNests g fs r (map load_of old.loads.items ++ (x, old.next_claim) ∷ []) (old.next_claim + 1) (old.line + m) (d + 1) ns (list_statements ys) rest.claims =
+      subst (λ (q : ℕ). AreNests g fs r (map load_of old.loads.items ++ (x, old.next_claim) ∷ []) (old.next_claim + 1) (old.line + m) q ns (list_statements ys) rest.claims) i by_line in
+      let count : new.next_claim ≡ one.next_claim + length ns = rest.counted in
+      let claims : Claims ((old.line + m) - 1) 0 x d r a.claim = subst (λ (q : ℕ). Claims q 0 x d r a.claim) at a.claims in
+      let all : list_statements zs ≡ list_statements xs ++ list_statements ys = ap list_statements e ∙ map-append statement_of xs ys in
+      let others : new.line ≡ one.line + block_lines (block (list_statements ys)) = rest.lined in
+      let sum : block_lines (block (list_statements zs)) ≡ m + block_lines (block (list_statements ys)) =
+      ap (λ (l : List Statement). block_lines (block l)) all ∙ lines_append (list_statements xs) (list_statements ys) in
       record {
-        first = list_statements xs;
-        others = list_statements ys;
-        are = ap list_statements e ∙ map-append statement_of xs ys;
-        here = is;
-        behind = (c, here, subst (λ (l : Loads). AreNests g fs (before ++ new) l (d + 1) ns (list_statements ys)) loads there_on);
+        claims = a.claim ∷ rest.claims;
+        nested = record { first = list_statements xs; others = list_statements ys; are = all; here = record { nest = here; claims = claims }; behind = later };
+        claimed = behind_more old.claims.items one.claims.items new.claims.items (a.claim ∷ []) rest.claims a.added rest.claimed;
+        counted = omega (arith, next, count);
+        lined = omega (arith, line, others, sum);
+        needed = rest.needed ∙ kept;
       }
 
 -- ---- the body
 
-module _ (g : StoredText) (fs : List FormulaText) (k : SkeletonText) where
-  pub whole_made : (first last claims : List Claim) (n : ℕ) (one two : Body) (nests : List Statement) (b : Statement) (A : Type 0) → length first ≡ n
-      → ((before : List Claim) → length before ≡ n → IsKnown before one) → KeepsKnown one two → (A → Extends two.claims.items claims)
-      → (A → (before : List Claim) → length (before ++ two.claims.items) ≡ two.next_claim → AreNests g fs (before ++ claims) (map load_of two.loads.items) 0 k.nests nests)
-      → last ≡ first ++ claims → IsBodyWith g k nests b → A → IsBody g fs k last b
-  whole_made first last claims n one two nests b A counted begun keeps extends are is with a =
-      let known = keeps first (begun first counted) in
-      let more = extends a in
-      let loads = map load_of two.loads.items in
-      let claimed : AreClaimed (first ++ claims) loads =
-      subst (λ (l : List Claim). AreClaimed l loads) (sym (wider first two.claims.items claims more.0 more.1)) (claims_left (first ++ two.claims.items) more.0 loads known.claimed) in
-      let whole : IsBody g fs k (first ++ claims) b = record { loads = loads; claimed = claimed; nests = nests; nested = are a first known.counted; with = with } in
-      subst (λ (l : List Claim). IsBody g fs k l b) (sym is) whole
+module _ (all : List Entry) (n c line : ℕ) (e : Entry) where
+  pub whole_made : (r : List Span1) (begin one two : Body) (fetches : List FetchText) (nests : List Statement) (p : ℕ) (b : Statement) (old new : List Claim) (before behind : List Need)
+      → IsBegun c (line + first_lines e.1.skeleton) begin → FetchesMade n (fetched_groups e.2 n 0 all) fetches begin one → NestsMade e.0 e.2 r 0 e.1.skeleton.nests nests one two
+      → p ≡ two.next_claim - 1
+      → new ≡ old ++ two.claims.items → behind ≡ before ++ two.needs.items → IsBodyWith e.0 e.1.skeleton fetches nests p b → BodyMade all n c line two.line e old new before behind b
+  whole_made r begin one two fetches nests p b old new before behind begun f m published claims needs with =
+      let k = e.1.skeleton in
+      let loads : map load_of one.loads.items ≡ loads_from c fetches =
+      f.loaded ∙ (λ i. map load_of (begun.loads i) ++ loads_from (begun.next_claim i) fetches) in
+      let first : one.next_claim ≡ c + length fetches = f.counted ∙ ap (λ (q : ℕ). q + length fetches) begun.next_claim in
+      let count : two.next_claim ≡ one.next_claim + length k.nests = m.counted in
+      let last : p ≡ last_claim c fetches k = omega (arith, published, first, count) in
+      let here : one.line ≡ line + first_lines k + 2 * length fetches = f.lined ∙ ap (λ (q : ℕ). q + 2 * length fetches) begun.next_line in
+      let by_line : AreFetched n begin.next_buffer (line + first_lines k) (fetched_groups e.2 n 0 all) fetches f.needs f.claims =
+      subst (λ (q : ℕ). AreFetched n begin.next_buffer q (fetched_groups e.2 n 0 all) fetches f.needs f.claims) begun.next_line f.fetched in
+      let fetched : AreFetched n 1 (line + first_lines k) (fetched_groups e.2 n 0 all) fetches f.needs f.claims =
+      subst (λ (q : ℕ). AreFetched n q (line + first_lines k) (fetched_groups e.2 n 0 all) fetches f.needs f.claims) begun.next_buffer by_line in
+      let lines_of : two.needs.items ≡ f.needs = m.needed ∙ (f.needed ∙ ap (λ (l : List Need). l ++ f.needs) begun.needs) in
+      let fetching : AreFetched n 1 (line + first_lines k) (fetched_groups e.2 n 0 all) fetches two.needs.items f.claims =
+      subst (λ (l : List Need). AreFetched n 1 (line + first_lines k) (fetched_groups e.2 n 0 all) fetches l f.claims) (sym lines_of) fetched in
+      let own : one.claims.items ≡ f.claims = f.claimed ∙ ap (λ (l : List Claim). l ++ f.claims) begun.claims in
+      let by_loads : AreNests e.0 e.2 r (loads_from c fetches) one.next_claim one.line 0 k.nests nests m.claims =
+      subst (λ (l : Loads). AreNests e.0 e.2 r l one.next_claim one.line 0 k.nests nests m.claims) loads m.nested in
+      let by_number : AreNests e.0 e.2 r (loads_from c fetches) (c + length fetches) one.line 0 k.nests nests m.claims =
+      subst (λ (q : ℕ). AreNests e.0 e.2 r (loads_from c fetches) q one.line 0 k.nests nests m.claims) first by_loads in
+      let nested : AreNests e.0 e.2 r (loads_from c fetches) (c + length fetches) (line + first_lines k + 2 * length fetches) 0 k.nests nests m.claims =
+      subst (λ (q : ℕ). AreNests e.0 e.2 r (loads_from c fetches) (c + length fetches) q 0 k.nests nests m.claims) here by_number in
+      let body_lines : lines b ≡ step_lines k.head + (1 + (2 * length fetches + (block_lines (block nests) + 1))) = body_long e.0 k fetches nests p b with in
+      let behind_nests : two.line ≡ one.line + block_lines (block nests) = m.lined in
+      let ends : two.line ≡ line + lines b = omega (arith, here, behind_nests, body_lines) in
+      record {
+        claims = two.claims.items;
+        needs = two.needs.items;
+        claimed = claims;
+        needed = needs;
+        ends = ends;
+        is = record {
+          fetches = fetches;
+          fetched = f.claims;
+          own = m.claims;
+          claimed = m.claimed ∙ ap (λ (l : List Claim). l ++ m.claims) own;
+          fetching = fetching;
+          region = r;
+          nests = nests;
+          nested = nested;
+          with = subst (λ (q : ℕ). IsBodyWith e.0 k fetches nests q b) last with;
+        };
+      }
 
-  pub done : (claims : List Claim) (xs : List Statement) (p b : Statement) (A : Type 0) → p ≡ b → (A → IsBody g fs k claims b) → A → IsBody g fs k claims p
-  done claims xs p b A e f a = subst (IsBody g fs k claims) (sym e) (f a)
+  pub done : (last next : ℕ) (old new : List Claim) (before behind : List Need) (p b : Statement) (A : Type 0) → p ≡ b → next ≡ last + 1
+      → (A → BodyMade all n c line last e old new before behind b) → A
+      → (q : ℕ) × (next ≡ q + 1) × BodyMade all n c line q e old new before behind p
+  done last next old new before behind p b A is e_next f a = (last, e_next, subst (BodyMade all n c line last e old new before behind) (sym is) (f a))
+
+-- ---- the bodies of groups
+
+pub bodies_none : (all : List Entry) (n c line : ℕ) (qs : List Party) (ps : List Group) (old : List Claim) (before : List Need) → length qs < 1
+    → BodiesMade all n c line (map party_of qs) ps old old before before
+bodies_none all n c line [] ps old before none =
+    record { claims = []; needs = []; claimed = sym (append-nil old); needed = sym (append-nil before); are = (refl, refl) }
+bodies_none all n c line (q ∷ qs) ps old before none = absurd (omega (arith, none))
+
+-- the first of some groups, and the others
+pub bodies_first : (all : List Entry) (n m c k line next : ℕ) (e : Entry) (es : List Entry) (p : Group) (ps qs : List Group) (old one new : List Claim) (before mid behind : List Need)
+    → GroupMade all n c line next e old one before mid p → BodiesMade all m k next es ps one new mid behind → m ≡ n + 1 → length old ≡ c → k ≡ length one → qs ≡ p ∷ ps
+    → BodiesMade all n c line (e ∷ es) qs old new before behind
+bodies_first all n m c k line next e es p ps qs old one new before mid behind made rest is_next counted is all_groups =
+    let first = made.2 in
+    let ends : made.0 ≡ line + lines (statement_of p.body) = first.ends in
+    let by_one : next ≡ made.0 + 1 = made.1 in
+    let there : next ≡ line_behind line p = omega (arith, ends, by_one) in
+    let long : length one ≡ length old + length first.claims = ap length first.claimed ∙ length-append old first.claims in
+    let number : k ≡ c + length first.claims = is ∙ (long ∙ ap (λ (q : ℕ). q + length first.claims) counted) in
+    let by_line : AreBodies all m k (line_behind line p) es ps rest.claims rest.needs = subst (λ (q : ℕ). AreBodies all m k q es ps rest.claims rest.needs) there rest.are in
+    let numbered : AreBodies all (n + 1) k (line_behind line p) es ps rest.claims rest.needs =
+    subst (λ (q : ℕ). AreBodies all q k (line_behind line p) es ps rest.claims rest.needs) is_next by_line in
+    let others : AreBodies all (n + 1) (c + length first.claims) (line_behind line p) es ps rest.claims rest.needs =
+    subst (λ (q : ℕ). AreBodies all (n + 1) q (line_behind line p) es ps rest.claims rest.needs) number numbered in
+    let both : AreBodies all n c line (e ∷ es) (p ∷ ps) (first.claims ++ rest.claims) (first.needs ++ rest.needs) =
+    record {
+      own_claims = first.claims;
+      own_needs = first.needs;
+      other_claims = rest.claims;
+      other_needs = rest.needs;
+      claimed = refl;
+      needed = refl;
+      here = first.is;
+      behind = others;
+    } in
+    record {
+      claims = first.claims ++ rest.claims;
+      needs = first.needs ++ rest.needs;
+      claimed = behind_more old one new first.claims rest.claims first.claimed rest.claimed;
+      needed = behind_more before mid behind first.needs rest.needs first.needed rest.needed;
+      are = subst (λ (l : List Group). AreBodies all n c line (e ∷ es) l (first.claims ++ rest.claims) (first.needs ++ rest.needs)) (sym all_groups) both;
+    }
+
+-- where none are before them, these are all lines
+pub bodies_all : (all : List Entry) (n c line : ℕ) (es : List Entry) (ps : List Group) (old new : List Claim) (before behind : List Need) → old ≡ [] → before ≡ []
+    → BodiesMade all n c line es ps old new before behind → AreBodies all n c line es ps new behind
+bodies_all all n c line es ps old new before behind none no_needs m =
+    let claims : new ≡ m.claims = m.claimed ∙ ap (λ (l : List Claim). l ++ m.claims) none in
+    let needs : behind ≡ m.needs = m.needed ∙ ap (λ (l : List Need). l ++ m.needs) no_needs in
+    subst (λ (l : List Claim). AreBodies all n c line es ps l behind) (sym claims) (subst (λ (l : List Need). AreBodies all n c line es ps m.claims l) (sym needs) m.are)

@@ -1,5 +1,5 @@
 -- What the groups of a plan are, as they are made one after another.
-use Rattle.std.proofs.Common.{◌≡◌, ℕ, ◌+◌, Bool, true, false, not, ◌&&◌, List, [], ◌∷◌, map, Option, Some, None, refl, sym, ap, subst, ◌∙◌}
+use Rattle.std.proofs.Common.{◌≡◌, ℕ, ◌+◌, Bool, true, false, not, ◌&&◌, List, [], ◌∷◌, length, map, Option, Some, None, refl, sym, ap, subst}
 use Rattle.std.specs.Prelude.{if◌then◌else◌}
 use Rattle.std.proofs.lemmas.Bool.{false≢true}
 use Rattle.lin.specs.Regions.{IsInside}
@@ -7,6 +7,7 @@ use Rattle.lin.specs.declared.span.Span1.{Span1}
 use Rattle.plan.specs.declared.plan.Group.{Group}
 use Rattle.plan.specs.declared.certificate.cert.Own.{Own}
 use Rattle.plan.specs.declared.certificate.cert.Claim.{Claim}
+use Rattle.plan.specs.declared.certificate.cert.Need.{Need}
 use Rattle.meaning.specs.Algorithm.{Algorithm}
 use Rattle.lower.specs.declared.lowering.Lowered.{Lowered}
 use Rattle.lower.specs.Stored.{FormulaText, StoredText}
@@ -14,8 +15,8 @@ use Rattle.lower.specs.Regions.{LaidText, laid_within, laid_functions}
 use Rattle.lower.specs.Around.{grid_scope}
 use Rattle.lower.specs.Faults.{is_homeless, is_whole, are_whole}
 use Rattle.lower.specs.declared.parties.Party.{Party}
-use Rattle.lower.specs.Groups.{IsGroupOf, AreGroupsOf, IsOwnOf, AreOwned, HaveBodies, grid_over, root_functions, region_of, HasGroups, rooted_if, rooted, has_region, AreLaid, IsOver, IsOwnOver, AreMade, AreBodies, AreAlone, IsPlanOf}
-use Rattle.lower.proofs.Rooted.{Entry}
+use Rattle.lower.specs.Fetches.{Entry}
+use Rattle.lower.specs.Groups.{IsGroupOf, AreGroupsOf, IsOwnOf, AreOwned, line_behind, HaveBodies, grid_over, root_functions, region_of, HasGroups, rooted_if, rooted, has_region, AreLaid, IsOver, IsOwnOver, AreMade, AreBodies, AreAlone, IsPlanOf}
 use Rattle.lower.proofs.Laying.{IsLaidOver, laid_over_it}
 
 both : (a b : Bool) → (a && b) ≡ true → (a ≡ true) × (b ≡ true)
@@ -109,42 +110,58 @@ none_else (g ∷ gs) [] w = refl
 none_else (g ∷ gs) (l ∷ ls) w =
     none_with g (not g.subject.is_root) g.formulas l (rooted false gs ls) (ap not (whole_root g gs w)) (none_else gs ls (whole_rest g gs w))
 
-module _ (claims : List Claim) where
+module _ (all : List Entry) where
   bodies_with : (g : StoredText) (b : Bool) (o : Option (List FormulaText)) (l : Option LaidText) (es : List Entry) (gs : List StoredText) → b ≡ true → (b ≡ true → has_region o l ≡ true)
       → g.formulas ≡ o → ((fs : List FormulaText) (x : LaidText) → o ≡ Some fs → l ≡ Some x → IsLaidOver g fs x)
-      → ((n : ℕ) (ps : List Group) (os : List Own) → AreMade es n ps os → AreBodies claims es ps → HaveBodies claims gs ps)
-      → (n : ℕ) (ps : List Group) (os : List Own) → AreMade (rooted_if b g o l es) n ps os → AreBodies claims (rooted_if b g o l es) ps → HaveBodies claims (g ∷ gs) ps
-  bodies_with g true (Some fs) (Some l) es gs is h e laid f n [] os m k = absurd m
-  bodies_with g true (Some fs) (Some l) es gs is h e laid f n (p ∷ ps) [] m k = absurd m
-  bodies_with g true (Some fs) (Some l) es gs is h e laid f n (p ∷ ps) (o ∷ os) m k =
-      (record { formulas = fs; extents = l.region; skeleton = l.skeleton; defined = e; region = m.0.region; laid = laid fs l refl refl; body = k.0 }, f (n + 1) ps os m.2 k.1)
-  bodies_with g true (Some fs) None es gs is h e laid f n ps os m k = absurd (false≢true (h refl))
-  bodies_with g true None l es gs is h e laid f n ps os m k = absurd (false≢true (h refl))
-  bodies_with g false o l es gs is h e laid f n ps os m k = absurd (false≢true is)
+      → ((n c line : ℕ) (ps : List Group) (os : List Own) (cs : List Claim) (ws : List Need) → AreMade es n ps os → AreBodies all n c line es ps cs ws → HaveBodies all n c line gs ps cs ws)
+      → (n c line : ℕ) (ps : List Group) (os : List Own) (cs : List Claim) (ws : List Need) → AreMade (rooted_if b g o l es) n ps os → AreBodies all n c line (rooted_if b g o l es) ps cs ws
+      → HaveBodies all n c line (g ∷ gs) ps cs ws
+  bodies_with g true (Some fs) (Some l) es gs is h e laid f n c line [] os cs ws m k = absurd m
+  bodies_with g true (Some fs) (Some l) es gs is h e laid f n c line (p ∷ ps) [] cs ws m k = absurd m
+  bodies_with g true (Some fs) (Some l) es gs is h e laid f n c line (p ∷ ps) (o ∷ os) cs ws m k =
+      record {
+        own_claims = k.own_claims;
+        own_needs = k.own_needs;
+        other_claims = k.other_claims;
+        other_needs = k.other_needs;
+        claimed = k.claimed;
+        needed = k.needed;
+        here = record { formulas = fs; extents = l.region; skeleton = l.skeleton; defined = e; region = m.0.region; laid = laid fs l refl refl; body = k.here };
+        behind = f (n + 1) (c + length k.own_claims) (line_behind line p) ps os k.other_claims k.other_needs m.2 k.behind;
+      }
+  bodies_with g true (Some fs) None es gs is h e laid f n c line ps os cs ws m k = absurd (false≢true (h refl))
+  bodies_with g true None l es gs is h e laid f n c line ps os cs ws m k = absurd (false≢true (h refl))
+  bodies_with g false o l es gs is h e laid f n c line ps os cs ws m k = absurd (false≢true is)
 
-  bodies : (a : Algorithm) (gs : List StoredText) → are_whole gs ≡ true → AreLaid gs (laid_functions a gs) → (n : ℕ) (ps : List Group) (os : List Own)
-      → AreMade (rooted true gs (laid_functions a gs)) n ps os → AreBodies claims (rooted true gs (laid_functions a gs)) ps → HaveBodies claims gs ps
-  bodies a [] w h n [] [] m k = tt
-  bodies a [] w h n [] (o ∷ os) m k = absurd m
-  bodies a [] w h n (p ∷ ps) os m k = absurd m
-  bodies a (g ∷ gs) w h n ps os m k =
+  bodies : (a : Algorithm) (gs : List StoredText) → are_whole gs ≡ true → AreLaid gs (laid_functions a gs) → (n c line : ℕ) (ps : List Group) (os : List Own) (cs : List Claim) (ws : List Need)
+      → AreMade (rooted true gs (laid_functions a gs)) n ps os → AreBodies all n c line (rooted true gs (laid_functions a gs)) ps cs ws → HaveBodies all n c line gs ps cs ws
+  bodies a [] w h n c line [] [] cs ws m k = k
+  bodies a [] w h n c line [] (o ∷ os) cs ws m k = absurd m
+  bodies a [] w h n c line (p ∷ ps) os cs ws m k = absurd m
+  bodies a (g ∷ gs) w h n c line ps os cs ws m k =
       let found = laid_functions a gs in
       bodies_with g g.subject.is_root g.formulas (laid_within a g gs found) (rooted true gs found) gs (whole_root g gs w) h.0 refl
-      (λ fs x e is. laid_over_it a g gs found fs x e is) (bodies a gs (whole_rest g gs w) h.1) n ps os m k
+      (λ fs x e is. laid_over_it a g gs found fs x e is) (bodies a gs (whole_rest g gs w) h.1) n c line ps os cs ws m k
 
 -- ---- all of it
 
-pub plan_made : (claims : List Claim) (gs : List StoredText) (ls : List (Option LaidText)) (qs : List Party) (es : List Entry) (l : Lowered) (ps : List Group) (os : List Own) → AreLaid gs ls
-    → es ≡ rooted true gs ls → (rooted false gs ls ≡ [] → AreAlone qs) → AreMade es 0 ps os → (AreAlone qs → AreBodies claims es ps) → l.plan.groups.items ≡ ps
-    → l.certificate.own.items ≡ os → l.certificate.claims.items ≡ claims → IsPlanOf gs ls l
-plan_made claims gs ls qs es l ps os laid e alone made does is_groups is_own is_claims =
+pub plan_made : (all : List Entry) (claims : List Claim) (needs : List Need) (gs : List StoredText) (ls : List (Option LaidText)) (qs : List Party) (es : List Entry) (l : Lowered) (ps : List Group)
+    (os : List Own) → AreLaid gs ls → all ≡ rooted true gs ls → es ≡ rooted true gs ls → (rooted false gs ls ≡ [] → AreAlone qs) → AreMade es 0 ps os
+    → (AreAlone qs → AreBodies all 0 0 4 es ps claims needs) → l.plan.groups.items ≡ ps → l.certificate.own.items ≡ os → l.certificate.claims.items ≡ claims → l.certificate.needs.items ≡ needs
+    → IsPlanOf gs ls l
+plan_made all claims needs gs ls qs es l ps os laid roots e alone made does is_groups is_own is_claims is_needs =
     record {
       laid = laid;
       made = subst (λ (xs : List Entry). AreMade xs 0 l.plan.groups.items l.certificate.own.items) e
           (subst (λ (xs : List Group). AreMade es 0 xs l.certificate.own.items) (sym is_groups) (subst (λ (xs : List Own). AreMade es 0 ps xs) (sym is_own) made));
-      bodies = λ w. subst (λ (cs : List Claim). AreBodies cs (rooted true gs ls) l.plan.groups.items) (sym is_claims)
-          (subst (λ (xs : List Entry). AreBodies claims xs l.plan.groups.items) e
-          (subst (λ (xs : List Group). AreBodies claims es xs) (sym is_groups) (does (alone (none_else gs ls w)))));
+      bodies = λ w.
+          let by_roots : AreBodies (rooted true gs ls) 0 0 4 es ps claims needs = subst (λ (xs : List Entry). AreBodies xs 0 0 4 es ps claims needs) roots (does (alone (none_else gs ls w))) in
+          let by_entries : AreBodies (rooted true gs ls) 0 0 4 (rooted true gs ls) ps claims needs = subst (λ (xs : List Entry). AreBodies (rooted true gs ls) 0 0 4 xs ps claims needs) e by_roots in
+          let by_groups : AreBodies (rooted true gs ls) 0 0 4 (rooted true gs ls) l.plan.groups.items claims needs =
+          subst (λ (xs : List Group). AreBodies (rooted true gs ls) 0 0 4 (rooted true gs ls) xs claims needs) (sym is_groups) by_entries in
+          let by_claims : AreBodies (rooted true gs ls) 0 0 4 (rooted true gs ls) l.plan.groups.items l.certificate.claims.items needs =
+          subst (λ (xs : List Claim). AreBodies (rooted true gs ls) 0 0 4 (rooted true gs ls) l.plan.groups.items xs needs) (sym is_claims) by_groups in
+          subst (λ (xs : List Need). AreBodies (rooted true gs ls) 0 0 4 (rooted true gs ls) l.plan.groups.items l.certificate.claims.items xs) (sym is_needs) by_claims;
     }
 
 pub made_first : (e : Entry) (es : List Entry) (n m : ℕ) (p : Group) (o : Own) (ps qs : List Group) (os rs : List Own) → IsOver e p → IsOwnOver e n o → AreMade es m ps os
@@ -158,10 +175,12 @@ groups_made a gs ls l is laid =
     let ps = l.plan.groups.items in
     let os = l.certificate.own.items in
     let cs = l.certificate.claims.items in
+    let ws = l.certificate.needs.items in
     record {
       each = each_of gs ls is.laid 0 ps os is.made;
       owned = owned (rooted true gs ls) 0 ps os is.made;
-      bodies = λ w. bodies cs a gs w (subst (AreLaid gs) (laid w) is.laid) 0 ps os (subst (λ (xs : List (Option LaidText)). AreMade (rooted true gs xs) 0 ps os) (laid w) is.made)
-          (subst (λ (xs : List (Option LaidText)). AreBodies cs (rooted true gs xs) ps) (laid w) (is.bodies w));
+      bodies = λ w. bodies (rooted true gs (laid_functions a gs)) a gs w (subst (AreLaid gs) (laid w) is.laid) 0 0 4 ps os cs ws
+          (subst (λ (xs : List (Option LaidText)). AreMade (rooted true gs xs) 0 ps os) (laid w) is.made)
+          (subst (λ (xs : List (Option LaidText)). AreBodies (rooted true gs xs) 0 0 4 (rooted true gs xs) ps cs ws) (laid w) (is.bodies w));
       needed = λ w. needed a gs w (subst (AreLaid gs) (laid w) is.laid) 0 ps os (subst (λ (xs : List (Option LaidText)). AreMade (rooted true gs xs) 0 ps os) (laid w) is.made);
     }

@@ -7,16 +7,14 @@ use Rattle.std.proofs.lemmas.Bool.{false≢true}
 use Rattle.lower.specs.declared.definitions.Formula.{Formula}
 use Rattle.lower.specs.declared.definitions.Stored.{Stored}
 use Rattle.lower.specs.declared.regions.Laid.{Laid}
-use Rattle.lower.specs.Stored.{FormulaText, StoredText, formula_of, stored_of}
+use Rattle.lower.specs.Stored.{FormulaText, formula_of, stored_of}
 use Rattle.lower.specs.Regions.{LaidText, laid_of}
+use Rattle.lower.specs.Fetches.{Entry}
 use Rattle.lower.specs.declared.fetching.Root.{Root}
 use Rattle.lower.specs.declared.inner.Inner.{Inner}
 use Rattle.lower.specs.declared.parties.Party.{Party}
-use Rattle.lower.specs.Groups.{root_of, HasNone, IsAlone, is_same, rooted_if, rooted_by, has_region}
+use Rattle.lower.specs.Groups.{root_of, HasNone, IsAlone, is_same, rooted_by, has_region}
 use Rattle.lower.proofs.First.{formulas_at, no_formulas}
-
-abbrev pub Entry : Type 0
-Entry = StoredText × LaidText × List FormulaText
 
 -- ---- as a function's own definitions and region are found
 

@@ -8,7 +8,7 @@ use Rattle.std.proofs.lemmas.List.{map-append}
 use Rattle.plan.specs.declared.stmt.Places.{Places}
 use Rattle.plan.specs.declared.stmt.Stmt.{Stmt}
 use Rattle.plan.specs.declared.stmt.Coordinate.{Coordinate as CodeCoordinate}
-use Rattle.plan.specs.Plan.{Coordinate, Statement, Seq, Alloc, Publish, Statements, Empty, Then, block}
+use Rattle.plan.specs.Plan.{Coordinate, Statement, Seq, Alloc, Publish, Statements, block}
 use Rattle.lin.specs.Forms.{Form}
 use Rattle.tree.specs.Term.{Term, term_of}
 use Rattle.tree.specs.Substitution.{with_calls}
@@ -22,8 +22,9 @@ use Rattle.lower.specs.declared.definitions.Formula.{Formula}
 use Rattle.lower.specs.Stored.{FormulaText, StoredText, formula_of}
 use Rattle.lower.specs.declared.loading.Load.{Load}
 use Rattle.lower.specs.Loading.{Loads, as_load, load_of}
-use Rattle.lower.specs.Around.{names_with}
-use Rattle.lower.specs.Bodies.{first_left, other_lefts, IsIndex, AreCoordinates, IsStored, IsStore, with_step, IsNest, AreNests, AreFetches, IsBodyWith, IsBody, body}
+use Rattle.lower.specs.declared.whole.Fetch.{Fetch}
+use Rattle.lower.specs.Fetches.{FetchText, fetch_seen, with_fetch, with_fetches}
+use Rattle.lower.specs.Bodies.{first_left, other_lefts, IsIndex, AreCoordinates, IsStored, IsStore, with_step, IsNest, IsBodyWith, body}
 
 step_of : (s : Step) (steps : List Step) (inner : Statements) → lines_to (s ∷ steps) inner ≡ with_step s (lines_to steps inner)
 step_of (Turns i x kind) steps inner = refl
@@ -65,20 +66,28 @@ module _ (g : StoredText) (fs : List FormulaText) (ls : Loads) (d : ℕ) (n : Ne
   nest_made store inner xs is e comes =
       record { store = statement_of store; stores = is; comes = comes ∙ ap (λ (l : List Stmt). lines_to n.steps (block (list_statements l))) e }
 
-pub body_made : (g : StoredText) (k : SkeletonText) (places : List Places) (claim : ℕ) (own publish : Stmt) (fetches nests ns all inner ys : List Stmt)
-    → AreFetches (list_statements fetches) → ns ≡ nests ++ publish ∷ [] → all ≡ fetches ++ ns → inner ≡ own ∷ all → statement_of own ≡ Alloc 0 g.subject.name places
-    → statement_of publish ≡ Publish claim → block (list_statements ys) ≡ lines_to k.head (block (list_statements inner)) → IsBodyWith g k (list_statements nests) (body (list_statements ys))
-body_made g k places claim own publish fetches nests ns all inner ys fetched e f h is_own is_publish comes =
-    let behind : list_statements ns ≡ list_statements nests ++ Publish claim ∷ [] =
+-- the last of some fetches before others, and the rest before these
+last_first : (fs : List FetchText) (f : FetchText) (xs : List Statement) → with_fetches (fs ++ f ∷ []) xs ≡ with_fetches fs (with_fetch f xs)
+last_first [] f xs = refl
+last_first (g ∷ fs) f xs = ap (with_fetch g) (last_first fs f xs)
+
+pub with_popped : (all left : List Fetch) (fetch : Fetch) (xs ys : List Stmt) (zs : List Statement) → all ≡ left ++ fetch ∷ []
+    → list_statements ys ≡ with_fetch (fetch_seen fetch) (list_statements xs)
+    → with_fetches (map fetch_seen all) (list_statements xs) ≡ zs → with_fetches (map fetch_seen left) (list_statements ys) ≡ zs
+with_popped all left fetch xs ys zs popped made before =
+    ap (with_fetches (map fetch_seen left)) made ∙ (sym (ap (λ (l : List FetchText). with_fetches l (list_statements xs)) (ap (map fetch_seen) popped ∙ map-append fetch_seen left (fetch ∷ []))
+    ∙ last_first (map fetch_seen left) (fetch_seen fetch) (list_statements xs)) ∙ before)
+
+pub body_made : (g : StoredText) (k : SkeletonText) (places : List Places) (claim : ℕ) (fetches : List FetchText) (own publish : Stmt) (nests last inner all ys : List Stmt)
+    → last ≡ nests ++ publish ∷ [] → list_statements inner ≡ with_fetches fetches (list_statements last) → all ≡ own ∷ inner → statement_of own ≡ Alloc 0 g.subject.name places
+    → statement_of publish ≡ Publish claim → block (list_statements ys) ≡ lines_to k.head (block (list_statements all))
+    → IsBodyWith g k fetches (list_statements nests) claim (body (list_statements ys))
+body_made g k places claim fetches own publish nests last inner all ys e f h is_own is_publish comes =
+    let behind : list_statements last ≡ list_statements nests ++ Publish claim ∷ [] =
     ap list_statements e ∙ (map-append statement_of nests (publish ∷ []) ∙ ap (λ (s : Statement). list_statements nests ++ s ∷ []) is_publish) in
-    let middle : list_statements all ≡ list_statements fetches ++ (list_statements nests ++ Publish claim ∷ []) =
-    ap list_statements f ∙ (map-append statement_of fetches ns ∙ ap (λ (l : List Statement). list_statements fetches ++ l) behind) in
-    let made : list_statements inner ≡ Alloc 0 g.subject.name places ∷ (list_statements fetches ++ (list_statements nests ++ Publish claim ∷ [])) =
-    ap list_statements h ∙ (λ i. is_own i ∷ middle i) in
+    let made : list_statements all ≡ Alloc 0 g.subject.name places ∷ with_fetches fetches (list_statements nests ++ Publish claim ∷ []) =
+    ap list_statements h ∙ (λ i. is_own i ∷ (f ∙ ap (with_fetches fetches) behind) i) in
     record {
       places = places;
-      fetches = list_statements fetches;
-      claim = claim;
-      fetched = fetched;
       is = ap Seq (comes ∙ ap (λ (l : List Statement). lines_to k.head (block l)) made);
     }

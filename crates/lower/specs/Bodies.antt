@@ -1,12 +1,15 @@
 -- What a piece of a whole function does: the lets over the grid, its buffer, what it fetches, then for each definition the loops, lets and
--- guards of the skeleton down to its store, of the definition's value with each call as a load.
-use Rattle.std.specs.Prelude.{◌≡◌, ℕ, ◌+◌, List, [], ◌∷◌, ◌++◌, length, map, Option, Some, None, IsSomeAnd, slice_get, string_bytes}
+-- guards of the skeleton down to its store, of the definition's value with each call as a load; and its claims.
+use Rattle.std.specs.Prelude.{◌≡◌, ℕ, ◌+◌, ◌-◌, ◌*◌, List, [], ◌∷◌, ◌++◌, length, Option, Some, None, IsSomeAnd, slice_get}
 use Rattle.tree.specs.Term.{Term}
 use Rattle.tree.specs.Substitution.{with_calls}
 use Rattle.lin.specs.Forms.{Form}
+use Rattle.lin.specs.declared.span.Span1.{Span1}
 use Rattle.plan.specs.declared.stmt.Places.{Places}
 use Rattle.plan.specs.declared.certificate.cert.Claim.{Claim}
-use Rattle.plan.specs.Plan.{Index, At, Found, Coordinate, Statement, Seq, For, Let, Guard, Alloc, Fetch, Store, Publish, Statements, Empty, Then, block}
+use Rattle.plan.specs.declared.certificate.cert.Need.{Need}
+use Rattle.plan.specs.Plan.{Index, At, Found, Coordinate, Statement, Seq, For, Let, Guard, Alloc, Store, Publish, Statements, Empty, Then, block}
+use Rattle.plan.specs.Lines.{block_lines}
 use Rattle.sched.specs.declared.skeleton.Step.{Step}
 use Rattle.sched.specs.declared.skeleton.Step.TheVariants.{Turns, Named, Tested}
 use Rattle.sched.specs.Runs.{lines_to}
@@ -14,22 +17,7 @@ use Rattle.sched.specs.Skeleton.{NestText, SkeletonText}
 use Rattle.lower.specs.Stored.{FormulaText, StoredText}
 use Rattle.lower.specs.Loading.{Loads, as_load}
 use Rattle.lower.specs.Around.{names_with}
-
--- ---- claims
-
--- it claims what this definition of this function has made
-pub record Claims (x : List ℕ) (d : ℕ) (claim : Claim) : Type 0 where
-  pub named : string_bytes claim.function ≡ x
-  pub defined : claim.definition ≡ d
-
--- the claim of this number does
-abbrev pub IsClaimAt : List Claim → ℕ → List ℕ → ℕ → Type 0
-IsClaimAt claims c x d = IsSomeAnd (slice_get claims c) (Claims x d)
-
--- each load is by a claim of its function
-abbrev pub AreClaimed : List Claim → Loads → Type 0
-AreClaimed claims [] = Unit {0}
-AreClaimed claims (l ∷ ls) = ((d : ℕ) × IsClaimAt claims l.1 l.0 d) × AreClaimed claims ls
+use Rattle.lower.specs.Fetches.{Entry, FetchText, fetched_groups, Claims, AreFetched, with_fetches, loads_from}
 
 -- ---- stores
 
@@ -70,6 +58,16 @@ IsStore g fs ls d n _ = ⊥
 
 -- ---- nests
 
+-- how many lines a step takes: a loop and a guard have an `end`
+abbrev pub own_lines : Step → ℕ
+own_lines (Turns i x kind) = 2
+own_lines (Named i pick forms) = 1
+own_lines (Tested low high) = 2
+
+abbrev pub step_lines : List Step → ℕ
+step_lines [] = 0
+step_lines (s ∷ steps) = own_lines s + step_lines steps
+
 -- a loop or a guard around what follows, or a let in front of it
 abbrev pub with_step : Step → Statements → Statements
 with_step (Turns i x kind) inner = Then (For i x kind (Seq inner)) Empty
@@ -82,59 +80,58 @@ pub record IsNest (g : StoredText) (fs : List FormulaText) (ls : Loads) (d : ℕ
   pub stores : IsStore g fs ls d n store
   pub comes : block xs ≡ lines_to n.steps (Then store Empty)
 
--- first some, then others
-pub record AreBoth (P Q : List Statement → Type 0) (xs : List Statement) : Type 0 where
+-- first some, then others, which are told how many lines the first take
+pub record AreBoth (P : List Statement → Type 0) (Q : ℕ → List Statement → Type 0) (xs : List Statement) : Type 0 where
   pub first : List Statement
   pub others : List Statement
   pub are : xs ≡ first ++ others
   pub here : P first
-  pub behind : Q others
+  pub behind : Q (block_lines (block first)) others
 
--- those of the definitions from this number on, one behind another; behind each nest the function itself is loaded by the claim of it
-abbrev pub AreNests : StoredText → List FormulaText → List Claim → Loads → ℕ → List NestText → List Statement → Type 0
-AreNests g fs claims ls d [] xs = xs ≡ []
-AreNests g fs claims ls d (n ∷ ns) xs =
-    AreBoth (IsNest g fs ls d n) (λ ys. (c : ℕ) × IsClaimAt claims c g.subject.name d × AreNests g fs claims (ls ++ (g.subject.name, c) ∷ []) (d + 1) ns ys) xs
+-- the last line of these statements, whose first has this one
+abbrev pub last_line : ℕ → List Statement → ℕ
+last_line line xs = (line + block_lines (block xs)) - 1
+
+-- the nest of a definition, and its claim, from after the nest on: the piece's own buffer has it, over this region
+pub record IsClaimedNest (g : StoredText) (fs : List FormulaText) (r : List Span1) (ls : Loads) (line d : ℕ) (n : NestText) (claim : Claim) (xs : List Statement) : Type 0 where
+  pub nest : IsNest g fs ls d n xs
+  pub claims : Claims (last_line line xs) 0 g.subject.name d r claim
+
+-- those of the definitions from this number on, one behind another, from this line on; their claims are numbered from c on, and behind its nest the function
+-- itself is loaded by the claim
+abbrev pub AreNests : StoredText → List FormulaText → List Span1 → Loads → ℕ → ℕ → ℕ → List NestText → List Statement → List Claim → Type 0
+AreNests g fs r ls c line d [] xs claims = (xs ≡ []) × (claims ≡ [])
+AreNests g fs r ls c line d (n ∷ ns) xs [] = ⊥
+AreNests g fs r ls c line d (n ∷ ns) xs (claim ∷ claims) = AreBoth (IsClaimedNest g fs r ls line d n claim)
+    (λ m ys. AreNests g fs r (ls ++ (g.subject.name, c) ∷ []) (c + 1) (line + m) (d + 1) ns ys claims) xs
 
 -- ---- the body
 
--- a buffer of another function and what is fetched into it, again and again
-abbrev pub AreFetches : List Statement → Type 0
-AreFetches [] = Unit {0}
-AreFetches (Alloc b f places ∷ Fetch c h region ∷ xs) = (b ≡ c) × AreFetches xs
-AreFetches _ = ⊥
-
--- the lets over the grid, the piece's own buffer, what it fetches, the nests, and what it publishes
-pub record IsBodyWith (g : StoredText) (k : SkeletonText) (nests : List Statement) (body : Statement) : Type 0 where
+-- the lets over the grid, the piece's own buffer, what it fetches, the nests, and by which claim it publishes
+pub record IsBodyWith (g : StoredText) (k : SkeletonText) (fetches : List FetchText) (nests : List Statement) (claim : ℕ) (body : Statement) : Type 0 where
   pub places : List Places
-  pub fetches : List Statement
-  pub claim : ℕ
-  pub fetched : AreFetches fetches
-  pub is : body ≡ Seq (lines_to k.head (block (Alloc 0 g.subject.name places ∷ (fetches ++ (nests ++ Publish claim ∷ [])))))
+  pub is : body ≡ Seq (lines_to k.head (block (Alloc 0 g.subject.name places ∷ with_fetches fetches (nests ++ Publish claim ∷ []))))
 
--- the nests are those of the skeleton, of these definitions; what is fetched is loaded by claims of its functions
-pub record IsBody (g : StoredText) (fs : List FormulaText) (k : SkeletonText) (claims : List Claim) (body : Statement) : Type 0 where
-  pub loads : Loads
-  pub claimed : AreClaimed claims loads
+-- the number of the last claim, where so many of what is fetched come first, from this number on, and then one of each nest
+abbrev pub last_claim : ℕ → List FetchText → SkeletonText → ℕ
+last_claim c fetches k = (c + (length fetches + length k.nests)) - 1
+
+-- how many lines the lets over the grid and the piece's own buffer take, with the line `group`
+abbrev pub first_lines : SkeletonText → ℕ
+first_lines k = step_lines k.head + 2
+
+-- the body of the group n of these functions, whose line is this one, with its claims, of which the first has the number c, and its need lines: it fetches of
+-- each other function that its definitions call, its nests are those of the skeleton, and it publishes by the claim of its last definition
+pub record IsBody (all : List Entry) (n c line : ℕ) (g : StoredText) (fs : List FormulaText) (k : SkeletonText) (claims : List Claim) (needs : List Need) (body : Statement) : Type 0 where
+  pub fetches : List FetchText
+  pub fetched : List Claim
+  pub own : List Claim
+  pub claimed : claims ≡ fetched ++ own
+  pub fetching : AreFetched n 1 (line + first_lines k) (fetched_groups fs n 0 all) fetches needs fetched
+  pub region : List Span1
   pub nests : List Statement
-  pub nested : AreNests g fs claims loads 0 k.nests nests
-  pub with : IsBodyWith g k nests body
+  pub nested : AreNests g fs region (loads_from c fetches) (c + length fetches) (line + first_lines k + 2 * length fetches) 0 k.nests nests own
+  pub with : IsBodyWith g k fetches nests (last_claim c fetches k) body
 
 abbrev pub body : List Statement → Statement
 body xs = Seq (block xs)
-
--- ---- while it is made
-
--- one more claim, of this definition of this function
-pub record AddsClaim (x : List ℕ) (d : ℕ) (old new : List Claim) : Type 0 where
-  pub claim : Claim
-  pub claims : Claims x d claim
-  pub added : new ≡ old ++ claim ∷ []
-
-abbrev pub Extends : List Claim → List Claim → Type 0
-Extends old new = (more : List Claim) × (new ≡ old ++ more)
-
--- where these claims stand before those of the group, the next one has this number, and the loads are by claims of their functions
-pub record AreKnown (before claims : List Claim) (ls : Loads) (next : ℕ) : Type 0 where
-  pub counted : length (before ++ claims) ≡ next
-  pub claimed : AreClaimed (before ++ claims) ls

@@ -1,13 +1,15 @@
 -- The groups of a plan: one for each stored root function, in the order of declaration, over its region, with a piece for each turn of
 -- its parallel loops.
-use Rattle.std.specs.Prelude.{◌≡◌, ℕ, ◌+◌, Bool, true, false, not, if◌then◌else◌, List, [], ◌∷◌, map, Option, Some, None, string_bytes}
+use Rattle.std.specs.Prelude.{◌≡◌, ℕ, ◌+◌, Bool, true, false, not, if◌then◌else◌, List, [], ◌∷◌, ◌++◌, length, map, Option, Some, None, string_bytes}
 use Rattle.std.specs.Global.{Vec}
 use Rattle.lin.specs.Regions.{IsInside}
 use Rattle.lin.specs.declared.span.Span1.{Span1}
 use Rattle.plan.specs.declared.plan.Group.{Group}
 use Rattle.plan.specs.declared.certificate.cert.Own.{Own}
 use Rattle.plan.specs.declared.certificate.cert.Claim.{Claim}
+use Rattle.plan.specs.declared.certificate.cert.Need.{Need}
 use Rattle.plan.specs.View.{statement_of}
+use Rattle.plan.specs.Lines.{lines}
 use Rattle.meaning.specs.Algorithm.{Algorithm}
 use Rattle.sched.specs.Schedule.{Schedule}
 use Rattle.sched.specs.declared.numbers.Extent.{Extent}
@@ -17,11 +19,10 @@ use Rattle.lower.specs.declared.fetching.Root.{Root}
 use Rattle.lower.specs.declared.lowering.Lowered.{Lowered}
 use Rattle.lower.specs.declared.inner.Inner.{Inner}
 use Rattle.lower.specs.declared.parties.Party.{Party}
-use Rattle.lower.specs.declared.group.Body.{Body}
 use Rattle.lower.specs.Stored.{FormulaText, StoredText, formula_of, stored_of, stored_functions}
 use Rattle.lower.specs.Regions.{LaidText, laid_of, laid_functions, skeleton_of}
-use Rattle.lower.specs.Bodies.{IsBody, AreKnown}
-use Rattle.lower.specs.Loading.{load_of}
+use Rattle.lower.specs.Fetches.{Entry}
+use Rattle.lower.specs.Bodies.{IsBody}
 use Rattle.lower.specs.Around.{grid_scope}
 use Rattle.lower.specs.Bounded.{whole}
 use Rattle.lower.specs.Faults.{are_whole}
@@ -58,25 +59,42 @@ AreOwned n [] (o ∷ os) = ⊥
 AreOwned n (p ∷ ps) [] = ⊥
 AreOwned n (p ∷ ps) (o ∷ os) = IsOwnOf n p o × AreOwned (n + 1) ps os
 
--- what its pieces do, by these claims of the certificate: the skeleton's loops, lets and guards over its region, down to a store of each of its definitions
-pub record HasBody (claims : List Claim) (g : StoredText) (p : Group) : Type 0 where
+-- what its pieces do, as the group n of these functions, whose line is this one, with its claims, of which the first has the number c, and its need lines
+pub record HasBody (all : List Entry) (n c line : ℕ) (g : StoredText) (p : Group) (claims : List Claim) (needs : List Need) : Type 0 where
   pub formulas : List FormulaText
   pub extents : List Extent
   pub skeleton : SkeletonText
   pub defined : g.formulas ≡ Some formulas
   pub region : p.region ≡ map whole extents
   pub laid : skeleton_of g formulas extents ≡ Some skeleton
-  pub body : IsBody g formulas skeleton claims (statement_of p.body)
+  pub body : IsBody all n c line g formulas skeleton claims needs (statement_of p.body)
 
--- each of these functions' groups
-abbrev pub HaveBodies : List Claim → List StoredText → List Group → Type 0
-HaveBodies claims [] [] = Unit {0}
-HaveBodies claims [] (p ∷ ps) = ⊥
-HaveBodies claims (g ∷ gs) [] = ⊥
-HaveBodies claims (g ∷ gs) (p ∷ ps) = HasBody claims g p × HaveBodies claims gs ps
+-- the claims and need lines of a group, and behind them those of others, which are told how many claims the group has
+pub record AreLines (P : List Claim → List Need → Type 0) (Q : ℕ → List Claim → List Need → Type 0) (claims : List Claim) (needs : List Need) : Type 0 where
+  pub own_claims : List Claim
+  pub own_needs : List Need
+  pub other_claims : List Claim
+  pub other_needs : List Need
+  pub claimed : claims ≡ own_claims ++ other_claims
+  pub needed : needs ≡ own_needs ++ other_needs
+  pub here : P own_claims own_needs
+  pub behind : Q (length own_claims) other_claims other_needs
+
+-- the line behind a group, whose line is this one: it has those of its body too
+abbrev pub line_behind : ℕ → Group → ℕ
+line_behind line p = line + (lines (statement_of p.body) + 1)
+
+-- each of these functions' groups, from the number n on, with all claims and need lines of theirs, one group behind another; the first claim has the number c
+abbrev pub HaveBodies : List Entry → ℕ → ℕ → ℕ → List StoredText → List Group → List Claim → List Need → Type 0
+HaveBodies all n c line [] [] claims needs = (claims ≡ []) × (needs ≡ [])
+HaveBodies all n c line [] (p ∷ ps) claims needs = ⊥
+HaveBodies all n c line (g ∷ gs) [] claims needs = ⊥
+HaveBodies all n c line (g ∷ gs) (p ∷ ps) claims needs =
+    AreLines (HasBody all n c line g p) (λ m. HaveBodies all (n + 1) (c + m) (line_behind line p) gs ps) claims needs
 
 -- ---- all of them
 
+-- those that are root functions
 abbrev pub root_functions : List StoredText → List StoredText
 root_functions [] = []
 root_functions (g ∷ gs) = if g.subject.is_root then g ∷ root_functions gs else root_functions gs
@@ -86,13 +104,36 @@ abbrev pub region_of : Option LaidText → List Span1
 region_of None = []
 region_of (Some l) = map whole l.region
 
+abbrev pub is_same : Bool → Bool → Bool
+is_same b true = b
+is_same b false = not b
+
+-- a function before others, where it is one of those that are asked for
+abbrev pub rooted_if : Bool → StoredText → Option (List FormulaText) → Option LaidText → List Entry → List Entry
+rooted_if b g (Some fs) (Some l) rest = if b then (g, l, fs) ∷ rest else rest
+rooted_if b g (Some fs) None rest = rest
+rooted_if b g None l rest = rest
+
+abbrev pub rooted_by : Bool → StoredText → Option (List FormulaText) → Option LaidText → List Entry → List Entry
+rooted_by is g o l rest = rooted_if (is_same g.subject.is_root is) g o l rest
+
+-- those that are root functions, or those that are not, of the ones that have definitions and a region
+abbrev pub rooted : Bool → List StoredText → List (Option LaidText) → List Entry
+rooted is (g ∷ gs) (l ∷ ls) = rooted_by is g g.formulas l (rooted is gs ls)
+rooted is (g ∷ gs) [] = []
+rooted is [] ls = []
+
+-- the root functions over the regions that are needed
+abbrev pub roots_over : Algorithm → List StoredText → List Entry
+roots_over a gs = rooted true gs (laid_functions a gs)
+
 -- the stored root functions have the groups, and the certificate tells of each what its pieces own; where each stored function is a root function
--- that is computed at no loop, the regions are those that are needed, and the pieces do what the skeletons say
+-- that is computed at no loop, the regions are those that are needed, the pieces do what the skeletons say, and the claims and need lines are theirs
 pub record HasGroups (a : Algorithm) (gs : List StoredText) (l : Lowered) : Type 0 where
   pub each : AreGroupsOf (root_functions gs) l.plan.groups.items
   pub owned : AreOwned 0 l.plan.groups.items l.certificate.own.items
   pub needed : are_whole gs ≡ true → map (λ p. p.region) l.plan.groups.items ≡ map region_of (laid_functions a gs)
-  pub bodies : are_whole gs ≡ true → HaveBodies l.certificate.claims.items gs l.plan.groups.items
+  pub bodies : are_whole gs ≡ true → HaveBodies (roots_over a gs) 0 0 4 gs l.plan.groups.items l.certificate.claims.items l.certificate.needs.items
 
 abbrev pub AreGroupsMade : Algorithm → Schedule → Lowered → Type 0
 AreGroupsMade a s l = HasGroups a (stored_functions a s) l
@@ -100,10 +141,10 @@ AreGroupsMade a s l = HasGroups a (stored_functions a s) l
 -- ---- while they are made
 
 -- as memory keeps a stored function that has definitions and a region
-abbrev pub root_of : Root → StoredText × LaidText × List FormulaText
+abbrev pub root_of : Root → Entry
 root_of r = (stored_of r.stored.now, laid_of r.laid.now, map formula_of r.formulas.now)
 
-abbrev pub party_of : Party → StoredText × LaidText × List FormulaText
+abbrev pub party_of : Party → Entry
 party_of p = root_of p.root
 
 -- nothing is computed inside its loops
@@ -118,37 +159,18 @@ abbrev pub AreAlone : List Party → Type 0
 AreAlone [] = Unit {0}
 AreAlone (p ∷ ps) = IsAlone p × AreAlone ps
 
-abbrev pub is_same : Bool → Bool → Bool
-is_same b true = b
-is_same b false = not b
-
--- a function before others, where it is one of those that are asked for
-abbrev pub rooted_if : Bool → StoredText → Option (List FormulaText) → Option LaidText → List (StoredText × LaidText × List FormulaText) → List (StoredText × LaidText × List FormulaText)
-rooted_if b g (Some fs) (Some l) rest = if b then (g, l, fs) ∷ rest else rest
-rooted_if b g (Some fs) None rest = rest
-rooted_if b g None l rest = rest
-
-abbrev pub rooted_by : Bool → StoredText → Option (List FormulaText) → Option LaidText → List (StoredText × LaidText × List FormulaText) → List (StoredText × LaidText × List FormulaText)
-rooted_by is g o l rest = rooted_if (is_same g.subject.is_root is) g o l rest
-
--- those that are root functions, or those that are not, of the ones that have definitions and a region
-abbrev pub rooted : Bool → List StoredText → List (Option LaidText) → List (StoredText × LaidText × List FormulaText)
-rooted is (g ∷ gs) (l ∷ ls) = rooted_by is g g.formulas l (rooted is gs ls)
-rooted is (g ∷ gs) [] = []
-rooted is [] ls = []
-
 -- the group of a function over this region
-pub record IsOver (e : StoredText × LaidText × List FormulaText) (p : Group) : Type 0 where
+pub record IsOver (e : Entry) (p : Group) : Type 0 where
   pub named : string_bytes p.function ≡ e.0.subject.name
   pub region : p.region ≡ map whole e.1.region
   pub grid : p.grid.items ≡ grid_over e.0 e.1.region
 
-pub record IsOwnOver (e : StoredText × LaidText × List FormulaText) (n : ℕ) (o : Own) : Type 0 where
+pub record IsOwnOver (e : Entry) (n : ℕ) (o : Own) : Type 0 where
   pub numbered : o.group ≡ n
   pub inside : IsInside (grid_scope (grid_over e.0 e.1.region)) o.region (map whole e.1.region)
 
 -- one for each of these, with a line for each, from this number on
-abbrev pub AreMade : List (StoredText × LaidText × List FormulaText) → ℕ → List Group → List Own → Type 0
+abbrev pub AreMade : List Entry → ℕ → List Group → List Own → Type 0
 AreMade [] n [] [] = Unit {0}
 AreMade [] n [] (o ∷ os) = ⊥
 AreMade [] n (p ∷ ps) os = ⊥
@@ -157,13 +179,22 @@ AreMade (e ∷ es) n (p ∷ ps) [] = ⊥
 AreMade (e ∷ es) n (p ∷ ps) (o ∷ os) = IsOver e p × IsOwnOver e n o × AreMade es (n + 1) ps os
 
 -- its pieces do what the skeleton over the region says
-abbrev pub IsBodyOf : List Claim → StoredText × LaidText × List FormulaText → Group → Type 0
-IsBodyOf claims e p = IsBody e.0 e.2 e.1.skeleton claims (statement_of p.body)
+abbrev pub IsBodyOf : List Entry → ℕ → ℕ → ℕ → Entry → Group → List Claim → List Need → Type 0
+IsBodyOf all n c line e p claims needs = IsBody all n c line e.0 e.2 e.1.skeleton claims needs (statement_of p.body)
 
-abbrev pub AreBodies : List Claim → List (StoredText × LaidText × List FormulaText) → List Group → Type 0
-AreBodies claims [] ps = Unit {0}
-AreBodies claims (e ∷ es) [] = Unit {0}
-AreBodies claims (e ∷ es) (p ∷ ps) = IsBodyOf claims e p × AreBodies claims es ps
+abbrev pub AreBodies : List Entry → ℕ → ℕ → ℕ → List Entry → List Group → List Claim → List Need → Type 0
+AreBodies all n c line [] ps claims needs = (claims ≡ []) × (needs ≡ [])
+AreBodies all n c line (e ∷ es) [] claims needs = ⊥
+AreBodies all n c line (e ∷ es) (p ∷ ps) claims needs =
+    AreLines (IsBodyOf all n c line e p) (λ m. AreBodies all (n + 1) (c + m) (line_behind line p) es ps) claims needs
+
+-- these stand behind the lines of other groups
+pub record BodiesMade (all : List Entry) (n c line : ℕ) (es : List Entry) (ps : List Group) (old new : List Claim) (before behind : List Need) : Type 0 where
+  pub claims : List Claim
+  pub needs : List Need
+  pub claimed : new ≡ old ++ claims
+  pub needed : behind ≡ before ++ needs
+  pub are : AreBodies all n c line es ps claims needs
 
 -- each root function has definitions and a region
 abbrev pub has_region : Option (List FormulaText) → Option LaidText → Bool
@@ -180,11 +211,4 @@ AreLaid (g ∷ gs) (l ∷ ls) = (g.subject.is_root ≡ true → has_region g.for
 pub record IsPlanOf (gs : List StoredText) (ls : List (Option LaidText)) (l : Lowered) : Type 0 where
   pub laid : AreLaid gs ls
   pub made : AreMade (rooted true gs ls) 0 l.plan.groups.items l.certificate.own.items
-  pub bodies : are_whole gs ≡ true → AreBodies l.certificate.claims.items (rooted true gs ls) l.plan.groups.items
-
--- what a piece claims so far, behind these claims of other groups
-abbrev pub IsKnown : List Claim → Body → Type 0
-IsKnown before b = AreKnown before b.claims.items (map load_of b.loads.items) b.next_claim
-
-abbrev pub KeepsKnown : Body → Body → Type 0
-KeepsKnown b c = (before : List Claim) → IsKnown before b → IsKnown before c
+  pub bodies : are_whole gs ≡ true → AreBodies (rooted true gs ls) 0 0 4 (rooted true gs ls) l.plan.groups.items l.certificate.claims.items l.certificate.needs.items

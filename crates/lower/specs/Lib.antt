@@ -4,10 +4,12 @@ pub mod Bounded
 pub mod Called
 pub mod Calls
 pub mod Faults
+pub mod Fetches
 pub mod Groups
 pub mod Large
 pub mod Limited
 pub mod Loading
+pub mod Making
 pub mod Refused
 pub mod Regions
 pub mod Rules

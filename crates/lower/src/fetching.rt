@@ -1,11 +1,15 @@
 //! What a piece fetches of another stored function, and of which of its pieces.
 
+ghost use Rattle.std.specs.Prelude.{◌≡◌, [], IfOk, map};
+ghost use Rattle.std.specs.Option.{is_some};
+ghost use Rattle.lower.specs.Stored.{formula_of, some_calls, stored_of};
+
 use crate::calls::{Call, calls_of};
 use crate::definitions::{Formula, Stored};
 use crate::error::Stop;
 use crate::forms::{between, divided, is_inside, last_of, one_form, raised, whole};
 use crate::inner::Inner;
-use crate::regions::{Laid, symbols_from};
+use crate::regions::{Laid, formulas_call, symbols_from};
 use crate::rounded::is_rounded;
 use crate::scopes::{Around, around_in, grid_scope, head_scope, interval};
 use crate::sliding::Later;
@@ -502,6 +506,45 @@ fn pieces_of(alloc: Global, callee: &Root<'_>, region: &Region) -> Result<Region
     Ok(needed)
 }
 
+// Whether a piece calls the function of this name, for itself or for what is computed inside its loops.
+fn is_called(
+    alloc: Global,
+    user: &Root<'_>,
+    inners: &[Inner<'_>],
+    sites: &[Site],
+    name: &str,
+) -> Result<bool, AllocError>
+    ensures { IfOk result (λ yes. inners.now ≡ [] → yes ≡ some_calls name.now (map formula_of user.now.formulas.now)) }
+{
+    match inners {
+        [] => formulas_call(alloc, user.formulas, name),
+        [_first, _rest @ ..] => Ok(!sites.is_empty()),
+    }
+}
+
+// What these calls fetch.
+fn fetched_by(
+    alloc: Global,
+    user: &Root<'_>,
+    callee: &Root<'_>,
+    sites: &[Site],
+) -> Result<Fetched, Stop> {
+    let grid = grid_scope(alloc, &user.laid.skeleton.grid)?;
+    let mut region = Region::new(alloc);
+    let mut places = Vec::new(alloc);
+    for (dimension, extent) in callee.laid.region.iter().enumerate() {
+        let part = part_of(alloc, &grid, sites, dimension, extent)?;
+        region.push(part.span)?;
+        places.push(part.places)?;
+    }
+    let needed = pieces_of(alloc, callee, &region)?;
+    Ok(Fetched {
+        region,
+        places,
+        needed,
+    })
+}
+
 /// What a piece of one function fetches of another one, for itself and for what is computed inside its loops; none where
 /// that one is called nowhere.
 pub(crate) fn fetch_of(
@@ -510,24 +553,14 @@ pub(crate) fn fetch_of(
     user: &Root<'_>,
     inners: &[Inner<'_>],
     callee: &Root<'_>,
-) -> Result<Option<Fetched>, Stop> {
+) -> Result<Option<Fetched>, Stop>
+    ensures { IfOk result (λ found. inners.now ≡ [] → is_some found ≡
+        some_calls (stored_of callee.now.stored.now).subject.name (map formula_of user.now.formulas.now)) }
+{
     let name = callee.stored.subject.name.as_str();
     let sites = sites_of(alloc, algo, user, inners, name)?;
-    if sites.is_empty() {
+    if !is_called(alloc, user, inners, &sites, name)? {
         return Ok(None);
     }
-    let grid = grid_scope(alloc, &user.laid.skeleton.grid)?;
-    let mut region = Region::new(alloc);
-    let mut places = Vec::new(alloc);
-    for (dimension, extent) in callee.laid.region.iter().enumerate() {
-        let part = part_of(alloc, &grid, &sites, dimension, extent)?;
-        region.push(part.span)?;
-        places.push(part.places)?;
-    }
-    let needed = pieces_of(alloc, callee, &region)?;
-    Ok(Some(Fetched {
-        region,
-        places,
-        needed,
-    }))
+    Ok(Some(fetched_by(alloc, user, callee, &sites)?))
 }

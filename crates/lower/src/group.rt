@@ -1,8 +1,8 @@
 //! The group of a root function: what its pieces do, and what a certificate says of them.
 
-ghost use Rattle.std.specs.Prelude.{◌≡◌, ◌+◌, List, [], ◌∷◌, ◌++◌, IfOk, OnOk, length, map};
+ghost use Rattle.std.specs.Prelude.{◌≡◌, ◌+◌, ◌-◌, [], ◌∷◌, ◌++◌, IfOk, OnOk, map};
+ghost use Rattle.std.specs.Option.{option_map};
 ghost use Rattle.lin.specs.Regions.{IsInside};
-ghost use Rattle.plan.specs.declared.certificate.cert.Claim.{Claim as CodeClaim};
 ghost use Rattle.plan.specs.Lists.{list_statements};
 ghost use Rattle.plan.specs.View.{statement_of};
 ghost use Rattle.sched.specs.Skeleton.{nest_seen, skeleton_seen};
@@ -10,8 +10,10 @@ ghost use Rattle.lower.specs.Around.{grid_scope as grid_scope_of};
 ghost use Rattle.lower.specs.Bounded.{whole as whole_of};
 ghost use Rattle.lower.specs.Loading.{load_of};
 ghost use Rattle.lower.specs.Stored.{formula_of, stored_of};
-ghost use Rattle.lower.specs.Bodies.{AddsClaim, AreNests, Extends, IsBody, body};
-ghost use Rattle.lower.specs.Groups.{IsBodyOf, IsKnown, IsOver, IsOwnOver, KeepsKnown, grid_over as counts_over, root_of};
+ghost use Rattle.lower.specs.Bodies.{body, first_lines, step_lines};
+ghost use Rattle.lower.specs.Fetches.{fetch_seen, fetched_groups, is_fetched, last_number};
+ghost use Rattle.lower.specs.Making.{AddsClaim, BodyMade, FetchMade, FetchesMade, GroupMade, IsBegun, MayMake, NestsMade, with_first};
+ghost use Rattle.lower.specs.Groups.{IsOver, IsOwnOver, grid_over as counts_over, root_of};
 
 use crate::blocks::{Dimension, dimensions};
 use crate::error::Stop;
@@ -25,7 +27,7 @@ use crate::renaming::{renamed, renamed_places, renamed_region, renamed_span, ren
 use crate::scopes::{grid_scope, variables_of};
 use crate::sliding::{Later, fold_of, name_of};
 use crate::spots::{Host, Spot, later_at, nests_at, root_at};
-use crate::whole::{Fetch, block_of, body_with, fetch_lines, line_count, nest_of};
+use crate::whole::{Fetch, block_of, body_with, line_behind, line_count, nest_of};
 use algo::Algo;
 use lin::{Lin, Region, Sym};
 use plan::certificate::{Cert, Claim, Need, Own, Window};
@@ -145,8 +147,10 @@ impl<'a> Body<'a> {
     ) -> Result<u64, AllocError>
         ensures numbered { IfOk result (λ number. number ≡ self.old.next_claim) }
         ensures next { OnOk result (self.new.next_claim ≡ self.old.next_claim + 1) }
-        ensures claimed { OnOk result (AddsClaim function.now definition self.old.claims.items self.new.claims.items) }
+        ensures claimed { OnOk result (AddsClaim (self.old.line - 1) buffer function.now definition region self.old.claims.items self.new.claims.items) }
         ensures loads { OnOk result (self.new.loads ≡ self.old.loads) }
+        ensures needs { OnOk result (self.new.needs.items ≡ self.old.needs.items) }
+        ensures line { OnOk result (self.new.line ≡ self.old.line) }
     {
         let number = self.next_claim;
         let Some(next) = number.checked_add(1) else {
@@ -315,7 +319,9 @@ fn places_of(alloc: Global, dimensions: Vec<Dimension>) -> Result<Vec<Places>, A
 // ---- fetches
 
 // How many definitions the function has behind the pure one: the number of the last.
-fn last_definition(root: &Root<'_>) -> u64 {
+fn last_definition(root: &Root<'_>) -> u64
+    ensures { result ≡ last_number (map formula_of root.now.formulas.now) }
+{
     root.formulas.len().saturating_sub(1) as u64
 }
 
@@ -328,12 +334,15 @@ fn fetch_into<'a>(
     group: usize,
     found: Fetched,
 ) -> Result<Fetch<'a>, AllocError>
-    ensures { OnOk result (KeepsKnown body.old body.new) }
+    ensures { IfOk result (λ fetch. FetchMade number group (root_of callee.now) (fetch_seen fetch) body.old body.new) }
 {
     let name = callee.stored.subject.name.as_str();
     let buffer = body.next_buffer;
-    body.next_buffer = buffer.saturating_add(1);
-    body.line = body.line.saturating_add(FETCH_LINES);
+    let Some(next) = buffer.checked_add(1) else {
+        return Err(AllocError);
+    };
+    let line = line_behind(body.line, FETCH_LINES)?;
+    body.line = line;
     body.needs.push(Need {
         group: number as u64,
         needed: group as u64,
@@ -345,6 +354,7 @@ fn fetch_into<'a>(
         function: name,
         claim,
     })?;
+    body.next_buffer = next;
     Ok(Fetch {
         buffer,
         function: name,
@@ -354,8 +364,44 @@ fn fetch_into<'a>(
     })
 }
 
-// What the piece fetches of each other function, in the order of declaration.
-fn fetches_of<'a>(
+// What the piece fetches of this function, if it is another one that is called.
+fn fetch_at<'a>(
+    alloc: Global,
+    algo: &Algo,
+    body: &mut Body<'a>,
+    callee: &Root<'a>,
+    user: &Root<'a>,
+    inners: &[Inner<'a>],
+    number: usize,
+    group: usize,
+) -> Result<Option<Fetch<'a>>, Stop>
+    ensures { IfOk result (λ fetch. inners.now ≡ [] → MayMake number (is_fetched (map formula_of user.now.formulas.now) number group (root_of callee.now))
+        group (root_of callee.now) (option_map fetch_seen fetch) body.old body.new) }
+{
+    if group == number {
+        return Ok(None);
+    }
+    match fetch_of(alloc, algo, user, inners, callee)? {
+        Some(found) => Ok(Some(fetch_into(alloc, body, callee, number, group, found)?)),
+        None => Ok(None),
+    }
+}
+
+fn put_before<'a>(
+    fetch: Option<Fetch<'a>>,
+    others: Vec<Fetch<'a>>,
+) -> Result<Vec<Fetch<'a>>, AllocError>
+    ensures { IfOk result (λ v. map fetch_seen v.items ≡ with_first (option_map fetch_seen fetch.entry) (map fetch_seen others.entry.items)) }
+{
+    let mut fetches = others;
+    if let Some(fetch) = fetch {
+        fetches.insert(0, fetch)?;
+    }
+    Ok(fetches)
+}
+
+// What the piece fetches of each other function, where these are those from this group on, in the order of declaration.
+fn fetches_from<'a>(
     alloc: Global,
     algo: &Algo,
     body: &mut Body<'a>,
@@ -363,18 +409,22 @@ fn fetches_of<'a>(
     user: &Root<'a>,
     inners: &[Inner<'a>],
     number: usize,
+    group: usize,
 ) -> Result<Vec<Fetch<'a>>, Stop>
-    ensures { OnOk result (KeepsKnown body.old body.new) }
+    ensures { IfOk result (λ v. inners.now ≡ [] → FetchesMade number
+        (fetched_groups (map formula_of user.now.formulas.now) number group (map root_of roots.now)) (map fetch_seen v.items) body.old body.new) }
 {
-    let mut fetches = Vec::new(alloc);
-    for (group, callee) in roots.iter().enumerate() {
-        if group != number {
-            if let Some(found) = fetch_of(alloc, algo, user, inners, callee)? {
-                fetches.push(fetch_into(alloc, body, callee, number, group, found)?)?;
-            }
+    match roots {
+        [] => Ok(Vec::new(alloc)),
+        [callee, rest @ ..] => {
+            let Some(next) = group.checked_add(1) else {
+                return Err(Stop::Memory);
+            };
+            let first = fetch_at(alloc, algo, body, callee, user, inners, number, group)?;
+            let others = fetches_from(alloc, algo, body, rest, user, inners, number, next)?;
+            Ok(put_before(first, others)?)
         }
     }
-    Ok(fetches)
 }
 
 // ---- nests
@@ -728,11 +778,14 @@ impl<'a> Body<'a> {
             ++ ((stored_of cast.entry.root.now.stored.now).subject.name, claim) ∷ []) }
         ensures numbered { IfOk result (λ claim. claim ≡ self.old.next_claim) }
         ensures next { OnOk result (self.new.next_claim ≡ self.old.next_claim + 1) }
-        ensures claimed { OnOk result (AddsClaim (stored_of cast.entry.root.now.stored.now).subject.name definition
-            self.old.claims.items self.new.claims.items) }
+        ensures claimed { OnOk result (AddsClaim (self.new.line - 1) 0 (stored_of cast.entry.root.now.stored.now).subject.name definition
+            cast.entry.claimed.now self.old.claims.items self.new.claims.items) }
+        ensures line { OnOk result (self.new.line ≡ self.old.line + (step_lines nest.now.steps.items + 1)) }
+        ensures needs { OnOk result (self.new.needs.items ≡ self.old.needs.items) }
     {
-        let count = line_count(&nest.steps).saturating_add(1);
-        self.line = self.line.saturating_add(count);
+        let count = line_behind(line_count(&nest.steps)?, 1)?;
+        let line = line_behind(self.line, count)?;
+        self.line = line;
         let region = cast.claimed.copy(alloc)?;
         let function = cast.root.stored.subject.name.as_str();
         let claim = self.claim(alloc, 0, function, definition as u64, region)?;
@@ -741,7 +794,7 @@ impl<'a> Body<'a> {
     }
 
     // The nests of the definitions from this number on, in whose loops nothing is computed, each with its claim.
-    #[tactic(auto, using(crate::proofs::Claimed::extends_none, crate::proofs::Claimed::extends_added))]
+    #[tactic(auto, using(crate::proofs::Claimed::nests_none))]
     fn whole_nests(
         &mut self,
         alloc: Global,
@@ -749,10 +802,8 @@ impl<'a> Body<'a> {
         definition: usize,
         nests: &[Nest],
     ) -> Result<Vec<Stmt>, Stop>
-        ensures nests { IfOk result (λ v. (before : List CodeClaim) → length (before ++ self.old.claims.items) ≡ self.old.next_claim →
-            AreNests (stored_of cast.entry.root.now.stored.now) (map formula_of cast.entry.root.now.formulas.now)
-            (before ++ self.new.claims.items) (map load_of self.old.loads.items) definition (map nest_seen nests.now) (list_statements v.items)) }
-        ensures more { OnOk result (Extends self.old.claims.items self.new.claims.items) }
+        ensures { IfOk result (λ v. NestsMade (stored_of cast.entry.root.now.stored.now) (map formula_of cast.entry.root.now.formulas.now)
+            cast.entry.claimed.now definition (map nest_seen nests.now) (list_statements v.items) self.old self.new) }
     {
         match nests {
             [] => Ok(Vec::new(alloc)),
@@ -783,11 +834,9 @@ impl<'a> Body<'a> {
 
     // The nests of a group, with their claims.
     fn nests_of(&mut self, alloc: Global, cast: Cast<'_, 'a>) -> Result<Vec<Stmt>, Stop>
-        ensures more { OnOk result (cast.entry.inners.now ≡ [] → Extends self.old.claims.items self.new.claims.items) }
-        ensures nests { IfOk result (λ v. cast.entry.inners.now ≡ [] → (before : List CodeClaim) →
-            length (before ++ self.old.claims.items) ≡ self.old.next_claim → AreNests (stored_of cast.entry.root.now.stored.now)
-            (map formula_of cast.entry.root.now.formulas.now) (before ++ self.new.claims.items) (map load_of self.old.loads.items) 0
-            (map nest_seen cast.entry.root.now.laid.now.skeleton.nests.items) (list_statements v.items)) }
+        ensures { IfOk result (λ v. cast.entry.inners.now ≡ [] → NestsMade (stored_of cast.entry.root.now.stored.now)
+            (map formula_of cast.entry.root.now.formulas.now) cast.entry.claimed.now 0 (map nest_seen cast.entry.root.now.laid.now.skeleton.nests.items)
+            (list_statements v.items) self.old self.new) }
     {
         match cast.inners {
             [] => self.whole_nests(alloc, cast, 0, &cast.root.laid.skeleton.nests),
@@ -797,7 +846,9 @@ impl<'a> Body<'a> {
 
     // What the certificate says of it is added.
     fn certify(&mut self, certificate: &mut Cert) -> Result<(), AllocError>
-        ensures { OnOk result (certificate.new.claims.items ≡ certificate.old.claims.items ++ self.old.claims.items) }
+        ensures claims { OnOk result (certificate.new.claims.items ≡ certificate.old.claims.items ++ self.old.claims.items) }
+        ensures needs { OnOk result (certificate.new.needs.items ≡ certificate.old.needs.items ++ self.old.needs.items) }
+        ensures line { OnOk result (self.new.line ≡ self.old.line) }
     {
         certificate.needs.append(&mut self.needs)?;
         certificate.claims.append(&mut self.claims)?;
@@ -807,7 +858,8 @@ impl<'a> Body<'a> {
 
     // This is what the piece does.
     fn finish(&mut self, statements: Vec<Stmt>)
-        ensures { self.new.statements ≡ statements }
+        ensures statements { self.new.statements ≡ statements }
+        ensures line { self.new.line ≡ self.old.line }
     {
         self.statements = statements;
     }
@@ -825,14 +877,13 @@ impl<'a> Body<'a> {
 }
 
 // Before the nests of a root function, with so many functions inside: behind the lets over the grid and its buffer.
-#[tactic(auto, using(crate::proofs::Claimed::known_none))]
 fn begun<'a>(
     alloc: Global,
     beginning: Beginning,
     root: &Root<'_>,
     inners: usize,
 ) -> Result<Body<'a>, AllocError>
-    ensures { IfOk result (λ body. (before : List CodeClaim) → length before ≡ beginning.claim → IsKnown before body) }
+    ensures { IfOk result (IsBegun beginning.claim (beginning.line + first_lines (skeleton_seen root.now.laid.now.skeleton))) }
 {
     let mut buffers = Vec::new(alloc);
     for _inner in 0..inners {
@@ -840,10 +891,11 @@ fn begun<'a>(
     }
     let skeleton = &root.laid.skeleton;
     let lets = skeleton.head.len();
+    let count = line_behind(line_count(&skeleton.head)?, 2)?;
     Ok(Body {
         lines: Vec::new(alloc),
         statements: Vec::new(alloc),
-        line: beginning.line.saturating_add(lets as u64).saturating_add(2),
+        line: line_behind(beginning.line, count)?,
         needs: Vec::new(alloc),
         claims: Vec::new(alloc),
         windows: Vec::new(alloc),
@@ -911,7 +963,6 @@ fn over_grid(alloc: Global, root: &Root<'_>) -> Result<Vec<Sym>, AllocError> {
 }
 
 // What a piece of the group does; what the certificate says of it is added.
-#[tactic(auto, using(crate::proofs::Claimed::extends_appended))]
 fn body_of<'a>(
     alloc: Global,
     algo: &Algo,
@@ -922,16 +973,14 @@ fn body_of<'a>(
     beginning: Beginning,
     certificate: &mut Cert,
 ) -> Result<Body<'a>, Stop>
-    requires { length certificate.old.claims.items ≡ beginning.claim }
-    ensures more { OnOk result (Extends certificate.old.claims.items certificate.new.claims.items) }
-    ensures does { IfOk result (λ v. inners.now ≡ [] → IsBody (stored_of root.now.stored.now) (map formula_of root.now.formulas.now)
-        (skeleton_seen root.now.laid.now.skeleton) certificate.new.claims.items (body (list_statements v.statements.items))) }
+    ensures { IfOk result (λ v. inners.now ≡ [] → BodyMade (map root_of roots.now) beginning.number beginning.claim beginning.line
+        v.line (root_of root.now) certificate.old.claims.items certificate.new.claims.items certificate.old.needs.items certificate.new.needs.items
+        (body (list_statements v.statements.items))) }
 {
     let claimed = claim_region(alloc, &dimensions)?;
     let mut body = begun(alloc, beginning, root, inners.len())?;
     let number = beginning.number;
-    let fetches = fetches_of(alloc, algo, &mut body, roots, root, inners, number)?;
-    let fetches = fetch_lines(alloc, fetches)?;
+    let fetches = fetches_from(alloc, algo, &mut body, roots, root, inners, number, 0)?;
     let cast = Cast {
         root,
         inners,
@@ -975,11 +1024,11 @@ pub(crate) fn group_of<'a>(
     beginning: Beginning,
     certificate: &mut Cert,
 ) -> Result<Made, Stop>
-    requires { length certificate.old.claims.items ≡ beginning.claim }
     ensures over { IfOk result (λ made. IsOver (root_of root.now) made.group) }
     ensures own { IfOk result (λ made. IsOwnOver (root_of root.now) beginning.number made.own) }
-    ensures does { IfOk result (λ made. inners.now ≡ [] → IsBodyOf certificate.new.claims.items (root_of root.now) made.group) }
-    ensures more { OnOk result (Extends certificate.old.claims.items certificate.new.claims.items) }
+    ensures does { IfOk result (λ made. inners.now ≡ [] → GroupMade (map root_of roots.now) beginning.number beginning.claim beginning.line
+        made.line (root_of root.now) certificate.old.claims.items certificate.new.claims.items certificate.old.needs.items
+        certificate.new.needs.items made.group) }
 {
     let dimensions = dimensions(alloc, root.stored, root.laid)?;
     let own = own_region(alloc, root, &dimensions)?;
@@ -999,6 +1048,6 @@ pub(crate) fn group_of<'a>(
             group: beginning.number as u64,
             region: own,
         },
-        line: body.line.saturating_add(1),
+        line: line_behind(body.line, 1)?,
     })
 }

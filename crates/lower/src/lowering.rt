@@ -10,8 +10,8 @@ ghost use Rattle.lower.specs.declared.error.LowerError.TheVariants.{Broken};
 ghost use Rattle.lower.specs.Stored.{stored_of, stored_of_all};
 ghost use Rattle.lower.specs.Regions.{laid_of, laid_functions};
 ghost use Rattle.lower.specs.Faults.{are_whole};
-ghost use Rattle.lower.specs.Bodies.{Extends};
-ghost use Rattle.lower.specs.Groups.{AreAlone, AreBodies, AreGroupsMade, AreMade, IsAlone, IsBodyOf, IsOver, IsOwnOver, IsPlanOf, party_of, rooted};
+ghost use Rattle.lower.specs.Making.{GroupMade};
+ghost use Rattle.lower.specs.Groups.{AreAlone, AreBodies, AreGroupsMade, AreMade, BodiesMade, IsAlone, IsOver, IsOwnOver, IsPlanOf, party_of, root_of, rooted};
 ghost use Rattle.lower.specs.Refused.{Answers, AreSmall, AreRegionsKept, AreUsesInside, IsRefused, IsUnplanned, IsPlaced};
 
 use crate::definitions::{Stored, stored_functions};
@@ -59,7 +59,8 @@ fn declaration(alloc: Global, port: &Port) -> Result<Declaration, AllocError> {
 }
 
 fn empty_certificate(alloc: Global) -> Cert
-    ensures { result.claims.items ≡ [] }
+    ensures claims { result.claims.items ≡ [] }
+    ensures needs { result.needs.items ≡ [] }
 {
     Cert {
         own: Vec::new(alloc),
@@ -79,11 +80,11 @@ fn group_at<'a>(
     beginning: Beginning,
     certificate: &mut Cert,
 ) -> Result<Made, LowerError>
-    requires { length certificate.old.claims.items ≡ beginning.claim }
     ensures over { IfOk result (λ made. IsOver (party_of party.now) made.group) }
     ensures own { IfOk result (λ made. IsOwnOver (party_of party.now) beginning.number made.own) }
-    ensures does { IfOk result (λ made. IsAlone party.now → IsBodyOf certificate.new.claims.items (party_of party.now) made.group) }
-    ensures more { OnOk result (Extends certificate.old.claims.items certificate.new.claims.items) }
+    ensures does { IfOk result (λ made. IsAlone party.now → GroupMade (map root_of roots.now) beginning.number beginning.claim beginning.line
+        made.line (party_of party.now) certificate.old.claims.items certificate.new.claims.items certificate.old.needs.items
+        certificate.new.needs.items made.group) }
     ensures unplanned { IfErr result IsUnplanned }
 {
     let unbounded = LowerError::Broken(RegionRule::Unbounded, party.root.stored.subject.name);
@@ -122,7 +123,7 @@ fn put_first(
 
 // The groups of these root functions, of which the first begins so, and what their pieces own; the rest that the certificate says of
 // them is added to it.
-#[tactic(auto, using(crate::proofs::Made::made_first, crate::proofs::Claimed::extends_more, crate::proofs::Claimed::extends_none))]
+#[tactic(auto, using(crate::proofs::Made::made_first, crate::proofs::Claimed::bodies_none))]
 fn groups_from<'a>(
     alloc: Global,
     algo: &Algo,
@@ -133,8 +134,9 @@ fn groups_from<'a>(
 ) -> Result<(Vec<Group>, Vec<Own>), LowerError>
     requires { length certificate.old.claims.items ≡ beginning.claim }
     ensures made { IfOk result (λ v. AreMade (map party_of parties.now) beginning.number v.0.items v.1.items) }
-    ensures bodies { IfOk result (λ v. AreAlone parties.now → AreBodies certificate.new.claims.items (map party_of parties.now) v.0.items) }
-    ensures more { OnOk result (Extends certificate.old.claims.items certificate.new.claims.items) }
+    ensures bodies { IfOk result (λ v. AreAlone parties.now → BodiesMade (map root_of roots.now) beginning.number beginning.claim beginning.line
+        (map party_of parties.now) v.0.items certificate.old.claims.items certificate.new.claims.items
+        certificate.old.needs.items certificate.new.needs.items) }
     ensures unplanned { IfErr result IsUnplanned }
 {
     let [party, rest @ ..] = parties else {
@@ -154,6 +156,7 @@ fn groups_from<'a>(
 }
 
 // The groups of all root functions, in the order of declaration, and the certificate.
+#[tactic(auto, using(crate::proofs::Claimed::bodies_all))]
 fn groups_of<'a>(
     alloc: Global,
     algo: &Algo,
@@ -161,7 +164,8 @@ fn groups_of<'a>(
     parties: &[Party<'a>],
 ) -> Result<(Vec<Group>, Cert), LowerError>
     ensures made { IfOk result (λ v. AreMade (map party_of parties.now) 0 v.0.items v.1.own.items) }
-    ensures bodies { IfOk result (λ v. AreAlone parties.now → AreBodies v.1.claims.items (map party_of parties.now) v.0.items) }
+    ensures bodies { IfOk result (λ v. AreAlone parties.now → AreBodies (map root_of roots.now) 0 0 4 (map party_of parties.now) v.0.items
+        v.1.claims.items v.1.needs.items) }
     ensures unplanned { IfErr result IsUnplanned }
 {
     let mut certificate = empty_certificate(alloc);

@@ -10,6 +10,7 @@ ghost use Rattle.sched.specs.Runs.{lines_to as steps_to};
 ghost use Rattle.sched.specs.Skeleton.{nest_seen, skeleton_seen};
 ghost use Rattle.lower.specs.Loading.{load_of};
 ghost use Rattle.lower.specs.Stored.{formula_of, stored_of};
+ghost use Rattle.lower.specs.Fetches.{fetch_seen, with_fetch, with_fetches};
 ghost use Rattle.lower.specs.Bodies as spec;
 
 use crate::error::Stop;
@@ -107,17 +108,34 @@ pub(crate) fn lines_to(
     }
 }
 
-/// How many lines the steps make: a loop and a guard have an `end`.
-pub(crate) fn line_count(steps: &[Step]) -> u64 {
-    let mut count: u64 = 0;
-    for step in steps {
-        let own = match step {
-            Step::Named { .. } => 1,
-            Step::Turns { .. } | Step::Tested { .. } => 2,
-        };
-        count = count.saturating_add(own);
+/// The line that stands so many lines behind another one.
+pub(crate) fn line_behind(line: u64, count: u64) -> Result<u64, AllocError>
+    ensures { IfOk result (λ behind. behind ≡ line + count) }
+{
+    match line.checked_add(count) {
+        Some(behind) => Ok(behind),
+        None => Err(AllocError),
     }
-    count
+}
+
+// How many lines a step makes: a loop and a guard have an `end`.
+fn own_lines(step: &Step) -> u64
+    ensures { result ≡ spec.own_lines step.now }
+{
+    match step {
+        Step::Named { .. } => 1,
+        Step::Turns { .. } | Step::Tested { .. } => 2,
+    }
+}
+
+/// How many lines the steps make.
+pub(crate) fn line_count(steps: &[Step]) -> Result<u64, AllocError>
+    ensures { IfOk result (λ count. count ≡ spec.step_lines steps.now) }
+{
+    match steps {
+        [] => Ok(0),
+        [step, rest @ ..] => line_behind(own_lines(step), line_count(rest)?),
+    }
 }
 
 // ---- stores
@@ -231,14 +249,13 @@ pub(crate) fn nest_of(
 
 // ---- fetches
 
-// The lines of these fetches before others.
-fn before_fetches(
+// The lines of a fetch before others.
+fn before_others(
     alloc: Global,
     fetch: Fetch<'_>,
     others: Vec<Stmt>,
 ) -> Result<Vec<Stmt>, AllocError>
-    requires { spec.AreFetches (list_statements others.items) }
-    ensures { IfOk result (λ v. spec.AreFetches (list_statements v.items)) }
+    ensures { IfOk result (λ v. list_statements v.items ≡ with_fetch (fetch_seen fetch.entry) (list_statements others.items)) }
 {
     let function = String::from_str(alloc, fetch.function)?;
     let mut statements = others;
@@ -261,33 +278,37 @@ fn before_fetches(
     Ok(statements)
 }
 
-/// The lines of these fetches, in their order.
-pub(crate) fn fetch_lines(alloc: Global, fetches: Vec<Fetch<'_>>) -> Result<Vec<Stmt>, AllocError>
-    ensures { IfOk result (λ v. spec.AreFetches (list_statements v.items)) }
+// The lines of these fetches, in their order, before others.
+#[tactic(auto, using(crate::proofs::Wholes::with_popped))]
+fn before_all(
+    alloc: Global,
+    fetches: Vec<Fetch<'_>>,
+    others: Vec<Stmt>,
+) -> Result<Vec<Stmt>, AllocError>
+    ensures { IfOk result (λ v. list_statements v.items ≡ with_fetches (map fetch_seen fetches.entry.items) (list_statements others.items)) }
 {
-    let mut fetches = fetches;
-    let mut statements = Vec::new(alloc);
-    while let Some(fetch) = fetches.pop() {
-        statements = before_fetches(alloc, fetch, statements)?;
+    let mut left = fetches;
+    let mut statements = others;
+    while let Some(fetch) = left.pop() {
+        statements = before_others(alloc, fetch, statements)?;
     }
     Ok(statements)
 }
 
 // ---- the whole
 
-/// What a piece does: the lets over the grid, its buffer, what it fetches, these nests, and what it publishes.
+/// What a piece does: the lets over the grid, its buffer, what it fetches, these nests, and by which claim it publishes.
 #[tactic(auto, using(crate::proofs::Wholes::body_made))]
 pub(crate) fn body_with(
     alloc: Global,
     root: &Root<'_>,
     places: Vec<Places>,
-    fetches: Vec<Stmt>,
+    fetches: Vec<Fetch<'_>>,
     nests: Vec<Stmt>,
     claim: u64,
 ) -> Result<Vec<Stmt>, Stop>
-    requires { spec.AreFetches (list_statements fetches.items) }
     ensures { IfOk result (λ v. spec.IsBodyWith (stored_of root.now.stored.now) (skeleton_seen root.now.laid.now.skeleton)
-        (list_statements nests.items) (spec.body (list_statements v.items))) }
+        (map fetch_seen fetches.entry.items) (list_statements nests.items) claim (spec.body (list_statements v.items))) }
 {
     let function = String::from_str(alloc, root.stored.subject.name.as_str())?;
     let own = Stmt::Alloc {
@@ -295,10 +316,9 @@ pub(crate) fn body_with(
         function,
         places,
     };
-    let mut nests = nests;
-    nests.push(Stmt::Publish { claim })?;
-    let mut inner = fetches;
-    inner.append(&mut nests)?;
+    let mut last = nests;
+    last.push(Stmt::Publish { claim })?;
+    let mut inner = before_all(alloc, fetches, last)?;
     inner.insert(0, own)?;
     Ok(lines_to(alloc, &root.laid.skeleton.head, inner)?)
 }

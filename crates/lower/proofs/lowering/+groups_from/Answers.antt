@@ -1,6 +1,6 @@
-use Rattle.std.proofs.Common.{◌-◌, List, length, map, take, drop, sym, subst}
+use Rattle.std.proofs.Common.{◌≡◌, ◌+◌, ◌-◌, List, length, map, take, drop, sym, subst, arith}
 use Rattle.lower.specs.declared.parties.Party.{Party}
-use Rattle.lower.specs.Groups.{AreAlone, AreBodies, IsAlone, party_of}
+use Rattle.lower.specs.Groups.{AreAlone, BodiesMade, party_of, root_of}
 use Rattle.lower.proofs.Claimed.{bodies_first, one_first}
 use Rattle.lower.proofs.lowering.+groups_from.Goals as goal
 
@@ -11,10 +11,18 @@ returns-clause-bodies t c = λ alone.
     let rest = take (length ps - 1) (drop 1 ps) in
     let split = one_first ps p c.in-len1-up.len_at_least c.party-item.is in
     let each = subst AreAlone split alone in
-    let last = c.groups_from.new.certificate.claims.items in
+    let all = map root_of c.args.roots.now in
+    let n = c.args.beginning.number in
+    let first = c.args.beginning.claim in
+    let old = c.args.certificate.now in
+    let mid = c.group_at.new.certificate in
+    let new = c.groups_from.new.certificate in
     let group = c.in_ok-group.field-0.group in
     let behind = c.in_ok-others.others.0.items in
-    let all = c.in_ok-put_first.field-0.0.items in
-    subst (λ (l : List Party). AreBodies last (map party_of l) all) (sym split)
-    (bodies_first c.group_at.new.certificate.claims.items last (party_of p) (map party_of rest) group behind all (IsAlone p) (AreAlone rest)
-    c.in_ok-group.ensures.does c.in_ok-others.ensures.more c.in_ok-others.ensures.bodies c.in_ok-put_first.ensures.groups each.0 each.1)
+    let groups = c.in_ok-put_first.field-0.0.items in
+    let line = c.args.beginning.line in
+    let next : c.in-Some.number ≡ n + 1 = omega (arith, c.in-Some.ensures) in
+    let made = bodies_first all n c.in-Some.number first c.len.result line c.in_ok-group.field-0.line (party_of p)
+    (map party_of rest) group behind groups old.claims.items mid.claims.items new.claims.items old.needs.items mid.needs.items
+    new.needs.items (c.in_ok-group.ensures.does each.0) (c.in_ok-others.ensures.bodies each.1) next c.requires (omega (arith, c.len.ensures)) c.in_ok-put_first.ensures.groups in
+    subst (λ (l : List Party). BodiesMade all n first line (map party_of l) groups old.claims.items new.claims.items old.needs.items new.needs.items) (sym split) made

@@ -1,22 +1,23 @@
-use Rattle.std.proofs.Common.{◌≡◌, ℕ, ◌+◌, ◌-◌, List, ◌++◌, length, map, take, drop, sym, subst, arith}
+use Rattle.std.proofs.Common.{◌≡◌, ◌+◌, ◌-◌, List, length, map, take, drop, refl, sym, subst, arith}
 use Rattle.plan.specs.Lists.{list_statements}
 use Rattle.sched.specs.declared.nest.Nest.{Nest}
 use Rattle.sched.specs.Skeleton.{nest_seen}
 use Rattle.lower.specs.declared.loading.Load.{Load}
 use Rattle.lower.specs.Loading.{load_of}
 use Rattle.lower.specs.Stored.{formula_of, stored_of}
-use Rattle.lower.specs.Bodies.{IsNest, AreNests}
+use Rattle.lower.specs.Bodies.{IsNest}
+use Rattle.lower.specs.Making.{NestsMade}
 use Rattle.lower.proofs.Claimed.{nests_made, one_first}
 use Rattle.lower.proofs.group.Body.+whole_nests.Goals as goal
 
-pub returns-in_ok-append-in-len1-up-clause-nests : goal.returns-in_ok-append-in-len1-up-clause-nests
-returns-in_ok-append-in-len1-up-clause-nests t c = λ before counted.
+pub returns-in_ok-append-in-len1-up : goal.returns-in_ok-append-in-len1-up
+returns-in_ok-append-in-len1-up t c =
     let g = stored_of c.args.cast.root.now.stored.now in
     let fs = map formula_of c.args.cast.root.now.formulas.now in
+    let r = c.args.cast.claimed.now in
     let old = c.args.self.now in
     let one = c.claim_whole.new.self in
     let new = c.whole_nests.new.self in
-    let ls = map load_of old.loads.items in
     let d = c.args.definition in
     let ns = c.args.nests.now in
     let n = c.nest-item.result in
@@ -25,9 +26,9 @@ returns-in_ok-append-in-len1-up-clause-nests t c = λ before counted.
     let ys = c.in_ok-others-in-len1-up.others.items in
     let zs = c.append.new.self.items in
     let own = c.in_ok-claim_whole-in-len1-up in
-    let later = c.in_ok-others-in-len1-up.ensures in
     let here = subst (λ (l : List Load). IsNest g fs (map load_of l) d (nest_seen n) (list_statements xs)) c.deref.ensures.value c.in_ok-first-in-len1-up.ensures in
     let next : c.in-Some.next ≡ d + 1 = omega (arith, c.in-Some.ensures) in
-    let made = nests_made g fs ls d (nest_seen n) before old.claims.items one.claims.items new.claims.items own.field-0 old.next_claim one.next_claim c.in-Some.next (map load_of one.loads.items)
-    (map nest_seen rest) xs ys zs here own.ensures.claimed later.more own.ensures.numbered own.ensures.next own.ensures.loaded later.nests next c.in_ok-append-in-len1-up.ensures.items counted in
-    subst (λ (l : List Nest). AreNests g fs (before ++ new.claims.items) ls d (map nest_seen l) (list_statements zs)) (sym (one_first ns n c.in-len1-up.len_at_least c.nest-item.is)) made
+    let made = nests_made g fs r d (nest_seen n) (map nest_seen rest) c.in-Some.next own.field-0
+    (one.line - 1) xs ys zs old one new here own.ensures.claimed own.ensures.next own.ensures.numbered own.ensures.loaded own.ensures.needs
+    c.in_ok-others-in-len1-up.ensures next c.in_ok-append-in-len1-up.ensures.items own.ensures.line refl in
+    subst (λ (l : List Nest). NestsMade g fs r d (map nest_seen l) (list_statements zs) old new) (sym (one_first ns n c.in-len1-up.len_at_least c.nest-item.is)) made
