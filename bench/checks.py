@@ -109,6 +109,9 @@ PLANS = {
     "65,000 need lines whose ends move together and never meet, and 2^20 pieces": lambda: self_needs(
         65000, lambda i: f"1+1000*s0,{-i}-1*s0:0+1000*s0,{70000 - i}+2000*s0"
     ),
+    "65,000 need lines that name the same piece at most of 2^20 pieces": lambda: self_needs(
+        65000, lambda i: f"0,{i}-1*s0:0,{524288 + i}-1*s0"
+    ),
 }
 
 

@@ -1,6 +1,6 @@
 -- Pieces that stand one after another, and the need lines that are looked at for them.
 use Rattle.std.proofs.Common.{◌≡◌, ℕ, zero, suc, ◌+◌, ◌<◌, ◌≤◌, ◌^◌, List, [], ◌∷◌, ◌++◌, length, map, take, drop, get_or, min, max, Option, Some, None, ap, refl, sym, ◌∙◌, subst, arith, inl, inr, Bor}
-use Rattle.std.specs.Prelude.{All, Contains, MatchOption, ◌⊎◌, slice_get}
+use Rattle.std.specs.Prelude.{All, Contains, MatchOption, ◌⊎◌, slice_get, slice_set}
 use Rattle.std.specs.List.{AllByRecursion}
 use Rattle.std.proofs.lemmas.List.{take_all, take_more}
 use Rattle.std.proofs.lemmas.List.Elements.{recursion_from_All, All-from_recursion, Contains-append_left, Contains-append_right, Contains-append_cases}
@@ -20,7 +20,9 @@ use Rattle.shares.specs.Filed.{AreLinesOf}
 use Rattle.shares.specs.Shared.{IsLike, NeedIsShared}
 use Rattle.shares.specs.Blocks.{AreHighs, AreLows, AreOf, AreThoseAt, AreThoseBetween, HaveLinesOf, IsBlockFrom, IsBlockOf, IsWalkFrom, LinesAreLimited, StandFor}
 use Rattle.shares.specs.Corners.{IsBetween}
+use Rattle.shares.specs.Outer.{AreOuterAt}
 use Rattle.shares.proofs.Groups.{all_at_place, some_same}
+use Rattle.shares.proofs.Repeating.{at_on, at_self, no_points_in}
 
 -- ---- what holds of all
 
@@ -169,7 +171,7 @@ module _ (xs : List Seat) (low high : List ℕ) (count : ℕ) where
   pub all_between : AreLows xs low → AreHighs xs high → length high ≡ count → All (λ x. length x.at.items ≤ count) xs → All (λ x. IsBetween low high x.at.items) xs
   all_between h k long all n d less i = (low_is h n d less i, high_is k long all n d less i)
 
--- ---- lines of which those that name no point are left out
+-- ---- lines of which those that name no point, or no more than another, are left out
 
 only : (x m : Need) (k : ℕ) → k < length (x ∷ []) → get_or (x ∷ []) k m ≡ m → x ≡ m
 only x m zero less e = e
@@ -178,15 +180,20 @@ only x m (suc k) less e = absurd (omega (arith, less))
 pub those_self : (at : List ℕ) (ms ns : List Need) → ms ≡ ns → AreThoseAt at ms ns
 those_self at ms ns e = record {
   among = λ m h. subst (λ (ks : List Need). Contains ks m) e h;
-  left = λ n h. inl (subst (λ (ks : List Need). Contains ks n) (sym e) h);
+  left = λ n h. inl (n, subst (λ (ks : List Need). Contains ks n) (sym e) h, at_self at n);
 }
 
-pub those_kept : (at : List ℕ) (ms ns : List Need) (n : Need) → AreThoseAt at ms ns → AreThoseAt at (ms ++ n ∷ []) (ns ++ n ∷ [])
-those_kept at ms ns n h = record {
-  among = λ m has. elim (Contains-append_cases ms (n ∷ []) m has) [ inl a ↦ Contains-append_left ns (n ∷ []) m (h.among m a) | inr b ↦ Contains-append_right ns (n ∷ []) m b ];
+pub those_kept : (at : List ℕ) (ms ns now : List Need) (n : Need) → AreOuterAt at now (ms ++ n ∷ []) → AreThoseAt at ms ns → AreThoseAt at now (ns ++ n ∷ [])
+those_kept at ms ns now n more h = record {
+  among = λ m has. elim (Contains-append_cases ms (n ∷ []) m (more.among m has)) [ inl a ↦ Contains-append_left ns (n ∷ []) m (h.among m a) | inr b ↦ Contains-append_right ns (n ∷ []) m b ];
   left = λ m has. elim (Contains-append_cases ns (n ∷ []) m has) [
-    | inl a ↦ elim (h.left m a) [ inl b ↦ inl (Contains-append_left ms (n ∷ []) m b) | inr e ↦ inr e ]
-    | inr b ↦ inl (Contains-append_right ms (n ∷ []) m b)
+    | inl a ↦ elim (h.left m a) [
+      | inl one ↦
+          let two = more.all one.0 (Contains-append_left ms (n ∷ []) one.0 one.1) in
+          inl (two.0, two.1, at_on at m one.0 two.0 one.2 two.2)
+      | inr e ↦ inr e
+    ]
+    | inr b ↦ inl (more.all m (Contains-append_right ms (n ∷ []) m b))
   ];
 }
 
@@ -202,7 +209,13 @@ those_left at ms ns n none h = record {
 those_on : (at : List ℕ) (ks ms ns : List Need) → AreThoseAt at ks ms → AreThoseAt at ms ns → AreThoseAt at ks ns
 those_on at ks ms ns h l = record {
   among = λ m has. l.among m (h.among m has);
-  left = λ n has. elim (l.left n has) [ inl a ↦ h.left n a | inr e ↦ inr e ];
+  left = λ n has. elim (l.left n has) [
+    | inl one ↦ elim (h.left one.0 one.1) [
+      | inl two ↦ inl (two.0, two.1, at_on at n one.0 two.0 one.2 two.2)
+      | inr e ↦ inr (no_points_in at n one.0 one.2 e)
+    ]
+    | inr e ↦ inr e
+  ];
 }
 
 -- ---- lines within the limits
@@ -219,6 +232,58 @@ pub lent_limited : (ls : List (Bor Need)) (k : ℕ) (d : Bor Need) → k < lengt
 lent_limited [] k d less is h = absurd (omega (arith, less))
 lent_limited (x ∷ xs) zero d less is h = subst (λ (b : Bor Need). IsLimited b.now.region) (sym is) (h 0 x.now (omega arith))
 lent_limited (x ∷ xs) (suc k) d less is h = lent_limited xs k d (omega (arith, less)) is (λ j e within. h (suc j) e (omega (arith, within)))
+
+pub option_at : {A : Type 0} (P Q : A → Type 0) → ((x : A) → P x → Q x) → (o : Option A) → MatchOption o ⊥ P → MatchOption o ⊥ Q
+option_at P Q on None h = absurd h
+option_at P Q on (Some x) h = on x h
+
+abbrev Limited : List (Bor Need) → Type 0
+Limited ls = LinesAreLimited (map (λ (n : Bor Need). n.now) ls)
+
+abbrev EachLimited : List (Bor Need) → Type 0
+EachLimited ls = AllByRecursion (λ (n : Need). IsLimited n.region) (map (λ (n : Bor Need). n.now) ls)
+
+each_limited : (ls : List (Bor Need)) → Limited ls → EachLimited ls
+each_limited ls h = recursion_from_All (λ (n : Need). IsLimited n.region) (map (λ (n : Bor Need). n.now) ls) h
+
+all_limited : (ls : List (Bor Need)) → EachLimited ls → Limited ls
+all_limited ls h = All-from_recursion (λ (n : Need). IsLimited n.region) (map (λ (n : Bor Need). n.now) ls) h
+
+drop_limited : (ls : List (Bor Need)) (k : ℕ) → EachLimited ls → EachLimited (drop k ls)
+drop_limited [] zero h = tt
+drop_limited [] (suc k) h = tt
+drop_limited (x ∷ ls) zero h = h
+drop_limited (x ∷ ls) (suc k) h = drop_limited ls k h.1
+
+take_limited : (ls : List (Bor Need)) (k : ℕ) → EachLimited ls → EachLimited (take k ls)
+take_limited [] zero h = tt
+take_limited [] (suc k) h = tt
+take_limited (x ∷ ls) zero h = tt
+take_limited (x ∷ ls) (suc k) h = (h.0, take_limited ls k h.1)
+
+-- some lines behind a place
+pub limited_behind : (ls : List (Bor Need)) (k many : ℕ) → Limited ls → Limited (take many (drop k ls))
+limited_behind ls k many h = all_limited (take many (drop k ls)) (take_limited (drop k ls) many (drop_limited ls k (each_limited ls h)))
+
+set_limited : (ls : List (Bor Need)) (k : ℕ) (b : Bor Need) → EachLimited ls → IsLimited b.now.region → EachLimited (slice_set ls k b)
+set_limited [] k b h this = tt
+set_limited (x ∷ ls) zero b h this = (this, h.1)
+set_limited (x ∷ ls) (suc k) b h this = (h.0, set_limited ls k b h.1 this)
+
+-- a line in the place of another
+pub limited_set : (ls : List (Bor Need)) (k : ℕ) (b : Bor Need) → Limited ls → IsLimited b.now.region → Limited (slice_set ls k b)
+limited_set ls k b h this = all_limited (slice_set ls k b) (set_limited ls k b (each_limited ls h) this)
+
+push_limited : (ls : List (Bor Need)) (b : Bor Need) → EachLimited ls → IsLimited b.now.region → EachLimited (ls ++ b ∷ [])
+push_limited [] b h this = (this, tt)
+push_limited (x ∷ ls) b h this = (h.0, push_limited ls b h.1 this)
+
+-- one more
+pub limited_last : (ls now : List (Bor Need)) (b : Bor Need) → now ≡ ls ++ b ∷ [] → Limited ls → IsLimited b.now.region → Limited now
+limited_last ls now b e h this = subst Limited (sym e) (all_limited (ls ++ b ∷ []) (push_limited ls b (each_limited ls h) this))
+
+pub limited_none : (ls : List (Bor Need)) → ls ≡ [] → Limited ls
+limited_none ls e = subst Limited (sym e) (all_limited [] tt)
 
 pub lines_limited : (p : Plan) (g : ℕ) (ns : List Need) → AreLinesOf p g ns → LinesAreLimited ns
 lines_limited p g ns = all_on (λ n. (n.group ≡ g) × NeedIsShared p n) (λ n. IsLimited n.region) ns (λ n h. shared_limited p n h.1)

@@ -4,6 +4,7 @@ use Rattle.std.specs.Prelude.{ℤ, pos, negsuc, ◌+ℤ◌, ◌-ℤ◌, ◌*ℤ�
 use Rattle.std.specs.Int.{int_max, int_min}
 use Rattle.std.specs.List.{AllByRecursion}
 use Rattle.std.proofs.lemmas.Bool.{leb-false}
+use Rattle.std.proofs.lemmas.Bool.Decides.{nat_tests}
 use Rattle.std.proofs.lemmas.Int.{ints, clamps}
 use Rattle.lin.specs.Forms.{Form, sum_of, AreWithin, IsWithin, is_within_limits}
 use Rattle.lin.specs.declared.form.Multiple.{Multiple}
@@ -142,6 +143,44 @@ max_most a b c h k = omega (arith, ints, clamps, h, k)
 
 min_least : (a b c : ℤ) → c ≤ℤ a → c ≤ℤ b → c ≤ℤ int_min a b
 min_least a b c h k = omega (arith, ints, clamps, h, k)
+
+module _ (s : Symbols) (z : ℤ) where
+  fold_max_most : (b : ℤ) (fs : List Form) → b ≤ℤ z → AllByRecursion (λ f. form_value f s ≤ℤ z) fs → fold int_max b (map (λ m. form_value m s) fs) ≤ℤ z
+  fold_max_most b [] h every = h
+  fold_max_most b (f ∷ fs) h every = fold_max_most (int_max b (form_value f s)) fs (max_most b (form_value f s) z h every.0) every.1
+
+  fold_min_least : (b : ℤ) (fs : List Form) → z ≤ℤ b → AllByRecursion (λ f. z ≤ℤ form_value f s) fs → z ≤ℤ fold int_min b (map (λ m. form_value m s) fs)
+  fold_min_least b [] h every = h
+  fold_min_least b (f ∷ fs) h every = fold_min_least (int_min b (form_value f s)) fs (min_least b (form_value f s) z h every.0) every.1
+
+  -- of some forms none of which is more, or less, than a number
+  pub largest_most : (fs : List Form) → 0 < length fs → AllByRecursion (λ f. form_value f s ≤ℤ z) fs → largest s fs ≤ℤ z
+  largest_most [] some every = absurd (omega (arith, some))
+  largest_most (f ∷ fs) some every = fold_max_most (form_value f s) fs every.0 every.1
+
+  pub smallest_least : (fs : List Form) → 0 < length fs → AllByRecursion (λ f. z ≤ℤ form_value f s) fs → z ≤ℤ smallest s fs
+  smallest_least [] some every = absurd (omega (arith, some))
+  smallest_least (f ∷ fs) some every = fold_min_least (form_value f s) fs every.0 every.1
+
+zero_if : (n : ℕ) (b : Bool) → b ≡ (n == 0) → b ≡ true → n ≡ 0
+zero_if n b e is = let none : (n == 0) ≡ true = sym e ∙ is in grind (arith, nat_tests)
+
+-- of none and none
+largest_of_none : (s : Symbols) (fs gs : List Form) → length gs ≡ 0 → length fs ≡ 0 → largest s gs ≤ℤ largest s fs
+largest_of_none s [] [] e f = omega (arith, ints)
+largest_of_none s (x ∷ fs) [] e f = absurd (omega (arith, f))
+largest_of_none s fs (g ∷ gs) e f = absurd (omega (arith, e))
+
+smallest_of_none : (s : Symbols) (fs gs : List Form) → length gs ≡ 0 → length fs ≡ 0 → smallest s fs ≤ℤ smallest s gs
+smallest_of_none s [] [] e f = omega (arith, ints)
+smallest_of_none s (x ∷ fs) [] e f = absurd (omega (arith, f))
+smallest_of_none s fs (g ∷ gs) e f = absurd (omega (arith, e))
+
+pub largest_none : (s : Symbols) (fs gs : List Form) (b d : Bool) → b ≡ (length gs == 0) → b ≡ true → d ≡ (length fs == 0) → d ≡ true → largest s gs ≤ℤ largest s fs
+largest_none s fs gs b d e is f also = largest_of_none s fs gs (zero_if (length gs) b e is) (zero_if (length fs) d f also)
+
+pub smallest_none : (s : Symbols) (fs gs : List Form) (b d : Bool) → b ≡ (length gs == 0) → b ≡ true → d ≡ (length fs == 0) → d ≡ true → smallest s fs ≤ℤ smallest s gs
+smallest_none s fs gs b d e is f also = smallest_of_none s fs gs (zero_if (length gs) b e is) (zero_if (length fs) d f also)
 
 pub some_forms : (fs : List Form) (b : Bool) → b ≡ (length fs == 0) → b ≡ false → 0 < length fs
 some_forms [] b e f = absurd (cc (sym e ∙ f))

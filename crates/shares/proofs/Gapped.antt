@@ -1,6 +1,7 @@
 -- How much upper ends pass lower ends at most between two corners of a box of grid points.
-use Rattle.std.proofs.Common.{◌≡◌, ℕ, zero, suc, ◌+◌, ◌-◌, ◌*◌, ◌<◌, ◌≤◌, ◌^◌, List, [], ◌∷◌, length, take, drop, get_or, ap, sym, ◌∙◌, subst, arith, lit<, Bool, false}
-use Rattle.std.specs.Prelude.{ℤ, pos, ◌+ℤ◌, ◌-ℤ◌, ◌*ℤ◌, ◌≤ℤ◌, ◌<ℤ◌, ◌==◌}
+use Rattle.std.proofs.Common.{◌≡◌, ℕ, zero, suc, ◌+◌, ◌-◌, ◌*◌, ◌<◌, ◌≤◌, ◌^◌, List, [], ◌∷◌, length, take, drop, get_or, ap, sym, ◌∙◌, subst, arith, lit<, Bool, true, false}
+use Rattle.std.specs.Prelude.{ℤ, pos, ◌+ℤ◌, ◌-ℤ◌, ◌*ℤ◌, ◌≤ℤ◌, ◌<ℤ◌, ◌==◌, int_le}
+use Rattle.std.proofs.lemmas.Bool.Decides.{nat_tests}
 use Rattle.std.proofs.lemmas.Int.{ints, to_z-of_z}
 use Rattle.std.proofs.lemmas.List.{length-drop, take_all}
 use Rattle.std.proofs.Math.IntN.{*ℤ_comm}
@@ -212,3 +213,27 @@ never_meets s x k u less is past =
 pub never_meets_at : (s : Symbols) (x : Span1) (us ls : List Form) → us ≡ x.upper → ls ≡ x.lower → (k : ℕ) (u : Form) → k < length us → u ≡ get_or us k u → form_value u s <ℤ largest s ls → turns s x ≡ []
 never_meets_at s x us ls e f k u less is past =
     never_meets s x k u (subst (λ (fs : List Form). k < length fs) e less) (subst (λ (fs : List Form). u ≡ get_or fs k u) e is) (subst (λ (fs : List Form). form_value u s <ℤ largest s fs) f past)
+
+-- ---- a form that is at most another at each grid point between two
+
+pub not_more : (z : ℤ) → int_le z (pos 0) ≡ true → z ≤ℤ pos 0
+not_more z e = grind (arith, nat_tests, ints)
+
+at_most : (a b c z : ℤ) → (a -ℤ b) ≤ℤ z → z ≤ℤ pos 0 → b ≤ℤ c → a ≤ℤ c
+at_most a b c z h k l = omega (arith, ints, h, k, l)
+
+at_least : (a b c z : ℤ) → (a -ℤ b) ≤ℤ z → z ≤ℤ pos 0 → c ≤ℤ a → c ≤ℤ b
+at_least a b c z h k l = omega (arith, ints, h, k, l)
+
+module _ (low high : List ℕ) (f d : Form) (others : List Form) (k : ℕ) (z : ℤ) (less : k < length others) (is : d ≡ get_or others k d) (most : z ≤ℤ pos 0) where
+  pub reached_at : IsGapBelow low high f d z → (at : List ℕ) → IsBetween low high at → form_value f (grid_symbols at) ≤ℤ largest (grid_symbols at) others
+  reached_at h at between =
+      let s = grid_symbols at in
+      let has : form_value d s ≤ℤ largest s others = subst (λ (g : Form). form_value g s ≤ℤ largest s others) (sym is) (largest_has s others k d less) in
+      at_most (form_value f s) (form_value d s) (largest s others) z (h at between) most has
+
+  pub kept_below_at : IsGapBelow low high d f z → (at : List ℕ) → IsBetween low high at → smallest (grid_symbols at) others ≤ℤ form_value f (grid_symbols at)
+  kept_below_at h at between =
+      let s = grid_symbols at in
+      let has : smallest s others ≤ℤ form_value d s = subst (λ (g : Form). smallest s others ≤ℤ form_value g s) (sym is) (smallest_has s others k d less) in
+      at_least (form_value d s) (form_value f s) (smallest s others) z (h at between) most has

@@ -15,7 +15,7 @@ use Rattle.plan.specs.Symbols.{Symbols, clipped, form_value, largest, points, ri
 use Rattle.plan.specs.declared.certificate.cert.Need.{Need}
 use Rattle.plan.specs.Certificate.Cells.{Piece, first_piece, grid_symbols}
 use Rattle.soundness.specs.Claims.{In}
-use Rattle.soundness.proofs.Refines.{and_parts}
+use Rattle.soundness.proofs.Refines.{and_parts, eq_true}
 use Rattle.soundness.proofs.Turns.{in_map}
 use Rattle.plan.specs.View.{plan_of}
 use Rattle.plan.specs.Certificate.Certificate.{Certificate, certificate_of}
@@ -36,12 +36,13 @@ use Rattle.shares.specs.Layout.{IsLayout, needs_list}
 use Rattle.shares.specs.Seats.{piece_of}
 use Rattle.shares.specs.Gathered.{AreGathered, EachIsGathered, IsGathered, is_free, is_fixed_span, is_fixed}
 use Rattle.shares.specs.Needed.{need_grid, need_points, need_numbers, all_numbers, NeedIsInside, NeedsAreInside}
-use Rattle.shares.specs.Repeated.{AreOuterOf, LiesIn}
+use Rattle.shares.specs.Outer.{LiesAt}
+use Rattle.shares.specs.Repeated.{AreOuterOf}
 use Rattle.shares.specs.Shared.{NeedIsShared}
 use Rattle.shares.proofs.Groups.{get_some}
 use Rattle.shares.proofs.Grouped.{numbers_grouped, inside_grouped}
 use Rattle.shares.proofs.Needing.{needed_members, numbers_some}
-use Rattle.shares.proofs.Repeating.{in_mapped}
+use Rattle.shares.proofs.Repeating.{in_mapped, lies_there}
 use Rattle.shares.proofs.Seated.{piece_is, group_listed}
 
 -- ---- regions that have the same points everywhere
@@ -230,17 +231,27 @@ each_of P (x ∷ xs) h = (h x (inl refl), each_of P xs (λ y m. h y (inr m)))
 all_of : {A : Type 0} (P : A → Type 0) (xs : List A) → ((x : A) → Contains xs x → P x) → All P xs
 all_of P xs h = All-from_recursion P xs (each_of P xs (λ x m. h x (contains_of xs x m)))
 
-module _ (p : Plan) (j : Piece) (n m : Need) (lies : LiesIn n m) where
+module _ (p : Plan) (j : Piece) (n m : Need) (lies : LiesAt j.at n m) where
+  abbrev numbers_at : Need → List ℕ
+  numbers_at k = map (λ q. first_piece p.groups k.needed + rank (need_grid p k) q) (need_points j k)
+
   -- what a line names is named by one in which it lies
-  lying_numbers : m.group ≡ j.group → (i : ℕ) → Contains (need_numbers p j n) i → Contains (need_numbers p j m) i
+  lying_numbers : m.group ≡ j.group → (i : ℕ) → Contains (numbers_at n) i → Contains (need_numbers p j m) i
   lying_numbers of i has =
       let S = grid_symbols j.at in
       let number : ℕ → List ℤ → ℕ = λ h q. first_piece p.groups h + rank (grid_sides (group_grid (slice_get p.groups h))) q in
-      let found = in_map (number n.needed) i (points S n.region) (in_of (map (number n.needed) (points S n.region)) i (subst (λ (xs : List ℕ). Contains xs i) (sym (numbers_some p j n (lies.group ∙ of))) has)) in
-      let point : In found.0 (points S m.region) = in_of (points S m.region) found.0 (lies.within S found.0 (contains_of (points S n.region) found.0 found.1)) in
+      let found = in_map (number n.needed) i (points S n.region) (in_of (map (number n.needed) (points S n.region)) i has) in
+      let point : In found.0 (points S m.region) = in_of (points S m.region) found.0 (lies.within found.0 (contains_of (points S n.region) found.0 found.1)) in
       let there : In (number m.needed found.0) (map (number m.needed) (points S m.region)) = in_mapped (number m.needed) found.0 (points S m.region) point in
       let is : number m.needed found.0 ≡ i = ap (λ (h : ℕ). number h found.0) (sym lies.needed) ∙ sym found.2 in
       subst (λ (xs : List ℕ). Contains xs i) (numbers_some p j m of) (subst (λ (k : ℕ). Contains (map (number m.needed) (points S m.region)) k) is (contains_of (map (number m.needed) (points S m.region)) (number m.needed found.0) there))
+
+  lying_named : (i : ℕ) → Contains (need_numbers p j n) i → Contains (need_numbers p j m) i
+  lying_named i = of (n.group == j.group) refl
+    where
+      of : (b : Bool) → (n.group == j.group) ≡ b → Contains (if b then numbers_at n else []) i → Contains (need_numbers p j m) i
+      of true e has = lying_numbers (sym lies.group ∙ eq_true n.group j.group e) i has
+      of false e has = let less : has.0 < 0 = has.1 in absurd (omega (arith, less))
 
   -- and inside where that one is
   lying_inside : NeedIsInside p j m → NeedIsInside p j n
@@ -249,21 +260,20 @@ module _ (p : Plan) (j : Piece) (n m : Need) (lies : LiesIn n m) where
       let all = inside (sym lies.group ∙ here) in
       all_of (λ q. IsTrue (is_in_box (need_grid p n) q)) (points S n.region) (λ q at.
       subst (λ (h : ℕ). IsTrue (is_in_box (grid_sides (group_grid (slice_get p.groups h))) q)) (sym lies.needed)
-      (holds_of (λ q. IsTrue (is_in_box (need_grid p m) q)) (points S m.region) q all (lies.within S q at)))
+      (holds_of (λ q. IsTrue (is_in_box (need_grid p m) q)) (points S m.region) q all (lies.within q at)))
 
 module _ (p : Plan) (g : ℕ) (ns ms : List Need) (outer : AreOuterOf ms ns) where
   pub lines_within : AreLinesOf p g ns → AreLinesOf p g ms
   lines_within = all_among (λ (n : Need). (n.group ≡ g) × NeedIsShared p n) ns ms outer.among
 
   -- what some of the lines name is named by those in which they lie
-  named_out : (j : Piece) → j.group ≡ g → AreLinesOf p g ms → (i : ℕ) (ks : List Need) → ((k : Need) → Contains ks k → Contains ns k) → Contains (all_numbers p j ks) i → Contains (all_numbers p j ms) i
-  named_out j of lines i [] h has = let less : has.0 < 0 = has.1 in absurd (omega (arith, less))
-  named_out j of lines i (x ∷ ks) h has = elim (Contains-append_cases (need_numbers p j x) (all_numbers p j ks) i has) [
+  named_out : (j : Piece) (i : ℕ) (ks : List Need) → ((k : Need) → Contains ks k → Contains ns k) → Contains (all_numbers p j ks) i → Contains (all_numbers p j ms) i
+  named_out j i [] h has = let less : has.0 < 0 = has.1 in absurd (omega (arith, less))
+  named_out j i (x ∷ ks) h has = elim (Contains-append_cases (need_numbers p j x) (all_numbers p j ks) i has) [
     | inl a ↦
         let one = outer.all x (h x (0, omega arith, refl)) in
-        let group = (holds_of (λ (n : Need). (n.group ≡ g) × NeedIsShared p n) ms one.0 lines one.1).0 in
-        named_before p j i ms one.0 one.1 (lying_numbers p j x one.0 one.2 (group ∙ sym of) i a)
-    | inr b ↦ named_out j of lines i ks (λ k at. h k (Contains-append_right (x ∷ []) ks k at)) b
+        named_before p j i ms one.0 one.1 (lying_named p j x one.0 (lies_there j.at x one.0 one.2) i a)
+    | inr b ↦ named_out j i ks (λ k at. h k (Contains-append_right (x ∷ []) ks k at)) b
   ]
 
   pub lines_outer : AreLinesOf p g ns → (numbers : List ℕ) (moving : List Need) → AreGathered p g ms numbers moving → AreGathered p g ns numbers moving
@@ -271,15 +281,15 @@ module _ (p : Plan) (g : ℕ) (ns ms : List Need) (outer : AreOuterOf ms ns) whe
     lines = h.lines;
     named = λ j of i. (
       (λ m. named_in p j i ns ms outer.among ((h.named j of i).0 m)),
-      (λ m. (h.named j of i).1 (named_out j of (lines_within lines) i ns (λ k at. at) m)),
+      (λ m. (h.named j of i).1 (named_out j i ns (λ k at. at) m)),
     );
     inside = λ j of. (
-      (λ all. all_of (NeedIsInside p j) ns (λ n at. let one = outer.all n at in lying_inside p j n one.0 one.2 (holds_of (NeedIsInside p j) ms one.0 ((h.inside j of).0 all) one.1))),
+      (λ all. all_of (NeedIsInside p j) ns (λ n at. let one = outer.all n at in lying_inside p j n one.0 (lies_there j.at n one.0 one.2) (holds_of (NeedIsInside p j) ms one.0 ((h.inside j of).0 all) one.1))),
       (λ all. (h.inside j of).1 (all_among (NeedIsInside p j) ns ms outer.among all)),
     );
   }
 
--- ---- lines of which those that name no point at a piece are left out
+-- ---- lines of which those that name no point at a piece, or no more than another, are left out
 
 module _ (p : Plan) (j : Piece) (ms ns : List Need) (those : AreThoseAt j.at ms ns) where
   none_named : (n : Need) → points (grid_symbols j.at) n.region ≡ [] → (i : ℕ) → Contains (need_numbers p j n) i → ⊥
@@ -295,7 +305,7 @@ module _ (p : Plan) (j : Piece) (ms ns : List Need) (those : AreThoseAt j.at ms 
   named_left : (i : ℕ) (ks : List Need) → ((k : Need) → Contains ks k → Contains ns k) → Contains (all_numbers p j ks) i → Contains (all_numbers p j ms) i
   named_left i [] h has = let less : has.0 < 0 = has.1 in absurd (omega (arith, less))
   named_left i (x ∷ ks) h has = elim (Contains-append_cases (need_numbers p j x) (all_numbers p j ks) i has) [
-    | inl a ↦ elim (those.left x (h x (0, omega arith, refl))) [ inl b ↦ named_before p j i ms x b a | inr e ↦ absurd (none_named x e i a) ]
+    | inl a ↦ elim (those.left x (h x (0, omega arith, refl))) [ inl one ↦ named_before p j i ms one.0 one.1 (lying_named p j x one.0 one.2 i a) | inr e ↦ absurd (none_named x e i a) ]
     | inr b ↦ named_left i ks (λ k at. h k (Contains-append_right (x ∷ []) ks k at)) b
   ]
 
@@ -305,7 +315,7 @@ module _ (p : Plan) (j : Piece) (ms ns : List Need) (those : AreThoseAt j.at ms 
   those_inside : NeedsAreInside p j ms ↔ NeedsAreInside p j ns
   those_inside = (
     (λ all. all_of (NeedIsInside p j) ns (λ n at. elim (those.left n at) [
-      | inl b ↦ holds_of (NeedIsInside p j) ms n all b
+      | inl one ↦ lying_inside p j n one.0 one.2 (holds_of (NeedIsInside p j) ms one.0 all one.1)
       | inr e ↦ λ same. subst (λ (qs : List (List ℤ)). All (λ q. IsTrue (is_in_box (need_grid p n) q)) qs) (sym e) (λ k d less. absurd (omega (arith, less)))
     ])),
     (λ all. all_among (NeedIsInside p j) ns ms those.among all),

@@ -13,11 +13,11 @@ use Rattle.soundness.specs.declared.outline.refusals.code.K.TheVariants.{K1, K2,
 use Rattle.shares.specs.Layout.{own_list, fetched_list, needs_list}
 use Rattle.shares.specs.Has.{HasShares, IsServed}
 use Rattle.shares.specs.Made.{CodeMeans}
-use Rattle.shares.specs.Laws.{FaultsHaveNoShares}
+use Rattle.shares.specs.Laws.{FaultsHaveNoShares, WrongFetchesHaveNoShares}
 use Rattle.shares.proofs.Groups.{get_within}
 use Rattle.shares.specs.FetchLines.{FetchLine, LineIsNear, plan_fetch_lines}
 use Rattle.shares.proofs.Groups.{all_at_place}
-use Rattle.shares.proofs.Totals.{fetched_past}
+use Rattle.shares.proofs.Totals.{fetched_past, past_many}
 use Rattle.shares.proofs.Prefixes.{needed_past}
 
 -- any algorithm, since the lists of pieces don't depend on it
@@ -90,4 +90,11 @@ none_shared p c f told has = elim told [
     | inl far ↦ not_near p c has far.1.place far.0 far.1.stands far.1.far
     | inr past ↦ fetched_past p c past.0 past.1 has.few
   ]
+]
+
+-- so it is of a fetch line, whatever stands behind it
+pub none_fetching : WrongFetchesHaveNoShares
+none_fetching p c line wrong has = elim wrong [
+  | inl far ↦ not_near p c has far.1.place far.0 far.1.stands far.1.far
+  | inr past ↦ past_many p c past.0 past.1 has.few
 ]

@@ -4,6 +4,7 @@ pub mod Gapped
 pub mod Blocking
 pub mod Summing
 pub mod Rows
+pub mod Keeping
 pub mod Shared
 pub mod Grids
 pub mod Groups
@@ -30,6 +31,7 @@ pub mod Firsts
 pub mod Standing
 pub mod Near
 pub mod Passing
+pub mod Ahead
 pub mod Codes
 pub mod Parted
 pub mod Replaced

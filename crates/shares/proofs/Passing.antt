@@ -1,7 +1,6 @@
 -- The fetch lines of a plan as they are counted.
-use Rattle.std.proofs.Common.{◌≡◌, ℕ, zero, suc, ◌+◌, ◌-◌, ◌<◌, ◌≤◌, ◌^◌, List, [], ◌∷◌, ◌++◌, length, map, min, take, get_or, arith, ap, refl, sym, ◌∙◌, subst, Some}
+use Rattle.std.proofs.Common.{◌≡◌, ℕ, ◌+◌, ◌-◌, ◌<◌, ◌≤◌, ◌^◌, List, [], ◌∷◌, length, map, min, take, get_or, arith, ap, sym, ◌∙◌, subst, Some}
 use Rattle.std.specs.Prelude.{◌==◌, slice_get, All}
-use Rattle.std.proofs.lemmas.Bool.Decides.{nat_tests}
 use Rattle.std.proofs.lemmas.List.{get_or-map, length-map, length-take, take-map, take-take, take_all, take_more, map-append}
 use Rattle.std.proofs.lemmas.List.Elements.{All-map, All-more, All-same, All-take, All-weaker}
 use Rattle.std.proofs.lemmas.List.Sums.{sum_by_more, sum_by_push}
@@ -14,6 +13,7 @@ use Rattle.shares.specs.declared.seats.Seat.{Seat}
 use Rattle.shares.specs.declared.boxes.Side.{Side}
 use Rattle.shares.specs.Boxes.{point_count, sides}
 use Rattle.shares.specs.Counts.{FetchPasses}
+use Rattle.shares.specs.Early.{FetchIsPast}
 use Rattle.shares.specs.FetchLines.{FetchIsFar, FetchLine, IsFirstFar, IsFirstPast, LineIsLimited, LineIsNear, plan_fetch_lines, cells_by, fetched_by, fetched_by_lines}
 use Rattle.shares.specs.Lets.{named}
 use Rattle.shares.specs.Read.{IsOpen}
@@ -67,6 +67,10 @@ module _ (js : List Piece) (held : List LineHeld) where
     -- what holds of all lines holds of it
     pub of_line : (P : FetchLine → Type 0) → All P L → P (line_of x)
     of_line P h = subst P line_here (h k (line_of x) within)
+
+    -- it is one more of those of which something holds
+    pub all_more : (P : FetchLine → Type 0) → All P (take k L) → P (line_of x) → All P (take (k + 1) L)
+    all_more P before here = All-more P L k (line_of x) within before (subst P (sym line_here) here)
 
     next_count : fetched_by_lines js (take (k + 1) L) ≡ fetched_by_lines js (take k L) + fetched_by js (line_of x)
     next_count = sum_by_more (fetched_by js) L k (line_of x) within ∙ ap (λ (y : FetchLine). fetched_by_lines js (take k L) + fetched_by js y) line_here
@@ -211,6 +215,24 @@ module _ (p : Plan) (held : List LineHeld) (all : lines_noted held ≡ map told_
           this,
           record {
             bodies = fetch_open p c shared;
+            place = k;
+            stands = get_some F k no_line (omega (arith, within, counted, many));
+            near = near_before near;
+            before = few_before past.before;
+            passed = omega (arith, passed, next, of_plan);
+          },
+          ap (λ (y : FetchLine). y.line) (noted_at p held all k x (omega (arith, within, counted)) is),
+        )
+
+    pub past_fetch : All (LineIsNear js) (take k (lines_noted held)) → IsFirstPast js (lines_noted held) k → FetchIsPast p x.line
+    past_fetch near past =
+        let counted = length-map held line_of in
+        let within = past.within in
+        let passed = past.past in
+        let next = first_counts js (k + 1) in
+        let of_plan = ap (λ (ps : List Piece). fetched_by_lines ps (take (k + 1) F)) same in (
+          this,
+          record {
             place = k;
             stands = get_some F k no_line (omega (arith, within, counted, many));
             near = near_before near;

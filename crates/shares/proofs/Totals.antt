@@ -19,6 +19,7 @@ use Rattle.headline.proofs.Parts.{none_fetched}
 use Rattle.headline.proofs.Places.{piece_from}
 use Rattle.shares.specs.Boxes.{AreLimited, IsLimited}
 use Rattle.shares.specs.Counts.{FetchInTheOpen, PassesFetched}
+use Rattle.shares.specs.Early.{IsPastFetch}
 use Rattle.shares.specs.FetchLines.{FetchLine, fetch_lines, block_fetch_lines, fetch_lines_from, plan_fetch_lines, cells_by, fetched_by, fetched_by_lines}
 use Rattle.shares.specs.Lets.{Naming, NamingsAreLimited, naming, named}
 use Rattle.shares.specs.Read.{IsOpen}
@@ -95,6 +96,35 @@ module _ (p : Plan) (n : ℕ) (j : Piece) where
         let same = ap (λ (t : Symbols). length (block_fetched_cells rest t)) (named_after ls a (grid_symbols j.at)) in
         omega (arith, whole, first, more, long, same)
 
+  -- whatever stands in loops, choices and guards, the lines count no more than is fetched
+  mutual
+    least_here : (ls : List Naming) (a : Statement) (line : ℕ) → (n == j.group) ≡ true → by j (fetch_lines n ls a line) ≤ length (fetched_cells a (named ls (grid_symbols j.at)))
+    least_here ls (Seq all) line e = block_least ls all line e
+    least_here ls (For i x kind body) line e = let none : by j [] ≡ 0 = refl in omega (arith, none)
+    least_here ls (Let i pick forms) line e = let none : by j [] ≡ 0 = refl in omega (arith, none)
+    least_here ls (First i a b) line e = let none : by j [] ≡ 0 = refl in omega (arith, none)
+    least_here ls (Guard low high body) line e = let none : by j [] ≡ 0 = refl in omega (arith, none)
+    least_here ls (Alloc b f places) line e = let none : by j [] ≡ 0 = refl in omega (arith, none)
+    least_here ls (Fetch b g region) line e =
+        let count = length (points (named ls (grid_symbols j.at)) region) in
+        let one = sum_by-cons (λ x. cells_by x j) (record { line = line; group = n; lets = ls; fetched = g; region = region }) [] in
+        let is = chosen (n == j.group) count e in
+        let row = length-map (points (named ls (grid_symbols j.at)) region) (cell g) in
+        omega (arith, one, is, row)
+    least_here ls (Store b k at v) line e = let none : by j [] ≡ 0 = refl in omega (arith, none)
+    least_here ls (Publish c) line e = let none : by j [] ≡ 0 = refl in omega (arith, none)
+
+    block_least : (ls : List Naming) (all : Statements) (line : ℕ) → (n == j.group) ≡ true → by j (block_fetch_lines n ls all line) ≤ length (block_fetched_cells all (named ls (grid_symbols j.at)))
+    block_least ls Empty line e = let none : by j [] ≡ 0 = refl in omega (arith, none)
+    block_least ls (Then a rest) line e =
+        let s = named ls (grid_symbols j.at) in
+        let whole = sum_by-append (λ x. cells_by x j) (fetch_lines n ls a line) (block_fetch_lines n (ls ++ naming a) rest (line + lines a)) in
+        let first = least_here ls a line e in
+        let more = block_least (ls ++ naming a) rest (line + lines a) e in
+        let long = length-append (fetched_cells a s) (block_fetched_cells rest (after a s)) in
+        let same = ap (λ (t : Symbols). length (block_fetched_cells rest t)) (named_after ls a (grid_symbols j.at)) in
+        omega (arith, whole, first, more, long, same)
+
   mutual
     lines_there : (ls : List Naming) (a : Statement) (line : ℕ) → (n == j.group) ≡ false → by j (fetch_lines n ls a line) ≡ 0
     lines_there ls (Seq all) line e = block_there ls all line e
@@ -148,6 +178,63 @@ module _ (p : Plan) (j : Piece) where
       let first = lines_there p k j [] x.body (body_line p k) (other_number k j.group (λ same. omega (arith, e, same))) in
       let more = groups_here (k + 1) xs m g (λ i h. all (suc i) h) (omega (arith, e)) at in
       omega (arith, whole, first, more)
+
+  groups_least : (k : ℕ) (gs : List Group) (m : ℕ) (g : Group) → j.group ≡ k + m → slice_get gs m ≡ Some g → by j (fetch_lines_from p k gs) ≤ length (fetched_cells g.body (grid_symbols j.at))
+  groups_least k [] m g e at = absurd (cc at)
+  groups_least k (x ∷ xs) zero g e at =
+      let whole = sum_by-append (λ x. cells_by x j) (fetch_lines k [] x.body (body_line p k)) (fetch_lines_from p (k + 1) xs) in
+      let first = least_here p k j [] x.body (body_line p k) (same_number k j.group (omega (arith, e))) in
+      let more = groups_past (k + 1) xs (omega (arith, e)) in
+      let same = ap (λ (h : Group). length (fetched_cells h.body (grid_symbols j.at))) (some_same x g at) in
+      omega (arith, whole, first, more, same)
+  groups_least k (x ∷ xs) (suc m) g e at =
+      let whole = sum_by-append (λ x. cells_by x j) (fetch_lines k [] x.body (body_line p k)) (fetch_lines_from p (k + 1) xs) in
+      let first = lines_there p k j [] x.body (body_line p k) (other_number k j.group (λ same. omega (arith, e, same))) in
+      let more = groups_least (k + 1) xs m g (omega (arith, e)) at in
+      omega (arith, whole, first, more)
+
+module _ (p : Plan) where
+  piece_least : (i : ℕ) (j : Piece) → slice_get (pieces p) i ≡ Some j → by j (plan_fetch_lines p) ≤ length (fetched_list p i)
+  piece_least i j at =
+      let k = piece_from p i j at in
+      let here = groups_least p j 0 p.groups j.group k.g (omega arith) k.group in
+      let cells = ap (λ (o : Option Group). length (group_fetched o j)) k.group in
+      let list = ap (λ (o : Option Piece). length (of_piece o [] (λ x. map (cell_number p) (cells_fetched p x)))) at in
+      let long = length-map (cells_fetched p j) (cell_number p) in
+      omega (arith, here, cells, list, long)
+
+  abbrev no_piece : Piece
+  no_piece = record { group = 0; at = [] }
+
+  pieces_least : (n : ℕ) → n ≤ length (pieces p) → sum_by (λ j. by j (plan_fetch_lines p)) (take n (pieces p)) ≤ fetched_before p n
+  pieces_least zero less = omega arith
+  pieces_least (suc n) less =
+      let f : Piece → ℕ = λ j. by j (plan_fetch_lines p) in
+      let one : n + 1 ≡ suc n = omega arith in
+      let within : n < length (pieces p) = omega (arith, less) in
+      let before = pieces_least n (omega (arith, less)) in
+      let this = piece_least n (get_or (pieces p) n no_piece) (get_some (pieces p) n no_piece within) in
+      let more = sum_by_more f (pieces p) n no_piece within in
+      let same = ap (λ (m : ℕ). sum_by f (take m (pieces p))) one in
+      omega (arith, before, this, more, same)
+
+  -- what the fetch lines count is fetched
+  pub least_fetched : fetched_by_lines (pieces p) (plan_fetch_lines p) ≤ fetched_before p (length (pieces p))
+  least_fetched =
+      let f : Piece → ℕ = λ j. by j (plan_fetch_lines p) in
+      let most = pieces_least (length (pieces p)) (omega arith) in
+      let whole = ap (sum_by f) (take_all (length (pieces p)) (pieces p) (omega arith)) in
+      let same = turned (pieces p) (plan_fetch_lines p) in
+      omega (arith, most, whole, same)
+
+-- where too many cells are counted there are not few
+pub past_many : (p : Plan) (c : Certificate) (x : FetchLine) → IsPastFetch p x → ¬ AreFew p c
+past_many p c x h few =
+    let all = least_fetched p in
+    let most = sum_by-take-le (fetched_by (pieces p)) (plan_fetch_lines p) (h.place + 1) in
+    let past = h.passed in
+    let fits = few.fetched in
+    omega (arith, all, most, past, fits)
 
 module _ (p : Plan) (bodies : FetchInTheOpen p) where
   one_piece : (i : ℕ) (j : Piece) → slice_get (pieces p) i ≡ Some j → by j (plan_fetch_lines p) ≡ length (fetched_list p i)

@@ -11,6 +11,7 @@ use Rattle.shares.specs.declared.seats.Seat.{Seat}
 use Rattle.shares.specs.Boxes.{IsLimited}
 use Rattle.shares.specs.Corners.{IsBetween}
 use Rattle.shares.specs.Filed.{AreLinesOf}
+use Rattle.shares.specs.Outer.{LiesAtOne}
 
 -- lines whose regions are in forms within the limits
 abbrev pub LinesAreLimited : List Need → Type 0
@@ -32,10 +33,10 @@ AreLows xs low = (i v : ℕ) → slice_get low i ≡ Some v → All (λ x. v ≤
 abbrev pub AreHighs : List Seat → List ℕ → Type 0
 AreHighs xs high = (i v : ℕ) → slice_get high i ≡ Some v → All (λ x. slice_index_or x.at.items i 0 ≤ v) xs
 
--- some of these lines, of which those that are left out name no point at a grid point
+-- some of these lines, of which each that is left out names at a grid point no more than one of them, or no point
 pub record AreThoseAt (at : List ℕ) (ms ns : List Need) : Type 0 where
   pub among : (m : Need) → Contains ms m → Contains ns m
-  pub left : (n : Need) → Contains ns n → Contains ms n ⊎ (points (grid_symbols at) n.region ≡ [])
+  pub left : (n : Need) → Contains ns n → LiesAtOne at n ms ⊎ (points (grid_symbols at) n.region ≡ [])
 
 -- nor at any between two
 abbrev pub AreThoseBetween : (low high : List ℕ) → (ms ns : List Need) → Type 0

@@ -4,6 +4,7 @@ pub mod FetchLines
 pub mod Walked
 pub mod Corners
 pub mod Gaps
+pub mod Outer
 pub mod Blocks
 pub mod Spaces
 pub mod Seats
@@ -18,6 +19,7 @@ pub mod Gathered
 pub mod Repeated
 pub mod Has
 pub mod Counts
+pub mod Early
 pub mod Noted
 pub mod Stops
 pub mod Made

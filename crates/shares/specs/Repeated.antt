@@ -20,10 +20,18 @@ pub record LiesIn (n m : Need) : Type 0 where
   pub needed : n.needed ≡ m.needed
   pub within : (s : Symbols) (q : List ℤ) → Contains (points s n.region) q → Contains (points s m.region) q
 
+-- a line for which one of these stands, as this relation says
+abbrev pub IsOfOne : (Need → Need → Type 0) → Need → List Need → Type 0
+IsOfOne R n ms = (m : Need) × Contains ms m × R n m
+
 abbrev pub LiesInOne : Need → List Need → Type 0
-LiesInOne n ms = (m : Need) × Contains ms m × LiesIn n m
+LiesInOne n ms = IsOfOne LiesIn n ms
+
+-- some of these lines, of which one stands for each of them
+pub record AreOuterBy (R : Need → Need → Type 0) (ms ns : List Need) : Type 0 where
+  pub among : (m : Need) → Contains ms m → Contains ns m
+  pub all : (n : Need) → Contains ns n → IsOfOne R n ms
 
 -- some of these lines, in which all of them lie
-pub record AreOuterOf (ms ns : List Need) : Type 0 where
-  pub among : (m : Need) → Contains ms m → Contains ns m
-  pub all : (n : Need) → Contains ns n → LiesInOne n ms
+abbrev pub AreOuterOf : (ms ns : List Need) → Type 0
+AreOuterOf ms ns = AreOuterBy LiesIn ms ns

@@ -1,4 +1,5 @@
-//! The need lines that are looked at for pieces that stand one after another: those that may name a point at one of them.
+//! The need lines that are looked at for pieces that stand one after another: those that may name a point at one of them, and more
+//! than another.
 
 ghost use Rattle.std.specs.Prelude.{◌≡◌, ℕ, List, ◌≤◌, ◌<◌, ◌+◌, ◌++◌, ◌∷◌, ◌^◌, ◌↔◌, [], IsTrue, IfOk, OnOk, All, Some, length, map, slice_get, slice_index_or, take};
 ghost use Rattle.plan.specs.View.{plan_of};
@@ -14,6 +15,7 @@ use crate::corners::may_have_point;
 use crate::gaps::ends_may_meet;
 use crate::gathered::GroupNeeds;
 use crate::layout::Layout;
+use crate::outer::keep_outer;
 use crate::seats::Seat;
 use plan::certificate::Need;
 use std::alloc::{AllocError, Global};
@@ -29,6 +31,9 @@ const LESSER: usize = 1 << 7;
 
 /// The most pieces of a small block, of which a lesser one has 8.
 const SMALL: usize = 1 << 4;
+
+/// With how many of the lines kept last a line is compared, but in the small blocks, of which there are many.
+const LATELY: usize = 16;
 
 /// The need lines that are looked at for the pieces up to the one behind a block.
 #[derive(Drop)]
@@ -128,33 +133,38 @@ fn shared_front(seats: &[Seat], group: usize, count: usize) -> usize
     seats.len()
 }
 
-/// Adds a need line to those kept, if it may name a point at a grid point between two.
+/// Adds a need line to those kept, if it may name a point at a grid point between two and is not seen to name no more than one of
+/// the last of them, so many.
 fn keep_between<'a>(
     kept: &mut Vec<&'a Need>,
     need: &'a Need,
     low: &[u64],
     high: &[u64],
+    lately: usize,
 ) -> Result<(), AllocError>
     requires limits { IsLimited need.now.region }
     requires low { IsSmall low.now }
     requires high { IsSmall high.now }
-    ensures { OnOk result ((ns : List CertNeed) → AreThoseBetween low.now high.now (map (λ n. n.now) kept.old.items) ns → AreThoseBetween low.now high.now (map (λ n. n.now) kept.new.items) (ns ++ need.now ∷ [])) }
+    requires kept { LinesAreLimited (map (λ n. n.now) kept.old.items) }
+    ensures those { OnOk result ((ns : List CertNeed) → AreThoseBetween low.now high.now (map (λ n. n.now) kept.old.items) ns → AreThoseBetween low.now high.now (map (λ n. n.now) kept.new.items) (ns ++ need.now ∷ [])) }
+    ensures limits { OnOk result (LinesAreLimited (map (λ n. n.now) kept.new.items)) }
 {
     if !ends_may_meet(need.region.as_slice(), low, high) {
         return Ok(());
     }
     if may_have_point(need.region.as_slice(), low, high) {
-        kept.push(need)?;
+        keep_outer(kept, need, low, high, lately)?;
     }
     Ok(())
 }
 
-/// Those of some need lines that may name a point at a grid point between two.
+/// Those of some need lines that may name a point at a grid point between two, but for some that name no more than another.
 fn lines_between<'a>(
     alloc: Global,
     lines: &[&'a Need],
     low: &[u64],
     high: &[u64],
+    lately: usize,
 ) -> Result<Vec<&'a Need>, AllocError>
     requires limits { LinesAreLimited (map (λ n. n.now) lines.now) }
     requires low { IsSmall low.now }
@@ -163,7 +173,7 @@ fn lines_between<'a>(
 {
     let mut kept = Vec::new(alloc);
     for need in lines {
-        keep_between(&mut kept, need, low, high)?;
+        keep_between(&mut kept, need, low, high, lately)?;
     }
     Ok(kept)
 }
@@ -183,7 +193,8 @@ fn lines_of<'a>(
 {
     let low = lows(alloc, seats, count)?;
     let high = highs(alloc, seats, count)?;
-    let kept = lines_between(alloc, lines, &low, &high)?;
+    let lately = if seats.len() <= SMALL { 0 } else { LATELY };
+    let kept = lines_between(alloc, lines, &low, &high, lately)?;
     Ok(kept)
 }
 

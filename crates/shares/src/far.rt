@@ -42,6 +42,9 @@ fn is_far(alloc: Global, line: &FetchLine<'_>, seats: &[Seat]) -> Result<bool, A
     ensures near { IfOk result (λ far. IsFalse far → LineIsNear (pieces_of seats.now) (line_of line.now)) }
     ensures far { IfOk result (λ far. IsTrue far → ¬ LineIsNear (pieces_of seats.now) (line_of line.now)) }
 {
+    if line.lets.is_empty() {
+        return Ok(false);
+    }
     for seat in seats {
         if is_far_at(alloc, line, seat)? {
             return Ok(true);
@@ -54,7 +57,7 @@ fn is_far(alloc: Global, line: &FetchLine<'_>, seats: &[Seat]) -> Result<bool, A
 /// if there is one.
 ///
 /// The time is linear in the lines, and for each of them in the pieces and the forms of the lines `let` before it.
-fn far_place(
+pub(crate) fn far_place(
     alloc: Global,
     lines: &[FetchLine<'_>],
     seats: &[Seat],

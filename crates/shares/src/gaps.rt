@@ -101,7 +101,7 @@ fn gap_sum(upper: &[Multiple], lower: &[Multiple], low: &[u64], high: &[u64]) ->
 }
 
 /// A number that a form less another passes at no grid point between two.
-fn gap(upper: &Lin, lower: &Lin, low: &[u64], high: &[u64]) -> i64
+pub(crate) fn gap(upper: &Lin, lower: &Lin, low: &[u64], high: &[u64]) -> i64
     requires upper { IsTrue (is_within_limits upper.now) }
     requires lower { IsTrue (is_within_limits lower.now) }
     requires low { IsSmall low.now }

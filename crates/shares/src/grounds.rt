@@ -27,7 +27,7 @@ pub struct Ground<'a> {
 }
 
 /// The box of a grid's points.
-fn grid_box(alloc: Global, grid: &[u64]) -> Result<Vec<Side>, AllocError>
+pub(crate) fn grid_box(alloc: Global, grid: &[u64]) -> Result<Vec<Side>, AllocError>
     ensures { IfOk result (λ found. found.items ≡ grid_sides grid.now) }
 {
     let mut found = Vec::new(alloc);

@@ -65,7 +65,7 @@ fn spans_lie_in(inner: &[Span1], outer: &[Span1]) -> bool
 }
 
 /// Whether two need lines are of the same groups.
-fn is_between_same(first: &Need, second: &Need) -> bool
+pub(crate) fn is_between_same(first: &Need, second: &Need) -> bool
     ensures { IsTrue result → (first.now.group ≡ second.now.group) × (first.now.needed ≡ second.now.needed) }
 {
     first.group == second.group && first.needed == second.needed

@@ -1,13 +1,13 @@
 //! The pieces of a plan: a group and a grid point each.
 
-ghost use Rattle.std.specs.Prelude.{◌≡◌, ◌≤◌, ◌<◌, ◌+◌, ◌++◌, ◌^◌, IfOk, OnOk, All, length};
+ghost use Rattle.std.specs.Prelude.{◌≡◌, ◌≤◌, ◌<◌, ◌+◌, ◌++◌, ◌^◌, IfOk, OnOk, All, length, take};
 ghost use Rattle.plan.specs.View.{plan_of};
-ghost use Rattle.plan.specs.Certificate.Cells.{grid_point, piece_count, pieces};
+ghost use Rattle.plan.specs.Certificate.Cells.{first_piece, grid_point, piece_count, pieces, pieces_from};
 ghost use Rattle.shares.specs.Seats.{AreSmall, grid_pieces, pieces_of};
 ghost use Rattle.shares.specs.Grounds.{HaveGrids};
 
 use crate::boxes::most_points;
-use crate::grounds::Ground;
+use crate::grounds::{Ground, grid_box};
 use plan::Plan;
 use std::alloc::{AllocError, Global};
 
@@ -70,6 +70,27 @@ pub(crate) fn seats_of(
     for (group, ground) in grounds.iter().enumerate() {
         let grid = plan.groups[group].grid.as_slice();
         let count = most_points(&ground.pieces.sides) as u32;
+        push_seats(alloc, &mut seats, group, grid, count)?;
+    }
+    Ok(seats)
+}
+
+/// The pieces of the first groups of a plan, so many, in the order of their numbers.
+pub(crate) fn first_seats(
+    alloc: Global,
+    plan: &Plan,
+    groups: usize,
+) -> Result<Vec<Seat>, AllocError>
+    requires groups { groups ≤ length plan.now.groups.items }
+    requires few { first_piece (plan_of plan.now).groups groups ≤ 2 ^ 20 }
+    ensures pieces { IfOk result (λ seats. pieces_of seats.items ≡ pieces_from 0 (take groups (plan_of plan.now).groups)) }
+    ensures small { IfOk result (λ seats. AreSmall seats.items) }
+{
+    let mut seats = Vec::new(alloc);
+    for group in 0..groups {
+        let grid = plan.groups[group].grid.as_slice();
+        let sides = grid_box(alloc, grid)?;
+        let count = most_points(&sides) as u32;
         push_seats(alloc, &mut seats, group, grid, count)?;
     }
     Ok(seats)

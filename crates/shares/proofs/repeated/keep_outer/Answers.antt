@@ -3,7 +3,8 @@ use Rattle.std.specs.Prelude.{MatchOption, slice_get}
 use Rattle.std.proofs.lemmas.List.{map-append}
 use Rattle.plan.specs.declared.certificate.cert.Need.{Need}
 use Rattle.shares.specs.Repeated.{LiesIn, LiesInOne}
-use Rattle.shares.proofs.Repeating.{said, lies_behind, outer_again, outer_put, outer_self}
+use Rattle.shares.proofs.Keeping.{said}
+use Rattle.shares.proofs.Repeating.{lies_behind, outer_again, outer_put, outer_self}
 use Rattle.shares.proofs.repeated.keep_outer.Goals as goal
 
 pub returns-then-lies_in_one : goal.returns-then-lies_in_one
