@@ -168,13 +168,10 @@ fn has_small_piece(plan: &Plan, cert: &Cert, rank: u32) -> bool
 // What the piece of the first group gives that so many come before, nothing where its run has a fault.
 pub(crate) fn run(alloc: Global, case: &Case, rank: u32) -> Result<Option<Vec<i64>>, Fail> {
     let Case { plan, cert, image } = case;
-    let Some(group) = first_group(&plan.groups) else {
-        return Err("the plan has no group".into());
-    };
     if !is_input(plan, image) || !has_small_piece(plan, cert, rank) {
         return Err("the plan is not of small forms for this input".into());
     }
-    let mut scratch = Scratch::new(alloc, group, cert, 0, 1024)?;
+    let mut scratch = Scratch::new(alloc, &plan.groups, cert, 1024)?;
     match run_piece_in(alloc, &mut scratch, plan, cert, image, &NoCells, 0, rank) {
         Ok(()) => Ok(Some(scratch.given().to_vec(alloc)?)),
         Err(Stop::Fault) => Ok(None),

@@ -15,7 +15,7 @@ use Rattle.plan.specs.Rooms.{Room, place, same_place}
 use Rattle.plan.specs.Semantics.Memory.{Memory, place_in, held_at, read, write, allot, nothing, set_at, set_place}
 use Rattle.interpreter.specs.Buffers.Raster.{place_count, place_number, LiesAt}
 use Rattle.interpreter.specs.declared.buffers.limit.Limit.{Limit}
-use Rattle.interpreter.specs.Buffers.Blocks.{Block, held_by_number, held_in, held_in_some, block_of, limits_of, memory_of, IsSetAt, HasMemoryFor}
+use Rattle.interpreter.specs.Buffers.Blocks.{Block, held_by_number, held_in, held_in_some, block_of, limits_of, memory_of, AreNumbered, IsMadeFor, IsNumbered, IsSetAt, HasMemoryFor}
 use Rattle.interpreter.proofs.Places.{same_number}
 
 -- ---- one buffer
@@ -270,14 +270,6 @@ true_or : (u t : Bool) → u ≡ true → (u || t) ≡ true
 true_or true t e = refl
 true_or false t e = cc
 
--- buffers of the limits' numbers, each with memory for the most places of a limit of its number
-pub record IsMadeFor (limits : List Limit) (blocks : List Block) : Type 0 where
-  pub unused : AllByRecursion (λ (block : Block). block.used ≡ false) blocks
-  pub most : AllByRecursion (λ (block : Block). All (λ (x : Limit). x.buffer ≡ block.number → x.places ≤ block.limit) limits) blocks
-
-abbrev pub numbers_of : List Block → List ℕ
-numbers_of blocks = map (λ (block : Block). block.number) blocks
-
 pub made_more : (limits : List Limit) (blocks : List Block) (new : Block) → IsMadeFor limits blocks → new.used ≡ false → All (λ (x : Limit). x.buffer ≡ new.number → x.places ≤ new.limit) limits → IsMadeFor limits (blocks ++ new ∷ [])
 made_more limits blocks new h u m = record { unused = of (λ (block : Block). block.used ≡ false) blocks h.unused u; most = of (λ (block : Block). All (λ (x : Limit). x.buffer ≡ block.number → x.places ≤ block.limit) limits) blocks h.most m }
   where
@@ -285,17 +277,36 @@ made_more limits blocks new h u m = record { unused = of (λ (block : Block). bl
     of P [] h p = (p, tt)
     of P (x ∷ xs) h p = (h.0, of P xs h.1 p)
 
-any_at : (b : ℕ) (xs : List Limit) (ys : List Block) → numbers_of ys ≡ map (λ (x : Limit). x.buffer) xs → (k : ℕ) (d : Limit) → k < length xs → (get_or xs k d).buffer ≡ b → list_any (λ (l : Limit). b == l.buffer) (limits_of ys) ≡ true
-any_at b [] ys e k d lt is = absurd (omega arith)
-any_at b (x ∷ xs) [] e k d lt is = cc
-any_at b (x ∷ xs) (y ∷ ys) e zero d lt is = let f : y.number ≡ x.buffer = cc in true_or (b == y.number) (list_any (λ (l : Limit). b == l.buffer) (limits_of ys)) (eq-eqb b y.number (sym is ∙ sym f))
-any_at b (x ∷ xs) (y ∷ ys) e (suc k) d lt is = let f : numbers_of ys ≡ map (λ (z : Limit). z.buffer) xs = cc in or_true (b == y.number) (list_any (λ (l : Limit). b == l.buffer) (limits_of ys)) (any_at b xs ys f k d (omega arith) is)
+-- there is a buffer of a number where its limit has it
+pub any_number : (b : ℕ) (blocks : List Block) → list_any (λ (block : Block). b == block.number) blocks ≡ list_any (λ (l : Limit). b == l.buffer) (limits_of blocks)
+any_number b [] = refl
+any_number b (x ∷ xs) = ap (λ u. (b == x.number) || u) (any_number b xs)
 
-pub made_all : (limits : List Limit) (blocks : List Block) → numbers_of blocks ≡ map (λ (x : Limit). x.buffer) limits → IsMadeFor limits blocks → All (λ (x : Limit). HasMemoryFor (limits_of blocks) x.buffer x.places) limits
-made_all limits blocks e h = λ k d lt.
+pub any_before : (b : ℕ) (xs : List Block) (new : Block) → IsNumbered xs b → IsNumbered (xs ++ new ∷ []) b
+any_before b [] new e = cc
+any_before b (x ∷ xs) new e = of (b == x.number) e (any_before b xs new)
+  where
+    of : (u : Bool) → (u || list_any (λ (l : Limit). b == l.buffer) (limits_of xs)) ≡ true → (IsNumbered xs b → IsNumbered (xs ++ new ∷ []) b)
+        → (u || list_any (λ (l : Limit). b == l.buffer) (limits_of (xs ++ new ∷ []))) ≡ true
+    of true k more = refl
+    of false k more = more k
+
+pub any_last : (b : ℕ) (xs : List Block) (new : Block) → b ≡ new.number → IsNumbered (xs ++ new ∷ []) b
+any_last b [] new e = true_or (b == new.number) false (eq-eqb b new.number e)
+any_last b (x ∷ xs) new e = or_true (b == x.number) (list_any (λ (l : Limit). b == l.buffer) (limits_of (xs ++ new ∷ []))) (any_last b xs new e)
+
+-- one limit more, of whose number there is a buffer
+pub numbered_more : (limits : List Limit) (old new : List Block) (i : ℕ) (d : Limit) → i < length limits → ((b : ℕ) → IsNumbered old b → IsNumbered new b) → IsNumbered new (get_or limits i d).buffer
+    → AreNumbered (take i limits) old → AreNumbered (take (i + 1) limits) new
+numbered_more limits old new i d lt kept there h =
+    let Q : Limit → Type 0 = λ x. IsNumbered new x.buffer in
+    subst (All Q) (sym (take_more limits i d lt)) (All-push Q (take i limits) (get_or limits i d) (λ k x l. kept (get_or (take i limits) k x).buffer (h k x l)) there)
+
+pub made_all : (limits : List Limit) (blocks : List Block) → AreNumbered limits blocks → IsMadeFor limits blocks → All (λ (x : Limit). HasMemoryFor (limits_of blocks) x.buffer x.places) limits
+made_all limits blocks numbered h = λ k d lt.
     let x = get_or limits k d in
     record {
-      there = any_at x.buffer limits blocks e k d lt refl;
+      there = numbered k d lt;
       each = All-from_recursion (λ (l : Limit). l.buffer ≡ x.buffer → x.places ≤ l.places) (limits_of blocks) (of x (λ b n is m. m k d lt is) blocks h.most);
     }
   where

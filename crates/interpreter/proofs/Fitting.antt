@@ -17,10 +17,10 @@ use Rattle.plan.specs.View.{coordinate_of}
 use Rattle.interpreter.specs.Needs.{allotments, block_allotments, block_call_indices, block_coordinate_count, block_symbol_count, call_indices, coordinate_count, coordinate_indices, name_count, places_in, symbol_count, BlockFits, BlockIsShort, Space, StatementFits, StatementIsShort}
 use Rattle.interpreter.specs.Targets.{indices_of, indices_of_all}
 
-All-front : (P : Limit → Type 0) (xs ys : List Limit) → All P (xs ++ ys) → All P xs
+pub All-front : (P : Limit → Type 0) (xs ys : List Limit) → All P (xs ++ ys) → All P xs
 All-front P xs ys h = subst (All P) (take-append_seam xs ys) (All-take P (length xs) (xs ++ ys) h)
 
-All-back : (P : Limit → Type 0) (xs ys : List Limit) → All P (xs ++ ys) → All P ys
+pub All-back : (P : Limit → Type 0) (xs ys : List Limit) → All P (xs ++ ys) → All P ys
 All-back P xs ys h = All-from_recursion P ys (of xs (recursion_from_All P (xs ++ ys) h))
   where
     of : (zs : List Limit) → AllByRecursion P (zs ++ ys) → AllByRecursion P ys

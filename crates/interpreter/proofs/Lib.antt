@@ -8,6 +8,7 @@ pub mod Ending
 pub mod Fitting
 pub mod Giving
 pub mod Noted
+pub mod Sufficing
 pub mod Numerals
 pub mod Pointwise
 pub mod Running
@@ -36,3 +37,4 @@ pub mod Pixels
 pub mod Points
 pub mod Updating
 pub mod PlaceNumbers
+pub mod HeldTurns

@@ -18,6 +18,7 @@ pub mod RowVisits
 pub mod Runs
 pub mod Updates
 pub mod PlaceNumbers
+pub mod HeldTurns
 pub mod RunReadings
 pub mod StoreLines
 pub mod Joining

@@ -1,5 +1,5 @@
 -- When memory is enough for the pieces of a group.
-use Rattle.std.specs.Prelude.{◌≡◌, ℕ, ◌+◌, ◌≤◌, ◌<◌, List, ◌++◌, length, All, Option, None, Some, MatchOption, Result, Ok, Err, ℤ, ⊤}
+use Rattle.std.specs.Prelude.{◌≡◌, ℕ, ◌+◌, ◌≤◌, ◌<◌, List, ◌++◌, length, All, Option, None, Some, MatchOption, Result, Ok, Err, ℤ, ⊤, slice_get}
 use Rattle.plan.specs.Plan.{Group}
 use Rattle.plan.specs.Certificate.Certificate.{Certificate}
 use Rattle.plan.specs.Certificate.Cells.{no_symbols}
@@ -11,8 +11,8 @@ use Rattle.interpreter.specs.States.{space_of}
 use Rattle.interpreter.specs.declared.state.State.{State}
 use Rattle.interpreter.specs.declared.buffers.limit.Limit.{Limit}
 use Rattle.interpreter.specs.Bindings.{Bindings, symbols_of}
-use Rattle.interpreter.specs.Needs.{own_count, Space, StatementFits}
-use Rattle.interpreter.specs.Sizes.{size_in}
+use Rattle.interpreter.specs.Needs.{allotments, call_indices, coordinate_count, own_count, symbol_count, Space, StatementFits, StatementIsShort}
+use Rattle.interpreter.specs.Sizes.{size_in, sizes_at}
 use Rattle.interpreter.specs.declared.needs.Needs.{Needs}
 use Rattle.interpreter.specs.declared.scratch.Scratch.{Scratch}
 use Rattle.interpreter.specs.declared.sizes.Size.{Size}
@@ -24,6 +24,14 @@ pub record IsNoted (old new : Needs) (more : List Limit) (s c i : ℕ) (P : Type
   pub coordinates : new.coordinates ≡ old.coordinates + c
   pub indices : new.indices ≡ old.indices + i
   pub fact : P
+
+-- of the pieces of a group of this number too: the points that they own, and its statements
+pub record IsNotedFor (c : Certificate) (number : ℕ) (g : Group) (old new : Needs) : Type 0 where
+  pub limits : new.limits.items ≡ old.limits.items ++ allotments g.body
+  pub symbols : new.symbols ≡ old.symbols + symbol_count g.body
+  pub coordinates : new.coordinates ≡ old.coordinates + (own_count c number + coordinate_count g.body)
+  pub indices : new.indices ≡ old.indices + call_indices g.body
+  pub short : StatementIsShort g.body
 
 -- a state with all the memory that was noted, and for so many numbers
 pub record IsMadeFor (needs : Needs) (most : ℕ) (x : State) : Type 0 where
@@ -42,7 +50,11 @@ pub record Suffices (known : List Size) (none symbols : Bindings) (space : Space
 
 -- the scratch has all the memory that a run of a piece of the group takes
 abbrev pub IsScratchFor : Scratch → Certificate → ℕ → Group → Type 0
-IsScratchFor x c number g = Suffices x.sizes.items x.constants x.symbols (space_of x.state) c number g
+IsScratchFor x c number g = Suffices (sizes_at x.sizes.items number) x.constants x.symbols (space_of x.state) c number g
+
+-- for each of these groups
+abbrev pub IsScratchForAll : Scratch → Certificate → List Group → Type 0
+IsScratchForAll x c gs = (n : ℕ) (g : Group) → slice_get gs n ≡ Some g → IsScratchFor x c n g
 
 -- for how many numbers it has room
 abbrev pub room_of : Scratch → ℕ

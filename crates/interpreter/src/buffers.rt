@@ -10,6 +10,7 @@ mod raster;
 mod room;
 mod spot;
 mod stretch;
+mod turning;
 
 pub use limit::Limit;
 pub use memory::Buffers;

@@ -94,7 +94,7 @@ impl Needs {
     }
 
     /// One more point of so many coordinates.
-    fn reach(&mut self, coordinates: usize) -> Result<(), AllocError>
+    pub(crate) fn reach(&mut self, coordinates: usize) -> Result<(), AllocError>
         ensures { OnOk result (IsNoted self.old self.new [] 0 coordinates 0 (Unit {0})) }
     {
         self.coordinates = self.coordinates.checked_add(coordinates).ok_or(AllocError)?;

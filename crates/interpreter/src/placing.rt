@@ -3,7 +3,7 @@
 ghost use Rattle.std.specs.Prelude.{◌≡◌, ◌<◌, ◌≤◌, ◌==◌, ◌&&◌, ℕ, length, position, drop, IfSome, Some};
 ghost use Rattle.interpreter.specs.PlaceNumbers.{place_at, OperandStands, OperationStands, UpdateStands};
 
-use crate::buffers::{Buffers, Spot};
+use crate::buffers::Buffers;
 use crate::evaluation::Number;
 use crate::run_reading::registers_behind;
 use crate::updates::{Operand, Operation, Update};
@@ -27,18 +27,14 @@ pub(crate) struct Places<'a> {
     pub right: &'a [usize],
 }
 
-/// The spot of a place at a turn.
+/// The number of the place at a turn.
 #[inline(always)]
-pub(crate) fn spot_at(position: usize, places: &[usize], turn: usize) -> Spot
-    ensures { result ≡ record { buffer = position; place = place_at places.now turn } }
+pub(crate) fn place_of(places: &[usize], turn: usize) -> usize
+    ensures { result ≡ place_at places.now turn }
 {
-    let place = match places.get(turn) {
+    match places.get(turn) {
         Some(place) => *place,
         None => 0,
-    };
-    Spot {
-        buffer: position,
-        place,
     }
 }
 

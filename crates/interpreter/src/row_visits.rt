@@ -101,16 +101,14 @@ fn push_held(places: &[Option<Value>], given: &mut SmallVec<i64, 4>) -> usize
     ensures given { given_from places.now given.old.items result ≡ Some given.new.items }
     ensures capacity { given.new.capacity ≡ given.old.capacity }
 {
-    for turn in 0..places.len() {
+    let count = places.len().min(given.capacity() - given.len());
+    for turn in 0..count {
         let Some(value) = places[turn] else {
             return turn;
         };
-        if given.len() == given.capacity() {
-            return turn;
-        }
         given.push_reserved(value.number);
     }
-    places.len()
+    count
 }
 
 /// Gives the numbers that a claim's buffer holds at the first points of a row, where their places lie side by side: the numbers

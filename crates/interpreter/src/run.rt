@@ -27,7 +27,7 @@ use crate::joining::{joined_loops, run_joined};
 use crate::piece::Piece;
 use crate::runs::{run_stores, store_line};
 use crate::scratch::Scratch;
-use crate::sizes::Size;
+use crate::sizes::{Size, sizes_at};
 use crate::state::State;
 use crate::store::{allot, store};
 use crate::symbols::{Binding, Symbols};
@@ -371,7 +371,7 @@ pub fn run_piece_in<C: Cells>(
 {
     run_group(
         alloc,
-        &scratch.sizes,
+        sizes_at(&scratch.sizes, group),
         &scratch.constants,
         &mut scratch.symbols,
         &mut scratch.state,

@@ -18,8 +18,8 @@ use crate::loads::claim_of;
 use crate::piece::Piece;
 use crate::reading::{Reading, number_bound};
 use crate::scanlines::{
-    Pixels, copy_numbers, copy_samples, distance, pixels_beside, samples_beside, take_numbers,
-    take_pixels, take_samples, type_held, window,
+    Pixels, copy_numbers, copy_pixels, copy_samples, distance, pixels_beside, samples_beside,
+    take_numbers, take_pixels, take_samples, type_held, window,
 };
 use meaning::sameness::same_name;
 use numeric::Ty;
@@ -174,7 +174,7 @@ impl RunReading<'_, '_> {
         Some(ty)
     }
 
-    /// What the input has at points whose first coordinate rises by one.
+    /// What an input of fewer dimensions has at points whose first coordinate rises by one.
     fn look_sample_row(&self, first: i64, others: &[i64], out: &mut [Number]) -> Option<Ty>
         ensures { IfSome result (λ t. (k : ℕ) → k < length out.new → source_at self.now (memory_of self.now.memory.now) Input ((first +ℤ pos k) ∷ others.now) ≡ Some (typed t (number_at out.new k))) }
     {
@@ -185,6 +185,29 @@ impl RunReading<'_, '_> {
         let row = window(samples, first as usize, out.len())?;
         copy_samples(row, out);
         Some(self.piece.plan.input.ty)
+    }
+
+    /// What an input of three dimensions has at points whose first coordinate rises by one.
+    fn look_pixel_row(&self, first: i64, others: &[i64], out: &mut [Number]) -> Option<Ty>
+        ensures { IfSome result (λ t. (k : ℕ) → k < length out.new → source_at self.now (memory_of self.now.memory.now) Input ((first +ℤ pos k) ∷ others.now) ≡ Some (typed t (number_at out.new k))) }
+    {
+        let pixels = self.pixels(others)?;
+        if first < 0 {
+            return None;
+        }
+        copy_pixels(pixels, first as usize, out)?;
+        Some(self.piece.plan.input.ty)
+    }
+
+    /// What the input has at points whose first coordinate rises by one.
+    fn look_input_row(&self, first: i64, others: &[i64], out: &mut [Number]) -> Option<Ty>
+        ensures { IfSome result (λ t. (k : ℕ) → k < length out.new → source_at self.now (memory_of self.now.memory.now) Input ((first +ℤ pos k) ∷ others.now) ≡ Some (typed t (number_at out.new k))) }
+    {
+        if others.len() == 2 {
+            self.look_pixel_row(first, others, out)
+        } else {
+            self.look_sample_row(first, others, out)
+        }
     }
 
     /// What a buffer has at points whose first coordinate rises by one.
@@ -325,7 +348,7 @@ impl RunReader for RunReading<'_, '_> {
     fn look_row(&self, name: &str, first: i64, others: &[i64], out: &mut [Number]) -> Option<Ty> {
         let source = self.source(name)?;
         match source {
-            Source::Input => self.look_sample_row(first, others, out),
+            Source::Input => self.look_input_row(first, others, out),
             Source::Buffer(buffer) => self.look_place_row(buffer, first, others, out),
         }
     }

@@ -1,6 +1,6 @@
 //! Rows: what lies at points that differ in the first coordinate alone.
 
-ghost use Rattle.std.specs.Prelude.{◌≡◌, ◌∷◌, [], ◌<◌, ◌+ℤ◌, ◌-ℤ◌, ℕ, ℤ, Some, IfSome, length, drop, take, pos, slice_index};
+ghost use Rattle.std.specs.Prelude.{◌≡◌, ◌∷◌, [], ◌<◌, ◌+◌, ◌+ℤ◌, ◌-ℤ◌, ℕ, ℤ, Some, IfSome, length, drop, take, pos, slice_index};
 ghost use Rattle.numeric.specs.declared.ty.Ty.{Ty as TyFound};
 ghost use Rattle.tree.specs.Meaning.{typed};
 ghost use Rattle.interpreter.specs.Evaluation.Lanes.{number_at};
@@ -217,6 +217,28 @@ fn sample_number(sample: u16) -> Number
     Number {
         value: i64::from(sample),
     }
+}
+
+/// The sample at a place behind the first, if there is one.
+#[inline(always)]
+fn sample_behind(samples: &[u16], place: usize) -> Option<Number>
+    ensures { IfSome result (λ n. sample_along samples.now (pos place) ≡ Some n.value) }
+{
+    let sample = samples.get(place)?;
+    Some(sample_number(*sample))
+}
+
+/// The samples of a row's colour at coordinates side by side, from one on, put into a register; nothing where there is none at one
+/// of them.
+pub(crate) fn copy_pixels(row: Pixels<'_>, first: usize, out: &mut [Number]) -> Option<()>
+    ensures { IfSome result (λ _. (k : ℕ) → k < length out.new → pixel_along row.entry.colours row.entry.colour row.entry.samples.now (pos (first + k)) ≡ Some (number_at out.new k)) }
+{
+    let mut place = first.checked_mul(row.colours)?.checked_add(row.colour)?;
+    for turn in 0..out.len() {
+        out[turn] = sample_behind(row.samples, place)?;
+        place = place.checked_add(row.colours)?;
+    }
+    Some(())
 }
 
 /// As many samples, put into a register.

@@ -1,11 +1,11 @@
 //! The memory of private runs.
 
-ghost use Rattle.std.specs.Prelude.{◌≡◌, ◌≤◌, IfOk};
+ghost use Rattle.std.specs.Prelude.{◌≡◌, ◌≤◌, IfOk, OnOk, map};
 ghost use Rattle.plan.specs.View.{group_of};
 ghost use Rattle.plan.specs.Certificate.Certificate.{certificate_of};
 ghost use Rattle.interpreter.specs.Needs.{region_count};
 ghost use Rattle.plan.specs.Certificate.Cells.{own_region};
-ghost use Rattle.interpreter.specs.Scratches.{room_of, IsScratchFor};
+ghost use Rattle.interpreter.specs.Scratches.{room_of, IsNotedFor, IsScratchForAll};
 
 use crate::needs::{Needs, note_needs};
 use crate::run::own_region;
@@ -16,11 +16,12 @@ use plan::Group;
 use plan::certificate::{Cert, Own};
 use std::alloc::{AllocError, Global};
 
-/// The memory of private runs of the pieces of a group, one run after another. It is taken here, before the first run, and
-/// the runs take none.
+/// The memory of private runs of the pieces of a plan, one run after another. It is taken here, before the first run, and the runs
+/// take none. The buffers of all groups lie in the same places.
 #[derive(Drop)]
 pub struct Scratch {
-    pub(crate) sizes: Vec<Size>,
+    /// How many coordinates the buffers of each group have.
+    pub(crate) sizes: Vec<Vec<Size>>,
     pub(crate) constants: Symbols,
     pub(crate) symbols: Symbols,
     pub(crate) state: State,
@@ -36,36 +37,63 @@ fn own_count(all: &[Own], number: usize) -> usize
     }
 }
 
+/// The larger of two numbers.
+fn larger(left: usize, right: usize) -> usize
+    ensures left { left ≤ result }
+    ensures right { right ≤ result }
+{
+    if left < right { right } else { left }
+}
+
+/// Notes what the pieces of a group of this number need.
+fn note_group(
+    group: &Group,
+    cert: &Cert,
+    number: usize,
+    needs: &mut Needs,
+) -> Result<(), AllocError>
+    ensures { OnOk result (IsNotedFor (certificate_of cert.now) number (group_of group.now) needs.old needs.new) }
+{
+    needs.reach(own_count(&cert.own, number))?;
+    note_needs(&group.body, needs)?;
+    Ok(())
+}
+
 impl Scratch {
-    /// Memory for the pieces of a group of this number, each of which gives at most so many numbers.
+    /// Memory for the pieces of these groups of a plan, each of which gives at most so many numbers.
     ///
-    /// It takes 24 bytes a place of the group's buffers, 24 bytes a line that binds a symbol, 4 bytes a count of the grid, 16
-    /// bytes a coordinate of the points at which the group's lines fetch and store, 8 bytes an index of the calls in its
-    /// stores, and 8 bytes a number.
+    /// It takes 24 bytes a place of the buffers, of each number as many places as the group that asks for most of them, 24 bytes a
+    /// line that binds a symbol, 4 bytes a count of the largest grid, 16 bytes a coordinate of the points that the groups' pieces
+    /// own and at which their lines fetch and store, 8 bytes an index of the calls in their stores, and 8 bytes a number.
     ///
     /// # Errors
     /// `AllocError` where memory runs out. A scratch has no room for buffers of more than four coordinates.
     pub fn new(
         alloc: Global,
-        group: &Group,
+        groups: &[Group],
         cert: &Cert,
-        number: usize,
         given: usize,
     ) -> Result<Scratch, AllocError>
-        ensures fits { IfOk result (λ x. IsScratchFor x (certificate_of cert.now) number (group_of group.now)) }
+        ensures fits { IfOk result (λ x. IsScratchForAll x (certificate_of cert.now) (map group_of groups.now)) }
         ensures given { IfOk result (λ x. given ≤ room_of x) }
     {
         let mut needs = Needs {
             limits: Vec::new(alloc),
             symbols: 0,
-            coordinates: own_count(&cert.own, number),
+            coordinates: 0,
             indices: 0,
         };
-        note_needs(&group.body, &mut needs)?;
+        let mut sizes = Vec::new(alloc);
+        let mut counts = 0;
+        for (number, group) in groups.iter().enumerate() {
+            note_group(group, cert, number, &mut needs)?;
+            counts = larger(counts, group.grid.len());
+            sizes.push(sizes_of(alloc, &group.body)?)?;
+        }
         Ok(Scratch {
-            sizes: sizes_of(alloc, &group.body)?,
+            sizes,
             constants: Symbols::new(alloc, 0, 0)?,
-            symbols: Symbols::new(alloc, group.grid.len(), needs.symbols)?,
+            symbols: Symbols::new(alloc, counts, needs.symbols)?,
             state: State::new(alloc, &needs, given)?,
         })
     }

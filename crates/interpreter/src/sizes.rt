@@ -5,7 +5,7 @@ ghost use Rattle.plan.specs.Lists.{list_statements};
 ghost use Rattle.plan.specs.Plan.{block};
 ghost use Rattle.plan.specs.View.{statement_of};
 ghost use Rattle.plan.specs.Semantics.Setting.{allocated, block_allocated, dimensions_in, or_else};
-ghost use Rattle.interpreter.specs.Sizes.{first_size, size_in, size_of};
+ghost use Rattle.interpreter.specs.Sizes.{first_size, size_in, size_of, sizes_at};
 
 use plan::Stmt;
 use std::alloc::{AllocError, Global};
@@ -70,4 +70,14 @@ pub(crate) fn size_in(sizes: &[Size], buffer: u64) -> usize
         }
     }
     0
+}
+
+/// The sizes of the buffers of the group of a number; none where there is no such group.
+pub(crate) fn sizes_at(sizes: &[Vec<Size>], number: usize) -> &[Size]
+    ensures { result.now ≡ sizes_at sizes.now number }
+{
+    match sizes.get(number) {
+        Some(found) => found.as_slice(),
+        None => &[],
+    }
 }

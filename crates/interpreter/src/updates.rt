@@ -2,36 +2,33 @@
 //! stored to has is read and written turn by turn.
 
 ghost use Rattle.std.specs.Bool.{OnTrue};
-ghost use Rattle.std.specs.Prelude.{◌≡◌, ◌∷◌, ◌<◌, ◌≤◌, ◌+◌, ℕ, ℤ, List, pos, ◌+ℤ◌, ◌-ℤ◌, ◌*ℤ◌, ◌≤ℤ◌, ◌^◌, length, map, drop, flat_map, All, IfSome, OnOk, Some, int_le, string_bytes};
+ghost use Rattle.std.specs.Prelude.{◌≡◌, ◌∷◌, ◌<◌, ◌≤◌, ◌+◌, ℕ, ℤ, List, pos, ◌+ℤ◌, ◌-ℤ◌, ◌*ℤ◌, ◌≤ℤ◌, ◌^◌, length, map, flat_map, All, IfSome, OnOk, Some, int_le, string_bytes};
 ghost use Rattle.tree.specs.declared.value.Value.{Value as ValueFound};
 ghost use Rattle.tree.specs.Term.{term_of};
 ghost use Rattle.meaning.specs.Names.{bound};
 ghost use Rattle.plan.specs.View.{coordinate_of};
-ghost use Rattle.plan.specs.Semantics.Found.{found, with};
+ghost use Rattle.plan.specs.Semantics.Found.{found};
 ghost use Rattle.plan.specs.Semantics.Memory.{Memory, read};
 ghost use Rattle.plan.specs.Semantics.Run.{look};
 ghost use Rattle.plan.specs.Symbols.{bind, rising};
 ghost use Rattle.interpreter.specs.Bindings.{symbols_of};
 ghost use Rattle.interpreter.specs.Buffers.Blocks.{memory_of};
-ghost use Rattle.interpreter.specs.Buffers.Spots.{HasPlace, IsSpot};
 ghost use Rattle.interpreter.specs.Evaluation.Lanes.{lane_number, number_at, IsNarrowFor};
-ghost use Rattle.interpreter.specs.PlaceNumbers.{OperandStands, OperationStands, UpdateStands};
+ghost use Rattle.interpreter.specs.PlaceNumbers.{UpdateStands};
 ghost use Rattle.interpreter.specs.Pieces.{around, no_cells, IsReady};
 ghost use Rattle.interpreter.specs.Runs.{numbers_at, store_at, IsBut};
 ghost use Rattle.interpreter.specs.Sizes.{size_in};
 ghost use Rattle.interpreter.specs.States.{progress_of, EndsIn, IsAsLarge};
 ghost use Rattle.interpreter.specs.Steps.{steps};
 ghost use Rattle.interpreter.specs.Targets.{CoordinateIsNarrow};
-ghost use Rattle.interpreter.specs.Updates.{columns_at, operand_at, operation_at, place_number, sets_or_none, variables_at, place_numbers, registers_of, FindsTurn, FindsUpdate, IsOperation, IsOwnCall, IsPoint, IsShort};
-ghost use Rattle.interpreter.specs.declared.buffers.spot.Spot.{Spot as SpotHeld};
+ghost use Rattle.interpreter.specs.Updates.{columns_at, operand_at, operation_at, place_number, variables_at, place_numbers, registers_of, FindsTurn, FindsUpdate, IsOperation, IsOwnCall, IsPoint, IsShort};
 
-use crate::buffers::Buffers;
-use crate::columns::{column_run, columns_run, number_of};
-use crate::evaluation::{Lanes, Number, Stop, applied, evaluate_run, spread};
+use crate::columns::{column_run, columns_run};
+use crate::evaluation::{Lanes, Number, Stop, evaluate_run, spread};
 use crate::loads::claim_of;
 use crate::piece::Piece;
-use crate::placing::{Places, Target, spot_at};
-use crate::run_reading::{RunReading, lanes_of, registers_behind};
+use crate::placing::{Places, Target};
+use crate::run_reading::{RunReading, lanes_of};
 use crate::runs::{Part, StoreLine, numbers_in};
 use crate::sizes::size_in;
 use crate::state::State;
@@ -41,7 +38,7 @@ use crate::update_reading::UpdateReading;
 use meaning::sameness::same_name;
 use numeric::{Op, Ty};
 use plan::{Coordinate, Index};
-use tree::{Expr, Value};
+use tree::Expr;
 
 /// An operand at the turns of a run.
 #[derive(Clone, Copy, Drop)]
@@ -328,73 +325,6 @@ pub(crate) fn update_part<'a>(
     update_run(line.value, size, &reader, part.count, &mut state.registers)
 }
 
-/// What an operand has at a turn. Its own point has the place of a number.
-#[inline(always)]
-fn operand_at(
-    target: Target,
-    operand: Operand,
-    memory: &Buffers,
-    registers: &[Number],
-    places: &[usize],
-    turn: usize,
-) -> Option<Value>
-    requires { OperandStands memory.now target.buffer target.count target.position operand registers.now places.now turn }
-    ensures { result ≡ operand_at target.count operand registers.now (memory_of memory.now) target.buffer turn }
-{
-    match operand {
-        Operand::Known(ty) => Some(Value {
-            ty,
-            number: number_of(registers, turn),
-        }),
-        Operand::Own(_) => memory.held(spot_at(target.position, places, turn)),
-    }
-}
-
-/// What an operation has at a turn. Its own points have the places of numbers.
-#[inline(always)]
-fn operation_at(
-    target: Target,
-    operation: Operation,
-    memory: &Buffers,
-    registers: &[Number],
-    places: &Places<'_>,
-    turn: usize,
-) -> Option<Value>
-    requires { OperationStands memory.now target.buffer target.count target.position operation registers.now places.now.left.now places.now.right.now turn }
-    ensures { result ≡ operation_at target.count operation registers.now (memory_of memory.now) target.buffer turn }
-{
-    let behind = registers_behind(registers, operation.width);
-    let left = operand_at(target, operation.left, memory, registers, places.left, turn)?;
-    let right = operand_at(target, operation.right, memory, behind, places.right, turn)?;
-    Some(applied(operation.op, left, right))
-}
-
-/// An update at a turn.
-fn store_turn(
-    target: Target,
-    update: Update,
-    places: &Places<'_>,
-    turn: usize,
-    state: &mut State,
-) -> Result<(), Stop>
-    requires { UpdateStands state.old.memory target.buffer target.size target.count target.position update state.old.registers.items places.now.point.now places.now.left.now places.now.right.now turn }
-    ensures registers { state.new.registers.items ≡ state.old.registers.items }
-    ensures large { OnOk result (IsAsLarge state.old state.new) }
-    ensures but { IsBut target.buffer (memory_of state.old.memory) (memory_of state.new.memory) }
-    ensures places { (i n : ℕ) → HasPlace state.old.memory i n → HasPlace state.new.memory i n }
-    ensures spots { (b : ℕ) (p : List ℤ) (s : SpotHeld) (k : ℕ) → IsSpot state.old.memory b p s k → IsSpot state.new.memory b p s k }
-    ensures run { EndsIn state.old.given.capacity (λ _. progress_of state.new) result (with (operation_at target.count update.operation (drop update.start state.old.registers.items) (memory_of state.old.memory) target.buffer turn) (sets_or_none target.buffer (progress_of state.old) (columns_at target.count target.size state.old.registers.items turn))) }
-{
-    let registers = registers_behind(&state.registers, update.start);
-    let memory = &state.memory;
-    let Some(value) = operation_at(target, update.operation, memory, registers, places, turn) else {
-        return Err(Stop::Fault);
-    };
-    let spot = spot_at(target.position, places.point, turn);
-    state.memory.put(spot, 0, value);
-    Ok(())
-}
-
 /// An update at some turns of a loop, one after another.
 pub(crate) fn store_turns<'a>(
     piece: &'a Piece<'a>,
@@ -417,8 +347,11 @@ pub(crate) fn store_turns<'a>(
         size: size_in(piece.sizes, line.buffer),
         count: part.count,
     };
-    for index in 0..part.count {
-        store_turn(target, update, places, index, state)?;
+    match state
+        .memory
+        .turn_all(target, update, &state.registers, places)
+    {
+        Some(()) => Ok(()),
+        None => Err(Stop::Fault),
     }
-    Ok(())
 }

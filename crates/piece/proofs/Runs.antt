@@ -68,12 +68,6 @@ module _ (x : Checked) (p : Plan) (c : Certificate) (ep : p ≡ plan_checked x) 
       let C : Certificate → Type 0 = λ d. MatchOption (slice_get (plan_checked x).groups n) ⊥ (IsScratchFor s d n) in
       subst P (sym ep) (subst C (sym ec) h)
 
--- a scratch for the group of a place
-pub scratch_here : (gs : List Group) (c : Certificate) (j n k : ℕ) (place : IsPlaceOf gs j n k) (s : Scratch) (g : Group) → g ≡ place.g → IsScratchFor s c n g → MatchOption (slice_get gs n) ⊥ (IsScratchFor s c n)
-scratch_here gs c j n k place s g same h =
-    let O : Option Group → Type 0 = λ o. MatchOption o ⊥ (IsScratchFor s c n) in
-    subst O (sym place.at) (subst (IsScratchFor s c n) same h)
-
 -- what a piece gives over the values that it has looked at, told by its place, is its private run
 pub run_here : RunsAreTheWork → (x : Checked) (samples : List ℕ) (looked : List ℤ) (calls : Calls) (j n k : ℕ) → IsPlaceOf (plan_checked x).groups j n k
     → calls ≡ looked_value (algorithm_checked x) (plan_checked x) (cells_of_piece (plan_checked x) j) looked

@@ -2,8 +2,8 @@
 use Rattle.std.proofs.Common.{◌≡◌, ℕ, zero, suc, ◌+◌, ◌-◌, ◌*◌, ◌^◌, min, ◌<◌, ◌≤◌, List, [], ◌∷◌, ◌++◌, map, take, length, get_or, Some, refl, sym, ap, ◌∙◌, arith}
 use Rattle.std.specs.Prelude.{slice_get}
 use Rattle.std.specs.List.{range_with_len}
-use Rattle.std.proofs.lemmas.List.{take_more, length-append, length-map}
-use Rattle.std.proofs.lemmas.Option.{same_Some, slice_get-map, slice_get-get_or, slice_get_within}
+use Rattle.std.proofs.lemmas.List.{take_more, length-append}
+use Rattle.std.proofs.lemmas.Option.{slice_get-map, slice_get-get_or}
 use Rattle.std.specs.Option.{option_map}
 use Rattle.std.proofs.lemmas.List.FromFn.{length-map-range_with_len}
 use Rattle.plan.specs.Plan.{Group}
@@ -70,9 +70,3 @@ group_at gs items i x same l is =
     slice_get-map group_of gs i
     ∙ ap (option_map group_of) (ap (λ (xs : List CodeGroup). slice_get xs i) (sym same) ∙ slice_get-get_or items i x l)
     ∙ ap (λ (y : CodeGroup). Some (group_of y)) (sym is)
-
--- and the code's group that is read there
-pub group_is : (gs : List CodeGroup) (i : ℕ) (x : CodeGroup) (g : Group) → slice_get (map group_of gs) i ≡ Some g → x ≡ get_or gs i x → group_of x ≡ g
-group_is gs i x g at is =
-    let l : i < length gs = (let m = slice_get_within (map group_of gs) i g at in let e = length-map gs group_of in omega (arith, m, e)) in
-    same_Some (group_of x) g (sym (group_at gs gs i x refl l is) ∙ at)

@@ -19,8 +19,8 @@ use interpreter::evaluation::Stop;
 use interpreter::{Cells, Scratch, run_piece_in};
 use std::alloc::{AllocError, Global};
 
-/// The private run of the piece that stands at this place, which is told of the cells that it fetches, in a scratch for its
-/// group. The numbers for its own cells, in their order, are then those that the scratch gives. It takes no memory.
+/// The private run of the piece that stands at this place, which is told of the cells that it fetches, in a scratch that suffices
+/// for its group. The numbers for its own cells, in their order, are then those that the scratch gives. It takes no memory.
 ///
 /// # Errors
 /// `Fault` where the run has a fault, and `Full` where it gives more numbers than the scratch has room for.
@@ -55,8 +55,8 @@ pub fn run_in<C: Cells>(
 /// The private run of a piece over the values of the cells that it fetches, in the order in which it looked at them: the
 /// values of its own cells, in their order, or nothing where the run has a fault.
 ///
-/// The memory of the run is taken here, that of a scratch for the piece's group and an index of the values, and given back
-/// at the end.
+/// The memory of the run is taken here, that of a scratch for the plan's groups and an index of the values, and given back at
+/// the end.
 ///
 /// # Errors
 /// `AllocError` where memory runs out.
@@ -75,9 +75,8 @@ pub fn private_run(
     let checked = cells.checked();
     let plan = checked.plan();
     let place = place_of(plan, piece);
-    let group = &plan.groups[place.group];
     let most = checked.own(piece as usize).len();
-    let mut scratch = Scratch::new(alloc, group, checked.cert(), place.group, most)?;
+    let mut scratch = Scratch::new(alloc, &plan.groups, checked.cert(), most)?;
     let told = LookedCells::of(alloc, cells, piece, looked)?;
     match run_in(alloc, &mut scratch, checked, inputs, &told, piece, place) {
         Ok(()) => Ok(Some(Vec::from_slice(alloc, scratch.given())?)),

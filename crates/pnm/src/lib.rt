@@ -1,4 +1,4 @@
-//! Image files after Netpbm: PGM and PPM, raw and plain.
+//! Image files after Netpbm: PGM and PPM, raw (P5, P6) and plain (P2, P3).
 #![tactic(auto)]
 
 pub mod error;

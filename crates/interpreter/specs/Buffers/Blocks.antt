@@ -1,6 +1,6 @@
 -- What buffers hold, as lists, and the memory that such lists show.
 use Rattle.std.specs.Prelude.{◌≡◌, ℕ, ◌==◌, ◌&&◌, ◌≤◌, Bool, true, false, if◌then◌else◌, List, Option, Some, None, ℤ, find, All, map, option_map, slice_index_or}
-use Rattle.std.specs.List.{list_any}
+use Rattle.std.specs.List.{list_any, AllByRecursion}
 use Rattle.tree.specs.declared.value.Value.{Value}
 use Rattle.plan.specs.Rooms.{Room, place, same_place}
 use Rattle.plan.specs.Semantics.Memory.{Memory}
@@ -63,3 +63,16 @@ limits_of blocks = map (λ block. record { buffer = block.number; places = block
 pub record HasMemoryFor (limits : List Limit) (b n : ℕ) : Type 0 where
   pub there : list_any (λ x. b == x.buffer) limits ≡ true
   pub each : All (λ x. x.buffer ≡ b → n ≤ x.places) limits
+
+-- there is a buffer of this number
+abbrev pub IsNumbered : List Block → ℕ → Type 0
+IsNumbered blocks b = list_any (λ l. b == l.buffer) (limits_of blocks) ≡ true
+
+-- each of these limits has a buffer of its number
+abbrev pub AreNumbered : List Limit → List Block → Type 0
+AreNumbered limits blocks = All (λ x. IsNumbered blocks x.buffer) limits
+
+-- buffers out of use, each with memory for the most places of a limit of its number
+pub record IsMadeFor (limits : List Limit) (blocks : List Block) : Type 0 where
+  pub unused : AllByRecursion (λ block. block.used ≡ false) blocks
+  pub most : AllByRecursion (λ block. All (λ x. x.buffer ≡ block.number → x.places ≤ block.limit) limits) blocks

@@ -1,6 +1,6 @@
 //! One buffer.
 
-ghost use Rattle.std.specs.Prelude.{◌≡◌, ◌∷◌, ◌+◌, ◌+ℤ◌, ◌-ℤ◌, ℕ, ℤ, List, pos, length, ◌<◌, ◌≤◌, ◌^◌, ◌==◌, ◌&&◌, false, true, IfOk, IfSome, IsFalse, None, Some, map, replicate};
+ghost use Rattle.std.specs.Prelude.{◌≡◌, ◌∷◌, ◌+◌, ◌+ℤ◌, ◌-ℤ◌, ℕ, ℤ, List, pos, length, ◌<◌, ◌≤◌, ◌^◌, ◌==◌, ◌&&◌, false, true, IfOk, IfSome, IsFalse, None, Some, map, option_map, replicate};
 ghost use Rattle.std.specs.Bool.{OnTrue};
 ghost use Rattle.tree.specs.declared.value.Value.{Value as ValueHeld};
 ghost use Rattle.plan.specs.Rooms.{place};
@@ -10,6 +10,7 @@ ghost use Rattle.interpreter.specs.Scanlines.{along};
 ghost use Rattle.interpreter.specs.Buffers.Raster.{place_count, LiesAt};
 ghost use Rattle.interpreter.specs.Buffers.Blocks.{held_in, unused, IsSetAt};
 ghost use Rattle.interpreter.specs.Buffers.Spots.{with_place};
+ghost use Rattle.interpreter.specs.HeldTurns.{turned, with_places};
 ghost use Rattle.interpreter.specs.PlaceNumbers.{place_at};
 ghost use Rattle.interpreter.specs.Updates.{columns_at};
 
@@ -17,8 +18,11 @@ use crate::buffers::limit::Limit;
 use crate::buffers::raster::{place_columns, place_count, place_number};
 use crate::buffers::room::Rooms;
 use crate::buffers::stretch::stretch_of;
+use crate::buffers::turning::turn_all;
 use crate::evaluation::Number;
+use crate::placing::Places;
 use crate::scanlines::{Scanline, distance, window};
+use crate::updates::Operation;
 use smallvec::SmallVec;
 use std::alloc::{AllocError, Global};
 use std::marker::Model;
@@ -185,13 +189,22 @@ impl Buffer {
         place_columns(&self.rooms, count, registers, places)
     }
 
-    /// What the place of a number holds.
-    #[inline(always)]
-    pub(crate) fn held(&self, number: usize) -> Option<Value>
-        requires { number < length self.now.places }
-        ensures { (p : List ℤ) → LiesAt self.now.rooms p number → held_at (held_in self.now) (place self.now.rooms p) ≡ result }
+    /// Sets the places of so many turns of an operation, by their numbers, one after another. Nothing where one of the own places
+    /// is unset at its turn.
+    pub(crate) fn turn_all(
+        &mut self,
+        operation: Operation,
+        numbers: &[Number],
+        behind: &[Number],
+        places: &Places<'_>,
+        count: usize,
+    ) -> Option<()>
+        requires { (k : ℕ) → k < count → place_at places.now.point.now k < length self.old.places }
+        ensures turned { option_map (λ _. self.new) result ≡ option_map (with_places self.old) (turned operation numbers.now behind.now places.now.point.now places.now.left.now places.now.right.now self.old.places count) }
+        ensures counted { length self.old.places ≡ place_count self.old.rooms }
     {
-        self.places[number]
+        let held = self.places.as_mut_slice();
+        turn_all(operation, numbers, behind, places, count, held)
     }
 
     /// Sets the place that so many come behind another.

@@ -1,8 +1,9 @@
 //! Buffers by number.
 
-ghost use Rattle.std.specs.Prelude.{◌≡◌, ◌∷◌, ◌+ℤ◌, ◌-ℤ◌, ◌+◌, ◌<◌, ℕ, ℤ, pos, List, ◌==◌, ◌≤◌, ◌&&◌, All, length, IfOk, IfSome, Some, None, map, position, IsFalse};
+ghost use Rattle.std.specs.Prelude.{◌≡◌, ◌∷◌, ◌+ℤ◌, ◌-ℤ◌, ◌+◌, ◌<◌, ℕ, ℤ, pos, List, ◌==◌, ◌≤◌, ◌&&◌, All, length, IfOk, IfSome, OnOk, Some, None, map, option_map, position, IsFalse};
 ghost use Rattle.tree.specs.declared.value.Value.{Value as ValueHeld};
 ghost use Rattle.std.specs.Bool.{OnTrue};
+ghost use Rattle.std.specs.List.{list_any};
 ghost use Rattle.plan.specs.Semantics.Memory.{allot, nothing, read, write};
 ghost use Rattle.interpreter.specs.Buffers.Raster.{place_count};
 ghost use Rattle.interpreter.specs.Buffers.Rooms.{room_of};
@@ -11,8 +12,9 @@ ghost use Rattle.interpreter.specs.Scanlines.{along};
 ghost use Rattle.interpreter.specs.Evaluation.Lanes.{number_at};
 ghost use Rattle.interpreter.specs.Buffers.Spots.{set_all, HasPlace, IsSpot};
 ghost use Rattle.interpreter.specs.declared.buffers.spot.Spot.{Spot as SpotHeld};
-ghost use Rattle.interpreter.specs.Buffers.Blocks.{limits_of, memory_of, HasMemoryFor};
-ghost use Rattle.interpreter.specs.PlaceNumbers.{place_at, StandsAt};
+ghost use Rattle.interpreter.specs.Buffers.Blocks.{limits_of, memory_of, HasMemoryFor, IsMadeFor, IsNumbered};
+ghost use Rattle.interpreter.specs.HeldTurns.{updated};
+ghost use Rattle.interpreter.specs.PlaceNumbers.{place_at, StandsAt, UpdateStands};
 ghost use Rattle.interpreter.specs.Updates.{columns_at};
 
 use crate::buffers::buffer::Buffer;
@@ -20,8 +22,11 @@ use crate::buffers::limit::Limit;
 use crate::buffers::room::Rooms;
 use crate::buffers::spot::Spot;
 use crate::evaluation::Number;
+use crate::placing::{Places, Target};
 use crate::registers::value_at;
+use crate::run_reading::registers_behind;
 use crate::scanlines::Scanline;
+use crate::updates::Update;
 use numeric::Ty;
 use std::alloc::{AllocError, Global};
 use std::marker::Model;
@@ -58,6 +63,13 @@ fn position(buffers: &[Buffer], number: u64) -> Option<usize>
     buffers.iter().position(|buffer| buffer.is_numbered(number))
 }
 
+/// Whether there is a buffer of this number.
+fn is_there(buffers: &[Buffer], number: u64) -> bool
+    ensures { result ≡ list_any (λ block. number == block.number) buffers.now }
+{
+    buffers.iter().any(|buffer| buffer.is_numbered(number))
+}
+
 /// The places that a limit asks for a buffer, 0 where it is another's.
 fn places_for(limit: Limit, buffer: u64) -> usize
     ensures { limit.buffer ≡ buffer → limit.places ≤ result }
@@ -88,9 +100,34 @@ fn most_places(limits: &[Limit], buffer: u64) -> usize
     most
 }
 
+/// One more buffer, of this number, where there is none, with the most places that a limit of the number asks for.
+fn add_buffer(
+    alloc: Global,
+    buffers: &mut Vec<Buffer>,
+    limits: &[Limit],
+    number: u64,
+) -> Result<(), AllocError>
+    ensures there { OnOk result (IsNumbered buffers.new.items number) }
+    ensures kept { OnOk result ((b : ℕ) → IsNumbered buffers.old.items b → IsNumbered buffers.new.items b) }
+    ensures made { OnOk result (IsMadeFor limits.now buffers.old.items → IsMadeFor limits.now buffers.new.items) }
+{
+    if is_there(buffers, number) {
+        return Ok(());
+    }
+    let places = most_places(limits, number);
+    buffers.push(Buffer::new(
+        alloc,
+        Limit {
+            buffer: number,
+            places,
+        },
+    )?)?;
+    Ok(())
+}
+
 impl Buffers {
-    /// Memory for buffers, of which none is in use: for each limit one of its number, with the most places that a limit
-    /// of the number asks for.
+    /// Memory for buffers, of which none is in use: one of each number that a limit names, with the most places that a limit of
+    /// the number asks for.
     ///
     /// It takes 24 bytes a place.
     pub fn new(alloc: Global, limits: &[Limit]) -> Result<Buffers, AllocError>
@@ -99,14 +136,7 @@ impl Buffers {
     {
         let mut buffers = Vec::new(alloc);
         for limit in limits {
-            let places = most_places(limits, limit.buffer);
-            buffers.push(Buffer::new(
-                alloc,
-                Limit {
-                    buffer: limit.buffer,
-                    places,
-                },
-            )?)?;
+            add_buffer(alloc, &mut buffers, limits, limit.buffer)?;
         }
         Ok(Buffers { buffers })
     }
@@ -205,13 +235,31 @@ impl Buffers {
         buffer.place_columns(width, count, registers, places)
     }
 
-    /// What the place at a spot holds.
-    #[inline(always)]
-    pub(crate) fn held(&self, spot: Spot) -> Option<Value>
-        requires { HasPlace self.now spot.buffer spot.place }
-        ensures { (b : ℕ) (p : List ℤ) → IsSpot self.now b p spot 0 → read (memory_of self.now) b p ≡ result }
+    /// Does an update at all turns, one after another, by the numbers of its places. Nothing where one of its own places is unset
+    /// at its turn.
+    pub(crate) fn turn_all(
+        &mut self,
+        target: Target,
+        update: Update,
+        registers: &[Number],
+        places: &Places<'_>,
+    ) -> Option<()>
+        requires { (k : ℕ) → k < target.count → UpdateStands self.old target.buffer target.size target.count target.position update registers.now places.now.point.now places.now.left.now places.now.right.now k }
+        ensures run { option_map (λ _. memory_of self.new) result ≡ updated target.count target.size target.buffer update registers.now (memory_of self.old) target.count }
+        ensures limits { IfSome result (λ _. limits_of self.new ≡ limits_of self.old) }
     {
-        self.buffers[spot.buffer].held(spot.place)
+        if target.count == 0 {
+            return Some(());
+        }
+        let numbers = registers_behind(registers, update.start);
+        let behind = registers_behind(numbers, update.operation.width);
+        self.buffers[target.position].turn_all(
+            update.operation,
+            numbers,
+            behind,
+            places,
+            target.count,
+        )
     }
 
     /// Sets the place that so many come behind a spot.

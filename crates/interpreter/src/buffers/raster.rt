@@ -1,7 +1,7 @@
 //! Where the places of a buffer stand in its vector.
 
-ghost use Rattle.std.specs.Prelude.{◌≡◌, ◌<◌, ◌≤◌, ◌^◌, ℕ, length, IfSome, SomeIff, MatchOption, map, None};
-ghost use Rattle.plan.specs.Rooms.{place};
+ghost use Rattle.std.specs.Prelude.{◌≡◌, ◌<◌, ◌≤◌, ◌^◌, ◌+ℤ◌, ℕ, length, pos, IfSome, SomeIff, MatchOption, map, None};
+ghost use Rattle.plan.specs.Rooms.{place, Straight};
 ghost use Rattle.interpreter.specs.Buffers.Rooms.{room_of};
 ghost use Rattle.interpreter.specs.Buffers.Raster.{place_count, LiesAt};
 ghost use Rattle.interpreter.specs.Evaluation.Lanes.{number_at};
@@ -63,11 +63,72 @@ fn begin_places(count: usize, places: &mut [usize])
     }
 }
 
+/// The same in a room of so many places from the origin on, of which `end` is the first that has none. Nothing also where the
+/// later ones' place has a large number.
+#[inline(always)]
+fn straight_more(origin: i64, end: i64, width: u32, number: Number, place: usize) -> Option<usize>
+    requires { end ≡ origin +ℤ pos width }
+    ensures { IfSome result (IsOneMore (Straight origin width) number.value place) }
+{
+    if number.value < origin || end <= number.value || 1 << 31 < place {
+        return None;
+    }
+    let seat = (number.value - origin) as usize;
+    Some(place * width as usize + seat)
+}
+
+/// Takes one coordinate more, of so many places from the origin on, into the numbers of the first so many places. Its own numbers
+/// are a register's.
+fn straight_column(
+    origin: i64,
+    end: i64,
+    width: u32,
+    count: usize,
+    numbers: &[Number],
+    places: &mut [usize],
+) -> Option<()>
+    requires end { end ≡ origin +ℤ pos width }
+    requires numbers { count ≤ length numbers.now }
+    requires count { count ≤ length places.old }
+    ensures { IfSome result (λ _. (k : ℕ) → k < count → IsOneMore (Straight origin width) (number_at numbers.now k) (place_at places.old k) (place_at places.new k)) }
+{
+    for turn in 0..count {
+        places[turn] = straight_more(origin, end, width, numbers[turn], places[turn])?;
+    }
+    Some(())
+}
+
+/// Takes one coordinate more into the numbers of the first so many places, where it has so many places from the origin on.
+fn from_origin(
+    origin: i64,
+    width: u64,
+    count: usize,
+    numbers: &[Number],
+    places: &mut [usize],
+) -> Option<()>
+    requires { count ≤ length places.old }
+    ensures { IfSome result (λ _. (k : ℕ) → k < count → IsOneMore (Straight origin width) (number_at numbers.now k) (place_at places.old k) (place_at places.new k)) }
+{
+    let width = u32::try_from(width).ok()?;
+    let end = origin.checked_add(i64::from(width))?;
+    if numbers.len() < count {
+        return None;
+    }
+    straight_column(origin, end, width, count, numbers, places)
+}
+
 /// Takes one coordinate more into the numbers of the first so many places. Its own numbers are a register's.
 fn place_column(room: Room, count: usize, numbers: &[Number], places: &mut [usize]) -> Option<()>
     requires { count ≤ length places.old }
     ensures { IfSome result (λ _. (k : ℕ) → k < count → IsOneMore (room_of room) (number_at numbers.now k) (place_at places.old k) (place_at places.new k)) }
 {
+    if let Room::Straight {
+        origin,
+        count: width,
+    } = room
+    {
+        return from_origin(origin, width, count, numbers, places);
+    }
     for turn in 0..count {
         places[turn] = place_more(room, number_of(numbers, turn), places[turn])?;
     }

@@ -10,6 +10,7 @@ use numeric::{Op, Ty, wrap};
 use tree::Value;
 
 /// A number wrapped to the type.
+#[inline(always)]
 pub(crate) fn wrapped(ty: Ty, number: i64) -> Value
     ensures { result ≡ typed ty (wrap ty number) }
 {
@@ -23,6 +24,7 @@ pub(crate) fn wrapped(ty: Ty, number: i64) -> Value
 }
 
 /// The operator on two values: the exact result, wrapped to the first one's type.
+#[inline(always)]
 pub(crate) fn applied(op: Op, left: Value, right: Value) -> Value
     ensures { result ≡ applied op left right }
 {

@@ -1,8 +1,9 @@
-use Rattle.std.proofs.Common.{◌≡◌, ◌<◌, List, ℕ, ℤ, Option, Some, length, sym, ap, ◌∙◌, subst}
+use Rattle.std.proofs.Common.{◌≡◌, ◌<◌, List, ℕ, ℤ, Option, Some, MatchOption, length, map, sym, ap, ◌∙◌, subst}
 use Rattle.std.specs.Prelude.{slice_get}
 use Rattle.algo.specs.View.{picture_of, samples_of}
 use Rattle.meaning.specs.Value.{Calls}
-use Rattle.plan.specs.Plan.{Plan}
+use Rattle.plan.specs.Plan.{Group, Plan}
+use Rattle.plan.specs.declared.plan.Group.{Group as CodeGroup}
 use Rattle.plan.specs.View.{group_of}
 use Rattle.plan.specs.Certificate.Certificate.{Certificate}
 use Rattle.plan.specs.Certificate.Cells.{pieces}
@@ -13,8 +14,7 @@ use Rattle.headline.specs.Work.{looked_value, work_of}
 use Rattle.interpreter.specs.Scratches.{IsScratchFor}
 use Rattle.piece.specs.Looked.{cells_of_piece}
 use Rattle.piece.specs.Places.Places.{IsPlaceOf}
-use Rattle.piece.proofs.Runs.{listed, run_here, same_extents, scratch_here}
-use Rattle.piece.proofs.Walks.{group_is}
+use Rattle.piece.proofs.Runs.{listed, run_here, same_extents}
 use Rattle.piece.proofs.running.private_run.Goals as goal
 
 pub place_of-place-requires : goal.place_of-place-requires
@@ -44,9 +44,10 @@ run_in-requires-clause-memory c =
     let k = c.place_of-place.result.rank in
     let place : IsPlaceOf (plan_checked y).groups c.args.piece n k = subst (λ (q : Plan). IsPlaceOf q.groups c.args.piece n k) c.plan-plan.ensures c.place_of-place.ensures in
     let stands = ap (λ (q : Plan). slice_get q.groups n) c.plan-plan.ensures ∙ place.at in
-    let group = group_is c.plan-plan.result.now.groups.items n c.index-group.result.now place.g stands c.index-group.ensures in
-    let fits = subst (λ (d : Certificate). IsScratchFor c.in_ok-scratch.scratch d n (group_of c.index-group.result.now)) c.cert.ensures c.in_ok-scratch.ensures.fits in
-    scratch_here (plan_checked y).groups (certificate_checked y) c.args.piece n k place c.in_ok-scratch.scratch (group_of c.index-group.result.now) group fits
+    let at = ap (λ (gs : List CodeGroup). slice_get (map group_of gs) n) c.deref.ensures.value ∙ stands in
+    let x = c.in_ok-scratch.scratch in
+    let fits = subst (λ (d : Certificate). IsScratchFor x d n place.g) c.cert.ensures (c.in_ok-scratch.ensures.fits n place.g at) in
+    subst (λ (o : Option Group). MatchOption o ⊥ (IsScratchFor x (certificate_checked y) n)) (sym place.at) fits
 
 pub returns-in-Ok : goal.returns-in-Ok
 returns-in-Ok c =

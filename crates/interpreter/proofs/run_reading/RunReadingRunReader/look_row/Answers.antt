@@ -16,12 +16,12 @@ use Rattle.interpreter.proofs.run_reading.RunReadingRunReader.look_row.Goals as 
 pub returns-in-Input : goal.returns-in-Input
 returns-in-Input c =
     let r = c.args.self.now in
-    let out = c.look_sample_row.new.out in
+    let out = c.look_input_row.new.out in
     let others = c.args.others.now in
     let first : ℤ = to_z w64 (of_z w64 c.args.first) in
-    subst (λ (z : ℤ). IfSome c.look_sample_row.result (λ t. (m : Memory Value) → IsBut r.buffer (memory_of r.memory.now) m → (k : ℕ) → k < length out →
+    subst (λ (z : ℤ). IfSome c.look_input_row.result (λ t. (m : Memory Value) → IsBut r.buffer (memory_of r.memory.now) m → (k : ℕ) → k < length out →
     look (around r.piece.now no_cells) m c.args.name.now ((z +ℤ pos k) ∷ others) ≡ Some (typed t (number_at out k)))) (to_z-of_z w64 c.args.first c.ranges.first)
-    (finds_aside r c.args.name.now c.in_ok-source.source Input (length out) (λ k. (first +ℤ pos k) ∷ others) out c.look_sample_row.result c.in-Input.is c.in_ok-source.ensures c.look_sample_row.ensures)
+    (finds_aside r c.args.name.now c.in_ok-source.source Input (length out) (λ k. (first +ℤ pos k) ∷ others) out c.look_input_row.result c.in-Input.is c.in_ok-source.ensures c.look_input_row.ensures)
 
 pub returns-in-Buffer : goal.returns-in-Buffer
 returns-in-Buffer c =

@@ -1,34 +1,38 @@
-use Rattle.std.proofs.Common.{◌≡◌, ◌≤◌, List, ◌++◌, sym, ap, ◌∙◌, subst, arith}
-use Rattle.std.specs.Prelude.{All}
-use Rattle.plan.specs.declared.certificate.cert.Own.{Own}
-use Rattle.plan.specs.Certificate.Cells.{grid_symbols, own_region}
-use Rattle.plan.specs.View.{statement_of}
+use Rattle.std.proofs.Common.{◌≡◌, ◌<◌, ◌≤◌, ◌+◌, ℕ, List, length, map, Some, sym, ap, ◌∙◌, subst, arith}
+use Rattle.std.specs.Prelude.{slice_get}
+use Rattle.std.specs.Global.{Vec}
+use Rattle.std.proofs.lemmas.List.{length-map}
+use Rattle.std.proofs.lemmas.Option.{slice_get_within}
+use Rattle.plan.specs.View.{group_of}
 use Rattle.plan.specs.Certificate.Certificate.{certificate_of}
-use Rattle.interpreter.specs.Buffers.Blocks.{limits_of, HasMemoryFor}
-use Rattle.interpreter.specs.declared.buffers.limit.Limit.{Limit}
+use Rattle.plan.specs.Certificate.Cells.{grid_symbols}
 use Rattle.interpreter.specs.Bindings.{bind_all}
-use Rattle.interpreter.specs.Needs.{allotments, own_count, region_count, symbol_count}
-use Rattle.interpreter.specs.States.{space_of}
-use Rattle.interpreter.proofs.Fitting.{fits, IsEnough}
+use Rattle.interpreter.specs.declared.sizes.Size.{Size}
+use Rattle.interpreter.proofs.Sufficing.{group_at, none_noted, one_noted, suffices, HoldsFirst}
 use Rattle.interpreter.proofs.scratch.Scratch.new.Goals as goal
 
+pub loop-number-init : goal.loop-number-init
+loop-number-init c = none_noted (certificate_of c.args.cert.now) (map group_of c.args.groups.now) _ _ c.new-sizes.ensures.items
+
+pub loop-number-preserved : goal.loop-number-preserved
+loop-number-preserved c =
+    let gs = c.args.groups.now in
+    let i = c.loop-number.number in
+    let at = group_at gs i c.index-groups-number.result (omega (arith, c.loop-number-test.true)) c.index-groups-number.is in
+    let le = c.larger-counts.ensures.left in
+    let ge = c.larger-counts.ensures.right in
+    let counted : length (group_of c.index-groups-number.result).grid ≤ c.larger-counts.result = omega (arith, ge) in
+    subst (λ (xs : List (Vec Size)). HoldsFirst (certificate_of c.args.cert.now) (map group_of gs) c.note_group.new.needs c.larger-counts.result xs (i + 1)) (sym c.in_ok-push.ensures.items)
+    (one_noted (certificate_of c.args.cert.now) (map group_of gs) c.loop-number.needs c.note_group.new.needs c.loop-number.counts c.larger-counts.result c.loop-number.sizes.items c.in_ok-sizes_of.field-0 i (group_of c.index-groups-number.result) at
+    c.in_ok-note_group.ensures le counted c.in_ok-sizes_of.ensures c.loop-number.invariant)
+
 pub returns-clause-fits : goal.returns-clause-fits
-returns-clause-fits c =
-    let body = statement_of c.args.group.now.body in
-    let n = c.args.number in
-    let noted = c.in_ok-note_needs.ensures in
-    let made = c.in_ok-new-3.ensures in
-    let state = c.in_ok-new-3.field-0 in
-    let symbols = c.in_ok-new-2.field-0 in
+returns-clause-fits c = λ n g at.
+    let gs = c.args.groups.now in
+    let lt = slice_get_within (map group_of gs) n g at in
+    let long = length-map gs group_of in
     let none = c.in_ok-new.ensures.none in
-    let owned : own_count (certificate_of c.args.cert.now) n ≡ c.own_count.result = ap (λ (os : List Own). region_count (own_region os n)) (sym c.deref.ensures.value) ∙ sym c.own_count.ensures in
-    let listed : c.note_needs.new.needs.limits.items ≡ allotments body = noted.limits ∙ ap (λ (l : List Limit). l ++ allotments body) c.new.ensures.items in
-    let memory = subst (λ (l : List Limit). All (λ x. HasMemoryFor (limits_of state.memory) x.buffer x.places) l) listed made.limits in
-    let counted : symbol_count body ≤ symbols.room = (let m = noted.symbols in let k = c.in_ok-new-2.ensures.room in omega arith) in
-    let enough : IsEnough (space_of state) body = record { numbers = omega (arith, noted.coordinates, made.numbers); point = omega (arith, noted.coordinates, made.point); stack = omega (arith, noted.indices, made.stack) } in
-    record {
-      sizes = c.in_ok-sizes_of.ensures;
-      constants = λ i. bind_all (grid_symbols (none.0 i)) (none.1 i);
-      grid = (let k = c.in_ok-new-2.ensures.room in omega arith);
-      fits = fits (own_count (certificate_of c.args.cert.now) n) (space_of state) symbols.room (omega (arith, owned, noted.coordinates, made.point)) body 0 noted.fact memory (omega (arith, counted)) enough;
-    }
+    let rooms = c.in_ok-new-2.ensures.room in
+    let holds = c.loop-number.invariant.each n g (omega (arith, lt, long, c.loop-number-test.false)) at in
+    suffices (certificate_of c.args.cert.now) c.loop-number.needs c.loop-number.counts c.args.given c.loop-number.sizes.items c.in_ok-new.field-0 c.in_ok-new-2.field-0 c.in_ok-new-3.field-0 n g holds c.in_ok-new-3.ensures
+    (λ k. bind_all (grid_symbols (none.0 k)) (none.1 k)) rooms.0 rooms.1

@@ -1,0 +1,15 @@
+use Rattle.std.proofs.Common.{◌+◌, None, sym, arith}
+use Rattle.interpreter.proofs.HeldTurns.{turned_next, turned_stops}
+use Rattle.interpreter.proofs.buffers.turning.turn_all.Goals as goal
+
+pub returns-in_err-turn_held : goal.returns-in_err-turn_held
+returns-in_err-turn_held c =
+    let l = c.loop-turn in
+    let o = c.args.operation in
+    let zs = c.args.numbers.now in
+    let behind = c.args.behind.now in
+    let p = c.args.places.now in
+    let h = c.args.held.now in
+    let none = turned_next o zs behind p.point.now p.left.now p.right.now h l.turn l.held None l.invariant (sym c.in_err-turn_held.ensures) in
+    let all = turned_stops o zs behind p.point.now p.left.now p.right.now h (l.turn + 1) c.args.count (omega arith) none in
+    rw c.from_residual.ensures (sym all)
