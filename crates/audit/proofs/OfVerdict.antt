@@ -20,6 +20,7 @@ pub mod Free
 pub mod Lists
 pub mod Near
 pub mod Shared
+pub mod FetchesRead
 pub mod Small
 pub mod Listed
 pub mod Tested

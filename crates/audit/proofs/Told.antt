@@ -25,7 +25,7 @@ use Rattle.claims.specs.First.{AllMet, IsFirstUnmet}
 use Rattle.audit.specs.Stand.{AreNarrow, AreShown, IsFlaw, IsNarrow}
 use Rattle.shares.specs.declared.answer.SharesError.{SharesError}
 use Rattle.shares.specs.declared.answer.SharesError.TheVariants.{Flaw as FlawTold, Memory}
-use Rattle.audit.specs.Refused.{AreOfPieces, IsOfPieces, IsTold, but_symbols, told_first, wide_or_owed, with_owed}
+use Rattle.audit.specs.Refused.{AreOfPieces, IsEarlyFetch, IsOfPieces, IsTold, but_symbols, told_first, wide_or_owed, with_owed}
 use Rattle.audit.proofs.Named.{before_or_at}
 
 -- ---- the lesser of two
@@ -176,7 +176,17 @@ module _ (a : Algorithm) (p : Plan) (c : Certificate) where
   -- what is told of the pieces is a fault
   pub pieces_told : (f : Flaw) → IsOfPieces a p c f → IsFlaw a p c f
   pieces_told f (inl shares) = inr (inr (inr (inr (inr (inl shares)))))
-  pieces_told f (inr lacking) = inr (inr (inr (inr (inr (inr lacking)))))
+  pieces_told f (inr lacking) = inr (inr (inr (inr (inr (inr (inl lacking))))))
+
+  -- what is told of a fetch line before the first broken line of groups is a fault
+  pub fetch_told : (broken f : Flaw) → told (Some broken) ≡ first_of (flaws_of_groups a p c) → IsEarlyFetch p broken.line f → IsFlaw a p c f
+  fetch_told broken f is early = inr (inr (inr (inr (inr (inr (inr (record {
+    code_is = ap number_of early.code_is;
+    wrong = early.wrong;
+    broken = record { code = number_of broken.code; line = broken.line };
+    first = sym is;
+    before = early.before;
+  })))))))
 
   pub error_told : (e : SharesError) → AreOfPieces a p c e → IsTold a p c e
   error_told (FlawTold f) h = pieces_told f h
@@ -216,6 +226,9 @@ module _ (a : Algorithm) (p : Plan) (c : Certificate) where
 some_flaws : (fs : List Said) (f : Said) → Some f ≡ first_of fs → ¬ (fs ≡ [])
 some_flaws [] f is none = absurd (cc is)
 some_flaws (g ∷ fs) f is none = absurd (cc none)
+
+pub none_known : (fs : List Said) (found : Option Flaw) → told found ≡ first_of fs → found ≡ None → fs ≡ []
+none_known fs found is none = no_flaws fs (sym (ap told none) ∙ is)
 
 pub first_known : (fs : List Said) (found : Option Flaw) → told found ≡ first_of fs → MatchOption found (fs ≡ []) (λ _. ¬ (fs ≡ []))
 first_known fs None is = no_flaws fs is

@@ -5,14 +5,17 @@ use Rattle.plan.specs.Lines.{group_line}
 use Rattle.plan.specs.Plan.{Plan}
 use Rattle.plan.specs.Certificate.Certificate.{Certificate}
 use Rattle.soundness.specs.declared.outline.refusals.code.Flaw.{Flaw as FlawHeld}
+use Rattle.soundness.specs.declared.outline.refusals.code.K.TheVariants.{K14}
 use Rattle.soundness.specs.Outline.Flaws.{first_of, line_told, told}
 use Rattle.soundness.specs.Outline.Refusals.Codes.{number_of, lesser}
 use Rattle.shares.specs.Before.{OwnLinesStand}
+use Rattle.shares.specs.Early.{FetchIsWrong, FetchLinesStand}
 use Rattle.shares.specs.Has.{HasShares}
 use Rattle.shares.specs.Made.{own_place}
 use Rattle.shares.specs.declared.answer.SharesError.{SharesError}
 use Rattle.shares.specs.declared.answer.SharesError.TheVariants.{Flaw, Memory as Want}
 use Rattle.validation.specs.Certificate.Certificate.{flaws_of_regions}
+use Rattle.validation.specs.Groups.Lines.{flaws_of_groups}
 use Rattle.audit.specs.declared.refusal.CheckError.{CheckError}
 use Rattle.audit.specs.declared.refusal.CheckError.TheVariants.{Refused, Memory}
 use Rattle.audit.specs.Verdict.Accepted.{IsAccepted}
@@ -56,6 +59,21 @@ IsBesideOwnLines a p c line f Want = Unit {0}
 -- the same of the first broken line of own and needed regions, where one is broken
 abbrev pub IsBesideBroken : Algorithm → Plan → Certificate → FlawHeld → SharesError → Type 0
 IsBesideBroken a p c f e = (broken : FlawHeld) → told (Some broken) ≡ first_of (flaws_of_regions p c) → IsBesideOwnLines a p c broken.line f e
+
+-- K14 at a fetch line before this line, which is the first at which something is wrong
+pub record IsEarlyFetch (p : Plan) (line : ℕ) (f : FlawHeld) : Type 0 where
+  pub code_is : f.code ≡ K14
+  pub wrong : FetchIsWrong p f.line
+  pub before : f.line < line
+
+-- of a flaw and of what is wrong at fetch lines before a line the first is told: the flaw where nothing is, else the lesser of both
+abbrev pub IsBesideFetches : Plan → ℕ → FlawHeld → SharesError → Type 0
+IsBesideFetches p line f (Flaw g) = (FetchLinesStand p line × (g ≡ f)) ⊎ ((other : FlawHeld) × IsEarlyFetch p line other × (g ≡ lesser f other))
+IsBesideFetches p line f Want = Unit {0}
+
+-- the same of the first broken line of groups, where one is broken
+abbrev pub IsBesideBrokenGroups : Algorithm → Plan → Certificate → FlawHeld → SharesError → Type 0
+IsBesideBrokenGroups a p c f e = (broken : FlawHeld) → told (Some broken) ≡ first_of (flaws_of_groups a p c) → IsBesideFetches p broken.line f e
 
 -- a refusal is right: its code and line are those of a fault, and the plan is not accepted; want of memory says nothing
 abbrev pub IsRefused : Algorithm → Plan → Certificate → CheckError → Type 0

@@ -12,13 +12,13 @@ ghost use Rattle.checked_plan.specs.Lists.{ListsAreOf};
 ghost use Rattle.soundness.specs.Outline.Flaws.{first_of, told};
 ghost use Rattle.audit.specs.Verdict.Accepted.{IsAccepted};
 ghost use Rattle.audit.specs.Verdict.Shown.Wide.{HasHead};
-ghost use Rattle.audit.specs.Refused.{EndsUnowned, IsBesideBroken, IsBesideOwnLines, IsBesidePieces, IsTold, IsUnownedEnd, but_symbols, told_first, wide_or_owed, with_owed};
+ghost use Rattle.audit.specs.Refused.{EndsUnowned, IsBesideBroken, IsBesideBrokenGroups, IsBesideFetches, IsBesideOwnLines, IsBesidePieces, IsTold, IsUnownedEnd, but_symbols, told_first, wide_or_owed, with_owed};
 ghost use Rattle.audit.specs.Stand.{AreShown, IsFlaw, IsGroupOf};
 
 use crate::groups::first_wide;
 use crate::leaving::left_first;
 use crate::output::own_place;
-use crate::shared::{flaw_before_broken, shares_with_output};
+use crate::shared::{fetch_flaw_before_broken, flaw_before_broken, shares_with_output};
 use algo::Algo;
 use claims::first_fault;
 use plan::Plan;
@@ -37,8 +37,7 @@ fn named_flaw(
 ) -> Result<Option<Flaw>, AllocError>
     ensures told { IfOk result (λ flaw. MatchOption flaw (flaws_of_groups (algorithm_of algo.now) (plan_of plan.now) (certificate_of cert.now) ≡ [])
         (IsFlaw (algorithm_of algo.now) (plan_of plan.now) (certificate_of cert.now))) }
-    ensures known { IfOk result (λ flaw. MatchOption flaw (flaws_of_groups (algorithm_of algo.now) (plan_of plan.now) (certificate_of cert.now) ≡ [])
-        (λ _. ¬ (flaws_of_groups (algorithm_of algo.now) (plan_of plan.now) (certificate_of cert.now) ≡ []))) }
+    ensures first { IfOk result (λ flaw. told flaw ≡ first_of (flaws_of_groups (algorithm_of algo.now) (plan_of plan.now) (certificate_of cert.now))) }
 {
     let found = validation::groups::first_flaw(alloc, algo, plan, cert)?;
     Ok(found)
@@ -274,8 +273,31 @@ fn told_beside_claims(
     }
 }
 
+/// What is told of a plan of which this line of a group is the first broken one by names and limits, where this flaw is the first of
+/// all but the shares: it, or what is wrong at a fetch line before the broken one.
+fn told_beside_fetches(
+    alloc: Global,
+    algo: &Algo,
+    plan: &Plan,
+    cert: &Cert,
+    flaw: Flaw,
+    broken: Flaw,
+) -> SharesError
+    requires broken { told (Some broken) ≡ first_of (flaws_of_groups (algorithm_of algo.now) (plan_of plan.now) (certificate_of cert.now)) }
+    requires flaw { IsFlaw (algorithm_of algo.now) (plan_of plan.now) (certificate_of cert.now) flaw }
+    ensures told { IsTold (algorithm_of algo.now) (plan_of plan.now) (certificate_of cert.now) result }
+    ensures first { IsBesideFetches (plan_of plan.now) broken.line flaw result }
+{
+    match fetch_flaw_before_broken(alloc, algo, plan, cert, broken) {
+        Ok(None) => SharesError::Flaw(flaw),
+        Ok(Some(early)) => SharesError::Flaw(lesser(flaw, early)),
+        Err(_) => SharesError::Memory,
+    }
+}
+
 /// What is told of a plan of which a line has a flaw by names and limits, where this flaw is the first of all but the shares and
-/// the first one of the lines of groups is known: the shares are asked where these lines have none.
+/// the first one of the lines of groups is known: the shares are asked where these lines have none, else what is wrong at the fetch
+/// lines before it.
 fn told_where_flawed(
     alloc: Global,
     algo: &Algo,
@@ -285,8 +307,7 @@ fn told_where_flawed(
     named: Option<Flaw>,
     flaw: Flaw,
 ) -> SharesError
-    requires named { MatchOption named (flaws_of_groups (algorithm_of algo.now) (plan_of plan.now) (certificate_of cert.now) ≡ [])
-        (λ _. ¬ (flaws_of_groups (algorithm_of algo.now) (plan_of plan.now) (certificate_of cert.now) ≡ [])) }
+    requires named { told named ≡ first_of (flaws_of_groups (algorithm_of algo.now) (plan_of plan.now) (certificate_of cert.now)) }
     requires number { IsGroupOf (plan_of plan.now).groups (algorithm_of algo.now).output number }
     requires flaw { IsFlaw (algorithm_of algo.now) (plan_of plan.now) (certificate_of cert.now) flaw }
     ensures told { IsTold (algorithm_of algo.now) (plan_of plan.now) (certificate_of cert.now) result }
@@ -295,10 +316,11 @@ fn told_where_flawed(
         → IsBesidePieces (algorithm_of algo.now) (plan_of plan.now) (certificate_of cert.now) flaw result }
     ensures own { flaws_of_groups (algorithm_of algo.now) (plan_of plan.now) (certificate_of cert.now) ≡ []
         → IsBesideBroken (algorithm_of algo.now) (plan_of plan.now) (certificate_of cert.now) flaw result }
+    ensures fetches { IsBesideBrokenGroups (algorithm_of algo.now) (plan_of plan.now) (certificate_of cert.now) flaw result }
 {
     match named {
         None => told_beside_claims(alloc, algo, plan, cert, number, flaw),
-        Some(_) => SharesError::Flaw(flaw),
+        Some(broken) => told_beside_fetches(alloc, algo, plan, cert, flaw, broken),
     }
 }
 

@@ -8,21 +8,22 @@ ghost use Rattle.plan.specs.Certificate.Certificate.{certificate_of};
 ghost use Rattle.validation.specs.Groups.Lines.{flaws_of_groups};
 ghost use Rattle.validation.specs.Certificate.Certificate.{flaws_of_regions};
 ghost use Rattle.shares.specs.Before.{OwnLinesStand};
+ghost use Rattle.shares.specs.Early.{FetchLinesStand};
 ghost use Rattle.shares.specs.Has.{HasShares};
 ghost use Rattle.soundness.specs.Outline.Flaws.{first_of, told};
 ghost use Rattle.audit.specs.Verdict.Shown.Wide.{HasOutput};
 ghost use Rattle.checked_plan.specs.Lists.{ListsAreOf};
-ghost use Rattle.audit.specs.Refused.{AreOfPieces, IsLacking, IsOfPieces};
+ghost use Rattle.audit.specs.Refused.{AreOfPieces, IsEarlyFetch, IsLacking, IsOfPieces};
 ghost use Rattle.audit.specs.Stand.{IsGroupOf};
 
 use crate::output::{has_extents, output_extents, own_line};
 use crate::verdict::clear::{
-    groups_are_apart, plans_are_drawn, plans_are_shared, regions_are_small,
+    fetches_are_read, groups_are_apart, plans_are_drawn, plans_are_shared, regions_are_small,
 };
 use algo::Algo;
 use plan::Plan;
 use plan::certificate::Cert;
-use shares::{Shares, SharesError, flaw_before, shares_of};
+use shares::{Shares, SharesError, fetch_flaw_before, flaw_before, shares_of};
 use soundness::outline::refusals::{Flaw, K, least, lesser};
 use std::alloc::{AllocError, Global};
 use validation::certificate::laws::no_region_flaw_is_shared;
@@ -66,6 +67,25 @@ pub(crate) fn flaw_before_broken(
     let lacking = output_flaw(algo, plan, cert, number);
     let found = flaw_before(alloc, plan, cert, broken.line)?;
     Ok(least(found, lacking))
+}
+
+/// What is wrong at fetch lines before the first broken line of a group, if anything is.
+pub(crate) fn fetch_flaw_before_broken(
+    alloc: Global,
+    algo: &Algo,
+    plan: &Plan,
+    cert: &Cert,
+    broken: Flaw,
+) -> Result<Option<Flaw>, AllocError>
+    requires { told (Some broken) ≡ first_of (flaws_of_groups (algorithm_of algo.now) (plan_of plan.now) (certificate_of cert.now)) }
+    ensures { IfOk result (λ found. MatchOption found (FetchLinesStand (plan_of plan.now) broken.line) (IsEarlyFetch (plan_of plan.now) broken.line)) }
+{
+    fetches_are_read();
+    let found = fetch_flaw_before(alloc, plan, broken.line)?;
+    match found {
+        None => Ok(None),
+        Some(line) => Ok(Some(Flaw { code: K::K14, line })),
+    }
 }
 
 /// The shares of the pieces of a plan of which no line of a group and no line of own and needed regions has a flaw, where each

@@ -11,7 +11,6 @@ pub mod Private
 pub mod Learnt
 pub mod InOrder
 pub mod Most
-pub mod Scratches
 pub mod Shared
 pub mod Runs
 pub mod Joining

@@ -1,9 +1,7 @@
--- The private run of one piece, in the scratch of its group.
-use Rattle.std.proofs.Common.{◌≡◌, ℕ, ◌<◌, ◌≤◌, List, length, get_or, Option, Some, None, Err, MatchOption, ℤ, map, sym, ap, ◌∙◌, subst, arith}
+-- The private run of one piece, in the scratch of a worker.
+use Rattle.std.proofs.Common.{◌≡◌, ℕ, ◌<◌, ◌≤◌, List, length, Option, Some, None, Err, MatchOption, ℤ, map, sym, ap, ◌∙◌, subst, arith}
 use Rattle.std.proofs.lemmas.List.{length-map}
 use Rattle.std.specs.Prelude.{slice_get}
-use Rattle.std.proofs.Math.ListN.{set}
-use Rattle.std.proofs.lemmas.Option.{slice_get-get_or, slice_get_within}
 use Rattle.meaning.specs.Image.View.{Picture}
 use Rattle.meaning.specs.Algorithm.{Algorithm}
 use Rattle.meaning.specs.Value.{Calls}
@@ -21,8 +19,8 @@ use Rattle.interpreter.specs.declared.scratch.Scratch.{Scratch}
 use Rattle.piece.specs.Looked.{numbers_of_piece}
 use Rattle.piece.specs.declared.cells.LookedCells.{LookedCells}
 use Rattle.piece.specs.Places.Places.{IsPlaceOf}
-use Rattle.crew.specs.Private.{AreReady, CanRun, HasLooked, HasMemory, given_by, given_in, told, told_by, words_at}
-use Rattle.crew.proofs.Scratches.{memory_again, set_here}
+use Rattle.crew.specs.Private.{AreReady, CanRun, HasLooked, HasMemory, IsMostOwn, told, told_by, words_at}
+use Rattle.interpreter.proofs.Sufficing.{again as suffices_again}
 
 -- a run that gives no more than there is room for does not fail
 pub never : (room : ℕ) (e : Stop) (given : List ℤ) (whole : Option (List ℤ)) (vs : List ℤ) → GivesIn {A = Unit {0}} room (Err e) given whole → whole ≡ Some vs → length vs ≤ room → ⊥
@@ -31,7 +29,7 @@ never room Fault given (Some zs) vs h is few = cc h
 never room Full given None vs h is few = cc is
 never room Full given (Some zs) vs h is few = let same : zs ≡ vs = cc in let long = ap length same in omega (arith, h, few, long)
 
-module _ (l : Layout) (v : List ℤ) (q : Checked) (i : Picture) (most : ℕ) (can : CanRun l v q i most) (xs : List Scratch) (held : HasMemory l (plan_checked q) (certificate_checked q) xs)
+module _ (l : Layout) (v : List ℤ) (q : Checked) (i : Picture) (most : ℕ) (can : CanRun l v q i most) (x : Scratch) (held : HasMemory l (plan_checked q) (certificate_checked q) x)
     (j n k : ℕ) (place : IsPlaceOf (plan_checked q).groups j n k) where
   abbrev a : Algorithm
   a = algorithm_checked q
@@ -45,34 +43,24 @@ module _ (l : Layout) (v : List ℤ) (q : Checked) (i : Picture) (most : ℕ) (c
   ready : AreReady l v a p c i most
   ready = can.0
 
-  pub inside : n < length xs
-  inside = let m = slice_get_within p.groups n place.g place.at in let e = held.count in omega (arith, m, e)
-
   pub extents : i.extents ≡ p.input.extents
   extents = ready.0.extents
 
-  module _ (x : Scratch) (is : x ≡ get_or xs n x) where
-    stands : slice_get xs n ≡ Some x
-    stands = slice_get-get_or xs n x inside ∙ ap Some (sym is)
+  pub scratch : MatchOption (slice_get p.groups n) ⊥ (IsScratchFor x c n)
+  scratch = subst (λ (o : Option Group). MatchOption o ⊥ (IsScratchFor x c n)) (sym place.at) (held.groups n place.g place.at)
 
-    pub scratch : MatchOption (slice_get p.groups n) ⊥ (IsScratchFor x c n)
-    scratch = subst (λ (o : Option Group). MatchOption o ⊥ (IsScratchFor x c n)) (sym place.at) (held.each n place.g x place.at stands).0
+  pub again : (new : Scratch) → IsAgain x new → HasMemory l p c new
+  again new e = record { groups = suffices_again c p.groups x new held.groups e; given = subst (IsMostOwn l) (sym e.given) held.given }
 
-    pub left : (new : Scratch) (values : List ℤ) → new.state.given.items ≡ values → given_in (set xs n new) n ≡ values
-    left new values e = ap given_by (set_here xs n new inside) ∙ e
+  module _ (cells : LookedCells) (looked : HasLooked v q j cells) (lt : j < pieces_of l) where
+    told_here : told cells ≡ told_by a p j (words_at v (numbers_of_piece p j))
+    told_here = λ r. told_by (algorithm_checked (looked.plan r)) (plan_checked (looked.plan r)) (looked.piece r) (looked.words r)
 
-    pub again : (new : Scratch) → IsAgain x new → HasMemory l p c (set xs n new)
-    again new e = memory_again l p c xs n place.g x new held place.at stands e
+    pub gives : rank_gives p c i.samples (told cells) n k ≡ Some (map (value_at v) (own_of l j))
+    gives =
+        ap (λ (o : Option Group). piece_gives p c i.samples (told cells) n (point_in o k)) place.at
+        ∙ ap (λ (f : Calls). piece_gives p c i.samples f n (grid_point place.g.grid k)) told_here
+        ∙ ready.0.gives j n k place lt
 
-    module _ (cells : LookedCells) (looked : HasLooked v q j cells) (lt : j < pieces_of l) where
-      told_here : told cells ≡ told_by a p j (words_at v (numbers_of_piece p j))
-      told_here = λ r. told_by (algorithm_checked (looked.plan r)) (plan_checked (looked.plan r)) (looked.piece r) (looked.words r)
-
-      pub gives : rank_gives p c i.samples (told cells) n k ≡ Some (map (value_at v) (own_of l j))
-      gives =
-          ap (λ (o : Option Group). piece_gives p c i.samples (told cells) n (point_in o k)) place.at
-          ∙ ap (λ (f : Calls). piece_gives p c i.samples f n (grid_point place.g.grid k)) told_here
-          ∙ ready.0.gives j n k place lt
-
-      pub room : length (map (value_at v) (own_of l j)) ≤ room_of x
-      room = let long = length-map (own_of l j) (value_at v) in let most_own = (held.each n place.g x place.at stands).1 j lt in omega (arith, long, most_own)
+    pub room : length (map (value_at v) (own_of l j)) ≤ room_of x
+    room = let long = length-map (own_of l j) (value_at v) in let most_own = held.given j lt in omega (arith, long, most_own)

@@ -105,10 +105,10 @@ looked_field_send : (κ : NamedLft) → IsSend (LookedCells.the_field κ).row
 looked_field_send κ = search (sendable, crosses, cells_sync) depth 40 fits 100000
 
 pub desk_send : (κ : NamedLft) → IsSend (Desk.the_row κ)
-desk_send κ = search (sendable, crosses, scratch.the_send, looked_field_send) depth 40 fits 100000
+desk_send κ = search (sendable, crosses, scratch.the_field_send, looked_field_send) depth 40 fits 100000
 
 pub desk_field_send : (κ : NamedLft) → IsSend (Desk.the_field κ).row
-desk_field_send κ = search (sendable, crosses, scratch.the_send, looked_field_send) depth 40 fits 100000
+desk_field_send κ = search (sendable, crosses, scratch.the_field_send, looked_field_send) depth 40 fits 100000
 
 pub worker_send : (κ : NamedLft) → IsSend (Worker.the_row κ)
 worker_send κ = search (sendable, crosses, seat.the_send, desk_field_send) depth 40 fits 100000

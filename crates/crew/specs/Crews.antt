@@ -13,5 +13,5 @@ ArePieces layout values p = CanRun layout values p.checked.now (picture_of p.inp
 
 -- the desk has all the memory that the runs of all these pieces take
 pub record IsDeskFor (layout : Layout) (p : Pieces) (d : Desk) : Type 0 where
-  pub scratches : HasMemory layout (plan_checked p.checked.now) (certificate_checked p.checked.now) d.scratches.items
+  pub scratch : HasMemory layout (plan_checked p.checked.now) (certificate_checked p.checked.now) d.scratch
   pub room : HasRoom p.checked.now (pieces_of layout) d.looked

@@ -6,7 +6,7 @@ use Rattle.tree.specs.Meaning.{typed}
 use Rattle.tree.specs.declared.value.Value.{Value}
 use Rattle.meaning.specs.Algorithm.{Algorithm}
 use Rattle.meaning.specs.Value.{Calls}
-use Rattle.plan.specs.Plan.{Group, Plan}
+use Rattle.plan.specs.Plan.{Plan}
 use Rattle.plan.specs.Certificate.Certificate.{Certificate}
 use Rattle.plan.specs.Certificate.Cells.{grid_point, pieces}
 use Rattle.headline.specs.Work.{looked_value, needed_pieces, of_piece}
@@ -16,7 +16,7 @@ use Rattle.board.specs.Layout.{Layout, own_of, pieces_of, value_at}
 use Rattle.board.specs.Words.{bits_of}
 use Rattle.interpreter.specs.Narrow.{PieceIsNarrow}
 use Rattle.interpreter.specs.Outcome.{piece_gives}
-use Rattle.interpreter.specs.Scratches.{room_of, IsScratchFor}
+use Rattle.interpreter.specs.Scratches.{room_of, IsScratchForAll}
 use Rattle.interpreter.specs.declared.scratch.Scratch.{Scratch}
 use Rattle.piece.specs.Looked.{cells_of_piece, numbers_of_piece}
 use Rattle.piece.specs.declared.cells.LookedCells.{LookedCells}
@@ -98,15 +98,7 @@ CanRun layout values x picture most = AreReady layout values (algorithm_checked 
 
 -- ---- memory
 
--- the scratches have, group by group, all the memory that a run of a piece takes
-pub record HasMemory (layout : Layout) (p : Plan) (c : Certificate) (xs : List Scratch) : Type 0 where
-  pub count : length xs ≡ length p.groups
-  pub each : (n : ℕ) (g : Group) (x : Scratch) → slice_get p.groups n ≡ Some g → slice_get xs n ≡ Some x → IsScratchFor x c n g × IsMostOwn layout (room_of x)
-
--- the numbers that the scratch of a group gives
-abbrev pub given_by : Option Scratch → List ℤ
-given_by None = []
-given_by (Some x) = x.state.given.items
-
-abbrev pub given_in : List Scratch → ℕ → List ℤ
-given_in xs n = given_by (slice_get xs n)
+-- the scratch has all the memory that a run of any piece takes
+pub record HasMemory (layout : Layout) (p : Plan) (c : Certificate) (x : Scratch) : Type 0 where
+  pub groups : IsScratchForAll x c p.groups
+  pub given : IsMostOwn layout (room_of x)

@@ -8,11 +8,11 @@ use Rattle.crew.specs.Private.{HasRoom}
 use Rattle.crew.specs.declared.workers.Worker.{Worker}
 
 -- a worker that may begin: its seat is of this board and has no piece to finish, and its desk has all the memory that it takes
-pub record IsReady (table : TableId) (x : Checked) (count : ℕ) (suffices : List Scratch → Type 0) (w : Worker) : Type 0 where
+pub record IsReady (table : TableId) (x : Checked) (count : ℕ) (suffices : Scratch → Type 0) (w : Worker) : Type 0 where
   pub board : w.seat.board ≡ table
   pub idle : IsIdle w.seat.view
   pub finished : HasFinished w.seat.view
-  pub scratches : suffices w.desk.scratches.items
+  pub scratch : suffices w.desk.scratch
   pub room : HasRoom x count w.desk.looked
 
 -- a worker that came back: all pieces are drawn, and it has finished its own

@@ -3,7 +3,7 @@
 ghost use Rattle.std.specs.Prelude.{◌≡◌, ◌<◌, ◌≤◌, ℕ, List, IfOk, length, map, slice_index};
 ghost use Rattle.checked_plan.specs.declared.checked.Checked.{Checked as CheckedPlan};
 ghost use Rattle.board.specs.Layout.{own_of, pieces_of, value_at};
-ghost use Rattle.crew.specs.Private.{fetched_of, given_in, needs_of, told, HasLooked, IsOwnOf};
+ghost use Rattle.crew.specs.Private.{fetched_of, needs_of, told, HasLooked, IsOwnOf};
 ghost use Rattle.interpreter.specs.declared.scratch.Scratch.{Scratch as RunMemory};
 
 use algo::Inputs;
@@ -16,20 +16,19 @@ use piece::{LookedCells, run_in};
 use std::alloc::{AllocError, Global};
 use tree::Value;
 
-/// The memory of one worker: that of the private runs of each group's pieces, and what it has looked at.
+/// The memory of one worker: that of the private runs of all pieces, and what it has looked at.
 #[derive(Drop)]
 pub struct Desk<'a> {
-    pub(crate) scratches: Vec<Scratch>,
+    pub(crate) scratch: Scratch,
     pub(crate) looked: LookedCells<'a>,
 }
 
 impl Desk<'_> {
-    /// The numbers that the last run of a piece of a group gave.
-    pub(crate) fn given(&self, group: usize) -> &[i64]
-        requires { group < length self.now.scratches.items }
-        ensures { result.now ≡ given_in self.now.scratches.items group }
+    /// The numbers that the last run of a piece gave.
+    pub(crate) fn given(&self) -> &[i64]
+        ensures { result.now ≡ self.now.scratch.state.given.items }
     {
-        self.scratches[group].given()
+        self.scratch.given()
     }
 }
 
@@ -37,7 +36,7 @@ impl Desk<'_> {
 pub(crate) trait PrivateRuns<J: Run> {
     ghost gives: { Self → Type 0 };
 
-    ghost suffices: { Self → List RunMemory → Type 0 };
+    ghost suffices: { Self → RunMemory → Type 0 };
 
     ghost plan: { Self → CheckedPlan };
 
@@ -45,9 +44,9 @@ pub(crate) trait PrivateRuns<J: Run> {
     ///
     /// # Errors
     /// `AllocError` where memory runs out.
-    fn scratches(&self, alloc: Global) -> Result<Vec<Scratch>, AllocError>
+    fn scratch(&self, alloc: Global) -> Result<Scratch, AllocError>
         requires { gives self.now }
-        ensures { IfOk result (λ scratches. suffices self.now scratches.items) };
+        ensures { IfOk result (λ scratch. suffices self.now scratch) };
 
     /// The numbers of the pieces that a piece needs.
     fn needs(&self, piece: u32) -> &[u32]
@@ -63,16 +62,15 @@ pub(crate) trait PrivateRuns<J: Run> {
         ensures fetched { result.now ≡ fetched_of (plan self.now) piece }
         ensures needed { (k : ℕ) → k < length result.now → IsOwnOf J.layout (needs_of (plan self.now) piece) (slice_index result.now k) };
 
-    /// The private run of a piece, of whose fetched cells the desk has the bits. It takes no memory. It answers the number
-    /// of the piece's group, and leaves the values of the piece's own cells in the desk, in the order in which they are put.
-    fn run(&self, alloc: Global, desk: &mut Desk<'_>, piece: u32) -> usize
+    /// The private run of a piece, of whose fetched cells the desk has the bits. It takes no memory. It leaves the values of the
+    /// piece's own cells in the desk, in the order in which they are put.
+    fn run(&self, alloc: Global, desk: &mut Desk<'_>, piece: u32)
         requires runs { gives self.now }
-        requires scratches { suffices self.now desk.old.scratches.items }
+        requires scratch { suffices self.now desk.old.scratch }
         requires piece { piece < pieces_of J.layout }
         requires looked { HasLooked J.values (plan self.now) piece desk.old.looked }
-        ensures place { result < length desk.new.scratches.items }
-        ensures values { given_in desk.new.scratches.items result ≡ map (value_at J.values) (own_of J.layout piece) }
-        ensures scratches { suffices self.now desk.new.scratches.items }
+        ensures values { desk.new.scratch.state.given.items ≡ map (value_at J.values) (own_of J.layout piece) }
+        ensures scratch { suffices self.now desk.new.scratch }
         ensures looked { desk.new.looked ≡ desk.old.looked };
 }
 
@@ -122,18 +120,14 @@ impl<J: Run> PrivateRuns<J> for Pieces<'_> {
 
     ghost gives = { λ runs. CanRun J.layout J.values runs.checked.now (picture_of runs.inputs.now) runs.most };
 
-    ghost suffices = { λ runs scratches. HasMemory J.layout (plan_checked runs.checked.now) (certificate_checked runs.checked.now) scratches };
+    ghost suffices = { λ runs scratch. HasMemory J.layout (plan_checked runs.checked.now) (certificate_checked runs.checked.now) scratch };
 
     ghost plan = { λ runs. runs.checked.now };
 
-    fn scratches(&self, alloc: Global) -> Result<Vec<Scratch>, AllocError> {
+    fn scratch(&self, alloc: Global) -> Result<Scratch, AllocError> {
         let plan = self.checked.plan();
-        let cert = self.checked.cert();
-        let mut scratches = Vec::new(alloc);
-        for (number, group) in plan.groups.iter().enumerate() {
-            scratches.push(Scratch::new(alloc, group, cert, number, self.most)?)?;
-        }
-        Ok(scratches)
+        let scratch = Scratch::new(alloc, &plan.groups, self.checked.cert(), self.most)?;
+        Ok(scratch)
     }
 
     fn needs(&self, piece: u32) -> &[u32] {
@@ -144,15 +138,14 @@ impl<J: Run> PrivateRuns<J> for Pieces<'_> {
         self.checked.fetched(piece as usize)
     }
 
-    fn run(&self, alloc: Global, desk: &mut Desk<'_>, piece: u32) -> usize {
+    fn run(&self, alloc: Global, desk: &mut Desk<'_>, piece: u32) {
         let place = place_of(self.checked.plan(), piece);
-        let scratch = &mut desk.scratches[place.group];
         let cells = Told {
             looked: &desk.looked,
         };
         let Ok(()) = run_in(
             alloc,
-            scratch,
+            &mut desk.scratch,
             self.checked,
             self.inputs,
             &cells,
@@ -161,6 +154,5 @@ impl<J: Run> PrivateRuns<J> for Pieces<'_> {
         ) else {
             unreachable!()
         };
-        place.group
     }
 }

@@ -84,20 +84,20 @@ fn fill<J: Run, P: PrivateRuns<J>>(
     desk: &mut Desk<'_>,
 )
     requires runs { P.gives runs.now }
-    requires scratches { P.suffices runs.now desk.old.scratches.items }
+    requires scratch { P.suffices runs.now desk.old.scratch }
     requires room { HasRoom (P.plan runs.now) (pieces_of J.layout) desk.old.looked }
     requires board { seat.old.board ≡ board.now }
     requires ticket { IsTicketOf J.layout seat.old.view ticket }
     requires fresh { ticket.puts ≡ 0 }
     requires known { (j : ℕ) → Contains (needs_of (P.plan runs.now) ticket.piece) j → Knows seat.old.view j }
     ensures seat { seat.new ≡ seeing seat.old (completed seat.old.view ticket.piece (length (own_of J.layout ticket.piece))) }
-    ensures scratches { P.suffices runs.now desk.new.scratches.items }
+    ensures scratch { P.suffices runs.now desk.new.scratch }
     ensures room { HasRoom (P.plan runs.now) (pieces_of J.layout) desk.new.looked }
 {
     let piece = ticket.piece();
     look_at(board, seat, &mut desk.looked, piece, runs.fetched(piece));
-    let group = runs.run(alloc, desk, piece);
-    complete(board, seat, ticket, desk.given(group));
+    runs.run(alloc, desk, piece);
+    complete(board, seat, ticket, desk.given());
 }
 
 /// Asks once of each piece that the ticket's piece needs, and fills the ticket's piece where all are finished. Else it gives the
@@ -111,7 +111,7 @@ pub(crate) fn try_fill<J: Run, P: PrivateRuns<J>>(
     desk: &mut Desk<'_>,
 ) -> Result<(), Ticket>
     requires runs { P.gives runs.now }
-    requires scratches { P.suffices runs.now desk.old.scratches.items }
+    requires scratch { P.suffices runs.now desk.old.scratch }
     requires room { HasRoom (P.plan runs.now) (pieces_of J.layout) desk.old.looked }
     requires board { seat.old.board ≡ board.now }
     requires ticket { IsTicketOf J.layout seat.old.view ticket }
@@ -122,7 +122,7 @@ pub(crate) fn try_fill<J: Run, P: PrivateRuns<J>>(
     ensures back { IfErr result (λ t. (t ≡ ticket) × IsTicketOf J.layout seat.new.view t) }
     ensures unfinished { IfErr result (λ _. WasUnfinished J.layout J.values seat.old.view (needs_of (P.plan runs.now) ticket.piece)) }
     ensures known { KnowsEach seat.old.view (needs_of (P.plan runs.now) ticket.piece) → IsOk result }
-    ensures scratches { P.suffices runs.now desk.new.scratches.items }
+    ensures scratch { P.suffices runs.now desk.new.scratch }
     ensures room { HasRoom (P.plan runs.now) (pieces_of J.layout) desk.new.looked }
 {
     let piece = ticket.piece();
@@ -144,7 +144,7 @@ fn fill_in_time<J: Run, P: PrivateRuns<J>, R: Wait>(
     desk: &mut Desk<'_>,
 )
     requires runs { P.gives runs.now }
-    requires scratches { P.suffices runs.now desk.old.scratches.items }
+    requires scratch { P.suffices runs.now desk.old.scratch }
     requires room { HasRoom (P.plan runs.now) (pieces_of J.layout) desk.old.looked }
     requires board { seat.old.board ≡ board.now }
     requires ticket { IsTicketOf J.layout seat.old.view ticket }
@@ -152,7 +152,7 @@ fn fill_in_time<J: Run, P: PrivateRuns<J>, R: Wait>(
     ensures board { seat.new.board ≡ seat.old.board }
     ensures learned { HasLearned seat.old.view seat.new.view }
     ensures finished { Knows seat.new.view ticket.piece }
-    ensures scratches { P.suffices runs.now desk.new.scratches.items }
+    ensures scratch { P.suffices runs.now desk.new.scratch }
     ensures room { HasRoom (P.plan runs.now) (pieces_of J.layout) desk.new.looked }
 {
     let backoff = Backoff::new();
@@ -178,7 +178,7 @@ pub(crate) fn draw_and_fill<J: Run, P: PrivateRuns<J>, R: Wait, G: Gate>(
     gate: &G,
 )
     requires runs { P.gives runs.now }
-    requires scratches { P.suffices runs.now desk.old.scratches.items }
+    requires scratch { P.suffices runs.now desk.old.scratch }
     requires room { HasRoom (P.plan runs.now) (pieces_of J.layout) desk.old.looked }
     requires board { seat.old.board ≡ board.now }
     requires idle { IsIdle seat.old.view }
@@ -187,7 +187,7 @@ pub(crate) fn draw_and_fill<J: Run, P: PrivateRuns<J>, R: Wait, G: Gate>(
     ensures all_drawn { seat.new.view.none_left ≡ true }
     ensures finished { HasFinished seat.old.view → HasFinished seat.new.view }
     ensures seats { seat.new.view.seats ≡ seat.old.view.seats }
-    ensures scratches { P.suffices runs.now desk.new.scratches.items }
+    ensures scratch { P.suffices runs.now desk.new.scratch }
     ensures room { HasRoom (P.plan runs.now) (pieces_of J.layout) desk.new.looked }
 {
     while let Some(ticket) = board.draw(seat) {

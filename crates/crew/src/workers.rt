@@ -37,12 +37,12 @@ fn desk_for<'a, J: Run, P: PrivateRuns<J>>(
     requires runs { P.gives runs.now }
     requires plan { cells.now.checked.now ≡ P.plan runs.now }
     requires most { IsMostFetched (P.plan runs.now) (pieces_of J.layout) most }
-    ensures scratches { IfOk result (λ desk. P.suffices runs.now desk.scratches.items) }
+    ensures scratch { IfOk result (λ desk. P.suffices runs.now desk.scratch) }
     ensures room { IfOk result (λ desk. HasRoom (P.plan runs.now) (pieces_of J.layout) desk.looked) }
 {
-    let scratches = runs.scratches(alloc)?;
+    let scratch = runs.scratch(alloc)?;
     let looked = LookedCells::new(alloc, cells, most)?;
-    Ok(Desk { scratches, looked })
+    Ok(Desk { scratch, looked })
 }
 
 impl<'a> Desk<'a> {

@@ -69,7 +69,8 @@ module _ (laws : Laws) (a : Algorithm) (p : Plan) (c : Certificate) (accepted : 
   no_fault code line (inr (inr (inr (inl f)))) = debt code line f
   no_fault code line (inr (inr (inr (inr (inl f))))) = none_first _ code line accepted.certificate f
   no_fault code line (inr (inr (inr (inr (inr (inl f)))))) = laws.shares p c f.flaw f.means accepted.shares
-  no_fault code line (inr (inr (inr (inr (inr (inr f)))))) = output code line f
+  no_fault code line (inr (inr (inr (inr (inr (inr (inl f))))))) = output code line f
+  no_fault code line (inr (inr (inr (inr (inr (inr (inr f))))))) = none_first _ f.broken.code f.broken.line accepted.groups f.first
 
 pub faults_refused : Laws → FaultsAreRefusals
 faults_refused laws a p c code line f accepted = no_fault laws a p c accepted code line f

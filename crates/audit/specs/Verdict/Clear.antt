@@ -14,6 +14,9 @@ use Rattle.rules.specs.Widths.Widths.{wide_lines}
 use Rattle.soundness.specs.Binders.View.{grid_binders}
 use Rattle.audit.specs.Verdict.Shown.Wide.{IsFree, stored_in}
 use Rattle.shares.specs.Before.{IsDrawn}
+use Rattle.shares.specs.Early.{AreReadBefore}
+use Rattle.soundness.specs.declared.outline.refusals.code.Flaw.{Flaw as FlawHeld}
+use Rattle.soundness.specs.Outline.Flaws.{first_of, told}
 use Rattle.shares.specs.Shared.{AreShared}
 use Rattle.audit.specs.Verdict.Bounded.Near.{GroupIsNear}
 use Rattle.checked_plan.specs.Ready.Ready.{IsSmallSpan}
@@ -32,6 +35,11 @@ PlansAreShared = (a : Algorithm) (p : Plan) (c : Certificate) → flaws_of_group
 -- and of the lines of groups alone, whatever the certificate
 abbrev pub PlansAreDrawn : Type 0
 PlansAreDrawn = (a : Algorithm) (p : Plan) (c : Certificate) → flaws_of_groups a p c ≡ [] → IsDrawn p
+
+-- and of the fetch lines before the first broken line of a group it can be told what they read
+abbrev pub FetchesAreRead : Type 0
+FetchesAreRead =
+    (a : Algorithm) (p : Plan) (c : Certificate) (broken : FlawHeld) → told (Some broken) ≡ first_of (flaws_of_groups a p c) → AreReadBefore p broken.line
 
 -- forms stand, by rules that find no line wide
 abbrev pub GroupsAreNear : Type 0

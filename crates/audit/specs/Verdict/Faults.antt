@@ -1,5 +1,5 @@
 -- What a refusal of a plan says: a code, a line, and what is wrong there.
-use Rattle.std.specs.Prelude.{◌≡◌, ℕ, ◌⊎◌, List, Some, ℤ, true, slice_get}
+use Rattle.std.specs.Prelude.{◌≡◌, ℕ, ◌<◌, ◌⊎◌, List, Some, ℤ, true, slice_get}
 use Rattle.meaning.specs.Image.Raster.{is_within}
 use Rattle.meaning.specs.Algorithm.{Algorithm}
 use Rattle.plan.specs.Plan.{Group, Plan}
@@ -24,6 +24,7 @@ use Rattle.rules.specs.Widths.Widths.{wide_lines, first_told}
 use Rattle.validation.specs.Groups.Lines.{flaws_of_groups}
 use Rattle.validation.specs.Certificate.Certificate.{flaws_of_certificate}
 use Rattle.shares.specs.Made.{StandsAt, ErrorMeans}
+use Rattle.shares.specs.Early.{FetchIsWrong}
 use Rattle.shares.specs.declared.answer.SharesError.TheVariants.{Flaw as Told}
 use Rattle.soundness.specs.Binders.View.{grid_binders}
 
@@ -75,6 +76,14 @@ module _ (a : Algorithm) (p : Plan) (c : Certificate) where
     pub line_is : StandsAt p c number K10 line
     pub lacks : ¬ HasEachPoint number
 
+  -- K14: a line of a group is broken, and of the fetch lines before the first such line this is the first at which something is wrong
+  pub record IsOfFetch (code line : ℕ) : Type 0 where
+    pub code_is : code ≡ 14
+    pub wrong : FetchIsWrong p line
+    pub broken : Flaw
+    pub first : first_of (flaws_of_groups a p c) ≡ Some broken
+    pub before : line < broken.line
+
   -- what a code and a line say: one of these
   abbrev pub IsFault : ℕ → ℕ → Type 0
   IsFault code line =
@@ -84,4 +93,5 @@ module _ (a : Algorithm) (p : Plan) (c : Certificate) where
       ⊎ (IsOfDebt code line
       ⊎ (IsFirst (flaws_of_certificate a p c) code line
       ⊎ (IsOfShares code line
-      ⊎ IsOfOutput code line)))))
+      ⊎ (IsOfOutput code line
+      ⊎ IsOfFetch code line))))))

@@ -1,5 +1,5 @@
 -- Greater folds: the same plan where buffers that are folded have more places, and its windows say so.
-use Rattle.std.specs.Prelude.{◌≡◌, ℕ, zero, suc, ◌+◌, ◌-◌, ◌≤◌, ◌&&◌, not, Bool, true, if◌then◌else◌, List, [], ◌∷◌, map, nat_le, nat_lt, slice_get, pos, ◌-ℤ◌}
+use Rattle.std.specs.Prelude.{◌≡◌, ℕ, zero, suc, ◌+◌, ◌-◌, ◌^◌, ◌≤◌, ◌&&◌, not, Bool, true, if◌then◌else◌, List, [], ◌∷◌, map, nat_le, nat_lt, slice_get, pos, ◌-ℤ◌}
 use Rattle.std.specs.List.{list_all}
 use Rattle.std.specs.Int.RustNames.{unsigned_abs}
 use Rattle.lin.specs.Forms.{Form, is_zero}
@@ -8,10 +8,11 @@ use Rattle.lin.specs.declared.span.Span1.{Span1}
 use Rattle.plan.specs.declared.stmt.Places.{Places}
 use Rattle.plan.specs.declared.stmt.Places.TheVariants.{From, Folded}
 use Rattle.plan.specs.declared.certificate.cert.Window.{Window}
-use Rattle.plan.specs.Plan.{Index, At, Found, Coordinate, Statement, Seq, For, Let, First, Guard, Alloc, Fetch, Store, Publish, Statements, Empty, Then, Group, Plan}
+use Rattle.plan.specs.Plan.{Index, At, Found, Statement, Seq, For, Let, First, Guard, Alloc, Fetch, Store, Publish, Statements, Empty, Then, Group, Plan}
 use Rattle.plan.specs.Lines.{group_lines, group_line, certificate_line}
 use Rattle.plan.specs.Certificate.Certificate.{Claim, Certificate}
 use Rattle.plan.specs.Certificate.Cells.{cells, pieces}
+use Rattle.rules.specs.Bounding.Scopes.{most_symbols}
 use Rattle.soundness.specs.Given.{claim_or_none}
 use Rattle.soundness.specs.Obligations.{Binder, Ranged, Picked, Passed, Rules}
 use Rattle.soundness.specs.Shown.{raised as plus}
@@ -107,39 +108,36 @@ RaisedHaveTheSame = (p : Plan) (c : Certificate) (q : Plan) (d : Certificate) �
 
 -- ---- the forms of a group's lines
 
--- each form in them passes the test
+-- each form passes the test
 module _ (test : Form → Bool) where
   abbrev pub span_passes : Span1 → Bool
   span_passes x = list_all test x.lower && list_all test x.upper
-
-  abbrev pub binder_passes : Binder → Bool
-  binder_passes (Ranged i x) = span_passes x
-  binder_passes (Picked i pick ls) = list_all test ls
-  binder_passes (Passed low high) = test low && test high
 
   abbrev pub index_passes : Index → Bool
   index_passes (At l) = test l
   index_passes (Found e) = true
 
+  -- those of claims and of windows
+  abbrev pub claims_pass : Certificate → Bool
+  claims_pass c = list_all (λ (k : Claim). list_all span_passes k.region) c.claims && list_all (λ (w : Window). span_passes w.span) c.windows
+
+-- each binder of the lines passes one test, and each form of spans and places another
+module _ (pass : Binder → Bool) (test : Form → Bool) where
   abbrev mutual
     pub statement_passes : Statement → Bool
     statement_passes (Seq all) = block_passes all
-    statement_passes (For i x kind body) = span_passes x && statement_passes body
-    statement_passes (Let i pick ls) = list_all test ls
+    statement_passes (For i x kind body) = (pass (Ranged i x) && span_passes test x) && statement_passes body
+    statement_passes (Let i pick ls) = pass (Picked i pick ls)
     statement_passes (First i a b) = statement_passes a && statement_passes b
-    statement_passes (Guard low high body) = (test low && test high) && statement_passes body
+    statement_passes (Guard low high body) = pass (Passed low high) && statement_passes body
     statement_passes (Alloc b f places) = true
-    statement_passes (Fetch b g region) = list_all span_passes region
-    statement_passes (Store b k at e) = list_all (λ c. index_passes c.index) at
+    statement_passes (Fetch b g region) = list_all (span_passes test) region
+    statement_passes (Store b k at e) = list_all (λ c. index_passes test c.index) at
     statement_passes (Publish c) = true
 
     pub block_passes : Statements → Bool
     block_passes Empty = true
     block_passes (Then a rest) = statement_passes a && block_passes rest
-
-  -- those of claims and of windows
-  abbrev pub claims_pass : Certificate → Bool
-  claims_pass c = list_all (λ (k : Claim). list_all span_passes k.region) c.claims && list_all (λ (w : Window). span_passes w.span) c.windows
 
 -- ---- the numbers of folds
 
@@ -175,13 +173,32 @@ abbrev pub symbols_rise : List Multiple → Bool
 symbols_rise [] = true
 symbols_rise (t ∷ ts) = not (is_zero t.factor) && (list_all (λ u. nat_lt t.symbol u.symbol) ts && symbols_rise ts)
 
--- so it is, and the constant is at most 4095 on either side of 0
+-- so it is, and the constant is at most 2^20 on either side of 0
 abbrev pub is_small_form : Form → Bool
-is_small_form f = symbols_rise f.terms && nat_le (unsigned_abs f.constant) 4095
+is_small_form f = symbols_rise f.terms && nat_le (unsigned_abs f.constant) (2 ^ 20)
 
--- of forms that pass the test, and of numbers up to a limit: what is shown to be at most the last of so many numbers from a form on is
--- shown to be at most the last of more
-abbrev pub Rises : ℕ → (Form → Bool) → Rules → Type 0
-Rises limit test rules =
-    (bs : List Binder) (a l : Form) (n k : ℕ) → list_all (binder_passes test) bs ≡ true → test a ≡ true → test l ≡ true → n + k ≤ limit →
+-- the constant is at most so far from 0
+abbrev pub is_near : ℕ → Form → Bool
+is_near most f = nat_le (unsigned_abs f.constant) most
+
+-- the constants of a binder's forms are, as far as is allowed of its symbol; of a guard nothing is asked
+abbrev pub is_near_binder : (ℕ → ℕ) → Binder → Bool
+is_near_binder most (Ranged i x) = span_passes (is_near (most i)) x
+is_near_binder most (Picked i pick ls) = list_all (is_near (most i)) ls
+is_near_binder most (Passed low high) = true
+
+-- what is allowed of the first symbols together
+abbrev pub together : (ℕ → ℕ) → ℕ → ℕ
+together most zero = 0
+together most (suc n) = together most n + most n
+
+-- what is allowed of the constants of each symbol's binders is little together: at most 2^20 - 8 for the 256 symbols that there are
+abbrev pub IsLittle : (ℕ → ℕ) → Type 0
+IsLittle most = together most most_symbols ≤ 2 ^ 20 - 8
+
+-- under binders that pass a test, of forms that pass another, and of numbers up to a limit: what is shown to be at most the last of so
+-- many numbers from a form on is shown to be at most the last of more
+abbrev pub Rises : ℕ → (Binder → Bool) → (Form → Bool) → Rules → Type 0
+Rises limit pass test rules =
+    (bs : List Binder) (a l : Form) (n k : ℕ) → list_all pass bs ≡ true → test a ≡ true → test l ≡ true → n + k ≤ limit →
     rules.at_most bs a (plus l (pos n -ℤ pos 1)) ≡ true → rules.at_most bs a (plus l (pos (n + k) -ℤ pos 1)) ≡ true

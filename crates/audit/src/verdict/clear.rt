@@ -1,6 +1,8 @@
 //! What follows where no line of a plan, and none of its certificate, has a flaw.
 
-ghost use Rattle.audit.specs.Verdict.Clear.{GridsAreSmall, GroupsAreApart, GroupsAreFree, GroupsAreNear, PlansAreDrawn, PlansAreShared, PlansAreSmall, RegionsAreSmall};
+ghost use Rattle.audit.specs.Verdict.Clear.{FetchesAreRead, GridsAreSmall, GroupsAreApart, GroupsAreFree, GroupsAreNear, PlansAreDrawn, PlansAreShared, PlansAreSmall, RegionsAreSmall};
+
+use validation::groups::laws::{limits_are_told, wide_forms_are_told};
 
 /// No definition that a line of a group stores comes to a function that has updates and is not stored.
 pub fn groups_are_free()
@@ -16,6 +18,14 @@ pub fn plans_are_shared()
 pub fn plans_are_drawn()
     ensures { PlansAreDrawn }
 {}
+
+/// Of the fetch lines before the first broken line of a group it can be told what they read.
+pub fn fetches_are_read()
+    ensures { FetchesAreRead }
+{
+    wide_forms_are_told();
+    limits_are_told();
+}
 
 /// The forms of each group stand, where its loops' symbols and its stores' coordinates are shown to be narrow.
 pub fn groups_are_near()

@@ -10,13 +10,14 @@ pub fn raised_have_the_same()
 {}
 
 /// All that a group's lines owe (that accesses stay in buffers, that claims are made, that windows hold) is shown with greater
-/// folds where it is shown with the lesser ones, by any rules which, of the group's forms, show a form to be at most the last of
-/// more numbers where they show it to be at most the last of fewer.
+/// folds where it is shown with the lesser ones, by any rules which, of the group's forms and under its binders, show a form to be
+/// at most the last of more numbers where they show it to be at most the last of fewer.
 pub fn raised_stay_shown()
     ensures { RaisedStayShown }
 {}
 
-/// The checker's rules are such rules of forms whose constants are at most 4095 on either side of 0, for up to 2^22 places.
+/// The checker's rules are such rules of forms whose constants are at most 2^20 on either side of 0, under loops and names of which
+/// the greatest constants of all symbols, up to 256, come to at most 2^20 - 8 together, for up to 2^22 places.
 pub fn small_forms_rise()
     ensures { SmallFormsRise }
 {}

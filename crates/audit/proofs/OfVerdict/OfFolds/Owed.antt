@@ -1,5 +1,5 @@
 -- What the lines of a statement owe stays shown with greater folds.
-use Rattle.std.proofs.Common.{◌≡◌, ℕ, zero, suc, ◌+◌, ◌-◌, Bool, true, false, List, [], ◌∷◌, ◌++◌, map, take, drop, Option, Some, None, refl, sym, ap, ◌∙◌, subst, arith}
+use Rattle.std.proofs.Common.{◌≡◌, ℕ, ◌+◌, ◌-◌, Bool, true, false, List, [], ◌∷◌, ◌++◌, map, take, drop, Option, Some, None, refl, sym, ap, ◌∙◌, subst, arith}
 use Rattle.std.specs.Prelude.{◌≤◌, ◌==◌, ◌||◌, ◌&&◌, not, nat_le, if◌then◌else◌, filter, flat_map}
 use Rattle.std.specs.List.{list_any, list_all}
 use Rattle.std.proofs.lemmas.Bool.{eq-eqb, eqb-true}
@@ -10,18 +10,19 @@ use Rattle.lin.specs.declared.span.Span1.{Span1}
 use Rattle.meaning.specs.Algorithm.{Range}
 use Rattle.plan.specs.declared.certificate.cert.Window.{Window}
 use Rattle.plan.specs.declared.stmt.Places.{Places}
-use Rattle.plan.specs.declared.stmt.Places.TheVariants.{From, Folded}
 use Rattle.plan.specs.Lines.{lines, block_lines}
 use Rattle.plan.specs.Plan.{Index, At, Found, Coordinate, Statement, Seq, For, Let, First, Guard, Alloc, Fetch, Store, Publish, Statements, Empty, Then}
 use Rattle.plan.specs.Semantics.Actions.{Setting}
 use Rattle.plan.specs.Semantics.Run.{Source, Input, ByClaim, Unknown}
 use Rattle.soundness.specs.Origins.{Outline, or_same}
-use Rattle.soundness.specs.Claims.{changes, block_changes, is_update, updates, block_updates, writes, block_writes}
+use Rattle.soundness.specs.Claims.{is_update, updates, block_updates, writes, block_writes}
 use Rattle.soundness.specs.Obligations as O
-use Rattle.soundness.specs.Obligations.{Binder, Ranged, Buffer, Known, Updating, Rules, Obligation, Code, Undefined, NotMade, Wanted, Named, Inside, InTurn, is_member, window_of, without, gives, stands_alone, places_of, span_has, binder_has, places_have, is_free, turn_code, from_each}
+use Rattle.soundness.specs.Obligations.{Binder, Ranged, Picked, Passed, Buffer, Known, Updating, Rules, Obligation, NotMade, Named, Inside, InTurn, is_member, window_of, without, gives, stands_alone}
+use Rattle.soundness.specs.Obligations.{places_of, span_has, binder_has, places_have, is_free, turn_code, from_each}
 use Rattle.soundness.specs.Shown.{Nests, is_shown, all_shown, shows}
 use Rattle.tails.specs.Windows.Nests.{slid_nests}
-use Rattle.audit.specs.Verdict.Folds.{risen, place_raised, places_raised, with_places, block_with_places, by_more, raised, block_raised, window_raised, span_passes, binder_passes, index_passes, statement_passes, block_passes, place_within, folds_within, block_within, Rises}
+use Rattle.audit.specs.Verdict.Folds.{risen, places_raised, with_places, block_with_places, by_more, raised, block_raised, window_raised, span_passes, statement_passes, block_passes}
+use Rattle.audit.specs.Verdict.Folds.{place_within, folds_within, block_within, Rises}
 use Rattle.audit.proofs.OfVerdict.OfFolds.Tests.{both, and_parts, and_leads, stays, changes_same, block_changes_same, have_same, seats_rise, made_more, slid_more, held_more, in_turn_same}
 
 -- ---- what is told of statements
@@ -185,7 +186,7 @@ module _ (spots : ℕ → List Places → List Places) (outline : Outline) where
 
 -- ---- what is owed
 
-module _ (limit : ℕ) (test : Form → Bool) (rules : Rules) (rises : Rises limit test rules) (outline : Outline)
+module _ (limit : ℕ) (pass : Binder → Bool) (test : Form → Bool) (rules : Rules) (rises : Rises limit pass test rules) (outline : Outline)
     (domain : List ℕ → ℕ → Option (List Range)) (more : ℕ → ℕ → ℕ) (by : Window → ℕ) where
   abbrev later : Outline
   later = record { setting = outline.setting; source = outline.source; claim = outline.claim; named = outline.named; windows = map (window_raised by) outline.windows }
@@ -338,8 +339,8 @@ module _ (limit : ℕ) (test : Form → Bool) (rules : Rules) (rises : Rises lim
   Fits line = (w : Window) → is_member w.claim (outline.named line) ≡ true → by w ≡ more (outline.claim w.claim).buffer w.dimension
 
   module _ (regions : (c : ℕ) → list_all (span_passes test) (outline.claim c).region ≡ true) where
-    module _ (known : Known) (bound : list_all (binder_passes test) known.binders ≡ true) (small : buffers_within known.buffers ≡ true) (a : Statement)
-        (good : statement_passes test a ≡ true) (c : ℕ) where
+    module _ (known : Known) (bound : list_all pass known.binders ≡ true) (small : buffers_within known.buffers ≡ true) (a : Statement)
+        (good : statement_passes pass test a ≡ true) (c : ℕ) where
       abbrev tests : Nests
       tests = slid_nests outline rules domain
 
@@ -351,13 +352,13 @@ module _ (limit : ℕ) (test : Form → Bool) (rules : Rules) (rises : Rises lim
       made_known None few h = h
       made_known (Some places) few h =
           (λ j. tests.is_made known.binders c (sym goes_same j) (places_raised (more (outline.claim c).buffer) places) (raised more a))
-          ∙ made_more limit test rules rises outline domain more known.binders bound c (regions c) a good (O.goes_on outline rules a c) places few h
+          ∙ made_more limit pass test rules rises outline domain more known.binders bound c (regions c) a good (O.goes_on outline rules a c) places few h
 
       slid_known : (w : Window) (o : Option (List Places)) → if_within (if_raised (more (outline.claim c).buffer) o) ≡ true →
           shows rules tests known.binders (O.slid outline rules o w c a) ≡ true →
           shows rules tests known.binders (O.slid later rules (if_raised (more (outline.claim c).buffer) o) (window_raised by w) c (raised more a)) ≡ true
       slid_known w None few h = h
-      slid_known w (Some places) few h = slid_more limit test rules rises outline domain more known.binders bound c (regions c) a good w by places few h
+      slid_known w (Some places) few h = slid_more limit pass test rules rises outline domain more known.binders bound c (regions c) a good w by places few h
 
       held_known : (w : Window) (o : Option (List Places)) → if_within (if_raised (more (outline.claim c).buffer) o) ≡ true → window_good w ≡ true →
           by w ≡ more (outline.claim c).buffer w.dimension →
@@ -369,8 +370,8 @@ module _ (limit : ℕ) (test : Form → Bool) (rules : Rules) (rises : Rises lim
           and_leads (tests.is_slid known.binders w c places a) (tests.is_held known.binders w c places a)
           (tests.is_slid known.binders (window_raised by w) c (places_raised (more (outline.claim c).buffer) places) (raised more a))
           (tests.is_held known.binders (window_raised by w) c (places_raised (more (outline.claim c).buffer) places) (raised more a))
-          (slid_more limit test rules rises outline domain more known.binders bound c (regions c) a good w by places few)
-          (held_more limit test rules rises outline domain more known.binders bound c (regions c) a good w by places few parts.1 e parts.0) h
+          (slid_more limit pass test rules rises outline domain more known.binders bound c (regions c) a good w by places few)
+          (held_more limit pass test rules rises outline domain more known.binders bound c (regions c) a good w by places few parts.1 e parts.0) h
 
       making_more : (o : Option Window) → IfOf window_good c o → ((w : Window) → w.claim ≡ c → by w ≡ more (outline.claim c).buffer w.dimension) →
           are_shown (O.making_obligations outline rules o known a c) ≡ true → are_shown (O.making_obligations later rules (if_window by o) (known_raised known) (raised more a) c) ≡ true
@@ -411,7 +412,7 @@ module _ (limit : ℕ) (test : Form → Bool) (rules : Rules) (rises : Rises lim
 
           of : (v : Bool) → are_shown (if v then owed a else []) ≡ are_shown (if v then owed (raised more a) else [])
           of true =
-              λ j. list_any (λ d. O.follows outline rules d c) known.own && (in_turn_same limit test rules rises outline domain more known.binders c a j
+              λ j. list_any (λ d. O.follows outline rules d c) known.own && (in_turn_same limit pass test rules rises outline domain more known.binders c a j
               && are_shown (map (λ d. O.obligation outline rules NotMade (rules.claim_line c) known (Inside (O.region_of outline rules c) (O.region_of outline rules d))) (filter
               (λ d. O.follows outline rules d c) known.own)))
           of false = refl
@@ -434,8 +435,8 @@ module _ (limit : ℕ) (test : Form → Bool) (rules : Rules) (rises : Rises lim
           (making_more (window_of kept c) (is_of window_good kept c passes) fits v))
           (earlier_more begin line)) h
 
-    claims_more : (kept : List Window) (begin line : ℕ) (known : Known) (a : Statement) → list_all window_good kept ≡ true → list_all (binder_passes test) known.binders ≡ true →
-        buffers_within known.buffers ≡ true → statement_passes test a ≡ true →
+    claims_more : (kept : List Window) (begin line : ℕ) (known : Known) (a : Statement) → list_all window_good kept ≡ true → list_all pass known.binders ≡ true →
+        buffers_within known.buffers ≡ true → statement_passes pass test a ≡ true →
         (cs : List ℕ) → ((w : Window) → is_member w.claim cs ≡ true → by w ≡ more (outline.claim w.claim).buffer w.dimension) →
         are_shown (flat_map (O.claim_obligations outline rules kept begin line known a) cs) ≡ true →
         are_shown (flat_map (O.claim_obligations later rules (map (window_raised by) kept) begin line (known_raised known) (raised more a)) cs) ≡ true
@@ -509,11 +510,11 @@ module _ (limit : ℕ) (test : Form → Bool) (rules : Rules) (rises : Rises lim
   binders_same (Store c k at e) xs = refl
   binders_same (Publish c) xs = refl
 
-  binders_good : (a : Statement) (xs : List Binder) → statement_passes test a ≡ true → list_all (binder_passes test) xs ≡ true →
-      list_all (binder_passes test) (O.more_binders outline rules a xs) ≡ true
+  binders_good : (a : Statement) (xs : List Binder) → statement_passes pass test a ≡ true → list_all pass xs ≡ true →
+      list_all pass (O.more_binders outline rules a xs) ≡ true
   binders_good (Seq all) xs f h = h
   binders_good (For k x kind body) xs f h = h
-  binders_good (Let k pick forms) xs f h = both (list_all test forms) (list_all (binder_passes test) xs) f h
+  binders_good (Let k pick forms) xs f h = both (pass (Picked k pick forms)) (list_all pass xs) f h
   binders_good (First k a c) xs f h = h
   binders_good (Guard low high body) xs f h = h
   binders_good (Alloc c g places) xs f h = h
@@ -593,14 +594,15 @@ module _ (limit : ℕ) (test : Form → Bool) (rules : Rules) (rises : Rises lim
     kept_good i (Publish c) line = refl
 
     mutual
-      pub turn_more : (kept : List Window) (a : Statement) (line : ℕ) (known : Known) → list_all window_good kept ≡ true → list_all (binder_passes test) known.binders ≡ true →
+      pub turn_more : (kept : List Window) (a : Statement) (line : ℕ) (known : Known) → list_all window_good kept ≡ true → list_all pass known.binders ≡ true →
           buffers_within known.buffers ≡ true →
-          statement_passes test a ≡ true → folds_within limit (raised more a) ≡ true → ((l : ℕ) → line ≤ l + 1 → l ≤ line + lines a - 1 → Fits l) →
+          statement_passes pass test a ≡ true → folds_within limit (raised more a) ≡ true → ((l : ℕ) → line ≤ l + 1 → l ≤ line + lines a - 1 → Fits l) →
           are_shown (O.turn_obligations outline rules kept a line known) ≡ true →
           are_shown (O.turn_obligations later rules (map (window_raised by) kept) (raised more a) line (known_raised known)) ≡ true
       turn_more kept (Seq all) line known passes bound small good few fits h = block_more kept all line (O.in_block outline rules known) passes bound small good few fits h
       turn_more kept (For i x kind body) line known passes bound small good few fits h =
-          let parts = and_parts (span_passes test x) (statement_passes test body) good in
+          let parts = and_parts (pass (Ranged i x) && span_passes test x) (statement_passes pass test body) good in
+          let own = and_parts (pass (Ranged i x)) (span_passes test x) parts.0 in
           let inner = O.in_loop outline rules i x body known in
           let keeps = O.kept_of outline rules i body (line + 1) in
           and_leads (not (O.has_symbol outline rules i x known)) (are_shown (O.turn_obligations outline rules keeps body (line + 1) inner))
@@ -609,14 +611,14 @@ module _ (limit : ℕ) (test : Form → Bool) (rules : Rules) (rises : Rises lim
           (known_raised known))))
           (λ v. ap not (sym (symbol_same i x known)) ∙ v)
           (λ v. (λ j. are_shown (O.turn_obligations later rules (sym (kept_same i body (line + 1)) j) (raised more body) (line + 1) (sym (loop_known i x body known) j)))
-          ∙ turn_more keeps body (line + 1) inner (kept_good i body (line + 1)) (both (span_passes test x) (list_all (binder_passes test) known.binders) parts.0 bound) small parts.1 few
+          ∙ turn_more keeps body (line + 1) inner (kept_good i body (line + 1)) (both (pass (Ranged i x)) (list_all pass known.binders) own.0 bound) small parts.1 few
           (λ l low high. fits l (omega (arith, low)) (omega (arith, high))) v) h
       turn_more kept (Let i pick forms) line known passes bound small good few fits h =
           and_leads (not (O.has_symbol outline rules i (from_each forms) known)) true (not (O.has_symbol later rules i (from_each forms) (known_raised known))) true
           (λ v. ap not (sym (symbol_same i (from_each forms) known)) ∙ v) (stays true) h
       turn_more kept (First i a b) line known passes bound small good few fits h =
           let fewer = and_parts (folds_within limit (raised more a)) (folds_within limit (raised more b)) few in
-          let parts = and_parts (statement_passes test a) (statement_passes test b) good in
+          let parts = and_parts (statement_passes pass test a) (statement_passes pass test b) good in
           let inner = O.in_block outline rules known in
           join (O.turn_obligations outline rules [] a (line + 1) inner) (O.turn_obligations outline rules [] b (line + 2 + lines a) inner)
           (O.turn_obligations later rules [] (raised more a) (line + 1) (known_raised inner)) (O.turn_obligations later rules [] (raised more b) (line + 2 + lines (raised more a))
@@ -625,8 +627,8 @@ module _ (limit : ℕ) (test : Form → Bool) (rules : Rules) (rises : Rises lim
           (λ v. (λ j. are_shown (O.turn_obligations later rules [] (raised more b) (line + 2 + sym (lines_same (by_more more) a) j) (known_raised inner)))
           ∙ turn_more [] b (line + 2 + lines a) inner refl bound small parts.1 fewer.1 (λ l low high. fits l (omega (arith, low)) (omega (arith, high))) v) h
       turn_more kept (Guard low high body) line known passes bound small good few fits h =
-          let parts = and_parts (test low && test high) (statement_passes test body) good in
-          turn_more [] body (line + 1) (O.in_guard outline rules low high known) refl (both (test low && test high) (list_all (binder_passes test) known.binders) parts.0 bound) small parts.1 few
+          let parts = and_parts (pass (Passed low high)) (statement_passes pass test body) good in
+          turn_more [] body (line + 1) (O.in_guard outline rules low high known) refl (both (pass (Passed low high)) (list_all pass known.binders) parts.0 bound) small parts.1 few
           (λ l from to. fits l (omega (arith, from)) (omega (arith, to))) h
       turn_more kept (Alloc b f places) line known passes bound small good few fits h =
           and_leads (is_free (places_of known.buffers b)) true (is_free (places_of (map (buffer_raised more) known.buffers) b)) true
@@ -639,15 +641,15 @@ module _ (limit : ℕ) (test : Form → Bool) (rules : Rules) (rises : Rises lim
           let n = outline.setting.dimensions b in store_more line known b (outline.setting.buffer_function b) k (take n at) (drop n at) e h
       turn_more kept (Publish c) line known passes bound small good few fits h = h
 
-      block_more : (kept : List Window) (all : Statements) (line : ℕ) (known : Known) → list_all window_good kept ≡ true → list_all (binder_passes test) known.binders ≡ true →
+      block_more : (kept : List Window) (all : Statements) (line : ℕ) (known : Known) → list_all window_good kept ≡ true → list_all pass known.binders ≡ true →
           buffers_within known.buffers ≡ true →
-          block_passes test all ≡ true → block_within limit (block_raised more all) ≡ true → ((l : ℕ) → line ≤ l + 1 → l ≤ line + block_lines all - 1 → Fits l) →
+          block_passes pass test all ≡ true → block_within limit (block_raised more all) ≡ true → ((l : ℕ) → line ≤ l + 1 → l ≤ line + block_lines all - 1 → Fits l) →
           are_shown (O.block_obligations outline rules kept all line known) ≡ true →
           are_shown (O.block_obligations later rules (map (window_raised by) kept) (block_raised more all) line (known_raised known)) ≡ true
       block_more kept Empty line known passes bound small good few fits h = h
       block_more kept (Then a rest) line known passes bound small good few fits h =
           let fewer = and_parts (folds_within limit (raised more a)) (block_within limit (block_raised more rest)) few in
-          let parts = and_parts (statement_passes test a) (block_passes test rest) good in
+          let parts = and_parts (statement_passes pass test a) (block_passes pass test rest) good in
           let last = line + lines a - 1 in
           let next = outline.named last in
           let after = outline.named (line + lines (raised more a) - 1) in
@@ -676,7 +678,7 @@ module _ (limit : ℕ) (test : Form → Bool) (rules : Rules) (rises : Rises lim
           ∙ block_more (without next kept) rest (line + lines a) (O.onwards outline rules a next known) (filter_passes window_good (λ (w : Window). not (is_member w.claim next)) kept passes)
           (binders_good a known.binders parts.0 bound) (buffers_small a known.buffers fewer.0 small) parts.1 fewer.1 (λ l low high. fits l (omega (arith, low)) (omega (arith, high))) v))) h
 
-    pub shown_more : (a : Statement) (line : ℕ) (known : Known) → list_all (binder_passes test) known.binders ≡ true → buffers_within known.buffers ≡ true → statement_passes test a ≡ true →
+    pub shown_more : (a : Statement) (line : ℕ) (known : Known) → list_all pass known.binders ≡ true → buffers_within known.buffers ≡ true → statement_passes pass test a ≡ true →
         folds_within limit (raised more a) ≡ true → ((l : ℕ) → line ≤ l + 1 → l ≤ line + lines a - 1 → Fits l) → are_shown (O.obligations outline rules a line known) ≡ true →
         are_shown (O.obligations later rules (raised more a) line (known_raised known)) ≡ true
     shown_more a line known bound small good few fits h = turn_more [] a line known refl bound small good few fits h

@@ -4,7 +4,6 @@ use Rattle.std.specs.Prelude.{◌≤◌, ◌<◌, ◌^◌, ◌==◌, ◌&&◌, �
 use Rattle.std.specs.List.{list_any, list_all}
 use Rattle.std.proofs.lemmas.Bool.{lt-ltb, le-ltb, eqb-true}
 use Rattle.lin.specs.Forms.{Form}
-use Rattle.lin.specs.declared.span.Span1.{Span1}
 use Rattle.meaning.specs.Algorithm.{Algorithm}
 use Rattle.plan.specs.declared.certificate.cert.Window.{Window}
 use Rattle.plan.specs.declared.stmt.Places.{Places}
@@ -15,10 +14,10 @@ use Rattle.plan.specs.Certificate.Certificate.{Claim, Certificate}
 use Rattle.plan.specs.Certificate.Lines.{claim_line, window_line}
 use Rattle.plan.specs.Certificate.Cells.{Piece, cell, cells, pieces, own_points, own_region}
 use Rattle.plan.specs.Semantics.Run.{source_of}
-use Rattle.plan.specs.Semantics.Setting.{Buffer, allocated, block_allocated, dimensions_in, function_in, group_name, or_else, setting_of}
+use Rattle.plan.specs.Semantics.Setting.{Buffer, allocated, block_allocated, dimensions_in, function_in, group_name, or_else}
 use Rattle.soundness.specs.Given.{outline_of, claim_or_none, function_named, named_from}
 use Rattle.soundness.specs.Origins.{Outline}
-use Rattle.soundness.specs.Obligations.{Binder, Ranged, Picked, Passed, Rules, first_window, is_member, obligations}
+use Rattle.soundness.specs.Obligations.{Binder, Ranged, Passed, Rules, first_window, is_member, obligations}
 use Rattle.soundness.specs.Shown.{all_shown, start}
 use Rattle.soundness.specs.Binders.View.{grid_binders, grid_span}
 use Rattle.soundness.specs.Nests.Laws.{domains_of}
@@ -31,7 +30,7 @@ use Rattle.headline.specs.Numbers.{cell_number, is_cell}
 use Rattle.headline.specs.Theorem.{HasSoundCells}
 use Rattle.headline.specs.Work.{group_own, of_piece, work_of}
 use Rattle.orders.specs.Work.{HasSoundLists}
-use Rattle.rules.specs.Bounding.Called.{called, update_count}
+use Rattle.rules.specs.Bounding.Called.{update_count}
 use Rattle.rules.specs.Bounding.Rules.{rules_of, known_interval, or_nowhere}
 use Rattle.rules.specs.Bounding.Scopes.{shown_at_most}
 use Rattle.rules.specs.Widths.Widths.{are_near_places, binders_after, block_store_lines, block_wide_lines, has_few_turns, is_near_form, is_near_span, line_unless, or_line, store_lines, wide_lines}
@@ -42,13 +41,14 @@ use Rattle.validation.specs.Certificate.Placing as P
 use Rattle.validation.specs.Certificate.Lines.{each_line, window_line_flaws}
 use Rattle.validation.specs.Groups.Lines.{flaws_of_groups}
 use Rattle.audit.specs.Verdict.Accepted.{IsAccepted}
-use Rattle.audit.specs.Verdict.Folds.{risen, place_raised, places_raised, with_places, block_with_places, by_more, raised, block_raised, group_raised, groups_raised, plan_raised, group_with, window_more, window_raised, certificate_raised, IsRaised, RaisedHaveTheSame, is_small_form, span_passes, binder_passes, statement_passes, claims_pass, Rises}
+use Rattle.audit.specs.Verdict.Folds.{is_near_binder, risen, place_raised, places_raised, raised, block_raised, group_raised, groups_raised, plan_raised, group_with, window_more, window_raised}
+use Rattle.audit.specs.Verdict.Folds.{certificate_raised, RaisedHaveTheSame, is_small_form, span_passes, Rises}
 use Rattle.audit.specs.Verdict.Raised.{HasFolds, HasForms, HasSmallForms, RaisedStayShown, RaisedAreAccepted}
-use Rattle.audit.specs.Verdict.Shown.Wide.{HasHead, HasOutput}
 use Rattle.audit.proofs.OfVerdict.OfFolds.Tests.{both, and_parts}
 use Rattle.audit.proofs.OfVerdict.OfFolds.Small.{small_forms_rise}
 use Rattle.audit.proofs.OfVerdict.OfFolds.Owed.{lines_same, shown_more}
-use Rattle.audit.proofs.OfVerdict.OfFolds.Leveled.{flat, level, leveled, block_leveled, group_leveled, plan_leveled, cells_same, pieces_same, groups_lines_same, all_lines_same, certificate_same, shares_on, shares_back, cell_same, rules_same}
+use Rattle.audit.proofs.OfVerdict.OfFolds.Leveled.{flat, level, leveled, block_leveled, group_leveled, plan_leveled, cells_same, pieces_same, groups_lines_same, all_lines_same}
+use Rattle.audit.proofs.OfVerdict.OfFolds.Leveled.{certificate_same, shares_on, shares_back, cell_same, rules_same}
 
 -- ---- the same but for folds
 
@@ -227,26 +227,27 @@ module _ (more : ℕ → ℕ → ℕ → ℕ) (p : Plan) (c : Certificate) where
       both (span_passes test w.span && nat_le (risen (by w) w.fold) limit) (list_all (λ (w : Window). span_passes test w.span && nat_le (risen (by w) w.fold) limit) ws)
       (both (span_passes test w.span) (nat_le (risen (by w) w.fold) limit) spans.0 folds.0) (windows_good limit test by ws spans.1 folds.1)
 
-  shown_there : (a : Algorithm) (rules : Rules) (limit : ℕ) (test : Form → Bool) (n : ℕ) (g : Group) → slice_get p.groups n ≡ Some g → Rises limit test rules → HasForms test c g →
+  shown_there : (a : Algorithm) (rules : Rules) (limit : ℕ) (pass : Binder → Bool) (test : Form → Bool) (n : ℕ) (g : Group) → slice_get p.groups n ≡ Some g →
+      Rises limit pass test rules → HasForms pass test c g →
       HasFolds limit more_cert (group_raised (more n) g) → IsShown rules a p c n g →
       IsShown rules a more_plan more_cert n (group_raised (more n) g)
-  shown_there a rules limit test n g at rises forms folds h =
+  shown_there a rules limit pass test n g at rises forms folds h =
       let parts = and_parts (list_all (λ (k : Claim). list_all (span_passes test) k.region) c.claims) (list_all (λ (w : Window). span_passes test w.span) c.windows) forms.certificate in
       let known = start (grid_binders g.grid) in
-      let shown = shown_more limit test rules rises (outline_of p c n g) (domains_of a) (more n) (window_more more p c)
+      let shown = shown_more limit pass test rules rises (outline_of p c n g) (domains_of a) (more n) (window_more more p c)
       (windows_good limit test (window_more more p c) c.windows parts.1 folds.windows) (λ k. regions_pass test c.claims k parts.0) g.body (body_line p n) known
       forms.grid refl forms.body folds.body (fits_there n g at) h in
       (λ j. all_shown rules (slid_nests (sym (outline_same n g) j) rules (domains_of a)) (obligations (sym (outline_same n g) j) rules (raised (more n) g.body) (sym
       (lines_stay more p n) j + 1) known)) ∙ shown
 
 pub raised_stay_shown : RaisedStayShown
-raised_stay_shown a p c q d rules limit test n g h e here there rises forms folds shown =
+raised_stay_shown a p c q d rules limit pass test n g h e here there rises forms folds shown =
     let at = at_raised e.more p.groups n g here in
     let same : group_raised (e.more n) g ≡ h = some_same (sym at ∙ ap (λ (r : Plan). slice_get r.groups n) e.plan ∙ there) in
     subst (λ (x : Group). IsShown rules a q d n x) same
     (subst (λ (r : Plan). IsShown rules a r d n (group_raised (e.more n) g)) e.plan
     (subst (λ (k : Certificate). IsShown rules a (plan_raised e.more p) k n (group_raised (e.more n) g)) e.certificate
-    (shown_there e.more p c a rules limit test n g here rises forms
+    (shown_there e.more p c a rules limit pass test n g here rises forms
     (subst (λ (k : Certificate). HasFolds limit k (group_raised (e.more n) g)) (sym e.certificate) (subst (λ (x : Group). HasFolds limit d x) (sym same) folds)) shown)))
   where
     some_same : {x y : Group} → Some x ≡ Some y → x ≡ y
@@ -439,10 +440,11 @@ module _ (more : ℕ → ℕ → ℕ → ℕ) (a : Algorithm) (p : Plan) (c : Ce
         ∙ (sym (wide_same (rules_of a p c n) (grid_binders g.0.grid) (body_line p n) g.0.body) ∙ h.widths n g.0 g.1))));
     shown = λ n x at.
         let g = raised_back more p.groups n x at in
-        let forms = small n g.0 (group_raised (more n) g.0) g.1 (at_raised more p.groups n g.0 g.1) in
+        let given = small n g.0 (group_raised (more n) g.0) g.1 (at_raised more p.groups n g.0 g.1) in
         subst (λ (y : Group). IsShown (rules_of a later later_cert n) a later later_cert n y) g.2
         (subst (λ (r : Rules). IsShown r a later later_cert n (group_raised (more n) g.0)) (rules_stay n)
-        (shown_there more p c a (rules_of a p c n) (2 ^ 22) is_small_form n g.0 g.1 (small_forms_rise a p c n) forms.0 forms.1 (h.shown n g.0 g.1)));
+        (shown_there more p c a (rules_of a p c n) (2 ^ 22) (is_near_binder given.most) is_small_form n g.0 g.1 (small_forms_rise given.most given.little a p c n)
+        given.forms given.folds (h.shown n g.0 g.1)));
     certificate = sym flaws_stay ∙ h.certificate;
     shares = shares_stay h.shares;
     output = record {

@@ -1,17 +1,16 @@
 -- The plan whose buffer slides, with more rows than are read.
-use Rattle.std.proofs.Common.{◌≡◌, ℕ, zero, suc, ◌+◌, ◌*◌, ◌≤◌, ◌^◌, Bool, true, List, [], ◌∷◌, ◌++◌, Some, refl, sym, ap, ◌∙◌, subst, arith}
-use Rattle.std.specs.Prelude.{◌&&◌, min, nat_le, pos, slice_get}
+use Rattle.std.proofs.Common.{◌≡◌, ℕ, zero, suc, ◌+◌, ◌*◌, ◌≤◌, ◌^◌, true, [], ◌∷◌, ◌++◌, Some, refl, subst, arith}
+use Rattle.std.specs.Prelude.{◌&&◌, nat_le, pos, slice_get}
 use Rattle.std.proofs.lemmas.Bool.{le-leb}
-use Rattle.plan.specs.Plan.{Group, Plan}
-use Rattle.plan.specs.Certificate.Certificate.{Certificate}
+use Rattle.plan.specs.Plan.{Group}
 use Rattle.soundness.specs.Outline.Flaws.{unless}
 use Rattle.validation.specs.Groups.Lines.{flaws_of_groups}
 use Rattle.validation.specs.Groups.Sizes.{more}
 use Rattle.validation.specs.Stored.Sizes.{counted}
-use Rattle.audit.specs.Verdict.Accepted.{IsAccepted}
 use Rattle.audit.specs.Verdict.Examples.Slide.{group_of, plan_of, slide, slides}
-use Rattle.audit.specs.Verdict.Folds.{IsRaised, is_small_form}
+use Rattle.audit.specs.Verdict.Folds.{IsRaised, is_near_binder, is_small_form}
 use Rattle.audit.specs.Verdict.Raised.{HasFolds, HasForms, HasSmallForms, SlideStaysAccepted}
+use Rattle.audit.proofs.OfVerdict.OfFolds.Search.{alike_little}
 use Rattle.audit.proofs.OfVerdict.OfFolds.Tests.{both}
 use Rattle.audit.proofs.OfVerdict.OfFolds.Plans.{raised_are_accepted}
 use Rattle.audit.proofs.OfVerdict.SlidePlan.{slide_accepted}
@@ -20,7 +19,7 @@ raised_by : (k : ℕ) → IsRaised (plan_of 3 (pos 1)) (slides 3) (plan_of (3 + 
 raised_by k = record { more = λ g b d. k; plan = refl; certificate = refl }
 
 -- the one group
-forms : HasForms is_small_form (slides 3) (group_of 3 (pos 1))
+forms : HasForms (is_near_binder (λ i. 4095)) is_small_form (slides 3) (group_of 3 (pos 1))
 forms = record { grid = refl; body = refl; certificate = refl }
 
 folds : (m : ℕ) → m ≤ 2 ^ 22 → HasFolds (2 ^ 22) (slides m) (group_of m (pos 1))
@@ -33,8 +32,12 @@ only_one P x h zero g e = let same : x ≡ g = cc e in subst (P 0) same h
 only_one P x h (suc n) g e = absurd (cc e)
 
 small : (m : ℕ) → m ≤ 2 ^ 22 → HasSmallForms (plan_of 3 (pos 1)) (slides 3) (plan_of m (pos 1)) (slides m)
-small m h n g x here there =
-    (only_one (λ n g. HasForms is_small_form (slides 3) g) (group_of 3 (pos 1)) forms n g here, only_one (λ n g. HasFolds (2 ^ 22) (slides m) g) (group_of m (pos 1)) (folds m h) n x there)
+small m h n g x here there = record {
+  most = λ i. 4095;
+  little = alike_little;
+  forms = only_one (λ n g. HasForms (is_near_binder (λ i. 4095)) is_small_form (slides 3) g) (group_of 3 (pos 1)) forms n g here;
+  folds = only_one (λ n g. HasFolds (2 ^ 22) (slides m) g) (group_of m (pos 1)) (folds m h) n x there;
+}
 
 no_flaw : (m : ℕ) → 1 ≤ m → 4 * m + 16 ≤ 2 ^ 22 → flaws_of_groups slide (plan_of m (pos 1)) (slides m) ≡ []
 no_flaw m one few =

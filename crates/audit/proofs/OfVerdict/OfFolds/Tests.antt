@@ -1,5 +1,5 @@
 -- The tests of nests say yes with greater folds where they say yes.
-use Rattle.std.proofs.Common.{◌≡◌, ℕ, zero, suc, ◌+◌, Bool, true, false, List, [], ◌∷◌, ◌++◌, map, take, drop, length, Option, Some, None, refl, sym, ap, ◌∙◌, subst, arith}
+use Rattle.std.proofs.Common.{◌≡◌, ℕ, zero, suc, ◌+◌, Bool, true, false, List, [], ◌∷◌, ◌++◌, map, take, Option, Some, None, refl, sym, ap, ◌∙◌, subst, arith}
 use Rattle.std.specs.Prelude.{◌==◌, ◌||◌, ◌&&◌, ◌≤◌, not, if◌then◌else◌, nat_le, nat_lt, reverse, pos, ◌-ℤ◌}
 use Rattle.std.specs.List.{list_any, list_all}
 use Rattle.std.specs.Option.{option_map}
@@ -11,7 +11,6 @@ use Rattle.lin.specs.declared.span.Span1.{Span1}
 use Rattle.meaning.specs.Algorithm.{Range}
 use Rattle.meaning.specs.Names.{same_name}
 use Rattle.plan.specs.declared.certificate.cert.Window.{Window}
-use Rattle.plan.specs.declared.stmt.Kind.{Kind}
 use Rattle.plan.specs.declared.stmt.Places.{Places}
 use Rattle.plan.specs.declared.stmt.Places.TheVariants.{From, Folded}
 use Rattle.plan.specs.Plan.{Index, At, Found, Coordinate, Statement, Seq, For, Let, First, Guard, Alloc, Fetch, Store, Publish, Statements, Empty, Then}
@@ -20,21 +19,24 @@ use Rattle.plan.specs.Certificate.Certificate.{Claim}
 use Rattle.soundness.specs.Around.{inside}
 use Rattle.soundness.specs.Origins.{Outline}
 use Rattle.soundness.specs.Claims.{changes, block_changes}
-use Rattle.soundness.specs.Obligations.{Binder, Ranged, Picked, Passed, Rules, exactly, binder_has, places_have, has_form, is_form}
+use Rattle.soundness.specs.Obligations.{Binder, Ranged, Passed, Rules, exactly, binder_has, places_have, has_form, is_form}
 use Rattle.soundness.specs.Shown.{are_seated, are_within, is_seated, is_within, Nests, raised as plus}
 use Rattle.soundness.specs.Nests.Nest.{Loop, Nest, inside as in_nest, is_let, is_symbol, nest_of, block_nest}
-use Rattle.soundness.specs.Nests.Tests.{are_matched, binders_in, covers, fits_fold, fold_holds, has_ends, has_places, is_fetched, is_filled, is_in_order, is_new, is_short, known_span, left_of, loops_hold, makes, over_of}
+use Rattle.soundness.specs.Nests.Tests.{are_matched, binders_in, covers, fits_fold, fold_holds, has_ends, has_places, is_fetched, is_filled, is_in_order, is_new, is_short, known_span}
+use Rattle.soundness.specs.Nests.Tests.{left_of, loops_hold, makes, over_of}
 use Rattle.tails.specs.Steps.{Step, Turns, Named, Tested, Spine, beyond, past, spine_of, block_spine, binder, along}
 use Rattle.tails.specs.Apart.{form_of, index_form, is_apart, is_steady}
 use Rattle.tails.specs.Moves.{is_outer}
 use Rattle.tails.specs.Maps as M
-use Rattle.tails.specs.Stored.{Stored, forms_at, has_places as has_spots, is_pure, stored_at, stored_by}
+use Rattle.tails.specs.Stored.{Stored, has_places as has_spots, is_pure, stored_at, stored_by}
 use Rattle.tails.specs.Nests.{makes_split, makes_by}
 use Rattle.tails.specs.Updates.{is_in_steps}
-use Rattle.tails.specs.Windows.Arms.{one_less, is_asked, lie_from, are_together, axis_holds, hold, is_fold_of, is_still, is_axis, moves_first, is_along, reaches_new, others_stay, one_stays, makes_all, makes_new, arm, is_slid, arms_stay, is_held, makes_folded}
+use Rattle.tails.specs.Windows.Arms.{one_less, is_asked, lie_from, axis_holds, hold, is_fold_of, is_still, is_axis, is_along, reaches_new, others_stay, one_stays, makes_all, makes_new, arm}
+use Rattle.tails.specs.Windows.Arms.{is_slid, arms_stay, is_held, makes_folded}
 use Rattle.tails.specs.Windows.Spans.{is_rising, is_window}
 use Rattle.tails.specs.Windows.Nests.{folded_by, slid_nests}
-use Rattle.audit.specs.Verdict.Folds.{risen, place_raised, places_raised, with_places, block_with_places, by_more, raised, window_raised, span_passes, binder_passes, index_passes, statement_passes, block_passes, place_within, Rises}
+use Rattle.audit.specs.Verdict.Folds.{risen, place_raised, places_raised, with_places, block_with_places, by_more, raised, window_raised, span_passes, index_passes, statement_passes}
+use Rattle.audit.specs.Verdict.Folds.{block_passes, place_within, Rises}
 
 -- ---- tests that lead to others
 
@@ -149,27 +151,28 @@ module _ (spots : ℕ → List Places → List Places) where
 
 -- ---- the forms on the way
 
-module _ (test : Form → Bool) where
+module _ (pass : Binder → Bool) (test : Form → Bool) where
   if_passes : {A : Type 0} (good : Option A → Bool) (v : Bool) (x y : Option A) → good x ≡ true → good y ≡ true → good (if v then x else y) ≡ true
   if_passes good true x y f g = f
   if_passes good false x y f g = g
 
   abbrev nest_passes : Option Nest → Bool
   nest_passes None = true
-  nest_passes (Some n) = list_all (λ (l : Loop). span_passes test l.span) n.loops && statement_passes test n.line
+  nest_passes (Some n) = list_all (λ (l : Loop). span_passes test l.span) n.loops && statement_passes pass test n.line
 
   inside_passes : (i : ℕ) (x : Span1) (o : Option Nest) → span_passes test x ≡ true → nest_passes o ≡ true → nest_passes (in_nest i x o) ≡ true
   inside_passes i x None f h = refl
   inside_passes i x (Some n) f h =
       let loops = list_all (λ (l : Loop). span_passes test l.span) n.loops in
-      let parts = and_parts loops (statement_passes test n.line) h in
-      both (span_passes test x && loops) (statement_passes test n.line) (both (span_passes test x) loops f parts.0) parts.1
+      let parts = and_parts loops (statement_passes pass test n.line) h in
+      both (span_passes test x && loops) (statement_passes pass test n.line) (both (span_passes test x) loops f parts.0) parts.1
 
   mutual
-    pub nest_good : (a : Statement) (b : ℕ) → statement_passes test a ≡ true → nest_passes (nest_of a b) ≡ true
+    pub nest_good : (a : Statement) (b : ℕ) → statement_passes pass test a ≡ true → nest_passes (nest_of a b) ≡ true
     nest_good (Seq all) b h = block_nest_good all b h
     nest_good (For i x kind body) b h =
-        let parts = and_parts (span_passes test x) (statement_passes test body) h in inside_passes i x (nest_of body b) parts.0 (nest_good body b parts.1)
+        let parts = and_parts (pass (Ranged i x) && span_passes test x) (statement_passes pass test body) h in
+        inside_passes i x (nest_of body b) (and_parts (pass (Ranged i x)) (span_passes test x) parts.0).1 (nest_good body b parts.1)
     nest_good (Let i pick forms) b h = refl
     nest_good (First i a c) b h = refl
     nest_good (Guard low high body) b h = refl
@@ -178,26 +181,26 @@ module _ (test : Form → Bool) where
     nest_good (Store c k at e) b h = if_passes nest_passes (c == b) (Some (record { loops = []; line = Store c k at e })) None h refl
     nest_good (Publish c) b h = refl
 
-    block_nest_good : (all : Statements) (b : ℕ) → block_passes test all ≡ true → nest_passes (block_nest all b) ≡ true
+    block_nest_good : (all : Statements) (b : ℕ) → block_passes pass test all ≡ true → nest_passes (block_nest all b) ≡ true
     block_nest_good Empty b h = refl
     block_nest_good (Then a rest) b h =
-        let parts = and_parts (statement_passes test a) (block_passes test rest) h in
+        let parts = and_parts (statement_passes pass test a) (block_passes pass test rest) h in
         if_passes nest_passes (changes a b) (if block_changes rest b then None else nest_of a b) (if is_let a then None else block_nest rest b)
         (if_passes nest_passes (block_changes rest b) None (nest_of a b) refl (nest_good a b parts.0))
         (if_passes nest_passes (is_let a) None (block_nest rest b) refl (block_nest_good rest b parts.1))
 
   abbrev spine_passes : Option Spine → Bool
   spine_passes None = true
-  spine_passes (Some n) = list_all (binder_passes test) (map binder n.steps) && statement_passes test n.line
+  spine_passes (Some n) = list_all pass (map binder n.steps) && statement_passes pass test n.line
 
-  beyond_passes : (st : Step) (o : Option Spine) → binder_passes test (binder st) ≡ true → spine_passes o ≡ true → spine_passes (beyond st o) ≡ true
+  beyond_passes : (st : Step) (o : Option Spine) → pass (binder st) ≡ true → spine_passes o ≡ true → spine_passes (beyond st o) ≡ true
   beyond_passes st None f h = refl
   beyond_passes st (Some n) f h =
-      let steps = list_all (binder_passes test) (map binder n.steps) in
-      let parts = and_parts steps (statement_passes test n.line) h in
-      both (binder_passes test (binder st) && steps) (statement_passes test n.line) (both (binder_passes test (binder st)) steps f parts.0) parts.1
+      let steps = list_all pass (map binder n.steps) in
+      let parts = and_parts steps (statement_passes pass test n.line) h in
+      both (pass (binder st) && steps) (statement_passes pass test n.line) (both (pass (binder st)) steps f parts.0) parts.1
 
-  past_passes : (a : Statement) (o : Option Spine) → statement_passes test a ≡ true → spine_passes o ≡ true → spine_passes (past a o) ≡ true
+  past_passes : (a : Statement) (o : Option Spine) → statement_passes pass test a ≡ true → spine_passes o ≡ true → spine_passes (past a o) ≡ true
   past_passes (Seq all) o f h = h
   past_passes (For i x kind body) o f h = h
   past_passes (Let i pick forms) o f h = beyond_passes (Named i pick forms) o f h
@@ -209,23 +212,24 @@ module _ (test : Form → Bool) where
   past_passes (Publish c) o f h = h
 
   mutual
-    pub spine_good : (a : Statement) (b : ℕ) → statement_passes test a ≡ true → spine_passes (spine_of a b) ≡ true
+    pub spine_good : (a : Statement) (b : ℕ) → statement_passes pass test a ≡ true → spine_passes (spine_of a b) ≡ true
     spine_good (Seq all) b h = block_spine_good all b h
     spine_good (For i x kind body) b h =
-        let parts = and_parts (span_passes test x) (statement_passes test body) h in beyond_passes (Turns i x kind) (spine_of body b) parts.0 (spine_good body b parts.1)
+        let parts = and_parts (pass (Ranged i x) && span_passes test x) (statement_passes pass test body) h in
+        beyond_passes (Turns i x kind) (spine_of body b) (and_parts (pass (Ranged i x)) (span_passes test x) parts.0).0 (spine_good body b parts.1)
     spine_good (Let i pick forms) b h = refl
     spine_good (First i a c) b h = refl
     spine_good (Guard low high body) b h =
-        let parts = and_parts (test low && test high) (statement_passes test body) h in beyond_passes (Tested low high) (spine_of body b) parts.0 (spine_good body b parts.1)
+        let parts = and_parts (pass (Passed low high)) (statement_passes pass test body) h in beyond_passes (Tested low high) (spine_of body b) parts.0 (spine_good body b parts.1)
     spine_good (Alloc c f places) b h = refl
     spine_good (Fetch c g region) b h = if_passes spine_passes (c == b) (Some (record { steps = []; line = Fetch c g region })) None h refl
     spine_good (Store c k at e) b h = if_passes spine_passes (c == b) (Some (record { steps = []; line = Store c k at e })) None h refl
     spine_good (Publish c) b h = refl
 
-    block_spine_good : (all : Statements) (b : ℕ) → block_passes test all ≡ true → spine_passes (block_spine all b) ≡ true
+    block_spine_good : (all : Statements) (b : ℕ) → block_passes pass test all ≡ true → spine_passes (block_spine all b) ≡ true
     block_spine_good Empty b h = refl
     block_spine_good (Then a rest) b h =
-        let parts = and_parts (statement_passes test a) (block_passes test rest) h in
+        let parts = and_parts (statement_passes pass test a) (block_passes pass test rest) h in
         if_passes spine_passes (changes a b) (if block_changes rest b then None else spine_of a b) (past a (block_spine rest b))
         (if_passes spine_passes (block_changes rest b) None (spine_of a b) refl (spine_good a b parts.0))
         (past_passes a (block_spine rest b) parts.0 (block_spine_good rest b parts.1))
@@ -234,7 +238,7 @@ module _ (test : Form → Bool) where
 
   abbrev stored_passes : Option Stored → Bool
   stored_passes None = true
-  stored_passes (Some n) = list_all (binder_passes test) (along n.steps) && list_all test n.forms
+  stored_passes (Some n) = list_all pass (along n.steps) && list_all test n.forms
 
   all_append : {A : Type 0} (good : A → Bool) (xs ys : List A) → list_all good xs ≡ true → list_all good ys ≡ true → list_all good (xs ++ ys) ≡ true
   all_append good [] ys f g = g
@@ -260,9 +264,9 @@ module _ (test : Form → Bool) where
       both (test (form_of c)) (list_all test (map form_of (take n cs))) (index_good c.index parts.0 forms.0) (forms_good n cs parts.1 forms.1)
 
   module _ (setting : Setting) (claim : Claim) where
-    if_stored : (steps : List Step) (v : Bool) (fs : List Form) → list_all (binder_passes test) (along steps) ≡ true → (v ≡ true → list_all test fs ≡ true) →
+    if_stored : (steps : List Step) (v : Bool) (fs : List Form) → list_all pass (along steps) ≡ true → (v ≡ true → list_all test fs ≡ true) →
         stored_passes (option_map (λ (fs : List Form). record { steps = steps; forms = fs }) (if v then Some fs else None)) ≡ true
-    if_stored steps true fs f g = both (list_all (binder_passes test) (along steps)) (list_all test fs) f (g refl)
+    if_stored steps true fs f g = both (list_all pass (along steps)) (list_all test fs) f (g refl)
     if_stored steps false fs f g = refl
 
     pure_is_form : (b : ℕ) (at : List Coordinate) → is_pure setting claim b at ≡ true → list_all is_form (left_of setting b at) ≡ true
@@ -272,7 +276,7 @@ module _ (test : Form → Bool) where
         let named = same_name (setting.buffer_function b) claim.function in
         (and_parts forms over (and_parts named (forms && over) (and_parts (claim.definition == 0) (named && (forms && over)) h).1).1).0
 
-    line_good : (steps : List Step) (a : Statement) → list_all (binder_passes test) (along steps) ≡ true → statement_passes test a ≡ true →
+    line_good : (steps : List Step) (a : Statement) → list_all pass (along steps) ≡ true → statement_passes pass test a ≡ true →
         stored_passes (stored_at setting claim (record { steps = steps; line = a })) ≡ true
     line_good steps (Seq all) f h = refl
     line_good steps (For i x kind body) f h = refl
@@ -289,8 +293,8 @@ module _ (test : Form → Bool) where
     pub stored_good : (o : Option Spine) → spine_passes o ≡ true → stored_passes (stored_by setting claim o) ≡ true
     stored_good None h = refl
     stored_good (Some n) h =
-        let parts = and_parts (list_all (binder_passes test) (map binder n.steps)) (statement_passes test n.line) h in
-        line_good n.steps n.line (all_reverse (binder_passes test) (map binder n.steps) parts.0) parts.1
+        let parts = and_parts (list_all pass (map binder n.steps)) (statement_passes pass test n.line) h in
+        line_good n.steps n.line (all_reverse pass (map binder n.steps) parts.0) parts.1
 
 -- ---- places
 
@@ -333,8 +337,8 @@ seats_rise rules bs more (x ∷ xs) (Folded n ∷ places) h =
 
 -- ---- what looks at the number
 
-module _ (limit : ℕ) (test : Form → Bool) (rules : Rules) (rises : Rises limit test rules) where
-  module _ (bs : List Binder) (known : list_all (binder_passes test) bs ≡ true) where
+module _ (limit : ℕ) (pass : Binder → Bool) (test : Form → Bool) (rules : Rules) (rises : Rises limit pass test rules) where
+  module _ (bs : List Binder) (known : list_all pass bs ≡ true) where
     seated_rises : (x : Span1) (l : Form) (n k : ℕ) → n + k ≤ limit → list_all test x.upper ≡ true → test l ≡ true → is_seated rules bs x (From l n) ≡ true →
         is_seated rules bs x (From l (n + k)) ≡ true
     seated_rises x l n k few fx fl h =
@@ -426,7 +430,7 @@ module _ (limit : ℕ) (test : Form → Bool) (rules : Rules) (rises : Rises lim
       filled_rises places ls (Store b (suc k) at e) small f h = h
       filled_rises places ls (Publish c) small f h = h
 
-      fetched_rises : (places : List Places) (ls : List Loop) (a : Statement) → list_all (place_within limit) (places_raised more places) ≡ true → statement_passes test a ≡ true →
+      fetched_rises : (places : List Places) (ls : List Loop) (a : Statement) → list_all (place_within limit) (places_raised more places) ≡ true → statement_passes pass test a ≡ true →
           is_fetched setting rules bs claim places ls a ≡ true → is_fetched setting rules bs claim (places_raised more places) ls a ≡ true
       fetched_rises places [] (Seq all) small f h = h
       fetched_rises places [] (For i x kind body) small f h = h
@@ -453,13 +457,13 @@ module _ (limit : ℕ) (test : Form → Bool) (rules : Rules) (rises : Rises lim
       fetched_rises places (l ∷ ls) a small f h = absurd (cc h)
 
       pub makes_rises : (domain : List ℕ → ℕ → Option (List Range)) (from : Option ℕ) (places : List Places) (o : Option Nest) →
-          list_all (place_within limit) (places_raised more places) ≡ true → nest_passes test o ≡ true →
+          list_all (place_within limit) (places_raised more places) ≡ true → nest_passes pass test o ≡ true →
           makes setting rules domain bs claim from places o ≡ true → makes setting rules domain bs claim from (places_raised more places) o ≡ true
       makes_rises domain None places None small f h = h
       makes_rises domain (Some k) places None small f h = h
       makes_rises domain (Some k) places (Some n) small f h = h
       makes_rises domain None places (Some n) small f h =
-          let parts = and_parts (list_all (λ (l : Loop). span_passes test l.span) n.loops) (statement_passes test n.line) f in
+          let parts = and_parts (list_all (λ (l : Loop). span_passes test l.span) n.loops) (statement_passes pass test n.line) f in
           or_leads (is_filled setting rules bs claim places n.loops n.line) (is_fetched setting rules bs claim places n.loops n.line)
           (is_filled setting rules bs claim (places_raised more places) n.loops n.line) (is_fetched setting rules bs claim (places_raised more places) n.loops n.line)
           (filled_rises places n.loops n.line small parts.0) (fetched_rises places n.loops n.line small parts.1) h
@@ -490,7 +494,7 @@ module _ (limit : ℕ) (test : Form → Bool) (rules : Rules) (rises : Rises lim
 
     -- ---- windows
 
-    module _ (steps : List Step) (bound : list_all (binder_passes test) (along steps) ≡ true) where
+    module _ (steps : List Step) (bound : list_all pass (along steps) ≡ true) where
       lie_rises : (x : Span1) (f : Form) (n k : ℕ) (l : Form) → n + k ≤ limit → span_passes test x ≡ true → test f ≡ true → test l ≡ true →
           lie_from rules bs steps x f n l ≡ true → lie_from rules bs steps x f (n + k) l ≡ true
       lie_rises x f n k l few fx ff fl h =
@@ -501,9 +505,9 @@ module _ (limit : ℕ) (test : Form → Bool) (rules : Rules) (rises : Rises lim
           let two = is_seated rules (along steps ++ bs) (exactly f) (From l n) in
           let later_two = is_seated rules (along steps ++ bs) (exactly f) (From l (n + k)) in
           and_leads outer (one && two) outer (later_one && later_two) (stays outer) (and_leads one two later_one later_two (seated_rises x l n k few ends.1 fl)
-          (around_rises (along steps ++ bs) (all_append test (binder_passes test) (along steps) bs bound known) (exactly f) l n k few (both (test f) true ff refl) fl)) h
+          (around_rises (along steps ++ bs) (all_append pass test pass (along steps) bs bound known) (exactly f) l n k few (both (test f) true ff refl) fl)) h
         where
-          around_rises : (bs : List Binder) → list_all (binder_passes test) bs ≡ true → (x : Span1) (l : Form) (n k : ℕ) → n + k ≤ limit → list_all test x.upper ≡ true → test l ≡ true →
+          around_rises : (bs : List Binder) → list_all pass bs ≡ true → (x : Span1) (l : Form) (n k : ℕ) → n + k ≤ limit → list_all test x.upper ≡ true → test l ≡ true →
               is_seated rules bs x (From l n) ≡ true → is_seated rules bs x (From l (n + k)) ≡ true
           around_rises bs good x l n k few fx fl h =
               let low = list_any (λ m. rules.at_most bs l m) x.lower && true in
@@ -588,9 +592,9 @@ module _ (limit : ℕ) (test : Form → Bool) (rules : Rules) (rises : Rises lim
       abbrev more_places : List Places
       more_places = places_raised more places
 
-      stay_rises : (d : ℕ) (n : Stored) → stored_passes test (Some n) ≡ true → others_stay rules bs claim.region places d n ≡ true → others_stay rules bs claim.region more_places d n ≡ true
+      stay_rises : (d : ℕ) (n : Stored) → stored_passes pass test (Some n) ≡ true → others_stay rules bs claim.region places d n ≡ true → others_stay rules bs claim.region more_places d n ≡ true
       stay_rises d n f h =
-          let good = and_parts (list_all (binder_passes test) (along n.steps)) (list_all test n.forms) f in
+          let good = and_parts (list_all pass (along n.steps)) (list_all test n.forms) f in
           let spots = has_spots true rules bs n places in
           let later_spots = has_spots true rules bs n more_places in
           let scoped = M.is_scoped (map binder n.steps) in
@@ -599,28 +603,28 @@ module _ (limit : ℕ) (test : Form → Bool) (rules : Rules) (rises : Rises lim
           and_leads spots (scoped && holds) later_spots (scoped && later_holds) (spots_rise setting claim more true n places)
           (and_leads scoped holds scoped later_holds (stays scoped) (hold_rises n.steps good.0 false (Some d) more claim.region n.forms places small spans good.1)) h
 
-      one_rises : (d : ℕ) (o : Option Stored) → stored_passes test o ≡ true → one_stays rules bs claim.region places d o ≡ true → one_stays rules bs claim.region more_places d o ≡ true
+      one_rises : (d : ℕ) (o : Option Stored) → stored_passes pass test o ≡ true → one_stays rules bs claim.region places d o ≡ true → one_stays rules bs claim.region more_places d o ≡ true
       one_rises d None f h = h
       one_rises d (Some n) f h =
-          let good = and_parts (list_all (binder_passes test) (along n.steps)) (list_all test n.forms) f in
+          let good = and_parts (list_all pass (along n.steps)) (list_all test n.forms) f in
           hold_rises n.steps good.0 true (Some d) more claim.region n.forms places small spans good.1 h
 
-      all_rises : (d : ℕ) (o : Option Stored) → stored_passes test o ≡ true → makes_all rules bs claim.region places d o ≡ true → makes_all rules bs claim.region more_places d o ≡ true
+      all_rises : (d : ℕ) (o : Option Stored) → stored_passes pass test o ≡ true → makes_all rules bs claim.region places d o ≡ true → makes_all rules bs claim.region more_places d o ≡ true
       all_rises d None f h = h
       all_rises d (Some n) f h =
           let reached = M.covers rules bs n.steps n.forms claim.region in
           and_leads (others_stay rules bs claim.region places d n) reached (others_stay rules bs claim.region more_places d n) reached (stay_rises d n f) (stays reached) h
 
-      new_rises : (i d : ℕ) (o : Option Stored) → stored_passes test o ≡ true → makes_new rules bs claim.region places i d o ≡ true → makes_new rules bs claim.region more_places i d o ≡ true
+      new_rises : (i d : ℕ) (o : Option Stored) → stored_passes pass test o ≡ true → makes_new rules bs claim.region places i d o ≡ true → makes_new rules bs claim.region more_places i d o ≡ true
       new_rises i d None f h = h
       new_rises i d (Some n) f h =
           let reached = reaches_new rules bs claim.region i d n in
           and_leads (others_stay rules bs claim.region places d n) reached (others_stay rules bs claim.region more_places d n) reached (stay_rises d n f) (stays reached) h
 
-      arm_good : (a : Statement) → statement_passes test a ≡ true → stored_passes test (arm setting claim a) ≡ true
-      arm_good a f = stored_good test setting claim (spine_of a claim.buffer) (spine_good test a claim.buffer f)
+      arm_good : (a : Statement) → statement_passes pass test a ≡ true → stored_passes pass test (arm setting claim a) ≡ true
+      arm_good a f = stored_good pass test setting claim (spine_of a claim.buffer) (spine_good pass test a claim.buffer f)
 
-      folded_rises : (from : Option ℕ) (a : Statement) → statement_passes test a ≡ true → folded_by setting rules bs claim from places a ≡ true →
+      folded_rises : (from : Option ℕ) (a : Statement) → statement_passes pass test a ≡ true → folded_by setting rules bs claim from places a ≡ true →
           folded_by setting rules bs claim from more_places a ≡ true
       folded_rises None a f h =
           let o = arm setting claim a in
@@ -629,12 +633,12 @@ module _ (limit : ℕ) (test : Form → Bool) (rules : Rules) (rises : Rises lim
           (all_rises 0 o (arm_good a f)) (one_rises 0 o (arm_good a f)) h
       folded_rises (Some k) a f h = h
 
-      slid_rises : (w : Window) (a : Statement) → statement_passes test a ≡ true → is_slid setting rules bs claim places w a ≡ true → is_slid setting rules bs claim more_places w a ≡ true
+      slid_rises : (w : Window) (a : Statement) → statement_passes pass test a ≡ true → is_slid setting rules bs claim places w a ≡ true → is_slid setting rules bs claim more_places w a ≡ true
       slid_rises w (Seq all) f h = h
       slid_rises w (For i x kind body) f h = h
       slid_rises w (Let i pick forms) f h = h
       slid_rises w (First i a c) f h =
-          let good = and_parts (statement_passes test a) (statement_passes test c) f in
+          let good = and_parts (statement_passes pass test a) (statement_passes pass test c) f in
           let own = i == w.symbol in
           let one = arm setting claim a in
           let two = arm setting claim c in
@@ -649,12 +653,12 @@ module _ (limit : ℕ) (test : Form → Bool) (rules : Rules) (rises : Rises lim
       slid_rises w (Store c k at e) f h = h
       slid_rises w (Publish c) f h = h
 
-      arms_rise : (d : ℕ) (a : Statement) → statement_passes test a ≡ true → arms_stay setting rules bs claim places d a ≡ true → arms_stay setting rules bs claim more_places d a ≡ true
+      arms_rise : (d : ℕ) (a : Statement) → statement_passes pass test a ≡ true → arms_stay setting rules bs claim places d a ≡ true → arms_stay setting rules bs claim more_places d a ≡ true
       arms_rise d (Seq all) f h = h
       arms_rise d (For i x kind body) f h = h
       arms_rise d (Let i pick forms) f h = h
       arms_rise d (First i a c) f h =
-          let good = and_parts (statement_passes test a) (statement_passes test c) f in
+          let good = and_parts (statement_passes pass test a) (statement_passes pass test c) f in
           let one = arm setting claim a in
           let two = arm setting claim c in
           and_leads (one_stays rules bs claim.region places d one) (one_stays rules bs claim.region places d two) (one_stays rules bs claim.region more_places d one)
@@ -667,7 +671,7 @@ module _ (limit : ℕ) (test : Form → Bool) (rules : Rules) (rises : Rises lim
       arms_rise d (Publish c) f h = h
 
       held_rises : (w : Window) (by : Window → ℕ) (a : Statement) → nat_le (risen (by w) w.fold) limit ≡ true → by w ≡ more w.dimension → span_passes test w.span ≡ true →
-          statement_passes test a ≡ true →
+          statement_passes pass test a ≡ true →
           is_held setting rules bs claim places w a ≡ true → is_held setting rules bs claim more_places (window_raised by w) a ≡ true
       held_rises w by a few e fw f h =
           let window = is_window rules bs w.symbol w.fold w.span in
@@ -717,15 +721,16 @@ module _ (more : ℕ → ℕ → ℕ) (setting : Setting) (claim : Claim) where
     folded_same (Some k) a = refl
 
 -- what they say of a claim that a statement makes
-module _ (limit : ℕ) (test : Form → Bool) (rules : Rules) (rises : Rises limit test rules) (outline : Outline) (domain : List ℕ → ℕ → Option (List Range)) (more : ℕ → ℕ → ℕ) where
+module _ (limit : ℕ) (pass : Binder → Bool) (test : Form → Bool) (rules : Rules) (rises : Rises limit pass test rules)
+    (outline : Outline) (domain : List ℕ → ℕ → Option (List Range)) (more : ℕ → ℕ → ℕ) where
   abbrev tests : Nests
   tests = slid_nests outline rules domain
 
   abbrev here_raised : ℕ → List Places → List Places
   here_raised c places = places_raised (more (outline.claim c).buffer) places
 
-  module _ (bs : List Binder) (known : list_all (binder_passes test) bs ≡ true) (c : ℕ) (spans : list_all (span_passes test) (outline.claim c).region ≡ true) (a : Statement)
-      (f : statement_passes test a ≡ true) where
+  module _ (bs : List Binder) (known : list_all pass bs ≡ true) (c : ℕ) (spans : list_all (span_passes test) (outline.claim c).region ≡ true) (a : Statement)
+      (f : statement_passes pass test a ≡ true) where
     pub made_more : (from : Option ℕ) (places : List Places) → list_all (place_within limit) (here_raised c places) ≡ true → tests.is_made bs c from places a ≡ true →
         tests.is_made bs c from (here_raised c places) (raised more a) ≡ true
     made_more from places small h =
@@ -738,9 +743,9 @@ module _ (limit : ℕ) (test : Form → Bool) (rules : Rules) (rises : Rises lim
         let later_folded = folded_by outline.setting rules bs claim from (here_raised c places) a in
         let all = or_leads (plain || split) folded (later_plain || later_split) later_folded
         (or_leads plain split later_plain later_split
-        (makes_rises limit test rules rises bs known outline.setting claim (more claim.buffer) domain from places (nest_of a claim.buffer) small (nest_good test a claim.buffer f))
-        (by_rises limit test rules rises bs known outline.setting claim (more claim.buffer) domain from places (spine_of a claim.buffer)))
-        (folded_rises limit test rules rises bs known outline.setting claim (more claim.buffer) spans places small from a f) h in
+        (makes_rises limit pass test rules rises bs known outline.setting claim (more claim.buffer) domain from places (nest_of a claim.buffer) small (nest_good pass test a claim.buffer f))
+        (by_rises limit pass test rules rises bs known outline.setting claim (more claim.buffer) domain from places (spine_of a claim.buffer)))
+        (folded_rises limit pass test rules rises bs known outline.setting claim (more claim.buffer) spans places small from a f) h in
         (λ j. (makes outline.setting rules domain bs claim from (here_raised c places) (sym (nest_same (by_more more) a claim.buffer) j)
         || makes_by outline.setting rules domain bs claim from (here_raised c places) (sym (spine_same (by_more more) a claim.buffer) j))
         || sym (folded_same more outline.setting claim rules bs (here_raised c places) from a) j) ∙ all
@@ -750,7 +755,7 @@ module _ (limit : ℕ) (test : Form → Bool) (rules : Rules) (rises : Rises lim
     slid_more w by places small h =
         let claim = outline.claim c in
         sym (slid_same more outline.setting claim rules bs (here_raised c places) w a)
-        ∙ slid_rises limit test rules rises bs known outline.setting claim (more claim.buffer) spans places small w a f h
+        ∙ slid_rises limit pass test rules rises bs known outline.setting claim (more claim.buffer) spans places small w a f h
 
     pub held_more : (w : Window) (by : Window → ℕ) (places : List Places) → list_all (place_within limit) (here_raised c places) ≡ true → nat_le (risen (by w) w.fold) limit ≡ true →
         by w ≡ more (outline.claim c).buffer w.dimension → span_passes test w.span ≡ true →
@@ -758,7 +763,7 @@ module _ (limit : ℕ) (test : Form → Bool) (rules : Rules) (rises : Rises lim
     held_more w by places small few e fw h =
         let claim = outline.claim c in
         sym (held_same more outline.setting claim rules bs (here_raised c places) (window_raised by w) a)
-        ∙ held_rises limit test rules rises bs known outline.setting claim (more claim.buffer) spans places small w by a few e fw f h
+        ∙ held_rises limit pass test rules rises bs known outline.setting claim (more claim.buffer) spans places small w by a few e fw f h
 
   pub in_turn_same : (bs : List Binder) (c : ℕ) (a : Statement) → tests.is_in_turn bs c a ≡ tests.is_in_turn bs c (raised more a)
   in_turn_same bs c a =

@@ -1,13 +1,8 @@
 use Rattle.algo.specs.View.{algorithm_of}
 use Rattle.plan.specs.View.{plan_of}
 use Rattle.plan.specs.Certificate.Certificate.{certificate_of}
-use Rattle.validation.specs.Groups.Lines.{flaws_of_groups}
-use Rattle.audit.proofs.Told.{first_known, groups_told}
+use Rattle.audit.proofs.Told.{groups_told}
 use Rattle.audit.proofs.answer.named_flaw.Goals as goal
 
 pub returns-clause-told : goal.returns-clause-told
 returns-clause-told c = groups_told (algorithm_of c.args.algo.now) (plan_of c.args.plan.now) (certificate_of c.args.cert.now) c.in_ok-found.found c.in_ok-found.ensures
-
-pub returns-clause-known : goal.returns-clause-known
-returns-clause-known c =
-    first_known (flaws_of_groups (algorithm_of c.args.algo.now) (plan_of c.args.plan.now) (certificate_of c.args.cert.now)) c.in_ok-found.found c.in_ok-found.ensures

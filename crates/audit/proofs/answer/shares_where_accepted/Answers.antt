@@ -10,7 +10,7 @@ use Rattle.audit.proofs.Told.{least_told, one_told, some_of}
 use Rattle.audit.proofs.answer.shares_where_accepted.Goals as goal
 
 pub told_where_flawed-requires-clause-named : goal.told_where_flawed-requires-clause-named
-told_where_flawed-requires-clause-named g c = c.in_ok-named.ensures.known
+told_where_flawed-requires-clause-named g c = c.in_ok-named.ensures.first
 
 pub told_where_flawed-requires-clause-flaw : goal.told_where_flawed-requires-clause-flaw
 told_where_flawed-requires-clause-flaw g c =

@@ -24,6 +24,6 @@ loop-ticket-preserved g c =
       idle = idle_filled old new piece learned c.fill_in_time.ensures.finished;
       finished = λ before. finished_filled old new piece learned c.fill_in_time.ensures.finished (had.finished before);
       seats = learned.seats ∙ had.seats;
-      scratches = c.fill_in_time.ensures.scratches;
+      scratch = c.fill_in_time.ensures.scratch;
       room = c.fill_in_time.ensures.room;
     }

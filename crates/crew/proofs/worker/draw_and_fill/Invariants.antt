@@ -10,7 +10,7 @@ invariant-loop-ticket g l = record {
   idle : IsIdle l.seat.view;
   finished : HasFinished l.initial.seat.view → HasFinished l.seat.view;
   seats : l.seat.view.seats ≡ l.initial.seat.view.seats;
-  scratches : g.P.PrivateRuns.suffices l.runs l.desk.scratches.items;
+  scratch : g.P.PrivateRuns.suffices l.runs l.desk.scratch;
   room : HasRoom (g.P.PrivateRuns.plan l.runs) (pieces_of g.J.Run.layout) l.desk.looked;
 }
 

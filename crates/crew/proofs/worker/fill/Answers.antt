@@ -22,7 +22,7 @@ returns-clause-seat g c =
     c.complete.ensures ∙ ap (λ (s : Place). seeing s (completed s.view piece (length (own_of g.J.Run.layout piece)))) c.look_at.ensures.seat
 
 pub returns-clause-room : goal.returns-clause-room
-returns-clause-room g c = subst (λ (l : LookedCells). HasRoom (g.P.PrivateRuns.plan c.args.runs.now) (pieces_of g.J.Run.layout) l) (sym c.run-group.ensures.looked) (record {
+returns-clause-room g c = subst (λ (l : LookedCells). HasRoom (g.P.PrivateRuns.plan c.args.runs.now) (pieces_of g.J.Run.layout) l) (sym c.run.ensures.looked) (record {
   plan = ap (λ (l : PlanCells). l.checked.now) c.look_at.ensures.same ∙ c.requires.room.plan;
   room = subst (λ (n : ℕ). IsMostFetched (g.P.PrivateRuns.plan c.args.runs.now) (pieces_of g.J.Run.layout) n) (sym c.look_at.ensures.room) c.requires.room.room;
 })

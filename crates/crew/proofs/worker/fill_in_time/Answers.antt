@@ -12,6 +12,6 @@ loop-preserved g c =
       learned = learned_on c.args.seat.now.view c.loop.seat.view c.try_fill.new.seat.view had.learned c.try_fill.ensures.learned;
       ticket = c.in-Err.ensures.back.0 ∙ had.ticket;
       held = c.in-Err.ensures.back.1;
-      scratches = c.try_fill.ensures.scratches;
+      scratch = c.try_fill.ensures.scratch;
       room = c.try_fill.ensures.room;
     }

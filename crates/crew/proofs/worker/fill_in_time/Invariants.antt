@@ -13,6 +13,6 @@ invariant-loop g l = record {
   learned : HasLearned l.initial.seat.view l.seat.view;
   ticket : l.ticket ≡ l.initial.ticket;
   held : IsTicketOf g.J.Run.layout l.seat.view l.ticket;
-  scratches : g.P.PrivateRuns.suffices l.runs l.desk.scratches.items;
+  scratch : g.P.PrivateRuns.suffices l.runs l.desk.scratch;
   room : HasRoom (g.P.PrivateRuns.plan l.runs) (pieces_of g.J.Run.layout) l.desk.looked;
 }

@@ -20,7 +20,7 @@ loop-first-preserved g c =
       board = ap (λ (s : Place). s.board) made.0 ∙ had.board;
       idle = subst (λ (s : Place). IsIdle s.view) (sym made.0) had.idle;
       finished = subst (λ (s : Place). HasFinished s.view) (sym made.0) (none_drawn c.loop-first.first.view);
-      scratches = c.in_ok-desk.ensures.scratches;
+      scratch = c.in_ok-desk.ensures.scratch;
       room = c.in_ok-desk.ensures.room;
     } in
     record {
@@ -43,7 +43,7 @@ returns-clause-ready g c =
       board = had.board;
       idle = had.idle;
       finished = had.finished;
-      scratches = c.in_ok-desk-2.ensures.scratches;
+      scratch = c.in_ok-desk-2.ensures.scratch;
       room = c.in_ok-desk-2.ensures.room;
     } in
     let all : All (Fit c.args.first.board) c.push-2.new.self.items =

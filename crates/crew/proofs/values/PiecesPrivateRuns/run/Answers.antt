@@ -6,7 +6,6 @@ use Rattle.plan.specs.Certificate.Cells.{pieces}
 use Rattle.plan.specs.Plan.{Plan}
 use Rattle.piece.specs.Places.Places.{IsPlaceOf}
 use Rattle.crew.proofs.Runs as runs
-use Rattle.crew.proofs.Scratches.{set_long}
 use Rattle.crew.proofs.values.PiecesPrivateRuns.run.Goals as goal
 
 pub place_of-place-requires : goal.place_of-place-requires
@@ -14,17 +13,6 @@ place_of-place-requires g c =
     let all = c.requires.runs.0.0.all in
     let lt = c.requires.piece in
     subst (λ (z : Plan). c.args.piece < length (pieces z)) (sym c.plan.ensures) (omega (arith, all, lt))
-
-pub index_mut-scratch-requires : goal.index_mut-scratch-requires
-index_mut-scratch-requires g c =
-    let s = c.args.self.now in
-    let q = s.checked.now in
-    let n = c.place_of-place.result.group in
-    let k = c.place_of-place.result.rank in
-    let place : IsPlaceOf (plan_checked q).groups c.args.piece n k = subst (λ (z : Plan). IsPlaceOf z.groups c.args.piece n k) c.plan.ensures c.place_of-place.ensures in
-    let lt = runs.inside g.J.Run.layout g.J.Run.values q (picture_of s.inputs.now) s.most c.requires.runs c.args.desk.now.scratches.items c.requires.scratches c.args.piece n k place in
-    let long : c.args.desk.now.scratches.len ≡ length c.args.desk.now.scratches.items = search rules in
-    omega (arith, lt, long)
 
 pub run_in-requires-clause-input : goal.run_in-requires-clause-input
 run_in-requires-clause-input g c = c.requires.runs.0.0.extents
@@ -45,7 +33,7 @@ run_in-requires-clause-memory g c =
     let n = c.place_of-place.result.group in
     let k = c.place_of-place.result.rank in
     let place : IsPlaceOf (plan_checked q).groups c.args.piece n k = subst (λ (z : Plan). IsPlaceOf z.groups c.args.piece n k) c.plan.ensures c.place_of-place.ensures in
-    runs.scratch g.J.Run.layout g.J.Run.values q (picture_of s.inputs.now) s.most c.requires.runs c.args.desk.now.scratches.items c.requires.scratches c.args.piece n k place c.index_mut-scratch.result.now c.index_mut-scratch.ensures.value
+    runs.scratch g.J.Run.layout g.J.Run.values q (picture_of s.inputs.now) s.most c.requires.runs c.args.desk.now.scratch c.requires.scratch c.args.piece n k place
 
 pub unreachable-requires : goal.unreachable-requires
 unreachable-requires g c =
@@ -54,20 +42,9 @@ unreachable-requires g c =
     let n = c.place_of-place.result.group in
     let k = c.place_of-place.result.rank in
     let place : IsPlaceOf (plan_checked q).groups c.args.piece n k = subst (λ (z : Plan). IsPlaceOf z.groups c.args.piece n k) c.plan.ensures c.place_of-place.ensures in
-    let some = runs.gives g.J.Run.layout g.J.Run.values q (picture_of s.inputs.now) s.most c.requires.runs c.args.desk.now.scratches.items c.requires.scratches c.args.piece n k place c.index_mut-scratch.result.now c.index_mut-scratch.ensures.value c.args.desk.now.looked c.requires.looked c.requires.piece in
-    let room = runs.room g.J.Run.layout g.J.Run.values q (picture_of s.inputs.now) s.most c.requires.runs c.args.desk.now.scratches.items c.requires.scratches c.args.piece n k place c.index_mut-scratch.result.now c.index_mut-scratch.ensures.value c.args.desk.now.looked c.requires.looked c.requires.piece in
+    let some = runs.gives g.J.Run.layout g.J.Run.values q (picture_of s.inputs.now) s.most c.requires.runs c.args.desk.now.scratch c.requires.scratch c.args.piece n k place c.args.desk.now.looked c.requires.looked c.requires.piece in
+    let room = runs.room g.J.Run.layout g.J.Run.values q (picture_of s.inputs.now) s.most c.requires.runs c.args.desk.now.scratch c.requires.scratch c.args.piece n k place c.args.desk.now.looked c.requires.looked c.requires.piece in
     runs.never _ _ _ _ _ c.in_default.ensures.gives some room
-
-pub returns-clause-place : goal.returns-clause-place
-returns-clause-place g c =
-    let s = c.args.self.now in
-    let q = s.checked.now in
-    let n = c.place_of-place.result.group in
-    let k = c.place_of-place.result.rank in
-    let place : IsPlaceOf (plan_checked q).groups c.args.piece n k = subst (λ (z : Plan). IsPlaceOf z.groups c.args.piece n k) c.plan.ensures c.place_of-place.ensures in
-    let long = set_long c.args.desk.now.scratches.items n c.run_in.new.scratch in
-    let lt = runs.inside g.J.Run.layout g.J.Run.values q (picture_of s.inputs.now) s.most c.requires.runs c.args.desk.now.scratches.items c.requires.scratches c.args.piece n k place in
-    omega (arith, long, lt)
 
 pub returns-clause-values : goal.returns-clause-values
 returns-clause-values g c =
@@ -76,14 +53,14 @@ returns-clause-values g c =
     let n = c.place_of-place.result.group in
     let k = c.place_of-place.result.rank in
     let place : IsPlaceOf (plan_checked q).groups c.args.piece n k = subst (λ (z : Plan). IsPlaceOf z.groups c.args.piece n k) c.plan.ensures c.place_of-place.ensures in
-    let some = runs.gives g.J.Run.layout g.J.Run.values q (picture_of s.inputs.now) s.most c.requires.runs c.args.desk.now.scratches.items c.requires.scratches c.args.piece n k place c.index_mut-scratch.result.now c.index_mut-scratch.ensures.value c.args.desk.now.looked c.requires.looked c.requires.piece in
-    runs.left g.J.Run.layout g.J.Run.values q (picture_of s.inputs.now) s.most c.requires.runs c.args.desk.now.scratches.items c.requires.scratches c.args.piece n k place c.index_mut-scratch.result.now c.index_mut-scratch.ensures.value c.run_in.new.scratch _ (same_Some _ _ (sym c.in-Ok.ensures.gives ∙ some))
+    let some = runs.gives g.J.Run.layout g.J.Run.values q (picture_of s.inputs.now) s.most c.requires.runs c.args.desk.now.scratch c.requires.scratch c.args.piece n k place c.args.desk.now.looked c.requires.looked c.requires.piece in
+    same_Some _ _ (sym c.in-Ok.ensures.gives ∙ some)
 
-pub returns-clause-scratches : goal.returns-clause-scratches
-returns-clause-scratches g c =
+pub returns-clause-scratch : goal.returns-clause-scratch
+returns-clause-scratch g c =
     let s = c.args.self.now in
     let q = s.checked.now in
     let n = c.place_of-place.result.group in
     let k = c.place_of-place.result.rank in
     let place : IsPlaceOf (plan_checked q).groups c.args.piece n k = subst (λ (z : Plan). IsPlaceOf z.groups c.args.piece n k) c.plan.ensures c.place_of-place.ensures in
-    runs.again g.J.Run.layout g.J.Run.values q (picture_of s.inputs.now) s.most c.requires.runs c.args.desk.now.scratches.items c.requires.scratches c.args.piece n k place c.index_mut-scratch.result.now c.index_mut-scratch.ensures.value c.run_in.new.scratch c.in-Ok.ensures.memory
+    runs.again g.J.Run.layout g.J.Run.values q (picture_of s.inputs.now) s.most c.requires.runs c.args.desk.now.scratch c.requires.scratch c.args.piece n k place c.run_in.new.scratch c.in-Ok.ensures.memory
