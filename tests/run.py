@@ -8,6 +8,7 @@ README.md beside this file says how a case is written.
 
 import json
 import os
+import re
 import subprocess
 import sys
 import tempfile
@@ -57,7 +58,7 @@ def repeated(part):
     text, first, last = part["repeat"], part["from"], part["to"]
     if "{" not in text:
         return text.encode("latin-1") * (last + 1 - first)
-    each = (text.replace("{n}", str(n)).replace("{n-1}", str(n - 1)) for n in range(first, last + 1))
+    each = (re.sub(r"\{n([+-]\d+)?\}", lambda found: str(n + int(found[1] or 0)), text) for n in range(first, last + 1))
     return "".join(each).encode("latin-1")
 
 

@@ -1,5 +1,6 @@
 -- Between which numbers the values of forms lie.
-use Rattle.std.proofs.Common.{◌≡◌, ℕ, suc, ◌+◌, ◌-◌, ◌*◌, ◌%◌, ◌<◌, ◌≤◌, drop, Bool, true, false, ◌&&◌, List, [], ◌∷◌, ◌++◌, length, take, map, fold, get_or, refl, sym, ap, ◌∙◌, subst, arith, ℤ, pos, ◌+ℤ◌, ◌*ℤ◌, ◌≤ℤ◌, w64, SFits, to_z, of_z}
+use Rattle.std.proofs.Common.{◌≡◌, ℕ, suc, ◌+◌, ◌-◌, ◌%◌, ◌<◌, ◌≤◌, drop, Bool, true, false, ◌&&◌, List, [], ◌∷◌, ◌++◌, length, take, map, fold, get_or, refl, sym, ap, ◌∙◌, subst}
+use Rattle.std.proofs.Common.{arith, ℤ, ◌+ℤ◌, ◌*ℤ◌, w64, SFits, to_z, of_z}
 use Rattle.std.specs.Int.{int_max, int_min, int_wrap}
 use Rattle.std.specs.List.{list_all}
 use Rattle.std.proofs.lemmas.Bool.Decides.{Decides-int_eq}
@@ -81,20 +82,23 @@ holds_min r q x y h k = record {
 fold_more : (m : ℤ → ℤ → ℤ) (s : Symbols) (z : ℤ) (forms : List Form) (i : ℕ) (d : Form) → i < length forms → d ≡ get_or forms i d →
     fold m z (map (λ l. form_value l s) (take (i + 1) forms)) ≡ m (fold m z (map (λ l. form_value l s) (take i forms))) (form_value d s)
 fold_more m s z forms i d lt is =
-    ap (fold m z) (ap (map (λ (l : Form). form_value l s)) (take_more forms i d lt ∙ ap (λ (y : Form). take i forms ++ y ∷ []) (sym is)) ∙ map-append (λ (l : Form). form_value l s) (take i forms) (d ∷ []))
+    ap (fold m z) (ap (map (λ (l : Form). form_value l s)) (take_more forms i d lt ∙ ap (λ (y : Form). take i forms ++ y ∷ []) (sym is))
+    ∙ map-append (λ (l : Form). form_value l s) (take i forms) (d ∷ []))
     ∙ fold_push m z (map (λ (l : Form). form_value l s) (take i forms)) (form_value d s)
 
 narrow_at : (s : Symbols) (forms : List Form) (i : ℕ) (d : Form) → i < length forms → d ≡ get_or forms i d → FormsAreNarrow s forms → FormIsNarrow s d
 narrow_at s forms i d lt is h = subst (FormIsNarrow s) (sym is) (h i d lt)
 
 pub next_max : (s : Symbols) (z : ℤ) (forms : List Form) (i : ℕ) (d : Form) (found r result : Range) → i < length forms → d ≡ get_or forms i d → result ≡ max_of found r → FormsAreNarrow s forms
-    → Holds found (fold int_max z (map (λ l. form_value l s) (take i forms))) → (FormIsNarrow s d → Holds r (form_value d s)) → Holds result (fold int_max z (map (λ l. form_value l s) (take (i + 1) forms)))
+    → Holds found (fold int_max z (map (λ l. form_value l s) (take i forms))) → (FormIsNarrow s d → Holds r (form_value d s))
+    → Holds result (fold int_max z (map (λ l. form_value l s) (take (i + 1) forms)))
 next_max s z forms i d found r result lt is e narrow h k =
     subst (λ (q : Range). Holds q (fold int_max z (map (λ l. form_value l s) (take (i + 1) forms)))) (sym e) (subst (Holds (max_of found r)) (sym (fold_more int_max s z forms i d lt is))
     (holds_max found r (fold int_max z (map (λ l. form_value l s) (take i forms))) (form_value d s) h (k (narrow_at s forms i d lt is narrow))))
 
 pub next_min : (s : Symbols) (z : ℤ) (forms : List Form) (i : ℕ) (d : Form) (found r result : Range) → i < length forms → d ≡ get_or forms i d → result ≡ min_of found r → FormsAreNarrow s forms
-    → Holds found (fold int_min z (map (λ l. form_value l s) (take i forms))) → (FormIsNarrow s d → Holds r (form_value d s)) → Holds result (fold int_min z (map (λ l. form_value l s) (take (i + 1) forms)))
+    → Holds found (fold int_min z (map (λ l. form_value l s) (take i forms))) → (FormIsNarrow s d → Holds r (form_value d s))
+    → Holds result (fold int_min z (map (λ l. form_value l s) (take (i + 1) forms)))
 next_min s z forms i d found r result lt is e narrow h k =
     subst (λ (q : Range). Holds q (fold int_min z (map (λ l. form_value l s) (take (i + 1) forms)))) (sym e) (subst (Holds (min_of found r)) (sym (fold_more int_min s z forms i d lt is))
     (holds_min found r (fold int_min z (map (λ l. form_value l s) (take i forms))) (form_value d s) h (k (narrow_at s forms i d lt is narrow))))

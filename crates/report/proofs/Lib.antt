@@ -12,3 +12,6 @@ mod Pieces
 mod Rows
 mod Totals
 mod Lines
+mod Weights
+mod Passing
+mod Handing

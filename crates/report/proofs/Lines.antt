@@ -1,5 +1,6 @@
 -- How often the lines of each kind of statement count.
-use Rattle.std.proofs.Common.{◌≡◌, ℕ, zero, suc, ◌+◌, ◌-◌, ◌*◌, ◌^◌, ◌<◌, ◌≤◌, min, take, drop, get_or, Bool, true, false, not, List, [], ◌∷◌, ◌++◌, length, refl, sym, ap, ◌∙◌, subst, arith, ℤ, pos, negsuc, ◌+ℤ◌, ◌-ℤ◌, ◌≤ℤ◌, ◌<ℤ◌, Option, Some, None, Result, Ok, w64, SFits, to_z, of_z}
+use Rattle.std.proofs.Common.{◌≡◌, ℕ, zero, suc, ◌+◌, ◌-◌, ◌*◌, ◌^◌, ◌<◌, ◌≤◌, take, drop, get_or, Bool, true, false, not, List, [], ◌∷◌, length, refl, sym, ap, ◌∙◌, subst, arith, ℤ, pos}
+use Rattle.std.proofs.Common.{negsuc, ◌+ℤ◌, ◌-ℤ◌, ◌≤ℤ◌, ◌<ℤ◌, Option, Some, None, Result, w64, SFits, to_z, of_z}
 use Rattle.std.specs.Prelude.{if◌then◌else◌, int_le, int_lt, ◌/◌, sum_by, IfOk, IfSome}
 use Rattle.std.proofs.lemmas.Result.{IfOk-weaker}
 use lib.IntN.{nat_abs}
@@ -11,19 +12,19 @@ use Rattle.std.proofs.lemmas.Int.{ints, to_z-of_z, of_z-to_z}
 use Rattle.lin.specs.Forms.{Form}
 use Rattle.lin.specs.declared.span.Span1.{Span1}
 use Rattle.plan.specs.declared.stmt.Kind.{Kind}
-use Rattle.plan.specs.Plan.{Statement, Seq, For, First, Guard, Fetch, Store, Statements, Empty}
-use Rattle.plan.specs.Symbols.{Symbols, bind, form_value, largest, smallest, points, turns}
+use Rattle.plan.specs.Plan.{Statement, Seq, For, First, Guard, Fetch, Statements, Empty}
+use Rattle.plan.specs.Symbols.{Symbols, bind, form_value, largest, smallest, points}
 use Rattle.interpreter.specs.Narrow.{FormIsNarrow, RegionIsNarrow, SpanIsNarrow}
 use Rattle.interpreter.specs.Visits.{between}
 use Rattle.interpreter.proofs.Counting.{between_has}
 use Rattle.report.specs.declared.known.Binding.{Binding}
 use Rattle.report.specs.declared.counting.Turns.{Turns}
 use Rattle.report.specs.declared.ranges.Range.{Range}
-use Rattle.report.specs.Costs.{capped, up_to}
-use Rattle.report.specs.Counting.{Fits, in_turn, IsPointCount, IsTally, IsBlockTally, IsTurnsTally}
+use Rattle.report.specs.Costs.{up_to}
+use Rattle.report.specs.Counting.{Fits, IsPointCount, IsTally, IsBlockTally, IsTurnsTally}
 use Rattle.report.specs.Known.{known_of, Allows, AllowsAll, IsSettled, AllSettled}
-use Rattle.report.specs.Ranges.{numbers, Holds, HoldsEnds, IsOne}
-use Rattle.report.specs.Tally.{block_tally, tally, Counted}
+use Rattle.report.specs.Ranges.{Holds, HoldsEnds}
+use Rattle.report.specs.Tally.{tally, Counted}
 use Rattle.report.proofs.Sums.{lower_limit}
 use Rattle.report.proofs.Tallies.{is_le, le_true, le_false, lt_true}
 
@@ -38,18 +39,19 @@ read_back i r f g = (λ j. record { symbol = i; low = to_z-of_z w64 r.low f j; h
 
 -- ---- loops
 
-same_sum : (x : Counted) (i : ℕ) (body : Statement) (s : Symbols) (l low h high : ℤ) → l ≡ low → h ≡ high →
+pub same_sum : (x : Counted) (i : ℕ) (body : Statement) (s : Symbols) (l low h high : ℤ) → l ≡ low → h ≡ high →
     sum_by (λ z. tally x body (bind s i z (int_le z low))) (between low high) ≡ sum_by (λ z. tally x body (bind s i z (int_le z l))) (between l h)
 same_sum x i body s l low h high e f = (λ j. sum_by (λ z. tally x body (bind s i z (int_le z (sym e j)))) (between (sym e j) (sym f j)))
 
-turn_fits : (i : ℕ) (span : Span1) (body : Statement) (s : Symbols) (r : Range) → HoldsEnds s span r →
+pub turn_fits : (i : ℕ) (span : Span1) (body : Statement) (s : Symbols) (r : Range) → HoldsEnds s span r →
     ((z : ℤ) → largest s span.lower ≤ℤ z → z ≤ℤ smallest s span.upper → Fits body (bind s i z (int_le z (largest s span.lower)))) → (z : ℤ) → Holds r z → Fits body (bind s i z (int_le z r.low))
 turn_fits i span body s r ends fits z h =
     subst (λ (l : ℤ). Fits body (bind s i z (int_le z l))) ends.low
     (fits z (subst (λ (l : ℤ). l ≤ℤ z) (sym ends.low) h.low) (subst (λ (u : ℤ). z ≤ℤ u) (sym ends.high) h.high))
 
 pub loop_tally : (x : Counted) (known : List Binding) (i : ℕ) (span : Span1) (kind : Kind) (body : Statement) (r : Range) (t : Turns) (n : ℕ) →
-    t ≡ record { symbol = i; start = r.low; range = r } → ((s : Symbols) → AllowsAll known s → SpanIsNarrow s span → HoldsEnds s span r) → IsTurnsTally x known body t n → IsTally x known (For i span kind body) n
+    t ≡ record { symbol = i; start = r.low; range = r } → ((s : Symbols) → AllowsAll known s → SpanIsNarrow s span → HoldsEnds s span r)
+    → IsTurnsTally x known body t n → IsTally x known (For i span kind body) n
 loop_tally x known i span kind body r t n is ends tally_is = record {
   is = λ s allows fits.
       let e : HoldsEnds s span r = ends s allows fits.0 in
@@ -64,18 +66,18 @@ never : (t : Bool) → (t ≡ false → false ≡ true) → t ≡ true
 never true h = refl
 never false h = absurd (let e : false ≡ true = h refl in cc)
 
-first_branch : (t : Bool) (a b : ℕ) → t ≡ true → (if t then a else b) ≡ a
+pub first_branch : (t : Bool) (a b : ℕ) → t ≡ true → (if t then a else b) ≡ a
 first_branch true a b h = refl
 first_branch false a b h = absurd (cc)
 
-later_branch : (t : Bool) (a b : ℕ) → t ≡ false → (if t then a else b) ≡ b
+pub later_branch : (t : Bool) (a b : ℕ) → t ≡ false → (if t then a else b) ≡ b
 later_branch false a b h = refl
 later_branch true a b h = absurd (cc)
 
-not_later : (b : Binding) (z : ℤ) (f : Bool) → b.later ≡ false → Allows b z f → f ≡ true
+pub not_later : (b : Binding) (z : ℤ) (f : Bool) → b.later ≡ false → Allows b z f → f ≡ true
 not_later b z f e h = never f (λ g. sym e ∙ h.later g)
 
-not_first : (b : Binding) (z : ℤ) (f : Bool) → b.first ≡ false → Allows b z f → f ≡ false
+pub not_first : (b : Binding) (z : ℤ) (f : Bool) → b.first ≡ false → Allows b z f → f ≡ false
 not_first b z true e h = absurd (let g : b.first ≡ true = h.first refl in cc)
 not_first b z false e h = refl
 
@@ -104,7 +106,7 @@ one_turn known i b is later first all = both_turns b (subst IsSettled (sym is) (
 
 -- ---- guards
 
-over : (x y : ℤ) → y <ℤ x → int_le x y ≡ false
+pub over : (x y : ℤ) → y <ℤ x → int_le x y ≡ false
 over x y h = by (int_le x y) refl
   where
     by : (b : Bool) → int_le x y ≡ b → int_le x y ≡ false

@@ -1,6 +1,5 @@
 -- The function of the first line that allocates a buffer.
 use Rattle.std.proofs.Common.{◌≡◌, ℕ, ◌+◌, ◌<◌, List, [], Option, Some, None, length, get_or, refl, sym, ap, ◌∙◌}
-use Rattle.std.specs.Prelude.{option_map}
 use Rattle.plan.specs.declared.stmt.Stmt.{Stmt}
 use Rattle.plan.specs.View.{statement_of}
 use Rattle.plan.specs.Semantics.Setting.{Buffer, allocated, block_allocated, function_in, or_else}

@@ -1,10 +1,10 @@
 -- What is known of symbols, one bound more, and counts of lines under it.
-use Rattle.std.proofs.Common.{◌≡◌, ℕ, ◌+◌, ◌*◌, ◌^◌, ◌-◌, ◌<◌, ◌≤◌, min, Bool, true, false, not, List, [], ◌∷◌, ◌++◌, length, refl, sym, ap, ◌∙◌, subst, arith, ℤ, pos, ◌+ℤ◌, ◌-ℤ◌, ◌≤ℤ◌, ◌<ℤ◌, fold, T, negsuc}
+use Rattle.std.proofs.Common.{◌≡◌, ℕ, ◌+◌, ◌*◌, ◌^◌, ◌-◌, ◌<◌, ◌≤◌, min, Bool, true, false, not, List, [], ◌∷◌, ◌++◌, length, refl, sym, ap, ◌∙◌, subst, arith, ℤ, pos, ◌+ℤ◌, ◌≤ℤ◌, ◌<ℤ◌, T, negsuc}
 use lib.Signed.{le_z_yes, lt_z_yes}
 use Rattle.std.specs.Prelude.{◌==◌, if◌then◌else◌, int_le, int_lt, sum_by}
 use Rattle.std.proofs.lemmas.Bool.Decides.{nat_tests}
 use Rattle.std.proofs.lemmas.Int.{ints}
-use Rattle.std.proofs.lemmas.Bool.{leb-false}
+use Rattle.std.proofs.lemmas.Bool.{eqb-true, leb-false}
 use Rattle.std.proofs.lemmas.List.Sums.{fold_push, sum_by-append}
 use Rattle.lin.specs.Forms.{Form}
 use Rattle.plan.specs.declared.stmt.Pick.{Pick}
@@ -45,6 +45,15 @@ pub allows_more : (known more : List Binding) (b : Binding) (s : Symbols) (z : �
 allows_more known more b s z f is all one i =
     subst (λ (c : Binding). Allows c ((bind s b.symbol z f).value i) ((bind s b.symbol z f).first i)) (sym (ap (λ (l : List Binding). known_of l i) is ∙ known_push known b i))
     (chosen (b.symbol == i) (i == b.symbol) b (known_of known i) z (s.value i) f (s.first i) (swapped b.symbol i) one (all i))
+
+-- the same where the symbol has had the value before
+pub allows_same : (known more : List Binding) (b : Binding) (s : Symbols) → more ≡ known ++ b ∷ [] → AllowsAll known s → Allows b (s.value b.symbol) (s.first b.symbol) → AllowsAll more s
+allows_same known more b s is all one i =
+    subst (λ (c : Binding). Allows c (s.value i) (s.first i)) (sym (ap (λ (l : List Binding). known_of l i) is ∙ known_push known b i)) (by (b.symbol == i) refl)
+  where
+    by : (t : Bool) → (b.symbol == i) ≡ t → Allows (if t then b else known_of known i) (s.value i) (s.first i)
+    by true e = subst (λ (k : ℕ). Allows b (s.value k) (s.first k)) (eqb-true b.symbol i e) one
+    by false e = all i
 
 settled_by : (t : Bool) (b c : Binding) → IsSettled b → IsSettled c → IsSettled (if t then b else c)
 settled_by true b c h k = h
@@ -88,7 +97,7 @@ not_lt x y h = by (int_lt x y) refl
     by true e = absurd (let l : x <ℤ y = lt_true x y e in omega (arith, ints))
     by false e = e
 
-turn_allowed : (t : Turns) (z : ℤ) → Holds t.range z → Allows (turns_binding t) z (int_le z t.start)
+pub turn_allowed : (t : Turns) (z : ℤ) → Holds t.range z → Allows (turns_binding t) z (int_le z t.start)
 turn_allowed t z h = record {
   low = h.low;
   high = h.high;
@@ -219,12 +228,14 @@ after_let : (i : ℕ) (k : Pick) (ls : List Form) (s : Symbols) → bind s i (na
 after_let i Min ls s = refl
 after_let i Max ls s = refl
 
-pub let_allowed : (known new : List Binding) (b : Binding) (i : ℕ) (k : Pick) (ls : List Form) (r : Range) (s : Symbols) → new ≡ known ++ b ∷ [] → b ≡ record { symbol = i; low = r.low; high = r.high; first = true; later = false }
+pub let_allowed : (known new : List Binding) (b : Binding) (i : ℕ) (k : Pick) (ls : List Form) (r : Range) (s : Symbols)
+    → new ≡ known ++ b ∷ [] → b ≡ record { symbol = i; low = r.low; high = r.high; first = true; later = false }
     → AllowsAll known s → Holds r (named_value k s ls) → AllowsAll new (after (Let i k ls) s)
 let_allowed known new b i k ls r s is eb all h =
     let c : Binding = record { symbol = i; low = r.low; high = r.high; first = true; later = false } in
     subst (AllowsAll new) (after_let i k ls s)
     (allows_more known new c s (named_value k s ls) true (is ∙ ap (λ (d : Binding). known ++ d ∷ []) eb) all (record { low = h.low; high = h.high; first = λ e. refl; later = λ e. absurd (cc) }))
 
-pub let_settled : (known new : List Binding) (b : Binding) (i : ℕ) (r : Range) → new ≡ known ++ b ∷ [] → b ≡ record { symbol = i; low = r.low; high = r.high; first = true; later = false } → AllSettled known → IsOne r → AllSettled new
+pub let_settled : (known new : List Binding) (b : Binding) (i : ℕ) (r : Range)
+    → new ≡ known ++ b ∷ [] → b ≡ record { symbol = i; low = r.low; high = r.high; first = true; later = false } → AllSettled known → IsOne r → AllSettled new
 let_settled known new b i r is eb all one = settled_more known new b is all (subst IsSettled (sym eb) (record { value = one; turn = refl }))

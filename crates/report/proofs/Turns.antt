@@ -1,5 +1,6 @@
 -- The numbers of a loop's turns, and sums over them.
-use Rattle.std.proofs.Common.{◌≡◌, ℕ, zero, suc, ◌+◌, ◌*◌, ◌^◌, ◌-◌, ◌<◌, ◌≤◌, min, Bool, true, false, List, [], ◌∷◌, ◌++◌, length, take, drop, map, flat_map, get_or, length-append, refl, sym, ap, ◌∙◌, subst, arith, ℤ, pos, negsuc, ◌+ℤ◌, ◌-ℤ◌, ◌≤ℤ◌, ◌<ℤ◌}
+use Rattle.std.proofs.Common.{◌≡◌, ℕ, zero, suc, ◌+◌, ◌*◌, ◌^◌, ◌-◌, ◌≤◌, min, false, List, [], ◌∷◌, ◌++◌, length, take, drop, map, flat_map, get_or, length-append, refl, sym, ap, ◌∙◌}
+use Rattle.std.proofs.Common.{arith, ℤ, pos, negsuc, ◌+ℤ◌, ◌-ℤ◌, ◌≤ℤ◌, ◌<ℤ◌}
 use Rattle.std.specs.Prelude.{sum_by, int_lt}
 use Rattle.std.proofs.lemmas.Bool.{ltb-false}
 use Rattle.lin.specs.declared.span.Span1.{Span1}
@@ -7,11 +8,10 @@ use Rattle.interpreter.proofs.Summing.{rest_of}
 use Rattle.report.specs.declared.ranges.Range.{Range}
 use Rattle.report.specs.Ranges.{numbers, HoldsEnds}
 use Rattle.std.proofs.lemmas.Int.{ints}
-use Rattle.std.proofs.lemmas.List.Sums.{sum_by-append, sum_by-cons}
+use Rattle.std.proofs.lemmas.List.Sums.{sum_by-cons}
 use Rattle.std.proofs.Math.Nat.{mul_comm}
 use Rattle.plan.specs.Symbols.{Symbols, rising, clipped, points, turns}
 use Rattle.interpreter.specs.Visits.{between}
-use Rattle.interpreter.proofs.Counting.{between_none}
 use Rattle.report.specs.Costs.{capped, up_to}
 use Rattle.report.proofs.Sums.{both_up_to, saturated, saturated_both}
 use lib.IntN.{nat_abs}
@@ -72,7 +72,7 @@ pub multiplied : (each n : ℕ) → min (each * capped n) (2 ^ 64 - 1) ≡ cappe
 multiplied each n =
     ap (λ (m : ℕ). min m (2 ^ 64 - 1)) (mul_comm each (capped n)) ∙ saturated n each (2 ^ 64 - 1)
 
-lt_false : (x y : ℤ) → int_lt x y ≡ false → y ≤ℤ x
+pub lt_false : (x y : ℤ) → int_lt x y ≡ false → y ≤ℤ x
 lt_false (pos a) (pos b) e = omega (arith, ints, ltb-false a b e)
 lt_false (pos a) (negsuc b) e = omega (arith, ints)
 lt_false (negsuc a) (pos b) e = absurd (cc)

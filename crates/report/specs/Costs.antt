@@ -9,13 +9,13 @@ use Rattle.plan.specs.Certificate.Cells.{group_pieces}
 use Rattle.report.specs.Actions.{fetches, stores}
 use Rattle.report.specs.Memory.{has_function, private_cells}
 
--- a number, but the greatest of 64 bits where it is more
-abbrev pub capped : ℕ → ℕ
-capped n = min n (2 ^ 64 - 1)
-
 -- a number, but the limit where it is more
 abbrev pub up_to : ℕ → ℕ → ℕ
 up_to limit n = min n limit
+
+-- the limit of what is told: the greatest number of 64 bits
+abbrev pub capped : ℕ → ℕ
+capped = up_to (2 ^ 64 - 1)
 
 -- how many pieces the function's group has, none where it has no group
 abbrev pub pieces_of : Plan → List ℕ → ℕ
@@ -34,7 +34,13 @@ pub record Row : Type 0 where
   pub pieces : ℕ
 
 abbrev pub row : Plan → Certificate → List ℕ → Row
-row p c f = record { name = f; stores = capped (stores p c f); private = capped (private_cells p f); fetched = capped (fetches p c f); pieces = capped (pieces_of p f) }
+row p c f = record {
+  name = f;
+  stores = capped (stores p c f);
+  private = capped (private_cells p f);
+  fetched = capped (fetches p c f);
+  pieces = capped (pieces_of p f);
+}
 
 -- what the plan costs
 abbrev pub rows : Algorithm → Plan → Certificate → List Row

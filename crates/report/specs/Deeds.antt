@@ -1,5 +1,5 @@
 -- Which actions count.
-use Rattle.std.specs.Prelude.{ℕ, Bool, List, count_by, map, option_map, slice_get, Option, Some, None}
+use Rattle.std.specs.Prelude.{ℕ, Bool, List, count_by, Option, Some, None}
 use Rattle.plan.specs.Plan.{Plan}
 use Rattle.plan.specs.Certificate.Certificate.{Certificate}
 use Rattle.plan.specs.Certificate.Cells.{Piece, pieces}

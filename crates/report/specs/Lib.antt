@@ -10,5 +10,6 @@ pub mod Subject
 pub mod Tally
 pub mod Table
 pub mod View
+pub mod Weighing
 pub mod Codes
 pub mod Drawing

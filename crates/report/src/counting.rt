@@ -1,6 +1,6 @@
 //! How often the lines of a statement store or fetch a function's cells, counted by multiplying, as far as is enough.
 
-ghost use Rattle.std.specs.Prelude.{◌≡◌, ◌≤ℤ◌, ◌<ℤ◌, ◌+ℤ◌, pos, int_le, int_lt, if◌then◌else◌, IfOk, IfSome, Ok, None, OnOk};
+ghost use Rattle.std.specs.Prelude.{◌≡◌, ◌≤ℤ◌, ◌+ℤ◌, pos, int_le, int_lt, if◌then◌else◌, IfOk, IfSome, Ok, None, OnOk};
 ghost use Rattle.plan.specs.Lists.{list_statements};
 ghost use Rattle.plan.specs.Plan.{block};
 ghost use Rattle.plan.specs.Symbols.{Symbols};
@@ -16,12 +16,13 @@ ghost use Rattle.report.specs.Subject.{counted_of};
 use crate::known::{Binding, bound, known_of};
 use crate::ranges::{Range, count_of, ends_of, largest, range_of, smallest};
 use crate::subject::{Subject, counts};
+use crate::weighing::weighed_turns;
 use lin::{Forms, Span1, Sym};
 use plan::{Pick, Stmt};
 use std::alloc::{AllocError, Global};
 
 /// How many points a region has, where the ends of its spans can have but one value.
-fn points_in(region: &[Span1], known: &[Binding]) -> Option<u64>
+pub(crate) fn points_in(region: &[Span1], known: &[Binding]) -> Option<u64>
     ensures holds { IfSome result (IsPointCount known.now region.now) }
     ensures one { AllSettled known.now → result ≡ None → ⊥ }
 {
@@ -36,13 +37,13 @@ fn points_in(region: &[Span1], known: &[Binding]) -> Option<u64>
 /// Turns of a loop: its symbol, where the first of all turns stands, and the numbers of these turns.
 #[derive(Clone, Copy, Drop)]
 pub(crate) struct Turns {
-    symbol: Sym,
-    start: i64,
-    range: Range,
+    pub symbol: Sym,
+    pub start: i64,
+    pub range: Range,
 }
 
 /// What is known of the loop's symbol in these turns.
-fn binding_of(turns: Turns) -> Binding
+pub(crate) fn binding_of(turns: Turns) -> Binding
     ensures { result ≡ record { symbol = turns.symbol; low = turns.range.low; high = turns.range.high; first = int_le turns.range.low turns.start; later = int_lt turns.start turns.range.high } }
 {
     Binding {
@@ -66,7 +67,7 @@ fn named(pick: Pick, forms: &Forms, known: &[Binding]) -> Range
 }
 
 /// What is known behind a line: the name of a `let` holds to the end of the block.
-fn known_behind(stmt: &Stmt, known: &mut Vec<Binding>) -> Result<(), AllocError>
+pub(crate) fn known_behind(stmt: &Stmt, known: &mut Vec<Binding>) -> Result<(), AllocError>
     ensures allows { OnOk result ((s : Symbols) → AllowsAll known.old.items s → Fits (statement_of stmt.now) s → AllowsAll known.new.items (after (statement_of stmt.now) s)) }
     ensures settled { OnOk result (AllSettled known.old.items → AllSettled known.new.items) }
 {
@@ -97,7 +98,7 @@ fn once_if(counts: bool) -> u64
 }
 
 /// All turns of a loop.
-fn all_turns(symbol: Sym, range: Range) -> Turns
+pub(crate) fn all_turns(symbol: Sym, range: Range) -> Turns
     ensures { result ≡ record { symbol = symbol; start = range.low; range = range } }
 {
     Turns {
@@ -160,7 +161,8 @@ fn count_line(
     }
 }
 
-/// How often the lines of a loop's body count in these turns, where each is seen to count the same.
+/// How often the lines of a loop's body count in these turns, where each is seen to count the same or all of them are counted
+/// together.
 #[cycle(count)]
 fn count_alike(
     alloc: Global,
@@ -173,10 +175,16 @@ fn count_alike(
     ensures some { AllSettled known.now → turns.range.low ≡ turns.range.high → result ≡ Ok None → ⊥ }
 {
     let together = bound(alloc, known, binding_of(turns))?;
-    let Some(each) = count_line(alloc, subject, body, &together)? else {
-        return Ok(None);
-    };
-    Ok(Some(each.saturating_mul(count_of(turns.range))))
+    match count_line(alloc, subject, body, &together)? {
+        Some(each) => Ok(Some(each.saturating_mul(count_of(turns.range)))),
+        None => {
+            if turns.range.low == turns.range.high {
+                Ok(None)
+            } else {
+                weighed_turns(alloc, subject, body, known, &[], turns)
+            }
+        }
+    }
 }
 
 /// How often the lines of a loop's body count in all of its turns, where it is the same for all values that the symbols may

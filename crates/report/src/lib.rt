@@ -11,6 +11,7 @@ pub mod nests;
 mod ranges;
 mod subject;
 mod table;
+mod weighing;
 mod within;
 
 pub use costs::{Costs, FunctionCost, cost};

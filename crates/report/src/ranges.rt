@@ -1,6 +1,6 @@
 //! Between which numbers the values of forms lie.
 
-ghost use Rattle.std.specs.Prelude.{◌≡◌, ◌≤ℤ◌, length, pos, fold, map, true, IfSome, None, ℤ};
+ghost use Rattle.std.specs.Prelude.{◌≡◌, length, fold, map, true, IfSome, None, ℤ};
 ghost use Rattle.std.specs.Int.{int_max, int_min, int_wrap, w64};
 ghost use Rattle.std.specs.List.{list_all};
 ghost use Rattle.lin.specs.Forms.{sum_of};

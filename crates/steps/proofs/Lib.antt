@@ -3,5 +3,4 @@ pub mod Most
 pub mod OnePiece
 pub mod Outputs
 pub mod Repeated
-pub mod Scratches
 pub mod Seated

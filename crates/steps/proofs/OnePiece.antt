@@ -1,11 +1,9 @@
--- The private run of one piece, in the scratch of its group.
-use Rattle.std.proofs.Common.{◌≡◌, ℕ, ◌<◌, ◌≤◌, List, length, get_or, map, Option, Some, None, Err, MatchOption, ℤ, sym, ap, ◌∙◌, subst, arith}
+-- The private run of one piece, in the scratch of a desk.
+use Rattle.std.proofs.Common.{◌≡◌, ℕ, ◌<◌, ◌≤◌, List, length, map, Option, Some, None, Err, MatchOption, ℤ, sym, ap, ◌∙◌, subst, arith}
 use Rattle.std.specs.Prelude.{slice_get}
-use Rattle.std.proofs.Math.ListN.{set}
 use Rattle.std.proofs.Props.{props}
 use Rattle.std.proofs.Math.Logic.{∥∥₁_elim}
 use Rattle.std.proofs.lemmas.List.{length-map}
-use Rattle.std.proofs.lemmas.Option.{slice_get-get_or, slice_get_within}
 use Rattle.algo.specs.declared.inputs.Inputs.{Inputs}
 use Rattle.algo.specs.View.{IsFor, picture_of, samples_of}
 use Rattle.checked_plan.specs.declared.checked.Checked.{Checked}
@@ -27,10 +25,10 @@ use Rattle.piece.specs.Places.Places.{IsPlaceOf}
 use Rattle.piece.specs.declared.cells.LookedCells.{LookedCells}
 use Rattle.plan.specs.Plan.{Group, Plan}
 use Rattle.plan.specs.Certificate.Certificate.{Certificate}
-use Rattle.steps.specs.Desks.{HaveMemory}
+use Rattle.steps.specs.Desks.{HasMemory}
 use Rattle.steps.specs.Seats.{IsMost}
 use Rattle.steps.specs.Work.{targets_on, work_on}
-use Rattle.steps.proofs.Scratches.{memory_again, set_here}
+use Rattle.interpreter.proofs.Sufficing.{again as suffices_again}
 
 -- a run that gives no more than there is room for does not fail
 pub never : (room : ℕ) (e : Stop) (given : List ℤ) (whole : Option (List ℤ)) (vs : List ℤ) → GivesIn {A = Unit {0}} room (Err e) given whole → whole ≡ Some vs → length vs ≤ room → ⊥
@@ -49,7 +47,7 @@ work_sound x i fits =
 abbrev pub told : LookedCells → Calls
 told cells = looked_value (algorithm_checked cells.cells.now.checked.now) (plan_checked cells.cells.now.checked.now) (cells_of_piece (plan_checked cells.cells.now.checked.now) cells.piece) cells.looked.items
 
-module _ (x : Checked) (i : Inputs) (fits : IsFor x.algo.now i) (xs : List Scratch) (held : HaveMemory (work_on x i) (plan_checked x) (certificate_checked x) xs)
+module _ (x : Checked) (i : Inputs) (fits : IsFor x.algo.now i) (s : Scratch) (held : HasMemory (work_on x i) (plan_checked x) (certificate_checked x) s)
     (j n k : ℕ) (place : IsPlaceOf (plan_checked x).groups j n k) where
   abbrev work : Work
   work = work_on x i
@@ -60,24 +58,17 @@ module _ (x : Checked) (i : Inputs) (fits : IsFor x.algo.now i) (xs : List Scrat
   abbrev c : Certificate
   c = certificate_checked x
 
-  pub inside : n < length xs
-  inside = let m = slice_get_within p.groups n place.g place.at in let e = held.count in omega (arith, m, e)
-
   pub extents : (picture_of i).extents ≡ p.input.extents
   extents = fits.extents ∙ sym (same_extents (algorithm_checked x) p c x.ready)
 
-  module _ (s : Scratch) (is : s ≡ get_or xs n s) where
-    stands : slice_get xs n ≡ Some s
-    stands = slice_get-get_or xs n s inside ∙ ap Some (sym is)
+  pub scratch : MatchOption (slice_get p.groups n) ⊥ (IsScratchFor s c n)
+  scratch = subst (λ (o : Option Group). MatchOption o ⊥ (IsScratchFor s c n)) (sym place.at) (held.groups n place.g place.at)
 
-    pub scratch : MatchOption (slice_get p.groups n) ⊥ (IsScratchFor s c n)
-    scratch = subst (λ (o : Option Group). MatchOption o ⊥ (IsScratchFor s c n)) (sym place.at) (held.each n place.g s place.at stands).0
+  pub again : (new : Scratch) → IsAgain s new → HasMemory work p c new
+  again new e = record { groups = suffices_again c p.groups s new held.groups e; given = subst (IsMost work) (sym e.given) held.given }
 
-    pub again : (new : Scratch) → IsAgain s new → HaveMemory work p c (set xs n new)
-    again new e = memory_again work p c xs n place.g s new held place.at stands e
-
-    pub room : j < work.pieces → length (map (targets_on x i) (work.own j)) ≤ room_of s
-    room lt = let long = length-map (work.own j) (targets_on x i) in let most = ((held.each n place.g s place.at stands).1 j lt).1 in omega (arith, long, most)
+  pub room : j < work.pieces → length (map (targets_on x i) (work.own j)) ≤ room_of s
+  room lt = let long = length-map (work.own j) (targets_on x i) in let most = (held.given j lt).1 in omega (arith, long, most)
 
   module _ (law : RunsAreTheWork) (cells : LookedCells) (looked : List ℤ) (plan : cells.cells.now.checked.now ≡ x) (of : cells.piece ≡ j) (values : cells.looked.items ≡ looked) where
     told_here : told cells ≡ looked_value (algorithm_checked x) p (cells_of_piece p j) looked

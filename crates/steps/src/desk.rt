@@ -2,7 +2,7 @@
 
 ghost use Rattle.std.specs.Prelude.{◌≡◌, ◌≤◌, IfOk, length, vec_capacity};
 ghost use Rattle.checked_plan.specs.View.{certificate_checked, plan_checked};
-ghost use Rattle.steps.specs.Desks.{HaveMemory, IsDeskFor};
+ghost use Rattle.steps.specs.Desks.{HasMemory, IsDeskFor};
 ghost use Rattle.steps.specs.Seats.{IsMost};
 ghost use Rattle.steps.specs.Work.{work_on};
 
@@ -12,26 +12,23 @@ use interpreter::Scratch;
 use piece::LookedCells;
 use std::alloc::{AllocError, Global};
 
-/// The memory of the private runs of each group's pieces, and of what a piece is told of the cells that it fetches. Runs come
-/// one after another, so one desk serves all workers.
+/// The memory of the private runs of all pieces, and of what a piece is told of the cells that it fetches. Runs come one after
+/// another, so one desk serves all workers.
 #[derive(Drop)]
 pub(crate) struct Desk<'a> {
-    pub(crate) scratches: Vec<Scratch>,
+    pub(crate) scratch: Scratch,
     pub(crate) told: LookedCells<'a>,
 }
 
-/// A scratch for each group, where no piece owns more than so many cells.
-fn scratches_for(alloc: Global, job: &PlanJob<'_>, most: usize) -> Result<Vec<Scratch>, AllocError>
+/// A scratch for all groups, where no piece owns more than so many cells.
+fn scratch_for(alloc: Global, job: &PlanJob<'_>, most: usize) -> Result<Scratch, AllocError>
     requires { IsMost (work_on job.now.checked.now job.now.inputs.now) most }
-    ensures { IfOk result (λ scratches. HaveMemory (work_on job.now.checked.now job.now.inputs.now) (plan_checked job.now.checked.now) (certificate_checked job.now.checked.now) scratches.items) }
+    ensures { IfOk result (λ scratch. HasMemory (work_on job.now.checked.now job.now.inputs.now) (plan_checked job.now.checked.now)
+        (certificate_checked job.now.checked.now) scratch) }
 {
     let plan = job.checked.plan();
-    let cert = job.checked.cert();
-    let mut scratches = Vec::new(alloc);
-    for (number, group) in plan.groups.iter().enumerate() {
-        scratches.push(Scratch::new(alloc, group, cert, number, most)?)?;
-    }
-    Ok(scratches)
+    let scratch = Scratch::new(alloc, &plan.groups, job.checked.cert(), most)?;
+    Ok(scratch)
 }
 
 impl<'a> Desk<'a> {
@@ -49,9 +46,9 @@ impl<'a> Desk<'a> {
         requires most { IsMost (work_on job.now.checked.now job.now.inputs.now) most }
         ensures { IfOk result (IsDeskFor job.now.checked.now job.now.inputs.now) }
     {
-        let scratches = scratches_for(alloc, job, most)?;
+        let scratch = scratch_for(alloc, job, most)?;
         let told = LookedCells::new(alloc, cells, most)?;
-        Ok(Desk { scratches, told })
+        Ok(Desk { scratch, told })
     }
 }
 

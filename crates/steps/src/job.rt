@@ -56,10 +56,9 @@ impl Runs for PlanJob<'_> {
         runs_are_the_work();
         let place = place_of(self.checked.plan(), piece);
         tell(&mut desk.told, piece, numbers.as_slice());
-        let scratch = &mut desk.scratches[place.group];
         let Ok(()) = run_in(
             alloc,
-            scratch,
+            &mut desk.scratch,
             self.checked,
             self.inputs,
             &desk.told,
@@ -68,6 +67,6 @@ impl Runs for PlanJob<'_> {
         ) else {
             unreachable!()
         };
-        replace(numbers, scratch.given());
+        replace(numbers, desk.scratch.given());
     }
 }

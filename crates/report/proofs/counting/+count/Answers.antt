@@ -1,4 +1,4 @@
-use Rattle.std.proofs.Common.{◌≡◌, ◌+◌, ◌<◌, ◌^◌, ℕ, List, Option, Some, ◌++◌, ◌∷◌, [], refl, sym, ap, subst, ◌∙◌, arith, rules, ℤ, pos, ◌+ℤ◌, ◌<ℤ◌, ◌≤ℤ◌, w64, SFits, to_z, of_z}
+use Rattle.std.proofs.Common.{◌≡◌, ◌+◌, ◌<◌, ◌^◌, List, ◌++◌, ◌∷◌, [], refl, sym, ap, subst, ◌∙◌, arith, rules, ℤ, pos, ◌+ℤ◌, ◌<ℤ◌, ◌≤ℤ◌, w64, SFits, to_z, of_z}
 use Rattle.std.proofs.lemmas.Int.{ints, to_z-of_z}
 use Rattle.std.proofs.Math.Facts.{sfits_to_z}
 use Rattle.lin.specs.declared.span.Span1.{Span1}
@@ -9,14 +9,16 @@ use Rattle.plan.specs.View.{statement_of}
 use Rattle.plan.proofs.Rows.{statement_of-seq}
 use Rattle.report.specs.declared.known.Binding.{Binding}
 use Rattle.report.specs.declared.counting.Turns.{Turns}
-use Rattle.report.specs.Counting.{IsPointCount, IsTally, IsBlockTally, IsTurnsTally}
+use Rattle.report.specs.Counting.{IsPointCount, IsTally, IsTurnsTally}
 use Rattle.report.specs.Subject.{counted_of}
-use Rattle.report.proofs.Lines.{block_is, fetch_tally, found_weaker, from_end, guard_none, guard_tally, loop_tally, none_tally, some_weaker, fewer_turns, half_read, less_read, low_bits, nearer, next_read, read_le, read_lt, read_over, same_read}
+use Rattle.report.proofs.Handing.{turns_alone}
+use Rattle.report.proofs.Lines.{block_is, fetch_tally, found_weaker, from_end, guard_none, guard_tally, loop_tally, none_tally, some_weaker, fewer_turns, half_read, less_read, low_bits}
+use Rattle.report.proofs.Lines.{nearer, next_read, read_le, read_lt, read_over, same_read}
 use Rattle.report.proofs.Pieces.{some_is}
 use Rattle.report.proofs.Places.{from, from_more}
 use Rattle.report.proofs.Nothing.{none_counts}
 use Rattle.report.proofs.Sums.{capped_most, capped_small}
-use Rattle.report.proofs.Tallies.{alike, block_done, block_enough, block_more, IsTurnsSum, part, turns_binding, turns_done, turns_enough, turns_more}
+use Rattle.report.proofs.Tallies.{alike, block_done, block_enough, block_more, IsTurnsSum, part, turns_done, turns_enough, turns_more}
 use Rattle.report.proofs.counting.+count.Goals as goal
 
 pub count-returns-in-Seq-clause-holds : goal.count-returns-in-Seq-clause-holds
@@ -77,8 +79,8 @@ count_line-returns-else-counts-clause-holds t c =
     let a = statement_of c.args.stmt.now in
     none_tally x c.args.known.now a (none_counts x a (sym c.counts.ensures ∙ c.if-counts.false))
 
-pub count_alike-returns-clause-holds : goal.count_alike-returns-clause-holds
-count_alike-returns-clause-holds t c =
+pub count_alike-returns-in-Some-clause-holds : goal.count_alike-returns-in-Some-clause-holds
+count_alike-returns-in-Some-clause-holds t c =
     let x = counted_of c.args.subject.now in
     let known = c.args.known.now in
     let a = statement_of c.args.body.now in
@@ -87,6 +89,10 @@ count_alike-returns-clause-holds t c =
     let small : x.enough < 2 ^ 64 = capped_small c.args.subject.now.enough in
     alike x known here a c.args.turns c.in-Some.each c.count_of.result c.saturating_mul.result small made
     (some_is (IsTally x here a) c.in_ok-each.field-0 c.in-Some.each c.in-Some.is c.in_ok-each.ensures.holds) c.count_of.ensures c.saturating_mul.ensures
+
+pub count_alike-returns-clause-holds : goal.count_alike-returns-clause-holds
+count_alike-returns-clause-holds t c =
+    found_weaker c.weighed_turns.result (λ n h. turns_alone (counted_of c.args.subject.now) c.args.known.now (statement_of c.args.body.now) c.args.turns n h) c.weighed_turns.ensures
 
 pub count_block-loop-stmt-preserved : goal.count_block-loop-stmt-preserved
 count_block-loop-stmt-preserved t c =

@@ -1,4 +1,4 @@
-use Rattle.std.proofs.Common.{sym, ap, ◌∙◌, rules, w64, SFits, get_or, pos, ℤ, ◌+ℤ◌, ◌*ℤ◌, take, drop, length, ◌-◌}
+use Rattle.std.proofs.Common.{sym, ap, ◌∙◌, rules, w64, SFits, get_or, pos, ◌+ℤ◌, ◌*ℤ◌, take, drop, length, ◌-◌}
 use Rattle.std.specs.Int.{int_wrap}
 use Rattle.lin.specs.declared.form.Multiple.{Multiple}
 use Rattle.lin.specs.Forms.{sum_of}

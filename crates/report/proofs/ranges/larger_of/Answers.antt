@@ -1,4 +1,3 @@
-use Rattle.std.proofs.Common.{refl}
 use Rattle.report.proofs.Ends.{next_max, one_max}
 use Rattle.report.proofs.ranges.larger_of.Goals as goal
 

@@ -1,4 +1,3 @@
-use Rattle.std.proofs.Common.{refl}
 use Rattle.report.proofs.Ends.{next_min, one_min}
 use Rattle.report.proofs.ranges.smaller_of.Goals as goal
 

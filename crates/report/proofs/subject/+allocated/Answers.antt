@@ -1,6 +1,6 @@
 use Rattle.std.proofs.Common.{◌≡◌, List, Some, sym, ap, ◌∙◌}
 use Rattle.plan.specs.declared.stmt.Stmt.{Stmt}
-use Rattle.plan.specs.Plan.{Statement, Seq, block}
+use Rattle.plan.specs.Plan.{Statement, block}
 use Rattle.plan.specs.Lists.{list_statements}
 use Rattle.plan.specs.View.{statement_of}
 use Rattle.plan.proofs.Rows.{statement_of-seq}

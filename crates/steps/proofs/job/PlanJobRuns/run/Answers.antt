@@ -23,19 +23,6 @@ tell-requires c =
     let room = (c.requires.desk.room c.args.piece c.requires.piece).0 in
     omega (arith, long, room)
 
-pub index_mut-scratch-requires : goal.index_mut-scratch-requires
-index_mut-scratch-requires c =
-    let s = c.args.self.now in
-    let x = s.checked.now in
-    let i = s.inputs.now in
-    let j = c.args.piece in
-    let n = c.place_of-place.result.group in
-    let k = c.place_of-place.result.rank in
-    let place : IsPlaceOf (plan_checked x).groups j n k = subst (λ (z : Plan). IsPlaceOf z.groups j n k) c.plan.ensures c.place_of-place.ensures in
-    let lt = runs.inside x i s.input c.args.desk.now.scratches.items c.requires.desk.scratches j n k place in
-    let long : c.args.desk.now.scratches.len ≡ length c.args.desk.now.scratches.items = search rules in
-    omega (arith, lt, long)
-
 pub run_in-requires-clause-input : goal.run_in-requires-clause-input
 run_in-requires-clause-input c =
     let s = c.args.self.now in
@@ -45,7 +32,7 @@ run_in-requires-clause-input c =
     let n = c.place_of-place.result.group in
     let k = c.place_of-place.result.rank in
     let place : IsPlaceOf (plan_checked x).groups j n k = subst (λ (z : Plan). IsPlaceOf z.groups j n k) c.plan.ensures c.place_of-place.ensures in
-    runs.extents x i s.input c.args.desk.now.scratches.items c.requires.desk.scratches j n k place
+    runs.extents x i s.input c.args.desk.now.scratch c.requires.desk.scratch j n k place
 
 pub run_in-requires-clause-place : goal.run_in-requires-clause-place
 run_in-requires-clause-place c =
@@ -67,7 +54,7 @@ run_in-requires-clause-memory c =
     let n = c.place_of-place.result.group in
     let k = c.place_of-place.result.rank in
     let place : IsPlaceOf (plan_checked x).groups j n k = subst (λ (z : Plan). IsPlaceOf z.groups j n k) c.plan.ensures c.place_of-place.ensures in
-    runs.scratch x i s.input c.args.desk.now.scratches.items c.requires.desk.scratches j n k place c.index_mut-scratch.result.now c.index_mut-scratch.ensures.value
+    runs.scratch x i s.input c.args.desk.now.scratch c.requires.desk.scratch j n k place
 
 pub unreachable-requires : goal.unreachable-requires
 unreachable-requires c =
@@ -80,8 +67,8 @@ unreachable-requires c =
     let place : IsPlaceOf (plan_checked x).groups j n k = subst (λ (z : Plan). IsPlaceOf z.groups j n k) c.plan.ensures c.place_of-place.ensures in
     let plan : c.tell.new.told.cells.now.checked.now ≡ x = ap (λ (z : PlanCells). z.checked.now) c.tell.ensures.same.0 ∙ c.requires.desk.plan in
     let values = c.tell.ensures.values ∙ c.as_slice.ensures.value in
-    let right = runs.right x i s.input c.args.desk.now.scratches.items c.requires.desk.scratches j n k place c.runs_are_the_work.ensures c.tell.new.told c.args.numbers.now.items plan c.tell.ensures.same.1 values c.requires.piece c.requires.looked in
-    let room = runs.room x i s.input c.args.desk.now.scratches.items c.requires.desk.scratches j n k place c.index_mut-scratch.result.now c.index_mut-scratch.ensures.value c.requires.piece in
+    let right = runs.right x i s.input c.args.desk.now.scratch c.requires.desk.scratch j n k place c.runs_are_the_work.ensures c.tell.new.told c.args.numbers.now.items plan c.tell.ensures.same.1 values c.requires.piece c.requires.looked in
+    let room = runs.room x i s.input c.args.desk.now.scratch c.requires.desk.scratch j n k place c.requires.piece in
     runs.never _ _ _ _ _ c.in_default.ensures.gives right room
 
 pub replace-requires : goal.replace-requires
@@ -96,7 +83,7 @@ replace-requires c =
     let plan : c.tell.new.told.cells.now.checked.now ≡ x = ap (λ (z : PlanCells). z.checked.now) c.tell.ensures.same.0 ∙ c.requires.desk.plan in
     let values = c.tell.ensures.values ∙ c.as_slice.ensures.value in
     let work = work_on x i in
-    let right = runs.right x i s.input c.args.desk.now.scratches.items c.requires.desk.scratches j n k place c.runs_are_the_work.ensures c.tell.new.told c.args.numbers.now.items plan c.tell.ensures.same.1 values c.requires.piece c.requires.looked in
+    let right = runs.right x i s.input c.args.desk.now.scratch c.requires.desk.scratch j n k place c.runs_are_the_work.ensures c.tell.new.told c.args.numbers.now.items plan c.tell.ensures.same.1 values c.requires.piece c.requires.looked in
     let given = same_Some _ _ (sym c.in-Ok.ensures.gives ∙ right) in
     let long = ap length c.given.ensures ∙ ap length given ∙ length-map (work.own j) (targets_on x i) in
     let room = (c.requires.room j c.requires.piece).1 in
@@ -114,7 +101,7 @@ returns-clause-desk c =
     let plan : c.tell.new.told.cells.now.checked.now ≡ x = ap (λ (z : PlanCells). z.checked.now) c.tell.ensures.same.0 ∙ c.requires.desk.plan in
     let values = c.tell.ensures.values ∙ c.as_slice.ensures.value in
     record {
-      scratches = runs.again x i s.input c.args.desk.now.scratches.items c.requires.desk.scratches j n k place c.index_mut-scratch.result.now c.index_mut-scratch.ensures.value c.run_in.new.scratch c.in-Ok.ensures.memory;
+      scratch = runs.again x i s.input c.args.desk.now.scratch c.requires.desk.scratch j n k place c.run_in.new.scratch c.in-Ok.ensures.memory;
       plan = plan;
       room = subst (IsMost (work_on x i)) (sym c.tell.ensures.room) c.requires.desk.room;
     }
@@ -131,4 +118,4 @@ returns-clause-values c =
     let plan : c.tell.new.told.cells.now.checked.now ≡ x = ap (λ (z : PlanCells). z.checked.now) c.tell.ensures.same.0 ∙ c.requires.desk.plan in
     let values = c.tell.ensures.values ∙ c.as_slice.ensures.value in
     let some : List ℤ → Option (List ℤ) = λ vs. Some vs in
-    ap some (c.replace.ensures.items ∙ c.given.ensures) ∙ sym c.in-Ok.ensures.gives ∙ runs.gives x i s.input c.args.desk.now.scratches.items c.requires.desk.scratches j n k place c.runs_are_the_work.ensures c.tell.new.told c.args.numbers.now.items plan c.tell.ensures.same.1 values
+    ap some (c.replace.ensures.items ∙ c.given.ensures) ∙ sym c.in-Ok.ensures.gives ∙ runs.gives x i s.input c.args.desk.now.scratch c.requires.desk.scratch j n k place c.runs_are_the_work.ensures c.tell.new.told c.args.numbers.now.items plan c.tell.ensures.same.1 values
