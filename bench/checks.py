@@ -25,14 +25,21 @@ def flat_stores(count):
     return ALGORITHM, text.format(w=8192, h=1, r=8191, line=10 + count), 8192, 1
 
 
-def pieces(side_w, side_h):
-    """A piece for each point."""
+def pieces(side_w, side_h, needs=""):
+    """A piece for each point, with need lines of its own group."""
     text = HEAD + (
         "group 0 out [0:{r};0:{b}] grid {w} {h}\nalloc b0 out [0+1*s0#1;0+1*s1#1]\nfor s2 0+1*s1:0+1*s1 serial\n"
         "for s3 0+1*s0:0+1*s0 serial\nstore b0 0 x=0+1*s3 y=0+1*s2 (in[x,y]+1u8)\nend\nend\npublish @0\ncert\n"
-        "own 0 [0+1*s0:0+1*s0;0+1*s1:0+1*s1]\nclaim 0 10 b0 out 0 [0+1*s0:0+1*s0;0+1*s1:0+1*s1]\nend\n"
+        "own 0 [0+1*s0:0+1*s0;0+1*s1:0+1*s1]\n{needs}claim 0 10 b0 out 0 [0+1*s0:0+1*s0;0+1*s1:0+1*s1]\nend\n"
     )
-    return ALGORITHM, text.format(w=side_w, h=side_h, r=side_w - 1, b=side_h - 1), side_w, side_h
+    return ALGORITHM, text.format(w=side_w, h=side_h, r=side_w - 1, b=side_h - 1, needs=needs), side_w, side_h
+
+
+def apart_needs(count):
+    """A piece for each point, with need lines of which two dimensions exclude one another only together."""
+    places = [divmod(i, 1000) for i in range(1, count + 1)]
+    needs = [f"need 0 0 [{x},{x + 200}-1*s0+1*s1:{x};{y},{y + 1}+1*s0-1*s1:{y}]\n" for y, x in places]
+    return pieces(1024, 1024, "".join(needs))
 
 
 def rows_of(side):
@@ -109,6 +116,7 @@ PLANS = {
     "65,000 need lines whose ends move together and never meet, and 2^20 pieces": lambda: self_needs(
         65000, lambda i: f"1+1000*s0,{-i}-1*s0:0+1000*s0,{70000 - i}+2000*s0"
     ),
+    "65,000 need lines of which two dimensions exclude one another only together, and 2^20 pieces": lambda: apart_needs(65000),
     "65,000 need lines that name the same piece at most of 2^20 pieces": lambda: self_needs(
         65000, lambda i: f"0,{i}-1*s0:0,{524288 + i}-1*s0"
     ),

@@ -248,3 +248,8 @@ pub no_point : (s : Symbols) (xs : List Span1) (k : ℕ) (d : Span1) → k < len
 no_point s [] k d less is none = absurd (omega (arith, less))
 no_point s (x ∷ xs) zero d less is none = empty_rows (turns s x) (points s xs) (ap (turns s) (sym is) ∙ none)
 no_point s (x ∷ xs) (suc k) d less is none = no_rows (turns s x) (points s xs) (no_point s xs k d (omega (arith, less)) is none)
+
+pub points_behind : (s : Symbols) (xs : List Span1) (k : ℕ) → points s (drop k xs) ≡ [] → points s xs ≡ []
+points_behind s xs zero none = none
+points_behind s [] (suc k) none = none
+points_behind s (x ∷ xs) (suc k) none = no_rows (turns s x) (points s xs) (points_behind s xs k none)

@@ -1,9 +1,11 @@
 pub mod Values
 pub mod Cornered
 pub mod Gapped
+pub mod Crossing
 pub mod Blocking
 pub mod Summing
 pub mod Rows
+pub mod Rowed
 pub mod Keeping
 pub mod Shared
 pub mod Grids

@@ -1,7 +1,8 @@
 -- Fetch lines as they are noted.
-use Rattle.std.proofs.Common.{◌≡◌, ℕ, zero, suc, ◌+◌, ◌-◌, ◌^◌, ◌<◌, ◌≤◌, List, [], ◌∷◌, ◌++◌, length, map, take, drop, drop-cons, get_or, arith, ap, refl, sym, ◌∙◌, subst, min, Bool, true, false}
+use Rattle.std.proofs.Common.{◌≡◌, ℕ, zero, suc, ◌+◌, ◌-◌, ◌^◌, ◌<◌, ◌≤◌, List, [], ◌∷◌, ◌++◌, length, length-append, map, take, drop, drop-cons, get_or, arith, ap, refl, sym, ◌∙◌, subst, min, Bool, true, false, Some, Vec, Global}
+use Rattle.std.specs.Prelude.{slice_get}
 use Rattle.std.proofs.lemmas.Bool.{false≢true}
-use Rattle.std.proofs.lemmas.List.{get_or-map, length-map}
+use Rattle.std.proofs.lemmas.List.{get_or-map, length-map, map-append}
 use Rattle.std.proofs.lemmas.List.Sums.{sum_by-cons}
 use Rattle.plan.specs.declared.stmt.Stmt.{Stmt, Seq' as Block, For' as Loop, Let as Naming, First' as AtFirst, Guard' as Where, Alloc as Allocation, Fetch as Fetching, Store as Storing, Publish as Publishing}
 use Rattle.plan.specs.Plan.{Seq, Empty, Group, Plan, block}
@@ -13,7 +14,8 @@ use Rattle.plan.specs.Certificate.Cells.{Piece}
 use Rattle.shares.specs.FetchLines.{FetchLine, fetch_lines, block_fetch_lines, fetch_lines_from, plan_fetch_lines, fetched_by, fetched_by_lines}
 use Rattle.shares.specs.Lets.{Naming as LetLine, naming}
 use Rattle.shares.specs.declared.counts.FetchLine.{FetchLine as LineHeld}
-use Rattle.shares.specs.Noted.{line_of, lines_noted, told_line}
+use Rattle.shares.specs.Noted.{AreNotedBy, line_of, lines_noted, told_line}
+use Rattle.shares.proofs.Groups.{get_mapped, push_each}
 
 -- neither a block nor a line that fetches
 abbrev pub is_still : Stmt → Bool
@@ -107,3 +109,34 @@ module _ (p : Plan) (held : List LineHeld) (all : lines_noted held ≡ map told_
       let long = noted_long in
       ap line_of is ∙ sym (get_or-map line_of held k x (line_of x) less) ∙ ap (λ (xs : List FetchLine). get_or xs k (line_of x)) all
       ∙ get_or-map told_line (plan_fetch_lines p) k no_line (line_of x) (omega (arith, less, long))
+
+-- ---- the fetch lines of groups
+
+abbrev pub held : Vec LineHeld Global → List LineHeld
+held v = v.items
+
+pub none_noted : (p : Plan) (lists : List (List LineHeld)) → lists ≡ [] → AreNotedBy p 0 lists
+none_noted p lists e = subst (AreNotedBy p 0) (sym e) (record { count = refl; each = λ n ls at. absurd (cc at) })
+
+-- one group more
+pub noted_last : (p : Plan) (number : ℕ) (old now : List (Vec LineHeld Global)) (noted : Vec LineHeld Global) (none : List LineHeld) → now ≡ old ++ noted ∷ [] → none ≡ [] →
+    AreNotedBy p number (map held old) →
+    ((g : Group) → slice_get p.groups number ≡ Some g → lines_noted noted.items ≡ lines_noted none ++ map told_line (fetch_lines number [] g.body (body_line p number))) →
+    AreNotedBy p (number + 1) (map held now)
+noted_last p number old now noted none e empty before this =
+    let P : ℕ → List LineHeld → Type 0 = λ n ls. (g : Group) → slice_get p.groups n ≡ Some g → lines_noted ls ≡ map told_line (fetch_lines n [] g.body (body_line p n)) in
+    let path : map held now ≡ map held old ++ noted.items ∷ [] = ap (map held) e ∙ map-append held old (noted ∷ []) in
+    let here : P number noted.items = λ g at. this g at ∙ ap (λ (ns : List LineHeld). lines_noted ns ++ map told_line (fetch_lines number [] g.body (body_line p number))) empty in
+    record {
+      count = ap length path ∙ length-append (map held old) (noted.items ∷ []) ∙ ap (λ (n : ℕ). n + 1) before.count;
+      each = subst (λ (xs : List (List LineHeld)). (n : ℕ) (ls : List LineHeld) → slice_get xs n ≡ Some ls → P n ls) (sym path)
+          (push_each P (map held old) noted.items before.each (subst (λ (n : ℕ). P n noted.items) (sym before.count) here));
+    }
+
+pub group_noted : (p : Plan) (groups : ℕ) (all : List (Vec LineHeld Global)) → AreNotedBy p groups (map held all) → (n : ℕ) (v : Vec LineHeld Global) → n < groups → v ≡ get_or all n v →
+    (g : Group) → slice_get p.groups n ≡ Some g → lines_noted v.items ≡ map told_line (fetch_lines n [] g.body (body_line p n))
+group_noted p groups all h n v less is =
+    let long = length-map all held in
+    let count = h.count in
+    let at : slice_get (map held all) n ≡ Some (held v) = get_mapped held all n v (omega (arith, less, long, count)) ∙ ap (λ (w : Vec LineHeld Global). Some (held w)) (sym is) in
+    h.each n (held v) at

@@ -125,7 +125,7 @@ part_of : (z : ℤ) (n m : ℕ) → pos 0 ≤ℤ z → (z +ℤ pos n) ≤ℤ pos
 part_of (pos k) n m low high = omega (arith, ints)
 part_of (negsuc k) n m low high = absurd (omega (arith, ints))
 
-part_within : (part r : Side) → r.low ≤ℤ part.low → (part.low +ℤ pos part.count) ≤ℤ (r.low +ℤ pos r.count) → clipped (part.low -ℤ r.low) + part.count ≤ r.count
+pub part_within : (part r : Side) → r.low ≤ℤ part.low → (part.low +ℤ pos part.count) ≤ℤ (r.low +ℤ pos r.count) → clipped (part.low -ℤ r.low) + part.count ≤ r.count
 part_within part r low high = part_of (part.low -ℤ r.low) part.count r.count (omega (arith, ints)) (omega (arith, ints))
 
 -- the numbers that a box's first side and some numbers of its other coordinates make

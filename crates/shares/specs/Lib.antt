@@ -4,6 +4,7 @@ pub mod FetchLines
 pub mod Walked
 pub mod Corners
 pub mod Gaps
+pub mod Across
 pub mod Outer
 pub mod Blocks
 pub mod Spaces

@@ -1,22 +1,27 @@
 //! The need lines that are looked at for pieces that stand one after another: those that may name a point at one of them, and more
 //! than another.
 
-ghost use Rattle.std.specs.Prelude.{◌≡◌, ℕ, List, ◌≤◌, ◌<◌, ◌+◌, ◌++◌, ◌∷◌, ◌^◌, ◌↔◌, [], IsTrue, IfOk, OnOk, All, Some, length, map, slice_get, slice_index_or, take};
+ghost use Rattle.std.specs.Prelude.{◌≡◌, false, ℕ, List, ◌≤◌, ◌<◌, ◌+◌, ◌++◌, ◌∷◌, ◌^◌, ◌↔◌, [], IsTrue, IfOk, OnOk, All, Some, length, map, slice_get, slice_index_or, take};
+ghost use Rattle.plan.specs.Symbols.{points};
 ghost use Rattle.plan.specs.View.{plan_of};
+ghost use Rattle.plan.specs.Certificate.Cells.{grid_symbols};
 ghost use Rattle.plan.specs.declared.certificate.cert.Need.{Need as CertNeed};
 ghost use Rattle.shares.specs.declared.gathered.GroupNeeds.{GroupNeeds as Gathered};
 ghost use Rattle.shares.specs.declared.seats.Seat.{Seat as CodeSeat};
 ghost use Rattle.shares.specs.Boxes.{IsLimited, IsSmall};
+ghost use Rattle.shares.specs.Corners.{IsBetween};
 ghost use Rattle.shares.specs.Seats.{AreSmall};
 ghost use Rattle.shares.specs.Layout.{IsLayout};
 ghost use Rattle.shares.specs.Blocks.{AreHighs, AreLows, AreOf, AreThoseAt, AreThoseBetween, HaveLinesOf, IsBlockFrom, IsBlockOf, IsWalkFrom, LinesAreLimited, StandFor};
 
+use crate::across::dimensions_may_meet;
 use crate::corners::may_have_point;
 use crate::gaps::ends_may_meet;
 use crate::gathered::GroupNeeds;
 use crate::layout::Layout;
 use crate::outer::keep_outer;
 use crate::seats::Seat;
+use lin::Span1;
 use plan::certificate::Need;
 use std::alloc::{AllocError, Global};
 
@@ -133,9 +138,29 @@ fn shared_front(seats: &[Seat], group: usize, count: usize) -> usize
     seats.len()
 }
 
+/// Whether of each two dimensions of a region both may have a number at one grid point between two, looked at where a line is
+/// compared with the last of those kept. Where not, the region has no point at any of these.
+fn spans_may_meet(
+    alloc: Global,
+    region: &[Span1],
+    low: &[u64],
+    high: &[u64],
+    lately: usize,
+) -> Result<bool, AllocError>
+    requires low { IsSmall low.now }
+    requires high { IsSmall high.now }
+    ensures { IfOk result (λ may. may ≡ false → (at : List ℕ) → IsBetween low.now high.now at → points (grid_symbols at) region.now ≡ []) }
+{
+    if lately == 0 {
+        return Ok(true);
+    }
+    dimensions_may_meet(alloc, region, low, high)
+}
+
 /// Adds a need line to those kept, if it may name a point at a grid point between two and is not seen to name no more than one of
 /// the last of them, so many.
 fn keep_between<'a>(
+    alloc: Global,
     kept: &mut Vec<&'a Need>,
     need: &'a Need,
     low: &[u64],
@@ -152,7 +177,11 @@ fn keep_between<'a>(
     if !ends_may_meet(need.region.as_slice(), low, high) {
         return Ok(());
     }
-    if may_have_point(need.region.as_slice(), low, high) {
+    if !may_have_point(need.region.as_slice(), low, high) {
+        return Ok(());
+    }
+    let may = spans_may_meet(alloc, need.region.as_slice(), low, high, lately)?;
+    if may {
         keep_outer(kept, need, low, high, lately)?;
     }
     Ok(())
@@ -173,7 +202,7 @@ fn lines_between<'a>(
 {
     let mut kept = Vec::new(alloc);
     for need in lines {
-        keep_between(&mut kept, need, low, high, lately)?;
+        keep_between(alloc, &mut kept, need, low, high, lately)?;
     }
     Ok(kept)
 }

@@ -19,7 +19,7 @@ pub struct Side {
 }
 
 /// The numbers of a span at a grid point.
-fn side_at(span: &Span1, at: &[u64], lets: &[Value]) -> Side
+pub(crate) fn side_at(span: &Span1, at: &[u64], lets: &[Value]) -> Side
     requires limits { AreLimited span.now.lower × AreLimited span.now.upper }
     requires at { IsSmall at.now }
     requires lets { ValuesAreSmall lets.now }

@@ -13,7 +13,7 @@ ghost use Rattle.shares.specs.Boxes.{IsLimited, IsSmall, sides};
 ghost use Rattle.shares.specs.Counts.{FetchPasses};
 ghost use Rattle.shares.specs.FetchLines.{IsFirstPast, LineIsLimited, LineIsNear, block_fetch_lines, fetch_lines, fetched_by, fetched_by_lines, plan_fetch_lines};
 ghost use Rattle.shares.specs.Lets.{AreNear, NamingsAreLimited, named, namings_of};
-ghost use Rattle.shares.specs.Noted.{line_of, lines_noted, told_line};
+ghost use Rattle.shares.specs.Noted.{AreNotedBy, line_of, lines_noted, told_line};
 ghost use Rattle.shares.specs.Has.{fetched_before};
 ghost use Rattle.shares.specs.Layout.{IsLayout};
 ghost use Rattle.shares.specs.Seats.{AreSmall, pieces_of};
@@ -111,7 +111,7 @@ fn note_block_fetches<'a>(
 }
 
 /// Notes the lines that fetch of the group of this number.
-pub(crate) fn note_group<'a>(
+fn note_group<'a>(
     alloc: Global,
     plan: &'a Plan,
     number: usize,
@@ -123,6 +123,24 @@ pub(crate) fn note_group<'a>(
     let line = plan.group_line(number).saturating_add(1);
     note_fetches(alloc, &plan.groups[number].body, number, line, &[], noted)?;
     Ok(())
+}
+
+/// The fetch lines of each group of a plan.
+///
+/// The time is linear in the lines of the plan and, for each fetch line, in the lines `let` before it.
+pub(crate) fn noted_groups<'a>(
+    alloc: Global,
+    plan: &'a Plan,
+) -> Result<Vec<Vec<FetchLine<'a>>>, AllocError>
+    ensures { IfOk result (λ made. AreNotedBy (plan_of plan.now) (length plan.now.groups.items) (map (λ v. v.items) made.items)) }
+{
+    let mut made = Vec::new(alloc);
+    for number in 0..plan.groups.len() {
+        let mut noted = Vec::new(alloc);
+        note_group(alloc, plan, number, &mut noted)?;
+        made.push(noted)?;
+    }
+    Ok(made)
 }
 
 /// The fetch lines of a plan, in the order of its text.

@@ -7,11 +7,11 @@ ghost use Rattle.headline.specs.Numbers.{cell_number};
 ghost use Rattle.shares.specs.declared.stop.Stop.TheVariants.{Unserved, Large};
 ghost use Rattle.shares.specs.Boxes.{IsSmall};
 ghost use Rattle.shares.specs.Read.{IsTold, line_cells, lines_cells};
-ghost use Rattle.shares.specs.Noted.{line_of, lines_noted};
+ghost use Rattle.shares.specs.Noted.{AreNotedBy, line_of, lines_noted};
 ghost use Rattle.shares.specs.Layout.{IsLayout, AllCells, FetchesCells, fetched_list};
 ghost use Rattle.shares.specs.Stops.{FetchStops};
 
-use crate::counts::{FetchLine, note_group};
+use crate::counts::FetchLine;
 use crate::layout::Layout;
 use crate::lets::values_at;
 use crate::spaces::found_by;
@@ -87,14 +87,16 @@ fn fetch_lines(
 
 /// The cells that a piece fetches, by their numbers, where all fetched points are cells and there is room for them.
 ///
-/// The time is linear in these cells, the lines of the body and, for each fetch line, the forms of the lines `let` before it.
+/// The time is linear in these cells and, for each fetch line of the piece's group, in the forms of the lines `let` before it.
 pub(crate) fn fetched_of(
     alloc: Global,
     layout: &Layout<'_>,
+    noted: &Vec<Vec<FetchLine<'_>>>,
     piece: u32,
     room: u64,
 ) -> Result<Vec<u32>, Stop>
     requires layout { IsLayout layout.now }
+    requires noted { AreNotedBy (plan_of layout.now.plan.now) (length layout.now.plan.now.groups.items) (map (λ v. v.items) noted.now.items) }
     requires piece { piece < length layout.now.seats.items }
     ensures list { IfOk result (λ fetched. fetched.items ≡ fetched_list (plan_of layout.now.plan.now) piece) }
     ensures known { IfOk result (λ _. FetchesCells (plan_of layout.now.plan.now) piece) }
@@ -102,10 +104,9 @@ pub(crate) fn fetched_of(
     ensures stop { IfErr result (FetchStops (plan_of layout.now.plan.now) piece room) }
 {
     let seat = &layout.seats[piece as usize];
-    let mut noted = Vec::new(alloc);
-    note_group(alloc, layout.plan, seat.group, &mut noted)?;
+    let lines = &noted[seat.group];
     let mut fetched = Vec::new(alloc);
-    match fetch_lines(alloc, layout, &noted, &seat.at, room, &mut fetched) {
+    match fetch_lines(alloc, layout, lines, &seat.at, room, &mut fetched) {
         Ok(()) => {}
         Err(stop) => return Err(stop),
     }

@@ -4,6 +4,7 @@
 //! what they need, or tells what is wrong and at which line.
 #![tactic(auto)]
 
+mod across;
 mod answer;
 mod before;
 mod blocks;
@@ -32,6 +33,7 @@ mod seats;
 mod spaces;
 mod stands;
 mod stop;
+mod straight;
 mod walked;
 
 pub use answer::{Shares, SharesError, shares_of};

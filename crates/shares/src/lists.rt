@@ -8,9 +8,11 @@ ghost use Rattle.shares.specs.Has.{AreFew};
 ghost use Rattle.shares.specs.Blocks.{StandFor};
 ghost use Rattle.shares.specs.Gathered.{EachIsGathered};
 ghost use Rattle.shares.specs.Stops.{StopMeans};
+ghost use Rattle.shares.specs.Noted.{AreNotedBy};
 ghost use Rattle.shares.specs.Made.{IsMade, AreMade, TroubleMeans, trouble_of};
 
 use crate::blocks::{new_walk, step_to};
+use crate::counts::{FetchLine, noted_groups};
 use crate::fetched::fetched_of;
 use crate::gathered::{GroupNeeds, gathered_needs};
 use crate::layout::{Layout, own_of};
@@ -50,6 +52,7 @@ fn trouble_of(piece: u32, stop: Stop) -> Trouble
 fn lists_at(
     alloc: Global,
     layout: &Layout<'_>,
+    noted: &Vec<Vec<FetchLine<'_>>>,
     gathered: &Vec<GroupNeeds<'_>>,
     moving: &[&Need],
     piece: u32,
@@ -57,6 +60,7 @@ fn lists_at(
     pieces: u64,
 ) -> Result<Piece, Stop>
     requires layout { IsLayout layout.now }
+    requires noted { AreNotedBy (plan_of layout.now.plan.now) (length layout.now.plan.now.groups.items) (map (λ v. v.items) noted.now.items) }
     requires gathered { EachIsGathered (plan_of layout.now.plan.now) layout.now.cert.now.needs.items (length layout.now.plan.now.groups.items) gathered.now.items }
     requires moving { StandFor layout.now.seats.items gathered.now.items piece (map (λ n. n.now) moving.now) }
     requires piece { piece < length layout.now.seats.items }
@@ -66,7 +70,7 @@ fn lists_at(
     ensures stop { IfErr result (StopMeans (plan_of layout.now.plan.now) (certificate_of layout.now.cert.now) piece cells pieces) }
 {
     let own = own_of(alloc, layout, piece)?;
-    let fetched = match fetched_of(alloc, layout, piece, cells) {
+    let fetched = match fetched_of(alloc, layout, noted, piece, cells) {
         Ok(fetched) => fetched,
         Err(stop) => return Err(stop),
     };
@@ -97,6 +101,7 @@ pub(crate) fn lists_of(alloc: Global, layout: &Layout<'_>) -> Result<Vec<Piece>,
     ensures few { IfOk result (λ _. AreFew (plan_of layout.now.plan.now) (certificate_of layout.now.cert.now)) }
     ensures made { IfOk result (λ made. AreMade (plan_of layout.now.plan.now) (certificate_of layout.now.cert.now) made.items) }
 {
+    let noted = noted_groups(alloc, layout.plan)?;
     let gathered = gathered_needs(alloc, layout, &layout.cert.needs, &layout.needs)?;
     let mut walk = new_walk(alloc);
     let mut lists = Vec::new(alloc);
@@ -105,7 +110,9 @@ pub(crate) fn lists_of(alloc: Global, layout: &Layout<'_>) -> Result<Vec<Piece>,
     for piece in 0..layout.seats.len() as u32 {
         step_to(alloc, layout, &gathered, &mut walk, piece)?;
         let moving = &walk.small.moving;
-        let made = match lists_at(alloc, layout, &gathered, moving, piece, cells, pieces) {
+        let made = match lists_at(
+            alloc, layout, &noted, &gathered, moving, piece, cells, pieces,
+        ) {
             Ok(made) => made,
             Err(stop) => return Err(trouble_of(piece, stop)),
         };

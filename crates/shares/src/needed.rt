@@ -1,6 +1,6 @@
 //! The pieces that pieces need.
 
-ghost use Rattle.std.specs.Prelude.{◌≡◌, ℕ, ◌<◌, ◌≤◌, ◌++◌, ◌↔◌, IfOk, IfErr, OnOk, All, Contains, Err, length, map};
+ghost use Rattle.std.specs.Prelude.{◌≡◌, ℕ, ◌<◌, ◌≤◌, ◌++◌, ◌↔◌, IsTrue, IsFalse, IfOk, IfErr, OnOk, All, Contains, Err, length, map};
 ghost use Rattle.std.specs.List.Sorted.{IsStrictlyIncreasing};
 ghost use Rattle.plan.specs.View.{plan_of};
 ghost use Rattle.plan.specs.Certificate.Certificate.{certificate_of};
@@ -24,6 +24,8 @@ use crate::layout::Layout;
 use crate::seats::Seat;
 use crate::spaces::found_in;
 use crate::stop::Stop;
+use crate::straight::row_in;
+use crate::walked::push_row;
 use plan::certificate::Need;
 use std::alloc::{AllocError, Global};
 
@@ -76,6 +78,32 @@ fn found_line(
     Ok(())
 }
 
+/// Adds the pieces that a need line names at a piece of its group, where all are pieces and follow one another, and says whether
+/// they do.
+fn row_line(
+    layout: &Layout<'_>,
+    seat: &Seat,
+    need: &Need,
+    needed: &mut Vec<u32>,
+) -> Result<bool, AllocError>
+    requires layout { IsLayout layout.now }
+    requires need { NeedIsShared (plan_of layout.now.plan.now) need.now }
+    requires group { need.now.group ≡ seat.now.group }
+    requires at { IsSmall seat.now.at.items }
+    ensures numbers { IfOk result (λ done. IsTrue done → needed.new.items ≡ needed.old.items ++ need_numbers (plan_of layout.now.plan.now) (piece_of seat.now) need.now) }
+    ensures known { IfOk result (λ done. IsTrue done → NeedIsInside (plan_of layout.now.plan.now) (piece_of seat.now) need.now) }
+    ensures kept { IfOk result (λ done. IsFalse done → needed.new.items ≡ needed.old.items) }
+{
+    let ground = &layout.grounds[need.needed as usize];
+    match row_in(&ground.pieces, need.region.as_slice(), &seat.at) {
+        Some(row) => {
+            push_row(needed, row.first, row.count)?;
+            Ok(true)
+        }
+        None => Ok(false),
+    }
+}
+
 /// Adds the pieces that a need line names at a piece of its group, where all are pieces.
 pub(crate) fn need_line(
     alloc: Global,
@@ -94,6 +122,9 @@ pub(crate) fn need_line(
     ensures room { ¬ (result ≡ Err Large) }
     ensures kept { result ≡ Err Unserved → needed.new.items ≡ needed.old.items }
 {
+    if row_line(layout, seat, need, needed)? {
+        return Ok(());
+    }
     let at = seat.at.as_slice();
     if !may_have_point(need.region.as_slice(), at, at) {
         return Ok(());

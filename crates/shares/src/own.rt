@@ -1,6 +1,6 @@
 //! What is wrong at the own lines of groups.
 
-ghost use Rattle.std.specs.Prelude.{◌≡◌, ℕ, ◌<◌, ◌≤◌, ◌+◌, ◌-◌, ◌^◌, ◌↔◌, ◌&&◌, None, Some, IsTrue, IsFalse, IfOk, IfNone, IfSome, MatchOption, length, min, slice_get};
+ghost use Rattle.std.specs.Prelude.{◌≡◌, ℕ, ◌<◌, ◌≤◌, ◌+◌, ◌-◌, ◌^◌, ◌↔◌, ◌&&◌, None, Some, IsTrue, IsFalse, IfOk, IfNone, IfSome, MatchOption, length, map, min, slice_get};
 ghost use Rattle.plan.specs.View.{plan_of};
 ghost use Rattle.plan.specs.Certificate.Certificate.{certificate_of};
 ghost use Rattle.plan.specs.Certificate.Cells.{cells};
@@ -9,9 +9,11 @@ ghost use Rattle.soundness.specs.declared.outline.refusals.code.K.TheVariants.{K
 ghost use Rattle.shares.specs.declared.stop.Stop.TheVariants.{Memory};
 ghost use Rattle.shares.specs.Layout.{IsLayout, OwnIsInside};
 ghost use Rattle.shares.specs.Made.{IsPieceOf, IsUnserved, Leaves, Overlaps, need_place, owns_line};
+ghost use Rattle.shares.specs.Noted.{AreNotedBy};
 ghost use Rattle.shares.specs.Owned.{AreOwners, GroupIsInside, IsFirstFlaw, IsLeftAlone, IsLowestCode, IsParted, own_in};
 
 use crate::boxes::most_points;
+use crate::counts::{FetchLine, noted_groups};
 use crate::fetched::fetched_of;
 use crate::layout::{Layout, own_of};
 use crate::owners::{Owned, claim_cells};
@@ -122,10 +124,12 @@ fn is_told(stop: Stop) -> Result<bool, AllocError>
 fn is_left_alone(
     alloc: Global,
     layout: &Layout<'_>,
+    noted: &Vec<Vec<FetchLine<'_>>>,
     group: usize,
     piece: u32,
 ) -> Result<bool, AllocError>
     requires layout { IsLayout layout.now }
+    requires noted { AreNotedBy (plan_of layout.now.plan.now) (length layout.now.plan.now.groups.items) (map (λ v. v.items) noted.now.items) }
     requires alone { need_place (certificate_of layout.now.cert.now).needs group ≡ None }
     requires piece { piece < length layout.now.seats.items }
     ensures { IfOk result (λ found. IsTrue found ↔ IsLeftAlone (plan_of layout.now.plan.now) (certificate_of layout.now.cert.now) group piece) }
@@ -133,7 +137,7 @@ fn is_left_alone(
     if layout.seats[piece as usize].group != group {
         return Ok(false);
     }
-    let stop = match fetched_of(alloc, layout, piece, 0) {
+    let stop = match fetched_of(alloc, layout, noted, piece, 0) {
         Ok(_) => return Ok(false),
         Err(stop) => stop,
     };
@@ -146,8 +150,9 @@ fn fetches_alone(alloc: Global, layout: &Layout<'_>, group: usize) -> Result<boo
     requires alone { need_place (certificate_of layout.now.cert.now).needs group ≡ None }
     ensures { IfOk result (λ found. IsTrue found ↔ IsUnserved (plan_of layout.now.plan.now) (certificate_of layout.now.cert.now) group) }
 {
+    let noted = noted_groups(alloc, layout.plan)?;
     for piece in 0..layout.seats.len() as u32 {
-        if is_left_alone(alloc, layout, group, piece)? {
+        if is_left_alone(alloc, layout, &noted, group, piece)? {
             return Ok(true);
         }
     }

@@ -23,7 +23,7 @@ fn common(own: Side, extent: Side) -> Side
 }
 
 /// Adds so many numbers from `first` on.
-fn push_row(cells: &mut Vec<u32>, first: u32, count: u32) -> Result<(), AllocError>
+pub(crate) fn push_row(cells: &mut Vec<u32>, first: u32, count: u32) -> Result<(), AllocError>
     requires { first + count < 2 ^ 32 }
     ensures { OnOk result (cells.new.items ≡ cells.old.items ++ range_with_len first count) }
 {

@@ -8,7 +8,6 @@ use Rattle.plan.specs.Certificate.Cells.{Cell, Piece, grid_symbols}
 use Rattle.plan.specs.Certificate.Certificate.{certificate_of}
 use Rattle.headline.specs.Numbers.{cell_number}
 use Rattle.headline.specs.Work.{of_piece, cells_fetched, group_fetched}
-use Rattle.shares.specs.declared.counts.FetchLine.{FetchLine as LineHeld}
 use Rattle.shares.specs.FetchLines.{FetchLine, fetch_lines}
 use Rattle.shares.specs.Seats.{piece_of}
 use Rattle.shares.specs.Layout.{AllCells, PieceFetchesCells}
@@ -17,11 +16,16 @@ use Rattle.shares.specs.Read.{IsTold, lines_cells}
 use Rattle.shares.proofs.Counting.{fetch_stops}
 use Rattle.shares.proofs.Fetching.{lines_read, told_read}
 use Rattle.shares.proofs.Near.{lines_told}
+use Rattle.shares.proofs.Noting.{held, group_noted}
 use Rattle.shares.proofs.Seated.{piece_is, group_at, group_listed, seat_small}
 use Rattle.shares.proofs.fetched.fetched_of.Goals as goal
 
-pub note_group-requires : goal.note_group-requires
-note_group-requires c = group_listed c.args.layout.now c.requires.layout c.args.piece c.index-seat.result.now c.requires.piece c.index-seat.ensures
+pub index-lines-requires : goal.index-lines-requires
+index-lines-requires c =
+    let listed = group_listed c.args.layout.now c.requires.layout c.args.piece c.index-seat.result.now c.requires.piece c.index-seat.ensures in
+    let count = c.requires.noted.count in
+    let long = length-map c.args.noted.now.items held in
+    omega (arith, listed, count, long, c.args.noted.now.ok.0)
 
 pub fetch_lines-requires-clause-lines : goal.fetch_lines-requires-clause-lines
 fetch_lines-requires-clause-lines c =
@@ -30,9 +34,9 @@ fetch_lines-requires-clause-lines c =
     let s = c.index-seat.result.now in
     let k = group_at x c.requires.layout c.args.piece s c.requires.piece c.index-seat.ensures in
     let at = piece_is x c.requires.layout c.args.piece s c.requires.piece c.index-seat.ensures in
+    let listed = group_listed x c.requires.layout c.args.piece s c.requires.piece c.index-seat.ensures in
     let noted : lines_noted c.deref.result.now ≡ map told_line (fetch_lines s.group [] k.0.body (body_line p s.group)) =
-    ap lines_noted c.deref.ensures.value ∙ c.in_ok-note_group.ensures k.0 k.1
-    ∙ ap (λ (ns : List LineHeld). lines_noted ns ++ map told_line (fetch_lines s.group [] k.0.body (body_line p s.group))) c.new-noted.ensures.items in
+    ap lines_noted c.deref.ensures.value ∙ group_noted p (length x.plan.now.groups.items) c.args.noted.now.items c.requires.noted s.group c.index-lines.result.now listed c.index-lines.ensures k.0 k.1 in
     let told = lines_told p c.args.piece (piece_of s) at (certificate_of x.cert.now) c.requires.layout.shared c.requires.layout.near k.0 k.1 in
     subst (λ (ys : List ℕ). All (IsTold p (grid_symbols ys)) (lines_noted c.deref.result.now)) (sym c.deref-2.ensures.value)
     (subst (All (IsTold p (grid_symbols s.at.items))) (sym noted) told)
@@ -46,8 +50,9 @@ returns-clause-list c =
     let k = group_at x c.requires.layout c.args.piece s c.requires.piece c.index-seat.ensures in
     let at = piece_is x c.requires.layout c.args.piece s c.requires.piece c.index-seat.ensures in
     let F = fetch_lines s.group [] k.0.body (body_line p s.group) in
+    let listed = group_listed x c.requires.layout c.args.piece s c.requires.piece c.index-seat.ensures in
     let noted : lines_noted c.deref.result.now ≡ map told_line F =
-    ap lines_noted c.deref.ensures.value ∙ c.in_ok-note_group.ensures k.0 k.1 ∙ ap (λ (ns : List LineHeld). lines_noted ns ++ map told_line F) c.new-noted.ensures.items in
+    ap lines_noted c.deref.ensures.value ∙ group_noted p (length x.plan.now.groups.items) c.args.noted.now.items c.requires.noted s.group c.index-lines.result.now listed c.index-lines.ensures k.0 k.1 in
     let read : lines_cells (grid_symbols c.deref-2.result.now) (lines_noted c.deref.result.now) ≡ cells_fetched p (piece_of s) =
     ap (λ (ys : List ℕ). lines_cells (grid_symbols ys) (lines_noted c.deref.result.now)) c.deref-2.ensures.value ∙ ap (lines_cells (grid_symbols s.at.items)) noted
     ∙ told_read (grid_symbols s.at.items) F ∙ lines_read p s.group (grid_symbols s.at.items) [] k.0.body (body_line p s.group) (c.requires.layout.shared.groups s.group k.0 k.1).body
@@ -64,8 +69,9 @@ returns-clause-known c =
     let k = group_at x c.requires.layout c.args.piece s c.requires.piece c.index-seat.ensures in
     let at = piece_is x c.requires.layout c.args.piece s c.requires.piece c.index-seat.ensures in
     let F = fetch_lines s.group [] k.0.body (body_line p s.group) in
+    let listed = group_listed x c.requires.layout c.args.piece s c.requires.piece c.index-seat.ensures in
     let noted : lines_noted c.deref.result.now ≡ map told_line F =
-    ap lines_noted c.deref.ensures.value ∙ c.in_ok-note_group.ensures k.0 k.1 ∙ ap (λ (ns : List LineHeld). lines_noted ns ++ map told_line F) c.new-noted.ensures.items in
+    ap lines_noted c.deref.ensures.value ∙ group_noted p (length x.plan.now.groups.items) c.args.noted.now.items c.requires.noted s.group c.index-lines.result.now listed c.index-lines.ensures k.0 k.1 in
     let read : lines_cells (grid_symbols c.deref-2.result.now) (lines_noted c.deref.result.now) ≡ cells_fetched p (piece_of s) =
     ap (λ (ys : List ℕ). lines_cells (grid_symbols ys) (lines_noted c.deref.result.now)) c.deref-2.ensures.value ∙ ap (lines_cells (grid_symbols s.at.items)) noted
     ∙ told_read (grid_symbols s.at.items) F ∙ lines_read p s.group (grid_symbols s.at.items) [] k.0.body (body_line p s.group) (c.requires.layout.shared.groups s.group k.0 k.1).body
@@ -81,8 +87,9 @@ returns-in-Err-clause-stop c =
     let k = group_at x c.requires.layout c.args.piece s c.requires.piece c.index-seat.ensures in
     let at = piece_is x c.requires.layout c.args.piece s c.requires.piece c.index-seat.ensures in
     let F = fetch_lines s.group [] k.0.body (body_line p s.group) in
+    let listed = group_listed x c.requires.layout c.args.piece s c.requires.piece c.index-seat.ensures in
     let noted : lines_noted c.deref.result.now ≡ map told_line F =
-    ap lines_noted c.deref.ensures.value ∙ c.in_ok-note_group.ensures k.0 k.1 ∙ ap (λ (ns : List LineHeld). lines_noted ns ++ map told_line F) c.new-noted.ensures.items in
+    ap lines_noted c.deref.ensures.value ∙ group_noted p (length x.plan.now.groups.items) c.args.noted.now.items c.requires.noted s.group c.index-lines.result.now listed c.index-lines.ensures k.0 k.1 in
     let read : lines_cells (grid_symbols c.deref-2.result.now) (lines_noted c.deref.result.now) ≡ cells_fetched p (piece_of s) =
     ap (λ (ys : List ℕ). lines_cells (grid_symbols ys) (lines_noted c.deref.result.now)) c.deref-2.ensures.value ∙ ap (lines_cells (grid_symbols s.at.items)) noted
     ∙ told_read (grid_symbols s.at.items) F ∙ lines_read p s.group (grid_symbols s.at.items) [] k.0.body (body_line p s.group) (c.requires.layout.shared.groups s.group k.0 k.1).body

@@ -1,5 +1,5 @@
 use Rattle.std.proofs.Common.{◌≡◌, ◌∙◌, ◌+◌, ◌++◌, [], ℕ, List, map, sym, ap, subst, arith}
-use Rattle.std.specs.Prelude.{All, IsTrue, ℤ}
+use Rattle.std.specs.Prelude.{All, IsTrue, OnOk, ℤ}
 use Rattle.std.proofs.lemmas.List.{append-nil}
 use Rattle.plan.specs.Plan.{Plan}
 use Rattle.plan.specs.Symbols.{points}
@@ -37,7 +37,7 @@ returns-then-not-may_have_point-clause-numbers c =
     let old = c.args.needed.now.items in
     let none : need_points j n ≡ [] = no_points j.at c.as_slice-at.result.now c.as_slice.result.now n.region c.as_slice-at.ensures.value c.as_slice.ensures (c.may_have_point.ensures c.if-not-may_have_point.true) in
     let empty : need_numbers p j n ≡ [] = sym (numbers_some p j n c.requires.group) ∙ ap (map (λ q. first_piece p.groups n.needed + rank (need_grid p n) q)) none in
-    sym (append-nil old) ∙ ap (λ (ns : List ℕ). old ++ ns) (sym empty)
+    c.in_ok-row_line.ensures.kept c.if-branch.false ∙ sym (append-nil old) ∙ ap (λ (ns : List ℕ). old ++ ns) (sym empty)
 
 pub returns-then-not-may_have_point-clause-known : goal.returns-then-not-may_have_point-clause-known
 returns-then-not-may_have_point-clause-known c _ =
@@ -46,3 +46,12 @@ returns-then-not-may_have_point-clause-known c _ =
     let n : Need = c.args.need.now in
     let none : need_points j n ≡ [] = no_points j.at c.as_slice-at.result.now c.as_slice.result.now n.region c.as_slice-at.ensures.value c.as_slice.ensures (c.may_have_point.ensures c.if-not-may_have_point.true) in
     subst (λ (qs : List (List ℤ)). All (λ q. IsTrue (is_in_box (need_grid p n) q)) qs) (sym none) (λ k d less. absurd (omega (arith, less)))
+
+pub returns-clause-numbers : goal.returns-clause-numbers
+returns-clause-numbers c =
+    let p : Plan = plan_of c.args.layout.now.plan.now in
+    let kept = c.in_ok-row_line.ensures.kept c.if-branch.false in
+    subst (λ (ms : List ℕ). OnOk c.found_line.result (c.found_line.new.needed.items ≡ ms ++ need_numbers p (piece_of c.args.seat.now) c.args.need.now)) kept c.found_line.ensures.numbers
+
+pub returns-clause-kept : goal.returns-clause-kept
+returns-clause-kept c e = c.found_line.ensures.kept e ∙ c.in_ok-row_line.ensures.kept c.if-branch.false

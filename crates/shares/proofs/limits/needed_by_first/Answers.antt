@@ -1,7 +1,6 @@
 use Rattle.std.proofs.Common.{◌≡◌, ◌∙◌, ◌+◌, ◌<◌, ℕ, zero, suc, List, [], ◌∷◌, length, map, take, sym, ap, subst, arith, Bor, Vec, Global}
 use Rattle.std.specs.Prelude.{All}
 use Rattle.std.specs.List.{AllByRecursion}
-use Rattle.std.proofs.lemmas.Bool.{false≢true}
 use Rattle.std.proofs.lemmas.List.{length-map}
 use Rattle.std.proofs.lemmas.List.Elements.{recursion_from_All, All-from_recursion}
 use Rattle.plan.specs.Plan.{Plan}
@@ -22,7 +21,7 @@ use Rattle.shares.proofs.Gathering.{have_lines}
 use Rattle.shares.proofs.Counting.{needed_least, needed_next}
 use Rattle.shares.proofs.Filing.{row}
 use Rattle.shares.proofs.Prefixes.{unserved_taken}
-use Rattle.shares.proofs.limits.needs_fit.Goals as goal
+use Rattle.shares.proofs.limits.needed_by_first.Goals as goal
 
 pub gathered_needs-requires-clause-filed : goal.gathered_needs-requires-clause-filed
 gathered_needs-requires-clause-filed c =
@@ -79,8 +78,8 @@ loop-piece-preserved c =
       walk = walk_later c.args.layout.now.seats.items c.in_ok-gathered.gathered.items n (n + 1) c.step_to.new.walk (omega arith) c.in_ok-step_to.ensures.walk;
     }
 
-pub returns-in-Err-Large-clause-fits : goal.returns-in-Err-Large-clause-fits
-returns-in-Err-Large-clause-fits c =
+pub returns-in-Err-Large-clause-needed : goal.returns-in-Err-Large-clause-needed
+returns-in-Err-Large-clause-needed c =
     let x = c.args.layout.now in
     let p : Plan = plan_of x.plan.now in
     let cert : Certificate = certificate_of x.cert.now in
@@ -94,7 +93,7 @@ returns-in-Err-Large-clause-fits c =
     (subst (NeedStops p (with_lines cert (take c.args.count c.deref.result.now)) n c.loop-piece.room) c.in-Err-Large.field-0-is c.in-Err-Large.ensures.stop) in
     let least = needed_least p (with_needs cert c.args.count) n (length (pieces p)) less in
     let before = c.loop-piece.invariant.room in
-    ((λ e. absurd (false≢true e)), (λ few. absurd (omega (arith, past, least, before, few))))
+    omega (arith, past, least, before)
 
 pub returns-in-Err-Unserved-clause-unserved : goal.returns-in-Err-Unserved-clause-unserved
 returns-in-Err-Unserved-clause-unserved c =

@@ -4,7 +4,7 @@ use Rattle.plan.specs.Certificate.Certificate.{certificate_of}
 use Rattle.shares.specs.Blocks.{IsWalkFrom}
 use Rattle.shares.specs.Counts.{with_needs}
 use Rattle.shares.specs.Has.{needed_before}
-use Rattle.shares.proofs.limits.needs_fit.Given as goal
+use Rattle.shares.proofs.limits.needed_by_first.Given as goal
 
 abbrev pub invariant-loop-piece : goal.invariant-loop-piece
 invariant-loop-piece l = record {
