@@ -28,6 +28,7 @@ pub mod Aside
 pub mod StoreRuns
 pub mod OneLines
 pub mod TwoLoops
+pub mod ShiftedLoops
 pub mod Windows
 pub mod Spots
 pub mod RowVisits

@@ -49,14 +49,14 @@ both_ways false true x y v h = refl
 both_ways false false x y v h = refl
 
 -- two symbols may be bound in either order
-swapped : (s : Symbols) (i j : ℕ) (z w : ℤ) (f g : Bool) → i ≢ j → (bind (bind s i z f) j w g).value ≡ (bind (bind s j w g) i z f).value
+pub swapped : (s : Symbols) (i j : ℕ) (z w : ℤ) (f g : Bool) → i ≢ j → (bind (bind s i z f) j w g).value ≡ (bind (bind s j w g) i z f).value
 swapped s i j z w f g h = λ x k. each k x
   where
     each : (k : ℕ) → (bind (bind s i z f) j w g).value k ≡ (bind (bind s j w g) i z f).value k
     each k = both_ways (k == j) (k == i) w z (s.value k) (λ p q. let e : i ≡ j = grind (arith, nat_tests) in h e)
 
 -- so many turns of the outer loop are as many times the inner loop's turns
-risen : (f g : ℤ) (n p q : ℕ) → f ≡ g *ℤ pos n → f *ℤ pos p +ℤ g *ℤ pos q ≡ g *ℤ pos (p * n + q)
+pub risen : (f g : ℤ) (n p q : ℕ) → f ≡ g *ℤ pos n → f *ℤ pos p +ℤ g *ℤ pos q ≡ g *ℤ pos (p * n + q)
 risen f g n p q h =
     let outer : f *ℤ pos p ≡ g *ℤ pos (p * n) = ap (λ (z : ℤ). z *ℤ pos p) h ∙ sym (multiple_assoc g (pos n) (pos p)) ∙ ap (λ (z : ℤ). g *ℤ z) (pos-*ℤ-pos n p ∙ ap pos (mul_comm n p)) in
     let both : g *ℤ pos (p * n + q) ≡ g *ℤ pos (p * n) +ℤ g *ℤ pos q = distribute g (pos (p * n)) (pos q) in
@@ -103,7 +103,7 @@ all_narrow cs s i j a c p q n f g d e other h narrow =
     All-from_recursion (CoordinateIsNarrow after) cs (each_narrow cs s i j a c p q n f g d e other h (recursion_from_All (CoordinateIsNarrow before) cs narrow))
 
 -- a store depends on what its coordinates come to
-stored_same : (S : Setting) (b k : ℕ) (at : List PlanCoordinate) (e : Term) (x y : Symbols) → map (target x) at ≡ map (target y) at → stored S b k at e x ≡ stored S b k at e y
+pub stored_same : (S : Setting) (b k : ℕ) (at : List PlanCoordinate) (e : Term) (x y : Symbols) → map (target x) at ≡ map (target y) at → stored S b k at e x ≡ stored S b k at e y
 stored_same S b k at e x y h =
     let n = S.dimensions b in
     let first : map (target x) (take n at) ≡ map (target y) (take n at) = sym (take-map (target x) n at) ∙ ap (take n) h ∙ take-map (target y) n at in
@@ -141,7 +141,7 @@ rows_from f g a c n p (suc m) h =
     ∙ ap (flat_map g) (sym (rising_append (c +ℤ pos (p * n)) n (m * n)))
     ∙ ap (λ (k : ℕ). flat_map g (rising (c +ℤ pos (p * n)) k)) size
 
-rows : (f : ℤ → ℤ → List Action) (g : ℤ → List Action) (a c : ℤ) (n m : ℕ) → ((p q : ℕ) → f (a +ℤ pos p) (c +ℤ pos q) ≡ g (c +ℤ pos (p * n + q))) →
+pub rows : (f : ℤ → ℤ → List Action) (g : ℤ → List Action) (a c : ℤ) (n m : ℕ) → ((p q : ℕ) → f (a +ℤ pos p) (c +ℤ pos q) ≡ g (c +ℤ pos (p * n + q))) →
     flat_map (λ z. flat_map (f z) (rising c n)) (rising a m) ≡ flat_map g (rising c (m * n))
 rows f g a c n m h =
     let x : a ≡ a +ℤ pos 0 = omega (arith, ints) in
@@ -149,7 +149,7 @@ rows f g a c n m h =
     ap (λ (z : ℤ). flat_map (λ z. flat_map (f z) (rising c n)) (rising z m)) x ∙ rows_from f g a c n 0 m h ∙ ap (λ (z : ℤ). flat_map g (rising z (m * n))) y
 
 -- so many numbers are so many rows, and some of one more
-in_rows : (m n k : ℕ) (P : Type 0) → k < m * n → ((p q : ℕ) → p < m → q < n → k ≡ p * n + q → P) → P
+pub in_rows : (m n k : ℕ) (P : Type 0) → k < m * n → ((p q : ℕ) → p < m → q < n → k ≡ p * n + q → P) → P
 in_rows m zero k P lt f = absurd (omega arith)
 in_rows m (suc n) k P lt f =
     let some : zero < suc n = omega arith in
@@ -209,7 +209,7 @@ in_between low high z inside = in_rising (clipped ((high +ℤ pos 1) -ℤ low)) 
 number_largest : (s : Symbols) (ls : List Form) (z : ℤ) → ls ≡ number z ∷ [] → largest s ls ≡ z
 number_largest s ls z h = ap (largest s) h ∙ omega (arith, ints)
 
-counted : (low high : ℤ) (n : ℕ) → AreTurns low high n → between low high ≡ rising low n
+pub counted : (low high : ℤ) (n : ℕ) → AreTurns low high n → between low high ≡ rising low n
 counted low high n h =
     let d : (high +ℤ pos 1) -ℤ low ≡ pos n = omega (arith, ints, h.to) in
     ap (λ (e : ℤ). rising low (clipped e)) d
@@ -220,7 +220,7 @@ ends_smallest s ls z (Some l) h =
     let same : form_value (number z) s ≡ z = omega (arith, ints) in
     ap (smallest s) h ∙ ap (λ (x : ℤ). int_min x (form_value l.now s)) same
 
-span_turns : (s : Symbols) (x : Span1) (low z : ℤ) (e : Option (Bor Form)) → x.lower ≡ number low ∷ [] → AreEnds z e x.upper → turns s x ≡ between low (end_in s z e)
+pub span_turns : (s : Symbols) (x : Span1) (low z : ℤ) (e : Option (Bor Form)) → x.lower ≡ number low ∷ [] → AreEnds z e x.upper → turns s x ≡ between low (end_in s z e)
 span_turns s x low z e lower upper =
     let first = number_largest s x.lower low lower in
     let last = ends_smallest s x.upper z e upper in
@@ -293,7 +293,7 @@ guarded f s None c h n t = ap (flat_map f) (counted c h n t)
 guarded f s (Some l) c h n t = cut f (form_value l.now s) c h n t.to
 
 -- the inner loop alone
-inner_actions : (S : Setting) (s : Symbols) (body : Statement) (x : StoreLoop) (h : IsStoreLoop body x) (low high : ℤ) (e : Option (Bor Form)) (n : ℕ) →
+pub inner_actions : (S : Setting) (s : Symbols) (body : Statement) (x : StoreLoop) (h : IsStoreLoop body x) (low high : ℤ) (e : Option (Bor Form)) (n : ℕ) →
     x.span.now.lower ≡ number low ∷ [] → AreEnds high e x.span.now.upper → AreTurns low high n →
     actions S body s
     ≡ flat_map (λ w. if within s e w then stored S x.line.buffer h.is.line.store.definition (map coordinate_of x.line.coordinates.now) (term_of x.line.value.now)

@@ -22,5 +22,6 @@ pub mod HeldTurns
 pub mod RunReadings
 pub mod StoreLines
 pub mod Joining
+pub mod Shifting
 pub mod Scanlines
 pub mod CellRows

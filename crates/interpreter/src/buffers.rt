@@ -14,5 +14,6 @@ mod turning;
 
 pub use limit::Limit;
 pub use memory::Buffers;
+pub(crate) use memory::larger;
 pub use room::{Room, Rooms};
 pub(crate) use spot::Spot;

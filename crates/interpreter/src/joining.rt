@@ -72,7 +72,7 @@ fn looped(stmt: &Stmt) -> Option<StoreLoop<'_>>
 }
 
 /// The loop over a line that stores, where a statement or a block is that loop alone.
-fn store_loop(stmt: &Stmt) -> Option<StoreLoop<'_>>
+pub(crate) fn store_loop(stmt: &Stmt) -> Option<StoreLoop<'_>>
     ensures { IfSome result (IsStoreLoop (statement_of stmt.now)) }
 {
     match stmt {
@@ -92,7 +92,7 @@ fn number_alone(form: &Lin) -> Option<i64>
 }
 
 /// The number of forms that are one number alone.
-fn number_of(forms: &Forms) -> Option<i64>
+pub(crate) fn number_of(forms: &Forms) -> Option<i64>
     ensures { IfSome result (λ z. forms.now ≡ number z ∷ []) }
 {
     let [form] = forms.as_slice() else {
@@ -119,7 +119,7 @@ fn ends_of(forms: &Forms) -> Option<Ends<'_>>
 }
 
 /// How many numbers there are from one to another, some at least.
-fn count_of(low: i64, high: i64) -> Option<usize>
+pub(crate) fn count_of(low: i64, high: i64) -> Option<usize>
     ensures turns { IfSome result (AreTurns low high) }
     ensures some { IfSome result (λ n. 0 < n) }
 {
@@ -131,7 +131,7 @@ fn count_of(low: i64, high: i64) -> Option<usize>
 }
 
 /// The last of so many numbers from this one on.
-fn last_of(low: i64, count: usize) -> Option<i64>
+pub(crate) fn last_of(low: i64, count: usize) -> Option<i64>
     ensures { IfSome result (λ z. AreTurns low z count) }
 {
     let count = i64::try_from(count).ok()?;

@@ -20,6 +20,7 @@ mod run_reading;
 mod runs;
 mod scanlines;
 mod scratch;
+mod shifting;
 mod sizes;
 mod state;
 mod store;

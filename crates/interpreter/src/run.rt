@@ -27,6 +27,7 @@ use crate::joining::{joined_loops, run_joined};
 use crate::piece::Piece;
 use crate::runs::{run_stores, store_line};
 use crate::scratch::Scratch;
+use crate::shifting::run_alike;
 use crate::sizes::{Size, sizes_at};
 use crate::state::State;
 use crate::store::{allot, store};
@@ -173,8 +174,9 @@ fn run_turns<'a, C: Cells>(
         let line = &both.inner.line;
         return run_joined(piece, line, turns, both.turns, both.ends, symbols, state);
     }
+    let next = run_alike(piece, turns, body, symbols, state)?;
     let mark = symbols.bound_count();
-    for value in turns.low..=turns.high {
+    for value in next..=turns.high {
         symbols.bind(turn(turns, value));
         run(alloc, piece, cells, body, symbols, state)?;
         symbols.forget(mark);

@@ -7,6 +7,7 @@ ghost use Rattle.interpreter.specs.Needs.{region_count};
 ghost use Rattle.plan.specs.Certificate.Cells.{own_region};
 ghost use Rattle.interpreter.specs.Scratches.{room_of, IsNotedFor, IsScratchForAll};
 
+use crate::buffers::larger;
 use crate::needs::{Needs, note_needs};
 use crate::run::own_region;
 use crate::sizes::{Size, sizes_of};
@@ -35,14 +36,6 @@ fn own_count(all: &[Own], number: usize) -> usize
         Some(region) => region.as_slice().len(),
         None => 0,
     }
-}
-
-/// The larger of two numbers.
-fn larger(left: usize, right: usize) -> usize
-    ensures left { left ≤ result }
-    ensures right { right ≤ result }
-{
-    if left < right { right } else { left }
 }
 
 /// Notes what the pieces of a group of this number need.

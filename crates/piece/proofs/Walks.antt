@@ -1,14 +1,13 @@
 -- Pieces counted through the groups.
-use Rattle.std.proofs.Common.{◌≡◌, ℕ, zero, suc, ◌+◌, ◌-◌, ◌*◌, ◌^◌, min, ◌<◌, ◌≤◌, List, [], ◌∷◌, ◌++◌, map, take, length, get_or, Some, refl, sym, ap, ◌∙◌, arith}
+use Rattle.std.proofs.Common.{◌≡◌, ℕ, zero, suc, ◌+◌, ◌-◌, ◌*◌, ◌^◌, min, ◌<◌, ◌≤◌, List, [], ◌∷◌, ◌++◌, map, take, length, get_or, Some, refl, ap, ◌∙◌, subst, arith}
 use Rattle.std.specs.Prelude.{slice_get}
 use Rattle.std.specs.List.{range_with_len}
 use Rattle.std.proofs.lemmas.List.{take_more, length-append}
-use Rattle.std.proofs.lemmas.Option.{slice_get-map, slice_get-get_or}
-use Rattle.std.specs.Option.{option_map}
 use Rattle.std.proofs.lemmas.List.FromFn.{length-map-range_with_len}
 use Rattle.plan.specs.Plan.{Group}
 use Rattle.plan.specs.View.{group_of}
 use Rattle.plan.specs.declared.plan.Group.{Group as CodeGroup}
+use Rattle.interpreter.proofs.Sufficing.{group_at as code_group_at}
 use Rattle.plan.specs.Certificate.Cells.{group_pieces, piece, piece_count, pieces_from, first_piece}
 
 -- ---- products
@@ -67,6 +66,5 @@ past gs i piece rank end at inside =
 -- the group that stands at a place of the code's list
 pub group_at : (gs items : List CodeGroup) (i : ℕ) (x : CodeGroup) → items ≡ gs → i < length items → x ≡ get_or items i x → slice_get (map group_of gs) i ≡ Some (group_of x)
 group_at gs items i x same l is =
-    slice_get-map group_of gs i
-    ∙ ap (option_map group_of) (ap (λ (xs : List CodeGroup). slice_get xs i) (sym same) ∙ slice_get-get_or items i x l)
-    ∙ ap (λ (y : CodeGroup). Some (group_of y)) (sym is)
+    let of_items : slice_get (map group_of items) i ≡ Some (group_of x) = code_group_at items i x l is in
+    subst (λ (xs : List CodeGroup). slice_get (map group_of xs) i ≡ Some (group_of x)) same of_items

@@ -82,7 +82,7 @@ fn places_for(limit: Limit, buffer: u64) -> usize
 }
 
 /// The larger of two numbers.
-fn larger(left: usize, right: usize) -> usize
+pub fn larger(left: usize, right: usize) -> usize
     ensures left { left ≤ result }
     ensures right { right ≤ result }
 {

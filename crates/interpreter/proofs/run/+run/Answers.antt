@@ -1,4 +1,4 @@
-use Rattle.std.proofs.Common.{◌≡◌, List, ℤ, ℕ, Err, ◌≤ℤ◌, [], ◌∷◌, ◌+◌, ◌<◌, ◌≤◌, length, length-append, sym, ap, ◌∙◌, subst, take, rules, arith, pos, ◌+ℤ◌, w64, to_z, Option, Some}
+use Rattle.std.proofs.Common.{◌≡◌, List, ℤ, ℕ, Err, ◌≤ℤ◌, [], ◌∷◌, ◌+◌, ◌<◌, ◌≤◌, length, length-append, sym, ap, ◌∙◌, subst, take, rules, arith, pos, ◌+ℤ◌, w64, to_z, of_z, SFits, Option, Some}
 use Rattle.std.specs.Prelude.{Contains, flat_map, int_le}
 use Rattle.std.proofs.lemmas.Int.{ints, to_z-of_z}
 use Rattle.std.proofs.lemmas.Result.{err_from_is_err_and}
@@ -31,6 +31,7 @@ use Rattle.interpreter.specs.Evaluation.Indices.{indices_in}
 use Rattle.interpreter.specs.Runs.{store_at}
 use Rattle.interpreter.proofs.Fitting.{indices_mapped}
 use Rattle.interpreter.proofs.OneLines.{line_actions, line_narrow, line_fits}
+use Rattle.interpreter.proofs.ShiftedLoops.{ends_too}
 use Rattle.interpreter.proofs.TwoLoops.{loops_run, loops_narrow, loops_end, loops_fit}
 use Rattle.interpreter.proofs.run.+run.Goals as goal
 
@@ -150,7 +151,7 @@ run_turns-returns-in_err-run-clause-run g t c =
     bound_now l.symbols c.bind.new.self c.turn.result turns.symbol z (int_le z turns.low) made is ∙ ap (λ (b : Bindings). bind (symbols_of b) turns.symbol z (int_le z turns.low)) l.invariant.symbols in
     let go : Progress → Option Progress = steps A (flat_map f (between (z +ℤ pos 1) turns.high)) in
     let next = turns_next A f z turns.high p whole to_high l.invariant.run in
-    let e = err_from_is_err_and c.from_residual.result c.from_residual.ensures.1 in
+    let e = err_from_is_err_and c.from_residual-in_err-run.result c.from_residual-in_err-run.ensures.1 in
     let o : Option Progress = steps A (actions S body (symbols_of c.bind.new.self)) p in
     let new : Progress = progress_of c.run.new.state in
     let ended : EndsIn c.args.state.now.given.capacity (λ (_ : Unit {0}). new) (Err c.in_err-run.field-0.0) o =
@@ -182,7 +183,7 @@ run_turns-loop-value-preserved g t c =
     let done : steps A (f z) p ≡ Some (progress_of c.run.new.state) = ap (λ (y : Symbols). steps A (actions S body y) p) (sym now) ∙ c.in_ok-run.ensures.run in
     let later : whole ≡ steps A (flat_map f (between (z +ℤ pos 1) turns.high)) (progress_of c.run.new.state) = goes_on (steps A (f z) p) (progress_of c.run.new.state) go whole next done in
     let kept : c.run.new.symbols ≡ c.bind.new.self = c.in_ok-run.ensures.symbols in
-    let count : c.bound_count-mark.result ≡ length l.symbols.bound = c.bound_count-mark.ensures ∙ ap (λ (b : Bindings). length b.bound) (sym l.invariant.symbols) in
+    let count : c.bound_count-mark.result ≡ length l.symbols.bound = c.bound_count-mark.ensures ∙ ap (λ (b : Bindings). length b.bound) (c.in_ok-next.ensures.symbols ∙ sym l.invariant.symbols) in
     record {
       large = record { space = c.in_ok-run.ensures.large.space ∙ l.invariant.large.space; given = c.in_ok-run.ensures.large.given ∙ l.invariant.large.given };
       symbols = c.forget.ensures ∙ (λ j. record { grid = (kept j).grid; bound = take c.bound_count-mark.result (kept j).bound; grid_room = (kept j).grid_room; room = (kept j).room }) ∙ forgotten l.symbols c.bind.new.self c.turn.result c.bound_count-mark.result made count ∙ l.invariant.symbols;
@@ -372,3 +373,33 @@ run_turns-returns-in-Some-joined_loops-clause-run g t c =
     let same = loops_run x (symbols_of c.args.symbols.now) c.args.turns (statement_of c.args.body.now) c.in-Some-joined_loops.both h in
     subst (λ (l : List Action). EndsIn c.args.state.now.given.capacity (λ (_ : Unit {0}). progress_of c.run_joined.new.state) c.run_joined.result (steps (around x cell) l p)) (sym same)
     (c.run_joined.ensures.run h.loop.is.line.store.definition cell)
+
+pub run_turns-loop-value-init : goal.run_turns-loop-value-init
+run_turns-loop-value-init g t c =
+    let x = c.args.piece.now in
+    let cell = g.C.Cells.cell c.args.cells.now in
+    let turns = c.args.turns in
+    let f : ℤ → List Action = λ z. actions (setting x) (statement_of c.args.body.now) (bind (symbols_of c.args.symbols.now) turns.symbol z (int_le z turns.low)) in
+    let next = c.in_ok-next.next in
+    let fits : SFits w64 next = search rules in
+    let same : next ≡ to_z w64 (of_z w64 next) = sym (to_z-of_z w64 next fits) in
+    record {
+      symbols = c.in_ok-next.ensures.symbols;
+      large = c.in_ok-next.ensures.large;
+      low = subst (λ (z : ℤ). turns.low ≤ℤ z) same c.in_ok-next.ensures.next;
+      run = c.in_ok-next.ensures.run cell ∙ ap (λ (z : ℤ). steps (around x cell) (flat_map f (between z turns.high)) (progress_of c.run_alike.new.state)) same;
+    }
+
+pub run_turns-returns-in_err-next-clause-run : goal.run_turns-returns-in_err-next-clause-run
+run_turns-returns-in_err-next-clause-run g t c =
+    let x = c.args.piece.now in
+    let cell = g.C.Cells.cell c.args.cells.now in
+    let A = around x cell in
+    let turns = c.args.turns in
+    let room = c.args.state.now.given.capacity in
+    let f : ℤ → List Action = λ z. actions (setting x) (statement_of c.args.body.now) (bind (symbols_of c.args.symbols.now) turns.symbol z (int_le z turns.low)) in
+    let whole : Option Progress = steps A (flat_map f (between turns.low turns.high)) (progress_of c.args.state.now) in
+    let new : Progress = progress_of c.run_alike.new.state in
+    let later : ℤ → Progress → Option Progress = λ z. steps A (flat_map f (between z turns.high)) in
+    let e = err_from_is_err_and c.from_residual.result c.from_residual.ensures.1 in
+    rw (e.1, e.2) (ends_too room new new later c.in_err-next.field-0.0 whole (c.in_err-next.ensures.run cell))

@@ -18,12 +18,12 @@ use Rattle.interpreter.proofs.run.+run.Given as goal
 abbrev pub invariant-run_turns-loop-value : goal.invariant-run_turns-loop-value
 invariant-run_turns-loop-value g l =
     let A = around l.piece (g.C.Cells.cell l.cells) in
-    let f : ℤ → List Action = λ z. actions (setting l.piece) (statement_of l.body) (bind (symbols_of l.initial.symbols) l.turns.symbol z (int_le z l.turns.low)) in
+    let f : ℤ → List Action = λ z. actions (setting l.piece) (statement_of l.body) (bind (symbols_of l.fn.symbols) l.turns.symbol z (int_le z l.turns.low)) in
     record {
-      symbols : l.symbols ≡ l.initial.symbols;
-      large : IsAsLarge l.initial.state l.state;
+      symbols : l.symbols ≡ l.fn.symbols;
+      large : IsAsLarge l.fn.state l.state;
       low : l.turns.low ≤ℤ l.value;
-      run : Comes A (steps A (flat_map f (between l.turns.low l.turns.high)) (progress_of l.initial.state)) (flat_map f (between l.value l.turns.high)) (progress_of l.state);
+      run : Comes A (steps A (flat_map f (between l.turns.low l.turns.high)) (progress_of l.fn.state)) (flat_map f (between l.value l.turns.high)) (progress_of l.state);
     }
 
 abbrev pub invariant-run_block-loop-stmt : goal.invariant-run_block-loop-stmt
