@@ -1,12 +1,12 @@
 -- How often the actions of a statement count is its tally.
-use Rattle.std.proofs.Common.{◌≡◌, ℕ, zero, suc, ◌+◌, Bool, true, false, ◌&&◌, List, [], ◌∷◌, ◌++◌, length, map, refl, sym, ap, ◌∙◌, arith, ℤ, count_by, flat_map, sum_by, cond}
-use Rattle.std.specs.Prelude.{if◌then◌else◌, int_le, slice_get, Option, Some, None}
+use Rattle.std.proofs.Common.{◌≡◌, ℕ, suc, ◌+◌, Bool, true, false, List, [], ◌∷◌, ◌++◌, length, map, refl, sym, ap, ◌∙◌, arith, ℤ, count_by, flat_map, sum_by, cond}
+use Rattle.std.specs.Prelude.{if◌then◌else◌, int_le}
 use Rattle.std.proofs.lemmas.List.Sums.{sum_by-append, sum_by-cons}
 use Rattle.tree.specs.Term.{Term}
 use Rattle.plan.specs.Plan.{Statement, Seq, For, Let, First, Guard, Alloc, Fetch, Store, Publish, Statements, Empty, Then, Coordinate}
 use Rattle.plan.specs.Rooms.{Room}
 use Rattle.plan.specs.Symbols.{Symbols, bind, form_value, largest, points, turns}
-use Rattle.plan.specs.Semantics.Actions.{Action, Allot, Take, Put, Change, Give, Setting, Target, actions, action_for, after, block_actions, is_pure_store, stored}
+use Rattle.plan.specs.Semantics.Actions.{Action, Allot, Take, Give, Setting, actions, after, block_actions, stored}
 use Rattle.report.specs.Tally.{block_tally, tally, Counted}
 
 -- the test is of buffers and groups alone

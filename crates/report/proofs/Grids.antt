@@ -1,7 +1,6 @@
 -- What is known of a grid's symbols.
-use Rattle.std.proofs.Common.{◌≡◌, ◌≢◌, ℕ, zero, suc, ◌+◌, ◌-◌, ◌*◌, ◌/◌, ◌%◌, ◌^◌, ◌<◌, ◌≤◌, Bool, true, false, not, List, [], ◌∷◌, ◌++◌, drop, fold, length, get_or, refl, sym, ap, ◌∙◌, subst, arith, ℤ, pos}
-use Rattle.std.specs.Prelude.{◌==◌, if◌then◌else◌}
-use Rattle.std.proofs.lemmas.Bool.Decides.{nat_tests}
+use Rattle.std.proofs.Common.{◌≡◌, ℕ, zero, suc, ◌+◌, ◌-◌, ◌/◌, ◌%◌, ◌<◌, Bool, false, List, [], ◌∷◌, ◌++◌, drop, fold, length, get_or, refl, sym, ap, ◌∙◌, subst, arith, pos}
+use Rattle.std.specs.Prelude.{if◌then◌else◌}
 use Rattle.std.proofs.lemmas.Int.{ints}
 use Rattle.std.proofs.lemmas.List.{length_push}
 use Rattle.plan.specs.Certificate.Cells.{grid_point, grid_symbols, grid_value, piece_count}
@@ -73,7 +72,9 @@ one_further grid rank i known more rest b l h eb em =
     let x : ℕ = rest % get_or grid i 0 in
     record {
       at = h.at ++ x ∷ [];
-      known_is = em ∙ (λ j. h.known_is j ++ eb j ∷ []) ∙ ap (λ (n : ℕ). grid_bindings 0 h.at ++ point_binding n (pos x) ∷ []) (let g : length h.at ≡ i = h.long in let e : i ≡ 0 + length h.at = omega arith in e) ∙ sym (grid-push 0 h.at x);
+      known_is = em ∙ (λ j. h.known_is j ++ eb j ∷ [])
+          ∙ ap (λ (n : ℕ). grid_bindings 0 h.at ++ point_binding n (pos x) ∷ []) (let g : length h.at ≡ i = h.long in let e : i ≡ 0 + length h.at = omega arith in e)
+          ∙ sym (grid-push 0 h.at x);
       long = longer h.at x i h.long;
       way = further grid rank i h.at rest l h.way;
     }

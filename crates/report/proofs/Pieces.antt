@@ -1,7 +1,8 @@
 -- What a piece counts is how often its actions do, and the sum over the pieces.
-use Rattle.std.proofs.Common.{◌≡◌, ℕ, zero, suc, ◌+◌, ◌^◌, ◌-◌, ◌<◌, ◌≤◌, min, Bool, true, false, List, [], ◌∷◌, ◌++◌, length, take, map, get_or, refl, sym, ap, ◌∙◌, subst, arith, ℤ, count_by, flat_map, sum_by, Option, Some, None}
+use Rattle.std.proofs.Common.{◌≡◌, ℕ, zero, suc, ◌+◌, ◌^◌, ◌-◌, ◌<◌, ◌≤◌, Bool, true, false, List, [], ◌∷◌, length, take, map, get_or, refl, sym, ap, ◌∙◌, subst, arith, ℤ, count_by}
+use Rattle.std.proofs.Common.{flat_map, sum_by, Option, Some, None}
 use Rattle.std.specs.List.{list_any}
-use Rattle.std.specs.Prelude.{◌&&◌, if◌then◌else◌, int_le, slice_get, Contains, IfSome}
+use Rattle.std.specs.Prelude.{◌&&◌, if◌then◌else◌, int_le, slice_get, IfSome}
 use Rattle.std.proofs.Props.{props}
 use Rattle.std.proofs.Math.Logic.{∥∥₁_elim}
 use Rattle.std.proofs.lemmas.List.Sums.{sum_by_more, sum_by-take-le}
@@ -9,13 +10,13 @@ use Rattle.meaning.specs.Algorithm.{Algorithm}
 use Rattle.meaning.specs.Names.{same_name}
 use Rattle.tree.specs.Term.{Term}
 use Rattle.plan.specs.declared.plan.Group.{Group as CodeGroup}
-use Rattle.plan.specs.Plan.{Statement, Seq, For, Let, First, Guard, Alloc, Fetch, Store, Publish, Statements, Empty, Then, Coordinate, Group, Plan}
+use Rattle.plan.specs.Plan.{Statement, Seq, For, Let, First, Guard, Alloc, Fetch, Store, Publish, Statements, Empty, Then, Group, Plan}
 use Rattle.plan.specs.declared.plan.Plan.{Plan as CodePlan}
 use Rattle.plan.specs.View.{group_of, plan_of}
 use Rattle.plan.specs.Symbols.{Symbols, bind, largest}
 use Rattle.plan.specs.Certificate.Certificate.{Certificate}
 use Rattle.plan.specs.Certificate.Cells.{Piece, grid_point, grid_symbols, piece, pieces}
-use Rattle.plan.specs.Semantics.Actions.{Action, Setting, Target, actions, action_for, after, is_pure_store, stored, target, fixed}
+use Rattle.plan.specs.Semantics.Actions.{Target, actions, action_for, after}
 use Rattle.plan.specs.Semantics.Setting.{allocated, function_in, group_name, setting_of}
 use Rattle.headline.specs.Numbers.{PiecesAreNumbered}
 use Rattle.checked_plan.specs.Ready.Ready.{Ready}

@@ -1,5 +1,5 @@
 -- The rows of a plan's functions, one function more.
-use Rattle.std.proofs.Common.{◌≡◌, ℕ, zero, suc, ◌+◌, Bool, true, false, List, [], ◌∷◌, ◌++◌, drop, filter, map, cond, refl, sym, ap, ◌∙◌, add-one, append_assoc, Option, Some, None}
+use Rattle.std.proofs.Common.{◌≡◌, ℕ, zero, suc, ◌+◌, Bool, true, false, List, [], ◌∷◌, ◌++◌, drop, filter, map, cond, sym, ap, ◌∙◌, add-one, append_assoc, Some}
 use Rattle.std.specs.Prelude.{slice_get}
 use Rattle.std.specs.declared.string.String.{String}
 use Rattle.std.specs.Global.{Global}
@@ -29,17 +29,21 @@ abbrev pub rows_from : Plan → Certificate → List Entry → ℕ → List Row
 rows_from p c es k = map (row p c) (filter (is_stored p) (names (drop k es)))
 
 pub next_rows : (p : Plan) (c : Certificate) (es : List Entry) (k : ℕ) (e : Entry) → slice_get es k ≡ Some e →
-    rows_from p c es k ≡ map (row p c) (cond (is_stored p (function_of e).name) ((function_of e).name ∷ filter (is_stored p) (names (drop (k + 1) es))) (filter (is_stored p) (names (drop (k + 1) es))))
+    rows_from p c es k
+    ≡ map (row p c) (cond (is_stored p (function_of e).name) ((function_of e).name ∷ filter (is_stored p) (names (drop (k + 1) es))) (filter (is_stored p) (names (drop (k + 1) es))))
 next_rows p c es k e at =
     ap (λ (l : List Entry). map (row p c) (filter (is_stored p) (names l))) (drop_at es k e at)
-    ∙ ap (λ (n : ℕ). map (row p c) (cond (is_stored p (function_of e).name) ((function_of e).name ∷ filter (is_stored p) (names (drop n es))) (filter (is_stored p) (names (drop n es))))) (sym (add-one k))
+    ∙ ap (λ (n : ℕ). map (row p c) (cond (is_stored p (function_of e).name) ((function_of e).name ∷ filter (is_stored p) (names (drop n es)))
+    (filter (is_stored p) (names (drop n es))))) (sym (add-one k))
 
-pub one_row : (p : Plan) (c : Certificate) (es : List Entry) (k : ℕ) (e : Entry) (old new : List FunctionCost) (cost : FunctionCost) (all : List Row) → slice_get es k ≡ Some e → is_stored p (function_of e).name ≡ true
+pub one_row : (p : Plan) (c : Certificate) (es : List Entry) (k : ℕ) (e : Entry) (old new : List FunctionCost) (cost : FunctionCost) (all : List Row)
+    → slice_get es k ≡ Some e → is_stored p (function_of e).name ≡ true
     → row_of cost ≡ row p c (function_of e).name → new ≡ old ++ cost ∷ [] → map row_of old ++ rows_from p c es k ≡ all → map row_of new ++ rows_from p c es (k + 1) ≡ all
 one_row p c es k e old new cost all at there is ne h =
     let rest = rows_from p c es (k + 1) in
     let f : rows_from p c es k ≡ row p c (function_of e).name ∷ rest =
-    next_rows p c es k e at ∙ ap (λ (b : Bool). map (row p c) (cond b ((function_of e).name ∷ filter (is_stored p) (names (drop (k + 1) es))) (filter (is_stored p) (names (drop (k + 1) es))))) there in
+    next_rows p c es k e at
+    ∙ ap (λ (b : Bool). map (row p c) (cond b ((function_of e).name ∷ filter (is_stored p) (names (drop (k + 1) es))) (filter (is_stored p) (names (drop (k + 1) es))))) there in
     ap (λ (l : List FunctionCost). map row_of l ++ rest) ne
     ∙ ap (λ (l : List Row). l ++ rest) (map-append row_of old (cost ∷ []))
     ∙ append_assoc (map row_of old) (row_of cost ∷ []) rest
@@ -47,9 +51,11 @@ one_row p c es k e old new cost all at there is ne h =
     ∙ ap (λ (l : List Row). map row_of old ++ l) (sym f)
     ∙ h
 
-pub no_row : (p : Plan) (c : Certificate) (es : List Entry) (k : ℕ) (e : Entry) (old new : List FunctionCost) (all : List Row) → slice_get es k ≡ Some e → is_stored p (function_of e).name ≡ false → new ≡ old
+pub no_row : (p : Plan) (c : Certificate) (es : List Entry) (k : ℕ) (e : Entry) (old new : List FunctionCost) (all : List Row)
+    → slice_get es k ≡ Some e → is_stored p (function_of e).name ≡ false → new ≡ old
     → map row_of old ++ rows_from p c es k ≡ all → map row_of new ++ rows_from p c es (k + 1) ≡ all
 no_row p c es k e old new all at there same h =
     let f : rows_from p c es k ≡ rows_from p c es (k + 1) =
-    next_rows p c es k e at ∙ ap (λ (b : Bool). map (row p c) (cond b ((function_of e).name ∷ filter (is_stored p) (names (drop (k + 1) es))) (filter (is_stored p) (names (drop (k + 1) es))))) there in
+    next_rows p c es k e at
+    ∙ ap (λ (b : Bool). map (row p c) (cond b ((function_of e).name ∷ filter (is_stored p) (names (drop (k + 1) es))) (filter (is_stored p) (names (drop (k + 1) es))))) there in
     ap (λ (l : List FunctionCost). map row_of l ++ rows_from p c es (k + 1)) same ∙ ap (λ (l : List Row). map row_of old ++ l) (sym f) ∙ h

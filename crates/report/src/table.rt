@@ -1,6 +1,6 @@
 //! The table of a plan's costs.
 
-ghost use Rattle.std.specs.Prelude.{◌≡◌, ◌++◌, length, replicate, decimal, string_bytes, IfOk, OnOk};
+ghost use Rattle.std.specs.Prelude.{◌≡◌, ◌++◌, decimal, string_bytes, IfOk, OnOk};
 ghost use Rattle.report.specs.Table.{gap, heading, left, right, row_line, table};
 ghost use Rattle.report.specs.View.{row_of, rows_of};
 

@@ -1,6 +1,6 @@
-use Rattle.std.proofs.Common.{List, ℕ, sym, ap, ◌∙◌}
-use Rattle.checked_plan.specs.View.{algorithm_checked, certificate_checked, plan_checked}
-use Rattle.report.specs.Costs.{row, rows}
+use Rattle.std.proofs.Common.{sym, ap, ◌∙◌}
+use Rattle.checked_plan.specs.View.{certificate_checked, plan_checked}
+use Rattle.report.specs.Costs.{row}
 use Rattle.report.proofs.Pieces.{stored_is}
 use Rattle.report.proofs.Rows.{Entry, one_row, no_row}
 use Rattle.report.proofs.costs.cost.Goals as goal

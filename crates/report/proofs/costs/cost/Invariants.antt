@@ -8,5 +8,6 @@ use Rattle.report.proofs.costs.cost.Given as goal
 
 abbrev pub invariant-loop-number : goal.invariant-loop-number
 invariant-loop-number l =
-    map row_of l.functions.items ++ map (row (plan_checked l.checked) (certificate_checked l.checked)) (filter (is_stored (plan_checked l.checked)) (map (λ f. Function.name f) (map function_of (drop l.number l.all.entries))))
+    map row_of l.functions.items ++ map (row (plan_checked l.checked) (certificate_checked l.checked))
+    (filter (is_stored (plan_checked l.checked)) (map (λ f. Function.name f) (map function_of (drop l.number l.all.entries))))
     ≡ rows (algorithm_checked l.checked) (plan_checked l.checked) (certificate_checked l.checked)

@@ -28,6 +28,7 @@ returns c =
     (λ (n : ℕ). up_to m n ≡ up_to m (deeds_in (plan_checked x) (certificate_checked x) d f (slice_get (pieces (plan_checked x)) c.args.piece)))
     (λ n h.
     subst (λ (k : ℕ). up_to k n ≡ up_to k (deeds_in (plan_checked x) (certificate_checked x) d f (slice_get (pieces (plan_checked x)) c.args.piece))) (capped_is m small)
-    (piece_here x c.plan-plan.result.now c.deref.result.now group d f (capped m) c.args.piece place.result.group place.result.rank c.plan-plan.ensures c.deref.ensures.value place.ensures c.index-group.ensures
+    (piece_here x c.plan-plan.result.now c.deref.result.now group d f (capped m) c.args.piece place.result.group place.result.rank
+    c.plan-plan.ensures c.deref.ensures.value place.ensures c.index-group.ensures
     c.pieces_are_numbered.ensures c.pieces_are_narrow.ensures n h))
     c.count_at.ensures

@@ -1,4 +1,4 @@
-use Rattle.std.proofs.Common.{◌≡◌, List, Bool, sym, ap, ◌∙◌, true, false}
+use Rattle.std.proofs.Common.{List, sym, ap, ◌∙◌, true}
 use Rattle.plan.specs.declared.stmt.Stmt.{Stmt}
 use Rattle.plan.specs.Plan.{Statement, Seq, block}
 use Rattle.plan.specs.Lists.{list_statements}

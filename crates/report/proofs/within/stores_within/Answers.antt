@@ -1,4 +1,4 @@
-use Rattle.std.proofs.Common.{◌≡◌, ◌+◌, ◌-◌, ◌<◌, ◌^◌, ℕ, List, sym, ap, ◌∙◌, arith}
+use Rattle.std.proofs.Common.{◌+◌, ◌-◌, ◌<◌, ◌^◌, ℕ, List, sym, ap, ◌∙◌, arith}
 use Rattle.meaning.specs.Algorithm.{Algorithm}
 use Rattle.checked_plan.specs.View.{algorithm_checked, certificate_checked, plan_checked}
 use Rattle.report.specs.Costs.{row_stores, up_to}
