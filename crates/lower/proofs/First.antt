@@ -7,8 +7,8 @@ use Rattle.std.proofs.lemmas.Bool.{false≢true}
 use Rattle.std.proofs.Math.Seq.{take-length}
 use Rattle.std.proofs.lemmas.Result.{IfOk-weaker}
 use Rattle.meaning.specs.Algorithm.{Algorithm}
-use Rattle.lower.specs.declared.error.RegionRule.{RegionRule}
-use Rattle.lower.specs.declared.error.RegionRule.TheVariants.{TooLarge}
+use Rattle.sched.specs.declared.region_rule.RegionRule.{RegionRule}
+use Rattle.sched.specs.declared.region_rule.RegionRule.TheVariants.{TooLarge}
 use Rattle.lower.specs.declared.legality.Totals.{Totals}
 use Rattle.lower.specs.declared.definitions.Formula.{Formula}
 use Rattle.lower.specs.declared.definitions.Stored.{Stored}

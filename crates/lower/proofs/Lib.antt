@@ -1,6 +1,7 @@
 pub mod Bindings
 pub mod Calling
 pub mod Claimed
+pub mod Cuts
 pub mod Entries
 pub mod First
 pub mod Inputs
@@ -10,12 +11,14 @@ pub mod Loads
 pub mod Made
 pub mod Named
 pub mod Outsides
+pub mod Origins
 pub mod Places
 pub mod Puts
 pub mod Rooted
 pub mod Rounds
 pub mod Sizes
 pub mod Stops
+pub mod Taken
 pub mod Told
 pub mod Wholes
 pub mod Within

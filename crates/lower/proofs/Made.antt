@@ -16,7 +16,7 @@ use Rattle.lower.specs.Around.{grid_scope}
 use Rattle.lower.specs.Faults.{is_homeless, is_whole, are_whole}
 use Rattle.lower.specs.declared.parties.Party.{Party}
 use Rattle.lower.specs.Fetches.{Entry}
-use Rattle.lower.specs.Groups.{IsGroupOf, AreGroupsOf, IsOwnOf, AreOwned, line_behind, HaveBodies, grid_over, root_functions, region_of, HasGroups, rooted_if, rooted, has_region, AreLaid, IsOver, IsOwnOver, AreMade, AreBodies, AreAlone, IsPlanOf}
+use Rattle.lower.specs.Groups.{IsGroupOf, AreGroupsOf, IsOwnOf, AreOwned, HaveBlocks, line_behind, HaveBodies, grid_over, root_functions, region_of, HasGroups, rooted_if, rooted, has_region, AreLaid, IsOver, IsOwnOver, AreMade, AreBodies, AreAlone, IsPlanOf}
 use Rattle.lower.proofs.Laying.{IsLaidOver, laid_over_it}
 
 both : (a b : Bool) → (a && b) ≡ true → (a ≡ true) × (b ≡ true)
@@ -110,12 +110,12 @@ none_else (g ∷ gs) [] w = refl
 none_else (g ∷ gs) (l ∷ ls) w =
     none_with g (not g.subject.is_root) g.formulas l (rooted false gs ls) (ap not (whole_root g gs w)) (none_else gs ls (whole_rest g gs w))
 
-module _ (all : List Entry) where
+module _ (a : Algorithm) (all : List Entry) where
   bodies_with : (g : StoredText) (b : Bool) (o : Option (List FormulaText)) (l : Option LaidText) (es : List Entry) (gs : List StoredText) → b ≡ true → (b ≡ true → has_region o l ≡ true)
       → g.formulas ≡ o → ((fs : List FormulaText) (x : LaidText) → o ≡ Some fs → l ≡ Some x → IsLaidOver g fs x)
-      → ((n c line : ℕ) (ps : List Group) (os : List Own) (cs : List Claim) (ws : List Need) → AreMade es n ps os → AreBodies all n c line es ps cs ws → HaveBodies all n c line gs ps cs ws)
-      → (n c line : ℕ) (ps : List Group) (os : List Own) (cs : List Claim) (ws : List Need) → AreMade (rooted_if b g o l es) n ps os → AreBodies all n c line (rooted_if b g o l es) ps cs ws
-      → HaveBodies all n c line (g ∷ gs) ps cs ws
+      → ((n c line : ℕ) (ps : List Group) (os : List Own) (cs : List Claim) (ws : List Need) → AreMade es n ps os → AreBodies a all n c line es ps cs ws → HaveBodies a all n c line gs ps cs ws)
+      → (n c line : ℕ) (ps : List Group) (os : List Own) (cs : List Claim) (ws : List Need) → AreMade (rooted_if b g o l es) n ps os → AreBodies a all n c line (rooted_if b g o l es) ps cs ws
+      → HaveBodies a all n c line (g ∷ gs) ps cs ws
   bodies_with g true (Some fs) (Some l) es gs is h e laid f n c line [] os cs ws m k = absurd m
   bodies_with g true (Some fs) (Some l) es gs is h e laid f n c line (p ∷ ps) [] cs ws m k = absurd m
   bodies_with g true (Some fs) (Some l) es gs is h e laid f n c line (p ∷ ps) (o ∷ os) cs ws m k =
@@ -133,35 +133,60 @@ module _ (all : List Entry) where
   bodies_with g true None l es gs is h e laid f n c line ps os cs ws m k = absurd (false≢true (h refl))
   bodies_with g false o l es gs is h e laid f n c line ps os cs ws m k = absurd (false≢true is)
 
-  bodies : (a : Algorithm) (gs : List StoredText) → are_whole gs ≡ true → AreLaid gs (laid_functions a gs) → (n c line : ℕ) (ps : List Group) (os : List Own) (cs : List Claim) (ws : List Need)
-      → AreMade (rooted true gs (laid_functions a gs)) n ps os → AreBodies all n c line (rooted true gs (laid_functions a gs)) ps cs ws → HaveBodies all n c line gs ps cs ws
-  bodies a [] w h n c line [] [] cs ws m k = k
-  bodies a [] w h n c line [] (o ∷ os) cs ws m k = absurd m
-  bodies a [] w h n c line (p ∷ ps) os cs ws m k = absurd m
-  bodies a (g ∷ gs) w h n c line ps os cs ws m k =
+  bodies : (gs : List StoredText) → are_whole gs ≡ true → AreLaid gs (laid_functions a gs) → (n c line : ℕ) (ps : List Group) (os : List Own) (cs : List Claim) (ws : List Need)
+      → AreMade (rooted true gs (laid_functions a gs)) n ps os → AreBodies a all n c line (rooted true gs (laid_functions a gs)) ps cs ws → HaveBodies a all n c line gs ps cs ws
+  bodies [] w h n c line [] [] cs ws m k = k
+  bodies [] w h n c line [] (o ∷ os) cs ws m k = absurd m
+  bodies [] w h n c line (p ∷ ps) os cs ws m k = absurd m
+  bodies (g ∷ gs) w h n c line ps os cs ws m k =
       let found = laid_functions a gs in
       bodies_with g g.subject.is_root g.formulas (laid_within a g gs found) (rooted true gs found) gs (whole_root g gs w) h.0 refl
-      (λ fs x e is. laid_over_it a g gs found fs x e is) (bodies a gs (whole_rest g gs w) h.1) n c line ps os cs ws m k
+      (λ fs x e is. laid_over_it a g gs found fs x e is) (bodies gs (whole_rest g gs w) h.1) n c line ps os cs ws m k
+
+-- ---- blocks
+
+blocks_with : (g : StoredText) (b : Bool) (o : Option (List FormulaText)) (l : Option LaidText) (es : List Entry) (gs : List StoredText) → b ≡ true → (b ≡ true → has_region o l ≡ true)
+    → g.formulas ≡ o → ((fs : List FormulaText) (x : LaidText) → o ≡ Some fs → l ≡ Some x → IsLaidOver g fs x)
+    → ((n : ℕ) (ps : List Group) (os : List Own) → AreMade es n ps os → HaveBlocks gs ps os)
+    → (n : ℕ) (ps : List Group) (os : List Own) → AreMade (rooted_if b g o l es) n ps os → HaveBlocks (g ∷ gs) ps os
+blocks_with g true (Some fs) (Some l) es gs is h e laid f n [] os m = absurd m
+blocks_with g true (Some fs) (Some l) es gs is h e laid f n (p ∷ ps) [] m = absurd m
+blocks_with g true (Some fs) (Some l) es gs is h e laid f n (p ∷ ps) (o ∷ os) m =
+    (record { formulas = fs; extents = l.region; skeleton = l.skeleton; defined = e; region = m.0.region; laid = laid fs l refl refl; owned = m.1.owned }, f (n + 1) ps os m.2)
+blocks_with g true (Some fs) None es gs is h e laid f n ps os m = absurd (false≢true (h refl))
+blocks_with g true None l es gs is h e laid f n ps os m = absurd (false≢true (h refl))
+blocks_with g false o l es gs is h e laid f n ps os m = absurd (false≢true is)
+
+blocks : (a : Algorithm) (gs : List StoredText) → are_whole gs ≡ true → AreLaid gs (laid_functions a gs) → (n : ℕ) (ps : List Group) (os : List Own)
+    → AreMade (rooted true gs (laid_functions a gs)) n ps os → HaveBlocks gs ps os
+blocks a [] w h n ps os m = tt
+blocks a (g ∷ gs) w h n ps os m =
+    let found = laid_functions a gs in
+    blocks_with g g.subject.is_root g.formulas (laid_within a g gs found) (rooted true gs found) gs (whole_root g gs w) h.0 refl
+    (λ fs x e is. laid_over_it a g gs found fs x e is) (blocks a gs (whole_rest g gs w) h.1) n ps os m
 
 -- ---- all of it
 
-pub plan_made : (all : List Entry) (claims : List Claim) (needs : List Need) (gs : List StoredText) (ls : List (Option LaidText)) (qs : List Party) (es : List Entry) (l : Lowered) (ps : List Group)
+pub plan_made : (a : Algorithm) (all : List Entry) (claims : List Claim) (needs : List Need) (gs : List StoredText) (ls : List (Option LaidText)) (qs : List Party) (es : List Entry)
+    (l : Lowered) (ps : List Group)
     (os : List Own) → AreLaid gs ls → all ≡ rooted true gs ls → es ≡ rooted true gs ls → (rooted false gs ls ≡ [] → AreAlone qs) → AreMade es 0 ps os
-    → (AreAlone qs → AreBodies all 0 0 4 es ps claims needs) → l.plan.groups.items ≡ ps → l.certificate.own.items ≡ os → l.certificate.claims.items ≡ claims → l.certificate.needs.items ≡ needs
-    → IsPlanOf gs ls l
-plan_made all claims needs gs ls qs es l ps os laid roots e alone made does is_groups is_own is_claims is_needs =
+    → (AreAlone qs → AreBodies a all 0 0 4 es ps claims needs) → l.plan.groups.items ≡ ps → l.certificate.own.items ≡ os → l.certificate.claims.items ≡ claims → l.certificate.needs.items ≡ needs
+    → (AreAlone qs → l.certificate.windows.items ≡ []) → IsPlanOf a gs ls l
+plan_made a all claims needs gs ls qs es l ps os laid roots e alone made does is_groups is_own is_claims is_needs windows =
     record {
       laid = laid;
       made = subst (λ (xs : List Entry). AreMade xs 0 l.plan.groups.items l.certificate.own.items) e
           (subst (λ (xs : List Group). AreMade es 0 xs l.certificate.own.items) (sym is_groups) (subst (λ (xs : List Own). AreMade es 0 ps xs) (sym is_own) made));
       bodies = λ w.
-          let by_roots : AreBodies (rooted true gs ls) 0 0 4 es ps claims needs = subst (λ (xs : List Entry). AreBodies xs 0 0 4 es ps claims needs) roots (does (alone (none_else gs ls w))) in
-          let by_entries : AreBodies (rooted true gs ls) 0 0 4 (rooted true gs ls) ps claims needs = subst (λ (xs : List Entry). AreBodies (rooted true gs ls) 0 0 4 xs ps claims needs) e by_roots in
-          let by_groups : AreBodies (rooted true gs ls) 0 0 4 (rooted true gs ls) l.plan.groups.items claims needs =
-          subst (λ (xs : List Group). AreBodies (rooted true gs ls) 0 0 4 (rooted true gs ls) xs claims needs) (sym is_groups) by_entries in
-          let by_claims : AreBodies (rooted true gs ls) 0 0 4 (rooted true gs ls) l.plan.groups.items l.certificate.claims.items needs =
-          subst (λ (xs : List Claim). AreBodies (rooted true gs ls) 0 0 4 (rooted true gs ls) l.plan.groups.items xs needs) (sym is_claims) by_groups in
-          subst (λ (xs : List Need). AreBodies (rooted true gs ls) 0 0 4 (rooted true gs ls) l.plan.groups.items l.certificate.claims.items xs) (sym is_needs) by_claims;
+          let by_roots : AreBodies a (rooted true gs ls) 0 0 4 es ps claims needs = subst (λ (xs : List Entry). AreBodies a xs 0 0 4 es ps claims needs) roots (does (alone (none_else gs ls w))) in
+          let by_entries : AreBodies a (rooted true gs ls) 0 0 4 (rooted true gs ls) ps claims needs =
+          subst (λ (xs : List Entry). AreBodies a (rooted true gs ls) 0 0 4 xs ps claims needs) e by_roots in
+          let by_groups : AreBodies a (rooted true gs ls) 0 0 4 (rooted true gs ls) l.plan.groups.items claims needs =
+          subst (λ (xs : List Group). AreBodies a (rooted true gs ls) 0 0 4 (rooted true gs ls) xs claims needs) (sym is_groups) by_entries in
+          let by_claims : AreBodies a (rooted true gs ls) 0 0 4 (rooted true gs ls) l.plan.groups.items l.certificate.claims.items needs =
+          subst (λ (xs : List Claim). AreBodies a (rooted true gs ls) 0 0 4 (rooted true gs ls) l.plan.groups.items xs needs) (sym is_claims) by_groups in
+          subst (λ (xs : List Need). AreBodies a (rooted true gs ls) 0 0 4 (rooted true gs ls) l.plan.groups.items l.certificate.claims.items xs) (sym is_needs) by_claims;
+      windows = λ w. windows (alone (none_else gs ls w));
     }
 
 pub made_first : (e : Entry) (es : List Entry) (n m : ℕ) (p : Group) (o : Own) (ps qs : List Group) (os rs : List Own) → IsOver e p → IsOwnOver e n o → AreMade es m ps os
@@ -170,7 +195,7 @@ made_first e es n m p o ps qs os rs is own are next h k =
     let behind : AreMade es (n + 1) ps os = subst (λ (i : ℕ). AreMade es i ps os) next are in
     subst (λ (xs : List Group). AreMade (e ∷ es) n xs rs) (sym h) (subst (λ (xs : List Own). AreMade (e ∷ es) n (p ∷ ps) xs) (sym k) (is, own, behind))
 
-pub groups_made : (a : Algorithm) (gs : List StoredText) (ls : List (Option LaidText)) (l : Lowered) → IsPlanOf gs ls l → (are_whole gs ≡ true → ls ≡ laid_functions a gs) → HasGroups a gs l
+pub groups_made : (a : Algorithm) (gs : List StoredText) (ls : List (Option LaidText)) (l : Lowered) → IsPlanOf a gs ls l → (are_whole gs ≡ true → ls ≡ laid_functions a gs) → HasGroups a gs l
 groups_made a gs ls l is laid =
     let ps = l.plan.groups.items in
     let os = l.certificate.own.items in
@@ -179,8 +204,10 @@ groups_made a gs ls l is laid =
     record {
       each = each_of gs ls is.laid 0 ps os is.made;
       owned = owned (rooted true gs ls) 0 ps os is.made;
-      bodies = λ w. bodies (rooted true gs (laid_functions a gs)) a gs w (subst (AreLaid gs) (laid w) is.laid) 0 0 4 ps os cs ws
+      bodies = λ w. bodies a (rooted true gs (laid_functions a gs)) gs w (subst (AreLaid gs) (laid w) is.laid) 0 0 4 ps os cs ws
           (subst (λ (xs : List (Option LaidText)). AreMade (rooted true gs xs) 0 ps os) (laid w) is.made)
-          (subst (λ (xs : List (Option LaidText)). AreBodies (rooted true gs xs) 0 0 4 (rooted true gs xs) ps cs ws) (laid w) (is.bodies w));
+          (subst (λ (xs : List (Option LaidText)). AreBodies a (rooted true gs xs) 0 0 4 (rooted true gs xs) ps cs ws) (laid w) (is.bodies w));
+      windows = is.windows;
+      blocks = λ w. blocks a gs w (subst (AreLaid gs) (laid w) is.laid) 0 ps os (subst (λ (xs : List (Option LaidText)). AreMade (rooted true gs xs) 0 ps os) (laid w) is.made);
       needed = λ w. needed a gs w (subst (AreLaid gs) (laid w) is.laid) 0 ps os (subst (λ (xs : List (Option LaidText)). AreMade (rooted true gs xs) 0 ps os) (laid w) is.made);
     }

@@ -11,8 +11,8 @@ use Rattle.std.proofs.lemmas.Result.{IfOk-weaker}
 use Rattle.meaning.specs.Names.{same_name}
 use Rattle.sched.specs.declared.schedule.Home.{Home}
 use Rattle.sched.proofs.Deciding.{any_decides, name_decides}
-use Rattle.lower.specs.declared.error.RegionRule.{RegionRule}
-use Rattle.lower.specs.declared.error.RegionRule.TheVariants as rule
+use Rattle.sched.specs.declared.region_rule.RegionRule.{RegionRule}
+use Rattle.sched.specs.declared.region_rule.RegionRule.TheVariants as rule
 use Rattle.lower.specs.declared.definitions.Stored.{Stored}
 use Rattle.lower.specs.Stored.{StoredText, stored_of, is_large, has_large}
 use Rattle.lower.specs.Large.{IsByRegion, IsTold}

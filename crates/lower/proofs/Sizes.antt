@@ -5,8 +5,8 @@ use Rattle.std.specs.Option.{option_map}
 use Rattle.std.specs.Global.{Vec}
 use Rattle.std.proofs.Math.Seq.{take-length}
 use Rattle.std.proofs.lemmas.Result.{IfOk-weaker}
-use Rattle.lower.specs.declared.error.RegionRule.{RegionRule}
-use Rattle.lower.specs.declared.error.RegionRule.TheVariants as rule
+use Rattle.sched.specs.declared.region_rule.RegionRule.{RegionRule}
+use Rattle.sched.specs.declared.region_rule.RegionRule.TheVariants as rule
 use Rattle.lower.specs.declared.definitions.Formula.{Formula}
 use Rattle.lower.specs.declared.definitions.Stored.{Stored}
 use Rattle.lower.specs.Stored.{StoredText, is_large, has_large, formula_of, stored_of}

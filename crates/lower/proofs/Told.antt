@@ -10,8 +10,8 @@ use Rattle.sched.specs.declared.error.Rule.{Rule}
 use Rattle.sched.specs.declared.error.SchedError.TheVariants as refusal
 use Rattle.lower.specs.declared.error.LowerError.{LowerError}
 use Rattle.lower.specs.declared.error.LowerError.TheVariants as error
-use Rattle.lower.specs.declared.error.RegionRule.{RegionRule}
-use Rattle.lower.specs.declared.error.RegionRule.TheVariants as rule
+use Rattle.sched.specs.declared.region_rule.RegionRule.{RegionRule}
+use Rattle.sched.specs.declared.region_rule.RegionRule.TheVariants as rule
 use Rattle.lower.specs.declared.lowering.Lowered.{Lowered}
 use Rattle.lower.specs.Stored.{StoredText, has_large, stored_functions}
 use Rattle.lower.specs.Large.{IsTold, IsToldOf}
@@ -68,10 +68,10 @@ answers_unplanned a gs o (Err (error.Broken rule.Unbounded x)) e h k inside made
 -- none of them does, and no plan, or one, is made
 pub unplanned_told : (a : Algorithm) (gs : List StoredText) (o : Option (Rule × List ℕ)) (ls : List (Option LaidText)) (n : ℕ) (r : Result Lowered LowerError)
     → o ≡ None → n ≡ length gs → has_large (take n gs) ≡ false → IsFirstOf a (has_large gs) no_totals n gs ls None → list_any (is_used_outside gs) (take n gs) ≡ false
-    → (are_whole gs ≡ true → ls ≡ laid_functions a gs) → IfOk r (IsPlanOf gs ls) → IfErr r IsUnplanned → Answers a gs o r
+    → (are_whole gs ≡ true → ls ≡ laid_functions a gs) → IfOk r (IsPlanOf a gs ls) → IfErr r IsUnplanned → Answers a gs o r
 unplanned_told a gs o ls n r e c h f told_use laid made is =
     answers_unplanned a gs o r e (none_is_large gs n c h) (none_of a gs ls n f laid c) (none_is gs n c told_use)
-    (IfOk-weaker r (IsPlanOf gs ls) (HasGroups a gs) (λ l p. groups_made a gs ls l p laid) made) is
+    (IfOk-weaker r (IsPlanOf a gs ls) (HasGroups a gs) (λ l p. groups_made a gs ls l p laid) made) is
 
 -- ---- the algorithm and its schedule
 

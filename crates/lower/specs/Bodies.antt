@@ -16,7 +16,11 @@ use Rattle.sched.specs.Runs.{lines_to}
 use Rattle.sched.specs.Skeleton.{NestText, SkeletonText}
 use Rattle.lower.specs.Stored.{FormulaText, StoredText}
 use Rattle.lower.specs.Loading.{Loads, as_load}
-use Rattle.lower.specs.Around.{names_with}
+use Rattle.meaning.specs.Algorithm.{Algorithm}
+use Rattle.lower.specs.Taken.{sites_of}
+use Rattle.lower.specs.Around.{names_with, grid_scope}
+use Rattle.lower.specs.declared.blocks.Dimension.{Dimension}
+use Rattle.lower.specs.Blocks.{claimed_region, own_places}
 use Rattle.lower.specs.Fetches.{Entry, FetchText, fetched_groups, Claims, AreFetched, with_fetches, loads_from}
 
 -- ---- stores
@@ -107,9 +111,8 @@ AreNests g fs r ls c line d (n ∷ ns) xs (claim ∷ claims) = AreBoth (IsClaime
 
 -- ---- the body
 
--- the lets over the grid, the piece's own buffer, what it fetches, the nests, and by which claim it publishes
-pub record IsBodyWith (g : StoredText) (k : SkeletonText) (fetches : List FetchText) (nests : List Statement) (claim : ℕ) (body : Statement) : Type 0 where
-  pub places : List Places
+-- the lets over the grid, the piece's own buffer with these places, what it fetches, the nests, and by which claim it publishes
+pub record IsBodyWith (g : StoredText) (k : SkeletonText) (places : List Places) (fetches : List FetchText) (nests : List Statement) (claim : ℕ) (body : Statement) : Type 0 where
   pub is : body ≡ Seq (lines_to k.head (block (Alloc 0 g.subject.name places ∷ with_fetches fetches (nests ++ Publish claim ∷ []))))
 
 -- the number of the last claim, where so many of what is fetched come first, from this number on, and then one of each nest
@@ -120,18 +123,19 @@ last_claim c fetches k = (c + (length fetches + length k.nests)) - 1
 abbrev pub first_lines : SkeletonText → ℕ
 first_lines k = step_lines k.head + 2
 
--- the body of the group n of these functions, whose line is this one, with its claims, of which the first has the number c, and its need lines: it fetches of
--- each other function that its definitions call, its nests are those of the skeleton, and it publishes by the claim of its last definition
-pub record IsBody (all : List Entry) (n c line : ℕ) (g : StoredText) (fs : List FormulaText) (k : SkeletonText) (claims : List Claim) (needs : List Need) (body : Statement) : Type 0 where
+-- the body of the group n of these functions, whose line is this one, with its claims, of which the first has the number c, and its need lines, where this is what
+-- of each dimension belongs to a piece: it fetches of each other function that its definitions call, its nests are those of the skeleton, and it publishes by the
+-- claim of its last definition
+pub record IsBody (a : Algorithm) (all : List Entry) (n c line : ℕ) (g : StoredText) (fs : List FormulaText) (k : SkeletonText) (ds : List Dimension) (claims : List Claim) (needs : List Need)
+    (body : Statement) : Type 0 where
   pub fetches : List FetchText
   pub fetched : List Claim
   pub own : List Claim
   pub claimed : claims ≡ fetched ++ own
-  pub fetching : AreFetched n 1 (line + first_lines k) (fetched_groups fs n 0 all) fetches needs fetched
-  pub region : List Span1
+  pub fetching : AreFetched (sites_of a g fs k) (grid_scope k.grid) n 1 (line + first_lines k) (fetched_groups fs n 0 all) fetches needs fetched
   pub nests : List Statement
-  pub nested : AreNests g fs region (loads_from c fetches) (c + length fetches) (line + first_lines k + 2 * length fetches) 0 k.nests nests own
-  pub with : IsBodyWith g k fetches nests (last_claim c fetches k) body
+  pub nested : AreNests g fs (claimed_region ds) (loads_from c fetches) (c + length fetches) (line + first_lines k + 2 * length fetches) 0 k.nests nests own
+  pub with : IsBodyWith g k (own_places ds) fetches nests (last_claim c fetches k) body
 
 abbrev pub body : List Statement → Statement
 body xs = Seq (block xs)

@@ -5,8 +5,8 @@ use Rattle.meaning.specs.Algorithm.{Algorithm}
 use Rattle.sched.specs.declared.schedule.Home.{Home}
 use Rattle.sched.specs.declared.numbers.Extent.{Extent}
 use Rattle.sched.specs.Numbers.{loop_numbers, has_short_shift}
-use Rattle.lower.specs.declared.error.RegionRule.{RegionRule}
-use Rattle.lower.specs.declared.error.RegionRule.TheVariants.{ShortShift, TooLarge, TooMuch, Unbounded}
+use Rattle.sched.specs.declared.region_rule.RegionRule.{RegionRule}
+use Rattle.sched.specs.declared.region_rule.RegionRule.TheVariants.{ShortShift, TooLarge, TooMuch, Unbounded}
 use Rattle.lower.specs.declared.legality.Totals.{Totals}
 use Rattle.lower.specs.Stored.{FormulaText, StoredText, has_large}
 use Rattle.lower.specs.Regions.{LaidText, laid_functions}

@@ -22,6 +22,7 @@ use Rattle.lower.specs.declared.parties.Party.{Party}
 use Rattle.lower.specs.Stored.{FormulaText, StoredText, formula_of, stored_of, stored_functions}
 use Rattle.lower.specs.Regions.{LaidText, laid_of, laid_functions, skeleton_of}
 use Rattle.lower.specs.Fetches.{Entry}
+use Rattle.lower.specs.Blocks.{dimensions_of, owned_region}
 use Rattle.lower.specs.Bodies.{IsBody}
 use Rattle.lower.specs.Around.{grid_scope}
 use Rattle.lower.specs.Bounded.{whole}
@@ -60,14 +61,30 @@ AreOwned n (p ∷ ps) [] = ⊥
 AreOwned n (p ∷ ps) (o ∷ os) = IsOwnOf n p o × AreOwned (n + 1) ps os
 
 -- what its pieces do, as the group n of these functions, whose line is this one, with its claims, of which the first has the number c, and its need lines
-pub record HasBody (all : List Entry) (n c line : ℕ) (g : StoredText) (p : Group) (claims : List Claim) (needs : List Need) : Type 0 where
+pub record HasBody (a : Algorithm) (all : List Entry) (n c line : ℕ) (g : StoredText) (p : Group) (claims : List Claim) (needs : List Need) : Type 0 where
   pub formulas : List FormulaText
   pub extents : List Extent
   pub skeleton : SkeletonText
   pub defined : g.formulas ≡ Some formulas
   pub region : p.region ≡ map whole extents
   pub laid : skeleton_of g formulas extents ≡ Some skeleton
-  pub body : IsBody all n c line g formulas skeleton claims needs (statement_of p.body)
+  pub body : IsBody a all n c line g formulas skeleton (dimensions_of g extents skeleton) claims needs (statement_of p.body)
+
+-- by its line a piece of the group owns its block of the region
+pub record HasBlock (g : StoredText) (p : Group) (o : Own) : Type 0 where
+  pub formulas : List FormulaText
+  pub extents : List Extent
+  pub skeleton : SkeletonText
+  pub defined : g.formulas ≡ Some formulas
+  pub region : p.region ≡ map whole extents
+  pub laid : skeleton_of g formulas extents ≡ Some skeleton
+  pub owned : o.region ≡ owned_region (dimensions_of g extents skeleton)
+
+abbrev pub HaveBlocks : List StoredText → List Group → List Own → Type 0
+HaveBlocks [] ps os = Unit {0}
+HaveBlocks (g ∷ gs) [] os = ⊥
+HaveBlocks (g ∷ gs) (p ∷ ps) [] = ⊥
+HaveBlocks (g ∷ gs) (p ∷ ps) (o ∷ os) = HasBlock g p o × HaveBlocks gs ps os
 
 -- the claims and need lines of a group, and behind them those of others, which are told how many claims the group has
 pub record AreLines (P : List Claim → List Need → Type 0) (Q : ℕ → List Claim → List Need → Type 0) (claims : List Claim) (needs : List Need) : Type 0 where
@@ -85,12 +102,12 @@ abbrev pub line_behind : ℕ → Group → ℕ
 line_behind line p = line + (lines (statement_of p.body) + 1)
 
 -- each of these functions' groups, from the number n on, with all claims and need lines of theirs, one group behind another; the first claim has the number c
-abbrev pub HaveBodies : List Entry → ℕ → ℕ → ℕ → List StoredText → List Group → List Claim → List Need → Type 0
-HaveBodies all n c line [] [] claims needs = (claims ≡ []) × (needs ≡ [])
-HaveBodies all n c line [] (p ∷ ps) claims needs = ⊥
-HaveBodies all n c line (g ∷ gs) [] claims needs = ⊥
-HaveBodies all n c line (g ∷ gs) (p ∷ ps) claims needs =
-    AreLines (HasBody all n c line g p) (λ m. HaveBodies all (n + 1) (c + m) (line_behind line p) gs ps) claims needs
+abbrev pub HaveBodies : Algorithm → List Entry → ℕ → ℕ → ℕ → List StoredText → List Group → List Claim → List Need → Type 0
+HaveBodies a all n c line [] [] claims needs = (claims ≡ []) × (needs ≡ [])
+HaveBodies a all n c line [] (p ∷ ps) claims needs = ⊥
+HaveBodies a all n c line (g ∷ gs) [] claims needs = ⊥
+HaveBodies a all n c line (g ∷ gs) (p ∷ ps) claims needs =
+    AreLines (HasBody a all n c line g p) (λ m. HaveBodies a all (n + 1) (c + m) (line_behind line p) gs ps) claims needs
 
 -- ---- all of them
 
@@ -128,12 +145,15 @@ abbrev pub roots_over : Algorithm → List StoredText → List Entry
 roots_over a gs = rooted true gs (laid_functions a gs)
 
 -- the stored root functions have the groups, and the certificate tells of each what its pieces own; where each stored function is a root function
--- that is computed at no loop, the regions are those that are needed, the pieces do what the skeletons say, and the claims and need lines are theirs
+-- that is computed at no loop, the regions are those that are needed, the pieces own the blocks of their parallel loops and do what the skeletons say, the claims
+-- and need lines are theirs, and there are no windows
 pub record HasGroups (a : Algorithm) (gs : List StoredText) (l : Lowered) : Type 0 where
   pub each : AreGroupsOf (root_functions gs) l.plan.groups.items
   pub owned : AreOwned 0 l.plan.groups.items l.certificate.own.items
   pub needed : are_whole gs ≡ true → map (λ p. p.region) l.plan.groups.items ≡ map region_of (laid_functions a gs)
-  pub bodies : are_whole gs ≡ true → HaveBodies (roots_over a gs) 0 0 4 gs l.plan.groups.items l.certificate.claims.items l.certificate.needs.items
+  pub blocks : are_whole gs ≡ true → HaveBlocks gs l.plan.groups.items l.certificate.own.items
+  pub bodies : are_whole gs ≡ true → HaveBodies a (roots_over a gs) 0 0 4 gs l.plan.groups.items l.certificate.claims.items l.certificate.needs.items
+  pub windows : are_whole gs ≡ true → l.certificate.windows.items ≡ []
 
 abbrev pub AreGroupsMade : Algorithm → Schedule → Lowered → Type 0
 AreGroupsMade a s l = HasGroups a (stored_functions a s) l
@@ -168,6 +188,7 @@ pub record IsOver (e : Entry) (p : Group) : Type 0 where
 pub record IsOwnOver (e : Entry) (n : ℕ) (o : Own) : Type 0 where
   pub numbered : o.group ≡ n
   pub inside : IsInside (grid_scope (grid_over e.0 e.1.region)) o.region (map whole e.1.region)
+  pub owned : o.region ≡ owned_region (dimensions_of e.0 e.1.region e.1.skeleton)
 
 -- one for each of these, with a line for each, from this number on
 abbrev pub AreMade : List Entry → ℕ → List Group → List Own → Type 0
@@ -179,22 +200,22 @@ AreMade (e ∷ es) n (p ∷ ps) [] = ⊥
 AreMade (e ∷ es) n (p ∷ ps) (o ∷ os) = IsOver e p × IsOwnOver e n o × AreMade es (n + 1) ps os
 
 -- its pieces do what the skeleton over the region says
-abbrev pub IsBodyOf : List Entry → ℕ → ℕ → ℕ → Entry → Group → List Claim → List Need → Type 0
-IsBodyOf all n c line e p claims needs = IsBody all n c line e.0 e.2 e.1.skeleton claims needs (statement_of p.body)
+abbrev pub IsBodyOf : Algorithm → List Entry → ℕ → ℕ → ℕ → Entry → Group → List Claim → List Need → Type 0
+IsBodyOf a all n c line e p claims needs = IsBody a all n c line e.0 e.2 e.1.skeleton (dimensions_of e.0 e.1.region e.1.skeleton) claims needs (statement_of p.body)
 
-abbrev pub AreBodies : List Entry → ℕ → ℕ → ℕ → List Entry → List Group → List Claim → List Need → Type 0
-AreBodies all n c line [] ps claims needs = (claims ≡ []) × (needs ≡ [])
-AreBodies all n c line (e ∷ es) [] claims needs = ⊥
-AreBodies all n c line (e ∷ es) (p ∷ ps) claims needs =
-    AreLines (IsBodyOf all n c line e p) (λ m. AreBodies all (n + 1) (c + m) (line_behind line p) es ps) claims needs
+abbrev pub AreBodies : Algorithm → List Entry → ℕ → ℕ → ℕ → List Entry → List Group → List Claim → List Need → Type 0
+AreBodies a all n c line [] ps claims needs = (claims ≡ []) × (needs ≡ [])
+AreBodies a all n c line (e ∷ es) [] claims needs = ⊥
+AreBodies a all n c line (e ∷ es) (p ∷ ps) claims needs =
+    AreLines (IsBodyOf a all n c line e p) (λ m. AreBodies a all (n + 1) (c + m) (line_behind line p) es ps) claims needs
 
 -- these stand behind the lines of other groups
-pub record BodiesMade (all : List Entry) (n c line : ℕ) (es : List Entry) (ps : List Group) (old new : List Claim) (before behind : List Need) : Type 0 where
+pub record BodiesMade (a : Algorithm) (all : List Entry) (n c line : ℕ) (es : List Entry) (ps : List Group) (old new : List Claim) (before behind : List Need) : Type 0 where
   pub claims : List Claim
   pub needs : List Need
   pub claimed : new ≡ old ++ claims
   pub needed : behind ≡ before ++ needs
-  pub are : AreBodies all n c line es ps claims needs
+  pub are : AreBodies a all n c line es ps claims needs
 
 -- each root function has definitions and a region
 abbrev pub has_region : Option (List FormulaText) → Option LaidText → Bool
@@ -208,7 +229,8 @@ AreLaid (g ∷ gs) [] = ⊥
 AreLaid (g ∷ gs) (l ∷ ls) = (g.subject.is_root ≡ true → has_region g.formulas l ≡ true) × AreLaid gs ls
 
 -- the plan of these functions over these regions
-pub record IsPlanOf (gs : List StoredText) (ls : List (Option LaidText)) (l : Lowered) : Type 0 where
+pub record IsPlanOf (a : Algorithm) (gs : List StoredText) (ls : List (Option LaidText)) (l : Lowered) : Type 0 where
   pub laid : AreLaid gs ls
   pub made : AreMade (rooted true gs ls) 0 l.plan.groups.items l.certificate.own.items
-  pub bodies : are_whole gs ≡ true → AreBodies (rooted true gs ls) 0 0 4 (rooted true gs ls) l.plan.groups.items l.certificate.claims.items l.certificate.needs.items
+  pub bodies : are_whole gs ≡ true → AreBodies a (rooted true gs ls) 0 0 4 (rooted true gs ls) l.plan.groups.items l.certificate.claims.items l.certificate.needs.items
+  pub windows : are_whole gs ≡ true → l.certificate.windows.items ≡ []

@@ -1,7 +1,7 @@
 -- Which rule is told of which stored function, as far as it goes by the sizes of its definitions.
 use Rattle.std.specs.Prelude.{◌≡◌, ◌⊎◌, ℕ, true, false, List, [], ◌∷◌, take, Option, Some, None}
-use Rattle.lower.specs.declared.error.RegionRule.{RegionRule}
-use Rattle.lower.specs.declared.error.RegionRule.TheVariants as rule
+use Rattle.sched.specs.declared.region_rule.RegionRule.{RegionRule}
+use Rattle.sched.specs.declared.region_rule.RegionRule.TheVariants as rule
 use Rattle.lower.specs.Stored.{StoredText, is_large, has_large}
 use Rattle.lower.specs.Uses.{AreUsedInside, IsUseTold}
 

@@ -1,4 +1,5 @@
 pub mod Around
+pub mod Blocks
 pub mod Bodies
 pub mod Bounded
 pub mod Called
@@ -12,7 +13,7 @@ pub mod Loading
 pub mod Making
 pub mod Refused
 pub mod Regions
-pub mod Rules
 pub mod Stored
+pub mod Taken
 pub mod Uses
 pub mod Windows

@@ -11,7 +11,10 @@ use Rattle.sched.specs.Skeleton.{NestText}
 use Rattle.lower.specs.declared.group.Body.{Body}
 use Rattle.lower.specs.Stored.{FormulaText, StoredText}
 use Rattle.lower.specs.Loading.{load_of}
-use Rattle.lower.specs.Fetches.{Entry, FetchText, Claims, IsFetched, AreFetched, loads_from}
+use Rattle.meaning.specs.Algorithm.{Algorithm}
+use Rattle.lin.specs.declared.scope.Binding.{Binding}
+use Rattle.lower.specs.Fetches.{Entry, FetchText, Calls, IsTaken, Claims, IsFetched, AreFetched, loads_from}
+use Rattle.lower.specs.Blocks.{dimensions_of}
 use Rattle.lower.specs.Bodies.{AreNests, IsBody}
 
 -- one more claim, of this definition of this function in this buffer
@@ -20,10 +23,11 @@ pub record AddsClaim (line b : ℕ) (x : List ℕ) (d : ℕ) (region : List Span
   pub claims : Claims line b x d region claim
   pub added : new ≡ old ++ claim ∷ []
 
--- nothing is claimed, needed or loaded; the next claim and the next line have these numbers, and the next buffer is 1
+-- nothing is claimed, needed, held or loaded; the next claim and the next line have these numbers, and the next buffer is 1
 pub record IsBegun (c line : ℕ) (b : Body) : Type 0 where
   pub claims : b.claims.items ≡ []
   pub needs : b.needs.items ≡ []
+  pub windows : b.windows.items ≡ []
   pub loads : b.loads.items ≡ []
   pub next_claim : b.next_claim ≡ c
   pub next_buffer : b.next_buffer ≡ 1
@@ -40,26 +44,28 @@ pub record FetchMade (n h : ℕ) (e : Entry) (f : FetchText) (old new : Body) : 
   pub counted : new.next_claim ≡ old.next_claim + 1
   pub numbered : new.next_buffer ≡ old.next_buffer + 1
   pub lined : new.line ≡ old.line + 2
+  pub held : new.windows.items ≡ old.windows.items
 
 -- this is fetched, or nothing
-abbrev pub MayMake : ℕ → Bool → ℕ → Entry → Option FetchText → Body → Body → Type 0
-MayMake n called h e None old new = (called ≡ false) × (new ≡ old)
-MayMake n called h e (Some f) old new = (called ≡ true) × FetchMade n h e f old new
+abbrev pub MayMake : Calls → List Binding → ℕ → Bool → ℕ → Entry → Option FetchText → Body → Body → Type 0
+MayMake s t n called h e None old new = (called ≡ false) × (new ≡ old)
+MayMake s t n called h e (Some f) old new = (called ≡ true) × FetchMade n h e f old new × IsTaken s t e.0.subject.name e.1.region f.region f.places
 
 abbrev pub with_first : Option FetchText → List FetchText → List FetchText
 with_first None fs = fs
 with_first (Some f) fs = f ∷ fs
 
 -- these are fetched of these groups
-pub record FetchesMade (n : ℕ) (xs : List (ℕ × Entry)) (fs : List FetchText) (old new : Body) : Type 0 where
+pub record FetchesMade (s : Calls) (t : List Binding) (n : ℕ) (xs : List (ℕ × Entry)) (fs : List FetchText) (old new : Body) : Type 0 where
   pub needs : List Need
   pub claims : List Claim
-  pub fetched : AreFetched n old.next_buffer old.line xs fs needs claims
+  pub fetched : AreFetched s t n old.next_buffer old.line xs fs needs claims
   pub needed : new.needs.items ≡ old.needs.items ++ needs
   pub claimed : new.claims.items ≡ old.claims.items ++ claims
   pub loaded : map load_of new.loads.items ≡ map load_of old.loads.items ++ loads_from old.next_claim fs
   pub counted : new.next_claim ≡ old.next_claim + length fs
   pub lined : new.line ≡ old.line + 2 * length fs
+  pub held : new.windows.items ≡ old.windows.items
 
 -- the nests of these definitions are made, each with its claim
 pub record NestsMade (g : StoredText) (fs : List FormulaText) (r : List Span1) (d : ℕ) (ns : List NestText) (xs : List Statement) (old new : Body) : Type 0 where
@@ -69,16 +75,17 @@ pub record NestsMade (g : StoredText) (fs : List FormulaText) (r : List Span1) (
   pub counted : new.next_claim ≡ old.next_claim + length ns
   pub lined : new.line ≡ old.line + block_lines (block xs)
   pub needed : new.needs.items ≡ old.needs.items
+  pub held : new.windows.items ≡ old.windows.items
 
 -- the body is made, its claims and need lines stand behind those of other groups, and this is the line of its last statement
-pub record BodyMade (all : List Entry) (n c line last : ℕ) (e : Entry) (old new : List Claim) (before behind : List Need) (body : Statement) : Type 0 where
+pub record BodyMade (a : Algorithm) (all : List Entry) (n c line last : ℕ) (e : Entry) (old new : List Claim) (before behind : List Need) (body : Statement) : Type 0 where
   pub claims : List Claim
   pub needs : List Need
   pub claimed : new ≡ old ++ claims
   pub needed : behind ≡ before ++ needs
   pub ends : last ≡ line + lines body
-  pub is : IsBody all n c line e.0 e.2 e.1.skeleton claims needs body
+  pub is : IsBody a all n c line e.0 e.2 e.1.skeleton (dimensions_of e.0 e.1.region e.1.skeleton) claims needs body
 
 -- the same of a group; this is the line of the next
-abbrev pub GroupMade : List Entry → ℕ → ℕ → ℕ → ℕ → Entry → List Claim → List Claim → List Need → List Need → Group → Type 0
-GroupMade all n c line next e old new before behind p = (last : ℕ) × (next ≡ last + 1) × BodyMade all n c line last e old new before behind (statement_of p.body)
+abbrev pub GroupMade : Algorithm → List Entry → ℕ → ℕ → ℕ → ℕ → Entry → List Claim → List Claim → List Need → List Need → Group → Type 0
+GroupMade a all n c line next e old new before behind p = (last : ℕ) × (next ≡ last + 1) × BodyMade a all n c line last e old new before behind (statement_of p.body)

@@ -5,8 +5,8 @@ use Rattle.std.specs.List.{list_any}
 use Rattle.meaning.specs.Names.{same_name}
 use Rattle.sched.specs.declared.schedule.Home.{Home}
 use Rattle.sched.specs.declared.placing.Loop.{Loop}
-use Rattle.lower.specs.declared.error.RegionRule.{RegionRule}
-use Rattle.lower.specs.declared.error.RegionRule.TheVariants as rule
+use Rattle.sched.specs.declared.region_rule.RegionRule.{RegionRule}
+use Rattle.sched.specs.declared.region_rule.RegionRule.TheVariants as rule
 use Rattle.lower.specs.Stored.{FormulaText, StoredText, calls_in, are_calls_of, left_at}
 use Rattle.lower.specs.Regions.{counts}
 

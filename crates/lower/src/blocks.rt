@@ -1,12 +1,25 @@
 //! What a piece owns, claims and has places for, dimension by dimension.
 
+ghost use Rattle.std.specs.Prelude.{◌≡◌, ◌&&◌, pos, map, IfOk};
+ghost use Rattle.std.specs.List.{list_any};
+ghost use Rattle.std.specs.Option.{option_copied};
+ghost use Rattle.lin.specs.Forms.{plus_multiple};
+ghost use Rattle.meaning.specs.Names.{same_name};
+ghost use Rattle.sched.specs.Placing as placing;
+ghost use Rattle.sched.specs.Numbers as counts;
+ghost use Rattle.sched.specs.Skeleton.{skeleton_seen};
+ghost use Rattle.sched.specs.Standing as standing;
+ghost use Rattle.lower.specs.Stored.{stored_of};
+ghost use Rattle.lower.specs.Blocks as spec;
+ghost use Rattle.lower.specs.Blocks.{block_seen, lay_seen, part_seen, Run};
+
 use crate::definitions::Stored;
 use crate::error::Stop;
 use crate::forms::{between, multiple_from, one_form, raised};
 use crate::regions::Laid;
-use lin::{Forms, Lin, Span1};
+use lin::{Forms, Lin, Region, Span1};
 use plan::Places;
-use sched::{Known, Loop, Mark, Numbers, Split, Tail, loop_numbers};
+use sched::{Known, Loop, Numbers, Split, Tail, loop_numbers};
 use std::alloc::{AllocError, Global};
 use tree::token::Name;
 
@@ -56,98 +69,159 @@ enum Part {
     Scattered,
 }
 
-fn numbers_named(numbers: &[Numbers], name: &Name) -> Numbers {
-    for one in numbers {
-        if one.name.as_str() == name.as_str() {
-            return *one;
+fn numbers_found(numbers: &[Numbers], name: &Name) -> Option<Numbers>
+    ensures { result ≡ counts.numbers_found numbers.now name.now }
+{
+    numbers
+        .iter()
+        .copied()
+        .find(|one| one.name.as_str() == name.as_str())
+}
+
+fn numbers_named(numbers: &[Numbers], name: &Name) -> Numbers
+    ensures { result ≡ counts.numbers_named numbers.now name.now }
+{
+    match numbers_found(numbers, name) {
+        Some(one) => one,
+        None => Numbers {
+            name: *name,
+            low: 0,
+            count: 0,
+        },
+    }
+}
+
+fn form_named<'a>(known: &'a [Known], name: &Name) -> Option<&'a Lin>
+    ensures { option_copied result ≡ standing.form_named known.now name.now }
+{
+    match known {
+        [] => None,
+        [one, rest @ ..] => {
+            if one.name.as_str() == name.as_str() {
+                Some(&one.form)
+            } else {
+                form_named(rest, name)
+            }
         }
     }
-    Numbers {
-        name: *name,
-        low: 0,
-        count: 0,
-    }
 }
 
-fn form_named<'a>(known: &'a [Known], name: &Name) -> Option<&'a Lin> {
-    for one in known {
-        if one.name.as_str() == name.as_str() {
-            return Some(&one.form);
-        }
-    }
-    None
+fn is_parallel(loops: &[Loop], name: &Name) -> bool
+    ensures { result ≡ list_any (λ one. placing.is_parallel one && same_name one.name name.now) loops.now }
+{
+    loops.iter().any(|one| one.is_parallel() && one.name.as_str() == name.as_str())
 }
 
-fn is_parallel(loops: &[Loop], name: &Name) -> bool {
-    loops.iter().any(|one| one.mark == Some(Mark::Parallel) && one.name.as_str() == name.as_str())
-}
-
-fn low_of(numbers: &Numbers) -> i64 {
+fn low_of(numbers: &Numbers) -> i64
+    ensures { result ≡ numbers.now.low }
+{
     i64::from(numbers.low)
 }
 
-fn last_of(numbers: &Numbers) -> i64 {
+fn last_of(numbers: &Numbers) -> i64
+    ensures { result ≡ counts.last_number numbers.now }
+{
     i64::from(numbers.low) + i64::from(numbers.count) - 1
 }
 
-fn factor_of(cut: &Split) -> i64 {
+fn factor_of(cut: &Split) -> i64
+    ensures { result ≡ spec.factor_of cut.now }
+{
     i64::from(cut.factor)
 }
 
 // Whether the last block has fewer numbers than the others.
-fn is_uneven(numbers: &Numbers, cut: &Split) -> bool {
-    numbers.count.checked_rem(cut.factor) != Some(0)
+fn is_uneven(numbers: &Numbers, cut: &Split) -> bool
+    ensures { result ≡ standing.has_rest cut.now numbers.now.count }
+{
+    cut.factor == 0 || numbers.count % cut.factor != 0
 }
 
 // A number and so many times another.
-fn stepped(low: i64, factor: i64, count: i64) -> i64 {
+fn stepped(low: i64, factor: i64, count: i64) -> i64
+    ensures { result ≡ spec.stepped low factor count }
+{
     low.saturating_add(factor.saturating_mul(count))
 }
 
+// How far the last number of a block is from its first.
+fn full(cut: &Split) -> i64
+    ensures { result ≡ spec.difference (spec.factor_of cut.now) (pos 1) }
+{
+    factor_of(cut).saturating_sub(1)
+}
+
+// The last number of a block from this one on.
+fn block_end(low: i64, cut: &Split) -> i64
+    ensures { result ≡ spec.block_end low cut.now }
+{
+    low.saturating_add(full(cut))
+}
+
+// The last number that is visited of a split loop, where these are those of its outer and its inner loop.
+#[tactic(auto, unfolding(crate::specs::Blocks::split_end))]
+fn split_end(cut: &Split, own: &Numbers, outer: i64, inner: i64) -> i64
+    ensures { result ≡ spec.split_end cut.now own.now outer inner }
+{
+    match cut.tail {
+        Tail::Guard => last_of(own),
+        Tail::Roundup => stepped(low_of(own), factor_of(cut), outer).saturating_add(inner),
+        Tail::Shift => last_of(own).saturating_sub(full(cut)).saturating_add(inner),
+    }
+}
+
+// The last number of which claims of all of a split loop speak.
+#[tactic(auto, unfolding(crate::specs::Blocks::split_claim_end))]
+fn split_claim_end(cut: &Split, own: &Numbers, outer: i64) -> i64
+    ensures { result ≡ spec.split_claim_end cut.now own.now outer }
+{
+    match cut.tail {
+        Tail::Guard | Tail::Shift => last_of(own),
+        Tail::Roundup => stepped(low_of(own), factor_of(cut), outer).saturating_add(full(cut)),
+    }
+}
+
 // The last number that is visited of a loop.
-fn end_of(numbers: &[Numbers], name: &Name, cuts: &[Split]) -> i64 {
+fn end_of(numbers: &[Numbers], name: &Name, cuts: &[Split]) -> i64
+    ensures { result ≡ spec.end_of numbers.now name.now cuts.now }
+{
     let own = numbers_named(numbers, name);
     match cuts {
         [] => last_of(&own),
         [cut, rest @ ..] => {
-            if cut.whole.as_str() != name.as_str() {
-                return end_of(numbers, name, rest);
-            }
-            let inner = end_of(numbers, &cut.inner, rest);
-            let outer = end_of(numbers, &cut.outer, rest);
-            match cut.tail {
-                Tail::Guard => last_of(&own),
-                Tail::Roundup => stepped(low_of(&own), factor_of(cut), outer).saturating_add(inner),
-                Tail::Shift => last_of(&own)
-                    .saturating_sub(factor_of(cut).saturating_sub(1))
-                    .saturating_add(inner),
+            if cut.whole.as_str() == name.as_str() {
+                let outer = end_of(numbers, &cut.outer, rest);
+                let inner = end_of(numbers, &cut.inner, rest);
+                split_end(cut, &own, outer, inner)
+            } else {
+                end_of(numbers, name, rest)
             }
         }
     }
 }
 
 // The last number of which a claim of the whole loop speaks.
-fn claim_end_of(numbers: &[Numbers], name: &Name, cuts: &[Split]) -> i64 {
+fn claim_end_of(numbers: &[Numbers], name: &Name, cuts: &[Split]) -> i64
+    ensures { result ≡ spec.claim_end_of numbers.now name.now cuts.now }
+{
     let own = numbers_named(numbers, name);
     match cuts {
         [] => last_of(&own),
         [cut, rest @ ..] => {
-            if cut.whole.as_str() != name.as_str() {
-                return claim_end_of(numbers, name, rest);
-            }
-            let outer = claim_end_of(numbers, &cut.outer, rest);
-            match cut.tail {
-                Tail::Guard | Tail::Shift => last_of(&own),
-                Tail::Roundup => stepped(low_of(&own), factor_of(cut), outer).saturating_add(
-                    factor_of(cut).saturating_sub(1),
-                ),
+            if cut.whole.as_str() == name.as_str() {
+                let outer = claim_end_of(numbers, &cut.outer, rest);
+                split_claim_end(cut, &own, outer)
+            } else {
+                claim_end_of(numbers, name, rest)
             }
         }
     }
 }
 
 // Each form so many times, and a number more.
-fn all_stepped(alloc: Global, low: i64, factor: i64, forms: &[Lin]) -> Result<Vec<Lin>, Stop> {
+fn all_stepped(alloc: Global, low: i64, factor: i64, forms: &[Lin]) -> Result<Vec<Lin>, Stop>
+    ensures { IfOk result (λ v. v.items ≡ map (spec.multiple_from low factor) forms.now) }
+{
     let mut made = Vec::new(alloc);
     for form in forms {
         let one = multiple_from(alloc, low, factor, form)?;
@@ -156,18 +230,30 @@ fn all_stepped(alloc: Global, low: i64, factor: i64, forms: &[Lin]) -> Result<Ve
     Ok(made)
 }
 
+// A form and another one more.
+#[tactic(auto, using(crate::proofs::Origins::combined_is))]
+fn moved(alloc: Global, by: &Lin, form: &Lin) -> Result<Lin, Stop>
+    ensures { IfOk result (λ made. made ≡ plus_multiple by.now (pos 1) form.now) }
+{
+    Ok(by.plus_multiple(alloc, 1, form)?)
+}
+
 // Each form, and another one more.
-fn all_moved(alloc: Global, by: &Lin, forms: &[Lin]) -> Result<Vec<Lin>, Stop> {
+fn all_moved(alloc: Global, by: &Lin, forms: &[Lin]) -> Result<Vec<Lin>, Stop>
+    ensures { IfOk result (λ v. v.items ≡ map (plus_multiple by.now (pos 1)) forms.now) }
+{
     let mut made = Vec::new(alloc);
     for form in forms {
-        let one = by.plus_multiple(alloc, 1, form)?;
+        let one = moved(alloc, by, form)?;
         made.push(one)?;
     }
     Ok(made)
 }
 
 // The last number, where it cuts what a piece owns.
-fn own_last(own: &Numbers, cut: &Split) -> Option<i64> {
+fn own_last(own: &Numbers, cut: &Split) -> Option<i64>
+    ensures { result ≡ spec.own_last cut.now own.now }
+{
     if is_uneven(own, cut) {
         Some(last_of(own))
     } else {
@@ -176,7 +262,9 @@ fn own_last(own: &Numbers, cut: &Split) -> Option<i64> {
 }
 
 // The last number, where it cuts what claims speak of: not where blocks are computed past the end.
-fn claim_last(own: &Numbers, cut: &Split) -> Option<i64> {
+fn claim_last(own: &Numbers, cut: &Split) -> Option<i64>
+    ensures { result ≡ spec.claim_last cut.now own.now }
+{
     match cut.tail {
         Tail::Guard | Tail::Shift => own_last(own, cut),
         Tail::Roundup => None,
@@ -184,7 +272,9 @@ fn claim_last(own: &Numbers, cut: &Split) -> Option<i64> {
 }
 
 // With the last number of a loop, where that counts.
-fn with_last(alloc: Global, limits: Vec<Lin>, last: Option<i64>) -> Result<Vec<Lin>, AllocError> {
+fn with_last(alloc: Global, limits: Vec<Lin>, last: Option<i64>) -> Result<Vec<Lin>, AllocError>
+    ensures { IfOk result (λ v. v.items ≡ spec.with_last limits.items last) }
+{
     let mut limits = limits;
     if let Some(last) = last {
         limits.push(Lin::number(alloc, last))?;
@@ -192,7 +282,9 @@ fn with_last(alloc: Global, limits: Vec<Lin>, last: Option<i64>) -> Result<Vec<L
     Ok(limits)
 }
 
-fn copied(alloc: Global, form: Option<&Lin>) -> Result<Option<Lin>, AllocError> {
+fn copied(alloc: Global, form: Option<&Lin>) -> Result<Option<Lin>, AllocError>
+    ensures { IfOk result (λ copy. copy ≡ option_copied form.entry) }
+{
     match form {
         Some(form) => Ok(Some(form.copy(alloc)?)),
         None => Ok(None),
@@ -206,24 +298,30 @@ fn origin_over(
     cut: &Split,
     own: &Numbers,
     outer: &Block,
-) -> Result<Option<Lin>, Stop> {
-    if cut.tail == Tail::Shift {
-        if outer.length != 1 {
-            return Ok(None);
+) -> Result<Option<Lin>, Stop>
+    ensures { IfOk result (λ origin. origin ≡ spec.origin_over (lay_seen lay.now) cut.now own.now (block_seen outer.now)) }
+{
+    match cut.tail {
+        Tail::Shift => {
+            if outer.length != 1 {
+                return Ok(None);
+            }
+            Ok(copied(alloc, form_named(lay.starts, &cut.whole))?)
         }
-        return Ok(copied(alloc, form_named(lay.starts, &cut.whole))?);
-    }
-    match &outer.origin {
-        Some(origin) => {
-            let made = multiple_from(alloc, low_of(own), factor_of(cut), origin)?;
-            Ok(Some(made))
-        }
-        None => Ok(None),
+        Tail::Guard | Tail::Roundup => match &outer.origin {
+            Some(origin) => {
+                let made = multiple_from(alloc, low_of(own), factor_of(cut), origin)?;
+                Ok(Some(made))
+            }
+            None => Ok(None),
+        },
     }
 }
 
 // How many numbers it visits of them.
-fn reach_over(cut: &Split, outer: &Block, inner_end: i64) -> i64 {
+fn reach_over(cut: &Split, outer: &Block, inner_end: i64) -> i64
+    ensures { result ≡ spec.reach_over cut.now (block_seen outer.now) inner_end }
+{
     match cut.tail {
         Tail::Shift => inner_end.saturating_add(1),
         Tail::Guard | Tail::Roundup => {
@@ -233,6 +331,48 @@ fn reach_over(cut: &Split, outer: &Block, inner_end: i64) -> i64 {
     }
 }
 
+// Where a block of a split loop begins, by the form of the outer loop.
+fn begun_at(alloc: Global, cut: &Split, own: &Numbers, form: &Lin) -> Result<Lin, Stop>
+    ensures { IfOk result (λ made. made ≡ spec.multiple_from own.now.low (spec.factor_of cut.now) form.now) }
+{
+    multiple_from(alloc, low_of(own), factor_of(cut), form)
+}
+
+// The ends of the blocks that these forms count.
+fn all_ends(alloc: Global, cut: &Split, own: &Numbers, forms: &[Lin]) -> Result<Vec<Lin>, Stop>
+    ensures { IfOk result (λ v. v.items ≡ spec.all_ends cut.now own.now forms.now) }
+{
+    all_stepped(alloc, block_end(low_of(own), cut), factor_of(cut), forms)
+}
+
+// The further upper ends of what a piece owns of a split loop, of which it has whole blocks.
+fn own_ends(alloc: Global, cut: &Split, own: &Numbers, outer: &Block) -> Result<Vec<Lin>, Stop>
+    ensures { IfOk result (λ v. v.items ≡ spec.with_last (spec.all_ends cut.now own.now outer.now.own_limits.items) (spec.own_last cut.now own.now)) }
+{
+    let ends = all_ends(alloc, cut, own, &outer.own_limits)?;
+    Ok(with_last(alloc, ends, own_last(own, cut))?)
+}
+
+fn claim_ends(alloc: Global, cut: &Split, own: &Numbers, outer: &Block) -> Result<Vec<Lin>, Stop>
+    ensures { IfOk result (λ v. v.items ≡ spec.with_last (spec.all_ends cut.now own.now outer.now.claim_limits.items) (spec.claim_last cut.now own.now)) }
+{
+    let ends = all_ends(alloc, cut, own, &outer.claim_limits)?;
+    Ok(with_last(alloc, ends, claim_last(own, cut))?)
+}
+
+fn length_over(cut: &Split, outer: &Block) -> i64
+    ensures { result ≡ spec.product (spec.factor_of cut.now) outer.now.length }
+{
+    factor_of(cut).saturating_mul(outer.length)
+}
+
+// How many numbers a piece visits of a split loop, of which it has whole blocks.
+fn reach_of(lay: &Lay<'_>, cut: &Split, rest: &[Split], outer: &Block) -> i64
+    ensures { result ≡ spec.reach_over cut.now (block_seen outer.now) (spec.end_of lay.now.numbers.now cut.now.inner rest.now) }
+{
+    reach_over(cut, outer, end_of(lay.numbers, &cut.inner, rest))
+}
+
 // Whole blocks of a split loop.
 fn blocks_of(
     alloc: Global,
@@ -240,38 +380,45 @@ fn blocks_of(
     cut: &Split,
     rest: &[Split],
     outer: &Block,
-) -> Result<Part, Stop> {
+) -> Result<Part, Stop>
+    ensures { IfOk result (λ part. part_seen part ≡ Run (spec.blocks_of (lay_seen lay.now) cut.now rest.now (block_seen outer.now))) }
+{
     let own = numbers_named(lay.numbers, &cut.whole);
-    let factor = factor_of(cut);
-    let block_end = low_of(&own).saturating_add(factor.saturating_sub(1));
-    let start = multiple_from(alloc, low_of(&own), factor, &outer.start)?;
-    let own_limits = all_stepped(alloc, block_end, factor, &outer.own_limits)?;
-    let own_limits = with_last(alloc, own_limits, own_last(&own, cut))?;
-    let claim_limits = all_stepped(alloc, block_end, factor, &outer.claim_limits)?;
-    let claim_limits = with_last(alloc, claim_limits, claim_last(&own, cut))?;
+    let start = begun_at(alloc, cut, &own, &outer.start)?;
+    let own_limits = own_ends(alloc, cut, &own, outer)?;
+    let claim_limits = claim_ends(alloc, cut, &own, outer)?;
     let origin = origin_over(alloc, lay, cut, &own, outer)?;
-    let inner_end = end_of(lay.numbers, &cut.inner, rest);
+    let length = length_over(cut, outer);
+    let reach = reach_of(lay, cut, rest, outer);
     Ok(Part::Block(Block {
         start,
-        length: factor.saturating_mul(outer.length),
+        length,
         own_limits,
         claim_limits,
         origin,
-        reach: reach_over(cut, outer, inner_end),
+        reach,
     }))
 }
 
 // Whether more numbers are visited of a loop than it has.
-fn overruns(lay: &Lay<'_>, name: &Name, cuts: &[Split]) -> bool {
+fn overruns(lay: &Lay<'_>, name: &Name, cuts: &[Split]) -> bool
+    ensures { result ≡ spec.overruns (lay_seen lay.now) name.now cuts.now }
+{
     end_of(lay.numbers, name, cuts) > last_of(&numbers_named(lay.numbers, name))
 }
 
 // Whether a guard keeps the numbers of a split loop within it.
-fn is_guarded(lay: &Lay<'_>, cut: &Split, rest: &[Split], own: &Numbers) -> bool {
-    cut.tail == Tail::Guard
-        && (is_uneven(own, cut)
-            || overruns(lay, &cut.outer, rest)
-            || overruns(lay, &cut.inner, rest))
+fn is_guarded(lay: &Lay<'_>, cut: &Split, rest: &[Split], own: &Numbers) -> bool
+    ensures { result ≡ spec.is_guarded (lay_seen lay.now) cut.now rest.now own.now }
+{
+    match cut.tail {
+        Tail::Guard => {
+            is_uneven(own, cut)
+                || overruns(lay, &cut.outer, rest)
+                || overruns(lay, &cut.inner, rest)
+        }
+        Tail::Roundup | Tail::Shift => false,
+    }
 }
 
 // Where a piece begins to visit a part of one block. A guard over the grid alone has a let behind it, which no form tells.
@@ -282,14 +429,16 @@ fn origin_within(
     rest: &[Split],
     outer: &Block,
     inner: &Block,
-) -> Result<Option<Lin>, Stop> {
+) -> Result<Option<Lin>, Stop>
+    ensures { IfOk result (λ origin. origin ≡ spec.origin_within (lay_seen lay.now) cut.now rest.now (block_seen outer.now) (block_seen inner.now)) }
+{
     let own = numbers_named(lay.numbers, &cut.whole);
     if is_guarded(lay, cut, rest, &own) {
         return Ok(None);
     }
     match (origin_over(alloc, lay, cut, &own, outer)?, &inner.origin) {
         (Some(begun), Some(origin)) => {
-            let made = begun.plus_multiple(alloc, 1, origin)?;
+            let made = moved(alloc, &begun, origin)?;
             Ok(Some(made))
         }
         _ => Ok(None),
@@ -303,11 +452,61 @@ fn limits_within(
     inner: &[Lin],
     blocks: Vec<Lin>,
     last: Option<i64>,
-) -> Result<Vec<Lin>, Stop> {
+) -> Result<Vec<Lin>, Stop>
+    ensures { IfOk result (λ v. v.items ≡ spec.limits_within base.now inner.now blocks.items last) }
+{
     let mut limits = all_moved(alloc, base, inner)?;
     let mut blocks = blocks;
     limits.append(&mut blocks)?;
     Ok(with_last(alloc, limits, last)?)
+}
+
+fn length_within(inner: &Block) -> i64
+    ensures { result ≡ inner.now.length }
+{
+    inner.length
+}
+
+fn reach_within(inner: &Block) -> i64
+    ensures { result ≡ inner.now.reach }
+{
+    inner.reach
+}
+
+fn own_limits_within(
+    alloc: Global,
+    cut: &Split,
+    own: &Numbers,
+    base: &Lin,
+    outer: &Block,
+    inner: &Block,
+) -> Result<Vec<Lin>, Stop>
+    ensures { IfOk result (λ v. v.items ≡ spec.limits_within base.now inner.now.own_limits.items
+        (spec.all_ends cut.now own.now outer.now.own_limits.items) (spec.own_last cut.now own.now)) }
+{
+    let blocks = all_ends(alloc, cut, own, &outer.own_limits)?;
+    limits_within(alloc, base, &inner.own_limits, blocks, own_last(own, cut))
+}
+
+fn claim_limits_within(
+    alloc: Global,
+    cut: &Split,
+    own: &Numbers,
+    base: &Lin,
+    outer: &Block,
+    inner: &Block,
+) -> Result<Vec<Lin>, Stop>
+    ensures { IfOk result (λ v. v.items ≡ spec.limits_within base.now inner.now.claim_limits.items
+        (spec.all_ends cut.now own.now outer.now.claim_limits.items) (spec.claim_last cut.now own.now)) }
+{
+    let blocks = all_ends(alloc, cut, own, &outer.claim_limits)?;
+    limits_within(
+        alloc,
+        base,
+        &inner.claim_limits,
+        blocks,
+        claim_last(own, cut),
+    )
 }
 
 // A part of one block of a split loop.
@@ -318,30 +517,22 @@ fn block_within(
     rest: &[Split],
     outer: &Block,
     inner: &Block,
-) -> Result<Part, Stop> {
+) -> Result<Part, Stop>
+    ensures { IfOk result (λ part. part_seen part ≡ Run (spec.block_within (lay_seen lay.now) cut.now rest.now (block_seen outer.now) (block_seen inner.now))) }
+{
     let own = numbers_named(lay.numbers, &cut.whole);
-    let factor = factor_of(cut);
-    let block_end = low_of(&own).saturating_add(factor.saturating_sub(1));
-    let base = multiple_from(alloc, low_of(&own), factor, &outer.start)?;
-    let start = base.plus_multiple(alloc, 1, &inner.start)?;
-    let blocks = all_stepped(alloc, block_end, factor, &outer.own_limits)?;
-    let own_limits = limits_within(alloc, &base, &inner.own_limits, blocks, own_last(&own, cut))?;
-    let blocks = all_stepped(alloc, block_end, factor, &outer.claim_limits)?;
-    let claim_limits = limits_within(
-        alloc,
-        &base,
-        &inner.claim_limits,
-        blocks,
-        claim_last(&own, cut),
-    )?;
+    let base = begun_at(alloc, cut, &own, &outer.start)?;
+    let start = moved(alloc, &base, &inner.start)?;
+    let own_limits = own_limits_within(alloc, cut, &own, &base, outer, inner)?;
+    let claim_limits = claim_limits_within(alloc, cut, &own, &base, outer, inner)?;
     let origin = origin_within(alloc, lay, cut, rest, outer, inner)?;
     Ok(Part::Block(Block {
         start,
-        length: inner.length,
+        length: length_within(inner),
         own_limits,
         claim_limits,
         origin,
-        reach: inner.reach,
+        reach: reach_within(inner),
     }))
 }
 
@@ -353,7 +544,9 @@ fn joined(
     rest: &[Split],
     outer: &Part,
     inner: &Part,
-) -> Result<Part, Stop> {
+) -> Result<Part, Stop>
+    ensures { IfOk result (λ part. part_seen part ≡ spec.joined (lay_seen lay.now) cut.now rest.now (part_seen outer.now) (part_seen inner.now)) }
+{
     match (outer, inner) {
         (Part::Whole, Part::Whole) => Ok(Part::Whole),
         (Part::Block(outer), Part::Whole) => blocks_of(alloc, lay, cut, rest, outer),
@@ -369,7 +562,9 @@ fn joined(
 }
 
 // What of a loop that is not split belongs to a piece.
-fn uncut(alloc: Global, lay: &Lay<'_>, name: &Name) -> Result<Part, Stop> {
+fn uncut(alloc: Global, lay: &Lay<'_>, name: &Name) -> Result<Part, Stop>
+    ensures { IfOk result (λ part. part_seen part ≡ spec.uncut (lay_seen lay.now) name.now) }
+{
     if !is_parallel(lay.loops, name) {
         return Ok(Part::Whole);
     }
@@ -387,22 +582,27 @@ fn uncut(alloc: Global, lay: &Lay<'_>, name: &Name) -> Result<Part, Stop> {
 }
 
 // What of a loop's numbers belongs to a piece.
-fn part_of(alloc: Global, lay: &Lay<'_>, name: &Name, cuts: &[Split]) -> Result<Part, Stop> {
+fn part_of(alloc: Global, lay: &Lay<'_>, name: &Name, cuts: &[Split]) -> Result<Part, Stop>
+    ensures { IfOk result (λ part. part_seen part ≡ spec.part_of (lay_seen lay.now) name.now cuts.now) }
+{
     match cuts {
         [] => uncut(alloc, lay, name),
         [cut, rest @ ..] => {
-            if cut.whole.as_str() != name.as_str() {
-                return part_of(alloc, lay, name, rest);
+            if cut.whole.as_str() == name.as_str() {
+                let outer = part_of(alloc, lay, &cut.outer, rest)?;
+                let inner = part_of(alloc, lay, &cut.inner, rest)?;
+                joined(alloc, lay, cut, rest, &outer, &inner)
+            } else {
+                part_of(alloc, lay, name, rest)
             }
-            let outer = part_of(alloc, lay, &cut.outer, rest)?;
-            let inner = part_of(alloc, lay, &cut.inner, rest)?;
-            joined(alloc, lay, cut, rest, &outer, &inner)
         }
     }
 }
 
 // From a form on so many numbers, and at most each of the limits.
-fn block_span(alloc: Global, start: &Lin, length: i64, limits: &[Lin]) -> Result<Span1, Stop> {
+fn block_span(alloc: Global, start: &Lin, length: i64, limits: &[Lin]) -> Result<Span1, Stop>
+    ensures { IfOk result (λ span. span ≡ spec.block_span start.now length limits.now) }
+{
     let lower = one_form(alloc, start.copy(alloc)?)?;
     let mut upper = Forms::new(alloc);
     let last = raised(alloc, start, length.saturating_sub(1))?;
@@ -415,7 +615,9 @@ fn block_span(alloc: Global, start: &Lin, length: i64, limits: &[Lin]) -> Result
 }
 
 // So many places from a form on.
-fn places_from(origin: Lin, reach: i64) -> Places {
+fn places_from(origin: Lin, reach: i64) -> Places
+    ensures { result ≡ spec.places_from origin reach }
+{
     Places::From {
         origin,
         count: u64::try_from(reach).unwrap_or(0),
@@ -423,7 +625,9 @@ fn places_from(origin: Lin, reach: i64) -> Places {
 }
 
 // Places for all numbers that are visited of a loop.
-fn whole_places(alloc: Global, lay: &Lay<'_>, name: &Name, cuts: &[Split]) -> Places {
+fn whole_places(alloc: Global, lay: &Lay<'_>, name: &Name, cuts: &[Split]) -> Places
+    ensures { result ≡ spec.whole_places (lay_seen lay.now) name.now cuts.now }
+{
     let low = low_of(&numbers_named(lay.numbers, name));
     let end = end_of(lay.numbers, name, cuts);
     places_from(
@@ -437,7 +641,9 @@ fn whole_dimension(
     lay: &Lay<'_>,
     name: &Name,
     cuts: &[Split],
-) -> Result<Dimension, Stop> {
+) -> Result<Dimension, Stop>
+    ensures { IfOk result (λ one. one ≡ spec.whole_dimension (lay_seen lay.now) name.now cuts.now) }
+{
     let own = numbers_named(lay.numbers, name);
     let end = claim_end_of(lay.numbers, name, cuts);
     Ok(Dimension {
@@ -453,7 +659,9 @@ fn block_dimension(
     name: &Name,
     cuts: &[Split],
     block: &Block,
-) -> Result<Dimension, Stop> {
+) -> Result<Dimension, Stop>
+    ensures { IfOk result (λ one. one ≡ spec.block_dimension (lay_seen lay.now) name.now cuts.now (block_seen block.now)) }
+{
     let places = match &block.origin {
         Some(origin) => places_from(origin.copy(alloc)?, block.reach),
         None => whole_places(alloc, lay, name, cuts),
@@ -470,11 +678,29 @@ fn dimension_of(
     lay: &Lay<'_>,
     name: &Name,
     cuts: &[Split],
-) -> Result<Dimension, Stop> {
+) -> Result<Dimension, Stop>
+    ensures { IfOk result (λ one. one ≡ spec.dimension_of (lay_seen lay.now) cuts.now name.now) }
+{
     match part_of(alloc, lay, name, cuts)? {
         Part::Block(block) => block_dimension(alloc, lay, name, cuts, &block),
         Part::Whole | Part::Scattered => whole_dimension(alloc, lay, name, cuts),
     }
+}
+
+fn dimensions_over(
+    alloc: Global,
+    lay: &Lay<'_>,
+    cuts: &[Split],
+    variables: &[Name],
+) -> Result<Vec<Dimension>, Stop>
+    ensures { IfOk result (λ v. v.items ≡ map (spec.dimension_of (lay_seen lay.now) cuts.now) variables.now) }
+{
+    let mut found = Vec::new(alloc);
+    for variable in variables {
+        let one = dimension_of(alloc, lay, variable, cuts)?;
+        found.push(one)?;
+    }
+    Ok(found)
 }
 
 /// What a piece of a stored function owns, claims and has places for, one entry a dimension. A piece of a split loop owns its
@@ -483,7 +709,9 @@ pub(crate) fn dimensions(
     alloc: Global,
     stored: &Stored<'_>,
     laid: &Laid,
-) -> Result<Vec<Dimension>, Stop> {
+) -> Result<Vec<Dimension>, Stop>
+    ensures { IfOk result (λ v. v.items ≡ spec.dimensions_of (stored_of stored.now) laid.now.region.items (skeleton_seen laid.now.skeleton)) }
+{
     let cuts = &stored.placed.cuts;
     let numbers = loop_numbers(alloc, &stored.subject.variables, cuts, &laid.region)?;
     let lay = Lay {
@@ -492,10 +720,52 @@ pub(crate) fn dimensions(
         known: &laid.skeleton.known,
         starts: &laid.skeleton.starts,
     };
-    let mut found = Vec::new(alloc);
-    for variable in &stored.subject.variables {
-        let one = dimension_of(alloc, &lay, variable, cuts)?;
-        found.push(one)?;
+    dimensions_over(alloc, &lay, cuts, &stored.subject.variables)
+}
+
+// The places in memory of their own.
+fn copied_places(alloc: Global, places: &Places) -> Result<Places, AllocError>
+    ensures { IfOk result (λ copy. copy ≡ places.now) }
+{
+    match places {
+        Places::From { origin, count } => Ok(Places::From {
+            origin: origin.copy(alloc)?,
+            count: *count,
+        }),
+        Places::Folded { count } => Ok(Places::Folded { count: *count }),
     }
-    Ok(found)
+}
+
+/// The region that a piece owns.
+pub(crate) fn owned_region(alloc: Global, dimensions: &[Dimension]) -> Result<Region, AllocError>
+    ensures { IfOk result (λ region. region ≡ spec.owned_region dimensions.now) }
+{
+    let mut region = Region::new(alloc);
+    for one in dimensions {
+        region.push(one.own.copy(alloc)?)?;
+    }
+    Ok(region)
+}
+
+/// The region of which its claims speak.
+pub(crate) fn claimed_region(alloc: Global, dimensions: &[Dimension]) -> Result<Region, AllocError>
+    ensures { IfOk result (λ region. region ≡ spec.claimed_region dimensions.now) }
+{
+    let mut region = Region::new(alloc);
+    for one in dimensions {
+        region.push(one.claim.copy(alloc)?)?;
+    }
+    Ok(region)
+}
+
+/// The places of its buffer.
+pub(crate) fn own_places(alloc: Global, dimensions: &[Dimension]) -> Result<Vec<Places>, AllocError>
+    ensures { IfOk result (λ v. v.items ≡ spec.own_places dimensions.now) }
+{
+    let mut places = Vec::new(alloc);
+    for one in dimensions {
+        let copy = copied_places(alloc, &one.places)?;
+        places.push(copy)?;
+    }
+    Ok(places)
 }

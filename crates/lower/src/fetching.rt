@@ -1,25 +1,38 @@
 //! What a piece fetches of another stored function, and of which of its pieces.
 
-ghost use Rattle.std.specs.Prelude.{◌≡◌, [], IfOk, map};
+ghost use Rattle.std.specs.Prelude.{◌≡◌, [], ◌++◌, Some, IfOk, IfSome, OnOk, map};
 ghost use Rattle.std.specs.Option.{is_some};
+ghost use Rattle.tree.specs.Term.{list_terms, indices};
+ghost use Rattle.algo.specs.View.{algorithm_of};
+ghost use Rattle.sched.specs.Skeleton.{nest_seen, skeleton_seen};
+ghost use Rattle.plan.specs.declared.stmt.Places.TheVariants.{From};
+ghost use Rattle.lower.specs.Around.{around_of, grid_scope as grid_scope_of};
+ghost use Rattle.lower.specs.Calls.{call_of};
+ghost use Rattle.lower.specs.Fetches.{IsTaken};
+ghost use Rattle.lower.specs.Limited.{Tells, Gives};
 ghost use Rattle.lower.specs.Stored.{formula_of, some_calls, stored_of};
+ghost use Rattle.lower.specs.Taken as spec;
+ghost use Rattle.lower.specs.Windows.{size_below as size_below_of};
+ghost use Rattle.lower.specs.Taken.{FindsPart, site_of};
 
 use crate::calls::{Call, calls_of};
 use crate::definitions::{Formula, Stored};
 use crate::error::Stop;
 use crate::forms::{between, divided, is_inside, last_of, one_form, raised, whole};
 use crate::inner::Inner;
-use crate::regions::{Laid, formulas_call, symbols_from};
+use crate::regions::{Laid, formulas_call, projected, symbols_from};
 use crate::rounded::is_rounded;
 use crate::scopes::{Around, around_in, grid_scope, head_scope, interval};
 use crate::sliding::Later;
+use crate::windows::size_below;
 use algo::Algo;
-use bounds::projection::project_span;
+use algo::scoping::same_name;
 use lin::{Forms, Lin, Region, Scope, Span1, Sym};
 use numeric::Ty;
 use plan::Places;
 use sched::{Extent, Loop, Mark, Nest, Split};
 use std::alloc::{AllocError, Global};
+use tree::Expr;
 use tree::token::Name;
 
 /// How many forms of a side a fetched region has at most, beside a number.
@@ -58,47 +71,142 @@ struct Part {
 
 // ---- what is called
 
-fn call_spans(
+// What indices stay within, behind others.
+fn add_spans(
+    alloc: Global,
+    algo: &Algo,
+    around: &Around<'_>,
+    at: &[Expr],
+    spans: &mut Region,
+) -> Result<(), Stop>
+    ensures { Tells result spans.new (spec.add_spans (algorithm_of algo.now) (around_of around.now) (indices (list_terms at.now)) spans.old) }
+{
+    match at {
+        [] => Ok(()),
+        [index, rest @ ..] => {
+            let span = interval(alloc, algo, around, index)?;
+            spans.push(span)?;
+            add_spans(alloc, algo, around, rest, spans)
+        }
+    }
+}
+
+// What the indices of a call stay within, if it is of this function.
+fn add_call(
+    alloc: Global,
+    algo: &Algo,
+    around: &Around<'_>,
+    callee: &str,
+    call: &Call<'_>,
+    found: &mut Vec<Region>,
+) -> Result<(), Stop>
+    ensures { Tells result found.new.items (spec.add_call (algorithm_of algo.now) (around_of around.now) callee.now (call_of call.now) found.old.items) }
+{
+    if same_name(call.name, callee) {
+        let mut spans = Region::new(alloc);
+        add_spans(alloc, algo, around, call.at, &mut spans)?;
+        found.push(spans)?;
+    }
+    Ok(())
+}
+
+fn add_calls(
+    alloc: Global,
+    algo: &Algo,
+    around: &Around<'_>,
+    callee: &str,
+    calls: &[Call<'_>],
+    found: &mut Vec<Region>,
+) -> Result<(), Stop>
+    ensures { Tells result found.new.items (spec.add_calls (algorithm_of algo.now) (around_of around.now) callee.now (map call_of calls.now) found.old.items) }
+{
+    match calls {
+        [] => Ok(()),
+        [call, rest @ ..] => {
+            add_call(alloc, algo, around, callee, call, found)?;
+            add_calls(alloc, algo, around, callee, rest, found)
+        }
+    }
+}
+
+// The calls of a definition, if there are any.
+#[tactic(auto, using(crate::proofs::Taken::site_none, crate::proofs::Taken::site_some))]
+fn with_site(scope: Scope, calls: Vec<Region>, sites: &mut Vec<Site>) -> Result<(), AllocError>
+    ensures { OnOk result (map site_of sites.new.items ≡ spec.with_site scope calls.items (map site_of sites.old.items)) }
+{
+    if calls.is_empty() {
+        return Ok(());
+    }
+    sites.push(Site { scope, calls })?;
+    Ok(())
+}
+
+fn add_site(
     alloc: Global,
     algo: &Algo,
     user: &Root<'_>,
     outer: &Scope,
-    nest: &Nest,
-    definition: usize,
     callee: &str,
-) -> Result<Option<Site>, Stop> {
-    let Some(formula) = user.formulas.get(definition) else {
-        return Ok(None);
-    };
+    definition: usize,
+    formula: &Formula,
+    nest: &Nest,
+    sites: &mut Vec<Site>,
+) -> Result<(), Stop>
+    ensures { Tells result (map site_of sites.new.items) (spec.add_site (algorithm_of algo.now) (stored_of user.now.stored.now) outer.now callee.now
+        definition (formula_of formula.now) (nest_seen nest.now) (map site_of sites.old.items)) }
+{
     let calls = calls_of(alloc, formula)?;
     let around = around_in(alloc, algo, user.stored, outer, nest, formula, definition)?;
     let mut found = Vec::new(alloc);
-    for call in &calls {
-        if call.name == callee {
-            found.push(spans_of(alloc, algo, &around, call)?)?;
-        }
-    }
-    if found.is_empty() {
-        return Ok(None);
-    }
-    Ok(Some(Site {
-        scope: around.scope,
-        calls: found,
-    }))
+    add_calls(alloc, algo, &around, callee, &calls, &mut found)?;
+    with_site(around.scope, found, sites)?;
+    Ok(())
 }
 
-// What the indices of a call stay within.
-fn spans_of(
+fn is_asked(only: Option<usize>, definition: usize) -> bool
+    ensures { result ≡ spec.is_asked only definition }
+{
+    match only {
+        Some(one) => one == definition,
+        None => true,
+    }
+}
+
+// The calls in the definitions from this number on.
+fn sites_from(
     alloc: Global,
     algo: &Algo,
-    around: &Around<'_>,
-    call: &Call<'_>,
-) -> Result<Region, Stop> {
-    let mut spans = Region::new(alloc);
-    for index in call.at {
-        spans.push(interval(alloc, algo, around, index)?)?;
+    user: &Root<'_>,
+    outer: &Scope,
+    only: Option<usize>,
+    callee: &str,
+    definition: usize,
+    formulas: &[Formula],
+    nests: &[Nest],
+    sites: &mut Vec<Site>,
+) -> Result<(), Stop>
+    ensures { Tells result (map site_of sites.new.items) (spec.add_sites (algorithm_of algo.now) (stored_of user.now.stored.now) outer.now only callee.now
+        definition (map formula_of formulas.now) (map nest_seen nests.now) (map site_of sites.old.items)) }
+{
+    match nests {
+        [] => Ok(()),
+        [nest, others @ ..] => match formulas {
+            [] => Ok(()),
+            [formula, rest @ ..] => {
+                let Some(next) = definition.checked_add(1) else {
+                    return Err(Stop::Memory);
+                };
+                if is_asked(only, definition) {
+                    add_site(
+                        alloc, algo, user, outer, callee, definition, formula, nest, sites,
+                    )?;
+                }
+                sites_from(
+                    alloc, algo, user, outer, only, callee, next, rest, others, sites,
+                )
+            }
+        },
     }
-    Ok(spans)
 }
 
 /// Adds the calls of a function in the nests of another one, or in that of one definition, inside of other symbols.
@@ -111,15 +219,22 @@ pub(crate) fn add_sites(
     only: Option<usize>,
     callee: &str,
     sites: &mut Vec<Site>,
-) -> Result<(), Stop> {
-    for (definition, nest) in nests.iter().enumerate() {
-        if only.is_none() || only == Some(definition) {
-            if let Some(site) = call_spans(alloc, algo, user, outer, nest, definition, callee)? {
-                sites.push(site)?;
-            }
-        }
-    }
-    Ok(())
+) -> Result<(), Stop>
+    ensures { Tells result (map site_of sites.new.items) (spec.add_sites (algorithm_of algo.now) (stored_of user.now.stored.now) outer.now only callee.now
+        0 (map formula_of user.now.formulas.now) (map nest_seen nests.now) (map site_of sites.old.items)) }
+{
+    sites_from(
+        alloc,
+        algo,
+        user,
+        outer,
+        only,
+        callee,
+        0,
+        user.formulas,
+        nests,
+        sites,
+    )
 }
 
 /// Adds the calls of a function in the nests of one that is computed inside loops: in those over what is new too, where their
@@ -147,6 +262,25 @@ pub(crate) fn add_inner_sites(
     }
 }
 
+// Those of the functions that are computed inside loops.
+fn add_inners(
+    alloc: Global,
+    algo: &Algo,
+    inners: &[Inner<'_>],
+    callee: &str,
+    sites: &mut Vec<Site>,
+) -> Result<(), Stop>
+    ensures { OnOk result (inners.now ≡ [] → sites.new ≡ sites.old) }
+{
+    match inners {
+        [] => Ok(()),
+        [inner, rest @ ..] => {
+            add_inner_sites(alloc, algo, inner, callee, sites)?;
+            add_inners(alloc, algo, rest, callee, sites)
+        }
+    }
+}
+
 /// The calls of the function in a group: in the nests of its own function, and of those that are computed inside.
 pub(crate) fn sites_of(
     alloc: Global,
@@ -154,7 +288,10 @@ pub(crate) fn sites_of(
     user: &Root<'_>,
     inners: &[Inner<'_>],
     callee: &str,
-) -> Result<Vec<Site>, Stop> {
+) -> Result<Vec<Site>, Stop>
+    ensures { IfOk result (λ v. inners.now ≡ [] → spec.sites_of (algorithm_of algo.now) (stored_of user.now.stored.now)
+        (map formula_of user.now.formulas.now) (skeleton_seen user.now.laid.now.skeleton) callee.now ≡ Some (map site_of v.items)) }
+{
     let mut sites = Vec::new(alloc);
     let skeleton = &user.laid.skeleton;
     let outer = head_scope(alloc, skeleton)?;
@@ -168,20 +305,15 @@ pub(crate) fn sites_of(
         callee,
         &mut sites,
     )?;
-    for inner in inners {
-        add_inner_sites(alloc, algo, inner, callee, &mut sites)?;
-    }
+    add_inners(alloc, algo, inners, callee, &mut sites)?;
     Ok(sites)
 }
 
 // ---- the fetched region
 
-fn with_span(
-    alloc: Global,
-    grid: &Scope,
-    known: Option<Span1>,
-    next: Span1,
-) -> Result<Span1, Stop> {
+fn with_span(alloc: Global, grid: &Scope, known: Option<Span1>, next: Span1) -> Result<Span1, Stop>
+    ensures { Gives result (λ span. span) (spec.either grid.now known next) }
+{
     match known {
         None => Ok(next),
         Some(known) => match bounds::choice(alloc, grid, Ty::I32, &known, &next)? {
@@ -191,37 +323,87 @@ fn with_span(
     }
 }
 
-// The union of what the calls of a definition need in a dimension, over the grid alone.
-fn with_site(
-    alloc: Global,
-    grid: &Scope,
-    site: &Site,
-    dimension: usize,
-    known: Option<Span1>,
-) -> Result<Option<Span1>, Stop> {
-    let inner = symbols_from(alloc, grid.len(), site.scope.len())?;
-    let mut known = known;
-    for call in &site.calls {
-        let Some(span) = call.as_slice().get(dimension) else {
-            return Err(Stop::Limit);
-        };
-        let freed = freed(alloc, &site.scope, &inner, span)?;
-        known = Some(with_span(alloc, grid, known, freed)?);
-    }
-    Ok(known)
-}
-
 /// The span without the inner symbols; where there are none it stays as it is.
 pub(crate) fn freed(
     alloc: Global,
     scope: &Scope,
     inner: &[Sym],
     span: &Span1,
-) -> Result<Span1, Stop> {
-    if inner.is_empty() {
-        return Ok(span.copy(alloc)?);
+) -> Result<Span1, Stop>
+    ensures { Gives result (λ free. free) (spec.freed scope.now inner.now span.now) }
+{
+    match inner {
+        [] => Ok(span.copy(alloc)?),
+        [_first, ..] => projected(alloc, scope, inner, span),
     }
-    Ok(project_span(alloc, scope, inner, span)?)
+}
+
+// What is known, with what a call needs in a dimension.
+fn with_call(
+    alloc: Global,
+    grid: &Scope,
+    scope: &Scope,
+    inner: &[Sym],
+    dimension: usize,
+    call: &Region,
+    known: Option<Span1>,
+) -> Result<Option<Span1>, Stop>
+    ensures { Gives result (λ o. o) (spec.with_call grid.now scope.now inner.now dimension call.now known) }
+{
+    let Some(span) = call.as_slice().get(dimension) else {
+        return Err(Stop::Limit);
+    };
+    let free = freed(alloc, scope, inner, span)?;
+    let both = with_span(alloc, grid, known, free)?;
+    Ok(Some(both))
+}
+
+fn with_calls(
+    alloc: Global,
+    grid: &Scope,
+    scope: &Scope,
+    inner: &[Sym],
+    dimension: usize,
+    calls: &[Region],
+    known: Option<Span1>,
+) -> Result<Option<Span1>, Stop>
+    ensures { Gives result (λ o. o) (spec.with_calls grid.now scope.now inner.now dimension calls.now known) }
+{
+    match calls {
+        [] => Ok(known),
+        [call, rest @ ..] => {
+            let next = with_call(alloc, grid, scope, inner, dimension, call, known)?;
+            with_calls(alloc, grid, scope, inner, dimension, rest, next)
+        }
+    }
+}
+
+// What is known, with what the calls of these definitions need in a dimension, over the grid alone.
+fn with_sites(
+    alloc: Global,
+    grid: &Scope,
+    sites: &[Site],
+    dimension: usize,
+    known: Option<Span1>,
+) -> Result<Option<Span1>, Stop>
+    ensures { Gives result (λ o. o) (spec.with_sites grid.now dimension (map site_of sites.now) known) }
+{
+    match sites {
+        [] => Ok(known),
+        [site, rest @ ..] => {
+            let inner = symbols_from(alloc, grid.len(), site.scope.len())?;
+            let next = with_calls(
+                alloc,
+                grid,
+                &site.scope,
+                &inner,
+                dimension,
+                &site.calls,
+                known,
+            )?;
+            with_sites(alloc, grid, rest, dimension, next)
+        }
+    }
 }
 
 /// The union of what all calls need in a dimension.
@@ -230,19 +412,19 @@ pub(crate) fn needed_span(
     grid: &Scope,
     sites: &[Site],
     dimension: usize,
-) -> Result<Span1, Stop> {
-    let mut known = None;
-    for site in sites {
-        known = with_site(alloc, grid, site, dimension, known)?;
-    }
-    match known {
+) -> Result<Span1, Stop>
+    ensures { Gives result (λ span. span) (spec.needed_span grid.now (map site_of sites.now) dimension) }
+{
+    match with_sites(alloc, grid, sites, dimension, None)? {
         Some(span) => Ok(span),
         None => Err(Stop::Limit),
     }
 }
 
 // The first forms that are no numbers.
-fn symbolic(alloc: Global, forms: &[Lin]) -> Result<Forms, AllocError> {
+fn symbolic(alloc: Global, forms: &[Lin]) -> Result<Forms, AllocError>
+    ensures { IfOk result (λ kept. kept ≡ spec.add_symbolic [] forms.now) }
+{
     let mut kept = Forms::new(alloc);
     for form in forms {
         if !form.is_number() && kept.as_slice().len() < MOST_FORMS {
@@ -253,28 +435,34 @@ fn symbolic(alloc: Global, forms: &[Lin]) -> Result<Forms, AllocError> {
 }
 
 // The greatest of some numbers among the forms and another one.
-fn greatest_from(forms: &[Lin], first: i64) -> i64 {
+fn greatest_from(forms: &[Lin], first: i64) -> i64
+    ensures { result ≡ spec.greatest_from forms.now first }
+{
     let mut greatest = first;
     for form in forms {
-        if form.is_number() {
-            greatest = greatest.max(form.constant());
+        if form.is_number() && greatest < form.constant() {
+            greatest = form.constant();
         }
     }
     greatest
 }
 
-fn least_from(forms: &[Lin], first: i64) -> i64 {
+fn least_from(forms: &[Lin], first: i64) -> i64
+    ensures { result ≡ spec.least_from forms.now first }
+{
     let mut least = first;
     for form in forms {
-        if form.is_number() {
-            least = least.min(form.constant());
+        if form.is_number() && form.constant() < least {
+            least = form.constant();
         }
     }
     least
 }
 
 // The span with the ends of the other function's region as further forms.
-fn cut_span(alloc: Global, span: &Span1, extent: &Extent) -> Result<Span1, AllocError> {
+fn cut_span(alloc: Global, span: &Span1, extent: &Extent) -> Result<Span1, AllocError>
+    ensures { IfOk result (λ cut. cut ≡ spec.cut span.now extent.now) }
+{
     let low = greatest_from(span.lower.as_slice(), i64::from(extent.low));
     let high = least_from(span.upper.as_slice(), last_of(extent));
     let mut lower = symbolic(alloc, span.lower.as_slice())?;
@@ -286,24 +474,42 @@ fn cut_span(alloc: Global, span: &Span1, extent: &Extent) -> Result<Span1, Alloc
 
 // ---- its places
 
+fn at_least_one(size: Option<i64>) -> Option<i64>
+    ensures { result ≡ spec.at_least_one size }
+{
+    match size {
+        Some(size) => Some(if size <= 1 { 1 } else { size }),
+        None => None,
+    }
+}
+
 /// How many numbers there are at most from the form on.
 pub(crate) fn count_from(
     alloc: Global,
     grid: &Scope,
     origin: &Lin,
     upper: &[Lin],
-) -> Result<Option<i64>, AllocError> {
-    let mut least: Option<i64> = None;
-    for form in upper {
-        if let Some(most) = grid.sup_of_difference(alloc, form, origin)? {
-            let count = most.saturating_add(1).max(1);
-            least = Some(match least {
-                Some(known) => known.min(count),
-                None => count,
-            });
+) -> Result<Option<i64>, AllocError>
+    ensures { IfOk result (λ count. count ≡ spec.at_least_one (size_below_of grid.now origin.now upper.now)) }
+{
+    Ok(at_least_one(size_below(alloc, grid, origin, upper)?))
+}
+
+// A place and a count, where that is less than the least so far.
+fn shorter(place: usize, count: Option<i64>, best: Option<(usize, i64)>) -> Option<(usize, i64)>
+    ensures { result ≡ spec.shorter place count best }
+{
+    match (count, best) {
+        (None, best) => best,
+        (Some(count), None) => Some((place, count)),
+        (Some(count), Some(known)) => {
+            if count < known.1 {
+                Some((place, count))
+            } else {
+                Some(known)
+            }
         }
     }
-    Ok(least)
 }
 
 /// The lower form from which on there are the fewest numbers, and how many.
@@ -311,18 +517,13 @@ pub(crate) fn shortest(
     alloc: Global,
     grid: &Scope,
     span: &Span1,
-) -> Result<Option<(usize, i64)>, AllocError> {
+) -> Result<Option<(usize, i64)>, AllocError>
+    ensures { IfOk result (λ best. best ≡ spec.shortest grid.now span.now) }
+{
     let mut best: Option<(usize, i64)> = None;
     for (place, origin) in span.lower.as_slice().iter().enumerate() {
-        if let Some(count) = count_from(alloc, grid, origin, span.upper.as_slice())? {
-            let is_better = match best {
-                Some((_, known)) => count < known,
-                None => true,
-            };
-            if is_better {
-                best = Some((place, count));
-            }
-        }
+        let count = count_from(alloc, grid, origin, span.upper.as_slice())?;
+        best = shorter(place, count, best);
     }
     Ok(best)
 }
@@ -333,47 +534,132 @@ fn hold_calls(
     sites: &[Site],
     dimension: usize,
     span: &Span1,
-) -> Result<bool, AllocError> {
-    for site in sites {
-        if !holds_calls(alloc, site, dimension, span)? {
-            return Ok(false);
+) -> Result<bool, AllocError>
+    ensures { IfOk result (λ yes. yes ≡ spec.hold_calls (map site_of sites.now) dimension span.now) }
+{
+    match sites {
+        [] => Ok(true),
+        [site, rest @ ..] => {
+            if holds_calls(alloc, &site.scope, &site.calls, dimension, span)? {
+                hold_calls(alloc, rest, dimension, span)
+            } else {
+                Ok(false)
+            }
         }
     }
-    Ok(true)
+}
+
+fn holds_call(
+    alloc: Global,
+    scope: &Scope,
+    call: &Region,
+    dimension: usize,
+    span: &Span1,
+) -> Result<bool, AllocError>
+    ensures { IfOk result (λ yes. yes ≡ spec.holds_call scope.now dimension span.now call.now) }
+{
+    match call.as_slice().get(dimension) {
+        Some(called) => is_inside(alloc, scope, called, span),
+        None => Ok(false),
+    }
 }
 
 fn holds_calls(
     alloc: Global,
-    site: &Site,
+    scope: &Scope,
+    calls: &[Region],
     dimension: usize,
     span: &Span1,
-) -> Result<bool, AllocError> {
-    for call in &site.calls {
-        let is_held = match call.as_slice().get(dimension) {
-            Some(called) => is_inside(alloc, &site.scope, called, span)?,
-            None => false,
-        };
-        if !is_held {
-            return Ok(false);
+) -> Result<bool, AllocError>
+    ensures { IfOk result (λ yes. yes ≡ spec.holds_calls scope.now dimension span.now calls.now) }
+{
+    match calls {
+        [] => Ok(true),
+        [call, rest @ ..] => {
+            if holds_call(alloc, scope, call, dimension, span)? {
+                holds_calls(alloc, scope, rest, dimension, span)
+            } else {
+                Ok(false)
+            }
         }
     }
-    Ok(true)
 }
 
 /// From a form on so many numbers.
-pub(crate) fn run_of(alloc: Global, origin: &Lin, count: i64) -> Result<Span1, Stop> {
-    let lower = one_form(alloc, origin.copy(alloc)?)?;
+pub(crate) fn run_of(alloc: Global, origin: &Lin, count: i64) -> Result<Span1, Stop>
+    ensures { Gives result (λ span. span) (spec.run_of origin.now count) }
+{
     let last = raised(alloc, origin, count.saturating_sub(1))?;
+    let lower = one_form(alloc, origin.copy(alloc)?)?;
     let upper = one_form(alloc, last)?;
     Ok(Span1 { lower, upper })
 }
 
 /// So many places from a form on.
-pub(crate) fn places_of(alloc: Global, origin: &Lin, count: i64) -> Result<Places, AllocError> {
+pub(crate) fn places_of(alloc: Global, origin: &Lin, count: i64) -> Result<Places, AllocError>
+    ensures { IfOk result (λ places. places ≡ From origin.now (spec.places_count count)) }
+{
     Ok(Places::From {
         origin: origin.copy(alloc)?,
         count: u64::try_from(count).unwrap_or(1),
     })
+}
+
+// Whether a span and the numbers that have places are shown to hold all calls, and the places the span.
+fn is_shown(
+    alloc: Global,
+    grid: &Scope,
+    sites: &[Site],
+    dimension: usize,
+    span: &Span1,
+    seats: &Span1,
+) -> Result<bool, AllocError>
+    ensures { IfOk result (λ yes. yes ≡ spec.is_shown grid.now (map site_of sites.now) dimension span.now seats.now) }
+{
+    if !hold_calls(alloc, sites, dimension, span)? {
+        return Ok(false);
+    }
+    if !hold_calls(alloc, sites, dimension, seats)? {
+        return Ok(false);
+    }
+    is_inside(alloc, grid, span, seats)
+}
+
+fn seated(
+    alloc: Global,
+    grid: &Scope,
+    sites: &[Site],
+    dimension: usize,
+    span: Span1,
+) -> Result<Option<Part>, Stop>
+    ensures { FindsPart result (spec.seated grid.now (map site_of sites.now) dimension span) }
+{
+    let Some((place, count)) = shortest(alloc, grid, &span)? else {
+        return Ok(None);
+    };
+    let Some(origin) = span.lower.as_slice().get(place) else {
+        return Ok(None);
+    };
+    let seats = run_of(alloc, origin, count)?;
+    if !is_shown(alloc, grid, sites, dimension, &span, &seats)? {
+        return Ok(None);
+    }
+    let places = places_of(alloc, origin, count)?;
+    Ok(Some(Part { span, places }))
+}
+
+// What the calls need of a dimension, cut to the region.
+fn needed_part(
+    alloc: Global,
+    grid: &Scope,
+    sites: &[Site],
+    dimension: usize,
+    extent: &Extent,
+) -> Result<Span1, Stop>
+    ensures { Gives result (λ span. span) (spec.needed_part grid.now (map site_of sites.now) dimension extent.now) }
+{
+    let needed = needed_span(alloc, grid, sites, dimension)?;
+    Ok(cut_span(alloc, &needed, extent)?)
 }
 
 // The span that the calls need, with places for it, where both are shown to hold them.
@@ -383,32 +669,24 @@ fn tight(
     sites: &[Site],
     dimension: usize,
     extent: &Extent,
-) -> Result<Option<Part>, Stop> {
-    let needed = needed_span(alloc, grid, sites, dimension)?;
-    let span = cut_span(alloc, &needed, extent)?;
-    let Some((place, count)) = shortest(alloc, grid, &span)? else {
-        return Ok(None);
-    };
-    let Some(origin) = span.lower.as_slice().get(place) else {
-        return Ok(None);
-    };
-    let seats = run_of(alloc, origin, count)?;
-    let is_shown = hold_calls(alloc, sites, dimension, &span)?
-        && hold_calls(alloc, sites, dimension, &seats)?
-        && is_inside(alloc, grid, &span, &seats)?;
-    if !is_shown {
-        return Ok(None);
-    }
-    let places = places_of(alloc, origin, count)?;
-    Ok(Some(Part { span, places }))
+) -> Result<Option<Part>, Stop>
+    ensures { FindsPart result (spec.tight grid.now (map site_of sites.now) dimension extent.now) }
+{
+    let span = needed_part(alloc, grid, sites, dimension, extent)?;
+    seated(alloc, grid, sites, dimension, span)
 }
 
 // All of a dimension.
-fn all_of(alloc: Global, extent: &Extent) -> Result<Part, AllocError> {
+fn all_of(alloc: Global, extent: &Extent) -> Result<Part, AllocError>
+    ensures { IfOk result (λ part. part ≡ spec.all_of extent.now) }
+{
     let low = Lin::number(alloc, i64::from(extent.low));
     Ok(Part {
         span: whole(alloc, extent)?,
-        places: places_of(alloc, &low, i64::from(extent.count))?,
+        places: Places::From {
+            origin: low,
+            count: u64::from(extent.count),
+        },
     })
 }
 
@@ -419,7 +697,9 @@ fn part_of(
     sites: &[Site],
     dimension: usize,
     extent: &Extent,
-) -> Result<Part, AllocError> {
+) -> Result<Part, AllocError>
+    ensures { IfOk result (λ part. part ≡ spec.part_of grid.now (map site_of sites.now) dimension extent.now) }
+{
     match tight(alloc, grid, sites, dimension, extent) {
         Ok(Some(part)) => Ok(part),
         Ok(None) | Err(Stop::Limit) => all_of(alloc, extent),
@@ -522,21 +802,50 @@ fn is_called(
     }
 }
 
+// What is fetched from this dimension on, and its places.
+fn add_parts(
+    alloc: Global,
+    grid: &Scope,
+    sites: &[Site],
+    dimension: usize,
+    extents: &[Extent],
+    region: &mut Region,
+    places: &mut Vec<Places>,
+) -> Result<(), AllocError>
+    ensures region { OnOk result (region.new ≡ region.old ++ spec.taken_region grid.now (map site_of sites.now) dimension extents.now) }
+    ensures places { OnOk result (places.new.items ≡ places.old.items ++ spec.taken_places grid.now (map site_of sites.now) dimension extents.now) }
+{
+    match extents {
+        [] => Ok(()),
+        [extent, rest @ ..] => {
+            let Some(next) = dimension.checked_add(1) else {
+                return Err(AllocError);
+            };
+            let part = part_of(alloc, grid, sites, dimension, extent)?;
+            region.push(part.span)?;
+            places.push(part.places)?;
+            add_parts(alloc, grid, sites, next, rest, region, places)
+        }
+    }
+}
+
 // What these calls fetch.
 fn fetched_by(
     alloc: Global,
     user: &Root<'_>,
     callee: &Root<'_>,
     sites: &[Site],
-) -> Result<Fetched, Stop> {
+) -> Result<Fetched, Stop>
+    ensures region { IfOk result (λ found. found.region ≡ spec.taken_region (grid_scope_of user.now.laid.now.skeleton.grid.items) (map site_of sites.now)
+        0 callee.now.laid.now.region.items) }
+    ensures places { IfOk result (λ found. found.places.items ≡ spec.taken_places (grid_scope_of user.now.laid.now.skeleton.grid.items)
+        (map site_of sites.now) 0 callee.now.laid.now.region.items) }
+{
     let grid = grid_scope(alloc, &user.laid.skeleton.grid)?;
     let mut region = Region::new(alloc);
     let mut places = Vec::new(alloc);
-    for (dimension, extent) in callee.laid.region.iter().enumerate() {
-        let part = part_of(alloc, &grid, sites, dimension, extent)?;
-        region.push(part.span)?;
-        places.push(part.places)?;
-    }
+    let extents = &callee.laid.region;
+    add_parts(alloc, &grid, sites, 0, extents, &mut region, &mut places)?;
     let needed = pieces_of(alloc, callee, &region)?;
     Ok(Fetched {
         region,
@@ -554,7 +863,10 @@ pub(crate) fn fetch_of(
     inners: &[Inner<'_>],
     callee: &Root<'_>,
 ) -> Result<Option<Fetched>, Stop>
-    ensures { IfOk result (λ found. inners.now ≡ [] → is_some found ≡
+    ensures taken { IfOk result (λ found. inners.now ≡ [] → IfSome found (λ one. IsTaken (spec.sites_of (algorithm_of algo.now) (stored_of user.now.stored.now)
+        (map formula_of user.now.formulas.now) (skeleton_seen user.now.laid.now.skeleton)) (grid_scope_of user.now.laid.now.skeleton.grid.items)
+        (stored_of callee.now.stored.now).subject.name callee.now.laid.now.region.items one.region one.places.items)) }
+    ensures called { IfOk result (λ found. inners.now ≡ [] → is_some found ≡
         some_calls (stored_of callee.now.stored.now).subject.name (map formula_of user.now.formulas.now)) }
 {
     let name = callee.stored.subject.name.as_str();

@@ -4,7 +4,10 @@ ghost use Rattle.std.specs.Prelude.{◌≡◌, [], ◌∷◌, ◌+◌, ◌-◌, 
 ghost use Rattle.lin.specs.Regions.{span_inside};
 ghost use Rattle.bounds.specs.Spans.{numbers};
 ghost use Rattle.lower.specs.Around as spec;
+ghost use Rattle.lower.specs.Blocks as blocks;
 ghost use Rattle.lower.specs.Bounded as limits;
+ghost use Rattle.lower.specs.Limited.{Gives};
+ghost use Rattle.lin.specs.Forms.{combined, number};
 
 use crate::error::Stop;
 use lin::{Forms, Lin, Multiple, Region, Scope, Span1};
@@ -75,12 +78,22 @@ pub(crate) fn whole(alloc: Global, extent: &Extent) -> Result<Span1, AllocError>
 }
 
 /// A number and a multiple of a form.
-pub(crate) fn multiple_from(alloc: Global, low: i64, factor: i64, form: &Lin) -> Result<Lin, Stop> {
-    Ok(Lin::number(alloc, low).plus_multiple(alloc, factor, form)?)
+#[tactic(auto, using(crate::proofs::Origins::combined_is, crate::proofs::Stops::form_gives))]
+pub(crate) fn multiple_from(alloc: Global, low: i64, factor: i64, form: &Lin) -> Result<Lin, Stop>
+    ensures made { IfOk result (λ made. made ≡ blocks.multiple_from low factor form.now) }
+    ensures gives { Gives result (λ made. made) (combined (number low) factor form.now) }
+{
+    match Lin::number(alloc, low).plus_multiple(alloc, factor, form) {
+        Ok(made) => Ok(made),
+        Err(error) => Err(Stop::from(error)),
+    }
 }
 
 /// The form and a number more.
-pub(crate) fn raised(alloc: Global, form: &Lin, by: i64) -> Result<Lin, Stop> {
+pub(crate) fn raised(alloc: Global, form: &Lin, by: i64) -> Result<Lin, Stop>
+    ensures made { IfOk result (λ made. made ≡ blocks.raised form.now by) }
+    ensures gives { Gives result (λ made. made) (combined (number by) (pos 1) form.now) }
+{
     multiple_from(alloc, by, 1, form)
 }
 

@@ -7,15 +7,18 @@ ghost use Rattle.plan.specs.Lists.{list_statements};
 ghost use Rattle.plan.specs.View.{statement_of};
 ghost use Rattle.sched.specs.Skeleton.{nest_seen, skeleton_seen};
 ghost use Rattle.lower.specs.Around.{grid_scope as grid_scope_of};
+ghost use Rattle.algo.specs.View.{algorithm_of};
 ghost use Rattle.lower.specs.Bounded.{whole as whole_of};
+ghost use Rattle.lower.specs.Taken.{sites_of};
 ghost use Rattle.lower.specs.Loading.{load_of};
 ghost use Rattle.lower.specs.Stored.{formula_of, stored_of};
+ghost use Rattle.lower.specs.Blocks as blocks;
 ghost use Rattle.lower.specs.Bodies.{body, first_lines, step_lines};
 ghost use Rattle.lower.specs.Fetches.{fetch_seen, fetched_groups, is_fetched, last_number};
 ghost use Rattle.lower.specs.Making.{AddsClaim, BodyMade, FetchMade, FetchesMade, GroupMade, IsBegun, MayMake, NestsMade, with_first};
 ghost use Rattle.lower.specs.Groups.{IsOver, IsOwnOver, grid_over as counts_over, root_of};
 
-use crate::blocks::{Dimension, dimensions};
+use crate::blocks::{Dimension, claimed_region, dimensions, own_places, owned_region};
 use crate::error::Stop;
 use crate::fetching::{Fetched, Root, fetch_of};
 use crate::inner::Inner;
@@ -150,6 +153,7 @@ impl<'a> Body<'a> {
         ensures claimed { OnOk result (AddsClaim (self.old.line - 1) buffer function.now definition region self.old.claims.items self.new.claims.items) }
         ensures loads { OnOk result (self.new.loads ≡ self.old.loads) }
         ensures needs { OnOk result (self.new.needs.items ≡ self.old.needs.items) }
+        ensures windows { OnOk result (self.new.windows ≡ self.old.windows) }
         ensures line { OnOk result (self.new.line ≡ self.old.line) }
     {
         let number = self.next_claim;
@@ -292,28 +296,12 @@ fn store_line(
 
 // ---- regions
 
-fn claim_region(alloc: Global, dimensions: &[Dimension]) -> Result<Region, AllocError> {
-    let mut region = Region::new(alloc);
-    for one in dimensions {
-        region.push(one.claim.copy(alloc)?)?;
-    }
-    Ok(region)
-}
-
 fn group_region(alloc: Global, root: &Root<'_>) -> Result<Region, AllocError>
     ensures { IfOk result (λ region. region ≡ map whole_of root.now.laid.now.region.items) }
 {
     let mut region = Region::new(alloc);
     add_whole(alloc, &root.laid.region, &mut region)?;
     Ok(region)
-}
-
-fn places_of(alloc: Global, dimensions: Vec<Dimension>) -> Result<Vec<Places>, AllocError> {
-    let mut places = Vec::new(alloc);
-    for one in dimensions {
-        places.push(one.places)?;
-    }
-    Ok(places)
 }
 
 // ---- fetches
@@ -334,7 +322,9 @@ fn fetch_into<'a>(
     group: usize,
     found: Fetched,
 ) -> Result<Fetch<'a>, AllocError>
-    ensures { IfOk result (λ fetch. FetchMade number group (root_of callee.now) (fetch_seen fetch) body.old body.new) }
+    ensures region { IfOk result (λ fetch. fetch.region ≡ found.region) }
+    ensures places { IfOk result (λ fetch. fetch.places.items ≡ found.places.items) }
+    ensures made { IfOk result (λ fetch. FetchMade number group (root_of callee.now) (fetch_seen fetch) body.old body.new) }
 {
     let name = callee.stored.subject.name.as_str();
     let buffer = body.next_buffer;
@@ -375,7 +365,10 @@ fn fetch_at<'a>(
     number: usize,
     group: usize,
 ) -> Result<Option<Fetch<'a>>, Stop>
-    ensures { IfOk result (λ fetch. inners.now ≡ [] → MayMake number (is_fetched (map formula_of user.now.formulas.now) number group (root_of callee.now))
+    ensures { IfOk result (λ fetch. inners.now ≡ [] → MayMake (sites_of (algorithm_of algo.now) (stored_of user.now.stored.now)
+        (map formula_of user.now.formulas.now)
+        (skeleton_seen user.now.laid.now.skeleton)) (grid_scope_of user.now.laid.now.skeleton.grid.items) number
+        (is_fetched (map formula_of user.now.formulas.now) number group (root_of callee.now))
         group (root_of callee.now) (option_map fetch_seen fetch) body.old body.new) }
 {
     if group == number {
@@ -411,7 +404,9 @@ fn fetches_from<'a>(
     number: usize,
     group: usize,
 ) -> Result<Vec<Fetch<'a>>, Stop>
-    ensures { IfOk result (λ v. inners.now ≡ [] → FetchesMade number
+    ensures { IfOk result (λ v. inners.now ≡ [] → FetchesMade (sites_of (algorithm_of algo.now) (stored_of user.now.stored.now)
+        (map formula_of user.now.formulas.now)
+        (skeleton_seen user.now.laid.now.skeleton)) (grid_scope_of user.now.laid.now.skeleton.grid.items) number
         (fetched_groups (map formula_of user.now.formulas.now) number group (map root_of roots.now)) (map fetch_seen v.items) body.old body.new) }
 {
     match roots {
@@ -782,6 +777,7 @@ impl<'a> Body<'a> {
             cast.entry.claimed.now self.old.claims.items self.new.claims.items) }
         ensures line { OnOk result (self.new.line ≡ self.old.line + (step_lines nest.now.steps.items + 1)) }
         ensures needs { OnOk result (self.new.needs.items ≡ self.old.needs.items) }
+        ensures windows { OnOk result (self.new.windows.items ≡ self.old.windows.items) }
     {
         let count = line_behind(line_count(&nest.steps)?, 1)?;
         let line = line_behind(self.line, count)?;
@@ -848,6 +844,7 @@ impl<'a> Body<'a> {
     fn certify(&mut self, certificate: &mut Cert) -> Result<(), AllocError>
         ensures claims { OnOk result (certificate.new.claims.items ≡ certificate.old.claims.items ++ self.old.claims.items) }
         ensures needs { OnOk result (certificate.new.needs.items ≡ certificate.old.needs.items ++ self.old.needs.items) }
+        ensures windows { OnOk result (certificate.new.windows.items ≡ certificate.old.windows.items ++ self.old.windows.items) }
         ensures line { OnOk result (self.new.line ≡ self.old.line) }
     {
         certificate.needs.append(&mut self.needs)?;
@@ -928,20 +925,13 @@ fn grid_over(alloc: Global, root: &Root<'_>) -> Result<Vec<u32>, AllocError>
     piece_counts(alloc, &numbers, &placed.loops)
 }
 
-fn owned_by(alloc: Global, dimensions: &[Dimension]) -> Result<Region, AllocError> {
-    let mut region = Region::new(alloc);
-    for one in dimensions {
-        region.push(one.own.copy(alloc)?)?;
-    }
-    Ok(region)
-}
-
 // What a piece owns, where forms show it to lie in the region.
 fn own_region(alloc: Global, root: &Root<'_>, dimensions: &[Dimension]) -> Result<Region, Stop>
-    ensures { IfOk result (λ own. IsInside (grid_scope_of (counts_over (stored_of root.now.stored.now) root.now.laid.now.region.items)) own
+    ensures owned { IfOk result (λ own. own ≡ blocks.owned_region dimensions.now) }
+    ensures inside { IfOk result (λ own. IsInside (grid_scope_of (counts_over (stored_of root.now.stored.now) root.now.laid.now.region.items)) own
         (map whole_of root.now.laid.now.region.items)) }
 {
-    let own = owned_by(alloc, dimensions)?;
+    let own = owned_region(alloc, dimensions)?;
     let region = group_region(alloc, root)?;
     let counts = grid_over(alloc, root)?;
     let scope = grid_scope(alloc, &counts)?;
@@ -969,15 +959,17 @@ fn body_of<'a>(
     roots: &[Root<'a>],
     root: &Root<'a>,
     inners: &[Inner<'a>],
-    dimensions: Vec<Dimension>,
+    dimensions: &[Dimension],
     beginning: Beginning,
     certificate: &mut Cert,
 ) -> Result<Body<'a>, Stop>
-    ensures { IfOk result (λ v. inners.now ≡ [] → BodyMade (map root_of roots.now) beginning.number beginning.claim beginning.line
+    requires { dimensions.now ≡ blocks.dimensions_of (stored_of root.now.stored.now) root.now.laid.now.region.items (skeleton_seen root.now.laid.now.skeleton) }
+    ensures windows { IfOk result (λ v. inners.now ≡ [] → certificate.new.windows.items ≡ certificate.old.windows.items) }
+    ensures made { IfOk result (λ v. inners.now ≡ [] → BodyMade (algorithm_of algo.now) (map root_of roots.now) beginning.number beginning.claim beginning.line
         v.line (root_of root.now) certificate.old.claims.items certificate.new.claims.items certificate.old.needs.items certificate.new.needs.items
         (body (list_statements v.statements.items))) }
 {
-    let claimed = claim_region(alloc, &dimensions)?;
+    let claimed = claimed_region(alloc, dimensions)?;
     let mut body = begun(alloc, beginning, root, inners.len())?;
     let number = beginning.number;
     let fetches = fetches_from(alloc, algo, &mut body, roots, root, inners, number, 0)?;
@@ -988,7 +980,7 @@ fn body_of<'a>(
     };
     let nests = body.nests_of(alloc, cast)?;
     let claim = body.next_claim.saturating_sub(1);
-    let places = places_of(alloc, dimensions)?;
+    let places = own_places(alloc, dimensions)?;
     let statements = body_with(alloc, root, places, fetches, nests, claim)?;
     body.certify(certificate)?;
     body.finish(statements);
@@ -1026,9 +1018,11 @@ pub(crate) fn group_of<'a>(
 ) -> Result<Made, Stop>
     ensures over { IfOk result (λ made. IsOver (root_of root.now) made.group) }
     ensures own { IfOk result (λ made. IsOwnOver (root_of root.now) beginning.number made.own) }
-    ensures does { IfOk result (λ made. inners.now ≡ [] → GroupMade (map root_of roots.now) beginning.number beginning.claim beginning.line
+    ensures does { IfOk result (λ made. inners.now ≡ [] → GroupMade (algorithm_of algo.now) (map root_of roots.now) beginning.number
+        beginning.claim beginning.line
         made.line (root_of root.now) certificate.old.claims.items certificate.new.claims.items certificate.old.needs.items
         certificate.new.needs.items made.group) }
+    ensures windows { IfOk result (λ made. inners.now ≡ [] → certificate.new.windows.items ≡ certificate.old.windows.items) }
 {
     let dimensions = dimensions(alloc, root.stored, root.laid)?;
     let own = own_region(alloc, root, &dimensions)?;
@@ -1038,7 +1032,7 @@ pub(crate) fn group_of<'a>(
         roots,
         root,
         inners,
-        dimensions,
+        &dimensions,
         beginning,
         certificate,
     )?;

@@ -17,7 +17,7 @@ ghost use Rattle.lower.specs.Uses.{FindsUse, is_use, is_used_outside};
 
 use crate::calls::{Call, calls_of};
 use crate::definitions::{Formula, Stored};
-use crate::error::{RegionRule, Stop};
+use crate::error::Stop;
 use crate::fetching::Root;
 use crate::forms::{between, is_inside, whole};
 use crate::parties::{Party, fault_inside};
@@ -28,7 +28,7 @@ use crate::uses::{are_whole, has_outside_use};
 use algo::Algo;
 use algo::scoping::same_name;
 use lin::{Region, Scope, Span1};
-use sched::{Extent, Nest, Rule, has_short_shift, loop_numbers};
+use sched::{Extent, Nest, RegionRule, Rule, has_short_shift, loop_numbers};
 use std::alloc::{AllocError, Global};
 use tree::Expr;
 use tree::token::Name;

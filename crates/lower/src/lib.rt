@@ -33,7 +33,7 @@ mod uses;
 mod whole;
 mod windows;
 
-pub use error::{LowerError, RegionRule};
+pub use error::LowerError;
 pub use lowering::{Lowered, lower, reason};
 pub use reasons::{
     Amount, BoundCause, Cause, Excess, FoldCause, LargestSplit, Link, Reason, SizeCause,

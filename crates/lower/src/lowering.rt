@@ -15,7 +15,7 @@ ghost use Rattle.lower.specs.Groups.{AreAlone, AreBodies, AreGroupsMade, AreMade
 ghost use Rattle.lower.specs.Refused.{Answers, AreSmall, AreRegionsKept, AreUsesInside, IsRefused, IsUnplanned, IsPlaced};
 
 use crate::definitions::{Stored, stored_functions};
-use crate::error::{LowerError, RegionRule, Stop};
+use crate::error::{LowerError, Stop};
 use crate::fetching::Root;
 use crate::group::{Beginning, Made, group_of};
 use crate::legality::first_fault;
@@ -29,7 +29,7 @@ use crate::uses::{are_whole, uses_outside};
 use algo::{Algo, Port};
 use plan::certificate::{Cert, Own};
 use plan::{Declaration, Group, Plan};
-use sched::{Placement, Rule, Sched, SchedError, followed};
+use sched::{Placement, RegionRule, Rule, Sched, SchedError, followed};
 use std::alloc::{AllocError, Global};
 use tree::token::Name;
 
@@ -61,6 +61,7 @@ fn declaration(alloc: Global, port: &Port) -> Result<Declaration, AllocError> {
 fn empty_certificate(alloc: Global) -> Cert
     ensures claims { result.claims.items ≡ [] }
     ensures needs { result.needs.items ≡ [] }
+    ensures windows { result.windows.items ≡ [] }
 {
     Cert {
         own: Vec::new(alloc),
@@ -82,9 +83,11 @@ fn group_at<'a>(
 ) -> Result<Made, LowerError>
     ensures over { IfOk result (λ made. IsOver (party_of party.now) made.group) }
     ensures own { IfOk result (λ made. IsOwnOver (party_of party.now) beginning.number made.own) }
-    ensures does { IfOk result (λ made. IsAlone party.now → GroupMade (map root_of roots.now) beginning.number beginning.claim beginning.line
+    ensures does { IfOk result (λ made. IsAlone party.now → GroupMade (algorithm_of algo.now) (map root_of roots.now) beginning.number
+        beginning.claim beginning.line
         made.line (party_of party.now) certificate.old.claims.items certificate.new.claims.items certificate.old.needs.items
         certificate.new.needs.items made.group) }
+    ensures windows { IfOk result (λ made. IsAlone party.now → certificate.new.windows.items ≡ certificate.old.windows.items) }
     ensures unplanned { IfErr result IsUnplanned }
 {
     let unbounded = LowerError::Broken(RegionRule::Unbounded, party.root.stored.subject.name);
@@ -134,9 +137,11 @@ fn groups_from<'a>(
 ) -> Result<(Vec<Group>, Vec<Own>), LowerError>
     requires { length certificate.old.claims.items ≡ beginning.claim }
     ensures made { IfOk result (λ v. AreMade (map party_of parties.now) beginning.number v.0.items v.1.items) }
-    ensures bodies { IfOk result (λ v. AreAlone parties.now → BodiesMade (map root_of roots.now) beginning.number beginning.claim beginning.line
+    ensures bodies { IfOk result (λ v. AreAlone parties.now → BodiesMade (algorithm_of algo.now) (map root_of roots.now) beginning.number
+        beginning.claim beginning.line
         (map party_of parties.now) v.0.items certificate.old.claims.items certificate.new.claims.items
         certificate.old.needs.items certificate.new.needs.items) }
+    ensures windows { IfOk result (λ v. AreAlone parties.now → certificate.new.windows.items ≡ certificate.old.windows.items) }
     ensures unplanned { IfErr result IsUnplanned }
 {
     let [party, rest @ ..] = parties else {
@@ -164,8 +169,10 @@ fn groups_of<'a>(
     parties: &[Party<'a>],
 ) -> Result<(Vec<Group>, Cert), LowerError>
     ensures made { IfOk result (λ v. AreMade (map party_of parties.now) 0 v.0.items v.1.own.items) }
-    ensures bodies { IfOk result (λ v. AreAlone parties.now → AreBodies (map root_of roots.now) 0 0 4 (map party_of parties.now) v.0.items
+    ensures bodies { IfOk result (λ v. AreAlone parties.now → AreBodies (algorithm_of algo.now) (map root_of roots.now) 0 0 4
+        (map party_of parties.now) v.0.items
         v.1.claims.items v.1.needs.items) }
+    ensures windows { IfOk result (λ v. AreAlone parties.now → v.1.windows.items ≡ []) }
     ensures unplanned { IfErr result IsUnplanned }
 {
     let mut certificate = empty_certificate(alloc);
@@ -226,7 +233,7 @@ fn planned<'a>(
 ) -> Result<Lowered, LowerError>
     requires roots { map party_of parties.now ≡ rooted true (map stored_of stored.now) (map (option_map laid_of) laid.now) }
     requires alone { rooted false (map stored_of stored.now) (map (option_map laid_of) laid.now) ≡ [] → AreAlone parties.now }
-    ensures made { IfOk result (IsPlanOf (map stored_of stored.now) (map (option_map laid_of) laid.now)) }
+    ensures made { IfOk result (IsPlanOf (algorithm_of algo.now) (map stored_of stored.now) (map (option_map laid_of) laid.now)) }
     ensures unplanned { IfErr result IsUnplanned }
 {
     if let Some(name) = unlaid(stored, laid) {

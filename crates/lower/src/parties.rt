@@ -9,13 +9,14 @@ ghost use Rattle.lower.specs.Regions.{laid_of};
 ghost use Rattle.lower.specs.Groups as spec;
 
 use crate::definitions::Stored;
-use crate::error::{RegionRule, Stop};
+use crate::error::Stop;
 use crate::fetching::{Root, Site, sites_of};
 use crate::inner::{Inner, inners_of};
 use crate::legality::is_bounded;
 use crate::regions::{Ends, Laid, add_extents, closed, ends_of, is_same, unreached, widen};
 use crate::turns::has_short_turn;
 use algo::Algo;
+use sched::RegionRule;
 use std::alloc::{AllocError, Global};
 use tree::token::Name;
 

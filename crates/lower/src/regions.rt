@@ -131,9 +131,14 @@ fn ends_between(low: Option<i64>, high: Option<i64>) -> Result<Ends, Stop>
     }
 }
 
-// The span freed of symbols.
+/// The span freed of symbols.
 #[tactic(auto, using(crate::proofs::Stops::form_gives))]
-fn projected(alloc: Global, scope: &Scope, symbols: &[Sym], span: &Span1) -> Result<Span1, Stop>
+pub(crate) fn projected(
+    alloc: Global,
+    scope: &Scope,
+    symbols: &[Sym],
+    span: &Span1,
+) -> Result<Span1, Stop>
     ensures { Gives result (λ found. found) (projected_span scope.now symbols.now span.now) }
 {
     match project_span(alloc, scope, symbols, span) {

@@ -308,7 +308,7 @@ pub(crate) fn body_with(
     claim: u64,
 ) -> Result<Vec<Stmt>, Stop>
     ensures { IfOk result (λ v. spec.IsBodyWith (stored_of root.now.stored.now) (skeleton_seen root.now.laid.now.skeleton)
-        (map fetch_seen fetches.entry.items) (list_statements nests.items) claim (spec.body (list_statements v.items))) }
+        places.items (map fetch_seen fetches.entry.items) (list_statements nests.items) claim (spec.body (list_statements v.items))) }
 {
     let function = String::from_str(alloc, root.stored.subject.name.as_str())?;
     let own = Stmt::Alloc {

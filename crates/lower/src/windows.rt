@@ -40,7 +40,8 @@ fn size_between(
     }
 }
 
-fn size_below(
+/// The fewest of the numbers from a lower form to each of some upper ones.
+pub(crate) fn size_below(
     alloc: Global,
     scope: &Scope,
     low: &Lin,

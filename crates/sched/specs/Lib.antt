@@ -7,6 +7,7 @@ pub mod Text
 pub mod Placing
 pub mod Subjects
 pub mod Rules
+pub mod RegionRules
 pub mod Legal
 pub mod Numbers
 pub mod Standing

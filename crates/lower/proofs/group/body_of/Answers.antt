@@ -1,16 +1,23 @@
-use Rattle.std.proofs.Common.{◌≡◌, ℕ, ◌-◌, map, sym, subst, ◌∙◌, arith}
+use Rattle.std.proofs.Common.{◌≡◌, ℕ, ◌-◌, List, [], ◌++◌, map, ap, sym, subst, ◌∙◌, arith}
+use Rattle.std.proofs.lemmas.List.{append-nil}
 use Rattle.std.specs.Global.{Vec}
+use Rattle.plan.specs.declared.certificate.cert.Window.{Window}
 use Rattle.plan.specs.declared.stmt.Stmt.{Stmt}
+use Rattle.plan.specs.declared.stmt.Places.{Places}
+use Rattle.lin.specs.declared.span.Span1.{Span1}
 use Rattle.plan.specs.Lists.{list_statements}
-use Rattle.lower.specs.Bodies.{body}
+use Rattle.lower.specs.Blocks.{dimensions_of, claimed_region, own_places}
+use Rattle.lower.specs.Bodies.{IsBodyWith, body}
 use Rattle.lower.specs.Fetches.{fetch_seen}
-use Rattle.lower.specs.Making.{BodyMade}
+use Rattle.algo.specs.View.{algorithm_of}
+use Rattle.lower.specs.Making.{NestsMade, BodyMade}
 use Rattle.lower.specs.Groups.{root_of}
 use Rattle.lower.proofs.Claimed.{whole_made}
 use Rattle.lower.proofs.group.body_of.Goals as goal
 
-pub returns : goal.returns
-returns c = λ alone.
+pub returns-clause-made : goal.returns-clause-made
+returns-clause-made c = λ alone.
+    let a = algorithm_of c.args.algo.now in
     let all = map root_of c.args.roots.now in
     let n = c.args.beginning.number in
     let first = c.args.beginning.claim in
@@ -20,11 +27,27 @@ returns c = λ alone.
     let two = c.nests_of.new.self in
     let published : c.saturating_sub-claim.result ≡ two.next_claim - 1 = omega (arith, c.saturating_sub-claim.ensures) in
     let line = c.args.beginning.line in
-    let made = whole_made all n first line e _ c.in_ok-body.body c.fetches_from.new.body two (map fetch_seen c.in_ok-fetches.fetches.items) (list_statements
+    let ds = dimensions_of e.0 e.1.region e.1.skeleton in
+    let fetches = map fetch_seen c.in_ok-fetches.fetches.items in
+    let nests = list_statements c.in_ok-nests.nests.items in
+    let b = body (list_statements c.in_ok-statements.statements.items) in
+    let over : c.in_ok-claimed.claimed ≡ claimed_region ds = c.in_ok-claimed.ensures ∙ ap claimed_region c.requires in
+    let nested : NestsMade e.0 e.2 (claimed_region ds) 0 e.1.skeleton.nests nests c.fetches_from.new.body two =
+    subst (λ (r : List Span1). NestsMade e.0 e.2 r 0 e.1.skeleton.nests nests c.fetches_from.new.body two) over (c.in_ok-nests.ensures alone) in
+    let seated : c.in_ok-places.places.items ≡ own_places ds = c.in_ok-places.ensures ∙ ap own_places c.requires in
+    let with : IsBodyWith e.0 e.1.skeleton (own_places ds) fetches nests c.saturating_sub-claim.result b =
+    subst (λ (l : List Places). IsBodyWith e.0 e.1.skeleton l fetches nests c.saturating_sub-claim.result b) seated c.in_ok-statements.ensures in
+    let made = whole_made a all n first line e c.in_ok-body.body c.fetches_from.new.body two (map fetch_seen c.in_ok-fetches.fetches.items) (list_statements
     c.in_ok-nests.nests.items) c.saturating_sub-claim.result
     (body (list_statements c.in_ok-statements.statements.items)) old.claims.items new.claims.items old.needs.items new.needs.items c.in_ok-body.ensures (c.in_ok-fetches.ensures alone)
-    (c.in_ok-nests.ensures alone) published c.in_ok-certify.ensures.claims c.in_ok-certify.ensures.needs c.in_ok-statements.ensures in
-    let told = subst (λ (v : Vec Stmt). BodyMade all n first line two.line e old.claims.items new.claims.items old.needs.items new.needs.items (body (list_statements v.items)))
+    nested published c.in_ok-certify.ensures.claims c.in_ok-certify.ensures.needs with in
+    let told = subst (λ (v : Vec Stmt). BodyMade a all n first line two.line e old.claims.items new.claims.items old.needs.items new.needs.items (body (list_statements v.items)))
     (sym c.finish.ensures.statements) made in
-    subst (λ (q : ℕ). BodyMade all n first line q e old.claims.items new.claims.items old.needs.items new.needs.items (body (list_statements c.finish.new.self.statements.items)))
+    subst (λ (q : ℕ). BodyMade a all n first line q e old.claims.items new.claims.items old.needs.items new.needs.items (body (list_statements c.finish.new.self.statements.items)))
     (sym (c.finish.ensures.line ∙ c.in_ok-certify.ensures.line)) told
+
+pub returns-clause-windows : goal.returns-clause-windows
+returns-clause-windows c = λ alone.
+    let old = c.args.certificate.now.windows.items in
+    let none : c.nests_of.new.self.windows.items ≡ [] = (c.in_ok-nests.ensures alone).held ∙ ((c.in_ok-fetches.ensures alone).held ∙ c.in_ok-body.ensures.windows) in
+    c.in_ok-certify.ensures.windows ∙ (ap (λ (l : List Window). old ++ l) none ∙ append-nil old)

@@ -2,6 +2,7 @@ use Rattle.std.proofs.Common.{◌≡◌, ℕ, ◌+◌, ◌-◌, List, refl, sym,
 use Rattle.std.specs.Global.{Vec}
 use Rattle.lin.specs.declared.span.Span1.{Span1}
 use Rattle.plan.specs.declared.certificate.cert.Need.{Need}
+use Rattle.plan.specs.declared.certificate.cert.Window.{Window}
 use Rattle.lower.specs.declared.loading.Load.{Load}
 use Rattle.lower.specs.Fetches.{FetchText, last_number}
 use Rattle.lower.specs.Making.{AddsClaim}
@@ -9,8 +10,8 @@ use Rattle.lower.specs.Groups.{root_of}
 use Rattle.lower.proofs.Claimed.{fetch_made}
 use Rattle.lower.proofs.group.fetch_into.Goals as goal
 
-pub returns : goal.returns
-returns c =
+pub returns-clause-made : goal.returns-clause-made
+returns-clause-made c =
     let old = c.args.body.now in
     let one = c.claim.new.self in
     let e = root_of c.args.callee.now in
@@ -30,3 +31,4 @@ returns c =
     subst (λ (r : List Span1). AddsClaim (c.in_ok-line.line - 1) old.next_buffer e.0.subject.name (last_number e.2) r old.claims.items one.claims.items) c.in_ok-region.ensures by_number in
     fetch_made c.args.number c.args.group old.next_buffer (c.in_ok-line.line - 1) e f need load old _ one.loads.items added refl named refl refl refl (own.needs ∙ c.in_ok-push.ensures.items)
     (ap (λ (v : Vec Load). v.items) own.loads) c.in_ok-push-2.ensures.items refl own.numbered own.next refl next (own.line ∙ c.in_ok-line.ensures) (ap (λ (q : ℕ). q - 1) (sym own.line))
+    (ap (λ (v : Vec Window). v.items) own.windows)

@@ -6,6 +6,7 @@ use Rattle.lower.specs.declared.fetching.Root.{Root}
 use Rattle.lower.specs.declared.lowering.Lowered.{Lowered}
 use Rattle.lower.specs.Stored.{stored_of}
 use Rattle.lower.specs.Regions.{laid_of}
+use Rattle.algo.specs.View.{algorithm_of}
 use Rattle.lower.specs.Groups.{party_of, root_of}
 use Rattle.lower.proofs.Made.{plan_made}
 use Rattle.lower.proofs.lowering.planned.Goals as goal
@@ -16,7 +17,8 @@ returns-clause-made c =
     let ls = map (option_map laid_of) c.args.laid.now in
     let made : Lowered = record { plan = c.in_ok-plan.plan; certificate = c.in_ok-groups.certificate } in
     let lines = c.in_ok-groups.certificate in
-    plan_made (map root_of c.deref.result.now) lines.claims.items lines.needs.items gs ls c.args.parties.now (map party_of c.args.parties.now) made c.in_ok-groups.groups.items lines.own.items
+    plan_made (algorithm_of c.args.algo.now) (map root_of c.deref.result.now) lines.claims.items lines.needs.items gs ls c.args.parties.now
+    (map party_of c.args.parties.now) made c.in_ok-groups.groups.items lines.own.items
     (c.unlaid.ensures c.in_default.is) (ap (λ (l : List Root). map root_of l) c.deref.ensures.value ∙ c.in_ok-roots.ensures) c.requires.roots c.requires.alone c.in_ok-groups.ensures.made
     c.in_ok-groups.ensures.bodies
-    (ap (λ (v : Vec Group). v.items) c.in_ok-plan.ensures) refl refl refl
+    (ap (λ (v : Vec Group). v.items) c.in_ok-plan.ensures) refl refl refl c.in_ok-groups.ensures.windows

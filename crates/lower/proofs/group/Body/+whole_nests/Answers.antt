@@ -29,6 +29,6 @@ returns-in_ok-append-in-len1-up t c =
     let here = subst (λ (l : List Load). IsNest g fs (map load_of l) d (nest_seen n) (list_statements xs)) c.deref.ensures.value c.in_ok-first-in-len1-up.ensures in
     let next : c.in-Some.next ≡ d + 1 = omega (arith, c.in-Some.ensures) in
     let made = nests_made g fs r d (nest_seen n) (map nest_seen rest) c.in-Some.next own.field-0
-    (one.line - 1) xs ys zs old one new here own.ensures.claimed own.ensures.next own.ensures.numbered own.ensures.loaded own.ensures.needs
+    (one.line - 1) xs ys zs old one new here own.ensures.claimed own.ensures.next own.ensures.numbered own.ensures.loaded own.ensures.needs own.ensures.windows
     c.in_ok-others-in-len1-up.ensures next c.in_ok-append-in-len1-up.ensures.items own.ensures.line refl in
     subst (λ (l : List Nest). NestsMade g fs r d (map nest_seen l) (list_statements zs) old new) (sym (one_first ns n c.in-len1-up.len_at_least c.nest-item.is)) made

@@ -1,0 +1,67 @@
+use Rattle.std.proofs.Common.{rules, ◌≡◌, ℕ, Bool, true, false, Option, Some, None, Result, Err, List, length, map, refl, sym, subst}
+use Rattle.std.proofs.lemmas.Option.{slice_get_read}
+use Rattle.std.specs.Prelude.{slice_get}
+use Rattle.lin.specs.Forms.{Form}
+use Rattle.lin.specs.declared.span.Span1.{Span1}
+use Rattle.plan.specs.declared.stmt.Places.TheVariants.{From}
+use Rattle.lower.specs.declared.error.Stop.{Stop}
+use Rattle.lower.specs.declared.fetching.Part.{Part}
+use Rattle.lower.specs.Limited.{Gives}
+use Rattle.lower.specs.Taken.{FindsPart, is_shown, places_count, run_of, seated, shortest, site_of}
+use Rattle.lower.proofs.Taken.{finds_none, finds_some, finds_stop}
+use Rattle.lower.proofs.fetching.seated.Goals as goal
+
+pub returns-in_err-seats : goal.returns-in_err-seats
+returns-in_err-seats c =
+    let grid = c.args.grid.now in
+    let sites = map site_of c.args.sites.now in
+    let s = c.args.span in
+    let place = c.in-Some.place in
+    let count = c.in-Some.count in
+    let origin = c.in-Some-get.origin.now in
+    let e = c.in_err-seats.field-0.0 in
+    let short : shortest grid s ≡ Some (place, count) = search rules in
+    let fs = c.as_slice.result.now in
+    let look = c.in-Some-get.ensures.lookup in
+    let get : slice_get s.lower place ≡ Some origin =
+    subst (λ (l : List Form). slice_get l place ≡ Some origin) c.as_slice.ensures (slice_get_read fs (length fs) place origin refl look.3.0 look.1) in
+    let stop : c.from_residual-in_err-seats.result ≡ Err e = search rules in
+    let none : Gives {X = Span1} {A = Span1} (Err e) (λ x. x) (run_of origin count) = first_of (assumption c, search rules) in
+    subst (λ (r : Result (Option Part) Stop). FindsPart r (seated grid sites c.args.dimension s)) (sym stop) (finds_stop grid sites c.args.dimension s (place, count) origin e short get none)
+
+pub returns-then-not-branch : goal.returns-then-not-branch
+returns-then-not-branch c =
+    let grid = c.args.grid.now in
+    let sites = map site_of c.args.sites.now in
+    let s = c.args.span in
+    let place = c.in-Some.place in
+    let count = c.in-Some.count in
+    let origin = c.in-Some-get.origin.now in
+    let seats = c.in_ok-seats.seats in
+    let short : shortest grid s ≡ Some (place, count) = search rules in
+    let fs = c.as_slice.result.now in
+    let look = c.in-Some-get.ensures.lookup in
+    let get : slice_get s.lower place ≡ Some origin =
+    subst (λ (l : List Form). slice_get l place ≡ Some origin) c.as_slice.ensures (slice_get_read fs (length fs) place origin refl look.3.0 look.1) in
+    let run : run_of origin count ≡ Some seats = search rules in
+    let no : is_shown grid sites c.args.dimension s seats ≡ false = search rules in
+    finds_none grid sites c.args.dimension s (place, count) origin seats short get run no
+
+pub returns : goal.returns
+returns c =
+    let grid = c.args.grid.now in
+    let sites = map site_of c.args.sites.now in
+    let s = c.args.span in
+    let place = c.in-Some.place in
+    let count = c.in-Some.count in
+    let origin = c.in-Some-get.origin.now in
+    let seats = c.in_ok-seats.seats in
+    let short : shortest grid s ≡ Some (place, count) = search rules in
+    let fs = c.as_slice.result.now in
+    let look = c.in-Some-get.ensures.lookup in
+    let get : slice_get s.lower place ≡ Some origin =
+    subst (λ (l : List Form). slice_get l place ≡ Some origin) c.as_slice.ensures (slice_get_read fs (length fs) place origin refl look.3.0 look.1) in
+    let run : run_of origin count ≡ Some seats = search rules in
+    let yes : is_shown grid sites c.args.dimension s seats ≡ true = search rules in
+    let placed : c.in_ok-places.places ≡ From origin (places_count count) = search rules in
+    finds_some grid sites c.args.dimension s (place, count) origin seats c.in_ok-places.places short get run yes placed
