@@ -4,90 +4,82 @@ use std::alloc::Global;
 use std::fmt::{self, Write};
 use std::test::Fail;
 
-// How many functions call the one before.
-const CALLS: u32 = 39;
+// Texts, each with a number behind it: so many times that of the turn, and so much more.
+type Parts = &'static [(&'static str, u32, u32)];
 
-// The functions that call the one before.
-fn put_functions(text: &mut String) -> fmt::Result {
-    for called in 1..=CALLS {
-        let name = called + 1;
-        write!(
-            text,
-            " func f{name} u8 (x) = f{called}[x] + f{called}[x] + 1u8;"
-        )?;
+// A function that calls the one before.
+const FUNCTION: Parts = &[(" func f", 1, 2), (" u8 (x) = f", 1, 1), ("[x] + f", 1, 1)];
+
+// Its group, of one piece.
+const GROUP: Parts = &[
+    ("group ", 1, 1),
+    (" f", 1, 2),
+    (" [0:0] grid 1\nalloc b0 f", 1, 2),
+    (" [0#1]\nalloc b1 f", 1, 1),
+    (" [0#1]\nfetch b1 ", 1, 0),
+    (" [0:0]\nfor s1 0:0 serial\nstore b0 0 x=0+1*s1 ((@", 2, 1),
+    ("[x]+@", 2, 1),
+    ("[x])+1u8)\nend\npublish @", 2, 2),
+];
+
+// What its piece owns.
+const OWN: Parts = &[("own ", 1, 1)];
+
+// What its piece needs.
+const NEED: Parts = &[("need ", 1, 1), (" ", 1, 0)];
+
+// What its buffers hold, after the line that fetches and after the loop that stores.
+const CLAIMS: Parts = &[
+    ("claim ", 2, 1),
+    (" ", 8, 13),
+    (" b1 f", 1, 1),
+    (" 0 [0:0]\nclaim ", 2, 2),
+    (" ", 8, 16),
+    (" b0 f", 1, 2),
+];
+
+// The texts of a turn, with their numbers, and what ends them.
+fn put_turn(text: &mut String, parts: Parts, end: &str, turn: u32) -> fmt::Result {
+    for (before, times, more) in parts {
+        let number = times.wrapping_mul(turn).wrapping_add(*more);
+        write!(text, "{before}{number}")?;
     }
-    Ok(())
+    text.write_str(end)
 }
 
-// The groups of these, each of one piece.
-fn put_groups(text: &mut String) -> fmt::Result {
-    for group in 1..=CALLS {
-        let before = group - 1;
-        let name = group + 1;
-        let fetched = 2 * group - 1;
-        let stored = 2 * group;
-        write!(
-            text,
-            "group {group} f{name} [0:0] grid 1\nalloc b0 f{name} [0#1]\nalloc b1 f{group} [0#1]\n"
-        )?;
-        write!(text, "fetch b1 {before} [0:0]\nfor s1 0:0 serial\n")?;
-        write!(
-            text,
-            "store b0 0 x=0+1*s1 ((@{fetched}[x]+@{fetched}[x])+1u8)\nend\npublish @{stored}\n"
-        )?;
-    }
-    Ok(())
-}
-
-// What the pieces of all own.
-fn put_own(text: &mut String) -> fmt::Result {
-    for group in 0..=CALLS {
-        write!(text, "own {group} [0:0]\n")?;
-    }
-    Ok(())
-}
-
-// What the pieces of these need.
-fn put_needs(text: &mut String) -> fmt::Result {
-    for group in 1..=CALLS {
-        let before = group - 1;
-        write!(text, "need {group} {before} [0:0]\n")?;
-    }
-    Ok(())
-}
-
-// What the buffers of these hold, after the line that fetches and after the loop that stores.
-fn put_claims(text: &mut String) -> fmt::Result {
-    for group in 1..=CALLS {
-        let name = group + 1;
-        let fetched = 2 * group - 1;
-        let stored = 2 * group;
-        let fetch = 8 * group + 5;
-        let last = 8 * group + 8;
-        write!(
-            text,
-            "claim {fetched} {fetch} b1 f{group} 0 [0:0]\nclaim {stored} {last} b0 f{name} 0 [0:0]\n"
-        )?;
+// The same for each function that calls the one before.
+fn put_each(text: &mut String, parts: Parts, end: &str) -> fmt::Result {
+    for turn in 0..39u32 {
+        put_turn(text, parts, end, turn)?;
     }
     Ok(())
 }
 
 fn put_chain(text: &mut String) -> fmt::Result {
     text.write_str("pipeline chain; input in u8 [1]; func f1 u8 (x) = in[x];")?;
-    put_functions(text)?;
+    put_each(text, FUNCTION, "[x] + 1u8;")?;
     text.write_str(" output f40 [1];")
 }
 
 fn put_plan(text: &mut String) -> fmt::Result {
-    text.write_str("plan 1 chain\ninput in u8 [1]\noutput f40 u8 [1]\n")?;
-    text.write_str("group 0 f1 [0:0] grid 1\nalloc b0 f1 [0#1]\nfor s1 0:0 serial\n")?;
-    text.write_str("store b0 0 x=0+1*s1 in[x]\nend\npublish @0\n")?;
-    put_groups(text)?;
-    text.write_str("cert\n")?;
-    put_own(text)?;
-    put_needs(text)?;
+    text.write_str(
+        "plan 1 chain
+input in u8 [1]
+output f40 u8 [1]
+group 0 f1 [0:0] grid 1
+alloc b0 f1 [0#1]
+for s1 0:0 serial
+store b0 0 x=0+1*s1 in[x]
+end
+publish @0
+",
+    )?;
+    put_each(text, GROUP, "\n")?;
+    text.write_str("cert\nown 0 [0:0]\n")?;
+    put_each(text, OWN, " [0:0]\n")?;
+    put_each(text, NEED, " [0:0]\n")?;
     text.write_str("claim 0 8 b0 f1 0 [0:0]\n")?;
-    put_claims(text)?;
+    put_each(text, CLAIMS, " 0 [0:0]\n")?;
     text.write_str("end\n")
 }
 

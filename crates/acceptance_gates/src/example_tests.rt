@@ -1,11 +1,11 @@
-//! Algorithms with plans for crews, as text, and inputs.
+//! Algorithms with plans for crews, as text, and inputs. What is refused, or finds no memory, ends the test at once.
 
 use algo::{Algo, Inputs};
 use audit::check;
 use checked_plan::Checked;
 use meaning::image::Image;
-use std::alloc::Global;
-use std::test::Fail;
+use std::alloc::{AllocError, Global};
+use std::process::Abort;
 use std::thread::Threads;
 
 /// An algorithm, a plan of it, and the samples of an input.
@@ -14,13 +14,6 @@ pub(crate) struct Example<'a> {
     pub(crate) algorithm: &'a str,
     pub(crate) plan: &'a str,
     pub(crate) samples: &'a [u16],
-}
-
-/// A checked plan, and an input of its algorithm.
-#[derive(Drop)]
-pub(crate) struct Case<'a> {
-    pub(crate) checked: Checked<'a>,
-    pub(crate) inputs: Inputs,
 }
 
 /// One more than each of ten pixels, where 255 wraps to 0; four pixels a piece.
@@ -78,62 +71,71 @@ end
     samples: &[5, 7],
 };
 
-/// One more than each pixel, and one more than the one to its left; a pixel of each function a piece.
-pub(crate) const NEAR: Example<'static> = Example {
-    algorithm: "pipeline near; input in u8 [4]; func f u8 (x) = in[x] + 1u8; func out u8 (x) = f[clamp(x - 1, 0, 3)] + f[x]; output out [4];",
-    plan: "plan 1 near
-input in u8 [4]
-output out u8 [4]
-group 0 f [0:3] grid 4
-alloc b0 f [0+1*s0#1]
-for s1 0+1*s0:0+1*s0 serial
-store b0 0 x=0+1*s1 (in[x]+1u8)
+/// One more than each of 2 by 10 pixels; rows 0 to 2, and rows 3 to 9.
+pub(crate) const INC: Example<'static> = Example {
+    algorithm: "pipeline inc; input in u8 [2, 10]; func out u8 (x, y) = in[x, y] + 1u8; output out [2, 10];",
+    plan: "plan 1 inc
+input in u8 [2,10]
+output out u8 [2,10]
+group 0 out [0:1;0:9] grid 2
+alloc b0 out [0#2;0+3*s0#7]
+for s1 0+3*s0:2+7*s0 serial
+for s2 0:1 serial
+store b0 0 x=0+1*s2 y=0+1*s1 (in[x,y]+1u8)
+end
 end
 publish @0
-group 1 out [0:3] grid 4
-alloc b0 f [-1+1*s0#2]
-alloc b1 out [0+1*s0#1]
-fetch b0 0 [-1+1*s0,0:0+1*s0]
-for s1 0+1*s0:0+1*s0 serial
-store b1 0 x=0+1*s1 (@1[clamp((x-1),0,3)]+@1[x])
-end
-publish @2
 cert
-own 0 [0+1*s0:0+1*s0]
-own 1 [0+1*s0:0+1*s0]
-need 1 0 [-1+1*s0,0:0+1*s0]
-claim 0 8 b0 f 0 [0+1*s0:0+1*s0]
-claim 1 13 b0 f 0 [-1+1*s0,0:0+1*s0]
-claim 2 16 b1 out 0 [0+1*s0:0+1*s0]
+own 0 [0:1;0+3*s0:2+7*s0]
+claim 0 10 b0 out 0 [0:1;0+3*s0:2+7*s0]
 end
 ",
-    samples: &[1, 2, 3, 4],
+    samples: &[
+        64, 65, 66, 67, 68, 69, 70, 71, 72, 73, 74, 75, 76, 77, 78, 79, 80, 81, 82, 83,
+    ],
 };
 
-// The samples as an input of the algorithm, in its type and extents.
-fn inputs_of(alloc: Global, algo: &Algo, samples: &[u16]) -> Result<Inputs, Fail> {
+// The samples as an image of the algorithm's input.
+fn image_of(alloc: Global, algo: &Algo, samples: &[u16]) -> Result<Image, AllocError> {
     let shape = algo.input().shape.copy(alloc)?;
-    let image = Image {
+    Ok(Image {
         ty: shape.ty,
         extents: shape.extents,
         samples: samples.to_vec(alloc)?,
-    };
-    Ok(Inputs::new(algo, image)?)
+    })
 }
 
-/// The plan, checked, and the samples as its input.
-pub(crate) fn case_of<'a>(
-    rt: &(impl Threads + Sync),
+/// The samples as an input of the algorithm.
+pub(crate) fn inputs_of(rt: &impl Abort, alloc: Global, algo: &Algo, samples: &[u16]) -> Inputs {
+    let Ok(image) = image_of(alloc, algo, samples) else {
+        panic!(rt; "no memory");
+    };
+    match Inputs::new(algo, image) {
+        Ok(inputs) => inputs,
+        Err(_) => panic!(rt; "another image"),
+    }
+}
+
+/// The algorithm that the text says.
+pub(crate) fn algo_of(rt: &impl Abort, alloc: Global, text: &str) -> Algo {
+    match Algo::read(alloc, text) {
+        Ok(algo) => algo,
+        Err(_) => panic!(rt; "no algorithm"),
+    }
+}
+
+/// The plan that the text says, checked.
+pub(crate) fn checked_of<'a>(
+    rt: &(impl Threads + Sync + Abort),
     alloc: Global,
     algo: &'a Algo,
-    plan: &str,
-    samples: &[u16],
-) -> Result<Case<'a>, Fail> {
-    let Ok((plan, cert)) = cert::file::read(alloc, plan) else {
-        return Err("the plan is not read".into());
+    text: &str,
+) -> Checked<'a> {
+    let Ok((plan, cert)) = cert::file::read(alloc, text) else {
+        panic!(rt; "no plan");
     };
-    Ok(Case {
-        checked: check(rt, alloc, algo, plan, cert)?,
-        inputs: inputs_of(alloc, algo, samples)?,
-    })
+    match check(rt, alloc, algo, plan, cert) {
+        Ok(checked) => checked,
+        Err(_) => panic!(rt; "the plan is refused"),
+    }
 }

@@ -1,7 +1,11 @@
-//! What no command of the program shows of a crew: what a gate hears of its pieces, workers that wait at a gate, and single
-//! pieces by seats of the caller, run as tests. Beside its tests the crate holds only the worker that they hire.
+//! What no command of the program shows: what a gate hears of a crew's pieces, workers that wait at a gate, single pieces by seats of
+//! the caller, and calls that no command makes, run as tests. The crate holds tests alone.
 #![tactic(auto)]
 
+#[cfg(test)]
+mod calls_tests;
+#[cfg(test)]
+mod cells_tests;
 #[cfg(test)]
 mod chain_tests;
 #[cfg(test)]
@@ -14,4 +18,5 @@ mod seat_tests;
 mod thread_tests;
 #[cfg(test)]
 mod watching_tests;
-pub mod worker;
+#[cfg(test)]
+mod worker;

@@ -1,40 +1,47 @@
-//! Single pieces by seats of the caller, and pieces that are given up.
+//! Seats of the caller at one board: single pieces, pieces that are given up, and what a second seat sees.
 
-ghost use Rattle.std.specs.Prelude.{◌≡◌};
+ghost use Rattle.std.specs.Prelude.{◌≡◌, ◌<◌, IsTrue};
 ghost use Rattle.algo.specs.View.{IsFor};
-ghost use Rattle.board.specs.Views.{IsIdle};
+ghost use Rattle.board.specs.Layout.{pieces_of};
+ghost use Rattle.board.specs.Seats.{place};
+ghost use Rattle.board.specs.Views.{first_view, IsIdle, Knows};
 ghost use Rattle.crew.specs.Crews.{ArePieces, IsDeskFor};
 ghost use Rattle.crew.specs.Opening.Layouts.{layout_of, values_of};
 
-use crate::example_tests::{Case, TWO, case_of};
-use algo::{Algo, Inputs};
+use crate::example_tests::{Example, INC, TWO, algo_of, checked_of, inputs_of};
+use algo::Inputs;
 use board::{Board, BoardSeat, Run};
 use checked_plan::Checked;
 use checked_plan::output::PlanCells;
 use crew::opening::open;
 use crew::{Desk, Pieces, Unwatched, try_piece, work};
-use std::alloc::{AllocError, Global};
+use std::alloc::Global;
 use std::marker::Brand;
+use std::process::Abort;
 use std::sync::Wait;
 use std::test::Fail;
+use std::thread::Threads;
 
-// Draws the next piece and gives it up.
-fn give_up_next<J: Run>(board: &Board<J>, seat: &mut BoardSeat)
-    requires { seat.old.board ≡ board.now }
-    ensures { seat.new.board ≡ seat.old.board }
-{
-    if let Some(ticket) = board.draw(seat) {
-        board.abandon(seat, ticket);
-    }
+// What is done at a board of three pieces, or of two.
+#[derive(Clone, Copy, Drop)]
+enum Trial {
+    // The pieces are tried in their order, but for this one, which is given up.
+    GivesUp(u32),
+    // A second seat finishes all pieces and is let go, and the first closes.
+    LetsGo,
+    // The first seat finishes a piece, and a second looks at its first cell.
+    Looks,
 }
 
-// Draws the next piece and tries it once. Where its ticket comes back the piece is given up, and this is its number.
-fn try_next<J: Run>(
+// Draws the next piece and tries it once, or gives it up at once. Where its ticket comes back the piece is given up too, and this is
+// its number.
+fn draw_next<J: Run>(
     alloc: Global,
     board: &Board<J>,
     seat: &mut BoardSeat,
     pieces: &Pieces<'_>,
     desk: &mut Desk<'_>,
+    is_tried: bool,
 ) -> Option<u32>
     requires pieces { ArePieces J.layout J.values pieces.now }
     requires desk { IsDeskFor J.layout pieces.now desk.old }
@@ -43,6 +50,10 @@ fn try_next<J: Run>(
     ensures desk { IsDeskFor J.layout pieces.now desk.new }
 {
     let ticket = board.draw(seat)?;
+    if !is_tried {
+        board.abandon(seat, ticket);
+        return None;
+    }
     match try_piece(alloc, board, seat, ticket, pieces, desk) {
         Ok(()) => None,
         Err(back) => {
@@ -53,59 +64,33 @@ fn try_next<J: Run>(
     }
 }
 
-// The piece whose ticket comes back and the piece that `close` names, where piece 0 is finished, piece 1 is given up, and piece
-// 2, which needs both, is tried.
-fn given_up_between<J: Run>(
+// The last piece whose ticket comes back, which is to be the third, and the piece that `close` names.
+fn given_up<J: Run>(
     alloc: Global,
     board: Board<J>,
     mut seat: BoardSeat,
     pieces: &Pieces<'_>,
     desk: &mut Desk<'_>,
+    piece: u32,
 ) -> Option<(u32, u32)>
     requires pieces { ArePieces J.layout J.values pieces.now }
     requires desk { IsDeskFor J.layout pieces.now desk.old }
     requires seat { seat.board ≡ board }
 {
-    let first = try_next(alloc, &board, &mut seat, pieces, desk);
-    give_up_next(&board, &mut seat);
-    let third = try_next(alloc, &board, &mut seat, pieces, desk);
+    let first = draw_next(alloc, &board, &mut seat, pieces, desk, piece != 0);
+    let second = draw_next(alloc, &board, &mut seat, pieces, desk, piece != 1);
+    let third = draw_next(alloc, &board, &mut seat, pieces, desk, true);
     let Err(unfinished) = board.close(seat) else {
         return None;
     };
-    match (first, third) {
-        (None, Some(back)) => Some((back, unfinished.0)),
+    match (first, second, third) {
+        (None, None, Some(back)) => Some((back, unfinished.0)),
         _ => None,
     }
 }
 
-// The same on a board for a checked plan and an input.
-fn named_on_a_board<J: Run>(
-    alloc: Global,
-    checked: &Checked<'_>,
-    inputs: &Inputs,
-) -> Result<Option<(u32, u32)>, AllocError>
-    requires layout { J.layout ≡ layout_of checked.now }
-    requires values { J.values ≡ values_of checked.now inputs.now }
-    requires input { IsFor checked.now.algo.now inputs.now }
-{
-    let cells = PlanCells::of(alloc, checked)?;
-    let pieces = Pieces::of::<J>(checked, inputs);
-    let mut desk = Desk::new::<J>(alloc, &pieces, &cells)?;
-    let (board, seat) = open::<J>(alloc, checked, inputs)?;
-    Ok(given_up_between(alloc, board, seat, &pieces, &mut desk))
-}
-
-#[test]
-fn a_needed_piece_that_was_given_up_is_named(rt: HostRuntime) -> Result<(), Fail> {
-    let algo = Algo::read(rt.alloc(), TWO.algorithm)?;
-    let Case { checked, inputs } = case_of(&rt, rt.alloc(), &algo, TWO.plan, TWO.samples)?;
-    assert!(rt; inputs.is_for(checked.algo()));
-    let named = named_on_a_board::<Brand>(rt.alloc(), &checked, &inputs)?;
-    assert_eq!(rt; named, Some((2, 1)));
-    Ok(())
-}
-
-// The samples of the picture, where a second seat finishes all pieces and is let go, and the first closes.
+// Both samples of the picture, where a second seat finishes all pieces and is let go, and the first closes. No seat is split off
+// the second.
 fn after_the_second<J: Run, R: Wait>(
     rt: &R,
     alloc: Global,
@@ -113,42 +98,181 @@ fn after_the_second<J: Run, R: Wait>(
     mut first: BoardSeat,
     pieces: &Pieces<'_>,
     desk: &mut Desk<'_>,
-) -> Option<Vec<u16>>
+) -> Option<(u32, u32)>
     requires pieces { ArePieces J.layout J.values pieces.now }
     requires desk { IsDeskFor J.layout pieces.now desk.old }
     requires seat { first.board ≡ board }
     requires idle { IsIdle first.view }
 {
     let mut second = board.seat(&mut first).ok()?;
+    let Err(_) = board.seat(&mut second) else {
+        return None;
+    };
     work(rt, alloc, &board, &mut second, pieces, desk, &Unwatched);
     drop(second);
-    Some(board.close(first).ok()?.samples)
+    let image = board.close(first).ok()?;
+    match image.samples.as_slice() {
+        [left, right] => Some((u32::from(*left), u32::from(*right))),
+        _ => None,
+    }
 }
 
-// The same on a board for a checked plan and an input.
-fn shown_on_a_board<J: Run, R: Wait>(
+// Whether a seat that asks again and again comes to know a piece within 10,000 turns.
+fn comes_to_know<J: Run>(board: &Board<J>, seat: &mut BoardSeat, piece: u32) -> bool
+    requires board { seat.old.board ≡ board.now }
+    requires piece { piece < pieces_of J.layout }
+    ensures board { seat.new.board ≡ seat.old.board }
+    ensures known { IsTrue result → Knows seat.new.view piece }
+{
+    for _turn in 0..10_000u32 {
+        if board.ask(seat, piece) {
+            return true;
+        }
+    }
+    false
+}
+
+// The first piece, and what a second seat sees of its first cell once the first seat has finished it. Before, it is not known to be
+// finished.
+fn seen<J: Run>(
+    alloc: Global,
+    board: Board<J>,
+    mut first: BoardSeat,
+    checked: &Checked<'_>,
+    pieces: &Pieces<'_>,
+    desk: &mut Desk<'_>,
+) -> Option<(u32, u32)>
+    requires layout { J.layout ≡ layout_of checked.now }
+    requires pieces { ArePieces J.layout J.values pieces.now }
+    requires desk { IsDeskFor J.layout pieces.now desk.old }
+    requires seat { first.board ≡ board }
+    requires idle { IsIdle first.view }
+{
+    let mut second = board.seat(&mut first).ok()?;
+    let ticket = board.draw(&mut first)?;
+    let piece = ticket.piece();
+    let before = board.ask(&mut second, piece);
+    if let Err(back) = try_piece(alloc, &board, &mut first, ticket, pieces, desk) {
+        board.abandon(&mut first, back);
+        return None;
+    }
+    if before || !comes_to_know(&board, &mut second, piece) {
+        return None;
+    }
+    match checked.own(piece as usize) {
+        [cell, ..] => Some((piece, board.look(&mut second, *cell))),
+        [] => None,
+    }
+}
+
+// The cells of a checked plan.
+pub(crate) fn cells_of<'a>(
+    rt: &impl Abort,
+    alloc: Global,
+    checked: &'a Checked<'a>,
+) -> PlanCells<'a>
+    ensures { result.checked.now ≡ checked.now }
+{
+    match PlanCells::of(alloc, checked) {
+        Ok(cells) => cells,
+        Err(_) => panic!(rt; "no memory"),
+    }
+}
+
+// A desk for the pieces.
+pub(crate) fn desk_of<'a, J: Run, R: Abort>(
+    rt: &R,
+    alloc: Global,
+    pieces: &Pieces<'_>,
+    cells: &'a PlanCells<'a>,
+) -> Desk<'a>
+    requires layout { J.layout ≡ layout_of pieces.now.checked.now }
+    requires pieces { ArePieces J.layout J.values pieces.now }
+    requires cells { cells.now.checked.now ≡ pieces.now.checked.now }
+    ensures { IsDeskFor J.layout pieces.now result }
+{
+    match Desk::new::<J>(alloc, pieces, cells) {
+        Ok(desk) => desk,
+        Err(_) => panic!(rt; "no memory"),
+    }
+}
+
+// A board for a checked plan and an input, and its first seat.
+pub(crate) fn board_of<'a, J: Run, R: Abort>(
+    rt: &R,
+    alloc: Global,
+    checked: &'a Checked<'a>,
+    inputs: &Inputs,
+) -> (Board<'a, J>, BoardSeat)
+    requires layout { J.layout ≡ layout_of checked.now }
+    requires values { J.values ≡ values_of checked.now inputs.now }
+    requires input { IsFor checked.now.algo.now inputs.now }
+    ensures { result.1 ≡ place result.0 first_view }
+{
+    match open::<J>(alloc, checked, inputs) {
+        Ok(opened) => opened,
+        Err(_) => panic!(rt; "no memory"),
+    }
+}
+
+// A trial on a board for a checked plan and an input.
+fn tried_on_a_board<J: Run, R: Wait + Abort>(
     rt: &R,
     alloc: Global,
     checked: &Checked<'_>,
     inputs: &Inputs,
-) -> Result<Option<Vec<u16>>, AllocError>
+    trial: Trial,
+) -> Option<(u32, u32)>
     requires layout { J.layout ≡ layout_of checked.now }
     requires values { J.values ≡ values_of checked.now inputs.now }
     requires input { IsFor checked.now.algo.now inputs.now }
 {
-    let cells = PlanCells::of(alloc, checked)?;
+    let cells = cells_of(rt, alloc, checked);
     let pieces = Pieces::of::<J>(checked, inputs);
-    let mut desk = Desk::new::<J>(alloc, &pieces, &cells)?;
-    let (board, first) = open::<J>(alloc, checked, inputs)?;
-    Ok(after_the_second(rt, alloc, board, first, &pieces, &mut desk))
+    let mut desk = desk_of::<J, R>(rt, alloc, &pieces, &cells);
+    let (board, seat) = board_of::<J, R>(rt, alloc, checked, inputs);
+    match trial {
+        Trial::GivesUp(piece) => given_up(alloc, board, seat, &pieces, &mut desk, piece),
+        Trial::LetsGo => after_the_second(rt, alloc, board, seat, &pieces, &mut desk),
+        Trial::Looks => seen(alloc, board, seat, checked, &pieces, &mut desk),
+    }
+}
+
+// The same by the texts of an example.
+fn tried<R: Threads + Wait + Sync + Abort>(
+    rt: &R,
+    alloc: Global,
+    example: &Example<'_>,
+    trial: Trial,
+) -> Option<(u32, u32)> {
+    let algo = algo_of(rt, alloc, example.algorithm);
+    let checked = checked_of(rt, alloc, &algo, example.plan);
+    let inputs = inputs_of(rt, alloc, &algo, example.samples);
+    assert!(rt; inputs.is_for(checked.algo()));
+    tried_on_a_board::<Brand, R>(rt, alloc, &checked, &inputs, trial)
+}
+
+#[test]
+fn a_needed_piece_that_was_given_up_is_named(rt: HostRuntime) -> Result<(), Fail> {
+    assert_eq!(rt;
+        tried(&rt, rt.alloc(), &TWO, Trial::GivesUp(0)),
+        Some((2, 0))
+    );
+    assert_eq!(rt;
+        tried(&rt, rt.alloc(), &TWO, Trial::GivesUp(1)),
+        Some((2, 1))
+    );
+    Ok(())
 }
 
 #[test]
 fn a_seat_let_go_leaves_finished_pieces(rt: HostRuntime) -> Result<(), Fail> {
-    let algo = Algo::read(rt.alloc(), TWO.algorithm)?;
-    let Case { checked, inputs } = case_of(&rt, rt.alloc(), &algo, TWO.plan, TWO.samples)?;
-    assert!(rt; inputs.is_for(checked.algo()));
-    let samples = shown_on_a_board::<Brand, _>(&rt, rt.alloc(), &checked, &inputs)?;
-    assert!(rt; samples.is_some_and(|found| found.as_slice() == [20, 22].as_slice()));
+    assert_eq!(rt; tried(&rt, rt.alloc(), &TWO, Trial::LetsGo), Some((20, 22)));
+    Ok(())
+}
+
+#[test]
+fn a_finished_piece_is_seen(rt: HostRuntime) -> Result<(), Fail> {
+    assert_eq!(rt; tried(&rt, rt.alloc(), &INC, Trial::Looks), Some((0, 65)));
     Ok(())
 }

@@ -1,23 +1,23 @@
 //! Two threads of the caller that work at one board.
 
-ghost use Rattle.std.specs.Prelude.{◌≡◌, length, All, IfOk, IfSome};
+ghost use Rattle.std.specs.Prelude.{◌≡◌, ◌++◌, ◌∷◌, [], length, All, IfSome};
 ghost use Rattle.algo.specs.View.{IsFor};
 ghost use Rattle.board.specs.Views.{IsIdle};
-ghost use Rattle.crew.specs.Crews.{ArePieces};
+ghost use Rattle.crew.specs.Crews.{ArePieces, IsDeskFor};
 ghost use Rattle.crew.specs.Opening.Layouts.{layout_of, values_of};
-ghost use Rattle.acceptance_gates.specs.Workers.{IsBack, IsReady};
 
-use crate::example_tests::{Case, TRI, TRI_PICTURE, case_of};
+use crate::example_tests::{TRI, TRI_PICTURE, algo_of, checked_of, inputs_of};
+use crate::seat_tests::{board_of, cells_of, desk_of};
 use crate::watching_tests::Meeting;
 use crate::worker::Worker;
-use algo::{Algo, Inputs};
+use algo::Inputs;
 use board::{Board, BoardSeat, Run};
 use checked_plan::Checked;
 use checked_plan::output::PlanCells;
-use crew::opening::open;
-use crew::{Desk, Gate, Pieces, work};
-use std::alloc::{AllocError, Global};
+use crew::{Gate, Pieces, work};
+use std::alloc::Global;
 use std::marker::Brand;
+use std::process::Abort;
 use std::sync::Wait;
 use std::test::Fail;
 use std::thread::{Threads, for_each_mut};
@@ -51,8 +51,8 @@ fn work_at<J: Run, P: Held, R: Wait, G: Gate>(
     worker: &mut Worker<'_>,
 )
     requires pieces { ArePieces J.layout J.values (P.held shared.now) }
-    requires ready { IsReady board.now J.layout (P.held shared.now) worker.old }
-    ensures { IsBack board.now worker.new }
+    requires ready { (worker.old.seat.board ≡ board.now) × (IsIdle worker.old.seat.view × IsDeskFor J.layout (P.held shared.now) worker.old.desk) }
+    ensures { (worker.new.seat.board ≡ board.now) × IsIdle worker.new.seat.view }
 {
     work(
         rt,
@@ -75,13 +75,14 @@ fn work_both<J: Run + Send + Sync, P: Held + Sync, R: Threads + Wait + Sync, G: 
     workers: &mut [Worker<'_>],
 )
     requires pieces { ArePieces J.layout J.values (P.held shared.now) }
-    requires ready { All (IsReady board.now J.layout (P.held shared.now)) workers.old }
-    ensures back { All (IsBack board.now) workers.new }
+    requires ready { All (λ w. (w.seat.board ≡ board.now) × (IsIdle w.seat.view × IsDeskFor J.layout (P.held shared.now) w.desk)) workers.old }
+    ensures back { All (λ w. (w.seat.board ≡ board.now) × IsIdle w.seat.view) workers.new }
     ensures count { length workers.new ≡ length workers.old }
 {
     let turn = move |_: usize, worker: &mut Worker<'_>|
-        requires { ArePieces J.layout J.values (P.held shared.now) × IsReady board.now J.layout (P.held shared.now) worker.now }
-        ensures { IsBack board.entry.now worker.exit.now }
+        requires { ArePieces J.layout J.values (P.held shared.now)
+            × ((worker.now.seat.board ≡ board.now) × (IsIdle worker.now.seat.view × IsDeskFor J.layout (P.held shared.now) worker.now.desk)) }
+        ensures { (worker.exit.now.seat.board ≡ board.entry.now) × IsIdle worker.exit.now.seat.view }
     { work_at(rt, alloc, board, shared, gate, worker) };
     for_each_mut(rt, workers, 2, &turn);
 }
@@ -96,41 +97,66 @@ fn work_pieces<J: Run + Send + Sync, R: Threads + Wait + Sync, G: Gate>(
     workers: &mut [Worker<'_>],
 )
     requires pieces { ArePieces J.layout J.values pieces.now }
-    requires ready { All (IsReady board.now J.layout pieces.now) workers.old }
-    ensures { All (IsBack board.now) workers.new }
+    requires ready { All (λ w. (w.seat.board ≡ board.now) × (IsIdle w.seat.view × IsDeskFor J.layout pieces.now w.desk)) workers.old }
+    ensures { All (λ w. (w.seat.board ≡ board.now) × IsIdle w.seat.view) workers.new }
 {
     work_both(rt, alloc, board, pieces, gate, workers);
 }
 
+// Hires a worker.
+fn hire<'a>(rt: &impl Abort, workers: &mut Vec<Worker<'a>>, worker: Worker<'a>)
+    ensures { workers.new.items ≡ workers.old.items ++ worker.entry ∷ [] }
+{
+    match workers.push(worker) {
+        Ok(()) => {}
+        Err(_) => panic!(rt; "no memory"),
+    }
+}
+
 // Two workers, of whom one has the first seat.
-fn hire_two<'a, J: Run>(
+fn hire_two<'a, J: Run, R: Abort>(
+    rt: &R,
     alloc: Global,
     board: &Board<J>,
     mut first: BoardSeat,
     pieces: &Pieces<'_>,
     cells: &'a PlanCells<'a>,
-) -> Result<Vec<Worker<'a>>, AllocError>
+) -> Vec<Worker<'a>>
     requires layout { J.layout ≡ layout_of pieces.now.checked.now }
     requires pieces { ArePieces J.layout J.values pieces.now }
     requires cells { cells.now.checked.now ≡ pieces.now.checked.now }
     requires board { first.board ≡ board.now }
     requires idle { IsIdle first.view }
-    ensures { IfOk result (λ workers. All (IsReady board.now J.layout pieces.now) workers.items) }
+    ensures { All (λ w. (w.seat.board ≡ board.now) × (IsIdle w.seat.view × IsDeskFor J.layout pieces.now w.desk)) result.items }
 {
     let Ok(second) = board.seat(&mut first) else {
-        return Err(AllocError);
+        panic!(rt; "no seat");
     };
+    let one = desk_of::<J, R>(rt, alloc, pieces, cells);
+    let two = desk_of::<J, R>(rt, alloc, pieces, cells);
     let mut workers = Vec::new(alloc);
-    let desk = Desk::new::<J>(alloc, pieces, cells)?;
-    workers.push(Worker { seat: second, desk })?;
-    let desk = Desk::new::<J>(alloc, pieces, cells)?;
-    workers.push(Worker { seat: first, desk })?;
-    Ok(workers)
+    hire(
+        rt,
+        &mut workers,
+        Worker {
+            seat: second,
+            desk: one,
+        },
+    );
+    hire(
+        rt,
+        &mut workers,
+        Worker {
+            seat: first,
+            desk: two,
+        },
+    );
+    workers
 }
 
 // The seats of two workers in one.
 fn joined<J: Run>(board: &Board<J>, mut workers: Vec<Worker<'_>>) -> Option<BoardSeat>
-    requires { All (IsBack board.now) workers.items }
+    requires { All (λ w. (w.seat.board ≡ board.now) × IsIdle w.seat.view) workers.items }
     ensures { IfSome result (λ seat. seat.board ≡ board.now) }
 {
     let last = workers.pop()?;
@@ -140,40 +166,43 @@ fn joined<J: Run>(board: &Board<J>, mut workers: Vec<Worker<'_>>) -> Option<Boar
     Some(seat)
 }
 
-// The samples of the picture, where two threads work at one board.
-fn by_two_threads<J: Run + Send + Sync, R: Threads + Wait + Sync, G: Gate>(
+// Whether two threads that work at one board compute this picture.
+fn compute_by_two<J: Run + Send + Sync, R: Threads + Wait + Sync + Abort, G: Gate>(
     rt: &R,
     alloc: Global,
     checked: &Checked<'_>,
     inputs: &Inputs,
     gate: &G,
-) -> Result<Option<Vec<u16>>, AllocError>
+    picture: &[u16],
+) -> bool
     requires layout { J.layout ≡ layout_of checked.now }
     requires values { J.values ≡ values_of checked.now inputs.now }
     requires input { IsFor checked.now.algo.now inputs.now }
 {
     let pieces = Pieces::of::<J>(checked, inputs);
-    let cells = PlanCells::of(alloc, checked)?;
-    let (board, first) = open::<J>(alloc, checked, inputs)?;
-    let mut workers = hire_two(alloc, &board, first, &pieces, &cells)?;
+    let cells = cells_of(rt, alloc, checked);
+    let (board, first) = board_of::<J, R>(rt, alloc, checked, inputs);
+    let mut workers = hire_two::<J, R>(rt, alloc, &board, first, &pieces, &cells);
     work_pieces(rt, alloc, &board, &pieces, gate, workers.as_mut_slice());
     let Some(seat) = joined(&board, workers) else {
-        return Ok(None);
+        return false;
     };
     match board.close(seat) {
-        Ok(image) => Ok(Some(image.samples)),
-        Err(_) => Ok(None),
+        Ok(image) => image.samples.as_slice() == picture,
+        Err(_) => false,
     }
 }
 
 #[test]
 fn two_threads_meet_at_a_gate(rt: HostRuntime) -> Result<(), Fail> {
-    let algo = Algo::read(rt.alloc(), TRI.algorithm)?;
-    let Case { checked, inputs } = case_of(&rt, rt.alloc(), &algo, TRI.plan, TRI.samples)?;
+    let algo = algo_of(&rt, rt.alloc(), TRI.algorithm);
+    let checked = checked_of(&rt, rt.alloc(), &algo, TRI.plan);
+    let inputs = inputs_of(&rt, rt.alloc(), &algo, TRI.samples);
     assert!(rt; inputs.is_for(checked.algo()));
     let gate = Meeting::new();
-    let samples = by_two_threads::<Brand, _, _>(&rt, rt.alloc(), &checked, &inputs, &gate)?;
-    assert!(rt; samples.is_some_and(|found| found.as_slice() == TRI_PICTURE.as_slice()));
+    assert!(rt;
+        compute_by_two::<Brand, _, _>(&rt, rt.alloc(), &checked, &inputs, &gate, &TRI_PICTURE)
+    );
     assert!(rt; gate.was_held(3));
     Ok(())
 }

@@ -5,9 +5,9 @@ use crew::Desk;
 
 /// A worker: its seat at the board, and its desk.
 #[derive(Drop)]
-pub struct Worker<'a> {
+pub(crate) struct Worker<'a> {
     /// The seat that it draws from.
-    pub seat: BoardSeat,
+    pub(crate) seat: BoardSeat,
     /// Where it runs the pieces that it draws.
-    pub desk: Desk<'a>,
+    pub(crate) desk: Desk<'a>,
 }

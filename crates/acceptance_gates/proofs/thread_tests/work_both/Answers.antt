@@ -1,4 +1,4 @@
-use Rattle.std.proofs.Common.{sym, subst, arith}
+use Rattle.std.proofs.Common.{◌≡◌, sym, subst, arith}
 use contract.Lifetimes.{Lfts}
 use denote.Ref.{NamedLft}
 use denote.Param.{param}
@@ -9,10 +9,23 @@ use Rattle.board.proofs.seat.BoardSeat.TheSendSync as seat
 use Rattle.crew.proofs.Shared.{desk_field_send}
 use Rattle.acceptance_gates.specs.contracts.worker.Worker as Worker
 use Rattle.acceptance_gates.specs.contracts.thread_tests.work_both.{J-row, P-row, R-row, G-row}
-use Rattle.acceptance_gates.specs.Workers.{IsBack, IsReady}
+use Rattle.atomic_table.specs.Seated.{TableId}
+use Rattle.board.specs.Layout.{Layout}
+use Rattle.board.specs.Views.{IsIdle}
+use Rattle.crew.specs.declared.values.Pieces.{Pieces}
+use Rattle.crew.specs.Crews.{IsDeskFor}
+use Rattle.acceptance_gates.specs.declared.worker.Worker.{Worker as WorkerSeen}
 use Rattle.acceptance_gates.proofs.thread_tests.work_both.Given.{Over}
 use Rattle.acceptance_gates.proofs.thread_tests.work_both.Lts.{impl_arg-0-0, impl_arg-0-1, impl_arg-0-2, impl_arg-0-3}
 use Rattle.acceptance_gates.proofs.thread_tests.work_both.Goals as goal
+
+-- its seat is of this board and has no piece to finish, and its desk has all the memory that it takes
+abbrev IsReady : TableId → Layout → Pieces → WorkerSeen → Type 0
+IsReady table layout p w = (w.seat.board ≡ table) × (IsIdle w.seat.view × IsDeskFor layout p w.desk)
+
+-- its seat is of this board and has no piece to finish
+abbrev IsBack : TableId → WorkerSeen → Type 0
+IsBack table w = (w.seat.board ≡ table) × IsIdle w.seat.view
 
 -- Workers may be sent to threads.
 worker_send : (κ : NamedLft) → IsSend (Worker.the_row κ)

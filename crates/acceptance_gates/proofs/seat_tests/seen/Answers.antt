@@ -1,0 +1,25 @@
+use Rattle.std.proofs.Common.{◌≡◌, ◌<◌, ◌∙◌, ℕ, [], length, get_or, arith, sym, ap, subst}
+use Rattle.std.specs.Prelude.{Contains}
+use Rattle.std.proofs.Props.{props}
+use Rattle.std.proofs.Math.Logic.{∥∥₁_elim}
+use Rattle.std.proofs.lemmas.List.Elements.{Contains-get_or}
+use Rattle.board.specs.Layout.{Layout, own_of, pieces_of}
+use Rattle.crew.specs.Opening.Layouts.{layout_of}
+use Rattle.crew.proofs.Layouts.{own_work}
+use Rattle.acceptance_gates.proofs.seat_tests.seen.Goals as goal
+
+pub own-requires : goal.own-requires
+own-requires g c =
+    let x = c.args.checked.now in
+    let j : ℕ = c.in_ok-ticket.ticket.piece in
+    let below : j < pieces_of (layout_of x) = subst (λ (l : Layout). j < pieces_of l) c.requires.layout c.in_ok-ticket.ensures.ticket.0 in
+    ∥∥₁_elim x.lists (search props) (λ lists.
+    subst (λ n. n < length x.pieces.items) (sym c.piece-piece.ensures) (subst (λ n. j < n) ((own_work x []).pieces ∙ sym (lists []).count) below))
+
+pub look-requires-clause-cell : goal.look-requires-clause-cell
+look-requires-clause-cell g c =
+    let x = c.args.checked.now in
+    let j : ℕ = c.piece-piece.result in
+    let own : c.own.result.now ≡ own_of g.J.Run.layout j = c.own.ensures [] ∙ sym ((own_work x []).own j) ∙ ap (λ (l : Layout). own_of l j) (sym c.requires.layout) in
+    let there = Contains-get_or c.own.result.now 0 0 (omega (arith, c.in-len1-up.len_at_least)) in
+    (j, c.comes_to_know.ensures.known c.if-not-comes_to_know.false, subst (λ xs. Contains xs (get_or c.own.result.now 0 0)) own there)

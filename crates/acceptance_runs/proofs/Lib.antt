@@ -1,5 +1,0 @@
-mod Blocks
-mod Near
-pub mod Filling
-pub mod Values
-pub mod Points
