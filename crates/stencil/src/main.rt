@@ -7,14 +7,14 @@ mod system;
 
 use crate::escaped::Escaped;
 use crate::system::SystemFiles;
+use std::alloc::Global;
 use std::env::Env;
-use std::io::{BufReader, BufWriter, Error, ErrorKind};
+use std::io::{BufReader, BufWriter, Error, ErrorKind, Read, Write};
 use std::process::ExitCode;
 use std::sync::Wait;
 use std::thread::Threads;
 use std::{env, io, str};
-use tool::pipeline::Fault;
-use tool::{status, tool};
+use tool::{Fault, Files, status, tool};
 
 // The status of a command line fault.
 const MISUSED: u8 = 2;
@@ -22,24 +22,42 @@ const MISUSED: u8 = 2;
 // The system hands over no longer word.
 const LONGEST_WORD: usize = 131_072;
 
-/// Runs the program on the words after its name. The second handle is the same one, as the right to start threads and to
-/// wait for them.
+/// Runs the program on words, over any files and streams.
+fn run_over<T: Threads + Wait + Sync, F: Files, R: Read, W: Write, E: Write>(
+    threads: &T,
+    alloc: Global,
+    words: &[&str],
+    files: &mut F,
+    input: &mut R,
+    out: &mut W,
+    err: &mut E,
+) -> u8 {
+    tool(threads, alloc, words, files, input, out, err)
+}
+
+/// Runs the program on words, over the system's files and streams. The second handle is the same one, as the right to start
+/// threads and to wait for them.
+fn run_words<T: Threads + Wait + Sync>(
+    rt: &HostRuntime,
+    threads: &T,
+    words: &[&str],
+) -> io::Result<u8> {
+    let alloc = rt.alloc();
+    let mut input = BufReader::new(alloc, rt.reader())?;
+    let mut out = BufWriter::new(alloc, rt.stdout())?;
+    let mut files = SystemFiles::new(rt, words)?;
+    let mut err = Escaped { out: rt.stderr() };
+    Ok(run_over(
+        threads, alloc, words, &mut files, &mut input, &mut out, &mut err,
+    ))
+}
+
+/// Runs the program on the words after its name.
 fn run<T: Threads + Wait + Sync>(rt: &HostRuntime, threads: &T) -> io::Result<u8> {
     let alloc = rt.alloc();
     let given: Vec<String> = env::args(rt)?.skip(1).collect(alloc)?;
     let words: Vec<&str> = given.iter().map(|word| word.as_str()).collect(alloc)?;
-    let mut input = BufReader::new(alloc, rt.reader())?;
-    let mut out = BufWriter::new(alloc, rt.stdout())?;
-    let mut files = SystemFiles::new(rt, words.as_slice())?;
-    Ok(tool(
-        threads,
-        alloc,
-        words.as_slice(),
-        &mut files,
-        &mut input,
-        &mut out,
-        &mut Escaped { out: rt.stderr() },
-    ))
+    run_words(rt, threads, words.as_slice())
 }
 
 /// Tells the first word that is not UTF-8. The answer is whether there is one.

@@ -6,11 +6,11 @@ use Rattle.meaning.specs.Algorithm.{Algorithm}
 use Rattle.algo.specs.Parts.{input_frame}
 use Rattle.algo.specs.Refusal.{IsAlgorithmText}
 use Rattle.pnm.specs.Reading.{reading, wanted_of}
-use Rattle.tool.specs.declared.pipeline.fault.Fault.{Fault}
-use Rattle.tool.specs.Asked.{AskedCompare}
+use Rattle.commands.specs.declared.pipeline.fault.Fault.{Fault}
+use Rattle.commands.specs.Asked.{AskedCompare}
 use Rattle.tool.specs.Compares.{IsCompared, IsCompareRefused, IsLegalFile, IsRefusedAmong}
-use Rattle.tool.specs.Files.{Contents, Holds, SameFiles}
-use Rattle.tool.specs.Pipeline.Pictures.{IsBudgetSpent}
+use Rattle.commands.specs.Files.{Contents, Holds, SameFiles}
+use Rattle.commands.specs.Pipeline.Pictures.{IsBudgetSpent}
 use Rattle.tool.proofs.Schedules.{legal_before, unplanned_before}
 
 all_before : (files now : Contents) (al : Algorithm) (names : List Text) → SameFiles files now → All (IsLegalFile now al) names → All (IsLegalFile files al) names

@@ -3,14 +3,14 @@ use Rattle.std.proofs.Common.{inl, inr, refl, List, ℕ}
 use Rattle.meaning.specs.Algorithm.{Algorithm}
 use Rattle.clap.specs.Words.{Text}
 use Rattle.sched.specs.Schedule.{Schedule}
-use Rattle.tool.specs.declared.pipeline.fault.Fault.{Fault}
-use Rattle.tool.specs.declared.pipeline.fault.Fault.TheVariants.{Memory, Algo, Schedule as NoSchedule, Rule, Names, Plan, Form, Limit, Order, Image, Budget, Unfinished, Outside, Uncut, Difference}
+use Rattle.commands.specs.declared.pipeline.fault.Fault.{Fault}
+use Rattle.commands.specs.declared.pipeline.fault.Fault.TheVariants.{Memory, Algo, Schedule as NoSchedule, Rule, Names, Plan, Form, Limit, Order, Image, Budget, Unfinished, Outside, Uncut, Difference}
 use Rattle.tool.specs.Compiles.{HasScheduleFile, IsScheduleFault}
-use Rattle.tool.specs.Files.{Contents, SameFiles}
-use Rattle.tool.specs.Pipeline.Compiling.{IsUnaccepted}
-use Rattle.tool.specs.Pipeline.Faults.{limit_fault}
-use Rattle.tool.specs.Pipeline.PlanFiles.{IsFileRefused}
-use Rattle.tool.proofs.Kept.{held_before}
+use Rattle.commands.specs.Files.{Contents, SameFiles}
+use Rattle.tool.specs.Compiling.{IsUnaccepted}
+use Rattle.tool.specs.Faults.{limit_fault}
+use Rattle.commands.specs.Pipeline.PlanFiles.{IsFileRefused}
+use Rattle.commands.proofs.Kept.{held_before}
 
 -- what is said of a plan file's text that is refused is said of one that was compiled
 pub unaccepted : (a : Algorithm) (text : List ℕ) (fault : Fault) → IsFileRefused a text fault → IsUnaccepted a text (limit_fault fault)

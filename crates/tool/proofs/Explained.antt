@@ -2,13 +2,13 @@
 use Rattle.std.proofs.Common.{◌≡◌, ◌∙◌, ap, sym, subst, ℕ, Bool, length, List, map, None, Some, inl, inr, Result, Ok, Err}
 use Rattle.std.specs.Prelude.{OnOk, if◌then◌else◌}
 use Rattle.clap.specs.Words.{Text}
-use Rattle.tool.specs.declared.pipeline.fault.Fault.{Fault}
+use Rattle.commands.specs.declared.pipeline.fault.Fault.{Fault}
 use Rattle.tool.specs.Answer.{CommandAnswers, Ends}
-use Rattle.tool.specs.Asked.{Asked, Picture, Format, Explain, Compile, Check, Cost, Show, Draw, Replay, Compare, Crop, Tiles}
-use Rattle.tool.specs.Files.{Contents, SameFiles, SameOthers}
-use Rattle.tool.specs.Line.{stated}
-use Rattle.tool.specs.Tilings.{SameBeside}
-use Rattle.tool.proofs.Kept.{same_then}
+use Rattle.commands.specs.Asked.{Asked, Picture, Format, Explain, Compile, Check, Cost, Show, Draw, Replay, Compare, Crop, Tiles}
+use Rattle.commands.specs.Files.{Contents, SameFiles, SameOthers}
+use Rattle.commands.specs.Line.{stated}
+use Rattle.commands.specs.Tilings.{SameBeside}
+use Rattle.commands.proofs.Kept.{same_then}
 
 -- all files but one are as before, and then all are
 same_others_then : (a b c : Contents) (name : List ℕ) → SameOthers a b name → SameFiles b c → SameOthers a c name

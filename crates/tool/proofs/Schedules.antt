@@ -7,9 +7,9 @@ use Rattle.plain.proofs.Machine.{take_at}
 use Rattle.std.specs.Prelude.{IfErr, OnOk}
 use Rattle.clap.specs.Words.{Text}
 use Rattle.meaning.specs.Algorithm.{Algorithm}
-use Rattle.tool.specs.declared.pipeline.fault.Fault.{Fault}
+use Rattle.commands.specs.declared.pipeline.fault.Fault.{Fault}
 use Rattle.tool.specs.Compares.{IsLegalFile, IsRefusedAmong, IsUnplanned}
-use Rattle.tool.specs.Files.{Contents, SameFiles}
+use Rattle.commands.specs.Files.{Contents, SameFiles}
 use Rattle.tool.proofs.Compiled.{schedule_before, schedule_fault_before}
 
 -- what a file is afterwards it was before

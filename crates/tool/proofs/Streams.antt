@@ -2,10 +2,10 @@
 use Rattle.std.proofs.Common.{◌≡◌, ◌⊎◌, ◌∙◌, ap, inl, inr, ℕ, Result, Ok, Err, IfErr}
 use Rattle.std.specs.Prelude.{OnOk}
 use Rattle.pnm.specs.declared.error.PnmError.TheVariants.{Device}
-use Rattle.tool.specs.declared.pipeline.fault.Fault.{Fault}
-use Rattle.tool.specs.declared.pipeline.fault.Fault.TheVariants.{Image}
+use Rattle.commands.specs.declared.pipeline.fault.Fault.{Fault}
+use Rattle.commands.specs.declared.pipeline.fault.Fault.TheVariants.{Image}
 use Rattle.tool.specs.Answer.{status_after}
-use Rattle.tool.specs.Status.{status_of}
+use Rattle.commands.specs.Status.{status_of}
 
 abbrev Answered : Type 0 → (Fault → Type 0) → ℕ → Type 0
 Answered Done Refused status = (((status ≡ 0) ⊎ (status ≡ 5)) × Done) ⊎ ((fault : Fault) × (status ≡ status_of fault) × Refused fault)

@@ -1,21 +1,21 @@
 -- What the program does on its words, and the status that it answers.
 use Rattle.std.specs.Prelude.{◌≡◌, ◌⊎◌, ℕ, List, Option, Result, Ok, Err, IfErr, MatchResult}
 use Rattle.clap.specs.Words.{Text}
-use Rattle.tool.specs.declared.pipeline.fault.Fault.{Fault}
-use Rattle.tool.specs.Pipeline.Pictures as streams
-use Rattle.tool.specs.Asked.{Asked, Picture, Format, Explain, Compile, Check, Cost, Show, Draw, Replay, Compare, Crop, Tiles}
-use Rattle.tool.specs.Checks.{IsChecked, IsCheckRefused}
+use Rattle.commands.specs.declared.pipeline.fault.Fault.{Fault}
+use Rattle.commands.specs.Pipeline.Pictures as streams
+use Rattle.commands.specs.Asked.{Asked, Picture, Format, Explain, Compile, Check, Cost, Show, Draw, Replay, Compare, Crop, Tiles}
+use Rattle.commands.specs.Checks.{IsChecked, IsCheckRefused}
 use Rattle.tool.specs.Compares.{IsCompared, IsCompareRefused}
-use Rattle.tool.specs.Replays.{IsReplayed, IsReplayRefused}
-use Rattle.tool.specs.Files.{Contents, SameFiles}
-use Rattle.tool.specs.Line.{AsksFor, AsksHelp, AsksVersion, IsMisuse}
+use Rattle.commands.specs.Replays.{IsReplayed, IsReplayRefused}
+use Rattle.commands.specs.Files.{Contents, SameFiles}
+use Rattle.commands.specs.Line.{AsksFor, AsksHelp, AsksVersion, IsMisuse}
 use Rattle.tool.specs.Compiles as compiling
-use Rattle.tool.specs.Crops as cropping
-use Rattle.tool.specs.Tilings as tiling
-use Rattle.tool.specs.Draws as drawing
-use Rattle.tool.specs.Formats as formatting
-use Rattle.tool.specs.Pictures.{IsDone, IsOfDevice, IsRefused}
-use Rattle.tool.specs.Status.{status_of}
+use Rattle.commands.specs.Crops as cropping
+use Rattle.commands.specs.Tilings as tiling
+use Rattle.commands.specs.Draws as drawing
+use Rattle.commands.specs.Formats as formatting
+use Rattle.commands.specs.Pictures.{IsDone, IsOfDevice, IsRefused}
+use Rattle.commands.specs.Status.{status_of}
 
 -- 0 where a command is done, else the refusal's
 abbrev pub status_after : Result (Unit {0}) Fault → ℕ

@@ -7,13 +7,13 @@ use Rattle.algo.specs.Refusal.{IsAlgorithmText}
 use Rattle.pnm.specs.Reading.{reading, wanted_of}
 use Rattle.sched.specs.Schedule.{Schedule}
 use Rattle.sched.specs.Legal.{IsLegal}
-use Rattle.tool.specs.declared.pipeline.fault.Fault.{Fault}
-use Rattle.tool.specs.Asked.{AskedCompare}
+use Rattle.commands.specs.declared.pipeline.fault.Fault.{Fault}
+use Rattle.commands.specs.Asked.{AskedCompare}
 use Rattle.tool.specs.Compiles.{HasScheduleFile, IsScheduleFault}
-use Rattle.tool.specs.Files.{Contents, Holds}
-use Rattle.tool.specs.Pictures.{IsImageFault, IsOfDevice, IsTextFault}
-use Rattle.tool.specs.Pipeline.Compiling.{IsNotCompiled}
-use Rattle.tool.specs.Pipeline.Pictures.{IsBudgetSpent}
+use Rattle.commands.specs.Files.{Contents, Holds}
+use Rattle.commands.specs.Pictures.{IsImageFault, IsOfDevice, IsTextFault}
+use Rattle.tool.specs.Compiling.{IsNotCompiled}
+use Rattle.commands.specs.Pipeline.Pictures.{IsBudgetSpent}
 
 -- the samples before this place are the same, and at it they are not, or one list has ended
 abbrev pub IsFirstDifference : ℕ → List ℕ → List ℕ → Type 0

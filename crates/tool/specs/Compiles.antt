@@ -5,12 +5,12 @@ use Rattle.meaning.specs.Algorithm.{Algorithm}
 use Rattle.algo.specs.Refusal.{IsAlgorithmText}
 use Rattle.sched.specs.Schedule.{Schedule}
 use Rattle.sched.specs.Legal.{IsLegal}
-use Rattle.tool.specs.declared.pipeline.fault.Fault.{Fault}
-use Rattle.tool.specs.Asked.{AskedCompile}
-use Rattle.tool.specs.Files.{Contents, Holds, Puts, SameFiles, SameOthers}
-use Rattle.tool.specs.Pictures.{IsOfDevice, IsTextFault}
-use Rattle.tool.specs.Pipeline.Compiling.{IsNotCompiled, IsScheduleRefused, IsScheduleText}
-use Rattle.tool.specs.Pipeline.PlanFiles.{HasPlan}
+use Rattle.commands.specs.declared.pipeline.fault.Fault.{Fault}
+use Rattle.commands.specs.Asked.{AskedCompile}
+use Rattle.commands.specs.Files.{Contents, Holds, Puts, SameFiles, SameOthers}
+use Rattle.commands.specs.Pictures.{IsOfDevice, IsTextFault}
+use Rattle.tool.specs.Compiling.{IsNotCompiled, IsScheduleRefused, IsScheduleText}
+use Rattle.commands.specs.Pipeline.PlanFiles.{HasPlan}
 
 -- there is a file of that name, and it is the text of this schedule
 abbrev pub HasScheduleFile : Contents → Text → Schedule → Type 0

@@ -4,23 +4,21 @@ ghost use Rattle.std.specs.Prelude.{◌≡◌, ◌⊎◌, ◌^◌, ℕ, All, IfE
 ghost use Rattle.algo.specs.View.{algorithm_of, picture_said, samples_of, IsFor};
 ghost use Rattle.meaning.specs.Image.View.{image_of};
 ghost use Rattle.tool.specs.declared.compare.Comparison.{Comparison};
-ghost use Rattle.tool.specs.Asked.{compare_asked};
+ghost use Rattle.commands.specs.Asked.{compare_asked};
 ghost use Rattle.tool.specs.Compares.{IsCompared, IsCompareRefused, IsFirstDifference, IsLegalFile, IsRefusedAmong, IsUnplanned};
-ghost use Rattle.tool.specs.Files.{SameFiles};
-ghost use Rattle.tool.specs.Pictures.{IsOfDevice};
-ghost use Rattle.tool.specs.Pipeline.Pictures.{IsBudgetSpent};
+ghost use Rattle.commands.specs.Files.{SameFiles};
+ghost use Rattle.commands.specs.Pictures.{IsOfDevice};
+ghost use Rattle.commands.specs.Pipeline.Pictures.{IsBudgetSpent};
 
-use crate::device::Files;
-use crate::picture::{algorithm_in, image_in};
-use crate::pipeline::{BUDGET, Fault, compile_checked, plain_picture, plan_picture};
-use crate::program::flush;
-use crate::request::CompareRequest;
+use crate::compiling::compile_checked;
 use crate::schedule_command::schedule_in;
 use algo::{Algo, Inputs};
 use checked_plan::Checked;
+use commands::pipeline::{BUDGET, Fault, plain_picture, plan_picture};
+use commands::plan_command::costs_told;
+use commands::{CompareRequest, Files, algorithm_in, flush, image_in};
 use meaning::image::Image;
 use pnm::PnmError;
-use report::{cost, text};
 use std::alloc::Global;
 use std::io::Write;
 use std::thread::Threads;
@@ -55,14 +53,6 @@ fn compared(plain: &[u16], picture: &[u16]) -> Comparison
     } else {
         Comparison::DiffersAt(place)
     }
-}
-
-/// What a plan costs, as lines.
-fn costs_told(alloc: Global, checked: &Checked<'_>) -> Result<String, Fault>
-    ensures { IfErr result IsOfDevice }
-{
-    let costs = cost(alloc, checked)?;
-    Ok(text(alloc, &costs)?)
 }
 
 /// Tells how a schedule's picture compares, and what its plan costs.

@@ -1,37 +1,15 @@
-//! The command line of `stencil`, over files and streams that the caller hands in.
+//! The command line of `stencil`, over files and streams that the caller hands in: what its commands do with schedules, and what the
+//! program does on its words.
 #![tactic(auto)]
 
 mod compare;
-mod crop_command;
-mod device;
-mod draw_command;
-mod exit;
+pub mod compiling;
 mod explaining;
-mod file;
-mod help;
-pub mod laws;
-mod limit;
-pub mod order;
-mod picture;
-pub mod pipeline;
-mod plan_command;
 mod program;
 mod reasons;
-mod replay;
-mod request;
-mod reserved;
 mod schedule_command;
-mod text_command;
-mod tiles_command;
-mod words;
-mod workers;
 
-/// What hears of the pieces of a picture, as `Files` hands it out, and one that hears nothing.
-pub use crew::{Gate, Unwatched};
-pub use device::{FileError, Files};
-pub use exit::status;
-/// What `status` tells the exit status of.
-pub use crate::pipeline::Fault;
-pub use picture::picture_command;
+pub use commands::pipeline::Fault;
+/// What the caller hands in: files, and what hears of the pieces of a picture; what `status` tells the exit status of.
+pub use commands::{FileError, Files, Gate, Unwatched, status};
 pub use program::tool;
-pub use request::{PictureRequest, Way};

@@ -3,30 +3,27 @@
 ghost use Rattle.std.specs.Prelude.{◌≡◌, ◌≢◌, ◌⊎◌, [], map, IfOk, IfErr, OnOk, IsErrOf};
 ghost use Rattle.std.specs.Io.KnownBytes.{Keeps};
 ghost use Rattle.clap.specs.Words.{kind_of};
-ghost use Rattle.tool.specs.Pipeline.Pictures.{IsDone, IsRefused};
-ghost use Rattle.tool.specs.declared.pipeline.fault.Fault.{Fault};
+ghost use Rattle.commands.specs.Pipeline.Pictures.{IsDone, IsRefused};
+ghost use Rattle.commands.specs.declared.pipeline.fault.Fault.{Fault};
 ghost use Rattle.pnm.specs.declared.error.PnmError.{PnmError};
-ghost use Rattle.tool.specs.Asked.{asked_by};
-ghost use Rattle.tool.specs.Line.{stated};
+ghost use Rattle.commands.specs.Asked.{asked_by};
+ghost use Rattle.commands.specs.Line.{stated};
 ghost use Rattle.tool.specs.Answer.{CommandAnswers, Ends, HasEnded, StreamsAnswer, status_after};
 
 use crate::compare::compare_command;
-use crate::crop_command::crop_command;
-use crate::device::Files;
-use crate::draw_command::draw_command;
-use crate::exit::status;
 use crate::explaining::{Detail, explain};
-use crate::picture::picture_command;
-use crate::pipeline::{Fault, run_over};
-use crate::plan_command::{Telling, plan_command};
-use crate::replay::replay_command;
-use crate::request::Request;
 use crate::schedule_command::compile_command;
-use crate::text_command::{explain_command, format_command};
-use crate::tiles_command::tiles_command;
-use crate::words::read_words;
 use clap::Error;
 use clap::error::ErrorKind;
+use commands::crop_command::crop_command;
+use commands::draw_command::draw_command;
+use commands::pipeline::{Fault, run_over};
+use commands::plan_command::{Telling, plan_command};
+use commands::tiles_command::tiles_command;
+use commands::{
+    Files, Request, explain_command, flush, format_command, picture_command, read_words,
+    replay_command, status,
+};
 use pnm::PnmError;
 use std::alloc::{AllocError, Global};
 use std::io::{Read, Write};
@@ -63,17 +60,6 @@ const EXPLAIN: &str = "--explain";
 
 // The word behind which each word is a name.
 const NAMES_FOLLOW: &str = "--";
-
-/// Hands on what a writer holds back.
-pub(crate) fn flush<W: Write>(out: &mut W) -> Result<(), Fault>
-    ensures bytes { Keeps (W.contents out.old) (W.contents out.new) }
-    ensures device { IfErr result (λ fault. fault ≡ Fault.Image PnmError.Device) }
-{
-    match out.flush() {
-        Ok(()) => Ok(()),
-        Err(_) => Err(Fault::Image(PnmError::Device)),
-    }
-}
 
 /// The increment of an image, by its plan of two pieces.
 fn increment<T: Threads + Sync, R: Read, W: Write>(

@@ -1,12 +1,11 @@
 //! What made a schedule break a rule, found again of the files.
 
-ghost use Rattle.tool.specs.Files.{SameFiles};
+ghost use Rattle.commands.specs.Files.{SameFiles};
 
-use crate::device::Files;
-use crate::picture::algorithm_in;
-use crate::pipeline::Fault;
 use crate::schedule_command::schedule_in;
 use algo::Algo;
+use commands::pipeline::Fault;
+use commands::{Files, algorithm_in};
 use lower::{LowerError, Reason, lower, reason};
 use sched::Sched;
 use std::alloc::Global;
@@ -37,7 +36,7 @@ fn answer_to(alloc: Global, algo: &Algo, sched: &Sched) -> Answer {
 }
 
 /// The first of these schedules whose text is refused, where one is; none where one before it can't be read again.
-#[tactic(auto, using(crate::proofs::Kept::same_then))]
+#[tactic(auto, using(commands::proofs::Kept::same_then))]
 pub(crate) fn refused_among<'a, F: Files>(
     alloc: Global,
     files: &mut F,
@@ -62,7 +61,7 @@ pub(crate) fn refused_among<'a, F: Files>(
 }
 
 /// What made the first of these schedules that breaks a rule do so; none where one can't be read again.
-#[tactic(auto, using(crate::proofs::Kept::same_then))]
+#[tactic(auto, using(commands::proofs::Kept::same_then))]
 fn reason_among<F: Files>(
     alloc: Global,
     files: &mut F,
@@ -89,7 +88,7 @@ fn reason_among<F: Files>(
 }
 
 /// What made the first of these schedules that breaks a rule do so, with the algorithm's text.
-#[tactic(auto, using(crate::proofs::Kept::same_then))]
+#[tactic(auto, using(commands::proofs::Kept::same_then))]
 pub(crate) fn reason_again<F: Files>(
     alloc: Global,
     files: &mut F,

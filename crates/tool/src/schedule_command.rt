@@ -2,14 +2,13 @@
 
 ghost use Rattle.std.specs.Prelude.{IfErr, IfOk, OnOk};
 ghost use Rattle.sched.specs.View.{schedule_of};
-ghost use Rattle.tool.specs.Asked.{compile_asked};
+ghost use Rattle.commands.specs.Asked.{compile_asked};
 ghost use Rattle.tool.specs.Compiles.{HasScheduleFile, IsDone, IsRefused, IsScheduleFault};
-ghost use Rattle.tool.specs.Files.{SameFiles};
+ghost use Rattle.commands.specs.Files.{SameFiles};
 
-use crate::device::Files;
-use crate::picture::algorithm_in;
-use crate::pipeline::{Fault, compile, read_schedule};
-use crate::request::CompileRequest;
+use crate::compiling::{compile, read_schedule};
+use commands::pipeline::Fault;
+use commands::{CompileRequest, Files, algorithm_in};
 use pnm::PnmError;
 use sched::Sched;
 use std::alloc::Global;

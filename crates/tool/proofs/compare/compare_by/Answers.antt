@@ -2,10 +2,10 @@ use Rattle.std.proofs.Common.{◌≡◌, ◌⊎◌, ◌^◌, List, Bor, ℕ, All
 use Rattle.std.specs.Prelude.{IfErr, OnOk}
 use Rattle.meaning.specs.Algorithm.{Algorithm}
 use Rattle.algo.specs.View.{algorithm_of, samples_of}
-use Rattle.tool.specs.declared.pipeline.fault.Fault.{Fault}
+use Rattle.commands.specs.declared.pipeline.fault.Fault.{Fault}
 use Rattle.tool.specs.Compares.{IsLegalFile, IsRefusedAmong}
-use Rattle.tool.specs.Files.{Contents}
-use Rattle.tool.specs.Pipeline.Pictures.{IsBudgetSpent}
+use Rattle.commands.specs.Files.{Contents}
+use Rattle.commands.specs.Pipeline.Pictures.{IsBudgetSpent}
 use Rattle.tool.proofs.Schedules.{on_right, with_words}
 use Rattle.tool.proofs.compare.compare_by.Goals as goal
 

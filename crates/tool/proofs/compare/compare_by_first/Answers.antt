@@ -4,8 +4,8 @@ use Rattle.std.proofs.lemmas.Result.{err_from_is_err_and}
 use Rattle.meaning.specs.Algorithm.{Algorithm}
 use Rattle.algo.specs.View.{algorithm_of}
 use Rattle.tool.specs.Compares.{IsLegalFile, IsRefusedAmong}
-use Rattle.tool.specs.Files.{Contents}
-use Rattle.tool.proofs.Kept.{same_then}
+use Rattle.commands.specs.Files.{Contents}
+use Rattle.commands.proofs.Kept.{same_then}
 use Rattle.tool.proofs.Schedules.{all_behind, among_behind, none_legal, refused_first}
 use Rattle.tool.proofs.compare.compare_by_first.Goals as goal
 

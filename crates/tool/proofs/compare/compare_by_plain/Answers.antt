@@ -2,7 +2,7 @@ use Rattle.std.proofs.Common.{◌^◌, inl, map}
 use Rattle.std.proofs.lemmas.Result.{err_from_is_err_and}
 use Rattle.algo.specs.View.{algorithm_of, samples_of}
 use Rattle.tool.specs.Compares.{IsRefusedAmong}
-use Rattle.tool.specs.Pipeline.Pictures.{IsBudgetSpent}
+use Rattle.commands.specs.Pipeline.Pictures.{IsBudgetSpent}
 use Rattle.tool.proofs.Schedules.{on_right}
 use Rattle.tool.proofs.compare.compare_by_plain.Goals as goal
 

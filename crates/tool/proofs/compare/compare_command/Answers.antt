@@ -6,8 +6,8 @@ use Rattle.algo.specs.Refusal.{IsAlgorithmText}
 use Rattle.algo.specs.View.{algorithm_of, samples_of}
 use Rattle.pnm.specs.Reading.{reading, wanted_of}
 use Rattle.tool.proofs.Comparisons.{all_compared, one_refused}
-use Rattle.tool.proofs.Kept.{held_before, same_then}
-use Rattle.tool.specs.Pictures.{IsImageFault}
+use Rattle.commands.proofs.Kept.{held_before, same_then}
+use Rattle.commands.specs.Pictures.{IsImageFault}
 use Rattle.tool.proofs.compare.compare_command.Goals as goal
 
 pub returns-in_err-inputs-clause-refused : goal.returns-in_err-inputs-clause-refused

@@ -1,7 +1,7 @@
 use Rattle.std.proofs.Common.{◌∙◌, sym, arith}
 use Rattle.std.proofs.lemmas.Result.{err_from_is_err_and}
 use Rattle.tool.proofs.Schedules.{legal_next, legal_whole, refused_among}
-use Rattle.tool.proofs.Kept.{same_then}
+use Rattle.commands.proofs.Kept.{same_then}
 use Rattle.tool.proofs.compare.compare_schedules.Goals.{then-differs, else-differs}
 use Rattle.tool.proofs.compare.compare_schedules.Goals as goal
 

@@ -1,7 +1,7 @@
 use Rattle.std.proofs.Common.{◌≡◌, All, false, map, take}
 use Rattle.algo.specs.View.{algorithm_of}
 use Rattle.tool.specs.Compares.{IsLegalFile}
-use Rattle.tool.specs.Files.{SameFiles}
+use Rattle.commands.specs.Files.{SameFiles}
 use Rattle.tool.proofs.compare.compare_schedules.Given as goal
 
 abbrev pub invariant-loop-name : goal.invariant-loop-name

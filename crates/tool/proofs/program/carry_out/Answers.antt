@@ -1,4 +1,4 @@
-use Rattle.tool.specs.Asked.{asked_by}
+use Rattle.commands.specs.Asked.{asked_by}
 use Rattle.tool.proofs.Explained.{ended_then}
 use Rattle.tool.proofs.program.carry_out.Goals as goal
 

@@ -1,6 +1,6 @@
 use Rattle.std.proofs.Common.{inr}
 use Rattle.std.proofs.lemmas.Result.{IfErr-weaker}
-use Rattle.tool.proofs.Kept.{done_then, on_ok}
+use Rattle.commands.proofs.Kept.{done_then, on_ok}
 use Rattle.tool.proofs.program.increment.Goals as goal
 
 pub returns-clause-refused : goal.returns-clause-refused

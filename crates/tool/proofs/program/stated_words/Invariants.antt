@@ -1,5 +1,5 @@
 use Rattle.std.proofs.Common.{◌≡◌, ◌++◌, map, drop}
-use Rattle.tool.specs.Line.{stated}
+use Rattle.commands.specs.Line.{stated}
 use Rattle.tool.proofs.Explained.{left_of}
 use Rattle.tool.proofs.program.stated_words.Given as goal
 

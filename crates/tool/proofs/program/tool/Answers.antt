@@ -1,6 +1,6 @@
 use Rattle.std.proofs.Common.{inr}
 use Rattle.tool.proofs.Explained.{stated_answer}
-use Rattle.tool.proofs.Kept.{same_refl}
+use Rattle.commands.proofs.Kept.{same_refl}
 use Rattle.tool.proofs.Streams.{streams_answer}
 use Rattle.tool.proofs.program.tool.Goals as goal
 

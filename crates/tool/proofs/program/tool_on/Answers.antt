@@ -1,7 +1,7 @@
 use Rattle.std.proofs.Common.{inl, inr}
-use Rattle.tool.proofs.Kept.{same_refl}
-use Rattle.tool.proofs.Named.{answer_of}
-use Rattle.tool.specs.Asked.{asked_by}
+use Rattle.commands.proofs.Kept.{same_refl}
+use Rattle.tool.proofs.Worded.{answer_of}
+use Rattle.commands.specs.Asked.{asked_by}
 use Rattle.tool.proofs.program.tool_on.Goals as goal
 
 pub returns-in-Ok : goal.returns-in-Ok

@@ -7,10 +7,10 @@ use Rattle.algo.specs.View.{algorithm_of}
 use Rattle.sched.specs.Schedule.{Schedule}
 use Rattle.sched.specs.View.{schedule_of}
 use Rattle.tool.proofs.Compiled.{schedule_before, schedule_fault_before}
-use Rattle.tool.proofs.Kept.{of_device, others_then, same_then}
+use Rattle.commands.proofs.Kept.{of_device, others_then, same_then}
 use Rattle.tool.specs.Compiles.{IsScheduleFault}
-use Rattle.tool.specs.Pipeline.Compiling.{IsNotCompiled}
-use Rattle.tool.specs.Pipeline.PlanFiles.{HasPlan}
+use Rattle.tool.specs.Compiling.{IsNotCompiled}
+use Rattle.commands.specs.Pipeline.PlanFiles.{HasPlan}
 use Rattle.tool.proofs.schedule_command.compile_command.Goals as goal
 
 pub returns-in_err-sched-clause-refused : goal.returns-in_err-sched-clause-refused

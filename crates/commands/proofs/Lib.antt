@@ -1,0 +1,18 @@
+pub mod Crews
+pub mod Decimals
+pub mod Kept
+pub mod OrderWords
+pub mod Turns
+pub mod Ways
+mod Between
+mod Cropped
+mod Drawn
+mod Failures
+mod Formatted
+mod Limits
+mod Named
+mod Prepared
+mod Rooms
+mod Samples
+mod Sides
+mod Tiled

@@ -1,0 +1,120 @@
+//! The command that draws which piece owns each pixel.
+
+ghost use Rattle.std.specs.Prelude.{IfErr, IfOk, OnOk, option_map};
+ghost use Rattle.algo.specs.View.{IsFor};
+ghost use Rattle.checked_plan.specs.View.{algorithm_checked};
+ghost use Rattle.commands.specs.Asked.{draw_asked};
+ghost use Rattle.commands.specs.Draws.{HasOrder, IsDone, IsDrawingFile, IsNoOrderFile, IsOrderFile, IsRefused, IsUnordered};
+ghost use Rattle.commands.specs.Files.{SameFiles};
+
+use crate::device::Files;
+use crate::picture::algorithm_in;
+use crate::pipeline::{Fault, State, replay};
+use crate::plan_command::plan_in;
+use crate::replay::order_in;
+use crate::request::DrawRequest;
+use algo::{Algo, Inputs};
+use checked_plan::Checked;
+use meaning::image::Image;
+use report::drawing::{Cells, draw};
+use std::alloc::{AllocError, Global};
+use std::thread::Threads;
+
+/// An input of an algorithm that is 0 everywhere.
+fn black(alloc: Global, algo: &Algo) -> Result<Inputs, AllocError>
+    ensures { IfOk result (IsFor algo.now) }
+{
+    let shape = algo.input().shape.copy(alloc)?;
+    let image = Image {
+        ty: shape.ty,
+        samples: vec![in alloc; 0; shape.sample_count()]?,
+        extents: shape.extents,
+    };
+    match Inputs::new(algo, image) {
+        Ok(inputs) => Ok(inputs),
+        Err(_) => unreachable!(),
+    }
+}
+
+/// The crew after an order of steps. How far it has come does not rest on the input's samples.
+fn crew_after<F: Files>(
+    alloc: Global,
+    files: &mut F,
+    checked: &Checked<'_>,
+    name: &str,
+) -> Result<State, Fault>
+    ensures same { SameFiles (F.contents files.old) (F.contents files.new) }
+    ensures ordered { OnOk result (IsOrderFile (F.contents files.old) name.now) }
+    ensures refused { IfErr result (IsNoOrderFile (F.contents files.old) name.now) }
+{
+    let text = files.get(alloc, name)?;
+    let order = order_in(alloc, text.as_slice())?;
+    let inputs = black(alloc, checked.algo())?;
+    Ok(replay(alloc, checked, &inputs, order.as_slice())?)
+}
+
+/// The image file of a drawing.
+fn drawing_file(
+    alloc: Global,
+    checked: &Checked<'_>,
+    crew: Option<Cells<'_>>,
+) -> Result<Vec<u8>, AllocError>
+    ensures { IfOk result (λ file. IsDrawingFile (algorithm_checked checked.now) file.items) }
+{
+    let image = draw(alloc, checked, crew)?;
+    let mut file = Vec::new(alloc);
+    match pnm::write(&mut file, &image) {
+        Ok(()) => Ok(file),
+        // A vector takes all bytes while there is memory.
+        Err(_) => Err(AllocError),
+    }
+}
+
+/// The crew after an order, where one is named.
+fn crew_asked<F: Files>(
+    alloc: Global,
+    files: &mut F,
+    checked: &Checked<'_>,
+    order: Option<&str>,
+) -> Result<Option<State>, Fault>
+    ensures same { SameFiles (F.contents files.old) (F.contents files.new) }
+    ensures ordered { OnOk result (HasOrder (F.contents files.old) (option_map (λ name. name.now) order.entry)) }
+    ensures refused { IfErr result (IsUnordered (F.contents files.old) (option_map (λ name. name.now) order.entry)) }
+{
+    match order {
+        None => Ok(None),
+        Some(name) => Ok(Some(crew_after(alloc, files, checked, name)?)),
+    }
+}
+
+/// The cells of a crew.
+fn cells_of(crew: Option<&State>) -> Option<Cells<'_>> {
+    match crew {
+        Some(state) => Some(state.cells()),
+        None => None,
+    }
+}
+
+/// Draws which piece owns each pixel of the output of the plan of a file, which is checked first, and after an order of
+/// workers' steps how far they have come. The drawing is written last, after everything else has succeeded.
+///
+/// # Errors
+/// The first refusal: of the algorithm's text, of the plan file, and of the order; a text that is not UTF-8 is one of the
+/// device.
+pub fn draw_command<T: Threads + Sync, F: Files>(
+    rt: &T,
+    alloc: Global,
+    files: &mut F,
+    request: &DrawRequest<'_>,
+) -> Result<(), Fault>
+    ensures done { OnOk result (IsDone (F.contents files.old) (F.contents files.new) (draw_asked request.now)) }
+    ensures refused { IfErr result (IsRefused (F.contents files.old) (F.contents files.new) (draw_asked request.now)) }
+{
+    let text = files.get(alloc, request.check.algorithm)?;
+    let algo = algorithm_in(alloc, text.as_slice())?;
+    let checked = plan_in(rt, alloc, files, &algo, request.check.plan)?;
+    let crew = crew_asked(alloc, files, &checked, request.order)?;
+    let file = drawing_file(alloc, &checked, cells_of(crew.as_ref()))?;
+    files.put(request.output, file.as_slice())?;
+    Ok(())
+}

@@ -1,0 +1,71 @@
+//! The commands that write an algorithm's canonical text, and tell what a code means.
+
+ghost use Rattle.std.specs.Prelude.{IfErr, IfOk, OnOk, string_bytes};
+ghost use Rattle.algo.specs.View.{algorithm_of};
+ghost use Rattle.commands.specs.Asked.{format_asked};
+ghost use Rattle.commands.specs.Formats.{IsCanonical, IsDone, IsNotSpelled, IsRefused};
+ghost use Rattle.commands.specs.Pictures.{IsOfDevice};
+
+use crate::device::Files;
+use crate::picture::algorithm_in;
+use crate::pipeline::Fault;
+use crate::request::{ExplainRequest, FormatRequest};
+use crate::stream::flush;
+use algo::{Algo, Code};
+use pnm::PnmError;
+use printer::{WriteError, write};
+use std::alloc::Global;
+use std::io::Write;
+use tree::token::Span;
+
+/// The first byte of a text that is too many.
+const FIRST_TOO_MANY: Span = Span {
+    start: 65_536,
+    end: 65_537,
+};
+
+/// The canonical text of an algorithm.
+fn canonical(alloc: Global, algo: &Algo) -> Result<String, Fault>
+    ensures canonical { IfOk result (λ text. IsCanonical (algorithm_of algo.now) (string_bytes text)) }
+    ensures refused { IfErr result (IsNotSpelled (algorithm_of algo.now)) }
+{
+    match write(alloc, algo) {
+        Ok(text) => Ok(text),
+        Err(WriteError::Memory) => Err(Fault::Memory),
+        Err(WriteError::NoText) => Err(Fault::Names),
+        Err(WriteError::TooLong) => Err(Fault::Algo {
+            code: Code::TooLarge,
+            span: FIRST_TOO_MANY,
+        }),
+    }
+}
+
+/// Writes the canonical text of an algorithm, after everything else has succeeded.
+///
+/// # Errors
+/// The first refusal: of the algorithm's text, then E4 where the canonical text has more than 65,536 bytes; a text that is
+/// not UTF-8 is one of the device.
+pub fn format_command<F: Files>(
+    alloc: Global,
+    files: &mut F,
+    request: &FormatRequest<'_>,
+) -> Result<(), Fault>
+    ensures done { OnOk result (IsDone (F.contents files.old) (F.contents files.new) (format_asked request.now)) }
+    ensures refused { IfErr result (IsRefused (F.contents files.old) (F.contents files.new) (format_asked request.now)) }
+{
+    let bytes = files.get(alloc, request.algorithm)?;
+    let algo = algorithm_in(alloc, bytes.as_slice())?;
+    let text = canonical(alloc, &algo)?;
+    files.put(request.output, text.as_bytes())?;
+    Ok(())
+}
+
+/// Prints the page of a code.
+pub fn explain_command<W: Write>(out: &mut W, request: &ExplainRequest<'_>) -> Result<(), Fault>
+    ensures { IfErr result IsOfDevice }
+{
+    match write!(out, "{}", request.page) {
+        Ok(()) => flush(out),
+        Err(_) => Err(Fault::Image(PnmError::Device)),
+    }
+}

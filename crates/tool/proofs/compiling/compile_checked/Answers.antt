@@ -1,0 +1,15 @@
+use Rattle.std.proofs.Common.{inr}
+use Rattle.std.proofs.lemmas.Result.{IfErr-weaker}
+use Rattle.meaning.specs.Algorithm.{Algorithm}
+use Rattle.algo.specs.View.{algorithm_of}
+use Rattle.sched.specs.Schedule.{Schedule}
+use Rattle.sched.specs.View.{schedule_of}
+use Rattle.tool.specs.Compiling.{IsNotCompiled, IsUnaccepted}
+use Rattle.tool.proofs.compiling.compile_checked.Goals as goal
+
+pub returns-clause-refused : goal.returns-clause-refused
+returns-clause-refused g c =
+    let a : Algorithm = algorithm_of c.args.algo.now in
+    let s : Schedule = schedule_of c.args.sched.now in
+    IfErr-weaker c.accept.result (IsUnaccepted a c.as_str.result.now) (IsNotCompiled a s)
+    (λ fault unaccepted. inr (inr (record { legal = c.in_ok-plan.ensures.legal; text = c.as_str.result.now; refused = unaccepted }))) c.accept.ensures.refused

@@ -1,6 +1,0 @@
-use Rattle.meaning.specs.Image.View.{shape_of}
-use Rattle.tool.proofs.Rooms.{text_fits}
-use Rattle.tool.proofs.file.most_bytes.Goals as goal
-
-pub returns : goal.returns
-returns c = λ p ty extents count. rw (c.sample_count.ensures, c.sample_bytes.ensures) (text_fits (shape_of c.args.shape.now) c.requires p ty extents count)

@@ -1,0 +1,71 @@
+-- From a schedule to the file of a plan: what a text is read as, and why no plan file comes of it.
+use Rattle.std.specs.Prelude.{◌≡◌, ◌⊎◌, ◌++◌, ℕ, List, ⊤}
+use Rattle.meaning.specs.Algorithm.{Algorithm}
+use Rattle.sched.specs.Schedule.{Schedule}
+use Rattle.sched.specs.Grammar.{IsTextOf}
+use Rattle.sched.specs.Legal.{IsLegal}
+use Rattle.sched.specs.Text.{IsRefused as IsRefusedText}
+use Rattle.sched.specs.declared.error.SchedError.{SchedError}
+use Rattle.lower.specs.Refused.{IsRefused as IsRefusedSchedule}
+use Rattle.lower.specs.declared.error.LowerError.{LowerError}
+use Rattle.soundness.specs.declared.outline.refusals.code.K.TheVariants.{K14}
+use Rattle.plan.specs.Plan.{Plan as PlanSaid}
+use Rattle.plan.specs.Certificate.Certificate.{Certificate}
+use Rattle.spelling.specs.Lines.Lines.{lines_text}
+use Rattle.spelling.specs.declared.lines.error.TextError.TheVariants as read
+use Rattle.nest.specs.Notation.{plan_notation}
+use Rattle.cert.specs.Notation.{certificate_lines}
+use Rattle.cert.specs.File.File.{IsRefusedFile}
+use Rattle.commands.specs.declared.pipeline.fault.Fault.{Fault}
+use Rattle.commands.specs.declared.pipeline.fault.Fault.TheVariants.{Memory, Plan}
+use Rattle.commands.specs.Pipeline.Faults.{schedule_fault}
+use Rattle.tool.specs.Faults.{lower_fault}
+use Rattle.commands.specs.Pipeline.PlanFiles.{IsWrong}
+
+-- ---- the schedule's text
+
+-- the text stands for this schedule and nothing else
+pub record IsScheduleText (text : List ℕ) (s : Schedule) : Type 0 where
+  pub found : IsTextOf text s
+  pub only : (other : Schedule) → IsTextOf text other → other ≡ s
+
+-- the text is no schedule, for the reason that the error names
+pub record IsScheduleRefused (text : List ℕ) (fault : Fault) : Type 0 where
+  pub error : SchedError
+  pub refused : IsRefusedText text error
+  pub is : fault ≡ schedule_fault error
+
+-- ---- the schedule
+
+-- the schedule is refused for the algorithm, for the reason that the error names
+pub record IsNotLowered (a : Algorithm) (s : Schedule) (fault : Fault) : Type 0 where
+  pub error : LowerError
+  pub refused : IsRefusedSchedule a s error
+  pub is : fault ≡ lower_fault error
+
+-- ---- the plan
+
+-- the text of a plan file: the plan's lines, and behind them the certificate's
+abbrev pub file_text : PlanSaid → Certificate → List ℕ
+file_text p c = lines_text (plan_notation.lines p) ++ lines_text (certificate_lines c)
+
+-- the reader of plan files refuses the text at this line
+abbrev pub IsUnread : List ℕ → ℕ → Type 0
+IsUnread text line = IsRefusedFile text (read.Form line) ⊎ IsRefusedFile text (read.Limit line)
+
+-- why the text of a compiled plan is not accepted: it says a plan that the checker rightly refuses with this code and line, or the
+-- reader refuses it at the line, which is told as K14; want of memory says nothing
+abbrev pub IsUnaccepted : Algorithm → List ℕ → Fault → Type 0
+IsUnaccepted a text Memory = ⊤
+IsUnaccepted a text (Plan code line) = IsWrong a text code line ⊎ ((code ≡ K14) × IsUnread text line)
+IsUnaccepted a text _ = ⊥
+
+-- the schedule is legal, and the text of the plan that was made of it is not accepted
+pub record IsRefusedPlan (a : Algorithm) (s : Schedule) (fault : Fault) : Type 0 where
+  pub legal : IsLegal a s
+  pub text : List ℕ
+  pub refused : IsUnaccepted a text fault
+
+-- why no plan file comes of a schedule
+abbrev pub IsNotCompiled : Algorithm → Schedule → Fault → Type 0
+IsNotCompiled a s fault = (fault ≡ Memory) ⊎ (IsNotLowered a s fault ⊎ IsRefusedPlan a s fault)

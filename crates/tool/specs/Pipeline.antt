@@ -1,6 +1,0 @@
-pub mod Faults
-pub mod Images
-pub mod Texts
-pub mod PlanFiles
-pub mod Pictures
-pub mod Compiling
