@@ -1,5 +1,5 @@
 #!/usr/bin/env python3
-"""Measures `check` of plans that are long, have many pieces or cells, ask much of bounds or need much: seconds and peak memory.
+"""Measures `check` of plans that are long, have many pieces or cells, or ask, need or fetch much: seconds and peak memory.
 
 usage: checks.py PROGRAM
 """
@@ -92,6 +92,45 @@ def self_needs(count, region):
     return ALGORITHM, text.format(w=1024, h=1024, r=1023, needs=needs), 1024, 1024
 
 
+def many_fetches(count):
+    """A piece behind 2^19 of another group, with `count` fetch lines of 2048 cells each: 32,768 of them read 2^26 cells."""
+    algorithm = (
+        "pipeline many; input in u8 [{w}, {h}]; func f u8 (x, y) = in[x, y] + 1u8; func out u8 (x) = f[0, 0]; output out [1];"
+    )
+    text = (
+        "plan 1 many\ninput in u8 [{w},{h}]\noutput out u8 [1]\ngroup 0 f [0:{r};0:{b}] grid {w} {g}\n"
+        "alloc b0 f [0+1*s0#1;0+2*s1#2]\nfor s2 0+2*s1:1+2*s1 serial\nfor s3 0+1*s0:0+1*s0 serial\n"
+        "store b0 0 x=0+1*s3 y=0+1*s2 (in[x,y]+1u8)\nend\nend\npublish @0\ngroup 1 out [0:0] grid 1\n"
+        "alloc b0 f [0#{w};0#2]\nalloc b1 out [0#1]\n{fetches}for s1 0:0 serial\nstore b1 0 x=0+1*s1 @1[0,0]\nend\n"
+        "publish @2\ncert\nown 0 [0+1*s0:0+1*s0;0+2*s1:1+2*s1]\nown 1 [0:0]\nneed 1 0 [0:{r};0:0]\n"
+        "claim 0 10 b0 f 0 [0+1*s0:0+1*s0;0+2*s1:1+2*s1]\nclaim 1 {fetched} b0 f 0 [0:{r};0:1]\n"
+        "claim 2 {stored} b1 out 0 [0:0]\nend\n"
+    )
+    fetches = "fetch b0 0 [0:1023;0:1]\n" * count
+    text = text.format(w=1024, h=1024, r=1023, b=1023, g=512, fetches=fetches, fetched=14 + count, stored=17 + count)
+    return algorithm, text, 1024, 1024
+
+
+def one_gap(count):
+    """`count` groups of a piece of 512 x 512 cells each, of which the last leaves a row out, and one that has a cell."""
+    functions = " ".join(f"func f{i} u8 (x, y) = in[x, y] + {i}u8;" for i in range(count))
+    algorithm = "pipeline gap; input in u8 [{w}, {h}]; " + functions + " func out u8 (x) = f0[0, 0]; output out [1];"
+    groups = "".join(
+        f"group {i} f{i} [0:511;0:511] grid 1\nalloc b0 f{i} [0#512;0#512]\nfor s1 0:511 serial\nfor s2 0:511 serial\n"
+        f"store b0 0 x=0+1*s2 y=0+1*s1 (in[x,y]+{i}u8)\nend\nend\npublish @{i}\n"
+        for i in range(count)
+    )
+    owns = "".join(f"own {i} [0:511;0:{510 if i == count - 1 else 511}]\n" for i in range(count))
+    claims = "".join(f"claim {i} {10 + 8 * i} b0 f{i} 0 [0:511;0:511]\n" for i in range(count))
+    text = (
+        f"plan 1 gap\ninput in u8 [512,512]\noutput out u8 [1]\n{groups}group {count} out [0:0] grid 1\nalloc b0 f0 [0#1;0#1]\n"
+        f"alloc b1 out [0#1]\nfetch b0 0 [0:0;0:0]\nfor s1 0:0 serial\nstore b1 0 x=0+1*s1 @{count}[0,0]\nend\n"
+        f"publish @{count + 1}\ncert\n{owns}own {count} [0:0]\nneed {count} 0 [0:0]\n{claims}"
+        f"claim {count} {7 + 8 * count} b0 f0 0 [0:0;0:0]\nclaim {count + 1} {10 + 8 * count} b1 out 0 [0:0]\nend\n"
+    )
+    return algorithm, text, 512, 512
+
+
 PLANS = {
     "2,000 flat stores": lambda: flat_stores(2000),
     "65,521 flat stores, 65,536 lines": lambda: flat_stores(65521),
@@ -120,6 +159,8 @@ PLANS = {
     "65,000 need lines that name the same piece at most of 2^20 pieces": lambda: self_needs(
         65000, lambda i: f"0,{i}-1*s0:0,{524288 + i}-1*s0"
     ),
+    "32,769 fetch lines of a piece behind 2^19 of another group, too many cells": lambda: many_fetches(32769),
+    "60 groups of 2^18 cells, of which the last leaves some out": lambda: one_gap(60),
 }
 
 

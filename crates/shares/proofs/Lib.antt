@@ -32,6 +32,7 @@ pub mod Alone
 pub mod Firsts
 pub mod Standing
 pub mod Near
+pub mod Rising
 pub mod Passing
 pub mod Ahead
 pub mod Codes

@@ -2,7 +2,7 @@
 use Rattle.std.proofs.Common.{◌≡◌, ℕ, ◌+◌, ◌-◌, ◌<◌, ◌≤◌, ◌^◌, List, [], ◌∷◌, length, map, min, take, get_or, arith, ap, sym, ◌∙◌, subst, Some}
 use Rattle.std.specs.Prelude.{◌==◌, slice_get, All}
 use Rattle.std.proofs.lemmas.List.{get_or-map, length-map, length-take, take-map, take-take, take_all, take_more, map-append}
-use Rattle.std.proofs.lemmas.List.Elements.{All-map, All-more, All-same, All-take, All-weaker}
+use Rattle.std.proofs.lemmas.List.Elements.{All-from_recursion, All-map, All-more, All-same, All-take, All-weaker, recursion_from_All}
 use Rattle.std.proofs.lemmas.List.Sums.{sum_by_more, sum_by_push}
 use Rattle.plan.specs.Plan.{Plan}
 use Rattle.plan.specs.Symbols.{points}
@@ -15,14 +15,15 @@ use Rattle.shares.specs.Boxes.{point_count, sides}
 use Rattle.shares.specs.Counts.{FetchPasses}
 use Rattle.shares.specs.Early.{FetchIsPast}
 use Rattle.shares.specs.FetchLines.{FetchIsFar, FetchLine, IsFirstFar, IsFirstPast, LineIsLimited, LineIsNear, plan_fetch_lines, cells_by, fetched_by, fetched_by_lines}
-use Rattle.shares.specs.Lets.{named}
+use Rattle.shares.specs.Lets.{AreNear, named}
 use Rattle.shares.specs.Read.{IsOpen}
 use Rattle.shares.specs.Noted.{line_of, lines_noted, told_line}
 use Rattle.shares.specs.Has.{fetched_before}
-use Rattle.shares.specs.Seats.{piece_of, pieces_of}
+use Rattle.shares.specs.Seats.{of_group, piece_of, pieces_of}
 use Rattle.shares.specs.Shared.{AreShared}
 use Rattle.shares.proofs.Groups.{get_mapped, get_some, get_within, some_same}
 use Rattle.shares.proofs.Noting.{no_line, noted_at, noted_long, told_counts}
+use Rattle.shares.proofs.Rising.{holds_of_all, holds_of_group, sum_of_group}
 use Rattle.shares.proofs.Shared.{points_counted}
 use Rattle.shares.proofs.Totals.{all_fetched, chosen, fetch_open, left_out, region_of_open, same_number, other_number}
 
@@ -47,6 +48,27 @@ pub adds_none : (x : FetchLine) (s : Seat) (count : ℕ) → (s.group ≡ x.grou
 adds_none x s count other =
     let none = left_out (x.group == s.group) (length (points (named x.lets (grid_symbols s.at.items)) x.region)) (other_number x.group s.group (λ e. other (sym e))) in
     omega (arith, none)
+
+-- ---- one line, by the pieces of its group alone
+
+-- a line at a piece of its group
+abbrev IsNearAt : FetchLine → Piece → Type 0
+IsNearAt x j = j.group ≡ x.group → AreNear x.lets (grid_symbols j.at)
+
+module _ (x : FetchLine) (xs : List Seat) where
+  pub fetched_in_group : fetched_by (pieces_of (of_group x.group xs)) x ≡ fetched_by (pieces_of xs) x
+  fetched_in_group =
+      sum_of_group (cells_by x) x.group
+      (λ j other. left_out (x.group == j.group) (length (points (named x.lets (grid_symbols j.at)) x.region)) (other_number x.group j.group (λ e. other (sym e)))) xs
+
+  pub near_in_group : LineIsNear (pieces_of xs) x → LineIsNear (pieces_of (of_group x.group xs)) x
+  near_in_group h =
+      All-from_recursion (IsNearAt x) (pieces_of (of_group x.group xs)) (holds_of_group (IsNearAt x) x.group xs (recursion_from_All (IsNearAt x) (pieces_of xs) h))
+
+  pub near_of_group : LineIsNear (pieces_of (of_group x.group xs)) x → LineIsNear (pieces_of xs) x
+  near_of_group h =
+      All-from_recursion (IsNearAt x) (pieces_of xs)
+      (holds_of_all (IsNearAt x) x.group (λ j other same. absurd (other same)) xs (recursion_from_All (IsNearAt x) (pieces_of (of_group x.group xs)) h))
 
 -- ---- line after line
 

@@ -1,6 +1,7 @@
 -- Pieces as code has them.
-use Rattle.std.specs.Prelude.{ℕ, List, map, All}
+use Rattle.std.specs.Prelude.{ℕ, List, map, filter, ◌==◌, All}
 use Rattle.std.specs.List.{range_with_len}
+use Rattle.std.specs.List.Sorted.{IsNonDecreasingBy}
 use Rattle.plan.specs.Certificate.Cells.{Piece, grid_point}
 use Rattle.shares.specs.declared.seats.Seat.{Seat}
 use Rattle.shares.specs.Boxes.{IsSmall}
@@ -19,3 +20,11 @@ grid_pieces group grid count = map (λ n. record { group = group; at = grid_poin
 -- the coordinates of all are small
 abbrev pub AreSmall : List Seat → Type 0
 AreSmall xs = All (λ x. IsSmall x.at.items) xs
+
+-- they stand by rising groups
+abbrev pub AreRising : List Seat → Type 0
+AreRising xs = IsNonDecreasingBy (λ x. x.group) xs
+
+-- those of the group of this number
+abbrev pub of_group : ℕ → List Seat → List Seat
+of_group group xs = filter (λ x. x.group == group) xs

@@ -16,12 +16,12 @@ ghost use Rattle.shares.specs.Lets.{AreNear, NamingsAreLimited, named, namings_o
 ghost use Rattle.shares.specs.Noted.{AreNotedBy, line_of, lines_noted, told_line};
 ghost use Rattle.shares.specs.Has.{fetched_before};
 ghost use Rattle.shares.specs.Layout.{IsLayout};
-ghost use Rattle.shares.specs.Seats.{AreSmall, pieces_of};
+ghost use Rattle.shares.specs.Seats.{AreRising, AreSmall, pieces_of};
 
 use crate::boxes::{Side, box_by, most_points};
 use crate::layout::Layout;
 use crate::lets::{Naming, copy_lets, note_let, values_at};
-use crate::seats::Seat;
+use crate::seats::{Seat, seats_of_group};
 use lin::Span1;
 use plan::{Plan, Stmt};
 use soundness::outline::refusals::{Flaw, K};
@@ -190,14 +190,30 @@ fn cells_by(alloc: Global, seats: &[Seat], line: &FetchLine<'_>) -> Result<u64, 
     Ok(count)
 }
 
-/// The place of the line with which these pieces fetch more than 2^26 cells, if there is one.
+/// How many cells pieces that stand by rising groups fetch by a line, or the greatest number of the machine where it is more.
 ///
-/// The time is linear in the lines and the pieces: cells are counted by the boxes that they are.
+/// The time is linear in the pieces of the line's group, and logarithmic in all.
+fn cells_of_group(alloc: Global, seats: &[Seat], line: &FetchLine<'_>) -> Result<u64, AllocError>
+    requires rising { AreRising seats.now }
+    requires small { AreSmall seats.now }
+    requires region { IsLimited line.now.region.now }
+    requires lets { NamingsAreLimited (namings_of line.now.lets.items) }
+    requires near { LineIsNear (pieces_of seats.now) (line_of line.now) }
+    ensures { IfOk result (λ count. count ≡ min (fetched_by (pieces_of seats.now) (line_of line.now)) (2 ^ 64 - 1)) }
+{
+    let these = seats_of_group(seats, line.group);
+    cells_by(alloc, these, line)
+}
+
+/// The place of the line with which pieces that stand by rising groups fetch more than 2^26 cells, if there is one.
+///
+/// The time is that of the pieces of each line's group, in which cells are counted by the boxes that they are.
 pub(crate) fn passing_place(
     alloc: Global,
     lines: &[FetchLine<'_>],
     seats: &[Seat],
 ) -> Result<Option<usize>, AllocError>
+    requires rising { AreRising seats.now }
     requires limits { All LineIsLimited (lines_noted lines.now) }
     requires near { All (LineIsNear (pieces_of seats.now)) (lines_noted lines.now) }
     requires small { AreSmall seats.now }
@@ -206,7 +222,7 @@ pub(crate) fn passing_place(
 {
     let mut room = MOST_FETCHED;
     for (place, line) in lines.iter().enumerate() {
-        let count = cells_by(alloc, seats, line)?;
+        let count = cells_of_group(alloc, seats, line)?;
         if count > room {
             return Ok(Some(place));
         }

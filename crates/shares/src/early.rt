@@ -6,7 +6,7 @@ ghost use Rattle.plan.specs.Certificate.Cells.{first_piece};
 ghost use Rattle.shares.specs.Early.{AreRead, AreReadBefore, FetchIsWrong, FetchLinesStand, IsFirstWrong, IsGroupCount, StandAhead, until};
 ghost use Rattle.shares.specs.FetchLines.{LineIsLimited};
 ghost use Rattle.shares.specs.Noted.{lines_noted};
-ghost use Rattle.shares.specs.Seats.{AreSmall, pieces_of};
+ghost use Rattle.shares.specs.Seats.{AreRising, AreSmall, pieces_of};
 
 use crate::counts::{FetchLine, fetch_lines, passing_place};
 use crate::far::far_place;
@@ -50,14 +50,15 @@ fn until(place: Option<usize>, end: usize) -> usize
 }
 
 /// The place of the first of some fetch lines at which something is wrong in these pieces, if there is one: some line `let` before
-/// it comes to no near number in a piece of its group, or with it more than 2^26 cells are fetched.
+/// it comes to no near number in a piece of its group, or with it more than 2^26 cells are fetched. The pieces stand by rising groups.
 ///
-/// The time is linear in the lines, and for each of them in the pieces and the forms of the lines `let` before it.
+/// The time is linear in the lines, and for each of them in the pieces of its group and the forms of the lines `let` before it.
 fn wrong_place(
     alloc: Global,
     lines: &[FetchLine<'_>],
     seats: &[Seat],
 ) -> Result<Option<usize>, AllocError>
+    requires rising { AreRising seats.now }
     requires limits { All LineIsLimited (lines_noted lines.now) }
     requires small { AreSmall seats.now }
     ensures { IfOk result (λ found. MatchOption found (AreRead (pieces_of seats.now) (lines_noted lines.now))
@@ -75,8 +76,8 @@ fn wrong_place(
 /// are within the limits: some line `let` before it comes to a number that is farther than 2^20 from 0 in a piece of its group, or
 /// with it more than 2^26 cells are fetched. Nothing is asked of the lines from this one on, as of those of which the first is broken.
 ///
-/// The time is linear in the lines of the plan, and for each fetch line before this line in the pieces of the groups up to the last
-/// that has one, and the forms of the lines `let` before it.
+/// The time is about linear in the lines of the plan, in the pieces of the groups up to the last that has a fetch line before this
+/// line, and for each such line in the pieces of its group and the forms of the lines `let` before it.
 pub fn fetch_flaw_before(alloc: Global, plan: &Plan, line: u32) -> Result<Option<u32>, AllocError>
     requires { AreReadBefore (plan_of plan.now) line }
     ensures { IfOk result (λ found. MatchOption found (FetchLinesStand (plan_of plan.now) line) (λ k. FetchIsWrong (plan_of plan.now) k × (k < line))) }

@@ -10,12 +10,12 @@ ghost use Rattle.shares.specs.FetchLines.{IsFirstFar, LetsAreNear, LineIsLimited
 ghost use Rattle.shares.specs.Lets.{AreNear, NamingsAreLimited, namings_of};
 ghost use Rattle.shares.specs.Noted.{line_of, lines_noted};
 ghost use Rattle.shares.specs.Read.{IsOpen};
-ghost use Rattle.shares.specs.Seats.{AreSmall, pieces_of};
+ghost use Rattle.shares.specs.Seats.{AreRising, AreSmall, pieces_of};
 ghost use Rattle.shares.specs.Shared.{AreShared};
 
 use crate::counts::{FetchLine, fetch_lines, passing_place};
 use crate::lets::near_values;
-use crate::seats::Seat;
+use crate::seats::{Seat, seats_of_group};
 use plan::Plan;
 use std::alloc::{AllocError, Global};
 
@@ -53,22 +53,40 @@ fn is_far(alloc: Global, line: &FetchLine<'_>, seats: &[Seat]) -> Result<bool, A
     Ok(false)
 }
 
-/// The place of the first of some fetch lines before which some line `let` comes to no near number in some piece of its group,
-/// if there is one.
+/// Whether some line `let` before a fetch line comes to no near number in some piece of the line's group, among pieces that stand by
+/// rising groups.
 ///
-/// The time is linear in the lines, and for each of them in the pieces and the forms of the lines `let` before it.
+/// The time is linear in the pieces of this group, for each of them in the forms of the lines `let` before the line, and logarithmic
+/// in all.
+fn is_far_in_group(alloc: Global, line: &FetchLine<'_>, seats: &[Seat]) -> Result<bool, AllocError>
+    requires rising { AreRising seats.now }
+    requires lets { NamingsAreLimited (namings_of line.now.lets.items) }
+    requires small { AreSmall seats.now }
+    ensures near { IfOk result (λ far. IsFalse far → LineIsNear (pieces_of seats.now) (line_of line.now)) }
+    ensures far { IfOk result (λ far. IsTrue far → ¬ LineIsNear (pieces_of seats.now) (line_of line.now)) }
+{
+    let these = seats_of_group(seats, line.group);
+    let far = is_far(alloc, line, these)?;
+    Ok(far)
+}
+
+/// The place of the first of some fetch lines before which some line `let` comes to no near number in some piece of its group,
+/// if there is one, where the pieces stand by rising groups.
+///
+/// The time is that of the pieces of each line's group, for each of them in the forms of the lines `let` before the line.
 pub(crate) fn far_place(
     alloc: Global,
     lines: &[FetchLine<'_>],
     seats: &[Seat],
 ) -> Result<Option<usize>, AllocError>
+    requires rising { AreRising seats.now }
     requires limits { All LineIsLimited (lines_noted lines.now) }
     requires small { AreSmall seats.now }
     ensures { IfOk result (λ found. MatchOption found (All (LineIsNear (pieces_of seats.now)) (lines_noted lines.now))
         (IsFirstFar (pieces_of seats.now) (lines_noted lines.now))) }
 {
     for (place, line) in lines.iter().enumerate() {
-        if is_far(alloc, line, seats)? {
+        if is_far_in_group(alloc, line, seats)? {
             return Ok(Some(place));
         }
     }
@@ -78,8 +96,8 @@ pub(crate) fn far_place(
 /// The first fetch line at which something is wrong, if before some fetch line a line `let` comes to no near number in some piece
 /// of its group: that line, or an earlier one with which more than 2^26 cells are fetched.
 ///
-/// The time is linear in the fetch lines, and for each of them in the pieces and the forms of the lines `let` before it. Cells are
-/// counted only where there is such a line.
+/// The time is linear in the fetch lines, and for each of them in the pieces of its group and the forms of the lines `let` before it.
+/// Cells are counted only where there is such a line.
 pub(crate) fn refused_line(
     alloc: Global,
     plan: &Plan,

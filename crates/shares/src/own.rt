@@ -57,32 +57,32 @@ fn claim_own(
     Ok(Some(own.whole))
 }
 
-/// The owners among the pieces of a group of which no two own a cell; none where two do.
+/// Makes a table of all cells that of the owners among the pieces of a group of which no two own a cell, and says whether all their
+/// own regions stay inside; none where two own one.
 ///
 /// The time is linear in the cells and the pieces.
 fn owned_in(
     alloc: Global,
     layout: &Layout<'_>,
     group: usize,
-    count: u32,
-) -> Result<Option<Owned>, AllocError>
+    owners: &mut [Option<u32>],
+) -> Result<Option<bool>, AllocError>
     requires layout { IsLayout layout.now }
-    requires count { count ≡ length (cells (plan_of layout.now.plan.now)) }
-    ensures claimed { IfOk result (λ found. IfSome found (λ x. IsClaimedBy (own_in (plan_of layout.now.plan.now) (certificate_of layout.now.cert.now) group) x.owners.items (length layout.now.seats.items))) }
-    ensures cells { IfOk result (λ found. IfSome found (λ x. length x.owners.items ≡ count)) }
-    ensures inside { IfOk result (λ found. IfSome found (λ x. IsTrue x.inside → GroupIsInside (plan_of layout.now.plan.now) (certificate_of layout.now.cert.now) group)) }
-    ensures leaves { IfOk result (λ found. IfSome found (λ x. IsFalse x.inside → Leaves (plan_of layout.now.plan.now) (certificate_of layout.now.cert.now) group)) }
+    requires count { length owners.old ≡ length (cells (plan_of layout.now.plan.now)) }
+    ensures claimed { IfOk result (λ found. IfSome found (λ _. IsClaimedBy (own_in (plan_of layout.now.plan.now) (certificate_of layout.now.cert.now) group) owners.new (length layout.now.seats.items))) }
+    ensures inside { IfOk result (λ found. IfSome found (λ yes. IsTrue yes → GroupIsInside (plan_of layout.now.plan.now) (certificate_of layout.now.cert.now) group)) }
+    ensures leaves { IfOk result (λ found. IfSome found (λ yes. IsFalse yes → Leaves (plan_of layout.now.plan.now) (certificate_of layout.now.cert.now) group)) }
     ensures overlap { IfOk result (λ found. IfNone found (Overlaps (plan_of layout.now.plan.now) (certificate_of layout.now.cert.now) group)) }
 {
-    let mut owners: Vec<Option<u32>> = vec![in alloc; None; count as usize]?;
+    owners.fill(None);
     let mut inside = true;
     for piece in 0..layout.seats.len() as u32 {
-        let Some(whole) = claim_own(alloc, layout, group, piece, owners.as_mut_slice())? else {
+        let Some(whole) = claim_own(alloc, layout, group, piece, owners)? else {
             return Ok(None);
         };
         inside = both(inside, whole);
     }
-    Ok(Some(Owned { owners, inside }))
+    Ok(Some(inside))
 }
 
 /// Whether a cell is in the table and has no owner.
@@ -159,27 +159,27 @@ fn fetches_alone(alloc: Global, layout: &Layout<'_>, group: usize) -> Result<boo
     Ok(false)
 }
 
-/// The lowest code of what is wrong at the own line of a group, if anything is.
+/// The lowest code of what is wrong at the own line of a group, if anything is. It writes into a table of all cells.
 fn own_code(
     alloc: Global,
     layout: &Layout<'_>,
     group: usize,
-    count: u32,
+    owners: &mut [Option<u32>],
 ) -> Result<Option<K>, AllocError>
     requires layout { IsLayout layout.now }
     requires group { group < length layout.now.grounds.items }
-    requires count { count ≡ length (cells (plan_of layout.now.plan.now)) }
+    requires count { length owners.old ≡ length (cells (plan_of layout.now.plan.now)) }
     ensures { IfOk result (IsLowestCode (plan_of layout.now.plan.now) (certificate_of layout.now.cert.now) group) }
 {
-    let Some(owned) = owned_in(alloc, layout, group, count)? else {
+    let Some(inside) = owned_in(alloc, layout, group, owners)? else {
         return Ok(Some(K::K9));
     };
-    if !owned.inside {
+    if !inside {
         return Ok(Some(K::K10));
     }
     let space = &layout.grounds[group].cells;
     let some = most_points(&space.sides) as u32;
-    if has_gap(&owned.owners, space.first, some) {
+    if has_gap(owners, space.first, some) {
         return Ok(Some(K::K10));
     }
     code_of_parted(alloc, layout, group)
@@ -210,27 +210,6 @@ fn is_parted(layout: &Layout<'_>, owned: &Result<Owned, u32>, count: u32) -> boo
     }
 }
 
-/// The lowest code of what is wrong at the own line of a group: nothing but K11 where the plan's cells are parted.
-fn code_at(
-    alloc: Global,
-    layout: &Layout<'_>,
-    group: usize,
-    count: u32,
-    parted: bool,
-) -> Result<Option<K>, AllocError>
-    requires layout { IsLayout layout.now }
-    requires group { group < length layout.now.grounds.items }
-    requires count { count ≡ length (cells (plan_of layout.now.plan.now)) }
-    requires parted { IsTrue parted → IsParted (plan_of layout.now.plan.now) (certificate_of layout.now.cert.now) group }
-    ensures { IfOk result (IsLowestCode (plan_of layout.now.plan.now) (certificate_of layout.now.cert.now) group) }
-{
-    if parted {
-        code_of_parted(alloc, layout, group)
-    } else {
-        own_code(alloc, layout, group, count)
-    }
-}
-
 /// K11 of a group that needs no pieces, where one of its pieces fetches a point.
 fn alone_code(alloc: Global, layout: &Layout<'_>, group: usize) -> Result<Option<K>, AllocError>
     requires layout { IsLayout layout.now }
@@ -257,6 +236,40 @@ fn flaw_at(layout: &Layout<'_>, group: usize, code: Option<K>) -> Option<Flaw>
     }
 }
 
+/// The first flaw at the own lines of the groups, if there is one, where the pieces part the plan's cells: K11 of a group that needs no
+/// pieces.
+///
+/// The time is linear in the pieces for each group, and in the cells of the fetched points.
+fn parted_flaw(alloc: Global, layout: &Layout<'_>) -> Result<Option<Flaw>, AllocError>
+    requires layout { IsLayout layout.now }
+    requires parted { (n : ℕ) → IsParted (plan_of layout.now.plan.now) (certificate_of layout.now.cert.now) n }
+    ensures { IfOk result (IsFirstFlaw (plan_of layout.now.plan.now) (certificate_of layout.now.cert.now) (length (plan_of layout.now.plan.now).groups)) }
+{
+    let mut told: Option<Flaw> = None;
+    for group in 0..layout.grounds.as_slice().len() {
+        let code = code_of_parted(alloc, layout, group)?;
+        told = least(told, flaw_at(layout, group, code));
+    }
+    Ok(told)
+}
+
+/// The first flaw at the own lines of the groups, if there is one, where the pieces may not part the plan's cells.
+///
+/// The time is linear in all cells and the pieces for each group, whose owners are written into one table.
+fn unparted_flaw(alloc: Global, layout: &Layout<'_>, count: u32) -> Result<Option<Flaw>, AllocError>
+    requires layout { IsLayout layout.now }
+    requires count { count ≡ length (cells (plan_of layout.now.plan.now)) }
+    ensures { IfOk result (IsFirstFlaw (plan_of layout.now.plan.now) (certificate_of layout.now.cert.now) (length (plan_of layout.now.plan.now).groups)) }
+{
+    let mut owners: Vec<Option<u32>> = vec![in alloc; None; count as usize]?;
+    let mut found: Option<Flaw> = None;
+    for group in 0..layout.grounds.as_slice().len() {
+        let code = own_code(alloc, layout, group, owners.as_mut_slice())?;
+        found = least(found, flaw_at(layout, group, code));
+    }
+    Ok(found)
+}
+
 /// The first flaw at the own lines of the groups, if there is one: K9, K10, or K11 of a group that needs no pieces.
 ///
 /// Where the pieces part the plan's cells the time is linear in the cells, and for each group in the pieces; else in all cells and
@@ -272,11 +285,9 @@ pub(crate) fn own_flaw(
     requires owned { IfOk owned.now (AreOwners (plan_of layout.now.plan.now) (certificate_of layout.now.cert.now)) }
     ensures { IfOk result (IsFirstFlaw (plan_of layout.now.plan.now) (certificate_of layout.now.cert.now) (length (plan_of layout.now.plan.now).groups)) }
 {
-    let parted = is_parted(layout, owned, count);
-    let mut found: Option<Flaw> = None;
-    for group in 0..layout.grounds.as_slice().len() {
-        let code = code_at(alloc, layout, group, count, parted)?;
-        found = least(found, flaw_at(layout, group, code));
+    if is_parted(layout, owned, count) {
+        parted_flaw(alloc, layout)
+    } else {
+        unparted_flaw(alloc, layout, count)
     }
-    Ok(found)
 }

@@ -3,7 +3,7 @@
 ghost use Rattle.std.specs.Prelude.{◌≡◌, ◌≤◌, ◌<◌, ◌+◌, ◌++◌, ◌^◌, IfOk, OnOk, All, length, take};
 ghost use Rattle.plan.specs.View.{plan_of};
 ghost use Rattle.plan.specs.Certificate.Cells.{first_piece, grid_point, piece_count, pieces, pieces_from};
-ghost use Rattle.shares.specs.Seats.{AreSmall, grid_pieces, pieces_of};
+ghost use Rattle.shares.specs.Seats.{AreRising, AreSmall, grid_pieces, of_group, pieces_of};
 ghost use Rattle.shares.specs.Grounds.{HaveGrids};
 
 use crate::boxes::most_points;
@@ -94,4 +94,16 @@ pub(crate) fn first_seats(
         push_seats(alloc, &mut seats, group, grid, count)?;
     }
     Ok(seats)
+}
+
+/// The pieces of a group among pieces that stand by rising groups.
+///
+/// The time is logarithmic in the pieces.
+pub(crate) fn seats_of_group(seats: &[Seat], group: usize) -> &[Seat]
+    requires { AreRising seats.now }
+    ensures { result.now ≡ of_group group seats.now }
+{
+    let first = seats.partition_point(|seat| seat.group < group);
+    let end = seats.partition_point(|seat| seat.group <= group);
+    &seats[first..end]
 }

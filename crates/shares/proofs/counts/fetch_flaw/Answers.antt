@@ -10,8 +10,14 @@ use Rattle.shares.specs.FetchLines.{IsFirstPast, LineIsNear, fetched_by_lines, p
 use Rattle.shares.specs.Noted.{lines_noted, told_line}
 use Rattle.shares.specs.Seats.{AreSmall, pieces_of}
 use Rattle.shares.proofs.Passing.{few_fetched, limited_noted, near_noted, passes}
+use Rattle.shares.proofs.Rising.{seats_rise}
 use Rattle.shares.proofs.Totals.{lines_open}
 use Rattle.shares.proofs.counts.fetch_flaw.Goals as goal
+
+pub passing_place-requires-clause-rising : goal.passing_place-requires-clause-rising
+passing_place-requires-clause-rising c =
+    let x = c.args.layout.now in
+    seats_rise 0 (plan_of x.plan.now).groups c.deref-2.result.now (ap pieces_of c.deref-2.ensures.value ∙ c.requires.seats)
 
 pub passing_place-requires-clause-limits : goal.passing_place-requires-clause-limits
 passing_place-requires-clause-limits c =

@@ -7,16 +7,16 @@ use Rattle.shares.proofs.counts.passing_place.Goals as goal
 pub loop-place-init : goal.loop-place-init
 loop-place-init c = refl
 
-pub cells_by-requires-clause-region : goal.cells_by-requires-clause-region
-cells_by-requires-clause-region c =
+pub cells_of_group-requires-clause-region : goal.cells_of_group-requires-clause-region
+cells_of_group-requires-clause-region c =
     (of_line (pieces_of c.args.seats.now) c.args.lines.now c.loop-place.place c.index-lines-place.result c.loop-place-test.true c.index-lines-place.is LineIsLimited c.requires.limits).0
 
-pub cells_by-requires-clause-lets : goal.cells_by-requires-clause-lets
-cells_by-requires-clause-lets c =
+pub cells_of_group-requires-clause-lets : goal.cells_of_group-requires-clause-lets
+cells_of_group-requires-clause-lets c =
     (of_line (pieces_of c.args.seats.now) c.args.lines.now c.loop-place.place c.index-lines-place.result c.loop-place-test.true c.index-lines-place.is LineIsLimited c.requires.limits).1
 
-pub cells_by-requires-clause-near : goal.cells_by-requires-clause-near
-cells_by-requires-clause-near c =
+pub cells_of_group-requires-clause-near : goal.cells_of_group-requires-clause-near
+cells_of_group-requires-clause-near c =
     let js = pieces_of c.args.seats.now in
     of_line js c.args.lines.now c.loop-place.place c.index-lines-place.result c.loop-place-test.true c.index-lines-place.is (LineIsNear js) c.requires.near
 

@@ -10,6 +10,7 @@ use Rattle.shares.specs.FetchLines.{LineIsLimited}
 use Rattle.shares.specs.Noted.{lines_noted}
 use Rattle.shares.specs.Seats.{pieces_of}
 use Rattle.shares.proofs.Ahead.{below, few_pieces, limited, of_groups, told_stand, told_wrong, within}
+use Rattle.shares.proofs.Rising.{seats_rise}
 use Rattle.shares.proofs.early.fetch_flaw_before.Goals as goal
 
 pub group_count-groups-requires : goal.group_count-groups-requires
@@ -37,6 +38,11 @@ first_seats-requires-clause-few c =
     let counted : IsGroupCount (lines_noted (take count held)) groups =
     subst (λ (ls : List LineHeld). IsGroupCount (lines_noted (take count ls)) groups) c.deref-2.ensures.value c.group_count-groups.ensures.count in
     counted.few p.groups (few_pieces p held c.in_ok-lines.ensures line count stand c.requires)
+
+pub wrong_place-requires-clause-rising : goal.wrong_place-requires-clause-rising
+wrong_place-requires-clause-rising c =
+    let p : Plan = plan_of c.args.plan.now in
+    seats_rise 0 (take c.group_count-groups.result p.groups) c.deref-4.result.now (ap pieces_of c.deref-4.ensures.value ∙ c.in_ok-seats.ensures.pieces)
 
 pub wrong_place-requires-clause-limits : goal.wrong_place-requires-clause-limits
 wrong_place-requires-clause-limits c =

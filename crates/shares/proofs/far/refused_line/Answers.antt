@@ -10,7 +10,11 @@ use Rattle.shares.specs.Noted.{line_of, lines_noted, told_line}
 use Rattle.shares.specs.Seats.{pieces_of}
 use Rattle.shares.proofs.Groups.{get_within}
 use Rattle.shares.proofs.Passing.{all_near, far_fetch, firsts_counted, firsts_limited, firsts_near, limited_noted, near_first, passes, past_first}
+use Rattle.shares.proofs.Rising.{seats_rise}
 use Rattle.shares.proofs.far.refused_line.Goals as goal
+
+pub far_place-requires-clause-rising : goal.far_place-requires-clause-rising
+far_place-requires-clause-rising c = seats_rise 0 (plan_of c.args.plan.now).groups c.args.seats.now c.requires.seats
 
 pub far_place-requires-clause-limits : goal.far_place-requires-clause-limits
 far_place-requires-clause-limits c =
@@ -37,6 +41,9 @@ slice_bounds-passing_place-end c =
     let long = length-map held line_of in
     let same = ap length (c.deref.ensures.value ∙ sym c.deref-2.ensures.value) in
     sym (length-take-le c.in-Some.far c.deref-2.result.now (omega (arith, within, long, same)))
+
+pub passing_place-requires-clause-rising : goal.passing_place-requires-clause-rising
+passing_place-requires-clause-rising c = seats_rise 0 (plan_of c.args.plan.now).groups c.args.seats.now c.requires.seats
 
 pub passing_place-requires-clause-limits : goal.passing_place-requires-clause-limits
 passing_place-requires-clause-limits c =

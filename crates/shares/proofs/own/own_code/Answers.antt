@@ -14,20 +14,20 @@ use Rattle.shares.proofs.Having.{cells_within}
 use Rattle.shares.proofs.Owning.{ends_of, gap_found, gap_none}
 use Rattle.shares.proofs.own.own_code.Goals as goal
 
-pub returns-then-not-owned : goal.returns-then-not-owned
-returns-then-not-owned c =
+pub returns-then-not-inside : goal.returns-then-not-inside
+returns-then-not-inside c =
     let x = c.args.layout.now in
     let p : Plan = plan_of x.plan.now in
     let cert : Certificate = certificate_of x.cert.now in
     let n = c.args.group in
     let seats = x.seats.items in
     let many : length seats ≡ length (pieces p) = sym (length-map seats piece_of) ∙ ap length c.requires.layout.seats in
-    let owners = c.in-Some.owned.owners.items in
-    let held : IsClaimedBy (own_in p cert n) owners (length seats) = rw c.in-Some.is at c.in_ok-owned.ensures.claimed in
+    let owners = c.owned_in.new.owners in
+    let held : IsClaimedBy (own_in p cert n) owners (length seats) = rw c.in-Some.is at c.in_ok-inside.ensures.claimed in
     let claimed : IsClaimedBy (own_in p cert n) owners (length (pieces p)) = subst (λ (k : ℕ). IsClaimedBy (own_in p cert n) owners k) many held in
     let apart : ¬ Overlaps p cert n = none_overlaps p cert c.requires.layout.shared n owners claimed in
-    let leaves : IsFalse c.in-Some.owned.inside → Leaves p cert n = rw c.in-Some.is at c.in_ok-owned.ensures.leaves in
-    lowest_ten p cert n apart (inl (leaves c.if-not-owned.true))
+    let leaves : IsFalse c.in-Some.inside → Leaves p cert n = rw c.in-Some.is at c.in_ok-inside.ensures.leaves in
+    lowest_ten p cert n apart (inl (leaves c.if-not-inside.true))
 
 pub overflow_cast-some : goal.overflow_cast-some
 overflow_cast-some c =
@@ -59,8 +59,8 @@ returns-then-has_gap c =
     let n = c.args.group in
     let seats = x.seats.items in
     let many : length seats ≡ length (pieces p) = sym (length-map seats piece_of) ∙ ap length c.requires.layout.seats in
-    let owners = c.in-Some.owned.owners.items in
-    let held : IsClaimedBy (own_in p cert n) owners (length seats) = rw c.in-Some.is at c.in_ok-owned.ensures.claimed in
+    let owners = c.owned_in.new.owners in
+    let held : IsClaimedBy (own_in p cert n) owners (length seats) = rw c.in-Some.is at c.in_ok-inside.ensures.claimed in
     let claimed : IsClaimedBy (own_in p cert n) owners (length (pieces p)) = subst (λ (k : ℕ). IsClaimedBy (own_in p cert n) owners k) many held in
     let apart : ¬ Overlaps p cert n = none_overlaps p cert c.requires.layout.shared n owners claimed in
     let d = c.index.result.now in
@@ -70,8 +70,7 @@ returns-then-has_gap c =
     let end = row.to in
     let low = gap.1 in
     let high = gap.2 in
-    let free = subst (λ (os : List (Option ℕ)). slice_get os gap.0 ≡ Some None) c.deref-2.ensures.value gap.3 in
-    lowest_ten p cert n apart (inr (gap_found p cert (ends_of p cert c.requires.layout.shared) n gap.0 owners claimed free (omega (arith, low, first)) (omega (arith, high, end))))
+    lowest_ten p cert n apart (inr (gap_found p cert (ends_of p cert c.requires.layout.shared) n gap.0 owners claimed gap.3 (omega (arith, low, first)) (omega (arith, high, end))))
 
 pub code_of_parted-requires-clause-parted : goal.code_of_parted-requires-clause-parted
 code_of_parted-requires-clause-parted c =
@@ -81,19 +80,19 @@ code_of_parted-requires-clause-parted c =
     let n = c.args.group in
     let seats = x.seats.items in
     let many : length seats ≡ length (pieces p) = sym (length-map seats piece_of) ∙ ap length c.requires.layout.seats in
-    let owners = c.in-Some.owned.owners.items in
-    let held : IsClaimedBy (own_in p cert n) owners (length seats) = rw c.in-Some.is at c.in_ok-owned.ensures.claimed in
+    let owners = c.owned_in.new.owners in
+    let held : IsClaimedBy (own_in p cert n) owners (length seats) = rw c.in-Some.is at c.in_ok-inside.ensures.claimed in
     let claimed : IsClaimedBy (own_in p cert n) owners (length (pieces p)) = subst (λ (k : ℕ). IsClaimedBy (own_in p cert n) owners k) many held in
     let apart : ¬ Overlaps p cert n = none_overlaps p cert c.requires.layout.shared n owners claimed in
     let d = c.index.result.now in
     let row : HasRow p n d.cells.first c.most_points-some.result = row_of x c.requires.layout n d c.requires.group c.index.ensures c.deref.result.now c.most_points-some.result c.deref.ensures.value c.most_points-some.ensures in
-    let stays : IsTrue c.in-Some.owned.inside → GroupIsInside p cert n = rw c.in-Some.is at c.in_ok-owned.ensures.inside in
-    let inside : ¬ Leaves p cert n = none_leaves p cert n (stays c.if-not-owned.false) in
-    let long : length owners ≡ c.args.count = rw c.in-Some.is at c.in_ok-owned.ensures.cells in
+    let stays : IsTrue c.in-Some.inside → GroupIsInside p cert n = rw c.in-Some.is at c.in_ok-inside.ensures.inside in
+    let inside : ¬ Leaves p cert n = none_leaves p cert n (stays c.if-not-inside.false) in
+    let long : length owners ≡ length c.args.owners.now = c.owned_in.auto.owners in
     let first = row.from in
     let end = row.to in
     let all = c.requires.count in
     let most = cells_within 0 p.groups (n + 1) in
     let whole : ¬ HasGap p cert n = gap_none p cert (ends_of p cert c.requires.layout.shared) n owners claimed (omega (arith, long, all, most))
-    (λ y low high. subst (λ (os : List (Option ℕ)). ¬ (slice_get os y ≡ Some None)) c.deref-2.ensures.value (c.has_gap.ensures.none c.if-has_gap.false y (omega (arith, low, first)) (omega (arith, high, end)))) in
+    (λ y low high. c.has_gap.ensures.none c.if-has_gap.false y (omega (arith, low, first)) (omega (arith, high, end))) in
     record { apart = apart; inside = inside; whole = whole }

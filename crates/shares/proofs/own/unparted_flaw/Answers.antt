@@ -1,0 +1,40 @@
+use Rattle.std.proofs.Common.{◌≡◌, ◌∙◌, ◌+◌, ◌++◌, ◌<◌, ℕ, drop, length, length-append, arith, ap, sym, subst}
+use Rattle.std.proofs.lemmas.List.{length-map, length-take-le}
+use Rattle.soundness.specs.Outline.Refusals.Codes.{least}
+use Rattle.plan.specs.Plan.{Plan}
+use Rattle.plan.specs.View.{plan_of, group_of}
+use Rattle.plan.specs.Certificate.Certificate.{Certificate, certificate_of}
+use Rattle.shares.specs.Owned.{IsFirstFlaw}
+use Rattle.shares.proofs.Firsts.{first_more}
+use Rattle.shares.proofs.own.unparted_flaw.Goals as goal
+
+pub loop-group-preserved : goal.loop-group-preserved
+loop-group-preserved c =
+    let x = c.args.layout.now in
+    let p : Plan = plan_of x.plan.now in
+    let cert : Certificate = certificate_of x.cert.now in
+    let new = c.own_code.new.owners in
+    let items = c.loop-group.owners.items in
+    let long = length-append new (drop (length new) items) in
+    let kept = c.own_code.auto.owners in
+    let value = ap length c.as_mut_slice.ensures.value in
+    let ok = c.loop-group.owners.ok.0 in
+    let was = c.loop-group.invariant.count in
+    let least = length-take-le c.loop-group.owners.len (new ++ drop (length new) items) (omega (arith, long, kept, value, ok)) in
+    record {
+      first = subst (IsFirstFlaw p cert (c.loop-group.group + 1)) (sym c.least-found.ensures)
+          (first_more p cert c.loop-group.group c.loop-group.found c.flaw_at.result c.in_ok-code.code c.loop-group.invariant.first c.in_ok-code.ensures c.flaw_at.ensures);
+      count = omega (arith, least, ok, was);
+    }
+
+pub returns : goal.returns
+returns c =
+    let x = c.args.layout.now in
+    let p : Plan = plan_of x.plan.now in
+    let cert : Certificate = certificate_of x.cert.now in
+    let same = ap length c.as_slice-group-end.ensures.value in
+    let all = c.requires.layout.grounds.count in
+    let long = length-map x.plan.now.groups.items group_of in
+    let end = c.loop-group.auto.group-end in
+    let is : c.loop-group.group ≡ length p.groups = omega (arith, c.loop-group-test.false, end, same, all, long) in
+    subst (λ (n : ℕ). IsFirstFlaw p cert n c.loop-group.found) is c.loop-group.invariant.first
