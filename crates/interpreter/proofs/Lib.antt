@@ -39,3 +39,4 @@ pub mod Points
 pub mod Updating
 pub mod PlaceNumbers
 pub mod HeldTurns
+pub mod Residues

@@ -135,7 +135,7 @@ pub(crate) struct Part {
 /// What the loop's symbol is in the turn that so many of these come before.
 fn turn_in(part: Part, index: usize) -> Binding
     requires inside { index < part.count }
-    requires few { part.count ≤ 128 }
+    requires few { part.count ≤ 256 }
     requires high { (part.low +ℤ pos part.count) ≤ℤ pos (2 ^ 63) }
     ensures { result ≡ record { symbol = part.turns.symbol; value = part.low +ℤ pos index; first = int_le (part.low +ℤ pos index) part.turns.low } }
 {
@@ -144,7 +144,7 @@ fn turn_in(part: Part, index: usize) -> Binding
 
 /// The number behind these turns, if there is one of 64 bits.
 fn behind(part: Part) -> Option<i64>
-    requires { part.count ≤ 128 }
+    requires { part.count ≤ 256 }
     ensures { MatchOption result (pos (2 ^ 63) ≤ℤ (part.low +ℤ pos part.count)) (λ z. z ≡ part.low +ℤ pos part.count) }
 {
     part.low.checked_add(part.count as i64)
@@ -228,7 +228,7 @@ fn write_points<'a>(
     requires ready { IsReady piece.now }
     requires forms { are_forms line.now.coordinates.now ≡ true }
     requires narrow { (k : ℕ) → k < part.count → All (CoordinateIsNarrow (bind (symbols_of symbols.old) part.turns.symbol (part.low +ℤ pos k) (int_le (part.low +ℤ pos k) part.turns.low))) line.now.coordinates.now }
-    requires few { part.count ≤ 128 }
+    requires few { part.count ≤ 256 }
     requires high { (part.low +ℤ pos part.count) ≤ℤ pos (2 ^ 63) }
     requires count { part.count ≤ length state.old.registers.items }
     requires symbols { length symbols.old.bound < symbols.old.room }
@@ -366,7 +366,7 @@ fn write_part<'a>(
     requires ready { IsReady piece.now }
     requires forms { are_forms line.now.coordinates.now ≡ true }
     requires narrow { (k : ℕ) → k < part.count → All (CoordinateIsNarrow (bind (symbols_of symbols.old) part.turns.symbol (part.low +ℤ pos k) (int_le (part.low +ℤ pos k) part.turns.low))) line.now.coordinates.now }
-    requires few { part.count ≤ 128 }
+    requires few { part.count ≤ 256 }
     requires high { (part.low +ℤ pos part.count) ≤ℤ pos (2 ^ 63) }
     requires count { part.count ≤ length state.old.registers.items }
     requires symbols { length symbols.old.bound < symbols.old.room }
@@ -398,7 +398,7 @@ fn store_one_by_one<'a>(
 ) -> Result<(), Stop>
     requires ready { IsReady piece.now }
     requires narrow { (k : ℕ) → k < part.count → All (CoordinateIsNarrow (bind (symbols_of symbols.old) part.turns.symbol (part.low +ℤ pos k) (int_le (part.low +ℤ pos k) part.turns.low))) line.now.coordinates.now }
-    requires few { part.count ≤ 128 }
+    requires few { part.count ≤ 256 }
     requires high { (part.low +ℤ pos part.count) ≤ℤ pos (2 ^ 63) }
     requires symbols { length symbols.old.bound < symbols.old.room }
     requires numbers { length line.now.coordinates.now ≤ state.old.numbers.room }
@@ -434,7 +434,7 @@ fn store_known_part<'a>(
 ) -> Result<(), Stop>
     requires ready { IsReady piece.now }
     requires narrow { (k : ℕ) → k < part.count → All (CoordinateIsNarrow (bind (symbols_of symbols.old) part.turns.symbol (part.low +ℤ pos k) (int_le (part.low +ℤ pos k) part.turns.low))) line.now.coordinates.now }
-    requires few { part.count ≤ 128 }
+    requires few { part.count ≤ 256 }
     requires high { (part.low +ℤ pos part.count) ≤ℤ pos (2 ^ 63) }
     requires symbols { length symbols.old.bound < symbols.old.room }
     requires numbers { length line.now.coordinates.now ≤ state.old.numbers.room }
@@ -465,7 +465,7 @@ fn store_update<'a>(
 ) -> Result<(), Stop>
     requires ready { IsReady piece.now }
     requires narrow { (k : ℕ) → k < part.count → All (CoordinateIsNarrow (bind (symbols_of symbols.old) part.turns.symbol (part.low +ℤ pos k) (int_le (part.low +ℤ pos k) part.turns.low))) line.now.coordinates.now }
-    requires few { part.count ≤ 128 }
+    requires few { part.count ≤ 256 }
     requires high { (part.low +ℤ pos part.count) ≤ℤ pos (2 ^ 63) }
     requires symbols { length symbols.old.bound < symbols.old.room }
     requires numbers { length line.now.coordinates.now ≤ state.old.numbers.room }
@@ -485,9 +485,9 @@ fn store_update<'a>(
         size: size_in(piece.sizes, line.buffer),
         count: part.count,
     };
-    let mut point = [0; 128];
-    let mut left = [0; 128];
-    let mut right = [0; 128];
+    let mut point = [0; 256];
+    let mut left = [0; 256];
+    let mut right = [0; 256];
     match place_update(
         &state.memory,
         target,
@@ -520,7 +520,7 @@ fn store_part<'a>(
 ) -> Result<(), Stop>
     requires ready { IsReady piece.now }
     requires narrow { (k : ℕ) → k < part.count → All (CoordinateIsNarrow (bind (symbols_of symbols.old) part.turns.symbol (part.low +ℤ pos k) (int_le (part.low +ℤ pos k) part.turns.low))) line.now.coordinates.now }
-    requires few { part.count ≤ 128 }
+    requires few { part.count ≤ 256 }
     requires high { (part.low +ℤ pos part.count) ≤ℤ pos (2 ^ 63) }
     requires symbols { length symbols.old.bound < symbols.old.room }
     requires numbers { length line.now.coordinates.now ≤ state.old.numbers.room }
@@ -542,12 +542,12 @@ fn first_part(turns: Turns, low: i64) -> Part
     ensures turns { result.turns ≡ turns }
     ensures low { result.low ≡ low }
     ensures some { 0 < result.count }
-    ensures few { result.count ≤ 128 }
+    ensures few { result.count ≤ 256 }
     ensures high { (low +ℤ pos result.count) ≤ℤ (turns.high +ℤ pos 1) }
 {
     let count = match turns.high.checked_sub(low) {
-        Some(more) if more < 127 => more as usize + 1,
-        _ => 128,
+        Some(more) if more < 255 => more as usize + 1,
+        _ => 256,
     };
     Part { turns, low, count }
 }

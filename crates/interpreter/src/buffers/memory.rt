@@ -21,7 +21,9 @@ use crate::buffers::buffer::Buffer;
 use crate::buffers::limit::Limit;
 use crate::buffers::room::Rooms;
 use crate::buffers::spot::Spot;
-use crate::evaluation::Number;
+use crate::evaluation::{
+    Number, Signed8, Signed16, Signed32, Unsigned8, Unsigned16, Unsigned32, Width,
+};
 use crate::placing::{Places, Target};
 use crate::registers::value_at;
 use crate::run_reading::registers_behind;
@@ -275,14 +277,30 @@ impl Buffers {
     }
 
     /// Sets the places from a spot on, one after another, each to a number of the register.
+    fn put_each<W: Width>(&mut self, spot: Spot, numbers: &[Number])
+        requires { (k : ℕ) → k < length numbers.now → HasPlace self.old spot.buffer (spot.place + k) }
+        ensures set { (b : ℕ) (points : ℕ → List ℤ) → ((k : ℕ) → k < length numbers.now → IsSpot self.old b (points k) spot k) → set_all (memory_of self.old) b points (λ k. typed W.ty (number_at numbers.now k)) (length numbers.now) ≡ Some (memory_of self.new) }
+        ensures limits { limits_of self.new ≡ limits_of self.old }
+    {
+        for turn in 0..numbers.len() {
+            let value = value_at(W::kind(), numbers, turn);
+            self.put(spot, turn, value);
+        }
+    }
+
+    /// Sets the places from a spot on, one after another, each to a number of the register, by a loop of the type's own.
     pub(crate) fn put_row(&mut self, spot: Spot, ty: Ty, numbers: &[Number])
         requires { (k : ℕ) → k < length numbers.now → HasPlace self.old spot.buffer (spot.place + k) }
         ensures set { (b : ℕ) (points : ℕ → List ℤ) → ((k : ℕ) → k < length numbers.now → IsSpot self.old b (points k) spot k) → set_all (memory_of self.old) b points (λ k. typed ty (number_at numbers.now k)) (length numbers.now) ≡ Some (memory_of self.new) }
         ensures limits { limits_of self.new ≡ limits_of self.old }
     {
-        for turn in 0..numbers.len() {
-            let value = value_at(ty, numbers, turn);
-            self.put(spot, turn, value);
+        match ty {
+            Ty::U8 => self.put_each::<Unsigned8>(spot, numbers),
+            Ty::U16 => self.put_each::<Unsigned16>(spot, numbers),
+            Ty::U32 => self.put_each::<Unsigned32>(spot, numbers),
+            Ty::I8 => self.put_each::<Signed8>(spot, numbers),
+            Ty::I16 => self.put_each::<Signed16>(spot, numbers),
+            Ty::I32 => self.put_each::<Signed32>(spot, numbers),
         }
     }
 }

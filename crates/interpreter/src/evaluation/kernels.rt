@@ -7,9 +7,14 @@ ghost use Rattle.numeric.specs.Wrap.{wrap};
 ghost use Rattle.interpreter.specs.Evaluation.Lanes.{is_set, mask_at, number_at, IsShortRamp};
 
 use crate::evaluation::lanes::Number;
-use crate::evaluation::operators::{low_bits, negated};
-use numeric::{Comparison, Op, Ty, compare, wrap};
-use tree::Value;
+use crate::evaluation::operations::{
+    Comparing, Difference, IsAtLeast, IsAtMost, IsDifferent, IsEqual, IsGreater, IsLess, Larger,
+    Operator, Product, Quotient, Remainder, Smaller, Sum,
+};
+use crate::evaluation::widths::{
+    Signed8, Signed16, Signed32, Unsigned8, Unsigned16, Unsigned32, Width,
+};
+use numeric::{Comparison, Op, Ty};
 
 /// The number so many turns after the first.
 #[inline(always)]
@@ -24,35 +29,33 @@ fn risen(first: Number, turn: usize) -> Number
 
 /// The operator on two numbers, wrapped to the type.
 #[inline(always)]
-fn applied_number(op: Op, ty: Ty, left: Number, right: Number) -> Number
-    ensures { result.value ≡ apply op ty left.value right.value }
+pub(crate) fn applied_number<O: Operator, W: Width>(left: Number, right: Number) -> Number
+    ensures { result.value ≡ apply O.op W.ty left.value right.value }
 {
     // What is lost of the exact result is a multiple of 2 to the 64, and so of every modulus.
     Number {
-        value: wrap(ty, low_bits(op, left.value, right.value)),
+        value: W::wrapped(O::low_bits(left.value, right.value)),
     }
 }
 
 /// The wrapped negation of a number.
-fn negated_number(ty: Ty, number: Number) -> Number
-    ensures { result.value ≡ wrap ty (neg_ℤ number.value) }
+#[inline(always)]
+fn negated_number<W: Width>(number: Number) -> Number
+    ensures { result.value ≡ wrap W.ty (neg_ℤ number.value) }
 {
-    let value = Value {
-        ty,
-        number: number.value,
-    };
+    // As above, what is lost where the negation does not fit is a multiple of every modulus.
     Number {
-        value: negated(value).number,
+        value: W::wrapped(number.value.wrapping_neg()),
     }
 }
 
 /// A number wrapped to the type.
 #[inline(always)]
-fn wrapped_number(ty: Ty, number: Number) -> Number
-    ensures { result.value ≡ wrap ty number.value }
+fn wrapped_number<W: Width>(number: Number) -> Number
+    ensures { result.value ≡ wrap W.ty number.value }
 {
     Number {
-        value: wrap(ty, number.value),
+        value: W::wrapped(number.value),
     }
 }
 
@@ -86,28 +89,27 @@ pub(crate) fn fill_rising(first: Number, out: &mut [Number])
 
 /// The operator on each number and the one of another register.
 #[inline(always)]
-fn apply_each(op: Op, ty: Ty, out: &mut [Number], right: &[Number])
+fn apply_each<O: Operator, W: Width>(out: &mut [Number], right: &[Number])
     requires { length right.now ≡ length out.old }
-    ensures { (k : ℕ) → k < length out.new → number_at out.new k ≡ apply op ty (number_at out.old k) (number_at right.now k) }
+    ensures { (k : ℕ) → k < length out.new → number_at out.new k ≡ apply O.op W.ty (number_at out.old k) (number_at right.now k) }
 {
     for turn in 0..out.len() {
-        out[turn] = applied_number(op, ty, out[turn], right[turn]);
+        out[turn] = applied_number::<O, W>(out[turn], right[turn]);
     }
 }
 
 /// The operator on each number and the one of another register, by a loop of the type's own.
-#[inline(always)]
-fn apply_in(op: Op, ty: Ty, out: &mut [Number], right: &[Number])
+fn apply_in<O: Operator>(ty: Ty, out: &mut [Number], right: &[Number])
     requires { length right.now ≡ length out.old }
-    ensures { (k : ℕ) → k < length out.new → number_at out.new k ≡ apply op ty (number_at out.old k) (number_at right.now k) }
+    ensures { (k : ℕ) → k < length out.new → number_at out.new k ≡ apply O.op ty (number_at out.old k) (number_at right.now k) }
 {
     match ty {
-        Ty::U8 => apply_each(op, Ty::U8, out, right),
-        Ty::U16 => apply_each(op, Ty::U16, out, right),
-        Ty::U32 => apply_each(op, Ty::U32, out, right),
-        Ty::I8 => apply_each(op, Ty::I8, out, right),
-        Ty::I16 => apply_each(op, Ty::I16, out, right),
-        Ty::I32 => apply_each(op, Ty::I32, out, right),
+        Ty::U8 => apply_each::<O, Unsigned8>(out, right),
+        Ty::U16 => apply_each::<O, Unsigned16>(out, right),
+        Ty::U32 => apply_each::<O, Unsigned32>(out, right),
+        Ty::I8 => apply_each::<O, Signed8>(out, right),
+        Ty::I16 => apply_each::<O, Signed16>(out, right),
+        Ty::I32 => apply_each::<O, Signed32>(out, right),
     }
 }
 
@@ -117,38 +119,37 @@ pub(crate) fn apply_all(op: Op, ty: Ty, out: &mut [Number], right: &[Number])
     ensures { (k : ℕ) → k < length out.new → number_at out.new k ≡ apply op ty (number_at out.old k) (number_at right.now k) }
 {
     match op {
-        Op::Add => apply_in(Op::Add, ty, out, right),
-        Op::Sub => apply_in(Op::Sub, ty, out, right),
-        Op::Mul => apply_in(Op::Mul, ty, out, right),
-        Op::Div => apply_in(Op::Div, ty, out, right),
-        Op::Rem => apply_in(Op::Rem, ty, out, right),
-        Op::Min => apply_in(Op::Min, ty, out, right),
-        Op::Max => apply_in(Op::Max, ty, out, right),
+        Op::Add => apply_in::<Sum>(ty, out, right),
+        Op::Sub => apply_in::<Difference>(ty, out, right),
+        Op::Mul => apply_in::<Product>(ty, out, right),
+        Op::Div => apply_in::<Quotient>(ty, out, right),
+        Op::Rem => apply_in::<Remainder>(ty, out, right),
+        Op::Min => apply_in::<Smaller>(ty, out, right),
+        Op::Max => apply_in::<Larger>(ty, out, right),
     }
 }
 
 /// The operator on each number and one number.
 #[inline(always)]
-fn apply_each_by(op: Op, ty: Ty, out: &mut [Number], right: Number)
-    ensures { (k : ℕ) → k < length out.new → number_at out.new k ≡ apply op ty (number_at out.old k) right.value }
+fn apply_each_by<O: Operator, W: Width>(out: &mut [Number], right: Number)
+    ensures { (k : ℕ) → k < length out.new → number_at out.new k ≡ apply O.op W.ty (number_at out.old k) right.value }
 {
     for turn in 0..out.len() {
-        out[turn] = applied_number(op, ty, out[turn], right);
+        out[turn] = applied_number::<O, W>(out[turn], right);
     }
 }
 
 /// The operator on each number and one number, by a loop of the type's own.
-#[inline(always)]
-fn apply_by_in(op: Op, ty: Ty, out: &mut [Number], right: Number)
-    ensures { (k : ℕ) → k < length out.new → number_at out.new k ≡ apply op ty (number_at out.old k) right.value }
+fn apply_by_in<O: Operator>(ty: Ty, out: &mut [Number], right: Number)
+    ensures { (k : ℕ) → k < length out.new → number_at out.new k ≡ apply O.op ty (number_at out.old k) right.value }
 {
     match ty {
-        Ty::U8 => apply_each_by(op, Ty::U8, out, right),
-        Ty::U16 => apply_each_by(op, Ty::U16, out, right),
-        Ty::U32 => apply_each_by(op, Ty::U32, out, right),
-        Ty::I8 => apply_each_by(op, Ty::I8, out, right),
-        Ty::I16 => apply_each_by(op, Ty::I16, out, right),
-        Ty::I32 => apply_each_by(op, Ty::I32, out, right),
+        Ty::U8 => apply_each_by::<O, Unsigned8>(out, right),
+        Ty::U16 => apply_each_by::<O, Unsigned16>(out, right),
+        Ty::U32 => apply_each_by::<O, Unsigned32>(out, right),
+        Ty::I8 => apply_each_by::<O, Signed8>(out, right),
+        Ty::I16 => apply_each_by::<O, Signed16>(out, right),
+        Ty::I32 => apply_each_by::<O, Signed32>(out, right),
     }
 }
 
@@ -157,32 +158,47 @@ pub(crate) fn apply_by(op: Op, ty: Ty, out: &mut [Number], right: Number)
     ensures { (k : ℕ) → k < length out.new → number_at out.new k ≡ apply op ty (number_at out.old k) right.value }
 {
     match op {
-        Op::Add => apply_by_in(Op::Add, ty, out, right),
-        Op::Sub => apply_by_in(Op::Sub, ty, out, right),
-        Op::Mul => apply_by_in(Op::Mul, ty, out, right),
-        Op::Div => apply_by_in(Op::Div, ty, out, right),
-        Op::Rem => apply_by_in(Op::Rem, ty, out, right),
-        Op::Min => apply_by_in(Op::Min, ty, out, right),
-        Op::Max => apply_by_in(Op::Max, ty, out, right),
+        Op::Add => apply_by_in::<Sum>(ty, out, right),
+        Op::Sub => apply_by_in::<Difference>(ty, out, right),
+        Op::Mul => apply_by_in::<Product>(ty, out, right),
+        Op::Div => apply_by_in::<Quotient>(ty, out, right),
+        Op::Rem => apply_by_in::<Remainder>(ty, out, right),
+        Op::Min => apply_by_in::<Smaller>(ty, out, right),
+        Op::Max => apply_by_in::<Larger>(ty, out, right),
     }
 }
 
 /// The wrapped negation of each number.
-pub(crate) fn negate_each(ty: Ty, out: &mut [Number])
-    ensures { (k : ℕ) → k < length out.new → number_at out.new k ≡ wrap ty (neg_ℤ (number_at out.old k)) }
+#[inline(always)]
+fn negate_each<W: Width>(out: &mut [Number])
+    ensures { (k : ℕ) → k < length out.new → number_at out.new k ≡ wrap W.ty (neg_ℤ (number_at out.old k)) }
 {
     for turn in 0..out.len() {
-        out[turn] = negated_number(ty, out[turn]);
+        out[turn] = negated_number::<W>(out[turn]);
+    }
+}
+
+/// The wrapped negation of each number, by a loop of the type's own.
+pub(crate) fn negate_all(ty: Ty, out: &mut [Number])
+    ensures { (k : ℕ) → k < length out.new → number_at out.new k ≡ wrap ty (neg_ℤ (number_at out.old k)) }
+{
+    match ty {
+        Ty::U8 => negate_each::<Unsigned8>(out),
+        Ty::U16 => negate_each::<Unsigned16>(out),
+        Ty::U32 => negate_each::<Unsigned32>(out),
+        Ty::I8 => negate_each::<Signed8>(out),
+        Ty::I16 => negate_each::<Signed16>(out),
+        Ty::I32 => negate_each::<Signed32>(out),
     }
 }
 
 /// Each number wrapped to the type.
 #[inline(always)]
-fn wrap_each(ty: Ty, out: &mut [Number])
-    ensures { (k : ℕ) → k < length out.new → number_at out.new k ≡ wrap ty (number_at out.old k) }
+fn wrap_each<W: Width>(out: &mut [Number])
+    ensures { (k : ℕ) → k < length out.new → number_at out.new k ≡ wrap W.ty (number_at out.old k) }
 {
     for turn in 0..out.len() {
-        out[turn] = wrapped_number(ty, out[turn]);
+        out[turn] = wrapped_number::<W>(out[turn]);
     }
 }
 
@@ -191,12 +207,12 @@ pub(crate) fn wrap_all(ty: Ty, out: &mut [Number])
     ensures { (k : ℕ) → k < length out.new → number_at out.new k ≡ wrap ty (number_at out.old k) }
 {
     match ty {
-        Ty::U8 => wrap_each(Ty::U8, out),
-        Ty::U16 => wrap_each(Ty::U16, out),
-        Ty::U32 => wrap_each(Ty::U32, out),
-        Ty::I8 => wrap_each(Ty::I8, out),
-        Ty::I16 => wrap_each(Ty::I16, out),
-        Ty::I32 => wrap_each(Ty::I32, out),
+        Ty::U8 => wrap_each::<Unsigned8>(out),
+        Ty::U16 => wrap_each::<Unsigned16>(out),
+        Ty::U32 => wrap_each::<Unsigned32>(out),
+        Ty::I8 => wrap_each::<Signed8>(out),
+        Ty::I16 => wrap_each::<Signed16>(out),
+        Ty::I32 => wrap_each::<Signed32>(out),
     }
 }
 
@@ -262,22 +278,22 @@ pub(crate) fn fill_steps(first: i64, step: i64, out: &mut [Number]) -> Option<()
 
 /// A number of a mask that says whether the comparison holds.
 #[inline(always)]
-fn compared_number(by: Comparison, left: Number, right: Number) -> Number
-    ensures { is_set result.value ≡ compare by left.value right.value }
+fn compared_number<C: Comparing>(left: Number, right: Number) -> Number
+    ensures { is_set result.value ≡ compare C.by left.value right.value }
 {
     Number {
-        value: i64::from(compare(by, left.value, right.value)),
+        value: i64::from(C::holds(left.value, right.value)),
     }
 }
 
 /// A mask that says where the comparison with the numbers of another register holds.
 #[inline(always)]
-fn compare_each(by: Comparison, out: &mut [Number], right: &[Number])
+fn compare_each<C: Comparing>(out: &mut [Number], right: &[Number])
     requires { length right.now ≡ length out.old }
-    ensures { (k : ℕ) → k < length out.new → mask_at out.new k ≡ compare by (number_at out.old k) (number_at right.now k) }
+    ensures { (k : ℕ) → k < length out.new → mask_at out.new k ≡ compare C.by (number_at out.old k) (number_at right.now k) }
 {
     for turn in 0..out.len() {
-        out[turn] = compared_number(by, out[turn], right[turn]);
+        out[turn] = compared_number::<C>(out[turn], right[turn]);
     }
 }
 
@@ -287,22 +303,22 @@ pub(crate) fn compare_all(by: Comparison, out: &mut [Number], right: &[Number])
     ensures { (k : ℕ) → k < length out.new → mask_at out.new k ≡ compare by (number_at out.old k) (number_at right.now k) }
 {
     match by {
-        Comparison::Less => compare_each(Comparison::Less, out, right),
-        Comparison::AtMost => compare_each(Comparison::AtMost, out, right),
-        Comparison::Greater => compare_each(Comparison::Greater, out, right),
-        Comparison::AtLeast => compare_each(Comparison::AtLeast, out, right),
-        Comparison::Equal => compare_each(Comparison::Equal, out, right),
-        Comparison::Different => compare_each(Comparison::Different, out, right),
+        Comparison::Less => compare_each::<IsLess>(out, right),
+        Comparison::AtMost => compare_each::<IsAtMost>(out, right),
+        Comparison::Greater => compare_each::<IsGreater>(out, right),
+        Comparison::AtLeast => compare_each::<IsAtLeast>(out, right),
+        Comparison::Equal => compare_each::<IsEqual>(out, right),
+        Comparison::Different => compare_each::<IsDifferent>(out, right),
     }
 }
 
 /// A mask that says where the comparison with one number holds.
 #[inline(always)]
-fn compare_each_with(by: Comparison, out: &mut [Number], right: Number)
-    ensures { (k : ℕ) → k < length out.new → mask_at out.new k ≡ compare by (number_at out.old k) right.value }
+fn compare_each_with<C: Comparing>(out: &mut [Number], right: Number)
+    ensures { (k : ℕ) → k < length out.new → mask_at out.new k ≡ compare C.by (number_at out.old k) right.value }
 {
     for turn in 0..out.len() {
-        out[turn] = compared_number(by, out[turn], right);
+        out[turn] = compared_number::<C>(out[turn], right);
     }
 }
 
@@ -311,12 +327,12 @@ pub(crate) fn compare_with(by: Comparison, out: &mut [Number], right: Number)
     ensures { (k : ℕ) → k < length out.new → mask_at out.new k ≡ compare by (number_at out.old k) right.value }
 {
     match by {
-        Comparison::Less => compare_each_with(Comparison::Less, out, right),
-        Comparison::AtMost => compare_each_with(Comparison::AtMost, out, right),
-        Comparison::Greater => compare_each_with(Comparison::Greater, out, right),
-        Comparison::AtLeast => compare_each_with(Comparison::AtLeast, out, right),
-        Comparison::Equal => compare_each_with(Comparison::Equal, out, right),
-        Comparison::Different => compare_each_with(Comparison::Different, out, right),
+        Comparison::Less => compare_each_with::<IsLess>(out, right),
+        Comparison::AtMost => compare_each_with::<IsAtMost>(out, right),
+        Comparison::Greater => compare_each_with::<IsGreater>(out, right),
+        Comparison::AtLeast => compare_each_with::<IsAtLeast>(out, right),
+        Comparison::Equal => compare_each_with::<IsEqual>(out, right),
+        Comparison::Different => compare_each_with::<IsDifferent>(out, right),
     }
 }
 

@@ -68,9 +68,9 @@ pub(crate) fn low_bits(op: Op, left: i64, right: i64) -> i64
     }
 }
 
-// The low bits of the quotient whose remainder is not negative, and 0 for a divisor of 0.
+/// The low bits of the quotient whose remainder is not negative, and 0 for a divisor of 0.
 #[inline(never)]
-fn quotient(left: i64, right: i64) -> i64
+pub(crate) fn quotient(left: i64, right: i64) -> i64
     ensures { result ≡ int_wrap w64 (quotient left right) }
 {
     match right {
@@ -81,9 +81,9 @@ fn quotient(left: i64, right: i64) -> i64
     }
 }
 
-// The remainder of that division, and 0 for a divisor of 0.
+/// The remainder of that division, and 0 for a divisor of 0.
 #[inline(never)]
-fn remainder(left: i64, right: i64) -> i64
+pub(crate) fn remainder(left: i64, right: i64) -> i64
     ensures { result ≡ remainder left right }
 {
     match right {

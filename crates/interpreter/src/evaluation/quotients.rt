@@ -5,10 +5,13 @@ ghost use Rattle.numeric.specs.Apply.{apply, quotient, remainder};
 ghost use Rattle.numeric.specs.declared.op.Op.TheVariants.{Div, Rem};
 ghost use Rattle.interpreter.specs.Evaluation.Lanes.{number_at};
 
+use crate::evaluation::kernels::applied_number;
 use crate::evaluation::lanes::Number;
-use crate::evaluation::operators::{applied, wrapped};
-use numeric::{Op, Ty};
-use tree::Value;
+use crate::evaluation::operations::{Operator, Quotient, Remainder};
+use crate::evaluation::widths::{
+    Signed8, Signed16, Signed32, Unsigned8, Unsigned16, Unsigned32, Width,
+};
+use numeric::Ty;
 
 /// A quotient and its remainder.
 #[derive(Clone, Copy, Drop)]
@@ -94,52 +97,49 @@ fn remainder_by(number: i64, divisor: u32, reciprocal: u64) -> Option<i64>
 
 /// The operator on a number and another, by a division.
 #[inline(never)]
-fn applied_slowly(op: Op, ty: Ty, number: Number, divisor: u32) -> i64
-    ensures { result ≡ apply op ty number.value (pos divisor) }
+fn applied_slowly<O: Operator, W: Width>(number: Number, divisor: u32) -> Number
+    ensures { result.value ≡ apply O.op W.ty number.value (pos divisor) }
 {
-    let left = Value {
-        ty,
-        number: number.value,
+    let right = Number {
+        value: i64::from(divisor),
     };
-    let right = Value {
-        ty,
-        number: i64::from(divisor),
-    };
-    applied(op, left, right).number
+    applied_number::<O, W>(number, right)
 }
 
 /// The quotient by a number, wrapped to the type.
 #[inline(always)]
-fn quotient_number(ty: Ty, number: Number, divisor: u32, reciprocal: u64) -> Number
-    ensures { result.value ≡ apply Div ty number.value (pos divisor) }
+fn quotient_number<W: Width>(number: Number, divisor: u32, reciprocal: u64) -> Number
+    ensures { result.value ≡ apply Div W.ty number.value (pos divisor) }
 {
-    let value = match quotient_by(number.value, divisor, reciprocal) {
-        Some(quotient) => wrapped(ty, quotient).number,
-        None => applied_slowly(Op::Div, ty, number, divisor),
-    };
-    Number { value }
+    match quotient_by(number.value, divisor, reciprocal) {
+        Some(quotient) => Number {
+            value: W::wrapped(quotient),
+        },
+        None => applied_slowly::<Quotient, W>(number, divisor),
+    }
 }
 
 /// The remainder by a number, wrapped to the type.
 #[inline(always)]
-fn remainder_number(ty: Ty, number: Number, divisor: u32, reciprocal: u64) -> Number
-    ensures { result.value ≡ apply Rem ty number.value (pos divisor) }
+fn remainder_number<W: Width>(number: Number, divisor: u32, reciprocal: u64) -> Number
+    ensures { result.value ≡ apply Rem W.ty number.value (pos divisor) }
 {
-    let value = match remainder_by(number.value, divisor, reciprocal) {
-        Some(remainder) => wrapped(ty, remainder).number,
-        None => applied_slowly(Op::Rem, ty, number, divisor),
-    };
-    Number { value }
+    match remainder_by(number.value, divisor, reciprocal) {
+        Some(remainder) => Number {
+            value: W::wrapped(remainder),
+        },
+        None => applied_slowly::<Remainder, W>(number, divisor),
+    }
 }
 
 /// Each number divided by one, wrapped to the type.
 #[inline(always)]
-fn divide_each(ty: Ty, out: &mut [Number], divisor: u32)
-    ensures { (k : ℕ) → k < length out.new → number_at out.new k ≡ apply Div ty (number_at out.old k) (pos divisor) }
+fn divide_each<W: Width>(out: &mut [Number], divisor: u32)
+    ensures { (k : ℕ) → k < length out.new → number_at out.new k ≡ apply Div W.ty (number_at out.old k) (pos divisor) }
 {
     let reciprocal = reciprocal(divisor);
     for turn in 0..out.len() {
-        out[turn] = quotient_number(ty, out[turn], divisor, reciprocal);
+        out[turn] = quotient_number::<W>(out[turn], divisor, reciprocal);
     }
 }
 
@@ -148,23 +148,23 @@ pub(crate) fn divide_all(ty: Ty, out: &mut [Number], divisor: u32)
     ensures { (k : ℕ) → k < length out.new → number_at out.new k ≡ apply Div ty (number_at out.old k) (pos divisor) }
 {
     match ty {
-        Ty::U8 => divide_each(Ty::U8, out, divisor),
-        Ty::U16 => divide_each(Ty::U16, out, divisor),
-        Ty::U32 => divide_each(Ty::U32, out, divisor),
-        Ty::I8 => divide_each(Ty::I8, out, divisor),
-        Ty::I16 => divide_each(Ty::I16, out, divisor),
-        Ty::I32 => divide_each(Ty::I32, out, divisor),
+        Ty::U8 => divide_each::<Unsigned8>(out, divisor),
+        Ty::U16 => divide_each::<Unsigned16>(out, divisor),
+        Ty::U32 => divide_each::<Unsigned32>(out, divisor),
+        Ty::I8 => divide_each::<Signed8>(out, divisor),
+        Ty::I16 => divide_each::<Signed16>(out, divisor),
+        Ty::I32 => divide_each::<Signed32>(out, divisor),
     }
 }
 
 /// The remainder of each number by one, wrapped to the type.
 #[inline(always)]
-fn reduce_each(ty: Ty, out: &mut [Number], divisor: u32)
-    ensures { (k : ℕ) → k < length out.new → number_at out.new k ≡ apply Rem ty (number_at out.old k) (pos divisor) }
+fn reduce_each<W: Width>(out: &mut [Number], divisor: u32)
+    ensures { (k : ℕ) → k < length out.new → number_at out.new k ≡ apply Rem W.ty (number_at out.old k) (pos divisor) }
 {
     let reciprocal = reciprocal(divisor);
     for turn in 0..out.len() {
-        out[turn] = remainder_number(ty, out[turn], divisor, reciprocal);
+        out[turn] = remainder_number::<W>(out[turn], divisor, reciprocal);
     }
 }
 
@@ -173,11 +173,11 @@ pub(crate) fn reduce_all(ty: Ty, out: &mut [Number], divisor: u32)
     ensures { (k : ℕ) → k < length out.new → number_at out.new k ≡ apply Rem ty (number_at out.old k) (pos divisor) }
 {
     match ty {
-        Ty::U8 => reduce_each(Ty::U8, out, divisor),
-        Ty::U16 => reduce_each(Ty::U16, out, divisor),
-        Ty::U32 => reduce_each(Ty::U32, out, divisor),
-        Ty::I8 => reduce_each(Ty::I8, out, divisor),
-        Ty::I16 => reduce_each(Ty::I16, out, divisor),
-        Ty::I32 => reduce_each(Ty::I32, out, divisor),
+        Ty::U8 => reduce_each::<Unsigned8>(out, divisor),
+        Ty::U16 => reduce_each::<Unsigned16>(out, divisor),
+        Ty::U32 => reduce_each::<Unsigned32>(out, divisor),
+        Ty::I8 => reduce_each::<Signed8>(out, divisor),
+        Ty::I16 => reduce_each::<Signed16>(out, divisor),
+        Ty::I32 => reduce_each::<Signed32>(out, divisor),
     }
 }

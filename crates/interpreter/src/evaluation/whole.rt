@@ -12,7 +12,7 @@ ghost use Rattle.interpreter.specs.Evaluation.Repeats.{repeated_value};
 
 use crate::evaluation::kernels::{
     apply_all, apply_by, choose_each, clamp_between, clamp_each, compare_all, compare_with,
-    copy_each, fill, fill_rising, negate_each, wrap_all,
+    copy_each, fill, fill_rising, negate_all, wrap_all,
 };
 use crate::evaluation::lanes::{Lanes, Number};
 use crate::evaluation::operators::{applied, clamped, negated, wrapped};
@@ -236,7 +236,7 @@ pub(crate) fn negate_lanes(lanes: Lanes, out: &mut [Number]) -> Lanes
         Lanes::Broadcast(ty, number) => broadcast(negated(value_of(ty, number))),
         _ => {
             spread(lanes, out);
-            negate_each(type_of(lanes), out);
+            negate_all(type_of(lanes), out);
             Lanes::Vector(type_of(lanes))
         }
     }

@@ -7,12 +7,14 @@ use Rattle.numeric.proofs.Wraps.{wrap-int_wrap}
 use Rattle.interpreter.proofs.evaluation.kernels.applied_number.Goals as goal
 
 pub returns : goal.returns
-returns c =
+returns g c =
+    let op = g.O.Operator.op in
+    let ty = g.W.Width.ty in
     let a = c.args.left.value in
     let b = c.args.right.value in
-    let f : SFits w64 c.wrap.result = search rules in
-    let g : SFits w64 c.low_bits.result = search rules in
+    let e : SFits w64 c.wrapped.result = search rules in
+    let f : SFits w64 c.low_bits.result = search rules in
     let h : SFits w64 a = search rules in
     let k : SFits w64 b = search rules in
-    let low = to_z-of_z w64 c.low_bits.result g ∙ c.low_bits.ensures ∙ (λ i. int_wrap w64 (exact c.args.op (to_z-of_z w64 a h i) (to_z-of_z w64 b k i))) in
-    to_z-of_z w64 c.wrap.result f ∙ c.wrap.ensures.value ∙ ap (wrap c.args.ty) low ∙ wrap-int_wrap c.args.ty (exact c.args.op a b)
+    let low = to_z-of_z w64 c.low_bits.result f ∙ c.low_bits.ensures ∙ (λ i. int_wrap w64 (exact op (to_z-of_z w64 a h i) (to_z-of_z w64 b k i))) in
+    to_z-of_z w64 c.wrapped.result e ∙ c.wrapped.ensures ∙ ap (wrap ty) low ∙ wrap-int_wrap ty (exact op a b)

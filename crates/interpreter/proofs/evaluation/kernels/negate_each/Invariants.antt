@@ -5,4 +5,4 @@ use Rattle.interpreter.proofs.Each.{EachBelow}
 use Rattle.interpreter.proofs.evaluation.kernels.negate_each.Given as goal
 
 abbrev pub invariant-loop-turn : goal.invariant-loop-turn
-invariant-loop-turn l = EachBelow (λ k. wrap l.ty (neg_ℤ (number_at l.initial.out k))) l.turn l.initial.out l.out
+invariant-loop-turn g l = EachBelow (λ k. wrap g.W.Width.ty (neg_ℤ (number_at l.initial.out k))) l.turn l.initial.out l.out

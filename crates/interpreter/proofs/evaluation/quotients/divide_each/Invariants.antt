@@ -6,4 +6,4 @@ use Rattle.interpreter.proofs.Each.{EachBelow}
 use Rattle.interpreter.proofs.evaluation.quotients.divide_each.Given as goal
 
 abbrev pub invariant-loop-turn : goal.invariant-loop-turn
-invariant-loop-turn l = EachBelow (λ k. apply Div l.ty (number_at l.initial.out k) (pos l.divisor)) l.turn l.initial.out l.out
+invariant-loop-turn g l = EachBelow (λ k. apply Div g.W.Width.ty (number_at l.initial.out k) (pos l.divisor)) l.turn l.initial.out l.out

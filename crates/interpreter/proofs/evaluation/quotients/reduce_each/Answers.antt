@@ -6,15 +6,15 @@ use Rattle.interpreter.proofs.Each.{each_begin, each_next}
 use Rattle.interpreter.proofs.evaluation.quotients.reduce_each.Goals as goal
 
 pub loop-turn-init : goal.loop-turn-init
-loop-turn-init c = each_begin (λ k. apply Rem c.args.ty (number_at c.args.out.now k) (pos c.args.divisor)) c.args.out.now
+loop-turn-init g c = each_begin (λ k. apply Rem g.W.Width.ty (number_at c.args.out.now k) (pos c.args.divisor)) c.args.out.now
 
 pub loop-turn-preserved : goal.loop-turn-preserved
-loop-turn-preserved c =
+loop-turn-preserved g c =
     let l = c.loop-turn in
-    let g : ℕ → ℤ = λ k. apply Rem c.args.ty (number_at c.args.out.now k) (pos c.args.divisor) in
+    let f : ℕ → ℤ = λ k. apply Rem g.W.Width.ty (number_at c.args.out.now k) (pos c.args.divisor) in
     let lt : l.turn < length l.out = omega arith in
     let same : number_at l.out l.turn ≡ number_at c.args.out.now l.turn = l.invariant.later l.turn (omega arith) in
-    each_next g l.turn c.args.out.now l.out _ lt l.invariant (c.remainder_number.ensures ∙ ap (λ (z : ℤ). apply Rem c.args.ty z (pos c.args.divisor)) same)
+    each_next f l.turn c.args.out.now l.out _ lt l.invariant (c.remainder_number.ensures ∙ ap (λ (z : ℤ). apply Rem g.W.Width.ty z (pos c.args.divisor)) same)
 
 pub returns : goal.returns
-returns c = λ k lt. c.loop-turn.invariant.done k (omega arith)
+returns g c = λ k lt. c.loop-turn.invariant.done k (omega arith)

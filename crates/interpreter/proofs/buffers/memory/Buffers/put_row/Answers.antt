@@ -1,36 +1,36 @@
-use Rattle.std.proofs.Common.{◌≡◌, ◌+◌, ◌<◌, ℕ, Some, subst, sym, ◌∙◌, length, arith}
-use Rattle.std.proofs.lemmas.Bool.{ltb-false}
+use Rattle.std.proofs.Common.{◌≡◌, ◌<◌, ℕ, List, ℤ, Some, subst, sym, length}
+use Rattle.numeric.specs.declared.ty.Ty.{Ty}
+use Rattle.numeric.specs.declared.ty.Ty.TheVariants.{U8, U16, U32, I8, I16, I32}
 use Rattle.tree.specs.Meaning.{typed}
-use Rattle.plan.specs.Semantics.Memory.{write}
-use Rattle.interpreter.specs.Buffers.Blocks.{memory_of}
-use Rattle.interpreter.specs.Buffers.Spots.{set_all}
+use Rattle.interpreter.specs.Buffers.Blocks.{memory_of, Block}
+use Rattle.interpreter.specs.Buffers.Spots.{set_all, IsSpot}
 use Rattle.interpreter.specs.Evaluation.Lanes.{number_at}
-use Rattle.interpreter.proofs.Spots.{set_more}
+use Rattle.interpreter.specs.declared.buffers.spot.Spot.{Spot}
+use Rattle.interpreter.specs.declared.evaluation.lanes.Number.{Number}
 use Rattle.interpreter.proofs.buffers.memory.Buffers.put_row.Goals as goal
 
-pub put-requires : goal.put-requires
-put-requires c =
-    let l = c.loop-turn in
-    let lt : l.turn < length c.args.numbers.now = omega (arith, ltb-false) in
-    l.invariant.places c.args.spot.buffer (c.args.spot.place + l.turn) (c.requires l.turn lt)
+-- the numbers of a register are set from a spot on, as values of the type
+abbrev RowIsSet : List Block → List Block → Spot → List Number → Ty → Type 0
+RowIsSet old new spot zs t = (b : ℕ) (points : ℕ → List ℤ) → ((k : ℕ) → k < length zs → IsSpot old b (points k) spot k) →
+    set_all (memory_of old) b points (λ k. typed t (number_at zs k)) (length zs) ≡ Some (memory_of new)
 
-pub loop-turn-preserved : goal.loop-turn-preserved
-loop-turn-preserved c =
-    let l = c.loop-turn in
-    let lt : l.turn < length c.args.numbers.now = omega (arith, ltb-false) in
-    record {
-      limits = c.put.ensures.limits ∙ l.invariant.limits;
-      places = λ i n h. c.put.ensures.places i n (l.invariant.places i n h);
-      spots = λ b p s k h. c.put.ensures.spots b p s k (l.invariant.spots b p s k h);
-      set = λ b points h.
-          set_more (memory_of c.args.self.now) (memory_of l.self) (memory_of c.put.new.self) b points (λ k. typed c.args.ty (number_at c.args.numbers.now k)) l.turn (l.invariant.set b points h)
-          ((λ i. write (memory_of l.self) b (points l.turn) (sym c.value_at-value.ensures i)) ∙ c.put.ensures.set b (points l.turn) (l.invariant.spots b (points l.turn) c.args.spot l.turn
-          (h l.turn lt)));
-    }
+row_is_set : (old new : List Block) (spot : Spot) (zs : List Number) (t u : Ty) → t ≡ u → RowIsSet old new spot zs u → RowIsSet old new spot zs t
+row_is_set old new spot zs t u is h = subst (RowIsSet old new spot zs) (sym is) h
 
-pub returns-clause-set : goal.returns-clause-set
-returns-clause-set c = λ b points h.
-    let l = c.loop-turn in
-    let n = length c.args.numbers.now in
-    let all : l.turn ≡ n = omega (arith, ltb-false) in
-    subst (λ (m : ℕ). set_all (memory_of c.args.self.now) b points (λ k. typed c.args.ty (number_at c.args.numbers.now k)) m ≡ Some (memory_of l.self)) all (l.invariant.set b points h)
+pub returns-in-U8-clause-set : goal.returns-in-U8-clause-set
+returns-in-U8-clause-set c = row_is_set c.args.self.now c.put_each.new.self c.args.spot c.args.numbers.now c.args.ty U8 c.in-U8.is c.put_each.ensures.set
+
+pub returns-in-U16-clause-set : goal.returns-in-U16-clause-set
+returns-in-U16-clause-set c = row_is_set c.args.self.now c.put_each-in-U16.new.self c.args.spot c.args.numbers.now c.args.ty U16 c.in-U16.is c.put_each-in-U16.ensures.set
+
+pub returns-in-U32-clause-set : goal.returns-in-U32-clause-set
+returns-in-U32-clause-set c = row_is_set c.args.self.now c.put_each-in-U32.new.self c.args.spot c.args.numbers.now c.args.ty U32 c.in-U32.is c.put_each-in-U32.ensures.set
+
+pub returns-in-I8-clause-set : goal.returns-in-I8-clause-set
+returns-in-I8-clause-set c = row_is_set c.args.self.now c.put_each-in-I8.new.self c.args.spot c.args.numbers.now c.args.ty I8 c.in-I8.is c.put_each-in-I8.ensures.set
+
+pub returns-in-I16-clause-set : goal.returns-in-I16-clause-set
+returns-in-I16-clause-set c = row_is_set c.args.self.now c.put_each-in-I16.new.self c.args.spot c.args.numbers.now c.args.ty I16 c.in-I16.is c.put_each-in-I16.ensures.set
+
+pub returns-in-I32-clause-set : goal.returns-in-I32-clause-set
+returns-in-I32-clause-set c = row_is_set c.args.self.now c.put_each-in-I32.new.self c.args.spot c.args.numbers.now c.args.ty I32 c.in-I32.is c.put_each-in-I32.ensures.set

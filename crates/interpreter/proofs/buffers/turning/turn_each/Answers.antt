@@ -1,9 +1,9 @@
 use Rattle.std.proofs.Common.{◌+◌, None, sym, arith}
 use Rattle.interpreter.proofs.HeldTurns.{turned_next, turned_stops}
-use Rattle.interpreter.proofs.buffers.turning.turn_all.Goals as goal
+use Rattle.interpreter.proofs.buffers.turning.turn_each.Goals as goal
 
 pub returns-in_err-turn_held : goal.returns-in_err-turn_held
-returns-in_err-turn_held c =
+returns-in_err-turn_held g c =
     let l = c.loop-turn in
     let o = c.args.operation in
     let zs = c.args.numbers.now in

@@ -1,0 +1,6 @@
+use Rattle.std.proofs.Common.{w64}
+use Rattle.std.proofs.lemmas.Int.{wrapping_sub_is}
+use Rattle.interpreter.proofs.evaluation.operations.DifferenceOperator.low_bits.Goals as goal
+
+pub returns : goal.returns
+returns c = wrapping_sub_is w64 c.args.left c.args.right c.ranges.left c.ranges.right
