@@ -31,6 +31,7 @@ use Rattle.meaning.specs.Algorithm.{Algorithm}
 use Rattle.lin.specs.declared.scope.Binding.{Binding}
 use Rattle.lower.specs.Around.{grid_scope}
 use Rattle.lower.specs.Taken.{sites_of}
+use Rattle.lower.specs.Needs.{pieces_needed}
 use Rattle.lower.proofs.Cuts.{taken_lies}
 use Rattle.lower.specs.Making.{AddsClaim, IsBegun, FetchMade, MayMake, with_first, FetchesMade, NestsMade, BodyMade, GroupMade}
 use Rattle.lower.specs.Groups.{line_behind, root_of, party_of, AreBodies, BodiesMade}
@@ -60,11 +61,12 @@ claim_added line b d x r old new claim after buffered named defined over added =
 
 pub fetch_made : (n h b k : ℕ) (e : Entry) (f : FetchText) (need : Need) (load : Load) (old new : Body) (one : List Load)
     → AddsClaim k b e.0.subject.name (last_number e.2) f.region old.claims.items new.claims.items
-    → f.buffer ≡ b → f.function ≡ e.0.subject.name → f.group ≡ h → need.group ≡ n → need.needed ≡ h → new.needs.items ≡ old.needs.items ++ need ∷ []
+    → f.buffer ≡ b → f.function ≡ e.0.subject.name → f.group ≡ h → need.group ≡ n → need.needed ≡ h → need.region ≡ pieces_needed e.0 e.1.region e.1.skeleton.grid f.region
+    → new.needs.items ≡ old.needs.items ++ need ∷ []
     → one ≡ old.loads.items → new.loads.items ≡ one ++ load ∷ [] → load.function.now ≡ f.function → load.claim ≡ old.next_claim
     → new.next_claim ≡ old.next_claim + 1 → old.next_buffer ≡ b → new.next_buffer ≡ b + 1 → new.line ≡ old.line + 2 → k ≡ new.line - 1
     → new.windows.items ≡ old.windows.items → FetchMade n h e f old new
-fetch_made n h b k e f need load old new one a buffered named grouped needing needed needs loads pushed function number next is_next numbered lined after held =
+fetch_made n h b k e f need load old new one a buffered named grouped needing needed pieces needs loads pushed function number next is_next numbered lined after held =
     let at : k ≡ old.line + 1 = omega (arith, lined, after) in
     record {
       need = need;
@@ -75,6 +77,7 @@ fetch_made n h b k e f need load old new one a buffered named grouped needing ne
         grouped = grouped;
         needing = needing;
         needed = needed;
+        pieces = pieces;
         claimed = subst (λ (l : ℕ). Claims l old.next_buffer e.0.subject.name (last_number e.2) f.region a.claim) at
             (subst (λ (q : ℕ). Claims k q e.0.subject.name (last_number e.2) f.region a.claim) (sym is_next) a.claims);
       };

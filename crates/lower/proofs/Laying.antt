@@ -13,16 +13,16 @@ use Rattle.lower.specs.Regions.{LaidText, add_all_own, region_of, same_region, s
 abbrev pub IsLaidOver : StoredText → List FormulaText → LaidText → Type 0
 IsLaidOver g fs x = skeleton_of g fs x.region ≡ Some x.skeleton
 
-record Bound {A B : Type 0} (o : Option A) (f : A → Option B) (y : B) : Type 0 where
-  value : A
-  is : o ≡ Some value
-  comes : f value ≡ Some y
+pub record Bound {A B : Type 0} (o : Option A) (f : A → Option B) (y : B) : Type 0 where
+  pub value : A
+  pub is : o ≡ Some value
+  pub comes : f value ≡ Some y
 
-bound : {A B : Type 0} (o : Option A) (f : A → Option B) (y : B) → (o >>= f) ≡ Some y → Bound o f y
+pub bound : {A B : Type 0} (o : Option A) (f : A → Option B) (y : B) → (o >>= f) ≡ Some y → Bound o f y
 bound (Some x) f y h = record { value = x; is = refl; comes = h }
 bound None f y h = absurd cc
 
-same : {A : Type 0} (x y : A) → Some x ≡ Some y → x ≡ y
+pub same : {A : Type 0} (x y : A) → Some x ≡ Some y → x ≡ y
 same x y h = ap (λ o. elim o [ Some z ↦ z | None ↦ x ]) h
 
 over_it : (g : StoredText) (fs : List FormulaText) (region : List Extent) (x : LaidText) → over g fs region ≡ Some x → IsLaidOver g fs x

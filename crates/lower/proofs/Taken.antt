@@ -34,7 +34,8 @@ module _ (grid : List Binding) (ss : List SiteText) (d : ℕ) (s : Span1) (b : �
       ap (λ (o : Option (ℕ × ℤ)). o >>= λ q. slice_get s.lower q.0 >>= λ f. run_of f q.1 >>= λ seats. shown grid ss d s f q.1 seats) short
       ∙ ap (λ (o : Option Form). o >>= λ f. run_of f b.1 >>= λ seats. shown grid ss d s f b.1 seats) get
 
-  pub finds_stop : (e : Stop) → shortest grid s ≡ Some b → slice_get s.lower b.0 ≡ Some origin → Gives {X = Span1} {A = Span1} (Err e) (λ x. x) (run_of origin b.1) → FindsPart (Err e) (seated grid ss d s)
+  pub finds_stop : (e : Stop) → shortest grid s ≡ Some b → slice_get s.lower b.0 ≡ Some origin → Gives {X = Span1} {A = Span1} (Err e) (λ x. x) (run_of origin b.1)
+      → FindsPart (Err e) (seated grid ss d s)
   finds_stop Memory short get g = tt
   finds_stop Limit short get g = seated_at short get ∙ ap (λ (o : Option Span1). o >>= λ seats. shown grid ss d s origin b.1 seats) g
 

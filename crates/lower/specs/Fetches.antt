@@ -11,6 +11,7 @@ use Rattle.lower.specs.Stored.{FormulaText, StoredText, some_calls}
 use Rattle.lower.specs.Regions.{LaidText}
 use Rattle.lower.specs.Bounded.{whole}
 use Rattle.lower.specs.Loading.{Loads}
+use Rattle.lower.specs.Needs.{pieces_needed}
 use Rattle.lower.specs.Taken.{SiteText, taken_region, taken_places}
 use Rattle.lin.specs.declared.scope.Binding.{Binding}
 use Rattle.lower.specs.declared.whole.Fetch.{Fetch as CodeFetch}
@@ -86,14 +87,15 @@ pub record Claims (line b : ℕ) (x : List ℕ) (d : ℕ) (region : List Span1) 
 abbrev pub last_number : List FormulaText → ℕ
 last_number fs = length fs - 1
 
--- pieces of n fetch this of the group h: points of its function, of which they need pieces, and which are then claimed, as its last definition leaves them; the
--- buffer's line is this one, and the next has the fetch
+-- pieces of n fetch this of the group h: points of its function, of which they need the pieces that own them, and which are then claimed, as its last definition
+-- leaves them; the buffer's line is this one, and the next has the fetch
 pub record IsFetched (n b line h : ℕ) (e : Entry) (f : FetchText) (need : Need) (claim : Claim) : Type 0 where
   pub buffered : f.buffer ≡ b
   pub named : f.function ≡ e.0.subject.name
   pub grouped : f.group ≡ h
   pub needing : need.group ≡ n
   pub needed : need.needed ≡ h
+  pub pieces : need.region ≡ pieces_needed e.0 e.1.region e.1.skeleton.grid f.region
   pub claimed : Claims (line + 1) b e.0.subject.name (last_number e.2) f.region claim
 
 -- each of these groups, as far as calls need it, into buffers from b on, by lines from this one on, with a need line and a claim for each, in the same order

@@ -7,10 +7,13 @@ pub mod Calls
 pub mod Faults
 pub mod Fetches
 pub mod Groups
+pub mod Held
 pub mod Large
 pub mod Limited
 pub mod Loading
 pub mod Making
+pub mod Needs
+pub mod Owning
 pub mod Refused
 pub mod Regions
 pub mod Stored

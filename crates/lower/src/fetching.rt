@@ -6,6 +6,7 @@ ghost use Rattle.tree.specs.Term.{list_terms, indices};
 ghost use Rattle.algo.specs.View.{algorithm_of};
 ghost use Rattle.sched.specs.Skeleton.{nest_seen, skeleton_seen};
 ghost use Rattle.plan.specs.declared.stmt.Places.TheVariants.{From};
+ghost use Rattle.lower.specs.Needs as needs;
 ghost use Rattle.lower.specs.Around.{around_of, grid_scope as grid_scope_of};
 ghost use Rattle.lower.specs.Calls.{call_of};
 ghost use Rattle.lower.specs.Fetches.{IsTaken};
@@ -18,8 +19,9 @@ ghost use Rattle.lower.specs.Taken.{FindsPart, site_of};
 use crate::calls::{Call, calls_of};
 use crate::definitions::{Formula, Stored};
 use crate::error::Stop;
-use crate::forms::{between, divided, is_inside, last_of, one_form, raised, whole};
+use crate::forms::{is_inside, last_of, one_form, raised, whole};
 use crate::inner::Inner;
+use crate::pieces::pieces_of;
 use crate::regions::{Laid, formulas_call, projected, symbols_from};
 use crate::rounded::is_rounded;
 use crate::scopes::{Around, around_in, grid_scope, head_scope, interval};
@@ -30,10 +32,9 @@ use algo::scoping::same_name;
 use lin::{Forms, Lin, Region, Scope, Span1, Sym};
 use numeric::Ty;
 use plan::Places;
-use sched::{Extent, Loop, Mark, Nest, Split};
+use sched::{Extent, Nest};
 use std::alloc::{AllocError, Global};
 use tree::Expr;
-use tree::token::Name;
 
 /// How many forms of a side a fetched region has at most, beside a number.
 const MOST_FORMS: usize = 3;
@@ -707,84 +708,7 @@ fn part_of(
     }
 }
 
-// ---- the pieces that own it
-
-// How many numbers of its dimension a turn of a parallel loop has, where they are a block.
-fn block_length(variables: &[Name], cuts: &[Split], one: &Loop) -> Option<i64> {
-    let variable = variables.get(one.dimension)?;
-    if one.name.as_str() == variable.as_str() {
-        return Some(1);
-    }
-    for cut in cuts {
-        if cut.outer.as_str() == one.name.as_str() && cut.whole.as_str() == variable.as_str() {
-            return Some(i64::from(cut.factor));
-        }
-    }
-    None
-}
-
-// The blocks of these forms' numbers; none where a form does not fall on the blocks' ends.
-fn blocks_at(alloc: Global, forms: &[Lin], low: i64, length: i64) -> Result<Option<Forms>, Stop> {
-    let mut made = Forms::new(alloc);
-    for form in forms {
-        let moved = raised(alloc, form, low.saturating_neg())?;
-        let Some(block) = divided(alloc, &moved, length)? else {
-            return Ok(None);
-        };
-        made.push(block)?;
-    }
-    Ok(Some(made))
-}
-
-fn blocks_over(alloc: Global, span: &Span1, low: i64, length: i64) -> Result<Option<Span1>, Stop> {
-    let Some(lower) = blocks_at(alloc, span.lower.as_slice(), low, length)? else {
-        return Ok(None);
-    };
-    let Some(upper) = blocks_at(alloc, span.upper.as_slice(), low, length)? else {
-        return Ok(None);
-    };
-    Ok(Some(Span1 { lower, upper }))
-}
-
-// The turns of a parallel loop that own a region: those of the blocks that hold it, or all.
-fn turns_of(
-    alloc: Global,
-    callee: &Root<'_>,
-    one: &Loop,
-    count: u32,
-    region: &Region,
-) -> Result<Span1, Stop> {
-    let all = between(alloc, 0, i64::from(count) - 1)?;
-    let subject = callee.stored.subject;
-    let Some(length) = block_length(&subject.variables, &callee.stored.placed.cuts, one) else {
-        return Ok(all);
-    };
-    let Some(extent) = callee.laid.region.get(one.dimension) else {
-        return Ok(all);
-    };
-    let Some(span) = region.as_slice().get(one.dimension) else {
-        return Ok(all);
-    };
-    let found = blocks_over(alloc, span, i64::from(extent.low), length)?;
-    Ok(found.unwrap_or(all))
-}
-
-// The pieces of a function that own a region of it.
-fn pieces_of(alloc: Global, callee: &Root<'_>, region: &Region) -> Result<Region, Stop> {
-    let mut needed = Region::new(alloc);
-    let mut counts = callee.laid.skeleton.grid.iter();
-    for one in &callee.stored.placed.loops {
-        if one.mark == Some(Mark::Parallel) {
-            let count = counts.next().copied().unwrap_or(1);
-            let span = turns_of(alloc, callee, one, count, region)?;
-            needed.push(span)?;
-        }
-    }
-    if needed.as_slice().is_empty() {
-        needed.push(between(alloc, 0, 0)?)?;
-    }
-    Ok(needed)
-}
+// ---- what is called of another function
 
 // Whether a piece calls the function of this name, for itself or for what is computed inside its loops.
 fn is_called(
@@ -840,6 +764,8 @@ fn fetched_by(
         0 callee.now.laid.now.region.items) }
     ensures places { IfOk result (λ found. found.places.items ≡ spec.taken_places (grid_scope_of user.now.laid.now.skeleton.grid.items)
         (map site_of sites.now) 0 callee.now.laid.now.region.items) }
+    ensures pieces { IfOk result (λ found. found.needed ≡ needs.pieces_needed (stored_of callee.now.stored.now) callee.now.laid.now.region.items
+        callee.now.laid.now.skeleton.grid.items found.region) }
 {
     let grid = grid_scope(alloc, &user.laid.skeleton.grid)?;
     let mut region = Region::new(alloc);
@@ -868,6 +794,8 @@ pub(crate) fn fetch_of(
         (stored_of callee.now.stored.now).subject.name callee.now.laid.now.region.items one.region one.places.items)) }
     ensures called { IfOk result (λ found. inners.now ≡ [] → is_some found ≡
         some_calls (stored_of callee.now.stored.now).subject.name (map formula_of user.now.formulas.now)) }
+    ensures pieces { IfOk result (λ found. IfSome found (λ one. one.needed ≡ needs.pieces_needed (stored_of callee.now.stored.now)
+        callee.now.laid.now.region.items callee.now.laid.now.skeleton.grid.items one.region)) }
 {
     let name = callee.stored.subject.name.as_str();
     let sites = sites_of(alloc, algo, user, inners, name)?;

@@ -1,6 +1,6 @@
 //! Spans and regions of numbers and forms.
 
-ghost use Rattle.std.specs.Prelude.{◌≡◌, [], ◌∷◌, ◌+◌, ◌-◌, ◌+ℤ◌, ◌-ℤ◌, pos, IfOk};
+ghost use Rattle.std.specs.Prelude.{◌≡◌, [], ◌∷◌, ◌+◌, ◌-◌, ◌+ℤ◌, ◌-ℤ◌, ◌<ℤ◌, pos, IfOk};
 ghost use Rattle.lin.specs.Regions.{span_inside};
 ghost use Rattle.bounds.specs.Spans.{numbers};
 ghost use Rattle.lower.specs.Around as spec;
@@ -8,6 +8,8 @@ ghost use Rattle.lower.specs.Blocks as blocks;
 ghost use Rattle.lower.specs.Bounded as limits;
 ghost use Rattle.lower.specs.Limited.{Gives};
 ghost use Rattle.lin.specs.Forms.{combined, number};
+ghost use Rattle.lower.specs.Needs as needs;
+ghost use Rattle.numeric.specs.Apply as apply;
 
 use crate::error::Stop;
 use lin::{Forms, Lin, Multiple, Region, Scope, Span1};
@@ -120,21 +122,61 @@ pub(crate) fn is_inside(
     scope.inside(alloc, &inner, &outer)
 }
 
-// The term by a divisor of its factor.
-fn divided_term(term: &Multiple, divisor: i64) -> i64 {
-    term.factor.checked_div_euclid(divisor).unwrap_or(0)
+// The quotient, rounded down.
+fn quotient(number: i64, divisor: i64) -> i64
+    requires { pos 0 <ℤ divisor }
+    ensures { result ≡ apply.quotient number divisor }
+{
+    number.div_euclid(divisor)
 }
 
-/// The form by a divisor, rounded down; none where a factor is no multiple of it.
-pub(crate) fn divided(alloc: Global, form: &Lin, divisor: i64) -> Result<Option<Lin>, Stop> {
-    let constant = form.constant().checked_div_euclid(divisor).unwrap_or(0);
-    let mut made = Lin::number(alloc, constant);
-    for term in form.terms() {
-        if term.factor.checked_rem_euclid(divisor) != Some(0) {
-            return Ok(None);
+fn is_multiple(term: &Multiple, divisor: i64) -> bool
+    requires { pos 0 <ℤ divisor }
+    ensures { result ≡ needs.is_multiple divisor term.now }
+{
+    term.factor.rem_euclid(divisor) == 0
+}
+
+// The form, and a term more, whose factor is divided.
+#[tactic(auto, using(crate::proofs::Origins::combined_is))]
+fn plus_part(alloc: Global, form: &Lin, term: &Multiple, divisor: i64) -> Result<Lin, Stop>
+    requires { pos 0 <ℤ divisor }
+    ensures { IfOk result (λ made. made ≡ needs.plus_part divisor form.now term.now) }
+{
+    let symbol = Lin::symbol(alloc, term.symbol)?;
+    let part = quotient(term.factor, divisor);
+    Ok(form.plus_multiple(alloc, part, &symbol)?)
+}
+
+// The form, and terms more, whose factors are divided; none where one is no multiple of the divisor.
+fn plus_parts(
+    alloc: Global,
+    form: Lin,
+    terms: &[Multiple],
+    divisor: i64,
+) -> Result<Option<Lin>, Stop>
+    requires { pos 0 <ℤ divisor }
+    ensures { IfOk result (λ made. made ≡ needs.plus_parts divisor form terms.now) }
+{
+    match terms {
+        [] => Ok(Some(form)),
+        [term, rest @ ..] => {
+            if !is_multiple(term, divisor) {
+                return Ok(None);
+            }
+            let next = plus_part(alloc, &form, term, divisor)?;
+            plus_parts(alloc, next, rest, divisor)
         }
-        let symbol = Lin::symbol(alloc, term.symbol)?;
-        made = made.plus_multiple(alloc, divided_term(term, divisor), &symbol)?;
     }
-    Ok(Some(made))
+}
+
+/// The form by a divisor, rounded down; none where a factor is no multiple of it, or it is not positive.
+pub(crate) fn divided(alloc: Global, form: &Lin, divisor: i64) -> Result<Option<Lin>, Stop>
+    ensures { IfOk result (λ made. made ≡ needs.divided divisor form.now) }
+{
+    if divisor <= 0 {
+        return Ok(None);
+    }
+    let constant = quotient(form.constant(), divisor);
+    plus_parts(alloc, Lin::number(alloc, constant), form.terms(), divisor)
 }

@@ -15,6 +15,7 @@ ghost use Rattle.lower.specs.Stored.{formula_of, stored_of};
 ghost use Rattle.lower.specs.Blocks as blocks;
 ghost use Rattle.lower.specs.Bodies.{body, first_lines, step_lines};
 ghost use Rattle.lower.specs.Fetches.{fetch_seen, fetched_groups, is_fetched, last_number};
+ghost use Rattle.lower.specs.Needs.{pieces_needed};
 ghost use Rattle.lower.specs.Making.{AddsClaim, BodyMade, FetchMade, FetchesMade, GroupMade, IsBegun, MayMake, NestsMade, with_first};
 ghost use Rattle.lower.specs.Groups.{IsOver, IsOwnOver, grid_over as counts_over, root_of};
 
@@ -322,6 +323,8 @@ fn fetch_into<'a>(
     group: usize,
     found: Fetched,
 ) -> Result<Fetch<'a>, AllocError>
+    requires { found.needed ≡ pieces_needed (stored_of callee.now.stored.now) callee.now.laid.now.region.items
+        callee.now.laid.now.skeleton.grid.items found.region }
     ensures region { IfOk result (λ fetch. fetch.region ≡ found.region) }
     ensures places { IfOk result (λ fetch. fetch.places.items ≡ found.places.items) }
     ensures made { IfOk result (λ fetch. FetchMade number group (root_of callee.now) (fetch_seen fetch) body.old body.new) }

@@ -29,6 +29,7 @@ returns-clause-made c =
     subst (λ (d : ℕ). AddsClaim (c.in_ok-line.line - 1) old.next_buffer e.0.subject.name d c.in_ok-region.region old.claims.items one.claims.items) c.last_definition.ensures by_name in
     let added : AddsClaim (c.in_ok-line.line - 1) old.next_buffer e.0.subject.name (last_number e.2) found.region old.claims.items one.claims.items =
     subst (λ (r : List Span1). AddsClaim (c.in_ok-line.line - 1) old.next_buffer e.0.subject.name (last_number e.2) r old.claims.items one.claims.items) c.in_ok-region.ensures by_number in
-    fetch_made c.args.number c.args.group old.next_buffer (c.in_ok-line.line - 1) e f need load old _ one.loads.items added refl named refl refl refl (own.needs ∙ c.in_ok-push.ensures.items)
+    fetch_made c.args.number c.args.group old.next_buffer (c.in_ok-line.line - 1) e f need load old _ one.loads.items added refl named refl refl refl c.requires
+    (own.needs ∙ c.in_ok-push.ensures.items)
     (ap (λ (v : Vec Load). v.items) own.loads) c.in_ok-push-2.ensures.items refl own.numbered own.next refl next (own.line ∙ c.in_ok-line.ensures) (ap (λ (q : ℕ). q - 1) (sym own.line))
     (ap (λ (v : Vec Window). v.items) own.windows)

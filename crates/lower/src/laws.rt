@@ -1,0 +1,50 @@
+//! Laws of the definitions that the contracts are written with.
+
+ghost use Rattle.lower.specs.Held.{FetchesHavePlaces, FetchesHoldCalls, InputHoldsCalls, OutputHoldsExtents, RegionsHoldCalls, RegionsHoldOwnCalls};
+ghost use Rattle.lower.specs.Owning.{BlocksMakeUpRegions, NeedsNameOwners};
+
+/// The region that is needed of a stored function holds each point that a function which is declared later calls of it: by any of
+/// its definitions, at any store that its loops over its own region come to.
+pub fn regions_hold_calls()
+    ensures { RegionsHoldCalls }
+{}
+
+/// What a piece fetches of another function holds each point that the piece's function calls of it: by any of its definitions, at
+/// any store that the piece's loops come to.
+pub fn fetches_hold_calls()
+    ensures { FetchesHoldCalls }
+{}
+
+/// The buffer for what a piece fetches of another function has a place for each point that the piece's function calls of it.
+pub fn fetches_have_places()
+    ensures { FetchesHavePlaces }
+{}
+
+/// The region that is needed of the output holds each point of its extents.
+pub fn output_holds_extents()
+    ensures { OutputHoldsExtents }
+{}
+
+/// Where no function breaks a rule by its region, each point of the input that a definition calls, at any store that its loops come
+/// to, is one of the input's extents.
+pub fn input_holds_calls()
+    ensures { InputHoldsCalls }
+{}
+
+/// The same of calls of the definition's own function: at each place where the left index is not the variable, the index is a number
+/// of the function's region.
+pub fn regions_hold_own_calls()
+    ensures { RegionsHoldOwnCalls }
+{}
+
+/// The blocks that pieces own make up their group's region, whatever directives were applied to the function: what a piece owns are
+/// points of the region, and each point of it is owned by some piece; where each piece has a block, by one alone.
+pub fn blocks_make_up_regions()
+    ensures { BlocksMakeUpRegions }
+{}
+
+/// A piece that owns a point of what another piece fetches is one of those that the other's need line names at its grid point, where
+/// each piece has a block.
+pub fn needs_name_owners()
+    ensures { NeedsNameOwners }
+{}
