@@ -1,3 +1,4 @@
+pub mod Arriving
 pub mod Bindings
 pub mod Blocking
 pub mod Calling

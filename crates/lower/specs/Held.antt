@@ -1,5 +1,5 @@
 -- What the regions of functions, and what their pieces fetch of each other, hold: each point that a definition calls at its store.
-use Rattle.std.specs.Prelude.{◌≡◌, ◌<◌, ℕ, ℤ, pos, ◌-ℤ◌, Bool, true, false, IsSome, List, length, map, Option, Some, None, slice_get}
+use Rattle.std.specs.Prelude.{◌≡◌, ◌<◌, ◌++◌, Contains, ℕ, ℤ, pos, ◌-ℤ◌, Bool, true, false, IsSome, List, length, map, Option, Some, None, slice_get}
 use Rattle.numeric.specs.declared.ty.Ty.{Ty}
 use Rattle.tree.specs.declared.value.Value.{Value}
 use Rattle.tree.specs.Term.{Terms, End, More}
@@ -9,16 +9,18 @@ use Rattle.tree.specs.Typing.{type_of}
 use Rattle.lin.specs.Spans.{HoldsIn, IsInSpan, IsInRegion}
 use Rattle.bounds.specs.Spans.{numbers}
 use Rattle.plan.specs.Symbols.{Symbols}
+use Rattle.plan.specs.Certificate.Cells.{grid_symbols}
 use Rattle.plan.specs.Rooms.{place, room}
 use Rattle.meaning.specs.Algorithm.{Algorithm}
 use Rattle.meaning.specs.Names.{same_name}
 use Rattle.algo.specs.Scoping.Standing.{Written}
 use Rattle.sched.specs.declared.numbers.Extent.{Extent}
-use Rattle.sched.specs.Skeleton.{NestText}
+use Rattle.sched.specs.Skeleton.{NestText, SkeletonText}
+use Rattle.sched.specs.Visits.{IsInGrid, arrivals}
 use Rattle.lower.specs.Called.{called}
 use Rattle.lower.specs.Stored.{FormulaText, StoredText, calls_in}
-use Rattle.lower.specs.Around.{AroundText, around, grid_scope, head_scope}
-use Rattle.lower.specs.Regions.{LaidText, counts, laid_functions}
+use Rattle.lower.specs.Around.{AroundText, around, bind_steps, grid_scope, head_scope}
+use Rattle.lower.specs.Regions.{LaidText, counts, laid_functions, skeleton_of}
 use Rattle.lower.specs.Bounded.{whole}
 use Rattle.lower.specs.Faults.{region_fault}
 use Rattle.lower.specs.Taken.{SiteText, sites_of, taken_places, taken_region}
@@ -100,3 +102,11 @@ RegionsHoldOwnCalls =
     (a : Algorithm) (gs : List StoredText) (i : ℕ) (u : StoredText) (m : LaidText) → IsLaid a gs i u m → region_fault a gs ≡ None
     → (v : ℕ → ℤ) (p : List ℤ) (c : CallsAt a u m u.subject.name v p) → same_name c.call.name a.input ≡ false
     → (d : ℕ) (e : Extent) (z : ℤ) → counts (Some c.formula) d ≡ true → slice_get m.region d ≡ Some e → slice_get p d ≡ Some z → IsInSpan (whole e) v z
+
+-- whenever some piece comes to the store of a definition, the symbols fit what is known around it
+abbrev pub ArrivalsFit : Type 0
+ArrivalsFit =
+    (g : StoredText) (fs : List FormulaText) (region : List Extent) (k : SkeletonText) → skeleton_of g fs region ≡ Some k
+    → (number : ℕ) (n : NestText) → slice_get k.nests number ≡ Some n
+    → (piece : List ℕ) (s : Symbols) → IsInGrid k.grid piece → Contains (arrivals (k.head ++ n.steps) (grid_symbols piece)) s
+    → HoldsIn (bind_steps (head_scope k) n.steps) s.value

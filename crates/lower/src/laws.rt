@@ -1,6 +1,6 @@
 //! Laws of the definitions that the contracts are written with.
 
-ghost use Rattle.lower.specs.Held.{FetchesHavePlaces, FetchesHoldCalls, InputHoldsCalls, OutputHoldsExtents, RegionsHoldCalls, RegionsHoldOwnCalls};
+ghost use Rattle.lower.specs.Held.{ArrivalsFit, FetchesHavePlaces, FetchesHoldCalls, InputHoldsCalls, OutputHoldsExtents, RegionsHoldCalls, RegionsHoldOwnCalls};
 ghost use Rattle.lower.specs.Owning.{BlocksMakeUpRegions, NeedsNameOwners};
 
 /// The region that is needed of a stored function holds each point that a function which is declared later calls of it: by any of
@@ -47,4 +47,10 @@ pub fn blocks_make_up_regions()
 /// each piece has a block.
 pub fn needs_name_owners()
     ensures { NeedsNameOwners }
+{}
+
+/// Whenever some piece comes to the store of a definition, by turns of its loops, past its lets and guards, the symbols are numbers
+/// that fit what is known around the store. So what the laws here say of numbers that fit is so of each store of a run.
+pub fn arrivals_fit()
+    ensures { ArrivalsFit }
 {}

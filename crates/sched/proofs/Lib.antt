@@ -1,3 +1,4 @@
+pub mod Arriving
 pub mod Turns
 pub mod Sound
 pub mod Complete

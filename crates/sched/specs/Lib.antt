@@ -11,6 +11,7 @@ pub mod RegionRules
 pub mod Legal
 pub mod Numbers
 pub mod Standing
+pub mod Order
 pub mod Skeleton
 pub mod Worked
 pub mod Visits

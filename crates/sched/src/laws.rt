@@ -5,6 +5,7 @@ ghost use Rattle.tree.specs.declared.token.token.Token.{Token as AnyToken};
 ghost use Rattle.sched.specs.Schedule.{Schedule};
 ghost use Rattle.sched.specs.Reading.{file};
 ghost use Rattle.sched.specs.Grammar.{schedule_then, IsWhole, StandsFor};
+ghost use Rattle.sched.specs.Order.{SkeletonsBindInOrder};
 ghost use Rattle.sched.specs.Runs.{ArrivalsAreRuns};
 ghost use Rattle.sched.specs.Stays.{SchedulesStayInsideRegions};
 ghost use Rattle.sched.specs.Visits.{SchedulesVisitTheirRegions, SkeletonsVisitTheirRegion};
@@ -44,4 +45,10 @@ pub fn schedules_stay_inside_regions()
 /// front of it, is what it does with them at each arrival of the steps, in their order: once each, and nothing else.
 pub fn arrivals_are_runs()
     ensures { ArrivalsAreRuns }
+{}
+
+/// The symbols that the steps of a skeleton bind rise by one, the lets over the grid behind the grid's symbols and each nest behind
+/// those lets, and the forms of each step are of the symbols before it.
+pub fn skeletons_bind_in_order()
+    ensures { SkeletonsBindInOrder }
 {}
