@@ -93,6 +93,7 @@ module _ (scope : List Binding) (i : ℕ) (b : Binding) (le : length scope ≤ i
       skipped : (slice_get scope n ≡ Some d) ⊎ ((j : ℕ) × (n ≡ length scope + j) × (slice_get (replicate (i - length scope) (Loop anything)) j ≡ Some d)) → P n d
       skipped (inl q) = old n d q
       skipped (inr q) = subst (P n) (replicated (i - length scope) q.0 (Loop anything) d q.2) (none n)
+
       by : (slice_get (skip_to scope i) n ≡ Some d) ⊎ ((j : ℕ) × (n ≡ length (skip_to scope i) + j) × (slice_get (b ∷ []) j ≡ Some d)) → P n d
       by (inl q) = skipped (get_either scope (replicate (i - length scope) (Loop anything)) n d q)
       by (inr q) =
@@ -122,6 +123,7 @@ span_stays n x s = λ z v w agree h.
     uppers z v w agree (f ∷ fs) g a =
         All-cons (λ f. z ≤ℤ value_of f w) f fs (subst (λ (y : ℤ). z ≤ℤ y) (value_same n f v w g.0 agree) (a 0 f (omega arith)))
         (uppers z v w agree fs g.1 (λ k d lt. a (suc k) d (omega (arith, lt))))
+
     kept : (z : ℤ) (v w : ℕ → ℤ) → ((j : ℕ) → j < n → v j ≡ w j) → IsInSpan (span s.low s.last s.limits) v z → IsInSpan (span s.low s.last s.limits) w z
     kept z v w agree h =
         let low : value_of (number s.low) v ≤ℤ z = h.0 0 (number s.low) (omega arith) in (

@@ -257,7 +257,17 @@ fn lower_of(
     }
 }
 
-// What the loops that a split makes run over.
+// The same forms, the last one first.
+fn last_first(alloc: Global, forms: &Forms) -> Result<Forms, AllocError> {
+    let mut turned = Forms::new(alloc);
+    for form in forms.as_slice().iter().rev() {
+        turned.push(form.copy(alloc)?)?;
+    }
+    Ok(turned)
+}
+
+// What the loops that a split makes run over. The upper ends stand last first in the let for the smallest of them: the first of two
+// may be what a guard in front says to be at most the second, and the checker takes such a let as that guard's own.
 fn reach_of(
     alloc: Global,
     scope: &Scope,
@@ -273,7 +283,13 @@ fn reach_of(
     Ok(Reach {
         name,
         low: one_of(alloc, &lower, Pick::Max, scope.len(), lets)?,
-        last: one_of(alloc, &told.upper, Pick::Min, scope.len(), lets)?,
+        last: one_of(
+            alloc,
+            &last_first(alloc, &told.upper)?,
+            Pick::Min,
+            scope.len(),
+            lets,
+        )?,
         varies: varies(alloc, scope, &told, most)?,
         is_even: are_even(alloc, scope, &told, rounding, most)?,
         is_told: is_behind(alloc, scope, kept, &told.upper)?,

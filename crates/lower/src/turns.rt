@@ -305,9 +305,11 @@ fn least_from(
     Ok(least)
 }
 
-// Whether the variable's loop is split with `shift` into blocks of more numbers than some turn has.
+// Whether the variable's loop is split with `shift` into blocks of more numbers than some turn has. A block of one number has none
+// too many: it is kept as one of `guard` is.
 fn is_short(cuts: &[Split], variable: &Name, least: Option<i64>) -> bool {
     cuts.iter().any(|cut| cut.tail == Tail::Shift
+        && cut.factor > 1
         && cut.whole.as_str() == variable.as_str()
         && match least {
             Some(count) => count < i64::from(cut.factor),

@@ -29,7 +29,6 @@ use Rattle.sched.specs.Skeleton.{BodyText, NestText, SkeletonText, span, enter, 
 use Rattle.sched.specs.Order.{Good, Ordered, BindsBehind, BindInOrder}
 use Rattle.sched.proofs.Standings.{all_more, found_all}
 
-
 record Bound {A B : Type 0} (o : Option A) (f : A → Option B) (y : B) : Type 0 where
   value : A
   is : o ≡ Some value
@@ -223,6 +222,7 @@ module _ (c base : ℕ) where
     where
       none : None ≡ Some s → ⊥
       none q = cc
+
       by : (b : Bool) → is_bound js t.symbol ≡ b → (d : Bool) → (if b && d then Some t.symbol else None) ≡ Some s → IsInnermost js f s
       by true i true q =
           let is : t.symbol ≡ s = same t.symbol s q in
@@ -235,6 +235,7 @@ module _ (c base : ℕ) where
     where
       none : None ≡ Some s → ⊥
       none q = cc
+
       by : (o : Option Multiple) → last_term f ≡ o → (elim o [ Some t ↦ counted_once js t | None ↦ None ]) ≡ Some s → IsInnermost js f s
       by (Some t) l q = counted js f t s l q
       by None l q = absurd (none q)
