@@ -4,12 +4,11 @@ use Rattle.clap.specs.Words.{Text}
 use Rattle.meaning.specs.Algorithm.{Algorithm}
 use Rattle.algo.specs.Refusal.{IsAlgorithmText}
 use Rattle.sched.specs.Schedule.{Schedule}
-use Rattle.sched.specs.Legal.{IsLegal}
 use Rattle.commands.specs.declared.pipeline.fault.Fault.{Fault}
 use Rattle.commands.specs.Asked.{AskedCompile}
 use Rattle.commands.specs.Files.{Contents, Holds, Puts, SameFiles, SameOthers}
 use Rattle.commands.specs.Pictures.{IsOfDevice, IsTextFault}
-use Rattle.tool.specs.Compiling.{IsNotCompiled, IsScheduleRefused, IsScheduleText}
+use Rattle.tool.specs.Compiling.{IsNotCompiled, IsPlanText, IsScheduleRefused, IsScheduleText}
 use Rattle.commands.specs.Pipeline.PlanFiles.{HasPlan}
 
 -- there is a file of that name, and it is the text of this schedule
@@ -22,7 +21,7 @@ IsScheduleFault files name fault = IsOfDevice fault ⊎ ((bytes : List ℕ) × H
 
 -- ---- what is done
 
--- the bytes are the file of a plan of the one file's algorithm, which the checker accepts, and the other file's schedule is legal
+-- the bytes are the file of the plan that is made of the one file's algorithm by the other file's schedule, which is legal, and the checker accepts it
 pub record IsCompiled (files : Contents) (a : AskedCompile) (bytes : List ℕ) : Type 0 where
   pub text : List ℕ
   pub algorithm : Algorithm
@@ -30,7 +29,7 @@ pub record IsCompiled (files : Contents) (a : AskedCompile) (bytes : List ℕ) :
   pub holds_text : Holds files a.algorithm text
   pub is_text : IsAlgorithmText text algorithm
   pub scheduled : HasScheduleFile files a.schedule schedule
-  pub legal : IsLegal algorithm schedule
+  pub of_schedule : IsPlanText algorithm schedule bytes
   pub planned : HasPlan algorithm bytes
 
 -- the plan file was put, and nothing else

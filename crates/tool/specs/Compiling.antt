@@ -6,11 +6,14 @@ use Rattle.sched.specs.Grammar.{IsTextOf}
 use Rattle.sched.specs.Legal.{IsLegal}
 use Rattle.sched.specs.Text.{IsRefused as IsRefusedText}
 use Rattle.sched.specs.declared.error.SchedError.{SchedError}
-use Rattle.lower.specs.Refused.{IsRefused as IsRefusedSchedule}
+use Rattle.lower.specs.Refused.{AreRegionsKept, AreSmall, AreUsesInside, IsRefused as IsRefusedSchedule}
+use Rattle.lower.specs.Groups.{AreGroupsMade}
 use Rattle.lower.specs.declared.error.LowerError.{LowerError}
+use Rattle.lower.specs.declared.lowering.Lowered.{Lowered}
 use Rattle.soundness.specs.declared.outline.refusals.code.K.TheVariants.{K14}
 use Rattle.plan.specs.Plan.{Plan as PlanSaid}
-use Rattle.plan.specs.Certificate.Certificate.{Certificate}
+use Rattle.plan.specs.View.{plan_of}
+use Rattle.plan.specs.Certificate.Certificate.{Certificate, certificate_of}
 use Rattle.spelling.specs.Lines.Lines.{lines_text}
 use Rattle.spelling.specs.declared.lines.error.TextError.TheVariants as read
 use Rattle.nest.specs.Notation.{plan_notation}
@@ -45,9 +48,23 @@ pub record IsNotLowered (a : Algorithm) (s : Schedule) (fault : Fault) : Type 0 
 
 -- ---- the plan
 
+-- what `lower` says of the plan that it makes of a legal schedule, and of its certificate
+pub record IsLowered (a : Algorithm) (s : Schedule) (l : Lowered) : Type 0 where
+  pub legal : IsLegal a s
+  pub small : AreSmall a s
+  pub regions : AreRegionsKept a s
+  pub uses : AreUsesInside a s
+  pub groups : AreGroupsMade a s l
+
 -- the text of a plan file: the plan's lines, and behind them the certificate's
 abbrev pub file_text : PlanSaid → Certificate → List ℕ
 file_text p c = lines_text (plan_notation.lines p) ++ lines_text (certificate_lines c)
+
+-- the text of the plan that is made of the schedule
+pub record IsPlanText (a : Algorithm) (s : Schedule) (text : List ℕ) : Type 0 where
+  pub made : Lowered
+  pub lowered : IsLowered a s made
+  pub written : text ≡ file_text (plan_of made.plan) (certificate_of made.certificate)
 
 -- the reader of plan files refuses the text at this line
 abbrev pub IsUnread : List ℕ → ℕ → Type 0
@@ -60,10 +77,10 @@ IsUnaccepted a text Memory = ⊤
 IsUnaccepted a text (Plan code line) = IsWrong a text code line ⊎ ((code ≡ K14) × IsUnread text line)
 IsUnaccepted a text _ = ⊥
 
--- the schedule is legal, and the text of the plan that was made of it is not accepted
+-- the schedule is legal, and the text of the plan that is made of it is not accepted
 pub record IsRefusedPlan (a : Algorithm) (s : Schedule) (fault : Fault) : Type 0 where
-  pub legal : IsLegal a s
   pub text : List ℕ
+  pub of_schedule : IsPlanText a s text
   pub refused : IsUnaccepted a text fault
 
 -- why no plan file comes of a schedule

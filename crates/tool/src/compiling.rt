@@ -6,7 +6,7 @@ ghost use Rattle.sched.specs.Legal.{IsLegal};
 ghost use Rattle.sched.specs.View.{schedule_of};
 ghost use Rattle.plan.specs.View.{plan_of};
 ghost use Rattle.plan.specs.Certificate.Certificate.{certificate_of};
-ghost use Rattle.tool.specs.Compiling.{IsNotCompiled, IsNotLowered, IsScheduleRefused, IsScheduleText, IsUnaccepted, file_text};
+ghost use Rattle.tool.specs.Compiling.{IsLowered, IsNotCompiled, IsNotLowered, IsPlanText, IsScheduleRefused, IsScheduleText, IsUnaccepted, file_text};
 ghost use Rattle.tool.specs.Faults.{limit_fault, lower_fault};
 ghost use Rattle.commands.specs.Pipeline.PlanFiles.{HasPlan};
 
@@ -47,6 +47,7 @@ fn refused(error: LowerError) -> Fault
 /// The plan of a schedule with its certificate, which nobody has checked.
 fn lowered(alloc: Global, algo: &Algo, sched: &Sched) -> Result<Lowered, Fault>
     ensures legal { IfOk result (λ _. IsLegal (algorithm_of algo.now) (schedule_of sched.now)) }
+    ensures made { IfOk result (IsLowered (algorithm_of algo.now) (schedule_of sched.now)) }
     ensures refused { IfErr result (IsNotLowered (algorithm_of algo.now) (schedule_of sched.now)) }
 {
     match lower(alloc, algo, sched) {
@@ -112,7 +113,8 @@ pub fn compile_checked<'a, T: Threads + Sync>(
     accept(rt, alloc, algo, file.as_str())
 }
 
-/// Compiles a schedule to a plan file, which is read and checked against the algorithm as any other.
+/// Compiles a schedule to a plan file: the text of the plan that `lower` makes of it, which is read and checked against the
+/// algorithm as any other.
 ///
 /// # Errors
 /// `Rule` with the rule that the schedule breaks; `Plan` with the code and the line of what the checker refuses, K14 where
@@ -123,7 +125,7 @@ pub fn compile<T: Threads + Sync>(
     algo: &Algo,
     sched: &Sched,
 ) -> Result<String, Fault>
-    ensures legal { IfOk result (λ _. IsLegal (algorithm_of algo.now) (schedule_of sched.now)) }
+    ensures of_schedule { IfOk result (λ file. IsPlanText (algorithm_of algo.now) (schedule_of sched.now) (string_bytes file)) }
     ensures accepted { IfOk result (λ file. HasPlan (algorithm_of algo.now) (string_bytes file)) }
     ensures refused { IfErr result (IsNotCompiled (algorithm_of algo.now) (schedule_of sched.now)) }
 {

@@ -1,4 +1,4 @@
-use Rattle.std.proofs.Common.{inl, inr, subst, List, ℕ}
+use Rattle.std.proofs.Common.{◌∙◌, inl, inr, subst, List, ℕ}
 use Rattle.std.proofs.lemmas.Result.{err_from_is_err_and}
 use Rattle.meaning.specs.Algorithm.{Algorithm}
 use Rattle.algo.specs.View.{algorithm_of}
@@ -22,7 +22,14 @@ returns-in_err-accept-clause-refused g c =
     let p = err_from_is_err_and c.from_residual-in_err-accept.result c.from_residual-in_err-accept.ensures.1 in
     let IsFault : List ℕ → Type 0 = λ text. IsUnaccepted a text p.0 in
     let refused : IsFault c.as_str.result.now = rw p.2 c.in_err-accept.ensures.refused in
-    rw p.1 (inr (inr (record { legal = c.in_ok-plan.ensures.legal; text = c.as_str.result.now; refused = refused })))
+    rw p.1 (inr (inr (record {
+      text = c.as_str.result.now;
+      of_schedule = record { made = c.in_ok-plan.plan; lowered = c.in_ok-plan.ensures.made; written = c.as_str.ensures.value ∙ c.in_ok-file.ensures };
+      refused = refused;
+    })))
+
+pub returns-clause-of_schedule : goal.returns-clause-of_schedule
+returns-clause-of_schedule g c = record { made = c.in_ok-plan.plan; lowered = c.in_ok-plan.ensures.made; written = c.in_ok-file.ensures }
 
 pub returns-clause-accepted : goal.returns-clause-accepted
 returns-clause-accepted g c =

@@ -1,4 +1,4 @@
-use Rattle.std.proofs.Common.{inr}
+use Rattle.std.proofs.Common.{◌∙◌, inr}
 use Rattle.std.proofs.lemmas.Result.{IfErr-weaker}
 use Rattle.meaning.specs.Algorithm.{Algorithm}
 use Rattle.algo.specs.View.{algorithm_of}
@@ -12,4 +12,8 @@ returns-clause-refused g c =
     let a : Algorithm = algorithm_of c.args.algo.now in
     let s : Schedule = schedule_of c.args.sched.now in
     IfErr-weaker c.accept.result (IsUnaccepted a c.as_str.result.now) (IsNotCompiled a s)
-    (λ fault unaccepted. inr (inr (record { legal = c.in_ok-plan.ensures.legal; text = c.as_str.result.now; refused = unaccepted }))) c.accept.ensures.refused
+    (λ fault unaccepted. inr (inr (record {
+      text = c.as_str.result.now;
+      of_schedule = record { made = c.in_ok-plan.plan; lowered = c.in_ok-plan.ensures.made; written = c.as_str.ensures.value ∙ c.in_ok-file.ensures };
+      refused = unaccepted;
+    }))) c.accept.ensures.refused

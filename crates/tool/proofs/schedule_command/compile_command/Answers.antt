@@ -9,7 +9,7 @@ use Rattle.sched.specs.View.{schedule_of}
 use Rattle.tool.proofs.Compiled.{schedule_before, schedule_fault_before}
 use Rattle.commands.proofs.Kept.{of_device, others_then, same_then}
 use Rattle.tool.specs.Compiles.{IsScheduleFault}
-use Rattle.tool.specs.Compiling.{IsNotCompiled}
+use Rattle.tool.specs.Compiling.{IsNotCompiled, IsPlanText}
 use Rattle.commands.specs.Pipeline.PlanFiles.{HasPlan}
 use Rattle.tool.proofs.schedule_command.compile_command.Goals as goal
 
@@ -69,7 +69,7 @@ returns-in_err-put-clause-refused g c =
           holds_text = c.in_ok-text.ensures.bytes;
           is_text = subst IsText c.as_slice.ensures.value c.in_ok-algo.ensures.said;
           scheduled = schedule_before _ _ _ s c.get.ensures.same c.in_ok-sched.ensures.said;
-          legal = c.in_ok-file.ensures.legal;
+          of_schedule = c.in_ok-file.ensures.of_schedule;
           planned = c.in_ok-file.ensures.accepted;
         },
       ),
@@ -81,7 +81,8 @@ returns-clause-done g c =
     let a : Algorithm = algorithm_of c.in_ok-algo.algo in
     let s : Schedule = schedule_of c.in_ok-sched.sched in
     let IsText : List ℕ → Type 0 = λ bytes. IsAlgorithmText bytes a in
-    let Plans : List ℕ → Type 0 = λ bytes. HasPlan a bytes in (
+    let Plans : List ℕ → Type 0 = λ bytes. HasPlan a bytes in
+    let Texts : List ℕ → Type 0 = λ bytes. IsPlanText a s bytes in (
       c.as_bytes.result.now,
       record {
         text = c.in_ok-text.text.items;
@@ -90,7 +91,7 @@ returns-clause-done g c =
         holds_text = c.in_ok-text.ensures.bytes;
         is_text = subst IsText c.as_slice.ensures.value c.in_ok-algo.ensures.said;
         scheduled = schedule_before _ _ _ s c.get.ensures.same c.in_ok-sched.ensures.said;
-        legal = c.in_ok-file.ensures.legal;
+        of_schedule = subst Texts (sym c.as_bytes.ensures.value) c.in_ok-file.ensures.of_schedule;
         planned = subst Plans (sym c.as_bytes.ensures.value) c.in_ok-file.ensures.accepted;
       },
       (c.in_ok-put.ensures.put.0, others_then _ _ _ _ same c.in_ok-put.ensures.put.1),
