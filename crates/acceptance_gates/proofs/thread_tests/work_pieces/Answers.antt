@@ -12,7 +12,8 @@ as_parameter a b c d y = search (sendable, crosses, y) depth 20
 
 pub work_both-requires-sync-P : goal.work_both-requires-sync-P
 work_both-requires-sync-P g c κs within =
-    let pieces : IsSync (arg-0-1 g.row.J g.row.R g.row.G g.J.laws g.R.laws g.G.laws g.J.Run g.J.Run-dict g.R.Threads g.R.Threads-dict g.R.Wait g.R.Wait-dict g.G.Gate g.G.Gate-dict κs) = search (sendable, crosses, checked_sync, inputs_sync) depth 20 in
+    let shared : RattleType = arg-0-1 g.row.J g.row.R g.row.G g.J.laws g.R.laws g.G.laws g.J.Run g.J.Run-dict g.R.Threads g.R.Threads-dict g.R.Wait g.R.Wait-dict g.G.Gate g.G.Gate-dict κs in
+    let pieces : IsSync shared = search (sendable, crosses, checked_sync, inputs_sync) depth 20 in
     as_parameter (arg-0-0 g.row.J g.row.R g.row.G g.J.laws g.R.laws g.G.laws g.J.Run g.J.Run-dict g.R.Threads g.R.Threads-dict g.R.Wait g.R.Wait-dict g.G.Gate g.G.Gate-dict κs)
     (arg-0-1 g.row.J g.row.R g.row.G g.J.laws g.R.laws g.G.laws g.J.Run g.J.Run-dict g.R.Threads g.R.Threads-dict g.R.Wait g.R.Wait-dict g.G.Gate g.G.Gate-dict κs)
     (arg-0-2 g.row.J g.row.R g.row.G g.J.laws g.R.laws g.G.laws g.J.Run g.J.Run-dict g.R.Threads g.R.Threads-dict g.R.Wait g.R.Wait-dict g.G.Gate g.G.Gate-dict κs)
