@@ -16,6 +16,7 @@ pub mod Apart
 pub mod Fetching
 pub mod Needing
 pub mod Told
+pub mod Looking
 pub mod Lines
 pub mod Empty
 pub mod Grouped
@@ -28,6 +29,7 @@ pub mod Totals
 pub mod Prefixes
 pub mod Having
 pub mod Owning
+pub mod Taking
 pub mod Alone
 pub mod Firsts
 pub mod Standing

@@ -1,13 +1,12 @@
 -- What holds where nothing is wrong at own lines.
-use Rattle.std.proofs.Common.{◌≡◌, ℕ, zero, suc, ◌+◌, ◌-◌, ◌^◌, ◌<◌, ◌≤◌, List, [], ◌∷◌, ◌++◌, length, length-append, map, min, get_or, Bool, true, false, cond, arith, ap, refl, sym, ◌∙◌, subst, Option, Some, None, inl, inr}
-use Rattle.std.specs.Prelude.{All, IsTrue, IsSome, ℤ, slice_get, MatchOption, ◌⊎◌}
+use Rattle.std.proofs.Common.{◌≡◌, ℕ, suc, ◌+◌, ◌-◌, ◌^◌, ◌<◌, ◌≤◌, List, [], ◌∷◌, length, length-append, map, min, get_or, Bool, true, false, cond, arith, ap, refl, sym, ◌∙◌, subst, Option, Some, None, inl, inr}
+use Rattle.std.specs.Prelude.{All, IsTrue, ℤ, slice_get, MatchOption, ◌⊎◌}
 use Rattle.std.proofs.lemmas.Bool.{cases_lt, false≢true}
 use Rattle.std.proofs.lemmas.List.{length-map}
 use Rattle.plan.specs.Plan.{Group, Plan}
 use Rattle.plan.specs.Certificate.Certificate.{Certificate}
-use Rattle.plan.specs.Certificate.Cells.{Piece, Cell, cell, cells, cells_from, pieces, group_points, own_region, first_cell}
-use Rattle.orders.specs.Claimed.{IsClaimedBy}
-use Rattle.orders.proofs.Claiming.{unowned}
+use Rattle.plan.specs.Certificate.Cells.{Piece, cell, cells, cells_from, pieces, group_points, own_region, first_cell}
+use Rattle.orders.specs.Work.{OwnIsWhole}
 use Rattle.soundness.specs.declared.outline.refusals.code.Flaw.{Flaw}
 use Rattle.soundness.specs.Outline.Refusals.Codes.{is_before, least}
 use Rattle.soundness.specs.declared.outline.refusals.code.K.{K}
@@ -20,9 +19,10 @@ use Rattle.shares.specs.Layout.{own_list, OwnIsInside, PieceIsInside, region_poi
 use Rattle.shares.specs.Made.{CodeMeans, StandsAt, FlawMeans, OwnCode, IsOwnFlaw, IsFirstOwn, LineMeans, LinesStand, owns_line, line_at, Holds, ErrorMeans}
 use Rattle.shares.specs.Counts.{FetchPasses}
 use Rattle.shares.specs.Has.{fetched_before}
-use Rattle.shares.specs.Owned.{IsFirstFlaw}
+use Rattle.shares.specs.Owned.{AreOwners, IsFirstFlaw, IsLeft}
+use Rattle.shares.specs.declared.owners.Owned.{Owned}
 use Rattle.shares.proofs.Firsts.{not_on}
-use Rattle.shares.proofs.Groups.{get_some, get_within}
+use Rattle.shares.proofs.Groups.{get_within}
 
 stable : (b : Bool) → ((IsTrue b → ⊥) → ⊥) → IsTrue b
 stable true h = refl
@@ -59,16 +59,19 @@ module _ (p : Plan) (c : Certificate) (none : (f : Flaw) → ¬ IsOwnFlaw p c (l
   pub all_inside : (i : ℕ) → OwnIsInside p c i
   all_inside i = inside_at i (slice_get (pieces p) i) refl
 
-  some_owner : (owners : List (Option ℕ)) (x : ℕ) → IsClaimedBy (own_list p c) owners (length (pieces p)) → x < length (cells p) → (o : Option ℕ) → slice_get owners x ≡ Some o → IsSome o
-  some_owner owners x claimed less (Some k) at = refl
-  some_owner owners x claimed less None at =
-      let n = located 0 p.groups x less in
+  none_left : (x : ℕ) → ¬ IsLeft p c x
+  none_left x left =
+      let n = located 0 p.groups x left.0 in
       let one : suc n.0 ≡ n.0 + 1 = omega arith in
-      absurd (none (record { code = K10; line = line_of n.0 }) (n.0, n.1, inr (x, n.2, subst (λ (m : ℕ). x < first_cell p.groups m) one n.3, λ k lt has. unowned (own_list p c) owners (length (pieces p)) x k claimed at lt has), refl))
+      none (record { code = K10; line = line_of n.0 }) (n.0, n.1, inr (x, n.2, subst (λ (m : ℕ). x < first_cell p.groups m) one n.3, left.1), refl)
 
-  -- and each cell has an owner
-  pub all_owned : (owners : List (Option ℕ)) → IsClaimedBy (own_list p c) owners (length (pieces p)) → length owners ≡ length (cells p) → All (λ o. IsSome o) owners
-  all_owned owners claimed long k d less = some_owner owners k claimed (omega (arith, less, long)) (get_or owners k d) (get_some owners k d less)
+  owned_by : (x : Owned) → AreOwners p c x → (b : Bool) → x.whole ≡ b → OwnIsWhole (length (pieces p)) (length (cells p)) (own_list p c)
+  owned_by x of true e = of.whole e
+  owned_by x of false e = let left = of.gap e in absurd (none_left left.0 left.1)
+
+  -- and each cell is some piece's own
+  pub all_owned : (x : Owned) → AreOwners p c x → OwnIsWhole (length (pieces p)) (length (cells p)) (own_list p c)
+  all_owned x of = owned_by x of x.whole refl
 
   -- so no flaw is told after one at an own line
   pub holds_first : (e : SharesError) → Holds p c e → ErrorMeans p c e

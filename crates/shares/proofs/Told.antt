@@ -8,10 +8,9 @@ use Rattle.plan.specs.Plan.{Plan}
 use Rattle.plan.specs.Certificate.Certificate.{Certificate}
 use Rattle.plan.specs.Certificate.Cells.{pieces, cells}
 use Rattle.plan.specs.Certificate.Cells.{Piece as PlanPiece}
-use Rattle.orders.specs.Claimed.{IsClaimed, IsClaimedBy}
 use Rattle.orders.specs.declared.lists.Piece.{Piece}
 use Rattle.orders.specs.Faults.{IsFirstUnserved}
-use Rattle.orders.specs.Work.{HasSoundLists, NeedsIsEarlier, FetchedIsNeeded}
+use Rattle.orders.specs.Work.{HasSoundLists, NeedsIsEarlier, FetchedIsNeeded, NeedsServe, OwnIsParted, OwnIsWhole}
 use Rattle.orders.specs.Lists.{AreSound, own_of, fetched_of, needs_of, own_lists, fetched_lists, needs_lists}
 use Rattle.headline.proofs.Lists.{at_below}
 use Rattle.headline.specs.Numbers.{cell_number}
@@ -68,10 +67,21 @@ module _ (p : Plan) (c : Certificate) (xs : List Piece) (count : length xs ≡ l
   pub known_all : (n : ℕ) → FetchesCells p n
   known_all n = known_at n (slice_get xs n) refl
 
-  pub claimed_lists : (owners : List (Option ℕ)) → IsClaimedBy (own_list p c) owners (length (pieces p)) → IsClaimedBy (own_lists xs) owners (length xs)
-  claimed_lists owners h =
+  -- what is said of the plan's own cells by a number of pieces, one of cells and the lists is said of these
+  of_lists : (P : ℕ → ℕ → (ℕ → List ℕ) → Type 0) (many : ℕ) → many ≡ length (cells p) → P (length (pieces p)) (length (cells p)) (own_list p c) → P (length xs) many (own_lists xs)
+  of_lists P many e h =
       let same : own_list p c ≡ own_lists xs = λ i n. sym (own_same n) i in
-      subst (λ (n : ℕ). IsClaimed (own_lists xs) owners n 0) (sym count) (subst (λ (own : ℕ → List ℕ). IsClaimed own owners (length (pieces p)) 0) same h)
+      subst (λ (n : ℕ). P n many (own_lists xs)) (sym count) (subst (λ (n : ℕ). P (length (pieces p)) n (own_lists xs)) (sym e) (subst (P (length (pieces p)) (length (cells p))) same h))
+
+  pub parted_lists : (many : ℕ) → many ≡ length (cells p) → OwnIsParted (length (pieces p)) (length (cells p)) (own_list p c) → OwnIsParted (length xs) many (own_lists xs)
+  parted_lists many e parted = of_lists OwnIsParted many e parted
+
+  -- lists that part the cells and serve are sound
+  pub sound_lists : (many : ℕ) → many ≡ length (cells p) → OwnIsParted (length (pieces p)) (length (cells p)) (own_list p c) → OwnIsWhole (length (pieces p)) (length (cells p)) (own_list p c) →
+      NeedsServe (length xs) (own_lists xs) (fetched_lists xs) (needs_lists xs) → AreSound many xs
+  sound_lists many e parted whole serves =
+      let here = parted_lists many e parted in
+      record { in_table = here.0; apart = here.1; whole = of_lists OwnIsWhole many e whole; earlier = serves.0; needed = serves.1 }
 
   pub fetched_same : (n : ℕ) → fetched_lists xs n ≡ fetched_list p n
   fetched_same n = fetched_at n (slice_get xs n) refl

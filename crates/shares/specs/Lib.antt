@@ -26,5 +26,6 @@ pub mod Stops
 pub mod Made
 pub mod Before
 pub mod Owned
+pub mod Taken
 pub mod Laws
 pub mod Worked

@@ -16,6 +16,7 @@ use Rattle.soundness.specs.declared.outline.refusals.code.K.TheVariants.{K9, K10
 use Rattle.soundness.specs.Outline.Refusals.Codes.{is_before}
 use Rattle.shares.specs.declared.answer.SharesError.{SharesError}
 use Rattle.shares.specs.declared.answer.SharesError.TheVariants.{Flaw, Memory}
+use Rattle.shares.specs.declared.lists.Looks.{Looks}
 use Rattle.shares.specs.declared.lists.Trouble.{Trouble}
 use Rattle.shares.specs.declared.lists.Trouble.TheVariants.{Unserved, Large, Memory as Want}
 use Rattle.shares.specs.declared.stop.Stop.{Stop}
@@ -24,6 +25,18 @@ use Rattle.shares.specs.Layout.{own_list, fetched_list, needs_list, FetchesCells
 use Rattle.shares.specs.Counts.{FetchIsRefused, FetchPasses, NeedPasses}
 use Rattle.shares.specs.Faults.{IsApart}
 use Rattle.shares.specs.Has.{AreFew, NeedsPieces, IsServed, fetched_before}
+
+-- the own cells of each piece are the plan's
+pub record HaveOwn (p : Plan) (c : Certificate) (xs : List Piece) : Type 0 where
+  pub count : length xs ≡ length (pieces p)
+  pub each : (n : ℕ) (x : Piece) → slice_get xs n ≡ Some x → x.own.items ≡ own_list p c n
+
+-- what a piece looks at is the plan's
+pub record AreLooks (p : Plan) (c : Certificate) (n : ℕ) (x : Looks) : Type 0 where
+  pub fetched : x.fetched.items ≡ fetched_list p n
+  pub needs : x.needs.items ≡ needs_list p c n
+  pub known : FetchesCells p n
+  pub pieces : NeedsPieces p c n
 
 -- the lists of a piece are the plan's
 pub record IsMade (p : Plan) (c : Certificate) (n : ℕ) (x : Piece) : Type 0 where

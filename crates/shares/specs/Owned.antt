@@ -1,9 +1,9 @@
 -- The own cells of one group's pieces, and the first flaw at own lines.
-use Rattle.std.specs.Prelude.{◌≡◌, ℕ, ◌≤◌, ◌<◌, ◌==◌, if◌then◌else◌, List, [], length, map, IsTrue, Option, Some, None, MatchOption, slice_get}
+use Rattle.std.specs.Prelude.{◌≡◌, ℕ, ◌≤◌, ◌<◌, ◌==◌, if◌then◌else◌, List, [], length, map, IsTrue, IsFalse, Contains, Option, Some, None, MatchOption, slice_get}
 use Rattle.plan.specs.Plan.{Plan}
 use Rattle.plan.specs.Certificate.Certificate.{Certificate}
 use Rattle.plan.specs.Certificate.Cells.{cells, pieces}
-use Rattle.orders.specs.Claimed.{IsClaimedBy}
+use Rattle.orders.specs.Work.{OwnIsParted, OwnIsWhole}
 use Rattle.headline.specs.Numbers.{cell_number}
 use Rattle.headline.specs.Work.{of_piece, own_cells}
 use Rattle.soundness.specs.Outline.Refusals.Codes.{number_of}
@@ -12,7 +12,7 @@ use Rattle.soundness.specs.declared.outline.refusals.code.K.{K}
 use Rattle.shares.specs.Has.{IsServed}
 use Rattle.shares.specs.declared.owners.Owned.{Owned}
 use Rattle.shares.specs.Layout.{OwnIsInside, own_list}
-use Rattle.shares.specs.Made.{HasGap, IsPieceOf, Leaves, OwnCode, IsOwnFlaw, IsFirstOwn, Overlaps}
+use Rattle.shares.specs.Made.{HaveOwn, HasGap, IsPieceOf, Leaves, OwnCode, IsOwnFlaw, IsFirstOwn, Overlaps}
 
 -- the own cells of each piece of the group, and none of any other piece
 abbrev pub own_in : Plan → Certificate → ℕ → ℕ → List ℕ
@@ -22,10 +22,16 @@ own_in p c n i = of_piece (slice_get (pieces p) i) [] (λ j. if j.group == n the
 abbrev pub GroupIsInside : Plan → Certificate → ℕ → Type 0
 GroupIsInside p c n = (i : ℕ) → IsPieceOf p n i → OwnIsInside p c i
 
--- the owners of all cells among all pieces, and that all own regions stay inside where it is said
+-- a cell that no piece owns
+abbrev pub IsLeft : Plan → Certificate → ℕ → Type 0
+IsLeft p c y = (y < length (cells p)) × ((k : ℕ) → k < length (pieces p) → ¬ Contains (own_list p c k) y)
+
+-- the own cells of the pieces, which are apart, and that each cell is one, and that all own regions stay inside, where it is said
 pub record AreOwners (p : Plan) (c : Certificate) (x : Owned) : Type 0 where
-  pub claimed : IsClaimedBy (own_list p c) x.owners.items (length (pieces p))
-  pub count : length x.owners.items ≡ length (cells p)
+  pub own : HaveOwn p c x.pieces.items
+  pub parted : OwnIsParted (length (pieces p)) (length (cells p)) (own_list p c)
+  pub whole : IsTrue x.whole → OwnIsWhole (length (pieces p)) (length (cells p)) (own_list p c)
+  pub gap : IsFalse x.whole → (y : ℕ) × IsLeft p c y
   pub inside : IsTrue x.inside → (i : ℕ) → i < length (pieces p) → OwnIsInside p c i
 
 -- each of the group's cells is in the own region of one piece, and its pieces' own regions stay inside

@@ -21,8 +21,9 @@ use crate::limits::need_past;
 use crate::lists::{Trouble, lists_of};
 use crate::own::own_flaw;
 use crate::owners::{Owned, owners_of};
+use crate::served::first_unserved;
 use crate::stands::{needs_line, own_line};
-use orders::{Piece, first_unserved};
+use orders::Piece;
 use plan::Plan;
 use plan::certificate::Cert;
 use soundness::outline::refusals::{Flaw, K, least};
@@ -194,15 +195,15 @@ fn made_of(alloc: Global, layout: &Layout<'_>) -> Result<Shares, SharesError>
     if let Some(flaw) = line_flaw(alloc, layout, cells, &owned)? {
         return Err(SharesError::Flaw(flaw));
     }
-    let owners = match owned {
-        Ok(owned) => owned.owners,
+    let own = match owned {
+        Ok(owned) => owned.pieces,
         Err(piece) => return Err(overlap(layout, group_of(layout, piece))),
     };
-    let pieces = match lists_of(alloc, layout) {
+    let pieces = match lists_of(alloc, layout, own) {
         Ok(pieces) => pieces,
         Err(trouble) => return Err(error_of(alloc, layout, trouble)),
     };
-    if let Some(piece) = first_unserved(alloc, &owners, &pieces)? {
+    if let Some(piece) = first_unserved(alloc, cells, &pieces)? {
         return Err(unserved(layout, group_of(layout, piece)));
     }
     Ok(Shares { pieces, cells })

@@ -30,10 +30,12 @@ mod own;
 mod owners;
 mod repeated;
 mod seats;
+mod served;
 mod spaces;
 mod stands;
 mod stop;
 mod straight;
+mod taken;
 mod walked;
 
 pub use answer::{Shares, SharesError, shares_of};

@@ -1,6 +1,6 @@
 //! The lists of all pieces.
 
-ghost use Rattle.std.specs.Prelude.{◌≡◌, ℕ, ◌<◌, ◌≤◌, ◌++◌, [], ◌∷◌, IfOk, IfErr, OnOk, length, map};
+ghost use Rattle.std.specs.Prelude.{◌≡◌, ℕ, ◌<◌, ◌≤◌, Some, IfOk, IfErr, length, map, slice_get, slice_set};
 ghost use Rattle.plan.specs.View.{plan_of};
 ghost use Rattle.plan.specs.Certificate.Certificate.{certificate_of};
 ghost use Rattle.shares.specs.Layout.{IsLayout};
@@ -9,13 +9,14 @@ ghost use Rattle.shares.specs.Blocks.{StandFor};
 ghost use Rattle.shares.specs.Gathered.{EachIsGathered};
 ghost use Rattle.shares.specs.Stops.{StopMeans};
 ghost use Rattle.shares.specs.Noted.{AreNotedBy};
-ghost use Rattle.shares.specs.Made.{IsMade, AreMade, TroubleMeans, trouble_of};
+ghost use Rattle.shares.specs.Made.{AreLooks, AreMade, HaveOwn, TroubleMeans, trouble_of};
+ghost use Rattle.orders.specs.declared.lists.Piece.{Piece};
 
 use crate::blocks::{new_walk, step_to};
 use crate::counts::{FetchLine, noted_groups};
 use crate::fetched::fetched_of;
 use crate::gathered::{GroupNeeds, gathered_needs};
-use crate::layout::{Layout, own_of};
+use crate::layout::Layout;
 use crate::limits::MOST_NEEDED;
 use crate::needed::needs_of;
 use crate::stop::Stop;
@@ -48,8 +49,15 @@ fn trouble_of(piece: u32, stop: Stop) -> Trouble
     }
 }
 
-/// The lists of a piece, where there is room for so many cells and pieces.
-fn lists_at(
+/// What a piece looks at: the cells that it fetches, and the pieces that it needs.
+#[derive(Drop)]
+pub(crate) struct Looks {
+    pub fetched: Vec<u32>,
+    pub needs: Vec<u32>,
+}
+
+/// What a piece looks at, where there is room for so many cells and pieces.
+fn looks_at(
     alloc: Global,
     layout: &Layout<'_>,
     noted: &Vec<Vec<FetchLine<'_>>>,
@@ -58,18 +66,17 @@ fn lists_at(
     piece: u32,
     cells: u64,
     pieces: u64,
-) -> Result<Piece, Stop>
+) -> Result<Looks, Stop>
     requires layout { IsLayout layout.now }
     requires noted { AreNotedBy (plan_of layout.now.plan.now) (length layout.now.plan.now.groups.items) (map (λ v. v.items) noted.now.items) }
     requires gathered { EachIsGathered (plan_of layout.now.plan.now) layout.now.cert.now.needs.items (length layout.now.plan.now.groups.items) gathered.now.items }
     requires moving { StandFor layout.now.seats.items gathered.now.items piece (map (λ n. n.now) moving.now) }
     requires piece { piece < length layout.now.seats.items }
-    ensures made { IfOk result (λ made. IsMade (plan_of layout.now.plan.now) (certificate_of layout.now.cert.now) piece made) }
+    ensures looks { IfOk result (λ made. AreLooks (plan_of layout.now.plan.now) (certificate_of layout.now.cert.now) piece made) }
     ensures cells { IfOk result (λ made. length made.fetched.items ≤ cells) }
     ensures pieces { IfOk result (λ made. length made.needs.items ≤ pieces) }
     ensures stop { IfErr result (StopMeans (plan_of layout.now.plan.now) (certificate_of layout.now.cert.now) piece cells pieces) }
 {
-    let own = own_of(alloc, layout, piece)?;
     let fetched = match fetched_of(alloc, layout, noted, piece, cells) {
         Ok(fetched) => fetched,
         Err(stop) => return Err(stop),
@@ -78,24 +85,28 @@ fn lists_at(
         Ok(needs) => needs,
         Err(stop) => return Err(stop),
     };
-    Ok(Piece {
-        own: own.numbers,
-        fetched,
-        needs,
-    })
+    Ok(Looks { fetched, needs })
 }
 
-/// Adds the lists of a piece.
-fn push_lists(lists: &mut Vec<Piece>, made: Piece) -> Result<(), AllocError>
-    ensures { OnOk result (lists.new.items ≡ lists.old.items ++ made ∷ []) }
+/// Puts what a piece looks at beside its own cells.
+fn put_looks(lists: &mut Vec<Piece>, piece: u32, looks: Looks)
+    requires { piece < length lists.old.items }
+    ensures { (old : Piece) → slice_get lists.old.items piece ≡ Some old → lists.new.items ≡ slice_set lists.old.items piece (record { own = old.own; fetched = looks.fetched; needs = looks.needs }) }
 {
-    lists.push(made)?;
-    Ok(())
+    let made = &mut lists[piece as usize];
+    made.fetched = looks.fetched;
+    made.needs = looks.needs;
 }
 
-/// The lists of all pieces, where all that is fetched or needed is a cell or piece and there is room.
-pub(crate) fn lists_of(alloc: Global, layout: &Layout<'_>) -> Result<Vec<Piece>, Trouble>
-    requires { IsLayout layout.now }
+/// The lists of all pieces, of which these have their own cells, where all that is fetched or needed is a cell or piece and there is
+/// room.
+pub(crate) fn lists_of(
+    alloc: Global,
+    layout: &Layout<'_>,
+    owned: Vec<Piece>,
+) -> Result<Vec<Piece>, Trouble>
+    requires layout { IsLayout layout.now }
+    requires own { HaveOwn (plan_of layout.now.plan.now) (certificate_of layout.now.cert.now) owned.items }
     ensures count { IfOk result (λ made. length made.items ≡ length layout.now.seats.items) }
     ensures trouble { IfErr result (TroubleMeans (plan_of layout.now.plan.now) (certificate_of layout.now.cert.now) (length layout.now.seats.items)) }
     ensures few { IfOk result (λ _. AreFew (plan_of layout.now.plan.now) (certificate_of layout.now.cert.now)) }
@@ -104,21 +115,21 @@ pub(crate) fn lists_of(alloc: Global, layout: &Layout<'_>) -> Result<Vec<Piece>,
     let noted = noted_groups(alloc, layout.plan)?;
     let gathered = gathered_needs(alloc, layout, &layout.cert.needs, &layout.needs)?;
     let mut walk = new_walk(alloc);
-    let mut lists = Vec::new(alloc);
+    let mut lists = owned;
     let mut cells = MOST_FETCHED;
     let mut pieces = MOST_NEEDED;
     for piece in 0..layout.seats.len() as u32 {
         step_to(alloc, layout, &gathered, &mut walk, piece)?;
         let moving = &walk.small.moving;
-        let made = match lists_at(
+        let looks = match looks_at(
             alloc, layout, &noted, &gathered, moving, piece, cells, pieces,
         ) {
-            Ok(made) => made,
+            Ok(looks) => looks,
             Err(stop) => return Err(trouble_of(piece, stop)),
         };
-        cells -= made.fetched.as_slice().len() as u64;
-        pieces -= made.needs.as_slice().len() as u64;
-        push_lists(&mut lists, made)?;
+        cells -= looks.fetched.as_slice().len() as u64;
+        pieces -= looks.needs.as_slice().len() as u64;
+        put_looks(&mut lists, piece, looks);
     }
     Ok(lists)
 }

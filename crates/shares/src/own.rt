@@ -198,14 +198,12 @@ fn code_of_parted(alloc: Global, layout: &Layout<'_>, group: usize) -> Result<Op
 }
 
 /// Whether each cell of the plan is in one own region, and these stay inside.
-fn is_parted(layout: &Layout<'_>, owned: &Result<Owned, u32>, count: u32) -> bool
-    requires layout { IsLayout layout.now }
-    requires count { count ≡ length (cells (plan_of layout.now.plan.now)) }
+fn is_parted(layout: &Layout<'_>, owned: &Result<Owned, u32>) -> bool
     requires owned { IfOk owned.now (AreOwners (plan_of layout.now.plan.now) (certificate_of layout.now.cert.now)) }
     ensures { IsTrue result → (n : ℕ) → IsParted (plan_of layout.now.plan.now) (certificate_of layout.now.cert.now) n }
 {
     match owned {
-        Ok(owned) => owned.inside && !has_gap(&owned.owners, 0, count),
+        Ok(owned) => owned.inside && owned.whole,
         Err(_) => false,
     }
 }
@@ -285,7 +283,7 @@ pub(crate) fn own_flaw(
     requires owned { IfOk owned.now (AreOwners (plan_of layout.now.plan.now) (certificate_of layout.now.cert.now)) }
     ensures { IfOk result (IsFirstFlaw (plan_of layout.now.plan.now) (certificate_of layout.now.cert.now) (length (plan_of layout.now.plan.now).groups)) }
 {
-    if is_parted(layout, owned, count) {
+    if is_parted(layout, owned) {
         parted_flaw(alloc, layout)
     } else {
         unparted_flaw(alloc, layout, count)

@@ -1,23 +1,29 @@
 //! Whose own each cell is.
 
-ghost use Rattle.std.specs.Prelude.{◌≡◌, ℕ, ◌<◌, ◌≤◌, ◌+◌, ◌^◌, List, IsTrue, IsFalse, IfOk, IfErr, None, length};
+ghost use Rattle.std.specs.Prelude.{◌≡◌, ℕ, ◌<◌, ◌+◌, ◌++◌, ◌∷◌, [], List, IsTrue, IsFalse, IfOk, OnOk, IfErr, length};
 ghost use Rattle.plan.specs.View.{plan_of};
 ghost use Rattle.plan.specs.Certificate.Certificate.{certificate_of};
 ghost use Rattle.plan.specs.Certificate.Cells.{cells};
 ghost use Rattle.orders.specs.Claimed.{IsClaimed};
 ghost use Rattle.orders.specs.Work.{OwnIsParted};
+ghost use Rattle.orders.specs.declared.lists.Piece.{Piece};
 ghost use Rattle.shares.specs.Layout.{IsLayout};
 ghost use Rattle.shares.specs.Faults.{IsApart};
 ghost use Rattle.shares.specs.Owned.{AreOwners};
 
 use crate::layout::{Layout, own_of};
-use orders::claim_cell;
+use crate::taken::take_cells;
+use orders::{Piece, claim_cell};
 use std::alloc::{AllocError, Global};
 
-/// The owner of each cell among some pieces, and whether all their own regions stay inside.
+/// The own cells of the pieces of a plan, of which no two own a cell.
 #[derive(Drop)]
 pub(crate) struct Owned {
-    pub owners: Vec<Option<u32>>,
+    /// The pieces with their own cells, and nothing fetched or needed.
+    pub pieces: Vec<Piece>,
+    /// Whether each cell is some piece's own.
+    pub whole: bool,
+    /// Whether all own regions stay inside.
     pub inside: bool,
 }
 
@@ -34,9 +40,22 @@ pub(crate) fn claim_cells(owners: &mut [Option<u32>], cells: &[u32], piece: u32)
     true
 }
 
-/// The owner of each cell and whether all own regions stay inside, or the first piece with an own cell that an earlier one owns.
+/// Adds a piece with its own cells, and nothing fetched or needed.
+fn push_own(alloc: Global, pieces: &mut Vec<Piece>, own: Vec<u32>) -> Result<(), AllocError>
+    ensures { OnOk result ((made : Piece) × (pieces.new.items ≡ pieces.old.items ++ made ∷ []) × (made.own.items ≡ own.items)) }
+{
+    pieces.push(Piece {
+        own,
+        fetched: Vec::new(alloc),
+        needs: Vec::new(alloc),
+    })?;
+    Ok(())
+}
+
+/// The own cells of each piece, whether each cell is one, and whether all own regions stay inside, or the first piece with an own
+/// cell that an earlier one owns.
 ///
-/// The time is linear in the cells and the pieces.
+/// The time is linear in the cells and the pieces. Beside the lists a cell takes a byte.
 pub(crate) fn owners_of(
     alloc: Global,
     layout: &Layout<'_>,
@@ -47,14 +66,23 @@ pub(crate) fn owners_of(
     ensures owned { IfOk result (λ answer. IfOk answer (AreOwners (plan_of layout.now.plan.now) (certificate_of layout.now.cert.now))) }
     ensures overlap { IfOk result (λ answer. IfErr answer (λ piece. (piece < length layout.now.seats.items) × ¬ IsApart (plan_of layout.now.plan.now) (certificate_of layout.now.cert.now) piece)) }
 {
-    let mut owners: Vec<Option<u32>> = vec![in alloc; None; count as usize]?;
+    let mut taken: Vec<bool> = vec![in alloc; false; count as usize]?;
+    let mut pieces = Vec::with_capacity(alloc, layout.seats.len())?;
+    let mut free = count;
     let mut inside = true;
     for piece in 0..layout.seats.len() as u32 {
         let own = own_of(alloc, layout, piece)?;
-        if !claim_cells(owners.as_mut_slice(), &own.numbers, piece) {
+        if !take_cells(taken.as_mut_slice(), &own.numbers) {
             return Ok(Err(piece));
         }
+        free -= own.numbers.len() as u32;
         inside = inside & own.whole;
+        push_own(alloc, &mut pieces, own.numbers)?;
     }
-    Ok(Ok(Owned { owners, inside }))
+    let whole = free == 0;
+    Ok(Ok(Owned {
+        pieces,
+        whole,
+        inside,
+    }))
 }

@@ -1,21 +1,18 @@
-use Rattle.std.proofs.Common.{◌≡◌, ◌∙◌, ◌<◌, ℕ, List, sym, ap, subst, length, arith, Some, None, Option}
-use Rattle.std.specs.Prelude.{All, IsSome}
+use Rattle.std.proofs.Common.{◌≡◌, ◌∙◌, List, sym, ap, subst, length, Some}
 use Rattle.std.proofs.lemmas.List.{length-map}
 use Rattle.plan.specs.Plan.{Plan}
 use Rattle.plan.specs.View.{plan_of}
 use Rattle.plan.specs.Certificate.Certificate.{Certificate, certificate_of}
-use Rattle.plan.specs.Certificate.Cells.{cells, pieces}
-use Rattle.orders.specs.Claimed.{IsClaimedBy}
+use Rattle.plan.specs.Certificate.Cells.{pieces}
 use Rattle.orders.specs.Lists.{AreSound, own_lists, fetched_lists, needs_lists}
 use Rattle.orders.specs.Faults.{IsFirstUnserved}
-use Rattle.orders.specs.Work.{NeedsServe}
+use Rattle.orders.specs.Work.{NeedsServe, OwnIsParted}
 use Rattle.orders.specs.declared.lists.Piece.{Piece}
-use Rattle.orders.proofs.Verdict.{none_verdict}
 use Rattle.shares.specs.Made.{LineMeans, LinesStand}
 use Rattle.shares.specs.Seats.{piece_of}
 use Rattle.shares.specs.Owned.{AreOwners}
 use Rattle.shares.proofs.Standing.{all_inside, all_owned, holds_first, line_error}
-use Rattle.shares.proofs.Told.{lists_are, known_all, pieces_all, cells_sound, not_served, claimed_lists}
+use Rattle.shares.proofs.Told.{lists_are, known_all, pieces_all, cells_sound, not_served, parted_lists, sound_lists}
 use Rattle.shares.proofs.answer.made_of.Goals as goal
 
 pub returns-in-Err-clause-flaw : goal.returns-in-Err-clause-flaw
@@ -37,22 +34,20 @@ returns-in-Some-clause-flaw c =
     let means : LineMeans p cert c.in-Some.flaw = rw c.in-Some.is at c.in_ok-flaw.ensures in
     line_error p cert c.in-Some.flaw means
 
-pub first_unserved-requires-clause-claimed : goal.first_unserved-requires-clause-claimed
-first_unserved-requires-clause-claimed c =
+pub first_unserved-requires-clause-parted : goal.first_unserved-requires-clause-parted
+first_unserved-requires-clause-parted c =
     let x = c.args.layout.now in
     let p : Plan = plan_of x.plan.now in
     let cert : Certificate = certificate_of x.cert.now in
     let seats = x.seats.items in
     let many : length seats ≡ length (pieces p) = sym (length-map seats piece_of) ∙ ap length c.requires.seats in
     let of : AreOwners p cert c.in-Ok.owned = rw c.in-Ok.is at c.in_ok-owned.ensures.owned in
-    let owners = c.in-Ok.owned.owners.items in
-    let long : length owners ≡ c.cell_count-cells.result = of.count ∙ sym c.cell_count-cells.ensures in
     let ps = c.in-Ok-lists_of.pieces.items in
     let count : length ps ≡ length (pieces p) = c.in-Ok-lists_of.ensures.count ∙ many in
     let made = c.in-Ok-lists_of.ensures.made in
-    let lists : IsClaimedBy (own_lists ps) owners (length ps) = claimed_lists p cert ps count made owners of.claimed in
-    subst (λ (os : List (Option ℕ)). IsClaimedBy (own_lists c.deref-2.result.now) os (length c.deref-2.result.now)) (sym c.deref.ensures.value)
-    (subst (λ (qs : List Piece). IsClaimedBy (own_lists qs) owners (length qs)) (sym c.deref-2.ensures.value) lists)
+    let all = c.cell_count-cells.result in
+    subst (λ (qs : List Piece). OwnIsParted (length qs) all (own_lists qs)) (sym c.deref.ensures.value)
+    (parted_lists p cert ps count made all c.cell_count-cells.ensures of.parted)
 
 pub returns-clause-lists : goal.returns-clause-lists
 returns-clause-lists c =
@@ -75,16 +70,13 @@ returns-clause-sound c =
     let many : length seats ≡ length (pieces p) = sym (length-map seats piece_of) ∙ ap length c.requires.seats in
     let stands : LinesStand p cert = rw c.in_default.is at c.in_ok-flaw.ensures in
     let of : AreOwners p cert c.in-Ok.owned = rw c.in-Ok.is at c.in_ok-owned.ensures.owned in
-    let owners = c.in-Ok.owned.owners.items in
-    let long : length owners ≡ c.cell_count-cells.result = of.count ∙ sym c.cell_count-cells.ensures in
     let ps = c.in-Ok-lists_of.pieces.items in
     let count : length ps ≡ length (pieces p) = c.in-Ok-lists_of.ensures.count ∙ many in
     let made = c.in-Ok-lists_of.ensures.made in
-    let lists : IsClaimedBy (own_lists ps) owners (length ps) = claimed_lists p cert ps count made owners of.claimed in
-    let all : All (λ o. IsSome o) owners = all_owned p cert stands.own owners of.claimed of.count in
     let Serve : List Piece → Type 0 = λ qs. NeedsServe (length qs) (own_lists qs) (fetched_lists qs) (needs_lists qs) in
-    let serves : Serve c.deref-2.result.now = rw c.in_default-2.is at c.in_ok-piece.ensures in
-    let sound : AreSound c.cell_count-cells.result ps = none_verdict c.cell_count-cells.result ps owners lists long all (subst Serve c.deref-2.ensures.value serves) in
+    let serves : Serve c.deref.result.now = rw c.in_default-2.is at c.in_ok-piece.ensures in
+    let sound : AreSound c.cell_count-cells.result ps =
+    sound_lists p cert ps count made c.cell_count-cells.result c.cell_count-cells.ensures of.parted (all_owned p cert stands.own c.in-Ok.owned of) (subst Serve c.deref.ensures.value serves) in
     sound
 
 pub returns-clause-known : goal.returns-clause-known
@@ -118,16 +110,13 @@ returns-clause-shares c =
     let many : length seats ≡ length (pieces p) = sym (length-map seats piece_of) ∙ ap length c.requires.seats in
     let stands : LinesStand p cert = rw c.in_default.is at c.in_ok-flaw.ensures in
     let of : AreOwners p cert c.in-Ok.owned = rw c.in-Ok.is at c.in_ok-owned.ensures.owned in
-    let owners = c.in-Ok.owned.owners.items in
-    let long : length owners ≡ c.cell_count-cells.result = of.count ∙ sym c.cell_count-cells.ensures in
     let ps = c.in-Ok-lists_of.pieces.items in
     let count : length ps ≡ length (pieces p) = c.in-Ok-lists_of.ensures.count ∙ many in
     let made = c.in-Ok-lists_of.ensures.made in
-    let lists : IsClaimedBy (own_lists ps) owners (length ps) = claimed_lists p cert ps count made owners of.claimed in
-    let all : All (λ o. IsSome o) owners = all_owned p cert stands.own owners of.claimed of.count in
     let Serve : List Piece → Type 0 = λ qs. NeedsServe (length qs) (own_lists qs) (fetched_lists qs) (needs_lists qs) in
-    let serves : Serve c.deref-2.result.now = rw c.in_default-2.is at c.in_ok-piece.ensures in
-    let sound : AreSound c.cell_count-cells.result ps = none_verdict c.cell_count-cells.result ps owners lists long all (subst Serve c.deref-2.ensures.value serves) in
+    let serves : Serve c.deref.result.now = rw c.in_default-2.is at c.in_ok-piece.ensures in
+    let sound : AreSound c.cell_count-cells.result ps =
+    sound_lists p cert ps count made c.cell_count-cells.result c.cell_count-cells.ensures of.parted (all_owned p cert stands.own c.in-Ok.owned of) (subst Serve c.deref.ensures.value serves) in
     record {
       near = c.requires.near;
       inside = all_inside p cert stands.own;
@@ -149,8 +138,8 @@ returns-in-Some-2-clause-flaw c =
     let count : length ps ≡ length (pieces p) = c.in-Ok-lists_of.ensures.count ∙ many in
     let made = c.in-Ok-lists_of.ensures.made in
     let First : List Piece → Type 0 = λ qs. IsFirstUnserved (length qs) (own_lists qs) (fetched_lists qs) (needs_lists qs) (Some c.in-Some-2.piece) in
-    let first : First c.deref-2.result.now = rw c.in-Some-2.is at c.in_ok-piece.ensures in
-    holds_first p cert stands.own c.unserved.result (c.unserved.ensures (c.in-Some-2.piece, c.group_of-in-Some-2.ensures, not_served p cert ps count made c.in-Some-2.piece (subst First c.deref-2.ensures.value first)))
+    let first : First c.deref.result.now = rw c.in-Some-2.is at c.in_ok-piece.ensures in
+    holds_first p cert stands.own c.unserved.result (c.unserved.ensures (c.in-Some-2.piece, c.group_of-in-Some-2.ensures, not_served p cert ps count made c.in-Some-2.piece (subst First c.deref.ensures.value first)))
 
 pub returns-in-Err-lists_of-clause-flaw : goal.returns-in-Err-lists_of-clause-flaw
 returns-in-Err-lists_of-clause-flaw c =

@@ -1,4 +1,4 @@
-use Rattle.std.proofs.Common.{◌≡◌, ◌∙◌, ◌+◌, ◌∷◌, ◌<◌, [], ℕ, List, map, sym, ap, subst, length, length-append, arith, Bor, Vec, Global}
+use Rattle.std.proofs.Common.{◌≡◌, ◌∙◌, ◌+◌, ◌<◌, List, map, sym, ap, subst, length, arith, Bor, Vec, Global}
 use Rattle.std.proofs.lemmas.List.{length-map}
 use Rattle.plan.specs.View.{plan_of}
 use Rattle.plan.specs.declared.certificate.cert.Need.{Need}
@@ -6,13 +6,13 @@ use Rattle.plan.specs.Certificate.Certificate.{certificate_of}
 use Rattle.plan.specs.Certificate.Cells.{pieces}
 use Rattle.shares.specs.Filed.{AreFiled}
 use Rattle.shares.specs.Seats.{piece_of}
-use Rattle.shares.specs.Made.{IsMade, AreMade, TroubleMeans}
+use Rattle.shares.specs.Made.{TroubleMeans}
 use Rattle.shares.specs.Blocks.{StandFor}
 use Rattle.shares.proofs.Blocking.{walk_later}
 use Rattle.shares.proofs.Gathering.{have_lines}
 use Rattle.shares.proofs.Counting.{trouble_means, fetched_next, needed_next, are_few}
 use Rattle.shares.proofs.Filing.{row}
-use Rattle.shares.proofs.Groups.{push_each}
+use Rattle.shares.proofs.Looking.{made_none, made_next, made_all}
 use Rattle.shares.proofs.lists.lists_of.Goals as goal
 
 pub gathered_needs-requires-clause-filed : goal.gathered_needs-requires-clause-filed
@@ -20,22 +20,31 @@ gathered_needs-requires-clause-filed c =
     let x = c.args.layout.now in
     let n = length x.plan.now.groups.items in
     subst (λ (ls : List (Vec (Bor Need) Global)). AreFiled c.deref.result.now n (map row ls)) (sym c.deref-2.ensures.value)
-    (subst (λ (ns : List Need). AreFiled ns n (map row x.needs.items)) (sym c.deref.ensures.value) c.requires.needs)
+    (subst (λ (ns : List Need). AreFiled ns n (map row x.needs.items)) (sym c.deref.ensures.value) c.requires.layout.needs)
 
 pub step_to-requires-clause-gathered : goal.step_to-requires-clause-gathered
 step_to-requires-clause-gathered c =
     have_lines (plan_of c.args.layout.now.plan.now) c.deref.result.now (length c.args.layout.now.plan.now.groups.items) c.in_ok-gathered.gathered.items c.in_ok-gathered.ensures
 
-pub lists_at-requires-clause-moving : goal.lists_at-requires-clause-moving
-lists_at-requires-clause-moving c =
+pub looks_at-requires-clause-moving : goal.looks_at-requires-clause-moving
+looks_at-requires-clause-moving c =
     subst (λ (ls : List (Bor Need)). StandFor c.args.layout.now.seats.items c.in_ok-gathered.gathered.items c.loop-piece.piece (map (λ n. n.now) ls)) (sym c.deref-in-loop-piece.ensures.value) c.in_ok-step_to.ensures.moving
+
+pub put_looks-requires : goal.put_looks-requires
+put_looks-requires c =
+    let x = c.args.layout.now in
+    let p = plan_of x.plan.now in
+    let seats = x.seats.items in
+    let many : length seats ≡ length (pieces p) = sym (length-map seats piece_of) ∙ ap length c.requires.layout.seats in
+    let all = c.len-piece-end.ensures in
+    let here = c.loop-piece.invariant.made.own.count in
+    omega (arith, c.loop-piece-test.true, all, many, here)
 
 pub loop-piece-init : goal.loop-piece-init
 loop-piece-init c =
     let x = c.args.layout.now in
     record {
-      count = ap length c.new-lists.ensures.items;
-      made = subst (AreMade (plan_of x.plan.now) (certificate_of x.cert.now)) (sym c.new-lists.ensures.items) (λ n made e. absurd (cc e));
+      made = made_none (plan_of x.plan.now) (certificate_of x.cert.now) c.args.owned.items c.requires.own;
       cells = omega arith;
       pieces = omega arith;
       walk = c.new_walk-walk.ensures x.seats.items c.in_ok-gathered.gathered.items 0;
@@ -43,14 +52,18 @@ loop-piece-init c =
 
 pub loop-piece-preserved : goal.loop-piece-preserved
 loop-piece-preserved c =
-    let p = plan_of c.args.layout.now.plan.now in let cert = certificate_of c.args.layout.now.cert.now in
-    let old = c.loop-piece.lists.items in
-    let made = c.in-Ok.made in
+    let x = c.args.layout.now in
+    let p = plan_of x.plan.now in let cert = certificate_of x.cert.now in
+    let seats = x.seats.items in
+    let many : length seats ≡ length (pieces p) = sym (length-map seats piece_of) ∙ ap length c.requires.layout.seats in
+    let all = c.len-piece-end.ensures in
+    let here = c.loop-piece.invariant.made.own.count in
     let n = c.loop-piece.piece in
-    let fetched = ap length (c.as_slice.ensures.value ∙ c.in-Ok.ensures.made.fetched) in
-    let needs = ap length (c.as_slice-in-loop-piece.ensures.value ∙ c.in-Ok.ensures.made.needs) in
-    let has = ap length c.in-Ok.ensures.made.fetched in
-    let wants = ap length c.in-Ok.ensures.made.needs in
+    let looks = c.in-Ok.looks in
+    let fetched = ap length (c.as_slice.ensures.value ∙ c.in-Ok.ensures.looks.fetched) in
+    let needs = ap length (c.as_slice-in-loop-piece.ensures.value ∙ c.in-Ok.ensures.looks.needs) in
+    let has = ap length c.in-Ok.ensures.looks.fetched in
+    let wants = ap length c.in-Ok.ensures.looks.needs in
     let more = fetched_next p n in
     let further = needed_next p cert n in
     let cells = c.loop-piece.invariant.cells in
@@ -58,12 +71,27 @@ loop-piece-preserved c =
     let room = c.in-Ok.ensures.cells in
     let places = c.in-Ok.ensures.pieces in
     record {
-      count = ap length c.in_ok-push_lists.ensures ∙ length-append old (made ∷ []) ∙ ap (λ (n : ℕ). n + 1) c.loop-piece.invariant.count;
-      made = subst (AreMade p cert) (sym c.in_ok-push_lists.ensures) (push_each (IsMade p cert) old made c.loop-piece.invariant.made (subst (λ (n : ℕ). IsMade p cert n made) (sym c.loop-piece.invariant.count) c.in-Ok.ensures.made));
+      made = made_next p cert c.loop-piece.lists.items c.put_looks.new.lists.items n looks c.loop-piece.invariant.made (omega (arith, c.loop-piece-test.true, all, many, here)) c.in-Ok.ensures.looks c.put_looks.ensures;
       cells = omega (arith, fetched, has, more, cells, room);
       pieces = omega (arith, needs, wants, further, counted, places);
-      walk = walk_later c.args.layout.now.seats.items c.in_ok-gathered.gathered.items n (n + 1) c.step_to.new.walk (omega arith) c.in_ok-step_to.ensures.walk;
+      walk = walk_later seats c.in_ok-gathered.gathered.items n (n + 1) c.step_to.new.walk (omega arith) c.in_ok-step_to.ensures.walk;
     }
+
+pub returns-clause-made : goal.returns-clause-made
+returns-clause-made c =
+    let x = c.args.layout.now in
+    let p = plan_of x.plan.now in let cert = certificate_of x.cert.now in
+    let seats = x.seats.items in
+    let many : length seats ≡ length (pieces p) = sym (length-map seats piece_of) ∙ ap length c.requires.layout.seats in
+    let all = c.len-piece-end.ensures in
+    let end = c.loop-piece.auto.piece-end in
+    made_all p cert c.loop-piece.lists.items c.loop-piece.piece c.loop-piece.invariant.made (omega (arith, many, all, end, c.loop-piece-test.false))
+
+pub returns-clause-count : goal.returns-clause-count
+returns-clause-count c =
+    let x = c.args.layout.now in
+    let many : length x.seats.items ≡ length (pieces (plan_of x.plan.now)) = sym (length-map x.seats.items piece_of) ∙ ap length c.requires.layout.seats in
+    c.loop-piece.invariant.made.own.count ∙ sym many
 
 pub returns-in-Err-clause-trouble : goal.returns-in-Err-clause-trouble
 returns-in-Err-clause-trouble c =
@@ -71,7 +99,7 @@ returns-in-Err-clause-trouble c =
     let p = plan_of x.plan.now in let cert = certificate_of x.cert.now in
     let n = c.loop-piece.piece in
     let seats = x.seats.items in
-    let many : length seats ≡ length (pieces p) = sym (length-map seats piece_of) ∙ ap length c.requires.seats in
+    let many : length seats ≡ length (pieces p) = sym (length-map seats piece_of) ∙ ap length c.requires.layout.seats in
     let all = c.len-piece-end.ensures in
     let less : n < length seats = omega (arith, c.loop-piece-test.true, all) in
     subst (TroubleMeans p cert (length seats)) (sym c.trouble_of.ensures)
@@ -82,7 +110,7 @@ returns-clause-few c =
     let x = c.args.layout.now in
     let p = plan_of x.plan.now in let cert = certificate_of x.cert.now in
     let seats = x.seats.items in
-    let many : length seats ≡ length (pieces p) = sym (length-map seats piece_of) ∙ ap length c.requires.seats in
+    let many : length seats ≡ length (pieces p) = sym (length-map seats piece_of) ∙ ap length c.requires.layout.seats in
     let all = c.len-piece-end.ensures in
     let end = c.loop-piece.auto.piece-end in
     are_few p cert c.loop-piece.piece c.loop-piece.cells c.loop-piece.pieces (omega (arith, many, all, end, c.loop-piece-test.false)) c.loop-piece.invariant.cells c.loop-piece.invariant.pieces

@@ -1,14 +1,18 @@
 use Rattle.std.proofs.Common.{◌≡◌, ◌<◌, ℕ, length}
-use Rattle.std.specs.Prelude.{IsTrue}
+use Rattle.std.specs.Prelude.{IsTrue, Some, slice_get}
 use Rattle.plan.specs.View.{plan_of}
 use Rattle.plan.specs.Certificate.Certificate.{certificate_of}
-use Rattle.orders.specs.Claimed.{IsClaimed}
+use Rattle.orders.specs.declared.lists.Piece.{Piece}
 use Rattle.shares.specs.Layout.{OwnIsInside, own_list}
+use Rattle.shares.specs.Taken.{AreTaken, free_count}
 use Rattle.shares.proofs.owners.owners_of.Given as goal
 
 abbrev pub invariant-loop-piece : goal.invariant-loop-piece
 invariant-loop-piece l = record {
-  claimed : IsClaimed (own_list (plan_of l.layout.plan.now) (certificate_of l.layout.cert.now)) l.owners.items l.piece 0;
-  count : length l.owners.items ≡ l.count;
+  taken : AreTaken (own_list (plan_of l.layout.plan.now) (certificate_of l.layout.cert.now)) l.taken.items l.piece 0;
+  long : length l.taken.items ≡ l.count;
+  free : free_count l.taken.items ≡ l.free;
+  count : length l.pieces.items ≡ l.piece;
+  own : (n : ℕ) (x : Piece) → slice_get l.pieces.items n ≡ Some x → x.own.items ≡ own_list (plan_of l.layout.plan.now) (certificate_of l.layout.cert.now) n;
   inside : IsTrue l.inside → (i : ℕ) → i < l.piece → OwnIsInside (plan_of l.layout.plan.now) (certificate_of l.layout.cert.now) i;
 }
