@@ -14,8 +14,8 @@ use Rattle.lower.specs.declared.definitions.Formula.{Formula}
 use Rattle.lower.specs.declared.definitions.Stored.{Stored}
 use Rattle.lower.specs.Stored.{FormulaText, StoredText, has_large, formula_of, stored_of}
 use Rattle.lower.specs.Regions.{LaidText, laid_functions}
-use Rattle.lower.specs.Faults.{is_homeless, is_whole, are_whole, or_later, fault_by_region, fault_by, fault_of, totals_by, totals_with, first_laid, other_laid, fault_from, no_totals, IsFirstOf}
-use Rattle.lower.specs.Refused.{IsFirst, KeepsRegions}
+use Rattle.lower.specs.Faults.{is_homeless, is_whole, are_whole, or_later, fault_by_region, fault_by, fault_of, totals_by, totals_with, first_laid, other_laid, fault_from, no_totals, IsFirstOf, region_fault}
+use Rattle.lower.specs.Refused.{IsFirst}
 
 abbrev pub Fault : Type 0
 Fault = RegionRule × List ℕ
@@ -169,7 +169,8 @@ first_of a gs ls n r x f laid w =
 
 -- none breaks one
 pub none_of : (a : Algorithm) (gs : List StoredText) (ls : List (Option LaidText)) (n : ℕ)
-    → IsFirstOf a (has_large gs) no_totals n gs ls None → (are_whole gs ≡ true → ls ≡ laid_functions a gs) → n ≡ length gs → KeepsRegions a gs
+    → IsFirstOf a (has_large gs) no_totals n gs ls None → (are_whole gs ≡ true → ls ≡ laid_functions a gs) → n ≡ length gs → are_whole gs ≡ true
+    → region_fault a gs ≡ None
 none_of a gs ls n f laid e w =
     let all : take n gs ≡ gs = ap (λ k. take k gs) e ∙ take-length gs in
     sym (f w ∙ (λ i. fault_from a (has_large gs) no_totals (all i) (laid w i)))

@@ -14,9 +14,9 @@ use Rattle.sched.specs.declared.placing.Loop.{Loop}
 use Rattle.sched.proofs.Deciding.{any_decides, name_decides}
 use Rattle.lower.specs.declared.definitions.Formula.{Formula}
 use Rattle.lower.specs.declared.definitions.Stored.{Stored}
-use Rattle.lower.specs.Stored.{FormulaText, StoredText, calls_in, are_calls_of, left_at, formula_of, stored_of}
+use Rattle.lower.specs.Stored.{FormulaText, StoredText, calls_in, are_calls_of, some_calls, left_at, formula_of, stored_of}
 use Rattle.lower.specs.Regions.{counts}
-use Rattle.lower.specs.Uses.{first_home, home_of, stored_named, HasLoop, IsWithin, LeadsInside, Uses, StandsInside, UsesOutside, IsUsedOutside, is_loop_of, has_loop_of, is_within, passes, leads_inside, stands_inside, is_outside, uses_outside, is_used_outside}
+use Rattle.lower.specs.Uses.{first_home, home_of, stored_named, HasLoop, IsWithin, LeadsInside, Uses, StandsInside, UsesOutside, IsUsedOutside, is_loop_of, has_loop_of, is_within, passes, is_user, leading, MissesLoop, misses_loop, some_misses, leads_inside, stands_inside, is_outside, uses_outside, is_used_outside}
 
 -- ---- tests
 
@@ -102,25 +102,43 @@ within_decides x v ls = (within_is x v ls, λ h. within_has x v ls h.0 h.1 h.2 h
 
 -- ---- uses
 
-leads_decides : (gs bs : List StoredText) (h v : Home) → Decides (leads_inside gs bs h v) (LeadsInside gs (length bs) h v)
-leads_decides gs [] h v = (λ e. absurd (false≢true e), λ e. absurd e)
-leads_decides gs (b ∷ bs) h v = passes_decides
-    (λ g. if same_name h.function v.function then is_within h.turn v.turn g.placed.loops else passes (λ k. leads_inside gs bs k v) (home_of g))
-    (λ g. ((h.function ≡ v.function) × IsWithin h.turn v.turn g.placed.loops) ⊎ ((h.function ≢ v.function) × IsSomeAnd (home_of g) (λ k. LeadsInside gs (length bs) k v)))
-    (λ g. if_decides (same_name h.function v.function) (is_within h.turn v.turn g.placed.loops) (passes (λ k. leads_inside gs bs k v) (home_of g))
-    (name_decides h.function v.function) (within_decides h.turn v.turn g.placed.loops)
-    (passes_decides (λ k. leads_inside gs bs k v) (λ k. LeadsInside gs (length bs) k v) (λ k. leads_decides gs bs k v) (home_of g)))
+called_decides : (f : FormulaText) (x : List ℕ) → Decides (are_calls_of x (calls_in f)) (Uses f x)
+called_decides f x = any_decides (λ c. same_name c.name x) (λ c. c.name ≡ x) (λ c. name_decides c.name x) (calls_in f)
+
+misses_decides : (gs : List StoredText) (x v : List ℕ) (ls : List Loop) (f : FormulaText) → Decides (misses_loop gs x v ls f) (MissesLoop gs x v ls f)
+misses_decides gs x v ls f = Decides-and (not (has_loop_of ls f v)) (list_any (λ y. are_calls_of y (calls_in f)) (leading gs (x ∷ [])))
+    (Decides-not (has_loop_of ls f v) (has_loop_decides ls f v))
+    (any_decides (λ y. are_calls_of y (calls_in f)) (Uses f) (called_decides f) (leading gs (x ∷ [])))
+
+some_decides : (gs : List StoredText) (x v : List ℕ) (g : StoredText)
+    → Decides (some_misses gs x v g) (IsSomeAnd g.formulas (λ fs. Any (MissesLoop gs x v g.placed.loops) fs))
+some_decides gs x v g = passes_decides (list_any (misses_loop gs x v g.placed.loops)) (λ fs. Any (MissesLoop gs x v g.placed.loops) fs)
+    (λ fs. any_decides (misses_loop gs x v g.placed.loops) (MissesLoop gs x v g.placed.loops) (misses_decides gs x v g.placed.loops) fs) g.formulas
+
+leads_decides : (gs bs : List StoredText) (x : List ℕ) (h v : Home) → Decides (leads_inside gs bs x h v) (LeadsInside gs (length bs) x h v)
+leads_decides gs [] x h v = (λ e. absurd (false≢true e), λ e. absurd e)
+leads_decides gs (b ∷ bs) x h v = passes_decides
+    (λ g. if same_name h.function v.function then is_within h.turn v.turn g.placed.loops && not (some_misses gs x v.turn g)
+    else passes (λ k. leads_inside gs bs g.subject.name k v) (home_of g))
+    (λ g. ((h.function ≡ v.function) × (IsWithin h.turn v.turn g.placed.loops × ¬ IsSomeAnd g.formulas (λ fs. Any (MissesLoop gs x v.turn g.placed.loops) fs)))
+    ⊎ ((h.function ≢ v.function) × IsSomeAnd (home_of g) (λ k. LeadsInside gs (length bs) g.subject.name k v)))
+    (λ g. if_decides (same_name h.function v.function) (is_within h.turn v.turn g.placed.loops && not (some_misses gs x v.turn g))
+    (passes (λ k. leads_inside gs bs g.subject.name k v) (home_of g)) (name_decides h.function v.function)
+    (Decides-and (is_within h.turn v.turn g.placed.loops) (not (some_misses gs x v.turn g)) (within_decides h.turn v.turn g.placed.loops)
+    (Decides-not (some_misses gs x v.turn g) (some_decides gs x v.turn g)))
+    (passes_decides (λ k. leads_inside gs bs g.subject.name k v) (λ k. LeadsInside gs (length bs) g.subject.name k v)
+    (λ k. leads_decides gs bs g.subject.name k v) (home_of g)))
     (stored_named gs h.function)
 
 inside_decides : (gs : List StoredText) (v : Home) (u : StoredText) (f : FormulaText) → Decides (stands_inside gs v u f) (StandsInside gs v u f)
-inside_decides gs v u f = if_decides (same_name u.subject.name v.function) (has_loop_of u.placed.loops f v.turn) (passes (λ h. leads_inside gs gs h v) (home_of u))
+inside_decides gs v u f = if_decides (same_name u.subject.name v.function) (has_loop_of u.placed.loops f v.turn) (passes (λ h. leads_inside gs gs u.subject.name h v) (home_of u))
     (name_decides u.subject.name v.function) (has_loop_decides u.placed.loops f v.turn)
-    (passes_decides (λ h. leads_inside gs gs h v) (λ h. LeadsInside gs (length gs) h v) (λ h. leads_decides gs gs h v) (home_of u))
+    (passes_decides (λ h. leads_inside gs gs u.subject.name h v) (λ h. LeadsInside gs (length gs) u.subject.name h v) (λ h. leads_decides gs gs u.subject.name h v) (home_of u))
 
 outside_decides : (gs : List StoredText) (x : List ℕ) (v : Home) (u : StoredText) (f : FormulaText)
     → Decides (is_outside gs x v u f) (Uses f x × ¬ StandsInside gs v u f)
 outside_decides gs x v u f = Decides-and (are_calls_of x (calls_in f)) (not (stands_inside gs v u f))
-    (any_decides (λ c. same_name c.name x) (λ c. c.name ≡ x) (λ c. name_decides c.name x) (calls_in f))
+    (called_decides f x)
     (Decides-not (stands_inside gs v u f) (inside_decides gs v u f))
 
 uses_decides : (gs : List StoredText) (x : List ℕ) (v : Home) (u : StoredText) → Decides (uses_outside gs x v u) (UsesOutside gs x v u)
@@ -144,6 +162,24 @@ formulas_at s v e = ap (option_map (λ (w : Vec Formula). map formula_of w.items
 
 no_formulas : (s : Stored) → s.formulas ≡ None → (stored_of s).formulas ≡ None
 no_formulas s e = ap (option_map (λ (w : Vec Formula). map formula_of w.items)) e
+
+-- whether a function that is computed in loops calls one of these
+pub user_found : {E : Type 0} (xs : List (List ℕ)) (s : Stored) (v : Vec Formula) (r : Result Bool E) → s.formulas ≡ Some v → (stored_of s).subject.is_root ≡ false
+    → IfOk r (λ yes. yes ≡ list_any (λ y. some_calls y (map formula_of v.items)) xs) → IfOk r (λ yes. yes ≡ is_user xs (stored_of s))
+user_found xs s v r e inside is = IfOk-weaker r (λ yes. yes ≡ list_any (λ y. some_calls y (map formula_of v.items)) xs) (λ yes. yes ≡ is_user xs (stored_of s))
+    (λ yes i. i ∙ sym ((λ j. not (inside j) && passes (λ fs. list_any (λ y. some_calls y fs) xs) (formulas_at s v e j)))) is
+
+pub user_large : (xs : List (List ℕ)) (s : Stored) → s.formulas ≡ None → (stored_of s).subject.is_root ≡ false → false ≡ is_user xs (stored_of s)
+user_large xs s e inside = sym (λ j. not (inside j) && passes (λ fs. list_any (λ y. some_calls y fs) xs) (no_formulas s e j))
+
+-- whether some definition of a function lacks the loop
+pub misses_found : {E : Type 0} (gs : List StoredText) (x w : List ℕ) (s : Stored) (v : Vec Formula) (r : Result Bool E) → s.formulas ≡ Some v
+    → IfOk r (λ yes. yes ≡ list_any (misses_loop gs x w (stored_of s).placed.loops) (map formula_of v.items)) → IfOk r (λ yes. yes ≡ some_misses gs x w (stored_of s))
+misses_found gs x w s v r e is = IfOk-weaker r (λ yes. yes ≡ list_any (misses_loop gs x w (stored_of s).placed.loops) (map formula_of v.items))
+    (λ yes. yes ≡ some_misses gs x w (stored_of s)) (λ yes i. i ∙ sym (λ j. passes (list_any (misses_loop gs x w (stored_of s).placed.loops)) (formulas_at s v e j))) is
+
+pub misses_large : (gs : List StoredText) (x w : List ℕ) (s : Stored) → s.formulas ≡ None → false ≡ some_misses gs x w (stored_of s)
+misses_large gs x w s e = sym (λ j. passes (list_any (misses_loop gs x w (stored_of s).placed.loops)) (no_formulas s e j))
 
 pub outside_found : {E : Type 0} (gs : List StoredText) (x : List ℕ) (h : Home) (s : Stored) (v : Vec Formula) (r : Result Bool E)
     → s.formulas ≡ Some v → same_name (stored_of s).subject.name x ≡ false

@@ -22,14 +22,17 @@ pub mod Origins
 pub mod Outsides
 pub mod Owners
 pub mod Places
+pub mod Planned
 pub mod Puts
 pub mod Reached
 pub mod Rooted
 pub mod Rounds
 pub mod Shown
 pub mod Sizes
+pub mod Stepping
 pub mod Stops
 pub mod Taken
 pub mod Told
+pub mod Unplanned
 pub mod Wholes
 pub mod Within

@@ -104,7 +104,7 @@ none_with g false (Some fs) None es isnt e = e
 none_with g false None l es isnt e = e
 
 -- whole functions are root functions
-none_else : (gs : List StoredText) (ls : List (Option LaidText)) → are_whole gs ≡ true → rooted false gs ls ≡ []
+pub none_else : (gs : List StoredText) (ls : List (Option LaidText)) → are_whole gs ≡ true → rooted false gs ls ≡ []
 none_else [] ls w = refl
 none_else (g ∷ gs) [] w = refl
 none_else (g ∷ gs) (l ∷ ls) w =

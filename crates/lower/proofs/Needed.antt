@@ -6,7 +6,7 @@ use Rattle.std.proofs.lemmas.Int.{ints}
 use Rattle.std.proofs.lemmas.Bool.Decides.{Decides-int_eq}
 use Rattle.numeric.specs.Apply.{quotient, remainder}
 use Rattle.numeric.proofs.Ints.{distribute, multiple_assoc}
-use Rattle.lin.specs.Forms.{Form, number, sum_of, value_of}
+use Rattle.lin.specs.Forms.{Form, number, combined, plus_multiple, sum_of, value_of}
 use Rattle.lin.specs.Spans.{IsInSpan, IsInRegion}
 use Rattle.lin.specs.declared.form.Multiple.{Multiple}
 use Rattle.lin.specs.declared.span.Span1.{Span1}
@@ -33,6 +33,8 @@ use Rattle.lower.specs.Owning.{turn_named, IsTurn, block_of, place_of, EitherBy,
 use Rattle.lower.proofs.Dividing.{Falls, falls, falls_only, first_below, below_first, nearest, nearest_of_small}
 use Rattle.lower.proofs.Blocking.{number_value, multiple_value, one_time, IsSmall, CutFits}
 use Rattle.lower.proofs.Directed.{IsLeaf}
+use Rattle.lower.proofs.Laying.{bound}
+use Rattle.lower.proofs.Origins.{combined_is}
 use Rattle.lower.proofs.Covering.{in_span, of_span, in_numbers, NumbersAre, AllBelong, all_two, Zipped, zipped}
 use Rattle.lower.proofs.Owners.{arranged, cuts, numbers, small, leaves, head, single, in_grid, belong}
 
@@ -42,14 +44,15 @@ alone_value : (s : ℕ) (v : ℕ → ℤ) → value_of (alone s) v ≡ v s
 alone_value s v = let k = one_time (v s) in omega (arith, ints, k)
 
 module _ (n : ℕ) (above : 0 < n) (v : ℕ → ℤ) where
-  part_value : (f : Form) (t : Multiple) → is_multiple (pos n) t ≡ true → pos n *ℤ value_of (plus_part (pos n) f t) v ≡ pos n *ℤ value_of f v +ℤ t.factor *ℤ v t.symbol
-  part_value f t e =
+  part_value : (f g : Form) (t : Multiple) → is_multiple (pos n) t ≡ true → plus_part (pos n) f t ≡ Some g → pos n *ℤ value_of g v ≡ pos n *ℤ value_of f v +ℤ t.factor *ℤ v t.symbol
+  part_value f g t e h =
       let q = quotient t.factor (pos n) in
       let none : remainder t.factor (pos n) ≡ pos 0 = (Decides-int_eq (remainder t.factor (pos n)) (pos 0)).0 e in
       let whole = (falls n t.factor above).whole in
       let is : pos n *ℤ q ≡ t.factor = omega (arith, ints, whole, none) in
-      let sum : value_of (plus_part (pos n) f t) v ≡ value_of f v +ℤ q *ℤ v t.symbol =
-      value_of-plus_multiple f q (alone t.symbol) v ∙ ap (λ z. value_of f v +ℤ q *ℤ z) (alone_value t.symbol v) in
+      let made : g ≡ plus_multiple f q (alone t.symbol) = combined_is f (alone t.symbol) g q h in
+      let sum : value_of g v ≡ value_of f v +ℤ q *ℤ v t.symbol =
+      ap (λ (x : Form). value_of x v) made ∙ (value_of-plus_multiple f q (alone t.symbol) v ∙ ap (λ z. value_of f v +ℤ q *ℤ z) (alone_value t.symbol v)) in
       ap (λ z. pos n *ℤ z) sum ∙ (distribute (pos n) (value_of f v) (q *ℤ v t.symbol)
       ∙ (ap (λ z. pos n *ℤ value_of f v +ℤ z) (multiple_assoc (pos n) q (v t.symbol)) ∙ ap (λ z. pos n *ℤ value_of f v +ℤ z *ℤ v t.symbol) is))
 
@@ -58,14 +61,15 @@ module _ (n : ℕ) (above : 0 < n) (v : ℕ → ℤ) where
 
   parts_value : (f : Form) (ts : List Multiple) (b : Form) → plus_parts (pos n) f ts ≡ Some b → pos n *ℤ value_of b v ≡ pos n *ℤ value_of f v +ℤ sum_of ts v
   parts_value f [] b e = (let same = ap (λ (g : Form). pos n *ℤ value_of g v) (some_form f b e) in omega (arith, ints, same))
-  parts_value f (t ∷ ts) b e = of (is_multiple (pos n) t) refl e (λ k. parts_value (plus_part (pos n) f t) ts b k)
+  parts_value f (t ∷ ts) b e = of (is_multiple (pos n) t) refl e (λ g k. parts_value g ts b k)
     where
-      of : (w : Bool) → is_multiple (pos n) t ≡ w → (if w then plus_parts (pos n) (plus_part (pos n) f t) ts else None) ≡ Some b →
-          (plus_parts (pos n) (plus_part (pos n) f t) ts ≡ Some b → pos n *ℤ value_of b v ≡ pos n *ℤ value_of (plus_part (pos n) f t) v +ℤ sum_of ts v) →
+      of : (w : Bool) → is_multiple (pos n) t ≡ w → (if w then (plus_part (pos n) f t >>= λ g. plus_parts (pos n) g ts) else None) ≡ Some b →
+          ((g : Form) → plus_parts (pos n) g ts ≡ Some b → pos n *ℤ value_of b v ≡ pos n *ℤ value_of g v +ℤ sum_of ts v) →
           pos n *ℤ value_of b v ≡ pos n *ℤ value_of f v +ℤ (t.factor *ℤ v t.symbol +ℤ sum_of ts v)
       of true w k rest =
-          let all = rest k in
-          let one = part_value f t w in
+          let next = bound (plus_part (pos n) f t) (λ g. plus_parts (pos n) g ts) b k in
+          let all = rest next.value next.comes in
+          let one = part_value f next.value t w next.is in
           omega (arith, ints, all, one)
       of false w k rest = absurd (cc k)
 
@@ -88,8 +92,11 @@ module _ (n : ℕ) (above : 0 < n) (v : ℕ → ℤ) where
       let less : nearest (pos 0 -ℤ low) ≡ pos 0 -ℤ low = nearest_of_small (pos 0 -ℤ low) (omega (arith, ints, to)) (omega (arith, ints, from)) in
       let moved = multiple_value (nearest (pos 0 -ℤ low)) 1 f v in
       let once = one_time (value_of f v) in
-      let is : value_of (raised f (difference (pos 0) low)) v ≡ value_of f v -ℤ low = omega (arith, ints, moved, less, once) in
-      divided_value (raised f (difference (pos 0) low)) b e ∙ ap (λ z. quotient z (pos n)) is
+      let next = bound (combined (number (difference (pos 0) low)) (pos 1) f) (divided (pos n)) b e in
+      let made : next.value ≡ raised f (difference (pos 0) low) = combined_is (number (difference (pos 0) low)) f next.value (pos 1) next.is in
+      let first = ap (λ (x : Form). value_of x v) made in
+      let is : value_of next.value v ≡ value_of f v -ℤ low = omega (arith, ints, first, moved, less, once) in
+      divided_value next.value b next.comes ∙ ap (λ z. quotient z (pos n)) is
 
   quotient_order : (a b : ℤ) → a ≤ℤ b → quotient a (pos n) ≤ℤ quotient b (pos n)
   quotient_order a b h =

@@ -1,5 +1,5 @@
 -- The stored functions that have definitions and a region.
-use Rattle.std.proofs.Common.{◌≡◌, Bool, true, false, List, [], ◌∷◌, map, Option, Some, None, refl, sym, ap, subst, ◌∙◌}
+use Rattle.std.proofs.Common.{◌≡◌, ℕ, Bool, true, false, List, [], ◌∷◌, map, Option, Some, None, Ok, Err, refl, sym, ap, subst, ◌∙◌}
 use Rattle.std.specs.Prelude.{if◌then◌else◌}
 use Rattle.std.specs.Option.{option_map}
 use Rattle.std.specs.Global.{Vec}
@@ -43,8 +43,12 @@ pub no_entries : (rs : List Root) → map root_of rs ≡ [] → rs ≡ []
 no_entries [] h = refl
 no_entries (r ∷ rs) h = absurd cc
 
-pub alone_at : (p : Party) (v : Vec Inner) → p.inners ≡ Some v → IsAlone p → v.items ≡ []
+pub alone_at : (p : Party) (v : Vec Inner) → p.inners ≡ Ok v → IsAlone p → v.items ≡ []
 alone_at p v e h = subst HasNone e h
+
+-- what is computed inside its loops is known
+pub alone_known : (p : Party) (x : List ℕ) → p.inners ≡ Err x → IsAlone p → ⊥
+alone_known p x e h = subst HasNone e h
 
 -- ---- whether a function has both
 

@@ -1,5 +1,5 @@
 -- What the refusal of a placement, or its plan, says of an algorithm and a schedule.
-use Rattle.std.proofs.Common.{◌≡◌, ℕ, true, false, List, length, take, Option, Some, None, Result, Ok, Err, subst, refl, inl, inr}
+use Rattle.std.proofs.Common.{◌≡◌, ℕ, true, false, List, [], length, take, Option, Some, None, Result, Ok, Err, subst, refl, inl, inr}
 use Rattle.std.specs.Prelude.{IfOk, IfErr}
 use Rattle.std.specs.List.{list_any}
 use Rattle.std.proofs.lemmas.Result.{IfOk-weaker}
@@ -16,13 +16,14 @@ use Rattle.lower.specs.declared.lowering.Lowered.{Lowered}
 use Rattle.lower.specs.Stored.{StoredText, has_large, stored_functions}
 use Rattle.lower.specs.Large.{IsTold, IsToldOf}
 use Rattle.lower.specs.Regions.{LaidText, laid_functions}
-use Rattle.lower.specs.Faults.{are_whole, no_totals, IsFirstOf}
+use Rattle.lower.specs.Faults.{are_whole, no_totals, region_fault, IsFirstOf}
 use Rattle.lower.specs.Uses.{is_used_outside, AreUsedInside, TellsUse}
-use Rattle.lower.specs.Groups.{AreGroupsMade, HasGroups, IsPlanOf}
-use Rattle.lower.specs.Refused.{Answers, AreSmall, AreRegionsKept, AreUsesInside, KeepsRegions, IsRefused, IsUnplanned, IsPlaced}
+use Rattle.lower.specs.Groups.{AreGroupsMade, HasGroups, IsPlanOf, rooted}
+use Rattle.lower.specs.Planned.{TellsOf, unplanned, unplanned_over}
+use Rattle.lower.specs.Refused.{Answers, AreSmall, AreRegionsKept, AreUsesInside, IsRefused, IsUnplanned, IsPlaced}
 use Rattle.lower.proofs.Sizes.{none_is_large}
 use Rattle.lower.proofs.First.{first_of, none_of}
-use Rattle.lower.proofs.Made.{groups_made}
+use Rattle.lower.proofs.Made.{groups_made, none_else}
 use Rattle.lower.proofs.Outsides.{tells_is, none_is, told_at, large_at, not_whole}
 
 -- ---- the stored functions
@@ -54,24 +55,27 @@ placed_told a gs o n (error.Broken rule.TooMuch x) small none h = absurd h
 placed_told a gs o n (error.Broken rule.Unbounded x) small none h = absurd h
 
 answers_unplanned : (a : Algorithm) (gs : List StoredText) (o : Option (Rule × List ℕ)) (r : Result Lowered LowerError)
-    → o ≡ None → has_large gs ≡ false → KeepsRegions a gs → AreUsedInside gs → IfOk r (HasGroups a gs) → IfErr r IsUnplanned → Answers a gs o r
-answers_unplanned a gs o (Ok l) e h k inside made is = (e, h, k, made, inside)
-answers_unplanned a gs o (Err error.Memory) e h k inside made is = tt
-answers_unplanned a gs o (Err (error.Schedule s)) e h k inside made is = absurd is
-answers_unplanned a gs o (Err (error.Broken rule.OutsideUse x)) e h k inside made is = absurd is
-answers_unplanned a gs o (Err (error.Broken rule.TooLarge x)) e h k inside made is = absurd is
-answers_unplanned a gs o (Err (error.Broken rule.ShortShift x)) e h k inside made is = absurd is
-answers_unplanned a gs o (Err (error.Broken rule.SmallFold x)) e h k inside made is = absurd is
-answers_unplanned a gs o (Err (error.Broken rule.TooMuch x)) e h k inside made is = absurd is
-answers_unplanned a gs o (Err (error.Broken rule.Unbounded x)) e h k inside made is = (inr (h, inside), λ w. inr (refl, k w))
+    → o ≡ None → has_large gs ≡ false → (are_whole gs ≡ true → region_fault a gs ≡ None) → AreUsedInside gs → IfOk r (HasGroups a gs) → IfErr r IsUnplanned
+    → (are_whole gs ≡ true → TellsOf r (unplanned a gs)) → Answers a gs o r
+answers_unplanned a gs o (Ok l) e h k inside made is told = (e, h, λ w. (k w, told w), made, inside)
+answers_unplanned a gs o (Err error.Memory) e h k inside made is told = tt
+answers_unplanned a gs o (Err (error.Schedule s)) e h k inside made is told = absurd is
+answers_unplanned a gs o (Err (error.Broken rule.OutsideUse x)) e h k inside made is told = absurd is
+answers_unplanned a gs o (Err (error.Broken rule.TooLarge x)) e h k inside made is told = absurd is
+answers_unplanned a gs o (Err (error.Broken rule.ShortShift x)) e h k inside made is told = absurd is
+answers_unplanned a gs o (Err (error.Broken rule.SmallFold x)) e h k inside made is told = absurd is
+answers_unplanned a gs o (Err (error.Broken rule.TooMuch x)) e h k inside made is told = absurd is
+answers_unplanned a gs o (Err (error.Broken rule.Unbounded x)) e h k inside made is told = (inr (h, inside), λ w. inr (refl, k w, (told w).1))
 
 -- none of them does, and no plan, or one, is made
 pub unplanned_told : (a : Algorithm) (gs : List StoredText) (o : Option (Rule × List ℕ)) (ls : List (Option LaidText)) (n : ℕ) (r : Result Lowered LowerError)
     → o ≡ None → n ≡ length gs → has_large (take n gs) ≡ false → IsFirstOf a (has_large gs) no_totals n gs ls None → list_any (is_used_outside gs) (take n gs) ≡ false
-    → (are_whole gs ≡ true → ls ≡ laid_functions a gs) → IfOk r (IsPlanOf a gs ls) → IfErr r IsUnplanned → Answers a gs o r
-unplanned_told a gs o ls n r e c h f told_use laid made is =
+    → (are_whole gs ≡ true → ls ≡ laid_functions a gs) → IfOk r (IsPlanOf a gs ls) → IfErr r IsUnplanned
+    → (rooted false gs ls ≡ [] → TellsOf r (unplanned_over a gs ls)) → Answers a gs o r
+unplanned_told a gs o ls n r e c h f told_use laid made is told =
     answers_unplanned a gs o r e (none_is_large gs n c h) (none_of a gs ls n f laid c) (none_is gs n c told_use)
     (IfOk-weaker r (IsPlanOf a gs ls) (HasGroups a gs) (λ l p. groups_made a gs ls l p laid) made) is
+    (λ w. subst (λ (ms : List (Option LaidText)). TellsOf r (unplanned_over a gs ms)) (laid w) (told (none_else gs ls w)))
 
 -- ---- the algorithm and its schedule
 

@@ -1,6 +1,6 @@
 -- The groups of a plan: one for each stored root function, in the order of declaration, over its region, with a piece for each turn of
 -- its parallel loops.
-use Rattle.std.specs.Prelude.{◌≡◌, ℕ, ◌+◌, Bool, true, false, not, if◌then◌else◌, List, [], ◌∷◌, ◌++◌, length, map, Option, Some, None, string_bytes}
+use Rattle.std.specs.Prelude.{◌≡◌, ℕ, ◌+◌, Bool, true, false, not, if◌then◌else◌, List, [], ◌∷◌, ◌++◌, length, map, Option, Some, None, Result, Ok, Err, string_bytes}
 use Rattle.std.specs.Global.{Vec}
 use Rattle.lin.specs.Regions.{IsInside}
 use Rattle.lin.specs.declared.span.Span1.{Span1}
@@ -168,9 +168,9 @@ abbrev pub party_of : Party → Entry
 party_of p = root_of p.root
 
 -- nothing is computed inside its loops
-abbrev pub HasNone : Option (Vec Inner) → Type 0
-HasNone None = Unit {0}
-HasNone (Some v) = v.items ≡ []
+abbrev pub HasNone : Result (Vec Inner) (List ℕ) → Type 0
+HasNone (Err x) = ⊥
+HasNone (Ok v) = v.items ≡ []
 
 abbrev pub IsAlone : Party → Type 0
 IsAlone p = HasNone p.inners

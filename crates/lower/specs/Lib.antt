@@ -14,6 +14,7 @@ pub mod Loading
 pub mod Making
 pub mod Needs
 pub mod Owning
+pub mod Planned
 pub mod Refused
 pub mod Regions
 pub mod Stored

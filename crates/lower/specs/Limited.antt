@@ -1,5 +1,5 @@
 -- What is told of what a function makes: it, or that there is none within the limits; of want of memory nothing.
-use Rattle.std.specs.Prelude.{◌≡◌, Option, Some, None, Result, Ok, Err}
+use Rattle.std.specs.Prelude.{◌≡◌, Bool, true, false, Option, Some, None, Result, Ok, Err}
 use Rattle.lower.specs.declared.error.Stop.{Stop}
 use Rattle.lower.specs.declared.error.Stop.TheVariants.{Memory, Limit}
 
@@ -13,3 +13,9 @@ abbrev pub Gives : {X A : Type 0} → Result X Stop → (X → A) → Option A �
 Gives (Ok x) seen told = told ≡ Some (seen x)
 Gives (Err Memory) seen told = Unit {0}
 Gives (Err Limit) seen told = told ≡ None
+
+-- it is made where this holds, and there is none within the limits where it does not
+abbrev pub TellsIf : {X : Type 0} → Result X Stop → Bool → Type 0
+TellsIf (Ok x) is = is ≡ true
+TellsIf (Err Memory) is = Unit {0}
+TellsIf (Err Limit) is = is ≡ false

@@ -3,7 +3,7 @@
 use Rattle.std.specs.Prelude.{ℕ, ℤ, pos, ◌-ℤ◌, int_le, Bool, ◌&&◌, if◌then◌else◌, List, [], ◌∷◌, ◌++◌, Option, Some, None, slice_get}
 use Rattle.std.specs.Ordering.{int_eq}
 use Rattle.numeric.specs.Apply.{quotient, remainder}
-use Rattle.lin.specs.Forms.{Form, number, plus_multiple}
+use Rattle.lin.specs.Forms.{Form, number, combined}
 use Rattle.lin.specs.declared.form.Multiple.{Multiple}
 use Rattle.lin.specs.declared.span.Span1.{Span1}
 use Rattle.bounds.specs.Spans.{numbers}
@@ -13,7 +13,7 @@ use Rattle.sched.specs.declared.placing.Loop.{Loop}
 use Rattle.sched.specs.declared.numbers.Extent.{Extent}
 use Rattle.sched.specs.Placing.{is_parallel}
 use Rattle.sched.specs.Standing.{◌>>=◌, alone}
-use Rattle.lower.specs.Blocks.{difference, raised, factor_of}
+use Rattle.lower.specs.Blocks.{difference, factor_of}
 use Rattle.lower.specs.Stored.{StoredText}
 
 -- ---- forms by a divisor
@@ -21,14 +21,14 @@ use Rattle.lower.specs.Stored.{StoredText}
 abbrev pub is_multiple : ℤ → Multiple → Bool
 is_multiple n t = int_eq (remainder t.factor n) (pos 0)
 
--- a form, and one term more, whose factor is divided
-abbrev pub plus_part : ℤ → Form → Multiple → Form
-plus_part n f t = plus_multiple f (quotient t.factor n) (alone t.symbol)
+-- a form, and one term more, whose factor is divided; None outside the limits of forms
+abbrev pub plus_part : ℤ → Form → Multiple → Option Form
+plus_part n f t = combined f (quotient t.factor n) (alone t.symbol)
 
--- a form, and terms more, whose factors are divided; None where one is no multiple of the divisor
+-- a form, and terms more, whose factors are divided; None where one is no multiple of the divisor, too
 abbrev pub plus_parts : ℤ → Form → List Multiple → Option Form
 plus_parts n f [] = Some f
-plus_parts n f (t ∷ ts) = if is_multiple n t then plus_parts n (plus_part n f t) ts else None
+plus_parts n f (t ∷ ts) = if is_multiple n t then (plus_part n f t >>= λ g. plus_parts n g ts) else None
 
 -- the form by a positive divisor, rounded down
 abbrev pub divided : ℤ → Form → Option Form
@@ -38,7 +38,7 @@ divided n f = if int_le n (pos 0) then None else plus_parts n (number (quotient 
 
 -- the number of the block that a form's number falls in, where blocks have n numbers and the first begins at low
 abbrev pub block_at : ℤ → ℤ → Form → Option Form
-block_at low n f = divided n (raised f (difference (pos 0) low))
+block_at low n f = combined (number (difference (pos 0) low)) (pos 1) f >>= divided n
 
 abbrev pub add_blocks : ℤ → ℤ → List Form → List Form → Option (List Form)
 add_blocks low n before [] = Some before

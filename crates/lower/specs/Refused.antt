@@ -16,6 +16,7 @@ use Rattle.sched.specs.declared.region_rule.RegionRule.TheVariants as rule
 use Rattle.lower.specs.Stored.{StoredText, has_large, stored_functions}
 use Rattle.lower.specs.Large.{IsToldOf}
 use Rattle.lower.specs.Faults.{are_whole, region_fault}
+use Rattle.lower.specs.Planned.{unplanned}
 use Rattle.lower.specs.Uses.{AreUsedInside, is_used_at}
 use Rattle.lower.specs.Groups.{HasGroups}
 use Rattle.sched.specs.Legal as sched
@@ -30,14 +31,14 @@ use Rattle.lower.specs.declared.error.Stop.TheVariants as stop
 abbrev pub AreSmall : Algorithm → Schedule → Type 0
 AreSmall a s = has_large (stored_functions a s) ≡ false
 
--- where each stored function is a root function that is computed at no loop, none breaks a rule by its region
+-- where each stored function is a root function that is computed at no loop, none breaks a rule by its region, and the lines of each group can be written
 abbrev pub KeepsRegions : Algorithm → List StoredText → Type 0
-KeepsRegions a gs = are_whole gs ≡ true → region_fault a gs ≡ None
+KeepsRegions a gs = are_whole gs ≡ true → (region_fault a gs ≡ None) × (unplanned a gs ≡ None)
 
--- then this is the first function that breaks one, and the rule; of missing bounds it may be told too that the lines of the function's group lack
--- them, where none breaks one
+-- then this is the first function that breaks one, and the rule; of missing bounds it may be told too where none breaks one: of the first function whose
+-- group's lines can't be written
 abbrev pub IsFirst : Algorithm → List StoredText → RegionRule → List ℕ → Type 0
-IsFirst a gs r x = are_whole gs ≡ true → (region_fault a gs ≡ Some (r, x)) ⊎ ((r ≡ rule.Unbounded) × (region_fault a gs ≡ None))
+IsFirst a gs r x = are_whole gs ≡ true → (region_fault a gs ≡ Some (r, x)) ⊎ ((r ≡ rule.Unbounded) × (region_fault a gs ≡ None) × (unplanned a gs ≡ Some x))
 
 abbrev pub AreRegionsKept : Algorithm → Schedule → Type 0
 AreRegionsKept a s = KeepsRegions a (stored_functions a s)

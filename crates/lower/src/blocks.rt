@@ -1,9 +1,9 @@
 //! What a piece owns, claims and has places for, dimension by dimension.
 
-ghost use Rattle.std.specs.Prelude.{◌≡◌, ◌&&◌, pos, map, IfOk};
+ghost use Rattle.std.specs.Prelude.{◌≡◌, ◌∷◌, ◌&&◌, pos, map, IfOk};
 ghost use Rattle.std.specs.List.{list_any};
 ghost use Rattle.std.specs.Option.{option_copied};
-ghost use Rattle.lin.specs.Forms.{plus_multiple};
+ghost use Rattle.lin.specs.Forms.{combined};
 ghost use Rattle.meaning.specs.Names.{same_name};
 ghost use Rattle.sched.specs.Placing as placing;
 ghost use Rattle.sched.specs.Numbers as counts;
@@ -11,7 +11,9 @@ ghost use Rattle.sched.specs.Skeleton.{skeleton_seen};
 ghost use Rattle.sched.specs.Standing as standing;
 ghost use Rattle.lower.specs.Stored.{stored_of};
 ghost use Rattle.lower.specs.Blocks as spec;
-ghost use Rattle.lower.specs.Blocks.{block_seen, lay_seen, part_seen, Run};
+ghost use Rattle.lower.specs.Blocks.{block_seen, lay_seen, part_seen};
+ghost use Rattle.lower.specs.Limited.{Gives, Tells};
+ghost use Rattle.lower.specs.Planned as told;
 
 use crate::definitions::Stored;
 use crate::error::Stop;
@@ -218,36 +220,49 @@ fn claim_end_of(numbers: &[Numbers], name: &Name, cuts: &[Split]) -> i64
     }
 }
 
-// Each form so many times, and a number more.
-fn all_stepped(alloc: Global, low: i64, factor: i64, forms: &[Lin]) -> Result<Vec<Lin>, Stop>
-    ensures { IfOk result (λ v. v.items ≡ map (spec.multiple_from low factor) forms.now) }
+// Adds each form so many times, and a number more.
+fn add_stepped(
+    alloc: Global,
+    low: i64,
+    factor: i64,
+    forms: &[Lin],
+    made: &mut Vec<Lin>,
+) -> Result<(), Stop>
+    ensures { Tells result made.new.items (told.add_stepped low factor forms.now made.old.items) }
 {
-    let mut made = Vec::new(alloc);
-    for form in forms {
-        let one = multiple_from(alloc, low, factor, form)?;
-        made.push(one)?;
+    match forms {
+        [] => Ok(()),
+        [form, rest @ ..] => {
+            let one = multiple_from(alloc, low, factor, form)?;
+            made.push(one)?;
+            add_stepped(alloc, low, factor, rest, made)
+        }
     }
-    Ok(made)
 }
 
 // A form and another one more.
-#[tactic(auto, using(crate::proofs::Origins::combined_is))]
+#[tactic(auto, using(crate::proofs::Stops::form_gives))]
 fn moved(alloc: Global, by: &Lin, form: &Lin) -> Result<Lin, Stop>
-    ensures { IfOk result (λ made. made ≡ plus_multiple by.now (pos 1) form.now) }
+    ensures { Gives result (λ made. made) (combined by.now (pos 1) form.now) }
 {
-    Ok(by.plus_multiple(alloc, 1, form)?)
+    match by.plus_multiple(alloc, 1, form) {
+        Ok(made) => Ok(made),
+        Err(error) => Err(Stop::from(error)),
+    }
 }
 
-// Each form, and another one more.
-fn all_moved(alloc: Global, by: &Lin, forms: &[Lin]) -> Result<Vec<Lin>, Stop>
-    ensures { IfOk result (λ v. v.items ≡ map (plus_multiple by.now (pos 1)) forms.now) }
+// Adds each form, and another one more.
+fn add_moved(alloc: Global, by: &Lin, forms: &[Lin], made: &mut Vec<Lin>) -> Result<(), Stop>
+    ensures { Tells result made.new.items (told.add_moved by.now forms.now made.old.items) }
 {
-    let mut made = Vec::new(alloc);
-    for form in forms {
-        let one = moved(alloc, by, form)?;
-        made.push(one)?;
+    match forms {
+        [] => Ok(()),
+        [form, rest @ ..] => {
+            let one = moved(alloc, by, form)?;
+            made.push(one)?;
+            add_moved(alloc, by, rest, made)
+        }
     }
-    Ok(made)
 }
 
 // The last number, where it cuts what a piece owns.
@@ -291,6 +306,39 @@ fn copied(alloc: Global, form: Option<&Lin>) -> Result<Option<Lin>, AllocError>
     }
 }
 
+// A form, if there is one, so many times, and a number more.
+fn maybe_stepped(
+    alloc: Global,
+    low: i64,
+    factor: i64,
+    form: &Option<Lin>,
+) -> Result<Option<Lin>, Stop>
+    ensures { Gives result (λ o. o) (told.maybe_stepped low factor form.now) }
+{
+    match form {
+        Some(form) => {
+            let made = multiple_from(alloc, low, factor, form)?;
+            Ok(Some(made))
+        }
+        None => Ok(None),
+    }
+}
+
+// Where the one block of a piece begins that is moved back to the loop's end.
+fn shifted_origin(
+    alloc: Global,
+    lay: &Lay<'_>,
+    cut: &Split,
+    outer: &Block,
+) -> Result<Option<Lin>, AllocError>
+    ensures { IfOk result (λ o. o ≡ told.shifted_origin (lay_seen lay.now) cut.now (block_seen outer.now)) }
+{
+    if outer.length != 1 {
+        return Ok(None);
+    }
+    copied(alloc, form_named(lay.starts, &cut.whole))
+}
+
 // Where a piece begins to visit the numbers of a split loop of which whole blocks belong to it.
 fn origin_over(
     alloc: Global,
@@ -299,22 +347,13 @@ fn origin_over(
     own: &Numbers,
     outer: &Block,
 ) -> Result<Option<Lin>, Stop>
-    ensures { IfOk result (λ origin. origin ≡ spec.origin_over (lay_seen lay.now) cut.now own.now (block_seen outer.now)) }
+    ensures { Gives result (λ o. o) (told.told_origin (lay_seen lay.now) cut.now own.now (block_seen outer.now)) }
 {
     match cut.tail {
-        Tail::Shift => {
-            if outer.length != 1 {
-                return Ok(None);
-            }
-            Ok(copied(alloc, form_named(lay.starts, &cut.whole))?)
+        Tail::Shift => Ok(shifted_origin(alloc, lay, cut, outer)?),
+        Tail::Guard | Tail::Roundup => {
+            maybe_stepped(alloc, low_of(own), factor_of(cut), &outer.origin)
         }
-        Tail::Guard | Tail::Roundup => match &outer.origin {
-            Some(origin) => {
-                let made = multiple_from(alloc, low_of(own), factor_of(cut), origin)?;
-                Ok(Some(made))
-            }
-            None => Ok(None),
-        },
     }
 }
 
@@ -333,31 +372,33 @@ fn reach_over(cut: &Split, outer: &Block, inner_end: i64) -> i64
 
 // Where a block of a split loop begins, by the form of the outer loop.
 fn begun_at(alloc: Global, cut: &Split, own: &Numbers, form: &Lin) -> Result<Lin, Stop>
-    ensures { IfOk result (λ made. made ≡ spec.multiple_from own.now.low (spec.factor_of cut.now) form.now) }
+    ensures { Gives result (λ made. made) (told.told_start cut.now own.now form.now) }
 {
     multiple_from(alloc, low_of(own), factor_of(cut), form)
 }
 
 // The ends of the blocks that these forms count.
 fn all_ends(alloc: Global, cut: &Split, own: &Numbers, forms: &[Lin]) -> Result<Vec<Lin>, Stop>
-    ensures { IfOk result (λ v. v.items ≡ spec.all_ends cut.now own.now forms.now) }
+    ensures { Gives result (λ v. v.items) (told.told_ends cut.now own.now forms.now) }
 {
-    all_stepped(alloc, block_end(low_of(own), cut), factor_of(cut), forms)
+    let low = block_end(low_of(own), cut);
+    let mut ends = Vec::new(alloc);
+    add_stepped(alloc, low, factor_of(cut), forms, &mut ends)?;
+    Ok(ends)
 }
 
-// The further upper ends of what a piece owns of a split loop, of which it has whole blocks.
-fn own_ends(alloc: Global, cut: &Split, own: &Numbers, outer: &Block) -> Result<Vec<Lin>, Stop>
-    ensures { IfOk result (λ v. v.items ≡ spec.with_last (spec.all_ends cut.now own.now outer.now.own_limits.items) (spec.own_last cut.now own.now)) }
+// The further upper ends of whole blocks of a split loop, by those of the outer loop, with the last number where it counts.
+fn limits_over(
+    alloc: Global,
+    cut: &Split,
+    own: &Numbers,
+    last: Option<i64>,
+    outer: &[Lin],
+) -> Result<Vec<Lin>, Stop>
+    ensures { Gives result (λ v. v.items) (told.told_limits cut.now own.now last outer.now) }
 {
-    let ends = all_ends(alloc, cut, own, &outer.own_limits)?;
-    Ok(with_last(alloc, ends, own_last(own, cut))?)
-}
-
-fn claim_ends(alloc: Global, cut: &Split, own: &Numbers, outer: &Block) -> Result<Vec<Lin>, Stop>
-    ensures { IfOk result (λ v. v.items ≡ spec.with_last (spec.all_ends cut.now own.now outer.now.claim_limits.items) (spec.claim_last cut.now own.now)) }
-{
-    let ends = all_ends(alloc, cut, own, &outer.claim_limits)?;
-    Ok(with_last(alloc, ends, claim_last(own, cut))?)
+    let ends = all_ends(alloc, cut, own, outer)?;
+    Ok(with_last(alloc, ends, last)?)
 }
 
 fn length_over(cut: &Split, outer: &Block) -> i64
@@ -373,30 +414,29 @@ fn reach_of(lay: &Lay<'_>, cut: &Split, rest: &[Split], outer: &Block) -> i64
     reach_over(cut, outer, end_of(lay.numbers, &cut.inner, rest))
 }
 
-// Whole blocks of a split loop.
+// Whole blocks of a split loop with these numbers.
+#[tactic(auto, using(crate::proofs::Unplanned::blocks_told))]
 fn blocks_of(
     alloc: Global,
     lay: &Lay<'_>,
     cut: &Split,
     rest: &[Split],
+    own: &Numbers,
     outer: &Block,
 ) -> Result<Part, Stop>
-    ensures { IfOk result (λ part. part_seen part ≡ Run (spec.blocks_of (lay_seen lay.now) cut.now rest.now (block_seen outer.now))) }
+    ensures { Gives result part_seen (told.told_blocks (lay_seen lay.now) cut.now rest.now own.now (block_seen outer.now)) }
 {
-    let own = numbers_named(lay.numbers, &cut.whole);
-    let start = begun_at(alloc, cut, &own, &outer.start)?;
-    let own_limits = own_ends(alloc, cut, &own, outer)?;
-    let claim_limits = claim_ends(alloc, cut, &own, outer)?;
-    let origin = origin_over(alloc, lay, cut, &own, outer)?;
-    let length = length_over(cut, outer);
-    let reach = reach_of(lay, cut, rest, outer);
+    let start = begun_at(alloc, cut, own, &outer.start)?;
+    let own_limits = limits_over(alloc, cut, own, own_last(own, cut), &outer.own_limits)?;
+    let claim_limits = limits_over(alloc, cut, own, claim_last(own, cut), &outer.claim_limits)?;
+    let origin = origin_over(alloc, lay, cut, own, outer)?;
     Ok(Part::Block(Block {
         start,
-        length,
+        length: length_over(cut, outer),
         own_limits,
         claim_limits,
         origin,
-        reach,
+        reach: reach_of(lay, cut, rest, outer),
     }))
 }
 
@@ -421,118 +461,101 @@ fn is_guarded(lay: &Lay<'_>, cut: &Split, rest: &[Split], own: &Numbers) -> bool
     }
 }
 
-// Where a piece begins to visit a part of one block. A guard over the grid alone has a let behind it, which no form tells.
-fn origin_within(
-    alloc: Global,
-    lay: &Lay<'_>,
-    cut: &Split,
-    rest: &[Split],
-    outer: &Block,
-    inner: &Block,
-) -> Result<Option<Lin>, Stop>
-    ensures { IfOk result (λ origin. origin ≡ spec.origin_within (lay_seen lay.now) cut.now rest.now (block_seen outer.now) (block_seen inner.now)) }
+// The sum of two forms, if there are both.
+fn maybe_moved(alloc: Global, by: &Option<Lin>, form: &Option<Lin>) -> Result<Option<Lin>, Stop>
+    ensures { Gives result (λ o. o) (told.maybe_moved by.now form.now) }
 {
-    let own = numbers_named(lay.numbers, &cut.whole);
-    if is_guarded(lay, cut, rest, &own) {
-        return Ok(None);
-    }
-    match (origin_over(alloc, lay, cut, &own, outer)?, &inner.origin) {
-        (Some(begun), Some(origin)) => {
-            let made = moved(alloc, &begun, origin)?;
+    match (by, form) {
+        (Some(by), Some(form)) => {
+            let made = moved(alloc, by, form)?;
             Ok(Some(made))
         }
         _ => Ok(None),
     }
 }
 
-// The further upper ends of a part of one block: those of the part, those of the blocks, and the last number where that counts.
+// Where a piece begins to visit a part of one block. A guard over the grid alone has a let behind it, which no form tells.
+fn origin_within(
+    alloc: Global,
+    lay: &Lay<'_>,
+    cut: &Split,
+    rest: &[Split],
+    own: &Numbers,
+    outer: &Block,
+    inner: &Block,
+) -> Result<Option<Lin>, Stop>
+    ensures { Gives result (λ o. o) (told.told_inner_origin (lay_seen lay.now) cut.now rest.now own.now (block_seen outer.now) (block_seen inner.now)) }
+{
+    if is_guarded(lay, cut, rest, own) {
+        return Ok(None);
+    }
+    let begun = origin_over(alloc, lay, cut, own, outer)?;
+    maybe_moved(alloc, &begun, &inner.origin)
+}
+
+// The further upper ends of a part of one block that begins here: those of the part, those of the blocks, and the last number where
+// that counts.
 fn limits_within(
     alloc: Global,
+    cut: &Split,
+    own: &Numbers,
     base: &Lin,
-    inner: &[Lin],
-    blocks: Vec<Lin>,
     last: Option<i64>,
+    inner: &[Lin],
+    outer: &[Lin],
 ) -> Result<Vec<Lin>, Stop>
-    ensures { IfOk result (λ v. v.items ≡ spec.limits_within base.now inner.now blocks.items last) }
+    ensures { Gives result (λ v. v.items) (told.told_inner_limits cut.now own.now base.now last inner.now outer.now) }
 {
-    let mut limits = all_moved(alloc, base, inner)?;
-    let mut blocks = blocks;
+    let mut blocks = all_ends(alloc, cut, own, outer)?;
+    let mut limits = Vec::new(alloc);
+    add_moved(alloc, base, inner, &mut limits)?;
     limits.append(&mut blocks)?;
     Ok(with_last(alloc, limits, last)?)
 }
 
-fn length_within(inner: &Block) -> i64
-    ensures { result ≡ inner.now.length }
-{
-    inner.length
-}
-
-fn reach_within(inner: &Block) -> i64
-    ensures { result ≡ inner.now.reach }
-{
-    inner.reach
-}
-
-fn own_limits_within(
-    alloc: Global,
-    cut: &Split,
-    own: &Numbers,
-    base: &Lin,
-    outer: &Block,
-    inner: &Block,
-) -> Result<Vec<Lin>, Stop>
-    ensures { IfOk result (λ v. v.items ≡ spec.limits_within base.now inner.now.own_limits.items
-        (spec.all_ends cut.now own.now outer.now.own_limits.items) (spec.own_last cut.now own.now)) }
-{
-    let blocks = all_ends(alloc, cut, own, &outer.own_limits)?;
-    limits_within(alloc, base, &inner.own_limits, blocks, own_last(own, cut))
-}
-
-fn claim_limits_within(
-    alloc: Global,
-    cut: &Split,
-    own: &Numbers,
-    base: &Lin,
-    outer: &Block,
-    inner: &Block,
-) -> Result<Vec<Lin>, Stop>
-    ensures { IfOk result (λ v. v.items ≡ spec.limits_within base.now inner.now.claim_limits.items
-        (spec.all_ends cut.now own.now outer.now.claim_limits.items) (spec.claim_last cut.now own.now)) }
-{
-    let blocks = all_ends(alloc, cut, own, &outer.claim_limits)?;
-    limits_within(
-        alloc,
-        base,
-        &inner.claim_limits,
-        blocks,
-        claim_last(own, cut),
-    )
-}
-
-// A part of one block of a split loop.
+// A part of one block of a split loop with these numbers.
+#[tactic(auto, using(crate::proofs::Unplanned::within_told))]
 fn block_within(
     alloc: Global,
     lay: &Lay<'_>,
     cut: &Split,
     rest: &[Split],
+    own: &Numbers,
     outer: &Block,
     inner: &Block,
 ) -> Result<Part, Stop>
-    ensures { IfOk result (λ part. part_seen part ≡ Run (spec.block_within (lay_seen lay.now) cut.now rest.now (block_seen outer.now) (block_seen inner.now))) }
+    ensures { Gives result part_seen (told.told_within (lay_seen lay.now) cut.now rest.now own.now (block_seen outer.now) (block_seen inner.now)) }
 {
-    let own = numbers_named(lay.numbers, &cut.whole);
-    let base = begun_at(alloc, cut, &own, &outer.start)?;
+    let base = begun_at(alloc, cut, own, &outer.start)?;
     let start = moved(alloc, &base, &inner.start)?;
-    let own_limits = own_limits_within(alloc, cut, &own, &base, outer, inner)?;
-    let claim_limits = claim_limits_within(alloc, cut, &own, &base, outer, inner)?;
-    let origin = origin_within(alloc, lay, cut, rest, outer, inner)?;
+    let owned = own_last(own, cut);
+    let own_limits = limits_within(
+        alloc,
+        cut,
+        own,
+        &base,
+        owned,
+        &inner.own_limits,
+        &outer.own_limits,
+    )?;
+    let claimed = claim_last(own, cut);
+    let claim_limits = limits_within(
+        alloc,
+        cut,
+        own,
+        &base,
+        claimed,
+        &inner.claim_limits,
+        &outer.claim_limits,
+    )?;
+    let origin = origin_within(alloc, lay, cut, rest, own, outer, inner)?;
     Ok(Part::Block(Block {
         start,
-        length: length_within(inner),
+        length: inner.length,
         own_limits,
         claim_limits,
         origin,
-        reach: reach_within(inner),
+        reach: inner.reach,
     }))
 }
 
@@ -545,14 +568,15 @@ fn joined(
     outer: &Part,
     inner: &Part,
 ) -> Result<Part, Stop>
-    ensures { IfOk result (λ part. part_seen part ≡ spec.joined (lay_seen lay.now) cut.now rest.now (part_seen outer.now) (part_seen inner.now)) }
+    ensures { Gives result part_seen (told.told_joined (lay_seen lay.now) cut.now rest.now (part_seen outer.now) (part_seen inner.now)) }
 {
+    let own = numbers_named(lay.numbers, &cut.whole);
     match (outer, inner) {
         (Part::Whole, Part::Whole) => Ok(Part::Whole),
-        (Part::Block(outer), Part::Whole) => blocks_of(alloc, lay, cut, rest, outer),
+        (Part::Block(outer), Part::Whole) => blocks_of(alloc, lay, cut, rest, &own, outer),
         (Part::Block(outer), Part::Block(inner)) => {
             if outer.length == 1 {
-                block_within(alloc, lay, cut, rest, outer, inner)
+                block_within(alloc, lay, cut, rest, &own, outer, inner)
             } else {
                 Ok(Part::Scattered)
             }
@@ -562,7 +586,7 @@ fn joined(
 }
 
 // What of a loop that is not split belongs to a piece.
-fn uncut(alloc: Global, lay: &Lay<'_>, name: &Name) -> Result<Part, Stop>
+fn uncut(alloc: Global, lay: &Lay<'_>, name: &Name) -> Result<Part, AllocError>
     ensures { IfOk result (λ part. part_seen part ≡ spec.uncut (lay_seen lay.now) name.now) }
 {
     if !is_parallel(lay.loops, name) {
@@ -583,10 +607,10 @@ fn uncut(alloc: Global, lay: &Lay<'_>, name: &Name) -> Result<Part, Stop>
 
 // What of a loop's numbers belongs to a piece.
 fn part_of(alloc: Global, lay: &Lay<'_>, name: &Name, cuts: &[Split]) -> Result<Part, Stop>
-    ensures { IfOk result (λ part. part_seen part ≡ spec.part_of (lay_seen lay.now) name.now cuts.now) }
+    ensures { Gives result part_seen (told.told_part (lay_seen lay.now) name.now cuts.now) }
 {
     match cuts {
-        [] => uncut(alloc, lay, name),
+        [] => Ok(uncut(alloc, lay, name)?),
         [cut, rest @ ..] => {
             if cut.whole.as_str() == name.as_str() {
                 let outer = part_of(alloc, lay, &cut.outer, rest)?;
@@ -599,18 +623,25 @@ fn part_of(alloc: Global, lay: &Lay<'_>, name: &Name, cuts: &[Split]) -> Result<
     }
 }
 
-// From a form on so many numbers, and at most each of the limits.
-fn block_span(alloc: Global, start: &Lin, length: i64, limits: &[Lin]) -> Result<Span1, Stop>
-    ensures { IfOk result (λ span. span ≡ spec.block_span start.now length limits.now) }
+// A form and the limits.
+fn with_limits(alloc: Global, last: &Lin, limits: &[Lin]) -> Result<Forms, AllocError>
+    ensures { IfOk result (λ upper. upper ≡ last.now ∷ limits.now) }
 {
-    let lower = one_form(alloc, start.copy(alloc)?)?;
-    let mut upper = Forms::new(alloc);
-    let last = raised(alloc, start, length.saturating_sub(1))?;
-    upper.push(last)?;
+    let mut upper = one_form(alloc, last.copy(alloc)?)?;
     for limit in limits {
         let copy = limit.copy(alloc)?;
         upper.push(copy)?;
     }
+    Ok(upper)
+}
+
+// From a form on so many numbers, and at most each of the limits.
+fn block_span(alloc: Global, start: &Lin, length: i64, limits: &[Lin]) -> Result<Span1, Stop>
+    ensures { Gives result (λ span. span) (told.told_span start.now length limits.now) }
+{
+    let last = raised(alloc, start, length.saturating_sub(1))?;
+    let lower = one_form(alloc, start.copy(alloc)?)?;
+    let upper = with_limits(alloc, &last, limits)?;
     Ok(Span1 { lower, upper })
 }
 
@@ -641,7 +672,7 @@ fn whole_dimension(
     lay: &Lay<'_>,
     name: &Name,
     cuts: &[Split],
-) -> Result<Dimension, Stop>
+) -> Result<Dimension, AllocError>
     ensures { IfOk result (λ one. one ≡ spec.whole_dimension (lay_seen lay.now) name.now cuts.now) }
 {
     let own = numbers_named(lay.numbers, name);
@@ -653,6 +684,22 @@ fn whole_dimension(
     })
 }
 
+// The places of a dimension of which a piece has a block.
+fn block_places(
+    alloc: Global,
+    lay: &Lay<'_>,
+    name: &Name,
+    cuts: &[Split],
+    block: &Block,
+) -> Result<Places, AllocError>
+    ensures { IfOk result (λ places. places ≡ spec.places_by (lay_seen lay.now) name.now cuts.now block.now.reach block.now.origin) }
+{
+    match &block.origin {
+        Some(origin) => Ok(places_from(origin.copy(alloc)?, block.reach)),
+        None => Ok(whole_places(alloc, lay, name, cuts)),
+    }
+}
+
 fn block_dimension(
     alloc: Global,
     lay: &Lay<'_>,
@@ -660,17 +707,27 @@ fn block_dimension(
     cuts: &[Split],
     block: &Block,
 ) -> Result<Dimension, Stop>
-    ensures { IfOk result (λ one. one ≡ spec.block_dimension (lay_seen lay.now) name.now cuts.now (block_seen block.now)) }
+    ensures { Gives result (λ one. one) (told.told_block (lay_seen lay.now) name.now cuts.now (block_seen block.now)) }
 {
-    let places = match &block.origin {
-        Some(origin) => places_from(origin.copy(alloc)?, block.reach),
-        None => whole_places(alloc, lay, name, cuts),
-    };
-    Ok(Dimension {
-        own: block_span(alloc, &block.start, block.length, &block.own_limits)?,
-        claim: block_span(alloc, &block.start, block.length, &block.claim_limits)?,
-        places,
-    })
+    let own = block_span(alloc, &block.start, block.length, &block.own_limits)?;
+    let claim = block_span(alloc, &block.start, block.length, &block.claim_limits)?;
+    let places = block_places(alloc, lay, name, cuts, block)?;
+    Ok(Dimension { own, claim, places })
+}
+
+fn dimension_by(
+    alloc: Global,
+    lay: &Lay<'_>,
+    name: &Name,
+    cuts: &[Split],
+    part: &Part,
+) -> Result<Dimension, Stop>
+    ensures { Gives result (λ one. one) (told.told_by (lay_seen lay.now) name.now cuts.now (part_seen part.now)) }
+{
+    match part {
+        Part::Block(block) => block_dimension(alloc, lay, name, cuts, block),
+        Part::Whole | Part::Scattered => Ok(whole_dimension(alloc, lay, name, cuts)?),
+    }
 }
 
 fn dimension_of(
@@ -679,48 +736,65 @@ fn dimension_of(
     name: &Name,
     cuts: &[Split],
 ) -> Result<Dimension, Stop>
-    ensures { IfOk result (λ one. one ≡ spec.dimension_of (lay_seen lay.now) cuts.now name.now) }
+    ensures { Gives result (λ one. one) (told.told_dimension (lay_seen lay.now) cuts.now name.now) }
 {
-    match part_of(alloc, lay, name, cuts)? {
-        Part::Block(block) => block_dimension(alloc, lay, name, cuts, &block),
-        Part::Whole | Part::Scattered => whole_dimension(alloc, lay, name, cuts),
-    }
+    let part = part_of(alloc, lay, name, cuts)?;
+    dimension_by(alloc, lay, name, cuts, &part)
 }
 
-fn dimensions_over(
+fn add_dimensions(
     alloc: Global,
     lay: &Lay<'_>,
     cuts: &[Split],
     variables: &[Name],
-) -> Result<Vec<Dimension>, Stop>
-    ensures { IfOk result (λ v. v.items ≡ map (spec.dimension_of (lay_seen lay.now) cuts.now) variables.now) }
+    found: &mut Vec<Dimension>,
+) -> Result<(), Stop>
+    ensures { Tells result found.new.items (told.add_dimensions (lay_seen lay.now) cuts.now variables.now found.old.items) }
 {
-    let mut found = Vec::new(alloc);
-    for variable in variables {
-        let one = dimension_of(alloc, lay, variable, cuts)?;
-        found.push(one)?;
+    match variables {
+        [] => Ok(()),
+        [variable, rest @ ..] => {
+            let one = dimension_of(alloc, lay, variable, cuts)?;
+            found.push(one)?;
+            add_dimensions(alloc, lay, cuts, rest, found)
+        }
     }
-    Ok(found)
 }
 
-/// What a piece of a stored function owns, claims and has places for, one entry a dimension. A piece of a split loop owns its
-/// unshifted block, cut to the region.
-pub(crate) fn dimensions(
+// Each dimension of a piece, where forms tell it.
+fn told_dimensions(
     alloc: Global,
     stored: &Stored<'_>,
     laid: &Laid,
 ) -> Result<Vec<Dimension>, Stop>
-    ensures { IfOk result (λ v. v.items ≡ spec.dimensions_of (stored_of stored.now) laid.now.region.items (skeleton_seen laid.now.skeleton)) }
+    ensures { Gives result (λ v. v.items) (told.told_dimensions (stored_of stored.now) laid.now.region.items (skeleton_seen laid.now.skeleton)) }
 {
     let cuts = &stored.placed.cuts;
-    let numbers = loop_numbers(alloc, &stored.subject.variables, cuts, &laid.region)?;
+    let variables = &stored.subject.variables;
+    let numbers = loop_numbers(alloc, variables, cuts, &laid.region)?;
     let lay = Lay {
         numbers: &numbers,
         loops: &stored.placed.loops,
         known: &laid.skeleton.known,
         starts: &laid.skeleton.starts,
     };
-    dimensions_over(alloc, &lay, cuts, &stored.subject.variables)
+    let mut found = Vec::new(alloc);
+    add_dimensions(alloc, &lay, cuts, variables, &mut found)?;
+    Ok(found)
+}
+
+/// What a piece of a stored function owns, claims and has places for, one entry a dimension. A piece of a split loop owns its
+/// unshifted block, cut to the region.
+#[tactic(auto, using(crate::proofs::Planned::dimensions_given))]
+pub(crate) fn dimensions(
+    alloc: Global,
+    stored: &Stored<'_>,
+    laid: &Laid,
+) -> Result<Vec<Dimension>, Stop>
+    ensures are { IfOk result (λ v. v.items ≡ spec.dimensions_of (stored_of stored.now) laid.now.region.items (skeleton_seen laid.now.skeleton)) }
+    ensures gives { Gives result (λ v. v.items) (told.told_dimensions (stored_of stored.now) laid.now.region.items (skeleton_seen laid.now.skeleton)) }
+{
+    told_dimensions(alloc, stored, laid)
 }
 
 // The places in memory of their own.

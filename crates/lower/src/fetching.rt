@@ -1,6 +1,6 @@
 //! What a piece fetches of another stored function, and of which of its pieces.
 
-ghost use Rattle.std.specs.Prelude.{◌≡◌, [], ◌++◌, Some, IfOk, IfSome, OnOk, map};
+ghost use Rattle.std.specs.Prelude.{◌≡◌, true, [], ◌++◌, IfOk, IfSome, OnOk, map};
 ghost use Rattle.std.specs.Option.{is_some};
 ghost use Rattle.tree.specs.Term.{list_terms, indices};
 ghost use Rattle.algo.specs.View.{algorithm_of};
@@ -10,7 +10,7 @@ ghost use Rattle.lower.specs.Needs as needs;
 ghost use Rattle.lower.specs.Around.{around_of, grid_scope as grid_scope_of};
 ghost use Rattle.lower.specs.Calls.{call_of};
 ghost use Rattle.lower.specs.Fetches.{IsTaken};
-ghost use Rattle.lower.specs.Limited.{Tells, Gives};
+ghost use Rattle.lower.specs.Limited.{Tells, TellsIf, Gives};
 ghost use Rattle.lower.specs.Stored.{formula_of, some_calls, stored_of};
 ghost use Rattle.lower.specs.Taken as spec;
 ghost use Rattle.lower.specs.Windows.{size_below as size_below_of};
@@ -271,7 +271,8 @@ fn add_inners(
     callee: &str,
     sites: &mut Vec<Site>,
 ) -> Result<(), Stop>
-    ensures { OnOk result (inners.now ≡ [] → sites.new ≡ sites.old) }
+    ensures made { OnOk result (inners.now ≡ [] → sites.new ≡ sites.old) }
+    ensures told { inners.now ≡ [] → TellsIf result true }
 {
     match inners {
         [] => Ok(()),
@@ -290,8 +291,8 @@ pub(crate) fn sites_of(
     inners: &[Inner<'_>],
     callee: &str,
 ) -> Result<Vec<Site>, Stop>
-    ensures { IfOk result (λ v. inners.now ≡ [] → spec.sites_of (algorithm_of algo.now) (stored_of user.now.stored.now)
-        (map formula_of user.now.formulas.now) (skeleton_seen user.now.laid.now.skeleton) callee.now ≡ Some (map site_of v.items)) }
+    ensures { inners.now ≡ [] → Gives result (λ v. map site_of v.items) (spec.sites_of (algorithm_of algo.now) (stored_of user.now.stored.now)
+        (map formula_of user.now.formulas.now) (skeleton_seen user.now.laid.now.skeleton) callee.now) }
 {
     let mut sites = Vec::new(alloc);
     let skeleton = &user.laid.skeleton;
@@ -759,7 +760,7 @@ fn fetched_by(
     user: &Root<'_>,
     callee: &Root<'_>,
     sites: &[Site],
-) -> Result<Fetched, Stop>
+) -> Result<Fetched, AllocError>
     ensures region { IfOk result (λ found. found.region ≡ spec.taken_region (grid_scope_of user.now.laid.now.skeleton.grid.items) (map site_of sites.now)
         0 callee.now.laid.now.region.items) }
     ensures places { IfOk result (λ found. found.places.items ≡ spec.taken_places (grid_scope_of user.now.laid.now.skeleton.grid.items)
@@ -796,6 +797,8 @@ pub(crate) fn fetch_of(
         some_calls (stored_of callee.now.stored.now).subject.name (map formula_of user.now.formulas.now)) }
     ensures pieces { IfOk result (λ found. IfSome found (λ one. one.needed ≡ needs.pieces_needed (stored_of callee.now.stored.now)
         callee.now.laid.now.region.items callee.now.laid.now.skeleton.grid.items one.region)) }
+    ensures told { inners.now ≡ [] → TellsIf result (is_some (spec.sites_of (algorithm_of algo.now) (stored_of user.now.stored.now)
+        (map formula_of user.now.formulas.now) (skeleton_seen user.now.laid.now.skeleton) (stored_of callee.now.stored.now).subject.name)) }
 {
     let name = callee.stored.subject.name.as_str();
     let sites = sites_of(alloc, algo, user, inners, name)?;

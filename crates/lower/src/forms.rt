@@ -4,7 +4,6 @@ ghost use Rattle.std.specs.Prelude.{◌≡◌, [], ◌∷◌, ◌+◌, ◌-◌, 
 ghost use Rattle.lin.specs.Regions.{span_inside};
 ghost use Rattle.bounds.specs.Spans.{numbers};
 ghost use Rattle.lower.specs.Around as spec;
-ghost use Rattle.lower.specs.Blocks as blocks;
 ghost use Rattle.lower.specs.Bounded as limits;
 ghost use Rattle.lower.specs.Limited.{Gives};
 ghost use Rattle.lin.specs.Forms.{combined, number};
@@ -12,7 +11,7 @@ ghost use Rattle.lower.specs.Needs as needs;
 ghost use Rattle.numeric.specs.Apply as apply;
 
 use crate::error::Stop;
-use lin::{Forms, Lin, Multiple, Region, Scope, Span1};
+use lin::{Forms, Lin, LinError, Multiple, Region, Scope, Span1};
 use sched::Extent;
 use std::alloc::{AllocError, Global};
 
@@ -80,10 +79,9 @@ pub(crate) fn whole(alloc: Global, extent: &Extent) -> Result<Span1, AllocError>
 }
 
 /// A number and a multiple of a form.
-#[tactic(auto, using(crate::proofs::Origins::combined_is, crate::proofs::Stops::form_gives))]
+#[tactic(auto, using(crate::proofs::Stops::form_gives))]
 pub(crate) fn multiple_from(alloc: Global, low: i64, factor: i64, form: &Lin) -> Result<Lin, Stop>
-    ensures made { IfOk result (λ made. made ≡ blocks.multiple_from low factor form.now) }
-    ensures gives { Gives result (λ made. made) (combined (number low) factor form.now) }
+    ensures { Gives result (λ made. made) (combined (number low) factor form.now) }
 {
     match Lin::number(alloc, low).plus_multiple(alloc, factor, form) {
         Ok(made) => Ok(made),
@@ -93,8 +91,7 @@ pub(crate) fn multiple_from(alloc: Global, low: i64, factor: i64, form: &Lin) ->
 
 /// The form and a number more.
 pub(crate) fn raised(alloc: Global, form: &Lin, by: i64) -> Result<Lin, Stop>
-    ensures made { IfOk result (λ made. made ≡ blocks.raised form.now by) }
-    ensures gives { Gives result (λ made. made) (combined (number by) (pos 1) form.now) }
+    ensures { Gives result (λ made. made) (combined (number by) (pos 1) form.now) }
 {
     multiple_from(alloc, by, 1, form)
 }
@@ -137,24 +134,50 @@ fn is_multiple(term: &Multiple, divisor: i64) -> bool
     term.factor.rem_euclid(divisor) == 0
 }
 
-// The form, and a term more, whose factor is divided.
-#[tactic(auto, using(crate::proofs::Origins::combined_is))]
-fn plus_part(alloc: Global, form: &Lin, term: &Multiple, divisor: i64) -> Result<Lin, Stop>
+// A form and a multiple of another; none outside the limits of forms.
+fn combined_within(
+    alloc: Global,
+    form: &Lin,
+    factor: i64,
+    other: &Lin,
+) -> Result<Option<Lin>, AllocError>
+    ensures { IfOk result (λ made. made ≡ combined form.now factor other.now) }
+{
+    match form.plus_multiple(alloc, factor, other) {
+        Ok(made) => Ok(Some(made)),
+        Err(LinError::Limit) => Ok(None),
+        Err(LinError::Memory) => Err(AllocError),
+    }
+}
+
+/// The form and a number more; none outside the limits of forms.
+pub(crate) fn raised_within(alloc: Global, form: &Lin, by: i64) -> Result<Option<Lin>, AllocError>
+    ensures { IfOk result (λ made. made ≡ combined (number by) (pos 1) form.now) }
+{
+    combined_within(alloc, &Lin::number(alloc, by), 1, form)
+}
+
+// The form, and a term more, whose factor is divided; none outside the limits of forms.
+fn plus_part(
+    alloc: Global,
+    form: &Lin,
+    term: &Multiple,
+    divisor: i64,
+) -> Result<Option<Lin>, AllocError>
     requires { pos 0 <ℤ divisor }
     ensures { IfOk result (λ made. made ≡ needs.plus_part divisor form.now term.now) }
 {
     let symbol = Lin::symbol(alloc, term.symbol)?;
-    let part = quotient(term.factor, divisor);
-    Ok(form.plus_multiple(alloc, part, &symbol)?)
+    combined_within(alloc, form, quotient(term.factor, divisor), &symbol)
 }
 
-// The form, and terms more, whose factors are divided; none where one is no multiple of the divisor.
+// The form, and terms more, whose factors are divided; none where one is no multiple of the divisor, or outside the limits of forms.
 fn plus_parts(
     alloc: Global,
     form: Lin,
     terms: &[Multiple],
     divisor: i64,
-) -> Result<Option<Lin>, Stop>
+) -> Result<Option<Lin>, AllocError>
     requires { pos 0 <ℤ divisor }
     ensures { IfOk result (λ made. made ≡ needs.plus_parts divisor form terms.now) }
 {
@@ -164,14 +187,16 @@ fn plus_parts(
             if !is_multiple(term, divisor) {
                 return Ok(None);
             }
-            let next = plus_part(alloc, &form, term, divisor)?;
-            plus_parts(alloc, next, rest, divisor)
+            match plus_part(alloc, &form, term, divisor)? {
+                Some(next) => plus_parts(alloc, next, rest, divisor),
+                None => Ok(None),
+            }
         }
     }
 }
 
-/// The form by a divisor, rounded down; none where a factor is no multiple of it, or it is not positive.
-pub(crate) fn divided(alloc: Global, form: &Lin, divisor: i64) -> Result<Option<Lin>, Stop>
+/// The form by a divisor, rounded down; none where a factor is no multiple of it, it is not positive, or a form is outside the limits.
+pub(crate) fn divided(alloc: Global, form: &Lin, divisor: i64) -> Result<Option<Lin>, AllocError>
     ensures { IfOk result (λ made. made ≡ needs.divided divisor form.now) }
 {
     if divisor <= 0 {

@@ -16,6 +16,8 @@ ghost use Rattle.lower.specs.Blocks as blocks;
 ghost use Rattle.lower.specs.Bodies.{body, first_lines, step_lines};
 ghost use Rattle.lower.specs.Fetches.{fetch_seen, fetched_groups, is_fetched, last_number};
 ghost use Rattle.lower.specs.Needs.{pieces_needed};
+ghost use Rattle.lower.specs.Limited.{TellsIf};
+ghost use Rattle.lower.specs.Planned as planned;
 ghost use Rattle.lower.specs.Making.{AddsClaim, BodyMade, FetchMade, FetchesMade, GroupMade, IsBegun, MayMake, NestsMade, with_first};
 ghost use Rattle.lower.specs.Groups.{IsOver, IsOwnOver, grid_over as counts_over, root_of};
 
@@ -368,11 +370,12 @@ fn fetch_at<'a>(
     number: usize,
     group: usize,
 ) -> Result<Option<Fetch<'a>>, Stop>
-    ensures { IfOk result (λ fetch. inners.now ≡ [] → MayMake (sites_of (algorithm_of algo.now) (stored_of user.now.stored.now)
+    ensures made { IfOk result (λ fetch. inners.now ≡ [] → MayMake (sites_of (algorithm_of algo.now) (stored_of user.now.stored.now)
         (map formula_of user.now.formulas.now)
         (skeleton_seen user.now.laid.now.skeleton)) (grid_scope_of user.now.laid.now.skeleton.grid.items) number
         (is_fetched (map formula_of user.now.formulas.now) number group (root_of callee.now))
         group (root_of callee.now) (option_map fetch_seen fetch) body.old body.new) }
+    ensures told { inners.now ≡ [] → TellsIf result (planned.is_found (algorithm_of algo.now) (root_of user.now) number group (root_of callee.now)) }
 {
     if group == number {
         return Ok(None);
@@ -407,10 +410,11 @@ fn fetches_from<'a>(
     number: usize,
     group: usize,
 ) -> Result<Vec<Fetch<'a>>, Stop>
-    ensures { IfOk result (λ v. inners.now ≡ [] → FetchesMade (sites_of (algorithm_of algo.now) (stored_of user.now.stored.now)
+    ensures made { IfOk result (λ v. inners.now ≡ [] → FetchesMade (sites_of (algorithm_of algo.now) (stored_of user.now.stored.now)
         (map formula_of user.now.formulas.now)
         (skeleton_seen user.now.laid.now.skeleton)) (grid_scope_of user.now.laid.now.skeleton.grid.items) number
         (fetched_groups (map formula_of user.now.formulas.now) number group (map root_of roots.now)) (map fetch_seen v.items) body.old body.new) }
+    ensures told { inners.now ≡ [] → TellsIf result (planned.are_found (algorithm_of algo.now) (root_of user.now) number group (map root_of roots.now)) }
 {
     match roots {
         [] => Ok(Vec::new(alloc)),
@@ -793,7 +797,7 @@ impl<'a> Body<'a> {
     }
 
     // The nests of the definitions from this number on, in whose loops nothing is computed, each with its claim.
-    #[tactic(auto, using(crate::proofs::Claimed::nests_none))]
+    #[tactic(auto, using(crate::proofs::Claimed::nests_none, crate::proofs::Unplanned::stored_none))]
     fn whole_nests(
         &mut self,
         alloc: Global,
@@ -801,8 +805,10 @@ impl<'a> Body<'a> {
         definition: usize,
         nests: &[Nest],
     ) -> Result<Vec<Stmt>, Stop>
-        ensures { IfOk result (λ v. NestsMade (stored_of cast.entry.root.now.stored.now) (map formula_of cast.entry.root.now.formulas.now)
+        ensures made { IfOk result (λ v. NestsMade (stored_of cast.entry.root.now.stored.now) (map formula_of cast.entry.root.now.formulas.now)
             cast.entry.claimed.now definition (map nest_seen nests.now) (list_statements v.items) self.old self.new) }
+        ensures told { TellsIf result (planned.are_stored (stored_of cast.entry.root.now.stored.now)
+            (map formula_of cast.entry.root.now.formulas.now) definition (map nest_seen nests.now)) }
     {
         match nests {
             [] => Ok(Vec::new(alloc)),
@@ -833,9 +839,11 @@ impl<'a> Body<'a> {
 
     // The nests of a group, with their claims.
     fn nests_of(&mut self, alloc: Global, cast: Cast<'_, 'a>) -> Result<Vec<Stmt>, Stop>
-        ensures { IfOk result (λ v. cast.entry.inners.now ≡ [] → NestsMade (stored_of cast.entry.root.now.stored.now)
+        ensures made { IfOk result (λ v. cast.entry.inners.now ≡ [] → NestsMade (stored_of cast.entry.root.now.stored.now)
             (map formula_of cast.entry.root.now.formulas.now) cast.entry.claimed.now 0 (map nest_seen cast.entry.root.now.laid.now.skeleton.nests.items)
             (list_statements v.items) self.old self.new) }
+        ensures told { cast.entry.inners.now ≡ [] → TellsIf result (planned.are_stored (stored_of cast.entry.root.now.stored.now)
+            (map formula_of cast.entry.root.now.formulas.now) 0 (map nest_seen cast.entry.root.now.laid.now.skeleton.nests.items)) }
     {
         match cast.inners {
             [] => self.whole_nests(alloc, cast, 0, &cast.root.laid.skeleton.nests),
@@ -933,6 +941,7 @@ fn own_region(alloc: Global, root: &Root<'_>, dimensions: &[Dimension]) -> Resul
     ensures owned { IfOk result (λ own. own ≡ blocks.owned_region dimensions.now) }
     ensures inside { IfOk result (λ own. IsInside (grid_scope_of (counts_over (stored_of root.now.stored.now) root.now.laid.now.region.items)) own
         (map whole_of root.now.laid.now.region.items)) }
+    ensures told { TellsIf result (planned.is_inside (stored_of root.now.stored.now) root.now.laid.now.region.items dimensions.now) }
 {
     let own = owned_region(alloc, dimensions)?;
     let region = group_region(alloc, root)?;
@@ -971,6 +980,7 @@ fn body_of<'a>(
     ensures made { IfOk result (λ v. inners.now ≡ [] → BodyMade (algorithm_of algo.now) (map root_of roots.now) beginning.number beginning.claim beginning.line
         v.line (root_of root.now) certificate.old.claims.items certificate.new.claims.items certificate.old.needs.items certificate.new.needs.items
         (body (list_statements v.statements.items))) }
+    ensures told { inners.now ≡ [] → TellsIf result (planned.is_written (algorithm_of algo.now) (map root_of roots.now) beginning.number (root_of root.now)) }
 {
     let claimed = claimed_region(alloc, dimensions)?;
     let mut body = begun(alloc, beginning, root, inners.len())?;
@@ -1026,6 +1036,7 @@ pub(crate) fn group_of<'a>(
         made.line (root_of root.now) certificate.old.claims.items certificate.new.claims.items certificate.old.needs.items
         certificate.new.needs.items made.group) }
     ensures windows { IfOk result (λ made. inners.now ≡ [] → certificate.new.windows.items ≡ certificate.old.windows.items) }
+    ensures told { inners.now ≡ [] → TellsIf result (planned.is_planned (algorithm_of algo.now) (map root_of roots.now) beginning.number (root_of root.now)) }
 {
     let dimensions = dimensions(alloc, root.stored, root.laid)?;
     let own = own_region(alloc, root, &dimensions)?;

@@ -17,6 +17,7 @@ use lin::{Region, Scope};
 use plan::Places;
 use sched::{Home, Nest, Step};
 use std::alloc::{AllocError, Global};
+use tree::token::Name;
 
 /// A function that is computed inside loops.
 #[derive(Drop)]
@@ -235,17 +236,20 @@ fn found_inside<'a>(
 }
 
 /// The functions that are computed inside the loops of a group, the last declared first, of these in the order of
-/// declaration.
+/// declaration; or the name of the first that is looked for of which a bound is missing there.
 pub(crate) fn inners_of<'a>(
     alloc: Global,
     algo: &Algo,
     group: &Root<'a>,
     functions: &[Root<'a>],
-) -> Result<Vec<Inner<'a>>, Stop> {
+) -> Result<Result<Vec<Inner<'a>>, Name>, AllocError> {
     let mut inners = Vec::new(alloc);
     for root in functions.iter().rev() {
-        let mut found = found_inside(alloc, algo, group, functions, &inners, root)?;
-        inners.append(&mut found)?;
+        match found_inside(alloc, algo, group, functions, &inners, root) {
+            Ok(mut found) => inners.append(&mut found)?,
+            Err(Stop::Limit) => return Ok(Err(root.stored.subject.name)),
+            Err(Stop::Memory) => return Err(AllocError),
+        }
     }
-    Ok(inners)
+    Ok(Ok(inners))
 }

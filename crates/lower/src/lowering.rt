@@ -12,6 +12,7 @@ ghost use Rattle.lower.specs.Regions.{laid_of, laid_functions};
 ghost use Rattle.lower.specs.Faults.{are_whole};
 ghost use Rattle.lower.specs.Making.{GroupMade};
 ghost use Rattle.lower.specs.Groups.{AreAlone, AreBodies, AreGroupsMade, AreMade, BodiesMade, IsAlone, IsOver, IsOwnOver, IsPlanOf, party_of, root_of, rooted};
+ghost use Rattle.lower.specs.Planned.{TellsOf, first_unplanned, unplanned_at, unplanned_over};
 ghost use Rattle.lower.specs.Refused.{Answers, AreSmall, AreRegionsKept, AreUsesInside, IsRefused, IsUnplanned, IsPlaced};
 
 use crate::definitions::{Stored, stored_functions};
@@ -72,7 +73,7 @@ fn empty_certificate(alloc: Global) -> Cert
 }
 
 // The group of a root function; without bounds it breaks L12. What needs, claims and windows a certificate has of it is added.
-#[tactic(auto, using(crate::proofs::Rooted::alone_at))]
+#[tactic(auto, using(crate::proofs::Rooted::alone_at, crate::proofs::Rooted::alone_known))]
 fn group_at<'a>(
     alloc: Global,
     algo: &Algo,
@@ -89,10 +90,11 @@ fn group_at<'a>(
         certificate.new.needs.items made.group) }
     ensures windows { IfOk result (λ made. IsAlone party.now → certificate.new.windows.items ≡ certificate.old.windows.items) }
     ensures unplanned { IfErr result IsUnplanned }
+    ensures told { IsAlone party.now → TellsOf result (unplanned_at (algorithm_of algo.now) (map root_of roots.now) beginning.number (party_of party.now)) }
 {
-    let unbounded = LowerError::Broken(RegionRule::Unbounded, party.root.stored.subject.name);
-    let Some(inners) = &party.inners else {
-        return Err(unbounded);
+    let inners = match &party.inners {
+        Ok(inners) => inners,
+        Err(name) => return Err(LowerError::Broken(RegionRule::Unbounded, *name)),
     };
     match group_of(
         alloc,
@@ -105,7 +107,10 @@ fn group_at<'a>(
     ) {
         Ok(made) => Ok(made),
         Err(Stop::Memory) => Err(LowerError::Memory),
-        Err(Stop::Limit) => Err(unbounded),
+        Err(Stop::Limit) => {
+            let name = party.root.stored.subject.name;
+            Err(LowerError::Broken(RegionRule::Unbounded, name))
+        }
     }
 }
 
@@ -143,6 +148,8 @@ fn groups_from<'a>(
         certificate.old.needs.items certificate.new.needs.items) }
     ensures windows { IfOk result (λ v. AreAlone parties.now → certificate.new.windows.items ≡ certificate.old.windows.items) }
     ensures unplanned { IfErr result IsUnplanned }
+    ensures told { AreAlone parties.now → TellsOf result (first_unplanned (algorithm_of algo.now) (map root_of roots.now) beginning.number
+        (map party_of parties.now)) }
 {
     let [party, rest @ ..] = parties else {
         return Ok((Vec::new(alloc), Vec::new(alloc)));
@@ -174,6 +181,7 @@ fn groups_of<'a>(
         v.1.claims.items v.1.needs.items) }
     ensures windows { IfOk result (λ v. AreAlone parties.now → v.1.windows.items ≡ []) }
     ensures unplanned { IfErr result IsUnplanned }
+    ensures told { AreAlone parties.now → TellsOf result (first_unplanned (algorithm_of algo.now) (map root_of roots.now) 0 (map party_of parties.now)) }
 {
     let mut certificate = empty_certificate(alloc);
     let beginning = Beginning {
@@ -235,6 +243,8 @@ fn planned<'a>(
     requires alone { rooted false (map stored_of stored.now) (map (option_map laid_of) laid.now) ≡ [] → AreAlone parties.now }
     ensures made { IfOk result (IsPlanOf (algorithm_of algo.now) (map stored_of stored.now) (map (option_map laid_of) laid.now)) }
     ensures unplanned { IfErr result IsUnplanned }
+    ensures told { rooted false (map stored_of stored.now) (map (option_map laid_of) laid.now) ≡ [] →
+        TellsOf result (unplanned_over (algorithm_of algo.now) (map stored_of stored.now) (map (option_map laid_of) laid.now)) }
 {
     if let Some(name) = unlaid(stored, laid) {
         return Err(LowerError::Broken(RegionRule::Unbounded, name));
@@ -366,7 +376,7 @@ pub fn lower(alloc: Global, algo: &Algo, sched: &Sched) -> Result<Lowered, Lower
     // L11: of no stored function a definition, with the calls put in, passes the limits of an expression.
     ensures small { IfOk result (λ _. AreSmall (algorithm_of algo.now) (schedule_of sched.now)) }
 
-    // Where each stored function is a root function, none breaks L8, L11 or L12 by its region.
+    // Where each stored function is a root function, none breaks L8, L11 or L12 by its region, and forms tell the lines of its group.
     ensures regions { IfOk result (λ _. AreRegionsKept (algorithm_of algo.now) (schedule_of sched.now)) }
 
     // L6: no stored function is used outside of the loop at which it is computed, or in a definition that lacks it.

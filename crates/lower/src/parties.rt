@@ -7,6 +7,7 @@ ghost use Rattle.lower.specs.Large.{IsByRegion};
 ghost use Rattle.lower.specs.Stored.{stored_of};
 ghost use Rattle.lower.specs.Regions.{laid_of};
 ghost use Rattle.lower.specs.Groups as spec;
+ghost use Rattle.lower.specs.Planned as planned;
 
 use crate::definitions::Stored;
 use crate::error::Stop;
@@ -24,8 +25,8 @@ use tree::token::Name;
 #[derive(Drop)]
 pub(crate) struct Party<'a> {
     pub root: Root<'a>,
-    /// None where a bound is missing.
-    pub inners: Option<Vec<Inner<'a>>>,
+    /// Or the name of one of which a bound is missing.
+    pub inners: Result<Vec<Inner<'a>>, Name>,
 }
 
 // ---- root functions
@@ -91,23 +92,19 @@ pub(crate) fn roots_of<'a>(
     }
 }
 
-// Those of some functions that are computed inside the loops of a root function; none where a bound is missing.
+// Those of some functions that are computed inside the loops of a root function, or the name of one of which a bound is missing.
 fn inside_of<'a>(
     alloc: Global,
     algo: &Algo,
     functions: &[Root<'a>],
     root: &Root<'a>,
-) -> Result<Option<Vec<Inner<'a>>>, AllocError>
+) -> Result<Result<Vec<Inner<'a>>, Name>, AllocError>
     ensures { IfOk result (λ inners. functions.now ≡ [] → spec.HasNone inners) }
 {
     if functions.is_empty() {
-        return Ok(Some(Vec::new(alloc)));
+        return Ok(Ok(Vec::new(alloc)));
     }
-    match inners_of(alloc, algo, root, functions) {
-        Ok(inners) => Ok(Some(inners)),
-        Err(Stop::Limit) => Ok(None),
-        Err(Stop::Memory) => Err(AllocError),
-    }
+    inners_of(alloc, algo, root, functions)
 }
 
 // A root function with those that are computed inside its loops.
@@ -166,7 +163,8 @@ pub(crate) fn parties_of<'a>(
 // Whether a function has definitions and a region, where it is a root function.
 #[tactic(auto, using(crate::proofs::Rooted::has_both, crate::proofs::Rooted::is_no_root))]
 fn is_laid(one: &Stored<'_>, laid: &Option<Laid>) -> bool
-    ensures { result ≡ true → (stored_of one.now).subject.is_root ≡ true → spec.has_region (stored_of one.now).formulas (option_map laid_of laid.now) ≡ true }
+    ensures laid { result ≡ true → (stored_of one.now).subject.is_root ≡ true → spec.has_region (stored_of one.now).formulas (option_map laid_of laid.now) ≡ true }
+    ensures is { result ≡ planned.is_laid (stored_of one.now) (option_map laid_of laid.now) }
 {
     if !one.subject.is_root {
         return true;
@@ -179,7 +177,8 @@ fn is_laid(one: &Stored<'_>, laid: &Option<Laid>) -> bool
 
 /// The first root function that lacks definitions or a region.
 pub(crate) fn unlaid(stored: &[Stored<'_>], laid: &[Option<Laid>]) -> Option<Name>
-    ensures { result ≡ None → spec.AreLaid (map stored_of stored.now) (map (option_map laid_of) laid.now) }
+    ensures laid { result ≡ None → spec.AreLaid (map stored_of stored.now) (map (option_map laid_of) laid.now) }
+    ensures first { result ≡ planned.first_unlaid (map stored_of stored.now) (map (option_map laid_of) laid.now) }
 {
     match stored {
         [] => None,
@@ -283,6 +282,29 @@ fn with_faults(
     Ok(found)
 }
 
+// The rule of the lowest number that a function breaks inside the loops of a root function: L12 where a bound of it is missing there.
+fn fault_among(
+    alloc: Global,
+    algo: &Algo,
+    root: &Root<'_>,
+    party: &Party<'_>,
+    known: Option<RegionRule>,
+) -> Result<Option<RegionRule>, AllocError>
+    requires { IsByRegion known }
+    ensures { IfOk result IsByRegion }
+{
+    match &party.inners {
+        Ok(inners) => with_faults(alloc, algo, root, inners, known),
+        Err(name) => {
+            if name.as_str() == root.stored.subject.name.as_str() {
+                Ok(lower_of(known, Some(RegionRule::Unbounded)))
+            } else {
+                Ok(known)
+            }
+        }
+    }
+}
+
 /// The rule of the lowest number that a function breaks wherever it is computed inside loops.
 pub(crate) fn fault_inside(
     alloc: Global,
@@ -294,9 +316,7 @@ pub(crate) fn fault_inside(
 {
     let mut found = None;
     for party in parties {
-        if let Some(inners) = &party.inners {
-            found = with_faults(alloc, algo, root, inners, found)?;
-        }
+        found = fault_among(alloc, algo, root, party, found)?;
     }
     Ok(found)
 }
@@ -340,8 +360,8 @@ fn add_party(
 ) -> Result<(), Stop> {
     let name = root.stored.subject.name.as_str();
     let inners: &[Inner<'_>] = match &party.inners {
-        Some(inners) => inners,
-        None => &[],
+        Ok(inners) => inners,
+        Err(_) => &[],
     };
     let sites = sites_of(alloc, algo, &party.root, inners, name)?;
     for place in 0..reach.len() {
@@ -407,7 +427,7 @@ pub(crate) fn laid_by_turns(
     laid: &[Option<Laid>],
 ) -> Result<Option<Vec<Option<Laid>>>, AllocError> {
     let parties = parties_of(alloc, algo, stored, laid)?;
-    if parties.iter().any(|party| party.inners.is_none()) {
+    if parties.iter().any(|party| party.inners.is_err()) {
         return Ok(None);
     }
     let mut made = Vec::new(alloc);

@@ -6,9 +6,8 @@ ghost use Rattle.lower.specs.Blocks as blocks;
 ghost use Rattle.lower.specs.Needs as needs;
 ghost use Rattle.lower.specs.Stored.{stored_of};
 
-use crate::error::Stop;
 use crate::fetching::Root;
-use crate::forms::{between, divided, raised};
+use crate::forms::{between, divided, raised_within};
 use lin::{Forms, Lin, Region, Span1};
 use sched::{Loop, Split};
 use std::alloc::{AllocError, Global};
@@ -46,12 +45,14 @@ fn length_of(variable: &Name, name: &Name, cuts: &[Split]) -> Option<i64>
     split_length(variable, name, cuts)
 }
 
-// The block that a form's number falls in; none where the form does not fall on the blocks' ends.
-fn block_at(alloc: Global, form: &Lin, low: i64, length: i64) -> Result<Option<Lin>, Stop>
+// The block that a form's number falls in; none where the form does not fall on the blocks' ends, or outside the limits of forms.
+fn block_at(alloc: Global, form: &Lin, low: i64, length: i64) -> Result<Option<Lin>, AllocError>
     ensures { IfOk result (λ block. block ≡ needs.block_at low length form.now) }
 {
-    let moved = raised(alloc, form, 0_i64.saturating_sub(low))?;
-    divided(alloc, &moved, length)
+    match raised_within(alloc, form, 0_i64.saturating_sub(low))? {
+        Some(moved) => divided(alloc, &moved, length),
+        None => Ok(None),
+    }
 }
 
 // The blocks of these forms' numbers, behind others.
@@ -61,7 +62,7 @@ fn add_blocks(
     forms: &[Lin],
     low: i64,
     length: i64,
-) -> Result<Option<Forms>, Stop>
+) -> Result<Option<Forms>, AllocError>
     ensures { IfOk result (λ blocks. blocks ≡ needs.add_blocks low length made forms.now) }
 {
     match forms {
@@ -77,7 +78,12 @@ fn add_blocks(
     }
 }
 
-fn blocks_over(alloc: Global, span: &Span1, low: i64, length: i64) -> Result<Option<Span1>, Stop>
+fn blocks_over(
+    alloc: Global,
+    span: &Span1,
+    low: i64,
+    length: i64,
+) -> Result<Option<Span1>, AllocError>
     ensures { IfOk result (λ blocks. blocks ≡ needs.blocks_over low length span.now) }
 {
     let none = Forms::new(alloc);
@@ -124,7 +130,7 @@ fn turns_over(
     dimension: usize,
     low: i64,
     length: i64,
-) -> Result<Option<Span1>, Stop>
+) -> Result<Option<Span1>, AllocError>
     ensures { IfOk result (λ turns. turns ≡ needs.turns_over region.now dimension low length) }
 {
     match span_at(region, dimension) {
@@ -139,7 +145,7 @@ fn turns_found(
     callee: &Root<'_>,
     one: &Loop,
     region: &Region,
-) -> Result<Option<Span1>, Stop>
+) -> Result<Option<Span1>, AllocError>
     ensures { IfOk result (λ turns. turns ≡ needs.turns_found (stored_of callee.now.stored.now) callee.now.laid.now.region.items region.now one.now) }
 {
     let Some(length) = length_at(callee, one) else {
@@ -164,12 +170,12 @@ fn turns_needed(
     one: &Loop,
     count: u32,
     region: &Region,
-) -> Result<Span1, Stop>
+) -> Result<Span1, AllocError>
     ensures { IfOk result (λ span. span ≡ needs.turns_needed (stored_of callee.now.stored.now) callee.now.laid.now.region.items region.now one.now count) }
 {
     match turns_found(alloc, callee, one, region)? {
         Some(found) => Ok(found),
-        None => Ok(all_turns(alloc, count)?),
+        None => all_turns(alloc, count),
     }
 }
 
@@ -199,7 +205,7 @@ fn add_loops(
     counts: &[u32],
     region: &Region,
     needed: &mut Region,
-) -> Result<(), Stop>
+) -> Result<(), AllocError>
     ensures { OnOk result (needed.new ≡ needed.old ++ needs.loops_needed (stored_of callee.now.stored.now) callee.now.laid.now.region.items region.now
         loops.now counts.now) }
 {
@@ -229,7 +235,11 @@ fn or_one_piece(alloc: Global, needed: Region) -> Result<Region, AllocError>
 }
 
 /// The pieces of a function that own a region of it, as far as forms tell them; else more.
-pub(crate) fn pieces_of(alloc: Global, callee: &Root<'_>, region: &Region) -> Result<Region, Stop>
+pub(crate) fn pieces_of(
+    alloc: Global,
+    callee: &Root<'_>,
+    region: &Region,
+) -> Result<Region, AllocError>
     ensures { IfOk result (λ pieces. pieces ≡ needs.pieces_needed (stored_of callee.now.stored.now) callee.now.laid.now.region.items
         callee.now.laid.now.skeleton.grid.items region.now) }
 {
@@ -237,5 +247,5 @@ pub(crate) fn pieces_of(alloc: Global, callee: &Root<'_>, region: &Region) -> Re
     let loops = &callee.stored.placed.loops;
     let counts = &callee.laid.skeleton.grid;
     add_loops(alloc, callee, loops, counts, region, &mut needed)?;
-    Ok(or_one_piece(alloc, needed)?)
+    or_one_piece(alloc, needed)
 }

@@ -1,15 +1,16 @@
 //! Where functions that are computed inside loops are used.
 
-ghost use Rattle.std.specs.Prelude.{◌≡◌, Decides, IfOk, true, false, map};
+ghost use Rattle.std.specs.Prelude.{◌≡◌, ◌&&◌, [], ◌∷◌, Decides, IfOk, true, false, map, not};
 ghost use Rattle.std.specs.List.{list_any};
 ghost use Rattle.std.specs.Option.{option_map};
-ghost use Rattle.lower.specs.Stored.{formula_of, stored_of};
+ghost use Rattle.lower.specs.Calls.{call_of};
+ghost use Rattle.lower.specs.Stored.{are_calls_of as calls_of_name, formula_of, some_calls, stored_of};
 ghost use Rattle.lower.specs.Faults as spec;
 ghost use Rattle.lower.specs.Uses as uses;
 
-use crate::calls::calls_of;
+use crate::calls::{Call, calls_of};
 use crate::definitions::{Formula, Stored};
-use crate::regions::{are_calls_of, counts};
+use crate::regions::{are_calls_of, counts, formulas_call};
 use algo::scoping::same_name;
 use sched::{Home, Loop};
 use std::alloc::{AllocError, Global};
@@ -88,21 +89,182 @@ fn is_within(inner: &Name, outer: &Name, loops: &[Loop]) -> bool
     }
 }
 
-// Whether what is computed at the first loop is computed at the other one or inside it, by at most one home for each of `steps`.
-fn leads_inside<'a>(stored: &[Stored<'a>], steps: &[Stored<'a>], home: &Home, outer: &Home) -> bool
-    ensures { result ≡ uses.leads_inside (map stored_of stored.now) (map stored_of steps.now) home.now outer.now }
+// ---- nests
+
+// Whether the definitions call one of these functions.
+fn are_called(alloc: Global, names: &[Name], formulas: &[Formula]) -> Result<bool, AllocError>
+    ensures { IfOk result (λ yes. yes ≡ list_any (λ y. some_calls y (map formula_of formulas.now)) names.now) }
+{
+    match names {
+        [] => Ok(false),
+        [name, rest @ ..] => {
+            if formulas_call(alloc, formulas, name.as_str())? {
+                return Ok(true);
+            }
+            are_called(alloc, rest, formulas)
+        }
+    }
+}
+
+// Whether the function is computed in loops and calls one of these.
+#[tactic(auto, using(crate::proofs::Insides::user_found, crate::proofs::Insides::user_large))]
+fn is_user(alloc: Global, names: &[Name], one: &Stored<'_>) -> Result<bool, AllocError>
+    ensures { IfOk result (λ yes. yes ≡ uses.is_user names.now (stored_of one.now)) }
+{
+    if one.subject.is_root {
+        return Ok(false);
+    }
+    match &one.formulas {
+        None => Ok(false),
+        Some(formulas) => are_called(alloc, names, formulas),
+    }
+}
+
+// With this function, if it leads to one of these.
+fn with_user(alloc: Global, names: Vec<Name>, one: &Stored<'_>) -> Result<Vec<Name>, AllocError>
+    ensures { IfOk result (λ v. v.items ≡ uses.with_user names.items (stored_of one.now)) }
+{
+    let mut names = names;
+    if is_user(alloc, &names, one)? {
+        names.push(one.subject.name)?;
+    }
+    Ok(names)
+}
+
+// These, and the functions among the others that lead to one of them: those that are computed in loops and call one that does.
+fn leading(alloc: Global, stored: &[Stored<'_>], names: Vec<Name>) -> Result<Vec<Name>, AllocError>
+    ensures { IfOk result (λ v. v.items ≡ uses.leading (map stored_of stored.now) names.items) }
+{
+    match stored {
+        [] => Ok(names),
+        [one, rest @ ..] => {
+            let next = with_user(alloc, names, one)?;
+            leading(alloc, rest, next)
+        }
+    }
+}
+
+// This function, and those that lead to it.
+fn leading_to(alloc: Global, stored: &[Stored<'_>], name: &Name) -> Result<Vec<Name>, AllocError>
+    ensures { IfOk result (λ v. v.items ≡ uses.leading (map stored_of stored.now) (name.now ∷ [])) }
+{
+    let mut names = Vec::new(alloc);
+    names.push(*name)?;
+    leading(alloc, stored, names)
+}
+
+// Whether one of these is called.
+fn is_called(names: &[Name], calls: &[Call<'_>]) -> bool
+    ensures { result ≡ list_any (λ y. calls_of_name y (map call_of calls.now)) names.now }
+{
+    match names {
+        [] => false,
+        [name, rest @ ..] => are_calls_of(name.as_str(), calls) || is_called(rest, calls),
+    }
+}
+
+// Whether a function is computed in the nest of a definition, and the nest lacks the loop.
+fn misses_loop(
+    alloc: Global,
+    stored: &[Stored<'_>],
+    name: &Name,
+    turn: &Name,
+    loops: &[Loop],
+    formula: &Formula,
+) -> Result<bool, AllocError>
+    ensures { IfOk result (λ yes. yes ≡ uses.misses_loop (map stored_of stored.now) name.now turn.now loops.now (formula_of formula.now)) }
+{
+    if has_loop(loops, formula, turn) {
+        return Ok(false);
+    }
+    let names = leading_to(alloc, stored, name)?;
+    let calls = calls_of(alloc, formula)?;
+    Ok(is_called(&names, &calls))
+}
+
+// The same of one of these definitions.
+fn one_misses(
+    alloc: Global,
+    stored: &[Stored<'_>],
+    name: &Name,
+    turn: &Name,
+    loops: &[Loop],
+    formulas: &[Formula],
+) -> Result<bool, AllocError>
+    ensures { IfOk result (λ yes. yes ≡ list_any (uses.misses_loop (map stored_of stored.now) name.now turn.now loops.now)
+        (map formula_of formulas.now)) }
+{
+    match formulas {
+        [] => Ok(false),
+        [formula, rest @ ..] => {
+            if misses_loop(alloc, stored, name, turn, loops, formula)? {
+                return Ok(true);
+            }
+            one_misses(alloc, stored, name, turn, loops, rest)
+        }
+    }
+}
+
+// The same of one of a function's definitions.
+#[tactic(auto, using(crate::proofs::Insides::misses_found, crate::proofs::Insides::misses_large))]
+fn some_misses(
+    alloc: Global,
+    stored: &[Stored<'_>],
+    name: &Name,
+    turn: &Name,
+    host: &Stored<'_>,
+) -> Result<bool, AllocError>
+    ensures { IfOk result (λ yes. yes ≡ uses.some_misses (map stored_of stored.now) name.now turn.now (stored_of host.now)) }
+{
+    match &host.formulas {
+        None => Ok(false),
+        Some(formulas) => one_misses(alloc, stored, name, turn, &host.placed.loops, formulas),
+    }
+}
+
+// Whether a function that is computed at a loop of this one is computed inside of the other loop, in each nest in which it is computed.
+fn is_inside(
+    alloc: Global,
+    stored: &[Stored<'_>],
+    name: &Name,
+    inner: &Name,
+    outer: &Name,
+    host: &Stored<'_>,
+) -> Result<bool, AllocError>
+    ensures { IfOk result (λ yes. yes ≡ (uses.is_within inner.now outer.now (stored_of host.now).placed.loops
+        && not (uses.some_misses (map stored_of stored.now) name.now outer.now (stored_of host.now)))) }
+{
+    if !is_within(inner, outer, &host.placed.loops) {
+        return Ok(false);
+    }
+    Ok(!some_misses(alloc, stored, name, outer, host)?)
+}
+
+// Whether what is computed at the first loop, which is the function of this name, is computed at the other one or inside it, by at
+// most one home for each of `steps`.
+fn leads_inside<'a>(
+    alloc: Global,
+    stored: &[Stored<'a>],
+    steps: &[Stored<'a>],
+    name: &Name,
+    home: &Home,
+    outer: &Home,
+) -> Result<bool, AllocError>
+    ensures { IfOk result (λ yes. yes ≡ uses.leads_inside (map stored_of stored.now) (map stored_of steps.now) name.now home.now outer.now) }
 {
     match steps {
-        [] => false,
+        [] => Ok(false),
         [_step, rest @ ..] => match stored_named(stored, &home.function) {
-            None => false,
+            None => Ok(false),
             Some(host) => {
                 if same_name(home.function.as_str(), outer.function.as_str()) {
-                    is_within(&home.turn, &outer.turn, &host.placed.loops)
+                    is_inside(alloc, stored, name, &home.turn, &outer.turn, host)
                 } else {
                     match home_of(host) {
-                        None => false,
-                        Some(next) => leads_inside(stored, rest, &next, outer),
+                        None => Ok(false),
+                        Some(next) => {
+                            leads_inside(alloc, stored, rest, &host.subject.name, &next, outer)
+                        }
                     }
                 }
             }
@@ -113,15 +275,21 @@ fn leads_inside<'a>(stored: &[Stored<'a>], steps: &[Stored<'a>], home: &Home, ou
 // ---- uses
 
 // Whether this definition of a function stands inside the loop.
-fn stands_inside(stored: &[Stored<'_>], outer: &Home, user: &Stored<'_>, formula: &Formula) -> bool
-    ensures { result ≡ uses.stands_inside (map stored_of stored.now) outer.now (stored_of user.now) (formula_of formula.now) }
+fn stands_inside(
+    alloc: Global,
+    stored: &[Stored<'_>],
+    outer: &Home,
+    user: &Stored<'_>,
+    formula: &Formula,
+) -> Result<bool, AllocError>
+    ensures { IfOk result (λ yes. yes ≡ uses.stands_inside (map stored_of stored.now) outer.now (stored_of user.now) (formula_of formula.now)) }
 {
     if same_name(user.subject.name.as_str(), outer.function.as_str()) {
-        return has_loop(&user.placed.loops, formula, &outer.turn);
+        return Ok(has_loop(&user.placed.loops, formula, &outer.turn));
     }
     match home_of(user) {
-        None => false,
-        Some(home) => leads_inside(stored, stored, &home, outer),
+        None => Ok(false),
+        Some(home) => leads_inside(alloc, stored, stored, &user.subject.name, &home, outer),
     }
 }
 
@@ -137,7 +305,10 @@ fn is_outside(
     ensures { IfOk result (λ yes. yes ≡ uses.is_outside (map stored_of stored.now) name.now outer.now (stored_of user.now) (formula_of formula.now)) }
 {
     let calls = calls_of(alloc, formula)?;
-    Ok(are_calls_of(name, &calls) && !stands_inside(stored, outer, user, formula))
+    if !are_calls_of(name, &calls) {
+        return Ok(false);
+    }
+    Ok(!stands_inside(alloc, stored, outer, user, formula)?)
 }
 
 // The same of one of these definitions.

@@ -1,6 +1,6 @@
 //! The statements of a function inside whose loops nothing is computed: those of its skeleton, whose symbols are the plan's.
 
-ghost use Rattle.std.specs.Prelude.{◌≡◌, ◌∷◌, [], ◌++◌, IfOk, map, ◌+◌};
+ghost use Rattle.std.specs.Prelude.{◌≡◌, ◌∷◌, [], ◌++◌, IfOk, map, slice_get, ◌+◌};
 ghost use Rattle.std.specs.Option.{option_copied, option_map};
 ghost use Rattle.tree.specs.Term.{term_of};
 ghost use Rattle.plan.specs.Lists.{list_statements};
@@ -11,6 +11,8 @@ ghost use Rattle.sched.specs.Skeleton.{nest_seen, skeleton_seen};
 ghost use Rattle.lower.specs.Loading.{load_of};
 ghost use Rattle.lower.specs.Stored.{formula_of, stored_of};
 ghost use Rattle.lower.specs.Fetches.{fetch_seen, with_fetch, with_fetches};
+ghost use Rattle.lower.specs.Limited.{TellsIf};
+ghost use Rattle.lower.specs.Planned as planned;
 ghost use Rattle.lower.specs.Bodies as spec;
 
 use crate::error::Stop;
@@ -147,7 +149,8 @@ fn index_of(
     index: Option<&Expr>,
     loads: &[Load<'_>],
 ) -> Result<Index, Stop>
-    ensures { IfOk result (λ made. spec.IsIndex (map load_of loads.now) form.now (option_map term_of (option_copied index.entry)) (told_index made)) }
+    ensures made { IfOk result (λ made. spec.IsIndex (map load_of loads.now) form.now (option_map term_of (option_copied index.entry)) (told_index made)) }
+    ensures told { TellsIf result (planned.has_index form.now (option_map term_of (option_copied index.entry))) }
 {
     match form {
         Some(form) => Ok(Index::Form(form.copy(alloc)?)),
@@ -185,8 +188,9 @@ fn coordinates_of(
     at: &[Option<Expr>],
     loads: &[Load<'_>],
 ) -> Result<Vec<Coordinate>, Stop>
-    ensures { IfOk result (λ v. spec.AreCoordinates (map load_of loads.now) (map (λ x. x.now) names.now) forms.now
+    ensures made { IfOk result (λ v. spec.AreCoordinates (map load_of loads.now) (map (λ x. x.now) names.now) forms.now
         (map (option_map term_of) at.now) (map coordinate_of v.items)) }
+    ensures told { TellsIf result (planned.have_indices (map (λ x. x.now) names.now) forms.now (map (option_map term_of) at.now)) }
 {
     match forms {
         [] => Ok(Vec::new(alloc)),
@@ -205,7 +209,7 @@ fn coordinates_of(
 }
 
 /// The store of the definition of this number, its calls as loads, at the coordinates of its nest, into the piece's own buffer.
-#[tactic(auto, using(crate::proofs::Wholes::store_made))]
+#[tactic(auto, using(crate::proofs::Wholes::store_made, crate::proofs::Unplanned::not_stored, crate::proofs::Unplanned::stored_tells))]
 pub(crate) fn store_of(
     alloc: Global,
     root: &Root<'_>,
@@ -213,8 +217,10 @@ pub(crate) fn store_of(
     nest: &Nest,
     loads: &[Load<'_>],
 ) -> Result<Stmt, Stop>
-    ensures { IfOk result (λ store. spec.IsStore (stored_of root.now.stored.now) (map formula_of root.now.formulas.now) (map load_of loads.now)
+    ensures made { IfOk result (λ store. spec.IsStore (stored_of root.now.stored.now) (map formula_of root.now.formulas.now) (map load_of loads.now)
         definition (nest_seen nest.now) (statement_of store)) }
+    ensures told { TellsIf result (planned.is_stored_by (stored_of root.now.stored.now) definition (nest_seen nest.now)
+        (slice_get (map formula_of root.now.formulas.now) definition)) }
 {
     let Some(formula) = root.formulas.get(definition) else {
         return Err(Stop::Limit);
@@ -239,8 +245,10 @@ pub(crate) fn nest_of(
     nest: &Nest,
     loads: &[Load<'_>],
 ) -> Result<Vec<Stmt>, Stop>
-    ensures { IfOk result (λ v. spec.IsNest (stored_of root.now.stored.now) (map formula_of root.now.formulas.now) (map load_of loads.now)
+    ensures made { IfOk result (λ v. spec.IsNest (stored_of root.now.stored.now) (map formula_of root.now.formulas.now) (map load_of loads.now)
         definition (nest_seen nest.now) (list_statements v.items)) }
+    ensures told { TellsIf result (planned.is_stored_by (stored_of root.now.stored.now) definition (nest_seen nest.now)
+        (slice_get (map formula_of root.now.formulas.now) definition)) }
 {
     let store = store_of(alloc, root, definition, nest, loads)?;
     let inner = alone(alloc, store)?;
@@ -306,7 +314,7 @@ pub(crate) fn body_with(
     fetches: Vec<Fetch<'_>>,
     nests: Vec<Stmt>,
     claim: u64,
-) -> Result<Vec<Stmt>, Stop>
+) -> Result<Vec<Stmt>, AllocError>
     ensures { IfOk result (λ v. spec.IsBodyWith (stored_of root.now.stored.now) (skeleton_seen root.now.laid.now.skeleton)
         places.items (map fetch_seen fetches.entry.items) (list_statements nests.items) claim (spec.body (list_statements v.items))) }
 {
@@ -320,5 +328,5 @@ pub(crate) fn body_with(
     last.push(Stmt::Publish { claim })?;
     let mut inner = before_all(alloc, fetches, last)?;
     inner.insert(0, own)?;
-    Ok(lines_to(alloc, &root.laid.skeleton.head, inner)?)
+    lines_to(alloc, &root.laid.skeleton.head, inner)
 }

@@ -94,7 +94,7 @@ fn enough_places(
 ) -> Result<Option<i64>, AllocError> {
     let mut enough: i64 = 1;
     for party in parties {
-        if let Some(inners) = &party.inners {
+        if let Ok(inners) = &party.inners {
             match longest_window(alloc, &party.root, inners, name, along)? {
                 Some(window) => enough = enough.max(window),
                 None => return Ok(None),
@@ -455,7 +455,7 @@ pub(crate) fn fold_reason(
     name: &Name,
 ) -> Result<Option<Reason>, Stop> {
     for party in parties {
-        if let Some(inners) = &party.inners {
+        if let Ok(inners) = &party.inners {
             if let Some(number) = unfit_number(inners, name) {
                 return reason_at(alloc, algo, parties, &party.root, inners, number);
             }
@@ -621,7 +621,7 @@ pub(crate) fn form_reason(
         }
     }
     for party in parties {
-        if let Some(inners) = &party.inners {
+        if let Ok(inners) = &party.inners {
             if let Some(number) = first_number(inners, name) {
                 return unstored_reason(alloc, algo, parties, &party.root, inners, number);
             }

@@ -408,7 +408,7 @@ fn stray_inside(
     name: &Name,
 ) -> Result<Option<Stray>, Stop> {
     for party in parties {
-        if let Some(inners) = &party.inners {
+        if let Ok(inners) = &party.inners {
             if let Some(stray) = stray_among(alloc, algo, inners, name)? {
                 return Ok(Some(stray));
             }
@@ -461,7 +461,7 @@ fn laid_reason<'a>(
             let reason = stray_reason(alloc, algo, stored, laid, number, &stray)?;
             Ok(Some(reason))
         }
-        None => turn_reason(alloc, algo, stored, laid, root.stored),
+        None => Ok(turn_reason(alloc, algo, stored, laid, root.stored)?),
     }
 }
 

@@ -189,9 +189,9 @@ fn inner_reason<'a>(
     root: &Root<'a>,
 ) -> Result<Reason, AllocError> {
     let cause = Cause::Bound(BoundCause::Turn(TurnCause::Unknown(root.stored.subject.name)));
-    let found = match inners_of(alloc, algo, group, rest) {
+    let found = match inners_of(alloc, algo, group, rest)? {
         Ok(inners) => place_reason(alloc, algo, group, &inners, root),
-        Err(stop) => Err(stop),
+        Err(_) => Err(Stop::Limit),
     };
     match found {
         Ok(Some(reason)) => Ok(reason),
@@ -200,39 +200,48 @@ fn inner_reason<'a>(
     }
 }
 
-// The last function of those that are computed inside of a group, from which on bounds are missing.
+// The place of a function among others; none where it is none of them.
+fn place_named(functions: &[Root<'_>], name: &Name) -> Option<usize> {
+    functions
+        .iter()
+        .position(|one| one.stored.subject.name.as_str() == name.as_str())
+}
+
+// Why bounds of a function are missing, if they are missing of it in the loops of this group.
 fn missing_turn<'a>(
     alloc: Global,
     algo: &Algo,
     group: &Root<'a>,
     functions: &[Root<'a>],
+    name: &Name,
 ) -> Result<Option<Reason>, AllocError> {
-    for first in (0..functions.len()).rev() {
-        let Some([one, rest @ ..]) = functions.get(first..) else {
-            return Ok(None);
-        };
-        let Some(from) = functions.get(first..) else {
-            return Ok(None);
-        };
-        if passes_limits(inners_of(alloc, algo, group, from))? {
-            return Ok(Some(inner_reason(alloc, algo, group, rest, one)?));
+    match inners_of(alloc, algo, group, functions)? {
+        Err(missing) if missing.as_str() == name.as_str() => {
+            let Some(place) = place_named(functions, name) else {
+                return Ok(None);
+            };
+            let Some([one, rest @ ..]) = functions.get(place..) else {
+                return Ok(None);
+            };
+            Ok(Some(inner_reason(alloc, algo, group, rest, one)?))
         }
+        _ => Ok(None),
     }
-    Ok(None)
 }
 
-/// Why bounds are missing of the functions that are computed inside the loops of a root function.
+/// Why bounds of a function are missing that is computed inside the loops of a root function.
 pub(crate) fn turn_reason<'a>(
     alloc: Global,
     algo: &Algo,
     stored: &'a [Stored<'a>],
     laid: &'a [Option<Laid>],
     one: &Stored<'_>,
-) -> Result<Option<Reason>, Stop> {
+) -> Result<Option<Reason>, AllocError> {
     let functions = roots_of(alloc, stored, laid, false)?;
     for group in roots_of(alloc, stored, laid, true)? {
-        if group.stored.subject.name.as_str() == one.subject.name.as_str() {
-            return Ok(missing_turn(alloc, algo, &group, &functions)?);
+        let found = missing_turn(alloc, algo, &group, &functions, &one.subject.name)?;
+        if found.is_some() {
+            return Ok(found);
         }
     }
     Ok(None)
@@ -281,7 +290,7 @@ fn add_party<'a>(
         callee,
         found,
     )?;
-    let Some(inners) = &party.inners else {
+    let Ok(inners) = &party.inners else {
         return Ok(());
     };
     for inner in inners {

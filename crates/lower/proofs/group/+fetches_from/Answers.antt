@@ -11,16 +11,16 @@ use Rattle.lower.specs.Groups.{root_of}
 use Rattle.lower.proofs.Claimed.{fetches_none, fetches_first, one_first}
 use Rattle.lower.proofs.group.+fetches_from.Goals as goal
 
-pub returns-in-empty : goal.returns-in-empty
-returns-in-empty t c = λ alone.
+pub returns-in-empty-clause-made : goal.returns-in-empty-clause-made
+returns-in-empty-clause-made t c = λ alone.
     let e = root_of c.args.user.now in
     let s = sites_of (algorithm_of c.args.algo.now) e.0 e.2 e.1.skeleton in
     let u = grid_scope e.1.skeleton.grid in
     let us = map formula_of c.args.user.now.formulas.now in
     fetches_none s u us c.args.number c.args.group c.args.roots.now c.new.result.items c.args.body.now c.in-empty.len_below c.new.ensures.items
 
-pub returns-in_ok-put_before-in-len1-up : goal.returns-in_ok-put_before-in-len1-up
-returns-in_ok-put_before-in-len1-up t c = λ alone.
+pub returns-in_ok-put_before-in-len1-up-clause-made : goal.returns-in_ok-put_before-in-len1-up-clause-made
+returns-in_ok-put_before-in-len1-up-clause-made t c = λ alone.
     let e = root_of c.args.user.now in
     let s = sites_of (algorithm_of c.args.algo.now) e.0 e.2 e.1.skeleton in
     let u = grid_scope e.1.skeleton.grid in
@@ -38,6 +38,6 @@ returns-in_ok-put_before-in-len1-up t c = λ alone.
     let others = map fetch_seen c.in_ok-others-in-len1-up.others.items in
     let all = map fetch_seen c.in_ok-put_before-in-len1-up.field-0.items in
     let next : m ≡ h + 1 = omega (arith, c.in-Some.ensures) in
-    let made = fetches_first s u us n h m (root_of r) (map root_of rest) first others all old one new (c.in_ok-first-in-len1-up.ensures alone) (c.in_ok-others-in-len1-up.ensures alone) next
+    let made = fetches_first s u us n h m (root_of r) (map root_of rest) first others all old one new (c.in_ok-first-in-len1-up.ensures.made alone) (c.in_ok-others-in-len1-up.ensures.made alone) next
     c.in_ok-put_before-in-len1-up.ensures in
     subst (λ (l : List Root). FetchesMade s u n (fetched_groups us n h (map root_of l)) all old new) (sym (one_first rs r c.in-len1-up.len_at_least c.callee-item.is)) made

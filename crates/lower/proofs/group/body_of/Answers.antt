@@ -33,13 +33,13 @@ returns-clause-made c = λ alone.
     let b = body (list_statements c.in_ok-statements.statements.items) in
     let over : c.in_ok-claimed.claimed ≡ claimed_region ds = c.in_ok-claimed.ensures ∙ ap claimed_region c.requires in
     let nested : NestsMade e.0 e.2 (claimed_region ds) 0 e.1.skeleton.nests nests c.fetches_from.new.body two =
-    subst (λ (r : List Span1). NestsMade e.0 e.2 r 0 e.1.skeleton.nests nests c.fetches_from.new.body two) over (c.in_ok-nests.ensures alone) in
+    subst (λ (r : List Span1). NestsMade e.0 e.2 r 0 e.1.skeleton.nests nests c.fetches_from.new.body two) over (c.in_ok-nests.ensures.made alone) in
     let seated : c.in_ok-places.places.items ≡ own_places ds = c.in_ok-places.ensures ∙ ap own_places c.requires in
     let with : IsBodyWith e.0 e.1.skeleton (own_places ds) fetches nests c.saturating_sub-claim.result b =
     subst (λ (l : List Places). IsBodyWith e.0 e.1.skeleton l fetches nests c.saturating_sub-claim.result b) seated c.in_ok-statements.ensures in
     let made = whole_made a all n first line e c.in_ok-body.body c.fetches_from.new.body two (map fetch_seen c.in_ok-fetches.fetches.items) (list_statements
     c.in_ok-nests.nests.items) c.saturating_sub-claim.result
-    (body (list_statements c.in_ok-statements.statements.items)) old.claims.items new.claims.items old.needs.items new.needs.items c.in_ok-body.ensures (c.in_ok-fetches.ensures alone)
+    (body (list_statements c.in_ok-statements.statements.items)) old.claims.items new.claims.items old.needs.items new.needs.items c.in_ok-body.ensures (c.in_ok-fetches.ensures.made alone)
     nested published c.in_ok-certify.ensures.claims c.in_ok-certify.ensures.needs with in
     let told = subst (λ (v : Vec Stmt). BodyMade a all n first line two.line e old.claims.items new.claims.items old.needs.items new.needs.items (body (list_statements v.items)))
     (sym c.finish.ensures.statements) made in
@@ -49,5 +49,5 @@ returns-clause-made c = λ alone.
 pub returns-clause-windows : goal.returns-clause-windows
 returns-clause-windows c = λ alone.
     let old = c.args.certificate.now.windows.items in
-    let none : c.nests_of.new.self.windows.items ≡ [] = (c.in_ok-nests.ensures alone).held ∙ ((c.in_ok-fetches.ensures alone).held ∙ c.in_ok-body.ensures.windows) in
+    let none : c.nests_of.new.self.windows.items ≡ [] = (c.in_ok-nests.ensures.made alone).held ∙ ((c.in_ok-fetches.ensures.made alone).held ∙ c.in_ok-body.ensures.windows) in
     c.in_ok-certify.ensures.windows ∙ (ap (λ (l : List Window). old ++ l) none ∙ append-nil old)

@@ -19,6 +19,6 @@ returns-clause-made c =
     let lines = c.in_ok-groups.certificate in
     plan_made (algorithm_of c.args.algo.now) (map root_of c.deref.result.now) lines.claims.items lines.needs.items gs ls c.args.parties.now
     (map party_of c.args.parties.now) made c.in_ok-groups.groups.items lines.own.items
-    (c.unlaid.ensures c.in_default.is) (ap (λ (l : List Root). map root_of l) c.deref.ensures.value ∙ c.in_ok-roots.ensures) c.requires.roots c.requires.alone c.in_ok-groups.ensures.made
+    (c.unlaid.ensures.laid c.in_default.is) (ap (λ (l : List Root). map root_of l) c.deref.ensures.value ∙ c.in_ok-roots.ensures) c.requires.roots c.requires.alone c.in_ok-groups.ensures.made
     c.in_ok-groups.ensures.bodies
     (ap (λ (v : Vec Group). v.items) c.in_ok-plan.ensures) refl refl refl c.in_ok-groups.ensures.windows
