@@ -46,6 +46,11 @@ pub trait Files {
         ensures bytes { IfOk result (λ bytes. Holds (contents self.old) name.now bytes.items) }
         ensures same { SameFiles (contents self.old) (contents self.new) };
 
+    /// The bytes of a file that was read before, where reading it once more gives them again; none of what gives them once, as
+    /// a pipe, or where they can't be read. No file changes.
+    fn again(&mut self, alloc: Global, name: &str) -> Option<Vec<u8>>
+        ensures { SameFiles (contents self.old) (contents self.new) };
+
     /// Makes these the bytes of a file, which is made where there is none. No other file changes. What an error leaves of
     /// this one is not said.
     fn put(&mut self, name: &str, bytes: &[u8]) -> Result<(), FileError>

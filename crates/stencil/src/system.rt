@@ -13,8 +13,11 @@ const STREAM: &str = "-";
 // How many names beside a file are tried, where others have come there.
 const NAMES: u32 = 64;
 
-// The name of a file that is being written is that of its place and no more than so many bytes.
+// The name of a file that is being written is that of its place, or the beginning of it, and no more than so many bytes.
 const ENDING: usize = 32;
+
+// How many bytes of a place's last name the name of a file that is being written begins with at most: systems take 255.
+const BEGINNING: usize = 255 - ENDING;
 
 /// The files of the system, by their paths; `-` is standard input where a file is read, and standard output where one is
 /// written.
@@ -148,10 +151,27 @@ fn new_part(rt: &HostRuntime, name: &str) -> io::Result<Option<fs::File>> {
     })
 }
 
+/// A place, without what its last name has behind so many bytes.
+fn beginning(place: &str) -> &str {
+    let start = match place.rfind('/') {
+        Some(slash) => slash.saturating_add(1),
+        None => 0,
+    };
+    let mut end = start.saturating_add(BEGINNING);
+    if place.len() <= end {
+        return place;
+    }
+    while !place.is_char_boundary(end) {
+        end = end.saturating_sub(1);
+    }
+    place.get(..end).unwrap_or(place)
+}
+
 /// Makes the text the name of a file beside another one.
 fn put_name(name: &mut String, place: &str, number: u32) -> io::Result<()> {
     name.clear();
-    match write!(name, "{place}.{number}.stencil-part") {
+    let begun = beginning(place);
+    match write!(name, "{begun}.{number}.stencil-part") {
         Ok(()) => Ok(()),
         Err(_) => Err(Error::from(ErrorKind::OutOfMemory)),
     }
@@ -210,6 +230,16 @@ impl<'a> Files for SystemFiles<'a> {
 
     fn get(&mut self, _alloc: std::alloc::Global, name: &str) -> Result<Vec<u8>, FileError> {
         read(self.rt, name).map_err(|error| file_error(&error))
+    }
+
+    /// A regular file is read again; a stream, a pipe or a device is not.
+    fn again(&mut self, _alloc: std::alloc::Global, name: &str) -> Option<Vec<u8>> {
+        let is_again = name != STREAM && fs::metadata(self.rt, name).ok()?.is_file();
+        if is_again {
+            read(self.rt, name).ok()
+        } else {
+            None
+        }
     }
 
     /// A regular file is written beside its place and renamed when it is whole, so that a failure leaves the old one.

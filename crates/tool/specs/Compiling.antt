@@ -13,6 +13,8 @@ use Rattle.lower.specs.declared.lowering.Lowered.{Lowered}
 use Rattle.soundness.specs.declared.outline.refusals.code.K.TheVariants.{K14}
 use Rattle.plan.specs.Plan.{Plan as PlanSaid}
 use Rattle.plan.specs.View.{plan_of}
+use Rattle.plan.specs.declared.plan.Plan.{Plan as PlanMade}
+use Rattle.plan.specs.declared.certificate.cert.Cert.{Cert}
 use Rattle.plan.specs.Certificate.Certificate.{Certificate, certificate_of}
 use Rattle.spelling.specs.Lines.Lines.{lines_text}
 use Rattle.spelling.specs.declared.lines.error.TextError.TheVariants as read
@@ -23,7 +25,7 @@ use Rattle.commands.specs.declared.pipeline.fault.Fault.{Fault}
 use Rattle.commands.specs.declared.pipeline.fault.Fault.TheVariants.{Memory, Plan}
 use Rattle.commands.specs.Pipeline.Faults.{schedule_fault}
 use Rattle.tool.specs.Faults.{lower_fault}
-use Rattle.commands.specs.Pipeline.PlanFiles.{IsWrong}
+use Rattle.commands.specs.Pipeline.PlanFiles.{IsAccepted, IsWrong}
 
 -- ---- the schedule's text
 
@@ -65,6 +67,12 @@ pub record IsPlanText (a : Algorithm) (s : Schedule) (text : List ℕ) : Type 0 
   pub made : Lowered
   pub lowered : IsLowered a s made
   pub written : text ≡ file_text (plan_of made.plan) (certificate_of made.certificate)
+
+-- the checker has accepted this plan with its certificate, as it was read of that text
+pub record IsCompiledPlan (a : Algorithm) (s : Schedule) (plan : PlanMade) (cert : Cert) : Type 0 where
+  pub text : List ℕ
+  pub of_schedule : IsPlanText a s text
+  pub accepted : IsAccepted a text plan cert
 
 -- the reader of plan files refuses the text at this line
 abbrev pub IsUnread : List ℕ → ℕ → Type 0

@@ -6,9 +6,9 @@ ghost use Rattle.sched.specs.Legal.{IsLegal};
 ghost use Rattle.sched.specs.View.{schedule_of};
 ghost use Rattle.plan.specs.View.{plan_of};
 ghost use Rattle.plan.specs.Certificate.Certificate.{certificate_of};
-ghost use Rattle.tool.specs.Compiling.{IsLowered, IsNotCompiled, IsNotLowered, IsPlanText, IsScheduleRefused, IsScheduleText, IsUnaccepted, file_text};
+ghost use Rattle.tool.specs.Compiling.{IsCompiledPlan, IsLowered, IsNotCompiled, IsNotLowered, IsPlanText, IsScheduleRefused, IsScheduleText, IsUnaccepted, file_text};
 ghost use Rattle.tool.specs.Faults.{limit_fault, lower_fault};
-ghost use Rattle.commands.specs.Pipeline.PlanFiles.{HasPlan};
+ghost use Rattle.commands.specs.Pipeline.PlanFiles.{HasPlan, IsAccepted};
 
 use algo::Algo;
 use checked_plan::Checked;
@@ -66,6 +66,12 @@ fn written(alloc: Global, lowered: &Lowered) -> Result<String, AllocError>
     Ok(file)
 }
 
+/// The text of the plan that is made of a schedule, which nobody has checked.
+pub(crate) fn plan_text(alloc: Global, algo: &Algo, sched: &Sched) -> Result<String, Fault> {
+    let plan = lowered(alloc, algo, sched)?;
+    Ok(written(alloc, &plan)?)
+}
+
 /// A refusal of a text that was made here: where it is not read, it passes a limit of plan files.
 fn with_limit(fault: Fault) -> Fault
     ensures { result ≡ limit_fault fault }
@@ -86,6 +92,7 @@ fn accept<'a, T: Threads + Sync>(
 ) -> Result<Checked<'a>, Fault>
     ensures checked { IfOk result (λ checked. checked.algo.now ≡ algo.now) }
     ensures accepted { OnOk result (HasPlan (algorithm_of algo.now) file.now) }
+    ensures read { IfOk result (λ checked. IsAccepted (algorithm_of algo.now) file.now checked.plan checked.cert) }
     ensures refused { IfErr result (IsUnaccepted (algorithm_of algo.now) file.now) }
 {
     match check_plan(rt, alloc, algo, file) {
@@ -94,7 +101,7 @@ fn accept<'a, T: Threads + Sync>(
     }
 }
 
-/// Compiles a schedule to a checked plan: what `compile` writes, read and checked.
+/// Compiles a schedule to a checked plan: that of the text which `compile` writes, as it was read and accepted.
 ///
 /// # Errors
 /// Those of `compile`.
@@ -106,6 +113,7 @@ pub fn compile_checked<'a, T: Threads + Sync>(
 ) -> Result<Checked<'a>, Fault>
     ensures legal { OnOk result (IsLegal (algorithm_of algo.now) (schedule_of sched.now)) }
     ensures checked { IfOk result (λ checked. checked.algo.now ≡ algo.now) }
+    ensures of_schedule { IfOk result (λ checked. IsCompiledPlan (algorithm_of algo.now) (schedule_of sched.now) checked.plan checked.cert) }
     ensures refused { IfErr result (IsNotCompiled (algorithm_of algo.now) (schedule_of sched.now)) }
 {
     let plan = lowered(alloc, algo, sched)?;

@@ -3,13 +3,16 @@
 ghost use Rattle.std.specs.Prelude.{◌≡◌, OnOk};
 ghost use Rattle.commands.specs.Files.{SameFiles};
 
-use crate::reasons::{reason_again, refused_among};
+use crate::reasons::{plan_again, reason_again, refused_among};
 use commands::marking::{Place, bytes_of, show, show_places};
 use commands::pipeline::Fault;
 use commands::{Files, Request, Way, tell_code};
 use std::alloc::Global;
 use std::io::Write;
 use std::slice;
+
+/// What a plan is called that was compiled and is in no file.
+const COMPILED: &str = "the compiled plan";
 
 /// How much is told of a refusal.
 #[derive(Clone, Copy, Debug, PartialEq, Eq, Drop)]
@@ -88,7 +91,7 @@ fn file_of<'a, F: Files>(
     }
 }
 
-/// Shows where in its file something is refused, where that can be read again.
+/// Shows where in its file something is refused, where that can be read again: not of a stream or a pipe.
 #[tactic(auto, using(commands::proofs::Kept::same_then))]
 fn show_place<F: Files, E: Write>(
     alloc: Global,
@@ -105,11 +108,26 @@ fn show_place<F: Files, E: Write>(
     let Some(name) = file_of(alloc, files, request, fault) else {
         return;
     };
-    if name == "-" {
-        return;
-    }
-    if let Ok(text) = files.get(alloc, name) {
+    if let Some(text) = files.again(alloc, name) {
         show(name, text.as_slice(), place, err);
+    }
+}
+
+/// Shows the line of a compiled plan that the checker refuses; no file holds that plan.
+fn show_compiled<F: Files, E: Write>(
+    alloc: Global,
+    files: &mut F,
+    request: &Request<'_>,
+    fault: &Fault,
+    err: &mut E,
+)
+    ensures { SameFiles (F.contents files.old) (F.contents files.new) }
+{
+    let (Request::Compile(asked), Fault::Plan { line, .. }) = (request, fault) else {
+        return;
+    };
+    if let Some(text) = plan_again(alloc, files, asked.algorithm, asked.schedule) {
+        show(COMPILED, text.as_bytes(), Place::Line(*line), err);
     }
 }
 
@@ -153,6 +171,7 @@ fn tell_fault<F: Files, E: Write>(
         }
         _ => {
             show_place(alloc, files, request, fault, err);
+            show_compiled(alloc, files, request, fault, err);
             tell_code(alloc, fault, err);
         }
     }

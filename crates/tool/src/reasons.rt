@@ -2,13 +2,14 @@
 
 ghost use Rattle.commands.specs.Files.{SameFiles};
 
-use crate::schedule_command::schedule_in;
+use crate::compiling::{plan_text, read_schedule};
 use algo::Algo;
 use commands::pipeline::Fault;
 use commands::{Files, algorithm_in};
 use lower::{LowerError, Reason, lower, reason};
 use sched::Sched;
 use std::alloc::Global;
+use std::str;
 
 /// What a schedule is refused for.
 #[derive(Drop)]
@@ -35,6 +36,23 @@ fn answer_to(alloc: Global, algo: &Algo, sched: &Sched) -> Answer {
     Answer::Refused(reason_of(alloc, algo, sched, &error))
 }
 
+/// A schedule as its file is read once more; none where that can't be.
+fn schedule_again<F: Files>(
+    alloc: Global,
+    files: &mut F,
+    name: &str,
+) -> Option<Result<Sched, Fault>>
+    ensures { SameFiles (F.contents files.old) (F.contents files.new) }
+{
+    let Some(bytes) = files.again(alloc, name) else {
+        return None;
+    };
+    match str::from_utf8(bytes.as_slice()) {
+        Ok(text) => Some(read_schedule(alloc, text)),
+        Err(_) => None,
+    }
+}
+
 /// The first of these schedules whose text is refused, where one is; none where one before it can't be read again.
 #[tactic(auto, using(commands::proofs::Kept::same_then))]
 pub(crate) fn refused_among<'a, F: Files>(
@@ -48,13 +66,10 @@ pub(crate) fn refused_among<'a, F: Files>(
         [] => None,
         [last] => Some(*last),
         [name, rest @ ..] => {
-            if *name == "-" {
-                return None;
-            }
-            match schedule_in(alloc, files, name) {
-                Ok(_) => refused_among(alloc, files, rest),
-                Err(Fault::Schedule { .. }) => Some(*name),
-                Err(_) => None,
+            match schedule_again(alloc, files, name) {
+                Some(Ok(_)) => refused_among(alloc, files, rest),
+                Some(Err(Fault::Schedule { .. })) => Some(*name),
+                _ => None,
             }
         }
     }
@@ -73,10 +88,7 @@ fn reason_among<F: Files>(
     match names {
         [] => None,
         [name, rest @ ..] => {
-            if *name == "-" {
-                return None;
-            }
-            let Ok(sched) = schedule_in(alloc, files, name) else {
+            let Some(Ok(sched)) = schedule_again(alloc, files, name) else {
                 return None;
             };
             match answer_to(alloc, algo, &sched) {
@@ -85,6 +97,28 @@ fn reason_among<F: Files>(
             }
         }
     }
+}
+
+/// The text of the plan that is made of a schedule of an algorithm, where both can be read again.
+#[tactic(auto, using(commands::proofs::Kept::same_then))]
+pub(crate) fn plan_again<F: Files>(
+    alloc: Global,
+    files: &mut F,
+    algorithm: &str,
+    schedule: &str,
+) -> Option<String>
+    ensures { SameFiles (F.contents files.old) (F.contents files.new) }
+{
+    let Some(text) = files.again(alloc, algorithm) else {
+        return None;
+    };
+    let Ok(algo) = algorithm_in(alloc, text.as_slice()) else {
+        return None;
+    };
+    let Some(Ok(sched)) = schedule_again(alloc, files, schedule) else {
+        return None;
+    };
+    plan_text(alloc, &algo, &sched).ok()
 }
 
 /// What made the first of these schedules that breaks a rule do so, with the algorithm's text.
@@ -97,10 +131,10 @@ pub(crate) fn reason_again<F: Files>(
 ) -> Option<(Vec<u8>, Reason)>
     ensures { SameFiles (F.contents files.old) (F.contents files.new) }
 {
-    if algorithm == "-" || schedules.is_empty() {
+    if schedules.is_empty() {
         return None;
     }
-    let Ok(text) = files.get(alloc, algorithm) else {
+    let Some(text) = files.again(alloc, algorithm) else {
         return None;
     };
     let Ok(algo) = algorithm_in(alloc, text.as_slice()) else {
