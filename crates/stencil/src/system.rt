@@ -19,6 +19,9 @@ const ENDING: usize = 32;
 // How many bytes of a place's last name the name of a file that is being written begins with at most: systems take 255.
 const BEGINNING: usize = 255 - ENDING;
 
+// How many bytes a letter has at most.
+const LETTER: usize = 4;
+
 /// The files of the system, by their paths; `-` is standard input where a file is read, and standard output where one is
 /// written.
 #[derive(Drop)]
@@ -157,14 +160,16 @@ fn beginning(place: &str) -> &str {
         Some(slash) => slash.saturating_add(1),
         None => 0,
     };
-    let mut end = start.saturating_add(BEGINNING);
-    if place.len() <= end {
+    let longest = start.saturating_add(BEGINNING);
+    if place.len() <= longest {
         return place;
     }
-    while !place.is_char_boundary(end) {
-        end = end.saturating_sub(1);
+    for back in 0..LETTER {
+        if let Some(begun) = place.get(..longest.saturating_sub(back)) {
+            return begun;
+        }
     }
-    place.get(..end).unwrap_or(place)
+    place
 }
 
 /// Makes the text the name of a file beside another one.
