@@ -762,11 +762,7 @@ fn add_dimensions(
 }
 
 // Each dimension of a piece, where forms tell it.
-fn told_dimensions(
-    alloc: Global,
-    stored: &Stored<'_>,
-    laid: &Laid,
-) -> Result<Vec<Dimension>, Stop>
+fn told_dimensions(alloc: Global, stored: &Stored<'_>, laid: &Laid) -> Result<Vec<Dimension>, Stop>
     ensures { Gives result (λ v. v.items) (told.told_dimensions (stored_of stored.now) laid.now.region.items (skeleton_seen laid.now.skeleton)) }
 {
     let cuts = &stored.placed.cuts;
