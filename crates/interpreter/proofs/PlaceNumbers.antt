@@ -63,6 +63,15 @@ lies_column (r ∷ rs) d n k later place zs behind some same h l =
     let lies : M rs (drop n zs) = subst (λ (xs : List CodeRoom). M xs (drop n zs)) (rest_of r rs) (subst (M (take (length (r ∷ rs) - 1) (drop 1 (r ∷ rs)))) same l) in
     subst L (sym h.number) (lies_more (room_of r) (map room_of rs) (number_at zs k) (columns_at n (length rs) (drop n zs) k) h.first later h.is lies)
 
+-- the point of one coordinate
+pub lies_only_column : (rooms : List CodeRoom) (d : CodeRoom) (n k place : ℕ) (zs : List Number) → length rooms ≡ 1 →
+    IsOneMore (room_of (get_or rooms 0 d)) (number_at zs k) 0 place → LiesAt (map room_of rooms) (columns_at n (length rooms) zs k) place
+lies_only_column [] d n k place zs one h = absurd (omega (arith, one))
+lies_only_column (r ∷ []) d n k place zs one h =
+    let L : ℕ → Type 0 = λ m. LiesAt (map room_of (r ∷ [])) (number_at zs k ∷ columns_at n 0 (drop n zs) k) m in
+    subst L (sym h.number) (lies_more (room_of r) [] (number_at zs k) [] h.first 0 h.is (lies_first_place [] n k 0 (drop n zs) (omega arith) refl))
+lies_only_column (r ∷ s ∷ rs) d n k place zs one h = absurd (omega (arith, one))
+
 -- what a buffer has at a point that lies at this number
 pub held_lies : (block : Block) (p : List ℤ) (n : ℕ) → LiesAt block.rooms p n → held_at (held_in block) (place block.rooms p) ≡ slice_index_or block.places n None
 held_lies block p n h = ap (held_at (held_in block)) h.lies ∙ ap (held_by_number block.places) h.numbered

@@ -49,29 +49,29 @@ fn column_of<'m>(
     }
 }
 
-/// Whether a register has one number at all turns.
+/// Whether a register has one number at all turns. All are looked at, so that several are at once.
 fn stays(column: &[Number], first: i64) -> bool
     ensures { OnTrue result ((k : ℕ) → k < length column.now → number_at column.now k ≡ first) }
 {
+    let mut all = true;
     for turn in 0..column.len() {
-        if column[turn].value != first {
-            return false;
-        }
+        let one = column[turn].value == first;
+        all = all & one;
     }
-    true
+    all
 }
 
-/// Whether a register's numbers rise by one from this one on.
+/// Whether a register's numbers rise by one from this one on. All are looked at, so that several are at once.
 fn rises(column: &[Number], first: i64) -> bool
     requires { IsShortRamp (length column.now) first }
     ensures { OnTrue result ((k : ℕ) → k < length column.now → number_at column.now k ≡ first +ℤ pos k) }
 {
+    let mut all = true;
     for turn in 0..column.len() {
-        if column[turn].value != first + turn as i64 {
-            return false;
-        }
+        let one = column[turn].value == first + turn as i64;
+        all = all & one;
     }
-    true
+    all
 }
 
 /// Whether so many numbers from this one on are of 64 bits, and there are not too many.
@@ -89,7 +89,9 @@ fn lanes_in(column: &[Number], out: &mut [Number]) -> Option<Lanes>
 {
     let first = column.first()?.value;
     let number = Number { value: first };
-    if stays(column, first) {
+    // Nothing rests on the last number: where it is another, they need not all be looked at.
+    let last = column.last()?.value;
+    if last == first && stays(column, first) {
         return Some(Lanes::Broadcast(Ty::I32, number));
     }
     if are_few(column.len(), first) && rises(column, first) {

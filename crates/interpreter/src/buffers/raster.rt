@@ -1,6 +1,7 @@
 //! Where the places of a buffer stand in its vector.
 
-ghost use Rattle.std.specs.Prelude.{◌≡◌, ◌<◌, ◌≤◌, ◌^◌, ◌+ℤ◌, ℕ, length, pos, IfSome, SomeIff, MatchOption, map, None};
+ghost use Rattle.std.specs.Prelude.{◌≡◌, ◌<◌, ◌≤◌, ◌^◌, ◌+ℤ◌, ◌≤ℤ◌, ◌<ℤ◌, ℕ, length, pos, IfSome, SomeIff, MatchOption, map, None};
+ghost use Rattle.std.specs.Bool.{OnTrue};
 ghost use Rattle.plan.specs.Rooms.{place, Straight};
 ghost use Rattle.interpreter.specs.Buffers.Rooms.{room_of};
 ghost use Rattle.interpreter.specs.Buffers.Raster.{place_count, LiesAt};
@@ -63,18 +64,72 @@ fn begin_places(count: usize, places: &mut [usize])
     }
 }
 
-/// The same in a room of so many places from the origin on, of which `end` is the first that has none. Nothing also where the
-/// later ones' place has a large number.
+/// Whether a number lies from the origin on and before the end.
 #[inline(always)]
-fn straight_more(origin: i64, end: i64, width: u32, number: Number, place: usize) -> Option<usize>
-    requires { end ≡ origin +ℤ pos width }
-    ensures { IfSome result (IsOneMore (Straight origin width) number.value place) }
+fn lies_before(origin: i64, end: i64, number: Number) -> bool
+    ensures { OnTrue result ((origin ≤ℤ number.value) × (number.value <ℤ end)) }
 {
-    if number.value < origin || end <= number.value || 1 << 31 < place {
-        return None;
+    origin <= number.value && number.value < end
+}
+
+/// Whether the first so many numbers do. All are looked at, so that several are at once.
+fn all_lie_before(origin: i64, end: i64, count: usize, numbers: &[Number]) -> bool
+    requires { count ≤ length numbers.now }
+    ensures { OnTrue result ((k : ℕ) → k < count → (origin ≤ℤ number_at numbers.now k) × (number_at numbers.now k <ℤ end)) }
+{
+    let mut all = true;
+    for turn in 0..count {
+        let one = lies_before(origin, end, numbers[turn]);
+        all = all & one;
     }
-    let seat = (number.value - origin) as usize;
-    Some(place * width as usize + seat)
+    all
+}
+
+/// Whether none of the first so many places has a large number.
+fn are_small(count: usize, places: &[usize]) -> bool
+    requires { count ≤ length places.now }
+    ensures { OnTrue result ((k : ℕ) → k < count → place_at places.now k ≤ 2 ^ 31) }
+{
+    let mut all = true;
+    for turn in 0..count {
+        let one = places[turn] <= 1 << 31;
+        all = all & one;
+    }
+    all
+}
+
+/// The number of a place with one coordinate more, where the place of the later ones has a small number, in a room of so many
+/// places from the origin on, of which `end` is the first that has none.
+#[inline(always)]
+fn straight_more(origin: i64, end: i64, width: u32, number: Number, place: usize) -> usize
+    requires end { end ≡ origin +ℤ pos width }
+    requires from { origin ≤ℤ number.value }
+    requires to { number.value <ℤ end }
+    requires small { place ≤ 2 ^ 31 }
+    ensures { IsOneMore (Straight origin width) number.value place result }
+{
+    place * width as usize + (number.value - origin) as usize
+}
+
+/// Puts in the numbers of the first so many places of one coordinate, which has so many places from the origin on. Its own numbers
+/// are a register's.
+fn first_column(
+    origin: i64,
+    end: i64,
+    width: u32,
+    count: usize,
+    numbers: &[Number],
+    places: &mut [usize],
+)
+    requires end { end ≡ origin +ℤ pos width }
+    requires numbers { count ≤ length numbers.now }
+    requires inside { (k : ℕ) → k < count → (origin ≤ℤ number_at numbers.now k) × (number_at numbers.now k <ℤ end) }
+    requires count { count ≤ length places.old }
+    ensures { (k : ℕ) → k < count → IsOneMore (Straight origin width) (number_at numbers.now k) 0 (place_at places.new k) }
+{
+    for turn in 0..count {
+        places[turn] = straight_more(origin, end, width, numbers[turn], 0);
+    }
 }
 
 /// Takes one coordinate more, of so many places from the origin on, into the numbers of the first so many places. Its own numbers
@@ -86,19 +141,54 @@ fn straight_column(
     count: usize,
     numbers: &[Number],
     places: &mut [usize],
-) -> Option<()>
+)
     requires end { end ≡ origin +ℤ pos width }
     requires numbers { count ≤ length numbers.now }
+    requires inside { (k : ℕ) → k < count → (origin ≤ℤ number_at numbers.now k) × (number_at numbers.now k <ℤ end) }
     requires count { count ≤ length places.old }
-    ensures { IfSome result (λ _. (k : ℕ) → k < count → IsOneMore (Straight origin width) (number_at numbers.now k) (place_at places.old k) (place_at places.new k)) }
+    requires small { (k : ℕ) → k < count → place_at places.old k ≤ 2 ^ 31 }
+    ensures { (k : ℕ) → k < count → IsOneMore (Straight origin width) (number_at numbers.now k) (place_at places.old k) (place_at places.new k) }
 {
     for turn in 0..count {
-        places[turn] = straight_more(origin, end, width, numbers[turn], places[turn])?;
+        places[turn] = straight_more(origin, end, width, numbers[turn], places[turn]);
     }
+}
+
+/// The end of so many places from the origin on, where it is of 64 bits, there are as many numbers, and each of these has a place.
+fn end_of(origin: i64, width: u32, count: usize, numbers: &[Number]) -> Option<i64>
+    ensures end { IfSome result (λ z. z ≡ origin +ℤ pos width) }
+    ensures numbers { IfSome result (λ _. count ≤ length numbers.now) }
+    ensures inside { IfSome result (λ z. (k : ℕ) → k < count → (origin ≤ℤ number_at numbers.now k) × (number_at numbers.now k <ℤ z)) }
+{
+    let end = origin.checked_add(i64::from(width))?;
+    if numbers.len() < count {
+        return None;
+    }
+    if !all_lie_before(origin, end, count, numbers) {
+        return None;
+    }
+    Some(end)
+}
+
+/// Puts in the numbers of the first so many places of one coordinate, where it has so many places from the origin on.
+fn first_from_origin(
+    origin: i64,
+    width: u64,
+    count: usize,
+    numbers: &[Number],
+    places: &mut [usize],
+) -> Option<()>
+    requires { count ≤ length places.old }
+    ensures { IfSome result (λ _. (k : ℕ) → k < count → IsOneMore (Straight origin width) (number_at numbers.now k) 0 (place_at places.new k)) }
+{
+    let width = u32::try_from(width).ok()?;
+    let end = end_of(origin, width, count, numbers)?;
+    first_column(origin, end, width, count, numbers, places);
     Some(())
 }
 
-/// Takes one coordinate more into the numbers of the first so many places, where it has so many places from the origin on.
+/// Takes one coordinate more into the numbers of the first so many places, where it has so many places from the origin on. Nothing
+/// also where the later ones' place has a large number.
 fn from_origin(
     origin: i64,
     width: u64,
@@ -110,11 +200,12 @@ fn from_origin(
     ensures { IfSome result (λ _. (k : ℕ) → k < count → IsOneMore (Straight origin width) (number_at numbers.now k) (place_at places.old k) (place_at places.new k)) }
 {
     let width = u32::try_from(width).ok()?;
-    let end = origin.checked_add(i64::from(width))?;
-    if numbers.len() < count {
+    let end = end_of(origin, width, count, numbers)?;
+    if !are_small(count, places) {
         return None;
     }
-    straight_column(origin, end, width, count, numbers, places)
+    straight_column(origin, end, width, count, numbers, places);
+    Some(())
 }
 
 /// Takes one coordinate more into the numbers of the first so many places. Its own numbers are a register's.
@@ -135,6 +226,23 @@ fn place_column(room: Room, count: usize, numbers: &[Number], places: &mut [usiz
     Some(())
 }
 
+/// Puts in the numbers of the first so many places of one coordinate. Its own numbers are a register's.
+fn begin_column(room: Room, count: usize, numbers: &[Number], places: &mut [usize]) -> Option<()>
+    requires { count ≤ length places.old }
+    ensures { IfSome result (λ _. (k : ℕ) → k < count → IsOneMore (room_of room) (number_at numbers.now k) 0 (place_at places.new k)) }
+{
+    match room {
+        Room::Straight {
+            origin,
+            count: width,
+        } => first_from_origin(origin, width, count, numbers, places),
+        Room::Wrapped { .. } => {
+            begin_places(count, places);
+            place_column(room, count, numbers, places)
+        }
+    }
+}
+
 /// Puts in the numbers of the places of points at so many turns; nothing where one has no place. Each coordinate has a
 /// register of so many numbers, one behind the other.
 pub(crate) fn place_columns(
@@ -146,10 +254,15 @@ pub(crate) fn place_columns(
     requires { count ≤ length places.old }
     ensures { IfSome result (λ _. (k : ℕ) → k < count → LiesAt (map room_of rooms.now) (columns_at count (length rooms.now) registers.now k) (place_at places.new k)) }
 {
-    let [room, later @ ..] = rooms else {
-        begin_places(count, places);
-        return Some(());
-    };
-    place_columns(later, count, registers_behind(registers, count), places)?;
-    place_column(*room, count, registers, places)
+    match rooms {
+        [] => {
+            begin_places(count, places);
+            Some(())
+        }
+        [room] => begin_column(*room, count, registers, places),
+        [room, later @ ..] => {
+            place_columns(later, count, registers_behind(registers, count), places)?;
+            place_column(*room, count, registers, places)
+        }
+    }
 }
