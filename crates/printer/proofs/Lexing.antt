@@ -26,7 +26,7 @@ use Rattle.spelling.specs.Words.Reading.{Stops}
 use Rattle.spelling.specs.Words.Fitting.{is_name, is_reserved}
 use Rattle.spelling.proofs.Runs.{both, neither, run_is, decimal_passes, decimal_first}
 use Rattle.spelling.proofs.WordsAgain.{type_word}
-use Rattle.printer.specs.Spacing.{has_text, token_text, gap_before, gap_closed, gap_typed, gap_worded, gap_stated, gap_behind, gap_between, gap_after, text_of, ends_operand}
+use Rattle.printer.specs.Spacing.{has_text, token_text, gap_before, gap_closed, gap_typed, gap_worded, gap_stated, gap_behind, gap_between, operand_before, gap_after, text_of, ends_operand}
 
 -- ---- words
 
@@ -673,12 +673,12 @@ end_follows (token.Word v) = refl
 
 after_follows : (operand next : Bool) (t : Token) (ts : List Token) → Follows t (gap_after operand t ts ++ text_of next ts)
 after_follows operand next t [] = end_follows t
-after_follows operand next t (u ∷ us) = between_follows operand t u (gap_after next u us ++ text_of (ends_operand u) us)
+after_follows operand next t (u ∷ us) = between_follows (operand_before operand us) t u (gap_after next u us ++ text_of (ends_operand u) us)
 
 after_gap : (operand next : Bool) (t : Token) (ts : List Token) → list_all has_text ts ≡ true → gap (gap_after operand t ts ++ text_of next ts) ≡ length (gap_after operand t ts)
 after_gap operand next t [] h = refl
 after_gap operand next t (u ∷ us) h =
-    between_gap operand t u (text_of next (u ∷ us)) ((reads u (both (has_text u) (list_all has_text us) h).0).lead (gap_after next u us ++ text_of (ends_operand u) us))
+    between_gap (operand_before operand us) t u (text_of next (u ∷ us)) ((reads u (both (has_text u) (list_all has_text us) h).0).lead (gap_after next u us ++ text_of (ends_operand u) us))
 
 -- ---- all tokens
 

@@ -84,10 +84,19 @@ gap_between operand (token.Type t) next = gap_typed operand next
 gap_between operand (token.Word w) next = gap_worded w next
 gap_between operand _ next = gap_before next
 
+abbrev pub is_dots : Token → Bool
+is_dots (token.Symbol symbol.DotDot) = true
+is_dots _ = false
+
+-- whether an operand ended before a minus that is an operator: a range's dots follow its lower end, and before that a minus is its sign
+abbrev pub operand_before : Bool → List Token → Bool
+operand_before operand [] = operand
+operand_before operand (t ∷ ts) = if is_dots t then false else operand
+
 -- what stands behind a token before these: the last line is ended
 abbrev pub gap_after : Bool → Token → List Token → List ℕ
 gap_after operand t [] = codes "\n"
-gap_after operand t (next ∷ ts) = gap_between operand t next
+gap_after operand t (next ∷ ts) = gap_between (operand_before operand ts) t next
 
 -- the text of tokens
 abbrev pub text_of : Bool → List Token → List ℕ

@@ -165,13 +165,34 @@ fn gap_between(operand: bool, token: Token, next: Token) -> &'static str
     }
 }
 
+/// Whether the token is a range's dots.
+fn is_dots(token: Token) -> bool
+    ensures { result ≡ spec.is_dots token }
+{
+    match token {
+        Token::Symbol(symbol) => matches!(symbol, Symbol::DotDot),
+        _ => false,
+    }
+}
+
+/// Whether an operand ended before a minus that is an operator, where these tokens stand behind the next one: a range's dots
+/// follow its lower end, and before that a minus is its sign.
+fn operand_before(operand: bool, rest: &[Token]) -> bool
+    ensures { result ≡ spec.operand_before operand rest.now }
+{
+    match rest {
+        [] => operand,
+        [token, ..] => { if is_dots(*token) { false } else { operand } }
+    }
+}
+
 /// What stands behind a token before these.
 fn gap_after(operand: bool, token: Token, rest: &[Token]) -> &'static str
     ensures { result.now ≡ spec.gap_after operand token rest.now }
 {
     match rest {
         [] => "\n",
-        [next, ..] => gap_between(operand, token, *next),
+        [next, after @ ..] => gap_between(operand_before(operand, after), token, *next),
     }
 }
 

@@ -46,6 +46,8 @@ $ stencil plain a.alg examples/tri.pgm out.pgm
 stencil: E4 bytes 34..53
 ```
 
+Where the canonical text of an algorithm has more than 65,536 bytes, `format` names all bytes of its text.
+
 Take a shorter name; give parts of a large expression names of their own, as functions.
 ";
 

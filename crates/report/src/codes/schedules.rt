@@ -64,7 +64,7 @@ Make the outermost loops parallel, the outermost first.
 ";
 
 const L6: &str =
-    "`compute_at` of a function that is a root too, or the output, or has two of them; in a function that is computed nowhere itself; at a loop that is not there, is unrolled or vectorised, or has a parallel loop inside it; or something outside of that loop reads the function.
+    "`compute_at` of a function that is a root too, or the output, or has two of them; in a function that is computed nowhere itself; at a loop that is not there, is unrolled or vectorised, or has a parallel loop inside it; or something reads the function outside of that loop, or in a definition of the other function that lacks the loop, as an update whose left index is not its variable.
 
 ```console
 $ printf 'pipeline slide; input in u8 [4, 8]; func f u8 (x, y) = in[x, y] + 1u8; func out u8 (x, y) = f[x, y] + f[x, clamp(y + 1, 0, 7)]; output out [4, 8];' > a.alg
@@ -73,11 +73,11 @@ $ stencil compile a.alg a.sched a.plan
 stencil: L6 f
 ```
 
-Name a loop that the consumer has when all its directives are done, or split it first; a reduction's variable is no such loop. Where something outside of that loop reads the function too, name a loop with all its readers inside, or store it by `compute_root`.
+Name a loop that the consumer has when all its directives are done, or split it first; a reduction's variable is no such loop. Where something outside of that loop, or a definition that lacks it, reads the function too, name a loop with all its readers inside, or store it by `compute_root`.
 ";
 
 const L7: &str =
-    "`store_at` without `compute_at`, twice, in another function, or at a loop that is not outside of the one where the function is computed.
+    "`store_at` without `compute_at`, twice, in another function, at a loop that is not outside of the one where the function is computed, or at one with a parallel loop inside it.
 
 ```console
 $ printf 'pipeline slide; input in u8 [4, 8]; func f u8 (x, y) = in[x, y] + 1u8; func out u8 (x, y) = f[x, y] + f[x, clamp(y + 1, 0, 7)]; output out [4, 8];' > a.alg
