@@ -8,8 +8,10 @@ pub mod Cuts
 pub mod Directed
 pub mod Dividing
 pub mod Entries
+pub mod Extents
 pub mod Fetched
 pub mod First
+pub mod Gridded
 pub mod Grids
 pub mod Inputs
 pub mod Insides

@@ -13,6 +13,7 @@ use Rattle.lower.specs.declared.lowering.Lowered.{Lowered}
 use Rattle.lower.specs.Stored.{FormulaText, StoredText}
 use Rattle.lower.specs.Regions.{LaidText, laid_within, laid_functions}
 use Rattle.lower.specs.Around.{grid_scope}
+use Rattle.lower.specs.Heads.{IsHeadOf}
 use Rattle.lower.specs.Faults.{is_homeless, is_whole, are_whole}
 use Rattle.lower.specs.declared.parties.Party.{Party}
 use Rattle.lower.specs.Fetches.{Entry}
@@ -171,9 +172,10 @@ pub plan_made : (a : Algorithm) (all : List Entry) (claims : List Claim) (needs 
     (l : Lowered) (ps : List Group)
     (os : List Own) → AreLaid gs ls → all ≡ rooted true gs ls → es ≡ rooted true gs ls → (rooted false gs ls ≡ [] → AreAlone qs) → AreMade es 0 ps os
     → (AreAlone qs → AreBodies a all 0 0 4 es ps claims needs) → l.plan.groups.items ≡ ps → l.certificate.own.items ≡ os → l.certificate.claims.items ≡ claims → l.certificate.needs.items ≡ needs
-    → (AreAlone qs → l.certificate.windows.items ≡ []) → IsPlanOf a gs ls l
-plan_made a all claims needs gs ls qs es l ps os laid roots e alone made does is_groups is_own is_claims is_needs windows =
+    → (AreAlone qs → l.certificate.windows.items ≡ []) → IsHeadOf a l.plan → IsPlanOf a gs ls l
+plan_made a all claims needs gs ls qs es l ps os laid roots e alone made does is_groups is_own is_claims is_needs windows head =
     record {
+      head = head;
       laid = laid;
       made = subst (λ (xs : List Entry). AreMade xs 0 l.plan.groups.items l.certificate.own.items) e
           (subst (λ (xs : List Group). AreMade es 0 xs l.certificate.own.items) (sym is_groups) (subst (λ (xs : List Own). AreMade es 0 ps xs) (sym is_own) made));
@@ -202,6 +204,7 @@ groups_made a gs ls l is laid =
     let cs = l.certificate.claims.items in
     let ws = l.certificate.needs.items in
     record {
+      head = is.head;
       each = each_of gs ls is.laid 0 ps os is.made;
       owned = owned (rooted true gs ls) 0 ps os is.made;
       bodies = λ w. bodies a (rooted true gs (laid_functions a gs)) gs w (subst (AreLaid gs) (laid w) is.laid) 0 0 4 ps os cs ws

@@ -87,7 +87,7 @@ module _ (n : ℕ) (above : 0 < n) (v : ℕ → ℤ) where
           let whole = c.whole in
           (falls_only n (value_of f v) (value_of b v) (remainder f.constant (pos n)) above (record { whole = omega (arith, ints, all, first, whole); from = c.from; below = c.below })).0
 
-  block_value : (low : ℤ) → negsuc 2147483647 ≤ℤ low → low ≤ℤ pos 2147483647 → (f b : Form) → block_at low (pos n) f ≡ Some b → value_of b v ≡ quotient (value_of f v -ℤ low) (pos n)
+  pub block_value : (low : ℤ) → negsuc 2147483647 ≤ℤ low → low ≤ℤ pos 2147483647 → (f b : Form) → block_at low (pos n) f ≡ Some b → value_of b v ≡ quotient (value_of f v -ℤ low) (pos n)
   block_value low from to f b e =
       let less : nearest (pos 0 -ℤ low) ≡ pos 0 -ℤ low = nearest_of_small (pos 0 -ℤ low) (omega (arith, ints, to)) (omega (arith, ints, from)) in
       let moved = multiple_value (nearest (pos 0 -ℤ low)) 1 f v in
@@ -98,7 +98,7 @@ module _ (n : ℕ) (above : 0 < n) (v : ℕ → ℤ) where
       let is : value_of next.value v ≡ value_of f v -ℤ low = omega (arith, ints, first, moved, less, once) in
       divided_value next.value b next.comes ∙ ap (λ z. quotient z (pos n)) is
 
-  quotient_order : (a b : ℤ) → a ≤ℤ b → quotient a (pos n) ≤ℤ quotient b (pos n)
+  pub quotient_order : (a b : ℤ) → a ≤ℤ b → quotient a (pos n) ≤ℤ quotient b (pos n)
   quotient_order a b h =
       let f = falls n a above in
       let first = first_below n a (quotient a (pos n)) (remainder a (pos n)) f (quotient a (pos n)) (omega (arith, ints)) in

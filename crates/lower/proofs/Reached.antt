@@ -39,24 +39,24 @@ use Rattle.lower.proofs.Laying.{bound, same}
 -- ---- what is reached, and what is reached after it
 
 -- a number lies between the ends of this place
-record Reaches (reach : List (Option Ends)) (d : ℕ) (z : ℤ) : Type 0 where
-  ends : Ends
-  is : slice_get reach d ≡ Some (Some ends)
-  low : ends.low ≤ℤ z
-  high : z ≤ℤ ends.high
+pub record Reaches (reach : List (Option Ends)) (d : ℕ) (z : ℤ) : Type 0 where
+  pub ends : Ends
+  pub is : slice_get reach d ≡ Some (Some ends)
+  pub low : ends.low ≤ℤ z
+  pub high : z ≤ℤ ends.high
 
 -- there are as many places, and what lies in one lies in it later
-record Grows (xs ys : List (Option Ends)) : Type 0 where
-  as_many : length xs ≡ length ys
-  keeps : (d : ℕ) (z : ℤ) → Reaches xs d z → Reaches ys d z
+pub record Grows (xs ys : List (Option Ends)) : Type 0 where
+  pub as_many : length xs ≡ length ys
+  pub keeps : (d : ℕ) (z : ℤ) → Reaches xs d z → Reaches ys d z
 
 stay : (xs : List (Option Ends)) → Grows xs xs
 stay xs = record { as_many = refl; keeps = λ d z h. h }
 
-after : (xs ys zs : List (Option Ends)) → Grows xs ys → Grows ys zs → Grows xs zs
+pub after : (xs ys zs : List (Option Ends)) → Grows xs ys → Grows ys zs → Grows xs zs
 after xs ys zs g h = record { as_many = g.as_many ∙ h.as_many; keeps = λ d z r. h.keeps d z (g.keeps d z r) }
 
-if_some : (xs ys zs : List (Option Ends)) → Grows xs ys → Some ys ≡ Some zs → Grows xs zs
+pub if_some : (xs ys zs : List (Option Ends)) → Grows xs ys → Some ys ≡ Some zs → Grows xs zs
 if_some xs ys zs g e = subst (Grows xs) (same ys zs e) g
 
 first_low : (b : Bool) (x y : ℤ) → int_le x y ≡ b → (if b then x else y) ≤ℤ x
@@ -422,7 +422,7 @@ grows_formulas a x g (Some fs) l reach out h = by (some_calls x fs) h
     by true q = grows_laid a x g fs l reach out q
     by false q = if_some reach reach out (stay reach) q
 
-grows_users : (a : Algorithm) (x : List ℕ) (gs : List StoredText) (ls : List (Option LaidText)) (reach out : List (Option Ends)) → add_users a x gs ls reach ≡ Some out → Grows reach out
+pub grows_users : (a : Algorithm) (x : List ℕ) (gs : List StoredText) (ls : List (Option LaidText)) (reach out : List (Option Ends)) → add_users a x gs ls reach ≡ Some out → Grows reach out
 grows_users a x [] ls reach out h = if_some reach reach out (stay reach) h
 grows_users a x (g ∷ gs) [] reach out h = if_some reach reach out (stay reach) h
 grows_users a x (g ∷ gs) (l ∷ ls) reach out h =
@@ -457,17 +457,17 @@ grows_extents d (n ∷ ns) reach =
     let e : Ends = record { low = pos 0; high = pos n -ℤ pos 1 } in
     after reach (widen reach d e) (add_extents (d + 1) ns (widen reach d e)) (widen_grows reach d e) (grows_extents (d + 1) ns (widen reach d e))
 
-grows_output : (a : Algorithm) (b : Bool) (reach : List (Option Ends)) → Grows reach (add_output a b reach)
+pub grows_output : (a : Algorithm) (b : Bool) (reach : List (Option Ends)) → Grows reach (add_output a b reach)
 grows_output a false reach = stay reach
 grows_output a true reach = grows_extents 0 a.output_extents reach
 
 -- ---- the region
 
 -- a region is one of ends that have grown from these
-record Found (is_root : Bool) (reach : List (Option Ends)) (x : LaidText) : Type 0 where
-  wide : List (Option Ends)
-  grown : Grows reach wide
-  is : region_of is_root wide ≡ Some x.region
+pub record Found (is_root : Bool) (reach : List (Option Ends)) (x : LaidText) : Type 0 where
+  pub wide : List (Option Ends)
+  pub grown : Grows reach wide
+  pub is : region_of is_root wide ≡ Some x.region
 
 module _ (a : Algorithm) (g : StoredText) (fs : List FormulaText) where
   abbrev root : Bool
@@ -500,7 +500,7 @@ module _ (a : Algorithm) (g : StoredText) (fs : List FormulaText) where
           let r = again wide d.value (subst (λ (q : List Extent). region_of root wide ≡ Some q) (over_region region d.value d.is) found) d.comes in
           record { wide = r.wide; grown = after reach wide r.wide grown r.grown; is = r.is }
 
-  laid_found : (reach : List (Option Ends)) (x : LaidText) → laid_over a g fs reach ≡ Some x → Found root reach x
+  pub laid_found : (reach : List (Option Ends)) (x : LaidText) → laid_over a g fs reach ≡ Some x → Found root reach x
   laid_found reach x h =
       let b = bound (region_of root reach >>= over g fs) (closed a g fs 4 reach) x h in
       let c = bound (region_of root reach) (over g fs) b.value b.is in
@@ -547,7 +547,7 @@ extent_holds is_root o e x v z is h low high =
     by y true q lies = subst (λ (w : Extent). IsInSpan (whole w) v z) (same y x q) lies
     by y false q lies = absurd (no_extent x q)
 
-region_length : (is_root : Bool) (reach : List (Option Ends)) (es : List Extent) → region_of is_root reach ≡ Some es → length es ≡ length reach
+pub region_length : (is_root : Bool) (reach : List (Option Ends)) (es : List Extent) → region_of is_root reach ≡ Some es → length es ≡ length reach
 region_length is_root [] es h = ap length (sym (same [] es h))
 region_length is_root (o ∷ os) es h =
     let b = bound (extent_of is_root o) (λ x. region_of is_root os >>= λ xs. Some (x ∷ xs)) es h in

@@ -25,6 +25,7 @@ use Rattle.lower.specs.Fetches.{Entry}
 use Rattle.lower.specs.Blocks.{dimensions_of, owned_region}
 use Rattle.lower.specs.Bodies.{IsBody}
 use Rattle.lower.specs.Around.{grid_scope}
+use Rattle.lower.specs.Heads.{IsHeadOf}
 use Rattle.lower.specs.Bounded.{whole}
 use Rattle.lower.specs.Faults.{are_whole}
 
@@ -144,10 +145,11 @@ rooted is [] ls = []
 abbrev pub roots_over : Algorithm → List StoredText → List Entry
 roots_over a gs = rooted true gs (laid_functions a gs)
 
--- the stored root functions have the groups, and the certificate tells of each what its pieces own; where each stored function is a root function
+-- the plan's head is the algorithm's; the stored root functions have the groups, and the certificate tells of each what its pieces own; where each stored function is a root function
 -- that is computed at no loop, the regions are those that are needed, the pieces own the blocks of their parallel loops and do what the skeletons say, the claims
 -- and need lines are theirs, and there are no windows
 pub record HasGroups (a : Algorithm) (gs : List StoredText) (l : Lowered) : Type 0 where
+  pub head : IsHeadOf a l.plan
   pub each : AreGroupsOf (root_functions gs) l.plan.groups.items
   pub owned : AreOwned 0 l.plan.groups.items l.certificate.own.items
   pub needed : are_whole gs ≡ true → map (λ p. p.region) l.plan.groups.items ≡ map region_of (laid_functions a gs)
@@ -230,6 +232,7 @@ AreLaid (g ∷ gs) (l ∷ ls) = (g.subject.is_root ≡ true → has_region g.for
 
 -- the plan of these functions over these regions
 pub record IsPlanOf (a : Algorithm) (gs : List StoredText) (ls : List (Option LaidText)) (l : Lowered) : Type 0 where
+  pub head : IsHeadOf a l.plan
   pub laid : AreLaid gs ls
   pub made : AreMade (rooted true gs ls) 0 l.plan.groups.items l.certificate.own.items
   pub bodies : are_whole gs ≡ true → AreBodies a (rooted true gs ls) 0 0 4 (rooted true gs ls) l.plan.groups.items l.certificate.claims.items l.certificate.needs.items

@@ -7,6 +7,7 @@ pub mod Calls
 pub mod Faults
 pub mod Fetches
 pub mod Groups
+pub mod Heads
 pub mod Held
 pub mod Large
 pub mod Limited

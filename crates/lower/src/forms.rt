@@ -205,3 +205,14 @@ pub(crate) fn divided(alloc: Global, form: &Lin, divisor: i64) -> Result<Option<
     let constant = quotient(form.constant(), divisor);
     plus_parts(alloc, Lin::number(alloc, constant), form.terms(), divisor)
 }
+
+/// So many numbers of 32 bits as ones of 64.
+pub(crate) fn widened(alloc: Global, numbers: &[u32]) -> Result<Vec<u64>, AllocError>
+    ensures { IfOk result (λ wide. wide.items ≡ numbers.now) }
+{
+    let mut wide = Vec::new(alloc);
+    for number in numbers {
+        wide.push(u64::from(*number))?;
+    }
+    Ok(wide)
+}

@@ -24,6 +24,7 @@ ghost use Rattle.lower.specs.Groups.{IsOver, IsOwnOver, grid_over as counts_over
 use crate::blocks::{Dimension, claimed_region, dimensions, own_places, owned_region};
 use crate::error::Stop;
 use crate::fetching::{Fetched, Root, fetch_of};
+use crate::forms::widened;
 use crate::inner::Inner;
 use crate::legality::add_whole;
 use crate::loading::{Load, loaded};
@@ -916,16 +917,6 @@ fn begun<'a>(
     })
 }
 
-fn grid_of(alloc: Global, counts: &[u32]) -> Result<Vec<u64>, AllocError>
-    ensures { IfOk result (λ grid. grid.items ≡ counts.now) }
-{
-    let mut grid = Vec::new(alloc);
-    for count in counts {
-        grid.push(u64::from(*count))?;
-    }
-    Ok(grid)
-}
-
 // How many turns each parallel loop of a root function has over its region.
 fn grid_over(alloc: Global, root: &Root<'_>) -> Result<Vec<u32>, AllocError>
     ensures { IfOk result (λ grid. grid.items ≡ counts_over (stored_of root.now.stored.now) root.now.laid.now.region.items) }
@@ -1008,7 +999,7 @@ fn group_with(alloc: Global, root: &Root<'_>, statements: Vec<Stmt>) -> Result<G
     let function = String::from_str(alloc, root.stored.subject.name.as_str())?;
     let region = group_region(alloc, root)?;
     let counts = grid_over(alloc, root)?;
-    let grid = grid_of(alloc, &counts)?;
+    let grid = widened(alloc, &counts)?;
     Ok(Group {
         function,
         region,

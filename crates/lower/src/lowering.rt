@@ -1,7 +1,8 @@
 //! From an algorithm and a schedule to a plan and its certificate.
 
-ghost use Rattle.std.specs.Prelude.{◌≡◌, [], ◌∷◌, IfOk, IfErr, OnOk, Some, None, true, false, length, map};
+ghost use Rattle.std.specs.Prelude.{◌≡◌, [], ◌∷◌, IfOk, IfErr, OnOk, Some, None, true, false, length, map, string_bytes};
 ghost use Rattle.std.specs.Option.{option_map};
+ghost use Rattle.meaning.specs.Image.View.{shape_of};
 ghost use Rattle.algo.specs.View.{algorithm_of};
 ghost use Rattle.sched.specs.View.{schedule_of};
 ghost use Rattle.sched.specs.Placing.{subject_of, placed_of};
@@ -10,6 +11,7 @@ ghost use Rattle.lower.specs.declared.error.LowerError.TheVariants.{Broken};
 ghost use Rattle.lower.specs.Stored.{stored_of, stored_of_all};
 ghost use Rattle.lower.specs.Regions.{laid_of, laid_functions};
 ghost use Rattle.lower.specs.Faults.{are_whole};
+ghost use Rattle.lower.specs.Heads.{IsDeclared, IsHeadOf};
 ghost use Rattle.lower.specs.Making.{GroupMade};
 ghost use Rattle.lower.specs.Groups.{AreAlone, AreBodies, AreGroupsMade, AreMade, BodiesMade, IsAlone, IsOver, IsOwnOver, IsPlanOf, party_of, root_of, rooted};
 ghost use Rattle.lower.specs.Planned.{TellsOf, first_unplanned, unplanned_at, unplanned_over};
@@ -18,13 +20,15 @@ ghost use Rattle.lower.specs.Refused.{Answers, AreSmall, AreRegionsKept, AreUses
 use crate::definitions::{Stored, stored_functions};
 use crate::error::{LowerError, Stop};
 use crate::fetching::Root;
+use crate::forms::widened;
 use crate::group::{Beginning, Made, group_of};
 use crate::legality::first_fault;
 use crate::parties::{Party, laid_by_turns, parties_of, roots_of, unlaid};
 use crate::reasons::folds::{fold_reason, form_reason};
 use crate::reasons::reach::bound_reason;
-use crate::reasons::sizes::size_reason;
-use crate::reasons::{Cause, Reason};
+use crate::reasons::sizes::{inlined_below, size_reason};
+use crate::reasons::stores::with_root;
+use crate::reasons::{BoundCause, Cause, Reason};
 use crate::regions::{Laid, laid_functions};
 use crate::uses::{are_whole, uses_outside};
 use algo::{Algo, Port};
@@ -47,15 +51,13 @@ pub struct Lowered {
     pub certificate: Cert,
 }
 
-fn declaration(alloc: Global, port: &Port) -> Result<Declaration, AllocError> {
-    let mut extents = Vec::new(alloc);
-    for extent in &port.shape.extents {
-        extents.push(u64::from(*extent))?;
-    }
+fn declaration(alloc: Global, port: &Port) -> Result<Declaration, AllocError>
+    ensures { IfOk result (IsDeclared (string_bytes port.now.name) (shape_of port.now.shape)) }
+{
     Ok(Declaration {
         name: port.name.clone()?,
         ty: port.shape.ty,
-        extents,
+        extents: widened(alloc, &port.shape.extents)?,
     })
 }
 
@@ -220,7 +222,8 @@ fn asked(placement: &Placement, stored: usize) -> usize
 
 // The plan of these groups.
 fn plan_of(alloc: Global, algo: &Algo, groups: Vec<Group>) -> Result<Plan, AllocError>
-    ensures { IfOk result (λ plan. plan.groups ≡ groups) }
+    ensures groups { IfOk result (λ plan. plan.groups ≡ groups) }
+    ensures head { IfOk result (IsHeadOf (algorithm_of algo.now)) }
 {
     Ok(Plan {
         name: String::from_str(alloc, algo.name())?,
@@ -457,6 +460,134 @@ fn ruled_reason(
     }
 }
 
+/// What comes of it where one function more is stored.
+#[derive(Clone, Copy, PartialEq, Eq, Drop)]
+enum Trial {
+    /// That function, or the one that broke a rule, breaks one.
+    Broken,
+    /// The one that broke a rule breaks one, and that function none.
+    Begun,
+    /// Neither of them breaks one.
+    Enough,
+}
+
+// What is lowered where this function, too, is computed wholly before those that use it.
+fn lowered_with(
+    alloc: Global,
+    algo: &Algo,
+    sched: &Sched,
+    store: &Name,
+) -> Result<Lowered, LowerError> {
+    let altered = with_root(alloc, sched, store)?;
+    lower(alloc, algo, &altered)
+}
+
+// What an error tells of the function that broke a rule, and of the one that is stored.
+fn trial_by(error: &LowerError, caller: &Name, store: &Name) -> Result<Trial, AllocError> {
+    match error {
+        LowerError::Memory => Err(AllocError),
+        LowerError::Schedule(_) => Ok(Trial::Broken),
+        LowerError::Broken(_, name) => {
+            if name.as_str() == store.as_str() {
+                Ok(Trial::Broken)
+            } else if name.as_str() == caller.as_str() {
+                Ok(Trial::Begun)
+            } else {
+                Ok(Trial::Enough)
+            }
+        }
+    }
+}
+
+fn trial_of(
+    alloc: Global,
+    algo: &Algo,
+    sched: &Sched,
+    caller: &Name,
+    store: &Name,
+) -> Result<Trial, AllocError> {
+    let outcome = lowered_with(alloc, algo, sched, store);
+    match &outcome {
+        Ok(_) => Ok(Trial::Enough),
+        Err(error) => trial_by(error, caller, store),
+    }
+}
+
+// The last function on the way down from one that breaks a rule which, stored, is enough; or else the last that breaks none itself.
+fn store_below(
+    alloc: Global,
+    algo: &Algo,
+    sched: &Sched,
+    placement: &Placement,
+    caller: &Name,
+) -> Result<Option<(Name, bool)>, AllocError> {
+    let mut begun = None;
+    for name in inlined_below(alloc, algo, placement, caller)? {
+        let trial = trial_of(alloc, algo, sched, caller, &name)?;
+        if trial == Trial::Enough {
+            return Ok(Some((name, true)));
+        }
+        if trial == Trial::Begun && begun.is_none() {
+            begun = Some((name, false));
+        }
+    }
+    Ok(begun)
+}
+
+// What is to be stored where an index is clamped already.
+fn with_store(
+    alloc: Global,
+    algo: &Algo,
+    sched: &Sched,
+    placement: &Placement,
+    cause: Cause,
+) -> Result<Cause, AllocError> {
+    match cause {
+        Cause::Bound(
+            BoundCause::Clamped {
+                function,
+                caller,
+                has,
+                ..
+            },
+        ) => {
+            let (store, is_enough) = match store_below(alloc, algo, sched, placement, &caller)? {
+                Some((name, is_enough)) => (Some(name), is_enough),
+                None => (None, false),
+            };
+            Ok(Cause::Bound(BoundCause::Clamped {
+                function,
+                caller,
+                has,
+                store,
+                is_enough,
+            }))
+        }
+        other => Ok(other),
+    }
+}
+
+// What made the regions of a placement break a rule, and what is to be stored.
+fn region_reason(
+    alloc: Global,
+    algo: &Algo,
+    sched: &Sched,
+    placement: &Placement,
+    rule: RegionRule,
+    name: &Name,
+) -> Result<Option<Reason>, AllocError>
+    requires { length placement.now.subjects.items ≡ length (algorithm_of algo.now).functions }
+{
+    match placed_reason(alloc, algo, placement, rule, name)? {
+        Some(found) => {
+            let mut reason = found;
+            reason.cause = with_store(alloc, algo, sched, placement, reason.cause)?;
+            Ok(Some(reason))
+        }
+        None => Ok(None),
+    }
+}
+
 /// What made a schedule break the rule that `lower` told: of L9, L10, L11 and L12, where it is found. It is found anew, by what
 /// refused the schedule.
 pub fn reason(
@@ -470,7 +601,7 @@ pub fn reason(
             ruled_reason(alloc, algo, sched, *rule, name)
         }
         LowerError::Broken(rule, name) => match followed(alloc, algo, sched) {
-            Ok(placement) => placed_reason(alloc, algo, &placement, *rule, name),
+            Ok(placement) => region_reason(alloc, algo, sched, &placement, *rule, name),
             Err(SchedError::Memory) => Err(AllocError),
             Err(_) => Ok(None),
         },

@@ -9,6 +9,7 @@ pub(crate) mod reach;
 pub(crate) mod readings;
 pub(crate) mod sizes;
 pub(crate) mod slides;
+pub(crate) mod stores;
 mod texts;
 pub(crate) mod turned;
 

@@ -166,6 +166,15 @@ pub enum BoundCause {
         has: (i64, i64),
         is_rounded: bool,
     },
+    /// The same of an index that is a clamp to numbers of these already, which bounds lose: `store` is a function on the way to
+    /// it that is put in, and `is_enough` where nothing else has to be stored.
+    Clamped {
+        function: Option<Name>,
+        caller: Name,
+        has: (i64, i64),
+        store: Option<Name>,
+        is_enough: bool,
+    },
     /// Of what a turn needs of a function.
     Turn(TurnCause),
 }

@@ -13,7 +13,7 @@ use crate::spots::root_at;
 use crate::windows::window_size;
 use algo::Algo;
 use lin::{Forms, Scope, Span1};
-use sched::{Fold, Loop, Mark};
+use sched::{Fold, Loop, Mark, Split, Tail};
 use std::alloc::{AllocError, Global};
 use tree::Expr;
 use tree::token::Name;
@@ -48,7 +48,68 @@ fn slide_at(
     }
 }
 
-// The window of a function where it slides in this dimension.
+// A loop of a dimension, with how many numbers lie between one of its turns and the next.
+#[derive(Clone, Copy, Drop)]
+struct Stride {
+    name: Name,
+    step: i64,
+}
+
+fn step_of(strides: &[Stride], name: &Name) -> Option<i64> {
+    for one in strides {
+        if one.name.as_str() == name.as_str() {
+            return Some(one.step);
+        }
+    }
+    None
+}
+
+// How many numbers of a dimension its last blocks may have past the end, by the splits that let them run past it.
+fn past_end(alloc: Global, cuts: &[Split], along: &Name) -> Result<i64, AllocError> {
+    let mut strides = Vec::new(alloc);
+    strides.push(Stride {
+        name: *along,
+        step: 1,
+    })?;
+    let mut past: i64 = 0;
+    for cut in cuts {
+        if let Some(step) = step_of(&strides, &cut.whole) {
+            let factor = i64::from(cut.factor);
+            if cut.tail == Tail::Roundup {
+                past = past.saturating_add(step.saturating_mul(factor.saturating_sub(1)));
+            }
+            strides.push(Stride {
+                name: cut.inner,
+                step,
+            })?;
+            strides.push(Stride {
+                name: cut.outer,
+                step: step.saturating_mul(factor),
+            })?;
+        }
+    }
+    Ok(past)
+}
+
+// How many places more than its window has numbers a function needs: what is computed past the end, and one more where bounds take
+// the first new number for one past the end.
+fn surplus(
+    alloc: Global,
+    inner: &Inner<'_>,
+    along: usize,
+    span: &Span1,
+) -> Result<i64, AllocError> {
+    let Some(variable) = inner.root.stored.subject.variables.get(along) else {
+        return Ok(0);
+    };
+    let past = past_end(alloc, &inner.root.stored.placed.cuts, variable)?;
+    if past > 0 && span.upper.as_slice().len() > 1 {
+        return Ok(past.saturating_add(1));
+    }
+    Ok(past)
+}
+
+// How many places the window of a function asks for where it slides in this dimension.
 fn window_along(
     alloc: Global,
     group: &Root<'_>,
@@ -59,8 +120,11 @@ fn window_along(
     if slide_at(alloc, group, inners, inner)? != Slide::Along(along) {
         return Ok(None);
     }
-    match inner.region.as_slice().get(along) {
-        Some(span) => window_size(alloc, &inner.scope, span),
+    let Some(span) = inner.region.as_slice().get(along) else {
+        return Ok(None);
+    };
+    match window_size(alloc, &inner.scope, span)? {
+        Some(window) => Ok(Some(window.saturating_add(surplus(alloc, inner, along, span)?))),
         None => Ok(None),
     }
 }
@@ -85,7 +149,7 @@ fn longest_window(
     Ok(Some(longest))
 }
 
-// As many places as each window of the function has numbers.
+// As many places as each window of the function asks for.
 fn enough_places(
     alloc: Global,
     parties: &[Party<'_>],

@@ -72,6 +72,18 @@ fn write_clamp<W: Write>(has: (i64, i64), is_rounded: bool, f: &mut Formatter<W>
     }
 }
 
+// What keeps the bounds of a clamp.
+fn write_unnested<W: Write>(
+    store: &Option<Name>,
+    is_enough: bool,
+    f: &mut Formatter<W>,
+) -> fmt::Result {
+    match store {
+        Some(store) => write_store(store, is_enough, f),
+        None => f.write_str("Split less often, or nest fewer clamps."),
+    }
+}
+
 // What mends a fold.
 fn write_refold<W: Write>(cause: &FoldCause, f: &mut Formatter<W>) -> fmt::Result {
     match cause {
@@ -213,6 +225,11 @@ fn write_bounded<W: Write>(cause: &BoundCause, f: &mut Formatter<W>) -> fmt::Res
             is_rounded,
             ..
         } => write_clamp(*has, *is_rounded, f),
+        BoundCause::Clamped {
+            store,
+            is_enough,
+            ..
+        } => write_unnested(store, *is_enough, f),
         BoundCause::Turn(cause) => write_turned(cause, f),
     }
 }

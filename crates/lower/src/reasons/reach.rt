@@ -14,8 +14,10 @@ use crate::regions::{Ends, Laid, counts, ends_of};
 use crate::scopes::head_scope;
 use algo::Algo;
 use lin::{Region, Scope, Span1};
+use numeric::Op;
 use sched::{Nest, Tail};
 use std::alloc::{AllocError, Global};
+use tree::Expr;
 use tree::token::{Name, Span};
 
 /// The most functions of a chain.
@@ -221,6 +223,48 @@ fn is_rounded(stored: &Stored<'_>) -> bool {
         .any(|cut| cut.tail == Tail::Roundup)
 }
 
+// Whether an expression is never below this number, by the literals of its clamps, minima and maxima.
+fn is_from(low: i64, expr: &Expr) -> bool {
+    match expr {
+        Expr::Literal { number, .. } => *number >= low,
+        Expr::Clamp { low: least, .. } => is_from(low, least),
+        Expr::Binary {
+            op,
+            left,
+            right,
+            ..
+        } => match op {
+            Op::Max => is_from(low, left) || is_from(low, right),
+            Op::Min => is_from(low, left) && is_from(low, right),
+            _ => false,
+        },
+        _ => false,
+    }
+}
+
+// Whether it is never above it.
+fn is_up_to(high: i64, expr: &Expr) -> bool {
+    match expr {
+        Expr::Literal { number, .. } => *number <= high,
+        Expr::Clamp {
+            low,
+            high: most,
+            ..
+        } => is_up_to(high, low) && is_up_to(high, most),
+        Expr::Binary {
+            op,
+            left,
+            right,
+            ..
+        } => match op {
+            Op::Max => is_up_to(high, left) && is_up_to(high, right),
+            Op::Min => is_up_to(high, left) || is_up_to(high, right),
+            _ => false,
+        },
+        _ => false,
+    }
+}
+
 // What is wrong with an index that is not shown to stay where it has to.
 fn stray_cause(
     alloc: Global,
@@ -232,6 +276,15 @@ fn stray_cause(
 ) -> Result<BoundCause, AllocError> {
     if let Some(flaw) = &reading.flaw {
         return form_cause(alloc, algo, Some(caller), function, reading, flaw);
+    }
+    if is_from(has.0, reading.index) && is_up_to(has.1, reading.index) {
+        return Ok(BoundCause::Clamped {
+            function,
+            caller: reading.caller,
+            has,
+            store: None,
+            is_enough: false,
+        });
     }
     let found = match read_ends(alloc, reading)? {
         Some(ends) => {

@@ -85,6 +85,30 @@ fn last_inlined(
     Ok(None)
 }
 
+/// The functions that are put in on the way down from the one of this name, one in another, the last declared first.
+pub(crate) fn inlined_below(
+    alloc: Global,
+    algo: &Algo,
+    placement: &Placement,
+    name: &Name,
+) -> Result<Vec<Name>, AllocError> {
+    let mut found = Vec::new(alloc);
+    let Some(number) = number_named(placement, name) else {
+        return Ok(found);
+    };
+    let mut at = number;
+    for _step in 0..number {
+        match last_inlined(alloc, algo, placement, at)? {
+            Some((next, name)) => {
+                found.push(name)?;
+                at = next;
+            }
+            None => return Ok(found),
+        }
+    }
+    Ok(found)
+}
+
 // The first on the way down that is within the limits itself.
 fn first_small(
     alloc: Global,

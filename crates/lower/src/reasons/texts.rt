@@ -126,6 +126,18 @@ fn write_outside<W: Write>(
     }
 }
 
+fn write_clamped<W: Write>(
+    function: &Option<Name>,
+    caller: &Name,
+    has: (i64, i64),
+    f: &mut Formatter<W>,
+) -> fmt::Result {
+    write_outside(function, caller, None, has, f)?;
+    f.write_str(
+        " It is clamped there already, but bounds keep four ends a side, and of nested clamps lose the inner ones.",
+    )
+}
+
 fn write_total<W: Write>(
     count: u64,
     things: &str,
@@ -360,6 +372,12 @@ impl Display for BoundCause {
                 has,
                 ..
             } => write_outside(function, caller, *found, *has, f),
+            BoundCause::Clamped {
+                function,
+                caller,
+                has,
+                ..
+            } => write_clamped(function, caller, *has, f),
             BoundCause::Turn(cause) => write!(f, "{cause}"),
         }
     }
