@@ -1,5 +1,5 @@
 -- Why no canonical text was put.
-use Rattle.std.proofs.Common.{List, ℕ, inl, inr}
+use Rattle.std.proofs.Common.{List, ℕ, length, inl, inr}
 use Rattle.meaning.specs.Algorithm.{Algorithm}
 use Rattle.algo.specs.Refusal.{IsAlgorithmText}
 use Rattle.commands.specs.declared.pipeline.fault.Fault.{Fault}
@@ -9,7 +9,7 @@ use Rattle.commands.specs.Formats.{IsNotSpelled, IsRefused}
 
 -- an algorithm that was read has a text
 pub not_spelled : (old new : Contents) (a : AskedFormat) (text : List ℕ) (algorithm : Algorithm) (fault : Fault) → SameFiles old new → Holds old a.algorithm text
-    → IsAlgorithmText text algorithm → IsNotSpelled algorithm fault → IsRefused old new a fault
+    → IsAlgorithmText text algorithm → IsNotSpelled algorithm (length text) fault → IsRefused old new a fault
 not_spelled old new a text algorithm fault same holds said (inl device) = inl (same, inl device)
 not_spelled old new a text algorithm fault same holds said (inr (inl none)) = absurd (none text said)
 not_spelled old new a text algorithm fault same holds said (inr (inr long)) =

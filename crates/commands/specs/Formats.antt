@@ -1,5 +1,5 @@
 -- What the command that writes an algorithm's canonical text does to the files.
-use Rattle.std.specs.Prelude.{◌≡◌, ◌⊎◌, ◌<◌, ℕ, suc, List, length}
+use Rattle.std.specs.Prelude.{◌≡◌, ◌⊎◌, ◌<◌, ℕ, List, length}
 use Rattle.tree.specs.Token.Lexical.{max_text}
 use Rattle.meaning.specs.Algorithm.{Algorithm}
 use Rattle.algo.specs.Refusal.{IsAlgorithmText}
@@ -17,13 +17,13 @@ use Rattle.commands.specs.Pictures.{IsOfDevice, IsTextFault}
 abbrev pub IsCanonical : Algorithm → List ℕ → Type 0
 IsCanonical a bytes = (bytes ≡ canonical_text a) × IsAlgorithmText bytes a
 
--- the canonical text is longer than a text may be: too large at its first byte that is too many
-abbrev pub IsTooLong : Algorithm → Fault → Type 0
-IsTooLong a fault = (max_text < length (canonical_text a)) × (fault ≡ Algo TooLarge (record { start = max_text; end = suc max_text }))
+-- the canonical text is longer than a text may be: too large, at all bytes of the text of so many that says the algorithm
+abbrev pub IsTooLong : Algorithm → ℕ → Fault → Type 0
+IsTooLong a n fault = (max_text < length (canonical_text a)) × (fault ≡ Algo TooLarge (record { start = 0; end = n }))
 
 -- why there is none: no text at all stands for the algorithm, or it is too long
-abbrev pub IsNotSpelled : Algorithm → Fault → Type 0
-IsNotSpelled a fault = IsOfDevice fault ⊎ (HasNoText a ⊎ IsTooLong a fault)
+abbrev pub IsNotSpelled : Algorithm → ℕ → Fault → Type 0
+IsNotSpelled a n fault = IsOfDevice fault ⊎ (HasNoText a ⊎ IsTooLong a n fault)
 
 -- ---- what is done
 
@@ -53,7 +53,7 @@ pub record TooLongRefused (files : Contents) (a : AskedFormat) (fault : Fault) :
   pub algorithm : Algorithm
   pub holds_text : Holds files a.algorithm text
   pub is_text : IsAlgorithmText text algorithm
-  pub refused : IsTooLong algorithm fault
+  pub refused : IsTooLong algorithm (length text) fault
 
 -- why nothing was put
 abbrev pub IsReason : Contents → AskedFormat → Fault → Type 0

@@ -1,6 +1,6 @@
 //! The commands that write an algorithm's canonical text, and tell what a code means.
 
-ghost use Rattle.std.specs.Prelude.{IfErr, IfOk, OnOk, string_bytes};
+ghost use Rattle.std.specs.Prelude.{IfErr, IfOk, OnOk, length, string_bytes};
 ghost use Rattle.algo.specs.View.{algorithm_of};
 ghost use Rattle.commands.specs.Asked.{format_asked};
 ghost use Rattle.commands.specs.Formats.{IsCanonical, IsDone, IsNotSpelled, IsRefused};
@@ -18,16 +18,10 @@ use std::alloc::Global;
 use std::io::Write;
 use tree::token::Span;
 
-/// The first byte of a text that is too many.
-const FIRST_TOO_MANY: Span = Span {
-    start: 65_536,
-    end: 65_537,
-};
-
-/// The canonical text of an algorithm.
-fn canonical(alloc: Global, algo: &Algo) -> Result<String, Fault>
+/// The canonical text of an algorithm that these bytes say.
+fn canonical(alloc: Global, algo: &Algo, bytes: &[u8]) -> Result<String, Fault>
     ensures canonical { IfOk result (λ text. IsCanonical (algorithm_of algo.now) (string_bytes text)) }
-    ensures refused { IfErr result (IsNotSpelled (algorithm_of algo.now)) }
+    ensures refused { IfErr result (IsNotSpelled (algorithm_of algo.now) (length bytes.now)) }
 {
     match write(alloc, algo) {
         Ok(text) => Ok(text),
@@ -35,7 +29,10 @@ fn canonical(alloc: Global, algo: &Algo) -> Result<String, Fault>
         Err(WriteError::NoText) => Err(Fault::Names),
         Err(WriteError::TooLong) => Err(Fault::Algo {
             code: Code::TooLarge,
-            span: FIRST_TOO_MANY,
+            span: Span {
+                start: 0,
+                end: bytes.len(),
+            },
         }),
     }
 }
@@ -43,8 +40,8 @@ fn canonical(alloc: Global, algo: &Algo) -> Result<String, Fault>
 /// Writes the canonical text of an algorithm, after everything else has succeeded.
 ///
 /// # Errors
-/// The first refusal: of the algorithm's text, then E4 where the canonical text has more than 65,536 bytes; a text that is
-/// not UTF-8 is one of the device.
+/// The first refusal: of the algorithm's text, then E4 at all bytes of that text where the canonical one has more than 65,536;
+/// a text that is not UTF-8 is one of the device.
 pub fn format_command<F: Files>(
     alloc: Global,
     files: &mut F,
@@ -55,7 +52,7 @@ pub fn format_command<F: Files>(
 {
     let bytes = files.get(alloc, request.algorithm)?;
     let algo = algorithm_in(alloc, bytes.as_slice())?;
-    let text = canonical(alloc, &algo)?;
+    let text = canonical(alloc, &algo, bytes.as_slice())?;
     files.put(request.output, text.as_bytes())?;
     Ok(())
 }

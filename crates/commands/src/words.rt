@@ -9,6 +9,7 @@ ghost use Rattle.commands.specs.Line.{is_set, picture_in, plain_in, replay_in, r
 
 mod described;
 mod names;
+mod values;
 
 use crate::limit::{limit_spelled, side_spelled};
 use crate::pipeline::BUDGET;
@@ -22,16 +23,13 @@ use crate::words::names::{
     FORMAT, HEIGHT, INPUT, LEFT, ORDER, ORDER_OPTION, OUTPUT, PLAIN, PLAN, REPLAY, RUN, SCHEDULE,
     SHOW, TILE_HEIGHT, TILE_WIDTH, TILES, TOP, WIDTH, WORKERS,
 };
+use crate::words::values::unfit_told;
 use crate::workers::workers_spelled;
 use clap::error::ErrorKind;
 use clap::{ArgMatches, Error};
 use crop::Rect;
 use report::codes::page;
 use std::alloc::{AllocError, Global};
-
-// What is told where the words are as they are wanted, but for the number of workers or the code.
-const NO_VALUE: &str =
-    "'--workers <N>' takes a decimal number from 1 to 64, '--at-most <N>' one below 2^64, X, Y, W, H, TW and TH one below 2^32, and 'explain <CODE>' a code as K5";
 
 // The value that a word without one gives where it stands.
 const SET: &str = "true";
@@ -351,6 +349,9 @@ pub fn read_words<'a>(alloc: Global, words: &'a [&'a str]) -> Result<Request<'a>
     let found = request_found(alloc, &matches)?;
     match found {
         Some(request) => Ok(request),
-        None => Err(command.error(ErrorKind::ValueValidation, NO_VALUE)?),
+        None => {
+            let told = unfit_told(alloc, &matches)?;
+            Err(command.error(ErrorKind::ValueValidation, told.as_str())?)
+        }
     }
 }

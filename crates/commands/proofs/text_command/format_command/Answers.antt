@@ -1,5 +1,5 @@
 -- The files stay as they are until the text is put; what was read before then is the reason of each refusal.
-use Rattle.std.proofs.Common.{subst, sym, List, ℕ, inr, string_bytes}
+use Rattle.std.proofs.Common.{subst, sym, List, ℕ, inr, length, string_bytes}
 use Rattle.std.proofs.lemmas.Result.{err_from_is_err_and}
 use Rattle.meaning.specs.Algorithm.{Algorithm}
 use Rattle.algo.specs.Refusal.{IsAlgorithmText}
@@ -14,8 +14,10 @@ returns-in_err-text-clause-refused g c =
     let p = err_from_is_err_and c.from_residual-in_err-text.result c.from_residual-in_err-text.ensures.1 in
     let a : Algorithm = algorithm_of c.in_ok-algo.algo in
     let IsText : List ℕ → Type 0 = λ bytes. IsAlgorithmText bytes a in
-    let refused : IsNotSpelled a p.0 = rw p.2 c.in_err-text.ensures.refused in
-    rw p.1 (not_spelled _ _ _ c.in_ok-bytes.bytes.items a _ c.get.ensures.same c.in_ok-bytes.ensures.bytes (subst IsText c.as_slice.ensures.value c.in_ok-algo.ensures.said) refused)
+    let IsUnspelled : List ℕ → Type 0 = λ bytes. IsNotSpelled a (length bytes) p.0 in
+    let refused : IsUnspelled c.as_slice-2.result.now = rw p.2 c.in_err-text.ensures.refused in
+    rw p.1 (not_spelled _ _ _ c.in_ok-bytes.bytes.items a _ c.get.ensures.same c.in_ok-bytes.ensures.bytes (subst IsText c.as_slice.ensures.value c.in_ok-algo.ensures.said)
+    (subst IsUnspelled c.as_slice-2.ensures.value refused))
 
 pub returns-in_err-put-clause-refused : goal.returns-in_err-put-clause-refused
 returns-in_err-put-clause-refused g c =
