@@ -62,6 +62,18 @@ def repeated(part):
     return "".join(each).encode("latin-1")
 
 
+def words_of(says):
+    """The words of a run: in place of one there may be a word for each number from one to another."""
+    words = []
+    for word in says.get("words", []):
+        if isinstance(word, dict):
+            numbers = range(word["from"], word["to"] + 1)
+            words.extend(repeated({**word, "from": number, "to": number}).decode("latin-1") for number in numbers)
+        else:
+            words.append(word)
+    return words
+
+
 def pixels(width, height, more):
     """A raw PGM file whose pixels differ from their neighbours, each so much greater, modulo 256."""
     raster = bytes(((place * 7) ^ (place >> 8)) + more & 255 for place in range(width * height))
@@ -215,7 +227,7 @@ def outcome(program, row, room):
     for name, ways in row.says.get("pipes", {}).items():
         gives = content(ways["gives"]) if "gives" in ways else None
         ends[name] = Pipe(room / name, gives)
-    status, out, err = printed_by(program, row.says.get("words", []), room, row.says)
+    status, out, err = printed_by(program, words_of(row.says), room, row.says)
     taken = {name: end.end() for name, end in ends.items()}
     files = standing(room)
     files.update({name: data for name, data in taken.items() if data is not None})

@@ -8,6 +8,7 @@ use Rattle.sched.specs.Text.{IsRefused as IsRefusedText}
 use Rattle.sched.specs.declared.error.SchedError.{SchedError}
 use Rattle.lower.specs.Refused.{AreRegionsKept, AreSmall, AreUsesInside, IsRefused as IsRefusedSchedule}
 use Rattle.lower.specs.Groups.{AreGroupsMade}
+use Rattle.completeness.specs.Laws.{HasOwnLines, WholeStands}
 use Rattle.lower.specs.declared.error.LowerError.{LowerError}
 use Rattle.lower.specs.declared.lowering.Lowered.{Lowered}
 use Rattle.soundness.specs.declared.outline.refusals.code.K.TheVariants.{K14}
@@ -50,13 +51,16 @@ pub record IsNotLowered (a : Algorithm) (s : Schedule) (fault : Fault) : Type 0 
 
 -- ---- the plan
 
--- what `lower` says of the plan that it makes of a legal schedule, and of its certificate
+-- what `lower` says of the plan that it makes of a legal schedule, and of its certificate, and what follows: each group has a line of what its pieces own, and
+-- where whole functions keep the inner loops of splits serial, these part the cells and are served by those that they need
 pub record IsLowered (a : Algorithm) (s : Schedule) (l : Lowered) : Type 0 where
   pub legal : IsLegal a s
   pub small : AreSmall a s
   pub regions : AreRegionsKept a s
   pub uses : AreUsesInside a s
   pub groups : AreGroupsMade a s l
+  pub own_lines : HasOwnLines (plan_of l.plan) (certificate_of l.certificate)
+  pub shares : WholeStands a s l
 
 -- the text of a plan file: the plan's lines, and behind them the certificate's
 abbrev pub file_text : PlanSaid → Certificate → List ℕ

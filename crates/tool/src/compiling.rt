@@ -13,6 +13,7 @@ ghost use Rattle.commands.specs.Pipeline.PlanFiles.{HasPlan, IsAccepted};
 use algo::Algo;
 use checked_plan::Checked;
 use commands::pipeline::{BrokenRule, Fault, check_plan};
+use completeness::laws::{own_lines_stand, whole_plans_are_shared};
 use lower::{LowerError, Lowered, lower};
 use sched::Sched;
 use soundness::outline::refusals::K;
@@ -50,6 +51,9 @@ fn lowered(alloc: Global, algo: &Algo, sched: &Sched) -> Result<Lowered, Fault>
     ensures made { IfOk result (IsLowered (algorithm_of algo.now) (schedule_of sched.now)) }
     ensures refused { IfErr result (IsNotLowered (algorithm_of algo.now) (schedule_of sched.now)) }
 {
+    algo.is_well_formed();
+    own_lines_stand();
+    whole_plans_are_shared();
     match lower(alloc, algo, sched) {
         Ok(lowered) => Ok(lowered),
         Err(error) => Err(refused(error)),

@@ -3,7 +3,7 @@
 ghost use Rattle.std.specs.Prelude.{◌≡◌, OnOk};
 ghost use Rattle.commands.specs.Files.{SameFiles};
 
-use crate::reasons::{plan_again, reason_again, refused_among};
+use crate::reasons::{file_again, plan_again, reason_again, refused_among};
 use commands::marking::{Place, bytes_of, show, show_places};
 use commands::pipeline::Fault;
 use commands::{Files, Request, Way, tell_code};
@@ -75,24 +75,23 @@ fn plan_of<'a>(request: &Request<'a>) -> Option<&'a str> {
     }
 }
 
-/// Which file a refusal is of, where that is known.
+/// Which file a refusal is of and what its bytes are, where that is known and it can be read again: not of a stream or a pipe.
 fn file_of<'a, F: Files>(
     alloc: Global,
     files: &mut F,
     request: &Request<'a>,
     fault: &Fault,
-) -> Option<&'a str>
+) -> Option<(&'a str, Vec<u8>)>
     ensures { SameFiles (F.contents files.old) (F.contents files.new) }
 {
     match fault {
         Fault::Schedule { .. } => refused_among(alloc, files, schedules_of(request)),
-        Fault::Algo { .. } => algorithm_of(request),
-        _ => plan_of(request),
+        Fault::Algo { .. } => file_again(alloc, files, algorithm_of(request)?),
+        _ => file_again(alloc, files, plan_of(request)?),
     }
 }
 
-/// Shows where in its file something is refused, where that can be read again: not of a stream or a pipe.
-#[tactic(auto, using(commands::proofs::Kept::same_then))]
+/// Shows where in its file something is refused, where that can be read again.
 fn show_place<F: Files, E: Write>(
     alloc: Global,
     files: &mut F,
@@ -105,10 +104,7 @@ fn show_place<F: Files, E: Write>(
     let Some(place) = place_of(fault) else {
         return;
     };
-    let Some(name) = file_of(alloc, files, request, fault) else {
-        return;
-    };
-    if let Some(text) = files.again(alloc, name) {
+    if let Some((name, text)) = file_of(alloc, files, request, fault) {
         show(name, text.as_slice(), place, err);
     }
 }

@@ -36,6 +36,14 @@ fn answer_to(alloc: Global, algo: &Algo, sched: &Sched) -> Answer {
     Answer::Refused(reason_of(alloc, algo, sched, &error))
 }
 
+/// What a schedule's bytes are read as; none where they are no text.
+fn schedule_of(alloc: Global, bytes: &[u8]) -> Option<Result<Sched, Fault>> {
+    match str::from_utf8(bytes) {
+        Ok(text) => Some(read_schedule(alloc, text)),
+        Err(_) => None,
+    }
+}
+
 /// A schedule as its file is read once more; none where that can't be.
 fn schedule_again<F: Files>(
     alloc: Global,
@@ -44,38 +52,51 @@ fn schedule_again<F: Files>(
 ) -> Option<Result<Sched, Fault>>
     ensures { SameFiles (F.contents files.old) (F.contents files.new) }
 {
-    let Some(bytes) = files.again(alloc, name) else {
-        return None;
-    };
-    match str::from_utf8(bytes.as_slice()) {
-        Ok(text) => Some(read_schedule(alloc, text)),
-        Err(_) => None,
-    }
+    let bytes = files.again(alloc, name)?;
+    schedule_of(alloc, bytes.as_slice())
 }
 
-/// The first of these schedules whose text is refused, where one is; none where one before it can't be read again.
+/// A file that is read once more: its name and its bytes; none where that can't be.
+pub(crate) fn file_again<'a, F: Files>(
+    alloc: Global,
+    files: &mut F,
+    name: &'a str,
+) -> Option<(&'a str, Vec<u8>)>
+    ensures { SameFiles (F.contents files.old) (F.contents files.new) }
+{
+    let bytes = files.again(alloc, name)?;
+    Some((name, bytes))
+}
+
+/// The first of these schedules whose text is refused, with its bytes, where one is; none where one before it can't be read
+/// again. Of names that are alike and stand together the first alone is read.
 #[tactic(auto, using(commands::proofs::Kept::same_then))]
 pub(crate) fn refused_among<'a, F: Files>(
     alloc: Global,
     files: &mut F,
     names: &[&'a str],
-) -> Option<&'a str>
+) -> Option<(&'a str, Vec<u8>)>
     ensures { SameFiles (F.contents files.old) (F.contents files.new) }
 {
-    match names {
-        [] => None,
-        [last] => Some(*last),
-        [name, rest @ ..] => {
-            match schedule_again(alloc, files, name) {
-                Some(Ok(_)) => refused_among(alloc, files, rest),
-                Some(Err(Fault::Schedule { .. })) => Some(*name),
-                _ => None,
-            }
+    let mut taken = None;
+    for name in names {
+        if taken == Some(*name) {
+            continue;
+        }
+        let Some(bytes) = files.again(alloc, name) else {
+            return None;
+        };
+        match schedule_of(alloc, bytes.as_slice()) {
+            Some(Ok(_)) => taken = Some(*name),
+            Some(Err(Fault::Schedule { .. })) => return Some((*name, bytes)),
+            _ => return None,
         }
     }
+    None
 }
 
-/// What made the first of these schedules that breaks a rule do so; none where one can't be read again.
+/// What made the first of these schedules that breaks a rule do so; none where one can't be read again. Of names that are
+/// alike and stand together the first alone is read.
 #[tactic(auto, using(commands::proofs::Kept::same_then))]
 fn reason_among<F: Files>(
     alloc: Global,
@@ -85,18 +106,20 @@ fn reason_among<F: Files>(
 ) -> Option<Reason>
     ensures { SameFiles (F.contents files.old) (F.contents files.new) }
 {
-    match names {
-        [] => None,
-        [name, rest @ ..] => {
-            let Some(Ok(sched)) = schedule_again(alloc, files, name) else {
-                return None;
-            };
-            match answer_to(alloc, algo, &sched) {
-                Answer::Taken => reason_among(alloc, files, algo, rest),
-                Answer::Refused(found) => found,
-            }
+    let mut taken = None;
+    for name in names {
+        if taken == Some(*name) {
+            continue;
+        }
+        let Some(Ok(sched)) = schedule_again(alloc, files, name) else {
+            return None;
+        };
+        match answer_to(alloc, algo, &sched) {
+            Answer::Taken => taken = Some(*name),
+            Answer::Refused(found) => return found,
         }
     }
+    None
 }
 
 /// The text of the plan that is made of a schedule of an algorithm, where both can be read again.

@@ -1,3 +1,5 @@
+use Rattle.algo.specs.View.{algorithm_of}
+use Rattle.sched.specs.View.{schedule_of}
 use Rattle.tool.proofs.compiling.lowered.Goals as goal
 
 pub returns-in-Ok-clause-made : goal.returns-in-Ok-clause-made
@@ -7,6 +9,9 @@ returns-in-Ok-clause-made c = record {
   regions = c.in-Ok.ensures.regions;
   uses = c.in-Ok.ensures.uses;
   groups = c.in-Ok.ensures.groups;
+  own_lines = c.own_lines_stand.ensures (algorithm_of c.args.algo.now) (schedule_of c.args.sched.now) c.in-Ok.lowered c.in-Ok.ensures.groups;
+  shares = c.whole_plans_are_shared.ensures (algorithm_of c.args.algo.now) (schedule_of c.args.sched.now) c.in-Ok.lowered c.is_well_formed.ensures c.in-Ok.ensures.legal
+      c.in-Ok.ensures.small c.in-Ok.ensures.regions c.in-Ok.ensures.groups;
 }
 
 pub returns-in-Err-clause-refused : goal.returns-in-Err-clause-refused

@@ -1,0 +1,15 @@
+pub mod Listed
+pub mod Points
+pub mod Laid
+pub mod Unscattered
+pub mod Owned
+pub mod Output
+pub mod Earlier
+pub mod NeedEnds
+pub mod Boxed
+pub mod Fetching
+pub mod Bodies
+pub mod Served
+pub mod Lined
+pub mod Gridded
+pub mod Shared

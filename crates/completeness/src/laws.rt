@@ -1,0 +1,25 @@
+//! Laws that join what `lower` makes with what the checker asks.
+
+ghost use Rattle.completeness.specs.Laws.{HeadsDoNotFail, OnlyLimitsAreTold, OwnLinesStand, WholePlansAreShared};
+
+/// Of a schedule under which each stored function is a root function that is computed at no loop, and no inner loop of a split is
+/// parallel or split again, the plan that `lower` makes has the algorithm's head and its shares: each cell is one piece's own, what a piece fetches are cells
+/// that the pieces it needs own, these are pieces and come before it, and the output's group has each point of the output.
+pub fn whole_plans_are_shared()
+    ensures { WholePlansAreShared }
+{}
+
+/// Where that is so of a plan, what is told of the pieces' shares is a limit (K14), and neither K9, K10 nor K11.
+pub fn only_limits_are_told()
+    ensures { OnlyLimitsAreTold }
+{}
+
+/// Nor is a fault told of its head (K1).
+pub fn heads_do_not_fail()
+    ensures { HeadsDoNotFail }
+{}
+
+/// Of whatever schedule a plan is made, each of its groups has a line of what its pieces own: the certificate lacks none (K10 at the line `cert`).
+pub fn own_lines_stand()
+    ensures { OwnLinesStand }
+{}

@@ -1,0 +1,4 @@
+//! The checker takes what `lower` makes, as far as that is proved: laws alone, over the definitions of both.
+#![tactic(auto)]
+
+pub mod laws;
