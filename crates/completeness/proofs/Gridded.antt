@@ -1,6 +1,6 @@
 -- What pieces own is told by forms over the grid.
 use Rattle.std.proofs.Common.{◌≡◌, ℕ, zero, suc, ◌+◌, ◌<◌, ◌≤◌, Bool, true, false, ◌||◌, List, [], ◌∷◌, ◌++◌, length, map, Option, Some, None, refl, sym, ap, ◌∙◌, subst, arith}
-use Rattle.std.specs.Prelude.{ℤ, pos, ◌*ℤ◌, ◌-ℤ◌, ◌==◌, ◌&&◌, not, if◌then◌else◌, take, slice_get}
+use Rattle.std.specs.Prelude.{ℤ, pos, ◌*ℤ◌, ◌-ℤ◌, ◌==◌, ◌&&◌, if◌then◌else◌, slice_get}
 use Rattle.std.proofs.lemmas.Bool.Decides.{nat_tests}
 use Rattle.std.specs.List.{AllByRecursion, list_all, list_any, find, range_with_len}
 use Rattle.std.specs.Option.{option_map}
@@ -23,8 +23,8 @@ use Rattle.sched.specs.Standing.{form_named, counted_from}
 use Rattle.sched.specs.Skeleton.{SkeletonText, grid_forms}
 use Rattle.lower.specs.Stored.{StoredText, stored_functions, has_large}
 use Rattle.lower.specs.Regions.{bodies_from}
-use Rattle.lower.specs.Blocks.{BlockText, PartText, Whole, Run, Scattered, LayText, own_last, all_ends, with_last, multiple_from, block_end, factor_of, alone_by}
-use Rattle.lower.specs.Blocks.{blocks_by, within_by, joined, part_of, uncut, is_parallel_named, dimension_by, dimension_of, dimensions_of, owned_region, lay_over}
+use Rattle.lower.specs.Blocks.{BlockText, PartText, Whole, Run, Scattered, LayText, own_last, claim_last, all_ends, with_last, multiple_from, block_end, factor_of, alone_by}
+use Rattle.lower.specs.Blocks.{blocks_by, within_by, joined, part_of, uncut, is_parallel_named, dimension_by, dimension_of, dimensions_of, owned_region, claimed_region, lay_over}
 use Rattle.lower.specs.Bounded.{whole}
 use Rattle.lower.specs.Faults.{are_whole, region_fault}
 use Rattle.lower.specs.Groups.{HasGroups}
@@ -40,9 +40,9 @@ use Rattle.plan.specs.Plan.{Group}
 use Rattle.plan.specs.Certificate.Cells.{own_region}
 use Rattle.plan.specs.View.{group_of, plan_of}
 use Rattle.headline.proofs.Lists.{at_map}
-use Rattle.validation.specs.Certificate.Certificate.{is_owned, is_region_of, own_is_known}
+use Rattle.validation.specs.Certificate.Certificate.{is_region_of}
 use Rattle.completeness.proofs.Owned.{own_found, group_made}
-use Rattle.completeness.proofs.Lined.{numbered, before, there}
+use Rattle.completeness.proofs.Lined.{numbered, there}
 use Rattle.lower.proofs.Grids.{HasHead, head_of, parallel_named}
 
 -- ---- forms of the symbols before one
@@ -85,7 +85,7 @@ module _ (n : ℕ) where
   -- ---- blocks
 
   abbrev BlockOn : BlockText → Type 0
-  BlockOn b = On n b.start × AllOn n b.own_limits
+  BlockOn b = On n b.start × AllOn n b.own_limits × AllOn n b.claim_limits
 
   abbrev PartOn : PartText → Type 0
   PartOn Whole = Unit {0}
@@ -98,22 +98,29 @@ module _ (n : ℕ) where
       where
         of : (b : Bool) (o : Option Form) → is_parallel_named l x ≡ b → form_named l.known x ≡ o → PartOn (if b then alone_by o else Whole)
         of true None e q = tt
-        of true (Some f) e q = (known x f e q, tt)
+        of true (Some f) e q = (known x f e q, tt, tt)
         of false o e q = tt
 
     blocks_on : (c : Split) (cs : List Split) (outer : BlockText) (own : Numbers) → BlockOn outer → BlockOn (blocks_by l c cs outer own)
-    blocks_on c cs outer own h =
-        (on_from own.low (factor_of c) outer.start h.0, all_last (all_ends c own outer.own_limits) (own_last c own) (all_from (block_end own.low c) (factor_of c) outer.own_limits h.1))
+    blocks_on c cs outer own h = (
+      on_from own.low (factor_of c) outer.start h.0,
+      all_last (all_ends c own outer.own_limits) (own_last c own) (all_from (block_end own.low c) (factor_of c) outer.own_limits h.1),
+      all_last (all_ends c own outer.claim_limits) (claim_last c own) (all_from (block_end own.low c) (factor_of c) outer.claim_limits h.2),
+    )
 
     within_on : (c : Split) (cs : List Split) (outer inner : BlockText) (own : Numbers) → BlockOn outer → BlockOn inner → BlockOn (within_by l c cs outer inner own)
     within_on c cs outer inner own h k =
         let base = multiple_from own.low (factor_of c) outer.start in
         let on_base = on_from own.low (factor_of c) outer.start h.0 in
         let parts = all_plus base inner.own_limits on_base k.1 in
-        let blocks = all_from (block_end own.low c) (factor_of c) outer.own_limits h.1 in (
+        let blocks = all_from (block_end own.low c) (factor_of c) outer.own_limits h.1 in
+        let claim_parts = all_plus base inner.claim_limits on_base k.2 in
+        let claim_blocks = all_from (block_end own.low c) (factor_of c) outer.claim_limits h.2 in (
           on_plus base (pos 1) inner.start on_base k.0,
           all_last (map (plus_multiple base (pos 1)) inner.own_limits ++ all_ends c own outer.own_limits) (own_last c own)
               (all_join (map (plus_multiple base (pos 1)) inner.own_limits) (all_ends c own outer.own_limits) parts blocks),
+          all_last (map (plus_multiple base (pos 1)) inner.claim_limits ++ all_ends c own outer.claim_limits) (claim_last c own)
+              (all_join (map (plus_multiple base (pos 1)) inner.claim_limits) (all_ends c own outer.claim_limits) claim_parts claim_blocks),
         )
 
     joined_on : (c : Split) (cs : List Split) (outer inner : PartText) → PartOn outer → PartOn inner → PartOn (joined l c cs outer inner)
@@ -152,9 +159,18 @@ module _ (n : ℕ) where
     owned_on cs [] = tt
     owned_on cs (x ∷ xs) = (own_on x cs (part_of l x cs) (part_on x cs), owned_on cs xs)
 
+    claim_on : (x : List ℕ) (cs : List Split) (p : PartText) → PartOn p → SpanOn (dimension_by l x cs p).claim
+    claim_on x cs Whole h = ((tt, tt), (tt, tt))
+    claim_on x cs Scattered h = ((tt, tt), (tt, tt))
+    claim_on x cs (Run b) h = ((h.0, tt), (on_from (b.length -ℤ pos 1) (pos 1) b.start h.0, h.2))
+
+    claimed_on : (cs : List Split) (xs : List (List ℕ)) → AllByRecursion SpanOn (claimed_region (map (dimension_of l cs) xs))
+    claimed_on cs [] = tt
+    claimed_on cs (x ∷ xs) = (claim_on x cs (part_of l x cs) (part_on x cs), claimed_on cs xs)
+
 -- ---- tests
 
-among : (s count t : ℕ) → s ≤ t → t < s + count → list_any (λ x. x == t) (range_with_len s count) ≡ true
+pub among : (s count t : ℕ) → s ≤ t → t < s + count → list_any (λ x. x == t) (range_with_len s count) ≡ true
 among s zero t low high = absurd (omega (arith, low, high))
 among s (suc count) t low high = of (s == t) refl (λ above. among (s + 1) count t above (omega (arith, high)))
   where
@@ -175,7 +191,7 @@ module _ (n : ℕ) where
   forms_over [] h = refl
   forms_over (f ∷ fs) h = ap (λ (b : Bool). b && are_over (grid_symbols n) fs) (terms_over f.terms h.0) ∙ forms_over fs h.1
 
-  spans_over : (xs : List Span1) → AllByRecursion (λ s. AllOn n s.lower × AllOn n s.upper) xs → spans_are_over (grid_symbols n) xs ≡ true
+  pub spans_over : (xs : List Span1) → AllByRecursion (λ s. AllOn n s.lower × AllOn n s.upper) xs → spans_are_over (grid_symbols n) xs ≡ true
   spans_over [] h = refl
   spans_over (x ∷ xs) h =
       ap (λ (b : Bool). (b && are_over (grid_symbols n) x.upper) && spans_are_over (grid_symbols n) xs) (forms_over x.lower h.0.0)
@@ -227,12 +243,23 @@ module _ (g : StoredText) (extents : List Extent) (k : SkeletonText) (laid : IsL
   pub region_over : spans_are_over (grid_symbols (length k.grid)) (owned_region (dimensions_of g extents k)) ≡ true
   region_over = spans_over (length k.grid) (owned_region (dimensions_of g extents k)) (owned_on (length k.grid) (lay_over g extents k) known_on g.placed.cuts g.subject.variables)
 
+  -- what its claims speak of, too
+  pub claimed_over : AllByRecursion (λ s. AllOn (length k.grid) s.lower × AllOn (length k.grid) s.upper) (claimed_region (dimensions_of g extents k))
+  claimed_over = claimed_on (length k.grid) (lay_over g extents k) known_on g.placed.cuts g.subject.variables
+
   dims_long : (xs : List (List ℕ)) → length (owned_region (map (dimension_of (lay_over g extents k) g.placed.cuts) xs)) ≡ length xs
   dims_long [] = refl
   dims_long (x ∷ xs) = ap suc (dims_long xs)
 
   pub region_long : length (owned_region (dimensions_of g extents k)) ≡ length extents
   region_long = dims_long g.subject.variables ∙ sym laid.long
+
+  claims_long : (xs : List (List ℕ)) → length (claimed_region (map (dimension_of (lay_over g extents k) g.placed.cuts) xs)) ≡ length xs
+  claims_long [] = refl
+  claims_long (x ∷ xs) = ap suc (claims_long xs)
+
+  pub claimed_long : length (claimed_region (dimensions_of g extents k)) ≡ length g.subject.variables
+  claimed_long = claims_long g.subject.variables
 
 whole_long : (es : List Extent) → length (map whole es) ≡ length es
 whole_long [] = refl
@@ -260,14 +287,12 @@ module _ (a : Algorithm) (s : Schedule) (l : Lowered) (well : IsAlgorithm a) (le
       let test : (length o.region == length p.region) ≡ true = ap (λ (n : ℕ). n == length p.region) long ∙ eq_refl (length p.region) in
       ap (λ (b : Bool). b && spans_are_over (grid_symbols (length p.grid.items)) o.region) test ∙ over
 
-  pub own_known : (i : ℕ) (o : Own) → slice_get l.certificate.own.items i ≡ Some o → own_is_known (plan_of l.plan).groups (take i l.certificate.own.items) o ≡ true
-  own_known i o own =
+  pub own_fits : (i : ℕ) (o : Own) → slice_get l.certificate.own.items i ≡ Some o → is_region_of (slice_get (plan_of l.plan).groups o.group) o.region ≡ true
+  own_fits i o own =
       let ps = l.plan.groups.items in
       let os = l.certificate.own.items in
       let e : o.group ≡ 0 + i = numbered ps os 0 groups.owned i o own in
       let place : o.group ≡ i = omega (arith, e) in
       let g = there ps os 0 groups.owned i o own in
-      let once : is_owned (take i os) o.group ≡ false = before ps os 0 groups.owned i o.group (omega (arith, place)) in
       let at : slice_get (map group_of ps) o.group ≡ Some (group_of g.0) = ap (slice_get (map group_of ps)) place ∙ at_map group_of ps i g.0 g.1 in
-      ap (λ (b : Bool). not b && is_region_of (slice_get (map group_of ps) o.group) o.region) once
-      ∙ ap (λ (x : Option Group). is_region_of x o.region) at ∙ fits_group i g.0 o g.1 own
+      ap (λ (x : Option Group). is_region_of x o.region) at ∙ fits_group i g.0 o g.1 own

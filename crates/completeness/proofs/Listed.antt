@@ -8,7 +8,8 @@ use Rattle.meaning.specs.Algorithm.{Algorithm}
 use Rattle.plan.specs.Plan.{Group, Plan}
 use Rattle.plan.specs.Symbols.{Symbols, points}
 use Rattle.plan.specs.Certificate.Certificate.{Certificate}
-use Rattle.plan.specs.Certificate.Cells.{Cell, cell, cells, Piece, piece, pieces, first_piece, own_region, own_points, points_within, is_in_region, no_symbols, grid_point, grid_symbols, group_pieces}
+use Rattle.plan.specs.Certificate.Cells.{Cell, cell, cells, Piece, piece, pieces, first_piece}
+use Rattle.plan.specs.Certificate.Cells.{own_region, own_points, points_within, is_in_region, no_symbols, grid_point, grid_symbols, group_pieces}
 use Rattle.orders.specs.Work.{OwnIsInTable, OwnIsApart, OwnIsWhole}
 use Rattle.headline.specs.Numbers.{GroupsHaveEnds, cell_number, has_point, is_cell, point_rank}
 use Rattle.headline.specs.Parts.{number_of_piece}

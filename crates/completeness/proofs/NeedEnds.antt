@@ -11,7 +11,8 @@ use Rattle.sched.specs.Placing.{is_parallel}
 use Rattle.sched.specs.Standing.{◌>>=◌}
 use Rattle.headline.specs.Numbers.{HasEnds, HaveEnds}
 use Rattle.lower.specs.Stored.{StoredText}
-use Rattle.lower.specs.Needs.{block_at, add_blocks, blocks_over, length_at, low_at, turns_over, turns_found, turns_needed, or_all_turns, loops_needed, first_count, other_counts, or_one_piece}
+use Rattle.lower.specs.Needs.{block_at, add_blocks, blocks_over, length_at, low_at, turns_over}
+use Rattle.lower.specs.Needs.{turns_found, turns_needed, or_all_turns, loops_needed, first_count, other_counts, or_one_piece}
 use Rattle.lower.specs.Needs.{pieces_needed}
 use Rattle.lower.proofs.Laying.{bound, same}
 use Rattle.lower.proofs.Gridded.{IsBetween, AreBetween}

@@ -192,32 +192,32 @@ some_formulas (u ∷ gs) small (suc i) g e = some_formulas gs (second (is_large 
     second false b h = h
 
 module _ (a : Algorithm) (sch : Schedule) (l : Lowered) (well : IsAlgorithm a) (legal : IsLegal a sch) (small : has_large (stored_functions a sch) ≡ false)
-    (kept : region_fault a (stored_functions a sch) ≡ None) (all : are_whole (stored_functions a sch) ≡ true) (groups : HasGroups a (stored_functions a sch) l) (kept_inner : InnersAreKept a sch) where
-  abbrev gs : List StoredText
+    (kept : region_fault a (stored_functions a sch) ≡ None) (all : are_whole (stored_functions a sch) ≡ true) (groups : HasGroups a (stored_functions a sch) l) where
+  abbrev pub gs : List StoredText
   gs = stored_functions a sch
 
-  abbrev ls : List (Option LaidText)
+  abbrev pub ls : List (Option LaidText)
   ls = laid_functions a gs
 
-  abbrev ps : List CodeGroup
+  abbrev pub ps : List CodeGroup
   ps = l.plan.groups.items
 
-  abbrev p : Plan
+  abbrev pub p : Plan
   p = plan_of l.plan
 
-  abbrev c : Certificate
+  abbrev pub c : Certificate
   c = certificate_of l.certificate
 
-  abbrev roots : List Entry
+  abbrev pub roots : List Entry
   roots = roots_over a gs
 
-  abbrev Made : ℕ → CodeGroup → Type 0
+  abbrev pub Made : ℕ → CodeGroup → Type 0
   Made n q = IsGroupMade a sch l well legal small kept all groups n q
 
-  made_at : (n : ℕ) (q : CodeGroup) → slice_get ps n ≡ Some q → Made n q
+  pub made_at : (n : ℕ) (q : CodeGroup) → slice_get ps n ≡ Some q → Made n q
   made_at n q at = group_made a sch l well legal small kept all groups n q at
 
-  ready : AreReady gs ls
+  pub ready : AreReady gs ls
   ready i g at =
       let f = some_formulas gs small i g at in
       let r = regions_there a gs small kept i g f.0 at f.1 in
@@ -225,22 +225,22 @@ module _ (a : Algorithm) (sch : Schedule) (l : Lowered) (well : IsAlgorithm a) (
 
   -- ---- a group that another one needs
 
-  record IsNeeding (n : ℕ) (w : Need) : Type 0 where
-    h : ℕ
-    group : CodeGroup
-    at_h : slice_get ps h ≡ Some group
-    made : Made h group
-    taken : List Span1
-    by : w.group ≡ n
-    of : w.needed ≡ h
-    earlier : h < n
-    between : AreBetween made.laid.region taken
-    region : w.region ≡ pieces_needed made.stored made.laid.region made.laid.skeleton.grid taken
-    inside : LieIn taken made.laid.region
+  pub record IsNeeding (n : ℕ) (w : Need) : Type 0 where
+    pub h : ℕ
+    pub group : CodeGroup
+    pub at_h : slice_get ps h ≡ Some group
+    pub made : Made h group
+    pub taken : List Span1
+    pub by : w.group ≡ n
+    pub of : w.needed ≡ h
+    pub earlier : h < n
+    pub between : AreBetween made.laid.region taken
+    pub region : w.region ≡ pieces_needed made.stored made.laid.region made.laid.skeleton.grid taken
+    pub inside : LieIn taken made.laid.region
 
   -- what a fetch of a group, and its need line, say
   module _ (n : ℕ) (g : StoredText) (at : slice_get gs n ≡ Some g) (fs : List FormulaText) (k : SkeletonText) (defined : g.formulas ≡ Some fs) where
-    needing : (ws : List Need) (f : FetchText) (r : IsFetchAt (sites_of a g fs k) (grid_scope k.grid) n (fetched_groups fs n 0 roots) ws f) →
+    pub needing : (ws : List Need) (f : FetchText) (r : IsFetchAt (sites_of a g fs k) (grid_scope k.grid) n (fetched_groups fs n 0 roots) ws f) →
         (x : IsNeeding n r.need) × (x.h ≡ f.group) × (x.taken ≡ f.region)
     needing ws f r =
         let e = r.group.1 in
@@ -446,49 +446,50 @@ module _ (a : Algorithm) (sch : Schedule) (l : Lowered) (well : IsAlgorithm a) (
 
   -- ---- owners
 
-  owned_needed : FetchedIsNeeded (length (pieces p)) (own_list p c) (fetched_list p) (needs_list p c)
-  owned_needed i x less h = of (slice_get (pieces p) i) refl h
-    where
-      of : (o : Option Piece) → slice_get (pieces p) i ≡ o → Contains (of_piece o [] (λ j. map (cell_number p) (cells_fetched p j))) x →
-          (m : ℕ) × Contains (needs_list p c i) m × Contains (own_list p c m) x
-      of None e k = absurd (let le = k.1 in omega (arith, le))
-      of (Some j) e k =
-          let xs = map (cell_number p) (cells_fetched p j) in
-          let u = at_below xs k.0 k.1 in
-          let u_is : u.0 ≡ x = sym (get_or_from_slice_get xs k.0 u.0 x u.1) ∙ k.2 in
-          let y = from_map (cell_number p) (cells_fetched p j) k.0 u.0 u.1 in
-          let f = fetched_here i j e y.0 (at_in (cells_fetched p j) k.0 y.0 y.1) in
-          let w = f.needs in
-          let parts = parts_at a sch l well legal small kept all groups kept_inner w.h w.group w.made in
-          let o = parts.owner f.point (inside_needed (0 + j.group) (grid_symbols j.at) y.0 f) in
-          let grid_here = grid_point w.group.grid.items o.0 in
-          let number = first_piece p.groups w.h + o.0 in
-          let stands = piece_stands p w.h (group_of w.group) o.0 (at_map group_of ps w.h w.group w.at_h) o.1 in
-          let in_grid : IsInGrid w.made.laid.skeleton.grid grid_here = subst (λ (ms : List ℕ). IsInGrid ms grid_here) w.made.grid (grid_within w.group.grid.items o.0 o.1) in
-          let owned : IsOwned w.made.stored w.made.laid.region w.made.laid.skeleton grid_here f.point =
-          in_region (grid_symbols grid_here) (owned_region (dimensions_of w.made.stored w.made.laid.region w.made.laid.skeleton)) f.point o.2 in
-          let named = needs_name w.made.stored w.made.laid.region w.made.laid.skeleton w.made.laid_by (blocked_at a sch l well legal small kept all groups kept_inner w.h w.group w.made)
-          w.taken (grid_value j.at) f.point grid_here f.lies in_grid owned in
-          let there : IsInRegion f.need.region (grid_value j.at) (map pos grid_here) = subst (λ (rs : List Span1). IsInRegion rs (grid_value j.at) (map pos grid_here)) (sym w.region) named in
-          let ends : HaveEnds f.need.region = subst HaveEnds (sym w.region) (needs_end w.made.stored w.made.laid.region w.taken w.between w.made.laid.skeleton.grid) in
-          let test = tests_region (grid_symbols j.at) f.need.region (map pos grid_here) there in
-          let point_at = at_in (points (grid_symbols j.at) f.need.region) _ (map pos grid_here) (point_stands (grid_symbols j.at) f.need.region (map pos grid_here) ends test) in
-          let counted : 0 + j.group ≡ j.group = omega arith in
-          let listed : In (cell f.need.needed (map pos grid_here)) (needed c j.group (grid_symbols j.at)) = in_needed j.group (grid_symbols j.at) c.needs f.need (map pos grid_here) f.among
-          (w.by ∙ counted) point_at in
-          let y_test : ((f.need.needed == w.h) && same_point (map pos grid_here) (map pos grid_here)) ≡ true =
-          rw (ap (λ (h : ℕ). h == w.h) w.of ∙ eq_refl w.h) (point_refl (map pos grid_here)) in
-          let needs_it : needs_piece c j (piece (group_of w.group) w.h o.0) ≡ true =
-          any_in (λ (v : Cell). (v.group == w.h) && same_point v.point (map pos grid_here)) (needed c j.group (grid_symbols j.at)) (cell f.need.needed (map pos grid_here)) listed y_test in
-          let is_needed : IsNeeded p c j number = ap (needs_this c j) stands ∙ needs_it in
-          let contained : Contains (needed_pieces p c j) number = (needs_one.members p c j number).1 is_needed in
-          let own_there = in_list p c (parted a sch l well legal small kept all groups kept_inner) w.h (group_of w.group) o.0 w.made.own.region (at_map group_of ps w.h w.group w.at_h) w.made.told
-          (subst (PartsGroup (group_of w.group)) (sym w.made.owned) parts) o.1 f.point (ap (λ (r : List Span1). is_in_region (grid_symbols grid_here) r f.point) w.made.owned ∙ o.2) in
-          let x_is : cell_number p (cell w.h f.point) ≡ x = ap (cell_number p) (sym f.is) ∙ sym y.2 ∙ u_is in (
-            number,
-            subst (λ (o : Option Piece). Contains (of_piece o [] (needed_pieces p c)) number) (sym e) contained,
-            subst (Contains (own_list p c number)) x_is own_there,
-          )
+  module _ (kept_inner : InnersAreKept a sch) where
+    owned_needed : FetchedIsNeeded (length (pieces p)) (own_list p c) (fetched_list p) (needs_list p c)
+    owned_needed i x less h = of (slice_get (pieces p) i) refl h
+      where
+        of : (o : Option Piece) → slice_get (pieces p) i ≡ o → Contains (of_piece o [] (λ j. map (cell_number p) (cells_fetched p j))) x →
+            (m : ℕ) × Contains (needs_list p c i) m × Contains (own_list p c m) x
+        of None e k = absurd (let le = k.1 in omega (arith, le))
+        of (Some j) e k =
+            let xs = map (cell_number p) (cells_fetched p j) in
+            let u = at_below xs k.0 k.1 in
+            let u_is : u.0 ≡ x = sym (get_or_from_slice_get xs k.0 u.0 x u.1) ∙ k.2 in
+            let y = from_map (cell_number p) (cells_fetched p j) k.0 u.0 u.1 in
+            let f = fetched_here i j e y.0 (at_in (cells_fetched p j) k.0 y.0 y.1) in
+            let w = f.needs in
+            let parts = parts_at a sch l well legal small kept all groups kept_inner w.h w.group w.made in
+            let o = parts.owner f.point (inside_needed (0 + j.group) (grid_symbols j.at) y.0 f) in
+            let grid_here = grid_point w.group.grid.items o.0 in
+            let number = first_piece p.groups w.h + o.0 in
+            let stands = piece_stands p w.h (group_of w.group) o.0 (at_map group_of ps w.h w.group w.at_h) o.1 in
+            let in_grid : IsInGrid w.made.laid.skeleton.grid grid_here = subst (λ (ms : List ℕ). IsInGrid ms grid_here) w.made.grid (grid_within w.group.grid.items o.0 o.1) in
+            let owned : IsOwned w.made.stored w.made.laid.region w.made.laid.skeleton grid_here f.point =
+            in_region (grid_symbols grid_here) (owned_region (dimensions_of w.made.stored w.made.laid.region w.made.laid.skeleton)) f.point o.2 in
+            let named = needs_name w.made.stored w.made.laid.region w.made.laid.skeleton w.made.laid_by (blocked_at a sch l well legal small kept all groups kept_inner w.h w.group w.made)
+            w.taken (grid_value j.at) f.point grid_here f.lies in_grid owned in
+            let there : IsInRegion f.need.region (grid_value j.at) (map pos grid_here) = subst (λ (rs : List Span1). IsInRegion rs (grid_value j.at) (map pos grid_here)) (sym w.region) named in
+            let ends : HaveEnds f.need.region = subst HaveEnds (sym w.region) (needs_end w.made.stored w.made.laid.region w.taken w.between w.made.laid.skeleton.grid) in
+            let test = tests_region (grid_symbols j.at) f.need.region (map pos grid_here) there in
+            let point_at = at_in (points (grid_symbols j.at) f.need.region) _ (map pos grid_here) (point_stands (grid_symbols j.at) f.need.region (map pos grid_here) ends test) in
+            let counted : 0 + j.group ≡ j.group = omega arith in
+            let listed : In (cell f.need.needed (map pos grid_here)) (needed c j.group (grid_symbols j.at)) = in_needed j.group (grid_symbols j.at) c.needs f.need (map pos grid_here) f.among
+            (w.by ∙ counted) point_at in
+            let y_test : ((f.need.needed == w.h) && same_point (map pos grid_here) (map pos grid_here)) ≡ true =
+            rw (ap (λ (h : ℕ). h == w.h) w.of ∙ eq_refl w.h) (point_refl (map pos grid_here)) in
+            let needs_it : needs_piece c j (piece (group_of w.group) w.h o.0) ≡ true =
+            any_in (λ (v : Cell). (v.group == w.h) && same_point v.point (map pos grid_here)) (needed c j.group (grid_symbols j.at)) (cell f.need.needed (map pos grid_here)) listed y_test in
+            let is_needed : IsNeeded p c j number = ap (needs_this c j) stands ∙ needs_it in
+            let contained : Contains (needed_pieces p c j) number = (needs_one.members p c j number).1 is_needed in
+            let own_there = in_list p c (parted a sch l well legal small kept all groups kept_inner) w.h (group_of w.group) o.0 w.made.own.region (at_map group_of ps w.h w.group w.at_h) w.made.told
+            (subst (PartsGroup (group_of w.group)) (sym w.made.owned) parts) o.1 f.point (ap (λ (r : List Span1). is_in_region (grid_symbols grid_here) r f.point) w.made.owned ∙ o.2) in
+            let x_is : cell_number p (cell w.h f.point) ≡ x = ap (cell_number p) (sym f.is) ∙ sym y.2 ∙ u_is in (
+              number,
+              subst (λ (o : Option Piece). Contains (of_piece o [] (needed_pieces p c)) number) (sym e) contained,
+              subst (Contains (own_list p c number)) x_is own_there,
+            )
 
-  pub served : AreServed p c
-  served = record { cells = cells_are; grid = grids; earlier = earlier_pieces; needed = owned_needed }
+    pub served : AreServed p c
+    served = record { cells = cells_are; grid = grids; earlier = earlier_pieces; needed = owned_needed }

@@ -1,8 +1,8 @@
 -- A plan of whole functions has its shares, and then only limits are told of them.
-use Rattle.std.proofs.Common.{◌≡◌, ℕ, ◌+◌, ◌<◌, length, Option, Some, None, refl, sym, ap, ◌∙◌, subst, inl, inr, arith}
+use Rattle.std.proofs.Common.{◌≡◌, ℕ, ◌+◌, ◌<◌, true, false, length, Option, Some, None, refl, sym, ap, ◌∙◌, subst, inl, inr, arith}
 use Rattle.std.specs.Prelude.{MatchOption, slice_get}
 use Rattle.plan.specs.Plan.{Plan}
-use Rattle.plan.specs.Certificate.Certificate.{Certificate}
+use Rattle.plan.specs.Certificate.Certificate.{Certificate, claim_of, certificate_of}
 use Rattle.plan.specs.Certificate.Cells.{Piece, pieces}
 use Rattle.plan.specs.declared.plan.Plan.{Plan as PlanMade}
 use Rattle.plan.specs.View.{plan_of}
@@ -12,6 +12,13 @@ use Rattle.meaning.specs.Algorithm.{Function, Algorithm}
 use Rattle.meaning.specs.Conditions.{IsAlgorithm, IsOutput}
 use Rattle.algo.specs.Parts.{output_type}
 use Rattle.headline.specs.Head.{output_function}
+use Rattle.sched.specs.Schedule.{Schedule}
+use Rattle.sched.specs.Legal.{IsLegal}
+use Rattle.headline.proofs.Regions.{at_in}
+use Rattle.lower.specs.declared.lowering.Lowered.{Lowered}
+use Rattle.lower.specs.Stored.{stored_functions, has_large}
+use Rattle.lower.specs.Faults.{are_whole, region_fault}
+use Rattle.lower.specs.Groups.{HasGroups}
 use Rattle.lower.specs.Heads.{IsHeadOf}
 use Rattle.soundness.specs.declared.outline.refusals.code.K.{K}
 use Rattle.soundness.specs.declared.outline.refusals.code.K.TheVariants.{K1, K2, K3, K4, K5, K6, K7, K8, K9, K10, K11, K12, K13, K14}
@@ -19,12 +26,17 @@ use Rattle.shares.specs.Made.{CodeMeans}
 use Rattle.shares.proofs.Groups.{get_within, all_at_place}
 use Rattle.shares.proofs.Having.{cells_within}
 use Rattle.completeness.specs.Parted.{HasOwnHead}
-use Rattle.completeness.specs.Laws.{Stands, WholePlansAreShared, OnlyLimitsAreTold, HeadsDoNotFail}
+use Rattle.completeness.specs.Laws.{LinesAreKnown, Stands, WholePlansAreShared, OnlyLimitsAreTold, HeadsDoNotFail}
 use Rattle.completeness.proofs.Listed.{parted_cells}
 use Rattle.completeness.proofs.Owned.{parted}
 use Rattle.completeness.proofs.Served.{served}
 use Rattle.completeness.proofs.Output.{whole_output}
-use Rattle.completeness.proofs.Gridded.{own_known}
+use Rattle.completeness.proofs.Gridded.{own_fits}
+use Rattle.completeness.proofs.NeedLines.{need_known}
+use Rattle.completeness.proofs.ClaimLines.{claim_known}
+use Rattle.headline.proofs.Lists.{from_map}
+use Rattle.validation.specs.Certificate.Certificate.{claim_is_known}
+use Rattle.completeness.proofs.Lined.{lined}
 
 same_output : (a : Algorithm) (o : Option Function) (ty : Ty) → output_function a ≡ o → MatchOption o ⊥ (IsOutput a.output_extents) → ty ≡ output_type a →
     MatchOption (output_function a) ⊥ (λ f. ty ≡ f.ty)
@@ -40,12 +52,24 @@ own_head a p well h = record {
   output = record { name = h.output.named; ty = same_output a (output_function a) p.output.ty refl well.output h.output.ty; extents = h.output.extents };
 }
 
+known_lines : (a : Algorithm) (s : Schedule) (l : Lowered) → IsAlgorithm a → IsLegal a s → has_large (stored_functions a s) ≡ false → region_fault a (stored_functions a s) ≡ None →
+    are_whole (stored_functions a s) ≡ true → HasGroups a (stored_functions a s) l → LinesAreKnown a (plan_of l.plan) (certificate_of l.certificate)
+known_lines a s l well legal small regions all groups = record {
+  own_lines = lined a s l groups;
+  own = own_fits a s l well legal small regions all groups;
+  needs = λ i n at. need_known a s l well legal small regions all groups n (at_in l.certificate.needs.items i n at);
+  claims = λ i k at.
+      let x = from_map claim_of l.certificate.claims.items i k at in
+      ap (claim_is_known a.functions (plan_of l.plan).groups) x.2 ∙ claim_known a s l well legal small regions all groups x.0 (at_in l.certificate.claims.items i x.0 x.1);
+  windows = groups.windows all;
+}
+
 pub shared : WholePlansAreShared
 shared a s l well legal small kept groups all inners =
     let regions = (kept all).0 in
     record {
       head = own_head a l.plan well groups.head;
-      known = own_known a s l well legal small regions all groups;
+      lines = known_lines a s l well legal small regions all groups;
       parted = parted_cells _ _ (parted a s l well legal small regions all groups inners);
       served = served a s l well legal small regions all groups inners;
       output = whole_output a s l well legal small regions all groups;

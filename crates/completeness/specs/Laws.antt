@@ -1,11 +1,14 @@
 -- What is asked of the pieces' shares, and that a plan of whole functions has it.
-use Rattle.std.specs.Prelude.{◌≡◌, ℕ, true, false, [], take, Some, slice_get}
-use Rattle.meaning.specs.Algorithm.{Algorithm}
+use Rattle.std.specs.Prelude.{◌≡◌, ◌⊎◌, ℕ, true, false, [], take, Some, None, slice_get}
+use Rattle.std.specs.List.{AllByRecursion}
+use Rattle.meaning.specs.Algorithm.{Function, Algorithm}
 use Rattle.meaning.specs.Conditions.{IsAlgorithm}
 use Rattle.plan.specs.Plan.{Group, Plan}
 use Rattle.plan.specs.declared.certificate.cert.Own.{Own}
+use Rattle.plan.specs.declared.certificate.cert.Need.{Need}
+use Rattle.plan.specs.Claimed.{claim_of as claim_named}
 use Rattle.plan.specs.View.{plan_of}
-use Rattle.plan.specs.Certificate.Certificate.{Certificate, certificate_of}
+use Rattle.plan.specs.Certificate.Certificate.{Claim, Certificate, certificate_of}
 use Rattle.soundness.specs.declared.outline.refusals.code.Flaw.{Flaw}
 use Rattle.soundness.specs.declared.outline.refusals.code.K.TheVariants.{K14}
 use Rattle.sched.specs.Schedule.{Schedule}
@@ -13,7 +16,9 @@ use Rattle.sched.specs.Legal.{IsLegal}
 use Rattle.headline.specs.Head.{FailsHead}
 use Rattle.shares.specs.declared.answer.SharesError.TheVariants.{Flaw as Told}
 use Rattle.shares.specs.Made.{ErrorMeans}
-use Rattle.validation.specs.Certificate.Certificate.{is_owned, own_is_known, cert_flaws}
+use Rattle.validation.specs.Certificate.Certificate.{is_owned, is_region_of, need_is_known, claim_is_known, cert_flaws, flaws_of_certificate}
+use Rattle.validation.specs.Groups.Inside.{Begins}
+use Rattle.validation.specs.Groups.Wrong.{GroupNamesUnknown, IsNotDefinitionAt}
 use Rattle.lower.specs.declared.lowering.Lowered.{Lowered}
 use Rattle.lower.specs.Stored.{stored_functions}
 use Rattle.lower.specs.Faults.{are_whole}
@@ -21,11 +26,31 @@ use Rattle.lower.specs.Refused.{AreSmall, AreRegionsKept}
 use Rattle.lower.specs.Groups.{AreGroupsMade}
 use Rattle.completeness.specs.Parted.{HasOwnHead, ArePartedCells, AreServed, HasWholeOutput, InnersAreKept}
 
--- but for limits, what the checker asks of the head, of own lines and of shares: the head is the algorithm's, own lines are of groups and in the symbols of their grids,
+-- each group has a line of what its pieces own, so of the certificate as a whole (K10 at its first line) nothing is told; and each such line is of a group of the
+-- plan, of which no earlier one is (K2)
+pub record HasOwnLines (p : Plan) (c : Certificate) : Type 0 where
+  pub each : cert_flaws p c ≡ []
+  pub once : (i : ℕ) (o : Own) → slice_get c.own i ≡ Some o → is_owned (take i c.own) o.group ≡ false
+  pub known : (i : ℕ) (o : Own) → slice_get c.own i ≡ Some o → (g : Group) × (slice_get p.groups o.group ≡ Some g)
+
+-- no name of the algorithm reads as a load by a claim, `@` and a number
+pub record NamesNoLoad (a : Algorithm) : Type 0 where
+  pub input : claim_named a.input ≡ None
+  pub functions : (k : ℕ) (f : Function) → slice_get a.functions k ≡ Some f → claim_named f.name ≡ None
+
+-- in the checker's words: what own and needed regions and claims name is known, and there are no windows
+pub record LinesAreKnown (a : Algorithm) (p : Plan) (c : Certificate) : Type 0 where
+  pub own_lines : HasOwnLines p c
+  pub own : (i : ℕ) (o : Own) → slice_get c.own i ≡ Some o → is_region_of (slice_get p.groups o.group) o.region ≡ true
+  pub needs : (i : ℕ) (n : Need) → slice_get c.needs i ≡ Some n → need_is_known p.groups n ≡ true
+  pub claims : (i : ℕ) (k : Claim) → slice_get c.claims i ≡ Some k → claim_is_known a.functions p.groups k ≡ true
+  pub windows : c.windows ≡ []
+
+-- but for limits, what the checker asks of the head, of shares, and of what the certificate's lines name: the head is the algorithm's, what the lines name is known,
 -- the pieces part the cells, each is served by earlier ones, and the output's group has each point of the output
 pub record Stands (a : Algorithm) (p : Plan) (c : Certificate) : Type 0 where
   pub head : HasOwnHead a p
-  pub known : (i : ℕ) (o : Own) → slice_get c.own i ≡ Some o → own_is_known p.groups (take i c.own) o ≡ true
+  pub lines : LinesAreKnown a p c
   pub parted : ArePartedCells p c
   pub served : AreServed p c
   pub output : HasWholeOutput a p
@@ -44,17 +69,27 @@ WholePlansAreShared =
 abbrev pub OnlyLimitsAreTold : Type 0
 OnlyLimitsAreTold = (a : Algorithm) (p : Plan) (c : Certificate) (f : Flaw) → Stands a p c → ErrorMeans p c (Told f) → f.code ≡ K14
 
+-- and what is told of the certificate's lines by themselves is a limit of forms (K3), or one of their number or of claims (K14)
+abbrev pub OnlyLimitsAreToldOfLines : Type 0
+OnlyLimitsAreToldOfLines = (a : Algorithm) (p : Plan) (c : Certificate) → Stands a p c → AllByRecursion (λ f. (f.code ≡ 3) ⊎ (f.code ≡ 14)) (flaws_of_certificate a p c)
+
 -- nor is the head what it should not be
 abbrev pub HeadsDoNotFail : Type 0
 HeadsDoNotFail = (a : Algorithm) (p : Plan) (c : Certificate) (line : ℕ) → Stands a p c → ¬ FailsHead a p line
 
--- each group has a line of what its pieces own, so of the certificate as a whole (K10 at its first line) nothing is told; and each such line is of a group of the
--- plan, of which no earlier one is (K2)
-pub record HasOwnLines (p : Plan) (c : Certificate) : Type 0 where
-  pub each : cert_flaws p c ≡ []
-  pub once : (i : ℕ) (o : Own) → slice_get c.own i ≡ Some o → is_owned (take i c.own) o.group ≡ false
-  pub known : (i : ℕ) (o : Own) → slice_get c.own i ≡ Some o → (g : Group) × (slice_get p.groups o.group ≡ Some g)
-
 -- so it is of the plan that is made of whatever schedule
 abbrev pub OwnLinesStand : Type 0
 OwnLinesStand = (a : Algorithm) (s : Schedule) (l : Lowered) → AreGroupsMade a s l → HasOwnLines (plan_of l.plan) (certificate_of l.certificate)
+
+-- of the plan that is made of a schedule under which each stored function is a root function that is computed at no loop, whatever the loops: where no name reads as a
+-- load, no line stores something else than its definition (K12)
+abbrev pub DefinitionsAreStored : Type 0
+DefinitionsAreStored =
+    (a : Algorithm) (s : Schedule) (l : Lowered) → IsAlgorithm a → IsLegal a s → AreSmall a s → AreRegionsKept a s → AreGroupsMade a s l → NamesNoLoad a
+    → are_whole (stored_functions a s) ≡ true → (line : ℕ) → ¬ IsNotDefinitionAt a (plan_of l.plan) (certificate_of l.certificate) line
+
+-- nor does a line `group` name what is unknown: each is of a function of its own, with a span of numbers for each variable
+abbrev pub GroupLinesAreKnown : Type 0
+GroupLinesAreKnown =
+    (a : Algorithm) (s : Schedule) (l : Lowered) → IsAlgorithm a → IsLegal a s → AreSmall a s → AreRegionsKept a s → AreGroupsMade a s l
+    → are_whole (stored_functions a s) ≡ true → (line : ℕ) → ¬ Begins (plan_of l.plan) (GroupNamesUnknown a (plan_of l.plan)) line

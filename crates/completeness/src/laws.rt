@@ -1,6 +1,6 @@
 //! Laws that join what `lower` makes with what the checker asks.
 
-ghost use Rattle.completeness.specs.Laws.{HeadsDoNotFail, OnlyLimitsAreTold, OwnLinesStand, WholePlansAreShared};
+ghost use Rattle.completeness.specs.Laws.{DefinitionsAreStored, GroupLinesAreKnown, HeadsDoNotFail, OnlyLimitsAreTold, OnlyLimitsAreToldOfLines, OwnLinesStand, WholePlansAreShared};
 
 /// Of a schedule under which each stored function is a root function that is computed at no loop, and no inner loop of a split is
 /// parallel or split again, the plan that `lower` makes has the algorithm's head and its shares: each cell is one piece's own, what a piece fetches are cells
@@ -14,6 +14,12 @@ pub fn only_limits_are_told()
     ensures { OnlyLimitsAreTold }
 {}
 
+/// What is told of the certificate's lines by themselves is a limit, too (K3, K14): what they name is known and in scope (no K2), each group has its own region
+/// (no K10), and there are no windows (no K8).
+pub fn only_limits_are_told_of_lines()
+    ensures { OnlyLimitsAreToldOfLines }
+{}
+
 /// Nor is a fault told of its head (K1).
 pub fn heads_do_not_fail()
     ensures { HeadsDoNotFail }
@@ -22,4 +28,15 @@ pub fn heads_do_not_fail()
 /// Of whatever schedule a plan is made, each of its groups has a line of what its pieces own: the certificate lacks none (K10 at the line `cert`).
 pub fn own_lines_stand()
     ensures { OwnLinesStand }
+{}
+
+/// Of a schedule under which each stored function is a root function that is computed at no loop, no line of the plan that `lower` makes stores something else than the
+/// algorithm's definition with the calls of unstored functions put in (no K12), where no name of the algorithm reads as a load.
+pub fn definitions_are_stored()
+    ensures { DefinitionsAreStored }
+{}
+
+/// Nor does a line `group` of such a plan name what is unknown (no K2): each is of a function of its own, with a span of numbers for each of its variables.
+pub fn group_lines_are_known()
+    ensures { GroupLinesAreKnown }
 {}

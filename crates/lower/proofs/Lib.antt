@@ -13,6 +13,8 @@ pub mod Fetched
 pub mod First
 pub mod Gridded
 pub mod Grids
+pub mod Grouped
+pub mod Hosts
 pub mod Inputs
 pub mod Insides
 pub mod Laying
@@ -20,6 +22,7 @@ pub mod Loads
 pub mod Made
 pub mod Named
 pub mod Needed
+pub mod Nested
 pub mod Origins
 pub mod Outsides
 pub mod Owners
@@ -27,6 +30,7 @@ pub mod Places
 pub mod Planned
 pub mod Puts
 pub mod Reached
+pub mod Renames
 pub mod Rooted
 pub mod Rounds
 pub mod Shown

@@ -17,7 +17,8 @@ use Rattle.lower.specs.Heads.{IsHeadOf}
 use Rattle.lower.specs.Faults.{is_homeless, is_whole, are_whole}
 use Rattle.lower.specs.declared.parties.Party.{Party}
 use Rattle.lower.specs.Fetches.{Entry}
-use Rattle.lower.specs.Groups.{IsGroupOf, AreGroupsOf, IsOwnOf, AreOwned, HaveBlocks, line_behind, HaveBodies, grid_over, root_functions, region_of, HasGroups, rooted_if, rooted, has_region, AreLaid, IsOver, IsOwnOver, AreMade, AreBodies, AreAlone, IsPlanOf}
+use Rattle.lower.specs.Groups.{IsGroupOf, AreGroupsOf, IsOwnOf, AreOwned, HaveBlocks, line_behind, HaveBodies, grid_over, root_functions, region_of, HasGroups, rooted_if, rooted, has_region, AreLaid, IsOver, IsOwnOver, AreMade, AreBodies, AreBodiesBy, placed_of, AreAlone, IsPlanOf}
+use Rattle.lower.specs.Homes.{AreAllAtHome}
 use Rattle.lower.proofs.Laying.{IsLaidOver, laid_over_it}
 
 both : (a b : Bool) → (a && b) ≡ true → (a ≡ true) × (b ≡ true)
@@ -172,9 +173,25 @@ pub plan_made : (a : Algorithm) (all : List Entry) (claims : List Claim) (needs 
     (l : Lowered) (ps : List Group)
     (os : List Own) → AreLaid gs ls → all ≡ rooted true gs ls → es ≡ rooted true gs ls → (rooted false gs ls ≡ [] → AreAlone qs) → AreMade es 0 ps os
     → (AreAlone qs → AreBodies a all 0 0 4 es ps claims needs) → l.plan.groups.items ≡ ps → l.certificate.own.items ≡ os → l.certificate.claims.items ≡ claims → l.certificate.needs.items ≡ needs
-    → (AreAlone qs → l.certificate.windows.items ≡ []) → IsHeadOf a l.plan → IsPlanOf a gs ls l
-plan_made a all claims needs gs ls qs es l ps os laid roots e alone made does is_groups is_own is_claims is_needs windows head =
+    → (AreAlone qs → l.certificate.windows.items ≡ []) → IsHeadOf a l.plan → AreAllAtHome es (rooted false gs ls) (map placed_of qs)
+    → AreBodiesBy a all 0 0 4 (map placed_of qs) es ps claims needs l.certificate.windows.items → IsPlanOf a gs ls l
+plan_made a all claims needs gs ls qs es l ps os laid roots e alone made does is_groups is_own is_claims is_needs windows head homes by =
+    let held = l.certificate.windows.items in
     record {
+      placed = record {
+        placed = map placed_of qs;
+        homes = subst (λ (xs : List Entry). AreAllAtHome xs (rooted false gs ls) (map placed_of qs)) e homes;
+        bodies =
+            let js = map placed_of qs in
+            let by_roots : AreBodiesBy a (rooted true gs ls) 0 0 4 js es ps claims needs held = subst (λ (xs : List Entry). AreBodiesBy a xs 0 0 4 js es ps claims needs held) roots by in
+            let by_entries : AreBodiesBy a (rooted true gs ls) 0 0 4 js (rooted true gs ls) ps claims needs held =
+            subst (λ (xs : List Entry). AreBodiesBy a (rooted true gs ls) 0 0 4 js xs ps claims needs held) e by_roots in
+            let by_groups : AreBodiesBy a (rooted true gs ls) 0 0 4 js (rooted true gs ls) l.plan.groups.items claims needs held =
+            subst (λ (xs : List Group). AreBodiesBy a (rooted true gs ls) 0 0 4 js (rooted true gs ls) xs claims needs held) (sym is_groups) by_entries in
+            let by_claims : AreBodiesBy a (rooted true gs ls) 0 0 4 js (rooted true gs ls) l.plan.groups.items l.certificate.claims.items needs held =
+            subst (λ (xs : List Claim). AreBodiesBy a (rooted true gs ls) 0 0 4 js (rooted true gs ls) l.plan.groups.items xs needs held) (sym is_claims) by_groups in
+            subst (λ (xs : List Need). AreBodiesBy a (rooted true gs ls) 0 0 4 js (rooted true gs ls) l.plan.groups.items l.certificate.claims.items xs held) (sym is_needs) by_claims;
+      };
       head = head;
       laid = laid;
       made = subst (λ (xs : List Entry). AreMade xs 0 l.plan.groups.items l.certificate.own.items) e
@@ -204,6 +221,7 @@ groups_made a gs ls l is laid =
     let cs = l.certificate.claims.items in
     let ws = l.certificate.needs.items in
     record {
+      placed = record { regions = ls; laid = is.laid; over = is.made; inside = is.placed };
       head = is.head;
       each = each_of gs ls is.laid 0 ps os is.made;
       owned = owned (rooted true gs ls) 0 ps os is.made;

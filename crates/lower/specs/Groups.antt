@@ -8,6 +8,9 @@ use Rattle.plan.specs.declared.plan.Group.{Group}
 use Rattle.plan.specs.declared.certificate.cert.Own.{Own}
 use Rattle.plan.specs.declared.certificate.cert.Claim.{Claim}
 use Rattle.plan.specs.declared.certificate.cert.Need.{Need}
+use Rattle.plan.specs.declared.certificate.cert.Window.{Window}
+use Rattle.plan.specs.declared.certificate.cert.Cert.{Cert}
+use Rattle.plan.specs.Plan.{Statement}
 use Rattle.plan.specs.View.{statement_of}
 use Rattle.plan.specs.Lines.{lines}
 use Rattle.meaning.specs.Algorithm.{Algorithm}
@@ -24,6 +27,8 @@ use Rattle.lower.specs.Regions.{LaidText, laid_of, laid_functions, skeleton_of}
 use Rattle.lower.specs.Fetches.{Entry}
 use Rattle.lower.specs.Blocks.{dimensions_of, owned_region}
 use Rattle.lower.specs.Bodies.{IsBody}
+use Rattle.lower.specs.Homes.{AreAllAtHome}
+use Rattle.lower.specs.Placed.{PlacedText, IsMixedBody, inner_seen}
 use Rattle.lower.specs.Around.{grid_scope}
 use Rattle.lower.specs.Heads.{IsHeadOf}
 use Rattle.lower.specs.Bounded.{whole}
@@ -145,41 +150,7 @@ rooted is [] ls = []
 abbrev pub roots_over : Algorithm → List StoredText → List Entry
 roots_over a gs = rooted true gs (laid_functions a gs)
 
--- the plan's head is the algorithm's; the stored root functions have the groups, and the certificate tells of each what its pieces own; where each stored function is a root function
--- that is computed at no loop, the regions are those that are needed, the pieces own the blocks of their parallel loops and do what the skeletons say, the claims
--- and need lines are theirs, and there are no windows
-pub record HasGroups (a : Algorithm) (gs : List StoredText) (l : Lowered) : Type 0 where
-  pub head : IsHeadOf a l.plan
-  pub each : AreGroupsOf (root_functions gs) l.plan.groups.items
-  pub owned : AreOwned 0 l.plan.groups.items l.certificate.own.items
-  pub needed : are_whole gs ≡ true → map (λ p. p.region) l.plan.groups.items ≡ map region_of (laid_functions a gs)
-  pub blocks : are_whole gs ≡ true → HaveBlocks gs l.plan.groups.items l.certificate.own.items
-  pub bodies : are_whole gs ≡ true → HaveBodies a (roots_over a gs) 0 0 4 gs l.plan.groups.items l.certificate.claims.items l.certificate.needs.items
-  pub windows : are_whole gs ≡ true → l.certificate.windows.items ≡ []
-
-abbrev pub AreGroupsMade : Algorithm → Schedule → Lowered → Type 0
-AreGroupsMade a s l = HasGroups a (stored_functions a s) l
-
--- ---- while they are made
-
--- as memory keeps a stored function that has definitions and a region
-abbrev pub root_of : Root → Entry
-root_of r = (stored_of r.stored.now, laid_of r.laid.now, map formula_of r.formulas.now)
-
-abbrev pub party_of : Party → Entry
-party_of p = root_of p.root
-
--- nothing is computed inside its loops
-abbrev pub HasNone : Result (Vec Inner) (List ℕ) → Type 0
-HasNone (Err x) = ⊥
-HasNone (Ok v) = v.items ≡ []
-
-abbrev pub IsAlone : Party → Type 0
-IsAlone p = HasNone p.inners
-
-abbrev pub AreAlone : List Party → Type 0
-AreAlone [] = Unit {0}
-AreAlone (p ∷ ps) = IsAlone p × AreAlone ps
+-- ---- over some regions
 
 -- the group of a function over this region
 pub record IsOver (e : Entry) (p : Group) : Type 0 where
@@ -205,6 +176,101 @@ AreMade (e ∷ es) n (p ∷ ps) (o ∷ os) = IsOver e p × IsOwnOver e n o × Ar
 abbrev pub IsBodyOf : Algorithm → List Entry → ℕ → ℕ → ℕ → Entry → Group → List Claim → List Need → Type 0
 IsBodyOf a all n c line e p claims needs = IsBody a all n c line e.0 e.2 e.1.skeleton (dimensions_of e.0 e.1.region e.1.skeleton) claims needs (statement_of p.body)
 
+-- each root function has definitions and a region
+abbrev pub has_region : Option (List FormulaText) → Option LaidText → Bool
+has_region (Some fs) (Some l) = true
+has_region (Some fs) None = false
+has_region None l = false
+
+abbrev pub AreLaid : List StoredText → List (Option LaidText) → Type 0
+AreLaid [] ls = Unit {0}
+AreLaid (g ∷ gs) [] = ⊥
+AreLaid (g ∷ gs) (l ∷ ls) = (g.subject.is_root ≡ true → has_region g.formulas l ≡ true) × AreLaid gs ls
+
+-- ---- whatever is computed inside loops
+
+-- the body of the group n of these functions, where these are computed inside its loops, with its claims, need lines and windows; the next group has this line
+abbrev pub IsBodyBy : Algorithm → List Entry → ℕ → ℕ → ℕ → ℕ → List PlacedText → Entry → Group → List Claim → List Need → List Window → Type 0
+IsBodyBy a all n c line next [] e p claims needs windows = IsBodyOf a all n c line e p claims needs × (next ≡ line_behind line p) × (windows ≡ [])
+IsBodyBy a all n c line next (i ∷ is) e p claims needs windows = IsMixedBody all n c line next (i ∷ is) e claims needs windows (statement_of p.body)
+
+-- the claims, need lines and windows of a group, and behind them those of others, which are told the line of the next group, and how many claims this one has
+pub record AreAllLines (P : ℕ → List Claim → List Need → List Window → Type 0) (Q : ℕ → ℕ → List Claim → List Need → List Window → Type 0) (claims : List Claim) (needs : List Need)
+    (windows : List Window) : Type 0 where
+  pub next : ℕ
+  pub own_claims : List Claim
+  pub own_needs : List Need
+  pub own_windows : List Window
+  pub other_claims : List Claim
+  pub other_needs : List Need
+  pub other_windows : List Window
+  pub claimed : claims ≡ own_claims ++ other_claims
+  pub needed : needs ≡ own_needs ++ other_needs
+  pub held : windows ≡ own_windows ++ other_windows
+  pub here : P next own_claims own_needs own_windows
+  pub behind : Q next (length own_claims) other_claims other_needs other_windows
+
+-- each of these groups, with the functions that are computed inside its loops, one behind another, from the number n on; the first claim has the number c
+abbrev pub AreBodiesBy : Algorithm → List Entry → ℕ → ℕ → ℕ → List (List PlacedText) → List Entry → List Group → List Claim → List Need → List Window → Type 0
+AreBodiesBy a all n c line [] [] [] claims needs windows = (claims ≡ []) × (needs ≡ []) × (windows ≡ [])
+AreBodiesBy a all n c line (is ∷ others) (e ∷ es) (p ∷ ps) claims needs windows =
+    AreAllLines (λ next. IsBodyBy a all n c line next is e p) (λ next m. AreBodiesBy a all (n + 1) (c + m) next others es ps) claims needs windows
+AreBodiesBy a all n c line _ _ _ claims needs windows = ⊥
+
+-- over these regions, which functions are computed inside the loops of each group, at the places of their loops; and each group's body, claims, need lines and
+-- windows are those of a group in whose loops these are computed
+pub record ArePlacedOver (a : Algorithm) (gs : List StoredText) (regions : List (Option LaidText)) (l : Lowered) : Type 0 where
+  pub placed : List (List PlacedText)
+  pub homes : AreAllAtHome (rooted true gs regions) (rooted false gs regions) placed
+  pub bodies : AreBodiesBy a (rooted true gs regions) 0 0 4 placed (rooted true gs regions) l.plan.groups.items l.certificate.claims.items l.certificate.needs.items
+      l.certificate.windows.items
+
+-- over some regions, of which the pieces of each group own their blocks
+pub record ArePlaced (a : Algorithm) (gs : List StoredText) (l : Lowered) : Type 0 where
+  pub regions : List (Option LaidText)
+  pub laid : AreLaid gs regions
+  pub over : AreMade (rooted true gs regions) 0 l.plan.groups.items l.certificate.own.items
+  pub inside : ArePlacedOver a gs regions l
+
+-- ---- the plan
+
+-- the plan's head is the algorithm's; the stored root functions have the groups, and the certificate tells of each what its pieces own; where each stored function is a root function
+-- that is computed at no loop, the regions are those that are needed, the pieces own the blocks of their parallel loops and do what the skeletons say, the claims
+-- and need lines are theirs, and there are no windows; and whatever is computed inside loops, each group is that of some functions that are
+pub record HasGroups (a : Algorithm) (gs : List StoredText) (l : Lowered) : Type 0 where
+  pub head : IsHeadOf a l.plan
+  pub each : AreGroupsOf (root_functions gs) l.plan.groups.items
+  pub owned : AreOwned 0 l.plan.groups.items l.certificate.own.items
+  pub needed : are_whole gs ≡ true → map (λ p. p.region) l.plan.groups.items ≡ map region_of (laid_functions a gs)
+  pub blocks : are_whole gs ≡ true → HaveBlocks gs l.plan.groups.items l.certificate.own.items
+  pub bodies : are_whole gs ≡ true → HaveBodies a (roots_over a gs) 0 0 4 gs l.plan.groups.items l.certificate.claims.items l.certificate.needs.items
+  pub windows : are_whole gs ≡ true → l.certificate.windows.items ≡ []
+  pub placed : ArePlaced a gs l
+
+abbrev pub AreGroupsMade : Algorithm → Schedule → Lowered → Type 0
+AreGroupsMade a s l = HasGroups a (stored_functions a s) l
+
+-- ---- while they are made
+
+-- as memory keeps a stored function that has definitions and a region
+abbrev pub root_of : Root → Entry
+root_of r = (stored_of r.stored.now, laid_of r.laid.now, map formula_of r.formulas.now)
+
+abbrev pub party_of : Party → Entry
+party_of p = root_of p.root
+
+-- nothing is computed inside its loops
+abbrev pub HasNone : Result (Vec Inner) (List ℕ) → Type 0
+HasNone (Err x) = ⊥
+HasNone (Ok v) = v.items ≡ []
+
+abbrev pub IsAlone : Party → Type 0
+IsAlone p = HasNone p.inners
+
+abbrev pub AreAlone : List Party → Type 0
+AreAlone [] = Unit {0}
+AreAlone (p ∷ ps) = IsAlone p × AreAlone ps
+
 abbrev pub AreBodies : Algorithm → List Entry → ℕ → ℕ → ℕ → List Entry → List Group → List Claim → List Need → Type 0
 AreBodies a all n c line [] ps claims needs = (claims ≡ []) × (needs ≡ [])
 AreBodies a all n c line (e ∷ es) [] claims needs = ⊥
@@ -219,16 +285,42 @@ pub record BodiesMade (a : Algorithm) (all : List Entry) (n c line : ℕ) (es : 
   pub needed : behind ≡ before ++ needs
   pub are : AreBodies a all n c line es ps claims needs
 
--- each root function has definitions and a region
-abbrev pub has_region : Option (List FormulaText) → Option LaidText → Bool
-has_region (Some fs) (Some l) = true
-has_region (Some fs) None = false
-has_region None l = false
+-- the functions that are computed inside a group's loops
+abbrev pub inners_of : Result (Vec Inner) (List ℕ) → List PlacedText
+inners_of (Err x) = []
+inners_of (Ok v) = map inner_seen v.items
 
-abbrev pub AreLaid : List StoredText → List (Option LaidText) → Type 0
-AreLaid [] ls = Unit {0}
-AreLaid (g ∷ gs) [] = ⊥
-AreLaid (g ∷ gs) (l ∷ ls) = (g.subject.is_root ≡ true → has_region g.formulas l ≡ true) × AreLaid gs ls
+abbrev pub placed_of : Party → List PlacedText
+placed_of p = inners_of p.inners
+
+-- a body in whose loops functions are computed; its claims, need lines and windows stand behind those of other groups
+pub record MixedMade (all : List Entry) (n c line next : ℕ) (is : List PlacedText) (e : Entry) (old new : Cert) (body : Statement) : Type 0 where
+  pub claims : List Claim
+  pub needs : List Need
+  pub windows : List Window
+  pub claimed : new.claims.items ≡ old.claims.items ++ claims
+  pub needed : new.needs.items ≡ old.needs.items ++ needs
+  pub held : new.windows.items ≡ old.windows.items ++ windows
+  pub made : IsMixedBody all n c line next is e claims needs windows body
+
+-- the group has this body; its claims, need lines and windows stand behind those of other groups
+pub record GroupBy (a : Algorithm) (all : List Entry) (n c line next : ℕ) (is : List PlacedText) (e : Entry) (p : Group) (old new : Cert) : Type 0 where
+  pub claims : List Claim
+  pub needs : List Need
+  pub windows : List Window
+  pub claimed : new.claims.items ≡ old.claims.items ++ claims
+  pub needed : new.needs.items ≡ old.needs.items ++ needs
+  pub held : new.windows.items ≡ old.windows.items ++ windows
+  pub made : IsBodyBy a all n c line next is e p claims needs windows
+
+pub record GroupsBy (a : Algorithm) (all : List Entry) (n c line : ℕ) (placed : List (List PlacedText)) (es : List Entry) (ps : List Group) (old new : Cert) : Type 0 where
+  pub claims : List Claim
+  pub needs : List Need
+  pub windows : List Window
+  pub claimed : new.claims.items ≡ old.claims.items ++ claims
+  pub needed : new.needs.items ≡ old.needs.items ++ needs
+  pub held : new.windows.items ≡ old.windows.items ++ windows
+  pub are : AreBodiesBy a all n c line placed es ps claims needs windows
 
 -- the plan of these functions over these regions
 pub record IsPlanOf (a : Algorithm) (gs : List StoredText) (ls : List (Option LaidText)) (l : Lowered) : Type 0 where
@@ -237,3 +329,4 @@ pub record IsPlanOf (a : Algorithm) (gs : List StoredText) (ls : List (Option La
   pub made : AreMade (rooted true gs ls) 0 l.plan.groups.items l.certificate.own.items
   pub bodies : are_whole gs ≡ true → AreBodies a (rooted true gs ls) 0 0 4 (rooted true gs ls) l.plan.groups.items l.certificate.claims.items l.certificate.needs.items
   pub windows : are_whole gs ≡ true → l.certificate.windows.items ≡ []
+  pub placed : ArePlacedOver a gs ls l

@@ -8,6 +8,7 @@ pub mod Faults
 pub mod Fetches
 pub mod Groups
 pub mod Heads
+pub mod Homes
 pub mod Held
 pub mod Large
 pub mod Limited
@@ -15,9 +16,11 @@ pub mod Loading
 pub mod Making
 pub mod Needs
 pub mod Owning
+pub mod Placed
 pub mod Planned
 pub mod Refused
 pub mod Regions
+pub mod Renamed
 pub mod Stored
 pub mod Taken
 pub mod Uses

@@ -4,8 +4,7 @@ use crate::ends::told_span;
 use crate::error::Stop;
 use crate::fetching::Root;
 use crate::forms::{MOST_FORMS, two_forms};
-use crate::regions::symbols_from;
-use crate::renaming::{renamed, renamed_steps};
+use crate::renaming::{own_names, renamed, renamed_steps};
 use crate::scopes::bind_steps;
 use crate::standing::all_limited;
 use lin::{Lin, Region, Scope, Sym};
@@ -144,7 +143,7 @@ fn told_nest(
     nest: &Nest,
 ) -> Result<Nest, Stop> {
     let next = count_of(alloc, over.scope, &nest.steps)?;
-    let same = symbols_from(alloc, 0, next)?;
+    let same = own_names(alloc, next)?;
     let steps = renamed_steps(alloc, &same, &nest.steps)?;
     let mut told = Told { steps, from, next };
     let mut at = Vec::new(alloc);

@@ -1,5 +1,11 @@
 //! Functions that are computed inside the loops of a group: their buffers, and their loops over what is needed of them.
 
+ghost use Rattle.std.specs.Prelude.{◌≡◌, IfOk, IfSome, Some, map, slice_get};
+ghost use Rattle.lower.specs.Groups.{inners_of as placed_inners, root_of};
+ghost use Rattle.lower.specs.Homes as spec;
+ghost use Rattle.lower.specs.Placed.{inner_seen};
+ghost use Rattle.lower.specs.Uses.{first_home};
+
 use crate::demand::{is_scattered, is_small, needed_at, sites_at};
 use crate::ends::Needed;
 use crate::error::Stop;
@@ -9,10 +15,12 @@ use crate::sliding::{
     Later, Sliding, fold_of, folded, folds_fit, held_region, later_of, sliding_dimension, track_of,
 };
 use crate::spots::{
-    Host, Spot, home_of, hosts_named, nests_at, scope_at, spot_in, steps_at, store_spot,
+    Host, Hosted, Spot, home_of, host_at, hosts_named, is_over_grid, scope_at, spot_in, steps_at,
+    store_spot,
 };
 use crate::storage::{Arms, kept_region, storage_of};
 use algo::Algo;
+use algo::scoping::same_name;
 use lin::{Region, Scope};
 use plan::Places;
 use sched::{Home, Nest, Step};
@@ -137,8 +145,13 @@ fn inner_at<'a>(
     functions: &[Root<'a>],
     inners: &[Inner<'a>],
     root: &Root<'a>,
+    hosted: &Hosted<'_, 'a>,
     home: Spot,
-) -> Result<Option<Inner<'a>>, Stop> {
+) -> Result<Option<Inner<'a>>, Stop>
+    ensures root { IfOk result (λ found. IfSome found (λ one. one.root ≡ root.now)) }
+    ensures home { IfOk result (λ found. IfSome found (λ one. one.home ≡ home)) }
+    ensures store { IfOk result (λ found. IfSome found (λ one. one.store ≡ spec.store_spot (spec.host_seen hosted.now) (root_of root.now).0.placed.stores home)) }
+{
     let name = root.stored.subject.name;
     let sites = sites_at(alloc, algo, group, inners, home, name.as_str())?;
     if sites.is_empty() {
@@ -146,7 +159,7 @@ fn inner_at<'a>(
     }
     let scope = scope_at(alloc, group, inners, home)?;
     let needed = needed_at(alloc, algo, group, inners, root, home, &scope, &sites)?;
-    let store = store_spot(group, inners, root, home);
+    let store = store_spot(hosted, root, home)?;
     let outer = scope_at(alloc, group, inners, store)?;
     let sliding = sliding_of(alloc, group, inners, root, (home, store), &needed)?;
     let (region, later) = turns_of(alloc, functions, root, &outer, &scope, &needed, &sliding)?;
@@ -188,51 +201,213 @@ fn inner_at<'a>(
     }))
 }
 
-// The function in the nests of a host.
-fn add_in_host<'a>(
+// The function before others, if it is computed there.
+fn put_before<'a>(
+    first: Option<Inner<'a>>,
+    others: Vec<Inner<'a>>,
+) -> Result<Vec<Inner<'a>>, AllocError>
+    ensures { IfOk result (λ v. v.items ≡ spec.put_before first.entry others.entry.items) }
+{
+    let mut inners = others;
+    if let Some(first) = first {
+        inners.insert(0, first)?;
+    }
+    Ok(inners)
+}
+
+// The function at its loop in the nest of this definition, where that has it.
+#[tactic(auto, using(crate::proofs::Hosts::at_home))]
+fn inner_in<'a>(
     alloc: Global,
     algo: &Algo,
     group: &Root<'a>,
     functions: &[Root<'a>],
     inners: &[Inner<'a>],
+    number: usize,
     root: &Root<'a>,
     home: &Home,
     host: Host,
-    found: &mut Vec<Inner<'a>>,
-) -> Result<(), Stop> {
-    let mut over_grid = false;
-    for definition in 0..nests_at(group, inners, host).len() {
-        if let Some(spot) = spot_in(group, inners, host, definition, &home.turn) {
-            if !over_grid {
-                if let Some(one) = inner_at(alloc, algo, group, functions, inners, root, spot)? {
-                    found.push(one)?;
-                }
-            }
-            over_grid = spot.definition.is_none();
-        }
+    hosted: &Hosted<'_, 'a>,
+    definition: usize,
+) -> Result<Option<Inner<'a>>, Stop>
+    requires among { slice_get functions.now number ≡ Some root.now }
+    requires homes { first_home (root_of root.now).0.placed.homes ≡ Some home.now }
+    requires hosted { spec.host_at (root_of group.now) (map inner_seen inners.now) host ≡ Some (spec.host_seen hosted.now) }
+    requires named { (spec.host_seen hosted.now).function.subject.name ≡ home.now.function }
+    ensures { IfOk result (λ found. IfSome found (λ one. spec.IsAtHome (root_of group.now) (map root_of functions.now) (map inner_seen inners.now)
+        (inner_seen one))) }
+{
+    match spot_in(host, hosted, definition, &home.turn)? {
+        Some(spot) => inner_at(alloc, algo, group, functions, inners, root, hosted, spot),
+        None => Ok(None),
     }
-    Ok(())
 }
 
-// The function wherever it is computed in the group.
+// The function in the nests of a host from this definition on; over the grid once.
+#[tactic(auto, using(crate::proofs::Hosts::put_at))]
+fn inners_in<'a>(
+    alloc: Global,
+    algo: &Algo,
+    group: &Root<'a>,
+    functions: &[Root<'a>],
+    inners: &[Inner<'a>],
+    number: usize,
+    root: &Root<'a>,
+    home: &Home,
+    host: Host,
+    hosted: &Hosted<'_, 'a>,
+    definition: usize,
+    nests: &[Nest],
+) -> Result<Vec<Inner<'a>>, Stop>
+    requires among { slice_get functions.now number ≡ Some root.now }
+    requires homes { first_home (root_of root.now).0.placed.homes ≡ Some home.now }
+    requires hosted { spec.host_at (root_of group.now) (map inner_seen inners.now) host ≡ Some (spec.host_seen hosted.now) }
+    requires named { (spec.host_seen hosted.now).function.subject.name ≡ home.now.function }
+    ensures { IfOk result (λ v. spec.AreAt (root_of group.now) (map root_of functions.now) (map inner_seen inners.now) (map inner_seen v.items)) }
+{
+    match nests {
+        [] => Ok(Vec::new(alloc)),
+        [_nest, rest @ ..] => {
+            let Some(next) = definition.checked_add(1) else {
+                return Err(Stop::Memory);
+            };
+            let first = inner_in(
+                alloc, algo, group, functions, inners, number, root, home, host, hosted, definition,
+            )?;
+            if is_over_grid(&hosted.root.stored.placed.loops, &home.turn) {
+                return Ok(put_before(first, Vec::new(alloc))?);
+            }
+            let others = inners_in(
+                alloc, algo, group, functions, inners, number, root, home, host, hosted, next, rest,
+            )?;
+            Ok(put_before(first, others)?)
+        }
+    }
+}
+
+// The function in the nests of this host.
+#[tactic(auto, using(crate::proofs::Hosts::named_so))]
+fn inners_at<'b, 'a>(
+    alloc: Global,
+    algo: &Algo,
+    group: &'b Root<'a>,
+    functions: &[Root<'a>],
+    inners: &'b [Inner<'a>],
+    number: usize,
+    root: &Root<'a>,
+    home: &Home,
+    host: Host,
+) -> Result<Vec<Inner<'a>>, Stop>
+    requires among { slice_get functions.now number ≡ Some root.now }
+    requires homes { first_home (root_of root.now).0.placed.homes ≡ Some home.now }
+    ensures { IfOk result (λ v. spec.AreAt (root_of group.now) (map root_of functions.now) (map inner_seen inners.now) (map inner_seen v.items)) }
+{
+    let Some(hosted) = host_at(group, inners, host) else {
+        return Ok(Vec::new(alloc));
+    };
+    let name = hosted.root.stored.subject.name.as_str();
+    if !same_name(name, home.function.as_str()) {
+        return Ok(Vec::new(alloc));
+    }
+    inners_in(
+        alloc,
+        algo,
+        group,
+        functions,
+        inners,
+        number,
+        root,
+        home,
+        host,
+        &hosted,
+        0,
+        hosted.nests,
+    )
+}
+
+// The function in the nests of these hosts.
+#[tactic(auto, using(crate::proofs::Hosts::appended))]
+fn inners_of_hosts<'a>(
+    alloc: Global,
+    algo: &Algo,
+    group: &Root<'a>,
+    functions: &[Root<'a>],
+    inners: &[Inner<'a>],
+    number: usize,
+    root: &Root<'a>,
+    home: &Home,
+    hosts: &[Host],
+) -> Result<Vec<Inner<'a>>, Stop>
+    requires among { slice_get functions.now number ≡ Some root.now }
+    requires homes { first_home (root_of root.now).0.placed.homes ≡ Some home.now }
+    ensures { IfOk result (λ v. spec.AreAt (root_of group.now) (map root_of functions.now) (map inner_seen inners.now) (map inner_seen v.items)) }
+{
+    match hosts {
+        [] => Ok(Vec::new(alloc)),
+        [host, rest @ ..] => {
+            let mut first = inners_at(
+                alloc, algo, &*group, functions, &*inners, number, root, home, *host,
+            )?;
+            let mut others = inners_of_hosts(
+                alloc, algo, group, functions, inners, number, root, home, rest,
+            )?;
+            first.append(&mut others)?;
+            Ok(first)
+        }
+    }
+}
+
+// The function of this number wherever it is computed in the group.
 fn found_inside<'a>(
     alloc: Global,
     algo: &Algo,
     group: &Root<'a>,
     functions: &[Root<'a>],
     inners: &[Inner<'a>],
+    number: usize,
     root: &Root<'a>,
-) -> Result<Vec<Inner<'a>>, Stop> {
-    let mut found = Vec::new(alloc);
+) -> Result<Vec<Inner<'a>>, Stop>
+    requires { slice_get functions.now number ≡ Some root.now }
+    ensures { IfOk result (λ v. spec.AreAt (root_of group.now) (map root_of functions.now) (map inner_seen inners.now) (map inner_seen v.items)) }
+{
     let Some(home) = home_of(root) else {
-        return Ok(found);
+        return Ok(Vec::new(alloc));
     };
-    for host in hosts_named(alloc, group, inners, &home.function)? {
-        add_in_host(
-            alloc, algo, group, functions, inners, root, home, host, &mut found,
-        )?;
+    let hosts = hosts_named(alloc, group, inners, &home.function)?;
+    inners_of_hosts(
+        alloc, algo, group, functions, inners, number, root, &home, &hosts,
+    )
+}
+
+// These, and behind them the functions before this number that are computed inside the loops, the last declared first.
+#[tactic(auto, using(crate::proofs::Hosts::more_at_home))]
+fn inners_before<'a>(
+    alloc: Global,
+    algo: &Algo,
+    group: &Root<'a>,
+    functions: &[Root<'a>],
+    count: usize,
+    inners: Vec<Inner<'a>>,
+) -> Result<Result<Vec<Inner<'a>>, Name>, AllocError>
+    requires { spec.AreAtHome (root_of group.now) (map root_of functions.now) (map inner_seen inners.items) }
+    ensures { IfOk result (λ found. spec.AreAtHome (root_of group.now) (map root_of functions.now) (placed_inners found)) }
+{
+    let Some(last) = count.checked_sub(1) else {
+        return Ok(Ok(inners));
+    };
+    let Some(root) = functions.get(last) else {
+        return Ok(Ok(inners));
+    };
+    match found_inside(alloc, algo, group, functions, &inners, last, root) {
+        Ok(found) => {
+            let mut all = inners;
+            let mut found = found;
+            all.append(&mut found)?;
+            inners_before(alloc, algo, group, functions, last, all)
+        }
+        Err(Stop::Limit) => Ok(Err(root.stored.subject.name)),
+        Err(Stop::Memory) => Err(AllocError),
     }
-    Ok(found)
 }
 
 /// The functions that are computed inside the loops of a group, the last declared first, of these in the order of
@@ -242,14 +417,15 @@ pub(crate) fn inners_of<'a>(
     algo: &Algo,
     group: &Root<'a>,
     functions: &[Root<'a>],
-) -> Result<Result<Vec<Inner<'a>>, Name>, AllocError> {
-    let mut inners = Vec::new(alloc);
-    for root in functions.iter().rev() {
-        match found_inside(alloc, algo, group, functions, &inners, root) {
-            Ok(mut found) => inners.append(&mut found)?,
-            Err(Stop::Limit) => return Ok(Err(root.stored.subject.name)),
-            Err(Stop::Memory) => return Err(AllocError),
-        }
-    }
-    Ok(Ok(inners))
+) -> Result<Result<Vec<Inner<'a>>, Name>, AllocError>
+    ensures { IfOk result (λ found. spec.AreAtHome (root_of group.now) (map root_of functions.now) (placed_inners found)) }
+{
+    inners_before(
+        alloc,
+        algo,
+        group,
+        functions,
+        functions.len(),
+        Vec::new(alloc),
+    )
 }

@@ -14,6 +14,8 @@ ghost use Rattle.lower.specs.Faults.{are_whole};
 ghost use Rattle.lower.specs.Heads.{IsDeclared, IsHeadOf};
 ghost use Rattle.lower.specs.Making.{GroupMade};
 ghost use Rattle.lower.specs.Groups.{AreAlone, AreBodies, AreGroupsMade, AreMade, BodiesMade, IsAlone, IsOver, IsOwnOver, IsPlanOf, party_of, root_of, rooted};
+ghost use Rattle.lower.specs.Groups.{AreBodiesBy, GroupBy, GroupsBy, placed_of as inners_of};
+ghost use Rattle.lower.specs.Homes.{AreAllAtHome};
 ghost use Rattle.lower.specs.Planned.{TellsOf, first_unplanned, unplanned_at, unplanned_over};
 ghost use Rattle.lower.specs.Refused.{Answers, AreSmall, AreRegionsKept, AreUsesInside, IsRefused, IsUnplanned, IsPlaced};
 
@@ -75,7 +77,7 @@ fn empty_certificate(alloc: Global) -> Cert
 }
 
 // The group of a root function; without bounds it breaks L12. What needs, claims and windows a certificate has of it is added.
-#[tactic(auto, using(crate::proofs::Rooted::alone_at, crate::proofs::Rooted::alone_known))]
+#[tactic(auto, using(crate::proofs::Rooted::alone_at, crate::proofs::Rooted::alone_known, crate::proofs::Grouped::of_party))]
 fn group_at<'a>(
     alloc: Global,
     algo: &Algo,
@@ -93,6 +95,8 @@ fn group_at<'a>(
     ensures windows { IfOk result (λ made. IsAlone party.now → certificate.new.windows.items ≡ certificate.old.windows.items) }
     ensures unplanned { IfErr result IsUnplanned }
     ensures told { IsAlone party.now → TellsOf result (unplanned_at (algorithm_of algo.now) (map root_of roots.now) beginning.number (party_of party.now)) }
+    ensures by { IfOk result (λ made. GroupBy (algorithm_of algo.now) (map root_of roots.now) beginning.number beginning.claim beginning.line made.line
+        (inners_of party.now) (party_of party.now) made.group certificate.old certificate.new) }
 {
     let inners = match &party.inners {
         Ok(inners) => inners,
@@ -133,7 +137,7 @@ fn put_first(
 
 // The groups of these root functions, of which the first begins so, and what their pieces own; the rest that the certificate says of
 // them is added to it.
-#[tactic(auto, using(crate::proofs::Made::made_first, crate::proofs::Claimed::bodies_none))]
+#[tactic(auto, using(crate::proofs::Made::made_first, crate::proofs::Claimed::bodies_none, crate::proofs::Grouped::groups_none))]
 fn groups_from<'a>(
     alloc: Global,
     algo: &Algo,
@@ -152,6 +156,8 @@ fn groups_from<'a>(
     ensures unplanned { IfErr result IsUnplanned }
     ensures told { AreAlone parties.now → TellsOf result (first_unplanned (algorithm_of algo.now) (map root_of roots.now) beginning.number
         (map party_of parties.now)) }
+    ensures by { IfOk result (λ v. GroupsBy (algorithm_of algo.now) (map root_of roots.now) beginning.number beginning.claim beginning.line
+        (map inners_of parties.now) (map party_of parties.now) v.0.items certificate.old certificate.new) }
 {
     let [party, rest @ ..] = parties else {
         return Ok((Vec::new(alloc), Vec::new(alloc)));
@@ -170,7 +176,7 @@ fn groups_from<'a>(
 }
 
 // The groups of all root functions, in the order of declaration, and the certificate.
-#[tactic(auto, using(crate::proofs::Claimed::bodies_all))]
+#[tactic(auto, using(crate::proofs::Claimed::bodies_all, crate::proofs::Grouped::groups_all))]
 fn groups_of<'a>(
     alloc: Global,
     algo: &Algo,
@@ -184,6 +190,8 @@ fn groups_of<'a>(
     ensures windows { IfOk result (λ v. AreAlone parties.now → v.1.windows.items ≡ []) }
     ensures unplanned { IfErr result IsUnplanned }
     ensures told { AreAlone parties.now → TellsOf result (first_unplanned (algorithm_of algo.now) (map root_of roots.now) 0 (map party_of parties.now)) }
+    ensures by { IfOk result (λ v. AreBodiesBy (algorithm_of algo.now) (map root_of roots.now) 0 0 4 (map inners_of parties.now) (map party_of parties.now) v.0.items
+        v.1.claims.items v.1.needs.items v.1.windows.items) }
 {
     let mut certificate = empty_certificate(alloc);
     let beginning = Beginning {
@@ -244,6 +252,7 @@ fn planned<'a>(
 ) -> Result<Lowered, LowerError>
     requires roots { map party_of parties.now ≡ rooted true (map stored_of stored.now) (map (option_map laid_of) laid.now) }
     requires alone { rooted false (map stored_of stored.now) (map (option_map laid_of) laid.now) ≡ [] → AreAlone parties.now }
+    requires homes { AreAllAtHome (map party_of parties.now) (rooted false (map stored_of stored.now) (map (option_map laid_of) laid.now)) (map inners_of parties.now) }
     ensures made { IfOk result (IsPlanOf (algorithm_of algo.now) (map stored_of stored.now) (map (option_map laid_of) laid.now)) }
     ensures unplanned { IfErr result IsUnplanned }
     ensures told { rooted false (map stored_of stored.now) (map (option_map laid_of) laid.now) ≡ [] →

@@ -7,6 +7,7 @@ ghost use Rattle.lower.specs.Large.{IsByRegion};
 ghost use Rattle.lower.specs.Stored.{stored_of};
 ghost use Rattle.lower.specs.Regions.{laid_of};
 ghost use Rattle.lower.specs.Groups as spec;
+ghost use Rattle.lower.specs.Homes as homes;
 ghost use Rattle.lower.specs.Planned as planned;
 
 use crate::definitions::Stored;
@@ -99,7 +100,8 @@ fn inside_of<'a>(
     functions: &[Root<'a>],
     root: &Root<'a>,
 ) -> Result<Result<Vec<Inner<'a>>, Name>, AllocError>
-    ensures { IfOk result (λ inners. functions.now ≡ [] → spec.HasNone inners) }
+    ensures none { IfOk result (λ inners. functions.now ≡ [] → spec.HasNone inners) }
+    ensures homes { IfOk result (λ inners. homes.AreAtHome (spec.root_of root.now) (map spec.root_of functions.now) (spec.inners_of inners)) }
 {
     if functions.is_empty() {
         return Ok(Ok(Vec::new(alloc)));
@@ -116,6 +118,7 @@ fn party_of<'a>(
 ) -> Result<Party<'a>, AllocError>
     ensures root { IfOk result (λ party. party.root ≡ root.now) }
     ensures alone { IfOk result (λ party. functions.now ≡ [] → spec.IsAlone party) }
+    ensures homes { IfOk result (λ party. homes.AreAtHome (spec.party_of party) (map spec.root_of functions.now) (spec.placed_of party)) }
 {
     Ok(Party {
         root: *root,
@@ -124,6 +127,7 @@ fn party_of<'a>(
 }
 
 // Each of these root functions with those of the functions that are computed inside its loops.
+#[tactic(auto, using(crate::proofs::Grouped::first_at_home))]
 fn parties_from<'a>(
     alloc: Global,
     algo: &Algo,
@@ -132,6 +136,7 @@ fn parties_from<'a>(
 ) -> Result<Vec<Party<'a>>, AllocError>
     ensures roots { IfOk result (λ v. map spec.party_of v.items ≡ map spec.root_of roots.now) }
     ensures alone { IfOk result (λ v. functions.now ≡ [] → spec.AreAlone v.items) }
+    ensures homes { IfOk result (λ v. homes.AreAllAtHome (map spec.party_of v.items) (map spec.root_of functions.now) (map spec.placed_of v.items)) }
 {
     match roots {
         [] => Ok(Vec::new(alloc)),
@@ -145,7 +150,7 @@ fn parties_from<'a>(
 }
 
 /// Each root function with those that are computed inside its loops, in the order of declaration.
-#[tactic(auto, using(crate::proofs::Rooted::no_entries))]
+#[tactic(auto, using(crate::proofs::Rooted::no_entries, crate::proofs::Grouped::at_home_among))]
 pub(crate) fn parties_of<'a>(
     alloc: Global,
     algo: &Algo,
@@ -154,6 +159,8 @@ pub(crate) fn parties_of<'a>(
 ) -> Result<Vec<Party<'a>>, AllocError>
     ensures roots { IfOk result (λ v. map spec.party_of v.items ≡ spec.rooted true (map stored_of stored.now) (map (option_map laid_of) laid.now)) }
     ensures alone { IfOk result (λ v. spec.rooted false (map stored_of stored.now) (map (option_map laid_of) laid.now) ≡ [] → spec.AreAlone v.items) }
+    ensures homes { IfOk result (λ v. homes.AreAllAtHome (map spec.party_of v.items)
+        (spec.rooted false (map stored_of stored.now) (map (option_map laid_of) laid.now)) (map spec.placed_of v.items)) }
 {
     let functions = roots_of(alloc, stored, laid, false)?;
     let roots = roots_of(alloc, stored, laid, true)?;

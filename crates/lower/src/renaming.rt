@@ -1,102 +1,293 @@
-//! Forms, spans and steps over other symbols.
+//! Forms, spans and steps under other names of their symbols.
+
+ghost use Rattle.std.specs.Prelude.{◌≡◌, Some, None, [], IfOk, map};
+ghost use Rattle.lower.specs.Renamed as spec;
 
 use crate::error::Stop;
-use lin::{Forms, Lin, Region, Span1, Sym};
+use lin::{Forms, Lin, Multiple, Region, Span1, Sym};
 use plan::Places;
 use sched::Step;
-use std::alloc::Global;
+use std::alloc::{AllocError, Global};
 
-fn symbol_in(map: &[Sym], symbol: Sym) -> Result<Sym, Stop> {
-    match map.get(symbol) {
-        Some(found) => Ok(*found),
+/// The name of a symbol.
+#[derive(Clone, Copy, Drop)]
+pub(crate) struct Renaming {
+    pub symbol: Sym,
+    pub name: Sym,
+}
+
+// The last name of a symbol, or what was found before.
+fn last_name(found: Option<Sym>, names: &[Renaming], symbol: Sym) -> Option<Sym>
+    ensures { result ≡ spec.last_value found (map spec.pair_of names.now) symbol }
+{
+    match names {
+        [] => found,
+        [one, rest @ ..] => {
+            if one.symbol == symbol {
+                last_name(Some(one.name), rest, symbol)
+            } else {
+                last_name(found, rest, symbol)
+            }
+        }
+    }
+}
+
+/// The last name of a symbol. A limit is passed where it has none.
+pub(crate) fn name_in(names: &[Renaming], symbol: Sym) -> Result<Sym, Stop>
+    ensures { IfOk result (λ name. spec.value_in (map spec.pair_of names.now) symbol ≡ Some name) }
+{
+    match last_name(None, names, symbol) {
+        Some(name) => Ok(name),
         None => Err(Stop::Limit),
     }
 }
 
-/// The form, in which each symbol is the one that stands at its number.
-pub(crate) fn renamed(alloc: Global, map: &[Sym], form: &Lin) -> Result<Lin, Stop> {
-    let mut made = Lin::number(alloc, form.constant());
-    for term in form.terms() {
-        let symbol = Lin::symbol(alloc, symbol_in(map, term.symbol)?)?;
-        made = made.plus_multiple(alloc, term.factor, &symbol)?;
+/// The symbols before this one, each under its own name.
+#[tactic(auto, using(crate::proofs::Renames::own_last, crate::proofs::Renames::own_none))]
+pub(crate) fn own_names(alloc: Global, count: Sym) -> Result<Vec<Renaming>, AllocError>
+    ensures { IfOk result (λ v. map spec.pair_of v.items ≡ spec.own_pairs count) }
+{
+    let Some(last) = count.checked_sub(1) else {
+        return Ok(Vec::new(alloc));
+    };
+    let mut names = own_names(alloc, last)?;
+    names.push(Renaming {
+        symbol: last,
+        name: last,
+    })?;
+    Ok(names)
+}
+
+// The form and these multiples, under the names of their symbols.
+#[tactic(auto, using(crate::proofs::Renames::term_first))]
+fn renamed_terms(
+    alloc: Global,
+    names: &[Renaming],
+    terms: &[Multiple],
+    made: Lin,
+) -> Result<Lin, Stop>
+    ensures { IfOk result (λ form. spec.terms_renamed (map spec.pair_of names.now) terms.now made ≡ Some form) }
+{
+    match terms {
+        [] => Ok(made),
+        [term, rest @ ..] => {
+            let symbol = Lin::symbol(alloc, name_in(names, term.symbol)?)?;
+            let next = made.plus_multiple(alloc, term.factor, &symbol)?;
+            renamed_terms(alloc, names, rest, next)
+        }
     }
-    Ok(made)
+}
+
+/// The form under the names of its symbols.
+pub(crate) fn renamed(alloc: Global, names: &[Renaming], form: &Lin) -> Result<Lin, Stop>
+    ensures { IfOk result (λ made. spec.form_renamed (map spec.pair_of names.now) form.now ≡ Some made) }
+{
+    renamed_terms(
+        alloc,
+        names,
+        form.terms(),
+        Lin::number(alloc, form.constant()),
+    )
+}
+
+// Some forms, and these behind them.
+#[tactic(auto, using(crate::proofs::Renames::behind_first))]
+fn renamed_behind(
+    alloc: Global,
+    names: &[Renaming],
+    made: Forms,
+    forms: &[Lin],
+) -> Result<Forms, Stop>
+    ensures { IfOk result (λ all. spec.behind (spec.form_renamed (map spec.pair_of names.now)) made forms.now ≡ Some all) }
+{
+    match forms {
+        [] => Ok(made),
+        [form, rest @ ..] => {
+            let mut made = made;
+            made.push(renamed(alloc, names, form)?)?;
+            renamed_behind(alloc, names, made, rest)
+        }
+    }
 }
 
 /// The same of forms.
-pub(crate) fn renamed_forms(alloc: Global, map: &[Sym], forms: &Forms) -> Result<Forms, Stop> {
-    let mut made = Forms::new(alloc);
-    for form in forms.as_slice() {
-        made.push(renamed(alloc, map, form)?)?;
-    }
-    Ok(made)
+pub(crate) fn renamed_forms(alloc: Global, names: &[Renaming], forms: &Forms) -> Result<Forms, Stop>
+    ensures { IfOk result (λ made. spec.forms_renamed (map spec.pair_of names.now) forms.now ≡ Some made) }
+{
+    renamed_behind(alloc, names, Forms::new(alloc), forms.as_slice())
 }
 
 /// The same of a span.
-pub(crate) fn renamed_span(alloc: Global, map: &[Sym], span: &Span1) -> Result<Span1, Stop> {
-    Ok(Span1 {
-        lower: renamed_forms(alloc, map, &span.lower)?,
-        upper: renamed_forms(alloc, map, &span.upper)?,
-    })
+#[tactic(auto, using(crate::proofs::Renames::span_made))]
+pub(crate) fn renamed_span(alloc: Global, names: &[Renaming], span: &Span1) -> Result<Span1, Stop>
+    ensures { IfOk result (λ made. spec.span_renamed (map spec.pair_of names.now) span.now ≡ Some made) }
+{
+    let lower = renamed_forms(alloc, names, &span.lower)?;
+    let upper = renamed_forms(alloc, names, &span.upper)?;
+    Ok(Span1 { lower, upper })
+}
+
+// Some spans, and these behind them.
+#[tactic(auto, using(crate::proofs::Renames::behind_first))]
+fn spans_behind(
+    alloc: Global,
+    names: &[Renaming],
+    made: Region,
+    spans: &[Span1],
+) -> Result<Region, Stop>
+    ensures { IfOk result (λ all. spec.behind (spec.span_renamed (map spec.pair_of names.now)) made spans.now ≡ Some all) }
+{
+    match spans {
+        [] => Ok(made),
+        [span, rest @ ..] => {
+            let mut made = made;
+            made.push(renamed_span(alloc, names, span)?)?;
+            spans_behind(alloc, names, made, rest)
+        }
+    }
 }
 
 /// The same of a region.
-pub(crate) fn renamed_region(alloc: Global, map: &[Sym], region: &Region) -> Result<Region, Stop> {
-    let mut made = Region::new(alloc);
-    for span in region.as_slice() {
-        made.push(renamed_span(alloc, map, span)?)?;
+pub(crate) fn renamed_region(
+    alloc: Global,
+    names: &[Renaming],
+    region: &Region,
+) -> Result<Region, Stop>
+    ensures { IfOk result (λ made. spec.region_renamed (map spec.pair_of names.now) region.now ≡ Some made) }
+{
+    spans_behind(alloc, names, Region::new(alloc), region.as_slice())
+}
+
+#[tactic(auto, using(crate::proofs::Renames::place_made))]
+fn renamed_place(alloc: Global, names: &[Renaming], place: &Places) -> Result<Places, Stop>
+    ensures { IfOk result (λ made. spec.place_renamed (map spec.pair_of names.now) place.now ≡ Some made) }
+{
+    match place {
+        Places::From { origin, count } => Ok(Places::From {
+            origin: renamed(alloc, names, origin)?,
+            count: *count,
+        }),
+        Places::Folded { count } => Ok(Places::Folded { count: *count }),
     }
-    Ok(made)
+}
+
+// Some places, and these behind them.
+#[tactic(auto, using(crate::proofs::Renames::behind_first))]
+fn places_behind(
+    alloc: Global,
+    names: &[Renaming],
+    made: Vec<Places>,
+    places: &[Places],
+) -> Result<Vec<Places>, Stop>
+    ensures { IfOk result (λ all. spec.behind (spec.place_renamed (map spec.pair_of names.now)) made.items places.now ≡ Some all.items) }
+{
+    match places {
+        [] => Ok(made),
+        [place, rest @ ..] => {
+            let mut made = made;
+            made.push(renamed_place(alloc, names, place)?)?;
+            places_behind(alloc, names, made, rest)
+        }
+    }
 }
 
 /// The same of places.
 pub(crate) fn renamed_places(
     alloc: Global,
-    map: &[Sym],
+    names: &[Renaming],
     places: &[Places],
-) -> Result<Vec<Places>, Stop> {
-    let mut made = Vec::new(alloc);
-    for one in places {
-        made.push(match one {
-            Places::From { origin, count } => Places::From {
-                origin: renamed(alloc, map, origin)?,
-                count: *count,
-            },
-            Places::Folded { count } => Places::Folded { count: *count },
-        })?;
-    }
-    Ok(made)
+) -> Result<Vec<Places>, Stop>
+    ensures { IfOk result (λ made. spec.places_renamed (map spec.pair_of names.now) places.now ≡ Some made.items) }
+{
+    places_behind(alloc, names, Vec::new(alloc), places)
 }
 
 /// The same of a step.
-pub(crate) fn renamed_step(alloc: Global, map: &[Sym], step: &Step) -> Result<Step, Stop> {
+#[tactic(auto, using(crate::proofs::Renames::turns_made, crate::proofs::Renames::let_made, crate::proofs::Renames::guard_made))]
+pub(crate) fn renamed_step(alloc: Global, names: &[Renaming], step: &Step) -> Result<Step, Stop>
+    ensures { IfOk result (λ made. spec.step_renamed (map spec.pair_of names.now) step.now ≡ Some made) }
+{
     match step {
-        Step::Turns { symbol, span, kind } => Ok(Step::Turns {
-            symbol: symbol_in(map, *symbol)?,
-            span: renamed_span(alloc, map, span)?,
-            kind: *kind,
-        }),
+        Step::Turns { symbol, span, kind } => {
+            let symbol = name_in(names, *symbol)?;
+            let span = renamed_span(alloc, names, span)?;
+            Ok(Step::Turns {
+                symbol,
+                span,
+                kind: *kind,
+            })
+        }
         Step::Named {
             symbol,
             pick,
             forms,
-        } => Ok(Step::Named {
-            symbol: symbol_in(map, *symbol)?,
-            pick: *pick,
-            forms: renamed_forms(alloc, map, forms)?,
-        }),
-        Step::Tested { low, high } => Ok(Step::Tested {
-            low: renamed(alloc, map, low)?,
-            high: renamed(alloc, map, high)?,
-        }),
+        } => {
+            let symbol = name_in(names, *symbol)?;
+            let forms = renamed_forms(alloc, names, forms)?;
+            Ok(Step::Named {
+                symbol,
+                pick: *pick,
+                forms,
+            })
+        }
+        Step::Tested { low, high } => {
+            let low = renamed(alloc, names, low)?;
+            let high = renamed(alloc, names, high)?;
+            Ok(Step::Tested { low, high })
+        }
     }
 }
 
 /// The same of steps.
-pub(crate) fn renamed_steps(alloc: Global, map: &[Sym], steps: &[Step]) -> Result<Vec<Step>, Stop> {
+pub(crate) fn renamed_steps(
+    alloc: Global,
+    names: &[Renaming],
+    steps: &[Step],
+) -> Result<Vec<Step>, Stop> {
     let mut made = Vec::new(alloc);
     for step in steps {
-        made.push(renamed_step(alloc, map, step)?)?;
+        made.push(renamed_step(alloc, names, step)?)?;
     }
     Ok(made)
+}
+
+#[tactic(auto, using(crate::proofs::Renames::at_made))]
+fn renamed_at(alloc: Global, names: &[Renaming], form: &Option<Lin>) -> Result<Option<Lin>, Stop>
+    ensures { IfOk result (λ made. spec.at_renamed (map spec.pair_of names.now) form.now ≡ Some made) }
+{
+    match form {
+        Some(form) => Ok(Some(renamed(alloc, names, form)?)),
+        None => Ok(None),
+    }
+}
+
+// Some coordinates, and these behind them.
+#[tactic(auto, using(crate::proofs::Renames::behind_first))]
+fn coordinates_behind(
+    alloc: Global,
+    names: &[Renaming],
+    made: Vec<Option<Lin>>,
+    at: &[Option<Lin>],
+) -> Result<Vec<Option<Lin>>, Stop>
+    ensures { IfOk result (λ all. spec.behind (spec.at_renamed (map spec.pair_of names.now)) made.items at.now ≡ Some all.items) }
+{
+    match at {
+        [] => Ok(made),
+        [form, rest @ ..] => {
+            let mut made = made;
+            made.push(renamed_at(alloc, names, form)?)?;
+            coordinates_behind(alloc, names, made, rest)
+        }
+    }
+}
+
+/// The same of coordinates, of which some have no form.
+pub(crate) fn renamed_coordinates(
+    alloc: Global,
+    names: &[Renaming],
+    at: &[Option<Lin>],
+) -> Result<Vec<Option<Lin>>, Stop>
+    ensures { IfOk result (λ made. spec.coordinates_renamed (map spec.pair_of names.now) at.now ≡ Some made.items) }
+{
+    coordinates_behind(alloc, names, Vec::new(alloc), at)
 }

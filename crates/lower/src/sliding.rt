@@ -370,15 +370,6 @@ pub(crate) fn later_of(
     }))
 }
 
-/// The let for the first new number.
-pub(crate) fn name_of(alloc: Global, later: &Later) -> Result<Step, AllocError> {
-    Ok(Step::Named {
-        symbol: later.scope.len().saturating_sub(1),
-        pick: Pick::Min,
-        forms: later.first_new.copy(alloc)?,
-    })
-}
-
 // ---- folds
 
 /// Whether each fold of the function is one of the dimension in which it slides, with places for its window.

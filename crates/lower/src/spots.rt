@@ -1,12 +1,24 @@
 //! Places in the nests of a group: whose nests they are, and what stands around them.
 
+ghost use Rattle.std.specs.Prelude.{◌≡◌, ◌+◌, IfOk, map};
+ghost use Rattle.std.specs.Option.{option_map};
+ghost use Rattle.std.specs.List.{AllByRecursion};
+ghost use Rattle.lower.specs.Groups.{root_of};
+ghost use Rattle.lower.specs.Homes as spec;
+ghost use Rattle.lower.specs.Placed.{inner_seen};
+ghost use Rattle.lower.specs.Stored.{formula_of};
+ghost use Rattle.lower.specs.Uses.{first_home as first_home_of};
+
 use crate::definitions::Formula;
 use crate::fetching::Root;
 use crate::inner::Inner;
+use crate::regions::counts;
 use crate::scopes::{bind_steps, head_scope};
 use crate::sliding::Later;
+use crate::uses::first_home;
+use algo::scoping::same_name;
 use lin::Scope;
-use sched::{Home, Loop, Mark, Nest, Step};
+use sched::{Home, Loop, Nest, Step};
 use std::alloc::{AllocError, Global};
 use tree::token::Name;
 
@@ -39,43 +51,98 @@ pub(crate) struct Spot {
     pub depth: usize,
 }
 
-// Whether the loop stands in the nest of this definition, as one that is neither vectorised nor of the grid.
-fn is_in_nest(formula: &Formula, one: &Loop) -> bool {
-    one.mark != Some(Mark::Parallel)
-        && one.mark != Some(Mark::Vectorized)
-        && !matches!(formula.at.get(one.dimension), Some(Some(_)))
+/// A function with nests of it that stand in a group.
+#[derive(Clone, Copy, Drop)]
+pub(crate) struct Hosted<'b, 'a> {
+    pub root: Root<'a>,
+    pub nests: &'b [Nest],
+}
+
+fn one_more(count: usize) -> Result<usize, AllocError>
+    ensures { IfOk result (λ more. more ≡ count + 1) }
+{
+    match count.checked_add(1) {
+        Some(more) => Ok(more),
+        None => Err(AllocError),
+    }
+}
+
+// Whether the loop stands in the nest of this definition, as one that is neither of the grid nor vectorised.
+fn is_turned(formula: &Formula, one: &Loop) -> bool
+    ensures { result ≡ spec.is_turned (formula_of formula.now) one.now }
+{
+    !one.is_parallel() && !one.is_vectorized() && !counts(Some(formula), one.dimension)
+}
+
+// How many of these loops do.
+fn turned_count(formula: &Formula, loops: &[Loop]) -> Result<usize, AllocError>
+    ensures { IfOk result (λ count. count ≡ spec.turned_count (formula_of formula.now) loops.now) }
+{
+    match loops {
+        [] => Ok(0),
+        [one, rest @ ..] => {
+            let others = turned_count(formula, rest)?;
+            if is_turned(formula, one) {
+                one_more(others)
+            } else {
+                Ok(others)
+            }
+        }
+    }
 }
 
 // How many loops of the nest stand outside the one of this name; none where it is not one of them.
-fn turn_number(loops: &[Loop], formula: &Formula, name: &Name) -> Option<usize> {
-    let mut number: usize = 0;
-    for one in loops.iter().rev() {
-        if is_in_nest(formula, one) {
-            if one.name.as_str() == name.as_str() {
-                return Some(number);
+fn turn_number(loops: &[Loop], formula: &Formula, name: &Name) -> Result<Option<usize>, AllocError>
+    ensures { IfOk result (λ number. number ≡ spec.turn_number (formula_of formula.now) name.now loops.now) }
+{
+    match loops {
+        [] => Ok(None),
+        [one, rest @ ..] => {
+            if is_turned(formula, one) && same_name(one.name.as_str(), name.as_str()) {
+                Ok(Some(turned_count(formula, rest)?))
+            } else {
+                turn_number(rest, formula, name)
             }
-            number = number.saturating_add(1);
         }
     }
-    None
 }
 
-// How many steps stand around what stands in so many loops and one more, behind the lets and guards of that.
-fn depth_behind(steps: &[Step], number: usize) -> usize {
-    let mut turns: usize = 0;
-    for (place, step) in steps.iter().enumerate() {
-        if matches!(step, Step::Turns { .. }) {
-            if turns > number {
-                return place;
+fn is_turns(step: &Step) -> bool
+    ensures { result ≡ spec.is_turns step.now }
+{
+    matches!(step, Step::Turns { .. })
+}
+
+// How many steps stand around what stands inside so many loops, behind the lets and guards of the last.
+#[tactic(auto, using(crate::proofs::Hosts::inside_loop, crate::proofs::Hosts::before_loop))]
+fn depth_inside(steps: &[Step], loops: usize) -> Result<usize, AllocError>
+    ensures { IfOk result (λ depth. depth ≡ spec.depth_inside loops steps.now) }
+{
+    match steps {
+        [] => Ok(0),
+        [step, rest @ ..] => {
+            if is_turns(step) {
+                let Some(left) = loops.checked_sub(1) else {
+                    return Ok(0);
+                };
+                return one_more(depth_inside(rest, left)?);
             }
-            turns = turns.saturating_add(1);
+            one_more(depth_inside(rest, loops)?)
         }
     }
-    steps.len()
 }
 
-fn is_over_grid(loops: &[Loop], name: &Name) -> bool {
-    loops.iter().any(|one| one.mark == Some(Mark::Parallel) && one.name.as_str() == name.as_str())
+/// Whether the loop of this name is one of the grid.
+pub(crate) fn is_over_grid(loops: &[Loop], name: &Name) -> bool
+    ensures { result ≡ spec.is_over_grid loops.now name.now }
+{
+    match loops {
+        [] => false,
+        [one, rest @ ..] => {
+            (one.is_parallel() && same_name(one.name.as_str(), name.as_str()))
+                || is_over_grid(rest, name)
+        }
+    }
 }
 
 /// The turns after the first one of the function of this number.
@@ -156,30 +223,96 @@ pub(crate) fn scope_at(
     Ok(scope)
 }
 
-// The place of a loop in the nest of a definition, where that has it.
-pub(crate) fn spot_in(
-    group: &Root<'_>,
-    inners: &[Inner<'_>],
+#[tactic(auto, using(crate::proofs::Hosts::inner_found, crate::proofs::Hosts::no_inner))]
+fn inner_host<'b, 'a>(inners: &'b [Inner<'a>], number: usize) -> Option<Hosted<'b, 'a>>
+    ensures { option_map spec.host_seen result ≡ spec.inner_host (map inner_seen inners.now) number }
+{
+    match inners.get(number) {
+        Some(inner) => Some(Hosted {
+            root: inner.root,
+            nests: &inner.nests,
+        }),
+        None => None,
+    }
+}
+
+#[tactic(auto, using(crate::proofs::Hosts::later_found, crate::proofs::Hosts::no_later, crate::proofs::Hosts::none_later))]
+fn later_host<'b, 'a>(inners: &'b [Inner<'a>], number: usize) -> Option<Hosted<'b, 'a>>
+    ensures { option_map spec.host_seen result ≡ spec.later_host (map inner_seen inners.now) number }
+{
+    match inners.get(number) {
+        Some(inner) => match &inner.later {
+            Some(later) => Some(Hosted {
+                root: inner.root,
+                nests: &later.nests,
+            }),
+            None => None,
+        },
+        None => None,
+    }
+}
+
+/// The group's own function, or one among those computed inside, with the nests of this host; none where it has no such.
+pub(crate) fn host_at<'b, 'a>(
+    group: &'b Root<'a>,
+    inners: &'b [Inner<'a>],
     host: Host,
+) -> Option<Hosted<'b, 'a>>
+    ensures { option_map spec.host_seen result ≡ spec.host_at (root_of group.now) (map inner_seen inners.now) host }
+{
+    match host {
+        Host::Own => Some(Hosted {
+            root: *group,
+            nests: &group.laid.skeleton.nests,
+        }),
+        Host::Inner(number) => inner_host(inners, number),
+        Host::Later(number) => later_host(inners, number),
+    }
+}
+
+// The place inside the loop of this name in the nest of a definition, where that has it.
+#[tactic(auto, using(crate::proofs::Hosts::inside_made, crate::proofs::Hosts::no_turn, crate::proofs::Hosts::no_nest, crate::proofs::Hosts::no_formula))]
+fn spot_inside(
+    host: Host,
+    hosted: &Hosted<'_, '_>,
     definition: usize,
     name: &Name,
-) -> Option<Spot> {
-    let root = root_at(group, inners, host);
-    if is_over_grid(&root.stored.placed.loops, name) {
-        return Some(Spot {
+) -> Result<Option<Spot>, AllocError>
+    ensures { IfOk result (λ spot. spot ≡ spec.spot_inside host (spec.host_seen hosted.now) definition name.now) }
+{
+    let Some(formula) = hosted.root.formulas.get(definition) else {
+        return Ok(None);
+    };
+    let Some(nest) = hosted.nests.get(definition) else {
+        return Ok(None);
+    };
+    let Some(number) = turn_number(&hosted.root.stored.placed.loops, formula, name)? else {
+        return Ok(None);
+    };
+    Ok(Some(Spot {
+        host,
+        definition: Some(definition),
+        depth: depth_inside(&nest.steps, one_more(number)?)?,
+    }))
+}
+
+/// The place of a loop in the nest of a definition: before all nests where the loop is of the grid; none where there is no such loop.
+pub(crate) fn spot_in(
+    host: Host,
+    hosted: &Hosted<'_, '_>,
+    definition: usize,
+    name: &Name,
+) -> Result<Option<Spot>, AllocError>
+    ensures { IfOk result (λ spot. spot ≡ spec.spot_in host (spec.host_seen hosted.now) definition name.now) }
+{
+    if is_over_grid(&hosted.root.stored.placed.loops, name) {
+        return Ok(Some(Spot {
             host,
             definition: None,
             depth: 0,
-        });
+        }));
     }
-    let formula = root.formulas.get(definition)?;
-    let nest = nests_at(group, inners, host).get(definition)?;
-    let number = turn_number(&root.stored.placed.loops, formula, name)?;
-    Some(Spot {
-        host,
-        definition: Some(definition),
-        depth: depth_behind(&nest.steps, number),
-    })
+    spot_inside(host, hosted, definition, name)
 }
 
 // Whether the function of this number is computed at the place, or inside of it.
@@ -201,61 +334,102 @@ pub(crate) fn is_inside_spot(inners: &[Inner<'_>], number: usize, spot: Spot) ->
     false
 }
 
-pub(crate) fn home_of<'a>(root: &Root<'a>) -> Option<&'a Home> {
-    root.stored.placed.homes.first()
+/// The first loop at which a function is computed.
+pub(crate) fn home_of(root: &Root<'_>) -> Option<Home>
+    ensures { result ≡ first_home_of (root_of root.now).0.placed.homes }
+{
+    first_home(&root.stored.placed.homes)
 }
 
-// Where the function's buffer stands: outside of where it is computed, or there.
-pub(crate) fn store_spot(
-    group: &Root<'_>,
-    inners: &[Inner<'_>],
-    root: &Root<'_>,
-    home: Spot,
-) -> Spot {
-    let Some(store) = root.stored.placed.stores.first() else {
-        return home;
-    };
-    let Some(definition) = home.definition else {
-        return home;
-    };
-    match spot_in(group, inners, home.host, definition, &store.turn) {
+fn or_home(home: Spot, spot: Option<Spot>) -> Spot
+    ensures { result ≡ spec.or_home home spot }
+{
+    match spot {
         Some(spot) => spot,
         None => home,
     }
 }
 
-// The hosts of this name.
+/// Where the function's buffer stands: at its first `store_at`, in the nest in which it is computed, or else where it is computed.
+pub(crate) fn store_spot(
+    hosted: &Hosted<'_, '_>,
+    root: &Root<'_>,
+    home: Spot,
+) -> Result<Spot, AllocError>
+    ensures { IfOk result (λ store. store ≡ spec.store_spot (spec.host_seen hosted.now) (root_of root.now).0.placed.stores home) }
+{
+    let Some(store) = first_home(&root.stored.placed.stores) else {
+        return Ok(home);
+    };
+    let Some(definition) = home.definition else {
+        return Ok(home);
+    };
+    Ok(or_home(home, spot_in(home.host, hosted, definition, &store.turn)?))
+}
+
+// The hosts of a function that is computed inside, by its number: where it slides, what is new too.
+fn inner_hosts(alloc: Global, number: usize, inner: &Inner<'_>) -> Result<Vec<Host>, AllocError>
+    ensures { IfOk result (λ v. v.items ≡ spec.inner_hosts number (inner_seen inner.now)) }
+{
+    let mut hosts = Vec::new(alloc);
+    hosts.push(Host::Inner(number))?;
+    if inner.later.is_some() {
+        hosts.push(Host::Later(number))?;
+    }
+    Ok(hosts)
+}
+
+// The hosts of this name among those computed inside, from this number on.
+fn hosts_from(
+    alloc: Global,
+    inners: &[Inner<'_>],
+    number: usize,
+    name: &Name,
+) -> Result<Vec<Host>, AllocError>
+    ensures { IfOk result (λ v. v.items ≡ spec.hosts_from number name.now (map inner_seen inners.now)) }
+{
+    match inners {
+        [] => Ok(Vec::new(alloc)),
+        [inner, rest @ ..] => {
+            let Some(next) = number.checked_add(1) else {
+                return Err(AllocError);
+            };
+            let mut others = hosts_from(alloc, rest, next, name)?;
+            if !same_name(inner.root.stored.subject.name.as_str(), name.as_str()) {
+                return Ok(others);
+            }
+            let mut hosts = inner_hosts(alloc, number, inner)?;
+            hosts.append(&mut others)?;
+            Ok(hosts)
+        }
+    }
+}
+
+/// The hosts of this name: the group's own function first.
 pub(crate) fn hosts_named(
     alloc: Global,
     group: &Root<'_>,
     inners: &[Inner<'_>],
     name: &Name,
-) -> Result<Vec<Host>, AllocError> {
-    let mut hosts = Vec::new(alloc);
-    if group.stored.subject.name.as_str() == name.as_str() {
-        hosts.push(Host::Own)?;
-    }
-    for (number, inner) in inners.iter().enumerate() {
-        if inner.root.stored.subject.name.as_str() == name.as_str() {
-            hosts.push(Host::Inner(number))?;
-            if inner.later.is_some() {
-                hosts.push(Host::Later(number))?;
-            }
-        }
+) -> Result<Vec<Host>, AllocError>
+    ensures { IfOk result (λ v. v.items ≡ spec.hosts_named (root_of group.now) (map inner_seen inners.now) name.now) }
+{
+    let mut hosts = hosts_from(alloc, inners, 0, name)?;
+    if same_name(group.stored.subject.name.as_str(), name.as_str()) {
+        hosts.insert(0, Host::Own)?;
     }
     Ok(hosts)
 }
 
 // The places in the nests of a host at which a function is computed.
-fn add_spots(
-    group: &Root<'_>,
-    inners: &[Inner<'_>],
+fn add_spots<'b, 'a>(
     host: Host,
+    hosted: &Hosted<'b, 'a>,
     turn: &Name,
     found: &mut Vec<Spot>,
 ) -> Result<(), AllocError> {
-    for definition in 0..nests_at(group, inners, host).len() {
-        if let Some(spot) = spot_in(group, inners, host, definition, turn) {
+    for definition in 0..hosted.nests.len() {
+        if let Some(spot) = spot_in(host, hosted, definition, turn)? {
             found.push(spot)?;
         }
     }
@@ -263,10 +437,10 @@ fn add_spots(
 }
 
 /// The places at which a function is computed in a group.
-pub(crate) fn spots_of(
+pub(crate) fn spots_of<'b, 'a>(
     alloc: Global,
-    group: &Root<'_>,
-    inners: &[Inner<'_>],
+    group: &'b Root<'a>,
+    inners: &'b [Inner<'a>],
     root: &Root<'_>,
 ) -> Result<Vec<Spot>, AllocError> {
     let mut found = Vec::new(alloc);
@@ -274,7 +448,9 @@ pub(crate) fn spots_of(
         return Ok(found);
     };
     for host in hosts_named(alloc, group, inners, &home.function)? {
-        add_spots(group, inners, host, &home.turn, &mut found)?;
+        if let Some(hosted) = host_at(group, inners, host) {
+            add_spots(host, &hosted, &home.turn, &mut found)?;
+        }
     }
     Ok(found)
 }

@@ -34,7 +34,8 @@ fn stored_named<'b, 'a>(stored: &'b [Stored<'a>], name: &Name) -> Option<&'b Sto
     }
 }
 
-fn first_home(homes: &[Home]) -> Option<Home>
+/// The first of these, which are in the order of the text.
+pub(crate) fn first_home(homes: &[Home]) -> Option<Home>
     ensures { result ≡ uses.first_home homes.now }
 {
     match homes {

@@ -14,6 +14,7 @@ ghost use Rattle.lower.specs.Fetches.{fetch_seen, with_fetch, with_fetches};
 ghost use Rattle.lower.specs.Limited.{TellsIf};
 ghost use Rattle.lower.specs.Planned as planned;
 ghost use Rattle.lower.specs.Bodies as spec;
+ghost use Rattle.lower.specs.Placed.{around};
 
 use crate::error::Stop;
 use crate::fetching::Root;
@@ -37,7 +38,8 @@ pub(crate) struct Fetch<'a> {
 
 // ---- steps
 
-fn alone(alloc: Global, statement: Stmt) -> Result<Vec<Stmt>, AllocError>
+/// One statement.
+pub(crate) fn alone(alloc: Global, statement: Stmt) -> Result<Vec<Stmt>, AllocError>
     ensures { IfOk result (λ v. v.items ≡ statement ∷ []) }
 {
     let mut statements = Vec::new(alloc);
@@ -52,9 +54,14 @@ pub(crate) fn block_of(inside: Vec<Stmt>) -> Stmt
     Stmt::Seq(inside)
 }
 
-// A loop or a guard around what follows, or a let in front of it.
-fn with_step(alloc: Global, step: &Step, inside: Vec<Stmt>) -> Result<Vec<Stmt>, AllocError>
-    ensures { IfOk result (λ v. block (list_statements v.items) ≡ spec.with_step step.now (block (list_statements inside.items))) }
+/// A loop or a guard around what follows, or a let in front of it.
+pub(crate) fn with_step(
+    alloc: Global,
+    step: &Step,
+    inside: Vec<Stmt>,
+) -> Result<Vec<Stmt>, AllocError>
+    ensures block { IfOk result (λ v. block (list_statements v.items) ≡ spec.with_step step.now (block (list_statements inside.items))) }
+    ensures list { IfOk result (λ v. list_statements v.items ≡ around step.now (list_statements inside.items)) }
 {
     match step {
         Step::Turns { symbol, span, kind } => {
@@ -120,8 +127,8 @@ pub(crate) fn line_behind(line: u64, count: u64) -> Result<u64, AllocError>
     }
 }
 
-// How many lines a step makes: a loop and a guard have an `end`.
-fn own_lines(step: &Step) -> u64
+/// How many lines a step makes: a loop and a guard have an `end`.
+pub(crate) fn own_lines(step: &Step) -> u64
     ensures { result ≡ spec.own_lines step.now }
 {
     match step {
@@ -180,8 +187,9 @@ fn other_indices(at: &[Option<Expr>]) -> &[Option<Expr>]
     }
 }
 
+/// The coordinates of a store: each the form, or the left index with its calls as loads where there is none.
 #[tactic(auto, using(crate::proofs::Wholes::coordinates_made))]
-fn coordinates_of(
+pub(crate) fn coordinates_of(
     alloc: Global,
     names: &[&str],
     forms: &[Option<Lin>],

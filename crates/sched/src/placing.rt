@@ -271,7 +271,8 @@ impl Loop {
         matches!(self.mark, Some(Mark::Unrolled | Mark::Vectorized))
     }
 
-    pub(crate) fn is_vectorized(&self) -> bool
+    /// Whether its turns are the lanes of vectors.
+    pub fn is_vectorized(&self) -> bool
         ensures { result ≡ spec.is_vectorized self.now }
     {
         matches!(self.mark, Some(Mark::Vectorized))

@@ -8,7 +8,9 @@ use Rattle.lower.specs.Around.{grid_scope}
 use Rattle.lower.specs.Taken.{sites_of}
 use Rattle.lower.specs.Making.{FetchesMade}
 use Rattle.lower.specs.Groups.{root_of}
+use Rattle.lower.specs.Placed.{numbered, FetchesBy}
 use Rattle.lower.proofs.Claimed.{fetches_none, fetches_first, one_first}
+use Rattle.lower.proofs.Grouped.{fetched_none, fetched_first}
 use Rattle.lower.proofs.group.+fetches_from.Goals as goal
 
 pub returns-in-empty-clause-made : goal.returns-in-empty-clause-made
@@ -41,3 +43,22 @@ returns-in_ok-put_before-in-len1-up-clause-made t c = λ alone.
     let made = fetches_first s u us n h m (root_of r) (map root_of rest) first others all old one new (c.in_ok-first-in-len1-up.ensures.made alone) (c.in_ok-others-in-len1-up.ensures.made alone) next
     c.in_ok-put_before-in-len1-up.ensures in
     subst (λ (l : List Root). FetchesMade s u n (fetched_groups us n h (map root_of l)) all old new) (sym (one_first rs r c.in-len1-up.len_at_least c.callee-item.is)) made
+
+pub returns-in-empty-clause-fetched : goal.returns-in-empty-clause-fetched
+returns-in-empty-clause-fetched t c = fetched_none c.args.number c.args.group c.args.roots.now c.new.result.items c.args.body.now c.in-empty.len_below c.new.ensures.items
+
+pub returns-in_ok-put_before-in-len1-up-clause-fetched : goal.returns-in_ok-put_before-in-len1-up-clause-fetched
+returns-in_ok-put_before-in-len1-up-clause-fetched t c =
+    let n = c.args.number in
+    let h = c.args.group in
+    let m = c.in-Some.next in
+    let rs = c.args.roots.now in
+    let r = c.callee-item.result in
+    let rest = take (length rs - 1) (drop 1 rs) in
+    let old = c.args.body.now in
+    let new = c.fetches_from.new.body in
+    let all = map fetch_seen c.in_ok-put_before-in-len1-up.field-0.items in
+    let next : m ≡ h + 1 = omega (arith, c.in-Some.ensures) in
+    let made = fetched_first n h m (root_of r) (map root_of rest) (option_map fetch_seen c.in_ok-first-in-len1-up.first) (map fetch_seen c.in_ok-others-in-len1-up.others.items) all old
+    c.fetch_at.new.body new c.in_ok-first-in-len1-up.ensures.may c.in_ok-others-in-len1-up.ensures.fetched next c.in_ok-put_before-in-len1-up.ensures in
+    subst (λ (l : List Root). FetchesBy n (numbered h (map root_of l)) all old new) (sym (one_first rs r c.in-len1-up.len_at_least c.callee-item.is)) made

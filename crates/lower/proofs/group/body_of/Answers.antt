@@ -1,4 +1,4 @@
-use Rattle.std.proofs.Common.{◌≡◌, ℕ, ◌-◌, List, [], ◌++◌, map, ap, sym, subst, ◌∙◌, arith}
+use Rattle.std.proofs.Common.{◌≡◌, ℕ, ◌+◌, ◌-◌, List, [], ◌++◌, map, Some, ap, sym, subst, ◌∙◌, arith}
 use Rattle.std.proofs.lemmas.List.{append-nil}
 use Rattle.std.specs.Global.{Vec}
 use Rattle.plan.specs.declared.certificate.cert.Window.{Window}
@@ -12,7 +12,10 @@ use Rattle.lower.specs.Fetches.{fetch_seen}
 use Rattle.algo.specs.View.{algorithm_of}
 use Rattle.lower.specs.Making.{NestsMade, BodyMade}
 use Rattle.lower.specs.Groups.{root_of}
+use Rattle.lower.specs.Placed.{HasSome, inner_seen, so_far, group_owner, nests_over_grid}
+use Rattle.lower.specs.Groups.{MixedMade}
 use Rattle.lower.proofs.Claimed.{whole_made}
+use Rattle.lower.proofs.Grouped.{mixed_made}
 use Rattle.lower.proofs.group.body_of.Goals as goal
 
 pub returns-clause-made : goal.returns-clause-made
@@ -39,7 +42,7 @@ returns-clause-made c = λ alone.
     subst (λ (l : List Places). IsBodyWith e.0 e.1.skeleton l fetches nests c.saturating_sub-claim.result b) seated c.in_ok-statements.ensures in
     let made = whole_made a all n first line e c.in_ok-body.body c.fetches_from.new.body two (map fetch_seen c.in_ok-fetches.fetches.items) (list_statements
     c.in_ok-nests.nests.items) c.saturating_sub-claim.result
-    (body (list_statements c.in_ok-statements.statements.items)) old.claims.items new.claims.items old.needs.items new.needs.items c.in_ok-body.ensures (c.in_ok-fetches.ensures.made alone)
+    (body (list_statements c.in_ok-statements.statements.items)) old.claims.items new.claims.items old.needs.items new.needs.items c.in_ok-body.ensures.begun (c.in_ok-fetches.ensures.made alone)
     nested published c.in_ok-certify.ensures.claims c.in_ok-certify.ensures.needs with in
     let told = subst (λ (v : Vec Stmt). BodyMade a all n first line two.line e old.claims.items new.claims.items old.needs.items new.needs.items (body (list_statements v.items)))
     (sym c.finish.ensures.statements) made in
@@ -49,5 +52,36 @@ returns-clause-made c = λ alone.
 pub returns-clause-windows : goal.returns-clause-windows
 returns-clause-windows c = λ alone.
     let old = c.args.certificate.now.windows.items in
-    let none : c.nests_of.new.self.windows.items ≡ [] = (c.in_ok-nests.ensures.made alone).held ∙ ((c.in_ok-fetches.ensures.made alone).held ∙ c.in_ok-body.ensures.windows) in
+    let none : c.nests_of.new.self.windows.items ≡ [] = (c.in_ok-nests.ensures.made alone).held ∙ ((c.in_ok-fetches.ensures.made alone).held ∙ c.in_ok-body.ensures.begun.windows) in
     c.in_ok-certify.ensures.windows ∙ (ap (λ (l : List Window). old ++ l) none ∙ append-nil old)
+
+pub returns-clause-mixed : goal.returns-clause-mixed
+returns-clause-mixed c = λ some.
+    let all = map root_of c.args.roots.now in
+    let n = c.args.beginning.number in
+    let first = c.args.beginning.claim in
+    let line = c.args.beginning.line in
+    let is = map inner_seen c.args.inners.now in
+    let e = root_of c.args.root.now in
+    let old = c.args.certificate.now in
+    let new = c.certify.new.certificate in
+    let one = c.fetches_from.new.body in
+    let two = c.nests_of.new.self in
+    let published : c.saturating_sub-claim.result ≡ two.next_claim - 1 = omega (arith, c.saturating_sub-claim.ensures) in
+    let ds = dimensions_of e.0 e.1.region e.1.skeleton in
+    let fetches = map fetch_seen c.in_ok-fetches.fetches.items in
+    let nests = list_statements c.in_ok-nests.nests.items in
+    let b = body (list_statements c.in_ok-statements.statements.items) in
+    let over : c.in_ok-claimed.claimed ≡ claimed_region ds = c.in_ok-claimed.ensures ∙ ap claimed_region c.requires in
+    let made : nests_over_grid is (group_owner e (claimed_region ds)) e.1.skeleton (so_far one) ≡ Some (nests, so_far two) =
+    subst (λ (r : List Span1). nests_over_grid is (group_owner e r) e.1.skeleton (so_far one) ≡ Some (nests, so_far two)) over (c.in_ok-nests.ensures.mixed some) in
+    let seated : c.in_ok-places.places.items ≡ own_places ds = c.in_ok-places.ensures ∙ ap own_places c.requires in
+    let with : IsBodyWith e.0 e.1.skeleton (own_places ds) fetches nests c.saturating_sub-claim.result b =
+    subst (λ (l : List Places). IsBodyWith e.0 e.1.skeleton l fetches nests c.saturating_sub-claim.result b) seated c.in_ok-statements.ensures in
+    let told : MixedMade all n first line (two.line + 1) is e old new b =
+    mixed_made all n first line is e c.in_ok-body.body one two fetches nests c.saturating_sub-claim.result b old new c.in_ok-body.ensures.begun c.in_ok-body.ensures.symbols
+    c.in_ok-body.ensures.seats c.in_ok-fetches.ensures.fetched made published c.in_ok-certify.ensures.claims c.in_ok-certify.ensures.needs c.in_ok-certify.ensures.windows with in
+    let by_statements : MixedMade all n first line (two.line + 1) is e old new (body (list_statements c.finish.new.self.statements.items)) =
+    subst (λ (v : Vec Stmt). MixedMade all n first line (two.line + 1) is e old new (body (list_statements v.items))) (sym c.finish.ensures.statements) told in
+    subst (λ (q : ℕ). MixedMade all n first line (q + 1) is e old new (body (list_statements c.finish.new.self.statements.items)))
+    (sym (c.finish.ensures.line ∙ c.in_ok-certify.ensures.line)) by_statements

@@ -21,4 +21,4 @@ returns-clause-made c =
     (map party_of c.args.parties.now) made c.in_ok-groups.groups.items lines.own.items
     (c.unlaid.ensures.laid c.in_default.is) (ap (λ (l : List Root). map root_of l) c.deref.ensures.value ∙ c.in_ok-roots.ensures) c.requires.roots c.requires.alone c.in_ok-groups.ensures.made
     c.in_ok-groups.ensures.bodies
-    (ap (λ (v : Vec Group). v.items) c.in_ok-plan.ensures.groups) refl refl refl c.in_ok-groups.ensures.windows c.in_ok-plan.ensures.head
+    (ap (λ (v : Vec Group). v.items) c.in_ok-plan.ensures.groups) refl refl refl c.in_ok-groups.ensures.windows c.in_ok-plan.ensures.head c.requires.homes c.in_ok-groups.ensures.by

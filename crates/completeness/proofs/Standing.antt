@@ -1,0 +1,403 @@
+-- The forms that stand over the grid name symbols of the grid and of the lets over it, and those of a nest's coordinates besides symbols that the steps of the nest bind.
+use Rattle.std.proofs.Common.{◌≡◌, ℕ, zero, suc, ◌+◌, ◌<◌, ◌≤◌, Bool, true, false, List, [], ◌∷◌, ◌++◌, length, Option, Some, None, refl, sym, ap, ◌∙◌, subst, inl, inr, ◌⊎◌, arith}
+use Rattle.std.specs.Prelude.{ℤ, pos, if◌then◌else◌, slice_get}
+use Rattle.std.specs.List.{AllByRecursion}
+use Rattle.std.proofs.lemmas.List.{length-map}
+use Rattle.lin.specs.Forms.{Form, number, combined}
+use Rattle.lin.proofs.TermLemmas.{all_weaker}
+use Rattle.plan.specs.declared.stmt.Pick.TheVariants.{Min}
+use Rattle.sched.specs.declared.schedule.Split.{Split}
+use Rattle.sched.specs.declared.numbers.Numbers.{Numbers}
+use Rattle.sched.specs.declared.numbers.Extent.{Extent}
+use Rattle.sched.specs.declared.placing.Loop.{Loop}
+use Rattle.sched.specs.declared.skeleton.Known.{Known}
+use Rattle.sched.specs.declared.skeleton.Step.{Step}
+use Rattle.sched.specs.declared.skeleton.Step.TheVariants.{Turns, Named, Tested}
+use Rattle.sched.specs.declared.nest.Turning.{Turning}
+use Rattle.plan.specs.declared.stmt.Kind.TheVariants.{Serial}
+use Rattle.sched.specs.Numbers.{loop_numbers, numbers_named, last_number, or_one, grid_counts, parallel_loops, piece_counts}
+use Rattle.sched.specs.Placing.{PlacedText}
+use Rattle.sched.specs.Standing.{◌>>=◌, StandingText, form_named, alone, is_now, starts_at, name_smaller, test}
+use Rattle.sched.specs.Standing.{room, begin, is_guarded, put_together, join_over, join, settle_some, cuts_by_variable}
+use Rattle.sched.specs.Skeleton.{BodyText, NestText, SkeletonText, enter, leave, inside, turn, turn_all, kept_from, nest_turns}
+use Rattle.sched.specs.Skeleton.{is_missing, variables_at, ranges_at, begun, nest_in, nest_of, nests_in, grid_forms, over_grid, skeleton_in}
+use Rattle.sched.proofs.Looping.{no_grid}
+use Rattle.sched.proofs.Standings.{all_more, found_all, Begins, stood, waits, plainly, shifted, begins, Puts, freely, by_loop, by_guard, by_test, Joins, stays, puts, joins}
+use Rattle.lower.proofs.Laying.{bound, same}
+use Rattle.completeness.proofs.Only.{Only, only_combined}
+
+-- ---- what loops, lets and guards stand in
+
+-- what a function takes
+abbrev Taken : (A B : Type 0) → (A → B) → Type 0
+Taken A B f = A
+
+abbrev Within : Type 0
+Within = Taken _ _ join
+
+-- the second of two that are not the same
+abbrev second_of : (A : Type 0) (a b : A) → (a ≡ b → ⊥) → A
+second_of A a b f = b
+
+abbrev at_grid : Within
+at_grid = second_of _ _ _ (no_grid Serial)
+
+-- ---- steps
+
+-- one of the steps binds the symbol
+abbrev pub Binds : List Step → ℕ → Type 0
+Binds [] s = ⊥
+Binds (Turns i x kind ∷ ss) s = (i ≡ s) ⊎ Binds ss s
+Binds (Named i pick fs ∷ ss) s = (i ≡ s) ⊎ Binds ss s
+Binds (Tested low high ∷ ss) s = Binds ss s
+
+binds_first : (a b : List Step) (s : ℕ) → Binds a s → Binds (a ++ b) s
+binds_first [] b s h = absurd h
+binds_first (Turns i x kind ∷ a) b s (inl e) = inl e
+binds_first (Turns i x kind ∷ a) b s (inr h) = inr (binds_first a b s h)
+binds_first (Named i pick fs ∷ a) b s (inl e) = inl e
+binds_first (Named i pick fs ∷ a) b s (inr h) = inr (binds_first a b s h)
+binds_first (Tested low high ∷ a) b s h = binds_first a b s h
+
+binds_second : (a b : List Step) (s : ℕ) → Binds b s → Binds (a ++ b) s
+binds_second [] b s h = h
+binds_second (Turns i x kind ∷ a) b s h = inr (binds_second a b s h)
+binds_second (Named i pick fs ∷ a) b s h = inr (binds_second a b s h)
+binds_second (Tested low high ∷ a) b s h = binds_second a b s h
+
+-- all of them are lets
+abbrev pub AreLets : List Step → Type 0
+AreLets [] = Unit {0}
+AreLets (Turns i x kind ∷ ss) = ⊥
+AreLets (Named i pick fs ∷ ss) = AreLets ss
+AreLets (Tested low high ∷ ss) = ⊥
+
+lets_more : (a : List Step) (i : ℕ) (fs : List Form) → AreLets a → AreLets (a ++ Named i Min fs ∷ [])
+lets_more [] i fs h = tt
+lets_more (Turns j x kind ∷ a) i fs h = absurd h
+lets_more (Named j pick gs ∷ a) i fs h = lets_more a i fs h
+lets_more (Tested low high ∷ a) i fs h = absurd h
+
+-- ---- what stands while they are made
+
+-- symbols of which this is so, or that the steps bind
+abbrev pub Here : (ℕ → Type 0) → List Step → ℕ → Type 0
+Here Q steps s = Q s ⊎ Binds steps s
+
+abbrev KnownOnly : (ℕ → Type 0) → List Known → Type 0
+KnownOnly P ks = AllByRecursion (λ k. Only P k.form) ks
+
+form_weaker : (P R : ℕ → Type 0) → ((s : ℕ) → P s → R s) → (f : Form) → Only P f → Only R f
+form_weaker P R w f h = all_weaker (λ t. P t.symbol) (λ t. R t.symbol) (λ t k. w t.symbol k) f.terms h
+
+known_weaker : (P R : ℕ → Type 0) → ((s : ℕ) → P s → R s) → (ks : List Known) → KnownOnly P ks → KnownOnly R ks
+known_weaker P R w ks h = all_weaker (λ k. Only P k.form) (λ k. Only R k.form) (λ k g. form_weaker P R w k.form g) ks h
+
+looked : (P : ℕ → Type 0) (ks : List Known) (x : List ℕ) (f : Form) → KnownOnly P ks → form_named ks x ≡ Some f → Only P f
+looked P ks x f h e = found_all (λ y g. Only P g) ks x f h e
+
+record Sits (Q : ℕ → Type 0) (st : StandingText) : Type 0 where
+  known : KnownOnly (Here Q st.steps) st.known
+  starts : KnownOnly (Here Q st.steps) st.starts
+
+module _ (Q : ℕ → Type 0) where
+  wider : (a b : List Step) (s : ℕ) → Here Q a s → Here Q (a ++ b) s
+  wider a b s (inl q) = inl q
+  wider a b s (inr h) = inr (binds_first a b s h)
+
+  now : (x : List ℕ) (f : Form) (st : StandingText) → Only (Here Q st.steps) f → Sits Q st → Sits Q (is_now x f st)
+  now x f st g h = record { known = all_more (λ k. Only (Here Q st.steps) k.form) st.known (record { name = x; form = f }) h.known g; starts = h.starts }
+
+  start : (x : List ℕ) (f : Form) (st : StandingText) → Only (Here Q st.steps) f → Sits Q st → Sits Q (starts_at x f st)
+  start x f st g h = record { known = h.known; starts = all_more (λ k. Only (Here Q st.steps) k.form) st.starts (record { name = x; form = f }) h.starts g }
+
+  smaller : (f : Form) (z : ℤ) (st : StandingText) → Sits Q st → Sits Q (name_smaller f z st)
+  smaller f z st h =
+      let b : List Step = Named st.next Min (f ∷ number z ∷ []) ∷ [] in
+      record {
+        known = known_weaker (Here Q st.steps) (Here Q (st.steps ++ b)) (wider st.steps b) st.known h.known;
+        starts = known_weaker (Here Q st.steps) (Here Q (st.steps ++ b)) (wider st.steps b) st.starts h.starts;
+      }
+
+  tested : (f : Form) (z : ℤ) (st : StandingText) → Sits Q st → Sits Q (test f z st)
+  tested f z st h =
+      let b : List Step = Tested f (number z) ∷ [] in
+      record {
+        known = known_weaker (Here Q st.steps) (Here Q (st.steps ++ b)) (wider st.steps b) st.known h.known;
+        starts = known_weaker (Here Q st.steps) (Here Q (st.steps ++ b)) (wider st.steps b) st.starts h.starts;
+      }
+
+  alone_here : (a : List Step) (i : ℕ) (fs : List Form) → Only (Here Q (a ++ Named i Min fs ∷ [])) (alone i)
+  alone_here a i fs = (inr (binds_second a (Named i Min fs ∷ []) i (inl refl)), tt)
+
+  begun_here : (c : Split) (r : Numbers) (st new : StandingText) → Sits Q st → begin c r st ≡ Some new → Sits Q new
+  begun_here c r st new h e = of (begins c r st new e)
+    where
+      of : Begins c r st new → Sits Q new
+      of (stood s is) = subst (Sits Q) (sym is) h
+      of (waits none is) = subst (Sits Q) (sym is) h
+      of (plainly outer form none some sum first is) =
+          subst (Sits Q) (sym is)
+          (start c.whole form st (only_combined (Here Q st.steps) (number r.low) (pos c.factor) outer tt (looked (Here Q st.steps) st.known c.outer outer h.known some) form sum) h)
+      of (shifted outer form none some sum first is) =
+          subst (Sits Q) (sym is)
+          (start c.whole (alone st.next) (name_smaller form (room r c.factor) st) (alone_here st.steps st.next (form ∷ number (room r c.factor) ∷ [])) (smaller form (room r c.factor) st h))
+
+  put_here : (guarded : Bool) (x : List ℕ) (last : ℤ) (f : Form) (st new : StandingText) → Only (Here Q st.steps) f → Sits Q st → Puts guarded x last f st new → Sits Q new
+  put_here guarded x last f st new g h (freely free is) = subst (Sits Q) (sym is) (now x f st g h)
+  put_here guarded x last f st new g h (by_loop s limit i l is) =
+      let kept : StandingText = record st { limits = st.limits ++ limit ∷ [] } in
+      subst (Sits Q) (sym is) (now x f kept g (record { known = h.known; starts = h.starts }))
+  put_here guarded x last f st new g h (by_guard is) =
+      let behind : StandingText = test f last st in
+      subst (Sits Q) (sym is) (now x (alone behind.next) (name_smaller f last behind) (alone_here behind.steps behind.next (f ∷ number last ∷ [])) (smaller f last behind (tested f last st h)))
+  put_here guarded x last f st new g h (by_test is) =
+      let b : List Step = Tested f (number last) ∷ [] in
+      subst (Sits Q) (sym is) (now x f (test f last st) (form_weaker (Here Q st.steps) (Here Q (st.steps ++ b)) (wider st.steps b) f g) (tested f last st h))
+
+  joined_here : (w : Within) (guarded : Bool) (c : Split) (r : Numbers) (st new : StandingText) → Sits Q st → join w guarded c r st ≡ Some new → Sits Q new
+  joined_here w guarded c r st new h e = of (joins c r st new w guarded e)
+    where
+      of : Joins w guarded c r st new → Sits Q new
+      of (stays is known) = subst (Sits Q) (sym is) h
+      of (puts first inner form none s k sum put) =
+          put_here guarded c.whole (last_number r) form st new
+          (only_combined (Here Q st.steps) first (pos 1) inner (looked (Here Q st.steps) st.starts c.whole first h.starts s) (looked (Here Q st.steps) st.known c.inner inner h.known k) form sum) h put
+
+  settled_here : (w : Within) (rs : List Numbers) (all cs : List Split) (st new : StandingText) → Sits Q st → settle_some w rs all cs st ≡ Some new → Sits Q new
+  settled_here w rs all [] st new h e = subst (Sits Q) (same st new e) h
+  settled_here w rs all (c ∷ cs) st new h e =
+      let r : Numbers = numbers_named rs c.whole in
+      let b = bound (begin c r st) (λ begun. join w (is_guarded rs all c) c r begun >>= settle_some w rs all cs) new e in
+      let m = bound (join w (is_guarded rs all c) c r b.value) (settle_some w rs all cs) new b.comes in
+      settled_here w rs all cs m.value new (joined_here w (is_guarded rs all c) c r b.value m.value (begun_here c r st b.value h b.is) m.is) m.comes
+
+-- ---- loops
+
+module _ (Q : ℕ → Type 0) where
+  turned_here : (rs : List Numbers) (cs : List Split) (t : Turning) (st new : StandingText) → Sits Q st → turn rs cs t st ≡ Some new → Sits Q new
+  turned_here rs cs t st new h e =
+      let n : ℕ = st.next in
+      let R : ℕ → Type 0 = λ s. Here Q st.steps s ⊎ (n ≡ s) in
+      let b = bound (settle_some (inside t.kind) rs cs cs (enter t.name st)) (λ turned. Some (leave st.steps n t turned)) new e in
+      let entered : Sits R (enter t.name st) = record {
+        known = all_more (λ k. Only (Here R []) k.form) st.known (record { name = t.name; form = alone n }) (known_weaker (Here Q st.steps) (Here R []) (λ s k. inl (inl k)) st.known h.known)
+            (inl (inr refl), tt);
+        starts = known_weaker (Here Q st.steps) (Here R []) (λ s k. inl (inl k)) st.starts h.starts;
+      } in
+      let s = settled_here R (inside t.kind) rs cs cs (enter t.name st) b.value entered b.is in
+      let out : Sits Q (leave st.steps n t b.value) = record {
+        known = known_weaker (Here R b.value.steps) (Here Q (leave st.steps n t b.value).steps) (λ s k. around b.value s k) b.value.known s.known;
+        starts = known_weaker (Here R b.value.steps) (Here Q (leave st.steps n t b.value).steps) (λ s k. around b.value s k) b.value.starts s.starts;
+      } in
+      subst (Sits Q) (same (leave st.steps n t b.value) new b.comes) out
+    where
+      around : (turned : StandingText) (s : ℕ) → Here (λ s. Here Q st.steps s ⊎ (st.next ≡ s)) turned.steps s → Here Q (leave st.steps st.next t turned).steps s
+      around turned s (inl (inl (inl q))) = inl q
+      around turned s (inl (inl (inr k))) = inr (binds_first st.steps (Turns st.next _ t.kind ∷ turned.steps) s k)
+      around turned s (inl (inr k)) = inr (binds_second st.steps (Turns st.next _ t.kind ∷ turned.steps) s (inl k))
+      around turned s (inr k) = inr (binds_second st.steps (Turns st.next _ t.kind ∷ turned.steps) s (inr k))
+
+  all_turned : (rs : List Numbers) (cs : List Split) (ts : List Turning) (st new : StandingText) → Sits Q st → turn_all rs cs ts st ≡ Some new → Sits Q new
+  all_turned rs cs [] st new h e = subst (Sits Q) (same st new e) h
+  all_turned rs cs (t ∷ ts) st new h e =
+      let b = bound (turn rs cs t st) (turn_all rs cs ts) new e in all_turned rs cs ts b.value new (turned_here rs cs t st b.value h b.is) b.comes
+
+-- ---- nests
+
+-- a form, if there is one, names only these
+abbrev pub OnlyIf : (ℕ → Type 0) → Option Form → Type 0
+OnlyIf P None = Unit {0}
+OnlyIf P (Some f) = Only P f
+
+named_if : (P : ℕ → Type 0) (ks : List Known) (x : List ℕ) → KnownOnly P ks → OnlyIf P (form_named ks x)
+named_if P ks x h = of (form_named ks x) refl
+  where
+    of : (o : Option Form) → form_named ks x ≡ o → OnlyIf P o
+    of None e = tt
+    of (Some f) e = looked P ks x f h e
+
+variables_only : (P : ℕ → Type 0) (b : BodyText) (d : ℕ) (xs : List (List ℕ)) (ks : List Known) → KnownOnly P ks → AllByRecursion (OnlyIf P) (variables_at b d xs ks)
+variables_only P b d [] ks h = tt
+variables_only P b d (x ∷ xs) ks h = (of (is_missing b d), variables_only P b (d + 1) xs ks h)
+  where
+    of : (m : Bool) → OnlyIf P (if m then None else form_named ks x)
+    of true = tt
+    of false = named_if P ks x h
+
+ranges_only : (P : ℕ → Type 0) (ds : List Turning) (ks : List Known) → KnownOnly P ks → AllByRecursion (OnlyIf P) (ranges_at ds ks)
+ranges_only P [] ks h = tt
+ranges_only P (d ∷ ds) ks h = (named_if P ks d.name h, ranges_only P ds ks h)
+
+joined_all : {A : Type 0} (P : A → Type 0) (xs ys : List A) → AllByRecursion P xs → AllByRecursion P ys → AllByRecursion P (xs ++ ys)
+joined_all P [] ys a b = b
+joined_all P (x ∷ xs) ys a b = (a.0, joined_all P xs ys a.1 b)
+
+-- the coordinates of a nest
+abbrev NestOnly : (ℕ → Type 0) → NestText → Type 0
+NestOnly Q n = AllByRecursion (OnlyIf (Here Q n.steps)) n.at
+
+module _ (Q : ℕ → Type 0) (xs : List (List ℕ)) (p : PlacedText) (rs : List Numbers) (head : StandingText) (over : KnownOnly Q head.known) (begin_over : KnownOnly Q head.starts) where
+  nest_here : (b : BodyText) (next : ℕ) (new : StandingText) → nest_in xs p rs b (begun next head) ≡ Some new → NestOnly Q (nest_of xs b new)
+  nest_here b next new e =
+      let cs : List Split = cuts_by_variable p.cuts (kept_from b 0 xs) in
+      let m = bound (settle_some (inside Serial) rs cs cs (begun next head)) (turn_all rs cs (nest_turns b rs p.loops)) new e in
+      let first : Sits Q (begun next head) = record {
+        known = known_weaker Q (Here Q []) (λ s k. inl k) head.known over;
+        starts = known_weaker Q (Here Q []) (λ s k. inl k) head.starts begin_over;
+      } in
+      let s = settled_here Q (inside Serial) rs cs cs (begun next head) m.value first m.is in
+      let out = all_turned Q rs cs (nest_turns b rs p.loops) m.value new s m.comes in
+      joined_all (OnlyIf (Here Q new.steps)) (variables_at b 0 xs new.known) (ranges_at b.ranges new.known)
+      (variables_only (Here Q new.steps) b 0 xs new.known out.known) (ranges_only (Here Q new.steps) b.ranges new.known out.known)
+
+  nests_here : (bs : List BodyText) (next : ℕ) (ns : List NestText) → nests_in xs p rs head bs next ≡ Some ns → (k : ℕ) (n : NestText) → slice_get ns k ≡ Some n → NestOnly Q n
+  nests_here [] next ns e k n at = absurd (no (subst (λ (l : List NestText). slice_get l k ≡ Some n) (sym (same [] ns e)) at))
+    where
+      no : None ≡ Some n → ⊥
+      no q = cc
+  nests_here (b ∷ bs) next ns e k n at =
+      let m = bound (nest_in xs p rs b (begun next head)) (λ st. nests_in xs p rs head bs st.next >>= λ nests. Some (nest_of xs b st ∷ nests)) ns e in
+      let r = bound (nests_in xs p rs head bs m.value.next) (λ nests. Some (nest_of xs b m.value ∷ nests)) ns m.comes in
+      by m.value r.value k (subst (λ (l : List NestText). slice_get l k ≡ Some n) (sym (same (nest_of xs b m.value ∷ r.value) ns r.comes)) at) (nest_here b next m.value m.is)
+      (λ j i. nests_here bs m.value.next r.value r.is j n i)
+    where
+      by : (st : StandingText) (rest : List NestText) (j : ℕ) → slice_get (nest_of xs b st ∷ rest) j ≡ Some n → NestOnly Q (nest_of xs b st) → ((j : ℕ) → slice_get rest j ≡ Some n → NestOnly Q n) →
+          NestOnly Q n
+      by st rest zero i own later = subst (NestOnly Q) (same (nest_of xs b st) n i) own
+      by st rest (suc j) i own later = later j i
+
+-- ---- over the grid
+
+grid_only : (rs : List Numbers) (n s : ℕ) (ls : List Loop) → s + length ls ≤ n → KnownOnly (λ i. i < n) (grid_forms rs s ls)
+grid_only rs n s [] le = tt
+grid_only rs n s (l ∷ ls) le = ((omega (arith, le), tt), grid_only rs n (s + 1) ls (omega (arith, le)))
+
+count_least : (ns : List ℕ) → length ns ≤ length (or_one ns)
+count_least [] = omega arith
+count_least (n ∷ ns) = omega arith
+
+-- over the grid alone no loop and no guard stands
+joined_lets : (guarded : Bool) (c : Split) (r : Numbers) (st new : StandingText) → AreLets st.steps → join at_grid guarded c r st ≡ Some new → AreLets new.steps
+joined_lets guarded c r st new h e = of (form_named st.known c.whole) e
+  where
+    put : (v : Bool) (form : Form) → put_together at_grid v c r form st ≡ Some new → AreLets new.steps
+    put false form q = subst (λ (u : StandingText). AreLets u.steps) (same (is_now c.whole form st) new q) h
+    put true form q = subst (λ (u : StandingText). AreLets u.steps) (same st new q) h
+
+    over : (a b : Option Form) → join_over at_grid guarded c r a b st ≡ Some new → AreLets new.steps
+    over (Some a) (Some b) q = (let m = bound (combined a (pos 1) b) (λ form. put_together at_grid guarded c r form st) new q in put guarded m.value m.comes)
+    over (Some a) None q = subst (λ (u : StandingText). AreLets u.steps) (same st new q) h
+    over None b q = subst (λ (u : StandingText). AreLets u.steps) (same st new q) h
+
+    of : (o : Option Form) → (elim o [ Some form ↦ Some st | None ↦ join_over at_grid guarded c r (form_named st.starts c.whole) (form_named st.known c.inner) st ]) ≡ Some new → AreLets new.steps
+    of (Some f) q = subst (λ (u : StandingText). AreLets u.steps) (same st new q) h
+    of None q = over (form_named st.starts c.whole) (form_named st.known c.inner) q
+
+begun_lets : (c : Split) (r : Numbers) (st new : StandingText) → AreLets st.steps → begin c r st ≡ Some new → AreLets new.steps
+begun_lets c r st new h e = of (begins c r st new e)
+  where
+    of : Begins c r st new → AreLets new.steps
+    of (stood s is) = subst (λ (u : StandingText). AreLets u.steps) (sym is) h
+    of (waits none is) = subst (λ (u : StandingText). AreLets u.steps) (sym is) h
+    of (plainly outer form none some sum first is) = subst (λ (u : StandingText). AreLets u.steps) (sym is) h
+    of (shifted outer form none some sum first is) = subst (λ (u : StandingText). AreLets u.steps) (sym is) (lets_more st.steps st.next (form ∷ number (room r c.factor) ∷ []) h)
+
+settled_lets : (rs : List Numbers) (all cs : List Split) (st new : StandingText) → AreLets st.steps → settle_some at_grid rs all cs st ≡ Some new → AreLets new.steps
+settled_lets rs all [] st new h e = subst (λ (u : StandingText). AreLets u.steps) (same st new e) h
+settled_lets rs all (c ∷ cs) st new h e =
+    let r : Numbers = numbers_named rs c.whole in
+    let b = bound (begin c r st) (λ begun. join at_grid (is_guarded rs all c) c r begun >>= settle_some at_grid rs all cs) new e in
+    let m = bound (join at_grid (is_guarded rs all c) c r b.value) (settle_some at_grid rs all cs) new b.comes in
+    settled_lets rs all cs m.value new (joined_lets (is_guarded rs all c) c r b.value m.value (begun_lets c r st b.value h b.is) m.is) m.comes
+
+-- symbols of the grid, or of the lets over it
+abbrev pub OverGrid : SkeletonText → ℕ → Type 0
+OverGrid k = Here (λ s. s < length k.grid) k.head
+
+-- over the grid stand lets alone; the forms of loops and of blocks there name symbols of the grid and of these lets, and those of a nest's coordinates others of its steps
+pub record NamesOwn (k : SkeletonText) : Type 0 where
+  pub lets : AreLets k.head
+  pub known : AllByRecursion (λ e. Only (OverGrid k) e.form) k.known
+  pub starts : AllByRecursion (λ e. Only (OverGrid k) e.form) k.starts
+  pub nests : (i : ℕ) (n : NestText) → slice_get k.nests i ≡ Some n → AllByRecursion (OnlyIf (Here (OverGrid k) n.steps)) n.at
+
+pub names_own : (xs : List (List ℕ)) (bs : List BodyText) (p : PlacedText) (region : List Extent) (k : SkeletonText) → skeleton_in xs bs p region ≡ Some k → NamesOwn k
+names_own xs bs p region k e =
+    let rs : List Numbers = loop_numbers xs p.cuts region in
+    let cs : List Split = cuts_by_variable p.cuts xs in
+    let grid : List ℕ = piece_counts rs p.loops in
+    let b = bound (settle_some at_grid rs cs cs (over_grid rs p))
+    (λ head. nests_in xs p rs head bs head.next >>= λ nests. Some (record { grid = grid; head = head.steps; nests = nests; known = head.known; starts = head.starts })) k e in
+    let m = bound (nests_in xs p rs b.value bs b.value.next) (λ nests. Some (record { grid = grid; head = b.value.steps; nests = nests; known = b.value.known; starts = b.value.starts })) k b.comes in
+    let many : length (parallel_loops p.loops) ≤ length grid =
+    (let n = length-map (parallel_loops p.loops) (λ (l : Loop). (numbers_named rs l.name).count) in let le = count_least (grid_counts rs (parallel_loops p.loops)) in omega (arith, n, le)) in
+    let Q : ℕ → Type 0 = λ s. s < length grid in
+    let first : Sits Q (over_grid rs p) = record {
+      known = known_weaker Q (Here Q []) (λ s k. inl k) (grid_forms rs 0 (parallel_loops p.loops)) (grid_only rs (length grid) 0 (parallel_loops p.loops) (omega (arith, many)));
+      starts = tt;
+    } in
+    let s = settled_here Q at_grid rs cs cs (over_grid rs p) b.value first b.is in
+    let made : NamesOwn (record { grid = grid; head = b.value.steps; nests = m.value; known = b.value.known; starts = b.value.starts }) = record {
+      lets = settled_lets rs cs cs (over_grid rs p) b.value tt b.is;
+      known = s.known;
+      starts = s.starts;
+      nests = λ i n at. nests_here (Here Q b.value.steps) xs p rs b.value s.known s.starts bs b.value.next m.value m.is i n at;
+    } in
+    subst NamesOwn (same (record { grid = grid; head = b.value.steps; nests = m.value; known = b.value.known; starts = b.value.starts }) k m.comes) made
+
+-- ---- the nest of each definition
+
+pub record HasShape (xs : List (List ℕ)) (bs : List BodyText) (d : ℕ) (n : NestText) : Type 0 where
+  pub body : BodyText
+  pub standing : StandingText
+  pub at : slice_get bs d ≡ Some body
+  pub is : n ≡ nest_of xs body standing
+
+nests_shape : (xs : List (List ℕ)) (p : PlacedText) (rs : List Numbers) (head : StandingText) (bs : List BodyText) (next : ℕ) (ns : List NestText) → nests_in xs p rs head bs next ≡ Some ns →
+    (d : ℕ) (n : NestText) → slice_get ns d ≡ Some n → HasShape xs bs d n
+nests_shape xs p rs head [] next ns e d n at = absurd (no (subst (λ (l : List NestText). slice_get l d ≡ Some n) (sym (same [] ns e)) at))
+  where
+    no : None ≡ Some n → ⊥
+    no q = cc
+nests_shape xs p rs head (b ∷ bs) next ns e d n at =
+    let m = bound (nest_in xs p rs b (begun next head)) (λ st. nests_in xs p rs head bs st.next >>= λ nests. Some (nest_of xs b st ∷ nests)) ns e in
+    let r = bound (nests_in xs p rs head bs m.value.next) (λ nests. Some (nest_of xs b m.value ∷ nests)) ns m.comes in
+    by m.value r.value d (subst (λ (l : List NestText). slice_get l d ≡ Some n) (sym (same (nest_of xs b m.value ∷ r.value) ns r.comes)) at)
+    (λ j i. nests_shape xs p rs head bs m.value.next r.value r.is j n i)
+  where
+    by : (st : StandingText) (rest : List NestText) (j : ℕ) → slice_get (nest_of xs b st ∷ rest) j ≡ Some n → ((j : ℕ) → slice_get rest j ≡ Some n → HasShape xs bs j n) → HasShape xs (b ∷ bs) j n
+    by st rest zero i later = record { body = b; standing = st; at = refl; is = sym (same (nest_of xs b st) n i) }
+    by st rest (suc j) i later = let w = later j i in record { body = w.body; standing = w.standing; at = w.at; is = w.is }
+
+pub nest_shape : (xs : List (List ℕ)) (bs : List BodyText) (p : PlacedText) (region : List Extent) (k : SkeletonText) → skeleton_in xs bs p region ≡ Some k → (d : ℕ) (n : NestText) →
+    slice_get k.nests d ≡ Some n → HasShape xs bs d n
+nest_shape xs bs p region k e d n at =
+    let rs : List Numbers = loop_numbers xs p.cuts region in
+    let cs : List Split = cuts_by_variable p.cuts xs in
+    let grid : List ℕ = piece_counts rs p.loops in
+    let b = bound (settle_some at_grid rs cs cs (over_grid rs p))
+    (λ head. nests_in xs p rs head bs head.next >>= λ nests. Some (record { grid = grid; head = head.steps; nests = nests; known = head.known; starts = head.starts })) k e in
+    let m = bound (nests_in xs p rs b.value bs b.value.next) (λ nests. Some (record { grid = grid; head = b.value.steps; nests = nests; known = b.value.known; starts = b.value.starts })) k b.comes in
+    let made : SkeletonText = record { grid = grid; head = b.value.steps; nests = m.value; known = b.value.known; starts = b.value.starts } in
+    nests_shape xs p rs b.value bs b.value.next m.value m.is d n (ap (λ (s : SkeletonText). slice_get s.nests d) (same made k m.comes) ∙ at)
+
+-- as many nests as definitions
+nests_many : (xs : List (List ℕ)) (p : PlacedText) (rs : List Numbers) (head : StandingText) (bs : List BodyText) (next : ℕ) (ns : List NestText) → nests_in xs p rs head bs next ≡ Some ns →
+    length ns ≡ length bs
+nests_many xs p rs head [] next ns e = sym (ap length (same [] ns e))
+nests_many xs p rs head (b ∷ bs) next ns e =
+    let m = bound (nest_in xs p rs b (begun next head)) (λ st. nests_in xs p rs head bs st.next >>= λ nests. Some (nest_of xs b st ∷ nests)) ns e in
+    let r = bound (nests_in xs p rs head bs m.value.next) (λ nests. Some (nest_of xs b m.value ∷ nests)) ns m.comes in
+    sym (ap length (same (nest_of xs b m.value ∷ r.value) ns r.comes)) ∙ ap suc (nests_many xs p rs head bs m.value.next r.value r.is)
+
+pub nests_long : (xs : List (List ℕ)) (bs : List BodyText) (p : PlacedText) (region : List Extent) (k : SkeletonText) → skeleton_in xs bs p region ≡ Some k → length k.nests ≡ length bs
+nests_long xs bs p region k e =
+    let rs : List Numbers = loop_numbers xs p.cuts region in
+    let cs : List Split = cuts_by_variable p.cuts xs in
+    let grid : List ℕ = piece_counts rs p.loops in
+    let b = bound (settle_some at_grid rs cs cs (over_grid rs p))
+    (λ head. nests_in xs p rs head bs head.next >>= λ nests. Some (record { grid = grid; head = head.steps; nests = nests; known = head.known; starts = head.starts })) k e in
+    let m = bound (nests_in xs p rs b.value bs b.value.next) (λ nests. Some (record { grid = grid; head = b.value.steps; nests = nests; known = b.value.known; starts = b.value.starts })) k b.comes in
+    let made : SkeletonText = record { grid = grid; head = b.value.steps; nests = m.value; known = b.value.known; starts = b.value.starts } in
+    sym (ap (λ (s : SkeletonText). length s.nests) (same made k m.comes)) ∙ nests_many xs p rs b.value bs b.value.next m.value m.is
