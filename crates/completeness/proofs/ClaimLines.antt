@@ -103,13 +103,13 @@ formulas_long a stored xs e us fs h =
     sym (ap length (same (b.value ∷ c.value) fs c.comes)) ∙ ap suc (changes_long a stored xs us c.value c.is)
 
 -- a stored function is one of the algorithm's
-record IsKnown (a : Algorithm) (g : StoredText) : Type 0 where
-  function : Function
-  named : function_named a.functions g.subject.name ≡ Some function
-  variables : length g.subject.variables ≡ length function.variables
-  formulas : (fs : List FormulaText) → g.formulas ≡ Some fs → length fs ≡ suc (length function.changes)
+pub record IsKnown (a : Algorithm) (g : StoredText) : Type 0 where
+  pub function : Function
+  pub named : function_named a.functions g.subject.name ≡ Some function
+  pub variables : length g.subject.variables ≡ length function.variables
+  pub formulas : (fs : List FormulaText) → g.formulas ≡ Some fs → length fs ≡ suc (length function.changes)
 
-known_stored : (a : Algorithm) (s : Schedule) → IsAlgorithm a → (n : ℕ) (g : StoredText) → slice_get (stored_functions a s) n ≡ Some g → IsKnown a g
+pub known_stored : (a : Algorithm) (s : Schedule) → IsAlgorithm a → (n : ℕ) (g : StoredText) → slice_get (stored_functions a s) n ≡ Some g → IsKnown a g
 known_stored a s well n g at =
     let w = found a s (flags (subjects a s)) g a.functions n at in
     let f = w.function in

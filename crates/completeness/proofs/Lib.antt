@@ -25,5 +25,9 @@ pub mod Defined
 pub mod Counts
 pub mod Unlike
 pub mod GroupLines
+pub mod Scoped
+pub mod FetchLines
+pub mod Origins
+pub mod AllocLines
 pub mod Shared
 pub mod Lines

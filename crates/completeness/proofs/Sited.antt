@@ -21,7 +21,8 @@ use Rattle.bounds.proofs.ListSound.{all-append}
 use Rattle.bounds.proofs.Names.{outer_terms}
 use Rattle.bounds.proofs.ProjectionSound.{span-outer}
 use Rattle.plan.specs.declared.stmt.Pick.TheVariants.{Min, Max}
-use Rattle.plan.specs.declared.stmt.Places.TheVariants.{From}
+use Rattle.plan.specs.declared.stmt.Places.{Places}
+use Rattle.plan.specs.declared.stmt.Places.TheVariants.{From, Folded}
 use Rattle.meaning.specs.Algorithm.{Algorithm}
 use Rattle.meaning.specs.Names.{same_name}
 use Rattle.algo.specs.Scoping.Standing.{Written}
@@ -41,13 +42,23 @@ use Rattle.lower.specs.Regions.{symbols_from}
 use Rattle.lower.specs.Blocks.{difference}
 use Rattle.lower.specs.Taken.{SiteText, add_spans, add_call, add_calls, with_site, add_site, add_asked, add_sites}
 use Rattle.lower.specs.Taken.{sites_of, freed, either, with_call, with_calls, with_sites, needed_span, is_number, add_symbolic}
-use Rattle.lower.specs.Taken.{greatest_from, least_from, cut, shortest, run_of, places_count, or_all, is_shown, shown, seated, needed_part, tight, part_of, taken_region}
+use Rattle.lower.specs.Taken.{greatest_from, least_from, cut, shortest, run_of, places_count, or_all, is_shown, shown, seated, needed_part, tight, part_of, taken_region, taken_places}
 use Rattle.lower.specs.Needs.{is_multiple, plus_part, plus_parts, divided, block_at, add_blocks, blocks_over, length_at}
 use Rattle.lower.specs.Needs.{low_at, turns_over, turns_found, turns_needed, or_all_turns, loops_needed, first_count, other_counts}
 use Rattle.lower.specs.Needs.{or_one_piece, pieces_needed}
 use Rattle.lower.proofs.Laying.{bound, same}
 use Rattle.completeness.proofs.Only.{Only, AreOnly, SpanOnly, BindsOnly, only_combined, choice_only, interval_only, projected_only}
 use Rattle.completeness.proofs.Standing.{Binds, Here, OnlyIf, OverGrid, NamesOwn}
+
+-- the origin of places names these symbols alone
+abbrev pub PlaceOnly : (ℕ → Type 0) → Places → Type 0
+PlaceOnly P (From f n) = Only P f
+PlaceOnly P (Folded n) = Unit {0}
+
+form_at : (P : ℕ → Type 0) (fs : List Form) (k : ℕ) (f : Form) → AreOnly P fs → slice_get fs k ≡ Some f → Only P f
+form_at P [] k f a e = absurd (let q : None ≡ Some f = e in cc q)
+form_at P (g ∷ fs) zero f a e = subst (Only P) (same g f e) a.0
+form_at P (g ∷ fs) (suc k) f a e = form_at P fs k f a.1 e
 
 -- a dimension of what is fetched, with its places
 abbrev Given : (A B : Type 0) → (A → Option B) → Type 0
@@ -370,6 +381,32 @@ module _ (m : ℕ) (grid : List Binding) (long : length grid ≡ m) where
       of origin n true q = subst (λ (z : Part). SpanOnly (Below m) z.span) (same (record { span = s; places = From origin (places_count n) }) p q) only
       of origin n false q = absurd (cc q)
 
+  seats_grid : (ss : List SiteText) (d : ℕ) (s : Span1) (p : Part) → SpanOnly (Below m) s → seated grid ss d s ≡ Some p → PlaceOnly (Below m) p.places
+  seats_grid ss d s p only h =
+      let b = bound (shortest grid s) (λ b. slice_get s.lower b.0 >>= λ origin. run_of origin b.1 >>= λ seats. shown grid ss d s origin b.1 seats) p h in
+      let x = bound (slice_get s.lower b.value.0) (λ origin. run_of origin b.value.1 >>= λ seats. shown grid ss d s origin b.value.1 seats) p b.comes in
+      let y = bound (run_of x.value b.value.1) (λ seats. shown grid ss d s x.value b.value.1 seats) p x.comes in
+      of x.value b.value.1 (is_shown grid ss d s y.value) (form_at (Below m) s.lower b.value.0 x.value only.0 x.is) y.comes
+    where
+      of : (origin : Form) (n : ℤ) (w : Bool) → Only (Below m) origin → (if w then Some (record { span = s; places = From origin (places_count n) }) else None) ≡ Some p →
+          PlaceOnly (Below m) p.places
+      of origin n true told q = subst (λ (z : Part). PlaceOnly (Below m) z.places) (same (record { span = s; places = From origin (places_count n) }) p q) told
+      of origin n false told q = absurd (cc q)
+
+  part_seats : (ss : List SiteText) (d : ℕ) (e : Extent) → AllByRecursion SiteOnly ss → PlaceOnly (Below m) (part_of grid ss d e).places
+  part_seats ss d e a = of (tight grid ss d e) refl
+    where
+      of : (o : Option Part) → tight grid ss d e ≡ o → PlaceOnly (Below m) (or_all e o).places
+      of None q = tt
+      of (Some p) q =
+          let b = bound (needed_part grid ss d e) (seated grid ss d) p q in
+          let x = bound (needed_span grid ss d) (λ s. Some (cut s e)) b.value b.is in
+          seats_grid ss d b.value p (subst (SpanOnly (Below m)) (same (cut x.value e) b.value x.comes) (cut_grid x.value e (needed_grid d ss x.value a x.is))) b.comes
+
+  taken_seats : (ss : List SiteText) (d : ℕ) (es : List Extent) → AllByRecursion SiteOnly ss → AllByRecursion (PlaceOnly (Below m)) (taken_places grid ss d es)
+  taken_seats ss d [] a = tt
+  taken_seats ss d (e ∷ es) a = (part_seats ss d e a, taken_seats ss (d + 1) es a)
+
   part_grid : (ss : List SiteText) (d : ℕ) (e : Extent) → AllByRecursion SiteOnly ss → SpanOnly (Below m) (part_of grid ss d e).span
   part_grid ss d e a = of (tight grid ss d e) refl
     where
@@ -388,6 +425,15 @@ module _ (m : ℕ) (grid : List Binding) (long : length grid ≡ m) where
 pub taken_over : (a : Algorithm) (g : StoredText) (fs : List FormulaText) (k : SkeletonText) (x : List ℕ) (ss : List SiteText) → BindInOrder k → NamesOwn k → sites_of a g fs k x ≡ Some ss →
     (d : ℕ) (es : List Extent) → AllByRecursion (SpanOnly (λ s. s < length k.grid)) (taken_region (grid_scope k.grid) ss d es)
 taken_over a g fs k x ss order names e d es = taken_grid (length k.grid) (grid_scope k.grid) (counted k.grid) ss d es (sites_only a g fs k x ss order names e)
+  where
+    counted : (cs : List ℕ) → length (grid_scope cs) ≡ length cs
+    counted [] = refl
+    counted (c ∷ cs) = ap suc (counted cs)
+
+-- and so do the origins of its places
+pub seats_over : (a : Algorithm) (g : StoredText) (fs : List FormulaText) (k : SkeletonText) (x : List ℕ) (ss : List SiteText) → BindInOrder k → NamesOwn k → sites_of a g fs k x ≡ Some ss →
+    (d : ℕ) (es : List Extent) → AllByRecursion (PlaceOnly (λ s. s < length k.grid)) (taken_places (grid_scope k.grid) ss d es)
+seats_over a g fs k x ss order names e d es = taken_seats (length k.grid) (grid_scope k.grid) (counted k.grid) ss d es (sites_only a g fs k x ss order names e)
   where
     counted : (cs : List ℕ) → length (grid_scope cs) ≡ length cs
     counted [] = refl

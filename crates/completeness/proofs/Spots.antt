@@ -41,7 +41,7 @@ same_spot x = record { symbols = λ s h. h; buffers = λ b h. h }
 two_spots : (x y z : Spot) → Grows x y → Grows y z → Grows x z
 two_spots x y z h k = record { symbols = λ s q. k.symbols s (h.symbols s q); buffers = λ b q. k.buffers b (h.buffers b q) }
 
-has_first : (xs ys : List ℕ) (s : ℕ) → Has xs s → Has (xs ++ ys) s
+pub has_first : (xs ys : List ℕ) (s : ℕ) → Has xs s → Has (xs ++ ys) s
 has_first [] ys s h = absurd (cc h)
 has_first (x ∷ xs) ys s h = of (x == s) h (has_first xs ys s)
   where

@@ -101,7 +101,7 @@ module _ (P : Statement → Type 0) where
 
 module _ (a : Algorithm) (all : List Entry) (full : List CodeClaim) where
   -- these are the claims from this number on
-  abbrev Numbered : ℕ → List CodeClaim → Type 0
+  abbrev pub Numbered : ℕ → List CodeClaim → Type 0
   Numbered c claims = (j : ℕ) (w : CodeClaim) → slice_get claims j ≡ Some w → slice_get full (c + j) ≡ Some w
 
   get_first : {A : Type 0} (xs ys : List A) (j : ℕ) (x : A) → slice_get xs j ≡ Some x → slice_get (xs ++ ys) j ≡ Some x
@@ -121,15 +121,15 @@ module _ (a : Algorithm) (all : List Entry) (full : List CodeClaim) where
       let place : c + (length own + j) ≡ (c + length own) + j = omega arith in
       ap (slice_get full) (sym place) ∙ h (length own + j) w (ap (λ (ws : List CodeClaim). slice_get ws (length own + j)) e ∙ get_second own other j ∙ at)
 
-  record PlacedBody (n : ℕ) (g : StoredText) (p : CodeGroup) : Type 0 where
-    first_claim : ℕ
-    line : ℕ
-    claims : List CodeClaim
-    needs : List Need
-    body : HasBody a all n first_claim line g p claims needs
-    numbered : Numbered first_claim claims
+  pub record PlacedBody (n : ℕ) (g : StoredText) (p : CodeGroup) : Type 0 where
+    pub first_claim : ℕ
+    pub line : ℕ
+    pub claims : List CodeClaim
+    pub needs : List Need
+    pub body : HasBody a all n first_claim line g p claims needs
+    pub numbered : Numbered first_claim claims
 
-  placed_body : (n c line : ℕ) (gs : List StoredText) (ps : List CodeGroup) (claims : List CodeClaim) (needs : List Need) → HaveBodies a all n c line gs ps claims needs → Numbered c claims →
+  pub placed_body : (n c line : ℕ) (gs : List StoredText) (ps : List CodeGroup) (claims : List CodeClaim) (needs : List Need) → HaveBodies a all n c line gs ps claims needs → Numbered c claims →
       (i : ℕ) (g : StoredText) (p : CodeGroup) → slice_get gs i ≡ Some g → slice_get ps i ≡ Some p → PlacedBody (n + i) g p
   placed_body n c line [] ps claims needs h m i g p at there = absurd (cc at)
   placed_body n c line (u ∷ gs) [] claims needs h m i g p at there = absurd h

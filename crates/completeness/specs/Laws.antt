@@ -3,12 +3,13 @@ use Rattle.std.specs.Prelude.{◌≡◌, ◌⊎◌, ℕ, true, false, [], take, 
 use Rattle.std.specs.List.{AllByRecursion}
 use Rattle.meaning.specs.Algorithm.{Function, Algorithm}
 use Rattle.meaning.specs.Conditions.{IsAlgorithm}
-use Rattle.plan.specs.Plan.{Group, Plan}
+use Rattle.plan.specs.Plan.{Statement, For, Let, First, Guard, Alloc, Fetch, Group, Plan}
 use Rattle.plan.specs.declared.certificate.cert.Own.{Own}
 use Rattle.plan.specs.declared.certificate.cert.Need.{Need}
 use Rattle.plan.specs.Claimed.{claim_of as claim_named}
 use Rattle.plan.specs.View.{plan_of}
 use Rattle.plan.specs.Certificate.Certificate.{Claim, Certificate, certificate_of}
+use Rattle.soundness.specs.Given.{outline_of}
 use Rattle.soundness.specs.declared.outline.refusals.code.Flaw.{Flaw}
 use Rattle.soundness.specs.declared.outline.refusals.code.K.TheVariants.{K14}
 use Rattle.sched.specs.Schedule.{Schedule}
@@ -17,8 +18,8 @@ use Rattle.headline.specs.Head.{FailsHead}
 use Rattle.shares.specs.declared.answer.SharesError.TheVariants.{Flaw as Told}
 use Rattle.shares.specs.Made.{ErrorMeans}
 use Rattle.validation.specs.Certificate.Certificate.{is_owned, is_region_of, need_is_known, claim_is_known, cert_flaws, flaws_of_certificate}
-use Rattle.validation.specs.Groups.Inside.{Begins}
-use Rattle.validation.specs.Groups.Wrong.{GroupNamesUnknown, IsNotDefinitionAt}
+use Rattle.validation.specs.Groups.Inside.{Begins, StandsIn}
+use Rattle.validation.specs.Groups.Wrong.{GroupNamesUnknown, NamesUnknown, IsNotDefinitionAt}
 use Rattle.lower.specs.declared.lowering.Lowered.{Lowered}
 use Rattle.lower.specs.Stored.{stored_functions}
 use Rattle.lower.specs.Faults.{are_whole}
@@ -93,3 +94,41 @@ abbrev pub GroupLinesAreKnown : Type 0
 GroupLinesAreKnown =
     (a : Algorithm) (s : Schedule) (l : Lowered) → IsAlgorithm a → IsLegal a s → AreSmall a s → AreRegionsKept a s → AreGroupsMade a s l
     → are_whole (stored_functions a s) ≡ true → (line : ℕ) → ¬ Begins (plan_of l.plan) (GroupNamesUnknown a (plan_of l.plan)) line
+
+-- the line is one of `for`, `let`, `first` or `guard`
+abbrev pub IsStep : Statement → Type 0
+IsStep (For i x kind body) = Unit {0}
+IsStep (Let i pick forms) = Unit {0}
+IsStep (First i b d) = Unit {0}
+IsStep (Guard low high body) = Unit {0}
+IsStep _ = ⊥
+
+-- no line of these inside a group names what is unknown or out of scope, or binds a symbol that is in scope
+abbrev pub InnerLinesAreKnown : (Statement → Type 0) → Type 0
+InnerLinesAreKnown IsOne =
+    (a : Algorithm) (s : Schedule) (l : Lowered) → IsAlgorithm a → IsLegal a s → AreSmall a s → AreRegionsKept a s → AreGroupsMade a s l
+    → are_whole (stored_functions a s) ≡ true → (line : ℕ)
+    → ¬ StandsIn (plan_of l.plan) (λ n g t here. IsOne t
+    × NamesUnknown a (plan_of l.plan) (certificate_of l.certificate) g (outline_of (plan_of l.plan) (certificate_of l.certificate) n g) t here) line
+
+-- nor does a loop, a let, a choice or a guard inside a group: each binds a symbol that is not in scope, and its forms name symbols that are
+abbrev pub StepLinesAreKnown : Type 0
+StepLinesAreKnown = InnerLinesAreKnown IsStep
+
+-- the line is one of `fetch`
+abbrev pub IsFetch : Statement → Type 0
+IsFetch (Fetch b h region) = Unit {0}
+IsFetch _ = ⊥
+
+-- nor does a fetch: its buffer is in scope and of the group's function, which is known, and its region has a span over the grid for each variable of that
+abbrev pub FetchLinesAreKnown : Type 0
+FetchLinesAreKnown = InnerLinesAreKnown IsFetch
+
+-- the line is one of `alloc`
+abbrev pub IsAlloc : Statement → Type 0
+IsAlloc (Alloc b f places) = Unit {0}
+IsAlloc _ = ⊥
+
+-- nor does an allocation: its function is known, and it has places for each variable of that, whose origins are told by symbols in scope
+abbrev pub AllocLinesAreKnown : Type 0
+AllocLinesAreKnown = InnerLinesAreKnown IsAlloc

@@ -1,6 +1,7 @@
 //! Laws that join what `lower` makes with what the checker asks.
 
-ghost use Rattle.completeness.specs.Laws.{DefinitionsAreStored, GroupLinesAreKnown, HeadsDoNotFail, OnlyLimitsAreTold, OnlyLimitsAreToldOfLines, OwnLinesStand, WholePlansAreShared};
+ghost use Rattle.completeness.specs.Laws.{AllocLinesAreKnown, DefinitionsAreStored, GroupLinesAreKnown, FetchLinesAreKnown, HeadsDoNotFail};
+ghost use Rattle.completeness.specs.Laws.{OnlyLimitsAreTold, OnlyLimitsAreToldOfLines, OwnLinesStand, StepLinesAreKnown, WholePlansAreShared};
 
 /// Of a schedule under which each stored function is a root function that is computed at no loop, and no inner loop of a split is
 /// parallel or split again, the plan that `lower` makes has the algorithm's head and its shares: each cell is one piece's own, what a piece fetches are cells
@@ -39,4 +40,20 @@ pub fn definitions_are_stored()
 /// Nor does a line `group` of such a plan name what is unknown (no K2): each is of a function of its own, with a span of numbers for each of its variables.
 pub fn group_lines_are_known()
     ensures { GroupLinesAreKnown }
+{}
+
+/// Nor does a line `for`, `let`, `first` or `guard` inside a group of such a plan (no K2): what it binds is not in scope, and what its forms name is.
+pub fn step_lines_are_known()
+    ensures { StepLinesAreKnown }
+{}
+
+/// Nor does a line `fetch` (no K2): its buffer is in scope and of the function of the group that it fetches of, which is one of the plan, and its region has a span
+/// for each variable of that function, over symbols of the grid.
+pub fn fetch_lines_are_known()
+    ensures { FetchLinesAreKnown }
+{}
+
+/// Nor does a line `alloc` (no K2): its function is known, and it has places for each variable of that, from origins that are told by symbols in scope.
+pub fn alloc_lines_are_known()
+    ensures { AllocLinesAreKnown }
 {}

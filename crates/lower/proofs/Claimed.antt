@@ -156,7 +156,7 @@ fetches_first s u us n h m e es (Some f) fs gs old one new may rest next is =
 
 -- ---- lines
 
-lines_append : (xs ys : List Statement) → block_lines (block (xs ++ ys)) ≡ block_lines (block xs) + block_lines (block ys)
+pub lines_append : (xs ys : List Statement) → block_lines (block (xs ++ ys)) ≡ block_lines (block xs) + block_lines (block ys)
 lines_append [] ys = omega arith
 lines_append (x ∷ xs) ys =
     let rest = lines_append xs ys in
@@ -190,7 +190,7 @@ fetches_long : (fs : List FetchText) (xs : List Statement) → block_lines (bloc
 fetches_long [] xs = omega arith
 fetches_long (f ∷ fs) xs = let rest = fetches_long fs xs in omega (arith, rest)
 
-body_long : (g : StoredText) (k : SkeletonText) (places : List Places) (fetches : List FetchText) (nests : List Statement) (p : ℕ) (b : Statement)
+pub body_long : (g : StoredText) (k : SkeletonText) (places : List Places) (fetches : List FetchText) (nests : List Statement) (p : ℕ) (b : Statement)
     → IsBodyWith g k places fetches nests p b
     → lines b ≡ step_lines k.head + (1 + (2 * length fetches + (block_lines (block nests) + 1)))
 body_long g k places fetches nests p b with =

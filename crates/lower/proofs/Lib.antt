@@ -3,6 +3,7 @@ pub mod Bindings
 pub mod Blocking
 pub mod Calling
 pub mod Claimed
+pub mod Counted
 pub mod Covering
 pub mod Cuts
 pub mod Directed

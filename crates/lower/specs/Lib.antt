@@ -2,6 +2,7 @@ pub mod Around
 pub mod Blocks
 pub mod Bodies
 pub mod Bounded
+pub mod Counted
 pub mod Called
 pub mod Calls
 pub mod Faults

@@ -434,7 +434,8 @@ fn body_of<'a>(
         (body (list_statements v.statements.items))) }
     ensures told { inners.now ≡ [] → TellsIf result (planned.is_written (algorithm_of algo.now) (map root_of roots.now) beginning.number (root_of root.now)) }
     ensures mixed { IfOk result (λ v. placed.HasSome (map placed.inner_seen inners.now) → MixedMade (map root_of roots.now) beginning.number beginning.claim
-        beginning.line (v.line + 1) (map placed.inner_seen inners.now) (root_of root.now) certificate.old certificate.new (body (list_statements v.statements.items))) }
+        beginning.line (v.line + 1) (map placed.inner_seen inners.now) (root_of root.now)
+        certificate.old certificate.new (body (list_statements v.statements.items))) }
 {
     let claimed = claimed_region(alloc, dimensions)?;
     let mut body = begun(alloc, beginning, root)?;

@@ -150,7 +150,8 @@ fn inner_at<'a>(
 ) -> Result<Option<Inner<'a>>, Stop>
     ensures root { IfOk result (λ found. IfSome found (λ one. one.root ≡ root.now)) }
     ensures home { IfOk result (λ found. IfSome found (λ one. one.home ≡ home)) }
-    ensures store { IfOk result (λ found. IfSome found (λ one. one.store ≡ spec.store_spot (spec.host_seen hosted.now) (root_of root.now).0.placed.stores home)) }
+    ensures store { IfOk result (λ found. IfSome found
+        (λ one. one.store ≡ spec.store_spot (spec.host_seen hosted.now) (root_of root.now).0.placed.stores home)) }
 {
     let name = root.stored.subject.name;
     let sites = sites_at(alloc, algo, group, inners, home, name.as_str())?;

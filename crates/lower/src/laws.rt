@@ -1,5 +1,6 @@
 //! Laws of the definitions that the contracts are written with.
 
+ghost use Rattle.lower.specs.Counted.{LinesAreCounted};
 ghost use Rattle.lower.specs.Held.{ArrivalsFit, FetchesHavePlaces, FetchesHoldCalls, InputHoldsCalls, OutputHoldsExtents, RegionsHoldCalls, RegionsHoldOwnCalls};
 ghost use Rattle.lower.specs.Owning.{BlocksMakeUpRegions, NeedsNameOwners};
 
@@ -53,4 +54,10 @@ pub fn needs_name_owners()
 /// that fit what is known around the store. So what the laws here say of numbers that fit is so of each store of a run.
 pub fn arrivals_fit()
     ensures { ArrivalsFit }
+{}
+
+/// Where functions are computed inside a group's loops, and only lets stand before the nests of each, the next group begins behind the
+/// lines of the body, as a plan's lines are counted. So the line of each claim is that of the statement behind which it is made.
+pub fn placed_lines_are_counted()
+    ensures { LinesAreCounted }
 {}

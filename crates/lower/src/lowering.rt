@@ -190,7 +190,8 @@ fn groups_of<'a>(
     ensures windows { IfOk result (λ v. AreAlone parties.now → v.1.windows.items ≡ []) }
     ensures unplanned { IfErr result IsUnplanned }
     ensures told { AreAlone parties.now → TellsOf result (first_unplanned (algorithm_of algo.now) (map root_of roots.now) 0 (map party_of parties.now)) }
-    ensures by { IfOk result (λ v. AreBodiesBy (algorithm_of algo.now) (map root_of roots.now) 0 0 4 (map inners_of parties.now) (map party_of parties.now) v.0.items
+    ensures by { IfOk result (λ v. AreBodiesBy (algorithm_of algo.now) (map root_of roots.now) 0 0 4 (map inners_of parties.now)
+        (map party_of parties.now) v.0.items
         v.1.claims.items v.1.needs.items v.1.windows.items) }
 {
     let mut certificate = empty_certificate(alloc);
@@ -252,7 +253,8 @@ fn planned<'a>(
 ) -> Result<Lowered, LowerError>
     requires roots { map party_of parties.now ≡ rooted true (map stored_of stored.now) (map (option_map laid_of) laid.now) }
     requires alone { rooted false (map stored_of stored.now) (map (option_map laid_of) laid.now) ≡ [] → AreAlone parties.now }
-    requires homes { AreAllAtHome (map party_of parties.now) (rooted false (map stored_of stored.now) (map (option_map laid_of) laid.now)) (map inners_of parties.now) }
+    requires homes { AreAllAtHome (map party_of parties.now) (rooted false (map stored_of stored.now) (map (option_map laid_of) laid.now))
+        (map inners_of parties.now) }
     ensures made { IfOk result (IsPlanOf (algorithm_of algo.now) (map stored_of stored.now) (map (option_map laid_of) laid.now)) }
     ensures unplanned { IfErr result IsUnplanned }
     ensures told { rooted false (map stored_of stored.now) (map (option_map laid_of) laid.now) ≡ [] →

@@ -142,7 +142,8 @@ fn step_in<'a>(
     steps: &[Step],
     names: &[Renaming],
 ) -> Result<Vec<Stmt>, Stop>
-    ensures { IfOk result (λ v. spec.step_in (spec.walk (spec.computed deep (map spec.inner_seen inners.now)) (map spec.inner_seen inners.now) (spec.owner_seen owner.now)
+    ensures { IfOk result (λ v. spec.step_in (spec.walk (spec.computed deep (map spec.inner_seen inners.now)) (map spec.inner_seen inners.now)
+        (spec.owner_seen owner.now)
         definition (nest_seen nest.now) (depth + 1) steps.now) step.now (map pair_of names.now) (spec.so_far body.old)
         ≡ Some (list_statements v.items, spec.so_far body.new)) }
 {
@@ -219,7 +220,8 @@ fn walk_apart<'a>(
     steps: &[Step],
     names: &[Renaming],
 ) -> Result<Vec<Stmt>, Stop>
-    ensures { IfOk result (λ v. spec.walk_apart (spec.computed deep (map spec.inner_seen inners.now)) (map spec.inner_seen inners.now) (spec.owner_seen owner.now)
+    ensures { IfOk result (λ v. spec.walk_apart (spec.computed deep (map spec.inner_seen inners.now)) (map spec.inner_seen inners.now)
+        (spec.owner_seen owner.now)
         definition (nest_seen nest.now) depth steps.now (map pair_of names.now) (spec.so_far body.old)
         ≡ Some (list_statements v.items, spec.so_far body.new)) }
 {
@@ -248,7 +250,8 @@ fn nests_from<'a>(
     nests: &[Nest],
     names: &[Renaming],
 ) -> Result<Vec<Stmt>, Stop>
-    ensures { IfOk result (λ v. spec.nests_from (spec.computed deep (map spec.inner_seen inners.now)) (map spec.inner_seen inners.now) (spec.owner_seen owner.now)
+    ensures { IfOk result (λ v. spec.nests_from (spec.computed deep (map spec.inner_seen inners.now)) (map spec.inner_seen inners.now)
+        (spec.owner_seen owner.now)
         definition (map nest_seen nests.now) (map pair_of names.now) (spec.so_far body.old) ≡ Some (list_statements v.items, spec.so_far body.new)) }
 {
     let Some(left) = left.checked_sub(1) else {
@@ -406,7 +409,8 @@ fn first_and_later<'a>(
     names: &[Renaming],
 ) -> Result<Vec<Stmt>, Stop>
     ensures { IfOk result (λ v. spec.first_and_later (spec.computed deep (map spec.inner_seen inners.now)) (map spec.inner_seen inners.now)
-        (spec.owner_seen owners.entry.0.now) (spec.owner_seen owners.entry.1.now) (spec.later_seen later.now) (nest_seen nests.entry.0.now) (nest_seen nests.entry.1.now)
+        (spec.owner_seen owners.entry.0.now) (spec.owner_seen owners.entry.1.now) (spec.later_seen later.now)
+        (nest_seen nests.entry.0.now) (nest_seen nests.entry.1.now)
         (map pair_of names.now) (spec.so_far body.old) ≡ Some (list_statements v.items, spec.so_far body.new)) }
 {
     let Some(left) = left.checked_sub(1) else {
@@ -441,7 +445,8 @@ fn sliding_turns<'a>(
     names: &[Renaming],
 ) -> Result<Vec<Stmt>, Stop>
     ensures { IfOk result (λ v. spec.sliding_turns (spec.computed deep (map spec.inner_seen inners.now)) (map spec.inner_seen inners.now) buffer number
-        (spec.inner_seen inner.now) (spec.later_seen later.now) (map pair_of names.now) (spec.so_far body.old) ≡ Some (list_statements v.items, spec.so_far body.new)) }
+        (spec.inner_seen inner.now) (spec.later_seen later.now) (map pair_of names.now) (spec.so_far body.old)
+        ≡ Some (list_statements v.items, spec.so_far body.new)) }
 {
     let Some(left) = left.checked_sub(1) else {
         return Err(Stop::Limit);
@@ -493,7 +498,8 @@ fn computed<'a>(
     inner: &Inner<'a>,
     names: &[Renaming],
 ) -> Result<Vec<Stmt>, Stop>
-    ensures { IfOk result (λ v. spec.computed deep (map spec.inner_seen inners.now) number (spec.inner_seen inner.now) (map pair_of names.now) (spec.so_far body.old)
+    ensures { IfOk result (λ v. spec.computed deep (map spec.inner_seen inners.now) number (spec.inner_seen inner.now) (map pair_of names.now)
+        (spec.so_far body.old)
         ≡ Some (list_statements v.items, spec.so_far body.new)) }
 {
     let Some(left) = left.checked_sub(1) else {
