@@ -52,7 +52,8 @@ use Rattle.completeness.proofs.Bodies.{other_at, entry_at}
 use Rattle.completeness.proofs.Owned.{each}
 use Rattle.completeness.proofs.Output.{group_at}
 use Rattle.completeness.proofs.Served.{ls as regions_found, roots, ready, made_at}
-use Rattle.completeness.proofs.Spots.{Has, has_first, has_last}
+use Rattle.completeness.proofs.Spots.{Has}
+use Rattle.completeness.proofs.Leaves.{more_has}
 use Rattle.completeness.proofs.ClaimLines.{known_stored}
 use Rattle.completeness.proofs.Unlike.{placed_body}
 use Rattle.completeness.proofs.Scoped.{any_none, form_none, grid_begins, own_grid}
@@ -80,10 +81,6 @@ module _ (F : List ℕ → List Places → List ℕ → Type 0) where
   joined_fit : (xs ys : List Statement) (ss : List ℕ) → FitAll (block xs) ss → ((us : List ℕ) → FitAll (block ys) us) → FitAll (block (xs ++ ys)) ss
   joined_fit [] ys ss h k = k ss
   joined_fit (a ∷ xs) ys ss h k = (h.0, joined_fit xs ys (symbols_after a ss) h.1 k)
-
-  more_has : (P : ℕ → Type 0) (ss : List ℕ) (i : ℕ) → ((s : ℕ) → P s → Has ss s) → (s : ℕ) → With P i s → Has (ss ++ i ∷ []) s
-  more_has P ss i h s (inl p) = has_first ss (i ∷ []) s (h s p)
-  more_has P ss i h s (inr e) = subst (λ (s : ℕ). Has (ss ++ i ∷ []) s) e (has_last ss i)
 
   steps_fit : (P : ℕ → Type 0) (ts : List Step) (inner : Statements) → ((us : List ℕ) → ((s : ℕ) → Bound P ts s → Has us s) → FitAll inner us) → (ss : List ℕ) →
       ((s : ℕ) → P s → Has ss s) → FitAll (lines_to ts inner) ss

@@ -274,3 +274,23 @@ entry_at (g ∷ gs) (l ∷ ls) w ready i e q =
         let one : (g, m, fs) ≡ e = some_same (g, m, fs) e k in
         subst (IsEntry (g ∷ gs) (l ∷ ls) 0) one (record { is = refl; laid = ap (λ (o : Option LaidText). Some o) laid; defined = defined })
     of (suc j) fs m k rest defined laid = next_entry g gs l ls j e (rest j e k)
+
+-- and each of them has one
+pub entry_there : (gs : List StoredText) (ls : List (Option LaidText)) → are_whole gs ≡ true → AreReady gs ls → (i : ℕ) (g : StoredText) → slice_get gs i ≡ Some g →
+    (e : Entry) × (slice_get (rooted true gs ls) i ≡ Some e) × (e.0 ≡ g)
+entry_there [] ls w ready i g q = absurd (cc q)
+entry_there (u ∷ gs) [] w ready i g q = absurd (let r = ready 0 u refl in cc r.3)
+entry_there (u ∷ gs) (l ∷ ls) w ready i g q =
+    let parts = and_parts (is_whole u) (are_whole gs) w in
+    let root = (and_parts u.subject.is_root (is_homeless u.placed.homes) parts.0).0 in
+    let r = ready 0 u refl in
+    let laid : l ≡ Some r.1 = some_same l (Some r.1) r.3 in
+    let here : rooted true (u ∷ gs) (l ∷ ls) ≡ (u, r.1, r.0) ∷ rooted true gs ls =
+    (λ t. rooted_if (root t) u (r.2 t) (laid t) (rooted true gs ls)) in
+    of i r.0 r.1 here q (λ j k. entry_there gs ls parts.1 (λ j u k. ready (suc j) u k) j g k)
+  where
+    of : (i : ℕ) (fs : List FormulaText) (m : LaidText) → rooted true (u ∷ gs) (l ∷ ls) ≡ (u, m, fs) ∷ rooted true gs ls → slice_get (u ∷ gs) i ≡ Some g →
+        ((j : ℕ) → slice_get gs j ≡ Some g → (e : Entry) × (slice_get (rooted true gs ls) j ≡ Some e) × (e.0 ≡ g)) →
+        (e : Entry) × (slice_get (rooted true (u ∷ gs) (l ∷ ls)) i ≡ Some e) × (e.0 ≡ g)
+    of zero fs m here k rest = ((u, m, fs), ap (λ (es : List Entry). slice_get es 0) here, some_same u g k)
+    of (suc j) fs m here k rest = let w = rest j k in (w.0, ap (λ (es : List Entry). slice_get es (suc j)) here ∙ w.1, w.2)

@@ -205,13 +205,13 @@ store_below g fs ls d n (Alloc b f places) h = absurd h
 store_below g fs ls d n (Fetch b f region) h = absurd h
 store_below g fs ls d n (Publish c) h = absurd h
 
-record IsNestOf (g : StoredText) (fs : List FormulaText) (r : List Span1) (claim : CodeClaim) : Type 0 where
-  definition : claim.definition < length fs
-  region : claim.region ≡ r
-  named : string_bytes claim.function ≡ g.subject.name
-  buffer : claim.buffer ≡ 0
+pub record IsNestOf (g : StoredText) (fs : List FormulaText) (r : List Span1) (claim : CodeClaim) : Type 0 where
+  pub definition : claim.definition < length fs
+  pub region : claim.region ≡ r
+  pub named : string_bytes claim.function ≡ g.subject.name
+  pub buffer : claim.buffer ≡ 0
 
-claim_nest : (g : StoredText) (fs : List FormulaText) (r : List Span1) (ls : Loads) (c line d : ℕ) (ns : List NestText) (xs : List Statement) (cs : List CodeClaim) →
+pub claim_nest : (g : StoredText) (fs : List FormulaText) (r : List Span1) (ls : Loads) (c line d : ℕ) (ns : List NestText) (xs : List Statement) (cs : List CodeClaim) →
     AreNests g fs r ls c line d ns xs cs → (claim : CodeClaim) → In claim cs → IsNestOf g fs r claim
 claim_nest g fs r ls c line d [] xs cs h claim m = absurd (subst (In claim) h.1 m)
 claim_nest g fs r ls c line d (n ∷ ns) xs [] h claim m = absurd h
@@ -323,16 +323,16 @@ module _ (a : Algorithm) (sch : Schedule) (l : Lowered) (well : IsAlgorithm a) (
   entries = roots a sch l well legal small kept all groups
 
   -- what is so of a claim that one group has
-  record IsSound (grid : ℕ) (group : CodeGroup) (line : ℕ) (claim : CodeClaim) : Type 0 where
-    code : Statements
-    body : statement_of group.body ≡ Seq code
-    stands : Stands (group_spot (group_of group)) code (line + 1) claim
-    buffer : IsBufferOf (allocated (statement_of group.body) claim.buffer) (string_bytes claim.function)
-    function : Function
-    named : function_named a.functions (string_bytes claim.function) ≡ Some function
-    definition : claim.definition ≤ length function.changes
-    long : length claim.region ≡ length function.variables
-    only : AllByRecursion (SpanOnly (λ s. s < grid)) claim.region
+  pub record IsSound (grid : ℕ) (group : CodeGroup) (line : ℕ) (claim : CodeClaim) : Type 0 where
+    pub code : Statements
+    pub body : statement_of group.body ≡ Seq code
+    pub stands : Stands (group_spot (group_of group)) code (line + 1) claim
+    pub buffer : IsBufferOf (allocated (statement_of group.body) claim.buffer) (string_bytes claim.function)
+    pub function : Function
+    pub named : function_named a.functions (string_bytes claim.function) ≡ Some function
+    pub definition : claim.definition ≤ length function.changes
+    pub long : length claim.region ≡ length function.variables
+    pub only : AllByRecursion (SpanOnly (λ s. s < grid)) claim.region
 
   module _ (n c line : ℕ) (g : StoredText) (p : CodeGroup) (claims : List CodeClaim) (needs : List Need) (at : slice_get stored n ≡ Some g) (there : slice_get made n ≡ Some p)
       (h : HasBody a entries n c line g p claims needs) where
@@ -455,7 +455,7 @@ module _ (a : Algorithm) (sch : Schedule) (l : Lowered) (well : IsAlgorithm a) (
         let skeleton = same_skeleton a sch l well legal small kept all groups n me.stored me.laid fs h.extents k me.is me.found defined extents laid in
         me.grid ∙ ap (λ (x : SkeletonText). x.grid) skeleton
 
-    of_group : (claim : CodeClaim) → In claim claims → IsSound (length p.grid.items) p line claim
+    pub of_group : (claim : CodeClaim) → In claim claims → IsSound (length p.grid.items) p line claim
     of_group claim m = subst (λ (ms : List ℕ). IsSound (length ms) p line claim) (sym own_grid)
         (elim (in_either claim h.body.fetched h.body.own (subst (In claim) h.body.claimed m)) [ inl x ↦ of_fetch claim x | inr x ↦ of_nest claim x ])
 

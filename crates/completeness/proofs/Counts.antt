@@ -49,14 +49,25 @@ fetched_many calls grid n b line (x ∷ xs) (f ∷ fs) [] cs h = absurd h
 fetched_many calls grid n b line (x ∷ xs) (f ∷ fs) (w ∷ ws) [] h = absurd h
 fetched_many calls grid n b line (x ∷ xs) (f ∷ fs) (w ∷ ws) (c ∷ cs) h = ap suc (fetched_many calls grid n (b + 1) (line + 2) xs fs ws cs h.2)
 
-nests_claim : (g : StoredText) (fs : List FormulaText) (r : List Span1) (ms : Loads) (c line d : ℕ) (ns : List NestText) (xs : List Statement) (cs : List CodeClaim) →
+pub fetches_claim : (calls : Calls) (grid : List Binding) (n b line : ℕ) (xs : List (ℕ × Entry)) (fs : List FetchText) (ws : List Need) (cs : List CodeClaim) →
+    AreFetched calls grid n b line xs fs ws cs → length cs ≡ length fs
+fetches_claim calls grid n b line [] [] [] [] h = refl
+fetches_claim calls grid n b line [] [] [] (c ∷ cs) h = absurd h
+fetches_claim calls grid n b line [] [] (w ∷ ws) cs h = absurd h
+fetches_claim calls grid n b line [] (f ∷ fs) ws cs h = absurd h
+fetches_claim calls grid n b line (x ∷ xs) [] ws cs h = absurd h
+fetches_claim calls grid n b line (x ∷ xs) (f ∷ fs) [] cs h = absurd h
+fetches_claim calls grid n b line (x ∷ xs) (f ∷ fs) (w ∷ ws) [] h = absurd h
+fetches_claim calls grid n b line (x ∷ xs) (f ∷ fs) (w ∷ ws) (c ∷ cs) h = ap suc (fetches_claim calls grid n (b + 1) (line + 2) xs fs ws cs h.2)
+
+pub nests_claim : (g : StoredText) (fs : List FormulaText) (r : List Span1) (ms : Loads) (c line d : ℕ) (ns : List NestText) (xs : List Statement) (cs : List CodeClaim) →
     AreNests g fs r ms c line d ns xs cs → length cs ≡ length ns
 nests_claim g fs r ms c line d [] xs cs h = ap length h.1
 nests_claim g fs r ms c line d (n ∷ ns) xs [] h = absurd h
 nests_claim g fs r ms c line d (n ∷ ns) xs (w ∷ cs) h =
     ap suc (nests_claim g fs r (ms ++ (g.subject.name, c) ∷ []) (c + 1) (line + block_lines (block h.first)) (d + 1) ns h.others cs h.behind)
 
-bodies_many : (us : List Change) (d : ℕ) (xs : List (List ℕ)) (fs : List FormulaText) → length (bodies_from us d xs fs) ≡ length fs
+pub bodies_many : (us : List Change) (d : ℕ) (xs : List (List ℕ)) (fs : List FormulaText) → length (bodies_from us d xs fs) ≡ length fs
 bodies_many us d xs [] = refl
 bodies_many us d xs (f ∷ fs) = ap suc (bodies_many us (d + 1) (drop (length _) xs) fs)
 

@@ -43,7 +43,7 @@ use Rattle.completeness.proofs.ReadBack.{AreClaims, read_back}
 
 -- ---- definitions with the calls put in
 
-put_is : (a : Algorithm) (st : List Bool) (d v : Term) → put a st d ≡ Some v → (calls_updates a st d ≡ false) × (put_in a st d ≡ v)
+pub put_is : (a : Algorithm) (st : List Bool) (d v : Term) → put a st d ≡ Some v → (calls_updates a st d ≡ false) × (put_in a st d ≡ v)
 put_is a st d v e = of (calls_updates a st d) (is_small (put_in a st d)) refl e
   where
     of : (b c : Bool) → calls_updates a st d ≡ b → (if not b && c then Some (put_in a st d) else None) ≡ Some v → (calls_updates a st d ≡ false) × (put_in a st d ≡ v)
@@ -52,17 +52,17 @@ put_is a st d v e = of (calls_updates a st d) (is_small (put_in a st d)) refl e
     of true c t q = absurd (cc q)
 
 -- the pure definition, and that of an update
-first_put : (a : Algorithm) (st : List Bool) (xs : List (List ℕ)) (e : Term) (us : List Change) (fs : List FormulaText) (f : FormulaText) → formulas_put a st xs e us ≡ Some fs →
+pub first_put : (a : Algorithm) (st : List Bool) (xs : List (List ℕ)) (e : Term) (us : List Change) (fs : List FormulaText) (f : FormulaText) → formulas_put a st xs e us ≡ Some fs →
     slice_get fs 0 ≡ Some f → pure_put a st xs e ≡ Some f
 first_put a st xs e us fs f h at =
     let b = bound (pure_put a st xs e) (λ f. changes_put a st xs us >>= λ fs. Some (f ∷ fs)) fs h in
     let c = bound (changes_put a st xs us) (λ fs. Some (b.value ∷ fs)) fs b.comes in
     b.is ∙ ap (λ (gs : List FormulaText). slice_get gs 0) (same (b.value ∷ c.value) fs c.comes) ∙ at
 
-record IsUpdatePut (a : Algorithm) (st : List Bool) (xs : List (List ℕ)) (us : List Change) (i : ℕ) (f : FormulaText) : Type 0 where
-  change : Change
-  at : slice_get us i ≡ Some change
-  is : change_put a st xs change ≡ Some f
+pub record IsUpdatePut (a : Algorithm) (st : List Bool) (xs : List (List ℕ)) (us : List Change) (i : ℕ) (f : FormulaText) : Type 0 where
+  pub change : Change
+  pub at : slice_get us i ≡ Some change
+  pub is : change_put a st xs change ≡ Some f
 
 changes_at : (a : Algorithm) (st : List Bool) (xs : List (List ℕ)) (us : List Change) (fs : List FormulaText) (i : ℕ) (f : FormulaText) → changes_put a st xs us ≡ Some fs → slice_get fs i ≡ Some f →
     IsUpdatePut a st xs us i f
@@ -80,7 +80,7 @@ changes_at a st xs (u ∷ us) fs i f h at =
     of g is gs zero q rest = record { change = u; at = refl; is = is ∙ ap (λ (y : FormulaText). Some y) (same g f q) }
     of g is gs (suc j) q rest = let w = rest j q in record { change = w.change; at = w.at; is = w.is }
 
-other_put : (a : Algorithm) (st : List Bool) (xs : List (List ℕ)) (e : Term) (us : List Change) (fs : List FormulaText) (i : ℕ) (f : FormulaText) → formulas_put a st xs e us ≡ Some fs →
+pub other_put : (a : Algorithm) (st : List Bool) (xs : List (List ℕ)) (e : Term) (us : List Change) (fs : List FormulaText) (i : ℕ) (f : FormulaText) → formulas_put a st xs e us ≡ Some fs →
     slice_get fs (suc i) ≡ Some f → IsUpdatePut a st xs us i f
 other_put a st xs e us fs i f h at =
     let b = bound (pure_put a st xs e) (λ f. changes_put a st xs us >>= λ fs. Some (f ∷ fs)) fs h in

@@ -103,7 +103,7 @@ module _ (a : Algorithm) (is : IsAlgorithm a) (k : ℕ) where
   Back name = GoesBack a k name
 
   -- a name that goes back is that of a function before, where it is a function's
-  before : (i : ℕ) (f : Function) (name : List ℕ) → slice_get a.functions i ≡ Some f → f.name ≡ name → Back name → i < k
+  pub before : (i : ℕ) (f : Function) (name : List ℕ) → slice_get a.functions i ≡ Some f → f.name ≡ name → Back name → i < k
   before i f name at e (inl input) =
       let there : slice_get (a.input ∷ map (λ f. f.name) a.functions) (suc i) ≡ Some a.input = named_at a.functions i f at ∙ ap (λ (x : List ℕ). Some x) (e ∙ input) in
       let clash : suc i ≡ 0 = is.names (suc i) 0 a.input there refl in
@@ -152,7 +152,7 @@ module _ (a : Algorithm) (is : IsAlgorithm a) (k : ℕ) where
               substituted_stays Back (index_for f.variables at) (λ m u. index_stays Back f.variables at m u stay) (with_calls r f.value) (done Back r f.value calls)
           of false e = ready name back at stay
 
-  put_back : (stored : List Bool) (e : Term) → EachCall (λ name at. Back name) e → EachCall (λ name at. Back name) (put_in a stored e)
+  pub put_back : (stored : List Bool) (e : Term) → EachCall (λ name at. Back name) e → EachCall (λ name at. Back name) (put_in a stored e)
   put_back stored e h =
       done Back (with_definitions Call a.functions stored) e
       (each_call (λ name at. Back name) (λ name at. IsDone Back (with_definitions Call a.functions stored) name)

@@ -117,16 +117,18 @@ IsClaimOf cs x k = (w : CodeClaim) × (slice_get cs k ≡ Some w) × (string_byt
 abbrev pub AreClaims : List CodeClaim → Loads → Type 0
 AreClaims cs ms = AllByRecursion (λ m. IsClaimOf cs m.0 m.1) ms
 
-abbrev ClaimIf : List CodeClaim → List ℕ → Option ℕ → Type 0
-ClaimIf cs x o = elim o [ Some k ↦ IsClaimOf cs x k | None ↦ Unit {0} ]
+-- what is so of each load is so of the last one
+module _ (P : List ℕ → ℕ → Type 0) where
+  abbrev pub HasIf : List ℕ → Option ℕ → Type 0
+  HasIf x o = elim o [ Some k ↦ P x k | None ↦ Unit {0} ]
 
-last_is : (cs : List CodeClaim) (x : List ℕ) (ms : Loads) (o : Option ℕ) → AreClaims cs ms → ClaimIf cs x o → ClaimIf cs x (last_of o ms x)
-last_is cs x [] o h k = k
-last_is cs x (m ∷ ms) o h k = last_is cs x ms (if same_name m.0 x then Some m.1 else o) h.1 (of (same_name m.0 x) refl)
-  where
-    of : (b : Bool) → same_name m.0 x ≡ b → ClaimIf cs x (if b then Some m.1 else o)
-    of true e = subst (λ (y : List ℕ). IsClaimOf cs y m.1) (name_true m.0 x e) h.0
-    of false e = k
+  pub last_has : (x : List ℕ) (ms : Loads) (o : Option ℕ) → AllByRecursion (λ m. P m.0 m.1) ms → HasIf x o → HasIf x (last_of o ms x)
+  last_has x [] o h k = k
+  last_has x (m ∷ ms) o h k = last_has x ms (if same_name m.0 x then Some m.1 else o) h.1 (of (same_name m.0 x) refl)
+    where
+      of : (b : Bool) → same_name m.0 x ≡ b → HasIf x (if b then Some m.1 else o)
+      of true e = subst (λ (y : List ℕ). P y m.1) (name_true m.0 x e) h.0
+      of false e = k
 
 module _ (a : Algorithm) (free : NamesNoLoad a) (p : Plan) (c : Certificate) (n : ℕ) (g : Group) (input : p.input.name ≡ a.input) (items : List CodeClaim) (are : c.claims ≡ map claim_of items)
     (few : length items < 10000) (ms : Loads) (loads : AreClaims items ms) where
@@ -143,23 +145,26 @@ module _ (a : Algorithm) (free : NamesNoLoad a) (p : Plan) (c : Certificate) (n 
     | inr f ↦ ap claim_named (sym f.3) ∙ free.functions f.0 f.1 f.2
   ]
 
-  by_claim : (x : List ℕ) (k : ℕ) → IsClaimOf items x k → name_read (outline_of p c n g) (source_of p.input.name count (64 ∷ decimal k)) (64 ∷ decimal k) ≡ x
-  by_claim x k h =
-      let within = slice_get_within items k h.0 h.1 in
+  -- a load tells its claim
+  pub source_is : (k : ℕ) → k < length items → source_of p.input.name count (64 ∷ decimal k) ≡ ByClaim k
+  source_is k within =
       let told = load_tells k (omega (arith, within, few)) in
       let same_count : count ≡ length items = ap length are ∙ mapped items in
       let less : nat_lt k count ≡ true = grind (arith, nat_tests, within, same_count) in
       let other = of (same_name (64 ∷ decimal k) p.input.name) refl told in
-      let source : source_of p.input.name count (64 ∷ decimal k) ≡ ByClaim k =
-      ap (λ (b : Bool). if b then Input else claim_source count (claim_named (64 ∷ decimal k))) other ∙ ap (claim_source count) told ∙ ap (λ (b : Bool). if b then ByClaim k else Unknown) less in
-      let claim : slice_get c.claims k ≡ Some (claim_of h.0) = ap (λ (cs : List Claim). slice_get cs k) are ∙ at_map claim_of items k h.0 h.1 in
-      ap (λ (s : Source). name_read (outline_of p c n g) s (64 ∷ decimal k)) source ∙ ap (λ (o : Option Claim). (claim_or_none o).function) claim ∙ h.2
+      ap (λ (b : Bool). if b then Input else claim_source count (claim_named (64 ∷ decimal k))) other ∙ ap (claim_source count) told ∙ ap (λ (b : Bool). if b then ByClaim k else Unknown) less
     where
       of : (b : Bool) → same_name (64 ∷ decimal k) p.input.name ≡ b → claim_named (64 ∷ decimal k) ≡ Some k → same_name (64 ∷ decimal k) p.input.name ≡ false
       of false e told = e
       of true e told =
           let same : 64 ∷ decimal k ≡ a.input = name_true (64 ∷ decimal k) p.input.name e ∙ input in
           absurd (cc (told, ap claim_named same, free.input))
+
+  by_claim : (x : List ℕ) (k : ℕ) → IsClaimOf items x k → name_read (outline_of p c n g) (source_of p.input.name count (64 ∷ decimal k)) (64 ∷ decimal k) ≡ x
+  by_claim x k h =
+      let source = source_is k (slice_get_within items k h.0 h.1) in
+      let claim : slice_get c.claims k ≡ Some (claim_of h.0) = ap (λ (cs : List Claim). slice_get cs k) are ∙ at_map claim_of items k h.0 h.1 in
+      ap (λ (s : Source). name_read (outline_of p c n g) s (64 ∷ decimal k)) source ∙ ap (λ (o : Option Claim). (claim_or_none o).function) claim ∙ h.2
 
   by_name : (x : List ℕ) → claim_named x ≡ None → name_read (outline_of p c n g) (source_of p.input.name count x) x ≡ x
   by_name x none = of (same_name x p.input.name)
@@ -169,9 +174,9 @@ module _ (a : Algorithm) (free : NamesNoLoad a) (p : Plan) (c : Certificate) (n 
       of false = ap (λ (o : Option ℕ). name_read (outline_of p c n g) (claim_source count o) x) none
 
   reads : (x : List ℕ) → IsSome (callable a a.functions x) → name_read (outline_of p c n g) (source_of p.input.name count (loaded_name ms x)) (loaded_name ms x) ≡ x
-  reads x h = of (last_of None ms x) (last_is items x ms None loads tt)
+  reads x h = of (last_of None ms x) (last_has (IsClaimOf items) x ms None loads tt)
     where
-      of : (o : Option ℕ) → ClaimIf items x o → name_read (outline_of p c n g) (source_of p.input.name count (name_by o x)) (name_by o x) ≡ x
+      of : (o : Option ℕ) → HasIf (IsClaimOf items) x o → name_read (outline_of p c n g) (source_of p.input.name count (name_by o x)) (name_by o x) ≡ x
       of None k = by_name x (no_load x h)
       of (Some k) w = by_claim x k w
 

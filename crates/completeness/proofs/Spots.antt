@@ -296,7 +296,7 @@ joined_lines : (xs ys : List Statement) → block_lines (block (xs ++ ys)) ≡ b
 joined_lines [] ys = omega arith
 joined_lines (a ∷ xs) ys = let rest = joined_lines xs ys in omega (arith, rest)
 
-joined_twice : (xs ys zs : List Statement) → (xs ++ ys) ++ zs ≡ xs ++ (ys ++ zs)
+pub joined_twice : (xs ys zs : List Statement) → (xs ++ ys) ++ zs ≡ xs ++ (ys ++ zs)
 joined_twice [] ys zs = refl
 joined_twice (a ∷ xs) ys zs = ap (λ (r : List Statement). a ∷ r) (joined_twice xs ys zs)
 
@@ -336,7 +336,7 @@ module _ (g : StoredText) (fs : List FormulaText) (r : List Span1) (rest : List 
 
 -- ---- which function a buffer has
 
-lets_allot : (ss : List Step) (inner : Statements) (b : ℕ) → AreLets ss → block_allocated (lines_to ss inner) b ≡ block_allocated inner b
+pub lets_allot : (ss : List Step) (inner : Statements) (b : ℕ) → AreLets ss → block_allocated (lines_to ss inner) b ≡ block_allocated inner b
 lets_allot [] inner b h = refl
 lets_allot (Turns i span kind ∷ ss) inner b h = absurd h
 lets_allot (Named i pick fs ∷ ss) inner b h = lets_allot ss inner b h

@@ -31,17 +31,17 @@ use Rattle.completeness.proofs.Only.{Only, AreOnly, SpanOnly, only_combined}
 -- ---- what loops, lets and guards stand in
 
 -- what a function takes
-abbrev Taken : (A B : Type 0) → (A → B) → Type 0
+abbrev pub Taken : (A B : Type 0) → (A → B) → Type 0
 Taken A B f = A
 
-abbrev Within : Type 0
+abbrev pub Within : Type 0
 Within = Taken _ _ join
 
 -- the second of two that are not the same
-abbrev second_of : (A : Type 0) (a b : A) → (a ≡ b → ⊥) → A
+abbrev pub second_of : (A : Type 0) (a b : A) → (a ≡ b → ⊥) → A
 second_of A a b f = b
 
-abbrev at_grid : Within
+abbrev pub at_grid : Within
 at_grid = second_of _ _ _ (no_grid Serial)
 
 -- ---- steps
@@ -86,13 +86,13 @@ lets_more (Tested low high ∷ a) i fs h = absurd h
 abbrev pub Here : (ℕ → Type 0) → List Step → ℕ → Type 0
 Here Q steps s = Q s ⊎ Binds steps s
 
-abbrev KnownOnly : (ℕ → Type 0) → List Known → Type 0
+abbrev pub KnownOnly : (ℕ → Type 0) → List Known → Type 0
 KnownOnly P ks = AllByRecursion (λ k. Only P k.form) ks
 
-form_weaker : (P R : ℕ → Type 0) → ((s : ℕ) → P s → R s) → (f : Form) → Only P f → Only R f
+pub form_weaker : (P R : ℕ → Type 0) → ((s : ℕ) → P s → R s) → (f : Form) → Only P f → Only R f
 form_weaker P R w f h = all_weaker (λ t. P t.symbol) (λ t. R t.symbol) (λ t k. w t.symbol k) f.terms h
 
-known_weaker : (P R : ℕ → Type 0) → ((s : ℕ) → P s → R s) → (ks : List Known) → KnownOnly P ks → KnownOnly R ks
+pub known_weaker : (P R : ℕ → Type 0) → ((s : ℕ) → P s → R s) → (ks : List Known) → KnownOnly P ks → KnownOnly R ks
 known_weaker P R w ks h = all_weaker (λ k. Only P k.form) (λ k. Only R k.form) (λ k g. form_weaker P R w k.form g) ks h
 
 looked : (P : ℕ → Type 0) (ks : List Known) (x : List ℕ) (f : Form) → KnownOnly P ks → form_named ks x ≡ Some f → Only P f
@@ -125,7 +125,7 @@ rises_joined n k m (Named i pick fs ∷ a) b h g = (h.0, rises_joined (n + 1) k 
 rises_joined n k m (Tested low high ∷ a) b h g = rises_joined n k m a b h g
 
 module _ (P R : ℕ → Type 0) (w : (s : ℕ) → P s → R s) where
-  are_weaker : (fs : List Form) → AreOnly P fs → AreOnly R fs
+  pub are_weaker : (fs : List Form) → AreOnly P fs → AreOnly R fs
   are_weaker fs h = all_weaker (Only P) (Only R) (λ f g. form_weaker P R w f g) fs h
 
   span_weaker : (x : Span1) → SpanOnly P x → SpanOnly R x
@@ -149,21 +149,21 @@ steps_weaker P R w (Named i pick fs ∷ ss) h = (are_weaker P R w fs h.0, steps_
 steps_weaker P R w (Tested low high ∷ ss) h = (form_weaker P R w low h.0, form_weaker P R w high h.1, steps_weaker P R w ss h.2)
 
 module _ (P : ℕ → Type 0) where
-  none_bound : (s : ℕ) → Here P [] s → P s
+  pub none_bound : (s : ℕ) → Here P [] s → P s
   none_bound s (inl p) = p
   none_bound s (inr b) = absurd b
 
-  past_turns : (i : ℕ) (x : Span1) (kind : _) (a : List Step) (s : ℕ) → Here P (Turns i x kind ∷ a) s → Here (With P i) a s
+  pub past_turns : (i : ℕ) (x : Span1) (kind : _) (a : List Step) (s : ℕ) → Here P (Turns i x kind ∷ a) s → Here (With P i) a s
   past_turns i x kind a s (inl p) = inl (inl p)
   past_turns i x kind a s (inr (inl e)) = inl (inr e)
   past_turns i x kind a s (inr (inr b)) = inr b
 
-  past_named : (i : ℕ) (pick : _) (fs : List Form) (a : List Step) (s : ℕ) → Here P (Named i pick fs ∷ a) s → Here (With P i) a s
+  pub past_named : (i : ℕ) (pick : _) (fs : List Form) (a : List Step) (s : ℕ) → Here P (Named i pick fs ∷ a) s → Here (With P i) a s
   past_named i pick fs a s (inl p) = inl (inl p)
   past_named i pick fs a s (inr (inl e)) = inl (inr e)
   past_named i pick fs a s (inr (inr b)) = inr b
 
-  past_tested : (low high : Form) (a : List Step) (s : ℕ) → Here P (Tested low high ∷ a) s → Here P a s
+  pub past_tested : (low high : Form) (a : List Step) (s : ℕ) → Here P (Tested low high ∷ a) s → Here P a s
   past_tested low high a s (inl p) = inl p
   past_tested low high a s (inr b) = inr b
 
@@ -181,12 +181,12 @@ steps_joined P (Named i pick fs ∷ a) b h k =
     (h.0, steps_joined (With P i) a b h.1 (steps_weaker (Here P (Named i pick fs ∷ a)) (Here (With P i) a) (past_named P i pick fs a) b k))
 steps_joined P (Tested low high ∷ a) b h k = (h.0, h.1, steps_joined P a b h.2 (steps_weaker (Here P (Tested low high ∷ a)) (Here P a) (past_tested P low high a) b k))
 
-record Sits (Q : ℕ → Type 0) (base : ℕ) (st : StandingText) : Type 0 where
-  known : KnownOnly (Here Q st.steps) st.known
-  starts : KnownOnly (Here Q st.steps) st.starts
-  limits : AreOnly (Here Q st.steps) st.limits
-  over : StepsOver Q st.steps
-  rises : Rises base st.steps st.next
+pub record Sits (Q : ℕ → Type 0) (base : ℕ) (st : StandingText) : Type 0 where
+  pub known : KnownOnly (Here Q st.steps) st.known
+  pub starts : KnownOnly (Here Q st.steps) st.starts
+  pub limits : AreOnly (Here Q st.steps) st.limits
+  pub over : StepsOver Q st.steps
+  pub rises : Rises base st.steps st.next
 
 module _ (Q : ℕ → Type 0) (base : ℕ) where
   wider : (a b : List Step) (s : ℕ) → Here Q a s → Here Q (a ++ b) s
@@ -283,7 +283,7 @@ module _ (Q : ℕ → Type 0) (base : ℕ) where
           put_here guarded c.whole (last_number r) form st new
           (only_combined (Here Q st.steps) first (pos 1) inner (looked (Here Q st.steps) st.starts c.whole first h.starts s) (looked (Here Q st.steps) st.known c.inner inner h.known k) form sum) h put
 
-  settled_here : (w : Within) (rs : List Numbers) (all cs : List Split) (st new : StandingText) → Sits Q base st → settle_some w rs all cs st ≡ Some new → Sits Q base new
+  pub settled_here : (w : Within) (rs : List Numbers) (all cs : List Split) (st new : StandingText) → Sits Q base st → settle_some w rs all cs st ≡ Some new → Sits Q base new
   settled_here w rs all [] st new h e = subst (Sits Q base) (same st new e) h
   settled_here w rs all (c ∷ cs) st new h e =
       let r : Numbers = numbers_named rs c.whole in
@@ -294,7 +294,7 @@ module _ (Q : ℕ → Type 0) (base : ℕ) where
 -- ---- loops
 
 module _ (Q : ℕ → Type 0) (base : ℕ) where
-  turned_here : (rs : List Numbers) (cs : List Split) (t : Turning) (st new : StandingText) → Sits Q base st → turn rs cs t st ≡ Some new → Sits Q base new
+  pub turned_here : (rs : List Numbers) (cs : List Split) (t : Turning) (st new : StandingText) → Sits Q base st → turn rs cs t st ≡ Some new → Sits Q base new
   turned_here rs cs t st new h e =
       let n : ℕ = st.next in
       let R : ℕ → Type 0 = λ s. Here Q st.steps s ⊎ (n ≡ s) in
@@ -369,7 +369,7 @@ NestsRise next (n ∷ ns) = (to : ℕ) × Rises next n.steps to × NestsRise to 
 
 module _ (Q : ℕ → Type 0) (xs : List (List ℕ)) (p : PlacedText) (rs : List Numbers) (head : StandingText) (over : KnownOnly Q head.known) (begin_over : KnownOnly Q head.starts)
     (limits_over : AreOnly Q head.limits) where
-  nest_sits : (b : BodyText) (next : ℕ) (new : StandingText) → nest_in xs p rs b (begun next head) ≡ Some new → Sits Q next new
+  pub nest_sits : (b : BodyText) (next : ℕ) (new : StandingText) → nest_in xs p rs b (begun next head) ≡ Some new → Sits Q next new
   nest_sits b next new e =
       let cs : List Split = cuts_by_variable p.cuts (kept_from b 0 xs) in
       let m = bound (settle_some (inside Serial) rs cs cs (begun next head)) (turn_all rs cs (nest_turns b rs p.loops)) new e in
@@ -474,14 +474,14 @@ pub record NamesOwn (k : SkeletonText) : Type 0 where
   pub steps_over : (i : ℕ) (n : NestText) → slice_get k.nests i ≡ Some n → StepsOver (OverGrid k) n.steps
   pub nests_rise : NestsRise next k.nests
 
-pub names_own : (xs : List (List ℕ)) (bs : List BodyText) (p : PlacedText) (region : List Extent) (k : SkeletonText) → skeleton_in xs bs p region ≡ Some k → NamesOwn k
-names_own xs bs p region k e =
+-- what stands over the grid
+pub head_sits : (xs : List (List ℕ)) (p : PlacedText) (region : List Extent) (head : StandingText) →
+    settle_some at_grid (loop_numbers xs p.cuts region) (cuts_by_variable p.cuts xs) (cuts_by_variable p.cuts xs) (over_grid (loop_numbers xs p.cuts region) p) ≡ Some head →
+    Sits (λ s. s < length (piece_counts (loop_numbers xs p.cuts region) p.loops)) (length (piece_counts (loop_numbers xs p.cuts region) p.loops)) head
+head_sits xs p region head e =
     let rs : List Numbers = loop_numbers xs p.cuts region in
     let cs : List Split = cuts_by_variable p.cuts xs in
     let grid : List ℕ = piece_counts rs p.loops in
-    let b = bound (settle_some at_grid rs cs cs (over_grid rs p))
-    (λ head. nests_in xs p rs head bs head.next >>= λ nests. Some (record { grid = grid; head = head.steps; nests = nests; known = head.known; starts = head.starts })) k e in
-    let m = bound (nests_in xs p rs b.value bs b.value.next) (λ nests. Some (record { grid = grid; head = b.value.steps; nests = nests; known = b.value.known; starts = b.value.starts })) k b.comes in
     let many : length (parallel_loops p.loops) ≤ length grid =
     (let n = length-map (parallel_loops p.loops) (λ (l : Loop). (numbers_named rs l.name).count) in let le = count_least (grid_counts rs (parallel_loops p.loops)) in omega (arith, n, le)) in
     let Q : ℕ → Type 0 = λ s. s < length grid in
@@ -492,7 +492,18 @@ names_own xs bs p region k e =
       over = tt;
       rises = refl;
     } in
-    let s = settled_here Q (length grid) at_grid rs cs cs (over_grid rs p) b.value first b.is in
+    settled_here Q (length grid) at_grid rs cs cs (over_grid rs p) head first e
+
+pub names_own : (xs : List (List ℕ)) (bs : List BodyText) (p : PlacedText) (region : List Extent) (k : SkeletonText) → skeleton_in xs bs p region ≡ Some k → NamesOwn k
+names_own xs bs p region k e =
+    let rs : List Numbers = loop_numbers xs p.cuts region in
+    let cs : List Split = cuts_by_variable p.cuts xs in
+    let grid : List ℕ = piece_counts rs p.loops in
+    let b = bound (settle_some at_grid rs cs cs (over_grid rs p))
+    (λ head. nests_in xs p rs head bs head.next >>= λ nests. Some (record { grid = grid; head = head.steps; nests = nests; known = head.known; starts = head.starts })) k e in
+    let m = bound (nests_in xs p rs b.value bs b.value.next) (λ nests. Some (record { grid = grid; head = b.value.steps; nests = nests; known = b.value.known; starts = b.value.starts })) k b.comes in
+    let Q : ℕ → Type 0 = λ s. s < length grid in
+    let s = head_sits xs p region b.value b.is in
     let made : NamesOwn (record { grid = grid; head = b.value.steps; nests = m.value; known = b.value.known; starts = b.value.starts }) = record {
       lets = settled_lets rs cs cs (over_grid rs p) b.value tt b.is;
       known = s.known;

@@ -1,6 +1,6 @@
 -- No line of whole functions stores something else than its definition.
 use Rattle.std.proofs.Common.{◌≡◌, ℕ, ◌<◌, zero, suc, ◌+◌, Bool, true, false, List, [], ◌∷◌}
-use Rattle.std.proofs.Common.{◌++◌, length, Option, Some, None, refl, sym, ap, ◌∙◌, subst, inl, inr, arith}
+use Rattle.std.proofs.Common.{◌++◌, length, map, take, Option, Some, None, refl, sym, ap, ◌∙◌, subst, inl, inr, arith}
 use Rattle.std.specs.Prelude.{slice_get, IsSomeAnd, MatchOption}
 use Rattle.std.specs.Option.{option_map}
 use Rattle.lin.specs.declared.span.Span1.{Span1}
@@ -10,7 +10,7 @@ use Rattle.plan.specs.declared.certificate.cert.Claim.{Claim as CodeClaim}
 use Rattle.plan.specs.declared.certificate.cert.Need.{Need}
 use Rattle.plan.specs.Plan.{Statement, Seq, For, Let, First, Guard, Alloc, Fetch, Store, Publish, Statements, Empty, Then, Group, Plan, block}
 use Rattle.plan.specs.View.{group_of, plan_of, statement_of}
-use Rattle.plan.specs.Lines.{block_lines, group_line}
+use Rattle.plan.specs.Lines.{block_lines, groups_lines, group_line}
 use Rattle.plan.specs.Certificate.Certificate.{Certificate, certificate_of}
 use Rattle.plan.specs.Semantics.Setting.{allocated, function_in}
 use Rattle.meaning.specs.Algorithm.{Function, Algorithm}
@@ -69,11 +69,11 @@ module _ (P : Statement → Type 0) where
     ClearAll Empty = Unit {0}
     ClearAll (Then a rest) = Clear a × ClearAll rest
 
-  abbrev At : ℕ → Statement → Here → Type 0
+  abbrev pub At : ℕ → Statement → Here → Type 0
   At line s here = (line_told here.line ≡ line) × P s
 
   mutual
-    none_inside : (line : ℕ) (s : Statement) → Clear s → (here : Here) → Inside (At line) s here → ⊥
+    pub none_inside : (line : ℕ) (s : Statement) → Clear s → (here : Here) → Inside (At line) s here → ⊥
     none_inside line (Seq all) h here k = none_in_all line all h here k
     none_inside line (For i x kind body) h here (inl k) = h.0 k.1
     none_inside line (For i x kind body) h here (inr k) = none_inside line body h.1 (in_loop i here) k
@@ -93,7 +93,7 @@ module _ (P : Statement → Type 0) where
     none_in_all line (Then a rest) h here (inl k) = none_inside line a h.0 (before (is_empty rest) here) k
     none_in_all line (Then a rest) h here (inr k) = none_in_all line rest h.1 (after a here) k
 
-  joined_clear : (xs ys : List Statement) → ClearAll (block xs) → ClearAll (block ys) → ClearAll (block (xs ++ ys))
+  pub joined_clear : (xs ys : List Statement) → ClearAll (block xs) → ClearAll (block ys) → ClearAll (block (xs ++ ys))
   joined_clear [] ys h k = k
   joined_clear (a ∷ xs) ys h k = (h.0, joined_clear xs ys h.1 k)
 
@@ -104,42 +104,46 @@ module _ (a : Algorithm) (all : List Entry) (full : List CodeClaim) where
   abbrev pub Numbered : ℕ → List CodeClaim → Type 0
   Numbered c claims = (j : ℕ) (w : CodeClaim) → slice_get claims j ≡ Some w → slice_get full (c + j) ≡ Some w
 
-  get_first : {A : Type 0} (xs ys : List A) (j : ℕ) (x : A) → slice_get xs j ≡ Some x → slice_get (xs ++ ys) j ≡ Some x
+  pub get_first : {A : Type 0} (xs ys : List A) (j : ℕ) (x : A) → slice_get xs j ≡ Some x → slice_get (xs ++ ys) j ≡ Some x
   get_first [] ys j x e = absurd (cc e)
   get_first (y ∷ xs) ys zero x e = e
   get_first (y ∷ xs) ys (suc j) x e = get_first xs ys j x e
 
-  get_second : {A : Type 0} (xs ys : List A) (j : ℕ) → slice_get (xs ++ ys) (length xs + j) ≡ slice_get ys j
+  pub get_second : {A : Type 0} (xs ys : List A) (j : ℕ) → slice_get (xs ++ ys) (length xs + j) ≡ slice_get ys j
   get_second [] ys j = (let none : 0 + j ≡ j = omega arith in ap (slice_get ys) none)
   get_second (y ∷ xs) ys j = (let next : suc (length xs) + j ≡ suc (length xs + j) = omega arith in ap (slice_get (y ∷ (xs ++ ys))) next ∙ get_second xs ys j)
 
-  first_numbered : (c : ℕ) (claims own other : List CodeClaim) → claims ≡ own ++ other → Numbered c claims → Numbered c own
+  pub first_numbered : (c : ℕ) (claims own other : List CodeClaim) → claims ≡ own ++ other → Numbered c claims → Numbered c own
   first_numbered c claims own other e h j w at = h j w (ap (λ (ws : List CodeClaim). slice_get ws j) e ∙ get_first own other j w at)
 
-  second_numbered : (c : ℕ) (claims own other : List CodeClaim) → claims ≡ own ++ other → Numbered c claims → Numbered (c + length own) other
+  pub second_numbered : (c : ℕ) (claims own other : List CodeClaim) → claims ≡ own ++ other → Numbered c claims → Numbered (c + length own) other
   second_numbered c claims own other e h j w at =
       let place : c + (length own + j) ≡ (c + length own) + j = omega arith in
       ap (slice_get full) (sym place) ∙ h (length own + j) w (ap (λ (ws : List CodeClaim). slice_get ws (length own + j)) e ∙ get_second own other j ∙ at)
 
-  pub record PlacedBody (n : ℕ) (g : StoredText) (p : CodeGroup) : Type 0 where
+  -- the group's line comes behind so many lines
+  pub record PlacedBody (n lines_before : ℕ) (g : StoredText) (p : CodeGroup) : Type 0 where
     pub first_claim : ℕ
     pub line : ℕ
+    pub lined : line ≡ lines_before
     pub claims : List CodeClaim
     pub needs : List Need
     pub body : HasBody a all n first_claim line g p claims needs
     pub numbered : Numbered first_claim claims
 
   pub placed_body : (n c line : ℕ) (gs : List StoredText) (ps : List CodeGroup) (claims : List CodeClaim) (needs : List Need) → HaveBodies a all n c line gs ps claims needs → Numbered c claims →
-      (i : ℕ) (g : StoredText) (p : CodeGroup) → slice_get gs i ≡ Some g → slice_get ps i ≡ Some p → PlacedBody (n + i) g p
+      (i : ℕ) (g : StoredText) (p : CodeGroup) → slice_get gs i ≡ Some g → slice_get ps i ≡ Some p → PlacedBody (n + i) (line + groups_lines (take i (map group_of ps))) g p
   placed_body n c line [] ps claims needs h m i g p at there = absurd (cc at)
   placed_body n c line (u ∷ gs) [] claims needs h m i g p at there = absurd h
   placed_body n c line (u ∷ gs) (q ∷ ps) claims needs h m zero g p at there =
       let one : u ≡ g = cc at in
       let two : q ≡ p = cc there in
       let none : n ≡ n + 0 = omega arith in
-      subst (λ (m : ℕ). PlacedBody m g p) none (subst (λ (w : StoredText). PlacedBody n w p) one (subst (λ (w : CodeGroup). PlacedBody n u w) two (record {
+      let before : line ≡ line + 0 = omega arith in
+      subst (λ (m : ℕ). PlacedBody m (line + 0) g p) none (subst (λ (w : StoredText). PlacedBody n (line + 0) w p) one (subst (λ (w : CodeGroup). PlacedBody n (line + 0) u w) two (record {
         first_claim = c;
         line = line;
+        lined = before;
         claims = h.own_claims;
         needs = h.own_needs;
         body = h.here;
@@ -147,12 +151,14 @@ module _ (a : Algorithm) (all : List Entry) (full : List CodeClaim) where
       })))
   placed_body n c line (u ∷ gs) (q ∷ ps) claims needs h m (suc i) g p at there =
       let next : (n + 1) + i ≡ n + suc i = omega arith in
-      subst (λ (m : ℕ). PlacedBody m g p) next (placed_body (n + 1) (c + length h.own_claims) (line_behind line q) gs ps h.other_claims h.other_needs h.behind
-      (second_numbered c claims h.own_claims h.other_claims h.claimed m) i g p at there)
+      let behind : line_behind line q + groups_lines (take i (map group_of ps)) ≡ line + groups_lines (take (suc i) (map group_of (q ∷ ps))) = omega arith in
+      let rest = placed_body (n + 1) (c + length h.own_claims) (line_behind line q) gs ps h.other_claims h.other_needs h.behind
+      (second_numbered c claims h.own_claims h.other_claims h.claimed m) i g p at there in
+      subst (λ (m : ℕ). PlacedBody (n + suc i) m g p) behind (subst (λ (m : ℕ). PlacedBody m (line_behind line q + groups_lines (take i (map group_of ps))) g p) next rest)
 
   -- ---- loads of what is fetched
 
-  fetched_loads : (calls : Calls) (grid : List Binding) (n b line : ℕ) (xs : List (ℕ × Entry)) (fs : List FetchText) (ws : List Need) (cs : List CodeClaim) →
+  pub fetched_loads : (calls : Calls) (grid : List Binding) (n b line : ℕ) (xs : List (ℕ × Entry)) (fs : List FetchText) (ws : List Need) (cs : List CodeClaim) →
       AreFetched calls grid n b line xs fs ws cs → (c : ℕ) → Numbered c cs → AreClaims full (loads_from c fs) × (length cs ≡ length fs)
   fetched_loads calls grid n b line [] [] [] [] h c m = (tt, refl)
   fetched_loads calls grid n b line [] [] [] (w ∷ cs) h c m = absurd h
@@ -167,7 +173,7 @@ module _ (a : Algorithm) (all : List Entry) (full : List CodeClaim) where
       (λ j v at. let next : c + suc j ≡ (c + 1) + j = omega arith in ap (slice_get full) (sym next) ∙ m (suc j) v at) in
       (((k, ap (slice_get full) (sym none) ∙ m 0 k refl, h.0.claimed.named ∙ sym h.0.named), rest.0), ap suc rest.1)
 
-  all_claims : (xs ys : Loads) → AreClaims full xs → AreClaims full ys → AreClaims full (xs ++ ys)
+  pub all_claims : (xs ys : Loads) → AreClaims full xs → AreClaims full ys → AreClaims full (xs ++ ys)
   all_claims [] ys h k = k
   all_claims (x ∷ xs) ys h k = (h.0, all_claims xs ys h.1 k)
 

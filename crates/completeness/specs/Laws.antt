@@ -1,25 +1,33 @@
--- What is asked of the pieces' shares, and that a plan of whole functions has it.
-use Rattle.std.specs.Prelude.{◌≡◌, ◌⊎◌, ℕ, true, false, [], take, Some, None, slice_get}
-use Rattle.std.specs.List.{AllByRecursion}
+-- What the checker asks of a plan, and that the plans that `lower` makes have it: of the pieces' shares and the certificate's lines by themselves, and of what the
+-- lines of groups name and store.
+use Rattle.std.specs.Prelude.{◌≡◌, ◌⊎◌, ℕ, true, false, List, [], take, Some, None, slice_get}
+use Rattle.std.specs.List.{AllByRecursion, list_any}
 use Rattle.meaning.specs.Algorithm.{Function, Algorithm}
 use Rattle.meaning.specs.Conditions.{IsAlgorithm}
-use Rattle.plan.specs.Plan.{Statement, For, Let, First, Guard, Alloc, Fetch, Group, Plan}
+use Rattle.plan.specs.Plan.{Statement, For, Let, First, Guard, Alloc, Fetch, Store, Publish, Group, Plan}
 use Rattle.plan.specs.declared.certificate.cert.Own.{Own}
 use Rattle.plan.specs.declared.certificate.cert.Need.{Need}
 use Rattle.plan.specs.Claimed.{claim_of as claim_named}
 use Rattle.plan.specs.View.{plan_of}
+use Rattle.plan.specs.Lines.{certificate_line}
 use Rattle.plan.specs.Certificate.Certificate.{Claim, Certificate, certificate_of}
 use Rattle.soundness.specs.Given.{outline_of}
+use Rattle.soundness.specs.Outline.Flaws.{Flaw as TextFlaw, first_of, line_told}
 use Rattle.soundness.specs.declared.outline.refusals.code.Flaw.{Flaw}
 use Rattle.soundness.specs.declared.outline.refusals.code.K.TheVariants.{K14}
+use Rattle.sched.specs.declared.schedule.Split.{Split}
 use Rattle.sched.specs.Schedule.{Schedule}
+use Rattle.sched.specs.Standing.{is_half}
 use Rattle.sched.specs.Legal.{IsLegal}
 use Rattle.headline.specs.Head.{FailsHead}
 use Rattle.shares.specs.declared.answer.SharesError.TheVariants.{Flaw as Told}
 use Rattle.shares.specs.Made.{ErrorMeans}
 use Rattle.validation.specs.Certificate.Certificate.{is_owned, is_region_of, need_is_known, claim_is_known, cert_flaws, flaws_of_certificate}
+use Rattle.validation.specs.Wide.{RegionIsWide}
 use Rattle.validation.specs.Groups.Inside.{Begins, StandsIn}
-use Rattle.validation.specs.Groups.Wrong.{GroupNamesUnknown, NamesUnknown, IsNotDefinitionAt}
+use Rattle.validation.specs.Groups.Lanes.{fits_mark}
+use Rattle.validation.specs.Groups.Lines.{flaws_of_groups}
+use Rattle.validation.specs.Groups.Wrong.{GroupNamesUnknown, NamesUnknown, IsUnknownAt, HasWide, IsWideAt, IsNotDefinitionAt}
 use Rattle.lower.specs.declared.lowering.Lowered.{Lowered}
 use Rattle.lower.specs.Stored.{stored_functions}
 use Rattle.lower.specs.Faults.{are_whole}
@@ -103,13 +111,19 @@ IsStep (First i b d) = Unit {0}
 IsStep (Guard low high body) = Unit {0}
 IsStep _ = ⊥
 
+-- at this line of the plan, one of these inside a group, a symbol is bound that is in scope, or what is named is unknown or out of scope
+abbrev pub IsUnknownInside : (Statement → Type 0) → Algorithm → Plan → Certificate → ℕ → Type 0
+IsUnknownInside IsOne a p c line = StandsIn p (λ n g t here. IsOne t × NamesUnknown a p c g (outline_of p c n g) t here) line
+
+-- so it is of the plan that is made of a schedule under which each stored function is a root function that is computed at no loop, whatever the loops
+abbrev pub OfWholeFunctions : (Algorithm → Plan → Certificate → Type 0) → Type 0
+OfWholeFunctions IsSo =
+    (a : Algorithm) (s : Schedule) (l : Lowered) → IsAlgorithm a → IsLegal a s → AreSmall a s → AreRegionsKept a s → AreGroupsMade a s l
+    → are_whole (stored_functions a s) ≡ true → IsSo a (plan_of l.plan) (certificate_of l.certificate)
+
 -- no line of these inside a group names what is unknown or out of scope, or binds a symbol that is in scope
 abbrev pub InnerLinesAreKnown : (Statement → Type 0) → Type 0
-InnerLinesAreKnown IsOne =
-    (a : Algorithm) (s : Schedule) (l : Lowered) → IsAlgorithm a → IsLegal a s → AreSmall a s → AreRegionsKept a s → AreGroupsMade a s l
-    → are_whole (stored_functions a s) ≡ true → (line : ℕ)
-    → ¬ StandsIn (plan_of l.plan) (λ n g t here. IsOne t
-    × NamesUnknown a (plan_of l.plan) (certificate_of l.certificate) g (outline_of (plan_of l.plan) (certificate_of l.certificate) n g) t here) line
+InnerLinesAreKnown IsOne = OfWholeFunctions (λ a p c. (line : ℕ) → ¬ IsUnknownInside IsOne a p c line)
 
 -- nor does a loop, a let, a choice or a guard inside a group: each binds a symbol that is not in scope, and its forms name symbols that are
 abbrev pub StepLinesAreKnown : Type 0
@@ -132,3 +146,92 @@ IsAlloc _ = ⊥
 -- nor does an allocation: its function is known, and it has places for each variable of that, whose origins are told by symbols in scope
 abbrev pub AllocLinesAreKnown : Type 0
 AllocLinesAreKnown = InnerLinesAreKnown IsAlloc
+
+-- no line of the plan is past the greatest number by which one is told
+abbrev pub AreLinesTold : Plan → Type 0
+AreLinesTold p = line_told (certificate_line p) ≡ certificate_line p
+
+-- the line is one of `publish`
+abbrev pub IsPublish : Statement → Type 0
+IsPublish (Publish k) = Unit {0}
+IsPublish _ = ⊥
+
+-- nor does a line `publish`, where all lines can be told: its claim is known, stands at a line of the group, and is of the group's function
+abbrev pub PublishLinesAreKnown : Type 0
+PublishLinesAreKnown = OfWholeFunctions (λ a p c. AreLinesTold p → (line : ℕ) → ¬ IsUnknownInside IsPublish a p c line)
+
+-- the line is one of `store`
+abbrev pub IsStore : Statement → Type 0
+IsStore (Store b k at e) = Unit {0}
+IsStore _ = ⊥
+
+-- nor does a store, where all lines can be told and no name reads as a load: its buffer is in scope, with a place for each variable of its function; its definition is known, and has
+-- a coordinate for each of its variables; the symbols of their forms are in scope; and its expressions have those variables, and call the input and by claims of the group
+abbrev pub StoreLinesAreKnown : Type 0
+StoreLinesAreKnown = OfWholeFunctions (λ a p c. NamesNoLoad a → AreLinesTold p → (line : ℕ) → ¬ IsUnknownInside IsStore a p c line)
+
+-- so no line of a group names what is unknown or out of scope, or binds what is in scope (K2)
+abbrev pub GroupsNameKnown : Type 0
+GroupsNameKnown = OfWholeFunctions (λ a p c. NamesNoLoad a → AreLinesTold p → (line : ℕ) → ¬ IsUnknownAt a p c line)
+
+-- none of these splits is of a loop that one of them makes
+abbrev pub AreSplitOnce : List Split → Type 0
+AreSplitOnce cs = AllByRecursion (λ c. list_any (λ d. is_half d c.whole) cs ≡ false) cs
+
+-- the line is a loop that is marked as a vector, around something else than a store, or than one guard around that, which the loop's lanes pass in order
+abbrev pub IsNoVector : (ℕ → ℕ) → Statement → Type 0
+IsNoVector dimensions (For i x kind body) = fits_mark dimensions i kind body ≡ false
+IsNoVector dimensions _ = ⊥
+
+-- at the line such a loop stands inside a group (K13)
+abbrev pub IsNoVectorAt : Plan → Certificate → ℕ → Type 0
+IsNoVectorAt p c line = StandsIn p (λ n g t here. IsNoVector (outline_of p c n g).setting.dimensions t) line
+
+-- of the plan that is made of a schedule under which each stored function is a root function that is computed at no loop, and no loop that a split makes is split again:
+-- no vector loop is wrong
+abbrev pub VectorsFit : Type 0
+VectorsFit =
+    (a : Algorithm) (s : Schedule) (l : Lowered) → IsAlgorithm a → IsLegal a s → AreSmall a s → AreRegionsKept a s → AreGroupsMade a s l
+    → are_whole (stored_functions a s) ≡ true → AllByRecursion (λ g. AreSplitOnce g.placed.cuts) (stored_functions a s) → (line : ℕ)
+    → ¬ IsNoVectorAt (plan_of l.plan) (certificate_of l.certificate) line
+
+-- no form of a line `group` is out of the limits of forms (K3)
+abbrev pub GroupFormsAreWithin : Type 0
+GroupFormsAreWithin = OfWholeFunctions (λ a p c. (line : ℕ) → ¬ Begins p (λ n g. RegionIsWide g.region) line)
+
+-- at this line of the plan, one of these inside a group, a form is out of the limits of forms
+abbrev pub IsWideInside : (Statement → Type 0) → Plan → ℕ → Type 0
+IsWideInside IsOne p line = StandsIn p (λ n g t here. IsOne t × HasWide t) line
+
+-- the line is one of `for`, `let`, `first`, `guard` or `store`
+abbrev pub IsNestLine : Statement → Type 0
+IsNestLine s = IsStep s ⊎ IsStore s
+
+-- nor is one of a loop, a let, a guard or a store
+abbrev pub NestFormsAreWithin : Type 0
+NestFormsAreWithin = OfWholeFunctions (λ a p c. (line : ℕ) → ¬ IsWideInside IsNestLine p line)
+
+-- nor is one of a line `fetch`
+abbrev pub FetchFormsAreWithin : Type 0
+FetchFormsAreWithin = OfWholeFunctions (λ a p c. (line : ℕ) → ¬ IsWideInside IsFetch p line)
+
+-- so it is of the plan that is made of a schedule under which each stored function is a root function that is computed at no loop, and no loop that a split makes is split again
+abbrev pub OfSplitOnce : (Plan → Type 0) → Type 0
+OfSplitOnce IsSo =
+    (a : Algorithm) (s : Schedule) (l : Lowered) → IsAlgorithm a → IsLegal a s → AreSmall a s → AreRegionsKept a s → AreGroupsMade a s l
+    → are_whole (stored_functions a s) ≡ true → AllByRecursion (λ g. AreSplitOnce g.placed.cuts) (stored_functions a s) → IsSo (plan_of l.plan)
+
+-- nor is one of a line `alloc`
+abbrev pub AllocFormsAreWithin : Type 0
+AllocFormsAreWithin = OfSplitOnce (λ p. (line : ℕ) → ¬ IsWideInside IsAlloc p line)
+
+-- so no form of a line of a group is (K3)
+abbrev pub FormsAreWithin : Type 0
+FormsAreWithin = OfSplitOnce (λ p. (line : ℕ) → ¬ IsWideAt p line)
+
+-- so of the lines of groups what the checker tells first is a limit of numbers (K14)
+abbrev pub OnlyLimitsAreToldOfGroups : Type 0
+OnlyLimitsAreToldOfGroups =
+    (a : Algorithm) (s : Schedule) (l : Lowered) → IsAlgorithm a → IsLegal a s → AreSmall a s → AreRegionsKept a s → AreGroupsMade a s l
+    → are_whole (stored_functions a s) ≡ true → NamesNoLoad a → AreLinesTold (plan_of l.plan) → AllByRecursion (λ g. AreSplitOnce g.placed.cuts) (stored_functions a s)
+    → (f : TextFlaw) → first_of (flaws_of_groups a (plan_of l.plan) (certificate_of l.certificate)) ≡ Some f → f.code ≡ 14

@@ -28,7 +28,7 @@ use std::alloc::{AllocError, Global};
 const MOST_FETCHED: u64 = 1 << 26;
 
 /// Why the lists were not made.
-#[derive(Debug, Drop)]
+#[derive(Drop)]
 pub(crate) enum Trouble {
     /// A point that this piece fetches is no cell, or a grid point that it needs is no piece.
     Unserved(u32),

@@ -16,7 +16,7 @@ use plan::{Group, Stmt};
 use std::alloc::{AllocError, Global};
 
 /// Where a line lies, seen from a statement.
-#[derive(Clone, Copy, Debug, PartialEq, Eq, Drop)]
+#[derive(Clone, Copy, PartialEq, Eq, Drop)]
 pub(crate) enum Way {
     /// A statement inside this one, or this one, ends at it.
     Ends,

@@ -4,7 +4,7 @@ ghost use Rattle.std.specs.Prelude.{◌≡◌};
 ghost use Rattle.validation.specs.Stored.Stored.{has_line};
 
 /// The lines of a group: its line `group`, and the line behind its last one. Lines past the greatest `u32` count as that.
-#[derive(Clone, Copy, Debug, PartialEq, Eq, Drop)]
+#[derive(Clone, Copy, PartialEq, Eq, Drop)]
 pub struct GroupLines {
     pub first: u32,
     pub behind: u32,

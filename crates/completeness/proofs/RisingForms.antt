@@ -1,0 +1,329 @@
+-- The forms of a skeleton are canonical, and so are the lower ones of what calls need of another function.
+use Rattle.std.proofs.Common.{◌≡◌, ℕ, ◌+◌, ◌-◌, Bool, true, false, ◌&&◌, not, List, [], ◌∷◌, ◌++◌, length, map, Option, Some, None, refl, sym, subst, arith}
+use Rattle.std.specs.Prelude.{ℤ, pos, nat_lt, if◌then◌else◌, slice_get}
+use Rattle.std.specs.List.{AllByRecursion}
+use Rattle.std.proofs.lemmas.Int.{ints}
+use Rattle.numeric.specs.declared.ty.Ty.TheVariants.{I32}
+use Rattle.tree.specs.Term.{Term, Terms, End, More}
+use Rattle.lin.specs.Forms.{Form, number}
+use Rattle.lin.specs.declared.scope.Binding.{Binding}
+use Rattle.lin.specs.declared.span.Span1.{Span1}
+use Rattle.bounds.specs.Spans.{range_of}
+use Rattle.bounds.proofs.ListSound.{all-append}
+use Rattle.plan.specs.declared.stmt.Kind.TheVariants.{Serial}
+use Rattle.meaning.specs.Algorithm.{Algorithm}
+use Rattle.meaning.specs.Names.{same_name}
+use Rattle.algo.specs.Scoping.Standing.{Written}
+use Rattle.headline.proofs.Members.{got}
+use Rattle.sched.specs.declared.schedule.Split.{Split}
+use Rattle.sched.specs.declared.numbers.Numbers.{Numbers}
+use Rattle.sched.specs.declared.numbers.Extent.{Extent}
+use Rattle.sched.specs.declared.placing.Loop.{Loop as LoopMade}
+use Rattle.sched.specs.declared.skeleton.Known.{Known}
+use Rattle.sched.specs.declared.nest.Turning.{Turning}
+use Rattle.sched.specs.Numbers.{loop_numbers, numbers_named, last_number, parallel_loops, piece_counts}
+use Rattle.sched.specs.Placing.{PlacedText}
+use Rattle.sched.specs.Standing.{◌>>=◌, StandingText, form_named, alone, is_now, starts_at, name_smaller, test}
+use Rattle.sched.specs.Standing.{room, begin, is_guarded, join, settle_some, cuts_by_variable}
+use Rattle.sched.specs.Skeleton.{BodyText, NestText, SkeletonText, enter, leave, inside, turn, turn_all, kept_from, nest_turns}
+use Rattle.sched.specs.Skeleton.{is_missing, variables_at, ranges_at, begun, nest_in, nest_of, nests_in, grid_forms, over_grid, skeleton_in}
+use Rattle.sched.proofs.Looping.{no_grid}
+use Rattle.sched.proofs.Standings.{all_more, found_all, Begins, stood, waits, plainly, shifted, begins, Puts, freely, by_loop, by_guard, by_test, Joins, stays, puts, joins}
+use Rattle.lower.specs.Called.{called}
+use Rattle.lower.specs.Stored.{FormulaText, StoredText, calls_in, left_at}
+use Rattle.lower.specs.Around.{AroundText, form_span, coordinate_span, coordinates_behind, interval_in, left_around, around, head_scope}
+use Rattle.lower.specs.Regions.{symbols_from}
+use Rattle.lower.specs.Taken.{SiteText, add_spans, add_call, add_calls, with_site, add_site, add_asked, add_sites}
+use Rattle.lower.specs.Taken.{sites_of, freed, either, with_call, with_calls, with_sites, needed_span, is_number, add_symbolic, greatest_from, cut}
+use Rattle.lower.proofs.Laying.{bound, same}
+use Rattle.completeness.proofs.Rising.{Rises, AllRise, SpanRises, LowRises, combined_rises, interval_rises, projected_rises, choice_low}
+
+-- ---- in what loops, lets and guards stand
+
+-- what a function takes
+abbrev Taken : (A B : Type 0) → (A → B) → Type 0
+Taken A B f = A
+
+abbrev Within : Type 0
+Within = Taken _ _ join
+
+-- the second of two that are not the same
+abbrev second_of : (A : Type 0) (a b : A) → (a ≡ b → ⊥) → A
+second_of A a b f = b
+
+abbrev at_grid : Within
+at_grid = second_of _ _ _ (no_grid Serial)
+
+-- ---- what stands while a skeleton is made
+
+abbrev AllKnown : List Known → Type 0
+AllKnown ks = AllByRecursion (λ k. Rises k.form) ks
+
+looked : (ks : List Known) (x : List ℕ) (f : Form) → AllKnown ks → form_named ks x ≡ Some f → Rises f
+looked ks x f h e = found_all (λ y g. Rises g) ks x f h e
+
+alone_rises : (i : ℕ) → Rises (alone i)
+alone_rises i = ((λ h. omega (arith, ints, h)), tt, tt)
+
+record Sits (st : StandingText) : Type 0 where
+  known : AllKnown st.known
+  starts : AllKnown st.starts
+
+now : (x : List ℕ) (f : Form) (st : StandingText) → Rises f → Sits st → Sits (is_now x f st)
+now x f st g h = record { known = all_more (λ k. Rises k.form) st.known (record { name = x; form = f }) h.known g; starts = h.starts }
+
+start : (x : List ℕ) (f : Form) (st : StandingText) → Rises f → Sits st → Sits (starts_at x f st)
+start x f st g h = record { known = h.known; starts = all_more (λ k. Rises k.form) st.starts (record { name = x; form = f }) h.starts g }
+
+smaller : (f : Form) (z : ℤ) (st : StandingText) → Sits st → Sits (name_smaller f z st)
+smaller f z st h = record { known = h.known; starts = h.starts }
+
+tested : (f : Form) (z : ℤ) (st : StandingText) → Sits st → Sits (test f z st)
+tested f z st h = record { known = h.known; starts = h.starts }
+
+begun_here : (c : Split) (r : Numbers) (st new : StandingText) → Sits st → begin c r st ≡ Some new → Sits new
+begun_here c r st new h e = of (begins c r st new e)
+  where
+    of : Begins c r st new → Sits new
+    of (stood s is) = subst Sits (sym is) h
+    of (waits none is) = subst Sits (sym is) h
+    of (plainly outer form none some sum first is) = subst Sits (sym is) (start c.whole form st (combined_rises (number r.low) (pos c.factor) outer tt form sum) h)
+    of (shifted outer form none some sum first is) =
+        subst Sits (sym is) (start c.whole (alone st.next) (name_smaller form (room r c.factor) st) (alone_rises st.next) (smaller form (room r c.factor) st h))
+
+put_here : (guarded : Bool) (x : List ℕ) (last : ℤ) (f : Form) (st new : StandingText) → Rises f → Sits st → Puts guarded x last f st new → Sits new
+put_here guarded x last f st new g h (freely free is) = subst Sits (sym is) (now x f st g h)
+put_here guarded x last f st new g h (by_loop s limit i l is) =
+    let kept : StandingText = record st { limits = st.limits ++ limit ∷ [] } in
+    subst Sits (sym is) (now x f kept g (record { known = h.known; starts = h.starts }))
+put_here guarded x last f st new g h (by_guard is) =
+    let behind : StandingText = test f last st in
+    subst Sits (sym is) (now x (alone behind.next) (name_smaller f last behind) (alone_rises behind.next) (smaller f last behind (tested f last st h)))
+put_here guarded x last f st new g h (by_test is) = subst Sits (sym is) (now x f (test f last st) g (tested f last st h))
+
+joined_here : (w : Within) (guarded : Bool) (c : Split) (r : Numbers) (st new : StandingText) → Sits st → join w guarded c r st ≡ Some new → Sits new
+joined_here w guarded c r st new h e = of (joins c r st new w guarded e)
+  where
+    of : Joins w guarded c r st new → Sits new
+    of (stays is known) = subst Sits (sym is) h
+    of (puts first inner form none s k sum put) =
+        put_here guarded c.whole (last_number r) form st new (combined_rises first (pos 1) inner (looked st.starts c.whole first h.starts s) form sum) h put
+
+settled_here : (w : Within) (rs : List Numbers) (all cs : List Split) (st new : StandingText) → Sits st → settle_some w rs all cs st ≡ Some new → Sits new
+settled_here w rs all [] st new h e = subst Sits (same st new e) h
+settled_here w rs all (c ∷ cs) st new h e =
+    let r : Numbers = numbers_named rs c.whole in
+    let b = bound (begin c r st) (λ begun. join w (is_guarded rs all c) c r begun >>= settle_some w rs all cs) new e in
+    let m = bound (join w (is_guarded rs all c) c r b.value) (settle_some w rs all cs) new b.comes in
+    settled_here w rs all cs m.value new (joined_here w (is_guarded rs all c) c r b.value m.value (begun_here c r st b.value h b.is) m.is) m.comes
+
+turned_here : (rs : List Numbers) (cs : List Split) (t : Turning) (st new : StandingText) → Sits st → turn rs cs t st ≡ Some new → Sits new
+turned_here rs cs t st new h e =
+    let n : ℕ = st.next in
+    let b = bound (settle_some (inside t.kind) rs cs cs (enter t.name st)) (λ turned. Some (leave st.steps n t turned)) new e in
+    let entered : Sits (enter t.name st) = record { known = all_more (λ k. Rises k.form) st.known (record { name = t.name; form = alone n }) h.known (alone_rises n); starts = h.starts } in
+    let s = settled_here (inside t.kind) rs cs cs (enter t.name st) b.value entered b.is in
+    subst Sits (same (leave st.steps n t b.value) new b.comes) (record { known = s.known; starts = s.starts })
+
+all_turned : (rs : List Numbers) (cs : List Split) (ts : List Turning) (st new : StandingText) → Sits st → turn_all rs cs ts st ≡ Some new → Sits new
+all_turned rs cs [] st new h e = subst Sits (same st new e) h
+all_turned rs cs (t ∷ ts) st new h e =
+    let b = bound (turn rs cs t st) (turn_all rs cs ts) new e in all_turned rs cs ts b.value new (turned_here rs cs t st b.value h b.is) b.comes
+
+-- ---- nests
+
+abbrev RisesIf : Option Form → Type 0
+RisesIf None = Unit {0}
+RisesIf (Some f) = Rises f
+
+named_if : (ks : List Known) (x : List ℕ) → AllKnown ks → RisesIf (form_named ks x)
+named_if ks x h = of (form_named ks x) refl
+  where
+    of : (o : Option Form) → form_named ks x ≡ o → RisesIf o
+    of None e = tt
+    of (Some f) e = looked ks x f h e
+
+variables_rise : (b : BodyText) (d : ℕ) (xs : List (List ℕ)) (ks : List Known) → AllKnown ks → AllByRecursion RisesIf (variables_at b d xs ks)
+variables_rise b d [] ks h = tt
+variables_rise b d (x ∷ xs) ks h = (of (is_missing b d), variables_rise b (d + 1) xs ks h)
+  where
+    of : (m : Bool) → RisesIf (if m then None else form_named ks x)
+    of true = tt
+    of false = named_if ks x h
+
+ranges_rise : (ds : List Turning) (ks : List Known) → AllKnown ks → AllByRecursion RisesIf (ranges_at ds ks)
+ranges_rise [] ks h = tt
+ranges_rise (d ∷ ds) ks h = (named_if ks d.name h, ranges_rise ds ks h)
+
+abbrev NestRises : NestText → Type 0
+NestRises n = AllByRecursion RisesIf n.at
+
+module _ (xs : List (List ℕ)) (p : PlacedText) (rs : List Numbers) (head : StandingText) (over : Sits head) where
+  nest_here : (b : BodyText) (next : ℕ) (new : StandingText) → nest_in xs p rs b (begun next head) ≡ Some new → NestRises (nest_of xs b new)
+  nest_here b next new e =
+      let cs : List Split = cuts_by_variable p.cuts (kept_from b 0 xs) in
+      let m = bound (settle_some (inside Serial) rs cs cs (begun next head)) (turn_all rs cs (nest_turns b rs p.loops)) new e in
+      let s = settled_here (inside Serial) rs cs cs (begun next head) m.value (record { known = over.known; starts = over.starts }) m.is in
+      let out = all_turned rs cs (nest_turns b rs p.loops) m.value new s m.comes in
+      all-append RisesIf (variables_at b 0 xs new.known) (ranges_at b.ranges new.known) (variables_rise b 0 xs new.known out.known) (ranges_rise b.ranges new.known out.known)
+
+  nests_here : (bs : List BodyText) (next : ℕ) (ns : List NestText) → nests_in xs p rs head bs next ≡ Some ns → AllByRecursion NestRises ns
+  nests_here [] next ns e = subst (AllByRecursion NestRises) (same [] ns e) tt
+  nests_here (b ∷ bs) next ns e =
+      let m = bound (nest_in xs p rs b (begun next head)) (λ st. nests_in xs p rs head bs st.next >>= λ nests. Some (nest_of xs b st ∷ nests)) ns e in
+      let r = bound (nests_in xs p rs head bs m.value.next) (λ nests. Some (nest_of xs b m.value ∷ nests)) ns m.comes in
+      subst (AllByRecursion NestRises) (same (nest_of xs b m.value ∷ r.value) ns r.comes) (nest_here b next m.value m.is, nests_here bs m.value.next r.value r.is)
+
+grid_rises : (rs : List Numbers) (s : ℕ) (ls : List LoopMade) → AllKnown (grid_forms rs s ls)
+grid_rises rs s [] = tt
+grid_rises rs s (l ∷ ls) = (((λ h. omega (arith, ints, h)), tt, tt), grid_rises rs (s + 1) ls)
+
+-- the forms of a nest's coordinates are canonical
+nests_rise : (xs : List (List ℕ)) (bs : List BodyText) (p : PlacedText) (region : List Extent) (k : SkeletonText) → skeleton_in xs bs p region ≡ Some k → AllByRecursion NestRises k.nests
+nests_rise xs bs p region k e =
+    let rs : List Numbers = loop_numbers xs p.cuts region in
+    let cs : List Split = cuts_by_variable p.cuts xs in
+    let grid : List ℕ = piece_counts rs p.loops in
+    let b = bound (settle_some at_grid rs cs cs (over_grid rs p))
+    (λ head. nests_in xs p rs head bs head.next >>= λ nests. Some (record { grid = grid; head = head.steps; nests = nests; known = head.known; starts = head.starts })) k e in
+    let m = bound (nests_in xs p rs b.value bs b.value.next) (λ nests. Some (record { grid = grid; head = b.value.steps; nests = nests; known = b.value.known; starts = b.value.starts })) k b.comes in
+    let s = settled_here at_grid rs cs cs (over_grid rs p) b.value (record { known = grid_rises rs 0 (parallel_loops p.loops); starts = tt }) b.is in
+    let made : SkeletonText = record { grid = grid; head = b.value.steps; nests = m.value; known = b.value.known; starts = b.value.starts } in
+    subst (λ (k : SkeletonText). AllByRecursion NestRises k.nests) (same made k m.comes) (nests_here xs p rs b.value s bs b.value.next m.value m.is)
+
+-- ---- calls
+
+forms_rise : (os : List (Option Form)) → AllByRecursion RisesIf os → AllByRecursion SpanRises (map form_span os)
+forms_rise [] h = tt
+forms_rise (None ∷ os) h = (((tt, tt), (tt, tt)), forms_rise os h.1)
+forms_rise (Some f ∷ os) h = (((h.0, tt), (h.0, tt)), forms_rise os h.1)
+
+module _ (a : Algorithm) (r : AroundText) (rising : AllByRecursion SpanRises r.coordinates) where
+  index_rises : (e : Term) (s : Span1) → interval_in a r e ≡ Some s → SpanRises s
+  index_rises e s q = interval_rises r.scope (called a) r.variables r.coordinates rising e s q
+
+  coordinate_rises : (o : Option Form) (i : Option Term) (s : Span1) → RisesIf o → coordinate_span a r o i ≡ Some s → SpanRises s
+  coordinate_rises (Some f) i s h q = subst SpanRises (same _ s q) ((h, tt), (h, tt))
+  coordinate_rises None (Some e) s h q = index_rises e s q
+  coordinate_rises None None s h q = subst SpanRises (same (range_of I32) s q) ((tt, tt), (tt, tt))
+
+  coordinates_rise : (f : FormulaText) (before : List Span1) (d : ℕ) (os : List (Option Form)) (cs : List Span1) → AllByRecursion SpanRises before → AllByRecursion RisesIf os →
+      coordinates_behind a r f before d os ≡ Some cs → AllByRecursion SpanRises cs
+  coordinates_rise f before d [] cs h k q = subst (AllByRecursion SpanRises) (same before cs q) h
+  coordinates_rise f before d (o ∷ os) cs h k q =
+      let b = bound (coordinate_span a r o (left_at f d)) (λ s. coordinates_behind a r f (before ++ s ∷ []) (d + 1) os) cs q in
+      coordinates_rise f (before ++ b.value ∷ []) (d + 1) os cs (all-append SpanRises before (b.value ∷ []) h (coordinate_rises o (left_at f d) b.value k.0 b.is, tt)) k.1 b.comes
+
+  spans_rise : (es : Terms) (before ss : List Span1) → AllByRecursion SpanRises before → add_spans a r es before ≡ Some ss → AllByRecursion SpanRises ss
+  spans_rise End before ss h q = subst (AllByRecursion SpanRises) (same before ss q) h
+  spans_rise (More e es) before ss h q =
+      let b = bound (interval_in a r e) (λ s. add_spans a r es (before ++ s ∷ [])) ss q in
+      spans_rise es (before ++ b.value ∷ []) ss (all-append SpanRises before (b.value ∷ []) h (index_rises e b.value b.is, tt)) b.comes
+
+  abbrev CallsRise : List (List Span1) → Type 0
+  CallsRise cs = AllByRecursion (AllByRecursion SpanRises) cs
+
+  call_rises : (x : List ℕ) (c : Written) (before cs : List (List Span1)) → CallsRise before → add_call a r x c before ≡ Some cs → CallsRise cs
+  call_rises x c before cs h q = of (same_name c.name x) q
+    where
+      of : (b : Bool) → (if b then (add_spans a r c.at [] >>= λ ss. Some (before ++ ss ∷ [])) else Some before) ≡ Some cs → CallsRise cs
+      of true k =
+          let b = bound (add_spans a r c.at []) (λ ss. Some (before ++ ss ∷ [])) cs k in
+          subst CallsRise (same (before ++ b.value ∷ []) cs b.comes) (all-append (AllByRecursion SpanRises) before (b.value ∷ []) h (spans_rise c.at [] b.value tt b.is, tt))
+      of false k = subst CallsRise (same before cs k) h
+
+  calls_rise : (x : List ℕ) (ws : List Written) (before cs : List (List Span1)) → CallsRise before → add_calls a r x ws before ≡ Some cs → CallsRise cs
+  calls_rise x [] before cs h q = subst CallsRise (same before cs q) h
+  calls_rise x (w ∷ ws) before cs h q =
+      let b = bound (add_call a r x w before) (add_calls a r x ws) cs q in calls_rise x ws b.value cs (call_rises x w before b.value h b.is) b.comes
+
+-- ---- where the calls stand
+
+abbrev SiteRises : SiteText → Type 0
+SiteRises t = AllByRecursion (AllByRecursion SpanRises) t.calls
+
+site_rises : (scope : List Binding) (cs : List (List Span1)) (before : List SiteText) → AllByRecursion (AllByRecursion SpanRises) cs → AllByRecursion SiteRises before →
+    AllByRecursion SiteRises (with_site scope cs before)
+site_rises scope [] before k h = h
+site_rises scope (c ∷ cs) before k h = all-append SiteRises before (record { scope = scope; calls = c ∷ cs } ∷ []) h (k, tt)
+
+module _ (k : SkeletonText) (a : Algorithm) (g : StoredText) (x : List ℕ) where
+  one_rises : (d : ℕ) (f : FormulaText) (n : NestText) (before ss : List SiteText) → NestRises n → AllByRecursion SiteRises before → add_site a g (head_scope k) x d f n before ≡ Some ss →
+      AllByRecursion SiteRises ss
+  one_rises d f n before ss good h e =
+      let outer = head_scope k in
+      let b = bound (around a g outer n f d) (λ r. add_calls a r x (calls_in f) [] >>= λ cs. Some (with_site r.scope cs before)) ss e in
+      let y = bound (add_calls a b.value x (calls_in f) []) (λ cs. Some (with_site b.value.scope cs before)) ss b.comes in
+      let z = bound (coordinates_behind a (left_around g outer n d) f [] 0 n.at) (λ cs. Some (record (left_around g outer n d) { coordinates = cs })) b.value b.is in
+      let stands : record (left_around g outer n d) { coordinates = z.value } ≡ b.value = same (record (left_around g outer n d) { coordinates = z.value }) b.value z.comes in
+      let coordinates = coordinates_rise a (left_around g outer n d) (forms_rise n.at good) f [] 0 n.at z.value tt good z.is in
+      let known : AllByRecursion SpanRises b.value.coordinates = subst (λ (r : AroundText). AllByRecursion SpanRises r.coordinates) stands coordinates in
+      let calls = calls_rise a b.value known x (calls_in f) [] y.value tt y.is in
+      subst (AllByRecursion SiteRises) (same (with_site b.value.scope y.value before) ss y.comes) (site_rises b.value.scope y.value before calls h)
+
+  all_rise : (d : ℕ) (fs : List FormulaText) (ns : List NestText) (before ss : List SiteText) → AllByRecursion NestRises ns → AllByRecursion SiteRises before →
+      add_sites a g (head_scope k) None x d fs ns before ≡ Some ss → AllByRecursion SiteRises ss
+  all_rise d fs [] before ss good h e = subst (AllByRecursion SiteRises) (same before ss e) h
+  all_rise d [] (n ∷ ns) before ss good h e = subst (AllByRecursion SiteRises) (same before ss e) h
+  all_rise d (f ∷ fs) (n ∷ ns) before ss good h e =
+      let b = bound (add_asked a g (head_scope k) None x d f n before) (add_sites a g (head_scope k) None x (d + 1) fs ns) ss e in
+      all_rise (d + 1) fs ns b.value ss good.1 (one_rises d f n before b.value good.0 h b.is) b.comes
+
+-- ---- what they need
+
+module _ (grid : List Binding) where
+  abbrev LowIf : Option Span1 → Type 0
+  LowIf o = elim o [ Some s ↦ LowRises s | None ↦ Unit {0} ]
+
+  freed_low : (scope : List Binding) (is : List ℕ) (s f : Span1) → SpanRises s → freed scope is s ≡ Some f → LowRises f
+  freed_low scope [] s f h e = subst LowRises (same s f e) h.0
+  freed_low scope (i ∷ is) s f h e = projected_rises scope (i ∷ is) s f e
+
+  either_low : (known : Option Span1) (f s : Span1) → LowIf known → LowRises f → either grid known f ≡ Some s → LowRises s
+  either_low None f s h k e = subst LowRises (same f s e) k
+  either_low (Some t) f s h k e = choice_low grid I32 t f s h k e
+
+  call_low : (scope : List Binding) (inner : List ℕ) (d : ℕ) (cl : List Span1) (known o : Option Span1) → AllByRecursion SpanRises cl → LowIf known →
+      with_call grid scope inner d cl known ≡ Some o → LowIf o
+  call_low scope inner d cl known o rising h e =
+      let b = bound (slice_get cl d) (λ s. freed scope inner s >>= λ f. either grid known f >>= λ u. Some (Some u)) o e in
+      let x = bound (freed scope inner b.value) (λ f. either grid known f >>= λ u. Some (Some u)) o b.comes in
+      let y = bound (either grid known x.value) (λ u. Some (Some u)) o x.comes in
+      let one = got SpanRises cl d b.value rising b.is in
+      subst (λ (p : Option Span1). LowIf p) (same (Some y.value) o y.comes) (either_low known x.value y.value h (freed_low scope inner b.value x.value one x.is) y.is)
+
+  calls_low : (scope : List Binding) (inner : List ℕ) (d : ℕ) (cls : List (List Span1)) (known o : Option Span1) → AllByRecursion (AllByRecursion SpanRises) cls → LowIf known →
+      with_calls grid scope inner d cls known ≡ Some o → LowIf o
+  calls_low scope inner d [] known o rising h e = subst (λ (p : Option Span1). LowIf p) (same known o e) h
+  calls_low scope inner d (cl ∷ cls) known o rising h e =
+      let b = bound (with_call grid scope inner d cl known) (with_calls grid scope inner d cls) o e in
+      calls_low scope inner d cls b.value o rising.1 (call_low scope inner d cl known b.value rising.0 h b.is) b.comes
+
+  sites_low : (d : ℕ) (ss : List SiteText) (known o : Option Span1) → AllByRecursion SiteRises ss → LowIf known → with_sites grid d ss known ≡ Some o → LowIf o
+  sites_low d [] known o a h e = subst (λ (p : Option Span1). LowIf p) (same known o e) h
+  sites_low d (t ∷ ss) known o a h e =
+      let inner = symbols_from (length grid) (length t.scope - length grid) in
+      let b = bound (with_calls grid t.scope inner d t.calls known) (with_sites grid d ss) o e in
+      sites_low d ss b.value o a.1 (calls_low t.scope inner d t.calls known b.value a.0 h b.is) b.comes
+
+  needed_low : (d : ℕ) (ss : List SiteText) (s : Span1) → AllByRecursion SiteRises ss → needed_span grid ss d ≡ Some s → LowRises s
+  needed_low d ss s a e =
+      let b = bound (with_sites grid d ss None) (λ o. o) s e in
+      let h : LowIf b.value = sites_low d ss None b.value a tt b.is in
+      subst (λ (p : Option Span1). LowIf p) b.comes h
+
+symbolic_low : (kept fs : List Form) → AllRise kept → AllRise fs → AllRise (add_symbolic kept fs)
+symbolic_low kept [] h k = h
+symbolic_low kept (f ∷ fs) h k = of (not (is_number f) && nat_lt (length kept) 3) (symbolic_low kept fs h k.1) (symbolic_low (kept ++ f ∷ []) fs (all-append Rises kept (f ∷ []) h (k.0, tt)) k.1)
+  where
+    of : (b : Bool) → AllRise (add_symbolic kept fs) → AllRise (add_symbolic (kept ++ f ∷ []) fs) → AllRise (if b then add_symbolic (kept ++ f ∷ []) fs else add_symbolic kept fs)
+    of true a b = b
+    of false a b = a
+
+-- the lower forms of what calls need of a dimension, cut to a region, are canonical
+pub cut_low : (a : Algorithm) (g : StoredText) (fs : List FormulaText) (xs : List (List ℕ)) (bs : List BodyText) (p : PlacedText) (region : List Extent) (k : SkeletonText) →
+    skeleton_in xs bs p region ≡ Some k → (x : List ℕ) (ss : List SiteText) → sites_of a g fs k x ≡ Some ss → (grid : List Binding) (d : ℕ) (s : Span1) (e : Extent) →
+    needed_span grid ss d ≡ Some s → LowRises (cut s e)
+cut_low a g fs xs bs p region k laid x ss found grid d s e needed =
+    let sites = all_rise k a g x 0 fs k.nests [] ss (nests_rise xs bs p region k laid) tt found in
+    all-append Rises (add_symbolic [] s.lower) (number (greatest_from s.lower e.low) ∷ []) (symbolic_low [] s.lower tt (needed_low grid d ss s sites needed)) (tt, tt)
