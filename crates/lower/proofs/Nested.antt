@@ -227,6 +227,13 @@ step_made rest s t m names k old one two three new xs zs named renamed counted l
     (bound (rest (with_name (bound_by s) old.symbol m) begun) (λ x. Some (around t x.0, with_lines (own_lines t - 1) x.1)) (list_statements xs, three) (Some (list_statements zs, new)) inside
     (λ j. Some (sym made j, sym last j)))
 
+-- the same where the step's names, symbol and first line come together, and its end with its second line
+pub step_next : (rest : Pairs → SoFar → Made) (s t : Step) (m names : Pairs) (old two three new : SoFar) (xs zs : List Stmt) → names ≡ with_name (bound_by s) old.symbol m
+    → step_renamed names s ≡ Some t → two ≡ with_lines 1 (with_symbol (bound_by s) old) → rest names two ≡ Some (list_statements xs, three)
+    → new ≡ with_lines (own_lines t - 1) three → list_statements zs ≡ around t (list_statements xs) → step_in rest s m old ≡ Some (list_statements zs, new)
+step_next rest s t m names old two three new xs zs named renamed begun behind ended made =
+    step_made rest s t m names (own_lines t - 1) old (with_symbol (bound_by s) old) two three new xs zs named renamed refl begun behind refl ended made
+
 module _ (make : Nests) (is : List PlacedText) (o : OwnerText) (d : ℕ) (n : NestText) where
   pub walk_end : (depth : ℕ) (at : Spot) (m : Pairs) (old one new : SoFar) (xs ys zs : List Stmt) → at ≡ spot o.host d depth → all_at make is at m old ≡ Some (list_statements xs, one)
       → stored o d n m one ≡ Some (list_statements ys, new) → zs ≡ xs ++ ys → walk make is o d n depth [] m old ≡ Some (list_statements zs, new)
@@ -270,6 +277,12 @@ let_first s t steps m names behind old one two new xs zs named renamed counted l
     bound (step_renamed next s) (λ u. lets steps next begun >>= λ x. Some (around u x.0, x.1)) t (Some (list_statements zs, (behind, new))) at
     (bound (lets steps next begun) (λ x. Some (around t x.0, x.1)) (list_statements xs, (behind, new)) (Some (list_statements zs, (behind, new))) inside
     (ap (λ (l : List Statement). Some (l, (behind, new))) (sym made)))
+
+pub let_next : (s t : Step) (steps : List Step) (m names behind : Pairs) (old two new : SoFar) (xs zs : List Stmt) → names ≡ with_name (bound_by s) old.symbol m
+    → step_renamed names s ≡ Some t → two ≡ with_lines 1 (with_symbol (bound_by s) old) → lets steps names two ≡ Some (list_statements xs, (behind, new))
+    → list_statements zs ≡ around t (list_statements xs) → lets (s ∷ steps) m old ≡ Some (list_statements zs, (behind, new))
+let_next s t steps m names behind old two new xs zs named renamed begun others made =
+    let_first s t steps m names behind old (with_symbol (bound_by s) old) two new xs zs named renamed refl begun others made
 
 module _ (make : Nests) (is : List PlacedText) where
   pub all_made : (b n : ℕ) (i : PlacedText) (o : OwnerText) (m names : Pairs) (old one new : SoFar) (xs ys zs : List Stmt) → lets i.lets m old ≡ Some (list_statements xs, (names, one))

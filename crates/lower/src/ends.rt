@@ -266,8 +266,83 @@ fn last_first(alloc: Global, forms: &Forms) -> Result<Forms, AllocError> {
     Ok(turned)
 }
 
-// What the loops that a split makes run over. The upper ends stand last first in the let for the smallest of them: the first of two
-// may be what a guard in front says to be at most the second, and the checker takes such a let as that guard's own.
+// The first number that loops run over.
+fn low_of(
+    alloc: Global,
+    scope: &Scope,
+    span: &Span1,
+    told: &Span1,
+    kept: Option<&Span1>,
+    lets: &mut Vec<Step>,
+) -> Result<Lin, AllocError> {
+    let lower = lower_of(alloc, scope, span, told, kept)?;
+    one_of(alloc, &lower, Pick::Max, scope.len(), lets)
+}
+
+// The last number that loops run over. The upper ends stand last first in the let for the smallest of them: the first of two may be
+// what a guard in front says to be at most the second, and the checker takes such a let as that guard's own.
+fn last_of(
+    alloc: Global,
+    scope: &Scope,
+    told: &Span1,
+    lets: &mut Vec<Step>,
+) -> Result<Lin, AllocError> {
+    let turned = last_first(alloc, &told.upper)?;
+    one_of(alloc, &turned, Pick::Min, scope.len(), lets)
+}
+
+// What is known of the numbers that loops run over.
+#[derive(Clone, Copy, Drop)]
+struct Facts {
+    varies: bool,
+    is_even: bool,
+    is_told: bool,
+}
+
+fn facts_of(
+    alloc: Global,
+    scope: &Scope,
+    told: &Span1,
+    rounding: Option<u32>,
+    kept: Option<&Span1>,
+    most: i64,
+) -> Result<Facts, Stop> {
+    let varies = varies(alloc, scope, told, most)?;
+    let is_even = are_even(alloc, scope, told, rounding, most)?;
+    let is_told = is_behind(alloc, scope, kept, &told.upper)?;
+    Ok(Facts {
+        varies,
+        is_even,
+        is_told,
+    })
+}
+
+// What the loops that a split makes run over, at most so many numbers.
+fn reach_told(
+    alloc: Global,
+    scope: &Scope,
+    name: Name,
+    rounding: Option<u32>,
+    span: &Span1,
+    told: &Span1,
+    kept: Option<&Span1>,
+    most: i64,
+    lets: &mut Vec<Step>,
+) -> Result<Reach, Stop> {
+    let low = low_of(alloc, scope, span, told, kept, lets)?;
+    let last = last_of(alloc, scope, told, lets)?;
+    let facts = facts_of(alloc, scope, told, rounding, kept, most)?;
+    Ok(Reach {
+        name,
+        low,
+        last,
+        varies: facts.varies,
+        is_even: facts.is_even,
+        is_told: facts.is_told,
+    })
+}
+
+// What the loops that a split makes run over.
 fn reach_of(
     alloc: Global,
     scope: &Scope,
@@ -279,21 +354,7 @@ fn reach_of(
 ) -> Result<Reach, Stop> {
     let most = most_of(alloc, scope, span)?;
     let told = told_span(alloc, scope, span)?;
-    let lower = lower_of(alloc, scope, span, &told, kept)?;
-    Ok(Reach {
-        name,
-        low: one_of(alloc, &lower, Pick::Max, scope.len(), lets)?,
-        last: one_of(
-            alloc,
-            &last_first(alloc, &told.upper)?,
-            Pick::Min,
-            scope.len(),
-            lets,
-        )?,
-        varies: varies(alloc, scope, &told, most)?,
-        is_even: are_even(alloc, scope, &told, rounding, most)?,
-        is_told: is_behind(alloc, scope, kept, &told.upper)?,
-    })
+    reach_told(alloc, scope, name, rounding, span, &told, kept, most, lets)
 }
 
 fn half_reach(alloc: Global, numbers: &[Numbers], name: Name) -> Reach {

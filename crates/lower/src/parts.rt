@@ -1,13 +1,14 @@
 //! What nests are made of in a group in whose loops functions are computed: stores, claims, buffers, lets and windows, numbered as they come.
 
-ghost use Rattle.std.specs.Prelude.{◌≡◌, ◌+◌, ◌∷◌, [], IfOk, OnOk, Some, None, length, map};
+ghost use Rattle.std.specs.Prelude.{◌≡◌, ◌+◌, ◌-◌, ◌∷◌, [], IfOk, OnOk, Some, None, length, map};
 ghost use Rattle.plan.specs.Lists.{list_statements};
 ghost use Rattle.plan.specs.View.{statement_of};
 ghost use Rattle.plan.specs.declared.stmt.Pick.TheVariants.{Min};
 ghost use Rattle.sched.specs.declared.skeleton.Step.TheVariants.{Named};
 ghost use Rattle.sched.specs.Skeleton.{nest_seen};
 ghost use Rattle.lower.specs.Loading.{load_of};
-ghost use Rattle.lower.specs.Renamed.{last_value, pair_of};
+ghost use Rattle.lower.specs.Bodies.{own_lines};
+ghost use Rattle.lower.specs.Renamed.{last_value, pair_of, step_renamed};
 ghost use Rattle.lower.specs.Placed as spec;
 
 use crate::error::Stop;
@@ -22,7 +23,7 @@ use crate::renaming::{
 use crate::scopes::variables_of;
 use crate::sliding::Later;
 use crate::spots::{Host, Spot};
-use crate::whole::{alone, coordinates_of, line_behind, with_step};
+use crate::whole::{alone, coordinates_of, line_behind, own_lines, with_step};
 use lin::{Lin, Region, Sym};
 use plan::certificate::{Claim, Window};
 use plan::{Pick, Stmt};
@@ -342,8 +343,41 @@ pub(crate) fn own_buffer(
 
 // ---- lets and windows
 
+/// The names behind a step, and the step under them: its symbol has the next name, and its first line stands.
+pub(crate) fn begun(
+    alloc: Global,
+    body: &mut Body<'_>,
+    step: &Step,
+    names: &[Renaming],
+) -> Result<(Vec<Renaming>, Step), Stop>
+    ensures names { IfOk result (λ v. map pair_of v.0.items ≡ spec.with_name (spec.bound_by step.now) (spec.so_far body.old).symbol (map pair_of names.now)) }
+    ensures told { IfOk result (λ v. step_renamed (map pair_of v.0.items) step.now ≡ Some v.1) }
+    ensures counted { OnOk result (spec.so_far body.new ≡ spec.with_lines 1 (spec.with_symbol (spec.bound_by step.now) (spec.so_far body.old))) }
+{
+    let bound = bound_by(step);
+    let names = with_name(alloc, names, bound, body.next_symbol)?;
+    add_symbol(body, bound)?;
+    add_lines(body, 1)?;
+    let told = renamed_step(alloc, &names, step)?;
+    Ok((names, told))
+}
+
+/// A step around what stands inside; where it takes a second line, that stands too.
+pub(crate) fn ended(
+    alloc: Global,
+    body: &mut Body<'_>,
+    told: &Step,
+    inside: Vec<Stmt>,
+) -> Result<Vec<Stmt>, Stop>
+    ensures made { IfOk result (λ v. list_statements v.items ≡ spec.around told.now (list_statements inside.items)) }
+    ensures counted { OnOk result (spec.so_far body.new ≡ spec.with_lines (own_lines told.now - 1) (spec.so_far body.old)) }
+{
+    add_lines(body, own_lines(told).saturating_sub(1))?;
+    Ok(with_step(alloc, told, inside)?)
+}
+
 /// Some lets, with the names behind them.
-#[tactic(auto, using(crate::proofs::Nested::let_first))]
+#[tactic(auto, using(crate::proofs::Nested::let_next))]
 pub(crate) fn lets(
     alloc: Global,
     body: &mut Body<'_>,
@@ -356,11 +390,7 @@ pub(crate) fn lets(
     match steps {
         [] => Ok((Vec::new(alloc), Vec::from_slice(alloc, names)?)),
         [step, rest @ ..] => {
-            let bound = bound_by(step);
-            let names = with_name(alloc, names, bound, body.next_symbol)?;
-            let told = renamed_step(alloc, &names, step)?;
-            add_symbol(body, bound)?;
-            add_lines(body, 1)?;
+            let (names, told) = begun(alloc, body, step, names)?;
             let (inside, behind) = lets(alloc, body, rest, &names)?;
             Ok((with_step(alloc, &told, inside)?, behind))
         }

@@ -120,6 +120,37 @@ impl Names {
         Ok(sum)
     }
 
+    // The end of blocks: behind the first one's end so many numbers are needed, and so many more blocks stand.
+    fn end_of(
+        &mut self,
+        alloc: Global,
+        first_end: &Lin,
+        needed: &Lin,
+        further: &Lin,
+        factor: i64,
+    ) -> Result<Lin, Stop> {
+        let needed_end = first_end.plus_multiple(alloc, 1, needed)?;
+        let made_end = first_end.plus_multiple(alloc, factor, further)?;
+        Ok(self.name_of_two(alloc, Pick::Max, needed_end, made_end)?)
+    }
+
+    // Counts the blocks that take these rests.
+    fn count_rests(
+        &mut self,
+        alloc: Global,
+        first_end: &Lin,
+        rests: &[Lin],
+        factor: i64,
+        blocks: &mut Blocks,
+    ) -> Result<(), Stop> {
+        let needed = self.sum_of(alloc, rests, factor)?;
+        let further = self.sum_of(alloc, rests, 1)?;
+        let end = self.end_of(alloc, first_end, &needed, &further, factor)?;
+        blocks.further.push(further)?;
+        blocks.ends.push(end)?;
+        Ok(())
+    }
+
     // Counts the blocks from a number up to the one that has the last number; of more than so many behind the first one it counts
     // too many. The end is named by both that all numbers are up to it, and that the blocks make all up to it.
     fn count(
@@ -137,14 +168,7 @@ impl Names {
             return Ok(());
         }
         let rests = self.rests(alloc, past, factor, count)?;
-        let needed = self.sum_of(alloc, &rests, factor)?;
-        let further = self.sum_of(alloc, &rests, 1)?;
-        let needed_end = first_end.plus_multiple(alloc, 1, &needed)?;
-        let made_end = first_end.plus_multiple(alloc, factor, &further)?;
-        let end = self.name_of_two(alloc, Pick::Max, needed_end, made_end)?;
-        blocks.further.push(further)?;
-        blocks.ends.push(end)?;
-        Ok(())
+        self.count_rests(alloc, &first_end, rests.as_slice(), factor, blocks)
     }
 
     // The blocks of a span from its one lower form on, of which so many may stand behind the first one.
@@ -455,8 +479,48 @@ pub(crate) fn lain_over(
 
 // ---- claims
 
+// Whether so many numbers, or so many, behind each lower form no upper form of the span is passed.
+fn has_either(
+    alloc: Global,
+    scope: &Scope,
+    span: &Span1,
+    begun: i64,
+    last: i64,
+) -> Result<bool, Stop> {
+    if has_further(alloc, scope, span, begun)? {
+        return Ok(true);
+    }
+    has_further(alloc, scope, span, last)
+}
+
 // From the first number of a span to the last that the nests store in blocks of so many numbers, where that is the same in each
-// turn.
+// turn; the span's forms are told.
+fn run_told(
+    alloc: Global,
+    scope: &Scope,
+    nests: &[Nest],
+    dimension: usize,
+    factor: u32,
+    told: &Span1,
+) -> Result<Option<Span1>, Stop> {
+    let [low] = told.lower.as_slice() else {
+        return Ok(None);
+    };
+    let Some(most) = count_from(alloc, scope, low, told.upper.as_slice())? else {
+        return Ok(None);
+    };
+    let Some(count) = stored_from(alloc, scope, nests, dimension, low, most)? else {
+        return Ok(None);
+    };
+    let begun = count.saturating_sub(i64::from(factor));
+    if has_either(alloc, scope, told, begun, most.saturating_sub(1))? {
+        Ok(Some(run_of(alloc, low, count)?))
+    } else {
+        Ok(None)
+    }
+}
+
+// The same of any span.
 fn same_run(
     alloc: Global,
     scope: &Scope,
@@ -465,24 +529,8 @@ fn same_run(
     factor: u32,
     span: &Span1,
 ) -> Result<Option<Span1>, Stop> {
-    let span = told_span(alloc, scope, span)?;
-    let [low] = span.lower.as_slice() else {
-        return Ok(None);
-    };
-    let Some(most) = count_from(alloc, scope, low, span.upper.as_slice())? else {
-        return Ok(None);
-    };
-    let Some(count) = stored_from(alloc, scope, nests, dimension, low, most)? else {
-        return Ok(None);
-    };
-    let begun = count.saturating_sub(i64::from(factor));
-    let is_same = has_further(alloc, scope, &span, begun)?
-        || has_further(alloc, scope, &span, most.saturating_sub(1))?;
-    if is_same {
-        Ok(Some(run_of(alloc, low, count)?))
-    } else {
-        Ok(None)
-    }
+    let told = told_span(alloc, scope, span)?;
+    run_told(alloc, scope, nests, dimension, factor, &told)
 }
 
 // What the blocks of a dimension make; none where no form tells it.
