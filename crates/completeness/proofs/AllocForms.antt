@@ -1,4 +1,4 @@
--- The origins of the lines `alloc` of whole functions are within the limits of forms, where no loop that a split makes is split again; so no form of a line of a group is out of them.
+-- The origins of the lines `alloc` of whole functions are within the limits of forms; so no form of a line of a group is out of them.
 use Rattle.std.proofs.Common.{◌≡◌, ℕ, zero, suc, ◌+◌, true, false, List, [], ◌∷◌, ◌++◌, Some, None, refl, sym, ap, ◌∙◌, subst, inl, inr, arith}
 use Rattle.std.specs.Prelude.{slice_get}
 use Rattle.std.specs.List.{AllByRecursion, Any}
@@ -16,12 +16,10 @@ use Rattle.meaning.specs.Algorithm.{Function, Algorithm}
 use Rattle.meaning.specs.Conditions.{IsAlgorithm}
 use Rattle.soundness.specs.Outline.Flaws.{line_told}
 use Rattle.headline.proofs.Lists.{from_map}
-use Rattle.headline.proofs.Members.{got}
 use Rattle.sched.specs.declared.skeleton.Step.{Step}
 use Rattle.sched.specs.declared.skeleton.Step.TheVariants.{Turns, Named, Tested}
 use Rattle.sched.specs.Schedule.{Schedule}
-use Rattle.sched.specs.Legal.{IsLegal}
-use Rattle.sched.specs.Subjects.{reductions_of}
+use Rattle.sched.specs.Legal.{IsLegal, said, loops_after}
 use Rattle.sched.specs.Runs.{lines_to}
 use Rattle.sched.specs.Skeleton.{NestText}
 use Rattle.validation.specs.Groups.Lines.{Here, start}
@@ -29,8 +27,8 @@ use Rattle.validation.specs.Groups.Inside.{Inside, StandsIn}
 use Rattle.validation.specs.Groups.Wrong.{OriginIsWide, HasWide}
 use Rattle.lower.specs.declared.lowering.Lowered.{Lowered}
 use Rattle.lower.specs.Stored.{FormulaText, StoredText, stored_functions, flags, has_large}
-use Rattle.lower.specs.Regions.{bodies_from}
 use Rattle.lower.specs.Faults.{are_whole, region_fault}
+use Rattle.lower.specs.Planned.{told_dimensions, unplanned}
 use Rattle.lower.specs.Around.{grid_scope}
 use Rattle.lower.specs.Taken.{sites_of, taken_places}
 use Rattle.lower.specs.Loading.{Loads}
@@ -38,16 +36,17 @@ use Rattle.lower.specs.Blocks.{dimensions_of, own_places}
 use Rattle.lower.specs.Bodies.{last_claim, IsStore, AreNests}
 use Rattle.lower.specs.Fetches.{Entry, FetchText, IsPart, AreFetched, fetched_groups, with_fetches}
 use Rattle.lower.specs.Groups.{HasBody, HasGroups}
-use Rattle.completeness.specs.Laws.{AreSplitOnce, IsNestLine, IsAlloc, IsFetch, IsWideInside, AllocFormsAreWithin, FormsAreWithin}
+use Rattle.completeness.specs.Laws.{IsNestLine, IsAlloc, IsFetch, IsWideInside, AllocFormsAreWithin, FormsAreWithin}
 use Rattle.completeness.proofs.Laid.{subjects, found}
-use Rattle.completeness.proofs.Bodies.{other_at}
-use Rattle.completeness.proofs.Served.{roots, made_at}
+use Rattle.completeness.proofs.Bodies.{other_at, entry_at, entry_there}
+use Rattle.completeness.proofs.Served.{ls as regions_found, roots, ready, made_at}
+use Rattle.completeness.proofs.Limited.{first_limited}
 use Rattle.completeness.proofs.Unlike.{Clear, ClearAll, none_inside, joined_clear, placed_body}
 use Rattle.completeness.proofs.Scoped.{any_none}
 use Rattle.completeness.proofs.KnownLines.{of_kind}
-use Rattle.completeness.proofs.VectorLines.{split_once}
 use Rattle.completeness.proofs.Needed.{PlaceLimited, seated_within}
-use Rattle.completeness.proofs.OwnPlaces.{own_limited}
+use Rattle.completeness.proofs.OwnPlaces.{own_limited, dimensions_told}
+use Rattle.completeness.proofs.Owned.{same_extents, same_skeleton}
 use Rattle.completeness.proofs.LimitedLines.{not_wide, extents_are, text, has_names, limited, begin_within}
 use Rattle.completeness.proofs.LimitedLines.{within as nests_within}
 use Rattle.completeness.proofs.FetchForms.{entry_extents}
@@ -101,7 +100,7 @@ fetches_clear (f ∷ fs) rest h k = ((λ w. h.0 w.1), ((λ w. w.0), fetches_clea
 
 module _ (a : Algorithm) (sch : Schedule) (l : Lowered) (well : IsAlgorithm a) (legal : IsLegal a sch) (small : has_large (stored_functions a sch) ≡ false)
     (kept : region_fault a (stored_functions a sch) ≡ None) (all : are_whole (stored_functions a sch) ≡ true) (groups : HasGroups a (stored_functions a sch) l)
-    (once : AllByRecursion (λ g. AreSplitOnce g.placed.cuts) (stored_functions a sch)) where
+    (planned : unplanned a (stored_functions a sch) ≡ None) where
   abbrev p : Plan
   p = plan_of l.plan
 
@@ -157,9 +156,19 @@ module _ (a : Algorithm) (sch : Schedule) (l : Lowered) (well : IsAlgorithm a) (
     own_places_limited =
         let named = has_names a sch l well legal small kept all groups n q place f at there first line claims needs theirs h in
         let forms = limited a sch l well legal small kept all groups n q place f at there first line claims needs theirs h in
-        let extents = extents_are a sch l well legal small kept all groups n q theirs h.extents h.region in
-        let cuts_once = got (λ g. AreSplitOnce g.placed.cuts) (stored_functions a sch) n (T f) once there in
-        own_limited (T f) (bodies_from f.changes 0 (reductions_of f.changes) h.formulas) h.extents h.skeleton named (split_once (T f).placed.cuts cuts_once) h.laid forms extents
+        let stored = stored_functions a sch in
+        let regions = regions_found a sch l well legal small kept all groups in
+        let formed = ready a sch l well legal small kept all groups in
+        let found = entry_there stored regions all formed n (T f) there in
+        let e = found.0 in
+        let entry = entry_at stored regions all formed n e found.1 in
+        let told = dimensions_told a stored regions planned n e found.1 in
+        let extents : e.1.region ≡ h.extents = same_extents a sch l well legal small kept all groups n q e.1 h.extents theirs entry.laid h.region in
+        let skeleton : e.1.skeleton ≡ h.skeleton =
+        same_skeleton a sch l well legal small kept all groups n (T f) e.1 h.formulas h.extents h.skeleton there entry.laid h.defined extents h.laid in
+        let over : told_dimensions e.0 e.1.region e.1.skeleton ≡ told_dimensions (T f) h.extents h.skeleton = (λ i. told_dimensions (found.2 i) (extents i) (skeleton i)) in
+        let sizes = extents_are a sch l well legal small kept all groups n q theirs h.extents h.region in
+        own_limited (T f) h.extents h.skeleton told.0 (sym over ∙ told.1) forms.known forms.starts (first_limited f.variables (loops_after (said sch) f).cuts h.extents named.factors sizes)
 
     all_clear : Clear P (statement_of q.body)
     all_clear = body_clear n first line (T f) q claims needs h own_places_limited
@@ -182,7 +191,7 @@ module _ (a : Algorithm) (sch : Schedule) (l : Lowered) (well : IsAlgorithm a) (
       none_inside P line (statement_of q.body) clear (begun (group_of q)) stands
 
 pub within : AllocFormsAreWithin
-within a s l well legal small regions groups all once line h = none_at a s l well legal small (regions all).0 all groups once line h
+within a s l well legal small regions groups all line h = none_at a s l well legal small (regions all).0 all groups (regions all).1 line h
 
 -- ---- all lines
 
@@ -215,13 +224,13 @@ some_kind p line h =
     (r.0, record { number = h.number; group = h.group; there = h.there; stands = r.1 })
 
 pub all_within : FormsAreWithin
-all_within a s l well legal small regions groups all once line (inl h) = begin_within a s l well legal small regions groups all line h
-all_within a s l well legal small regions groups all once line (inr h) = of r.0 r.1
+all_within a s l well legal small regions groups all line (inl h) = begin_within a s l well legal small regions groups all line h
+all_within a s l well legal small regions groups all line (inr h) = of r.0 r.1
   where
     r : (k : ℕ) × IsWideInside (IsOf k) (plan_of l.plan) line
     r = some_kind (plan_of l.plan) line h
 
     of : (k : ℕ) → IsWideInside (IsOf k) (plan_of l.plan) line → ⊥
     of zero k = nests_within a s l well legal small regions groups all line k
-    of (suc zero) k = within a s l well legal small regions groups all once line k
+    of (suc zero) k = within a s l well legal small regions groups all line k
     of (suc (suc j)) k = fetches_within a s l well legal small regions groups all line k

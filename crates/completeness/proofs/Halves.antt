@@ -99,10 +99,6 @@ pub record IsNamed (p : PlacedText) : Type 0 where
   pub apart : AreOthers p.cuts
   pub factors : AllByRecursion (λ c. c.factor ≤ 1024) p.cuts
 
--- no loop has the name of one that was split
-pub gone_loops : (p : PlacedText) → IsNamed p → (c : Split) → In c p.cuts → AllByRecursion (λ l. c.whole ≡ l.name → ⊥) p.loops
-gone_loops p h c m = (all_at (CutIs p.loops p.used) p.cuts c h.cuts m).3
-
 -- a vectorised loop is the inner one of a split
 pub lanes_inner : (p : PlacedText) → IsNamed p → (l : Loop) → In l p.loops → is_vectorized l ≡ true → IsInner p.cuts l.name
 lanes_inner p h l m v = (let q = all_at (LoopIs p.cuts p.used) p.loops l h.loops m in let w = q.2 v in q.1 w.0 w.1)

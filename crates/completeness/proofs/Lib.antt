@@ -39,7 +39,6 @@ pub mod Halves
 pub mod Lanes
 pub mod Vectors
 pub mod VectorLines
-pub mod Begun
 pub mod Limited
 pub mod Bounding
 pub mod Needed

@@ -158,7 +158,7 @@ told a s l well legal small regions groups all free lines once f e =
     of (inl (inl is)) =
         absurd (names_known a s l well legal small regions groups all free lines f.line ((unknown_told a (plan_of l.plan) (certificate_of l.certificate)).meant f.line (with_code 2 is)))
     of (inl (inr (inl is))) =
-        absurd (all_within a s l well legal small regions groups all once f.line ((wide_told a (plan_of l.plan) (certificate_of l.certificate)).meant f.line (with_code 3 is)))
+        absurd (all_within a s l well legal small regions groups all f.line ((wide_told a (plan_of l.plan) (certificate_of l.certificate)).meant f.line (with_code 3 is)))
     of (inl (inr (inr (inl is)))) = is
     of (inl (inr (inr (inr is)))) =
         absurd (stored a s l well legal small regions groups free all f.line ((another_told a (plan_of l.plan) (certificate_of l.certificate)).meant f.line (with_code 12 is)))

@@ -1,202 +1,220 @@
--- The origins of a piece's own places are within the limits of forms, where no loop that a split makes is split again.
-use Rattle.std.proofs.Common.{◌≡◌, ℕ, Bool, true, false, List, [], ◌∷◌, map, Option, Some, None, refl, sym, ◌∙◌, subst}
-use Rattle.std.specs.Prelude.{pos, if◌then◌else◌}
+-- The origins of a piece's own places are within the limits of forms: `lower` tests the sums that it makes them of, and else makes no plan.
+use Rattle.std.proofs.Common.{◌≡◌, ℕ, zero, suc, ◌+◌, Bool, true, false, List, [], ◌∷◌, ◌++◌, Option, Some, None, refl, subst, arith}
+use Rattle.std.specs.Prelude.{ℤ, pos, if◌then◌else◌, slice_get}
 use Rattle.std.specs.List.{AllByRecursion}
-use Rattle.std.specs.Option.{option_map}
 use Rattle.std.specs.Ordering.{int_eq}
-use Rattle.lin.specs.Forms.{Form, number, combined, plus_multiple}
-use Rattle.lin.proofs.TermLemmas.{all_weaker}
+use Rattle.lin.specs.Forms.{Form, number, combined}
 use Rattle.lin.proofs.Limits.{combined-means}
+use Rattle.bounds.proofs.ListSound.{all-append}
+use Rattle.meaning.specs.Algorithm.{Algorithm}
 use Rattle.meaning.specs.Names.{same_name}
-use Rattle.meaning.proofs.Cases.{same_name_is}
 use Rattle.sched.specs.declared.schedule.Split.{Split}
 use Rattle.sched.specs.declared.schedule.Tail.{Tail}
 use Rattle.sched.specs.declared.schedule.Tail.TheVariants.{Guard, Roundup, Shift}
 use Rattle.sched.specs.declared.numbers.Extent.{Extent}
 use Rattle.sched.specs.declared.numbers.Numbers.{Numbers}
-use Rattle.sched.specs.Numbers.{numbers_named, loop_numbers, parallel_loops}
-use Rattle.sched.specs.Standing.{form_named, alone, cuts_by_variable}
-use Rattle.sched.specs.Skeleton.{BodyText, SkeletonText, grid_forms, skeleton_in}
-use Rattle.sched.proofs.Leading.{In}
+use Rattle.sched.specs.declared.skeleton.Known.{Known}
+use Rattle.sched.specs.Numbers.{numbers_named}
+use Rattle.sched.specs.Standing.{◌>>=◌, form_named}
+use Rattle.sched.specs.Skeleton.{SkeletonText}
 use Rattle.lower.specs.Stored.{StoredText}
-use Rattle.lower.specs.Owning.{IsExtent}
-use Rattle.lower.specs.Blocks.{multiple_from, factor_of, BlockText, PartText, Whole, Run, Scattered, LayText, alone_by, plus_if, is_parallel_named, uncut, origin_over, is_guarded}
-use Rattle.lower.specs.Blocks.{origin_within, within_by, joined, part_of, places_by, dimension_by, dimension_of, dimensions_of, own_places, lay_over}
-use Rattle.lower.proofs.Grids.{parallel_named, head_of}
-use Rattle.completeness.proofs.Unscattered.{grid_form}
-use Rattle.completeness.proofs.Halves.{IsNamed, gone_loops}
-use Rattle.completeness.proofs.Lanes.{AreOnce}
-use Rattle.completeness.proofs.Limited.{Limited, LimitedIf, IsLimited, named_limited, first_limited}
-use Rattle.completeness.proofs.Begun.{IsBegun, begun_in, start_of, each_in}
+use Rattle.lower.specs.Regions.{LaidText}
+use Rattle.lower.specs.Fetches.{Entry}
+use Rattle.lower.specs.Groups.{rooted}
+use Rattle.lower.specs.Blocks.{factor_of, own_last, claim_last, BlockText, PartText, Whole, Run, Scattered, LayText, alone_by, is_parallel_named, uncut, is_guarded, product, reach_over, end_of}
+use Rattle.lower.specs.Blocks.{places_by, whole_dimension, own_places, dimensions_of, lay_over}
+use Rattle.lower.specs.Planned.{maybe_stepped, maybe_moved, told_start, told_limits, told_inner_limits, shifted_origin, told_origin, told_inner_origin, told_blocks, told_within, told_joined, told_part}
+use Rattle.lower.specs.Planned.{told_span, told_by, told_dimension, add_dimensions, told_dimensions, is_owned_by, is_written, is_planned, name_unless, or_later, unplanned_at}
+use Rattle.lower.specs.Planned.{first_unplanned, first_unlaid, unplanned_over}
+use Rattle.lower.proofs.Laying.{bound, same}
+use Rattle.lower.proofs.Planned.{dimensions_are}
+use Rattle.completeness.proofs.Limited.{Limited, LimitedIf, named_limited}
 use Rattle.completeness.proofs.Needed.{PlaceLimited}
 
--- the turn of one parallel loop
-abbrev one : Form → BlockText
-one f = record { start = f; length = pos 1; own_limits = []; claim_limits = []; origin = Some f; reach = pos 1 }
+-- a dimension of what belongs to a piece
+abbrev Given : (A B C D : Type 0) → (A → B → C → D) → Type 0
+Given A B C D f = D
+
+abbrev Dimension : Type 0
+Dimension = Given _ _ _ _ (λ l x cs. whole_dimension l x cs)
 
 abbrev OriginLimited : PartText → Type 0
 OriginLimited Whole = Unit {0}
 OriginLimited (Run b) = LimitedIf b.origin
 OriginLimited Scattered = Unit {0}
 
-module _ (g : StoredText) (bs : List BodyText) (region : List Extent) (k : SkeletonText) (named : IsNamed g.placed) (once : AreOnce g.placed.cuts)
-    (laid : skeleton_in g.subject.variables bs g.placed region ≡ Some k) (limited : IsLimited k) (extents : AllByRecursion IsExtent region) where
-  abbrev xs : List (List ℕ)
-  xs = g.subject.variables
+sum_limited : (a : Form) (k : ℤ) (b f : Form) → combined a k b ≡ Some f → Limited f
+sum_limited a k b f e = (combined-means a k b f e).within
 
-  abbrev cuts : List Split
-  cuts = g.placed.cuts
+stepped_limited : (low factor : ℤ) (o made : Option Form) → maybe_stepped low factor o ≡ Some made → LimitedIf made
+stepped_limited low factor None made e = subst LimitedIf (same None made e) tt
+stepped_limited low factor (Some f) made e =
+    let b = bound (combined (number low) factor f) (λ g. Some (Some g)) made e in subst LimitedIf (same (Some b.value) made b.comes) (sum_limited (number low) factor f b.value b.is)
 
-  abbrev l : LayText
-  l = lay_over g region k
+moved_limited : (by o made : Option Form) → maybe_moved by o ≡ Some made → LimitedIf made
+moved_limited None o made e = subst LimitedIf (same None made e) tt
+moved_limited (Some by) None made e = subst LimitedIf (same None made e) tt
+moved_limited (Some by) (Some f) made e =
+    let b = bound (combined by (pos 1) f) (λ g. Some (Some g)) made e in subst LimitedIf (same (Some b.value) made b.comes) (sum_limited by (pos 1) f b.value b.is)
 
-  abbrev rs : List Numbers
-  rs = loop_numbers xs cuts region
-
-  abbrev Grid : List ℕ → Form → Type 0
-  Grid x f = form_named (grid_forms rs 0 (parallel_loops g.placed.loops)) x ≡ Some f
-
-  grid_of : (x : List ℕ) → is_parallel_named l x ≡ true → (f : Form) × Grid x f
-  grid_of x e = grid_form rs 0 (parallel_loops g.placed.loops) x (sym (parallel_named g.placed.loops x) ∙ e)
-
-  stands : (x : List ℕ) (f : Form) → Grid x f → form_named l.known x ≡ Some f
-  stands x f e = (let head = head_of xs bs g.placed region k laid in head.known x f e)
-
+module _ (l : LayText) (known : AllByRecursion (λ (k : Known). Limited k.form) l.known) (starts : AllByRecursion (λ (k : Known). Limited k.form) l.starts)
+    (first : (x : List ℕ) → Limited (number (numbers_named l.numbers x).low)) where
   uncut_limited : (x : List ℕ) → OriginLimited (uncut l x)
-  uncut_limited x = of (is_parallel_named l x) (form_named l.known x) (named_limited l.known x limited.known)
+  uncut_limited x = of (is_parallel_named l x) (form_named l.known x) (named_limited l.known x known)
     where
       of : (v : Bool) (o : Option Form) → LimitedIf o → OriginLimited (if v then alone_by o else Whole)
       of true None h = tt
       of true (Some f) h = h
       of false o h = tt
 
-  module _ (c : Split) (cs : List Split) (m : In c cuts) (n : In c.whole xs) where
-    abbrev own : Numbers
-    own = numbers_named l.numbers c.whole
-
-    abbrev Begun : Form → Option Form → Type 0
-    Begun f inner = IsBegun rs (cuts_by_variable cuts xs) c f inner l.starts
-
-    begins : (f : Form) (inner : Option Form) → Grid c.outer f → ((h : Form) → inner ≡ Some h → Grid c.inner h) → Begun f inner
-    begins f inner outer_is inner_is = begun_in xs bs g.placed region k named.apart laid c m n (gone_loops g.placed named c m) f inner outer_is inner_is
-
-    sum_limited : (f : Form) (inner : Option Form) → Begun f inner → Limited (plus_multiple (number own.low) (pos c.factor) f)
-    sum_limited f inner b = (let w = combined-means (number own.low) (pos c.factor) f b.form b.sum in subst Limited w.is w.within)
-
-    over_limited : (f : Form) (inner : Option Form) → Begun f inner → LimitedIf (origin_over l c own (one f))
-    over_limited f inner b = of c.tail
-      where
-        if_so : (v : Bool) → LimitedIf (if v then form_named l.starts c.whole else None)
-        if_so true = named_limited l.starts c.whole limited.starts
-        if_so false = tt
-
-        of : (t : Tail) → LimitedIf (elim t [
-          | Guard ↦ option_map (multiple_from own.low (factor_of c)) (Some f)
-          | Roundup ↦ option_map (multiple_from own.low (factor_of c)) (Some f)
-          | Shift ↦ if int_eq (pos 1) (pos 1) then form_named l.starts c.whole else None
-        ])
-        of Guard = sum_limited f inner b
-        of Roundup = sum_limited f inner b
-        of Shift = if_so (int_eq (pos 1) (pos 1))
-
-    moved_limited : (start h : Form) → (v : Form) × (combined start (pos 1) h ≡ Some v) → Limited (plus_multiple start (pos 1) h)
-    moved_limited start h s = (let w = combined-means start (pos 1) h s.0 s.1 in subst Limited w.is w.within)
-
-    within_limited : (f h : Form) → Begun f (Some h) → LimitedIf (origin_within l c cs (one f) (one h))
-    within_limited f h b = of (is_guarded l c cs own)
-      where
-        plain : (v : Form) × (combined b.form (pos 1) h ≡ Some v) → Limited (plus_multiple (plus_multiple (number own.low) (pos c.factor) f) (pos 1) h)
-        plain s =
-            let w = combined-means (number own.low) (pos c.factor) f b.form b.sum in
-            subst (λ (u : Form). Limited (plus_multiple u (pos 1) h)) w.is (moved_limited b.form h s)
-
-        by_test : (v : Bool) → form_named l.starts c.whole ≡ Some (alone b.next) → (u : Form) × (combined (alone b.next) (pos 1) h ≡ Some u) →
-            LimitedIf (plus_if (if v then form_named l.starts c.whole else None) (Some h))
-        by_test true q s = subst (λ (o : Option Form). LimitedIf (plus_if o (Some h))) (sym q) (moved_limited (alone b.next) h s)
-        by_test false q s = tt
-
-        by_tail : (t : Tail) → form_named l.starts c.whole ≡ Some (start_of t b.form b.next) → (v : Form) × (combined (start_of t b.form b.next) (pos 1) h ≡ Some v) →
-            LimitedIf (plus_if (elim t [
-              | Guard ↦ option_map (multiple_from own.low (factor_of c)) (Some f)
-              | Roundup ↦ option_map (multiple_from own.low (factor_of c)) (Some f)
-              | Shift ↦ if int_eq (pos 1) (pos 1) then form_named l.starts c.whole else None
-            ]) (Some h))
-        by_tail Guard q s = plain s
-        by_tail Roundup q s = plain s
-        by_tail Shift q s = by_test (int_eq (pos 1) (pos 1)) q s
-
-        of : (v : Bool) → LimitedIf (if v then None else plus_if (origin_over l c own (one f)) (Some h))
-        of true = tt
-        of false = by_tail c.tail b.begun (b.moved h refl)
-
-    all_outside : (q : PartText) → OriginLimited (joined l c cs Whole q)
-    all_outside Whole = tt
-    all_outside (Run b) = tt
-    all_outside Scattered = tt
-
-    both_parallel : (f h : Form) → Grid c.outer f → Grid c.inner h → OriginLimited (joined l c cs (Run (one f)) (Run (one h)))
-    both_parallel f h p q = of (int_eq (pos 1) (pos 1))
-      where
-        of : (v : Bool) → OriginLimited (if v then Run (within_by l c cs (one f) (one h) own) else Scattered)
-        of true = within_limited f h (begins f (Some h) p (λ y e. let is : h ≡ y = cc e in subst (Grid c.inner) is q))
-        of false = tt
-
-    outer_parallel : (f : Form) → Grid c.outer f → OriginLimited (joined l c cs (Run (one f)) (uncut l c.inner))
-    outer_parallel f p = of (is_parallel_named l c.inner) refl
-      where
-        of : (v : Bool) → is_parallel_named l c.inner ≡ v → OriginLimited (joined l c cs (Run (one f)) (if v then alone_by (form_named l.known c.inner) else Whole))
-        of true e =
-            let h = grid_of c.inner e in
-            subst (λ (o : Option Form). OriginLimited (joined l c cs (Run (one f)) (alone_by o))) (sym (stands c.inner h.0 h.1)) (both_parallel f h.0 p h.1)
-        of false e = over_limited f None (begins f None p (λ y q. absurd (cc q)))
-
-    halves_limited : OriginLimited (joined l c cs (uncut l c.outer) (uncut l c.inner))
-    halves_limited = of (is_parallel_named l c.outer) refl
-      where
-        of : (v : Bool) → is_parallel_named l c.outer ≡ v → OriginLimited (joined l c cs (if v then alone_by (form_named l.known c.outer) else Whole) (uncut l c.inner))
-        of true e =
-            let f = grid_of c.outer e in
-            subst (λ (o : Option Form). OriginLimited (joined l c cs (alone_by o) (uncut l c.inner))) (sym (stands c.outer f.0 f.1)) (outer_parallel f.0 f.1)
-        of false e = all_outside (uncut l c.inner)
-
-  -- ---- dimensions
-
-  uncut_part : (y : List ℕ) (cs : List Split) → AllByRecursion (λ d. d.whole ≡ y → ⊥) cs → part_of l y cs ≡ uncut l y
-  uncut_part y [] h = refl
-  uncut_part y (d ∷ cs) h = of (same_name d.whole y) refl (uncut_part y cs h.1)
+  origin_limited : (c : Split) (own : Numbers) (outer : BlockText) (made : Option Form) → told_origin l c own outer ≡ Some made → LimitedIf made
+  origin_limited c own outer made e = of c.tail e
     where
-      of : (v : Bool) → same_name d.whole y ≡ v → part_of l y cs ≡ uncut l y → (if v then joined l d cs (part_of l d.outer cs) (part_of l d.inner cs) else part_of l y cs) ≡ uncut l y
-      of true e rest = absurd (h.0 (same_name_is d.whole y e))
-      of false e rest = rest
+      shifted : (v : Bool) → LimitedIf (if v then form_named l.starts c.whole else None)
+      shifted true = named_limited l.starts c.whole starts
+      shifted false = tt
 
-  part_limited : (x : List ℕ) → In x xs → (cs : List Split) → AllByRecursion (λ d. In d cuts) cs → OriginLimited (part_of l x cs)
-  part_limited x n [] sub = uncut_limited x
-  part_limited x n (c ∷ cs) sub = of (same_name c.whole x) refl (part_limited x n cs sub.1)
+      of : (t : Tail) → (elim t [
+        | Guard ↦ maybe_stepped own.low (factor_of c) outer.origin
+        | Roundup ↦ maybe_stepped own.low (factor_of c) outer.origin
+        | Shift ↦ Some (shifted_origin l c outer)
+      ]) ≡ Some made → LimitedIf made
+      of Guard q = stepped_limited own.low (factor_of c) outer.origin made q
+      of Roundup q = stepped_limited own.low (factor_of c) outer.origin made q
+      of Shift q = subst LimitedIf (same (shifted_origin l c outer) made q) (shifted (int_eq outer.length (pos 1)))
+
+  inner_limited : (c : Split) (cs : List Split) (own : Numbers) (outer inner : BlockText) (made : Option Form) → told_inner_origin l c cs own outer inner ≡ Some made → LimitedIf made
+  inner_limited c cs own outer inner made e = of (is_guarded l c cs own) e
     where
-      of : (v : Bool) → same_name c.whole x ≡ v → OriginLimited (part_of l x cs) → OriginLimited (if v then joined l c cs (part_of l c.outer cs) (part_of l c.inner cs) else part_of l x cs)
-      of false e rest = rest
-      of true e rest =
-          let here : In c.whole xs = subst (λ (y : List ℕ). In y xs) (sym (same_name_is c.whole x e)) n in
-          let outer = uncut_part c.outer cs (all_weaker (λ d. In d cuts) (λ d. d.whole ≡ c.outer → ⊥) (λ d i. (once d c i sub.0).0) cs sub.1) in
-          let inner = uncut_part c.inner cs (all_weaker (λ d. In d cuts) (λ d. d.whole ≡ c.inner → ⊥) (λ d i. (once d c i sub.0).1) cs sub.1) in
-          subst (λ (q : PartText). OriginLimited (joined l c cs q (part_of l c.inner cs))) (sym outer)
-          (subst (λ (q : PartText). OriginLimited (joined l c cs (uncut l c.outer) q)) (sym inner) (halves_limited c cs sub.0 here))
+      of : (v : Bool) → (if v then Some None else (told_origin l c own outer >>= λ o. maybe_moved o inner.origin)) ≡ Some made → LimitedIf made
+      of true q = subst LimitedIf (same None made q) tt
+      of false q = (let b = bound (told_origin l c own outer) (λ o. maybe_moved o inner.origin) made q in moved_limited b.value inner.origin made b.comes)
 
-  first : (x : List ℕ) → Limited (number (numbers_named rs x).low)
-  first x = first_limited xs cuts region named.factors extents x
+  module _ (c : Split) (cs : List Split) (own : Numbers) (outer : BlockText) where
+    blocks_limited : (p : PartText) → told_blocks l c cs own outer ≡ Some p → OriginLimited p
+    blocks_limited p e =
+        let reach = reach_over c outer (end_of l.numbers c.inner cs) in
+        let run : Form → List Form → List Form → Option Form → PartText = λ s o k g.
+        Run (record { start = s; length = product (factor_of c) outer.length; own_limits = o; claim_limits = k; origin = g; reach = reach }) in
+        let last : Form → List Form → List Form → Option PartText = λ s o k. told_origin l c own outer >>= λ g. Some (run s o k g) in
+        let a = bound (told_start c own outer.start) (λ s. told_limits c own (own_last c own) outer.own_limits >>= λ o. told_limits c own (claim_last c own) outer.claim_limits >>= last s o) p e in
+        let b = bound (told_limits c own (own_last c own) outer.own_limits) (λ o. told_limits c own (claim_last c own) outer.claim_limits >>= last a.value o) p a.comes in
+        let d = bound (told_limits c own (claim_last c own) outer.claim_limits) (last a.value b.value) p b.comes in
+        let g = bound (told_origin l c own outer) (λ g. Some (run a.value b.value d.value g)) p d.comes in
+        subst OriginLimited (same (run a.value b.value d.value g.value) p g.comes) (origin_limited c own outer g.value g.is)
 
-  place_limited : (x : List ℕ) (p : PartText) → OriginLimited p → PlaceLimited (dimension_by l x cuts p).places
-  place_limited x Whole h = first x
-  place_limited x Scattered h = first x
-  place_limited x (Run b) h = of b.origin h
+    within_limited : (inner : BlockText) (p : PartText) → told_within l c cs own outer inner ≡ Some p → OriginLimited p
+    within_limited inner p e =
+        let run : Form → List Form → List Form → Option Form → PartText = λ s o k g. Run (record { start = s; length = inner.length; own_limits = o; claim_limits = k; origin = g; reach = inner.reach }) in
+        let last : Form → List Form → List Form → Option PartText = λ s o k. told_inner_origin l c cs own outer inner >>= λ g. Some (run s o k g) in
+        let owned : Form → Option (List Form) = λ base. told_inner_limits c own base (own_last c own) inner.own_limits outer.own_limits in
+        let claimed : Form → Option (List Form) = λ base. told_inner_limits c own base (claim_last c own) inner.claim_limits outer.claim_limits in
+        let a = bound (told_start c own outer.start) (λ base. combined base (pos 1) inner.start >>= λ s. owned base >>= λ o. claimed base >>= last s o) p e in
+        let s = bound (combined a.value (pos 1) inner.start) (λ s. owned a.value >>= λ o. claimed a.value >>= last s o) p a.comes in
+        let o = bound (owned a.value) (λ o. claimed a.value >>= last s.value o) p s.comes in
+        let k = bound (claimed a.value) (last s.value o.value) p o.comes in
+        let g = bound (told_inner_origin l c cs own outer inner) (λ g. Some (run s.value o.value k.value g)) p k.comes in
+        subst OriginLimited (same (run s.value o.value k.value g.value) p g.comes) (inner_limited c cs own outer inner g.value g.is)
+
+  scattered : (p : PartText) → Some Scattered ≡ Some p → OriginLimited p
+  scattered p e = subst OriginLimited (same Scattered p e) tt
+
+  joined_limited : (c : Split) (cs : List Split) (outer inner p : PartText) → told_joined l c cs outer inner ≡ Some p → OriginLimited p
+  joined_limited c cs Whole Whole p e = subst OriginLimited (same Whole p e) tt
+  joined_limited c cs Whole (Run i) p e = scattered p e
+  joined_limited c cs Whole Scattered p e = scattered p e
+  joined_limited c cs Scattered Whole p e = scattered p e
+  joined_limited c cs Scattered (Run i) p e = scattered p e
+  joined_limited c cs Scattered Scattered p e = scattered p e
+  joined_limited c cs (Run o) Whole p e = blocks_limited c cs (numbers_named l.numbers c.whole) o p e
+  joined_limited c cs (Run o) Scattered p e = scattered p e
+  joined_limited c cs (Run o) (Run i) p e = of (int_eq o.length (pos 1)) e
     where
-      of : (o : Option Form) → LimitedIf o → PlaceLimited (places_by l x cuts b.reach o)
-      of None h = first x
-      of (Some f) h = h
+      of : (v : Bool) → (if v then told_within l c cs (numbers_named l.numbers c.whole) o i else Some Scattered) ≡ Some p → OriginLimited p
+      of true q = within_limited c cs (numbers_named l.numbers c.whole) o i p q
+      of false q = scattered p q
 
-  some_limited : (ys : List (List ℕ)) → AllByRecursion (λ x. In x xs) ys → AllByRecursion PlaceLimited (own_places (map (dimension_of l cuts) ys))
-  some_limited [] h = tt
-  some_limited (x ∷ ys) h = (place_limited x (part_of l x cuts) (part_limited x h.0 cuts (each_in (λ d. In d cuts) cuts (λ d i. i))), some_limited ys h.1)
+  part_limited : (x : List ℕ) (cs : List Split) (p : PartText) → told_part l x cs ≡ Some p → OriginLimited p
+  part_limited x [] p e = subst OriginLimited (same (uncut l x) p e) (uncut_limited x)
+  part_limited x (c ∷ cs) p e = of (same_name c.whole x) e (λ q. part_limited x cs p q)
+    where
+      of : (v : Bool) → (if v then (told_part l c.outer cs >>= λ outer. told_part l c.inner cs >>= λ inner. told_joined l c cs outer inner) else told_part l x cs) ≡ Some p →
+          (told_part l x cs ≡ Some p → OriginLimited p) → OriginLimited p
+      of false q rest = rest q
+      of true q rest =
+          let a = bound (told_part l c.outer cs) (λ outer. told_part l c.inner cs >>= λ inner. told_joined l c cs outer inner) p q in
+          let b = bound (told_part l c.inner cs) (λ inner. told_joined l c cs a.value inner) p a.comes in
+          joined_limited c cs a.value b.value p b.comes
 
-  pub own_limited : AllByRecursion PlaceLimited (own_places (dimensions_of g region k))
-  own_limited = some_limited xs (each_in (λ x. In x xs) xs (λ x i. i))
+  places_limited : (x : List ℕ) (cs : List Split) (reach : ℤ) (o : Option Form) → LimitedIf o → PlaceLimited (places_by l x cs reach o)
+  places_limited x cs reach None h = first x
+  places_limited x cs reach (Some f) h = h
+
+  by_limited : (x : List ℕ) (cs : List Split) (p : PartText) (d : Dimension) → OriginLimited p → told_by l x cs p ≡ Some d → PlaceLimited d.places
+  by_limited x cs Whole d h e = subst (λ (d : Dimension). PlaceLimited d.places) (same (whole_dimension l x cs) d e) (first x)
+  by_limited x cs Scattered d h e = subst (λ (d : Dimension). PlaceLimited d.places) (same (whole_dimension l x cs) d e) (first x)
+  by_limited x cs (Run r) d h e =
+      let places = places_by l x cs r.reach r.origin in
+      let a = bound (told_span r.start r.length r.own_limits) (λ own. told_span r.start r.length r.claim_limits >>= λ claim. Some (record { own = own; claim = claim; places = places })) d e in
+      let b = bound (told_span r.start r.length r.claim_limits) (λ claim. Some (record { own = a.value; claim = claim; places = places })) d a.comes in
+      subst (λ (d : Dimension). PlaceLimited d.places) (same (record { own = a.value; claim = b.value; places = places }) d b.comes) (places_limited x cs r.reach r.origin h)
+
+  all_limited : (cs : List Split) (xs : List (List ℕ)) (before ds : List Dimension) → AllByRecursion (λ d. PlaceLimited d.places) before → add_dimensions l cs xs before ≡ Some ds →
+      AllByRecursion (λ d. PlaceLimited d.places) ds
+  all_limited cs [] before ds h e = subst (AllByRecursion (λ d. PlaceLimited d.places)) (same before ds e) h
+  all_limited cs (x ∷ xs) before ds h e =
+      let b = bound (told_dimension l cs x) (λ d. add_dimensions l cs xs (before ++ d ∷ [])) ds e in
+      let p = bound (told_part l x cs) (told_by l x cs) b.value b.is in
+      let here = by_limited x cs p.value b.value (part_limited x cs p.value p.is) p.comes in
+      all_limited cs xs (before ++ b.value ∷ []) ds (all-append (λ d. PlaceLimited d.places) before (b.value ∷ []) h (here, tt)) b.comes
+
+each_place : (ds : List Dimension) → AllByRecursion (λ d. PlaceLimited d.places) ds → AllByRecursion PlaceLimited (own_places ds)
+each_place [] h = tt
+each_place (d ∷ ds) h = (h.0, each_place ds h.1)
+
+-- where the dimensions are told
+pub own_limited : (g : StoredText) (region : List Extent) (k : SkeletonText) (ds : List Dimension) → told_dimensions g region k ≡ Some ds →
+    AllByRecursion (λ (m : Known). Limited m.form) k.known → AllByRecursion (λ (m : Known). Limited m.form) k.starts →
+    ((x : List ℕ) → Limited (number (numbers_named (lay_over g region k).numbers x).low)) → AllByRecursion PlaceLimited (own_places (dimensions_of g region k))
+own_limited g region k ds told known starts first =
+    let all = all_limited (lay_over g region k) known starts first g.placed.cuts g.subject.variables [] ds tt told in
+    subst (λ (ds : List Dimension). AllByRecursion PlaceLimited (own_places ds)) (dimensions_are g region k ds told) (each_place ds all)
+
+-- ---- they are told
+
+or_none : (o later : Option (List ℕ)) → or_later o later ≡ None → (o ≡ None) × (later ≡ None)
+or_none (Some x) later e = absurd (cc e)
+or_none None later e = (refl, e)
+
+unless_none : (v : Bool) (x : List ℕ) → name_unless v x ≡ None → v ≡ true
+unless_none true x e = refl
+unless_none false x e = absurd (cc e)
+
+first_true : (a b : Bool) → (if a then b else false) ≡ true → a ≡ true
+first_true true b e = refl
+first_true false b e = absurd (cc e)
+
+all_planned : (a : Algorithm) (all : List Entry) (n : ℕ) (es : List Entry) → first_unplanned a all n es ≡ None → (i : ℕ) (e : Entry) → slice_get es i ≡ Some e → is_planned a all (n + i) e ≡ true
+all_planned a all n [] h i e at = absurd (cc at)
+all_planned a all n (x ∷ es) h zero e at =
+    let parts = or_none (unplanned_at a all n x) (first_unplanned a all (n + 1) es) h in
+    let is : x ≡ e = cc at in
+    let none : n ≡ n + 0 = omega arith in
+    subst (λ (m : ℕ). is_planned a all m e ≡ true) none (subst (λ (y : Entry). is_planned a all n y ≡ true) is (unless_none (is_planned a all n x) x.0.subject.name parts.0))
+all_planned a all n (x ∷ es) h (suc i) e at =
+    let parts = or_none (unplanned_at a all n x) (first_unplanned a all (n + 1) es) h in
+    let next : (n + 1) + i ≡ n + suc i = omega arith in
+    subst (λ (m : ℕ). is_planned a all m e ≡ true) next (all_planned a all (n + 1) es parts.1 i e at)
+
+told_of : (g : StoredText) (region : List Extent) (o : Option (List Dimension)) → is_owned_by g region o ≡ true → (ds : List Dimension) × (o ≡ Some ds)
+told_of g region None e = absurd (cc e)
+told_of g region (Some ds) e = (ds, refl)
+
+pub dimensions_told : (a : Algorithm) (gs : List StoredText) (ls : List (Option LaidText)) → unplanned_over a gs ls ≡ None → (i : ℕ) (e : Entry) → slice_get (rooted true gs ls) i ≡ Some e →
+    (ds : List Dimension) × (told_dimensions e.0 e.1.region e.1.skeleton ≡ Some ds)
+dimensions_told a gs ls h i e at =
+    let all = rooted true gs ls in
+    let parts = or_none (first_unlaid gs ls) (first_unplanned a all 0 all) h in
+    let planned = all_planned a all 0 all parts.1 i e at in
+    let told = told_dimensions e.0 e.1.region e.1.skeleton in
+    told_of e.0 e.1.region told (first_true (is_owned_by e.0 e.1.region told) (is_written a all (0 + i) e) planned)

@@ -22,7 +22,7 @@ use Rattle.lower.proofs.Grids.{parallel_named, head_of}
 use Rattle.completeness.specs.Parted.{KeepsInner}
 
 -- a parallel loop has a form over the grid
-pub grid_form : (rs : List Numbers) (n : ℕ) (ls : List Loop) (x : List ℕ) → has_loop ls x ≡ true → (f : Form) × (form_named (grid_forms rs n ls) x ≡ Some f)
+grid_form : (rs : List Numbers) (n : ℕ) (ls : List Loop) (x : List ℕ) → has_loop ls x ≡ true → (f : Form) × (form_named (grid_forms rs n ls) x ≡ Some f)
 grid_form rs n [] x h = absurd (cc h)
 grid_form rs n (l ∷ ls) x h = of (same_name l.name x) refl h (grid_form rs (n + 1) ls x)
   where

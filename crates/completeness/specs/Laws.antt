@@ -215,19 +215,13 @@ NestFormsAreWithin = OfWholeFunctions (λ a p c. (line : ℕ) → ¬ IsWideInsid
 abbrev pub FetchFormsAreWithin : Type 0
 FetchFormsAreWithin = OfWholeFunctions (λ a p c. (line : ℕ) → ¬ IsWideInside IsFetch p line)
 
--- so it is of the plan that is made of a schedule under which each stored function is a root function that is computed at no loop, and no loop that a split makes is split again
-abbrev pub OfSplitOnce : (Plan → Type 0) → Type 0
-OfSplitOnce IsSo =
-    (a : Algorithm) (s : Schedule) (l : Lowered) → IsAlgorithm a → IsLegal a s → AreSmall a s → AreRegionsKept a s → AreGroupsMade a s l
-    → are_whole (stored_functions a s) ≡ true → AllByRecursion (λ g. AreSplitOnce g.placed.cuts) (stored_functions a s) → IsSo (plan_of l.plan)
-
 -- nor is one of a line `alloc`
 abbrev pub AllocFormsAreWithin : Type 0
-AllocFormsAreWithin = OfSplitOnce (λ p. (line : ℕ) → ¬ IsWideInside IsAlloc p line)
+AllocFormsAreWithin = OfWholeFunctions (λ a p c. (line : ℕ) → ¬ IsWideInside IsAlloc p line)
 
 -- so no form of a line of a group is (K3)
 abbrev pub FormsAreWithin : Type 0
-FormsAreWithin = OfSplitOnce (λ p. (line : ℕ) → ¬ IsWideAt p line)
+FormsAreWithin = OfWholeFunctions (λ a p c. (line : ℕ) → ¬ IsWideAt p line)
 
 -- so of the lines of groups what the checker tells first is a limit of numbers (K14)
 abbrev pub OnlyLimitsAreToldOfGroups : Type 0

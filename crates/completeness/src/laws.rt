@@ -102,12 +102,12 @@ pub fn fetch_forms_are_within()
     ensures { FetchFormsAreWithin }
 {}
 
-/// Nor is the origin of a line `alloc`, where no loop that a split makes is split again (no K3).
+/// Nor is the origin of a line `alloc` (no K3).
 pub fn alloc_forms_are_within()
     ensures { AllocFormsAreWithin }
 {}
 
-/// So, where that is asked, no form of a line of a group of such a plan is, neither of its line `group` nor of one inside (no K3).
+/// So no form of a line of a group of such a plan is, neither of its line `group` nor of one inside (no K3).
 pub fn forms_are_within()
     ensures { FormsAreWithin }
 {}

@@ -78,6 +78,21 @@ with_popped all left fetch xs ys zs popped made before =
     ap (with_fetches (map fetch_seen left)) made ∙ (sym (ap (λ (l : List FetchText). with_fetches l (list_statements xs)) (ap (map fetch_seen) popped ∙ map-append fetch_seen left (fetch ∷ []))
     ∙ last_first (map fetch_seen left) (fetch_seen fetch) (list_statements xs)) ∙ before)
 
+-- the nests behind what is fetched, and the claim behind them
+pub published : (claim : ℕ) (fetches : List FetchText) (publish : Stmt) (nests last inner : List Stmt) → last ≡ nests ++ publish ∷ [] → statement_of publish ≡ Publish claim
+    → list_statements inner ≡ with_fetches fetches (list_statements last) → list_statements inner ≡ with_fetches fetches (list_statements nests ++ Publish claim ∷ [])
+published claim fetches publish nests last inner e is_publish f =
+    f ∙ ap (with_fetches fetches)
+    (ap list_statements e ∙ (map-append statement_of nests (publish ∷ []) ∙ ap (λ (s : Statement). list_statements nests ++ s ∷ []) is_publish))
+
+-- the whole, of its parts
+pub body_joined : (g : StoredText) (k : SkeletonText) (places : List Places) (claim : ℕ) (fetches : List FetchText) (own : Stmt) (nests others ys : List Stmt)
+    → statement_of own ≡ Alloc 0 g.subject.name places → list_statements others ≡ with_fetches fetches (list_statements nests ++ Publish claim ∷ [])
+    → block (list_statements ys) ≡ lines_to k.head (block (statement_of own ∷ list_statements others)) → IsBodyWith g k places fetches (list_statements nests) claim (body (list_statements ys))
+body_joined g k places claim fetches own nests others ys is_own are comes = record {
+  is = ap Seq (comes ∙ ap (λ (l : List Statement). lines_to k.head (block l)) (λ i. is_own i ∷ are i));
+}
+
 pub body_made : (g : StoredText) (k : SkeletonText) (places : List Places) (claim : ℕ) (fetches : List FetchText) (own publish : Stmt) (nests last inner all ys : List Stmt)
     → last ≡ nests ++ publish ∷ [] → list_statements inner ≡ with_fetches fetches (list_statements last) → all ≡ own ∷ inner → statement_of own ≡ Alloc 0 g.subject.name places
     → statement_of publish ≡ Publish claim → block (list_statements ys) ≡ lines_to k.head (block (list_statements all))

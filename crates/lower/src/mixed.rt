@@ -13,13 +13,13 @@ use crate::fetching::Root;
 use crate::group::Body;
 use crate::inner::Inner;
 use crate::parts::{
-    Owner, add_lines, add_symbol, bound_by, buffers_at, claim, first_let, first_lets, hold,
-    is_same_spot, last_seat, let_count, lets, own_buffer, stored, symbols_over, with_name,
+    Owner, add_lines, begun, buffers_at, claim, ended, first_let, first_lets, hold, is_same_spot,
+    last_seat, let_count, lets, own_buffer, stored, symbols_over,
 };
-use crate::renaming::{Renaming, name_in, own_names, renamed_step};
+use crate::renaming::{Renaming, name_in, own_names};
 use crate::sliding::Later;
 use crate::spots::{Host, Spot};
-use crate::whole::{alone, block_of, own_lines, with_step};
+use crate::whole::{alone, block_of};
 use lin::{Region, Sym};
 use plan::Stmt;
 use sched::{Nest, Step};
@@ -127,7 +127,7 @@ fn all_at<'a>(
 
 // The next step of a nest around what follows.
 #[cycle(mixed)]
-#[tactic(auto, using(crate::proofs::Nested::step_made))]
+#[tactic(auto, using(crate::proofs::Nested::step_next))]
 fn step_in<'a>(
     alloc: Global,
     body: &mut Body<'a>,
@@ -153,16 +153,11 @@ fn step_in<'a>(
     let Some(behind) = depth.checked_add(1) else {
         return Err(Stop::Memory);
     };
-    let bound = bound_by(step);
-    let names = with_name(alloc, names, bound, body.next_symbol)?;
-    let told = renamed_step(alloc, &names, step)?;
-    add_symbol(body, bound)?;
-    add_lines(body, 1)?;
+    let (names, told) = begun(alloc, body, step, names)?;
     let inside = walk(
         alloc, body, inners, deep, left, owner, definition, nest, behind, steps, &names,
     )?;
-    add_lines(body, own_lines(&told).saturating_sub(1))?;
-    Ok(with_step(alloc, &told, inside)?)
+    Ok(ended(alloc, body, &told, inside)?)
 }
 
 // From behind so many steps of a nest on: what stands there, and then the next step around what follows, or the store.

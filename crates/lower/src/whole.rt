@@ -4,7 +4,7 @@ ghost use Rattle.std.specs.Prelude.{◌≡◌, ◌∷◌, [], ◌++◌, IfOk, ma
 ghost use Rattle.std.specs.Option.{option_copied, option_map};
 ghost use Rattle.tree.specs.Term.{term_of};
 ghost use Rattle.plan.specs.Lists.{list_statements};
-ghost use Rattle.plan.specs.Plan.{block, Empty, Then};
+ghost use Rattle.plan.specs.Plan.{block, Alloc as AllocSaid, Empty, Publish as PublishSaid, Then};
 ghost use Rattle.plan.specs.View.{coordinate_of, index_of as told_index, statement_of};
 ghost use Rattle.sched.specs.Runs.{lines_to as steps_to};
 ghost use Rattle.sched.specs.Skeleton.{nest_seen, skeleton_seen};
@@ -313,8 +313,49 @@ fn before_all(
 
 // ---- the whole
 
+// The line of a piece's own buffer with these places.
+fn own_line(alloc: Global, root: &Root<'_>, places: Vec<Places>) -> Result<Stmt, AllocError>
+    ensures { IfOk result (λ own. statement_of own ≡ AllocSaid 0 (stored_of root.now.stored.now).subject.name places.items) }
+{
+    let function = String::from_str(alloc, root.stored.subject.name.as_str())?;
+    Ok(Stmt::Alloc {
+        buffer: 0,
+        function,
+        places,
+    })
+}
+
+// What is fetched, these nests, and by which claim a piece publishes.
+#[tactic(auto, using(crate::proofs::Wholes::published))]
+fn published(
+    alloc: Global,
+    fetches: Vec<Fetch<'_>>,
+    nests: Vec<Stmt>,
+    claim: u64,
+) -> Result<Vec<Stmt>, AllocError>
+    ensures { IfOk result (λ v. list_statements v.items ≡ with_fetches (map fetch_seen fetches.entry.items) (list_statements nests.items ++ PublishSaid claim ∷ [])) }
+{
+    let mut last = nests;
+    last.push(Stmt::Publish { claim })?;
+    before_all(alloc, fetches, last)
+}
+
+// The lines that come to this one and others behind it, by the steps.
+fn lines_from(
+    alloc: Global,
+    steps: &[Step],
+    own: Stmt,
+    others: Vec<Stmt>,
+) -> Result<Vec<Stmt>, AllocError>
+    ensures { IfOk result (λ v. block (list_statements v.items) ≡ steps_to steps.now (block (statement_of own ∷ list_statements others.items))) }
+{
+    let mut all = others;
+    all.insert(0, own)?;
+    lines_to(alloc, steps, all)
+}
+
 /// What a piece does: the lets over the grid, its buffer, what it fetches, these nests, and by which claim it publishes.
-#[tactic(auto, using(crate::proofs::Wholes::body_made))]
+#[tactic(auto, using(crate::proofs::Wholes::body_joined))]
 pub(crate) fn body_with(
     alloc: Global,
     root: &Root<'_>,
@@ -326,15 +367,8 @@ pub(crate) fn body_with(
     ensures { IfOk result (λ v. spec.IsBodyWith (stored_of root.now.stored.now) (skeleton_seen root.now.laid.now.skeleton)
         places.items (map fetch_seen fetches.entry.items) (list_statements nests.items) claim (spec.body (list_statements v.items))) }
 {
-    let function = String::from_str(alloc, root.stored.subject.name.as_str())?;
-    let own = Stmt::Alloc {
-        buffer: 0,
-        function,
-        places,
-    };
-    let mut last = nests;
-    last.push(Stmt::Publish { claim })?;
-    let mut inner = before_all(alloc, fetches, last)?;
-    inner.insert(0, own)?;
-    lines_to(alloc, &root.laid.skeleton.head, inner)
+    let own = own_line(alloc, root, places)?;
+    let others = published(alloc, fetches, nests, claim)?;
+    let all = lines_from(alloc, &root.laid.skeleton.head, own, others)?;
+    Ok(all)
 }
