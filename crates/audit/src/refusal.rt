@@ -3,7 +3,7 @@
 use soundness::outline::refusals::K;
 
 /// Why a check gives no answer but a refusal.
-#[derive(Clone, Copy, Debug, PartialEq, Eq, Drop)]
+#[derive(Clone, Copy, PartialEq, Eq, Drop)]
 pub enum CheckError {
     /// The code, and the line of the plan's text at which it holds.
     Refused(K, u32),

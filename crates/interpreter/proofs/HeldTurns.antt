@@ -4,6 +4,7 @@ use Rattle.std.specs.Prelude.{◌+ℤ◌, flat_map, slice_get, slice_set, IfSome
 use Rattle.std.proofs.lemmas.Bool.{cases_lt}
 use Rattle.std.proofs.lemmas.List.{get_or-set_same, length-set, set-get_or, set-set}
 use Rattle.std.proofs.lemmas.Option.{get_or_from_slice_get, none-some, slice_get-get_or, slice_get_within}
+use Rattle.numeric.specs.declared.ty.Ty.{Ty}
 use Rattle.tree.specs.declared.value.Value.{Value}
 use Rattle.tree.specs.Meaning.{applied}
 use Rattle.tree.specs.Term.{Term}
@@ -14,7 +15,7 @@ use Rattle.plan.specs.Semantics.Found.{with}
 use Rattle.plan.specs.Semantics.Memory.{Memory, write}
 use Rattle.interpreter.specs.Buffers.Blocks.{Block, block_of, memory_of, IsSetAt}
 use Rattle.interpreter.specs.Buffers.Raster.{place_count, LiesAt}
-use Rattle.interpreter.specs.HeldTurns.{held_operand, held_operation, turned, updated, with_places}
+use Rattle.interpreter.specs.HeldTurns.{held_operand, held_operation, on_known, on_own, turned, updated, with_places}
 use Rattle.interpreter.specs.PlaceNumbers.{place_at, OperandStands, OperationStands, StandsAt, UpdateStands}
 use Rattle.interpreter.specs.Pieces.{around, setting}
 use Rattle.interpreter.specs.Runs.{store_at, IsBut}
@@ -72,6 +73,16 @@ module _ (o : Operation) (zs behind : List Number) (points lefts rights : List �
       by : (x : Option (List (Option Value))) → ((y : List (Option Value)) → after_turns k ≡ Some y → length y ≡ length h) → after_turns k ≡ x → with x (one_turn k) ≡ Some g → length g ≡ length h
       by None all is f = absurd (none-some g f)
       by (Some y) all is f = set_one y (held_operation o zs behind lefts rights y k) (all y is) f
+
+-- ---- kinds of operands
+
+-- an operation on an own place and what is known
+pub known_kind : (o : Operation) (w : ℕ) (t : Ty) → o.left ≡ Own w → o.right ≡ Known t → o ≡ on_known o.op w t o.width
+known_kind o w t e f = λ i. record { op = o.op; left = e i; right = f i; width = o.width }
+
+-- and on two own places
+pub own_kind : (o : Operation) (v w : ℕ) → o.left ≡ Own v → o.right ≡ Own w → o ≡ on_own o.op v w o.width
+own_kind o v w e f = λ i. record { op = o.op; left = e i; right = f i; width = o.width }
 
 -- ---- in memory
 

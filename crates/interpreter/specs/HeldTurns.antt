@@ -1,5 +1,7 @@
 -- An update's turns over what the places of one buffer hold, by the numbers of its places.
 use Rattle.std.specs.Prelude.{ℕ, zero, suc, List, Option, Some, None, drop, slice_index_or, slice_set}
+use Rattle.numeric.specs.declared.op.Op.{Op}
+use Rattle.numeric.specs.declared.ty.Ty.{Ty}
 use Rattle.tree.specs.declared.value.Value.{Value}
 use Rattle.tree.specs.Meaning.{typed, applied}
 use Rattle.plan.specs.Semantics.Found.{with}
@@ -22,6 +24,14 @@ held_operand (Own w) zs ns h k = slice_index_or h (place_at ns k) None
 -- and an operation on two of them
 abbrev pub held_operation : Operation → List Number → List Number → List ℕ → List ℕ → List (Option Value) → ℕ → Option Value
 held_operation o zs behind lefts rights h k = with (held_operand o.left zs lefts h k) (λ x. with (held_operand o.right behind rights h k) (λ y. Some (applied o.op x y)))
+
+-- an operator on an own place and what is known
+abbrev pub on_known : Op → ℕ → Ty → ℕ → Operation
+on_known op w t n = record { op = op; left = Own w; right = Known t; width = n }
+
+-- and on two own places
+abbrev pub on_own : Op → ℕ → ℕ → ℕ → Operation
+on_own op v w n = record { op = op; left = Own v; right = Own w; width = n }
 
 -- what the places hold after so many turns, each of which sets one
 abbrev pub turned : Operation → List Number → List Number → List ℕ → List ℕ → List ℕ → List (Option Value) → ℕ → Option (List (Option Value))

@@ -7,6 +7,7 @@ mod buffer;
 mod limit;
 mod memory;
 mod raster;
+mod rising;
 mod room;
 mod spot;
 mod stretch;

@@ -8,7 +8,7 @@ use numeric::{Ty, wrap};
 use tree::Value;
 
 /// What the numbers of a row of cells tell of the values.
-#[derive(Clone, Copy, Debug, PartialEq, Eq, Drop)]
+#[derive(Clone, Copy, PartialEq, Eq, Drop)]
 pub enum NumberKind {
     /// Each is a value's number.
     Exact,

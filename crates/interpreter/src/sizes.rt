@@ -11,7 +11,7 @@ use plan::Stmt;
 use std::alloc::{AllocError, Global};
 
 /// A buffer and how many coordinates it has.
-#[derive(Clone, Copy, Debug, Drop)]
+#[derive(Clone, Copy, Drop)]
 pub(crate) struct Size {
     pub buffer: u64,
     pub dimensions: usize,

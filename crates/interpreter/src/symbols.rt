@@ -9,7 +9,7 @@ use std::alloc::{AllocError, Global};
 use std::marker::Model;
 
 /// A symbol's value, and whether it is the first turn of the symbol's loop.
-#[derive(Clone, Copy, Debug, Drop)]
+#[derive(Clone, Copy, Drop)]
 pub(crate) struct Binding {
     pub symbol: Sym,
     pub value: i64,

@@ -50,7 +50,7 @@ fn column_of<'m>(
 }
 
 /// Whether a register has one number at all turns. All are looked at, so that several are at once.
-fn stays(column: &[Number], first: i64) -> bool
+pub(crate) fn stays(column: &[Number], first: i64) -> bool
     ensures { OnTrue result ((k : ℕ) → k < length column.now → number_at column.now k ≡ first) }
 {
     let mut all = true;
@@ -62,7 +62,7 @@ fn stays(column: &[Number], first: i64) -> bool
 }
 
 /// Whether a register's numbers rise by one from this one on. All are looked at, so that several are at once.
-fn rises(column: &[Number], first: i64) -> bool
+pub(crate) fn rises(column: &[Number], first: i64) -> bool
     requires { IsShortRamp (length column.now) first }
     ensures { OnTrue result ((k : ℕ) → k < length column.now → number_at column.now k ≡ first +ℤ pos k) }
 {
@@ -75,7 +75,7 @@ fn rises(column: &[Number], first: i64) -> bool
 }
 
 /// Whether so many numbers from this one on are of 64 bits, and there are not too many.
-fn are_few(count: usize, first: i64) -> bool
+pub(crate) fn are_few(count: usize, first: i64) -> bool
     ensures { OnTrue result (IsShortRamp count first) }
 {
     count < 1 << 60 && first < 1 << 60

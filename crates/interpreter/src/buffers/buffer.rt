@@ -16,11 +16,13 @@ ghost use Rattle.interpreter.specs.Updates.{columns_at};
 
 use crate::buffers::limit::Limit;
 use crate::buffers::raster::{place_columns, place_count, place_number};
+use crate::buffers::rising::{rise_from, rising, standing};
 use crate::buffers::room::Rooms;
 use crate::buffers::stretch::stretch_of;
 use crate::buffers::turning::turn_all;
 use crate::evaluation::Number;
 use crate::placing::Places;
+use crate::run_reading::registers_behind;
 use crate::scanlines::{Scanline, distance, window};
 use crate::updates::Operation;
 use smallvec::SmallVec;
@@ -170,6 +172,45 @@ impl Buffer {
         Some(place)
     }
 
+    /// The number of the place of the first of so many points, where the first coordinate rises by one with each turn, the others
+    /// stay, and the places of the others follow it one by one. Each of so many coordinates has a register of so many numbers, one
+    /// behind the other.
+    fn row_place(&self, width: usize, count: usize, registers: &[Number]) -> Option<usize>
+        ensures lies { IfSome result (λ n. (k : ℕ) → k < count → LiesAt self.now.rooms (columns_at count width registers.now k) (n + k)) }
+        ensures inside { IfSome result (λ n. (k : ℕ) → k < count → n + k < length self.now.places) }
+    {
+        let first = rising(registers, count)?;
+        let seconds = registers_behind(registers, count);
+        let thirds = registers_behind(seconds, count);
+        match width {
+            1 => self.places_from(first, &[], count),
+            2 => self.places_from(first, &[standing(seconds, count)?], count),
+            3 => {
+                let second = standing(seconds, count)?;
+                let third = standing(thirds, count)?;
+                self.places_from(first, &[second, third], count)
+            }
+            _ => None,
+        }
+    }
+
+    /// Puts in the numbers of the places of points at so many turns, where these follow one another.
+    fn place_row(
+        &self,
+        width: usize,
+        count: usize,
+        registers: &[Number],
+        places: &mut [usize],
+    ) -> Option<()>
+        requires { count ≤ length places.old }
+        ensures lies { IfSome result (λ _. (k : ℕ) → k < count → LiesAt self.now.rooms (columns_at count width registers.now k) (place_at places.new k)) }
+        ensures inside { IfSome result (λ _. (k : ℕ) → k < count → place_at places.new k < length self.now.places) }
+    {
+        let start = self.row_place(width, count, registers)?;
+        rise_from(self.places.len(), start, count, places);
+        Some(())
+    }
+
     /// Puts in the numbers of the places of points at so many turns; nothing where one has no place. Each of so many
     /// coordinates has a register of so many numbers, one behind the other.
     pub(crate) fn place_columns(
@@ -186,7 +227,10 @@ impl Buffer {
         if self.rooms.len() != width {
             return None;
         }
-        place_columns(&self.rooms, count, registers, places)
+        match self.place_row(width, count, registers, places) {
+            Some(()) => Some(()),
+            None => place_columns(&self.rooms, count, registers, places),
+        }
     }
 
     /// Sets the places of so many turns of an operation, by their numbers, one after another. Nothing where one of the own places

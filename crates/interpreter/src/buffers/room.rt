@@ -10,7 +10,7 @@ use smallvec::SmallVec;
 pub type Rooms = SmallVec<Room, 4>;
 
 /// The places that a buffer has for one coordinate.
-#[derive(Clone, Copy, Debug, PartialEq, Eq, Drop)]
+#[derive(Clone, Copy, PartialEq, Eq, Drop)]
 pub enum Room {
     /// So many places, the first for the coordinate `origin`.
     Straight { origin: i64, count: u64 },

@@ -1,10 +1,11 @@
 //! An update's turns over the places of one buffer, by the numbers of its places.
 
-ghost use Rattle.std.specs.Prelude.{◌≡◌, ◌<◌, ℕ, length, option_map, slice_set, Some};
+ghost use Rattle.std.specs.Prelude.{◌≡◌, ◌<◌, ◌≤◌, ℕ, List, length, option_map, slice_index_or, slice_set, Some, None};
 ghost use Rattle.plan.specs.Semantics.Found.{with};
-ghost use Rattle.tree.specs.Meaning.{applied};
-ghost use Rattle.interpreter.specs.HeldTurns.{held_operand, held_operation, turned};
+ghost use Rattle.tree.specs.Meaning.{applied, typed};
+ghost use Rattle.interpreter.specs.HeldTurns.{held_operand, held_operation, on_known, on_own, turned};
 ghost use Rattle.interpreter.specs.PlaceNumbers.{place_at};
+ghost use Rattle.interpreter.specs.declared.evaluation.lanes.Number.{Number as NumberHeld};
 
 use crate::columns::number_of;
 use crate::evaluation::{
@@ -96,6 +97,136 @@ fn turn_each<O: Operator, W: Width>(
     Some(())
 }
 
+/// What the place of a number holds.
+#[inline(always)]
+fn held_at(held: &[Option<Value>], place: usize) -> Option<Value>
+    ensures { result ≡ slice_index_or held.now place None }
+{
+    *held.get(place)?
+}
+
+/// Sets a place to what an operator has on the value of an own place and a number of this type. Nothing where the own place is
+/// unset.
+#[inline(always)]
+fn set_by_known<O: Operator, W: Width>(
+    op: Op,
+    point: usize,
+    own: usize,
+    ty: Ty,
+    number: Number,
+    held: &mut [Option<Value>],
+) -> Option<()>
+    requires op { op ≡ O.op }
+    requires point { point < length held.old }
+    ensures { option_map (λ _. held.new) result ≡ with (with (slice_index_or held.old own None) (λ x. Some (applied op x (typed ty number.value)))) (λ v. Some (slice_set held.old point (Some v))) }
+{
+    let value = held_at(held, own)?;
+    let known = Value {
+        ty,
+        number: number.value,
+    };
+    held[point] = Some(applied_value::<O, W>(op, value, known));
+    Some(())
+}
+
+/// Sets the places of so many turns, one after another, each to what an operator has on the value of an own place and a number of
+/// this type. Nothing where an own place is unset then.
+#[inline(always)]
+fn turn_by_known<O: Operator, W: Width>(
+    op: Op,
+    ty: Ty,
+    behind: &[Number],
+    point: &[usize],
+    own: &[usize],
+    count: usize,
+    held: &mut [Option<Value>],
+) -> Option<()>
+    requires op { op ≡ O.op }
+    requires known { count ≤ length behind.now }
+    requires own { count ≤ length own.now }
+    requires listed { count ≤ length point.now }
+    requires point { (k : ℕ) → k < count → place_at point.now k < length held.old }
+    ensures { (w n : ℕ) (zs : List NumberHeld) (rights : List ℕ) → option_map (λ _. held.new) result ≡ turned (on_known op w ty n) zs behind.now point.now own.now rights held.old count }
+{
+    for turn in 0..count {
+        set_by_known::<O, W>(op, point[turn], own[turn], ty, behind[turn], held)?;
+    }
+    Some(())
+}
+
+/// Sets a place to what an operator has on the values of two own places. Nothing where one of these is unset.
+#[inline(always)]
+fn set_by_own<O: Operator, W: Width>(
+    op: Op,
+    point: usize,
+    first: usize,
+    second: usize,
+    held: &mut [Option<Value>],
+) -> Option<()>
+    requires op { op ≡ O.op }
+    requires point { point < length held.old }
+    ensures { option_map (λ _. held.new) result ≡ with (with (slice_index_or held.old first None) (λ x. with (slice_index_or held.old second None) (λ y. Some (applied op x y)))) (λ v. Some (slice_set held.old point (Some v))) }
+{
+    let value = held_at(held, first)?;
+    let other = held_at(held, second)?;
+    held[point] = Some(applied_value::<O, W>(op, value, other));
+    Some(())
+}
+
+/// Sets the places of so many turns, one after another, each to what an operator has on the values of two own places. Nothing where
+/// one of these is unset then.
+#[inline(always)]
+fn turn_by_own<O: Operator, W: Width>(
+    op: Op,
+    point: &[usize],
+    first: &[usize],
+    second: &[usize],
+    count: usize,
+    held: &mut [Option<Value>],
+) -> Option<()>
+    requires op { op ≡ O.op }
+    requires first { count ≤ length first.now }
+    requires second { count ≤ length second.now }
+    requires listed { count ≤ length point.now }
+    requires point { (k : ℕ) → k < count → place_at point.now k < length held.old }
+    ensures { (v w n : ℕ) (zs behind : List NumberHeld) → option_map (λ _. held.new) result ≡ turned (on_own op v w n) zs behind point.now first.now second.now held.old count }
+{
+    for turn in 0..count {
+        set_by_own::<O, W>(op, point[turn], first[turn], second[turn], held)?;
+    }
+    Some(())
+}
+
+/// The same by a loop of the operands' kinds, where each list has a number for each turn: such a loop tests neither in a turn.
+#[inline(always)]
+fn turn_by<O: Operator, W: Width>(
+    operation: Operation,
+    numbers: &[Number],
+    behind: &[Number],
+    places: &Places<'_>,
+    count: usize,
+    held: &mut [Option<Value>],
+) -> Option<()>
+    requires op { operation.op ≡ O.op }
+    requires point { (k : ℕ) → k < count → place_at places.now.point.now k < length held.old }
+    ensures { option_map (λ _. held.new) result ≡ turned operation numbers.now behind.now places.now.point.now places.now.left.now places.now.right.now held.old count }
+{
+    let op = operation.op;
+    let (point, first, second) = (places.point, places.left, places.right);
+    if point.len() < count || first.len() < count {
+        return turn_each::<O, W>(operation, numbers, behind, places, count, held);
+    }
+    match (operation.left, operation.right) {
+        (Operand::Own(_), Operand::Known(ty)) if count <= behind.len() => {
+            turn_by_known::<O, W>(op, ty, behind, point, first, count, held)
+        }
+        (Operand::Own(_), Operand::Own(_)) if count <= second.len() => {
+            turn_by_own::<O, W>(op, point, first, second, count, held)
+        }
+        _ => turn_each::<O, W>(operation, numbers, behind, places, count, held),
+    }
+}
+
 /// The type that an operand has at the first turn. A loop is chosen by it, and nothing rests on it.
 fn first_type(
     operand: Operand,
@@ -123,12 +254,12 @@ fn turn_in<O: Operator>(
     ensures { option_map (λ _. held.new) result ≡ turned operation numbers.now behind.now places.now.point.now places.now.left.now places.now.right.now held.old count }
 {
     match first_type(operation.left, numbers, places.left, held) {
-        Ty::U8 => turn_each::<O, Unsigned8>(operation, numbers, behind, places, count, held),
-        Ty::U16 => turn_each::<O, Unsigned16>(operation, numbers, behind, places, count, held),
-        Ty::U32 => turn_each::<O, Unsigned32>(operation, numbers, behind, places, count, held),
-        Ty::I8 => turn_each::<O, Signed8>(operation, numbers, behind, places, count, held),
-        Ty::I16 => turn_each::<O, Signed16>(operation, numbers, behind, places, count, held),
-        Ty::I32 => turn_each::<O, Signed32>(operation, numbers, behind, places, count, held),
+        Ty::U8 => turn_by::<O, Unsigned8>(operation, numbers, behind, places, count, held),
+        Ty::U16 => turn_by::<O, Unsigned16>(operation, numbers, behind, places, count, held),
+        Ty::U32 => turn_by::<O, Unsigned32>(operation, numbers, behind, places, count, held),
+        Ty::I8 => turn_by::<O, Signed8>(operation, numbers, behind, places, count, held),
+        Ty::I16 => turn_by::<O, Signed16>(operation, numbers, behind, places, count, held),
+        Ty::I32 => turn_by::<O, Signed32>(operation, numbers, behind, places, count, held),
     }
 }
 

@@ -3,13 +3,13 @@
 use numeric::Ty;
 
 /// A number of a register, which has one for each turn of a run.
-#[derive(Clone, Copy, Debug, Drop)]
+#[derive(Clone, Copy, Drop)]
 pub struct Number {
     pub value: i64,
 }
 
 /// What an expression comes to at the turns of a run, which are taken together. All its values are of one type.
-#[derive(Clone, Copy, Debug, Drop)]
+#[derive(Clone, Copy, Drop)]
 pub enum Lanes {
     /// One value at all turns.
     Broadcast(Ty, Number),

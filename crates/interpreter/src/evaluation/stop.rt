@@ -1,7 +1,7 @@
 //! Why a run stops.
 
 /// Why a run stops.
-#[derive(Clone, Copy, Debug, PartialEq, Eq, Drop)]
+#[derive(Clone, Copy, PartialEq, Eq, Drop)]
 pub enum Stop {
     /// Something was read that is not there, or a place was written that a buffer does not have.
     Fault,

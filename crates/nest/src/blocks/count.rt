@@ -9,7 +9,7 @@ use crate::blocks::line::Line;
 use crate::blocks::stage::Stage;
 
 /// The next group, the next symbol and the next buffer of the last one, and where in it the next line stands.
-#[derive(Clone, Copy, Debug, Drop)]
+#[derive(Clone, Copy, Drop)]
 pub struct Count {
     pub groups: usize,
     pub symbols: usize,

@@ -11,7 +11,7 @@ use crate::blocks::line::Line;
 const MOST_BLOCKS: usize = 512;
 
 /// How many blocks of the group are open, whether its `publish` stands, and whether a fetch may still come.
-#[derive(Clone, Copy, Debug, Drop)]
+#[derive(Clone, Copy, Drop)]
 pub struct Stage {
     pub depth: usize,
     pub published: bool,

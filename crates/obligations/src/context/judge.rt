@@ -15,7 +15,7 @@ use soundness::outline::refusals::Flaw;
 use std::alloc::{AllocError, Global};
 
 /// Which obligations are asked after.
-#[derive(Clone, Copy, Debug, PartialEq, Eq, Drop)]
+#[derive(Clone, Copy, PartialEq, Eq, Drop)]
 pub enum Part {
     /// All but that statements make their claims.
     Lines,

@@ -1,0 +1,7 @@
+use Rattle.std.proofs.Common.{◌≡◌, ℕ, List, Some}
+use Rattle.interpreter.specs.HeldTurns.{on_known, turned}
+use Rattle.interpreter.specs.declared.evaluation.lanes.Number.{Number}
+use Rattle.interpreter.proofs.buffers.turning.turn_by_known.Given as goal
+
+abbrev pub invariant-loop-turn : goal.invariant-loop-turn
+invariant-loop-turn g l = (w n : ℕ) (zs : List Number) (rights : List ℕ) → turned (on_known l.op w l.ty n) zs l.behind l.point l.own rights l.initial.held l.turn ≡ Some l.held
