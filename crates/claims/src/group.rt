@@ -1,7 +1,8 @@
 //! The first that the lines of one group owe and that is not shown.
 
-ghost use Rattle.std.specs.Prelude.{◌≡◌, ◌<◌, Some, MatchOption, IfOk, length, slice_get};
+ghost use Rattle.std.specs.Prelude.{◌≡◌, ◌<◌, ◌-◌, ◌^◌, min, Some, MatchOption, IfOk, length, slice_get};
 ghost use Rattle.algo.specs.View.{algorithm_of};
+ghost use Rattle.plan.specs.Lines.{certificate_line};
 ghost use Rattle.plan.specs.Plan.{Group};
 ghost use Rattle.plan.specs.View.{plan_of};
 ghost use Rattle.plan.specs.Certificate.Certificate.{certificate_of};
@@ -24,13 +25,16 @@ use std::alloc::{AllocError, Global};
 use tails::nests::SplitNests;
 use tails::windows::nests::SlidNests;
 
-/// What is asked after: an algorithm, and a plan with its certificate.
+/// What is asked after: an algorithm, and a plan with its certificate, whose line `cert` is given. Lines past the greatest `u32` count
+/// as that.
 #[derive(Clone, Copy, Drop)]
 pub(crate) struct Asked<'a> {
     pub alloc: Global,
     pub algo: &'a Algo,
     pub plan: &'a Plan,
     pub cert: &'a Cert,
+    pub line: u32,
+    pub ghost line_is: { line ≡ min (certificate_line (plan_of plan.now)) (2 ^ 32 - 1) },
 }
 
 /// The first of a group's obligations, in the order of its statements, that is asked after and not shown, by these tests of
@@ -133,7 +137,7 @@ pub(crate) fn first_with(
     ensures { (g : Group) → slice_get (plan_of asked.entry.plan.now).groups number ≡ Some g → IfOk result (IsFirstIn (algorithm_of asked.entry.algo.now) (plan_of asked.entry.plan.now) (certificate_of asked.entry.cert.now) number g part) }
 {
     let outlined = Outlined::new(asked.alloc, asked.plan, asked.cert, number)?;
-    let bounds = GroupBounds::of(asked.alloc, asked.algo, &outlined)?;
+    let bounds = GroupBounds::of(asked.alloc, asked.algo, &outlined, asked.line)?;
     let unmet = unmet_part(asked.alloc, &bounds, part)?;
     let Some(flaw) = unmet else {
         return Ok(None);

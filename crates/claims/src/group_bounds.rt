@@ -109,12 +109,14 @@ fn first_window(windows: &[Window], claim: u64) -> usize
 }
 
 impl<'a> GroupBounds<'a> {
-    /// The bounds around the lines of a group.
+    /// The bounds around the lines of a group of a plan whose line `cert` is this one.
     pub(crate) fn of<'o: 'a>(
         alloc: Global,
         algo: &'a Algo,
         outlined: &'a Outlined<'o>,
+        line: u32,
     ) -> Result<GroupBounds<'a>, AllocError>
+        requires { line ≡ min (certificate_line (plan_in outlined.now)) (2 ^ 32 - 1) }
         ensures algo { IfOk result (λ x. x.bounds.algo.now ≡ algo.now) }
         ensures outlined { IfOk result (λ x. x.bounds.outlined.now ≡ outlined.now) }
     {
@@ -127,7 +129,7 @@ impl<'a> GroupBounds<'a> {
             kept: RefCell::new(Kept::new(alloc)),
             extents,
             own: own_spans(&outlined.cert().own, outlined.number() as u64),
-            line: outlined.plan().certificate_line(),
+            line,
         })
     }
 }

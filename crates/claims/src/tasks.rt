@@ -83,6 +83,7 @@ pub fn first_fault<R: Threads + Sync>(
         algo,
         plan,
         cert,
+        line: plan.certificate_line(),
     };
     let Some(tasks) = plan.groups.len().checked_mul(2) else {
         return Err(AllocError);

@@ -6,7 +6,7 @@ use Rattle.std.proofs.lemmas.List.{get_or-map, length-map, map-append}
 use Rattle.std.proofs.lemmas.List.Sums.{sum_by-cons}
 use Rattle.plan.specs.declared.stmt.Stmt.{Stmt, Seq' as Block, For' as Loop, Let as Naming, First' as AtFirst, Guard' as Where, Alloc as Allocation, Fetch as Fetching, Store as Storing, Publish as Publishing}
 use Rattle.plan.specs.Plan.{Seq, Empty, Group, Plan, block}
-use Rattle.plan.specs.Lines.{lines, body_line}
+use Rattle.plan.specs.Lines.{lines, body_line, group_line, groups_lines}
 use Rattle.plan.specs.Lists.{list_statements}
 use Rattle.plan.specs.View.{statement_of}
 use Rattle.soundness.specs.Outline.Flaws.{line_told}
@@ -72,6 +72,18 @@ told_after begun now at count more e f g = omega (arith, e, f, g)
 
 abbrev pub no_group : Group
 no_group = record { function = []; region = []; grid = []; body = Seq Empty }
+
+-- before the first group stand three lines
+none_before : (gs : List Group) → groups_lines (take 0 gs) ≡ 0
+none_before [] = refl
+none_before (g ∷ gs) = refl
+
+pub first_group : (p : Plan) → 4 ≡ line_told (group_line p 0)
+first_group p = let none = none_before p.groups in omega (arith, none)
+
+pub from_first : (gs : List Group) → drop 0 gs ≡ gs
+from_first [] = refl
+from_first (g ∷ gs) = refl
 
 pub next_group : (p : Plan) (gs : List Group) (k n : ℕ) (d : Group) → n < length gs →
     fetch_lines_from p k (drop n gs) ≡ fetch_lines k [] (get_or gs n d).body (body_line p k) ++ fetch_lines_from p (k + 1) (drop (n + 1) gs)

@@ -37,7 +37,7 @@ pub struct Shares {
 }
 
 /// Why a plan has no shares.
-#[derive(Debug, Drop)]
+#[derive(Drop)]
 pub enum SharesError {
     /// K9, K10, K11 or K14 at a line of the certificate.
     Flaw(Flaw),

@@ -2,7 +2,7 @@
 
 ghost use Rattle.std.specs.Prelude.{◌≡◌, ℕ, ◌≤◌, ◌<◌, ◌+◌, ◌-◌, ◌^◌, ◌++◌, ◌∷◌, [], IfOk, OnOk, MatchOption, All, map, length, min, Some, slice_get};
 ghost use Rattle.plan.specs.Lists.{list_statements};
-ghost use Rattle.plan.specs.Lines.{body_line};
+ghost use Rattle.plan.specs.Lines.{body_line, group_line};
 ghost use Rattle.plan.specs.Plan.{block, Group as NestGroup};
 ghost use Rattle.plan.specs.View.{plan_of, statement_of};
 ghost use Rattle.plan.specs.Certificate.Cells.{grid_symbols, pieces};
@@ -29,6 +29,9 @@ use std::alloc::{AllocError, Global};
 
 /// The most cells that the pieces of a plan fetch.
 const MOST_FETCHED: u64 = 1 << 26;
+
+/// The line `group` of a plan's first group.
+const FIRST_LINE: u32 = 4;
 
 /// A line that fetches: its number, the group whose pieces fetch, the lines `let` before it, the group that it fetches from,
 /// and the region.
@@ -110,19 +113,24 @@ fn note_block_fetches<'a>(
     Ok(())
 }
 
-/// Notes the lines that fetch of the group of this number.
+/// Notes the lines that fetch of the group of this number, whose line `group` is this one, and gives the line behind the group.
+/// Lines past the greatest `u32` count as that.
 fn note_group<'a>(
     alloc: Global,
     plan: &'a Plan,
     number: usize,
+    line: u32,
     noted: &mut Vec<FetchLine<'a>>,
-) -> Result<(), AllocError>
-    requires { number < length plan.now.groups.items }
-    ensures { OnOk result ((g : NestGroup) → slice_get (plan_of plan.now).groups number ≡ Some g → lines_noted noted.new.items ≡ lines_noted noted.old.items ++ map told_line (fetch_lines number [] g.body (body_line (plan_of plan.now) number))) }
+) -> Result<u32, AllocError>
+    requires number { number < length plan.now.groups.items }
+    requires line { line ≡ line_told (group_line (plan_of plan.now) number) }
+    ensures noted { OnOk result ((g : NestGroup) → slice_get (plan_of plan.now).groups number ≡ Some g → lines_noted noted.new.items ≡ lines_noted noted.old.items ++ map told_line (fetch_lines number [] g.body (body_line (plan_of plan.now) number))) }
+    ensures behind { IfOk result (λ behind. behind ≡ line_told (group_line (plan_of plan.now) (number + 1))) }
 {
-    let line = plan.group_line(number).saturating_add(1);
-    note_fetches(alloc, &plan.groups[number].body, number, line, &[], noted)?;
-    Ok(())
+    let body = &plan.groups[number].body;
+    let begun = line.saturating_add(1);
+    note_fetches(alloc, body, number, begun, &[], noted)?;
+    Ok(begun.saturating_add(body.line_count()))
 }
 
 /// The fetch lines of each group of a plan.
@@ -135,9 +143,10 @@ pub(crate) fn noted_groups<'a>(
     ensures { IfOk result (λ made. AreNotedBy (plan_of plan.now) (length plan.now.groups.items) (map (λ v. v.items) made.items)) }
 {
     let mut made = Vec::new(alloc);
+    let mut line = FIRST_LINE;
     for number in 0..plan.groups.len() {
         let mut noted = Vec::new(alloc);
-        note_group(alloc, plan, number, &mut noted)?;
+        line = note_group(alloc, plan, number, line, &mut noted)?;
         made.push(noted)?;
     }
     Ok(made)
@@ -151,8 +160,9 @@ pub(crate) fn fetch_lines<'a>(
     ensures { IfOk result (λ noted. lines_noted noted.items ≡ map told_line (plan_fetch_lines (plan_of plan.now))) }
 {
     let mut noted = Vec::new(alloc);
+    let mut line = FIRST_LINE;
     for number in 0..plan.groups.len() {
-        note_group(alloc, plan, number, &mut noted)?;
+        line = note_group(alloc, plan, number, line, &mut noted)?;
     }
     Ok(noted)
 }

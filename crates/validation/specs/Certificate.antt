@@ -3,6 +3,7 @@ pub mod Placing
 pub mod Ways
 pub mod Certificate
 pub mod View
+pub mod Counted
 pub mod Clear
 pub mod Wrong
 pub mod Laws

@@ -3,6 +3,7 @@
 
 mod claim_lines;
 mod codes;
+mod counted;
 mod flaws;
 mod groups;
 pub mod laws;

@@ -12,14 +12,16 @@ ghost use Rattle.std.specs.Global.{Global};
 ghost use Rattle.algo.specs.View.{algorithm_of};
 ghost use Rattle.soundness.specs.Outline.Forms.{spans_are_within_limits, have_ends};
 ghost use Rattle.soundness.specs.Outline.Flaws.{first_of, told, line_told};
-ghost use Rattle.soundness.specs.Outline.View.{buffer_in, group_in};
+ghost use Rattle.soundness.specs.Outline.View.{buffer_in};
 ghost use Rattle.validation.specs.Certificate.Lines.{line_flaws, each_line, told_at};
 ghost use Rattle.validation.specs.Certificate.Certificate.{is_of_buffer, is_of_function, is_at, claim_is_known, claim_flaws};
 ghost use Rattle.validation.specs.Certificate.Placing.{place_at};
+ghost use Rattle.validation.specs.Certificate.Counted.{group_counted};
 ghost use Rattle.validation.specs.Certificate.View.{place_of};
 
 use crate::among::is_among;
 use crate::certificate::codes::line_code;
+use crate::certificate::counted::CountedOutline;
 use crate::certificate::placed::{Placed, outlines_of, placed_at};
 use algo::{Algo, Function};
 use indexmap::IndexMap;
@@ -89,8 +91,8 @@ fn is_claim_at(placed: &Placed<'_, '_>, claim: &Claim) -> bool
 
 /// Whether a statement ends at the claim's line, and the claim is of a buffer of that group that is in scope there, in symbols
 /// that are bound there.
-fn is_at(alloc: Global, outlines: &[Outlined<'_>], claim: &Claim) -> Result<bool, AllocError>
-    ensures { IfOk result (λ yes. yes ≡ is_at (place_at (map group_in outlines.now) claim.now.line) (claim_of claim.now)) }
+fn is_at(alloc: Global, outlines: &[CountedOutline<'_>], claim: &Claim) -> Result<bool, AllocError>
+    ensures { IfOk result (λ yes. yes ≡ is_at (place_at (map group_counted outlines.now) claim.now.line) (claim_of claim.now)) }
 {
     match placed_at(alloc, outlines, claim.line)? {
         None => Ok(false),
@@ -102,11 +104,11 @@ fn is_at(alloc: Global, outlines: &[Outlined<'_>], claim: &Claim) -> Result<bool
 fn claim_code(
     alloc: Global,
     functions: &IndexMap<String, Function>,
-    outlines: &[Outlined<'_>],
+    outlines: &[CountedOutline<'_>],
     number: usize,
     claim: &Claim,
 ) -> Result<Option<K>, AllocError>
-    ensures { IfOk result (λ code. (line : ℕ) → told_at code line ≡ first_of (line_flaws (claim_is_known (functions_of functions.now.entries) (map group_in outlines.now) (claim_of claim.now)) (spans_are_within_limits claim.now.region) (have_ends claim.now.region && nat_lt number 4096) line)) }
+    ensures { IfOk result (λ code. (line : ℕ) → told_at code line ≡ first_of (line_flaws (claim_is_known (functions_of functions.now.entries) (map group_counted outlines.now) (claim_of claim.now)) (spans_are_within_limits claim.now.region) (have_ends claim.now.region && nat_lt number 4096) line)) }
 {
     let region = claim.region.as_slice();
     let at = is_at(alloc, outlines, claim)?;

@@ -12,11 +12,13 @@ ghost use Rattle.validation.specs.Certificate.Lines.{window_line_flaws, each_lin
 ghost use Rattle.validation.specs.Certificate.Certificate.{groups_keep, has_ends, is_along, is_used, is_window_of, span_is_within_limits};
 ghost use Rattle.validation.specs.Certificate.Certificate.{window_flaws, window_is_known};
 ghost use Rattle.validation.specs.Certificate.Placing.{place_at};
+ghost use Rattle.validation.specs.Certificate.Counted.{group_counted};
 ghost use Rattle.validation.specs.Certificate.View.{place_of};
 
 use crate::among::is_bound;
 use crate::certificate::claim_lines::both;
 use crate::certificate::codes::window_code;
+use crate::certificate::counted::CountedOutline;
 use crate::certificate::placed::{Placed, outlines_of, placed_at};
 use lin::Span1;
 use plan::Plan;
@@ -40,11 +42,11 @@ fn is_window_at(placed: &Placed<'_, '_>, window: &Window) -> bool
 /// that are bound there.
 fn is_along(
     alloc: Global,
-    outlines: &[Outlined<'_>],
+    outlines: &[CountedOutline<'_>],
     line: u64,
     window: &Window,
 ) -> Result<bool, AllocError>
-    ensures { IfOk result (λ yes. yes ≡ is_along (place_at (map group_in outlines.now) line) window.now) }
+    ensures { IfOk result (λ yes. yes ≡ is_along (place_at (map group_counted outlines.now) line) window.now) }
 {
     match placed_at(alloc, outlines, line)? {
         None => Ok(false),
@@ -55,11 +57,11 @@ fn is_along(
 /// Whether the claim has the window's dimension, and its statement is in a loop of the window's symbol.
 fn is_window_of(
     alloc: Global,
-    outlines: &[Outlined<'_>],
+    outlines: &[CountedOutline<'_>],
     claim: &Claim,
     window: &Window,
 ) -> Result<bool, AllocError>
-    ensures { IfOk result (λ yes. yes ≡ is_window_of (map group_in outlines.now) (Some (claim_of claim.now)) window.now) }
+    ensures { IfOk result (λ yes. yes ≡ is_window_of (map group_counted outlines.now) (Some (claim_of claim.now)) window.now) }
 {
     let along = is_along(alloc, outlines, claim.line, window)?;
     let count = claim.region.as_slice().len() as u64;
@@ -69,11 +71,11 @@ fn is_window_of(
 /// Whether the window is of one of these claims.
 fn is_known(
     alloc: Global,
-    outlines: &[Outlined<'_>],
+    outlines: &[CountedOutline<'_>],
     claims: &[Claim],
     window: &Window,
 ) -> Result<bool, AllocError>
-    ensures { IfOk result (λ yes. yes ≡ window_is_known (map group_in outlines.now) (map claim_of claims.now) window.now) }
+    ensures { IfOk result (λ yes. yes ≡ window_is_known (map group_counted outlines.now) (map claim_of claims.now) window.now) }
 {
     match claims.get(window.claim as usize) {
         None => Ok(false),
@@ -150,12 +152,12 @@ fn code_behind(
     alloc: Global,
     plan: &Plan,
     cert: &Cert,
-    outlines: &[Outlined<'_>],
+    outlines: &[CountedOutline<'_>],
     earlier: &[Window],
     window: &Window,
 ) -> Result<Option<K>, AllocError>
     ensures { IfOk result (λ code. (line : ℕ) → told_at code line ≡ first_of (window_line_flaws
-        (window_is_known (map group_in outlines.now) (certificate_of cert.now).claims window.now)
+        (window_is_known (map group_counted outlines.now) (certificate_of cert.now).claims window.now)
         (span_is_within_limits window.now.span)
         (is_used (plan_of plan.now) (certificate_of cert.now) earlier.now window.now)
         (has_ends window.now.span)

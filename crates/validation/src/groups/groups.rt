@@ -41,6 +41,8 @@ const MOST_CELLS: u64 = 1 << 24;
 const MOST_PIECES: u64 = 1 << 20;
 /// The most symbols of a grid, as of a group.
 const MOST_SYMBOLS: usize = 256;
+/// The line `group` of a plan's first group.
+const FIRST_LINE: u32 = 4;
 
 /// Whether some line of the statement publishes.
 #[cycle(publishes)]
@@ -201,7 +203,8 @@ fn group_flaw(
     body_flaw(alloc, algo, outlined, stored, line)
 }
 
-/// The first flaw of the lines of the group of this number, where groups up to it have so many cells and pieces.
+/// The first flaw of the lines of the group of this number, whose line `group` is this one, where groups up to it have so many cells
+/// and pieces.
 fn numbered_flaw(
     alloc: Global,
     algo: &Algo,
@@ -209,11 +212,13 @@ fn numbered_flaw(
     cert: &Cert,
     stored: &[bool],
     number: usize,
+    line: u32,
     cells: u64,
     pieces: u64,
 ) -> Result<Option<Flaw>, AllocError>
     requires marked { stored.now ≡ stored_in (algorithm_of algo.now) (plan_of plan.now) }
     requires number { number < length plan.now.groups.items }
+    requires line { line ≡ line_told (group_line (plan_of plan.now) number) }
     ensures { (g : GroupSaid) → slice_get (plan_of plan.now).groups number ≡ Some g → IfOk result (λ flaw. told flaw ≡ first_of (group_flaws (algorithm_of algo.now) (plan_of plan.now) (certificate_of cert.now) (line_told (group_line (plan_of plan.now) number)) number g cells pieces)) }
 {
     let outlined = Outlined::new(alloc, plan, cert, number)?;
@@ -222,7 +227,7 @@ fn numbered_flaw(
         algo,
         &outlined,
         stored,
-        plan.group_line(number),
+        line,
         &plan.groups[..number],
         cells,
         pieces,
@@ -258,14 +263,16 @@ fn groups_flaw(
 {
     let mut cells: u64 = 0;
     let mut pieces: u64 = 0;
+    let mut line = FIRST_LINE;
     for n in 0..groups.len() {
         let group = &groups[n];
         cells = cells_with(cells, group);
         pieces = pieces_with(pieces, group);
-        let flaw = numbered_flaw(alloc, algo, plan, cert, stored, n, cells, pieces)?;
+        let flaw = numbered_flaw(alloc, algo, plan, cert, stored, n, line, cells, pieces)?;
         if flaw.is_some() {
             return Ok(flaw);
         }
+        line = lines_from(line, group).behind;
     }
     Ok(None)
 }

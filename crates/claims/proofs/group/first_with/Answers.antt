@@ -1,11 +1,16 @@
-use Rattle.std.proofs.Common.{◌∙◌, ap, sym}
+use Rattle.std.proofs.Common.{◌∙◌, ◌-◌, ◌^◌, min, ap, sym}
 use Rattle.std.specs.Prelude.{slice_get}
 use Rattle.algo.specs.View.{algorithm_of}
+use Rattle.plan.specs.Lines.{certificate_line}
+use Rattle.plan.specs.Plan.{Plan}
 use Rattle.plan.specs.View.{plan_of}
 use Rattle.plan.specs.Certificate.Certificate.{certificate_of}
 use Rattle.soundness.specs.Outline.View.{plan_in, certificate_in, number_in, group_in}
 use Rattle.claims.proofs.Firsts.{AreOf, unmet_moved, first_moved, same_group}
 use Rattle.claims.proofs.group.first_with.Goals as goal
+
+pub of-requires : goal.of-requires
+of-requires c = c.args.asked.line_is ∙ ap (λ (p : Plan). min (certificate_line p) (2 ^ 32 - 1)) (sym c.in_ok-outlined.ensures.plan)
 
 pub returns-in_default : goal.returns-in_default
 returns-in_default c = λ g at.

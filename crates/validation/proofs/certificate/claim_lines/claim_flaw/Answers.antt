@@ -10,9 +10,9 @@ use Rattle.soundness.specs.Outline.Refusals.Codes.{number_of}
 use Rattle.soundness.specs.declared.outline.refusals.code.K.{K}
 use Rattle.soundness.specs.Outline.Flaws.{Flaw, first_of as the_first}
 use Rattle.soundness.specs.Outline.Forms.{spans_are_within_limits, have_ends}
-use Rattle.soundness.specs.Outline.View.{group_in}
-use Rattle.soundness.specs.declared.outline.outlined.Outlined.{Outlined}
 use Rattle.plan.specs.declared.certificate.cert.Claim.{Claim}
+use Rattle.validation.specs.declared.certificate.counted.CountedOutline.{CountedOutline}
+use Rattle.validation.specs.Certificate.Counted.{group_counted}
 use Rattle.validation.specs.Certificate.Lines.{told_at, line_flaws}
 use Rattle.validation.specs.Certificate.Certificate.{claim_is_known, claim_flaws}
 use Rattle.validation.proofs.Lines.{claim_told, each_line-map, line_fine, line_flawed}
@@ -29,7 +29,7 @@ returns-in-Some c =
     let line = claim_line s (certificate_line p) i in
     let f : ℕ → Claim → List Flaw = λ j y. claim_flaws a p s j (claim_of y) in
     let flaw : ℕ → Flaw = λ n. record { code = number_of c.in-Some.code; line = n } in
-    let groups : map group_in c.deref.result.now ≡ p.groups = ap (λ (xs : List Outlined). map group_in xs) c.deref.ensures.value ∙ c.in_ok-outlines.ensures in
+    let groups : map group_counted c.deref.result.now ≡ p.groups = ap (λ (xs : List CountedOutline). map group_counted xs) c.deref.ensures.value ∙ c.in_ok-outlines.ensures in
     let here : Some (flaw c.claim_line-line.result) ≡ the_first (f i x) =
     ap (λ (n : ℕ). Some (flaw n)) (c.claim_line-line.ensures ∙ claim_told s (certificate_line p) c.args.line i c.requires)
     ∙ ap (λ (o : Option K). told_at o line) (sym c.in-Some.is)
@@ -50,7 +50,7 @@ loop-index-preserved c =
     let x = c.claim-item.result in
     let line = claim_line s (certificate_line p) i in
     let f : ℕ → Claim → List Flaw = λ j y. claim_flaws a p s j (claim_of y) in
-    let groups : map group_in c.deref.result.now ≡ p.groups = ap (λ (xs : List Outlined). map group_in xs) c.deref.ensures.value ∙ c.in_ok-outlines.ensures in
+    let groups : map group_counted c.deref.result.now ≡ p.groups = ap (λ (xs : List CountedOutline). map group_counted xs) c.deref.ensures.value ∙ c.in_ok-outlines.ensures in
     let fine : None ≡ the_first (f i x) =
     ap (λ (o : Option K). told_at o line) (sym c.in_default.is)
     ∙ c.in_ok-code.ensures line

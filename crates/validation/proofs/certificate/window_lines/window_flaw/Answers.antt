@@ -8,8 +8,8 @@ use Rattle.plan.specs.declared.certificate.cert.Window.{Window}
 use Rattle.soundness.specs.Outline.Refusals.Codes.{number_of}
 use Rattle.soundness.specs.declared.outline.refusals.code.K.{K}
 use Rattle.soundness.specs.Outline.Flaws.{Flaw, first_of as the_first}
-use Rattle.soundness.specs.Outline.View.{group_in}
-use Rattle.soundness.specs.declared.outline.outlined.Outlined.{Outlined}
+use Rattle.validation.specs.declared.certificate.counted.CountedOutline.{CountedOutline}
+use Rattle.validation.specs.Certificate.Counted.{group_counted}
 use Rattle.validation.specs.Certificate.Lines.{told_at, window_line_flaws}
 use Rattle.validation.specs.Certificate.Certificate.{window_is_known, is_used, span_is_within_limits, has_ends, window_flaws}
 use Rattle.validation.proofs.Lines.{window_told, line_fine, line_flawed}
@@ -25,7 +25,7 @@ returns-in-Some c =
     let line = window_line s (certificate_line p) i in
     let f = window_flaws p s in
     let flaw : ℕ → Flaw = λ n. record { code = number_of c.in-Some.code; line = n } in
-    let groups : map group_in c.deref-in-loop-index.result.now ≡ p.groups = ap (λ (xs : List Outlined). map group_in xs) c.deref-in-loop-index.ensures.value ∙ c.in_ok-outlines.ensures in
+    let groups : map group_counted c.deref-in-loop-index.result.now ≡ p.groups = ap (λ (xs : List CountedOutline). map group_counted xs) c.deref-in-loop-index.ensures.value ∙ c.in_ok-outlines.ensures in
     let earlier : take i c.deref.result.now ≡ take i items = ap (λ (xs : List Window). take i xs) c.deref.ensures.value in
     let here : Some (flaw c.window_line-line.result) ≡ the_first (f i w) =
     ap (λ (n : ℕ). Some (flaw n)) (c.window_line-line.ensures ∙ window_told s (certificate_line p) c.args.line i c.requires)
@@ -45,7 +45,7 @@ loop-index-preserved c =
     let w = c.window-item.result in
     let line = window_line s (certificate_line p) i in
     let f = window_flaws p s in
-    let groups : map group_in c.deref-in-loop-index.result.now ≡ p.groups = ap (λ (xs : List Outlined). map group_in xs) c.deref-in-loop-index.ensures.value ∙ c.in_ok-outlines.ensures in
+    let groups : map group_counted c.deref-in-loop-index.result.now ≡ p.groups = ap (λ (xs : List CountedOutline). map group_counted xs) c.deref-in-loop-index.ensures.value ∙ c.in_ok-outlines.ensures in
     let earlier : take i c.deref.result.now ≡ take i items = ap (λ (xs : List Window). take i xs) c.deref.ensures.value in
     let fine : None ≡ the_first (f i w) =
     ap (λ (o : Option K). told_at o line) (sym c.in_default.is)

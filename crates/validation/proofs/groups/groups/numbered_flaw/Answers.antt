@@ -31,6 +31,6 @@ returns c g at =
     let earlier : list_groups (take n c.deref.result.now) ≡ take n p.groups =
     ap (λ (xs : List GroupHeld). list_groups (take n xs)) c.deref.ensures.value ∙ take_groups c.args.plan.now.groups.items n in
     subst (λ (x : Option Flaw). IfOk c.group_flaw.result (λ flaw. told flaw ≡ x))
-    (λ i. first_of (group_line_flaws a (c.group_line.ensures i) (earlier i) (group i) c.args.cells c.args.pieces
-    ++ flaws a (plan i) (certificate i) (group i) (outline_of (plan i) (certificate i) (number i) (group i)) (group i).body (start (c.group_line.ensures i) (group i))))
+    (λ i. first_of (group_line_flaws a (c.requires.line i) (earlier i) (group i) c.args.cells c.args.pieces
+    ++ flaws a (plan i) (certificate i) (group i) (outline_of (plan i) (certificate i) (number i) (group i)) (group i).body (start (c.requires.line i) (group i))))
     c.group_flaw.ensures
