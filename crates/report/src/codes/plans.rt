@@ -174,7 +174,7 @@ stencil: K13 line 6
 Mark the innermost loop, around one store; mark no loop of a reduction.
 ";
 
-const K14: &str = "Another limit, or a line that the checker does not take yet.
+const K14: &str = "A limit other than those of forms (K3).
 
 ```console
 $ sed '5s/0#2/0#5000000/' examples/inc.plan > a.plan

@@ -149,6 +149,7 @@ stencil: L12 out
 ```
 
 Clamp the index, as in `in[clamp(x + 1, 0, 3)]`. Both arms of a `select` are evaluated, so a `select` does not help.
+Where the index is such a clamp, clamps stand one inside another (docs/SCHEDULES.md, `What the bounds can't see`): `--explain` names a function to store.
 ";
 
 /// The page of a code of schedules.
