@@ -66,7 +66,7 @@ pub fn first_region_flaw(
 /// It asks of names, limits and lists of forms alone: what `first_region_flaw` asks, and that claims are of known buffers,
 /// functions and definitions, with as many spans as those have coordinates, in symbols that are bound at the line, and windows of
 /// known claims, along a loop round the claim's statement and in one of its dimensions. Whether claims and windows hold is not
-/// asked. The time is about the groups' lines for each claim and window.
+/// asked. The time is about the groups and one group's lines for each claim, and the groups' lines for each window.
 ///
 /// # Errors
 /// Want of memory.
