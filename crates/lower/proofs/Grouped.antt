@@ -2,7 +2,7 @@
 use Rattle.std.proofs.Common.{◌≡◌, ℕ, ◌+◌, ◌-◌, ◌*◌, ◌<◌, Bool, true, false, List, [], ◌∷◌, ◌++◌, length, map, Option, Some, None, Result, Ok, Err, refl, sym, ap, subst, ◌∙◌, arith}
 use Rattle.std.specs.Global.{Vec}
 use Rattle.std.specs.Prelude.{IfOk}
-use Rattle.std.proofs.lemmas.List.{append_assoc, append-nil, length-append, map-append}
+use Rattle.std.proofs.lemmas.List.{append_assoc, append-nil, length-append, length-map, map-append}
 use Rattle.lin.specs.declared.span.Span1.{Span1}
 use Rattle.meaning.specs.Algorithm.{Algorithm}
 use Rattle.plan.specs.declared.certificate.cert.Cert.{Cert}
@@ -27,7 +27,8 @@ use Rattle.lower.specs.Bodies.{first_lines, IsBodyWith}
 use Rattle.lower.specs.Making.{IsBegun, FetchMade, with_first, BodyMade, GroupMade}
 use Rattle.lower.specs.Renamed.{Pairs}
 use Rattle.lower.specs.Placed.{PlacedText, SoFar, seat_of, so_far, group_owner, nests_over_grid, HasSome, numbered, picked, AreFetchedBy, with_fetched, begun, MayFetch, FetchesBy, inner_seen}
-use Rattle.lower.specs.Groups.{root_of, party_of, inners_of, placed_of, line_behind, IsBodyBy, AreBodiesBy, MixedMade, GroupBy, GroupsBy}
+use Rattle.lower.specs.Computed.{AreFound, AreAllFound, AreFoundIf}
+use Rattle.lower.specs.Groups.{root_of, party_of, inners_of, placed_of, line_behind, IsBodyBy, AreBodiesBy, MixedMade, GroupBy, GroupsBy, IsKnown, AreKnown, AreFoundOf}
 use Rattle.lower.specs.Homes.{AreAtHome, AreAllAtHome}
 
 -- ---- lists
@@ -298,3 +299,25 @@ first_at_home es q qs all first others h = subst (λ (l : List Party). AreAllAtH
 
 pub at_home_among : (es fs : List Entry) (qs : List Party) → es ≡ fs → AreAllAtHome (map party_of qs) es (map placed_of qs) → AreAllAtHome (map party_of qs) fs (map placed_of qs)
 at_home_among es fs qs e h = subst (λ (l : List Entry). AreAllAtHome (map party_of qs) l (map placed_of qs)) e h
+
+pub first_found : (a : Algorithm) (n : ℕ) (es : List Entry) (q : Party) (qs all : List Party) → AreFoundIf a (party_of q) es n [] q.inners → AreFoundOf a n es qs → all ≡ q ∷ qs
+    → AreFoundOf a n es all
+first_found a n es q qs all first others h = subst (λ (l : List Party). AreFoundOf a n es l) (sym h) (first, others)
+
+pub found_among : (a : Algorithm) (functions : List Root) (es : List Entry) (qs : List Party) → map root_of functions ≡ es
+    → AreFoundOf a (length functions) (map root_of functions) qs → AreFoundOf a (length es) es qs
+found_among a functions es qs e h =
+    let as_many : length functions ≡ length es = sym (length-map functions root_of) ∙ ap length e in
+    subst (λ (n : ℕ). AreFoundOf a n es qs) as_many (subst (λ (l : List Entry). AreFoundOf a (length functions) l qs) e h)
+
+pub is_known : (q : Party) (v : Vec Inner) → q.inners ≡ Ok v → IsKnown q.inners
+is_known q v e = subst (λ (r : Result (Vec Inner) (List ℕ)). IsKnown r) (sym e) tt
+
+known_found : (a : Algorithm) (e : Entry) (es : List Entry) (n : ℕ) (is : List PlacedText) (r : Result (Vec Inner) (List ℕ)) → AreFoundIf a e es n is r → IsKnown r
+    → AreFound a e es n is (inners_of r)
+known_found a e es n is (Err x) h k = absurd k
+known_found a e es n is (Ok v) h k = h
+
+pub all_found : (a : Algorithm) (n : ℕ) (es : List Entry) (qs : List Party) → AreFoundOf a n es qs → AreKnown qs → AreAllFound a n (map party_of qs) es (map placed_of qs)
+all_found a n es [] h k = tt
+all_found a n es (q ∷ qs) h k = (known_found a (party_of q) es n [] q.inners h.0 k.0, all_found a n es qs h.1 k.1)

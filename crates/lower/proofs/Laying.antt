@@ -1,14 +1,17 @@
 -- The loops of a region that was found are those of the skeleton over it.
-use Rattle.std.proofs.Common.{◌≡◌, ℕ, zero, suc, Bool, true, false, List, Option, Some, None, refl, sym, ap, subst, ◌∙◌}
+use Rattle.std.proofs.Common.{◌≡◌, ℕ, zero, suc, Bool, true, false, List, [], ◌∷◌, map, Option, Some, None, refl, sym, ap, subst, ◌∙◌}
 use Rattle.std.specs.Prelude.{if◌then◌else◌}
 use Rattle.meaning.specs.Algorithm.{Algorithm}
 use Rattle.sched.specs.declared.numbers.Extent.{Extent}
 use Rattle.sched.specs.Skeleton.{SkeletonText}
 use Rattle.sched.specs.Standing.{◌>>=◌}
+use Rattle.std.specs.Option.{option_map}
 use Rattle.lower.specs.declared.regions.Ends.{Ends}
+use Rattle.lower.specs.declared.regions.Laid.{Laid}
 use Rattle.lower.specs.Stored.{FormulaText, StoredText}
 use Rattle.lower.specs.Around.{head_scope}
-use Rattle.lower.specs.Regions.{LaidText, add_all_own, region_of, same_region, skeleton_of, over, closed, reach_of, laid_over, laid_by, laid_within}
+use Rattle.lower.specs.Regions.{LaidText, laid_of, add_all_own, region_of, same_region, skeleton_of, over, closed, reach_of, laid_over, laid_by, laid_within, laid_functions}
+use Rattle.lower.specs.Groups.{IsOverRegion, AreOverRegions}
 
 abbrev pub IsLaidOver : StoredText → List FormulaText → LaidText → Type 0
 IsLaidOver g fs x = skeleton_of g fs x.region ≡ Some x.skeleton
@@ -58,3 +61,28 @@ laid_over_it a g later found fs x e h =
     let is : laid_by a g (Some fs) later found ≡ Some x = ap (λ o. laid_by a g o later found) (sym e) ∙ h in
     let b = bound (reach_of a g later found) (laid_over a g fs) x is in
     laid_it a g fs b.value x b.comes
+
+pub again_over : (a : Algorithm) (g : StoredText) (fs : List FormulaText) (reach : List (Option Ends)) (l : Laid) → laid_over a g fs reach ≡ Some (laid_of l)
+    → skeleton_of g fs (laid_of l).region ≡ Some (laid_of l).skeleton
+again_over a g fs reach l h = laid_it a g fs reach (laid_of l) h
+
+pub over_region : (g : StoredText) (l : LaidText) (o : Option (List FormulaText)) (fs : List FormulaText) → o ≡ Some fs → skeleton_of g fs l.region ≡ Some l.skeleton → IsOverRegion g (Some l) o
+over_region g l o fs e h = subst (λ (p : Option (List FormulaText)). IsOverRegion g (Some l) p) (sym e) h
+
+each_over : (a : Algorithm) (g : StoredText) (gs : List StoredText) (o : Option LaidText) (p : Option (List FormulaText)) → g.formulas ≡ p → laid_within a g gs (laid_functions a gs) ≡ o
+    → IsOverRegion g o p
+each_over a g gs None p e h = tt
+each_over a g gs (Some l) None e h = tt
+each_over a g gs (Some l) (Some fs) e h = laid_over_it a g gs (laid_functions a gs) fs l e h
+
+all_over : (a : Algorithm) (gs : List StoredText) → AreOverRegions gs (laid_functions a gs)
+all_over a [] = tt
+all_over a (g ∷ gs) = (each_over a g gs (laid_within a g gs (laid_functions a gs)) g.formulas refl refl, all_over a gs)
+
+pub needed_over : (a : Algorithm) (gs : List StoredText) (ls : List (Option LaidText)) → ls ≡ laid_functions a gs → AreOverRegions gs ls
+needed_over a gs ls h = subst (AreOverRegions gs) (sym h) (all_over a gs)
+
+pub first_over : (g : StoredText) (gs : List StoredText) (l : Option Laid) (ls all : List (Option Laid)) → IsOverRegion g (option_map laid_of l) g.formulas
+    → AreOverRegions gs (map (option_map laid_of) ls) → all ≡ l ∷ ls → AreOverRegions (g ∷ gs) (map (option_map laid_of) all)
+first_over g gs l ls all first others h =
+    subst (λ (q : List (Option Laid)). AreOverRegions (g ∷ gs) (map (option_map laid_of) q)) (sym h) (first, others)

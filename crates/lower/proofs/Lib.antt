@@ -1,3 +1,4 @@
+pub mod Along
 pub mod Arriving
 pub mod Bindings
 pub mod Blocking
@@ -6,15 +7,18 @@ pub mod Claimed
 pub mod Counted
 pub mod Covering
 pub mod Cuts
+pub mod Demands
 pub mod Directed
 pub mod Dividing
 pub mod Entries
 pub mod Extents
 pub mod Fetched
 pub mod First
+pub mod Firsts
 pub mod Gridded
 pub mod Grids
 pub mod Grouped
+pub mod Holding
 pub mod Hosts
 pub mod Inputs
 pub mod Insides

@@ -17,7 +17,8 @@ use Rattle.lower.specs.Heads.{IsHeadOf}
 use Rattle.lower.specs.Faults.{is_homeless, is_whole, are_whole}
 use Rattle.lower.specs.declared.parties.Party.{Party}
 use Rattle.lower.specs.Fetches.{Entry}
-use Rattle.lower.specs.Groups.{IsGroupOf, AreGroupsOf, IsOwnOf, AreOwned, HaveBlocks, line_behind, HaveBodies, grid_over, root_functions, region_of, HasGroups, rooted_if, rooted, has_region, AreLaid, IsOver, IsOwnOver, AreMade, AreBodies, AreBodiesBy, placed_of, AreAlone, IsPlanOf}
+use Rattle.lower.specs.Groups.{IsGroupOf, AreGroupsOf, IsOwnOf, AreOwned, HaveBlocks, line_behind, HaveBodies, grid_over, root_functions, region_of, HasGroups, rooted_if, rooted, has_region, AreLaid, IsOver, IsOwnOver, AreMade, AreBodies, AreBodiesBy, AreOverRegions, placed_of, AreAlone, IsPlanOf}
+use Rattle.lower.specs.Computed.{AreAllFound}
 use Rattle.lower.specs.Homes.{AreAllAtHome}
 use Rattle.lower.proofs.Laying.{IsLaidOver, laid_over_it}
 
@@ -171,16 +172,17 @@ blocks a (g ∷ gs) w h n ps os m =
 
 pub plan_made : (a : Algorithm) (all : List Entry) (claims : List Claim) (needs : List Need) (gs : List StoredText) (ls : List (Option LaidText)) (qs : List Party) (es : List Entry)
     (l : Lowered) (ps : List Group)
-    (os : List Own) → AreLaid gs ls → all ≡ rooted true gs ls → es ≡ rooted true gs ls → (rooted false gs ls ≡ [] → AreAlone qs) → AreMade es 0 ps os
+    (os : List Own) → AreLaid gs ls → AreOverRegions gs ls → all ≡ rooted true gs ls → es ≡ rooted true gs ls → (rooted false gs ls ≡ [] → AreAlone qs) → AreMade es 0 ps os
     → (AreAlone qs → AreBodies a all 0 0 4 es ps claims needs) → l.plan.groups.items ≡ ps → l.certificate.own.items ≡ os → l.certificate.claims.items ≡ claims → l.certificate.needs.items ≡ needs
     → (AreAlone qs → l.certificate.windows.items ≡ []) → IsHeadOf a l.plan → AreAllAtHome es (rooted false gs ls) (map placed_of qs)
-    → AreBodiesBy a all 0 0 4 (map placed_of qs) es ps claims needs l.certificate.windows.items → IsPlanOf a gs ls l
-plan_made a all claims needs gs ls qs es l ps os laid roots e alone made does is_groups is_own is_claims is_needs windows head homes by =
+    → AreAllFound a (length (rooted false gs ls)) es (rooted false gs ls) (map placed_of qs) → AreBodiesBy a all 0 0 4 (map placed_of qs) es ps claims needs l.certificate.windows.items → IsPlanOf a gs ls l
+plan_made a all claims needs gs ls qs es l ps os laid around roots e alone made does is_groups is_own is_claims is_needs windows head homes found by =
     let held = l.certificate.windows.items in
     record {
       placed = record {
         placed = map placed_of qs;
         homes = subst (λ (xs : List Entry). AreAllAtHome xs (rooted false gs ls) (map placed_of qs)) e homes;
+        found = subst (λ (xs : List Entry). AreAllFound a (length (rooted false gs ls)) xs (rooted false gs ls) (map placed_of qs)) e found;
         bodies =
             let js = map placed_of qs in
             let by_roots : AreBodiesBy a (rooted true gs ls) 0 0 4 js es ps claims needs held = subst (λ (xs : List Entry). AreBodiesBy a xs 0 0 4 js es ps claims needs held) roots by in
@@ -194,6 +196,7 @@ plan_made a all claims needs gs ls qs es l ps os laid roots e alone made does is
       };
       head = head;
       laid = laid;
+      around = around;
       made = subst (λ (xs : List Entry). AreMade xs 0 l.plan.groups.items l.certificate.own.items) e
           (subst (λ (xs : List Group). AreMade es 0 xs l.certificate.own.items) (sym is_groups) (subst (λ (xs : List Own). AreMade es 0 ps xs) (sym is_own) made));
       bodies = λ w.
@@ -221,7 +224,7 @@ groups_made a gs ls l is laid =
     let cs = l.certificate.claims.items in
     let ws = l.certificate.needs.items in
     record {
-      placed = record { regions = ls; laid = is.laid; over = is.made; inside = is.placed };
+      placed = record { regions = ls; laid = is.laid; around = is.around; over = is.made; inside = is.placed };
       head = is.head;
       each = each_of gs ls is.laid 0 ps os is.made;
       owned = owned (rooted true gs ls) 0 ps os is.made;

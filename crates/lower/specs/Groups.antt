@@ -27,6 +27,7 @@ use Rattle.lower.specs.Regions.{LaidText, laid_of, laid_functions, skeleton_of}
 use Rattle.lower.specs.Fetches.{Entry}
 use Rattle.lower.specs.Blocks.{dimensions_of, owned_region}
 use Rattle.lower.specs.Bodies.{IsBody}
+use Rattle.lower.specs.Computed.{AreAllFound, AreFoundIf}
 use Rattle.lower.specs.Homes.{AreAllAtHome}
 use Rattle.lower.specs.Placed.{PlacedText, IsMixedBody, inner_seen}
 use Rattle.lower.specs.Around.{grid_scope}
@@ -187,6 +188,18 @@ AreLaid [] ls = Unit {0}
 AreLaid (g ∷ gs) [] = ⊥
 AreLaid (g ∷ gs) (l ∷ ls) = (g.subject.is_root ≡ true → has_region g.formulas l ≡ true) × AreLaid gs ls
 
+-- the loops over a region are those of the skeleton over it
+abbrev pub IsOverRegion : StoredText → Option LaidText → Option (List FormulaText) → Type 0
+IsOverRegion g None o = Unit {0}
+IsOverRegion g (Some l) None = Unit {0}
+IsOverRegion g (Some l) (Some fs) = skeleton_of g fs l.region ≡ Some l.skeleton
+
+-- of each function that has definitions and a region
+abbrev pub AreOverRegions : List StoredText → List (Option LaidText) → Type 0
+AreOverRegions [] ls = Unit {0}
+AreOverRegions (g ∷ gs) [] = Unit {0}
+AreOverRegions (g ∷ gs) (l ∷ ls) = IsOverRegion g l g.formulas × AreOverRegions gs ls
+
 -- ---- whatever is computed inside loops
 
 -- the body of the group n of these functions, where these are computed inside its loops, with its claims, need lines and windows; the next group has this line
@@ -217,18 +230,20 @@ AreBodiesBy a all n c line (is ∷ others) (e ∷ es) (p ∷ ps) claims needs wi
     AreAllLines (λ next. IsBodyBy a all n c line next is e p) (λ next m. AreBodiesBy a all (n + 1) (c + m) next others es ps) claims needs windows
 AreBodiesBy a all n c line _ _ _ claims needs windows = ⊥
 
--- over these regions, which functions are computed inside the loops of each group, at the places of their loops; and each group's body, claims, need lines and
--- windows are those of a group in whose loops these are computed
+-- over these regions, which functions are computed inside the loops of each group, at the places of their loops, at all of those at which they are called, over what is
+-- needed of them there; and each group's body, claims, need lines and windows are those of a group in whose loops these are computed
 pub record ArePlacedOver (a : Algorithm) (gs : List StoredText) (regions : List (Option LaidText)) (l : Lowered) : Type 0 where
   pub placed : List (List PlacedText)
   pub homes : AreAllAtHome (rooted true gs regions) (rooted false gs regions) placed
+  pub found : AreAllFound a (length (rooted false gs regions)) (rooted true gs regions) (rooted false gs regions) placed
   pub bodies : AreBodiesBy a (rooted true gs regions) 0 0 4 placed (rooted true gs regions) l.plan.groups.items l.certificate.claims.items l.certificate.needs.items
       l.certificate.windows.items
 
--- over some regions, of which the pieces of each group own their blocks
+-- over some regions, with the loops of the skeletons over these, of which the pieces of each group own their blocks
 pub record ArePlaced (a : Algorithm) (gs : List StoredText) (l : Lowered) : Type 0 where
   pub regions : List (Option LaidText)
   pub laid : AreLaid gs regions
+  pub around : AreOverRegions gs regions
   pub over : AreMade (rooted true gs regions) 0 l.plan.groups.items l.certificate.own.items
   pub inside : ArePlacedOver a gs regions l
 
@@ -293,6 +308,20 @@ inners_of (Ok v) = map inner_seen v.items
 abbrev pub placed_of : Party → List PlacedText
 placed_of p = inners_of p.inners
 
+-- no bound is missing of what is computed inside its loops
+abbrev pub IsKnown : Result (Vec Inner) (List ℕ) → Type 0
+IsKnown (Err x) = ⊥
+IsKnown (Ok v) = Unit {0}
+
+abbrev pub AreKnown : List Party → Type 0
+AreKnown [] = Unit {0}
+AreKnown (p ∷ ps) = IsKnown p.inners × AreKnown ps
+
+-- of each party those of these functions, so many, that are computed inside its loops
+abbrev pub AreFoundOf : Algorithm → ℕ → List Entry → List Party → Type 0
+AreFoundOf a n es [] = Unit {0}
+AreFoundOf a n es (p ∷ ps) = AreFoundIf a (party_of p) es n [] p.inners × AreFoundOf a n es ps
+
 -- a body in whose loops functions are computed; its claims, need lines and windows stand behind those of other groups
 pub record MixedMade (all : List Entry) (n c line next : ℕ) (is : List PlacedText) (e : Entry) (old new : Cert) (body : Statement) : Type 0 where
   pub claims : List Claim
@@ -326,6 +355,7 @@ pub record GroupsBy (a : Algorithm) (all : List Entry) (n c line : ℕ) (placed 
 pub record IsPlanOf (a : Algorithm) (gs : List StoredText) (ls : List (Option LaidText)) (l : Lowered) : Type 0 where
   pub head : IsHeadOf a l.plan
   pub laid : AreLaid gs ls
+  pub around : AreOverRegions gs ls
   pub made : AreMade (rooted true gs ls) 0 l.plan.groups.items l.certificate.own.items
   pub bodies : are_whole gs ≡ true → AreBodies a (rooted true gs ls) 0 0 4 (rooted true gs ls) l.plan.groups.items l.certificate.claims.items l.certificate.needs.items
   pub windows : are_whole gs ≡ true → l.certificate.windows.items ≡ []

@@ -1,12 +1,17 @@
 -- What the regions of functions, and what their pieces fetch of each other, hold: each point that a definition calls at its store.
 use Rattle.std.specs.Prelude.{◌≡◌, ◌<◌, ◌++◌, Contains, ℕ, ℤ, pos, ◌-ℤ◌, Bool, true, false, IsSome, List, length, map, Option, Some, None, slice_get}
+use Rattle.std.specs.List.{AllByRecursion}
+use Rattle.numeric.specs.Wrap.{IsOf}
 use Rattle.numeric.specs.declared.ty.Ty.{Ty}
+use Rattle.numeric.specs.declared.ty.Ty.TheVariants.{I32}
 use Rattle.tree.specs.declared.value.Value.{Value}
 use Rattle.tree.specs.Term.{Terms, End, More}
 use Rattle.tree.specs.Meaning.{numbers_of}
 use Rattle.tree.specs.Names.{AreAsTold}
 use Rattle.tree.specs.Typing.{type_of}
 use Rattle.lin.specs.Spans.{HoldsIn, IsInSpan, IsInRegion}
+use Rattle.lin.specs.declared.scope.Binding.{Binding}
+use Rattle.lin.specs.declared.span.Span1.{Span1}
 use Rattle.bounds.specs.Spans.{numbers}
 use Rattle.plan.specs.Symbols.{Symbols}
 use Rattle.plan.specs.Certificate.Cells.{grid_symbols}
@@ -24,6 +29,7 @@ use Rattle.lower.specs.Regions.{LaidText, counts, laid_functions, skeleton_of}
 use Rattle.lower.specs.Bounded.{whole}
 use Rattle.lower.specs.Faults.{region_fault}
 use Rattle.lower.specs.Taken.{SiteText, sites_of, taken_places, taken_region}
+use Rattle.lower.specs.Demanded.{needed_region}
 
 -- each index has a type, where these are the variables, and these the types of what is called
 abbrev pub AreTyped : (List ℕ → Bool) → (List ℕ → Option (Ty × ℕ)) → Terms → Type 0
@@ -110,3 +116,11 @@ ArrivalsFit =
     → (number : ℕ) (n : NestText) → slice_get k.nests number ≡ Some n
     → (piece : List ℕ) (s : Symbols) → IsInGrid k.grid piece → Contains (arrivals (k.head ++ n.steps) (grid_symbols piece)) s
     → HoldsIn (bind_steps (head_scope k) n.steps) s.value
+
+-- Each call at one of these sites, where the symbols are numbers that fit what stands around it, is a point of what is needed by them all at a place: this stands around
+-- each of them too, so what is needed is over its symbols alone. Where some update sets points elsewhere in a dimension, that is all of it.
+abbrev pub NeedsHoldCalls : Type 0
+NeedsHoldCalls =
+    (scope : List Binding) (g : StoredText) (es : List Extent) (ss : List SiteText) (q : List Span1) → needed_region scope ss g es ≡ Some q
+    → (n m : ℕ) (t : SiteText) (more : List Binding) (c : List Span1) → slice_get ss n ≡ Some t → t.scope ≡ scope ++ more → slice_get t.calls m ≡ Some c
+    → (v : ℕ → ℤ) (p : List ℤ) → HoldsIn t.scope v → IsInRegion c v p → AllByRecursion (IsOf I32) p → IsInRegion (map whole es) v p → IsInRegion q v p

@@ -4,6 +4,8 @@ pub mod Bodies
 pub mod Bounded
 pub mod Counted
 pub mod Called
+pub mod Computed
+pub mod Demanded
 pub mod Calls
 pub mod Faults
 pub mod Fetches
@@ -22,7 +24,9 @@ pub mod Planned
 pub mod Refused
 pub mod Regions
 pub mod Renamed
+pub mod Slid
 pub mod Stored
 pub mod Taken
+pub mod Turned
 pub mod Uses
 pub mod Windows

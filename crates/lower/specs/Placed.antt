@@ -5,6 +5,7 @@ use Rattle.std.specs.Option.{option_map}
 use Rattle.tree.specs.Term.{Term}
 use Rattle.tree.specs.Substitution.{with_calls}
 use Rattle.lin.specs.Forms.{Form}
+use Rattle.lin.specs.declared.scope.Binding.{Binding}
 use Rattle.lin.specs.declared.span.Span1.{Span1}
 use Rattle.plan.specs.declared.stmt.Pick.TheVariants.{Min}
 use Rattle.plan.specs.declared.stmt.Places.{Places}
@@ -39,16 +40,17 @@ use Rattle.lower.specs.Renamed.{Pairs, value_in, own_pairs, places_renamed, regi
 -- ---- what is placed
 
 -- the turns after the first one of a function that slides: the symbol of the loop and the dimension along which it does, the forms of which the least is the first
--- new number, the symbol that stands for that, and its nests over what is new
+-- new number, the symbol that stands for that, what stands around its nests over what is new, and these
 pub record LaterText : Type 0 where
   pub symbol : ℕ
   pub dimension : ℕ
   pub first_new : List Form
   pub new : ℕ
+  pub scope : List Binding
   pub nests : List NestText
 
 -- a function that is computed inside loops: where, and where its buffer stands, with its places; what is needed of it there, and of what its claims speak; the lets
--- before its nests, and these
+-- before its nests, what stands around these, and the nests
 pub record PlacedText : Type 0 where
   pub function : StoredText
   pub formulas : List FormulaText
@@ -58,6 +60,7 @@ pub record PlacedText : Type 0 where
   pub region : List Span1
   pub claimed : List Span1
   pub lets : List Step
+  pub scope : List Binding
   pub nests : List NestText
   pub later : Option LaterText
 
@@ -394,7 +397,7 @@ pub record IsMixedBody (all : List Entry) (n c line next : ℕ) (is : List Place
 -- ---- as memory keeps them
 
 abbrev pub later_seen : Later → LaterText
-later_seen l = record { symbol = l.symbol; dimension = l.dimension; first_new = l.first_new; new = length l.scope - 1; nests = map nest_seen l.nests.items }
+later_seen l = record { symbol = l.symbol; dimension = l.dimension; first_new = l.first_new; new = length l.scope - 1; scope = l.scope; nests = map nest_seen l.nests.items }
 
 abbrev pub inner_seen : Inner → PlacedText
 inner_seen i = record {
@@ -406,6 +409,7 @@ inner_seen i = record {
   region = i.region;
   claimed = i.claimed;
   lets = i.lets.items;
+  scope = i.scope;
   nests = map nest_seen i.nests.items;
   later = option_map later_seen i.later;
 }

@@ -224,3 +224,9 @@ abbrev pub FindsPart : Result (Option Part) Stop → Option Part → Type 0
 FindsPart (Ok o) told = told ≡ o
 FindsPart (Err Memory) told = Unit {0}
 FindsPart (Err Limit) told = told ≡ None
+
+-- the same of a span's places: the part is the span with them
+abbrev pub FindsPlaces : Span1 → Result (Option Places) Stop → Option Part → Type 0
+FindsPlaces s (Ok None) told = told ≡ None
+FindsPlaces s (Ok (Some places)) told = told ≡ Some (record { span = s; places = places })
+FindsPlaces s (Err e) told = FindsPart (Err e) told

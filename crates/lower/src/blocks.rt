@@ -93,7 +93,8 @@ fn numbers_named(numbers: &[Numbers], name: &Name) -> Numbers
     }
 }
 
-fn form_named<'a>(known: &'a [Known], name: &Name) -> Option<&'a Lin>
+/// The form of the first of this name.
+pub(crate) fn form_named<'a>(known: &'a [Known], name: &Name) -> Option<&'a Lin>
     ensures { option_copied result ≡ standing.form_named known.now name.now }
 {
     match known {

@@ -1,5 +1,16 @@
 //! What is needed of a function at a place: the calls there and inside of it, and their region.
 
+ghost use Rattle.std.specs.Prelude.{◌≡◌, [], IfOk, OnOk, map};
+ghost use Rattle.algo.specs.View.{algorithm_of};
+ghost use Rattle.lower.specs.Bounded.{whole as whole_of};
+ghost use Rattle.lower.specs.Demanded as spec;
+ghost use Rattle.lower.specs.Groups.{root_of};
+ghost use Rattle.lower.specs.Homes.{host_seen};
+ghost use Rattle.lower.specs.Limited.{Gives, Tells};
+ghost use Rattle.lower.specs.Placed.{inner_seen};
+ghost use Rattle.lower.specs.Stored.{stored_of};
+ghost use Rattle.lower.specs.Taken.{site_of, add_sites as add_sites_of};
+
 use crate::error::Stop;
 use crate::fetching::{Root, Site, add_inner_sites, add_sites, needed_span, shortest};
 use crate::forms::{is_inside, whole};
@@ -9,39 +20,103 @@ use crate::reasons::reach::whole_region;
 use crate::regions::MOST_NUMBERS;
 use crate::rounded::is_rounded;
 use crate::sliding::Later;
-use crate::spots::{Host, Spot, is_inside_spot, later_at, nests_at, root_at, scope_over};
+use crate::spots::{
+    Host, Hosted, Spot, host_at, is_inside_spot, later_at, nests_at, root_at, scope_over,
+};
 use algo::Algo;
 use lin::{Region, Scope, Span1, Sym};
+use sched::Extent;
 use std::alloc::{AllocError, Global};
 
-/// The calls of a function at the place and inside of it.
-pub(crate) fn sites_at(
+// Adds the calls of a function in the nests of this one, if it is computed at the place or inside of it.
+fn add_if_inside(
     alloc: Global,
     algo: &Algo,
-    group: &Root<'_>,
-    inners: &[Inner<'_>],
+    is_inside: bool,
+    inner: &Inner<'_>,
+    callee: &str,
+    sites: &mut Vec<Site>,
+) -> Result<(), Stop>
+    ensures { Tells result (map site_of sites.new.items) (spec.add_if (algorithm_of algo.now) callee.now is_inside (inner_seen inner.now)
+        (map site_of sites.old.items)) }
+{
+    if !is_inside {
+        return Ok(());
+    }
+    add_inner_sites(alloc, algo, inner, callee, sites)
+}
+
+// Those of the functions from this number on.
+fn add_inside<'a>(
+    alloc: Global,
+    algo: &Algo,
+    inners: &[Inner<'a>],
     spot: Spot,
     callee: &str,
-) -> Result<Vec<Site>, Stop> {
+    number: usize,
+    rest: &[Inner<'a>],
+    sites: &mut Vec<Site>,
+) -> Result<(), Stop>
+    ensures { Tells result (map site_of sites.new.items) (spec.add_inside (algorithm_of algo.now) callee.now (map inner_seen inners.now) spot number
+        (map inner_seen rest.now) (map site_of sites.old.items)) }
+{
+    match rest {
+        [] => Ok(()),
+        [inner, others @ ..] => {
+            let Some(next) = number.checked_add(1) else {
+                return Err(Stop::Memory);
+            };
+            let is_inside = is_inside_spot(inners, number, spot);
+            add_if_inside(alloc, algo, is_inside, inner, callee, sites)?;
+            add_inside(alloc, algo, inners, spot, callee, next, others, sites)
+        }
+    }
+}
+
+// The calls of a function in the nests of a host, or in that of one definition.
+fn host_sites(
+    alloc: Global,
+    algo: &Algo,
+    hosted: &Hosted<'_, '_>,
+    scope: &Scope,
+    only: Option<usize>,
+    callee: &str,
+) -> Result<Vec<Site>, Stop>
+    ensures { Gives result (λ v. map site_of v.items) (add_sites_of (algorithm_of algo.now) (host_seen hosted.now).function scope.now only callee.now
+        0 (host_seen hosted.now).formulas (host_seen hosted.now).nests []) }
+{
     let mut sites = Vec::new(alloc);
-    let scope = scope_over(alloc, group, inners, spot.host)?;
-    let host = root_at(group, inners, spot.host);
-    let nests = nests_at(group, inners, spot.host);
+    let root = &hosted.root;
     add_sites(
         alloc,
         algo,
-        &host,
-        &scope,
-        nests,
-        spot.definition,
+        root,
+        scope,
+        hosted.nests,
+        only,
         callee,
         &mut sites,
     )?;
-    for (number, inner) in inners.iter().enumerate() {
-        if is_inside_spot(inners, number, spot) {
-            add_inner_sites(alloc, algo, inner, callee, &mut sites)?;
-        }
-    }
+    Ok(sites)
+}
+
+/// The calls of a function at the place and inside of it.
+pub(crate) fn sites_at<'b, 'a>(
+    alloc: Global,
+    algo: &Algo,
+    group: &'b Root<'a>,
+    inners: &'b [Inner<'a>],
+    spot: Spot,
+    callee: &str,
+) -> Result<Vec<Site>, Stop>
+    ensures { Gives result (λ v. map site_of v.items) (spec.sites_at (algorithm_of algo.now) (root_of group.now) (map inner_seen inners.now) spot callee.now) }
+{
+    let Some(hosted) = host_at(group, inners, spot.host) else {
+        return Err(Stop::Limit);
+    };
+    let scope = scope_over(alloc, group, inners, spot.host)?;
+    let mut sites = host_sites(alloc, algo, &hosted, &scope, spot.definition, callee)?;
+    add_inside(alloc, algo, inners, spot, callee, 0, inners, &mut sites)?;
     Ok(sites)
 }
 
@@ -145,12 +220,56 @@ fn told_sites_at(
     Ok(sites)
 }
 
-pub(crate) fn is_scattered(root: &Root<'_>, dimension: usize) -> bool {
+pub(crate) fn is_scattered(root: &Root<'_>, dimension: usize) -> bool
+    ensures { result ≡ spec.is_scattered (stored_of root.now.stored.now) dimension }
+{
     root.stored
         .subject
         .scattered
         .iter()
         .any(|one| *one == dimension)
+}
+
+// What is needed of a dimension: where an update scatters it all of it.
+fn span_needed(
+    alloc: Global,
+    root: &Root<'_>,
+    scope: &Scope,
+    sites: &[Site],
+    dimension: usize,
+    extent: &Extent,
+) -> Result<Span1, Stop>
+    ensures { Gives result (λ span. span) (spec.needed_dimension scope.now (map site_of sites.now) (stored_of root.now.stored.now) dimension extent.now) }
+{
+    if is_scattered(root, dimension) {
+        return Ok(whole(alloc, extent)?);
+    }
+    needed_span(alloc, scope, sites, dimension)
+}
+
+// Those from this dimension on.
+fn add_needed(
+    alloc: Global,
+    root: &Root<'_>,
+    scope: &Scope,
+    sites: &[Site],
+    dimension: usize,
+    extents: &[Extent],
+    region: &mut Region,
+) -> Result<(), Stop>
+    ensures { Tells result region.new (spec.add_needed scope.now (map site_of sites.now) (stored_of root.now.stored.now) dimension extents.now region.old) }
+{
+    match extents {
+        [] => Ok(()),
+        [extent, rest @ ..] => {
+            let Some(next) = dimension.checked_add(1) else {
+                return Err(Stop::Memory);
+            };
+            let span = span_needed(alloc, root, scope, sites, dimension, extent)?;
+            region.push(span)?;
+            add_needed(alloc, root, scope, sites, next, rest, region)
+        }
+    }
 }
 
 /// What is needed of a function: in a dimension that an update scatters all of it.
@@ -159,32 +278,37 @@ pub(crate) fn region_at(
     root: &Root<'_>,
     scope: &Scope,
     sites: &[Site],
-) -> Result<Region, Stop> {
+) -> Result<Region, Stop>
+    ensures { Gives result (λ region. region) (spec.needed_region scope.now (map site_of sites.now) (stored_of root.now.stored.now)
+        root.now.laid.now.region.items) }
+{
     let mut region = Region::new(alloc);
-    for (dimension, extent) in root.laid.region.iter().enumerate() {
-        let span = if is_scattered(root, dimension) {
-            whole(alloc, extent)?
-        } else {
-            needed_span(alloc, scope, sites, dimension)?
-        };
-        region.push(span)?;
-    }
+    add_needed(alloc, root, scope, sites, 0, &root.laid.region, &mut region)?;
     Ok(region)
 }
 
-// Whether what is needed of a function is shown to lie in its region.
-fn is_within(
+// Whether each span is shown to lie in another one.
+fn are_inside(
     alloc: Global,
     scope: &Scope,
-    region: &Region,
-    whole: &Region,
-) -> Result<bool, AllocError> {
-    for (span, all) in region.as_slice().iter().zip(whole.as_slice().iter()) {
-        if !is_inside(alloc, scope, span, all)? {
-            return Ok(false);
-        }
+    spans: &[Span1],
+    wholes: &[Span1],
+) -> Result<bool, AllocError>
+    ensures { IfOk result (λ yes. yes ≡ spec.are_inside scope.now spans.now wholes.now) }
+{
+    match spans {
+        [] => Ok(true),
+        [span, rest @ ..] => match wholes {
+            [] => Ok(true),
+            [whole, others @ ..] => {
+                if is_inside(alloc, scope, span, whole)? {
+                    are_inside(alloc, scope, rest, others)
+                } else {
+                    Ok(false)
+                }
+            }
+        },
     }
-    Ok(true)
 }
 
 // A span, or another one where that alone is shown to lie in what there is.
@@ -192,16 +316,45 @@ fn better_span(
     alloc: Global,
     scope: &Scope,
     span: &Span1,
-    told: Option<&Span1>,
-    whole: Option<&Span1>,
-) -> Result<Span1, AllocError> {
-    let (Some(told), Some(whole)) = (told, whole) else {
-        return span.copy(alloc);
-    };
-    if !is_inside(alloc, scope, span, whole)? && is_inside(alloc, scope, told, whole)? {
-        told.copy(alloc)
-    } else {
-        span.copy(alloc)
+    told: &Span1,
+    whole: &Span1,
+) -> Result<Span1, AllocError>
+    ensures { IfOk result (λ one. one ≡ spec.better scope.now span.now told.now whole.now) }
+{
+    let stays = is_inside(alloc, scope, span, whole)?;
+    if stays {
+        return Ok(span.copy(alloc)?);
+    }
+    if is_inside(alloc, scope, told, whole)? {
+        return Ok(told.copy(alloc)?);
+    }
+    Ok(span.copy(alloc)?)
+}
+
+// Those of some spans.
+fn add_better(
+    alloc: Global,
+    scope: &Scope,
+    spans: &[Span1],
+    told: &[Span1],
+    wholes: &[Span1],
+    made: &mut Region,
+) -> Result<(), AllocError>
+    ensures { OnOk result (made.new ≡ spec.add_better scope.now spans.now told.now wholes.now made.old) }
+{
+    match spans {
+        [] => Ok(()),
+        [span, rest @ ..] => match told {
+            [] => Ok(()),
+            [one, others @ ..] => match wholes {
+                [] => Ok(()),
+                [whole, further @ ..] => {
+                    let better = better_span(alloc, scope, span, one, whole)?;
+                    made.push(better)?;
+                    add_better(alloc, scope, rest, others, further, made)
+                }
+            },
+        },
     }
 }
 
@@ -212,18 +365,59 @@ fn chosen(
     region: &Region,
     told: &Region,
     whole: &Region,
-) -> Result<Region, AllocError> {
+) -> Result<Region, AllocError>
+    ensures { IfOk result (λ made. made ≡ spec.add_better scope.now region.now told.now whole.now []) }
+{
     let mut made = Region::new(alloc);
-    for (dimension, span) in region.as_slice().iter().enumerate() {
-        let other = told.as_slice().get(dimension);
-        let all = whole.as_slice().get(dimension);
-        made.push(better_span(alloc, scope, span, other, all)?)?;
-    }
+    let spans = region.as_slice();
+    let others = told.as_slice();
+    add_better(alloc, scope, spans, others, whole.as_slice(), &mut made)?;
     Ok(made)
 }
 
-// What is needed of a function at a place. Where that is not shown to lie in the function's region, it is asked what guarded
-// splits say of their numbers too.
+// What is needed of a function at a place, as guarded splits tell it.
+fn told_at(
+    alloc: Global,
+    algo: &Algo,
+    group: &Root<'_>,
+    inners: &[Inner<'_>],
+    root: &Root<'_>,
+    spot: Spot,
+    scope: &Scope,
+) -> Result<Region, Stop> {
+    let name = root.stored.subject.name;
+    let sites = told_sites_at(alloc, algo, group, inners, spot, scope.len(), name.as_str())?;
+    region_at(alloc, root, scope, &sites)
+}
+
+// A region, or, where it is not shown to lie in the function's, what guarded splits tell in its place.
+#[tactic(auto, using(crate::proofs::Demands::kept_is, crate::proofs::Demands::better_is))]
+fn kept_or_told(
+    alloc: Global,
+    algo: &Algo,
+    group: &Root<'_>,
+    inners: &[Inner<'_>],
+    root: &Root<'_>,
+    spot: Spot,
+    scope: &Scope,
+    region: Region,
+) -> Result<Region, Stop>
+    ensures { IfOk result (spec.IsKept scope.now (map whole_of root.now.laid.now.region.items) region) }
+{
+    let whole = whole_region(alloc, root.laid)?;
+    if are_inside(alloc, scope, region.as_slice(), whole.as_slice())? {
+        return Ok(region);
+    }
+    match told_at(alloc, algo, group, inners, root, spot, scope) {
+        Ok(told) => Ok(chosen(alloc, scope, &region, &told, &whole)?),
+        Err(Stop::Limit) => Ok(region),
+        Err(Stop::Memory) => Err(Stop::Memory),
+    }
+}
+
+/// What is needed of a function at a place. Where that is not shown to lie in the function's region, it is asked what guarded
+/// splits say of their numbers too.
+#[tactic(auto, using(crate::proofs::Demands::told_is, crate::proofs::Demands::told_none))]
 pub(crate) fn needed_at(
     alloc: Global,
     algo: &Algo,
@@ -233,24 +427,13 @@ pub(crate) fn needed_at(
     spot: Spot,
     scope: &Scope,
     sites: &[Site],
-) -> Result<Region, Stop> {
-    let whole = whole_region(alloc, root.laid)?;
-    let needed = region_at(alloc, root, scope, sites);
-    match &needed {
-        Ok(region) if is_within(alloc, scope, region, &whole)? => return needed,
-        Ok(_) | Err(Stop::Limit) => {}
-        Err(Stop::Memory) => return Err(Stop::Memory),
-    }
-    let name = root.stored.subject.name;
-    let told = told_sites_at(alloc, algo, group, inners, spot, scope.len(), name.as_str())?;
-    let told = match region_at(alloc, root, scope, &told) {
-        Ok(told) => told,
-        Err(Stop::Limit) => return needed,
-        Err(Stop::Memory) => return Err(Stop::Memory),
-    };
-    match needed {
-        Ok(region) => Ok(chosen(alloc, scope, &region, &told, &whole)?),
-        Err(_) => Ok(told),
+) -> Result<Region, Stop>
+    ensures { IfOk result (spec.IsNeeded scope.now (map site_of sites.now) (stored_of root.now.stored.now) root.now.laid.now.region.items) }
+{
+    match region_at(alloc, root, scope, sites) {
+        Ok(region) => Ok(kept_or_told(alloc, algo, group, inners, root, spot, scope, region)?),
+        Err(Stop::Limit) => Ok(told_at(alloc, algo, group, inners, root, spot, scope)?),
+        Err(Stop::Memory) => Err(Stop::Memory),
     }
 }
 

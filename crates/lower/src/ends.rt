@@ -69,15 +69,6 @@ pub(crate) fn reach_named<'a>(reaches: &'a [Reach], name: &Name) -> Option<&'a R
         .find(|one| one.name.as_str() == name.as_str())
 }
 
-pub(crate) fn form_named<'a>(known: &'a [Known], name: &Name) -> Option<&'a Lin> {
-    for one in known {
-        if one.name.as_str() == name.as_str() {
-            return Some(&one.form);
-        }
-    }
-    None
-}
-
 fn is_whole(cuts: &[Split], name: &Name) -> bool {
     cuts.iter().any(|cut| cut.whole.as_str() == name.as_str())
 }

@@ -12,7 +12,7 @@ use subst::SubstError;
 use tree::token::Name;
 
 /// Why an algorithm and a schedule give no plan.
-#[derive(Clone, Copy, Debug, PartialEq, Eq, Drop)]
+#[derive(Clone, Copy, PartialEq, Eq, Drop)]
 pub enum LowerError {
     /// Memory ran out.
     Memory,

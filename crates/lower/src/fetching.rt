@@ -1,6 +1,6 @@
 //! What a piece fetches of another stored function, and of which of its pieces.
 
-ghost use Rattle.std.specs.Prelude.{◌≡◌, true, [], ◌++◌, IfOk, IfSome, OnOk, map};
+ghost use Rattle.std.specs.Prelude.{◌≡◌, true, [], ◌++◌, IfOk, IfSome, OnOk, Some, map};
 ghost use Rattle.std.specs.Option.{is_some};
 ghost use Rattle.tree.specs.Term.{list_terms, indices};
 ghost use Rattle.algo.specs.View.{algorithm_of};
@@ -9,12 +9,14 @@ ghost use Rattle.plan.specs.declared.stmt.Places.TheVariants.{From};
 ghost use Rattle.lower.specs.Needs as needs;
 ghost use Rattle.lower.specs.Around.{around_of, grid_scope as grid_scope_of};
 ghost use Rattle.lower.specs.Calls.{call_of};
+ghost use Rattle.lower.specs.Demanded as demanded;
 ghost use Rattle.lower.specs.Fetches.{IsTaken};
 ghost use Rattle.lower.specs.Limited.{Tells, TellsIf, Gives};
+ghost use Rattle.lower.specs.Placed.{inner_seen, later_seen};
 ghost use Rattle.lower.specs.Stored.{formula_of, some_calls, stored_of};
 ghost use Rattle.lower.specs.Taken as spec;
 ghost use Rattle.lower.specs.Windows.{size_below as size_below_of};
-ghost use Rattle.lower.specs.Taken.{FindsPart, site_of};
+ghost use Rattle.lower.specs.Taken.{FindsPart, FindsPlaces, site_of};
 
 use crate::calls::{Call, calls_of};
 use crate::definitions::{Formula, Stored};
@@ -238,6 +240,25 @@ pub(crate) fn add_sites(
     )
 }
 
+// Adds the calls in the nests over what is new, where their last block runs past the end of what is needed.
+fn add_later_sites(
+    alloc: Global,
+    algo: &Algo,
+    root: &Root<'_>,
+    later: &Later,
+    callee: &str,
+    sites: &mut Vec<Site>,
+) -> Result<(), Stop>
+    ensures { Tells result (map site_of sites.new.items) (demanded.add_later (algorithm_of algo.now) callee.now (stored_of root.now.stored.now)
+        (map formula_of root.now.formulas.now) (Some (later_seen later.now)) (map site_of sites.old.items)) }
+{
+    if !is_rounded(root, later.dimension) {
+        return Ok(());
+    }
+    let Later { scope, nests, .. } = later;
+    add_sites(alloc, algo, root, scope, nests, None, callee, sites)
+}
+
 /// Adds the calls of a function in the nests of one that is computed inside loops: in those over what is new too, where their
 /// last block runs past the end of what is needed.
 pub(crate) fn add_inner_sites(
@@ -246,7 +267,10 @@ pub(crate) fn add_inner_sites(
     inner: &Inner<'_>,
     callee: &str,
     sites: &mut Vec<Site>,
-) -> Result<(), Stop> {
+) -> Result<(), Stop>
+    ensures { Tells result (map site_of sites.new.items) (demanded.add_inner (algorithm_of algo.now) callee.now (inner_seen inner.now)
+        (map site_of sites.old.items)) }
+{
     let Inner {
         root,
         scope,
@@ -255,11 +279,8 @@ pub(crate) fn add_inner_sites(
     } = inner;
     add_sites(alloc, algo, root, scope, nests, None, callee, sites)?;
     match &inner.later {
-        Some(later) if is_rounded(root, later.dimension) => {
-            let Later { scope, nests, .. } = later;
-            add_sites(alloc, algo, root, scope, nests, None, callee, sites)
-        }
-        _ => Ok(()),
+        Some(later) => add_later_sites(alloc, algo, root, later, callee, sites),
+        None => Ok(()),
     }
 }
 
@@ -627,6 +648,31 @@ fn is_shown(
     is_inside(alloc, grid, span, seats)
 }
 
+// Places for a span, where both are shown to hold the calls.
+fn places_for(
+    alloc: Global,
+    grid: &Scope,
+    sites: &[Site],
+    dimension: usize,
+    span: &Span1,
+) -> Result<Option<Places>, Stop>
+    ensures { FindsPlaces span.now result (spec.seated grid.now (map site_of sites.now) dimension span.now) }
+{
+    let Some((place, count)) = shortest(alloc, grid, span)? else {
+        return Ok(None);
+    };
+    let Some(origin) = span.lower.as_slice().get(place) else {
+        return Ok(None);
+    };
+    let seats = run_of(alloc, origin, count)?;
+    if !is_shown(alloc, grid, sites, dimension, span, &seats)? {
+        return Ok(None);
+    }
+    let places = places_of(alloc, origin, count)?;
+    Ok(Some(places))
+}
+
+// The span with its places, where it has some.
 fn seated(
     alloc: Global,
     grid: &Scope,
@@ -636,18 +682,10 @@ fn seated(
 ) -> Result<Option<Part>, Stop>
     ensures { FindsPart result (spec.seated grid.now (map site_of sites.now) dimension span) }
 {
-    let Some((place, count)) = shortest(alloc, grid, &span)? else {
-        return Ok(None);
-    };
-    let Some(origin) = span.lower.as_slice().get(place) else {
-        return Ok(None);
-    };
-    let seats = run_of(alloc, origin, count)?;
-    if !is_shown(alloc, grid, sites, dimension, &span, &seats)? {
-        return Ok(None);
+    match places_for(alloc, grid, sites, dimension, &span)? {
+        Some(places) => Ok(Some(Part { span, places })),
+        None => Ok(None),
     }
-    let places = places_of(alloc, origin, count)?;
-    Ok(Some(Part { span, places }))
 }
 
 // What the calls need of a dimension, cut to the region.

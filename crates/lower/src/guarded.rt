@@ -4,7 +4,7 @@ use crate::ends::told_span;
 use crate::error::Stop;
 use crate::fetching::Root;
 use crate::forms::{MOST_FORMS, two_forms};
-use crate::renaming::{own_names, renamed, renamed_steps};
+use crate::renaming::{Renaming, own_names, renamed, renamed_steps};
 use crate::scopes::bind_steps;
 use crate::standing::all_limited;
 use lin::{Lin, Region, Scope, Sym};
@@ -135,6 +135,40 @@ fn count_of(alloc: Global, outer: &Scope, steps: &[Step]) -> Result<Sym, AllocEr
     Ok(scope.len())
 }
 
+// An index of a nest: its position, at most the last number where that is told.
+fn told_index(
+    alloc: Global,
+    root: &Root<'_>,
+    over: Over<'_>,
+    dimension: usize,
+    form: &Option<Lin>,
+    same: &[Renaming],
+    told: &mut Told,
+) -> Result<Option<Lin>, Stop> {
+    let last = last_number(alloc, root, over, dimension)?;
+    match (form, last) {
+        (Some(form), Some(last)) => Ok(Some(told.keep(alloc, form, &last)?)),
+        (Some(form), None) => Ok(Some(renamed(alloc, same, form)?)),
+        (None, _) => Ok(None),
+    }
+}
+
+// All indices of a nest.
+fn told_indices(
+    alloc: Global,
+    root: &Root<'_>,
+    over: Over<'_>,
+    nest: &Nest,
+    same: &[Renaming],
+    told: &mut Told,
+) -> Result<Vec<Option<Lin>>, Stop> {
+    let mut at = Vec::new(alloc);
+    for (dimension, form) in nest.at.iter().enumerate() {
+        at.push(told_index(alloc, root, over, dimension, form, same, told)?)?;
+    }
+    Ok(at)
+}
+
 fn told_nest(
     alloc: Global,
     root: &Root<'_>,
@@ -146,15 +180,7 @@ fn told_nest(
     let same = own_names(alloc, next)?;
     let steps = renamed_steps(alloc, &same, &nest.steps)?;
     let mut told = Told { steps, from, next };
-    let mut at = Vec::new(alloc);
-    for (dimension, form) in nest.at.iter().enumerate() {
-        let last = last_number(alloc, root, over, dimension)?;
-        at.push(match (form, last) {
-            (Some(form), Some(last)) => Some(told.keep(alloc, form, &last)?),
-            (Some(form), None) => Some(renamed(alloc, &same, form)?),
-            (None, _) => None,
-        })?;
-    }
+    let at = told_indices(alloc, root, over, nest, &same, &mut told)?;
     Ok(Nest {
         steps: told.steps,
         at,

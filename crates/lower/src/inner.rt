@@ -1,15 +1,26 @@
 //! Functions that are computed inside the loops of a group: their buffers, and their loops over what is needed of them.
 
-ghost use Rattle.std.specs.Prelude.{◌≡◌, IfOk, IfSome, Some, map, slice_get};
+ghost use Rattle.std.specs.Prelude.{◌≡◌, [], IfOk, IfSome, Some, length, map, slice_get};
+ghost use Rattle.std.specs.Option.{option_map};
+ghost use Rattle.algo.specs.View.{algorithm_of};
+ghost use Rattle.sched.specs.Skeleton.{nest_seen};
+ghost use Rattle.lower.specs.Around.{bind_steps as bound_by};
+ghost use Rattle.lower.specs.Computed as computed;
+ghost use Rattle.lower.specs.Demanded as demanded;
 ghost use Rattle.lower.specs.Groups.{inners_of as placed_inners, root_of};
 ghost use Rattle.lower.specs.Homes as spec;
-ghost use Rattle.lower.specs.Placed.{inner_seen};
+ghost use Rattle.lower.specs.Placed.{inner_seen, later_seen};
+ghost use Rattle.lower.specs.Slid as slid;
+ghost use Rattle.lower.specs.Stored.{formula_of, stored_of};
+ghost use Rattle.lower.specs.Taken.{site_of};
+ghost use Rattle.lower.specs.Turned.{IfWhole, whole_nests};
 ghost use Rattle.lower.specs.Uses.{first_home};
 
 use crate::demand::{is_scattered, is_small, needed_at, sites_at};
 use crate::ends::Needed;
 use crate::error::Stop;
-use crate::fetching::Root;
+use crate::fetching::{Root, Site};
+use crate::parts::is_same_spot;
 use crate::rounded::{Lain, claim_of, lain_over};
 use crate::sliding::{
     Later, Sliding, fold_of, folded, folds_fit, held_region, later_of, sliding_dimension, track_of,
@@ -55,45 +66,94 @@ pub(crate) struct Inner<'a> {
 
 // ---- functions
 
-// The dimension in which what is needed of a function slides along the loop where it is computed, where its buffer stands
-// outside of that. What an update scatters does not slide.
-fn sliding_of(
-    alloc: Global,
-    group: &Root<'_>,
-    inners: &[Inner<'_>],
-    root: &Root<'_>,
-    spots: (Spot, Spot),
-    region: &Region,
-) -> Result<Option<Sliding>, AllocError> {
-    let (home, store) = spots;
-    if home == store {
-        return Ok(None);
-    }
-    let Some(steps) = steps_at(group, inners, home) else {
-        return Ok(None);
-    };
-    let Some(track) = track_of(alloc, steps)? else {
-        return Ok(None);
-    };
-    match sliding_dimension(region, &track) {
-        Some(dimension) if !is_scattered(root, dimension) => Ok(Some(Sliding { track, dimension })),
-        _ => Ok(None),
+fn dimension_of(sliding: &Option<Sliding>) -> Option<usize> {
+    match sliding {
+        Some(sliding) => Some(sliding.dimension),
+        None => None,
     }
 }
 
-// Whether none of the functions that are declared before this one, and so may be called by it, is folded: what it holds behind lets
-// is longer than what is needed, and theirs would be too.
-fn are_unfolded_before(functions: &[Root<'_>], root: &Root<'_>) -> bool {
-    let name = root.stored.subject.name;
-    for one in functions {
-        if one.stored.subject.name.as_str() == name.as_str() {
-            return true;
-        }
-        if !one.stored.placed.folds.is_empty() {
-            return false;
+// The places of a function's buffer, folded in the dimension in which it slides.
+fn seated_at(
+    alloc: Global,
+    root: &Root<'_>,
+    outer: &Scope,
+    lain: &Lain,
+    later: &Option<Later>,
+    sites: &[Site],
+    along: Option<usize>,
+) -> Result<Vec<Places>, Stop> {
+    let arms = Arms {
+        scope: &lain.scope,
+        nests: &lain.nests,
+        later: later.as_ref(),
+    };
+    let seats = kept_region(alloc, outer, &lain.scope, &lain.begun.region)?;
+    let places = storage_of(alloc, outer, arms, sites, &seats)?;
+    Ok(folded(alloc, places, along, fold_of(root))?)
+}
+
+// The dimension in which a region slides along the innermost loop of the steps. What an update scatters does not slide.
+fn sliding_in(
+    alloc: Global,
+    root: &Root<'_>,
+    region: &Region,
+    steps: &[Step],
+) -> Result<Option<Sliding>, AllocError>
+    ensures { IfOk result (λ found. option_map slid.sliding_seen found ≡ slid.sliding_in (stored_of root.now.stored.now) region.now steps.now) }
+{
+    let Some(track) = track_of(alloc, steps)? else {
+        return Ok(None);
+    };
+    let Some(dimension) = sliding_dimension(region, &track)? else {
+        return Ok(None);
+    };
+    if is_scattered(root, dimension) {
+        return Ok(None);
+    }
+    Ok(Some(Sliding { track, dimension }))
+}
+
+// The dimension in which what is needed of a function slides along the loop where it is computed, where its buffer stands
+// outside of that.
+fn sliding_of<'a>(
+    alloc: Global,
+    group: &Root<'a>,
+    inners: &[Inner<'a>],
+    root: &Root<'_>,
+    spots: (Spot, Spot),
+    region: &Region,
+) -> Result<Option<Sliding>, AllocError>
+    ensures { IfOk result (λ found. option_map slid.sliding_seen found ≡ slid.sliding_at (root_of group.now) (map inner_seen inners.now)
+        (stored_of root.now.stored.now) spots.0 spots.1 region.now) }
+{
+    let (home, store) = spots;
+    if is_same_spot(home, store) {
+        return Ok(None);
+    }
+    match steps_at(group, inners, home) {
+        Some(steps) => Ok(sliding_in(alloc, root, region, steps)?),
+        None => Ok(None),
+    }
+}
+
+// Whether none of the functions that are declared before the one of this name, and so may be called by it, is folded: what it holds
+// behind lets is longer than what is needed, and theirs would be too.
+fn are_unfolded_before(functions: &[Root<'_>], name: &Name) -> bool
+    ensures { result ≡ slid.are_unfolded_before name.now (map root_of functions.now) }
+{
+    match functions {
+        [] => true,
+        [one, rest @ ..] => {
+            if same_name(one.stored.subject.name.as_str(), name.as_str()) {
+                return true;
+            }
+            if !one.stored.placed.folds.is_empty() {
+                return false;
+            }
+            are_unfolded_before(rest, name)
         }
     }
-    true
 }
 
 // Whether a function may hold such a region in the turns along which it slides: behind lets only where its own fold has places for
@@ -105,15 +165,68 @@ fn may_hold(
     scope: &Scope,
     held: &Region,
     sliding: &Sliding,
-) -> Result<bool, AllocError> {
+) -> Result<bool, AllocError>
+    ensures { IfOk result (λ yes. yes ≡ slid.may_hold (map root_of functions.now) (stored_of root.now.stored.now) scope.now held.now
+        (slid.sliding_seen sliding.now).0 (slid.sliding_seen sliding.now).1) }
+{
     if sliding.is_bare() {
         return Ok(true);
     }
     let fits = folds_fit(alloc, root, scope, held, Some(sliding.dimension))?;
-    Ok(fits && are_unfolded_before(functions, root))
+    Ok(fits && are_unfolded_before(functions, &root.stored.subject.name))
 }
 
-// What a function holds in each turn, and the turns after the first one where these make what is new alone.
+// What a function holds in each turn of the loop along which it slides; none where each turn makes all.
+fn held_along(
+    alloc: Global,
+    functions: &[Root<'_>],
+    root: &Root<'_>,
+    scope: &Scope,
+    region: &Region,
+    sliding: &Sliding,
+) -> Result<Option<Region>, AllocError>
+    ensures { IfOk result (λ found. found ≡ slid.held_along (map root_of functions.now) (stored_of root.now.stored.now) (map formula_of root.now.formulas.now)
+        scope.now region.now (slid.sliding_seen sliding.now)) }
+{
+    if !sliding.is_repeated(alloc, scope)? {
+        return Ok(None);
+    }
+    let Some(held) = held_region(alloc, root, scope, region, sliding)? else {
+        return Ok(None);
+    };
+    if may_hold(alloc, functions, root, scope, &held, sliding)? {
+        Ok(Some(held))
+    } else {
+        Ok(None)
+    }
+}
+
+// What a function holds in each turn of a loop along which it may slide, and the turns after the first one where these make what
+// is new alone.
+#[tactic(auto, using(crate::proofs::Along::holds_each, crate::proofs::Along::holds_some))]
+fn turns_along(
+    alloc: Global,
+    functions: &[Root<'_>],
+    root: &Root<'_>,
+    outer: &Scope,
+    scope: &Scope,
+    region: &Region,
+    sliding: &Sliding,
+) -> Result<(Region, Option<Later>), Stop>
+    ensures { IfOk result (λ turns. slid.HoldsBy (stored_of root.now.stored.now) (map formula_of root.now.formulas.now) (slid.sliding_seen sliding.now)
+        scope.now region.now (slid.held_along (map root_of functions.now) (stored_of root.now.stored.now) (map formula_of root.now.formulas.now)
+        scope.now region.now (slid.sliding_seen sliding.now)) turns.0 (option_map later_seen turns.1)) }
+{
+    let Some(held) = held_along(alloc, functions, root, scope, region, sliding)? else {
+        return Ok((region.copy(alloc)?, None));
+    };
+    let kept = kept_region(alloc, outer, scope, &held)?;
+    let later = later_of(alloc, root, scope, &held, &kept, sliding)?;
+    Ok((held, later))
+}
+
+// The same where it may slide along none.
+#[tactic(auto, using(crate::proofs::Along::holds_all, crate::proofs::Along::holds_along))]
 fn turns_of(
     alloc: Global,
     functions: &[Root<'_>],
@@ -122,22 +235,109 @@ fn turns_of(
     scope: &Scope,
     region: &Region,
     sliding: &Option<Sliding>,
-) -> Result<(Region, Option<Later>), Stop> {
-    if let Some(sliding) = sliding {
-        if sliding.is_repeated(alloc, scope)? {
-            if let Some(held) = held_region(alloc, root, scope, region, sliding)? {
-                if may_hold(alloc, functions, root, scope, &held, sliding)? {
-                    let kept = kept_region(alloc, outer, scope, &held)?;
-                    let later = later_of(alloc, root, scope, &held, &kept, sliding)?;
-                    return Ok((held, later));
-                }
-            }
-        }
-    }
-    Ok((region.copy(alloc)?, None))
+) -> Result<(Region, Option<Later>), Stop>
+    ensures { IfOk result (λ turns. slid.Holds (map root_of functions.now) (stored_of root.now.stored.now) (map formula_of root.now.formulas.now) scope.now
+        region.now (option_map slid.sliding_seen sliding.now) turns.0 (option_map later_seen turns.1)) }
+{
+    let Some(sliding) = sliding else {
+        return Ok((region.copy(alloc)?, None));
+    };
+    turns_along(alloc, functions, root, outer, scope, region, sliding)
+}
+
+// The function at these places, over what is needed of it where these sites call it.
+fn inner_of<'a>(
+    alloc: Global,
+    algo: &Algo,
+    functions: &[Root<'a>],
+    root: &Root<'a>,
+    spots: (Spot, Spot),
+    outer: &Scope,
+    around: &Scope,
+    needed: &Region,
+    sliding: &Option<Sliding>,
+    sites: &[Site],
+) -> Result<Inner<'a>, Stop>
+    ensures root { IfOk result (λ one. one.root ≡ root.now) }
+    ensures home { IfOk result (λ one. one.home ≡ spots.0) }
+    ensures store { IfOk result (λ one. one.store ≡ spots.1) }
+    ensures scope { IfOk result (λ one. one.scope ≡ bound_by around.now one.lets.items) }
+    ensures holds { IfOk result (λ one. slid.Holds (map root_of functions.now) (stored_of root.now.stored.now) (map formula_of root.now.formulas.now)
+        around.now needed.now (option_map slid.sliding_seen sliding.now) one.region (option_map later_seen one.later)) }
+    ensures lets { IfOk result (λ one. IfWhole (stored_of root.now.stored.now).placed.cuts (one.lets.items ≡ [])) }
+    ensures nests { IfOk result (λ one. IfWhole (stored_of root.now.stored.now).placed.cuts (whole_nests (stored_of root.now.stored.now)
+        (map formula_of root.now.formulas.now) around.now one.region ≡ Some (map nest_seen one.nests.items))) }
+{
+    let (home, store) = spots;
+    let (region, later) = turns_of(alloc, functions, root, outer, around, needed, sliding)?;
+    let kept = kept_region(alloc, outer, around, &region)?;
+    let need = Needed {
+        scope: around,
+        region: &region,
+        kept: &kept,
+    };
+    let lain = lain_over(alloc, algo, root, need)?;
+    let along = dimension_of(sliding);
+    let places = seated_at(alloc, root, outer, &lain, &later, sites, along)?;
+    let fits = folds_fit(alloc, root, &lain.scope, needed, along)?;
+    let is_small = is_small(alloc, &lain.scope, needed)? && is_small(alloc, outer, &kept)?;
+    let claimed = claim_of(alloc, root, &lain.scope, &region, &lain.begun, &lain.nests)?;
+    let Lain {
+        scope,
+        begun,
+        nests,
+    } = lain;
+    Ok(Inner {
+        root: *root,
+        home,
+        store,
+        claimed,
+        scope,
+        region,
+        lets: begun.lets,
+        nests,
+        places,
+        later,
+        fits,
+        is_small,
+    })
+}
+
+// The function at a place where these sites call it.
+#[tactic(auto, using(crate::proofs::Along::is_computed))]
+fn made_at<'a>(
+    alloc: Global,
+    algo: &Algo,
+    group: &Root<'a>,
+    functions: &[Root<'a>],
+    inners: &[Inner<'a>],
+    root: &Root<'a>,
+    hosted: &Hosted<'_, 'a>,
+    home: Spot,
+    sites: &[Site],
+) -> Result<Inner<'a>, Stop>
+    requires { demanded.sites_at (algorithm_of algo.now) (root_of group.now) (map inner_seen inners.now) home (stored_of root.now.stored.now).subject.name
+        ≡ Some (map site_of sites.now) }
+    ensures root { IfOk result (λ one. one.root ≡ root.now) }
+    ensures home { IfOk result (λ one. one.home ≡ home) }
+    ensures store { IfOk result (λ one. one.store ≡ spec.store_spot (spec.host_seen hosted.now) (root_of root.now).0.placed.stores home) }
+    ensures computed { IfOk result (λ one. computed.IsComputed (algorithm_of algo.now) (root_of group.now) (map root_of functions.now)
+        (map inner_seen inners.now) (root_of root.now) (inner_seen one)) }
+{
+    let around = scope_at(alloc, group, inners, home)?;
+    let needed = needed_at(alloc, algo, group, inners, root, home, &around, sites)?;
+    let store = store_spot(hosted, root, home)?;
+    let outer = scope_at(alloc, group, inners, store)?;
+    let spots = (home, store);
+    let sliding = sliding_of(alloc, group, inners, root, spots, &needed)?;
+    let inner = inner_of(
+        alloc, algo, functions, root, spots, &outer, &around, &needed, &sliding, sites,
+    )?;
+    Ok(inner)
 }
 
 // The function at a place; none where nothing calls it there.
+#[tactic(auto, using(crate::proofs::Along::nothing_calls))]
 fn inner_at<'a>(
     alloc: Global,
     algo: &Algo,
@@ -152,54 +352,18 @@ fn inner_at<'a>(
     ensures home { IfOk result (λ found. IfSome found (λ one. one.home ≡ home)) }
     ensures store { IfOk result (λ found. IfSome found
         (λ one. one.store ≡ spec.store_spot (spec.host_seen hosted.now) (root_of root.now).0.placed.stores home)) }
+    ensures computed { IfOk result (λ found. computed.IsComputedAt (algorithm_of algo.now) (root_of group.now) (map root_of functions.now)
+        (map inner_seen inners.now) (root_of root.now) home (option_map inner_seen found)) }
 {
     let name = root.stored.subject.name;
     let sites = sites_at(alloc, algo, group, inners, home, name.as_str())?;
     if sites.is_empty() {
         return Ok(None);
     }
-    let scope = scope_at(alloc, group, inners, home)?;
-    let needed = needed_at(alloc, algo, group, inners, root, home, &scope, &sites)?;
-    let store = store_spot(hosted, root, home)?;
-    let outer = scope_at(alloc, group, inners, store)?;
-    let sliding = sliding_of(alloc, group, inners, root, (home, store), &needed)?;
-    let (region, later) = turns_of(alloc, functions, root, &outer, &scope, &needed, &sliding)?;
-    let kept = kept_region(alloc, &outer, &scope, &region)?;
-    let need = Needed {
-        scope: &scope,
-        region: &region,
-        kept: &kept,
-    };
-    let Lain {
-        scope,
-        begun,
-        nests,
-    } = lain_over(alloc, algo, root, need)?;
-    let along = sliding.map(|one| one.dimension);
-    let fits = folds_fit(alloc, root, &scope, &needed, along)?;
-    let arms = Arms {
-        scope: &scope,
-        nests: &nests,
-        later: later.as_ref(),
-    };
-    let is_small = is_small(alloc, &scope, &needed)? && is_small(alloc, &outer, &kept)?;
-    let seats = kept_region(alloc, &outer, &scope, &begun.region)?;
-    let places = storage_of(alloc, &outer, arms, &sites, &seats)?;
-    let places = folded(alloc, places, along, fold_of(root))?;
-    Ok(Some(Inner {
-        root: *root,
-        home,
-        store,
-        claimed: claim_of(alloc, root, &scope, &region, &begun, &nests)?,
-        scope,
-        region,
-        lets: begun.lets,
-        nests,
-        places,
-        later,
-        fits,
-        is_small,
-    }))
+    let inner = made_at(
+        alloc, algo, group, functions, inners, root, hosted, home, &sites,
+    )?;
+    Ok(Some(inner))
 }
 
 // The function before others, if it is computed there.
@@ -217,7 +381,7 @@ fn put_before<'a>(
 }
 
 // The function at its loop in the nest of this definition, where that has it.
-#[tactic(auto, using(crate::proofs::Hosts::at_home))]
+#[tactic(auto, using(crate::proofs::Along::computed_where, crate::proofs::Along::computed_none))]
 fn inner_in<'a>(
     alloc: Global,
     algo: &Algo,
@@ -235,8 +399,11 @@ fn inner_in<'a>(
     requires homes { first_home (root_of root.now).0.placed.homes ≡ Some home.now }
     requires hosted { spec.host_at (root_of group.now) (map inner_seen inners.now) host ≡ Some (spec.host_seen hosted.now) }
     requires named { (spec.host_seen hosted.now).function.subject.name ≡ home.now.function }
-    ensures { IfOk result (λ found. IfSome found (λ one. spec.IsAtHome (root_of group.now) (map root_of functions.now) (map inner_seen inners.now)
+    ensures at { IfOk result (λ found. IfSome found (λ one. spec.IsAtHome (root_of group.now) (map root_of functions.now) (map inner_seen inners.now)
         (inner_seen one))) }
+    ensures computed { IfOk result (λ found. computed.IsComputedBy (algorithm_of algo.now) (root_of group.now) (map root_of functions.now)
+        (map inner_seen inners.now) (root_of root.now) (spec.spot_in host (spec.host_seen hosted.now) definition home.now.turn)
+        (option_map inner_seen found)) }
 {
     match spot_in(host, hosted, definition, &home.turn)? {
         Some(spot) => inner_at(alloc, algo, group, functions, inners, root, hosted, spot),
@@ -245,7 +412,7 @@ fn inner_in<'a>(
 }
 
 // The function in the nests of a host from this definition on; over the grid once.
-#[tactic(auto, using(crate::proofs::Hosts::put_at))]
+#[tactic(auto, using(crate::proofs::Hosts::put_at, crate::proofs::Along::computed_nowhere, crate::proofs::Along::computed_over_grid, crate::proofs::Along::computed_in_nests))]
 fn inners_in<'a>(
     alloc: Global,
     algo: &Algo,
@@ -264,7 +431,11 @@ fn inners_in<'a>(
     requires homes { first_home (root_of root.now).0.placed.homes ≡ Some home.now }
     requires hosted { spec.host_at (root_of group.now) (map inner_seen inners.now) host ≡ Some (spec.host_seen hosted.now) }
     requires named { (spec.host_seen hosted.now).function.subject.name ≡ home.now.function }
-    ensures { IfOk result (λ v. spec.AreAt (root_of group.now) (map root_of functions.now) (map inner_seen inners.now) (map inner_seen v.items)) }
+    ensures at { IfOk result (λ v. spec.AreAt (root_of group.now) (map root_of functions.now) (map inner_seen inners.now) (map inner_seen v.items)) }
+    ensures computed { IfOk result (λ v. computed.AreComputedAt (algorithm_of algo.now) (root_of group.now) (map root_of functions.now)
+        (map inner_seen inners.now) (root_of root.now)
+        (computed.spots_in host (spec.host_seen hosted.now) home.now.turn definition (map nest_seen nests.now))
+        (map inner_seen v.items)) }
 {
     match nests {
         [] => Ok(Vec::new(alloc)),
@@ -287,7 +458,7 @@ fn inners_in<'a>(
 }
 
 // The function in the nests of this host.
-#[tactic(auto, using(crate::proofs::Hosts::named_so))]
+#[tactic(auto, using(crate::proofs::Hosts::named_so, crate::proofs::Along::computed_no_host, crate::proofs::Along::computed_other, crate::proofs::Along::computed_by_host))]
 fn inners_at<'b, 'a>(
     alloc: Global,
     algo: &Algo,
@@ -301,7 +472,11 @@ fn inners_at<'b, 'a>(
 ) -> Result<Vec<Inner<'a>>, Stop>
     requires among { slice_get functions.now number ≡ Some root.now }
     requires homes { first_home (root_of root.now).0.placed.homes ≡ Some home.now }
-    ensures { IfOk result (λ v. spec.AreAt (root_of group.now) (map root_of functions.now) (map inner_seen inners.now) (map inner_seen v.items)) }
+    ensures at { IfOk result (λ v. spec.AreAt (root_of group.now) (map root_of functions.now) (map inner_seen inners.now) (map inner_seen v.items)) }
+    ensures computed { IfOk result (λ v. computed.AreComputedAt (algorithm_of algo.now) (root_of group.now) (map root_of functions.now)
+        (map inner_seen inners.now) (root_of root.now)
+        (computed.spots_by home.now host (spec.host_at (root_of group.now) (map inner_seen inners.now) host))
+        (map inner_seen v.items)) }
 {
     let Some(hosted) = host_at(group, inners, host) else {
         return Ok(Vec::new(alloc));
@@ -310,24 +485,15 @@ fn inners_at<'b, 'a>(
     if !same_name(name, home.function.as_str()) {
         return Ok(Vec::new(alloc));
     }
-    inners_in(
-        alloc,
-        algo,
-        group,
-        functions,
-        inners,
-        number,
-        root,
-        home,
-        host,
-        &hosted,
-        0,
-        hosted.nests,
-    )
+    let nests = hosted.nests;
+    let found = inners_in(
+        alloc, algo, group, functions, inners, number, root, home, host, &hosted, 0, nests,
+    )?;
+    Ok(found)
 }
 
 // The function in the nests of these hosts.
-#[tactic(auto, using(crate::proofs::Hosts::appended))]
+#[tactic(auto, using(crate::proofs::Hosts::appended, crate::proofs::Along::computed_nowhere, crate::proofs::Along::computed_hosts))]
 fn inners_of_hosts<'a>(
     alloc: Global,
     algo: &Algo,
@@ -341,7 +507,11 @@ fn inners_of_hosts<'a>(
 ) -> Result<Vec<Inner<'a>>, Stop>
     requires among { slice_get functions.now number ≡ Some root.now }
     requires homes { first_home (root_of root.now).0.placed.homes ≡ Some home.now }
-    ensures { IfOk result (λ v. spec.AreAt (root_of group.now) (map root_of functions.now) (map inner_seen inners.now) (map inner_seen v.items)) }
+    ensures at { IfOk result (λ v. spec.AreAt (root_of group.now) (map root_of functions.now) (map inner_seen inners.now) (map inner_seen v.items)) }
+    ensures computed { IfOk result (λ v. computed.AreComputedAt (algorithm_of algo.now) (root_of group.now) (map root_of functions.now)
+        (map inner_seen inners.now) (root_of root.now)
+        (computed.spots_of_hosts (root_of group.now) (map inner_seen inners.now) home.now hosts.now)
+        (map inner_seen v.items)) }
 {
     match hosts {
         [] => Ok(Vec::new(alloc)),
@@ -359,6 +529,7 @@ fn inners_of_hosts<'a>(
 }
 
 // The function of this number wherever it is computed in the group.
+#[tactic(auto, using(crate::proofs::Along::found_nowhere, crate::proofs::Along::found_everywhere))]
 fn found_inside<'a>(
     alloc: Global,
     algo: &Algo,
@@ -369,19 +540,22 @@ fn found_inside<'a>(
     root: &Root<'a>,
 ) -> Result<Vec<Inner<'a>>, Stop>
     requires { slice_get functions.now number ≡ Some root.now }
-    ensures { IfOk result (λ v. spec.AreAt (root_of group.now) (map root_of functions.now) (map inner_seen inners.now) (map inner_seen v.items)) }
+    ensures at { IfOk result (λ v. spec.AreAt (root_of group.now) (map root_of functions.now) (map inner_seen inners.now) (map inner_seen v.items)) }
+    ensures computed { IfOk result (λ v. computed.AreComputed (algorithm_of algo.now) (root_of group.now) (map root_of functions.now)
+        (map inner_seen inners.now) (root_of root.now) (map inner_seen v.items)) }
 {
     let Some(home) = home_of(root) else {
         return Ok(Vec::new(alloc));
     };
     let hosts = hosts_named(alloc, group, inners, &home.function)?;
-    inners_of_hosts(
+    let found = inners_of_hosts(
         alloc, algo, group, functions, inners, number, root, &home, &hosts,
-    )
+    )?;
+    Ok(found)
 }
 
 // These, and behind them the functions before this number that are computed inside the loops, the last declared first.
-#[tactic(auto, using(crate::proofs::Hosts::more_at_home))]
+#[tactic(auto, using(crate::proofs::Hosts::more_at_home, crate::proofs::Along::found_last, crate::proofs::Along::none_more, crate::proofs::Along::found_more))]
 fn inners_before<'a>(
     alloc: Global,
     algo: &Algo,
@@ -391,20 +565,21 @@ fn inners_before<'a>(
     inners: Vec<Inner<'a>>,
 ) -> Result<Result<Vec<Inner<'a>>, Name>, AllocError>
     requires { spec.AreAtHome (root_of group.now) (map root_of functions.now) (map inner_seen inners.items) }
-    ensures { IfOk result (λ found. spec.AreAtHome (root_of group.now) (map root_of functions.now) (placed_inners found)) }
+    ensures home { IfOk result (λ found. spec.AreAtHome (root_of group.now) (map root_of functions.now) (placed_inners found)) }
+    ensures found { IfOk result (computed.AreFoundIf (algorithm_of algo.now) (root_of group.now) (map root_of functions.now) count (map inner_seen inners.entry.items)) }
 {
     let Some(last) = count.checked_sub(1) else {
         return Ok(Ok(inners));
     };
     let Some(root) = functions.get(last) else {
-        return Ok(Ok(inners));
+        return Ok(inners_before(alloc, algo, group, functions, last, inners)?);
     };
     match found_inside(alloc, algo, group, functions, &inners, last, root) {
         Ok(found) => {
             let mut all = inners;
             let mut found = found;
             all.append(&mut found)?;
-            inners_before(alloc, algo, group, functions, last, all)
+            Ok(inners_before(alloc, algo, group, functions, last, all)?)
         }
         Err(Stop::Limit) => Ok(Err(root.stored.subject.name)),
         Err(Stop::Memory) => Err(AllocError),
@@ -419,7 +594,8 @@ pub(crate) fn inners_of<'a>(
     group: &Root<'a>,
     functions: &[Root<'a>],
 ) -> Result<Result<Vec<Inner<'a>>, Name>, AllocError>
-    ensures { IfOk result (λ found. spec.AreAtHome (root_of group.now) (map root_of functions.now) (placed_inners found)) }
+    ensures home { IfOk result (λ found. spec.AreAtHome (root_of group.now) (map root_of functions.now) (placed_inners found)) }
+    ensures found { IfOk result (computed.AreFoundIf (algorithm_of algo.now) (root_of group.now) (map root_of functions.now) (length functions.now) []) }
 {
     inners_before(
         alloc,

@@ -1,7 +1,7 @@
 //! Laws of the definitions that the contracts are written with.
 
 ghost use Rattle.lower.specs.Counted.{LinesAreCounted};
-ghost use Rattle.lower.specs.Held.{ArrivalsFit, FetchesHavePlaces, FetchesHoldCalls, InputHoldsCalls, OutputHoldsExtents, RegionsHoldCalls, RegionsHoldOwnCalls};
+ghost use Rattle.lower.specs.Held.{ArrivalsFit, FetchesHavePlaces, FetchesHoldCalls, InputHoldsCalls, NeedsHoldCalls, OutputHoldsExtents, RegionsHoldCalls, RegionsHoldOwnCalls};
 ghost use Rattle.lower.specs.Owning.{BlocksMakeUpRegions, NeedsNameOwners};
 
 /// The region that is needed of a stored function holds each point that a function which is declared later calls of it: by any of
@@ -60,4 +60,10 @@ pub fn arrivals_fit()
 /// lines of the body, as a plan's lines are counted. So the line of each claim is that of the statement behind which it is made.
 pub fn placed_lines_are_counted()
     ensures { LinesAreCounted }
+{}
+
+/// What is needed of a function at a place inside loops holds each point that is called of it there, or further inside, whatever the
+/// turns of the loops inside of the place: as bounds tell it of the calls.
+pub fn needs_hold_calls()
+    ensures { NeedsHoldCalls }
 {}

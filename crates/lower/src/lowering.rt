@@ -14,7 +14,7 @@ ghost use Rattle.lower.specs.Faults.{are_whole};
 ghost use Rattle.lower.specs.Heads.{IsDeclared, IsHeadOf};
 ghost use Rattle.lower.specs.Making.{GroupMade};
 ghost use Rattle.lower.specs.Groups.{AreAlone, AreBodies, AreGroupsMade, AreMade, BodiesMade, IsAlone, IsOver, IsOwnOver, IsPlanOf, party_of, root_of, rooted};
-ghost use Rattle.lower.specs.Groups.{AreBodiesBy, GroupBy, GroupsBy, placed_of as inners_of};
+ghost use Rattle.lower.specs.Groups.{AreBodiesBy, AreFoundOf, AreKnown, AreOverRegions, GroupBy, GroupsBy, IsKnown, placed_of as inners_of};
 ghost use Rattle.lower.specs.Homes.{AreAllAtHome};
 ghost use Rattle.lower.specs.Planned.{TellsOf, first_unplanned, unplanned_at, unplanned_over};
 ghost use Rattle.lower.specs.Refused.{Answers, AreSmall, AreRegionsKept, AreUsesInside, IsRefused, IsUnplanned, IsPlaced};
@@ -77,7 +77,7 @@ fn empty_certificate(alloc: Global) -> Cert
 }
 
 // The group of a root function; without bounds it breaks L12. What needs, claims and windows a certificate has of it is added.
-#[tactic(auto, using(crate::proofs::Rooted::alone_at, crate::proofs::Rooted::alone_known, crate::proofs::Grouped::of_party))]
+#[tactic(auto, using(crate::proofs::Rooted::alone_at, crate::proofs::Rooted::alone_known, crate::proofs::Grouped::of_party, crate::proofs::Grouped::is_known))]
 fn group_at<'a>(
     alloc: Global,
     algo: &Algo,
@@ -97,6 +97,7 @@ fn group_at<'a>(
     ensures told { IsAlone party.now → TellsOf result (unplanned_at (algorithm_of algo.now) (map root_of roots.now) beginning.number (party_of party.now)) }
     ensures by { IfOk result (λ made. GroupBy (algorithm_of algo.now) (map root_of roots.now) beginning.number beginning.claim beginning.line made.line
         (inners_of party.now) (party_of party.now) made.group certificate.old certificate.new) }
+    ensures known { IfOk result (λ _. IsKnown party.now.inners) }
 {
     let inners = match &party.inners {
         Ok(inners) => inners,
@@ -158,6 +159,7 @@ fn groups_from<'a>(
         (map party_of parties.now)) }
     ensures by { IfOk result (λ v. GroupsBy (algorithm_of algo.now) (map root_of roots.now) beginning.number beginning.claim beginning.line
         (map inners_of parties.now) (map party_of parties.now) v.0.items certificate.old certificate.new) }
+    ensures known { IfOk result (λ _. AreKnown parties.now) }
 {
     let [party, rest @ ..] = parties else {
         return Ok((Vec::new(alloc), Vec::new(alloc)));
@@ -193,6 +195,7 @@ fn groups_of<'a>(
     ensures by { IfOk result (λ v. AreBodiesBy (algorithm_of algo.now) (map root_of roots.now) 0 0 4 (map inners_of parties.now)
         (map party_of parties.now) v.0.items
         v.1.claims.items v.1.needs.items v.1.windows.items) }
+    ensures known { IfOk result (λ _. AreKnown parties.now) }
 {
     let mut certificate = empty_certificate(alloc);
     let beginning = Beginning {
@@ -252,9 +255,12 @@ fn planned<'a>(
     parties: &[Party<'a>],
 ) -> Result<Lowered, LowerError>
     requires roots { map party_of parties.now ≡ rooted true (map stored_of stored.now) (map (option_map laid_of) laid.now) }
+    requires over { AreOverRegions (map stored_of stored.now) (map (option_map laid_of) laid.now) }
     requires alone { rooted false (map stored_of stored.now) (map (option_map laid_of) laid.now) ≡ [] → AreAlone parties.now }
     requires homes { AreAllAtHome (map party_of parties.now) (rooted false (map stored_of stored.now) (map (option_map laid_of) laid.now))
         (map inners_of parties.now) }
+    requires found { AreFoundOf (algorithm_of algo.now) (length (rooted false (map stored_of stored.now) (map (option_map laid_of) laid.now)))
+        (rooted false (map stored_of stored.now) (map (option_map laid_of) laid.now)) parties.now }
     ensures made { IfOk result (IsPlanOf (algorithm_of algo.now) (map stored_of stored.now) (map (option_map laid_of) laid.now)) }
     ensures unplanned { IfErr result IsUnplanned }
     ensures told { rooted false (map stored_of stored.now) (map (option_map laid_of) laid.now) ≡ [] →
@@ -269,40 +275,58 @@ fn planned<'a>(
     Ok(Lowered { plan, certificate })
 }
 
-// The regions as the turns of loops ask for them, where functions are computed inside loops.
+// The regions as the turns of loops ask for them, after so many rounds at most.
+fn laid_by_rounds(
+    alloc: Global,
+    algo: &Algo,
+    stored: &[Stored<'_>],
+    laid: Vec<Option<Laid>>,
+    rounds: usize,
+) -> Result<Vec<Option<Laid>>, AllocError>
+    requires { AreOverRegions (map stored_of stored.now) (map (option_map laid_of) laid.items) }
+    ensures { IfOk result (λ v. AreOverRegions (map stored_of stored.now) (map (option_map laid_of) v.items)) }
+{
+    let Some(left) = rounds.checked_sub(1) else {
+        return Ok(laid);
+    };
+    match laid_by_turns(alloc, algo, stored, &laid)? {
+        Some(made) => Ok(laid_by_rounds(alloc, algo, stored, made, left)?),
+        None => Ok(laid),
+    }
+}
+
+// The same where functions are computed inside loops.
 fn laid_by_loops(
     alloc: Global,
     algo: &Algo,
     stored: &[Stored<'_>],
     first: Vec<Option<Laid>>,
-) -> Result<Vec<Option<Laid>>, AllocError> {
-    let mut laid = first;
+) -> Result<Vec<Option<Laid>>, AllocError>
+    requires { AreOverRegions (map stored_of stored.now) (map (option_map laid_of) first.items) }
+    ensures { IfOk result (λ v. AreOverRegions (map stored_of stored.now) (map (option_map laid_of) v.items)) }
+{
     if stored.iter().all(|one| one.subject.is_root) {
-        return Ok(laid);
+        return Ok(first);
     }
-    for _round in 0..stored.len() {
-        match laid_by_turns(alloc, algo, stored, &laid)? {
-            Some(made) => laid = made,
-            None => return Ok(laid),
-        }
-    }
-    Ok(laid)
+    Ok(laid_by_rounds(alloc, algo, stored, first, stored.len())?)
 }
 
 // The regions of all stored functions, as the turns of the loops ask for them.
+#[tactic(auto, using(crate::proofs::Laying::needed_over))]
 fn laid_all(
     alloc: Global,
     algo: &Algo,
     stored: &[Stored<'_>],
 ) -> Result<Vec<Option<Laid>>, AllocError>
-    ensures { IfOk result (λ v. are_whole (map stored_of stored.now) ≡ true →
+    ensures laid { IfOk result (λ v. are_whole (map stored_of stored.now) ≡ true →
         map (option_map laid_of) v.items ≡ laid_functions (algorithm_of algo.now) (map stored_of stored.now)) }
+    ensures over { IfOk result (λ v. AreOverRegions (map stored_of stored.now) (map (option_map laid_of) v.items)) }
 {
     let laid = laid_functions(alloc, algo, stored)?;
     if are_whole(stored) {
         return Ok(laid);
     }
-    laid_by_loops(alloc, algo, stored, laid)
+    Ok(laid_by_loops(alloc, algo, stored, laid)?)
 }
 
 // What is told of a placement that breaks a rule behind the last directive. Where its function is stored, it is the one at this place.
@@ -337,8 +361,9 @@ fn plan_laid<'a>(
     stored: &'a [Stored<'a>],
     laid: &'a [Option<Laid>],
 ) -> Result<Lowered, LowerError>
-    requires { are_whole (map stored_of stored.now) ≡ true →
+    requires laid { are_whole (map stored_of stored.now) ≡ true →
         map (option_map laid_of) laid.now ≡ laid_functions (algorithm_of algo.now) (map stored_of stored.now) }
+    requires over { AreOverRegions (map stored_of stored.now) (map (option_map laid_of) laid.now) }
     ensures { Answers (algorithm_of algo.now) (map stored_of stored.now) placement.now.fault result }
 {
     let parties = parties_of(alloc, algo, stored, laid)?;

@@ -1,11 +1,13 @@
 //! Root functions with those that are computed inside their loops: the rules that these break, and the regions that all of
 //! them ask for.
 
-ghost use Rattle.std.specs.Prelude.{◌≡◌, [], IfOk, true, false, None, map};
+ghost use Rattle.std.specs.Prelude.{◌≡◌, [], IfOk, IfSome, true, false, None, Some, length, map};
 ghost use Rattle.std.specs.Option.{option_map};
+ghost use Rattle.algo.specs.View.{algorithm_of};
+ghost use Rattle.lower.specs.Computed as computed;
 ghost use Rattle.lower.specs.Large.{IsByRegion};
-ghost use Rattle.lower.specs.Stored.{stored_of};
-ghost use Rattle.lower.specs.Regions.{laid_of};
+ghost use Rattle.lower.specs.Stored.{formula_of, stored_of};
+ghost use Rattle.lower.specs.Regions.{laid_of, skeleton_of};
 ghost use Rattle.lower.specs.Groups as spec;
 ghost use Rattle.lower.specs.Homes as homes;
 ghost use Rattle.lower.specs.Planned as planned;
@@ -94,6 +96,7 @@ pub(crate) fn roots_of<'a>(
 }
 
 // Those of some functions that are computed inside the loops of a root function, or the name of one of which a bound is missing.
+#[tactic(auto, using(crate::proofs::Along::found_without))]
 fn inside_of<'a>(
     alloc: Global,
     algo: &Algo,
@@ -102,6 +105,7 @@ fn inside_of<'a>(
 ) -> Result<Result<Vec<Inner<'a>>, Name>, AllocError>
     ensures none { IfOk result (λ inners. functions.now ≡ [] → spec.HasNone inners) }
     ensures homes { IfOk result (λ inners. homes.AreAtHome (spec.root_of root.now) (map spec.root_of functions.now) (spec.inners_of inners)) }
+    ensures found { IfOk result (computed.AreFoundIf (algorithm_of algo.now) (spec.root_of root.now) (map spec.root_of functions.now) (length functions.now) []) }
 {
     if functions.is_empty() {
         return Ok(Ok(Vec::new(alloc)));
@@ -119,6 +123,8 @@ fn party_of<'a>(
     ensures root { IfOk result (λ party. party.root ≡ root.now) }
     ensures alone { IfOk result (λ party. functions.now ≡ [] → spec.IsAlone party) }
     ensures homes { IfOk result (λ party. homes.AreAtHome (spec.party_of party) (map spec.root_of functions.now) (spec.placed_of party)) }
+    ensures found { IfOk result (λ party. computed.AreFoundIf (algorithm_of algo.now) (spec.party_of party) (map spec.root_of functions.now)
+        (length functions.now) [] party.inners) }
 {
     Ok(Party {
         root: *root,
@@ -127,7 +133,7 @@ fn party_of<'a>(
 }
 
 // Each of these root functions with those of the functions that are computed inside its loops.
-#[tactic(auto, using(crate::proofs::Grouped::first_at_home))]
+#[tactic(auto, using(crate::proofs::Grouped::first_at_home, crate::proofs::Grouped::first_found))]
 fn parties_from<'a>(
     alloc: Global,
     algo: &Algo,
@@ -137,6 +143,7 @@ fn parties_from<'a>(
     ensures roots { IfOk result (λ v. map spec.party_of v.items ≡ map spec.root_of roots.now) }
     ensures alone { IfOk result (λ v. functions.now ≡ [] → spec.AreAlone v.items) }
     ensures homes { IfOk result (λ v. homes.AreAllAtHome (map spec.party_of v.items) (map spec.root_of functions.now) (map spec.placed_of v.items)) }
+    ensures found { IfOk result (λ v. spec.AreFoundOf (algorithm_of algo.now) (length functions.now) (map spec.root_of functions.now) v.items) }
 {
     match roots {
         [] => Ok(Vec::new(alloc)),
@@ -150,7 +157,7 @@ fn parties_from<'a>(
 }
 
 /// Each root function with those that are computed inside its loops, in the order of declaration.
-#[tactic(auto, using(crate::proofs::Rooted::no_entries, crate::proofs::Grouped::at_home_among))]
+#[tactic(auto, using(crate::proofs::Rooted::no_entries, crate::proofs::Grouped::at_home_among, crate::proofs::Grouped::found_among))]
 pub(crate) fn parties_of<'a>(
     alloc: Global,
     algo: &Algo,
@@ -161,6 +168,9 @@ pub(crate) fn parties_of<'a>(
     ensures alone { IfOk result (λ v. spec.rooted false (map stored_of stored.now) (map (option_map laid_of) laid.now) ≡ [] → spec.AreAlone v.items) }
     ensures homes { IfOk result (λ v. homes.AreAllAtHome (map spec.party_of v.items)
         (spec.rooted false (map stored_of stored.now) (map (option_map laid_of) laid.now)) (map spec.placed_of v.items)) }
+    ensures found { IfOk result (λ v. spec.AreFoundOf (algorithm_of algo.now)
+        (length (spec.rooted false (map stored_of stored.now) (map (option_map laid_of) laid.now)))
+        (spec.rooted false (map stored_of stored.now) (map (option_map laid_of) laid.now)) v.items) }
 {
     let functions = roots_of(alloc, stored, laid, false)?;
     let roots = roots_of(alloc, stored, laid, true)?;
@@ -377,13 +387,30 @@ fn add_party(
     Ok(())
 }
 
+// The region of a function that is reached so far and its own updates ask for, and the loops over it.
+fn laid_over(
+    alloc: Global,
+    algo: &Algo,
+    root: &Root<'_>,
+    reach: Vec<Option<Ends>>,
+) -> Result<Laid, Stop>
+    ensures { IfOk result (λ laid. skeleton_of (stored_of root.now.stored.now) (map formula_of root.now.formulas.now) (laid_of laid).region
+        ≡ Some (laid_of laid).skeleton) }
+{
+    let laid = closed(alloc, algo, root.stored, root.formulas, reach)?;
+    Ok(laid)
+}
+
 // The region of a function that all turns of the others ask for, and the loops over it.
 fn laid_again(
     alloc: Global,
     algo: &Algo,
     root: &Root<'_>,
     parties: &[Party<'_>],
-) -> Result<Laid, Stop> {
+) -> Result<Laid, Stop>
+    ensures { IfOk result (λ laid. skeleton_of (stored_of root.now.stored.now) (map formula_of root.now.formulas.now) (laid_of laid).region
+        ≡ Some (laid_of laid).skeleton) }
+{
     let mut reach = unreached(alloc, root.stored.subject.variables.len())?;
     for party in parties {
         add_party(alloc, algo, party, root, &mut reach)?;
@@ -391,18 +418,24 @@ fn laid_again(
     if root.stored.subject.is_output {
         add_extents(algo, &mut reach)?;
     }
-    closed(alloc, algo, root.stored, root.formulas, reach)
+    laid_over(alloc, algo, root, reach)
 }
 
 // None where there is no region within the limits.
+#[tactic(auto, using(crate::proofs::Laying::over_region))]
 fn laid_or_none(
     alloc: Global,
     algo: &Algo,
     stored: &Stored<'_>,
     laid: &Option<Laid>,
     parties: &[Party<'_>],
-) -> Result<Option<Laid>, AllocError> {
-    let (Some(formulas), Some(laid)) = (&stored.formulas, laid) else {
+) -> Result<Option<Laid>, AllocError>
+    ensures { IfOk result (λ found. spec.IsOverRegion (stored_of stored.now) (option_map laid_of found) (stored_of stored.now).formulas) }
+{
+    let Some(formulas) = &stored.formulas else {
+        return Ok(None);
+    };
+    let Some(laid) = laid else {
         return Ok(None);
     };
     let root = Root {
@@ -414,6 +447,31 @@ fn laid_or_none(
         Ok(laid) => Ok(Some(laid)),
         Err(Stop::Limit) => Ok(None),
         Err(Stop::Memory) => Err(AllocError),
+    }
+}
+
+// The same of each of some functions.
+#[tactic(auto, using(crate::proofs::Laying::first_over))]
+fn laid_each(
+    alloc: Global,
+    algo: &Algo,
+    stored: &[Stored<'_>],
+    laid: &[Option<Laid>],
+    parties: &[Party<'_>],
+) -> Result<Vec<Option<Laid>>, AllocError>
+    ensures { IfOk result (λ v. spec.AreOverRegions (map stored_of stored.now) (map (option_map laid_of) v.items)) }
+{
+    match stored {
+        [] => Ok(Vec::new(alloc)),
+        [one, others @ ..] => match laid {
+            [] => Ok(Vec::new(alloc)),
+            [known, rest @ ..] => {
+                let first = laid_or_none(alloc, algo, one, known, parties)?;
+                let mut made = laid_each(alloc, algo, others, rest, parties)?;
+                made.insert(0, first)?;
+                Ok(made)
+            }
+        },
     }
 }
 
@@ -432,15 +490,14 @@ pub(crate) fn laid_by_turns(
     algo: &Algo,
     stored: &[Stored<'_>],
     laid: &[Option<Laid>],
-) -> Result<Option<Vec<Option<Laid>>>, AllocError> {
+) -> Result<Option<Vec<Option<Laid>>>, AllocError>
+    ensures { IfOk result (λ found. IfSome found (λ v. spec.AreOverRegions (map stored_of stored.now) (map (option_map laid_of) v.items))) }
+{
     let parties = parties_of(alloc, algo, stored, laid)?;
     if parties.iter().any(|party| party.inners.is_err()) {
         return Ok(None);
     }
-    let mut made = Vec::new(alloc);
-    for (one, known) in stored.iter().zip(laid.iter()) {
-        made.push(laid_or_none(alloc, algo, one, known, &parties)?)?;
-    }
+    let made = laid_each(alloc, algo, stored, laid, &parties)?;
     if are_same(laid, &made) {
         return Ok(None);
     }

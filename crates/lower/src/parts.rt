@@ -242,7 +242,7 @@ fn seated(
 
 // ---- places
 
-fn is_same_host(first: Host, second: Host) -> bool
+pub(crate) fn is_same_host(first: Host, second: Host) -> bool
     ensures { result ≡ spec.same_host first second }
 {
     match first {
@@ -258,7 +258,7 @@ fn is_same_host(first: Host, second: Host) -> bool
     }
 }
 
-fn is_same_number(first: Option<usize>, second: Option<usize>) -> bool
+pub(crate) fn is_same_number(first: Option<usize>, second: Option<usize>) -> bool
     ensures { result ≡ spec.same_number first second }
 {
     match first {

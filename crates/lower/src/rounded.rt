@@ -1,19 +1,29 @@
 //! Functions with updates in blocks that run past the end of what is needed: what is named before their nests, and of what their
 //! claims speak.
 
+ghost use Rattle.std.specs.Prelude.{◌≡◌, [], IfOk, IfSome, Some, map};
+ghost use Rattle.std.specs.List.{list_any};
+ghost use Rattle.lower.specs.Around.{bind_steps as bound_by};
+ghost use Rattle.lower.specs.Demanded as demanded;
+ghost use Rattle.lower.specs.Stored.{formula_of, stored_of};
+ghost use Rattle.lower.specs.Turned.{IfWhole, whole_nests};
+ghost use Rattle.sched.specs.Skeleton.{nest_seen};
+
 use crate::calls::calls_of;
 use crate::ends::{Needed, has_further, rounding, told_span};
 use crate::error::Stop;
 use crate::fetching::{Root, count_from, run_of, shortest};
 use crate::forms::{one_form, raised, two_forms};
 use crate::legality::is_bounded;
+use crate::scopes::bind_steps;
 use crate::storage::stored_from;
 use crate::turns::{nests_begun, nests_over};
 use algo::Algo;
 use lin::{Binding, Forms, Lin, Region, Scope, Span1};
 use plan::Pick;
-use sched::{Nest, Step};
+use sched::{Nest, Split, Step, Tail};
 use std::alloc::{AllocError, Global};
+use tree::token::Name;
 
 /// How many blocks behind the first one are counted at most, where one turn needs more of them than another.
 const MOST_FURTHER: i64 = 3;
@@ -52,9 +62,30 @@ fn rounding_of(root: &Root<'_>, dimension: usize) -> Option<u32> {
     rounding(&root.stored.placed.cuts, variable)
 }
 
+fn is_rounding(cut: &Split, variable: &Name) -> bool
+    ensures { result ≡ demanded.is_rounding variable.now cut.now }
+{
+    match cut.tail {
+        Tail::Roundup => cut.whole.as_str() == variable.as_str(),
+        Tail::Guard | Tail::Shift => false,
+    }
+}
+
+fn has_rounding(cuts: &[Split], variable: &Name) -> bool
+    ensures { result ≡ list_any (demanded.is_rounding variable.now) cuts.now }
+{
+    cuts.iter().any(|cut| is_rounding(cut, variable))
+}
+
 /// Whether the dimension's loop is split with `roundup`.
-pub(crate) fn is_rounded(root: &Root<'_>, dimension: usize) -> bool {
-    rounding_of(root, dimension).is_some()
+#[tactic(auto, using(crate::proofs::Along::rounded_in, crate::proofs::Along::no_variable))]
+pub(crate) fn is_rounded(root: &Root<'_>, dimension: usize) -> bool
+    ensures { result ≡ demanded.is_rounded (stored_of root.now.stored.now) dimension }
+{
+    match root.stored.subject.variables.get(dimension) {
+        Some(variable) => has_rounding(&root.stored.placed.cuts, variable),
+        None => false,
+    }
 }
 
 // ---- names
@@ -324,7 +355,9 @@ fn run_in(
     told_run(alloc, names, is_counted, factor, span, &told, tally)
 }
 
-fn unnamed(alloc: Global, region: &Region) -> Result<Begun, AllocError> {
+fn unnamed(alloc: Global, region: &Region) -> Result<Begun, AllocError>
+    ensures { IfOk result (λ begun. begun.lets.items ≡ []) }
+{
     Ok(Begun {
         lets: Vec::new(alloc),
         region: region.copy(alloc)?,
@@ -391,20 +424,13 @@ fn calls_itself(alloc: Global, root: &Root<'_>) -> Result<bool, AllocError> {
     Ok(false)
 }
 
-/// What is named before the nests of a function, and what stands around them then.
-#[derive(Drop)]
-struct Named {
-    scope: Scope,
-    begun: Begun,
-}
-
-// None where a form leaves the limits of forms.
+// What is named before the nests of a function over a region; none where a form leaves the limits of forms.
 fn named_over(
     alloc: Global,
     root: &Root<'_>,
     scope: &Scope,
     region: &Region,
-) -> Result<Option<Named>, AllocError> {
+) -> Result<Option<Begun>, AllocError> {
     let mut names = Names {
         scope: scope.copy(alloc)?,
         lets: Vec::new(alloc),
@@ -414,9 +440,8 @@ fn named_over(
         Err(Stop::Limit) => return Ok(None),
         Err(Stop::Memory) => return Err(AllocError),
     };
-    let Names { scope, lets } = names;
-    let begun = begun_by(alloc, lets, runs)?;
-    Ok(Some(Named { scope, begun }))
+    let Names { lets, .. } = names;
+    Ok(Some(begun_by(alloc, lets, runs)?))
 }
 
 /// A function's nests over a region, with what stands around them.
@@ -427,7 +452,12 @@ pub(crate) struct Lain {
     pub nests: Vec<Nest>,
 }
 
-fn lain_plainly(alloc: Global, root: &Root<'_>, needed: Needed<'_>) -> Result<Lain, Stop> {
+fn lain_plainly(alloc: Global, root: &Root<'_>, needed: Needed<'_>) -> Result<Lain, Stop>
+    ensures scope { IfOk result (λ lain. lain.scope ≡ bound_by needed.entry.scope.now lain.begun.lets.items) }
+    ensures lets { IfOk result (λ lain. lain.begun.lets.items ≡ []) }
+    ensures nests { IfOk result (λ lain. IfWhole (stored_of root.now.stored.now).placed.cuts (whole_nests (stored_of root.now.stored.now)
+        (map formula_of root.now.formulas.now) needed.entry.scope.now needed.entry.region.now ≡ Some (map nest_seen lain.nests.items))) }
+{
     let nests = nests_over(alloc, root, needed)?;
     let begun = unnamed(alloc, needed.region)?;
     let scope = needed.scope.copy(alloc)?;
@@ -438,15 +468,26 @@ fn lain_plainly(alloc: Global, root: &Root<'_>, needed: Needed<'_>) -> Result<La
     })
 }
 
+// What stands around, and behind it these lets.
+fn scope_behind(alloc: Global, outer: &Scope, lets: &[Step]) -> Result<Scope, AllocError>
+    ensures { IfOk result (λ scope. scope ≡ bound_by outer.now lets.now) }
+{
+    let mut scope = outer.copy(alloc)?;
+    bind_steps(alloc, &mut scope, lets)?;
+    Ok(scope)
+}
+
 // The nests behind names; none where an index would leave what there is.
 fn lain_behind(
     alloc: Global,
     algo: &Algo,
     root: &Root<'_>,
     needed: Needed<'_>,
-    named: Named,
-) -> Result<Option<Lain>, Stop> {
-    let Named { scope, begun } = named;
+    begun: Begun,
+) -> Result<Option<Lain>, Stop>
+    ensures { IfOk result (λ found. IfSome found (λ lain. lain.scope ≡ bound_by needed.entry.scope.now lain.begun.lets.items)) }
+{
+    let scope = scope_behind(alloc, needed.scope, &begun.lets)?;
     let nests = nests_begun(alloc, root, &scope, &begun, needed.kept)?;
     if begun.is_moved && !is_bounded(alloc, algo, root, &scope, &nests, needed.region)? {
         return Ok(None);
@@ -460,21 +501,30 @@ fn lain_behind(
 
 /// The nests of a function over a region. Of one that calls itself in an update, what its blocks make is told, where names tell it
 /// and no index leaves what there is.
+#[tactic(auto, using(crate::proofs::Along::if_whole, crate::proofs::Along::not_whole))]
 pub(crate) fn lain_over(
     alloc: Global,
     algo: &Algo,
     root: &Root<'_>,
     needed: Needed<'_>,
-) -> Result<Lain, Stop> {
-    if root.formulas.len() < 2 || !calls_itself(alloc, root)? {
-        return lain_plainly(alloc, root, needed);
+) -> Result<Lain, Stop>
+    ensures scope { IfOk result (λ lain. lain.scope ≡ bound_by needed.entry.scope.now lain.begun.lets.items) }
+    ensures lets { IfOk result (λ lain. IfWhole (stored_of root.now.stored.now).placed.cuts (lain.begun.lets.items ≡ [])) }
+    ensures nests { IfOk result (λ lain. IfWhole (stored_of root.now.stored.now).placed.cuts (whole_nests (stored_of root.now.stored.now)
+        (map formula_of root.now.formulas.now) needed.entry.scope.now needed.entry.region.now ≡ Some (map nest_seen lain.nests.items))) }
+{
+    if root.stored.placed.cuts.is_empty() {
+        return Ok(lain_plainly(alloc, root, needed)?);
     }
-    if let Some(named) = named_over(alloc, root, needed.scope, needed.region)? {
-        if let Some(lain) = lain_behind(alloc, algo, root, needed, named)? {
+    if root.formulas.len() < 2 || !calls_itself(alloc, root)? {
+        return Ok(lain_plainly(alloc, root, needed)?);
+    }
+    if let Some(begun) = named_over(alloc, root, needed.scope, needed.region)? {
+        if let Some(lain) = lain_behind(alloc, algo, root, needed, begun)? {
             return Ok(lain);
         }
     }
-    lain_plainly(alloc, root, needed)
+    Ok(lain_plainly(alloc, root, needed)?)
 }
 
 // ---- claims

@@ -1,5 +1,15 @@
 //! How a function that is computed inside a loop keeps what the turns before have made.
 
+ghost use Rattle.std.specs.Prelude.{◌≡◌, ◌++◌, ◌∷◌, [], true, false, not, if◌then◌else◌, ◌&&◌, ◌||◌, IfOk, OnOk, Some, length, map};
+ghost use Rattle.std.specs.List.{list_all, list_any};
+ghost use Rattle.std.specs.Option.{option_map};
+ghost use Rattle.meaning.specs.Names.{same_name};
+ghost use Rattle.lower.specs.Limited.{Gives, Tells};
+ghost use Rattle.lower.specs.Placed.{later_seen};
+ghost use Rattle.lower.specs.Slid as spec;
+ghost use Rattle.lower.specs.Stored.{formula_of, stored_of};
+
+use crate::definitions::Formula;
 use crate::ends::Needed;
 use crate::error::Stop;
 use crate::fetching::{Root, freed, shortest};
@@ -9,8 +19,9 @@ use crate::turns::nests_over;
 use crate::windows::{all_fit, window_size};
 use lin::{Binding, Forms, Lin, Region, Scope, Span1, Sym};
 use plan::{Pick, Places};
-use sched::{Nest, Step};
+use sched::{Nest, Split, Step};
 use std::alloc::{AllocError, Global};
+use tree::token::Name;
 
 /// The loop along which a function may slide, and what stands in it.
 #[derive(Drop)]
@@ -49,12 +60,16 @@ pub(crate) struct Later {
 
 impl Sliding {
     /// Whether no let and no guard stands behind the loop.
-    pub(crate) fn is_bare(&self) -> bool {
+    pub(crate) fn is_bare(&self) -> bool
+        ensures { result ≡ spec.is_bare (spec.sliding_seen self.now).0 }
+    {
         self.track.lets.is_empty() && !self.track.is_guarded
     }
 
     /// Whether the loop may have a second turn.
-    pub(crate) fn is_repeated(&self, alloc: Global, scope: &Scope) -> Result<bool, AllocError> {
+    pub(crate) fn is_repeated(&self, alloc: Global, scope: &Scope) -> Result<bool, AllocError>
+        ensures { IfOk result (λ yes. yes ≡ spec.is_repeated scope.now (spec.sliding_seen self.now).0) }
+    {
         match shortest(alloc, scope, &self.track.span)? {
             Some((_, count)) => Ok(count > 1),
             None => Ok(true),
@@ -62,84 +77,168 @@ impl Sliding {
     }
 }
 
-// The lets of the steps.
-fn lets_of(alloc: Global, steps: &[Step]) -> Result<Vec<Sym>, AllocError> {
-    let mut lets = Vec::new(alloc);
-    for step in steps {
-        if let Step::Named { symbol, .. } = step {
-            lets.push(*symbol)?;
-        }
+// The lets of the steps, behind others.
+fn add_lets(steps: &[Step], lets: &mut Vec<Sym>) -> Result<(), AllocError>
+    ensures { OnOk result (lets.new.items ≡ lets.old.items ++ spec.lets_of steps.now) }
+{
+    match steps {
+        [] => Ok(()),
+        [step, rest @ ..] => match step {
+            Step::Named { symbol, .. } => {
+                lets.push(*symbol)?;
+                add_lets(rest, lets)
+            }
+            Step::Turns { .. } => add_lets(rest, lets),
+            Step::Tested { .. } => add_lets(rest, lets),
+        },
     }
-    Ok(lets)
+}
+
+fn is_test(step: &Step) -> bool
+    ensures { result ≡ spec.is_test step.now }
+{
+    matches!(step, Step::Tested { .. })
+}
+
+fn has_test(steps: &[Step]) -> bool
+    ensures { result ≡ list_any spec.is_test steps.now }
+{
+    steps.iter().any(|step| is_test(step))
+}
+
+// The loop of a step, with what stands behind it.
+fn track_here(alloc: Global, step: &Step, behind: &[Step]) -> Result<Option<Track>, AllocError>
+    ensures { IfOk result (λ found. option_map spec.track_seen found ≡ spec.track_here step.now behind.now) }
+{
+    match step {
+        Step::Turns { symbol, span, .. } => {
+            let mut lets = Vec::new(alloc);
+            add_lets(behind, &mut lets)?;
+            Ok(Some(Track {
+                symbol: *symbol,
+                span: span.copy(alloc)?,
+                lets,
+                is_guarded: has_test(behind),
+            }))
+        }
+        Step::Named { .. } | Step::Tested { .. } => Ok(None),
+    }
 }
 
 /// The innermost loop of the steps, with what stands behind it.
-pub(crate) fn track_of(alloc: Global, steps: &[Step]) -> Result<Option<Track>, AllocError> {
-    for inner in 0..steps.len() {
-        let place = steps.len() - 1 - inner;
-        if let Step::Turns { symbol, span, .. } = &steps[place] {
-            let behind = match steps.get(place + 1..) {
-                Some(behind) => behind,
-                None => &[],
-            };
-            return Ok(Some(Track {
-                symbol: *symbol,
-                span: span.copy(alloc)?,
-                lets: lets_of(alloc, behind)?,
-                is_guarded: behind
-                    .iter()
-                    .any(|step| matches!(step, Step::Tested { .. })),
-            }));
-        }
+pub(crate) fn track_of(alloc: Global, steps: &[Step]) -> Result<Option<Track>, AllocError>
+    ensures { IfOk result (λ found. option_map spec.track_seen found ≡ spec.track_of steps.now) }
+{
+    match steps {
+        [] => Ok(None),
+        [step, rest @ ..] => match track_of(alloc, rest)? {
+            Some(track) => Ok(Some(track)),
+            None => Ok(track_here(alloc, step, rest)?),
+        },
     }
-    Ok(None)
 }
 
-fn is_named(form: &Lin, track: &Track) -> bool {
-    form.factor(track.symbol) != 0 || track.lets.iter().any(|one| form.factor(*one) != 0)
+fn has(form: &Lin, symbol: Sym) -> bool
+    ensures { result ≡ spec.has form.now symbol }
+{
+    form.factor(symbol) != 0
 }
 
-fn moves(span: &Span1, track: &Track) -> bool {
-    span.lower
-        .as_slice()
-        .iter()
-        .any(|form| is_named(form, track))
-        || span
-            .upper
-            .as_slice()
-            .iter()
-            .any(|form| is_named(form, track))
+fn is_low(form: &Lin, symbol: Sym) -> bool
+    ensures { result ≡ spec.is_low form.now symbol }
+{
+    form.factor(symbol) >= 0
 }
 
-fn is_rising(form: &Lin, track: &Track) -> bool {
-    form.factor(track.symbol) >= 0 && track.lets.iter().all(|one| form.factor(*one) >= 0)
+fn has_any(form: &Lin, symbols: &[Sym]) -> bool
+    ensures { result ≡ list_any (spec.has form.now) symbols.now }
+{
+    match symbols {
+        [] => false,
+        [symbol, rest @ ..] => has(form, *symbol) || has_any(form, rest),
+    }
+}
+
+fn is_named(form: &Lin, track: &Track) -> bool
+    ensures { result ≡ spec.is_named (spec.track_seen track.now) form.now }
+{
+    has(form, track.symbol) || has_any(form, &track.lets)
+}
+
+fn are_named(forms: &[Lin], track: &Track) -> bool
+    ensures { result ≡ list_any (spec.is_named (spec.track_seen track.now)) forms.now }
+{
+    forms.iter().any(|form| is_named(form, track))
+}
+
+fn moves(span: &Span1, track: &Track) -> bool
+    ensures { result ≡ spec.moves (spec.track_seen track.now) span.now }
+{
+    are_named(span.lower.as_slice(), track) || are_named(span.upper.as_slice(), track)
+}
+
+fn are_low(form: &Lin, symbols: &[Sym]) -> bool
+    ensures { result ≡ list_all (spec.is_low form.now) symbols.now }
+{
+    match symbols {
+        [] => true,
+        [symbol, rest @ ..] => is_low(form, *symbol) && are_low(form, rest),
+    }
+}
+
+fn is_rising(form: &Lin, track: &Track) -> bool
+    ensures { result ≡ spec.is_rising (spec.track_seen track.now) form.now }
+{
+    is_low(form, track.symbol) && are_low(form, &track.lets)
+}
+
+fn are_rising(forms: &[Lin], track: &Track) -> bool
+    ensures { result ≡ list_all (spec.is_rising (spec.track_seen track.now)) forms.now }
+{
+    forms.iter().all(|form| is_rising(form, track))
 }
 
 // Whether neither end falls from turn to turn.
-fn rises(span: &Span1, track: &Track) -> bool {
-    span.lower
-        .as_slice()
-        .iter()
-        .all(|form| is_rising(form, track))
-        && span
-            .upper
-            .as_slice()
-            .iter()
-            .all(|form| is_rising(form, track))
+fn rises(span: &Span1, track: &Track) -> bool
+    ensures { result ≡ spec.rises (spec.track_seen track.now) span.now }
+{
+    are_rising(span.lower.as_slice(), track) && are_rising(span.upper.as_slice(), track)
+}
+
+// Of the dimensions from this one on the only one that moves, where this one before them does, and where it never falls.
+fn slid_from(
+    spans: &[Span1],
+    track: &Track,
+    dimension: usize,
+    found: Option<usize>,
+) -> Result<Option<usize>, AllocError>
+    ensures { IfOk result (λ last. last ≡ spec.slid_from (spec.track_seen track.now) dimension spans.now found) }
+{
+    match spans {
+        [] => Ok(found),
+        [span, rest @ ..] => {
+            let Some(next) = dimension.checked_add(1) else {
+                return Err(AllocError);
+            };
+            if !moves(span, track) {
+                return slid_from(rest, track, next, found);
+            }
+            if found.is_some() {
+                return Ok(None);
+            }
+            if !rises(span, track) {
+                return Ok(None);
+            }
+            slid_from(rest, track, next, Some(dimension))
+        }
+    }
 }
 
 /// The dimension in which a region slides along the loop: the only one that moves, where it never falls.
-pub(crate) fn sliding_dimension(region: &Region, track: &Track) -> Option<usize> {
-    let mut found: Option<usize> = None;
-    for (dimension, span) in region.as_slice().iter().enumerate() {
-        if moves(span, track) {
-            if found.is_some() || !rises(span, track) {
-                return None;
-            }
-            found = Some(dimension);
-        }
-    }
-    found
+pub(crate) fn sliding_dimension(region: &Region, track: &Track) -> Result<Option<usize>, AllocError>
+    ensures { IfOk result (λ found. found ≡ spec.sliding_dimension (spec.track_seen track.now) region.now) }
+{
+    slid_from(region.as_slice(), track, 0, None)
 }
 
 /// Why a region slides in no dimension along the loop.
@@ -159,66 +258,150 @@ pub(crate) fn standstill(region: &Region, track: &Track) -> Standstill {
 
 // ---- what is new
 
-// One past the last number of the turn before, for each upper form.
-fn new_from(alloc: Global, span: &Span1, symbol: Sym) -> Result<Forms, Stop> {
-    let mut forms = Forms::new(alloc);
-    for form in span.upper.as_slice() {
-        let past = 1_i64.saturating_sub(form.factor(symbol));
-        forms.push(raised(alloc, form, past)?)?;
+// What a form needs to be one past what it was in the turn before.
+fn offset(form: &Lin, symbol: Sym) -> i64
+    ensures { result ≡ spec.offset symbol form.now }
+{
+    1_i64.saturating_sub(form.factor(symbol))
+}
+
+// One past what a form was in the turn before.
+fn past(alloc: Global, form: &Lin, symbol: Sym) -> Result<Lin, Stop>
+    ensures { Gives result (λ made. made) (spec.past symbol form.now) }
+{
+    raised(alloc, form, offset(form, symbol))
+}
+
+// One past the last number of the turn before, for each of the upper forms, behind others.
+fn add_new(alloc: Global, upper: &[Lin], symbol: Sym, forms: &mut Forms) -> Result<(), Stop>
+    ensures { Tells result forms.new (spec.add_new symbol upper.now forms.old) }
+{
+    match upper {
+        [] => Ok(()),
+        [form, rest @ ..] => {
+            let one = past(alloc, form, symbol)?;
+            forms.push(one)?;
+            add_new(alloc, rest, symbol, forms)
+        }
     }
+}
+
+// The same of a span.
+fn new_from(alloc: Global, span: &Span1, symbol: Sym) -> Result<Forms, Stop>
+    ensures { Gives result (λ forms. forms) (spec.new_from symbol span.now) }
+{
+    let mut forms = Forms::new(alloc);
+    add_new(alloc, span.upper.as_slice(), symbol, &mut forms)?;
     Ok(forms)
 }
 
-// Whether the form at a place is shown to be at most another one.
+// Whether the form at a place is shown to be at most one of the others, of which the first has this number.
 fn is_spare(
     alloc: Global,
     scope: &Scope,
-    forms: &[Lin],
-    place: usize,
     form: &Lin,
-) -> Result<bool, AllocError> {
-    for (other, one) in forms.iter().enumerate() {
-        if other != place && scope.at_most(alloc, form, one)? {
-            return Ok(true);
+    place: usize,
+    number: usize,
+    others: &[Lin],
+) -> Result<bool, AllocError>
+    ensures { IfOk result (λ yes. yes ≡ spec.is_spare scope.now form.now place number others.now) }
+{
+    match others {
+        [] => Ok(false),
+        [one, rest @ ..] => {
+            let Some(next) = number.checked_add(1) else {
+                return Err(AllocError);
+            };
+            if number != place && scope.at_most(alloc, form, one)? {
+                Ok(true)
+            } else {
+                is_spare(alloc, scope, form, place, next, rest)
+            }
         }
     }
-    Ok(false)
 }
 
-// The place of a lower form that is not needed: one that is at most another one, or the last.
-fn spare_place(alloc: Global, scope: &Scope, forms: &[Lin]) -> Result<usize, AllocError> {
-    for (place, form) in forms.iter().enumerate() {
-        if is_spare(alloc, scope, forms, place, form)? {
-            return Ok(place);
-        }
-    }
-    Ok(forms.len().saturating_sub(1))
-}
-
-// The span from the symbol on; of as many forms as a side may have one goes.
-fn from_symbol(
+// The place of the first of these forms, from a place on, that is at most another one of all; else the last.
+fn spare_from(
     alloc: Global,
     scope: &Scope,
-    span: &Span1,
-    symbol: Sym,
-) -> Result<Span1, AllocError> {
-    let forms = span.lower.as_slice();
-    let spare = if forms.len() < MOST_FORMS {
-        forms.len()
-    } else {
-        spare_place(alloc, scope, forms)?
-    };
-    let mut lower = Forms::new(alloc);
-    lower.push(Lin::symbol(alloc, symbol)?)?;
-    for (place, form) in forms.iter().enumerate() {
-        if place != spare {
-            lower.push(form.copy(alloc)?)?;
+    all: &[Lin],
+    place: usize,
+    forms: &[Lin],
+) -> Result<usize, AllocError>
+    ensures { IfOk result (λ spare. spare ≡ spec.spare_from scope.now all.now place forms.now) }
+{
+    match forms {
+        [] => Ok(all.len().saturating_sub(1)),
+        [form, rest @ ..] => {
+            let Some(next) = place.checked_add(1) else {
+                return Err(AllocError);
+            };
+            if is_spare(alloc, scope, form, place, 0, all)? {
+                Ok(place)
+            } else {
+                spare_from(alloc, scope, all, next, rest)
+            }
         }
     }
+}
+
+// The place of a lower form that is not needed where there are as many as a side may have.
+fn spare_place(alloc: Global, scope: &Scope, forms: &[Lin]) -> Result<usize, AllocError>
+    ensures { IfOk result (λ spare. spare ≡ spec.spare_place scope.now forms.now) }
+{
+    if forms.len() < MOST_FORMS {
+        return Ok(forms.len());
+    }
+    Ok(spare_from(alloc, scope, forms, 0, forms)?)
+}
+
+// The forms but one, behind others.
+fn add_others(
+    alloc: Global,
+    spare: usize,
+    place: usize,
+    forms: &[Lin],
+    lower: &mut Forms,
+) -> Result<(), AllocError>
+    ensures { OnOk result (lower.new ≡ lower.old ++ spec.others_from spare place forms.now) }
+{
+    match forms {
+        [] => Ok(()),
+        [form, rest @ ..] => {
+            let Some(next) = place.checked_add(1) else {
+                return Err(AllocError);
+            };
+            if place != spare {
+                lower.push(form.copy(alloc)?)?;
+            }
+            add_others(alloc, spare, next, rest, lower)
+        }
+    }
+}
+
+// The span from the symbol on that follows those of the scope; of as many forms as a side may have one goes.
+fn from_symbol(alloc: Global, scope: &Scope, span: &Span1) -> Result<Span1, AllocError>
+    ensures { IfOk result (λ new. new ≡ spec.from_symbol scope.now span.now) }
+{
+    let spare = spare_place(alloc, scope, span.lower.as_slice())?;
+    let mut lower = Forms::new(alloc);
+    lower.push(Lin::symbol(alloc, scope.len())?)?;
+    add_others(alloc, spare, 0, span.lower.as_slice(), &mut lower)?;
     Ok(Span1 {
         lower,
         upper: span.upper.copy(alloc)?,
     })
+}
+
+fn new_span(alloc: Global, scope: &Scope, is_along: bool, span: &Span1) -> Result<Span1, AllocError>
+    ensures { IfOk result (λ new. new ≡ (if is_along then spec.from_symbol scope.now span.now else span.now)) }
+{
+    if is_along {
+        Ok(from_symbol(alloc, scope, span)?)
+    } else {
+        Ok(span.copy(alloc)?)
+    }
 }
 
 // The region, of the dimension from the symbol on that follows those of the scope.
@@ -227,44 +410,81 @@ fn new_region(
     scope: &Scope,
     region: &Region,
     along: usize,
-) -> Result<Region, AllocError> {
+) -> Result<Region, AllocError>
+    ensures { IfOk result (λ new. new ≡ spec.new_region scope.now along 0 region.now) }
+{
     let mut made = Region::new(alloc);
     for (dimension, span) in region.as_slice().iter().enumerate() {
-        let one = if dimension == along {
-            from_symbol(alloc, scope, span, scope.len())?
-        } else {
-            span.copy(alloc)?
-        };
+        let one = new_span(alloc, scope, dimension == along, span)?;
         made.push(one)?;
     }
     Ok(made)
 }
 
 // Whether the form is shown to be at most each of the others.
-fn is_below(alloc: Global, scope: &Scope, form: &Lin, others: &[Lin]) -> Result<bool, AllocError> {
-    for other in others {
-        if !scope.at_most(alloc, form, other)? {
-            return Ok(false);
+fn is_below(alloc: Global, scope: &Scope, form: &Lin, others: &[Lin]) -> Result<bool, AllocError>
+    ensures { IfOk result (λ yes. yes ≡ spec.is_below scope.now form.now others.now) }
+{
+    match others {
+        [] => Ok(true),
+        [other, rest @ ..] => {
+            if scope.at_most(alloc, form, other)? {
+                is_below(alloc, scope, form, rest)
+            } else {
+                Ok(false)
+            }
         }
     }
-    Ok(true)
 }
 
-// Whether what a turn needs begins at most one past what the turn before holds.
+// Whether those of these lower forms that move are shown to be at most one past what the turn before holds.
 fn are_joined(
     alloc: Global,
     scope: &Scope,
-    needed: &Span1,
-    held: &Span1,
     track: &Track,
-) -> Result<bool, Stop> {
-    let new = new_from(alloc, held, track.symbol)?;
-    for form in needed.lower.as_slice() {
-        if is_named(form, track) && !is_below(alloc, scope, form, new.as_slice())? {
-            return Ok(false);
+    new: &[Lin],
+    lower: &[Lin],
+) -> Result<bool, AllocError>
+    ensures { IfOk result (λ yes. yes ≡ spec.are_joined scope.now (spec.track_seen track.now) new.now lower.now) }
+{
+    match lower {
+        [] => Ok(true),
+        [form, rest @ ..] => {
+            if is_named(form, track) {
+                if is_below(alloc, scope, form, new)? {
+                    are_joined(alloc, scope, track, new, rest)
+                } else {
+                    Ok(false)
+                }
+            } else {
+                are_joined(alloc, scope, track, new, rest)
+            }
         }
     }
-    Ok(true)
+}
+
+fn is_open(span: &Span1) -> bool
+    ensures { result ≡ spec.is_open span.now }
+{
+    span.lower.as_slice().is_empty() || span.upper.as_slice().is_empty()
+}
+
+// The span that is held, where what a turn needs begins at most one past what the turn before holds.
+fn joined(
+    alloc: Global,
+    scope: &Scope,
+    needed: &Span1,
+    held: Span1,
+    track: &Track,
+) -> Result<Option<Span1>, Stop>
+    ensures { Gives result (λ found. found) (spec.joined scope.now (spec.track_seen track.now) needed.now held) }
+{
+    let new = new_from(alloc, &held, track.symbol)?;
+    if are_joined(alloc, scope, track, new.as_slice(), needed.lower.as_slice())? {
+        Ok(Some(held))
+    } else {
+        Ok(None)
+    }
 }
 
 // The span that is needed over the loop's own symbol in place of the lets behind it, where it rises and the turns join.
@@ -273,13 +493,44 @@ fn over_loop(
     scope: &Scope,
     needed: &Span1,
     track: &Track,
-) -> Result<Option<Span1>, Stop> {
+) -> Result<Option<Span1>, Stop>
+    ensures { Gives result (λ found. found) (spec.over_loop scope.now (spec.track_seen track.now) needed.now) }
+{
     let held = freed(alloc, scope, track.lets.as_slice(), needed)?;
-    let is_open = held.lower.as_slice().is_empty() || held.upper.as_slice().is_empty();
-    if is_open || !rises(&held, track) || !are_joined(alloc, scope, needed, &held, track)? {
+    if is_open(&held) {
         return Ok(None);
     }
-    Ok(Some(held))
+    if !rises(&held, track) {
+        return Ok(None);
+    }
+    joined(alloc, scope, needed, held, track)
+}
+
+// The same, none where a form leaves the limits of forms.
+fn over_loop_within(
+    alloc: Global,
+    scope: &Scope,
+    needed: &Span1,
+    track: &Track,
+) -> Result<Option<Span1>, AllocError>
+    ensures { IfOk result (λ found. found ≡ spec.if_told (spec.over_loop scope.now (spec.track_seen track.now) needed.now)) }
+{
+    match over_loop(alloc, scope, needed, track) {
+        Ok(found) => Ok(found),
+        Err(Stop::Limit) => Ok(None),
+        Err(Stop::Memory) => Err(AllocError),
+    }
+}
+
+// The span in one dimension, in the others the one that there is.
+fn span_at(alloc: Global, is_along: bool, one: &Span1, span: &Span1) -> Result<Span1, AllocError>
+    ensures { IfOk result (λ made. made ≡ (if is_along then span.now else one.now)) }
+{
+    if is_along {
+        Ok(span.copy(alloc)?)
+    } else {
+        Ok(one.copy(alloc)?)
+    }
 }
 
 // The region with another span in a dimension.
@@ -288,23 +539,63 @@ fn with_span(
     region: &Region,
     along: usize,
     span: &Span1,
-) -> Result<Region, AllocError> {
+) -> Result<Region, AllocError>
+    ensures { IfOk result (λ made. made ≡ spec.with_span along span.now 0 region.now) }
+{
     let mut made = Region::new(alloc);
     for (dimension, one) in region.as_slice().iter().enumerate() {
-        let one = if dimension == along { span } else { one };
-        made.push(one.copy(alloc)?)?;
+        let one = span_at(alloc, dimension == along, one, span)?;
+        made.push(one)?;
     }
     Ok(made)
 }
 
-// Whether the dimension's loop is split.
-fn is_split(root: &Root<'_>, dimension: usize) -> bool {
-    let Some(variable) = root.stored.subject.variables.get(dimension) else {
-        return false;
-    };
-    let cuts = &root.stored.placed.cuts;
+fn has_split(cuts: &[Split], variable: &Name) -> bool
+    ensures { result ≡ list_any (λ c. same_name c.whole variable.now) cuts.now }
+{
     cuts.iter()
         .any(|cut| cut.whole.as_str() == variable.as_str())
+}
+
+// Whether the dimension's loop is split.
+#[tactic(auto, using(crate::proofs::Along::split_in, crate::proofs::Along::not_split))]
+fn is_split(root: &Root<'_>, dimension: usize) -> bool
+    ensures { result ≡ spec.is_split (stored_of root.now.stored.now) dimension }
+{
+    match root.stored.subject.variables.get(dimension) {
+        Some(variable) => has_split(&root.stored.placed.cuts, variable),
+        None => false,
+    }
+}
+
+// What is needed, freed of the lets behind the loop in the dimension in which the function slides; none where it is split there.
+fn freed_region(
+    alloc: Global,
+    root: &Root<'_>,
+    scope: &Scope,
+    region: &Region,
+    sliding: &Sliding,
+) -> Result<Option<Region>, AllocError>
+    ensures { IfOk result (λ found. found ≡ spec.freed_region (stored_of root.now.stored.now) scope.now (spec.sliding_seen sliding.now).0
+        (spec.sliding_seen sliding.now).1 region.now) }
+{
+    let Some(span) = region.as_slice().get(sliding.dimension) else {
+        return Ok(None);
+    };
+    if is_split(root, sliding.dimension) {
+        return Ok(None);
+    }
+    let Some(held) = over_loop_within(alloc, scope, span, &sliding.track)? else {
+        return Ok(None);
+    };
+    Ok(Some(with_span(alloc, region, sliding.dimension, &held)?))
+}
+
+#[tactic(auto, using(crate::proofs::Along::single_seen))]
+fn is_single(formulas: &[Formula]) -> bool
+    ensures { result ≡ spec.is_single (map formula_of formulas.now) }
+{
+    formulas.len() == 1
 }
 
 /// What a function without updates holds in each turn of the loop along which it slides: what is needed of it; behind lets that
@@ -316,28 +607,25 @@ pub(crate) fn held_region(
     scope: &Scope,
     region: &Region,
     sliding: &Sliding,
-) -> Result<Option<Region>, Stop> {
+) -> Result<Option<Region>, AllocError>
+    ensures { IfOk result (λ found. found ≡ spec.held_region (stored_of root.now.stored.now) (map formula_of root.now.formulas.now) scope.now
+        (spec.sliding_seen sliding.now).0 (spec.sliding_seen sliding.now).1 region.now) }
+{
     let track = &sliding.track;
-    if track.is_guarded || root.formulas.len() != 1 {
+    if track.is_guarded {
+        return Ok(None);
+    }
+    if !is_single(root.formulas) {
         return Ok(None);
     }
     if track.lets.is_empty() {
         return Ok(Some(region.copy(alloc)?));
     }
-    let Some(span) = region.as_slice().get(sliding.dimension) else {
-        return Ok(None);
-    };
-    if is_split(root, sliding.dimension) {
-        return Ok(None);
-    }
-    match over_loop(alloc, scope, span, track) {
-        Ok(Some(span)) => Ok(Some(with_span(alloc, region, sliding.dimension, &span)?)),
-        Ok(None) | Err(Stop::Limit) => Ok(None),
-        Err(Stop::Memory) => Err(Stop::Memory),
-    }
+    freed_region(alloc, root, scope, region, sliding)
 }
 
 /// The turns after the first one of a function that holds such a region in each turn.
+#[tactic(auto, using(crate::proofs::Along::later_made))]
 pub(crate) fn later_of(
     alloc: Global,
     root: &Root<'_>,
@@ -345,7 +633,10 @@ pub(crate) fn later_of(
     region: &Region,
     kept: &Region,
     sliding: &Sliding,
-) -> Result<Option<Later>, Stop> {
+) -> Result<Option<Later>, Stop>
+    ensures { IfOk result (λ found. spec.HasLater (stored_of root.now.stored.now) (map formula_of root.now.formulas.now) (spec.sliding_seen sliding.now)
+        scope.now region.now (option_map later_seen found)) }
+{
     let Sliding { track, dimension } = sliding;
     let Some(span) = region.as_slice().get(*dimension) else {
         return Ok(None);
@@ -373,20 +664,24 @@ pub(crate) fn later_of(
 // ---- folds
 
 /// Whether each fold of the function is one of the dimension in which it slides, with places for its window.
+#[tactic(auto, using(crate::proofs::Along::fits_no_variable, crate::proofs::Along::fits_no_span, crate::proofs::Along::fits_along))]
 pub(crate) fn folds_fit(
     alloc: Global,
     root: &Root<'_>,
     scope: &Scope,
     region: &Region,
     sliding: Option<usize>,
-) -> Result<bool, AllocError> {
+) -> Result<bool, AllocError>
+    ensures { IfOk result (λ yes. yes ≡ spec.folds_fit (stored_of root.now.stored.now) scope.now region.now sliding) }
+{
     let folds = root.stored.placed.folds.as_slice();
     let Some(dimension) = sliding else {
         return Ok(folds.is_empty());
     };
-    let variables = &root.stored.subject.variables;
-    let (Some(variable), Some(span)) = (variables.get(dimension), region.as_slice().get(dimension))
-    else {
+    let Some(variable) = root.stored.subject.variables.get(dimension) else {
+        return Ok(false);
+    };
+    let Some(span) = region.as_slice().get(dimension) else {
         return Ok(false);
     };
     let size = window_size(alloc, scope, span)?;

@@ -1,8 +1,12 @@
 //! Places in the nests of a group: whose nests they are, and what stands around them.
 
-ghost use Rattle.std.specs.Prelude.{◌≡◌, ◌+◌, IfOk, map};
+ghost use Rattle.std.specs.Prelude.{◌≡◌, ◌+◌, ◌++◌, IfOk, OnOk, length, map, slice_get};
 ghost use Rattle.std.specs.Option.{option_map};
 ghost use Rattle.std.specs.List.{AllByRecursion};
+ghost use Rattle.sched.specs.Skeleton.{nest_seen};
+ghost use Rattle.lower.specs.Around as around;
+ghost use Rattle.lower.specs.Computed as computed;
+ghost use Rattle.lower.specs.Demanded as demanded;
 ghost use Rattle.lower.specs.Groups.{root_of};
 ghost use Rattle.lower.specs.Homes as spec;
 ghost use Rattle.lower.specs.Placed.{inner_seen};
@@ -12,6 +16,7 @@ ghost use Rattle.lower.specs.Uses.{first_home as first_home_of};
 use crate::definitions::Formula;
 use crate::fetching::Root;
 use crate::inner::Inner;
+use crate::parts::{is_same_host, is_same_number};
 use crate::regions::counts;
 use crate::scopes::{bind_steps, head_scope};
 use crate::sliding::Later;
@@ -33,7 +38,9 @@ pub(crate) enum Host {
 
 impl Host {
     /// The number among those that are computed inside.
-    pub(crate) fn number(self) -> Option<usize> {
+    pub(crate) fn number(self) -> Option<usize>
+        ensures { result ≡ demanded.number_of self }
+    {
         match self {
             Host::Own => None,
             Host::Inner(number) | Host::Later(number) => Some(number),
@@ -179,48 +186,114 @@ pub(crate) fn root_at<'a>(group: &Root<'a>, inners: &[Inner<'a>], host: Host) ->
     }
 }
 
+// What stands around the nests of the function of this number.
+#[tactic(auto, using(crate::proofs::Demands::scope_found, crate::proofs::Demands::no_scope))]
+fn inner_scope(alloc: Global, inners: &[Inner<'_>], number: usize) -> Result<Scope, AllocError>
+    ensures { IfOk result (λ scope. scope ≡ demanded.scope_of (slice_get (map inner_seen inners.now) number)) }
+{
+    match inners.get(number) {
+        Some(inner) => Ok(inner.scope.copy(alloc)?),
+        None => Ok(Scope::new(alloc)),
+    }
+}
+
+// The same of its nests over what is new.
+#[tactic(auto, using(crate::proofs::Demands::later_found, crate::proofs::Demands::none_later, crate::proofs::Demands::no_later))]
+fn later_scope(alloc: Global, inners: &[Inner<'_>], number: usize) -> Result<Scope, AllocError>
+    ensures { IfOk result (λ scope. scope ≡ demanded.later_scope_at (slice_get (map inner_seen inners.now) number)) }
+{
+    match inners.get(number) {
+        Some(inner) => match &inner.later {
+            Some(later) => Ok(later.scope.copy(alloc)?),
+            None => Ok(Scope::new(alloc)),
+        },
+        None => Ok(Scope::new(alloc)),
+    }
+}
+
 // What stands around all nests of the function.
 pub(crate) fn scope_over(
     alloc: Global,
     group: &Root<'_>,
     inners: &[Inner<'_>],
     host: Host,
-) -> Result<Scope, AllocError> {
+) -> Result<Scope, AllocError>
+    ensures { IfOk result (λ scope. scope ≡ demanded.scope_over (root_of group.now) (map inner_seen inners.now) host) }
+{
     match host {
-        Host::Own => head_scope(alloc, &group.laid.skeleton),
-        Host::Inner(number) => match inners.get(number) {
-            Some(inner) => inner.scope.copy(alloc),
-            None => Ok(Scope::new(alloc)),
-        },
-        Host::Later(number) => match later_at(inners, number) {
-            Some(later) => later.scope.copy(alloc),
-            None => Ok(Scope::new(alloc)),
-        },
+        Host::Own => Ok(head_scope(alloc, &group.laid.skeleton)?),
+        Host::Inner(number) => Ok(inner_scope(alloc, inners, number)?),
+        Host::Later(number) => Ok(later_scope(alloc, inners, number)?),
     }
 }
 
-// The steps around a place in a nest; none over the grid.
-pub(crate) fn steps_at<'b>(
-    group: &'b Root<'_>,
-    inners: &'b [Inner<'_>],
+// The nest in which a place is; none over the grid.
+#[tactic(auto, using(crate::proofs::Demands::nest_found, crate::proofs::Demands::no_nest, crate::proofs::Demands::no_host, crate::proofs::Demands::no_definition))]
+fn nest_at<'b, 'a>(group: &'b Root<'a>, inners: &'b [Inner<'a>], spot: Spot) -> Option<&'b Nest>
+    ensures { option_map (λ nest. nest_seen nest.now) result ≡ demanded.nest_at (root_of group.now) (map inner_seen inners.now) spot }
+{
+    let Some(definition) = spot.definition else {
+        return None;
+    };
+    let Some(hosted) = host_at(group, inners, spot.host) else {
+        return None;
+    };
+    let Some(nest) = hosted.nests.get(definition) else {
+        return None;
+    };
+    Some(nest)
+}
+
+// The first so many steps, if there are as many.
+fn first_steps(steps: &[Step], count: usize) -> Option<&[Step]>
+    ensures { option_map (λ first. first.now) result ≡ demanded.first_steps count steps.now }
+{
+    if count <= steps.len() {
+        Some(&steps[..count])
+    } else {
+        None
+    }
+}
+
+/// The steps around a place in a nest; none over the grid.
+#[tactic(auto, using(crate::proofs::Demands::steps_found, crate::proofs::Demands::no_steps))]
+pub(crate) fn steps_at<'b, 'a>(
+    group: &'b Root<'a>,
+    inners: &'b [Inner<'a>],
     spot: Spot,
-) -> Option<&'b [Step]> {
-    let nest = nests_at(group, inners, spot.host).get(spot.definition?)?;
-    nest.steps.get(..spot.depth)
+) -> Option<&'b [Step]>
+    ensures { option_map (λ steps. steps.now) result ≡ demanded.steps_at (root_of group.now) (map inner_seen inners.now) spot }
+{
+    match nest_at(group, inners, spot) {
+        Some(nest) => first_steps(&nest.steps, spot.depth),
+        None => None,
+    }
+}
+
+// The symbols, and behind them those of steps.
+fn with_steps(alloc: Global, scope: Scope, steps: &[Step]) -> Result<Scope, AllocError>
+    ensures { IfOk result (λ all. all ≡ around.bind_steps scope steps.now) }
+{
+    let mut scope = scope;
+    bind_steps(alloc, &mut scope, steps)?;
+    Ok(scope)
 }
 
 /// What stands around a place.
-pub(crate) fn scope_at(
+#[tactic(auto, using(crate::proofs::Demands::scope_with, crate::proofs::Demands::scope_without))]
+pub(crate) fn scope_at<'b, 'a>(
     alloc: Global,
-    group: &Root<'_>,
-    inners: &[Inner<'_>],
+    group: &'b Root<'a>,
+    inners: &'b [Inner<'a>],
     spot: Spot,
-) -> Result<Scope, AllocError> {
-    let mut scope = scope_over(alloc, group, inners, spot.host)?;
-    if let Some(steps) = steps_at(group, inners, spot) {
-        bind_steps(alloc, &mut scope, steps)?;
+) -> Result<Scope, AllocError>
+    ensures { IfOk result (λ scope. scope ≡ demanded.scope_at (root_of group.now) (map inner_seen inners.now) spot) }
+{
+    let scope = scope_over(alloc, group, inners, spot.host)?;
+    match steps_at(group, inners, spot) {
+        Some(steps) => Ok(with_steps(alloc, scope, steps)?),
+        None => Ok(scope),
     }
-    Ok(scope)
 }
 
 #[tactic(auto, using(crate::proofs::Hosts::inner_found, crate::proofs::Hosts::no_inner))]
@@ -315,23 +388,44 @@ pub(crate) fn spot_in(
     spot_inside(host, hosted, definition, name)
 }
 
-// Whether the function of this number is computed at the place, or inside of it.
-pub(crate) fn is_inside_spot(inners: &[Inner<'_>], number: usize, spot: Spot) -> bool {
-    let mut at = number;
-    for _outer in 0..inners.len() {
-        let Some(inner) = inners.get(at) else {
-            return false;
-        };
-        if inner.home.host == spot.host {
-            return spot.definition.is_none()
-                || (inner.home.definition == spot.definition && inner.home.depth >= spot.depth);
-        }
-        match inner.home.host.number() {
-            Some(host) => at = host,
-            None => return false,
-        }
+// Whether a place in the nests of the same host is no further outside.
+fn is_behind(home: Spot, spot: Spot) -> bool
+    ensures { result ≡ demanded.is_behind home spot }
+{
+    if spot.definition.is_none() {
+        return true;
     }
-    false
+    is_same_number(home.definition, spot.definition) && spot.depth <= home.depth
+}
+
+// Whether the function of this number is computed at the place, or in the nests of one that is; they stand inside one another at most
+// so deep.
+#[tactic(auto, using(crate::proofs::Demands::at_place, crate::proofs::Demands::in_nests, crate::proofs::Demands::in_group, crate::proofs::Demands::no_function, crate::proofs::Demands::too_deep))]
+fn stands_inside(inners: &[Inner<'_>], spot: Spot, deep: usize, number: usize) -> bool
+    ensures { result ≡ demanded.stands_inside (map inner_seen inners.now) spot deep number }
+{
+    let Some(below) = deep.checked_sub(1) else {
+        return false;
+    };
+    let Some(inner) = inners.get(number) else {
+        return false;
+    };
+    let home = inner.home;
+    if is_same_host(home.host, spot.host) {
+        return is_behind(home, spot);
+    }
+    match home.host.number() {
+        Some(host) => stands_inside(inners, spot, below, host),
+        None => false,
+    }
+}
+
+/// Whether the function of this number is computed at the place, or inside of it.
+#[tactic(auto, using(crate::proofs::Demands::same_length))]
+pub(crate) fn is_inside_spot(inners: &[Inner<'_>], number: usize, spot: Spot) -> bool
+    ensures { result ≡ demanded.stands_inside (map inner_seen inners.now) spot (length (map inner_seen inners.now)) number }
+{
+    stands_inside(inners, spot, inners.len(), number)
 }
 
 /// The first loop at which a function is computed.

@@ -1,6 +1,7 @@
 //! What stands at a place of a nest: loops, the lets and guards that splits put behind them, and the positions that these tell.
 
-use crate::ends::{Frame, Reach, form_named, has_rest, is_overrun, number_named, reach_named};
+use crate::blocks::form_named;
+use crate::ends::{Frame, Reach, has_rest, is_overrun, number_named, reach_named};
 use crate::error::Stop;
 use crate::forms::{raised, two_forms};
 use lin::{Lin, Span1, Sym};

@@ -1,22 +1,33 @@
 //! The loops, lets and guards of a function that is computed inside loops, over what one turn of them needs of it.
 
-use crate::ends::{Frame, Needed, extents_of, form_named, frame_of, is_half, number_named};
+ghost use Rattle.std.specs.Prelude.{◌≡◌, ◌++◌, [], None, Some, if◌then◌else◌, IfOk, OnOk, length, map};
+ghost use Rattle.std.specs.Option.{option_copied};
+ghost use Rattle.sched.specs.Standing.{form_named as form_named_of};
+ghost use Rattle.sched.specs.Skeleton.{body_of, nest_seen, is_missing as is_missing_of, ranges_at as ranges_at_of, variables_at as variables_at_of};
+ghost use Rattle.lower.specs.Limited.{Gives, Tells};
+ghost use Rattle.lower.specs.Stored.{formula_of, stored_of};
+ghost use Rattle.lower.specs.Turned as spec;
+
+use crate::blocks::form_named;
+use crate::ends::{Frame, Needed, extents_of, frame_of, is_half, number_named};
 use crate::error::Stop;
-use crate::fetching::Root;
+use crate::fetching::{Root, shortest};
 use crate::forms::between;
 use crate::nests::bodies;
 use crate::rounded::{Begun, Blocks};
 use crate::standing::{Run, Standing};
-use lin::{Forms, Lin, Region, Scope, Span1};
+use lin::{Forms, Lin, Region, Scope, Span1, Sym};
 use plan::Kind;
-use sched::{Body, Known, Loop, Mark, Nest, Numbers, Split, Tail, Turning, loop_numbers};
+use sched::{Body, Known, Loop, Mark, Nest, Numbers, Split, Step, Tail, Turning, loop_numbers};
 use std::alloc::{AllocError, Global};
 use std::mem;
 use tree::token::Name;
 
 // ---- loops
 
-fn is_missing(body: &Body, dimension: usize) -> bool {
+fn is_missing(body: &Body, dimension: usize) -> bool
+    ensures { result ≡ is_missing_of (body_of body.now) dimension }
+{
     body.missing.iter().any(|one| *one == dimension)
 }
 
@@ -53,7 +64,9 @@ fn span_of(
     Ok(span)
 }
 
-fn kind_of(mark: Option<Mark>) -> Kind {
+fn kind_of(mark: Option<Mark>) -> Kind
+    ensures { result ≡ spec.kind_of mark }
+{
     match mark {
         Some(Mark::Unrolled) => Kind::Unroll,
         Some(Mark::Vectorized) => Kind::Vector,
@@ -160,41 +173,115 @@ fn body_cuts(alloc: Global, root: &Root<'_>, body: &Body) -> Result<Vec<Split>, 
 
 // ---- nests
 
-fn copied(alloc: Global, form: Option<&Lin>) -> Result<Option<Lin>, AllocError> {
+fn copied(alloc: Global, form: Option<&Lin>) -> Result<Option<Lin>, AllocError>
+    ensures { IfOk result (λ copy. copy ≡ option_copied form.entry) }
+{
     match form {
         Some(form) => Ok(Some(form.copy(alloc)?)),
         None => Ok(None),
     }
 }
 
-fn variables_at(
+// The forms of the variables from this one on, behind others.
+fn add_variables(
+    alloc: Global,
+    body: &Body,
+    known: &[Known],
+    dimension: usize,
+    variables: &[Name],
+    at: &mut Vec<Option<Lin>>,
+) -> Result<(), AllocError>
+    ensures { OnOk result (at.new.items ≡ at.old.items ++ variables_at_of (body_of body.now) dimension variables.now known.now) }
+{
+    match variables {
+        [] => Ok(()),
+        [variable, rest @ ..] => {
+            let Some(next) = dimension.checked_add(1) else {
+                return Err(AllocError);
+            };
+            at.push(variable_at(alloc, body, known, dimension, variable)?)?;
+            add_variables(alloc, body, known, next, rest, at)
+        }
+    }
+}
+
+// The form of a variable; none where the definition lacks it.
+fn variable_at(
+    alloc: Global,
+    body: &Body,
+    known: &[Known],
+    dimension: usize,
+    variable: &Name,
+) -> Result<Option<Lin>, AllocError>
+    ensures { IfOk result (λ form. form ≡ (if is_missing_of (body_of body.now) dimension then None else form_named_of known.now variable.now)) }
+{
+    if is_missing(body, dimension) {
+        return Ok(None);
+    }
+    Ok(copied(alloc, form_named(known, variable))?)
+}
+
+// Those of the variables of a reduction, behind others.
+fn add_ranges(
+    alloc: Global,
+    known: &[Known],
+    ranges: &[Turning],
+    at: &mut Vec<Option<Lin>>,
+) -> Result<(), AllocError>
+    ensures { OnOk result (at.new.items ≡ at.old.items ++ ranges_at_of ranges.now known.now) }
+{
+    match ranges {
+        [] => Ok(()),
+        [range, rest @ ..] => {
+            at.push(copied(alloc, form_named(known, &range.name))?)?;
+            add_ranges(alloc, known, rest, at)
+        }
+    }
+}
+
+// The coordinates of a definition's store.
+fn coordinates_at(
     alloc: Global,
     root: &Root<'_>,
     body: &Body,
     known: &[Known],
-) -> Result<Vec<Option<Lin>>, AllocError> {
+) -> Result<Vec<Option<Lin>>, AllocError>
+    ensures { IfOk result (λ at. at.items ≡ variables_at_of (body_of body.now) 0 (stored_of root.now.stored.now).subject.variables known.now
+        ++ ranges_at_of (body_of body.now).ranges known.now) }
+{
     let mut at = Vec::new(alloc);
-    for (dimension, variable) in root.stored.subject.variables.iter().enumerate() {
-        let form = if is_missing(body, dimension) {
-            None
-        } else {
-            form_named(known, variable)
-        };
-        at.push(copied(alloc, form)?)?;
-    }
+    let variables = &root.stored.subject.variables;
+    add_variables(alloc, body, known, 0, variables, &mut at)?;
+    add_ranges(alloc, known, &body.ranges, &mut at)?;
     Ok(at)
 }
 
-fn ranges_at(
-    alloc: Global,
-    ranges: &[Turning],
-    known: &[Known],
-) -> Result<Vec<Option<Lin>>, AllocError> {
-    let mut at = Vec::new(alloc);
-    for range in ranges {
-        at.push(copied(alloc, form_named(known, &range.name))?)?;
+// What stands behind these steps, of which the first binds the symbol behind those of a scope.
+fn behind(alloc: Global, scope: &Scope, steps: Vec<Step>) -> Standing {
+    Standing {
+        known: Vec::new(alloc),
+        starts: Vec::new(alloc),
+        bound: Vec::new(alloc),
+        next: scope.len().saturating_add(steps.len()),
+        steps,
     }
-    Ok(at)
+}
+
+// Adds the turns of a definition's loops.
+fn add_loops(
+    alloc: Global,
+    root: &Root<'_>,
+    region: &Region,
+    frame: &Frame,
+    body: &Body,
+    standing: &mut Standing,
+) -> Result<(), Stop> {
+    let cuts = body_cuts(alloc, root, body)?;
+    let runs = runs_of(alloc, root, region, frame, body)?;
+    for run in runs {
+        standing.turn(alloc, frame, &cuts, run)?;
+    }
+    Ok(())
 }
 
 fn nest_over(
@@ -206,21 +293,10 @@ fn nest_over(
     body: &Body,
 ) -> Result<Nest, Stop> {
     let mut frame = frame_of(alloc, root, needed, blocks, definition)?;
-    let cuts = body_cuts(alloc, root, body)?;
     let steps = mem::replace(&mut frame.lets, Vec::new(alloc));
-    let mut standing = Standing {
-        known: Vec::new(alloc),
-        starts: Vec::new(alloc),
-        bound: Vec::new(alloc),
-        next: needed.scope.len().saturating_add(steps.len()),
-        steps,
-    };
-    for run in runs_of(alloc, root, needed.region, &frame, body)? {
-        standing.turn(alloc, &frame, &cuts, run)?;
-    }
-    let mut at = variables_at(alloc, root, body, &standing.known)?;
-    let mut ranges = ranges_at(alloc, &body.ranges, &standing.known)?;
-    at.append(&mut ranges)?;
+    let mut standing = behind(alloc, needed.scope, steps);
+    add_loops(alloc, root, needed.region, &frame, body, &mut standing)?;
+    let at = coordinates_at(alloc, root, body, &standing.known)?;
     Ok(Nest {
         steps: standing.steps,
         at,
@@ -241,13 +317,224 @@ fn nests_with(
     Ok(nests)
 }
 
+// ---- where no loop is split
+
+fn is_run(body: &Body, is_lane: bool, one: &Loop) -> bool
+    ensures { result ≡ spec.is_run (body_of body.now) is_lane one.now }
+{
+    if is_missing(body, one.dimension) {
+        return false;
+    }
+    if is_lane {
+        one.is_vectorized()
+    } else {
+        !one.is_vectorized()
+    }
+}
+
+// A loop over what is needed of its dimension.
+fn run_of(alloc: Global, region: &Region, one: &Loop) -> Result<Run, Stop>
+    ensures { Gives result (λ run. run) (spec.run_of region.now one.now) }
+{
+    let Some(span) = region.as_slice().get(one.dimension) else {
+        return Err(Stop::Limit);
+    };
+    Ok(Run {
+        name: one.name,
+        span: span.copy(alloc)?,
+        kind: kind_of(one.mark),
+    })
+}
+
+// A loop behind others, if it is one of those that are asked for.
+fn add_run(
+    alloc: Global,
+    region: &Region,
+    is_asked: bool,
+    one: &Loop,
+    runs: &mut Vec<Run>,
+) -> Result<(), Stop>
+    ensures { Tells result runs.new.items (spec.add_run region.now is_asked one.now runs.old.items) }
+{
+    if !is_asked {
+        return Ok(());
+    }
+    let run = run_of(alloc, region, one)?;
+    runs.push(run)?;
+    Ok(())
+}
+
+// The loops of a definition that are vectorised, or that are not, the outermost first, behind others.
+fn add_runs(
+    alloc: Global,
+    region: &Region,
+    body: &Body,
+    is_lane: bool,
+    loops: &[Loop],
+    runs: &mut Vec<Run>,
+) -> Result<(), Stop>
+    ensures { Tells result runs.new.items (spec.add_runs region.now (body_of body.now) is_lane loops.now runs.old.items) }
+{
+    match loops {
+        [] => Ok(()),
+        [one, rest @ ..] => {
+            add_runs(alloc, region, body, is_lane, rest, runs)?;
+            let is_asked = is_run(body, is_lane, one);
+            add_run(alloc, region, is_asked, one, runs)
+        }
+    }
+}
+
+// The loops of a reduction, the last variable outermost, behind others.
+fn add_range_runs(alloc: Global, ranges: &[Turning], runs: &mut Vec<Run>) -> Result<(), AllocError>
+    ensures { OnOk result (runs.new.items ≡ runs.old.items ++ spec.range_runs ranges.now) }
+{
+    match ranges {
+        [] => Ok(()),
+        [range, rest @ ..] => {
+            add_range_runs(alloc, rest, runs)?;
+            runs.push(Run {
+                name: range.name,
+                span: between(alloc, range.low, range.last)?,
+                kind: range.kind,
+            })?;
+            Ok(())
+        }
+    }
+}
+
+// All loops of a definition.
+fn all_runs(alloc: Global, root: &Root<'_>, region: &Region, body: &Body) -> Result<Vec<Run>, Stop>
+    ensures { Gives result (λ runs. runs.items) (spec.all_runs region.now (stored_of root.now.stored.now).placed.loops (body_of body.now)) }
+{
+    let loops = &root.stored.placed.loops;
+    let mut runs = Vec::new(alloc);
+    add_runs(alloc, region, body, false, loops, &mut runs)?;
+    add_range_runs(alloc, &body.ranges, &mut runs)?;
+    add_runs(alloc, region, body, true, loops, &mut runs)?;
+    Ok(runs)
+}
+
+// The loops, from this symbol on, and the symbols of their names, behind others.
+fn add_turns(
+    alloc: Global,
+    runs: &[Run],
+    symbol: Sym,
+    steps: &mut Vec<Step>,
+    known: &mut Vec<Known>,
+) -> Result<(), AllocError>
+    ensures steps { OnOk result (steps.new.items ≡ steps.old.items ++ spec.steps_of symbol runs.now) }
+    ensures known { OnOk result (known.new.items ≡ known.old.items ++ spec.known_of symbol runs.now) }
+{
+    match runs {
+        [] => Ok(()),
+        [run, rest @ ..] => {
+            let Some(next) = symbol.checked_add(1) else {
+                return Err(AllocError);
+            };
+            steps.push(Step::Turns {
+                symbol,
+                span: run.span.copy(alloc)?,
+                kind: run.kind,
+            })?;
+            known.push(Known {
+                name: run.name,
+                form: Lin::symbol(alloc, symbol)?,
+            })?;
+            add_turns(alloc, rest, next, steps, known)
+        }
+    }
+}
+
+// The nest of a definition by its loops, from this symbol on.
+fn nest_by(
+    alloc: Global,
+    root: &Root<'_>,
+    body: &Body,
+    symbol: Sym,
+    runs: &[Run],
+) -> Result<Nest, AllocError>
+    ensures { IfOk result (λ nest. nest_seen nest ≡ spec.nest_of (stored_of root.now.stored.now).subject.variables (body_of body.now) symbol runs.now) }
+{
+    let mut steps = Vec::new(alloc);
+    let mut known = Vec::new(alloc);
+    add_turns(alloc, runs, symbol, &mut steps, &mut known)?;
+    let at = coordinates_at(alloc, root, body, &known)?;
+    Ok(Nest { steps, at })
+}
+
+// Those of some definitions, behind others.
+#[tactic(auto, using(crate::proofs::Along::nest_pushed))]
+fn add_nests(
+    alloc: Global,
+    root: &Root<'_>,
+    region: &Region,
+    symbol: Sym,
+    bodies: &[Body],
+    nests: &mut Vec<Nest>,
+) -> Result<(), Stop>
+    ensures { Tells result (map nest_seen nests.new.items) (spec.add_nests (stored_of root.now.stored.now) region.now symbol (map body_of bodies.now)
+        (map nest_seen nests.old.items)) }
+{
+    match bodies {
+        [] => Ok(()),
+        [body, rest @ ..] => {
+            let runs = all_runs(alloc, root, region, body)?;
+            let nest = nest_by(alloc, root, body, symbol, &runs)?;
+            nests.push(nest)?;
+            add_nests(alloc, root, region, symbol, rest, nests)
+        }
+    }
+}
+
+// Whether there is a bound for how many numbers each dimension has.
+fn are_bounded(alloc: Global, scope: &Scope, spans: &[Span1]) -> Result<bool, AllocError>
+    ensures { IfOk result (λ yes. yes ≡ spec.are_bounded scope.now spans.now) }
+{
+    match spans {
+        [] => Ok(true),
+        [span, rest @ ..] => match shortest(alloc, scope, span)? {
+            Some(_best) => Ok(are_bounded(alloc, scope, rest)?),
+            None => Ok(false),
+        },
+    }
+}
+
+// The nests of a function's definitions over a region.
+fn whole_nests(
+    alloc: Global,
+    root: &Root<'_>,
+    scope: &Scope,
+    region: &Region,
+) -> Result<Vec<Nest>, Stop>
+    ensures { Gives result (λ v. map nest_seen v.items) (spec.whole_nests (stored_of root.now.stored.now) (map formula_of root.now.formulas.now)
+        scope.now region.now) }
+{
+    if !are_bounded(alloc, scope, region.as_slice())? {
+        return Err(Stop::Limit);
+    }
+    let bodies = bodies(alloc, root.stored, root.formulas)?;
+    let mut nests = Vec::new(alloc);
+    add_nests(alloc, root, region, scope.len(), &bodies, &mut nests)?;
+    Ok(nests)
+}
+
+// ---- over a region
+
 /// The nests of a function's definitions over what a turn needs, in which the symbols are numbered from those around on.
+#[tactic(auto, using(crate::proofs::Along::if_whole, crate::proofs::Along::not_whole))]
 pub(crate) fn nests_over(
     alloc: Global,
     root: &Root<'_>,
     needed: Needed<'_>,
-) -> Result<Vec<Nest>, Stop> {
-    nests_with(alloc, root, needed, &[])
+) -> Result<Vec<Nest>, Stop>
+    ensures { IfOk result (λ v. spec.IfWhole (stored_of root.now.stored.now).placed.cuts (spec.whole_nests (stored_of root.now.stored.now)
+        (map formula_of root.now.formulas.now) needed.entry.scope.now needed.entry.region.now ≡ Some (map nest_seen v.items))) }
+{
+    if root.stored.placed.cuts.is_empty() {
+        return Ok(whole_nests(alloc, root, needed.scope, needed.region)?);
+    }
+    Ok(nests_with(alloc, root, needed, &[])?)
 }
 
 /// The same behind names that stand before them.

@@ -9,7 +9,7 @@ use std::alloc::{AllocError, AllocFailed};
 use tree::token::{Name, Span, TokenError};
 
 /// What is wrong with the tokens. A number says how many of them are left where the fault stands.
-#[derive(Clone, Copy, Debug, PartialEq, Eq, Drop)]
+#[derive(Clone, Copy, PartialEq, Eq, Drop)]
 pub enum Refusal {
     /// The tokens do not go on as the grammar says.
     BadForm(usize),
@@ -18,7 +18,7 @@ pub enum Refusal {
 }
 
 /// Why no schedule was read from tokens.
-#[derive(Clone, Copy, Debug, PartialEq, Eq, Drop)]
+#[derive(Clone, Copy, PartialEq, Eq, Drop)]
 pub enum Stop {
     /// Memory ran out.
     Memory,
@@ -94,7 +94,7 @@ impl Rule {
 }
 
 /// Why a schedule was refused.
-#[derive(Clone, Copy, Debug, PartialEq, Eq, Drop)]
+#[derive(Clone, Copy, PartialEq, Eq, Drop)]
 pub enum SchedError {
     /// Memory ran out.
     Memory,

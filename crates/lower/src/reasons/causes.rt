@@ -4,7 +4,7 @@ use std::alloc::{AllocError, Global};
 use tree::token::{Name, Span};
 
 /// Why a function slides in no dimension.
-#[derive(Clone, Copy, Debug, PartialEq, Eq, Drop)]
+#[derive(Clone, Copy, PartialEq, Eq, Drop)]
 pub enum Standstill {
     /// Its storage is that of one turn of the loop at which it is computed.
     OneTurn,
@@ -89,7 +89,7 @@ pub enum SizeCause {
 }
 
 /// Which limit of forms is passed.
-#[derive(Clone, Copy, Debug, PartialEq, Eq, Drop)]
+#[derive(Clone, Copy, PartialEq, Eq, Drop)]
 pub enum Excess {
     /// A factor, by its size without the sign: more than 1048576.
     Factor(u64),

@@ -182,6 +182,47 @@ fn span_of(
     }
 }
 
+fn has_span(
+    alloc: Global,
+    algo: &Algo,
+    around: &Around<'_>,
+    expr: &Expr,
+) -> Result<bool, AllocError> {
+    Ok(span_of(alloc, algo, around, expr)?.is_some())
+}
+
+// What is wrong with the result of an operator of whose operands the left one stays within a span.
+fn flaw_beside(
+    alloc: Global,
+    algo: &Algo,
+    around: &Around<'_>,
+    place: Span,
+    op: Op,
+    left: &Span1,
+    right: &Expr,
+) -> Result<Option<Flaw>, AllocError> {
+    match span_of(alloc, algo, around, right)? {
+        Some(right) => Ok(Some(flaw_of(place, op, left, &right))),
+        None => Ok(None),
+    }
+}
+
+// What is wrong with the result of an operator of which both operands have bounds.
+fn operator_flaw(
+    alloc: Global,
+    algo: &Algo,
+    around: &Around<'_>,
+    place: Span,
+    op: Op,
+    left: &Expr,
+    right: &Expr,
+) -> Result<Option<Flaw>, AllocError> {
+    match span_of(alloc, algo, around, left)? {
+        Some(left) => flaw_beside(alloc, algo, around, place, op, &left, right),
+        None => Ok(None),
+    }
+}
+
 // What is wrong with an expression of which the parts have bounds.
 fn own_flaw(
     alloc: Global,
@@ -190,24 +231,20 @@ fn own_flaw(
     expr: &Expr,
 ) -> Result<Flaw, AllocError> {
     let place = expr.span();
-    if let Expr::Binary {
-        op,
-        left,
-        right,
-        ..
-    } = expr
-    {
-        let left = span_of(alloc, algo, around, left)?;
-        let right = span_of(alloc, algo, around, right)?;
-        if let (Some(left), Some(right)) = (&left, &right) {
-            return Ok(flaw_of(place, *op, left, right));
-        }
-    }
-    Ok(Flaw {
+    let found = match expr {
+        Expr::Binary {
+            op,
+            left,
+            right,
+            ..
+        } => operator_flaw(alloc, algo, around, place, *op, left, right)?,
+        _ => None,
+    };
+    Ok(found.unwrap_or(Flaw {
         place,
         excess: Excess::Some,
         multiplier: None,
-    })
+    }))
 }
 
 /// The smallest part of an expression that has a form past the limits, the first of several; none where it has bounds.
@@ -217,7 +254,7 @@ pub(crate) fn flaw_in(
     around: &Around<'_>,
     expr: &Expr,
 ) -> Result<Option<Flaw>, AllocError> {
-    if span_of(alloc, algo, around, expr)?.is_some() {
+    if has_span(alloc, algo, around, expr)? {
         return Ok(None);
     }
     let found = match expr {

@@ -1,5 +1,8 @@
 //! Why no bounds are found, or those that are leave what there is.
 
+ghost use Rattle.std.specs.Prelude.{◌≡◌, IfOk, map};
+ghost use Rattle.lower.specs.Bounded as limits;
+
 use crate::definitions::Stored;
 use crate::error::Stop;
 use crate::fetching::Root;
@@ -326,6 +329,30 @@ fn strayed(
     })
 }
 
+// Whether a reading is shown to lie from 0 to the last number.
+fn is_read_up_to(alloc: Global, reading: &Reading<'_>, last: i64) -> Result<bool, Stop> {
+    let extents = between(alloc, 0, last)?;
+    Ok(is_read_inside(alloc, reading, &extents)?)
+}
+
+// The first of these indices that is not shown to stay in the input's extents.
+fn input_stray_among(
+    alloc: Global,
+    algo: &Algo,
+    root: &Root<'_>,
+    readings: &[Reading<'_>],
+) -> Result<Option<Stray>, Stop> {
+    for reading in readings {
+        if let Some(extent) = algo.input().shape.extents.get(reading.dimension) {
+            let last = i64::from(*extent) - 1;
+            if !is_read_up_to(alloc, reading, last)? {
+                return Ok(Some(strayed(alloc, algo, root, None, reading, (0, last))?));
+            }
+        }
+    }
+    Ok(None)
+}
+
 // The first index of the input that is not shown to stay in its extents.
 fn input_stray(
     alloc: Global,
@@ -334,8 +361,7 @@ fn input_stray(
     outer: &Scope,
     nests: &[Nest],
 ) -> Result<Option<Stray>, Stop> {
-    let input = algo.input();
-    let name = input.name.as_str();
+    let name = algo.input().name.as_str();
     let mut readings = Vec::new(alloc);
     add_readings(
         alloc,
@@ -348,12 +374,25 @@ fn input_stray(
         name,
         &mut readings,
     )?;
-    for reading in &readings {
-        if let Some(extent) = input.shape.extents.get(reading.dimension) {
-            let last = i64::from(*extent) - 1;
-            let extents = between(alloc, 0, last)?;
-            if !is_read_inside(alloc, reading, &extents)? {
-                return Ok(Some(strayed(alloc, algo, root, None, reading, (0, last))?));
+    input_stray_among(alloc, algo, root, readings.as_slice())
+}
+
+// The first of these indices of the function itself that is not shown to stay in its region.
+fn own_stray_among(
+    alloc: Global,
+    algo: &Algo,
+    root: &Root<'_>,
+    outer: &Scope,
+    region: &Region,
+    readings: &[Reading<'_>],
+) -> Result<Option<Stray>, Stop> {
+    for reading in readings {
+        if let Some(extents) = region.as_slice().get(reading.dimension) {
+            let formula = root.formulas.get(reading.definition);
+            if counts(formula, reading.dimension) && !is_read_inside(alloc, reading, extents)? {
+                let has = ends_of(alloc, outer, extents)?.numbers();
+                let name = root.stored.subject.name;
+                return Ok(Some(strayed(alloc, algo, root, Some(name), reading, has)?));
             }
         }
     }
@@ -383,16 +422,7 @@ fn own_stray(
         callee,
         &mut readings,
     )?;
-    for reading in &readings {
-        if let Some(extents) = region.as_slice().get(reading.dimension) {
-            let formula = root.formulas.get(reading.definition);
-            if counts(formula, reading.dimension) && !is_read_inside(alloc, reading, extents)? {
-                let has = ends_of(alloc, outer, extents)?.numbers();
-                return Ok(Some(strayed(alloc, algo, root, Some(name), reading, has)?));
-            }
-        }
-    }
-    Ok(None)
+    own_stray_among(alloc, algo, root, outer, region, readings.as_slice())
 }
 
 fn first_stray(
@@ -409,8 +439,10 @@ fn first_stray(
     }
 }
 
-/// The region of a root function.
-pub(crate) fn whole_region(alloc: Global, laid: &Laid) -> Result<Region, AllocError> {
+/// The region of a function.
+pub(crate) fn whole_region(alloc: Global, laid: &Laid) -> Result<Region, AllocError>
+    ensures { IfOk result (λ region. region ≡ map limits.whole laid.now.region.items) }
+{
     let mut region = Region::new(alloc);
     for extent in &laid.region {
         region.push(whole(alloc, extent)?)?;

@@ -82,6 +82,42 @@ fn interval_or_none(
     }
 }
 
+// An index as it stands in a text: all of it but what it stays within.
+fn text_of<'a>(
+    alloc: Global,
+    user: &Root<'a>,
+    number: Option<usize>,
+    definition: usize,
+    dimension: usize,
+    index: &'a Expr,
+    is_set: bool,
+) -> Reading<'a> {
+    Reading {
+        caller: user.stored.subject.name,
+        number,
+        definition,
+        dimension,
+        index,
+        along: along(user, index),
+        own: None,
+        scope: Scope::new(alloc),
+        span: None,
+        flaw: None,
+        is_set,
+    }
+}
+
+impl Reading<'_> {
+    // Tells what it stays within there.
+    fn bound(&mut self, alloc: Global, algo: &Algo, around: &Around<'_>) -> Result<(), AllocError> {
+        self.own = coordinate(alloc, around, self.along)?;
+        self.scope = around.scope.copy(alloc)?;
+        self.span = interval_or_none(alloc, algo, around, self.index)?;
+        self.flaw = flaw_in(alloc, algo, around, self.index)?;
+        Ok(())
+    }
+}
+
 fn reading_of<'a>(
     alloc: Global,
     algo: &Algo,
@@ -93,20 +129,9 @@ fn reading_of<'a>(
     index: &'a Expr,
     is_set: bool,
 ) -> Result<Reading<'a>, AllocError> {
-    let along = along(user, index);
-    Ok(Reading {
-        caller: user.stored.subject.name,
-        number,
-        definition,
-        dimension,
-        index,
-        along,
-        own: coordinate(alloc, around, along)?,
-        scope: around.scope.copy(alloc)?,
-        span: interval_or_none(alloc, algo, around, index)?,
-        flaw: flaw_in(alloc, algo, around, index)?,
-        is_set,
-    })
+    let mut reading = text_of(alloc, user, number, definition, dimension, index, is_set);
+    reading.bound(alloc, algo, around)?;
+    Ok(reading)
 }
 
 // Adds the indices of a call; of an update's call of its own function those alone that count.
@@ -273,6 +298,42 @@ fn add_own_calls<'a>(
     Ok(())
 }
 
+// Adds the indices of the left side of a definition, by its nest.
+fn add_set<'a>(
+    alloc: Global,
+    algo: &Algo,
+    user: &Root<'a>,
+    number: Option<usize>,
+    definition: usize,
+    outer: &Scope,
+    nest: &Nest,
+    formula: &'a Formula,
+    found: &mut Vec<Reading<'a>>,
+) -> Result<(), AllocError> {
+    let left = around_left(alloc, user, outer, nest, definition)?;
+    add_left(alloc, algo, user, number, definition, &left, formula, found)
+}
+
+// Adds the indices at which a definition calls its own function, by its nest.
+fn add_own<'a>(
+    alloc: Global,
+    algo: &Algo,
+    user: &Root<'a>,
+    number: Option<usize>,
+    definition: usize,
+    outer: &Scope,
+    nest: &Nest,
+    formula: &'a Formula,
+    found: &mut Vec<Reading<'a>>,
+) -> Result<(), AllocError> {
+    match around_or_none(alloc, algo, user, outer, nest, formula, definition)? {
+        Some(around) => add_own_calls(
+            alloc, algo, user, number, definition, &around, formula, found,
+        ),
+        None => Ok(()),
+    }
+}
+
 /// The indices at which a function's updates set it, and at which they call it, inside of other symbols.
 pub(crate) fn own_readings<'a>(
     alloc: Global,
@@ -284,16 +345,12 @@ pub(crate) fn own_readings<'a>(
 ) -> Result<Vec<Reading<'a>>, AllocError> {
     let mut found = Vec::new(alloc);
     for (definition, (formula, nest)) in user.formulas.iter().zip(nests.iter()).enumerate() {
-        let left = around_left(alloc, user, outer, nest, definition)?;
-        add_left(
-            alloc, algo, user, number, definition, &left, formula, &mut found,
+        add_set(
+            alloc, algo, user, number, definition, outer, nest, formula, &mut found,
         )?;
-        let around = around_or_none(alloc, algo, user, outer, nest, formula, definition)?;
-        if let Some(around) = &around {
-            add_own_calls(
-                alloc, algo, user, number, definition, around, formula, &mut found,
-            )?;
-        }
+        add_own(
+            alloc, algo, user, number, definition, outer, nest, formula, &mut found,
+        )?;
     }
     Ok(found)
 }

@@ -20,10 +20,10 @@ pub(crate) enum Slide {
 }
 
 /// In which dimension a function slides that is computed inside a group, or why in none.
-pub(crate) fn slide_of(
+pub(crate) fn slide_of<'a>(
     alloc: Global,
-    group: &Root<'_>,
-    inners: &[Inner<'_>],
+    group: &Root<'a>,
+    inners: &[Inner<'a>],
     inner: &Inner<'_>,
 ) -> Result<Slide, AllocError> {
     if inner.home == inner.store {
@@ -33,10 +33,10 @@ pub(crate) fn slide_of(
 }
 
 /// The same where it is stored outside of the loop at which it is computed.
-pub(crate) fn slide_outside(
+pub(crate) fn slide_outside<'a>(
     alloc: Global,
-    group: &Root<'_>,
-    inners: &[Inner<'_>],
+    group: &Root<'a>,
+    inners: &[Inner<'a>],
     inner: &Inner<'_>,
 ) -> Result<Slide, AllocError> {
     let Some(steps) = steps_at(group, inners, inner.home) else {
@@ -45,7 +45,7 @@ pub(crate) fn slide_outside(
     let Some(track) = track_of(alloc, steps)? else {
         return Ok(Slide::Nowhere(Standstill::OneTurn));
     };
-    match sliding_dimension(&inner.region, &track) {
+    match sliding_dimension(&inner.region, &track)? {
         Some(dimension) if is_scattered(&inner.root, dimension) => {
             Ok(Slide::Nowhere(Standstill::Scattered))
         }

@@ -4,7 +4,7 @@ use crate::definitions::Stored;
 use crate::demand::{region_at, sites_at};
 use crate::ends::Needed;
 use crate::error::Stop;
-use crate::fetching::{Root, shortest};
+use crate::fetching::{Root, Site, shortest};
 use crate::inner::{Inner, inners_of};
 use crate::parties::{Party, laid_by_turns, parties_of, roots_of};
 use crate::reasons::asked::{read_reason, unbounded_at};
@@ -135,6 +135,50 @@ fn loops_reason(
     Ok(None)
 }
 
+// Why bounds of what these sites need of a function at a place are missing.
+fn sites_reason<'a>(
+    alloc: Global,
+    group: &Root<'a>,
+    inners: &[Inner<'a>],
+    root: &Root<'a>,
+    spot: Spot,
+    turn: Name,
+    readings: &[Reading<'a>],
+    sites: &[Site],
+) -> Result<Option<Reason>, Stop> {
+    let scope = scope_at(alloc, group, inners, spot)?;
+    let region = region_at(alloc, root, &scope, sites)?;
+    Ok(loops_reason(alloc, root, &scope, &region, readings, turn)?)
+}
+
+// The same of all sites at the place, where there are some.
+fn needed_reason<'a>(
+    alloc: Global,
+    algo: &Algo,
+    group: &Root<'a>,
+    inners: &[Inner<'a>],
+    root: &Root<'a>,
+    spot: Spot,
+    turn: Name,
+    readings: &[Reading<'a>],
+) -> Result<Option<Reason>, Stop> {
+    let callee = root.stored.subject.name.as_str();
+    let sites = sites_at(alloc, algo, group, inners, spot, callee)?;
+    if sites.is_empty() {
+        return Ok(None);
+    }
+    sites_reason(
+        alloc,
+        group,
+        inners,
+        root,
+        spot,
+        turn,
+        readings,
+        sites.as_slice(),
+    )
+}
+
 // Why bounds of what is needed of a function at a place are missing.
 fn spot_reason<'a>(
     alloc: Global,
@@ -150,17 +194,19 @@ fn spot_reason<'a>(
     };
     let callee = function.as_str();
     let readings = readings_at(alloc, algo, group, inners, spot, callee)?;
-    let flawed = flawed_reason(alloc, algo, group, inners, function, &readings)?;
-    if flawed.is_some() {
-        return Ok(flawed);
+    match flawed_reason(alloc, algo, group, inners, function, &readings)? {
+        Some(flawed) => Ok(Some(flawed)),
+        None => needed_reason(
+            alloc,
+            algo,
+            group,
+            inners,
+            root,
+            spot,
+            home.turn,
+            readings.as_slice(),
+        ),
     }
-    let sites = sites_at(alloc, algo, group, inners, spot, callee)?;
-    if sites.is_empty() {
-        return Ok(None);
-    }
-    let scope = scope_at(alloc, group, inners, spot)?;
-    let region = region_at(alloc, root, &scope, &sites)?;
-    Ok(loops_reason(alloc, root, &scope, &region, &readings, home.turn)?)
 }
 
 // The first place at which bounds are missing.

@@ -1,16 +1,51 @@
-use Rattle.std.proofs.Common.{List, map, subst, arith}
+use Rattle.std.proofs.Common.{◌≡◌, ◌+◌, List, Some, length, map, refl, subst, arith}
+use Rattle.std.specs.Prelude.{slice_get}
+use Rattle.std.proofs.lemmas.Option.{slice_get_past, slice_get_read}
+use Rattle.algo.specs.View.{algorithm_of}
 use Rattle.lower.specs.declared.inner.Inner.{Inner}
+use Rattle.lower.specs.Computed.{AreComputed}
 use Rattle.lower.specs.Groups.{root_of}
 use Rattle.lower.specs.Homes.{AreAt}
 use Rattle.lower.specs.Placed.{inner_seen}
+use Rattle.lower.proofs.Along.{found_more, none_more}
 use Rattle.lower.proofs.Hosts.{more_at_home}
 use Rattle.lower.proofs.inner.+inners_before.Goals as goal
 
 pub inners_before-requires : goal.inners_before-requires
-inners_before-requires t c =
+inners_before-requires t c = (omega (arith, c.decreases, c.in-Some.ensures), c.requires)
+
+pub inners_before-requires-in-Ok : goal.inners_before-requires-in-Ok
+inners_before-requires-in-Ok t c =
     let e = root_of c.args.group.now in
     let es = map root_of c.args.functions.now in
     let found = c.in-Ok.found.items in
     let at : AreAt e es (map inner_seen c.args.inners.items) (map inner_seen found) =
-    subst (λ (l : List Inner). AreAt e es (map inner_seen l) (map inner_seen found)) c.deref.ensures.value c.in-Ok.ensures in
+    subst (λ (l : List Inner). AreAt e es (map inner_seen l) (map inner_seen found)) c.deref.ensures.value c.in-Ok.ensures.at in
     (omega (arith, c.decreases, c.in-Some.ensures), more_at_home e es c.args.inners.items found c.append.new.self.items c.requires at c.in_ok-append-in-Ok.ensures.items)
+
+pub returns-in_default-get-clause-found : goal.returns-in_default-get-clause-found
+returns-in_default-get-clause-found t c =
+    let functions = c.args.functions.now in
+    let last = c.in-Some.last in
+    none_more (algorithm_of c.args.algo.now) (root_of c.args.group.now) functions c.args.count last c.args.inners.items c.in_ok-inners_before.field-0
+    (omega (arith, c.in-Some.ensures)) (slice_get_past functions last c.in_default-get.ensures.lookup.3) c.in_ok-inners_before.ensures.found
+
+pub found_inside-requires : goal.found_inside-requires
+found_inside-requires t c =
+    let functions = c.args.functions.now in
+    slice_get_read functions (length functions) c.in-Some.last c.in-Some-get.root.now refl c.in-Some-get.ensures.lookup.3.0 c.in-Some-get.ensures.lookup.1
+
+pub returns-in-Ok-clause-found : goal.returns-in-Ok-clause-found
+returns-in-Ok-clause-found t c =
+    let a = algorithm_of c.args.algo.now in
+    let e = root_of c.args.group.now in
+    let functions = c.args.functions.now in
+    let last = c.in-Some.last in
+    let root = c.in-Some-get.root.now in
+    let found = c.in-Ok.found.items in
+    let some : slice_get functions last ≡ Some root =
+    slice_get_read functions (length functions) last root refl c.in-Some-get.ensures.lookup.3.0 c.in-Some-get.ensures.lookup.1 in
+    let these : AreComputed a e (map root_of functions) (map inner_seen c.args.inners.items) (root_of root) (map inner_seen found) =
+    subst (λ (l : List Inner). AreComputed a e (map root_of functions) (map inner_seen l) (root_of root) (map inner_seen found)) c.deref.ensures.value c.in-Ok.ensures.computed in
+    found_more a e functions c.args.count last c.args.inners.items root found c.append.new.self.items c.in_ok-inners_before-in-Ok.field-0 (omega (arith, c.in-Some.ensures)) some
+    these c.in_ok-append-in-Ok.ensures.items c.in_ok-inners_before-in-Ok.ensures.found

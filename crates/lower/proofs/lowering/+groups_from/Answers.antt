@@ -1,7 +1,7 @@
 use Rattle.std.proofs.Common.{◌≡◌, ◌+◌, ◌-◌, List, length, map, take, drop, sym, subst, ◌∙◌, arith}
 use Rattle.lower.specs.declared.parties.Party.{Party}
 use Rattle.algo.specs.View.{algorithm_of}
-use Rattle.lower.specs.Groups.{AreAlone, BodiesMade, GroupsBy, party_of, placed_of, root_of}
+use Rattle.lower.specs.Groups.{AreAlone, AreKnown, BodiesMade, GroupsBy, party_of, placed_of, root_of}
 use Rattle.lower.proofs.Claimed.{bodies_first, one_first}
 use Rattle.lower.proofs.Grouped.{groups_first}
 use Rattle.lower.proofs.lowering.+groups_from.Goals as goal
@@ -56,3 +56,8 @@ returns-clause-by t c =
     c.in_ok-group.field-0.group c.in_ok-others.others.0.items groups old c.group_at.new.certificate new c.in_ok-group.ensures.by c.in_ok-others.ensures.by next c.requires
     (omega (arith, c.len.ensures)) c.in_ok-put_first.ensures.groups in
     subst (λ (l : List Party). GroupsBy a all n first line (map placed_of l) (map party_of l) groups old new) (sym split) made
+
+pub returns-clause-known : goal.returns-clause-known
+returns-clause-known t c =
+    let split = one_first c.args.parties.now c.party-item.result c.in-len1-up.len_at_least c.party-item.is in
+    subst AreKnown (sym split) (c.in_ok-group.ensures.known, c.in_ok-others.ensures.known)

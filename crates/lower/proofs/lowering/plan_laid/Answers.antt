@@ -22,7 +22,7 @@ returns-in-Some c =
     let told = subst (Finds gs n) c.in-Some.is c.in_ok-found.ensures.sizes in
     let first = subst (IsFirstOf a (has_large gs) no_totals n gs ls) c.in-Some.is c.in_ok-found.ensures.first in
     let told_use = subst (FindsUse gs gs n) c.in-Some.is c.in_ok-found.ensures.uses in
-    let is = fault_told a gs c.args.placement.now.fault ls n found told told_use first c.requires in
+    let is = fault_told a gs c.args.placement.now.fault ls n found told told_use first c.requires.laid in
     let P : LowerError → Type 0 = λ e. Answers a gs c.args.placement.now.fault (Err e) in
     subst P (sym c.refusal.ensures) is
 
@@ -37,4 +37,4 @@ returns c =
     let small = subst (Finds gs n) c.in_default.is c.in_ok-found.ensures.sizes in
     let first = subst (IsFirstOf a (has_large gs) no_totals n gs ls) c.in_default.is c.in_ok-found.ensures.first in
     let told_use = subst (FindsUse gs gs n) c.in_default.is c.in_ok-found.ensures.uses in
-    unplanned_told a gs c.args.placement.now.fault ls n c.planned.result unbroken all small first told_use c.requires c.planned.ensures.made c.planned.ensures.unplanned c.planned.ensures.told
+    unplanned_told a gs c.args.placement.now.fault ls n c.planned.result unbroken all small first told_use c.requires.laid c.planned.ensures.made c.planned.ensures.unplanned c.planned.ensures.told

@@ -3,19 +3,19 @@ use Rattle.std.proofs.lemmas.Option.{slice_get_read}
 use Rattle.std.specs.Prelude.{slice_get}
 use Rattle.lin.specs.Forms.{Form}
 use Rattle.lin.specs.declared.span.Span1.{Span1}
+use Rattle.plan.specs.declared.stmt.Places.{Places}
 use Rattle.plan.specs.declared.stmt.Places.TheVariants.{From}
 use Rattle.lower.specs.declared.error.Stop.{Stop}
-use Rattle.lower.specs.declared.fetching.Part.{Part}
 use Rattle.lower.specs.Limited.{Gives}
-use Rattle.lower.specs.Taken.{FindsPart, is_shown, places_count, run_of, seated, shortest, site_of}
+use Rattle.lower.specs.Taken.{FindsPlaces, is_shown, places_count, run_of, seated, shortest, site_of}
 use Rattle.lower.proofs.Taken.{finds_none, finds_some, finds_stop}
-use Rattle.lower.proofs.fetching.seated.Goals as goal
+use Rattle.lower.proofs.fetching.places_for.Goals as goal
 
 pub returns-in_err-seats : goal.returns-in_err-seats
 returns-in_err-seats c =
     let grid = c.args.grid.now in
     let sites = map site_of c.args.sites.now in
-    let s = c.args.span in
+    let s = c.args.span.now in
     let place = c.in-Some.place in
     let count = c.in-Some.count in
     let origin = c.in-Some-get.origin.now in
@@ -27,13 +27,13 @@ returns-in_err-seats c =
     subst (λ (l : List Form). slice_get l place ≡ Some origin) c.as_slice.ensures (slice_get_read fs (length fs) place origin refl look.3.0 look.1) in
     let stop : c.from_residual-in_err-seats.result ≡ Err e = search rules in
     let none : Gives {X = Span1} {A = Span1} (Err e) (λ x. x) (run_of origin count) = first_of (assumption c, search rules) in
-    subst (λ (r : Result (Option Part) Stop). FindsPart r (seated grid sites c.args.dimension s)) (sym stop) (finds_stop grid sites c.args.dimension s (place, count) origin e short get none)
+    subst (λ (r : Result (Option Places) Stop). FindsPlaces s r (seated grid sites c.args.dimension s)) (sym stop) (finds_stop grid sites c.args.dimension s (place, count) origin e short get none)
 
 pub returns-then-not-branch : goal.returns-then-not-branch
 returns-then-not-branch c =
     let grid = c.args.grid.now in
     let sites = map site_of c.args.sites.now in
-    let s = c.args.span in
+    let s = c.args.span.now in
     let place = c.in-Some.place in
     let count = c.in-Some.count in
     let origin = c.in-Some-get.origin.now in
@@ -51,7 +51,7 @@ pub returns : goal.returns
 returns c =
     let grid = c.args.grid.now in
     let sites = map site_of c.args.sites.now in
-    let s = c.args.span in
+    let s = c.args.span.now in
     let place = c.in-Some.place in
     let count = c.in-Some.count in
     let origin = c.in-Some-get.origin.now in

@@ -1,0 +1,330 @@
+-- Along which loop a function slides, what it holds in each turn, and which functions are computed at the places of a loop, part by part.
+use Rattle.std.proofs.Common.{◌≡◌, ℕ, zero, suc, ◌+◌, ◌<◌, ◌==◌, Bool, true, false, List, [], ◌∷◌, ◌++◌, length, map, Option, Some, None, Result, Ok, Err, refl, sym, ap, subst, ◌∙◌, arith}
+use Rattle.std.specs.Prelude.{slice_get, if◌then◌else◌, IfOk}
+use Rattle.std.specs.List.{AllByRecursion, list_any}
+use Rattle.std.specs.Option.{option_map}
+use Rattle.std.specs.Global.{Vec}
+use Rattle.std.proofs.lemmas.Option.{slice_get-map}
+use Rattle.std.proofs.lemmas.List.{append_assoc, append-nil, length-map, map-append}
+use Rattle.lin.specs.declared.scope.Binding.{Binding}
+use Rattle.lin.specs.declared.scope.Binding.TheVariants.{LetMin}
+use Rattle.lin.specs.declared.span.Span1.{Span1}
+use Rattle.meaning.specs.Algorithm.{Algorithm}
+use Rattle.meaning.specs.Names.{same_name}
+use Rattle.sched.specs.declared.schedule.Home.{Home}
+use Rattle.sched.specs.declared.schedule.Split.{Split}
+use Rattle.sched.specs.declared.nest.Nest.{Nest}
+use Rattle.sched.specs.Skeleton.{NestText, nest_seen}
+use Rattle.lower.specs.declared.definitions.Formula.{Formula}
+use Rattle.lower.specs.declared.error.Stop.{Stop}
+use Rattle.lower.specs.declared.fetching.Root.{Root}
+use Rattle.lower.specs.declared.fetching.Site.{Site}
+use Rattle.lower.specs.declared.inner.Inner.{Inner}
+use Rattle.lower.specs.declared.sliding.Later.{Later}
+use Rattle.lower.specs.declared.sliding.Sliding.{Sliding}
+use Rattle.lower.specs.declared.spots.Host.{Host}
+use Rattle.lower.specs.declared.spots.Spot.{Spot}
+use Rattle.lower.specs.Stored.{FormulaText, StoredText, formula_of}
+use Rattle.lower.specs.Around.{bind_steps}
+use Rattle.lower.specs.Taken.{SiteText, site_of}
+use Rattle.lower.specs.Fetches.{Entry}
+use Rattle.lower.specs.Groups.{root_of}
+use Rattle.lower.specs.Uses.{first_home}
+use Rattle.lower.specs.Placed.{LaterText, PlacedText, inner_seen, later_seen}
+use Rattle.lower.specs.Homes.{HostText, host_at, hosts_named, is_over_grid, spot_in, put_before}
+use Rattle.lower.specs.Demanded.{scope_at, sites_at, is_rounding, is_rounded, IsNeeded}
+use Rattle.lower.specs.Slid.{TrackText, is_single, is_split, fit_along, sliding_seen, sliding_at, new_from, new_region, held_along, IsLater, HasLater, HoldsNone, HoldsBy, Holds}
+use Rattle.lower.specs.Turned.{IfWhole, whole_nests}
+use Rattle.lower.specs.Computed.{before, spots_in, spots_by, spots_of_hosts, spots_at, spots_of, is_called, called_spots, IsComputed, AreComputed, AreComputedIf, AreFound, AreFoundIf, IsComputedAt, IsComputedBy, AreComputedAt}
+
+-- ---- splits
+
+pub rounded_in : (g : StoredText) (d : ℕ) (x : List ℕ) (r : Bool) → slice_get g.subject.variables d ≡ Some x → r ≡ list_any (is_rounding x) g.placed.cuts → r ≡ is_rounded g d
+rounded_in g d x r e h = h ∙ ap (λ (o : Option (List ℕ)). elim o [ Some y ↦ list_any (is_rounding y) g.placed.cuts | None ↦ false ]) (sym e)
+
+pub no_variable : (g : StoredText) (d : ℕ) → slice_get g.subject.variables d ≡ None → false ≡ is_rounded g d
+no_variable g d e = ap (λ (o : Option (List ℕ)). elim o [ Some y ↦ list_any (is_rounding y) g.placed.cuts | None ↦ false ]) (sym e)
+
+pub split_in : (g : StoredText) (d : ℕ) (x : List ℕ) (r : Bool) → slice_get g.subject.variables d ≡ Some x → r ≡ list_any (λ c. same_name c.whole x) g.placed.cuts → r ≡ is_split g d
+split_in g d x r e h = h ∙ ap (λ (o : Option (List ℕ)). elim o [ Some y ↦ list_any (λ c. same_name c.whole y) g.placed.cuts | None ↦ false ]) (sym e)
+
+pub not_split : (g : StoredText) (d : ℕ) → slice_get g.subject.variables d ≡ None → false ≡ is_split g d
+not_split g d e = ap (λ (o : Option (List ℕ)). elim o [ Some y ↦ list_any (λ c. same_name c.whole y) g.placed.cuts | None ↦ false ]) (sym e)
+
+-- ---- where no loop is split
+
+pub if_whole : (cs : List Split) (P : Type 0) → P → IfWhole cs P
+if_whole [] P h = h
+if_whole (c ∷ cs) P h = tt
+
+pub not_whole : (cs : List Split) (P : Type 0) → (cs ≡ [] → ⊥) → IfWhole cs P
+not_whole [] P h = absurd (h refl)
+not_whole (c ∷ cs) P h = tt
+
+whole_too : (P Q : Type 0) (cs : List Split) → (P → Q) → IfWhole cs P → IfWhole cs Q
+whole_too P Q [] f h = f h
+whole_too P Q (c ∷ cs) f h = tt
+
+pub single_seen : (fs : List Formula) (b : Bool) → b ≡ (length fs == 1) → b ≡ is_single (map formula_of fs)
+single_seen fs b h = h ∙ ap (λ (n : ℕ). n == 1) (sym (length-map fs formula_of))
+
+-- ---- folds
+
+module _ (g : StoredText) (scope : List Binding) (r : List Span1) (d : ℕ) where
+  pub fits_no_variable : slice_get g.subject.variables d ≡ None → false ≡ fit_along g scope (slice_get g.subject.variables d) (slice_get r d)
+  fits_no_variable e = ap (λ (o : Option (List ℕ)). fit_along g scope o (slice_get r d)) (sym e)
+
+  pub fits_no_span : (x : List ℕ) → slice_get g.subject.variables d ≡ Some x → slice_get r d ≡ None → false ≡ fit_along g scope (slice_get g.subject.variables d) (slice_get r d)
+  fits_no_span x e h = (λ j. fit_along g scope (sym e j) (sym h j))
+
+  pub fits_along : (x : List ℕ) (s : Span1) (b : Bool) → slice_get g.subject.variables d ≡ Some x → slice_get r d ≡ Some s → b ≡ fit_along g scope (Some x) (Some s)
+      → b ≡ fit_along g scope (slice_get g.subject.variables d) (slice_get r d)
+  fits_along x s b e h is = is ∙ (λ j. fit_along g scope (sym e j) (sym h j))
+
+-- ---- what it holds
+
+pub later_made : (g : StoredText) (fs : List FormulaText) (x : TrackText × ℕ) (scope : List Binding) (h r : List Span1) (s : Span1) (l : LaterText) → slice_get h x.1 ≡ Some s
+    → l.symbol ≡ x.0.symbol → l.dimension ≡ x.1 → new_from x.0.symbol s ≡ Some l.first_new → l.scope ≡ scope ++ LetMin l.first_new ∷ [] → r ≡ new_region scope x.1 0 h
+    → IfWhole g.placed.cuts (whole_nests g fs l.scope r ≡ Some l.nests) → IsLater g fs x scope h l
+later_made g fs x scope h r s l along symbol dimension first scoped new nests =
+    record {
+      symbol = symbol;
+      dimension = dimension;
+      span = s;
+      along = along;
+      first_new = first;
+      scoped = scoped;
+      nested = whole_too (whole_nests g fs l.scope r ≡ Some l.nests) (whole_nests g fs l.scope (new_region scope x.1 0 h) ≡ Some l.nests) g.placed.cuts
+          (λ told. ap (whole_nests g fs l.scope) (sym new) ∙ told) nests;
+    }
+
+module _ (es : List Entry) (g : StoredText) (fs : List FormulaText) (scope : List Binding) (r : List Span1) (held : List Span1) (later : Option LaterText) where
+  pub holds_all : (o : Option (TrackText × ℕ)) → o ≡ None → held ≡ r → later ≡ None → Holds es g fs scope r o held later
+  holds_all o e h k = subst (λ (p : Option (TrackText × ℕ)). Holds es g fs scope r p held later) (sym e) (record { is = h; none = k })
+
+  module _ (x : TrackText × ℕ) (o : Option (List Span1)) where
+    pub holds_each : o ≡ held_along es g fs scope r x → o ≡ None → held ≡ r → later ≡ None → HoldsBy g fs x scope r (held_along es g fs scope r x) held later
+    holds_each by none h k = subst (λ (q : Option (List Span1)). HoldsBy g fs x scope r q held later) (sym none ∙ by) (record { is = h; none = k })
+
+    pub holds_some : (h : List Span1) → o ≡ held_along es g fs scope r x → o ≡ Some h → held ≡ h → HasLater g fs x scope h later
+        → HoldsBy g fs x scope r (held_along es g fs scope r x) held later
+    holds_some h by some is k = subst (λ (q : Option (List Span1)). HoldsBy g fs x scope r q held later) (sym some ∙ by) (record { is = is; turns = k })
+
+module _ (es : List Entry) (g : StoredText) (fs : List FormulaText) (scope : List Binding) (r : List Span1) where
+  pub holds_along : (o : Option Sliding) (s : Sliding) (t : Result (List Span1 × Option Later) Stop) → o ≡ Some s
+      → IfOk t (λ v. HoldsBy g fs (sliding_seen s) scope r (held_along es g fs scope r (sliding_seen s)) v.0 (option_map later_seen v.1))
+      → IfOk t (λ v. Holds es g fs scope r (option_map sliding_seen o) v.0 (option_map later_seen v.1))
+  holds_along o s t e h =
+      subst (λ (q : Option Sliding). IfOk t (λ v. Holds es g fs scope r (option_map sliding_seen q) v.0 (option_map later_seen v.1))) (sym e) h
+
+-- ---- one place
+
+module _ (a : Algorithm) (e : Entry) (es : List Entry) (is : List PlacedText) (c : Entry) where
+  pub is_computed : (home store : Spot) (sites : List SiteText) (around : List Binding) (needed : List Span1) (o : Option (TrackText × ℕ)) (i : PlacedText) → i.function ≡ c.0 → i.formulas ≡ c.2
+      → i.home ≡ home → i.store ≡ store → around ≡ scope_at e is home → i.scope ≡ bind_steps around i.lets → sites_at a e is home c.0.subject.name ≡ Some sites
+      → IsNeeded around sites c.0 c.1.region needed → o ≡ sliding_at e is c.0 home store needed → Holds es c.0 c.2 around needed o i.region i.later
+      → IfWhole c.0.placed.cuts (i.lets ≡ []) → IfWhole c.0.placed.cuts (whole_nests c.0 c.2 around i.region ≡ Some i.nests) → IsComputed a e es is c i
+  is_computed home store sites around needed o i function formulas at stored is_around scoped called is_needed slides holds lets nests =
+      let there : around ≡ scope_at e is i.home = is_around ∙ ap (scope_at e is) (sym at) in
+      let sliding : o ≡ sliding_at e is c.0 i.home i.store needed = slides ∙ (λ j. sliding_at e is c.0 (sym at j) (sym stored j) needed) in
+      let by : Holds es c.0 c.2 around needed (sliding_at e is c.0 i.home i.store needed) i.region i.later =
+      subst (λ (p : Option (TrackText × ℕ)). Holds es c.0 c.2 around needed p i.region i.later) sliding holds in
+      record {
+        function = function;
+        formulas = formulas;
+        scoped = scoped ∙ ap (λ (b : List Binding). bind_steps b i.lets) there;
+        sites = sites;
+        called = ap (λ (s : Spot). sites_at a e is s c.0.subject.name) at ∙ called;
+        region = needed;
+        needed = subst (λ (b : List Binding). IsNeeded b sites c.0 c.1.region needed) there is_needed;
+        holds = subst (λ (b : List Binding). Holds es c.0 c.2 b needed (sliding_at e is c.0 i.home i.store needed) i.region i.later) there by;
+        unnamed = lets;
+        nested = whole_too (whole_nests c.0 c.2 around i.region ≡ Some i.nests) (whole_nests c.0 c.2 (scope_at e is i.home) i.region ≡ Some i.nests) c.0.placed.cuts
+            (λ told. ap (λ (b : List Binding). whole_nests c.0 c.2 b i.region) (sym there) ∙ told) nests;
+      }
+
+  pub nothing_calls : (s : Spot) (sites : List Site) → sites_at a e is s c.0.subject.name ≡ Some (map site_of sites) → sites ≡ [] → IsComputedAt a e es is c s None
+  nothing_calls s sites called none = ap is_called (called ∙ ap (λ (l : List Site). Some (map site_of l)) none)
+
+  some_call : (sites : List Site) → (sites ≡ [] → ⊥) → is_called (Some (map site_of sites)) ≡ true
+  some_call [] h = absurd (h refl)
+  some_call (t ∷ ts) h = refl
+
+  none_left : (n : ℕ) (b : Bool) → b ≡ (n == 0) → b ≡ false → n ≡ 0 → ⊥
+  none_left zero b told isnt h = cc (sym told ∙ isnt)
+  none_left (suc n) b told isnt h = omega (arith, h)
+
+  some_left : (v : Vec Site) (b : Bool) → b ≡ (v.len == 0) → b ≡ false → v.items ≡ [] → ⊥
+  some_left v b told isnt none = let empty : length v.items ≡ 0 = ap length none in none_left v.len b told isnt (omega (arith, v.ok.0, empty))
+
+  pub computed_there : (s : Spot) (sites : Vec Site) (b : Bool) (i : Inner) → sites_at a e is s c.0.subject.name ≡ Some (map site_of sites.items) → b ≡ (sites.len == 0) → b ≡ false
+      → i.home ≡ s → IsComputed a e es is c (inner_seen i) → IsComputedAt a e es is c s (Some (inner_seen i))
+  computed_there s sites b i called empty some at is_so = (ap is_called called ∙ some_call sites.items (some_left sites b empty some), at, is_so)
+
+  -- ---- several places
+
+  homes_of : List PlacedText → List Spot
+  homes_of js = map (λ i. i.home) js
+
+  none_called : (s : Spot) (ss : List Spot) → is_called (sites_at a e is s c.0.subject.name) ≡ false → called_spots a e is c.0.subject.name ss ≡ called_spots a e is c.0.subject.name (s ∷ ss)
+  none_called s ss h = ap (λ (b : Bool). (if b then s ∷ [] else []) ++ called_spots a e is c.0.subject.name ss) (sym h)
+
+  one_called : (s : Spot) (ss : List Spot) → is_called (sites_at a e is s c.0.subject.name) ≡ true → s ∷ called_spots a e is c.0.subject.name ss ≡ called_spots a e is c.0.subject.name (s ∷ ss)
+  one_called s ss h = ap (λ (b : Bool). (if b then s ∷ [] else []) ++ called_spots a e is c.0.subject.name ss) (sym h)
+
+  computed_at : (s : Spot) (o : Option PlacedText) (ss : List Spot) (js : List PlacedText) → IsComputedAt a e es is c s o → AreComputedAt a e es is c ss js
+      → AreComputedAt a e es is c (s ∷ ss) (put_before o js)
+  computed_at s None ss js h k = record { places = k.places ∙ none_called s ss h; each = k.each }
+  computed_at s (Some i) ss js h k = record {
+    places = (λ j. h.1 j ∷ k.places j) ∙ one_called s ss h.0;
+    each = (h.2, k.each);
+  }
+
+  pub computed_first : (p : Option Spot) (o : Option PlacedText) (ss : List Spot) (js : List PlacedText) → IsComputedBy a e es is c p o → AreComputedAt a e es is c ss js
+      → AreComputedAt a e es is c (before p ss) (put_before o js)
+  computed_first None o ss js h k = subst (λ (q : Option PlacedText). AreComputedAt a e es is c ss (put_before q js)) (sym h) k
+  computed_first (Some s) o ss js h k = computed_at s o ss js h k
+
+  pub computed_nowhere : AreComputedAt a e es is c [] []
+  computed_nowhere = record { places = refl; each = tt }
+
+  called_both : (ss ts : List Spot) → called_spots a e is c.0.subject.name ss ++ called_spots a e is c.0.subject.name ts ≡ called_spots a e is c.0.subject.name (ss ++ ts)
+  called_both [] ts = refl
+  called_both (s ∷ ss) ts =
+      let x = c.0.subject.name in
+      let here : List Spot = if is_called (sites_at a e is s x) then s ∷ [] else [] in
+      append_assoc here (called_spots a e is x ss) (called_spots a e is x ts) ∙ ap (λ (l : List Spot). here ++ l) (called_both ss ts)
+
+  each_both : (xs ys : List PlacedText) → AllByRecursion (IsComputed a e es is c) xs → AllByRecursion (IsComputed a e es is c) ys → AllByRecursion (IsComputed a e es is c) (xs ++ ys)
+  each_both [] ys h k = k
+  each_both (x ∷ xs) ys h k = (h.0, each_both xs ys h.1 k)
+
+  pub computed_both : (ss ts : List Spot) (xs ys : List PlacedText) → AreComputedAt a e es is c ss xs → AreComputedAt a e es is c ts ys → AreComputedAt a e es is c (ss ++ ts) (xs ++ ys)
+  computed_both ss ts xs ys h k = record {
+    places = map-append (λ i. i.home) xs ys ∙ ((λ j. h.places j ++ k.places j) ∙ called_both ss ts);
+    each = each_both xs ys h.each k.each;
+  }
+
+  nothing_at : (ss : List Spot) → ss ≡ [] → AreComputedAt a e es is c ss []
+  nothing_at ss h = subst (λ (l : List Spot). AreComputedAt a e es is c l []) (sym h) computed_nowhere
+
+  -- ---- hosts
+
+  pub computed_none : (p : Option Spot) → None ≡ p → IsComputedBy a e es is c p None
+  computed_none p h = subst (λ (q : Option Spot). IsComputedBy a e es is c q None) h refl
+
+  pub computed_where : {E : Type 0} (p : Option Spot) (s : Spot) (r : Result (Option Inner) E) → Some s ≡ p → IfOk r (λ v. IsComputedAt a e es is c s (option_map inner_seen v))
+      → IfOk r (λ v. IsComputedBy a e es is c p (option_map inner_seen v))
+  computed_where p s r same h = subst (λ (q : Option Spot). IfOk r (λ v. IsComputedBy a e es is c q (option_map inner_seen v))) same h
+
+  put_seen : (o : Option Inner) (xs : List Inner) → map inner_seen (put_before o xs) ≡ put_before (option_map inner_seen o) (map inner_seen xs)
+  put_seen None xs = refl
+  put_seen (Some i) xs = refl
+
+  put_computed : (p : Option Spot) (ss : List Spot) (o : Option Inner) (xs all : List Inner) → IsComputedBy a e es is c p (option_map inner_seen o)
+      → AreComputedAt a e es is c ss (map inner_seen xs) → all ≡ put_before o xs → AreComputedAt a e es is c (before p ss) (map inner_seen all)
+  put_computed p ss o xs all h k z =
+      subst (λ (l : List PlacedText). AreComputedAt a e es is c (before p ss) l) (sym (ap (map inner_seen) z ∙ put_seen o xs)) (computed_first p (option_map inner_seen o) ss (map inner_seen xs) h k)
+
+  module _ (h : Host) (t : HostText) (x : List ℕ) (d : ℕ) (n : NestText) (ns : List NestText) where
+    spots_with : (b : Bool) → is_over_grid t.function.placed.loops x ≡ b → before (spot_in h t d x) (if b then [] else spots_in h t x (d + 1) ns) ≡ spots_in h t x d (n ∷ ns)
+    spots_with b is_so = ap (λ (q : Bool). before (spot_in h t d x) (if q then [] else spots_in h t x (d + 1) ns)) (sym is_so)
+
+    pub computed_over_grid : (o : Option Inner) (xs all : List Inner) → IsComputedBy a e es is c (spot_in h t d x) (option_map inner_seen o)
+        → is_over_grid t.function.placed.loops x ≡ true → xs ≡ [] → all ≡ put_before o xs → AreComputedAt a e es is c (spots_in h t x d (n ∷ ns)) (map inner_seen all)
+    computed_over_grid o xs all first grid none z =
+        let others : AreComputedAt a e es is c [] (map inner_seen xs) =
+        subst (λ (l : List Inner). AreComputedAt a e es is c [] (map inner_seen l)) (sym none) computed_nowhere in
+        subst (λ (l : List Spot). AreComputedAt a e es is c l (map inner_seen all)) (spots_with true grid) (put_computed (spot_in h t d x) [] o xs all first others z)
+
+    pub computed_in_nests : (m : ℕ) (o : Option Inner) (xs all : List Inner) → IsComputedBy a e es is c (spot_in h t d x) (option_map inner_seen o)
+        → is_over_grid t.function.placed.loops x ≡ false → m ≡ d + 1 → AreComputedAt a e es is c (spots_in h t x m ns) (map inner_seen xs) → all ≡ put_before o xs
+        → AreComputedAt a e es is c (spots_in h t x d (n ∷ ns)) (map inner_seen all)
+    computed_in_nests m o xs all first grid next others z =
+        let rest : AreComputedAt a e es is c (spots_in h t x (d + 1) ns) (map inner_seen xs) =
+        subst (λ (k : ℕ). AreComputedAt a e es is c (spots_in h t x k ns) (map inner_seen xs)) next others in
+        subst (λ (l : List Spot). AreComputedAt a e es is c l (map inner_seen all)) (spots_with false grid)
+        (put_computed (spot_in h t d x) (spots_in h t x (d + 1) ns) o xs all first rest z)
+
+  module _ (home : Home) (h : Host) where
+    pub computed_no_host : None ≡ host_at e is h → AreComputedAt a e es is c (spots_by home h (host_at e is h)) []
+    computed_no_host none = nothing_at (spots_by home h (host_at e is h)) (ap (spots_by home h) (sym none))
+
+    pub computed_other : (t : HostText) → Some t ≡ host_at e is h → same_name t.function.subject.name home.function ≡ false
+        → AreComputedAt a e es is c (spots_by home h (host_at e is h)) []
+    computed_other t some other =
+        nothing_at (spots_by home h (host_at e is h)) (ap (spots_by home h) (sym some) ∙ ap (λ (b : Bool). if b then spots_in h t home.turn 0 t.nests else []) other)
+
+    pub computed_by_host : (t : HostText) (js : List PlacedText) → Some t ≡ host_at e is h → same_name t.function.subject.name home.function ≡ true
+        → AreComputedAt a e es is c (spots_in h t home.turn 0 t.nests) js → AreComputedAt a e es is c (spots_by home h (host_at e is h)) js
+    computed_by_host t js some same at =
+        let all : spots_in h t home.turn 0 t.nests ≡ spots_by home h (host_at e is h) =
+        ap (λ (b : Bool). if b then spots_in h t home.turn 0 t.nests else []) (sym same) ∙ ap (spots_by home h) some in
+        subst (λ (l : List Spot). AreComputedAt a e es is c l js) all at
+
+  pub computed_hosts : (home : Home) (h : Host) (hs : List Host) (xs ys all : List Inner) → AreComputedAt a e es is c (spots_by home h (host_at e is h)) (map inner_seen xs)
+      → AreComputedAt a e es is c (spots_of_hosts e is home hs) (map inner_seen ys) → all ≡ xs ++ ys
+      → AreComputedAt a e es is c (spots_of_hosts e is home (h ∷ hs)) (map inner_seen all)
+  computed_hosts home h hs xs ys all first others z =
+      subst (λ (l : List PlacedText). AreComputedAt a e es is c (spots_of_hosts e is home (h ∷ hs)) l) (sym (ap (map inner_seen) z ∙ map-append inner_seen xs ys))
+      (computed_both (spots_by home h (host_at e is h)) (spots_of_hosts e is home hs) (map inner_seen xs) (map inner_seen ys) first others)
+
+  -- ---- all places
+
+  pub found_nowhere : None ≡ first_home c.0.placed.homes → AreComputed a e es is c []
+  found_nowhere none = record { places = ap (λ (o : Option Home). called_spots a e is c.0.subject.name (spots_at e is o)) none; each = tt }
+
+  pub found_everywhere : (home : Home) (hs : List Host) (js : List PlacedText) → Some home ≡ first_home c.0.placed.homes → hs ≡ hosts_named e is home.function
+      → AreComputedAt a e es is c (spots_of_hosts e is home hs) js → AreComputed a e es is c js
+  found_everywhere home hs js some hosts at =
+      let all : spots_of_hosts e is home hs ≡ spots_of e is c.0 = ap (spots_of_hosts e is home) hosts ∙ ap (spots_at e is) some in
+      record { places = at.places ∙ ap (called_spots a e is c.0.subject.name) all; each = at.each }
+
+-- ---- one function after another
+
+module _ (a : Algorithm) (e : Entry) (es : List Entry) where
+  zero_found : (n : ℕ) (is all : List PlacedText) → n < 1 → all ≡ is → AreFound a e es n is all
+  zero_found zero is all h same = same
+  zero_found (suc n) is all h same = absurd (omega (arith, h))
+
+  next_found : (n last : ℕ) (o : Option Entry) (js is all : List PlacedText) → n ≡ suc last → slice_get es last ≡ o → AreComputedIf a e es is o js → AreFound a e es last (is ++ js) all
+      → AreFound a e es n is all
+  next_found n last o js is all next at these others =
+      let first : AreComputedIf a e es is (slice_get es last) js = subst (λ (p : Option Entry). AreComputedIf a e es is p js) (sym at) these in
+      subst (λ (k : ℕ). AreFound a e es k is all) (sym next) (record { found = js; these = first; others = others })
+
+  next_if : (n last : ℕ) (o : Option Entry) (js is : List PlacedText) (r : Result (Vec Inner) (List ℕ)) → n ≡ suc last → slice_get es last ≡ o → AreComputedIf a e es is o js
+      → AreFoundIf a e es last (is ++ js) r → AreFoundIf a e es n is r
+  next_if n last o js is (Ok v) next at these others = next_found n last o js is (map inner_seen v.items) next at these others
+  next_if n last o js is (Err x) next at these others = tt
+
+  pub found_last : (n : ℕ) (xs : List Inner) (v : Vec Inner) → n < 1 → v.items ≡ xs → AreFoundIf a e es n (map inner_seen xs) (Ok v)
+  found_last n xs v h is_so = zero_found n (map inner_seen xs) (map inner_seen v.items) h (ap (map inner_seen) is_so)
+
+module _ (a : Algorithm) (e : Entry) (functions : List Root) (n last : ℕ) (xs : List Inner) where
+  pub none_more : (r : Result (Vec Inner) (List ℕ)) → n ≡ last + 1 → slice_get functions last ≡ None → AreFoundIf a e (map root_of functions) last (map inner_seen xs) r
+      → AreFoundIf a e (map root_of functions) n (map inner_seen xs) r
+  none_more r next none others =
+      let at : slice_get (map root_of functions) last ≡ None = slice_get-map root_of functions last ∙ ap (option_map root_of) none in
+      let rest : AreFoundIf a e (map root_of functions) last (map inner_seen xs ++ []) r =
+      subst (λ (l : List PlacedText). AreFoundIf a e (map root_of functions) last l r) (sym (append-nil (map inner_seen xs))) others in
+      next_if a e (map root_of functions) n last None [] (map inner_seen xs) r (omega (arith, next)) at refl rest
+
+  pub found_more : (c : Root) (ys all : List Inner) (r : Result (Vec Inner) (List ℕ)) → n ≡ last + 1 → slice_get functions last ≡ Some c
+      → AreComputed a e (map root_of functions) (map inner_seen xs) (root_of c) (map inner_seen ys) → all ≡ xs ++ ys
+      → AreFoundIf a e (map root_of functions) last (map inner_seen all) r → AreFoundIf a e (map root_of functions) n (map inner_seen xs) r
+  found_more c ys all r next some these z others =
+      let at : slice_get (map root_of functions) last ≡ Some (root_of c) = slice_get-map root_of functions last ∙ ap (option_map root_of) some in
+      let rest : AreFoundIf a e (map root_of functions) last (map inner_seen xs ++ map inner_seen ys) r =
+      subst (λ (l : List PlacedText). AreFoundIf a e (map root_of functions) last l r) (ap (map inner_seen) z ∙ map-append inner_seen xs ys) others in
+      next_if a e (map root_of functions) n last (Some (root_of c)) (map inner_seen ys) (map inner_seen xs) r (omega (arith, next)) at these rest
+
+pub found_without : (a : Algorithm) (e : Entry) (functions : List Root) (v : Vec Inner) → functions ≡ [] → v.items ≡ []
+    → AreFoundIf a e (map root_of functions) (length functions) [] (Ok v)
+found_without a e functions v none nothing =
+    subst (λ (l : List Root). AreFoundIf a e (map root_of l) (length l) [] (Ok v)) (sym none) (ap (map inner_seen) nothing)
+
+-- ---- nests
+
+pub nest_pushed : (ns all : List Nest) (n : Nest) → all ≡ ns ++ n ∷ [] → map nest_seen all ≡ map nest_seen ns ++ nest_seen n ∷ []
+nest_pushed ns all n e = ap (map nest_seen) e ∙ map-append nest_seen ns (n ∷ [])

@@ -1,0 +1,126 @@
+-- Which functions are computed inside a group's loops: the last declared first, each at those places of its loop at which it is called, over what is needed of it there.
+use Rattle.std.specs.Prelude.{◌≡◌, ℕ, zero, suc, ◌+◌, Bool, true, false, if◌then◌else◌, List, [], ◌∷◌, ◌++◌, map, Option, Some, None, Result, Ok, Err, slice_get}
+use Rattle.std.specs.List.{AllByRecursion}
+use Rattle.std.specs.Global.{Vec}
+use Rattle.lin.specs.declared.span.Span1.{Span1}
+use Rattle.meaning.specs.Algorithm.{Algorithm}
+use Rattle.meaning.specs.Names.{same_name}
+use Rattle.sched.specs.declared.schedule.Home.{Home}
+use Rattle.sched.specs.Skeleton.{NestText}
+use Rattle.lower.specs.declared.inner.Inner.{Inner}
+use Rattle.lower.specs.declared.spots.Host.{Host}
+use Rattle.lower.specs.declared.spots.Spot.{Spot}
+use Rattle.lower.specs.Stored.{StoredText}
+use Rattle.lower.specs.Around.{bind_steps}
+use Rattle.lower.specs.Taken.{SiteText}
+use Rattle.lower.specs.Fetches.{Entry}
+use Rattle.lower.specs.Uses.{first_home}
+use Rattle.lower.specs.Placed.{PlacedText, inner_seen}
+use Rattle.lower.specs.Homes.{HostText, host_at, hosts_named, is_over_grid, spot_in}
+use Rattle.lower.specs.Demanded.{scope_at, sites_at, IsNeeded}
+use Rattle.lower.specs.Slid.{sliding_at, Holds}
+use Rattle.lower.specs.Turned.{IfWhole, whole_nests}
+
+-- ---- the places of a function's loop
+
+abbrev pub before : Option Spot → List Spot → List Spot
+before None ss = ss
+before (Some s) ss = s ∷ ss
+
+-- in the nests of a host, from that of this definition on, one in each that has the loop; over the grid there is one for all
+abbrev pub spots_in : Host → HostText → List ℕ → ℕ → List NestText → List Spot
+spots_in h t x d [] = []
+spots_in h t x d (n ∷ ns) = before (spot_in h t d x) (if is_over_grid t.function.placed.loops x then [] else spots_in h t x (d + 1) ns)
+
+abbrev pub spots_by : Home → Host → Option HostText → List Spot
+spots_by home h None = []
+spots_by home h (Some t) = if same_name t.function.subject.name home.function then spots_in h t home.turn 0 t.nests else []
+
+-- of the function that has the loop, wherever it stands in the group
+abbrev pub spots_of_hosts : Entry → List PlacedText → Home → List Host → List Spot
+spots_of_hosts e is home [] = []
+spots_of_hosts e is home (h ∷ hs) = spots_by home h (host_at e is h) ++ spots_of_hosts e is home hs
+
+abbrev pub spots_at : Entry → List PlacedText → Option Home → List Spot
+spots_at e is None = []
+spots_at e is (Some home) = spots_of_hosts e is home (hosts_named e is home.function)
+
+-- of the first loop at which the function is computed
+abbrev pub spots_of : Entry → List PlacedText → StoredText → List Spot
+spots_of e is g = spots_at e is (first_home g.placed.homes)
+
+-- ---- the places at which it is computed
+
+abbrev pub is_called : Option (List SiteText) → Bool
+is_called (Some (t ∷ ts)) = true
+is_called (Some []) = false
+is_called None = false
+
+abbrev pub if_called : Bool → Spot → List Spot
+if_called b s = if b then s ∷ [] else []
+
+-- those of the places at which the function of this name is called
+abbrev pub called_spots : Algorithm → Entry → List PlacedText → List ℕ → List Spot → List Spot
+called_spots a e is x [] = []
+called_spots a e is x (s ∷ ss) = if_called (is_called (sites_at a e is s x)) s ++ called_spots a e is x ss
+
+-- what is computed there: around its nests is what stands around the place, and its own lets; of it is made what the calls at the place need, in each turn or, where it
+-- slides, as far as it is new; where none of its loops is split, it has no lets of its own, and its nests are its loops over that
+pub record IsComputed (a : Algorithm) (e : Entry) (es : List Entry) (is : List PlacedText) (c : Entry) (i : PlacedText) : Type 0 where
+  pub function : i.function ≡ c.0
+  pub formulas : i.formulas ≡ c.2
+  pub scoped : i.scope ≡ bind_steps (scope_at e is i.home) i.lets
+  pub sites : List SiteText
+  pub called : sites_at a e is i.home c.0.subject.name ≡ Some sites
+  pub region : List Span1
+  pub needed : IsNeeded (scope_at e is i.home) sites c.0 c.1.region region
+  pub holds : Holds es c.0 c.2 (scope_at e is i.home) region (sliding_at e is c.0 i.home i.store region) i.region i.later
+  pub unnamed : IfWhole c.0.placed.cuts (i.lets ≡ [])
+  pub nested : IfWhole c.0.placed.cuts (whole_nests c.0 c.2 (scope_at e is i.home) i.region ≡ Some i.nests)
+
+-- these are all of a function's in a group in which those are computed that are declared later
+pub record AreComputed (a : Algorithm) (e : Entry) (es : List Entry) (is : List PlacedText) (c : Entry) (js : List PlacedText) : Type 0 where
+  pub places : map (λ i. i.home) js ≡ called_spots a e is c.0.subject.name (spots_of e is c.0)
+  pub each : AllByRecursion (IsComputed a e es is c) js
+
+abbrev pub AreComputedIf : Algorithm → Entry → List Entry → List PlacedText → Option Entry → List PlacedText → Type 0
+AreComputedIf a e es is None js = js ≡ []
+AreComputedIf a e es is (Some c) js = AreComputed a e es is c js
+
+-- some of which this is said, and behind them others
+pub record Behind (P : List PlacedText → Type 0) (Q : List PlacedText → Type 0) : Type 0 where
+  pub found : List PlacedText
+  pub these : P found
+  pub others : Q found
+
+-- all that are computed in a group: these, and behind them those of the functions before this number
+abbrev pub AreFound : Algorithm → Entry → List Entry → ℕ → List PlacedText → List PlacedText → Type 0
+AreFound a e es zero is all = all ≡ is
+AreFound a e es (suc n) is all = Behind (AreComputedIf a e es is (slice_get es n)) (λ js. AreFound a e es n (is ++ js) all)
+
+-- of each group
+abbrev pub AreAllFound : Algorithm → ℕ → List Entry → List Entry → List (List PlacedText) → Type 0
+AreAllFound a n [] es placed = Unit {0}
+AreAllFound a n (e ∷ rest) es [] = ⊥
+AreAllFound a n (e ∷ rest) es (is ∷ placed) = AreFound a e es n [] is × AreAllFound a n rest es placed
+
+-- ---- while they are found
+
+-- at one place
+abbrev pub IsComputedAt : Algorithm → Entry → List Entry → List PlacedText → Entry → Spot → Option PlacedText → Type 0
+IsComputedAt a e es is c s None = is_called (sites_at a e is s c.0.subject.name) ≡ false
+IsComputedAt a e es is c s (Some i) = (is_called (sites_at a e is s c.0.subject.name) ≡ true) × (i.home ≡ s) × IsComputed a e es is c i
+
+abbrev pub IsComputedBy : Algorithm → Entry → List Entry → List PlacedText → Entry → Option Spot → Option PlacedText → Type 0
+IsComputedBy a e es is c None o = o ≡ None
+IsComputedBy a e es is c (Some s) o = IsComputedAt a e es is c s o
+
+-- at some places
+pub record AreComputedAt (a : Algorithm) (e : Entry) (es : List Entry) (is : List PlacedText) (c : Entry) (ss : List Spot) (js : List PlacedText) : Type 0 where
+  pub places : map (λ i. i.home) js ≡ called_spots a e is c.0.subject.name ss
+  pub each : AllByRecursion (IsComputed a e es is c) js
+
+-- those of the group's, unless a bound is missing
+abbrev pub AreFoundIf : Algorithm → Entry → List Entry → ℕ → List PlacedText → Result (Vec Inner) (List ℕ) → Type 0
+AreFoundIf a e es n is (Err x) = Unit {0}
+AreFoundIf a e es n is (Ok v) = AreFound a e es n is (map inner_seen v.items)
