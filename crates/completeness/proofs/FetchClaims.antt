@@ -87,7 +87,7 @@ Part = Given _ _ (λ s. seated [] [] 0 s)
 
 -- ---- claim by claim
 
-all_members : (Q : ℕ → Type 0) (cs : List ℕ) → ((c : ℕ) → is_member c cs ≡ true → Q c) → AllByRecursion Q cs
+pub all_members : (Q : ℕ → Type 0) (cs : List ℕ) → ((c : ℕ) → is_member c cs ≡ true → Q c) → AllByRecursion Q cs
 all_members Q [] h = tt
 all_members Q (c ∷ cs) h = (
   h c (ap (λ (b : Bool). b || is_member c cs) (eq_refl c)),

@@ -119,14 +119,14 @@ let_tells grid bs i pick fs behind h = record {
 
 -- ---- the scope
 
-at_place : (f : ℕ → Binding) (a k n : ℕ) → n < k → slice_get (map f (range_with_len a k)) n ≡ Some (f (a + n))
+pub at_place : (f : ℕ → Binding) (a k n : ℕ) → n < k → slice_get (map f (range_with_len a k)) n ≡ Some (f (a + n))
 at_place f a zero n less = absurd (omega (arith, less))
 at_place f a (suc k) zero less = (let none : a ≡ a + 0 = omega arith in ap (λ (m : ℕ). Some (f m)) none)
 at_place f a (suc k) (suc n) less =
     let next : (a + 1) + n ≡ a + suc n = omega arith in
     at_place f (a + 1) k n (omega (arith, less)) ∙ ap (λ (m : ℕ). Some (f m)) next
 
-scope_long : (f : ℕ → Binding) (a k : ℕ) → length (map f (range_with_len a k)) ≡ k
+pub scope_long : (f : ℕ → Binding) (a k : ℕ) → length (map f (range_with_len a k)) ≡ k
 scope_long f a zero = refl
 scope_long f a (suc k) = ap suc (scope_long f (a + 1) k)
 

@@ -15,7 +15,7 @@ use Rattle.lower.specs.Stored.{StoredText, stored_by, stored_among, stored_funct
 
 -- ---- names
 
-none_twice : (xs : List (List ℕ)) → AreDistinct xs → has_double xs ≡ false
+pub none_twice : (xs : List (List ℕ)) → AreDistinct xs → has_double xs ≡ false
 none_twice [] h = refl
 none_twice (x ∷ xs) h = ap (λ (b : Bool). b || has_double xs) first ∙ none_twice xs (λ i j y at there. let e : suc i ≡ suc j = h (suc i) (suc j) y at there in omega (arith, e))
   where

@@ -138,9 +138,14 @@ whole_sized (x ∷ xs) (e ∷ es) h = (record { from = h.0.from; to = h.0.to; fe
 
 -- ---- steps
 
+-- there is a form to pick
+abbrev pub IsChoice : List Form → Type 0
+IsChoice [] = ⊥
+IsChoice (f ∷ fs) = Unit {0}
+
 abbrev pub StepIs : Step → Type 0
 StepIs (Turns i x kind) = AreLimited x.lower × AreLimited x.upper
-StepIs (Named i pick fs) = AreLimited fs
+StepIs (Named i pick fs) = AreLimited fs × IsChoice fs
 StepIs (Tested low high) = Limited low × Limited high
 
 -- what stands at a place
@@ -165,7 +170,8 @@ begun_fits c r st new few sized h (shifted outer form none some sum is e) =
       known = h.known;
       starts = all_more (λ (k : Known). Limited k.form) st.starts (record { name = c.whole; form = alone st.next }) h.starts (alone_limited st.next);
       limits = h.limits;
-      steps = all-append StepIs st.steps _ h.steps ((combined_limited (number r.low) (pos c.factor) outer form sum, (number_limited (room r c.factor) (room_small r c.factor few sized), tt)), tt);
+      steps = all-append StepIs st.steps _ h.steps
+          (((combined_limited (number r.low) (pos c.factor) outer form sum, (number_limited (room r c.factor) (room_small r c.factor few sized), tt)), tt), tt);
     })
 
 put_fits : (g : Bool) (x : List ℕ) (last : ℤ) (form : Form) (st new : StandingText) → Limited form → IsSmall last → Fits st → Puts g x last form st new → Fits new
@@ -189,7 +195,7 @@ put_fits g x last form st new limited small h (by_guard e) =
       starts = h.starts;
       limits = h.limits;
       steps = all-append StepIs (st.steps ++ Tested form (number last) ∷ []) _ (all-append StepIs st.steps (Tested form (number last) ∷ []) h.steps ((limited, number_limited last small), tt))
-          ((limited, (number_limited last small, tt)), tt);
+          (((limited, (number_limited last small, tt)), tt), tt);
     })
 put_fits g x last form st new limited small h (by_test e) =
     subst Fits (sym e) (record {

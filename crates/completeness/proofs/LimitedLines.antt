@@ -90,7 +90,7 @@ neither (inr x) = x
 steps_clear : (ss : List Step) (inner : Statements) → AllByRecursion StepIs ss → ClearAll P inner → ClearAll P (lines_to ss inner)
 steps_clear [] inner h k = k
 steps_clear (Turns i x kind ∷ ss) inner h k = (((λ w. span_not_wide x h.0.0 h.0.1 w.1), steps_clear ss inner h.1 k), tt)
-steps_clear (Named i pick fs ∷ ss) inner h k = ((λ w. none_wide fs h.0 w.1), steps_clear ss inner h.1 k)
+steps_clear (Named i pick fs ∷ ss) inner h k = ((λ w. none_wide fs h.0.0 w.1), steps_clear ss inner h.1 k)
 steps_clear (Tested low high ∷ ss) inner h k = ((wide, steps_clear ss inner h.1 k), tt)
   where
     wide : P (Guard low high (Seq (lines_to ss inner))) → ⊥

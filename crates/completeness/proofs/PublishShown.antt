@@ -66,7 +66,7 @@ use Rattle.completeness.proofs.OwnClaimed.{dimension_inside}
 
 -- ---- the claims of a statement
 
-named_has : (m : ℕ) (cs : List Claim) (j : ℕ) (v : Claim) (line : ℕ) → slice_get cs j ≡ Some v → v.line ≡ line → is_member (m + j) (named_from m cs line) ≡ true
+pub named_has : (m : ℕ) (cs : List Claim) (j : ℕ) (v : Claim) (line : ℕ) → slice_get cs j ≡ Some v → v.line ≡ line → is_member (m + j) (named_from m cs line) ≡ true
 named_has m [] j v line at is = absurd (cc at)
 named_has m (c ∷ cs) zero v line at is =
     let one : c ≡ v = cc at in

@@ -183,7 +183,7 @@ module _ (P : ℕ → Type 0) (from to i : ℕ) (ss : List Step) (first : i ≡ 
   outer_forms [] h k = tt
   outer_forms (f ∷ fs) h k = (outer_form f h.0 k.0.below, outer_forms fs h.1 k.1)
 
-  outer_span : (x : Span1) → IsSpan from x → SpanOnly (Bound (With P i) ss) x → SpanOnly P x
+  pub outer_span : (x : Span1) → IsSpan from x → SpanOnly (Bound (With P i) ss) x → SpanOnly P x
   outer_span x w h =
       let told : SpanOnly (Bound (With P i) ss) (span w.low w.last w.limits) = subst (SpanOnly (Bound (With P i) ss)) w.is h in
       subst (SpanOnly P) (sym w.is) ((tt, tt), (tt, outer_forms w.limits told.1.1 w.good))
@@ -240,7 +240,7 @@ steps_kept P n m from to (Tested low high ∷ ts) r o v inner ss sc k =
     past_first s (inr b) = inr b
 
 -- behind the steps of a nest the same is in scope, and symbols that its lets bound
-rises_up : (n m : ℕ) (ts : List Step) → Rises n ts m → n ≤ m
+pub rises_up : (n m : ℕ) (ts : List Step) → Rises n ts m → n ≤ m
 rises_up n m [] r = omega (arith, r)
 rises_up n m (Turns i x kind ∷ ts) r = (let k = rises_up (n + 1) m ts r.1 in omega (arith, k))
 rises_up n m (Named i pick fs ∷ ts) r = (let k = rises_up (n + 1) m ts r.1 in omega (arith, k))

@@ -107,7 +107,7 @@ nothing_before : (ts : List Multiple) → Before [] ts
 nothing_before [] = tt
 nothing_before (t ∷ ts) = (tt, nothing_before ts)
 
-plus_number : (z : ℤ) (f : Form) → Rises f → plus_multiple (number z) (pos 1) f ≡ raised f z
+pub plus_number : (z : ℤ) (f : Form) → Rises f → plus_multiple (number z) (pos 1) f ≡ raised f z
 plus_number z f h =
     let sum : z +ℤ pos 1 *ℤ f.constant ≡ f.constant +ℤ z = omega (arith, ints) in
     let terms = plus_all [] f.terms (nothing_before f.terms) h in
@@ -135,18 +135,18 @@ shorter_many p (Some n) (Some b) ho hb = by (int_lt n b.1)
     by true = λ q e. subst (λ (x : ℕ × ℤ). pos 1 ≤ℤ x.1) (same (p, n) q e) (ho n refl)
     by false = hb
 
-shortest_many : (grid : List Binding) (uppers : List Form) (p : ℕ) (fs : List Form) (best : Option (ℕ × ℤ)) → IsMany best → IsMany (shortest_from grid uppers p fs best)
+pub shortest_many : (grid : List Binding) (uppers : List Form) (p : ℕ) (fs : List Form) (best : Option (ℕ × ℤ)) → IsMany best → IsMany (shortest_from grid uppers p fs best)
 shortest_many grid uppers p [] best h = h
 shortest_many grid uppers p (f ∷ fs) best h =
     shortest_many grid uppers (p + 1) fs (shorter p (at_least_one (size_below grid f uppers)) best)
     (shorter_many p (at_least_one (size_below grid f uppers)) best (λ n e. some_numbers (size_below grid f uppers) n e) h)
 
-counted_is : (n : ℤ) → pos 1 ≤ℤ n → pos (places_count n) ≡ n
+pub counted_is : (n : ℤ) → pos 1 ≤ℤ n → pos (places_count n) ≡ n
 counted_is (pos n) h = refl
 counted_is (negsuc n) h = absurd (omega (arith, ints, h))
 
 -- one less, where that is near 0
-one_less : (n : ℤ) → pos 1 ≤ℤ n → unsigned_abs (difference n (pos 1)) ≤ 2 ^ 40 → difference n (pos 1) ≡ n -ℤ pos 1
+pub one_less : (n : ℤ) → pos 1 ≤ℤ n → unsigned_abs (difference n (pos 1)) ≤ 2 ^ 40 → difference n (pos 1) ≡ n -ℤ pos 1
 one_less n h near = by (n -ℤ pos 1) refl near
   where
     by : (y : ℤ) → n -ℤ pos 1 ≡ y → unsigned_abs (saturate_signed w64 y) ≤ 2 ^ 40 → saturate_signed w64 y ≡ y

@@ -14,11 +14,11 @@ use Rattle.completeness.proofs.GridScope.{number_limited}
 
 -- ---- numbers
 
-least_number : (scope : List Binding) (n : ℕ) (z : ℤ) → least scope n (number z) ≡ Some z
+pub least_number : (scope : List Binding) (n : ℕ) (z : ℤ) → least scope n (number z) ≡ Some z
 least_number scope zero z = refl
 least_number scope (suc n) z = least_number scope n z
 
-no_replacements : (scope : List Binding) (n : ℕ) (z : ℤ) → replacements scope n (number z) ≡ 0
+pub no_replacements : (scope : List Binding) (n : ℕ) (z : ℤ) → replacements scope n (number z) ≡ 0
 no_replacements scope zero z = refl
 no_replacements scope (suc n) z = no_replacements scope n z
 
@@ -28,7 +28,7 @@ number_found scope z limited =
     ∙ ap (λ (n : ℕ). if nat_le n 4096 then least scope (length scope) (number z) else None) (no_replacements scope (length scope) z)
     ∙ least_number scope (length scope) z
 
-found_below : (scope : List Binding) (f g d : Form) (z : ℤ) → combined f (negsuc 0) g ≡ Some d → sup scope d ≡ Some z → is_at_most_zero (Some z) ≡ true → at_most scope f g ≡ true
+pub found_below : (scope : List Binding) (f g d : Form) (z : ℤ) → combined f (negsuc 0) g ≡ Some d → sup scope d ≡ Some z → is_at_most_zero (Some z) ≡ true → at_most scope f g ≡ true
 found_below scope f g d z made found below =
     ap (λ (o : Option Form). is_at_most_zero (option_and_then (λ d. sup scope d) o)) made ∙ ap is_at_most_zero found ∙ below
 
@@ -63,7 +63,7 @@ form_self scope f limited =
 
 -- ---- the order of numbers
 
-still : (z : ℤ) → z ≤ℤ pos 0 → is_at_most_zero (Some z) ≡ true
+pub still : (z : ℤ) → z ≤ℤ pos 0 → is_at_most_zero (Some z) ≡ true
 still (pos zero) h = refl
 still (pos (suc n)) h = absurd (omega (arith, ints, h))
 still (negsuc n) h = refl

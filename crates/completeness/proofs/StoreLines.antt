@@ -79,7 +79,7 @@ use Rattle.completeness.proofs.Written.{BackIf, IsOver, LeftIsOver, IsWritten, w
 
 -- ---- what can be called, and how many indices it takes
 
-named_callable : (a : Algorithm) (fs : List Function) (x : List ℕ) (f : Function) → function_named fs x ≡ Some f → callable a fs x ≡ Some (f.ty, length f.variables)
+pub named_callable : (a : Algorithm) (fs : List Function) (x : List ℕ) (f : Function) → function_named fs x ≡ Some f → callable a fs x ≡ Some (f.ty, length f.variables)
 named_callable a [] x f e = absurd (cc e)
 named_callable a (g ∷ fs) x f e = of (same_name g.name x) refl e (named_callable a fs x f)
   where
@@ -88,14 +88,14 @@ named_callable a (g ∷ fs) x f e = of (same_name g.name x) refl e (named_callab
     of true t q rest = callable_hit a g fs x t ∙ (let same : g ≡ f = cc q in ap (λ (u : Function). Some (u.ty, length u.variables)) same)
     of false t q rest = callable_miss a g fs x t ∙ rest q
 
-input_callable : (a : Algorithm) (fs : List Function) → NoneNamed a.input fs → callable a fs a.input ≡ Some (a.input_ty, length a.input_extents)
+pub input_callable : (a : Algorithm) (fs : List Function) → NoneNamed a.input fs → callable a fs a.input ≡ Some (a.input_ty, length a.input_extents)
 input_callable a [] none = callable_input a a.input (name_refl a.input)
 input_callable a (g ∷ fs) none = callable_miss a g fs a.input (name_differs g.name a.input (none 0 g refl)) ∙ input_callable a fs (λ k u e. none (suc k) u e)
 
 -- ---- coordinates
 
 module _ (ms : Loads) where
-  variables_are : (xs : List (List ℕ)) (os : List (Option Form)) (lefts : List (Option Term)) (cs : List Coordinate) → AreCoordinates ms xs os lefts cs → length os ≡ length xs →
+  pub variables_are : (xs : List (List ℕ)) (os : List (Option Form)) (lefts : List (Option Term)) (cs : List Coordinate) → AreCoordinates ms xs os lefts cs → length os ≡ length xs →
       map (λ c. c.variable) cs ≡ xs
   variables_are [] [] lefts [] h long = refl
   variables_are (x ∷ xs) [] lefts [] h long = absurd (omega (arith, long))
@@ -161,7 +161,7 @@ all_named at names are x h unnamed =
 none_in : {A : Type 0} (R : A → Type 0) (xs : List A) → AllByRecursion (λ x. R x → ⊥) xs → Any R xs → ⊥
 none_in R xs h k = any_none (λ x. R x → ⊥) R (λ x p r. p r) xs h k
 
-some_and : {A : Type 0} (P : A → Type 0) (o : Option A) → IsSomeAnd o P → (x : A) × (o ≡ Some x) × P x
+pub some_and : {A : Type 0} (P : A → Type 0) (o : Option A) → IsSomeAnd o P → (x : A) × (o ≡ Some x) × P x
 some_and P None h = absurd h
 some_and P (Some x) h = (x, refl, h)
 
@@ -179,16 +179,16 @@ only (Publish k) h = absurd h
 module _ (a : Algorithm) (sch : Schedule) (l : Lowered) (well : IsAlgorithm a) (legal : IsLegal a sch) (small : has_large (stored_functions a sch) ≡ false)
     (kept : region_fault a (stored_functions a sch) ≡ None) (all : are_whole (stored_functions a sch) ≡ true) (groups : HasGroups a (stored_functions a sch) l) (told : AreLinesTold (plan_of l.plan))
     (free : NamesNoLoad a) where
-  abbrev ours : List CodeClaim
+  abbrev pub ours : List CodeClaim
   ours = items a sch l well legal small kept all groups told
 
-  abbrev roots : List Entry
+  abbrev pub roots : List Entry
   roots = entries a sch l well legal small kept all groups told
 
-  abbrev lines_of : ℕ → CodeGroup → GroupLines
+  abbrev pub lines_of : ℕ → CodeGroup → GroupLines
   lines_of n q = group a sch l well legal small kept all groups told n q
 
-  abbrev Holding : GroupLines → List ℕ → ℕ → Type 0
+  abbrev pub Holding : GroupLines → List ℕ → ℕ → Type 0
   Holding = IsHeld a sch l well legal small kept all groups told
 
   abbrev p : Plan
@@ -197,10 +197,10 @@ module _ (a : Algorithm) (sch : Schedule) (l : Lowered) (well : IsAlgorithm a) (
   abbrev c : Certificate
   c = certificate_of l.certificate
 
-  abbrev st : List Bool
+  abbrev pub st : List Bool
   st = flags (subjects a sch)
 
-  abbrev text : Function → StoredText
+  abbrev pub text : Function → StoredText
   text f = stored_by a st f.variables f.value f.changes (subject_said a sch f) (loops_after (said sch) f)
 
   -- a function of which a call stays is a stored one
@@ -237,10 +237,10 @@ module _ (a : Algorithm) (sch : Schedule) (l : Lowered) (well : IsAlgorithm a) (
     Holds = Holding lines
 
     -- at the store of the definition of this number
-    record Ready (d : ℕ) (ms : Loads) : Type 0 where
-      holds : AllByRecursion (λ m. Holds m.0 m.1) ms
-      others : (h : ℕ) (e : Entry) → slice_get roots h ≡ Some e → is_fetched fs n h e ≡ true → Names ms e.0.subject.name
-      own : (d ≡ 0) ⊎ Names ms f.name
+    pub record Ready (d : ℕ) (ms : Loads) : Type 0 where
+      pub holds : AllByRecursion (λ m. Holds m.0 m.1) ms
+      pub others : (h : ℕ) (e : Entry) → slice_get roots h ≡ Some e → is_fetched fs n h e ≡ true → Names ms e.0.subject.name
+      pub own : (d ≡ 0) ⊎ Names ms f.name
 
     -- what a load by a claim of the group tells is known
     claim_known : (x : List ℕ) (s : Ty × ℕ) (m k : ℕ) → callable a a.functions x ≡ Some s → s.1 ≡ m → Holds x k →
@@ -277,7 +277,7 @@ module _ (a : Algorithm) (sch : Schedule) (l : Lowered) (well : IsAlgorithm a) (
         second t n s e = (let same : (t, n) ≡ s = cc e in ap (λ (y : Ty × ℕ). y.1) same)
 
     -- a function that a definition calls is loaded
-    loaded : (d : ℕ) (ms : Loads) → Ready d ms → (j : ℕ) (g : Function) → slice_get a.functions j ≡ Some g → StaysCalled a st g.name → some_calls g.name fs ≡ true →
+    pub loaded : (d : ℕ) (ms : Loads) → Ready d ms → (j : ℕ) (g : Function) → slice_get a.functions j ≡ Some g → StaysCalled a st g.name → some_calls g.name fs ≡ true →
         BackIf a well st place f at d g.name → Names ms g.name
     loaded d ms r j g there_g stays called back =
         let stored = stored_is a sch j g there_g (stays_stored j g there_g stays) in
@@ -321,7 +321,7 @@ module _ (a : Algorithm) (sch : Schedule) (l : Lowered) (well : IsAlgorithm a) (
 
     -- ---- a store
 
-    long_at : (d : ℕ) (w : NestText) → slice_get k.nests d ≡ Some w → length w.at ≡ length (names_with f.variables f.changes d)
+    pub long_at : (d : ℕ) (w : NestText) → slice_get k.nests d ≡ Some w → length w.at ≡ length (names_with f.variables f.changes d)
     long_at d w stands =
         let shape = nest_shape f.variables (bodies_from f.changes 0 (reductions_of f.changes) fs) (loops_after (said sch) f) h.extents k h.laid d w stands in
         let b = shape.body in
@@ -363,7 +363,7 @@ module _ (a : Algorithm) (sch : Schedule) (l : Lowered) (well : IsAlgorithm a) (
     own_places_long = places_long (lay_over (text f) h.extents k) (loops_after (said sch) f).cuts f.variables
 
     -- the piece's own buffer
-    own_is : (buffer : Buffer) × (allocated (statement_of q.body) 0 ≡ Some buffer) × (buffer.function ≡ f.name) × (length buffer.places ≡ length f.variables)
+    pub own_is : (buffer : Buffer) × (allocated (statement_of q.body) 0 ≡ Some buffer) × (buffer.function ≡ f.name) × (length buffer.places ≡ length f.variables)
     own_is =
         let places : List Places = own_places (dimensions_of (text f) h.extents k) in
         let rest : Statements = block (with_fetches h.body.fetches (h.body.nests ++ Publish (last_claim first h.body.fetches k) ∷ [])) in
@@ -439,7 +439,7 @@ module _ (a : Algorithm) (sch : Schedule) (l : Lowered) (well : IsAlgorithm a) (
     long : length h.body.fetched ≡ length h.body.fetches
     long = fetches_claim (sites_of a (text f) fs k) (grid_scope k.grid) n 1 (line + first_lines k) (fetched_groups fs n 0 roots) h.body.fetches needs h.body.fetched h.body.fetching
 
-    ready_first : Ready 0 (loads_from first h.body.fetches)
+    pub ready_first : Ready 0 (loads_from first h.body.fetches)
     ready_first =
         let b = h.body in
         let groups_of = fetched_groups fs n 0 roots in
@@ -453,7 +453,7 @@ module _ (a : Algorithm) (sch : Schedule) (l : Lowered) (well : IsAlgorithm a) (
           own = inl refl;
         }
 
-    ready_next : (d m : ℕ) (v : CodeClaim) (ms : Loads) → m ≡ (first + length h.body.fetches) + d → slice_get h.body.own d ≡ Some v → Ready d ms → Ready (d + 1) (ms ++ (f.name, m) ∷ [])
+    pub ready_next : (d m : ℕ) (v : CodeClaim) (ms : Loads) → m ≡ (first + length h.body.fetches) + d → slice_get h.body.own d ≡ Some v → Ready d ms → Ready (d + 1) (ms ++ (f.name, m) ∷ [])
     ready_next d m v ms e stands r =
         let b = h.body in
         let nest = claim_nest (text f) fs _ _ _ _ 0 k.nests b.nests b.own b.nested v (at_in b.own d v stands) in

@@ -58,11 +58,11 @@ other_names (c ∷ at) (x ∷ xs) ys e = (let behind : variables_of at ≡ xs ++
 
 -- ---- reduction variables, definition by definition
 
-abbrev first_ranges : List Change → List Range
+abbrev pub first_ranges : List Change → List Range
 first_ranges [] = []
 first_ranges (u ∷ us) = u.ranges
 
-abbrev behind_first : List Change → List Change
+abbrev pub behind_first : List Change → List Change
 behind_first [] = []
 behind_first (u ∷ us) = us
 
@@ -78,16 +78,16 @@ turned : (us : List Change) → length (turnings (first_ranges us) (reductions_o
 turned [] = refl
 turned (u ∷ us) = turnings_long u.ranges (reductions_of us)
 
-gone : (us : List Change) → drop (length (first_ranges us)) (reductions_of us) ≡ reductions_of (behind_first us)
+pub gone : (us : List Change) → drop (length (first_ranges us)) (reductions_of us) ≡ reductions_of (behind_first us)
 gone [] = refl
 gone (u ∷ us) = names_gone u.ranges (reductions_of us)
 
-later : (us : List Change) (j : ℕ) → slice_get us (suc j) ≡ slice_get (behind_first us) j
+pub later : (us : List Change) (j : ℕ) → slice_get us (suc j) ≡ slice_get (behind_first us) j
 later [] j = refl
 later (u ∷ us) j = refl
 
 module _ (every : List Change) where
-  ranges_here : (us : List Change) (i k : ℕ) → k ≡ suc i → slice_get every i ≡ slice_get us 0 → ranges_of every k ≡ first_ranges us
+  pub ranges_here : (us : List Change) (i k : ℕ) → k ≡ suc i → slice_get every i ≡ slice_get us 0 → ranges_of every k ≡ first_ranges us
   ranges_here us i k e q = ap (ranges_of every) e ∙ ap (λ (o : Option Change). elim o [ Some u ↦ u.ranges | None ↦ [] ]) q ∙ of us
     where
       of : (us : List Change) → elim (slice_get us 0) [ Some u ↦ u.ranges | None ↦ [] ] ≡ first_ranges us

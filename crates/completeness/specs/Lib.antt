@@ -1,3 +1,6 @@
 pub mod Parted
 pub mod Laws
 pub mod Owed
+pub mod Nested
+pub mod Stores
+pub mod Placed

@@ -1,5 +1,5 @@
 -- What the lines of a plan owe the checker, one kind of line after another.
-use Rattle.std.specs.Prelude.{◌≡◌, ℕ, ◌+◌, ◌-◌, ◌≤◌, ◌^◌, true, Some, length, slice_get, List, [], Option}
+use Rattle.std.specs.Prelude.{◌≡◌, ℕ, ◌+◌, ◌-◌, ◌<◌, ◌≤◌, ◌^◌, true, not, Some, length, slice_get, List, [], ◌∷◌, Option}
 use Rattle.std.specs.List.{AllByRecursion}
 use Rattle.std.specs.Int.RustNames.{unsigned_abs}
 use Rattle.lin.specs.Forms.{Form, is_within_limits}
@@ -8,27 +8,31 @@ use Rattle.meaning.specs.Algorithm.{Algorithm}
 use Rattle.meaning.specs.Conditions.{IsAlgorithm}
 use Rattle.plan.specs.declared.stmt.Places.{Places}
 use Rattle.plan.specs.declared.certificate.cert.Window.{Window}
-use Rattle.plan.specs.Plan.{Statement, Seq, For, First, Guard, Statements, Empty, Then, Group, Plan}
+use Rattle.plan.specs.Plan.{Statement, Seq, For, Let, First, Guard, Store, Statements, Empty, Then, Group, Plan}
 use Rattle.plan.specs.Lines.{lines, body_line}
 use Rattle.plan.specs.View.{plan_of}
 use Rattle.plan.specs.Certificate.Certificate.{Claim, Certificate, certificate_of}
 use Rattle.soundness.specs.Origins.{Outline}
 use Rattle.soundness.specs.Given.{outline_of}
-use Rattle.soundness.specs.Obligations.{Binder, Known, Rules, without, in_block, in_loop, in_guard, within, onwards, kept_of, claim_obligations, obligations}
-use Rattle.soundness.specs.Shown.{Nests, all_shown, start}
+use Rattle.soundness.specs.Obligations.{Binder, Known, Rules, Undefined, Wanted, Named, Obligation, has_symbol, obligation, without, in_block, in_loop, in_guard, within, onwards}
+use Rattle.soundness.specs.Obligations.{kept_of, claim_obligations, obligations}
+use Rattle.soundness.specs.Shown.{Nests, is_shown, all_shown, start}
 use Rattle.soundness.specs.Nests.Laws.{domains_of}
 use Rattle.soundness.specs.Nests.Tests.{plain_nests}
 use Rattle.soundness.specs.Binders.View.{grid_binders}
 use Rattle.rules.specs.Bounding.Rules.{rules_of}
-use Rattle.rules.specs.Bounding.Scopes.{most_symbols}
+use Rattle.rules.specs.Bounding.Scopes.{most_symbols, scope_of}
 use Rattle.sched.specs.Schedule.{Schedule}
 use Rattle.sched.specs.Legal.{IsLegal}
+use Rattle.sched.specs.Skeleton.{NestText, SkeletonText}
 use Rattle.lower.specs.declared.lowering.Lowered.{Lowered}
-use Rattle.lower.specs.Stored.{stored_functions}
+use Rattle.lower.specs.Stored.{StoredText, stored_functions}
+use Rattle.lower.specs.Regions.{LaidText, laid_functions}
+use Rattle.lower.specs.Around.{bind_steps, head_scope}
 use Rattle.lower.specs.Faults.{are_whole}
 use Rattle.lower.specs.Refused.{AreSmall, AreRegionsKept}
 use Rattle.lower.specs.Groups.{AreGroupsMade}
-use Rattle.completeness.specs.Laws.{IsAlloc, IsFetch, IsPublish}
+use Rattle.completeness.specs.Laws.{NamesNoLoad, AreLinesTold, IsStep, IsAlloc, IsFetch, IsPublish, IsStore}
 
 -- ---- line by line
 
@@ -48,11 +52,79 @@ module _ (outline : Outline) (rules : Rules) (P : Statement → ℕ → Known �
         let last = line + lines a - 1 in
         EachLine a line (within outline rules a (outline.named last) known) × EachOf rest (line + lines a) (onwards outline rules a (outline.named last) known)
 
+-- what a statement owes by itself: a loop that its symbol is not in scope, a line all that it asks for, and what else stands around statements nothing
+abbrev pub own_obligations : Outline → Rules → Statement → ℕ → Known → List Obligation
+own_obligations outline rules (Seq all) line known = []
+own_obligations outline rules (For i x kind body) line known = obligation outline rules Undefined line known (Named (not (has_symbol outline rules i x known))) ∷ []
+own_obligations outline rules (First i a b) line known = []
+own_obligations outline rules (Guard low high body) line known = []
+own_obligations outline rules s line known = obligations outline rules s line known
+
+-- this is so of each loop and of each statement that is one line, at its line and with what the checker knows before it
+module _ (outline : Outline) (rules : Rules) (P : Statement → ℕ → Known → Type 0) where
+  abbrev mutual
+    pub EachOwn : Statement → ℕ → Known → Type 0
+    EachOwn (Seq all) line known = OwnOf all line (in_block outline rules known)
+    EachOwn (For i x kind body) line known = P (For i x kind body) line known × EachOwn body (line + 1) (in_loop outline rules i x body known)
+    EachOwn (First i a b) line known = EachOwn a (line + 1) (in_block outline rules known) × EachOwn b (line + 2 + lines a) (in_block outline rules known)
+    EachOwn (Guard low high body) line known = EachOwn body (line + 1) (in_guard outline rules low high known)
+    EachOwn s line known = P s line known
+
+    pub OwnOf : Statements → ℕ → Known → Type 0
+    OwnOf Empty line known = Unit {0}
+    OwnOf (Then a rest) line known =
+        let last = line + lines a - 1 in
+        EachOwn a line (within outline rules a (outline.named last) known) × OwnOf rest (line + lines a) (onwards outline rules a (outline.named last) known)
+
+-- what the loops and lines of this kind in a group's body owe by themselves is shown by the checker's rules, whatever its tests of nests are
+abbrev pub OwnShown : (Statement → Type 0) → Algorithm → Plan → Certificate → ℕ → Group → Type 0
+OwnShown IsOne a p c n g =
+    EachOwn (outline_of p c n g) (rules_of a p c n)
+    (λ s line known. IsOne s → (nests : Nests) → all_shown (rules_of a p c n) nests (own_obligations (outline_of p c n g) (rules_of a p c n) s line known) ≡ true)
+    g.body (body_line p n) (start (grid_binders g.grid))
+
 -- all that the lines of this kind in a group's body owe is shown by the checker's rules, whatever its tests of nests are
 abbrev pub OweShown : (Statement → Type 0) → Algorithm → Plan → Certificate → ℕ → Group → Type 0
 OweShown IsOne a p c n g =
     EachLine (outline_of p c n g) (rules_of a p c n)
     (λ s line known. IsOne s → (nests : Nests) → all_shown (rules_of a p c n) nests (obligations (outline_of p c n g) (rules_of a p c n) s line known) ≡ true)
+    g.body (body_line p n) (start (grid_binders g.grid))
+
+-- ---- tests of names
+
+-- a test of names alone
+abbrev pub IsNameTest : Wanted → Type 0
+IsNameTest (Named test) = Unit {0}
+IsNameTest _ = ⊥
+
+-- of these each test of names alone says yes
+abbrev pub NameTestsHold : Rules → Nests → List Obligation → Type 0
+NameTestsHold rules nests os = AllByRecursion (λ o. IsNameTest o.wanted → is_shown rules nests o ≡ true) os
+
+-- of what each store in a group's body owes: its buffer and those of what it loads are in scope, the claims by which it loads are in force and of their
+-- functions' last definitions, or of the definition before where an update loads its own function, and an update stands in the nest of its claim; no name of
+-- the algorithm reads as a load
+abbrev pub StoreNamesHold : Algorithm → Plan → Certificate → ℕ → Group → Type 0
+StoreNamesHold a p c n g =
+    EachLine (outline_of p c n g) (rules_of a p c n)
+    (λ s line known. IsStore s → (nests : Nests) → NameTestsHold (rules_of a p c n) nests (obligations (outline_of p c n g) (rules_of a p c n) s line known))
+    g.body (body_line p n) (start (grid_binders g.grid))
+
+-- the first of these, where there is one
+abbrev pub the_first : List Obligation → List Obligation
+the_first [] = []
+the_first (o ∷ os) = o ∷ []
+
+-- a store of a function's pure definition
+abbrev pub IsPureStore : Statement → Type 0
+IsPureStore (Store b k at e) = k ≡ 0
+IsPureStore _ = ⊥
+
+-- the first that each store of a pure definition in a group's body owes is shown: that the point where it stores has a place in its buffer
+abbrev pub PurePlacesShown : Algorithm → Plan → Certificate → ℕ → Group → Type 0
+PurePlacesShown a p c n g =
+    EachLine (outline_of p c n g) (rules_of a p c n)
+    (λ s line known. IsPureStore s → (nests : Nests) → all_shown (rules_of a p c n) nests (the_first (obligations (outline_of p c n g) (rules_of a p c n) s line known)) ≡ true)
     g.body (body_line p n) (start (grid_binders g.grid))
 
 -- ---- claim by claim
@@ -77,14 +149,40 @@ module _ (outline : Outline) (rules : Rules) (P : List Window → ℕ → ℕ �
         × AllByRecursion (λ c. P kept line last known a c) (outline.named last)
         × ClaimsOf (without (outline.named last) kept) rest (line + lines a) (onwards outline rules a (outline.named last) known)
 
--- all that the claims of statements of this kind owe is shown, where the tests of nests say yes to what those of plain nests do, as the checker's do
+-- the tests of nests say yes to what those of plain nests do, as the checker's do
+abbrev pub TakePlain : Algorithm → Plan → Certificate → ℕ → Group → Nests → Type 0
+TakePlain a p c n g nests =
+    (bs : List Binder) (m : ℕ) (from : Option ℕ) (places : List Places) (t : Statement) →
+    (plain_nests (outline_of p c n g) (rules_of a p c n) (domains_of a)).is_made bs m from places t ≡ true → nests.is_made bs m from places t ≡ true
+
+-- all that the claims of statements of this kind owe is shown, where the tests of nests say yes to plain nests
 abbrev pub ClaimsOweShown : (Statement → Type 0) → Algorithm → Plan → Certificate → ℕ → Group → Type 0
 ClaimsOweShown IsOne a p c n g =
-    EachClaim (outline_of p c n g) (rules_of a p c n) (λ kept begin last known s k. IsOne s → (nests : Nests) →
-    ((bs : List Binder) (m : ℕ) (from : Option ℕ) (places : List Places) (t : Statement) →
-    (plain_nests (outline_of p c n g) (rules_of a p c n) (domains_of a)).is_made bs m from places t ≡ true → nests.is_made bs m from places t ≡ true) →
+    EachClaim (outline_of p c n g) (rules_of a p c n) (λ kept begin last known s k. IsOne s → (nests : Nests) → TakePlain a p c n g nests →
     all_shown (rules_of a p c n) nests (claim_obligations (outline_of p c n g) (rules_of a p c n) kept begin last known s k) ≡ true)
     [] g.body (body_line p n) (start (grid_binders g.grid))
+
+-- ---- all that a statement owes
+
+-- what a statement owes is what its loops and lines owe by themselves and what its claims do: where that is shown, all is
+abbrev pub StatementsOweTheirOwn : Type 0
+StatementsOweTheirOwn =
+    (outline : Outline) (rules : Rules) (nests : Nests) (s : Statement) (line : ℕ) (known : Known) →
+    EachOwn outline rules (λ t here k. all_shown rules nests (own_obligations outline rules t here k) ≡ true) s line known →
+    EachClaim outline rules (λ kept begin last k t c. all_shown rules nests (claim_obligations outline rules kept begin last k t c) ≡ true) [] s line known →
+    all_shown rules nests (obligations outline rules s line known) ≡ true
+
+-- where by these tests of nests all that its lines `store` owe is shown, and all that the claims of statements that are no lines `fetch` do, all that a group's
+-- body owes is
+abbrev pub LeavesStoresAndNests : Algorithm → Plan → Certificate → ℕ → Group → Type 0
+LeavesStoresAndNests a p c n g =
+    let outline = outline_of p c n g in
+    let rules = rules_of a p c n in
+    let known = start (grid_binders g.grid) in
+    (nests : Nests) → TakePlain a p c n g nests →
+    EachLine outline rules (λ s line k. IsStore s → all_shown rules nests (obligations outline rules s line k) ≡ true) g.body (body_line p n) known →
+    EachClaim outline rules (λ kept begin last k s m. ¬ IsFetch s → all_shown rules nests (claim_obligations outline rules kept begin last k s m) ≡ true) [] g.body
+    (body_line p n) known → all_shown rules nests (obligations outline rules g.body (body_line p n) known) ≡ true
 
 -- ---- plans of whole functions
 
@@ -99,6 +197,34 @@ OfWholePlans IsSo Asked =
 -- each grid has at most as many symbols as the checker takes of a group
 abbrev pub AreGridsFew : Plan → Type 0
 AreGridsFew p = (n : ℕ) (g : Group) → slice_get p.groups n ≡ Some g → length g.grid ≤ most_symbols
+
+-- of schedules besides that split no loop of a stored function
+abbrev pub AreUnsplit : List StoredText → Type 0
+AreUnsplit gs = AllByRecursion (λ g. g.placed.cuts ≡ []) gs
+
+abbrev pub OfUnsplitPlans : (Algorithm → Plan → Certificate → ℕ → Group → Type 0) → (Plan → Certificate → Type 0) → Type 0
+OfUnsplitPlans IsSo Asked =
+    (a : Algorithm) (s : Schedule) (l : Lowered) → IsAlgorithm a → IsLegal a s → AreSmall a s → AreRegionsKept a s → AreGroupsMade a s l
+    → are_whole (stored_functions a s) ≡ true → AreUnsplit (stored_functions a s) → Asked (plan_of l.plan) (certificate_of l.certificate)
+    → (n : ℕ) (g : Group) → slice_get (plan_of l.plan).groups n ≡ Some g → IsSo a (plan_of l.plan) (certificate_of l.certificate) n g
+
+-- each symbol that a loop or a let of the statement binds is before this one
+abbrev mutual
+  pub BindBelow : ℕ → Statement → Type 0
+  BindBelow n (Seq all) = AllBindBelow n all
+  BindBelow n (For i x kind body) = (i < n) × BindBelow n body
+  BindBelow n (Let i pick forms) = i < n
+  BindBelow n (First i a b) = BindBelow n a × BindBelow n b
+  BindBelow n (Guard low high body) = BindBelow n body
+  BindBelow n _ = Unit {0}
+
+  pub AllBindBelow : ℕ → Statements → Type 0
+  AllBindBelow n Empty = Unit {0}
+  AllBindBelow n (Then a rest) = BindBelow n a × AllBindBelow n rest
+
+-- no group has more symbols than the checker takes
+abbrev pub AreSymbolsFew : Plan → Type 0
+AreSymbolsFew p = (n : ℕ) (g : Group) → slice_get p.groups n ≡ Some g → BindBelow most_symbols g.body
 
 -- a form is within the limits of forms, and its number within half of theirs
 abbrev pub IsNearForm : Form → Type 0
@@ -123,6 +249,40 @@ FetchLinesOweShown = OfWholePlans (OweShown IsFetch) (λ p c. AreGridsFew p)
 abbrev pub PublishLinesOweShown : Type 0
 PublishLinesOweShown = OfWholePlans (OweShown IsPublish) (λ p c. AreClaimsNear c)
 
+-- a loop or a let owes that its symbol is not in scope: that it is no loop's, let's or grid's around it, and stands in no form of these, in no place of a
+-- buffer in scope, and in no region of a claim in force or of an update under way (K2)
+abbrev pub StepsOweShown : Type 0
+StepsOweShown = OfWholePlans (OwnShown IsStep) (λ p c. Unit {0})
+
 -- a claim of a line `fetch` owes that it is made there: at each point of its region, of its function, as its last definition leaves it (K6)
 abbrev pub FetchClaimsOweShown : Type 0
 FetchClaimsOweShown = OfWholePlans (ClaimsOweShown IsFetch) (λ p c. AreGridsFew p × AreClaimsNear c)
+
+-- so all that lines owe is shown where that of stores and of the claims of nests is
+abbrev pub StoresAndNestsAreLeft : Type 0
+StoresAndNestsAreLeft = OfWholePlans LeavesStoresAndNests (λ p c. AreGridsFew p × AreClaimsNear c)
+
+-- a line `store` owes, of names alone, that its buffer and those of what it loads are in scope (K4), and that the claims by which it loads are in force (K5)
+abbrev pub StoreNamesAreShown : Type 0
+StoreNamesAreShown = OfWholePlans (λ a p c n g. NamesNoLoad a → StoreNamesHold a p c n g) (λ p c. AreLinesTold p)
+
+-- of functions whose loops are not split, a store of the pure definition owes that the point where it stores has a place in its buffer (K4)
+abbrev pub PurePlacesAreShown : Type 0
+PurePlacesAreShown = OfUnsplitPlans PurePlacesShown (λ p c. AreSymbolsFew p)
+
+-- at each store of a pure definition in a group's body the checker knows of the symbols, one after another, what is known of them by this skeleton, where the
+-- calls of the definition are bounded: of those of the grid, of the lets over it, and of the loops and lets of the nest
+abbrev pub PureScopesAre : Algorithm → Plan → Certificate → ℕ → Group → SkeletonText → Type 0
+PureScopesAre a p c n g k =
+    EachLine (outline_of p c n g) (rules_of a p c n)
+    (λ s line known. IsPureStore s → (w : NestText) → slice_get k.nests 0 ≡ Some w → scope_of known.binders ≡ bind_steps (head_scope k) w.steps)
+    g.body (body_line p n) (start (grid_binders g.grid))
+
+-- so it is by the skeleton over the region that is needed of the function, whatever the loops
+abbrev pub PureScopesAgree : Type 0
+PureScopesAgree =
+    (a : Algorithm) (s : Schedule) (l : Lowered) → IsAlgorithm a → IsLegal a s → AreSmall a s → AreRegionsKept a s → AreGroupsMade a s l
+    → are_whole (stored_functions a s) ≡ true → AreGridsFew (plan_of l.plan) → AreSymbolsFew (plan_of l.plan)
+    → (n : ℕ) (g : Group) → slice_get (plan_of l.plan).groups n ≡ Some g
+    → (r : LaidText) → slice_get (laid_functions a (stored_functions a s)) n ≡ Some (Some r)
+    → PureScopesAre a (plan_of l.plan) (certificate_of l.certificate) n g r.skeleton

@@ -2,4 +2,6 @@
 #![tactic(auto)]
 
 pub mod laws;
+pub mod nests;
 pub mod owed;
+pub mod placed;

@@ -1,0 +1,143 @@
+-- What the claims of nests owe the checker.
+use Rattle.std.specs.Prelude.{◌≡◌, ℕ, true, Option, Some, List, [], slice_get}
+use Rattle.std.specs.List.{AllByRecursion}
+use Rattle.plan.specs.declared.stmt.Places.{Places}
+use Rattle.plan.specs.Plan.{Statement, Group, Plan}
+use Rattle.plan.specs.Lines.{body_line}
+use Rattle.plan.specs.View.{plan_of}
+use Rattle.plan.specs.Certificate.Certificate.{Certificate, certificate_of}
+use Rattle.meaning.specs.Algorithm.{Algorithm}
+use Rattle.meaning.specs.Conditions.{IsAlgorithm}
+use Rattle.soundness.specs.Origins.{Outline}
+use Rattle.soundness.specs.Given.{outline_of}
+use Rattle.soundness.specs.Claims.{updates}
+use Rattle.soundness.specs.Obligations.{Binder, Known, Rules, places_of, goes_on, claim_obligations, obligations}
+use Rattle.soundness.specs.Shown.{Nests, is_shown, all_shown, start}
+use Rattle.soundness.specs.Binders.View.{grid_binders}
+use Rattle.soundness.specs.Nests.Laws.{domains_of}
+use Rattle.soundness.specs.Nests.Tests.{plain_nests}
+use Rattle.tails.specs.Nests.{split_nests}
+use Rattle.rules.specs.Bounding.Rules.{rules_of}
+use Rattle.sched.specs.Schedule.{Schedule}
+use Rattle.sched.specs.Legal.{IsLegal}
+use Rattle.sched.specs.Numbers.{parallel_loops}
+use Rattle.lower.specs.declared.lowering.Lowered.{Lowered}
+use Rattle.lower.specs.Stored.{StoredText, stored_functions}
+use Rattle.lower.specs.Faults.{are_whole}
+use Rattle.lower.specs.Refused.{AreSmall, AreRegionsKept}
+use Rattle.lower.specs.Groups.{AreGroupsMade}
+use Rattle.completeness.specs.Laws.{IsFetch, IsStore, AreLinesTold, NamesNoLoad}
+use Rattle.completeness.specs.Owed.{EachLine, EachClaim, IsNameTest, TakePlain, OfWholePlans, AreGridsFew, AreClaimsNear}
+
+-- the tests of nests say yes to the statement: that it makes this claim in the places that its buffer has there, and, where it changes that by
+-- updates alone, that it does their steps in their order
+abbrev pub SayYes : Outline → Rules → Nests → Known → Statement → ℕ → Type 0
+SayYes outline rules nests known s c =
+    ((places : List Places) → places_of known.buffers (outline.claim c).buffer ≡ Some places →
+    nests.is_made known.binders c (goes_on outline rules s c) places s ≡ true)
+    × (updates outline.setting s (outline.claim c).buffer (outline.claim c).function ≡ true → nests.is_in_turn known.binders c s ≡ true)
+
+-- all that the claims of statements that are no lines `fetch` owe is shown where the tests of nests say yes
+abbrev pub LeavesTests : Algorithm → Plan → Certificate → ℕ → Group → Type 0
+LeavesTests a p c n g =
+    let outline = outline_of p c n g in
+    let rules = rules_of a p c n in
+    EachClaim outline rules (λ kept begin last known s k. ¬ IsFetch s → (nests : Nests) → SayYes outline rules nests known s k →
+    all_shown rules nests (claim_obligations outline rules kept begin last known s k) ≡ true) [] g.body (body_line p n) (start (grid_binders g.grid))
+
+-- a nest's claim owes besides that the nest stores in the claim's buffer alone, which is in scope and of the claim's function (K6); and of an
+-- update, that a claim of the definition before is in force there, in whose region that of the claim lies
+abbrev pub NestTestsAreLeft : Type 0
+NestTestsAreLeft = OfWholePlans LeavesTests (λ p c. AreClaimsNear c)
+
+-- where by these tests of nests all that its lines `store` owe but tests of names is shown, and they say yes to the nests, all that a group's body owes is
+abbrev pub LeavesPlacesAndNests : Algorithm → Plan → Certificate → ℕ → Group → Type 0
+LeavesPlacesAndNests a p c n g =
+    let outline = outline_of p c n g in
+    let rules = rules_of a p c n in
+    let known = start (grid_binders g.grid) in
+    NamesNoLoad a → (nests : Nests) → TakePlain a p c n g nests →
+    EachLine outline rules (λ s line k. IsStore s → AllByRecursion (λ o. ¬ IsNameTest o.wanted → is_shown rules nests o ≡ true) (obligations outline rules s line k)) g.body
+    (body_line p n) known →
+    EachClaim outline rules (λ kept begin last k s m. ¬ IsFetch s → SayYes outline rules nests k s m) [] g.body (body_line p n) known →
+    all_shown rules nests (obligations outline rules g.body (body_line p n) known) ≡ true
+
+-- so all that lines owe is shown where what stores owe of places and regions is (K4, K5), and the tests of nests say yes (K6, K7)
+abbrev pub PlacesAndNestsAreLeft : Type 0
+PlacesAndNestsAreLeft = OfWholePlans LeavesPlacesAndNests (λ p c. AreGridsFew p × AreClaimsNear c × AreLinesTold p)
+
+-- ---- loops that are neither split nor parallel
+
+-- no loop of the function is split, and none is parallel
+abbrev pub IsUnsplit : StoredText → Type 0
+IsUnsplit g = (g.placed.cuts ≡ []) × (parallel_loops g.placed.loops ≡ [])
+
+-- all that the claims of pure definitions owe is shown, where the tests of nests say yes to plain nests
+abbrev pub PureClaimsShown : Algorithm → Plan → Certificate → ℕ → Group → Type 0
+PureClaimsShown a p c n g =
+    let outline = outline_of p c n g in
+    let rules = rules_of a p c n in
+    EachClaim outline rules (λ kept begin last known s k. ¬ IsFetch s → (outline.claim k).definition ≡ 0 → (nests : Nests) → TakePlain a p c n g nests →
+    all_shown rules nests (claim_obligations outline rules kept begin last known s k) ≡ true) [] g.body (body_line p n) (start (grid_binders g.grid))
+
+-- so it is of each function of which no loop is split or parallel: its nest is made of the loops of its variables, one in another
+abbrev pub PureClaimsOweShown : Type 0
+PureClaimsOweShown =
+    (a : Algorithm) (s : Schedule) (l : Lowered) → IsAlgorithm a → IsLegal a s → AreSmall a s → AreRegionsKept a s → AreGroupsMade a s l
+    → are_whole (stored_functions a s) ≡ true → AreClaimsNear (certificate_of l.certificate)
+    → (n : ℕ) (g : Group) → slice_get (plan_of l.plan).groups n ≡ Some g → (u : StoredText) → slice_get (stored_functions a s) n ≡ Some u → IsUnsplit u
+    → PureClaimsShown a (plan_of l.plan) (certificate_of l.certificate) n g
+
+-- the tests of nests say yes to what those of plain nests do, as the checker's do: that a nest makes its claim, and that it does an update's steps in their
+-- order
+abbrev pub TakePlainTurns : Algorithm → Plan → Certificate → ℕ → Group → Nests → Type 0
+TakePlainTurns a p c n g nests =
+    TakePlain a p c n g nests × ((bs : List Binder) (m : ℕ) (t : Statement) →
+    (plain_nests (outline_of p c n g) (rules_of a p c n) (domains_of a)).is_in_turn bs m t ≡ true → nests.is_in_turn bs m t ≡ true)
+
+-- all that the claims of nests owe is shown, of pure definitions and of updates, where the tests of nests say yes to plain nests
+abbrev pub UnsplitClaimsShown : Algorithm → Plan → Certificate → ℕ → Group → Type 0
+UnsplitClaimsShown a p c n g =
+    let outline = outline_of p c n g in
+    let rules = rules_of a p c n in
+    EachClaim outline rules (λ kept begin last known s k. ¬ IsFetch s → (nests : Nests) → TakePlainTurns a p c n g nests →
+    all_shown rules nests (claim_obligations outline rules kept begin last known s k) ≡ true) [] g.body (body_line p n) (start (grid_binders g.grid))
+
+-- so it is of each function of which no loop is split or parallel: the nest of an update is made of the loops of the variables that stand alone as its left
+-- indices and, inside of these, of its reduction variables, the last outermost
+abbrev pub UnsplitClaimsOweShown : Type 0
+UnsplitClaimsOweShown =
+    (a : Algorithm) (s : Schedule) (l : Lowered) → IsAlgorithm a → IsLegal a s → AreSmall a s → AreRegionsKept a s → AreGroupsMade a s l
+    → are_whole (stored_functions a s) ≡ true → AreClaimsNear (certificate_of l.certificate)
+    → (n : ℕ) (g : Group) → slice_get (plan_of l.plan).groups n ≡ Some g → (u : StoredText) → slice_get (stored_functions a s) n ≡ Some u → IsUnsplit u
+    → UnsplitClaimsShown a (plan_of l.plan) (certificate_of l.certificate) n g
+
+-- ---- loops that are not split
+
+-- no loop of the function is split
+abbrev pub IsUncut : StoredText → Type 0
+IsUncut g = g.placed.cuts ≡ []
+
+-- the tests of nests say yes to what those of plain and of split nests do, as the checker's do
+abbrev pub TakeSplit : Algorithm → Plan → Certificate → ℕ → Group → Nests → Type 0
+TakeSplit a p c n g nests =
+    let split = split_nests (outline_of p c n g) (rules_of a p c n) (domains_of a) in
+    ((bs : List Binder) (m : ℕ) (from : Option ℕ) (places : List Places) (t : Statement) →
+    split.is_made bs m from places t ≡ true → nests.is_made bs m from places t ≡ true)
+    × ((bs : List Binder) (m : ℕ) (t : Statement) → split.is_in_turn bs m t ≡ true → nests.is_in_turn bs m t ≡ true)
+
+-- all that the claims of nests owe is shown, where the tests of nests say yes to split nests
+abbrev pub UncutClaimsShown : Algorithm → Plan → Certificate → ℕ → Group → Type 0
+UncutClaimsShown a p c n g =
+    let outline = outline_of p c n g in
+    let rules = rules_of a p c n in
+    EachClaim outline rules (λ kept begin last known s k. ¬ IsFetch s → (nests : Nests) → TakeSplit a p c n g nests →
+    all_shown rules nests (claim_obligations outline rules kept begin last known s k) ≡ true) [] g.body (body_line p n) (start (grid_binders g.grid))
+
+-- so it is of each function of which no loop is split, whichever are parallel: a coordinate is a form over the grid, or the symbol of a loop of the nest
+abbrev pub UncutClaimsOweShown : Type 0
+UncutClaimsOweShown =
+    (a : Algorithm) (s : Schedule) (l : Lowered) → IsAlgorithm a → IsLegal a s → AreSmall a s → AreRegionsKept a s → AreGroupsMade a s l
+    → are_whole (stored_functions a s) ≡ true → AreClaimsNear (certificate_of l.certificate)
+    → (n : ℕ) (g : Group) → slice_get (plan_of l.plan).groups n ≡ Some g → (u : StoredText) → slice_get (stored_functions a s) n ≡ Some u → IsUncut u
+    → UncutClaimsShown a (plan_of l.plan) (certificate_of l.certificate) n g

@@ -1,0 +1,18 @@
+//! Laws of what stores owe the checker of the points where they store, in plans that `lower` makes.
+
+ghost use Rattle.completeness.specs.Placed.{LoadsAreLeft, PointsAreShown};
+
+/// Of a schedule under which each stored function is a root function that is computed at no loop, and a function of which no loop is split, whichever are parallel: of each
+/// store whose left indices are forms, pure definitions' and those of updates that set each variable at its own place, it is shown that the point where it stores has a
+/// place in its buffer (no K4), and lies in the region of the claim that its nest makes (no K5). It is asked that no group has more symbols than the checker takes.
+pub fn points_are_shown()
+    ensures { PointsAreShown }
+{}
+
+/// So, of such a schedule and such a function, all that the lines of its group owe is shown where this is: that each left index of its stores is a form, and of what its
+/// stores load, that the points have places and lie in the regions of their claims, in the input, and where an update calls its own function, where it stores (no K4, K5).
+/// The tests of nests are to say yes to what those of plain and of split nests do. It is asked what is of lines `fetch` and `publish`, of the names that stores owe, of
+/// the claims of nests, and of the points where stores store.
+pub fn loads_are_left()
+    ensures { LoadsAreLeft }
+{}
