@@ -130,7 +130,7 @@ module _ (a : Algorithm) (is : IsAlgorithm a) (k : ℕ) where
   weaker i name le (inr back) = let less = back.2 in inr (back.0, back.1, omega (arith, less, le), back.3, back.4)
 
   -- from the function of this number on, what stands for a call that goes back has calls that do
-  ready_on : (r : Replacement) (fs : List Function) (stored : List Bool) (i : ℕ) → ((j : ℕ) (f : Function) → slice_get fs j ≡ Some f → slice_get a.functions (i + j) ≡ Some f) →
+  pub ready_on : (r : Replacement) (fs : List Function) (stored : List Bool) (i : ℕ) → ((j : ℕ) (f : Function) → slice_get fs j ≡ Some f → slice_get a.functions (i + j) ≡ Some f) →
       ((name : List ℕ) → Back name → IsDone Back r name) → (name : List ℕ) → Back name → IsDone Back (with_definitions r fs stored) name
   ready_on r [] stored i at ready = ready
   ready_on r (f ∷ fs) [] i at ready = ready

@@ -80,7 +80,7 @@ use Rattle.completeness.proofs.SplitTests.{ByGrid, ByLoop, IsLeft, AreLeft}
 use Rattle.completeness.proofs.UncutNests.{near_half, near_ends, dims, own_places_are, own_claim_is, claim_grid, place_grid, claim_loop, place_loop, no_reduction, nested, Nested, pures_here}
 use Rattle.completeness.proofs.UnderWay.{HasLines, body_has_lines, NamedIn, AllNamed, each_named}
 
-in_steps : (n : ℕ) (ts : List Turning) (i : ℕ) (t : Turning) → slice_get ts i ≡ Some t → InSteps (n + i) (span t.low t.last []) (steps_for n ts)
+pub in_steps : (n : ℕ) (ts : List Turning) (i : ℕ) (t : Turning) → slice_get ts i ≡ Some t → InSteps (n + i) (span t.low t.last []) (steps_for n ts)
 in_steps n [] i t at = absurd (cc at)
 in_steps n (u ∷ ts) zero t at =
     let is : u ≡ t = cc at in
@@ -273,7 +273,7 @@ module _ (a : Algorithm) (sch : Schedule) (l : Lowered) (well : IsAlgorithm a) (
       one_so i x c m (inr (e, inl (s, q, at))) form = by_grid x c s m q at
       one_so i x c m (inr (e, inr (j, q, at))) form = by_loop x c j m q at
 
-      seats_so : (i : ℕ) (ys : List (List ℕ)) (es : List Coordinate) → ((x : List ℕ) → In x ys → In x xs) → AreLeft rs over_grid b u.next us i ys es → list_all is_form es ≡ true →
+      pub seats_so : (i : ℕ) (ys : List (List ℕ)) (es : List Coordinate) → ((x : List ℕ) → In x ys → In x xs) → AreLeft rs over_grid b u.next us i ys es → list_all is_form es ≡ true →
           are_seated R known.binders (map exactly (map form_of es)) (map place ys) ≡ true
       seats_so i [] [] some h forms = refl
       seats_so i [] (c ∷ es) some h forms = absurd h
@@ -284,7 +284,7 @@ module _ (a : Algorithm) (sch : Schedule) (l : Lowered) (well : IsAlgorithm a) (
           let rest = seats_so (i + 1) ys es (λ y m. some y (inr m)) h.1 parts.1 in
           λ j. here j && rest j
 
-      claims_so : (i : ℕ) (ys : List (List ℕ)) (es : List Coordinate) → ((x : List ℕ) → In x ys → In x xs) → AreLeft rs over_grid b u.next us i ys es → list_all is_form es ≡ true →
+      pub claims_so : (i : ℕ) (ys : List (List ℕ)) (es : List Coordinate) → ((x : List ℕ) → In x ys → In x xs) → AreLeft rs over_grid b u.next us i ys es → list_all is_form es ≡ true →
           are_within R known.binders (map exactly (map form_of es)) (map claim ys) ≡ true
       claims_so i [] [] some h forms = refl
       claims_so i [] (c ∷ es) some h forms = absurd h
@@ -413,7 +413,7 @@ module _ (a : Algorithm) (sch : Schedule) (l : Lowered) (well : IsAlgorithm a) (
     one_shown (Let j pick forms) line_here known here under = λ placed_so. absurd placed_so
     one_shown (First j x z) line_here known here under = λ placed_so. absurd placed_so
     one_shown (Guard lower upper body) line_here known here under = λ placed_so. absurd placed_so
-    one_shown (Alloc b x seats) line_here known here under = λ placed_so. absurd placed_so
+    one_shown (Alloc b x area) line_here known here under = λ placed_so. absurd placed_so
     one_shown (Fetch b x over) line_here known here under = λ placed_so. absurd placed_so
     one_shown (Publish x) line_here known here under = λ placed_so. absurd placed_so
 

@@ -125,7 +125,7 @@ use Rattle.completeness.proofs.RisingForms.{cut_low}
 -- ---- coordinates are numbers of 32 bits
 
 -- the symbol of a loop that is in scope
-bound_inside : (known : Known) (i : ℕ) (low last : ℤ) → IsBound known i (span low last []) → negsuc 2147483647 ≤ℤ low → low ≤ℤ pos 2147483647 → last ≤ℤ pos 2147483647 →
+pub bound_inside : (known : Known) (i : ℕ) (low last : ℤ) → IsBound known i (span low last []) → negsuc 2147483647 ≤ℤ low → low ≤ℤ pos 2147483647 → last ≤ℤ pos 2147483647 →
     unsigned_abs last ≤ 2 ^ 38 → is_index_span (scope_of known.binders) (exactly (alone i)) ≡ true
 bound_inside known i low last b from to ends near =
     let bs = known.binders in

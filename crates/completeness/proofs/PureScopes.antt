@@ -158,7 +158,7 @@ count_both (Ranged j x ∷ xs) ys m h k = (let rest = count_both xs ys m (omega 
 count_both (Picked j pick fs ∷ xs) ys m h k = (let rest = count_both xs ys m (omega (arith, h)) k in omega (arith, rest, h))
 count_both (Passed low high ∷ xs) ys m h k = count_both xs ys m h k
 
-count_from : (i : ℕ) (ns : List ℕ) → symbol_count (grid_from i ns) ≤ i + length ns
+pub count_from : (i : ℕ) (ns : List ℕ) → symbol_count (grid_from i ns) ≤ i + length ns
 count_from i [] = omega arith
 count_from i (n ∷ ns) =
     let rest = count_from (i + 1) ns in
@@ -172,7 +172,7 @@ map_grid f a (n ∷ ns) h =
     let rest = map_grid f (a + 1) ns (λ j m at. let next : (a + 1) + j ≡ a + suc j = omega arith in ap f next ∙ h (suc j) m at) in
     λ i. here i ∷ rest i
 
-grid_is : (grid : List ℕ) → AllByRecursion IsShort grid → length grid ≤ most_symbols → scope_of (grid_binders grid) ≡ grid_scope grid
+pub grid_is : (grid : List ℕ) → AllByRecursion IsShort grid → length grid ≤ most_symbols → scope_of (grid_binders grid) ≡ grid_scope grid
 grid_is grid short few =
     let t = grid_tells grid short in
     let many = t.many in
@@ -187,7 +187,7 @@ grid_is grid short few =
 abbrev IsScope : List Binding → ℕ → Known → Type 0
 IsScope scope n known = (scope_of known.binders ≡ scope) × (symbol_count known.binders ≤ n)
 
-loop_scope : (scope : List Binding) (n i : ℕ) (x : Span1) (bs : List Binder) → i ≡ n → i < most_symbols → AreLimited x.lower → AreLimited x.upper → scope_of bs ≡ scope → symbol_count bs ≤ n →
+pub loop_scope : (scope : List Binding) (n i : ℕ) (x : Span1) (bs : List Binder) → i ≡ n → i < most_symbols → AreLimited x.lower → AreLimited x.upper → scope_of bs ≡ scope → symbol_count bs ≤ n →
     (scope_of (Ranged i x ∷ bs) ≡ bind scope i (Loop x)) × (symbol_count (Ranged i x ∷ bs) ≤ n + 1)
 loop_scope scope n i x bs first few low high is count = (
   loop_more bs i x (omega (arith, count, first)) few low high ∙ ap (λ (sc : List Binding). bind sc i (Loop x)) is,

@@ -75,7 +75,7 @@ skip_long scope s =
     let many = length-replicate (s - length scope) (Loop anything) in
     (omega (arith, all), omega (arith, all, many))
 
-bind_long : (scope : List Binding) (s : ℕ) (b : Binding) → (length scope ≤ length (bind scope s b)) × (s < length (bind scope s b))
+pub bind_long : (scope : List Binding) (s : ℕ) (b : Binding) → (length scope ≤ length (bind scope s b)) × (s < length (bind scope s b))
 bind_long scope s b =
     let h = skip_long scope s in
     let low = h.0 in
@@ -100,7 +100,7 @@ bound_below scope (Named i Max fs ∷ ts) s (inl e) = let one = (bind_long scope
 bound_below scope (Named i Max fs ∷ ts) s (inr h) = bound_below (bind scope i (LetMax fs)) ts s h
 bound_below scope (Tested low high ∷ ts) s h = bound_below scope ts s h
 
-abbrev Below : ℕ → ℕ → Type 0
+abbrev pub Below : ℕ → ℕ → Type 0
 Below n s = s < n
 
 -- ---- what is known of symbols
@@ -188,9 +188,9 @@ module _ (P : ℕ → Type 0) (a : Algorithm) (r : AroundText) (only : AllByRecu
 
 -- ---- where the calls stand
 
-record SiteOnly (t : SiteText) : Type 0 where
-  binds : AllByRecursion (BindsOnly (Below (length t.scope))) t.scope
-  calls : AllByRecursion (AllByRecursion (SpanOnly (Below (length t.scope)))) t.calls
+pub record SiteOnly (t : SiteText) : Type 0 where
+  pub binds : AllByRecursion (BindsOnly (Below (length t.scope))) t.scope
+  pub calls : AllByRecursion (AllByRecursion (SpanOnly (Below (length t.scope)))) t.calls
 
 site_only : (scope : List Binding) (cs : List (List Span1)) (before : List SiteText) → AllByRecursion (BindsOnly (Below (length scope))) scope →
     AllByRecursion (AllByRecursion (SpanOnly (Below (length scope)))) cs → AllByRecursion SiteOnly before → AllByRecursion SiteOnly (with_site scope cs before)
@@ -257,7 +257,7 @@ each_at : {A : Type 0} (P : A → Type 0) (xs : List A) → ((i : ℕ) (x : A) �
 each_at P [] h = tt
 each_at P (x ∷ xs) h = (h 0 x refl, each_at P xs (λ i y e. h (suc i) y e))
 
-sites_only : (a : Algorithm) (g : StoredText) (fs : List FormulaText) (k : SkeletonText) (x : List ℕ) (ss : List SiteText) → BindInOrder k → NamesOwn k → sites_of a g fs k x ≡ Some ss →
+pub sites_only : (a : Algorithm) (g : StoredText) (fs : List FormulaText) (k : SkeletonText) (x : List ℕ) (ss : List SiteText) → BindInOrder k → NamesOwn k → sites_of a g fs k x ≡ Some ss →
     AllByRecursion SiteOnly ss
 sites_only a g fs k x ss order names e = all_only k order.next order.head a g x 0 fs k.nests [] ss good tt e
   where

@@ -67,7 +67,7 @@ called_one a (f ∷ fs) x = of (same_name f.name x) (called_one a fs x)
     of true h = refl
     of false h = h
 
-called_is : (a : Algorithm) → called_there a ≡ callable a a.functions
+pub called_is : (a : Algorithm) → called_there a ≡ callable a a.functions
 called_is a = λ i x. called_one a a.functions x i
 
 -- ---- coordinates by forms alone

@@ -246,7 +246,7 @@ all_taken P zero (x ∷ xs) h = tt
 all_taken P (suc n) [] h = tt
 all_taken P (suc n) (x ∷ xs) h = (h.0, all_taken P n xs h.1)
 
-at_place : {A : Type 0} (xs : List A) (i : ℕ) → i < length xs → (x : A) × (slice_get xs i ≡ Some x)
+pub at_place : {A : Type 0} (xs : List A) (i : ℕ) → i < length xs → (x : A) × (slice_get xs i ≡ Some x)
 at_place [] i less = absurd (omega (arith, less))
 at_place (x ∷ xs) zero less = (x, refl)
 at_place (x ∷ xs) (suc i) less = at_place xs i (omega (arith, less))
@@ -334,13 +334,13 @@ module _ (a : Algorithm) (sch : Schedule) (l : Lowered) (well : IsAlgorithm a) (
     long : length h.body.fetched ≡ length fetches
     long = fetches_claim (sites_of a (texts f) fs k) (grid_scope k.grid) n 1 (line + first_lines k) (fetched_groups fs n 0 entries) fetches needs h.body.fetched h.body.fetching
 
-    own_long : length h.body.own ≡ length k.nests
+    pub own_long : length h.body.own ≡ length k.nests
     own_long = nests_claim (texts f) fs _ _ _ _ 0 k.nests h.body.nests h.body.own h.body.nested
 
     fetched_claim : (j : ℕ) (v : CodeClaim) → slice_get h.body.fetched j ≡ Some v → slice_get claims j ≡ Some v
     fetched_claim j v e = ap (λ (ws : List CodeClaim). slice_get ws j) h.body.claimed ∙ get_first a entries mine h.body.fetched h.body.own j v e
 
-    own_claim : (d : ℕ) (v : CodeClaim) → slice_get h.body.own d ≡ Some v → slice_get mine (first_own + d) ≡ Some v
+    pub own_claim : (d : ℕ) (v : CodeClaim) → slice_get h.body.own d ≡ Some v → slice_get mine (first_own + d) ≡ Some v
     own_claim d v e =
         let same = long in
         let count : first + (length h.body.fetched + d) ≡ first_own + d = omega (arith, same) in
@@ -384,12 +384,12 @@ module _ (a : Algorithm) (sch : Schedule) (l : Lowered) (well : IsAlgorithm a) (
           defined = ap (λ (m : ℕ). m == R.last (O.claim (first + j)).function) equal ∙ eq_refl (R.last (O.claim (first + j)).function);
         }
 
-    record OwnKnown (d : ℕ) : Type 0 where
-      buffered : (O.claim (first_own + d)).buffer ≡ 0
-      function : (O.claim (first_own + d)).function ≡ f.name
-      defined : (O.claim (first_own + d)).definition ≡ d
+    pub record OwnKnown (d : ℕ) : Type 0 where
+      pub buffered : (O.claim (first_own + d)).buffer ≡ 0
+      pub function : (O.claim (first_own + d)).function ≡ f.name
+      pub defined : (O.claim (first_own + d)).definition ≡ d
 
-    own_known : (d : ℕ) → d < length k.nests → OwnKnown d
+    pub own_known : (d : ℕ) → d < length k.nests → OwnKnown d
     own_known d less =
         let same = own_long in
         let v = at_place h.body.own d (omega (arith, same, less)) in
@@ -416,12 +416,12 @@ module _ (a : Algorithm) (sch : Schedule) (l : Lowered) (well : IsAlgorithm a) (
             let number = rest.2 in
             (rest.0, rest.1, omega (arith, number))
 
-    own_function : O.setting.buffer_function 0 ≡ f.name
+    pub own_function : O.setting.buffer_function 0 ≡ f.name
     own_function = (let o = own_is a sch l well legal small kept all groups told free n q place f at there first line claims needs theirs h hold in ap function_in o.1 ∙ o.2)
 
     -- ---- at a store
 
-    loads_ready : (d : ℕ) → d < length k.nests → IsReady d (all_loads (texts f) fs k.nests places fetches first d)
+    pub loads_ready : (d : ℕ) → d < length k.nests → IsReady d (all_loads (texts f) fs k.nests places fetches first d)
     loads_ready zero less = ready_first a sch l well legal small kept all groups told free n q place f at there first line claims needs theirs h hold
     loads_ready (suc d) less =
         let same = own_long in
@@ -432,10 +432,10 @@ module _ (a : Algorithm) (sch : Schedule) (l : Lowered) (well : IsAlgorithm a) (
         (all_loads (texts f) fs k.nests places fetches first d) refl v.1 (loads_ready d (omega (arith, less))))
 
     -- by which claim the nest of a definition loads: the function itself by the claim of the nest before, and others by those of what is fetched
-    abbrev IsLast : ℕ → List ℕ → ℕ → Type 0
+    abbrev pub IsLast : ℕ → List ℕ → ℕ → Type 0
     IsLast d x c = ((e : ℕ) × (d ≡ suc e) × (same_name f.name x ≡ true) × (c ≡ first_own + e)) ⊎ (((same_name f.name x ≡ false) ⊎ (d ≡ 0)) × FetchedBy fetches first x c)
 
-    last_is : (d : ℕ) (x : List ℕ) (c : ℕ) → last_of None (all_loads (texts f) fs k.nests places fetches first d) x ≡ Some c → IsLast d x c
+    pub last_is : (d : ℕ) (x : List ℕ) (c : ℕ) → last_of None (all_loads (texts f) fs k.nests places fetches first d) x ≡ Some c → IsLast d x c
     last_is zero x c e =
         let by = last_has (FetchedBy fetches first) x (loads_from first fetches) None
         (all_fetched fetches first fetches 0 (λ j t at. let none : 0 + j ≡ j = omega arith in ap (slice_get fetches) none ∙ at) first (omega arith)) tt in
@@ -451,7 +451,7 @@ module _ (a : Algorithm) (sch : Schedule) (l : Lowered) (well : IsAlgorithm a) (
         of true s q rest = inl (d, refl, s, (let same : first_own + d ≡ c = cc q in sym same))
         of false s q rest = weaker s (rest q)
 
-    differs : (x y : List ℕ) → same_name x y ≡ false → same_name y x ≡ false
+    pub differs : (x y : List ℕ) → same_name x y ≡ false → same_name y x ≡ false
     differs x y none = of (same_name y x) refl
       where
         of : (b : Bool) → same_name y x ≡ b → same_name y x ≡ false

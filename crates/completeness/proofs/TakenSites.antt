@@ -50,7 +50,7 @@ has_first x [] ys h = absurd h
 has_first x (z ∷ xs) ys (inl e) = inl e
 has_first x (z ∷ xs) ys (inr h) = inr (has_first x xs ys h)
 
-has_last : {A : Type 0} (x : A) (xs : List A) → Has x (xs ++ x ∷ [])
+pub has_last : {A : Type 0} (x : A) (xs : List A) → Has x (xs ++ x ∷ [])
 has_last x [] = inl refl
 has_last x (z ∷ xs) = inr (has_last x xs)
 
@@ -99,7 +99,7 @@ with_kept scope [] t before h = h
 with_kept scope (c ∷ cs) t before h = has_first t before (record { scope = scope; calls = c ∷ cs } ∷ []) h
 
 module _ (a : Algorithm) (g : StoredText) (outer : List Binding) (x : List ℕ) where
-  sites_kept : (d : ℕ) (fs : List FormulaText) (ns : List NestText) (t : SiteText) (before out : List SiteText) → add_sites a g outer None x d fs ns before ≡ Some out → Has t before → Has t out
+  pub sites_kept : (d : ℕ) (fs : List FormulaText) (ns : List NestText) (t : SiteText) (before out : List SiteText) → add_sites a g outer None x d fs ns before ≡ Some out → Has t before → Has t out
   sites_kept d fs [] t before out e h = subst (λ (o : List SiteText). Has t o) (same before out e) h
   sites_kept d [] (n ∷ ns) t before out e h = subst (λ (o : List SiteText). Has t o) (same before out e) h
   sites_kept d (f ∷ fs) (n ∷ ns) t before out e h =

@@ -238,7 +238,7 @@ module _ (a : Algorithm) (sch : Schedule) (l : Lowered) (well : IsAlgorithm a) (
     abbrev place : List ℕ → Places
     place x = (dimension_of lay [] x).places
 
-    shape : AreGridded xs bs g.placed rs k
+    pub shape : AreGridded xs bs g.placed rs k
     shape = skeleton_gridded xs bs g.placed h.extents k uncut h.laid
 
     -- ---- loops and numbers
@@ -790,7 +790,7 @@ module _ (a : Algorithm) (sch : Schedule) (l : Lowered) (well : IsAlgorithm a) (
               ∙ true_end ((plain_nests O R (domains_of a)).is_in_turn known.binders c s))),
         )
 
-    bare_nests : AllByRecursion (λ w. LetsFirst NoLet w.steps) k.nests
+    pub bare_nests : AllByRecursion (λ w. LetsFirst NoLet w.steps) k.nests
     bare_nests = all_slices (λ w. LetsFirst NoLet w.steps) k.nests (λ d w e.
         (let q = shape.nests d w e in subst (LetsFirst NoLet) (sym q.steps) (no_lets NoLet q.next (nest_turns q.body rs ls))))
 

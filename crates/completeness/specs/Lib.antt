@@ -4,3 +4,4 @@ pub mod Owed
 pub mod Nested
 pub mod Stores
 pub mod Placed
+pub mod Told

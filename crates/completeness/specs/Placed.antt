@@ -1,5 +1,5 @@
 -- What stores owe the checker of the points where they store, of functions whose loops are not split.
-use Rattle.std.specs.Prelude.{◌≡◌, ℕ, true, List, [], ◌∷◌, ◌++◌, map, flat_map, Some, slice_get}
+use Rattle.std.specs.Prelude.{◌≡◌, ℕ, true, List, [], ◌∷◌, ◌++◌, map, flat_map, Some, None, slice_get}
 use Rattle.std.specs.List.{AllByRecursion, list_all}
 use Rattle.plan.specs.Plan.{Statement, Store, Group, Plan}
 use Rattle.plan.specs.Lines.{body_line}
@@ -18,13 +18,15 @@ use Rattle.rules.specs.Bounding.Rules.{rules_of}
 use Rattle.sched.specs.Schedule.{Schedule}
 use Rattle.sched.specs.Legal.{IsLegal}
 use Rattle.lower.specs.declared.lowering.Lowered.{Lowered}
-use Rattle.lower.specs.Stored.{StoredText, stored_functions}
+use Rattle.lower.specs.Stored.{FormulaText, StoredText, stored_functions}
+use Rattle.lower.specs.Regions.{LaidText, laid_functions}
 use Rattle.lower.specs.Faults.{are_whole}
 use Rattle.lower.specs.Refused.{AreSmall, AreRegionsKept}
 use Rattle.lower.specs.Groups.{AreGroupsMade}
 use Rattle.completeness.specs.Laws.{IsStore, AreLinesTold, NamesNoLoad}
 use Rattle.completeness.specs.Owed.{EachLine, IsNameTest, AreGridsFew, AreSymbolsFew, AreClaimsNear}
 use Rattle.completeness.specs.Nested.{IsUncut, TakeSplit}
+use Rattle.completeness.specs.Stores.{AreHeld, GroupShown}
 
 -- a store of which each index of the left side is a form, as those of pure definitions are, and those of updates that set each variable at its own place
 abbrev pub IsPlacedStore : Outline → Statement → Type 0
@@ -92,3 +94,20 @@ LoadsAreLeft =
     → AreClaimsNear (certificate_of l.certificate) → AreLinesTold (plan_of l.plan)
     → (n : ℕ) (g : Group) → slice_get (plan_of l.plan).groups n ≡ Some g → (u : StoredText) → slice_get (stored_functions a s) n ≡ Some u → IsUncut u
     → LeavesLoads a (plan_of l.plan) (certificate_of l.certificate) n g
+
+-- ---- all lines of groups whose stores set each variable at its own place
+
+-- each left index of the definitions is the variable at its place
+abbrev pub ArePlaced : List FormulaText → Type 0
+ArePlaced fs = AllByRecursion (λ f. AllByRecursion (λ o. o ≡ None) f.at) fs
+
+-- of each function of which no loop is split, whichever are parallel, without updates or with such, and where what it fetches holds its calls, all that the lines
+-- of its group owe is shown by the tests of split nests: K2, K4, K5, K6 and K7 are told of none of them
+abbrev pub PlacedGroupsOweShown : Type 0
+PlacedGroupsOweShown =
+    (a : Algorithm) (s : Schedule) (l : Lowered) → IsAlgorithm a → IsLegal a s → AreSmall a s → AreRegionsKept a s → AreGroupsMade a s l
+    → are_whole (stored_functions a s) ≡ true → NamesNoLoad a → AreLinesTold (plan_of l.plan) → AreGridsFew (plan_of l.plan) → AreSymbolsFew (plan_of l.plan)
+    → AreClaimsNear (certificate_of l.certificate)
+    → (n : ℕ) (g : Group) → slice_get (plan_of l.plan).groups n ≡ Some g → (u : StoredText) → slice_get (stored_functions a s) n ≡ Some u → IsUncut u
+    → (fs : List FormulaText) → u.formulas ≡ Some fs → ArePlaced fs → (r : LaidText) → slice_get (laid_functions a (stored_functions a s)) n ≡ Some (Some r)
+    → AreHeld a (stored_functions a s) n u fs r.skeleton → GroupShown TakeSplit a (plan_of l.plan) (certificate_of l.certificate) n g

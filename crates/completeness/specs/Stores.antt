@@ -1,6 +1,7 @@
 -- What the stores of functions owe the checker whose loops are not split, and all lines of their groups.
-use Rattle.std.specs.Prelude.{◌≡◌, ◌⊎◌, ℕ, true, List, [], Some, IsSome, slice_get}
+use Rattle.std.specs.Prelude.{◌≡◌, ◌≤◌, ◌⊎◌, ℕ, true, List, [], Some, IsSome, slice_get}
 use Rattle.std.specs.List.{AllByRecursion}
+use Rattle.std.specs.Int.RustNames.{unsigned_abs}
 use Rattle.meaning.specs.Algorithm.{Algorithm}
 use Rattle.meaning.specs.Conditions.{IsAlgorithm}
 use Rattle.plan.specs.Plan.{Group, Plan}
@@ -117,3 +118,19 @@ PlainGroupsOweShown = OfHeldGroups TakePlainTurns IsUnsplit
 -- of those of which no loop is split, whichever are parallel, by the tests of split nests
 abbrev pub UncutGroupsOweShown : Type 0
 UncutGroupsOweShown = OfHeldGroups TakeSplit IsUncut
+
+-- ---- where regions begin near 0
+
+-- the first numbers of a region are within 2^14
+abbrev pub IsNearRegion : List Extent → Type 0
+IsNearRegion es = AllByRecursion (λ x. unsigned_abs x.low ≤ 16384) es
+
+-- so all that a group's lines owe is shown, of each function without updates of which no loop is split, and whose region begins near 0, whatever it fetches
+abbrev pub NearGroupsOweShown : Type 0
+NearGroupsOweShown =
+    (a : Algorithm) (s : Schedule) (l : Lowered) → IsAlgorithm a → IsLegal a s → AreSmall a s → AreRegionsKept a s → AreGroupsMade a s l
+    → are_whole (stored_functions a s) ≡ true → NamesNoLoad a → AreLinesTold (plan_of l.plan) → AreGridsFew (plan_of l.plan) → AreSymbolsFew (plan_of l.plan)
+    → AreClaimsNear (certificate_of l.certificate)
+    → (n : ℕ) (g : Group) → slice_get (plan_of l.plan).groups n ≡ Some g → (u : StoredText) → slice_get (stored_functions a s) n ≡ Some u → IsUncut u
+    → u.changes ≡ [] → (r : LaidText) → slice_get (laid_functions a (stored_functions a s)) n ≡ Some (Some r) → IsNearRegion r.region
+    → GroupShown TakeSplit a (plan_of l.plan) (certificate_of l.certificate) n g

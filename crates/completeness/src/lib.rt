@@ -5,3 +5,4 @@ pub mod laws;
 pub mod nests;
 pub mod owed;
 pub mod placed;
+pub mod told;

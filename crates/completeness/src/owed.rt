@@ -12,7 +12,7 @@ ghost use Rattle.completeness.specs.Owed.{
   StoreNamesAreShown,
   StoresAndNestsAreLeft,
 };
-ghost use Rattle.completeness.specs.Stores.{PlainGroupsOweShown, PureInputsAreShown, PureStoresOweShown, UncutGroupsOweShown};
+ghost use Rattle.completeness.specs.Stores.{NearGroupsOweShown, PlainGroupsOweShown, PureInputsAreShown, PureStoresOweShown, UncutGroupsOweShown};
 
 /// Of a schedule under which each stored function is a root function that is computed at no loop, whatever the loops, what each line `alloc` of the plan
 /// that `lower` makes owes is shown by the checker's rules (no K2): its buffer is not in scope there.
@@ -100,4 +100,10 @@ pub fn plain_groups_owe_shown()
 /// as the checker's do.
 pub fn uncut_groups_owe_shown()
     ensures { UncutGroupsOweShown }
+{}
+
+/// So it is, whatever is fetched, where the region that is needed of the function begins within 2^14 of 0 in each dimension: the numbers of its loops are then
+/// within 2^15, and over such loops the checker's search finds of each index the ends by which `lower` told the regions of the functions that it calls.
+pub fn near_groups_owe_shown()
+    ensures { NearGroupsOweShown }
 {}

@@ -1,6 +1,6 @@
 //! Laws of what stores owe the checker of the points where they store, in plans that `lower` makes.
 
-ghost use Rattle.completeness.specs.Placed.{LoadsAreLeft, PointsAreShown};
+ghost use Rattle.completeness.specs.Placed.{LoadsAreLeft, PlacedGroupsOweShown, PointsAreShown};
 
 /// Of a schedule under which each stored function is a root function that is computed at no loop, and a function of which no loop is split, whichever are parallel: of each
 /// store whose left indices are forms, pure definitions' and those of updates that set each variable at its own place, it is shown that the point where it stores has a
@@ -15,4 +15,11 @@ pub fn points_are_shown()
 /// the claims of nests, and of the points where stores store.
 pub fn loads_are_left()
     ensures { LoadsAreLeft }
+{}
+
+/// And of the group of each such function whose left indices are the variables at their own places, in pure definitions and in updates, and for which what is fetched
+/// holds the calls: all that its lines owe is shown, where the tests of nests say yes to plain nests and to split ones, as the checker's do. Neither K2, K4, K5, K6
+/// nor K7 is told of them. An update's calls of its own function are of the point where it stores, which has a place and lies in the regions of the claims.
+pub fn placed_groups_owe_shown()
+    ensures { PlacedGroupsOweShown }
 {}

@@ -1,0 +1,328 @@
+-- Where there are numbers of each loop, the ends of what an index stays within are in their order: its value, where each symbol is its loop's first number, is between them.
+use Rattle.std.proofs.Common.{◌≡◌, ℕ, zero, suc, ◌+◌, ◌<◌, ◌≤◌, Bool, true, false, List, [], ◌∷◌, ◌++◌, length, map}
+use Rattle.std.proofs.Common.{Option, Some, None, IsSome, refl, sym, ap, subst, ◌∙◌, inl, inr, append_assoc, append-nil, arith}
+use Rattle.std.proofs.lemmas.Int.{ints}
+use Rattle.std.proofs.lemmas.List.{length-map}
+use Rattle.std.proofs.lemmas.List.Elements.{All-cons, All-nil}
+use Rattle.std.specs.List.{All, AllByRecursion}
+use Rattle.std.specs.Prelude.{ℤ, pos, negsuc, ◌+ℤ◌, ◌*ℤ◌, ◌≤ℤ◌, int_le, is_some, if◌then◌else◌, slice_get}
+use Rattle.std.specs.Int.RustNames.{unsigned_abs}
+use Rattle.numeric.specs.declared.ty.Ty.{Ty}
+use Rattle.numeric.specs.declared.ty.Ty.TheVariants.{U8, U16, U32, I8, I16, I32}
+use Rattle.numeric.specs.Wrap.{IsOf}
+use Rattle.tree.specs.declared.value.Value.{Value}
+use Rattle.tree.specs.Term.{Term, Terms, End, More}
+use Rattle.tree.specs.Meaning.{value_of}
+use Rattle.tree.specs.Names.{IsIndex, AreAsTold, called_type}
+use Rattle.tree.specs.Typing.{type_of, is_index, are_indices}
+use Rattle.lin.specs.Forms.{Form, number, value_of as form_value}
+use Rattle.lin.specs.declared.form.Multiple.{Multiple}
+use Rattle.lin.specs.Spans.{HoldsIn, Holds, IsInSpan, IsInRegion}
+use Rattle.lin.specs.declared.scope.Binding.{Binding}
+use Rattle.lin.specs.declared.scope.Binding.TheVariants.{Loop, LetMin, LetMax}
+use Rattle.lin.specs.declared.span.Span1.{Span1}
+use Rattle.bounds.specs.Spans.{numbers, range_of}
+use Rattle.bounds.specs.Projection.Projection.{projected_span}
+use Rattle.bounds.proofs.IntervalSound.{contains}
+use Rattle.bounds.proofs.ProjectionSound.{span-holds}
+use Rattle.meaning.specs.Algorithm.{Algorithm}
+use Rattle.meaning.specs.Names.{same_name, is_among}
+use Rattle.meaning.specs.Conditions.{AreDistinct}
+use Rattle.meaning.proofs.InliningTyped.{both_true, index-is}
+use Rattle.soundness.specs.Obligations.{anything}
+use Rattle.soundness.proofs.Refines.{name_refl, name_true}
+use Rattle.sched.specs.Standing.{counted_from}
+use Rattle.lower.specs.Called.{called}
+use Rattle.lower.specs.Held.{AreTyped}
+use Rattle.lower.specs.Stored.{FormulaText, left_at}
+use Rattle.lower.specs.Around.{AroundText, exactly, coordinate_span, coordinates_behind, interval_in}
+use Rattle.lower.specs.Regions.{ends_between, ends_of, symbols_from, greater, less, number_of, greatest_number, least_number, are_within}
+use Rattle.lower.proofs.Laying.{bound, same}
+use Rattle.lower.proofs.Reached.{none_is}
+use Rattle.completeness.proofs.Standing.{Taken}
+use Rattle.completeness.proofs.Boxes.{IsBox}
+
+abbrev Ends : Type 0
+Ends = Taken _ _ are_within
+
+-- ---- the ends of a span
+
+number_value : (ts : List Multiple) (k c : ℤ) (v : ℕ → ℤ) → (elim ts [ [] ↦ Some k | t ∷ us ↦ None ]) ≡ Some c → form_value (record { constant = k; terms = ts }) v ≡ c
+number_value [] k c v h = let is = same k c h in omega (arith, ints, is)
+number_value (t ∷ us) k c v h = absurd (no c h)
+  where
+    no : (q : ℤ) → None ≡ Some q → ⊥
+    no q i = cc
+
+number_is : (f : Form) (c : ℤ) (v : ℕ → ℤ) → number_of f ≡ Some c → form_value f v ≡ c
+number_is f c v h = number_value f.terms f.constant c v h
+
+under : (o p : Option ℤ) (c z : ℤ) → ((q : ℤ) → o ≡ Some q → q ≤ℤ z) → ((q : ℤ) → p ≡ Some q → q ≤ℤ z) → greater o p ≡ Some c → c ≤ℤ z
+under None p c z ho hp h = hp c h
+under (Some a) None c z ho hp h = ho c h
+under (Some a) (Some b) c z ho hp h = by (int_le b a) h
+  where
+    by : (t : Bool) → (if t then Some a else Some b) ≡ Some c → c ≤ℤ z
+    by true q = ho c q
+    by false q = hp c q
+
+above : (o p : Option ℤ) (c z : ℤ) → ((q : ℤ) → o ≡ Some q → z ≤ℤ q) → ((q : ℤ) → p ≡ Some q → z ≤ℤ q) → less o p ≡ Some c → z ≤ℤ c
+above None p c z ho hp h = hp c h
+above (Some a) None c z ho hp h = ho c h
+above (Some a) (Some b) c z ho hp h = by (int_le a b) h
+  where
+    by : (t : Bool) → (if t then Some a else Some b) ≡ Some c → z ≤ℤ c
+    by true q = ho c q
+    by false q = hp c q
+
+at_least_lowers : (fs : List Form) (v : ℕ → ℤ) (z c : ℤ) → All (λ f. form_value f v ≤ℤ z) fs → greatest_number fs ≡ Some c → c ≤ℤ z
+at_least_lowers [] v z c all h = absurd (none_is c h)
+at_least_lowers (f ∷ fs) v z c all h =
+    under (number_of f) (greatest_number fs) c z (λ q e. subst (λ (n : ℤ). n ≤ℤ z) (number_is f q v e) (all 0 f (omega arith)))
+    (λ q e. at_least_lowers fs v z q (λ k d lt. all (suc k) d (omega (arith, lt))) e) h
+
+at_most_uppers : (fs : List Form) (v : ℕ → ℤ) (z c : ℤ) → All (λ f. z ≤ℤ form_value f v) fs → least_number fs ≡ Some c → z ≤ℤ c
+at_most_uppers [] v z c all h = absurd (none_is c h)
+at_most_uppers (f ∷ fs) v z c all h =
+    above (number_of f) (least_number fs) c z (λ q e. subst (λ (n : ℤ). z ≤ℤ n) (number_is f q v e) (all 0 f (omega arith)))
+    (λ q e. at_most_uppers fs v z q (λ k d lt. all (suc k) d (omega (arith, lt))) e) h
+
+between_both : (o p : Option ℤ) (e : Ends) → ends_between o p ≡ Some e → (o ≡ Some e.low) × (p ≡ Some e.high)
+between_both None p e h = absurd (cc h)
+between_both (Some a) None e h = absurd (cc h)
+between_both (Some a) (Some b) e h = (let is = same (record { low = a; high = b }) e h in (ap (λ (q : Ends). Some q.low) is, ap (λ (q : Ends). Some q.high) is))
+
+-- a number of a span lies between its ends
+ends_hold : (scope : List Binding) (s : Span1) (e : Ends) (v : ℕ → ℤ) (z : ℤ) → ends_of scope s ≡ Some e → HoldsIn scope v → IsInSpan s v z → (e.low ≤ℤ z) × (z ≤ℤ e.high)
+ends_hold scope s e v z found fits lies =
+    let b = bound (projected_span scope (symbols_from 0 (length scope)) s) (λ p. ends_between (greatest_number p.lower) (least_number p.upper)) e found in
+    let ends = between_both (greatest_number b.value.lower) (least_number b.value.upper) e b.comes in
+    let in_it : IsInSpan b.value v z = span-holds scope (symbols_from 0 (length scope)) s b.value b.is v v z fits (λ n i. refl) lies in
+    (at_least_lowers b.value.lower v z e.low in_it.0 ends.0, at_most_uppers b.value.upper v z e.high in_it.1 ends.1)
+
+-- ---- the first numbers of loops
+
+abbrev first_of : Option Binding → ℤ
+first_of None = pos 0
+first_of (Some (Loop x)) = elim x.lower [ [] ↦ pos 0 | f ∷ fs ↦ f.constant ]
+first_of (Some (LetMin fs)) = pos 0
+first_of (Some (LetMax fs)) = pos 0
+
+abbrev firsts : List Binding → ℕ → ℤ
+firsts scope n = first_of (slice_get scope n)
+
+abbrev IsNear : ℤ → Type 0
+IsNear z = unsigned_abs z ≤ 32768
+
+first_near : (b : Binding) → IsBox b → IsNear (first_of (Some b))
+first_near (Loop x) (inl is) = subst IsNear (ap (λ (y : Span1). first_of (Some (Loop y))) (sym is)) (omega arith)
+first_near (Loop x) (inr k) = subst IsNear (ap (λ (y : Span1). first_of (Some (Loop y))) (sym k.2)) k.3
+first_near (LetMin fs) box = absurd box
+first_near (LetMax fs) box = absurd box
+
+anything_holds : (v : ℕ → ℤ) (z : ℤ) → IsInSpan anything v z
+anything_holds v z = (All-nil (λ f. form_value f v ≤ℤ z), All-nil (λ f. z ≤ℤ form_value f v))
+
+between : (low last z : ℤ) (v : ℕ → ℤ) → low ≤ℤ z → z ≤ℤ last → IsInSpan (numbers low last) v z
+between low last z v from to = (
+  All-cons (λ f. form_value f v ≤ℤ z) (number low) [] (omega (arith, ints, from)) (All-nil (λ f. form_value f v ≤ℤ z)),
+  All-cons (λ f. z ≤ℤ form_value f v) (number last) [] (omega (arith, ints, to)) (All-nil (λ f. z ≤ℤ form_value f v)),
+)
+
+at_form : (f : Form) (v : ℕ → ℤ) → IsInSpan (exactly f) v (form_value f v)
+at_form f v =
+    let z : ℤ = form_value f v in (
+      All-cons (λ g. form_value g v ≤ℤ z) f [] (itself z) (All-nil (λ g. form_value g v ≤ℤ z)),
+      All-cons (λ g. z ≤ℤ form_value g v) f [] (itself z) (All-nil (λ g. z ≤ℤ form_value g v)),
+    )
+  where
+    itself : (z : ℤ) → z ≤ℤ z
+    itself z = omega (arith, ints)
+
+first_holds : (b : Binding) (v : ℕ → ℤ) → IsBox b → Holds b (first_of (Some b)) v
+first_holds (Loop x) v (inl is) = subst (λ (y : Span1). IsInSpan y v (first_of (Some (Loop x)))) (sym is) (anything_holds v (first_of (Some (Loop x))))
+first_holds (Loop x) v (inr k) =
+    let low = k.0 in
+    let last = k.1 in
+    let from : low ≤ℤ low = omega (arith, ints) in
+    subst (λ (y : Span1). IsInSpan y v (first_of (Some (Loop y)))) (sym k.2) (between low last low v from k.5)
+first_holds (LetMin fs) v box = absurd box
+first_holds (LetMax fs) v box = absurd box
+
+module _ (scope : List Binding) (boxes : (n : ℕ) (b : Binding) → slice_get scope n ≡ Some b → IsBox b) where
+  firsts_near : (n : ℕ) → IsNear (firsts scope n)
+  firsts_near n = of (slice_get scope n) refl
+    where
+      of : (o : Option Binding) → slice_get scope n ≡ o → IsNear (first_of o)
+      of None e = omega arith
+      of (Some b) e = first_near b (boxes n b e)
+
+  firsts_hold : HoldsIn scope (firsts scope)
+  firsts_hold = λ n b at. subst (λ (o : Option Binding). Holds b (first_of o) (firsts scope)) (sym at) (first_holds b (firsts scope) (boxes n b at))
+
+-- ---- coordinates
+
+-- a form is a symbol and a number
+abbrev pub Fits : ℕ → Form → Type 0
+Fits n f = (z : ℤ) × (s : ℕ) × (f ≡ counted_from z s) × (unsigned_abs z ≤ 32768) × (s < n)
+
+abbrev pub FitsIf : ℕ → Option Form → Type 0
+FitsIf n None = Unit {0}
+FitsIf n (Some f) = Fits n f
+
+abbrev number_at : (ℕ → ℤ) → Option Form → ℤ
+number_at v None = pos 0
+number_at v (Some f) = form_value f v
+
+index_near : (z : ℤ) → unsigned_abs z ≤ 65536 → IsIndex z
+index_near z h = record { from = omega (arith, ints, h); to = omega (arith, ints, h) }
+
+fits_index : (n : ℕ) (v : ℕ → ℤ) → ((s : ℕ) → IsNear (v s)) → (o : Option Form) → FitsIf n o → IsIndex (number_at v o)
+fits_index n v near None h = index_near (pos 0) (omega arith)
+fits_index n v near (Some f) h =
+    let z = h.0 in
+    let y : ℤ = v h.1 in
+    let symbol : unsigned_abs y ≤ 32768 = near h.1 in
+    let constant = h.3 in
+    let far : unsigned_abs (z +ℤ (pos 1 *ℤ y +ℤ pos 0)) ≤ 65536 = omega (arith, ints, symbol, constant) in
+    subst (λ (g : Form). IsIndex (form_value g v)) (sym h.2) (index_near (form_value (counted_from z h.1) v) far)
+
+all_indices : (n : ℕ) (v : ℕ → ℤ) → ((s : ℕ) → IsNear (v s)) → (os : List (Option Form)) → AllByRecursion (FitsIf n) os → AllByRecursion IsIndex (map (number_at v) os)
+all_indices n v near [] h = tt
+all_indices n v near (o ∷ os) h = (fits_index n v near o h.0, all_indices n v near os h.1)
+
+behind : (ss : List Span1) (zs : List ℤ) (s : Span1) (z : ℤ) (v : ℕ → ℤ) → IsInRegion ss v zs → IsInSpan s v z → IsInRegion (ss ++ s ∷ []) v (zs ++ z ∷ [])
+behind [] [] s z v h k = (k, tt)
+behind [] (y ∷ zs) s z v h k = absurd h
+behind (t ∷ ss) [] s z v h k = absurd h
+behind (t ∷ ss) (y ∷ zs) s z v h k = (h.0, behind ss zs s z v h.1 k)
+
+abbrev or_none : Option (Option Term) → Option Term
+or_none o = elim o [ Some i ↦ i | None ↦ None ]
+
+none_at : (os : List (Option Term)) (i : ℕ) → AllByRecursion (λ o. o ≡ None) os → or_none (slice_get os i) ≡ None
+none_at [] i h = refl
+none_at (o ∷ os) zero h = h.0
+none_at (o ∷ os) (suc i) h = none_at os i h.1
+
+module _ (a : Algorithm) (r : AroundText) (f : FormulaText) (none : AllByRecursion (λ o. o ≡ None) f.at) (v : ℕ → ℤ) where
+  coordinate_in : (o : Option Form) (d : ℕ) (s : Span1) → coordinate_span a r o (left_at f d) ≡ Some s → IsInSpan s v (number_at v o)
+  coordinate_in (Some g) d s e = subst (λ (x : Span1). IsInSpan x v (form_value g v)) (same (exactly g) s e) (at_form g v)
+  coordinate_in None d s e =
+      let is : coordinate_span a r None None ≡ Some s = ap (coordinate_span a r None) (sym (none_at f.at d none)) ∙ e in
+      subst (λ (x : Span1). IsInSpan x v (pos 0)) (same (range_of I32) s is) (between (negsuc 2147483647) (pos 2147483647) (pos 0) v (omega (arith, ints)) (omega (arith, ints)))
+
+  coordinates_in : (before : List Span1) (zs : List ℤ) (d : ℕ) (os : List (Option Form)) (out : List Span1) → IsInRegion before v zs → coordinates_behind a r f before d os ≡ Some out →
+      IsInRegion out v (zs ++ map (number_at v) os)
+  coordinates_in before zs d [] out h e =
+      subst (λ (ys : List ℤ). IsInRegion out v ys) (sym (append-nil zs)) (subst (λ (ss : List Span1). IsInRegion ss v zs) (same before out e) h)
+  coordinates_in before zs d (o ∷ os) out h e =
+      let b = bound (coordinate_span a r o (left_at f d)) (λ s. coordinates_behind a r f (before ++ s ∷ []) (d + 1) os) out e in
+      subst (λ (ys : List ℤ). IsInRegion out v ys) (append_assoc zs (number_at v o ∷ []) (map (number_at v) os))
+      (coordinates_in (before ++ b.value ∷ []) (zs ++ number_at v o ∷ []) (d + 1) os out (behind before zs b.value (number_at v o) v h (coordinate_in o d b.value b.is)) b.comes)
+
+-- ---- by names
+
+abbrev named : List (List ℕ) → List ℤ → List ℕ → ℤ
+named [] zs x = pos 0
+named (y ∷ ys) [] x = pos 0
+named (y ∷ ys) (z ∷ zs) x = if same_name y x then z else named ys zs x
+
+named_index : (xs : List (List ℕ)) (zs : List ℤ) (x : List ℕ) → AllByRecursion IsIndex zs → IsIndex (named xs zs x)
+named_index [] zs x h = index_near (pos 0) (omega arith)
+named_index (y ∷ ys) [] x h = index_near (pos 0) (omega arith)
+named_index (y ∷ ys) (z ∷ zs) x h = of (same_name y x) (named_index ys zs x h.1)
+  where
+    of : (b : Bool) → IsIndex (named ys zs x) → IsIndex (if b then z else named ys zs x)
+    of true k = h.0
+    of false k = k
+
+apart_later : (y : List ℕ) (ys : List (List ℕ)) → AreDistinct (y ∷ ys) → AreDistinct ys
+apart_later y ys h = λ i j x at there. let e : suc i ≡ suc j = h (suc i) (suc j) x at there in omega (arith, e)
+
+named_at : (xs : List (List ℕ)) (zs : List ℤ) (i : ℕ) (x : List ℕ) (z : ℤ) → AreDistinct xs → slice_get xs i ≡ Some x → slice_get zs i ≡ Some z → named xs zs x ≡ z
+named_at [] zs i x z apart at there = absurd (cc at)
+named_at (y ∷ ys) [] i x z apart at there = absurd (cc there)
+named_at (y ∷ ys) (w ∷ zs) zero x z apart at there =
+    let is : y ≡ x = same y x at in
+    let yes : same_name y x ≡ true = ap (λ (u : List ℕ). same_name u x) is ∙ name_refl x in
+    ap (λ (b : Bool). if b then w else named ys zs x) yes ∙ same w z there
+named_at (y ∷ ys) (w ∷ zs) (suc i) x z apart at there = of (same_name y x) refl (named_at ys zs i x z (apart_later y ys apart) at there)
+  where
+    of : (b : Bool) → same_name y x ≡ b → named ys zs x ≡ z → (if b then w else named ys zs x) ≡ z
+    of true e rest =
+        let first : Some y ≡ Some x = ap (λ (u : List ℕ). Some u) (name_true y x e) in
+        let clash : 0 ≡ suc i = apart 0 (suc i) x first at in
+        absurd (omega (arith, clash))
+    of false e rest = rest
+
+same_lists : {A B : Type 0} (g : A → B) (xs : List A) (ys : List B) → length xs ≡ length ys → ((i : ℕ) (x : A) (y : B) → slice_get xs i ≡ Some x → slice_get ys i ≡ Some y → g x ≡ y) → map g xs ≡ ys
+same_lists g [] [] long h = refl
+same_lists g [] (y ∷ ys) long h = absurd (omega (arith, long))
+same_lists g (x ∷ xs) [] long h = absurd (omega (arith, long))
+same_lists g (x ∷ xs) (y ∷ ys) long h =
+    let here = h 0 x y refl refl in
+    let rest = same_lists g xs ys (omega (arith, long)) (λ i u w at there. h (suc i) u w at there) in
+    λ i. here i ∷ rest i
+
+-- ---- answers
+
+zero_is : (t : Ty) → IsOf t (pos 0)
+zero_is U8 = record { from = omega (arith, ints); to = omega (arith, ints) }
+zero_is U16 = record { from = omega (arith, ints); to = omega (arith, ints) }
+zero_is U32 = record { from = omega (arith, ints); to = omega (arith, ints) }
+zero_is I8 = record { from = omega (arith, ints); to = omega (arith, ints) }
+zero_is I16 = record { from = omega (arith, ints); to = omega (arith, ints) }
+zero_is I32 = record { from = omega (arith, ints); to = omega (arith, ints) }
+
+abbrev nothing : Algorithm → List ℕ → List ℤ → Value
+nothing a name at = record { ty = called_type (called a name); number = pos 0 }
+
+-- ---- the order
+
+pub some_typed : (known : List ℕ → Bool) (functions : List ℕ → Option (Ty × ℕ)) (es : Terms) → are_indices known functions es ≡ true → AreTyped known functions es
+some_typed known functions End h = tt
+some_typed known functions (More e es) h =
+    let k = both_true (is_index (type_of known functions e)) (are_indices known functions es) h in
+    (ap is_some (index-is (type_of known functions e) k.0), some_typed known functions es k.1)
+
+module _ (a : Algorithm) (left r : AroundText) (f : FormulaText) (os : List (Option Form)) (cs : List Span1) (none : AllByRecursion (λ o. o ≡ None) f.at)
+    (stands : coordinates_behind a left f [] 0 os ≡ Some cs) (is : record left { coordinates = cs } ≡ r) (boxes : (n : ℕ) (b : Binding) → slice_get left.scope n ≡ Some b → IsBox b)
+    (fits : AllByRecursion (FitsIf (length left.scope)) os) (apart : AreDistinct left.variables) (long : length left.variables ≡ length os) where
+  abbrev v : ℕ → ℤ
+  v = firsts left.scope
+
+  abbrev zs : List ℤ
+  zs = map (number_at v) os
+
+  abbrev values : List ℕ → ℤ
+  values = named left.variables zs
+
+  many : length left.variables ≡ length zs
+  many = long ∙ sym (length-map os (number_at v))
+
+  told : AreAsTold (is_among left.variables) (called a) values (nothing a)
+  told =
+      record {
+        variables_within = λ name known. named_index left.variables zs name (all_indices (length left.scope) v (firsts_near left.scope boxes) os fits);
+        answers_within = λ name at takes indices. record { ty = refl; within = zero_is (called_type (called a name)) };
+      }
+
+  all_named : map values left.variables ≡ zs
+  all_named = same_lists values left.variables zs many (λ i x z at there. named_at left.variables zs i x z apart at there)
+
+  in_region : IsInRegion r.coordinates v (map values r.variables)
+  in_region =
+      subst (λ (t : AroundText). IsInRegion t.coordinates v (map values t.variables)) is
+      (subst (λ (ys : List ℤ). IsInRegion cs v ys) (sym all_named) (coordinates_in a left f none v [] [] 0 os cs tt stands))
+
+  pub ends_ordered : (e : Term) (span : Span1) (ends : Ends) → interval_in a r e ≡ Some span → IsSome (type_of (is_among left.variables) (called a) e) → ends_of r.scope span ≡ Some ends →
+      ends.low ≤ℤ ends.high
+  ends_ordered e span ends bounds typed freed =
+      let fit : HoldsIn r.scope v = subst (λ (t : AroundText). HoldsIn t.scope v) is (firsts_hold left.scope boxes) in
+      let z : ℤ = (value_of values (nothing a) e).number in
+      let lies : IsInSpan span v z = contains r.scope (is_among left.variables) (called a) r.variables r.coordinates e span bounds typed v values (nothing a) fit told in_region in
+      let both = ends_hold r.scope span ends v z freed fit lies in
+      let from = both.0 in
+      let to = both.1 in
+      omega (arith, ints, from, to)

@@ -1,0 +1,320 @@
+-- All numbers of a dimension of a function hold each index at which a later function without updates calls it, as the checker tests it, where no loop of that one is split and its own
+-- region begins near 0.
+use Rattle.std.proofs.Common.{◌≡◌, ℕ, zero, suc, ◌+◌, ◌<◌, ◌≤◌, Bool, true, false, List, [], ◌∷◌, ◌++◌, length, Option, Some, None, IsSome, refl, sym, ap, ◌∙◌, subst, inl, inr, ◌⊎◌, arith}
+use Rattle.std.specs.Prelude.{ℤ, pos, negsuc, ◌≤ℤ◌, if◌then◌else◌, slice_get}
+use Rattle.std.specs.List.{AllByRecursion, flat_map}
+use Rattle.std.proofs.lemmas.Int.{ints}
+use Rattle.std.proofs.lemmas.List.{length-append}
+use Rattle.std.proofs.lemmas.Option.{slice_get_within}
+use Rattle.numeric.specs.declared.ty.Ty.{Ty}
+use Rattle.tree.specs.Term.{Term, Number, Name, Call, Minus, Binary, Clamp, Cast, Choice, Terms, End, More, Test, Compares, Fails, Both, Either}
+use Rattle.tree.specs.Uses.{EachCall, EachCallOfTest, EachCallOfAll}
+use Rattle.tree.specs.Typing.{type_of, index_count}
+use Rattle.lin.specs.Forms.{Form, number}
+use Rattle.lin.specs.Regions.{span_inside}
+use Rattle.lin.specs.declared.form.Multiple.{Multiple}
+use Rattle.lin.specs.declared.scope.Binding.{Binding}
+use Rattle.lin.specs.declared.span.Span1.{Span1}
+use Rattle.lin.proofs.TermLemmas.{all_weaker}
+use Rattle.bounds.specs.Projection.Elimination.{is_inner}
+use Rattle.bounds.specs.Projection.Projection.{negated}
+use Rattle.meaning.specs.Algorithm.{Algorithm}
+use Rattle.meaning.specs.Names.{same_name, is_among}
+use Rattle.meaning.specs.Conditions.{AreDistinct}
+use Rattle.meaning.proofs.InliningTyped.{answer-is}
+use Rattle.soundness.proofs.Refines.{name_true}
+use Rattle.headline.proofs.Members.{got}
+use Rattle.algo.specs.Scoping.Standing.{Written, calls_of, calls_of_test, calls_of_all}
+use Rattle.sched.specs.declared.numbers.Extent.{Extent}
+use Rattle.sched.specs.Standing.{◌>>=◌}
+use Rattle.sched.specs.Skeleton.{NestText}
+use Rattle.lower.specs.Called.{called}
+use Rattle.lower.specs.Stored.{FormulaText, StoredText, calls_left, calls_in}
+use Rattle.lower.specs.Around.{AroundText, interval_in, head_scope, bind_steps, names_with, left_around, coordinates_behind, around}
+use Rattle.lower.specs.Regions.{LaidText, ends_of, symbols_from, are_within}
+use Rattle.lower.specs.Bounded.{whole}
+use Rattle.lower.specs.Taken.{SiteText, add_spans, add_call, add_calls, with_site, add_site, add_sites, holds_call, holds_calls, hold_calls}
+use Rattle.lower.specs.Held.{AreTyped}
+use Rattle.lower.specs.Owning.{IsExtent}
+use Rattle.lower.proofs.Laying.{bound, same}
+use Rattle.completeness.proofs.Standing.{Taken}
+use Rattle.completeness.proofs.TakenSites.{Has}
+use Rattle.completeness.proofs.RegionBounds.{IsEnded}
+use Rattle.completeness.proofs.LoadedTerms.{IsTypedCall}
+use Rattle.completeness.proofs.Only.{Only, SpanOnly, only_combined}
+use Rattle.completeness.proofs.Sited.{Below, SiteOnly}
+use Rattle.completeness.proofs.Boxes.{IsBox}
+use Rattle.completeness.proofs.FreedEnds.{AreOver, inside_all, whole_inside}
+use Rattle.completeness.proofs.CallEnds.{IsCallOf, IsIndexEnded, AreIndicesEnded}
+use Rattle.completeness.proofs.FirstNumbers.{FitsIf, some_typed, ends_ordered}
+
+abbrev Ends : Type 0
+Ends = Taken _ _ are_within
+
+-- ---- lists
+
+has_either : {A : Type 0} (x : A) (xs ys : List A) → Has x (xs ++ ys) → Has x xs ⊎ Has x ys
+has_either x [] ys h = inr h
+has_either x (z ∷ xs) ys (inl e) = inl (inl e)
+has_either x (z ∷ xs) ys (inr h) = elim (has_either x xs ys h) [ inl k ↦ inl (inr k) | inr k ↦ inr k ]
+
+got_first : {A : Type 0} (xs ys : List A) (i : ℕ) (x : A) → slice_get xs i ≡ Some x → slice_get (xs ++ ys) i ≡ Some x
+got_first [] ys i x e = absurd (cc e)
+got_first (z ∷ xs) ys zero x e = e
+got_first (z ∷ xs) ys (suc i) x e = got_first xs ys i x e
+
+got_last : {A : Type 0} (xs : List A) (x : A) (k : ℕ) → length xs ≡ k → slice_get (xs ++ x ∷ []) k ≡ Some x
+got_last [] x zero e = refl
+got_last [] x (suc k) e = absurd (omega (arith, e))
+got_last (z ∷ xs) x zero e = absurd (omega (arith, e))
+got_last (z ∷ xs) x (suc k) e = got_last xs x k (omega (arith, e))
+
+-- ---- what is so of each call, one by one
+
+module _ (P : List ℕ → Terms → Type 0) where
+  abbrev All : List Written → Type 0
+  All cs = AllByRecursion (λ c. P c.name c.at) cs
+
+  join : (xs ys : List Written) → All xs → All ys → All (xs ++ ys)
+  join [] ys a b = b
+  join (x ∷ xs) ys a b = (a.0, join xs ys a.1 b)
+
+  mutual
+    pub all_calls : (e : Term) → EachCall P e → All (calls_of e)
+    all_calls (Number t n) h = tt
+    all_calls (Name name) h = tt
+    all_calls (Call name at) h = (h.0, indices_calls at h.1)
+    all_calls (Minus a) h = all_calls a h
+    all_calls (Binary op a b) h = join (calls_of a) (calls_of b) (all_calls a h.0) (all_calls b h.1)
+    all_calls (Clamp a l u) h = join (calls_of a ++ calls_of l) (calls_of u) (join (calls_of a) (calls_of l) (all_calls a h.0) (all_calls l h.1)) (all_calls u h.2)
+    all_calls (Cast t a) h = all_calls a h
+    all_calls (Choice c a b) h = join (calls_of_test c ++ calls_of a) (calls_of b) (join (calls_of_test c) (calls_of a) (test_calls c h.0) (all_calls a h.1)) (all_calls b h.2)
+
+    test_calls : (c : Test) → EachCallOfTest P c → All (calls_of_test c)
+    test_calls (Compares by a b) h = join (calls_of a) (calls_of b) (all_calls a h.0) (all_calls b h.1)
+    test_calls (Fails c) h = test_calls c h
+    test_calls (Both c d) h = join (calls_of_test c) (calls_of_test d) (test_calls c h.0) (test_calls d h.1)
+    test_calls (Either c d) h = join (calls_of_test c) (calls_of_test d) (test_calls c h.0) (test_calls d h.1)
+
+    indices_calls : (at : Terms) → EachCallOfAll P at → All (calls_of_all at)
+    indices_calls End h = tt
+    indices_calls (More a rest) h = join (calls_of a) (calls_of_all rest) (all_calls a h.0) (indices_calls rest h.1)
+
+pub no_left_calls : (os : List (Option Term)) → AllByRecursion (λ o. o ≡ None) os → flat_map calls_left os ≡ []
+no_left_calls [] h = refl
+no_left_calls (o ∷ os) h = (λ i. calls_left (h.0 i) ++ flat_map calls_left os) ∙ no_left_calls os h.1
+
+-- ---- the calls that are found
+
+module _ (a : Algorithm) (r : AroundText) (x : List ℕ) where
+  -- what the indices of one of these calls stay within
+  record IsFrom (cs : List Written) (ss : List Span1) : Type 0 where
+    place : ℕ
+    call : Written
+    there : slice_get cs place ≡ Some call
+    named : same_name call.name x ≡ true
+    added : add_spans a r call.at [] ≡ Some ss
+
+  calls_from : (cs : List Written) (before out : List (List Span1)) → add_calls a r x cs before ≡ Some out → (ss : List Span1) → Has ss out → Has ss before ⊎ IsFrom cs ss
+  calls_from [] before out e ss h = inl (subst (λ (o : List (List Span1)). Has ss o) (sym (same before out e)) h)
+  calls_from (c ∷ cs) before out e ss h =
+      let b = bound (add_call a r x c before) (add_calls a r x cs) out e in
+      of b.value b.is (calls_from cs b.value out b.comes ss h)
+    where
+      by : (value : List (List Span1)) (v : Bool) → same_name c.name x ≡ v → (if v then (add_spans a r c.at [] >>= λ ts. Some (before ++ ts ∷ [])) else Some before) ≡ Some value → Has ss value →
+          Has ss before ⊎ IsFrom (c ∷ cs) ss
+      by value true s q k =
+          let d = bound (add_spans a r c.at []) (λ ts. Some (before ++ ts ∷ [])) value q in
+          let is = same (before ++ d.value ∷ []) value d.comes in
+          elim (has_either ss before (d.value ∷ []) (subst (λ (o : List (List Span1)). Has ss o) (sym is) k)) [
+            | inl old ↦ inl old
+            | inr new ↦ elim new [
+              | inl this ↦ inr (record { place = 0; call = c; there = refl; named = s; added = d.is ∙ ap (λ (ts : List Span1). Some ts) (sym this) })
+              | inr none ↦ absurd none
+            ]
+          ]
+      by value false s q k = inl (subst (λ (o : List (List Span1)). Has ss o) (sym (same before value q)) k)
+
+      of : (value : List (List Span1)) → add_call a r x c before ≡ Some value → Has ss value ⊎ IsFrom cs ss → Has ss before ⊎ IsFrom (c ∷ cs) ss
+      of value q (inl k) = by value (same_name c.name x) refl q k
+      of value q (inr k) = inr (record { place = suc k.place; call = k.call; there = k.there; named = k.named; added = k.added })
+
+-- ---- the indices of a call
+
+module _ (a : Algorithm) (r : AroundText) (known : List ℕ → Bool) (region : List Extent) where
+  spans_keep : (es : Terms) (before out : List Span1) → add_spans a r es before ≡ Some out → (i : ℕ) (s : Span1) → slice_get before i ≡ Some s → slice_get out i ≡ Some s
+  spans_keep End before out e i s at = subst (λ (o : List Span1). slice_get o i ≡ Some s) (same before out e) at
+  spans_keep (More t es) before out e i s at =
+      let b = bound (interval_in a r t) (λ u. add_spans a r es (before ++ u ∷ [])) out e in
+      spans_keep es (before ++ b.value ∷ []) out b.comes i s (got_first before (b.value ∷ []) i s at)
+
+  -- the index at this place has ends, and what it stays within is among these
+  record IsSpanAt (out : List Span1) (d : ℕ) : Type 0 where
+    index : Term
+    ended : IsIndexEnded a r index region d
+    typed : IsSome (type_of known (called a) index)
+    there : slice_get out d ≡ Some ended.span
+
+  span_at : (es : Terms) (k : ℕ) (before out : List Span1) → length before ≡ k → AreIndicesEnded a r region k es → AreTyped known (called a) es → add_spans a r es before ≡ Some out →
+      (j : ℕ) → j < index_count es → IsSpanAt out (k + j)
+  span_at End k before out long h g e j lt = absurd (omega (arith, lt))
+  span_at (More t es) k before out long h g e zero lt =
+      let b = bound (interval_in a r t) (λ u. add_spans a r es (before ++ u ∷ [])) out e in
+      let is : h.0.span ≡ b.value = same h.0.span b.value (sym h.0.bounds ∙ b.is) in
+      let none : k ≡ k + 0 = omega arith in
+      let here : IsSpanAt out k = record {
+        index = t;
+        ended = h.0;
+        typed = g.0;
+        there = spans_keep es (before ++ b.value ∷ []) out b.comes k b.value (got_last before b.value k long) ∙ ap (λ (s : Span1). Some s) (sym is);
+      } in
+      subst (IsSpanAt out) none here
+  span_at (More t es) k before out long h g e (suc j) lt =
+      let b = bound (interval_in a r t) (λ u. add_spans a r es (before ++ u ∷ [])) out e in
+      let many = length-append before (b.value ∷ []) in
+      let next : (k + 1) + j ≡ k + suc j = omega arith in
+      subst (IsSpanAt out) next (span_at es (k + 1) (before ++ b.value ∷ []) out (omega (arith, many, long)) h.1 g.1 b.comes j (omega (arith, lt)))
+
+-- where there are numbers of each loop, all numbers of the dimension hold the call
+module _ (a : Algorithm) (r : AroundText) (known : List ℕ → Bool) (boxes : (n : ℕ) (b : Binding) → slice_get r.scope n ≡ Some b → IsBox b)
+    (order : (e : Term) (s : Span1) (ends : Ends) → interval_in a r e ≡ Some s → IsSome (type_of known (called a) e) → ends_of r.scope s ≡ Some ends → ends.low ≤ℤ ends.high)
+    (region : List Extent) (extents : AllByRecursion IsExtent region) (ended : AllByRecursion IsEnded region) where
+  abbrev over : List Multiple → Type 0
+  over ts = AreOver r.scope boxes ts
+
+  abbrev inner : ℕ → Type 0
+  inner m = is_inner (symbols_from 0 (length r.scope)) m ≡ true
+
+  forms_over : (fs : List Form) → AllByRecursion (Only (Below (length r.scope))) fs → AllByRecursion (λ (f : Form). over f.terms) fs
+  forms_over fs h =
+      all_weaker (Only (Below (length r.scope))) (λ f. over f.terms)
+      (λ f k. all_weaker (λ t. t.symbol < length r.scope) (λ t. inner t.symbol) (λ t l. inside_all r.scope boxes t.symbol l) f.terms k) fs h
+
+  negation_over : (m nf : Form) → negated m ≡ Some nf → over m.terms → over nf.terms
+  negation_over m nf e h = only_combined inner (number (pos 0)) (negsuc 0) m tt h nf e
+
+  call_held : (es : Terms) (ss : List Span1) → AreIndicesEnded a r region 0 es → AreTyped known (called a) es → add_spans a r es [] ≡ Some ss →
+      AllByRecursion (SpanOnly (Below (length r.scope))) ss → index_count es ≡ length region → (d : ℕ) (x : Extent) → slice_get region d ≡ Some x → holds_call r.scope d (whole x) ss ≡ true
+  call_held es ss h g e only count d x at =
+      let within = slice_get_within region d x at in
+      let none : 0 + d ≡ d = omega arith in
+      let y : IsSpanAt a r known region ss d = subst (IsSpanAt a r known region ss) none (span_at a r known region es 0 [] ss refl h g e d (omega (arith, within, count))) in
+      let s : Span1 = y.ended.span in
+      let ends : Ends = y.ended.ends in
+      let le : ends.low ≤ℤ ends.high = order y.index s ends y.ended.bounds y.typed y.ended.freed in
+      let low = y.ended.inside ends.low (omega (arith, ints)) le x at in
+      let high = y.ended.inside ends.high le (omega (arith, ints)) x at in
+      let extent : IsExtent x = got IsExtent region d x extents at in
+      let last : IsEnded x = got IsEnded region d x ended at in
+      let from = extent.from in
+      let some = extent.some in
+      let low_from = low.0 in
+      let low_to = low.1 in
+      let high_from = high.0 in
+      let high_to = high.1 in
+      let forms : SpanOnly (Below (length r.scope)) s = got (SpanOnly (Below (length r.scope))) ss d s only y.there in
+      let inside : span_inside r.scope s (whole x) ≡ true =
+      whole_inside r.scope boxes s ends x y.ended.freed (forms_over s.lower forms.0) (forms_over s.upper forms.1) negation_over low.0 high.1
+      (omega (arith, ints, from, last, some)) (omega (arith, ints, from, last, some))
+      (omega (arith, ints, from, last, some, low_from, low_to)) (omega (arith, ints, from, last, some, high_from, high_to)) in
+      ap (λ (o : Option Span1). elim o [ Some z ↦ span_inside r.scope z (whole x) | None ↦ false ]) y.there ∙ inside
+
+-- ---- sites
+
+holds_each : (scope : List Binding) (d : ℕ) (s : Span1) (cs : List (List Span1)) → ((ss : List Span1) → Has ss cs → holds_call scope d s ss ≡ true) → holds_calls scope d s cs ≡ true
+holds_each scope d s [] h = refl
+holds_each scope d s (c ∷ cs) h =
+    ap (λ (b : Bool). if b then holds_calls scope d s cs else false) (h c (inl refl)) ∙ holds_each scope d s cs (λ ss k. h ss (inr k))
+
+with_held : (scope : List Binding) (d : ℕ) (s : Span1) (cs : List (List Span1)) → holds_calls scope d s cs ≡ true → hold_calls (with_site scope cs []) d s ≡ true
+with_held scope d s [] h = refl
+with_held scope d s (c ∷ cs) h = ap (λ (b : Bool). if b then true else false) h
+
+-- the calls of the one site
+calls_there : (P : SiteText → Type 0) (scope : List Binding) (cs : List (List Span1)) → AllByRecursion P (with_site scope cs []) → (ss : List Span1) → Has ss cs →
+    P (record { scope = scope; calls = cs })
+calls_there P scope [] h ss k = absurd k
+calls_there P scope (c ∷ cs) h ss k = h.0
+
+all_has : {A : Type 0} (P : A → Type 0) (xs : List A) (x : A) → AllByRecursion P xs → Has x xs → P x
+all_has P [] x h k = absurd k
+all_has P (y ∷ xs) x h (inl is) = subst P (sym is) h.0
+all_has P (y ∷ xs) x h (inr k) = all_has P xs x h.1 k
+
+-- a definition alone, around which stands what is known
+module _ (a : Algorithm) (u : StoredText) (m : LaidText) (f : FormulaText) (w : NestText) (formulas : u.formulas ≡ Some (f ∷ [])) (nests : m.skeleton.nests ≡ w ∷ []) (x : List ℕ) where
+  abbrev outer : List Binding
+  outer = head_scope m.skeleton
+
+  record IsSite (ss : List SiteText) : Type 0 where
+    known : AroundText
+    is : around a u outer w f 0 ≡ Some known
+    calls : List (List Span1)
+    added : add_calls a known x (calls_in f) [] ≡ Some calls
+    are : with_site known.scope calls [] ≡ ss
+
+  site : (ss : List SiteText) → add_sites a u outer None x 0 (f ∷ []) (w ∷ []) [] ≡ Some ss → IsSite ss
+  site ss e =
+      let b = bound (add_site a u outer x 0 f w []) (add_sites a u outer None x (0 + 1) [] []) ss e in
+      let r = bound (around a u outer w f 0) (λ r. add_calls a r x (calls_in f) [] >>= λ cs. Some (with_site r.scope cs [])) b.value b.is in
+      let c = bound (add_calls a r.value x (calls_in f) []) (λ cs. Some (with_site r.value.scope cs [])) b.value r.comes in
+      record { known = r.value; is = r.is; calls = c.value; added = c.is; are = same (with_site r.value.scope c.value []) b.value c.comes ∙ same b.value ss b.comes }
+
+  -- each call of it is one of the definition
+  abbrev call_of : (r : AroundText) → around a u outer w f 0 ≡ Some r → (ss : List Span1) → IsFrom a r x (calls_in f) ss → IsCallOf a u m x
+  call_of r is ss k =
+      record {
+        number = 0;
+        formulas = f ∷ [];
+        formula = f;
+        nest = w;
+        standing = r;
+        defined = formulas;
+        is = refl;
+        nested = ap (λ (ns : List NestText). slice_get ns 0) nests;
+        stands = is;
+        place = k.place;
+        call = k.call;
+        there = k.there;
+        named = k.named;
+      }
+
+-- ---- the law of a definition
+
+module _ (a : Algorithm) (u : StoredText) (m : LaidText) (f : FormulaText) (w : NestText) (formulas : u.formulas ≡ Some (f ∷ [])) (nests : m.skeleton.nests ≡ w ∷ [])
+    (boxes : AllByRecursion IsBox (bind_steps (head_scope m.skeleton) w.steps)) (fits : AllByRecursion (FitsIf (length (bind_steps (head_scope m.skeleton) w.steps))) w.at)
+    (none : AllByRecursion (λ o. o ≡ None) f.at) (apart : AreDistinct (names_with u.variables u.changes 0)) (long : length (names_with u.variables u.changes 0) ≡ length w.at)
+    (typed : AllByRecursion (λ c. IsTypedCall (is_among (names_with u.variables u.changes 0)) (called a) c.name c.at) (calls_in f)) where
+  abbrev left : AroundText
+  left = left_around u (head_scope m.skeleton) w 0
+
+  pub site_held : (x : List ℕ) (ss : List SiteText) → add_sites a u (head_scope m.skeleton) None x 0 (f ∷ []) (w ∷ []) [] ≡ Some ss → AllByRecursion SiteOnly ss →
+      (region : List Extent) → AllByRecursion IsExtent region → AllByRecursion IsEnded region → ((t : Ty × ℕ) → called a x ≡ Some t → t.1 ≡ length region) →
+      ((c : IsCallOf a u m x) → index_count c.call.at ≤ length region → AreIndicesEnded a c.standing region 0 c.call.at) →
+      (d : ℕ) (e : Extent) → slice_get region d ≡ Some e → hold_calls ss d (whole e) ≡ true
+  site_held x ss found only region extents ended takes ends d e at =
+      let one = site a u m f w formulas nests x ss found in
+      let r = one.known in
+      let z = bound (coordinates_behind a left f [] 0 w.at) (λ cs. Some (record left { coordinates = cs })) r one.is in
+      let stands : record left { coordinates = z.value } ≡ r = same (record left { coordinates = z.value }) r z.comes in
+      let left_boxes : (i : ℕ) (b : Binding) → slice_get left.scope i ≡ Some b → IsBox b = λ i b q. got IsBox left.scope i b boxes q in
+      let r_boxes : (i : ℕ) (b : Binding) → slice_get r.scope i ≡ Some b → IsBox b =
+      subst (λ (t : AroundText). (i : ℕ) (b : Binding) → slice_get t.scope i ≡ Some b → IsBox b) stands left_boxes in
+      let order = ends_ordered a left r f w.at z.value none z.is stands left_boxes fits apart long in
+      let each : (cs : List Span1) → Has cs one.calls → holds_call r.scope d (whole e) cs ≡ true =
+      λ cs has. elim (calls_from a r x (calls_in f) [] one.calls one.added cs has) [
+        | inl old ↦ absurd old
+        | inr k ↦
+            (let known = is_among left.variables in
+            let t = got (λ c. IsTypedCall known (called a) c.name c.at) (calls_in f) k.place k.call typed k.there in
+            let answer = answer-is (called a k.call.name) (index_count k.call.at) t.1.0 t.1.1 in
+            let name : k.call.name ≡ x = name_true k.call.name x k.named in
+            let takes_here = takes answer.0 (ap (called a) (sym name) ∙ answer.1) in
+            let count : index_count k.call.at ≡ length region = sym answer.2 ∙ takes_here in
+            let few : index_count k.call.at ≤ length region = omega (arith, count) in
+            let of_it = ends (call_of a u m f w formulas nests x r one.is cs k) few in
+            let there = calls_there SiteOnly r.scope one.calls (subst (AllByRecursion SiteOnly) (sym one.are) only) cs has in
+            let forms = all_has (AllByRecursion (SpanOnly (Below (length r.scope)))) one.calls cs there.calls has in
+            call_held a r known r_boxes order region extents ended k.call.at cs of_it (some_typed known (called a) k.call.at t.0) k.added forms count d e at)
+      ] in
+      subst (λ (ts : List SiteText). hold_calls ts d (whole e) ≡ true) one.are (with_held r.scope d (whole e) one.calls (holds_each r.scope d (whole e) one.calls each))

@@ -1,0 +1,62 @@
+-- What the checker tells of a plan whose schedule splits no loop, of an algorithm whose stored functions have no updates, is a limit.
+use Rattle.std.specs.Prelude.{◌≡◌, ◌⊎◌, ℕ, ℤ, true, List, [], Some, slice_get}
+use Rattle.std.specs.List.{AllByRecursion}
+use Rattle.meaning.specs.Image.Raster.{is_within}
+use Rattle.meaning.specs.Algorithm.{Algorithm}
+use Rattle.meaning.specs.Conditions.{IsAlgorithm}
+use Rattle.plan.specs.Plan.{Group, Plan}
+use Rattle.plan.specs.View.{plan_of}
+use Rattle.plan.specs.Certificate.Certificate.{Certificate, certificate_of}
+use Rattle.plan.specs.Certificate.Cells.{cell}
+use Rattle.soundness.specs.Outline.Flaws.{Flaw as TextFlaw, first_of}
+use Rattle.soundness.specs.declared.outline.refusals.code.Flaw.{Flaw}
+use Rattle.soundness.specs.declared.outline.refusals.code.K.TheVariants.{K14}
+use Rattle.headline.specs.Head.{FailsHead}
+use Rattle.headline.specs.Numbers.{is_cell}
+use Rattle.rules.specs.Bounding.Rules.{rules_of}
+use Rattle.tails.specs.Windows.Shown.{IsShown}
+use Rattle.shares.specs.declared.answer.SharesError.TheVariants.{Flaw as SharesFlaw}
+use Rattle.shares.specs.Made.{ErrorMeans}
+use Rattle.validation.specs.Certificate.Certificate.{flaws_of_certificate}
+use Rattle.validation.specs.Groups.Lines.{flaws_of_groups}
+use Rattle.sched.specs.Schedule.{Schedule}
+use Rattle.sched.specs.Legal.{IsLegal}
+use Rattle.lower.specs.declared.lowering.Lowered.{Lowered}
+use Rattle.lower.specs.Stored.{StoredText, stored_functions}
+use Rattle.lower.specs.Regions.{LaidText, laid_functions}
+use Rattle.lower.specs.Faults.{are_whole}
+use Rattle.lower.specs.Refused.{AreSmall, AreRegionsKept}
+use Rattle.lower.specs.Groups.{AreGroupsMade}
+use Rattle.completeness.specs.Laws.{NamesNoLoad}
+use Rattle.completeness.specs.Owed.{AreClaimsNear}
+use Rattle.completeness.specs.Nested.{IsUncut}
+use Rattle.completeness.specs.Stores.{IsNearRegion}
+
+-- each stored function is a root function that is computed at no loop, without updates, of which no loop is split, and the region that is needed of it begins near 0
+pub record SplitsNothing (a : Algorithm) (s : Schedule) : Type 0 where
+  pub whole : are_whole (stored_functions a s) ≡ true
+  pub uncut : (n : ℕ) (u : StoredText) → slice_get (stored_functions a s) n ≡ Some u → IsUncut u
+  pub pure : (n : ℕ) (u : StoredText) → slice_get (stored_functions a s) n ≡ Some u → u.changes ≡ []
+  pub near : (n : ℕ) (r : LaidText) → slice_get (laid_functions a (stored_functions a s)) n ≡ Some (Some r) → IsNearRegion r.region
+
+-- the group of this number is not the output's, or has each point of it
+abbrev pub HasOutputPoints : Algorithm → Plan → ℕ → Group → Type 0
+HasOutputPoints a p n g = g.function ≡ a.output → (at : List ℤ) → is_within a.output_extents at ≡ true → is_cell p (cell n at) ≡ true
+
+-- all that the checker asks of the plan is so but for limits: the head is the algorithm's (no K1); what is told first of the lines of groups by names, limits and stored expressions is a limit
+-- (K14); all that they owe is shown, by the checker's rules and its tests of nests (no K2, nor K4 to K8); what is told of the certificate's lines by themselves is a limit of forms (K3) or of
+-- numbers (K14); what is told of the pieces' shares is a limit (K14, no K9, K10, K11); and the output's group has each point of the output (no K10)
+pub record TellsOnlyLimits (a : Algorithm) (p : Plan) (c : Certificate) : Type 0 where
+  pub head : (line : ℕ) → ¬ FailsHead a p line
+  pub groups : (f : TextFlaw) → first_of (flaws_of_groups a p c) ≡ Some f → f.code ≡ 14
+  pub shown : (n : ℕ) (g : Group) → slice_get p.groups n ≡ Some g → IsShown (rules_of a p c n) a p c n g
+  pub certificate : AllByRecursion (λ f. (f.code ≡ 3) ⊎ (f.code ≡ 14)) (flaws_of_certificate a p c)
+  pub shares : (f : Flaw) → ErrorMeans p c (SharesFlaw f) → f.code ≡ K14
+  pub output : (n : ℕ) (g : Group) → slice_get p.groups n ≡ Some g → HasOutputPoints a p n g
+
+-- so it is of the plan that is made of such a schedule
+abbrev pub LimitsAloneAreTold : Type 0
+LimitsAloneAreTold =
+    (a : Algorithm) (s : Schedule) (l : Lowered) → IsAlgorithm a → IsLegal a s → AreSmall a s → AreRegionsKept a s → AreGroupsMade a s l
+    → SplitsNothing a s → NamesNoLoad a → AreClaimsNear (certificate_of l.certificate)
+    → TellsOnlyLimits a (plan_of l.plan) (certificate_of l.certificate)

@@ -1,7 +1,0 @@
-mod Compared
-mod Comparisons
-mod Compiled
-mod Explained
-mod Schedules
-mod Streams
-mod Worded
