@@ -305,7 +305,7 @@ module _ (a : Algorithm) (sch : Schedule) (l : Lowered) (well : IsAlgorithm a) (
         let over : (O.claim c).region ≡ region = ap (λ (x : Claim). x.region) is ∙ says.over in
         let named : same_name (O.setting.buffer_function 0) (O.claim c).function ≡ true = (λ i. same_name (own_buffer i) (name i)) ∙ name_refl g.subject.name in
         let held : places_of known.buffers (O.claim c).buffer ≡ Some places = ap (places_of known.buffers) buffered ∙ holds in
-        let told : AllByRecursion IsNearSpan region = subst (AllByRecursion IsNearSpan) says.over (near c (claim_of v) (claim_at c v found)) in
+        let told : AllByRecursion IsNearSpan region = subst (AllByRecursion IsNearSpan) says.over ((near c (claim_of v) (claim_at c v found)).1 says.buffered) in
         claim_shown O R nests d c places_at e buffered defined named ts s comes places begin last known held agrees (before_shown d buffered name defined before)
         (λ j m follow. (let w = own j m in
         let other = claim_is j w.claim w.at in

@@ -61,7 +61,7 @@ use Rattle.lower.specs.Groups.{HasBody, HasGroups}
 use Rattle.lower.proofs.Gridded.{AreBetween, taken_between}
 use Rattle.lower.proofs.Laying.{bound, same}
 use Rattle.completeness.specs.Laws.{IsFetch}
-use Rattle.completeness.specs.Owed.{EachClaim, ClaimsOf, ClaimsOweShown, IsNearSpan, AreGridsFew, AreClaimsNear, FetchClaimsOweShown}
+use Rattle.completeness.specs.Owed.{EachClaim, ClaimsOf, ClaimsOweShown, IsWithinSpan, AreGridsFew, AreClaimsNear, FetchClaimsOweShown}
 use Rattle.completeness.proofs.Standing.{AreLets, Rises, NamesOwn, names_own}
 use Rattle.completeness.proofs.Sited.{taken_over, seats_over}
 use Rattle.completeness.proofs.Bodies.{other_at, entry_at}
@@ -74,7 +74,7 @@ use Rattle.completeness.proofs.RisingForms.{cut_low}
 use Rattle.completeness.proofs.GridCounts.{IsShort, grid_few}
 use Rattle.completeness.proofs.GridScope.{TellsGrid, grid_tells, let_tells}
 use Rattle.completeness.proofs.FetchSeats.{taken_seated}
-use Rattle.completeness.proofs.OwnClaimed.{Among, all_above, all_below, more_among}
+use Rattle.completeness.proofs.OwnClaimed.{Among, above_within, below_within, more_among}
 use Rattle.completeness.proofs.NamedClaims.{member_named, in_either, body_lines, fetched_range, nests_range, alone_body}
 use Rattle.completeness.proofs.PublishShown.{named_alike}
 
@@ -283,13 +283,13 @@ between_ends (e ∷ es) (t ∷ ts) h =
     λ i. (not (low i) && not (high i)) && rest i
 
 module _ (a : Algorithm) (p : Plan) (c : Certificate) (n : ℕ) (bs : List Binder) where
-  within_self : (x : Span1) → IsNearSpan x → is_within (rules_of a p c n) bs x x ≡ true
+  within_self : (x : Span1) → IsWithinSpan x → is_within (rules_of a p c n) bs x x ≡ true
   within_self x near =
-      let low = all_below (scope_of bs) x.lower x.lower (among_self x.lower) near.0 in
-      let high = all_above (scope_of bs) x.upper x.upper (among_self x.upper) near.1 in
+      let low = below_within (scope_of bs) x.lower x.lower (among_self x.lower) near.0 in
+      let high = above_within (scope_of bs) x.upper x.upper (among_self x.upper) near.1 in
       λ i. low i && high i
 
-  all_within : (xs : List Span1) → AllByRecursion IsNearSpan xs → are_within (rules_of a p c n) bs xs xs ≡ true
+  all_within : (xs : List Span1) → AllByRecursion IsWithinSpan xs → are_within (rules_of a p c n) bs xs xs ≡ true
   all_within [] near = refl
   all_within (x ∷ xs) near = (let here = within_self x near.0 in let rest = all_within xs near.1 in λ i. here i && rest i)
 
@@ -423,7 +423,7 @@ module _ (a : Algorithm) (sch : Schedule) (l : Lowered) (well : IsAlgorithm a) (
         let ends : list_all has_ends f.region ≡ true =
         ap (list_all has_ends) part.taken.region ∙ between_ends e.1.region (taken_region (grid_scope k.grid) ss 0 e.1.region) (taken_between (grid_scope k.grid) ss 0 e.1.region) in
         let over : (O.claim j).region ≡ f.region = ap (λ (c : Claim). c.region) claim_is ∙ is.claimed.over in
-        let told : AllByRecursion IsNearSpan f.region = subst (AllByRecursion IsNearSpan) is.claimed.over (near j (claim_of v) stands) in
+        let told : AllByRecursion IsWithinSpan f.region = subst (AllByRecursion IsWithinSpan) is.claimed.over (near j (claim_of v) stands).0 in
         let within : are_within R known.binders (O.claim j).region f.region ≡ true = ap (λ (xs : List Span1). are_within R known.binders xs f.region) over
         ∙ all_within a plan cert n known.binders f.region told in
         let folds : fold_holds R known.binders f.region f.places ≡ true = (λ t. fold_holds R known.binders (part.taken.region t) (part.taken.places t))

@@ -1,19 +1,17 @@
 -- Of functions without updates of which no loop is split, the groups have few lines, and bind few symbols.
-use Rattle.std.proofs.Common.{◌≡◌, ℕ, zero, suc, ◌+◌, ◌*◌, ◌<◌, ◌≤◌, Bool, true, false, List, [], ◌∷◌, ◌++◌, length, map, min, Option, Some, None, refl, sym, ap, ◌∙◌, subst, arith}
+use Rattle.std.proofs.Common.{◌≡◌, ℕ, zero, suc, ◌+◌, ◌*◌, ◌≤◌, Bool, true, false, List, [], ◌∷◌, ◌++◌, length, map, Some, None, refl, sym, ap, ◌∙◌, subst, arith}
 use Rattle.std.specs.Prelude.{filter, reverse, if◌then◌else◌, slice_get}
 use Rattle.std.specs.List.{AllByRecursion}
 use Rattle.std.proofs.lemmas.List.{length-append, length-map, reverse-append}
 use Rattle.lin.specs.declared.span.Span1.{Span1}
-use Rattle.lin.specs.declared.scope.Binding.{Binding}
-use Rattle.lin.proofs.TermLemmas.{all_weaker}
 use Rattle.meaning.specs.Algorithm.{Function, Algorithm}
 use Rattle.meaning.specs.Conditions.{IsAlgorithm}
 use Rattle.plan.specs.declared.plan.Group.{Group as CodeGroup}
 use Rattle.plan.specs.declared.certificate.cert.Claim.{Claim as CodeClaim}
 use Rattle.plan.specs.declared.certificate.cert.Need.{Need}
-use Rattle.plan.specs.Plan.{Statement, Seq, For, Let, First, Guard, Alloc, Fetch, Store, Publish, Statements, Empty, Then, Group, Plan, block}
+use Rattle.plan.specs.Plan.{Statement, Seq, For, Let, First, Guard, Alloc, Fetch, Store, Publish, Statements, Empty, Then, Group, block}
 use Rattle.plan.specs.View.{group_of, plan_of, statement_of}
-use Rattle.plan.specs.Lines.{lines, block_lines, groups_lines, certificate_line}
+use Rattle.plan.specs.Lines.{lines, block_lines, groups_lines}
 use Rattle.soundness.specs.Claims.{In}
 use Rattle.rules.specs.Bounding.Scopes.{most_symbols}
 use Rattle.headline.proofs.Lists.{from_map}
@@ -54,7 +52,7 @@ use Rattle.completeness.proofs.Output.{group_at}
 use Rattle.completeness.proofs.Served.{roots, made_at}
 use Rattle.completeness.proofs.Counts.{fetches_claim, nests_claim, bodies_many, few_claims}
 use Rattle.completeness.proofs.ClaimLines.{formulas_long}
-use Rattle.completeness.proofs.PlainTurns.{steps_for, IsPlain, skeleton_gridded, turn_name, itself, hits, hits_once}
+use Rattle.completeness.proofs.PlainTurns.{steps_for, IsPlain, skeleton_gridded, hits_once}
 use Rattle.completeness.proofs.PureNests.{all_from, all_in, loop_name, hits_turned, hits_named, at_most_all, all_once}
 use Rattle.completeness.proofs.UpdateTurns.{all_mapped}
 
@@ -152,7 +150,8 @@ module _ (g : StoredText) (region : List Extent) (k : SkeletonText) (laid : IsLa
       subst (λ (x : List ℕ). In x xs) name (at_in xs o.dimension leaf.variable leaf.of)) in
       let among : AllByRecursion (λ t. In t.name xs) ts = all_mapped (loop_turning rs) (λ t. In t.name xs) ls named in
       let one = at_most_all xs ts among in
-      let two = all_once xs ts (λ y. let m = hits_turned rs y ls in let n = hits_named y ls in let s = hits_once (map loop_name ls) y (owners.directed g region k laid).single in omega (arith, m, n, s)) in
+      let two = all_once xs ts (λ y.
+      let m = hits_turned rs y ls in let n = hits_named y ls in let s = hits_once (map loop_name ls) y (owners.directed g region k laid).single in omega (arith, m, n, s)) in
       let long = length-map ls (loop_turning rs) in
       omega (arith, one, two, long)
 
@@ -166,7 +165,8 @@ grid_small rs ls = (let one = of (parallel_loops ls) in let two = filter_few is_
 turns_small : (b : BodyText) (rs : List Numbers) (ls : List Loop) → b.ranges ≡ [] → length (nest_turns b rs ls) ≤ 2 * length ls
 turns_small b rs ls none =
     let part : (v : Bool) → length (nest_loops b v rs ls) ≤ length ls =
-    λ v. (let many = length-map (filter (is_in_nest b v) (reverse ls)) (loop_turning rs) in let few = filter_few (is_in_nest b v) (reverse ls) in let back = back_many ls in omega (arith, many, few, back)) in
+    λ v. (let many = length-map (filter (is_in_nest b v) (reverse ls)) (loop_turning rs) in let few = filter_few (is_in_nest b v) (reverse ls) in
+    let back = back_many ls in omega (arith, many, few, back)) in
     let first = part false in
     let last = part true in
     let ranges : length (reverse b.ranges) ≡ 0 = ap (λ (ds : List Turning). length (reverse ds)) none in
@@ -261,7 +261,8 @@ at_each P (y ∷ xs) (suc i) x h e = at_each P xs i x h.1 e
 
 module _ (a : Algorithm) (sch : Schedule) (l : Lowered) (well : IsAlgorithm a) (legal : IsLegal a sch) (small : has_large (stored_functions a sch) ≡ false)
     (kept : region_fault a (stored_functions a sch) ≡ None) (all : are_whole (stored_functions a sch) ≡ true) (groups : HasGroups a (stored_functions a sch) l)
-    (uncut : (n : ℕ) (u : StoredText) → slice_get (stored_functions a sch) n ≡ Some u → IsUncut u) (pure : (n : ℕ) (u : StoredText) → slice_get (stored_functions a sch) n ≡ Some u → u.changes ≡ []) where
+    (uncut : (n : ℕ) (u : StoredText) → slice_get (stored_functions a sch) n ≡ Some u → IsUncut u)
+    (pure : (n : ℕ) (u : StoredText) → slice_get (stored_functions a sch) n ≡ Some u → u.changes ≡ []) where
   abbrev gs : List StoredText
   gs = stored_functions a sch
 

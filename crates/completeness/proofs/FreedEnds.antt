@@ -124,7 +124,7 @@ module _ (scope : List Binding) (inner : List ℕ) where
           (all_combined-all (λ a. a ≡ number (pos 0)) (λ u. Has u us) (IsNegated fs) (negsuc 0)
           (λ a u is k. (m, nf, us, u, has, n, e, k, ap (λ (f : Form). f.constant +ℤ negsuc 0 *ℤ u.constant) is)) (number (pos 0) ∷ []) us (refl, tt) (has_all (λ u. Has u us) us (λ u k. k)))
 
-      one : (m : Form) → Has m fs → (o : Option Form) → negated m ≡ o → 
+      one : (m : Form) → Has m fs → (o : Option Form) → negated m ≡ o →
           AllIn (IsNegated fs) (option_and_then (λ bounds. multiples (negsuc 0) bounds) (option_and_then (λ n. eliminated scope inner n) o))
       one m has None q = λ xs e. absurd (cc e)
       one m has (Some nf) q = two (eliminated scope inner nf) refl

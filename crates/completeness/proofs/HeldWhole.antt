@@ -108,14 +108,14 @@ no_left_calls (o ∷ os) h = (λ i. calls_left (h.0 i) ++ flat_map calls_left os
 
 module _ (a : Algorithm) (r : AroundText) (x : List ℕ) where
   -- what the indices of one of these calls stay within
-  record IsFrom (cs : List Written) (ss : List Span1) : Type 0 where
-    place : ℕ
-    call : Written
-    there : slice_get cs place ≡ Some call
-    named : same_name call.name x ≡ true
-    added : add_spans a r call.at [] ≡ Some ss
+  pub record IsFrom (cs : List Written) (ss : List Span1) : Type 0 where
+    pub place : ℕ
+    pub call : Written
+    pub there : slice_get cs place ≡ Some call
+    pub named : same_name call.name x ≡ true
+    pub added : add_spans a r call.at [] ≡ Some ss
 
-  calls_from : (cs : List Written) (before out : List (List Span1)) → add_calls a r x cs before ≡ Some out → (ss : List Span1) → Has ss out → Has ss before ⊎ IsFrom cs ss
+  pub calls_from : (cs : List Written) (before out : List (List Span1)) → add_calls a r x cs before ≡ Some out → (ss : List Span1) → Has ss out → Has ss before ⊎ IsFrom cs ss
   calls_from [] before out e ss h = inl (subst (λ (o : List (List Span1)). Has ss o) (sym (same before out e)) h)
   calls_from (c ∷ cs) before out e ss h =
       let b = bound (add_call a r x c before) (add_calls a r x cs) out e in
@@ -193,7 +193,7 @@ module _ (a : Algorithm) (r : AroundText) (known : List ℕ → Bool) (boxes : (
   negation_over : (m nf : Form) → negated m ≡ Some nf → over m.terms → over nf.terms
   negation_over m nf e h = only_combined inner (number (pos 0)) (negsuc 0) m tt h nf e
 
-  call_held : (es : Terms) (ss : List Span1) → AreIndicesEnded a r region 0 es → AreTyped known (called a) es → add_spans a r es [] ≡ Some ss →
+  pub call_held : (es : Terms) (ss : List Span1) → AreIndicesEnded a r region 0 es → AreTyped known (called a) es → add_spans a r es [] ≡ Some ss →
       AllByRecursion (SpanOnly (Below (length r.scope))) ss → index_count es ≡ length region → (d : ℕ) (x : Extent) → slice_get region d ≡ Some x → holds_call r.scope d (whole x) ss ≡ true
   call_held es ss h g e only count d x at =
       let within = slice_get_within region d x at in
@@ -221,7 +221,7 @@ module _ (a : Algorithm) (r : AroundText) (known : List ℕ → Bool) (boxes : (
 
 -- ---- sites
 
-holds_each : (scope : List Binding) (d : ℕ) (s : Span1) (cs : List (List Span1)) → ((ss : List Span1) → Has ss cs → holds_call scope d s ss ≡ true) → holds_calls scope d s cs ≡ true
+pub holds_each : (scope : List Binding) (d : ℕ) (s : Span1) (cs : List (List Span1)) → ((ss : List Span1) → Has ss cs → holds_call scope d s ss ≡ true) → holds_calls scope d s cs ≡ true
 holds_each scope d s [] h = refl
 holds_each scope d s (c ∷ cs) h =
     ap (λ (b : Bool). if b then holds_calls scope d s cs else false) (h c (inl refl)) ∙ holds_each scope d s cs (λ ss k. h ss (inr k))
@@ -236,7 +236,7 @@ calls_there : (P : SiteText → Type 0) (scope : List Binding) (cs : List (List 
 calls_there P scope [] h ss k = absurd k
 calls_there P scope (c ∷ cs) h ss k = h.0
 
-all_has : {A : Type 0} (P : A → Type 0) (xs : List A) (x : A) → AllByRecursion P xs → Has x xs → P x
+pub all_has : {A : Type 0} (P : A → Type 0) (xs : List A) (x : A) → AllByRecursion P xs → Has x xs → P x
 all_has P [] x h k = absurd k
 all_has P (y ∷ xs) x h (inl is) = subst P (sym is) h.0
 all_has P (y ∷ xs) x h (inr k) = all_has P xs x h.1 k

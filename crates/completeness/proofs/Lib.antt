@@ -116,3 +116,4 @@ pub mod SitesAt
 pub mod UncutInside
 pub mod UncutOwn
 pub mod UncutLoads
+pub mod NearClaims

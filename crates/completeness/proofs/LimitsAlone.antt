@@ -1,40 +1,32 @@
 -- What the checker tells of a plan whose schedule splits nothing, of functions without updates, is a limit.
-use Rattle.std.proofs.Common.{◌≡◌, ℕ, suc, Bool, true, false, ◌||◌, List, [], ◌∷◌, Some, refl, sym, ap, ◌∙◌, subst}
-use Rattle.std.specs.Prelude.{ℤ, slice_get}
-use Rattle.std.specs.List.{AllByRecursion, list_any}
+use Rattle.std.proofs.Common.{◌≡◌, ℕ, suc, Bool, true, ◌||◌, List, [], ◌∷◌, Some, refl, sym, ap, ◌∙◌, subst}
+use Rattle.std.specs.Prelude.{slice_get}
+use Rattle.std.specs.List.{AllByRecursion}
 use Rattle.meaning.specs.Algorithm.{Algorithm}
-use Rattle.meaning.specs.Conditions.{IsAlgorithm}
-use Rattle.plan.specs.Plan.{Statement, Group, Plan}
-use Rattle.plan.specs.declared.stmt.Places.{Places}
+use Rattle.plan.specs.Plan.{Group, Plan}
 use Rattle.plan.specs.View.{group_of, plan_of}
 use Rattle.plan.specs.Certificate.Certificate.{Certificate, certificate_of}
-use Rattle.plan.specs.Certificate.Cells.{cell}
 use Rattle.soundness.specs.Given.{outline_of}
-use Rattle.soundness.specs.Obligations.{Binder}
-use Rattle.soundness.specs.Shown.{Nests}
 use Rattle.soundness.specs.Nests.Laws.{domains_of}
 use Rattle.rules.specs.Bounding.Rules.{rules_of}
 use Rattle.headline.specs.Numbers.{has_point}
 use Rattle.headline.proofs.Lists.{from_map}
-use Rattle.tails.specs.Windows.Nests.{folded_by, slid_nests}
+use Rattle.tails.specs.Windows.Nests.{slid_nests}
 use Rattle.tails.specs.Windows.Shown.{IsShown}
 use Rattle.sched.specs.declared.schedule.Split.{Split}
 use Rattle.sched.specs.Schedule.{Schedule}
-use Rattle.sched.specs.Legal.{IsLegal}
-use Rattle.lower.specs.declared.lowering.Lowered.{Lowered}
-use Rattle.lower.specs.Stored.{StoredText, stored_functions}
-use Rattle.lower.specs.Refused.{AreSmall, AreRegionsKept}
-use Rattle.lower.specs.Groups.{AreGroupsMade}
+use Rattle.lower.specs.Stored.{stored_functions}
 use Rattle.completeness.specs.Parted.{KeepsInner, InnersAreKept}
 use Rattle.completeness.specs.Laws.{AreSplitOnce, AreLinesTold, Stands}
-use Rattle.completeness.specs.Owed.{AreGridsFew, AreSymbolsFew}
-use Rattle.completeness.specs.Nested.{IsUncut, TakeSplit}
-use Rattle.completeness.specs.Told.{SplitsNothing, HasOutputPoints, TellsOnlyLimits, LimitsAloneAreTold}
+use Rattle.completeness.specs.Owed.{AreGridsFew, AreSymbolsFew, AreClaimsNear}
+use Rattle.completeness.specs.Nested.{TakeSplit}
+use Rattle.completeness.specs.Told.{SplitsNothing, LimitsAloneAreTold}
 use Rattle.completeness.proofs.Shared.{shared, limits as shares_limits, heads}
 use Rattle.completeness.proofs.Lines.{limits as lines_limits}
 use Rattle.completeness.proofs.OnlyLimits.{told}
 use Rattle.completeness.proofs.Served.{made_at}
 use Rattle.completeness.proofs.FewLines.{lines_told, grids_few, symbols_few}
+use Rattle.completeness.proofs.NearClaims.{claims_near}
 use Rattle.completeness.proofs.NearGroups.{near_owed}
 
 each_at : {A : Type 0} (P : A → Type 0) (xs : List A) → ((i : ℕ) (x : A) → slice_get xs i ≡ Some x → P x) → AllByRecursion P xs
@@ -57,7 +49,7 @@ module _ (a : Algorithm) (s : Schedule) (none : SplitsNothing a s) where
   once = each_at (λ g. AreSplitOnce g.placed.cuts) (stored_functions a s) (λ i g at. subst (λ (cs : List Split). AreSplitOnce cs) (sym (none.uncut i g at)) tt)
 
 pub limits_alone : LimitsAloneAreTold
-limits_alone a s l well legal small regions groups none free near =
+limits_alone a s l well legal small regions groups none free =
     let p = plan_of l.plan in
     let c = certificate_of l.certificate in
     let stands : Stands a p c = shared a s l well legal small regions groups none.whole (inners a s none) in
@@ -79,7 +71,11 @@ limits_alone a s l well legal small regions groups none free near =
     symbols : AreSymbolsFew (plan_of l.plan)
     symbols = symbols_few a s l well legal small (regions none.whole).0 none.whole groups none.uncut none.pure
 
-    shown_at : (n : ℕ) (g : Group) → slice_get (plan_of l.plan).groups n ≡ Some g → IsShown (rules_of a (plan_of l.plan) (certificate_of l.certificate) n) a (plan_of l.plan) (certificate_of l.certificate) n g
+    near : AreClaimsNear (certificate_of l.certificate)
+    near = claims_near a s l well legal small (regions none.whole).0 none.whole groups none.uncut none.near
+
+    shown_at : (n : ℕ) (g : Group) → slice_get (plan_of l.plan).groups n ≡ Some g →
+        IsShown (rules_of a (plan_of l.plan) (certificate_of l.certificate) n) a (plan_of l.plan) (certificate_of l.certificate) n g
     shown_at n g at =
         let p = plan_of l.plan in
         let c = certificate_of l.certificate in

@@ -48,7 +48,7 @@ Ends = Taken _ _ are_within
 
 -- ---- root functions have few numbers in a dimension
 
-abbrev IsFew : Extent → Type 0
+abbrev pub IsFew : Extent → Type 0
 IsFew x = x.count ≤ 8192
 
 extent_few : (o : Option Ends) (x : Extent) → extent_of true o ≡ Some x → IsFew x
@@ -98,16 +98,16 @@ boxes_bound scope i b h k =
     all-append IsBox (skip_to scope i) (b ∷ [])
     (all-append IsBox scope (replicate (i - length scope) (LoopBinding anything)) h (nothing_known (i - length scope))) (k, tt)
 
-abbrev IsBoxTurn : Turning → Type 0
+abbrev pub IsBoxTurn : Turning → Type 0
 IsBoxTurn t = (unsigned_abs t.low ≤ 32768) × (unsigned_abs t.last ≤ 32768) × (t.low ≤ℤ t.last)
 
-steps_boxes : (n : ℕ) (ts : List Turning) (scope : List Binding) → AllByRecursion IsBox scope → AllByRecursion IsBoxTurn ts → AllByRecursion IsBox (bind_steps scope (steps_for n ts))
+pub steps_boxes : (n : ℕ) (ts : List Turning) (scope : List Binding) → AllByRecursion IsBox scope → AllByRecursion IsBoxTurn ts → AllByRecursion IsBox (bind_steps scope (steps_for n ts))
 steps_boxes n [] scope h k = h
 steps_boxes n (t ∷ ts) scope h k =
     let b : Binding = LoopBinding (span t.low t.last []) in
     steps_boxes (n + 1) ts (bind scope n b) (boxes_bound scope n b h (inr (t.low, t.last, refl, k.0.0, k.0.1, k.0.2))) k.1
 
-steps_many : (n : ℕ) (ts : List Turning) (scope : List Binding) →
+pub steps_many : (n : ℕ) (ts : List Turning) (scope : List Binding) →
     (length scope ≤ length (bind_steps scope (steps_for n ts))) × ((j : ℕ) → j < length ts → n + j < length (bind_steps scope (steps_for n ts)))
 steps_many n [] scope = (omega arith, λ j lt. absurd (omega (arith, lt)))
 steps_many n (t ∷ ts) scope =
@@ -123,23 +123,23 @@ steps_many n (t ∷ ts) scope =
     of m zero here rest lt = omega (arith, here)
     of m (suc i) here rest lt = (let less = rest i (omega (arith, lt)) in omega (arith, less))
 
-abbrev KnownFits : ℕ → List Known → Type 0
+abbrev pub KnownFits : ℕ → List Known → Type 0
 KnownFits m ks = AllByRecursion (λ y. Fits m y.form) ks
 
-knowns_fit : (m n : ℕ) (ts : List Turning) → ((j : ℕ) → j < length ts → n + j < m) → KnownFits m (knowns_for n ts)
+pub knowns_fit : (m n : ℕ) (ts : List Turning) → ((j : ℕ) → j < length ts → n + j < m) → KnownFits m (knowns_for n ts)
 knowns_fit m n [] h = tt
 knowns_fit m n (t ∷ ts) h =
     let first = h 0 (omega arith) in
     ((pos 0, n, refl, omega arith, omega (arith, first)), knowns_fit m (n + 1) ts (λ j lt. let less = h (suc j) (omega (arith, lt)) in omega (arith, less)))
 
-named_fits : (m : ℕ) (ks : List Known) (x : List ℕ) → KnownFits m ks → FitsIf m (form_named ks x)
+pub named_fits : (m : ℕ) (ks : List Known) (x : List ℕ) → KnownFits m ks → FitsIf m (form_named ks x)
 named_fits m ks x h = of (form_named ks x) refl
   where
     of : (o : Option Form) → form_named ks x ≡ o → FitsIf m o
     of None e = tt
     of (Some f) e = found_all (λ y g. Fits m g) ks x f h e
 
-variables_fit : (m : ℕ) (b : BodyText) (d : ℕ) (xs : List (List ℕ)) (ks : List Known) → KnownFits m ks → AllByRecursion (FitsIf m) (variables_at b d xs ks)
+pub variables_fit : (m : ℕ) (b : BodyText) (d : ℕ) (xs : List (List ℕ)) (ks : List Known) → KnownFits m ks → AllByRecursion (FitsIf m) (variables_at b d xs ks)
 variables_fit m b d [] ks h = tt
 variables_fit m b d (x ∷ xs) ks h = (of (is_missing b d), variables_fit m b (d + 1) xs ks h)
   where
@@ -153,10 +153,10 @@ variables_fit m b d (x ∷ xs) ks h = (of (is_missing b d), variables_fit m b (d
 abbrev pub IsNearExtent : Extent → Type 0
 IsNearExtent x = unsigned_abs x.low ≤ 16384
 
-abbrev IsNearNumbers : Numbers → Type 0
+abbrev pub IsNearNumbers : Numbers → Type 0
 IsNearNumbers r = (unsigned_abs r.low ≤ 16384) × (0 < r.count) × (r.count ≤ 8192)
 
-turn_box : (rs : List Numbers) (o : Loop) → IsNearNumbers (numbers_named rs o.name) → IsBoxTurn (loop_turning rs o)
+pub turn_box : (rs : List Numbers) (o : Loop) → IsNearNumbers (numbers_named rs o.name) → IsBoxTurn (loop_turning rs o)
 turn_box rs o h = of (numbers_named rs o.name) h.0 h.1 h.2
   where
     of : (r : Numbers) → unsigned_abs r.low ≤ 16384 → 0 < r.count → r.count ≤ 8192 →
@@ -174,7 +174,7 @@ or_one_boxes (n ∷ ns) h = (count_box n h.0.0 h.0.1, of ns h.1)
     of [] k = tt
     of (m ∷ ms) k = (count_box m k.0.0 k.0.1, of ms k.1)
 
-or_one_long : (ns : List ℕ) → length ns ≤ length (grid_scope (or_one ns))
+pub or_one_long : (ns : List ℕ) → length ns ≤ length (grid_scope (or_one ns))
 or_one_long [] = omega arith
 or_one_long (n ∷ ns) = (let many = length-map ns grid_symbol in omega (arith, many))
 
@@ -183,7 +183,7 @@ pub record IsBoxed (k : SkeletonText) (w : NestText) : Type 0 where
   pub boxes : AllByRecursion IsBox (bind_steps (head_scope k) w.steps)
   pub fits : AllByRecursion (FitsIf (length (bind_steps (head_scope k) w.steps))) w.at
 
-module _ (g : StoredText) (region : List Extent) (k : SkeletonText) (laid : IsLaidBy g region k) (uncut : IsUncut g) 
+module _ (g : StoredText) (region : List Extent) (k : SkeletonText) (laid : IsLaidBy g region k) (uncut : IsUncut g)
     (near : AllByRecursion IsNearExtent region) (few : AllByRecursion IsFew region) where
   abbrev xs : List (List ℕ)
   xs = g.subject.variables
@@ -197,10 +197,10 @@ module _ (g : StoredText) (region : List Extent) (k : SkeletonText) (laid : IsLa
   abbrev rs : List Numbers
   rs = loop_numbers xs cuts region
 
-  abbrev IsNearLoop : Loop → Type 0
+  abbrev pub IsNearLoop : Loop → Type 0
   IsNearLoop o = IsNearNumbers (numbers_named rs o.name)
 
-  numbers_near : AllByRecursion (λ x. IsNearNumbers (numbers_named rs x)) xs
+  pub numbers_near : AllByRecursion (λ x. IsNearNumbers (numbers_named rs x)) xs
   numbers_near = of xs region (owners.numbers g region k laid) laid.extents near few
     where
       of : (ys : List (List ℕ)) (es : List Extent) → NumbersAre rs ys es → AllByRecursion IsExtent es → AllByRecursion IsNearExtent es → AllByRecursion IsFew es →
@@ -209,7 +209,7 @@ module _ (g : StoredText) (region : List Extent) (k : SkeletonText) (laid : IsLa
       of (y ∷ ys) [] q r n m = absurd q
       of (y ∷ ys) (e ∷ es) q r n m = (subst IsNearNumbers (sym q.0) (n.0, r.0.some, m.0), of ys es q.1 r.1 n.1 m.1)
 
-  loops_near : AllByRecursion IsNearLoop ls
+  pub loops_near : AllByRecursion IsNearLoop ls
   loops_near = all_from IsNearLoop ls (λ o m.
       let leaf : IsLeaf xs cuts o = all_in (IsLeaf xs cuts) ls o (owners.directed g region k laid).leaves m in
       let name : leaf.variable ≡ o.name = subst (λ (cs : List Split). IsEnd cs leaf.variable o.name) uncut leaf.end in
@@ -223,16 +223,16 @@ module _ (g : StoredText) (region : List Extent) (k : SkeletonText) (laid : IsLa
       subst (λ (ds : List Turning). AllByRecursion IsBoxTurn ((nest_loops b false rs ls ++ reverse ds) ++ nest_loops b true rs ls)) (sym none)
       (all-append IsBoxTurn (nest_loops b false rs ls ++ reverse []) (nest_loops b true rs ls) (all-append IsBoxTurn (nest_loops b false rs ls) (reverse []) (part false) tt) (part true))
 
-  parallel_near : AllByRecursion IsNearLoop (parallel_loops ls)
+  pub parallel_near : AllByRecursion IsNearLoop (parallel_loops ls)
   parallel_near = all_filtered is_parallel IsNearLoop IsNearLoop (λ o e h. h) ls loops_near
 
-  grid_fits : (m s : ℕ) (ms : List Loop) → AllByRecursion IsNearLoop ms → s + length ms ≤ m → KnownFits m (grid_forms rs s ms)
+  pub grid_fits : (m s : ℕ) (ms : List Loop) → AllByRecursion IsNearLoop ms → s + length ms ≤ m → KnownFits m (grid_forms rs s ms)
   grid_fits m s [] h le = tt
   grid_fits m s (o ∷ ms) h le =
       let close = h.0.0 in
       (((numbers_named rs o.name).low, s, refl, omega (arith, close), omega (arith, le)), grid_fits m (s + 1) ms h.1 (omega (arith, le)))
 
-  grid_boxes : AllByRecursion IsBox (grid_scope (piece_counts rs ls))
+  pub grid_boxes : AllByRecursion IsBox (grid_scope (piece_counts rs ls))
   grid_boxes =
       or_one_boxes (grid_counts rs (parallel_loops ls))
       (all_mapped (λ o. (numbers_named rs o.name).count) (λ n. (0 < n) × (n ≤ 8192)) (parallel_loops ls)

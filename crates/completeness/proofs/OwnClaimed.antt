@@ -47,6 +47,13 @@ all_above scope (m ∷ ms) us h near =
     let rest = all_above scope ms us h.1 near.1 in
     λ i. here i && rest i
 
+pub above_within : (scope : List Binding) (ms us : List Form) → Among ms us → AllByRecursion (λ m. is_within_limits m ≡ true) ms → list_all (λ m. list_any (λ u. at_most scope u m) us) ms ≡ true
+above_within scope [] us h near = refl
+above_within scope (m ∷ ms) us h near =
+    let here = any_self scope m us h.0 near.0 in
+    let rest = above_within scope ms us h.1 near.1 in
+    λ i. here i && rest i
+
 any_below : (scope : List Binding) (m : Form) (us : List Form) → In m us → is_within_limits m ≡ true → list_any (λ u. at_most scope m u) us ≡ true
 any_below scope m [] is limited = absurd is
 any_below scope m (u ∷ us) (inl e) limited =
@@ -63,6 +70,13 @@ all_below scope [] us h near = refl
 all_below scope (m ∷ ms) us h near =
     let here = any_below scope m us h.0 near.0.0 in
     let rest = all_below scope ms us h.1 near.1 in
+    λ i. here i && rest i
+
+pub below_within : (scope : List Binding) (ms us : List Form) → Among ms us → AllByRecursion (λ m. is_within_limits m ≡ true) ms → list_all (λ m. list_any (λ u. at_most scope m u) us) ms ≡ true
+below_within scope [] us h near = refl
+below_within scope (m ∷ ms) us h near =
+    let here = any_below scope m us h.0 near.0 in
+    let rest = below_within scope ms us h.1 near.1 in
     λ i. here i && rest i
 
 pub more_among : (ms us : List Form) (f : Form) → Among ms us → Among ms (f ∷ us)

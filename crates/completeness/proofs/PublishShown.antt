@@ -351,7 +351,7 @@ module _ (a : Algorithm) (sch : Schedule) (l : Lowered) (well : IsAlgorithm a) (
         let over : (O.claim claim).region ≡ region = ap (λ (x : Claim). x.region) claim_is ∙ says.over in
         let lay = lay_over g h.extents k in
         let some = some_numbers lay.numbers g.subject.variables h.extents (owners.numbers g h.extents k laid) laid.extents (owners.small g h.extents k laid) in
-        let told : AllByRecursion IsNearSpan region = subst (AllByRecursion IsNearSpan) says.over (near claim (claim_of v) stands) in
+        let told : AllByRecursion IsNearSpan region = subst (AllByRecursion IsNearSpan) says.over ((near claim (claim_of v) stands).1 says.buffered) in
         let inside = regions_inside a plan cert n known.binders lay g.placed.cuts (owners.cuts g h.extents k laid) g.subject.variables some told in
         let own : R.own ≡ owned_region (dimensions_of g h.extents k) = ap or_nowhere owned in
         let within : are_within R known.binders R.own (O.claim claim).region ≡ true = (λ i. are_within R known.binders (own i) (over i)) ∙ inside in

@@ -233,9 +233,15 @@ IsNearForm f = (is_within_limits f ≡ true) × (unsigned_abs f.constant ≤ 2 ^
 abbrev pub IsNearSpan : Span1 → Type 0
 IsNearSpan x = AllByRecursion IsNearForm x.lower × AllByRecursion IsNearForm x.upper
 
--- each form of a claim's region is so: under `roundup`, splits inside of splits may have claims that go farther than forms do
+-- a span's forms are within the limits of forms
+abbrev pub IsWithinSpan : Span1 → Type 0
+IsWithinSpan x = AllByRecursion (λ f. is_within_limits f ≡ true) x.lower × AllByRecursion (λ f. is_within_limits f ≡ true) x.upper
+
+-- each form of a claim's region is within the limits of forms, and of a claim of a piece's own buffer, which is the first, it is near: under `roundup`, splits inside of
+-- splits may have claims that go farther than forms do
 abbrev pub AreClaimsNear : Certificate → Type 0
-AreClaimsNear c = (i : ℕ) (k : Claim) → slice_get c.claims i ≡ Some k → AllByRecursion IsNearSpan k.region
+AreClaimsNear c =
+    (i : ℕ) (k : Claim) → slice_get c.claims i ≡ Some k → AllByRecursion IsWithinSpan k.region × (k.buffer ≡ 0 → AllByRecursion IsNearSpan k.region)
 
 -- a line `alloc` owes that its buffer is not in scope (K2)
 abbrev pub AllocLinesOweShown : Type 0

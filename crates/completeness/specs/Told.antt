@@ -28,11 +28,11 @@ use Rattle.lower.specs.Faults.{are_whole}
 use Rattle.lower.specs.Refused.{AreSmall, AreRegionsKept}
 use Rattle.lower.specs.Groups.{AreGroupsMade}
 use Rattle.completeness.specs.Laws.{NamesNoLoad}
-use Rattle.completeness.specs.Owed.{AreClaimsNear}
 use Rattle.completeness.specs.Nested.{IsUncut}
 use Rattle.completeness.specs.Stores.{IsNearRegion}
 
--- each stored function is a root function that is computed at no loop, without updates, of which no loop is split, and the region that is needed of it begins near 0
+-- each stored function is a root function that is computed at no loop, without updates, of which no loop is split, and the region that is needed of it begins
+-- near 0
 pub record SplitsNothing (a : Algorithm) (s : Schedule) : Type 0 where
   pub whole : are_whole (stored_functions a s) ≡ true
   pub uncut : (n : ℕ) (u : StoredText) → slice_get (stored_functions a s) n ≡ Some u → IsUncut u
@@ -43,9 +43,10 @@ pub record SplitsNothing (a : Algorithm) (s : Schedule) : Type 0 where
 abbrev pub HasOutputPoints : Algorithm → Plan → ℕ → Group → Type 0
 HasOutputPoints a p n g = g.function ≡ a.output → (at : List ℤ) → is_within a.output_extents at ≡ true → is_cell p (cell n at) ≡ true
 
--- all that the checker asks of the plan is so but for limits: the head is the algorithm's (no K1); what is told first of the lines of groups by names, limits and stored expressions is a limit
--- (K14); all that they owe is shown, by the checker's rules and its tests of nests (no K2, nor K4 to K8); what is told of the certificate's lines by themselves is a limit of forms (K3) or of
--- numbers (K14); what is told of the pieces' shares is a limit (K14, no K9, K10, K11); and the output's group has each point of the output (no K10)
+-- all that the checker asks of the plan is so but for limits: the head is the algorithm's (no K1); what is told first of the lines of groups by names, limits and
+-- stored expressions is a limit (K14); all that they owe is shown, by the checker's rules and its tests of nests (no K2, nor K4 to K8); what is told of the
+-- certificate's lines by themselves is a limit of forms (K3) or of numbers (K14); what is told of the pieces' shares is a limit (K14, no K9, K10, K11); and the
+-- output's group has each point of the output (no K10)
 pub record TellsOnlyLimits (a : Algorithm) (p : Plan) (c : Certificate) : Type 0 where
   pub head : (line : ℕ) → ¬ FailsHead a p line
   pub groups : (f : TextFlaw) → first_of (flaws_of_groups a p c) ≡ Some f → f.code ≡ 14
@@ -58,5 +59,4 @@ pub record TellsOnlyLimits (a : Algorithm) (p : Plan) (c : Certificate) : Type 0
 abbrev pub LimitsAloneAreTold : Type 0
 LimitsAloneAreTold =
     (a : Algorithm) (s : Schedule) (l : Lowered) → IsAlgorithm a → IsLegal a s → AreSmall a s → AreRegionsKept a s → AreGroupsMade a s l
-    → SplitsNothing a s → NamesNoLoad a → AreClaimsNear (certificate_of l.certificate)
-    → TellsOnlyLimits a (plan_of l.plan) (certificate_of l.certificate)
+    → SplitsNothing a s → NamesNoLoad a → TellsOnlyLimits a (plan_of l.plan) (certificate_of l.certificate)
