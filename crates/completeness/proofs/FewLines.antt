@@ -1,11 +1,12 @@
--- Of functions without updates of which no loop is split, the groups have few lines, and bind few symbols.
-use Rattle.std.proofs.Common.{◌≡◌, ℕ, zero, suc, ◌+◌, ◌*◌, ◌≤◌, Bool, true, false, List, [], ◌∷◌, ◌++◌, length, map, Some, None, refl, sym, ap, ◌∙◌, subst, arith}
-use Rattle.std.specs.Prelude.{filter, reverse, if◌then◌else◌, slice_get}
+-- Of functions of which no loop is split, the groups have few lines, and bind few symbols.
+use Rattle.std.proofs.Common.{◌≡◌, ℕ, zero, suc, ◌+◌, ◌*◌, ◌≤◌, Bool, true, false, List, [], ◌∷◌, ◌++◌, length, map, Option, Some, None, refl, sym, ap, ◌∙◌, subst, arith}
+use Rattle.std.specs.Prelude.{filter, reverse, take, if◌then◌else◌, slice_get}
 use Rattle.std.specs.List.{AllByRecursion}
+use Rattle.std.proofs.lemmas.List.Elements.{recursion_from_All}
 use Rattle.std.proofs.lemmas.List.{length-append, length-map, reverse-append}
 use Rattle.lin.specs.declared.span.Span1.{Span1}
-use Rattle.meaning.specs.Algorithm.{Function, Algorithm}
-use Rattle.meaning.specs.Conditions.{IsAlgorithm}
+use Rattle.meaning.specs.Algorithm.{Range, Change, Function, Algorithm}
+use Rattle.meaning.specs.Conditions.{IsUpdate, IsAlgorithm}
 use Rattle.plan.specs.declared.plan.Group.{Group as CodeGroup}
 use Rattle.plan.specs.declared.certificate.cert.Claim.{Claim as CodeClaim}
 use Rattle.plan.specs.declared.certificate.cert.Need.{Need}
@@ -18,6 +19,7 @@ use Rattle.headline.proofs.Lists.{from_map}
 use Rattle.headline.proofs.Regions.{at_in}
 use Rattle.sched.specs.Schedule.{Schedule}
 use Rattle.sched.specs.Legal.{IsLegal}
+use Rattle.sched.specs.Subjects.{reductions_of}
 use Rattle.sched.specs.Runs.{lines_to}
 use Rattle.sched.specs.declared.schedule.Split.{Split}
 use Rattle.sched.specs.declared.placing.Loop.{Loop}
@@ -27,12 +29,12 @@ use Rattle.sched.specs.declared.nest.Turning.{Turning}
 use Rattle.sched.specs.declared.skeleton.Step.{Step}
 use Rattle.sched.specs.Numbers.{numbers_named, loop_numbers, parallel_loops, grid_counts, or_one, piece_counts}
 use Rattle.sched.specs.Placing.{is_parallel}
-use Rattle.sched.specs.Skeleton.{BodyText, NestText, SkeletonText, loop_turning, is_in_nest, nest_loops, nest_turns}
+use Rattle.sched.specs.Skeleton.{range_turning, BodyText, NestText, SkeletonText, loop_turning, is_in_nest, nest_loops, nest_turns}
 use Rattle.lower.specs.declared.lowering.Lowered.{Lowered}
 use Rattle.lower.specs.Stored.{FormulaText, StoredText, flags, stored_functions, has_large}
-use Rattle.lower.specs.Around.{grid_scope}
+use Rattle.lower.specs.Around.{ranges_of, grid_scope}
 use Rattle.lower.specs.Faults.{are_whole, region_fault}
-use Rattle.lower.specs.Regions.{body_by, bodies_from}
+use Rattle.lower.specs.Regions.{bodies_from}
 use Rattle.lower.specs.Owning.{IsLaidBy}
 use Rattle.lower.specs.Loading.{Loads}
 use Rattle.lower.specs.Blocks.{dimensions_of, claimed_region, own_places}
@@ -52,9 +54,10 @@ use Rattle.completeness.proofs.Output.{group_at}
 use Rattle.completeness.proofs.Served.{roots, made_at}
 use Rattle.completeness.proofs.Counts.{fetches_claim, nests_claim, bodies_many, few_claims}
 use Rattle.completeness.proofs.ClaimLines.{formulas_long}
-use Rattle.completeness.proofs.PlainTurns.{steps_for, IsPlain, skeleton_gridded, hits_once}
+use Rattle.completeness.proofs.PlainTurns.{steps_for, skeleton_gridded, hits_once}
 use Rattle.completeness.proofs.PureNests.{all_from, all_in, loop_name, hits_turned, hits_named, at_most_all, all_once}
-use Rattle.completeness.proofs.UpdateTurns.{all_mapped}
+use Rattle.completeness.proofs.ShortNests.{AreShortNests, skeleton_short}
+use Rattle.completeness.proofs.UpdateTurns.{ranges_turned, all_mapped}
 
 -- ---- lists
 
@@ -107,30 +110,46 @@ store_below m g fs ms d w (Alloc b x seats) h = absurd h
 store_below m g fs ms d w (Fetch b x region) h = absurd h
 store_below m g fs ms d w (Publish x) h = absurd h
 
--- ---- a nest alone
+-- ---- nests
+
+product_more : (b n : ℕ) → b * suc n ≡ b + b * n
+product_more b n = grind arith
+
+product_next : (a b n : ℕ) → a + b * suc n ≡ (a + b) + b * n
+product_next a b n = (let is = product_more b n in omega (arith, is))
 
 -- the statements bind symbols before this one, and have so many lines at most
 record AreSmallHere (m most : ℕ) (xs : List Statement) : Type 0 where
   below : AllBindBelow m (block xs)
   few : block_lines (block xs) ≤ most
 
-one_nest : (m n : ℕ) (ts : List Turning) (g : StoredText) (fs : List FormulaText) (r : List Span1) (ms : Loads) (c line d : ℕ) (w : NestText) (xs : List Statement) (cs : List CodeClaim) →
-    w.steps ≡ steps_for n ts → n + length ts ≤ m → AreNests g fs r ms c line d (w ∷ []) xs cs → AreSmallHere m (2 * length ts + 1) xs
-one_nest m n ts g fs r ms c line d w xs [] steps le h = absurd h
-one_nest m n ts g fs r ms c line d w xs (claim ∷ cs) steps le h =
+nests_small : (m most top : ℕ) (ns : List NestText) → AreShortNests most top ns → top + most * length ns ≤ m → (g : StoredText) (fs : List FormulaText) (r : List Span1) (ms : Loads) (c line d : ℕ)
+    (xs : List Statement) (cs : List CodeClaim) → AreNests g fs r ms c line d ns xs cs → AreSmallHere m ((2 * most + 1) * length ns) xs
+nests_small m most top [] short le g fs r ms c line d xs cs h =
+    let none : block_lines (block xs) ≡ 0 = ap (λ (ys : List Statement). block_lines (block ys)) h.0 in
+    record { below = subst (λ (ys : List Statement). AllBindBelow m (block ys)) (sym h.0) tt; few = omega (arith, none) }
+nests_small m most top (w ∷ ns) short le g fs r ms c line d xs [] h = absurd h
+nests_small m most top (w ∷ ns) short le g fs r ms c line d xs (claim ∷ cs) h =
     let nest = h.here.nest in
+    let s = short.0 in
+    let n = s.next in
+    let ts = s.turns in
     let store = store_below m g fs ms d w nest.store nest.stores in
     let one = store.1 in
-    let last : h.others ≡ [] = h.behind.0 in
-    let are : block h.first ≡ lines_to (steps_for n ts) (Then nest.store Empty) = nest.comes ∙ ap (λ (ss : List Step). lines_to ss (Then nest.store Empty)) steps in
-    let first : AllBindBelow m (block h.first) = subst (AllBindBelow m) (sym are) (steps_below m n ts (Then nest.store Empty) le (store.0, tt)) in
+    let next : top + most * length (w ∷ ns) ≡ (top + most) + most * length ns = product_next top most (length ns) in
+    let here_under = s.under in
+    let under : n + length ts ≤ m = omega (arith, next, le, here_under) in
+    let rest = nests_small m most (top + most) ns short.1 (omega (arith, next, le)) g fs r (ms ++ (g.subject.name, c) ∷ []) (c + 1) (line + block_lines (block h.first)) (d + 1) h.others cs h.behind in
+    let are : block h.first ≡ lines_to (steps_for n ts) (Then nest.store Empty) = nest.comes ∙ ap (λ (ss : List Step). lines_to ss (Then nest.store Empty)) s.steps in
+    let first : AllBindBelow m (block h.first) = subst (AllBindBelow m) (sym are) (steps_below m n ts (Then nest.store Empty) under (store.0, tt)) in
     let many : block_lines (block h.first) ≡ 2 * length ts + block_lines (Then nest.store Empty) = ap block_lines are ∙ steps_lines n ts (Then nest.store Empty) in
-    let none : block_lines (block h.others) ≡ 0 = ap (λ (ys : List Statement). block_lines (block ys)) last in
     let both : block_lines (block xs) ≡ block_lines (block h.first) + block_lines (block h.others) = ap (λ (ys : List Statement). block_lines (block ys)) h.are ∙ lines_both h.first h.others in
+    let few_here = s.few in
+    let few_there = rest.few in
+    let more : (2 * most + 1) * length (w ∷ ns) ≡ (2 * most + 1) + (2 * most + 1) * length ns = product_more (2 * most + 1) (length ns) in
     record {
-      below = subst (λ (ys : List Statement). AllBindBelow m (block ys)) (sym h.are)
-          (all_below m h.first h.others first (subst (λ (ys : List Statement). AllBindBelow m (block ys)) (sym last) tt));
-      few = omega (arith, many, none, both, one);
+      below = subst (λ (ys : List Statement). AllBindBelow m (block ys)) (sym h.are) (all_below m h.first h.others first rest.below);
+      few = omega (arith, many, both, one, few_here, few_there, more);
     }
 
 -- ---- loops
@@ -162,30 +181,32 @@ grid_small rs ls = (let one = of (parallel_loops ls) in let two = filter_few is_
     of [] = omega arith
     of (m ∷ ms) = (let many = length-map (m ∷ ms) (λ (o : Loop). (numbers_named rs o.name).count) in omega (arith, many))
 
-turns_small : (b : BodyText) (rs : List Numbers) (ls : List Loop) → b.ranges ≡ [] → length (nest_turns b rs ls) ≤ 2 * length ls
-turns_small b rs ls none =
+turns_small : (b : BodyText) (rs : List Numbers) (ls : List Loop) → length b.ranges ≤ 3 → length (nest_turns b rs ls) ≤ 2 * length ls + 3
+turns_small b rs ls ranges =
     let part : (v : Bool) → length (nest_loops b v rs ls) ≤ length ls =
     λ v. (let many = length-map (filter (is_in_nest b v) (reverse ls)) (loop_turning rs) in let few = filter_few (is_in_nest b v) (reverse ls) in
     let back = back_many ls in omega (arith, many, few, back)) in
     let first = part false in
     let last = part true in
-    let ranges : length (reverse b.ranges) ≡ 0 = ap (λ (ds : List Turning). length (reverse ds)) none in
+    let back = back_many b.ranges in
     let one = length-append (nest_loops b false rs ls ++ reverse b.ranges) (nest_loops b true rs ls) in
     let two = length-append (nest_loops b false rs ls) (reverse b.ranges) in
-    omega (arith, first, last, ranges, one, two)
+    omega (arith, first, last, ranges, back, one, two)
 
 -- ---- bodies
 
-single : {A : Type 0} (xs : List A) → length xs ≡ 1 → (x : A) × (xs ≡ x ∷ [])
-single [] e = absurd (omega (arith, e))
-single (x ∷ []) e = (x, refl)
-single (x ∷ (y ∷ xs)) e = absurd (omega (arith, e))
-
--- a function of few loops, none of which is split, and of one definition
+-- a function of few loops, none of which is split, of few definitions, and of few reduction variables in each
 record IsSmallFunction (g : StoredText) : Type 0 where
   uncut : IsUncut g
   loops : length g.placed.loops ≤ 3
-  one : (fs : List FormulaText) → g.formulas ≡ Some fs → length fs ≡ 1
+  some : (fs : List FormulaText) → g.formulas ≡ Some fs → 1 ≤ length fs
+  few : (fs : List FormulaText) → g.formulas ≡ Some fs → length fs ≤ 5
+  reduced : g.subject.reductions ≡ reductions_of g.changes
+  ranges : (d : ℕ) → length (ranges_of g.changes d) ≤ 3
+
+each_at : {A : Type 0} (P : A → Type 0) (xs : List A) → ((i : ℕ) (x : A) → slice_get xs i ≡ Some x → P x) → AllByRecursion P xs
+each_at P [] h = tt
+each_at P (x ∷ xs) h = (h 0 x refl, each_at P xs (λ i y e. h (suc i) y e))
 
 module _ (a : Algorithm) (all : List Entry) where
   body_small : (n c line : ℕ) (g : StoredText) (p : CodeGroup) (claims : List CodeClaim) (needs : List Need) → HasBody a all n c line g p claims needs → IsSmallFunction g →
@@ -199,28 +220,26 @@ module _ (a : Algorithm) (all : List Entry) where
       let bs = bodies_from g.changes 0 g.subject.reductions fs in
       let rs : List Numbers = loop_numbers xs g.placed.cuts h.extents in
       let shape = skeleton_gridded xs bs g.placed h.extents k small.uncut h.laid in
-      let formula = single fs (small.one fs h.defined) in
       let nests = nests_long xs bs g.placed h.extents k h.laid in
       let bodies = bodies_many g.changes 0 g.subject.reductions fs in
-      let alone : length fs ≡ 1 = small.one fs h.defined in
-      let nest = single k.nests (omega (arith, nests, bodies, alone)) in
-      let w : NestText = nest.0 in
-      let q : IsPlain xs bs g.placed rs _ (length (piece_counts rs ls)) 0 w = shape.nests 0 w (ap (λ (ns : List NestText). slice_get ns 0) nest.1) in
-      let body_is : body_by [] g.subject.reductions formula.0 ≡ q.body =
-      some_same (body_by [] g.subject.reductions formula.0) q.body (ap (λ (us : List FormulaText). slice_get (bodies_from g.changes 0 g.subject.reductions us) 0) (sym formula.1) ∙ q.at) in
-      let bare : q.body.ranges ≡ [] = ap (λ (y : BodyText). y.ranges) (sym body_is) in
-      let ts : List Turning = nest_turns q.body rs ls in
+      let some : 1 ≤ length fs = small.some fs h.defined in
+      let most : length fs ≤ 5 = small.few fs h.defined in
       let loops = small.loops in
-      let turns = turns_small q.body rs ls bare in
+      let turns : AllByRecursion (λ y. length (nest_turns y rs ls) ≤ 9) bs =
+      each_at (λ y. length (nest_turns y rs ls) ≤ 9) bs (λ d y at.
+      let is = ranges_turned g.changes fs d y (ap (λ (names : List (List ℕ)). slice_get (bodies_from g.changes 0 names fs) d) (sym small.reduced) ∙ at) in
+      let count : length y.ranges ≡ length (ranges_of g.changes d) = ap length is ∙ length-map (ranges_of g.changes d) range_turning in
+      let three = small.ranges d in
+      let all_turns = turns_small y rs ls (omega (arith, count, three)) in
+      omega (arith, all_turns, loops)) in
+      let short = skeleton_short xs bs g.placed h.extents k 9 small.uncut h.laid turns in
       let grid = grid_small rs ls in
-      let begins : q.next ≡ length (piece_counts rs ls) = q.first refl in
-      let under : q.next + length ts ≤ most_symbols = omega (arith, loops, turns, grid, begins) in
+      let under : length (piece_counts rs ls) + 9 * length k.nests ≤ most_symbols = omega (arith, loops, grid, nests, bodies, most) in
       let r : List Span1 = claimed_region (dimensions_of g h.extents k) in
       let ms : Loads = loads_from c b.fetches in
       let at_claim : ℕ = c + length b.fetches in
       let at_line : ℕ = line + first_lines k + 2 * length b.fetches in
-      let here = one_nest most_symbols q.next ts g fs r ms at_claim at_line 0 w b.nests b.own q.steps under
-      (subst (λ (ns : List NestText). AreNests g fs r ms at_claim at_line 0 ns b.nests b.own) nest.1 b.nested) in
+      let here = nests_small most_symbols 9 (length (piece_counts rs ls)) k.nests short under g fs r ms at_claim at_line 0 b.nests b.own b.nested in
       let rest : List Statement = b.nests ++ Publish (last_claim c b.fetches k) ∷ [] in
       let inside : List Statement = Alloc 0 g.subject.name (own_places (dimensions_of g h.extents k)) ∷ with_fetches b.fetches rest in
       let is : statement_of p.body ≡ Seq (block inside) = b.with.is ∙ ap (λ (ss : List Step). Seq (lines_to ss (block inside))) shape.head in
@@ -233,7 +252,7 @@ module _ (a : Algorithm) (all : List Entry) where
       let one = fetches_claim (sites_of a g fs k) (grid_scope k.grid) n 1 (line + first_lines k) (fetched_groups fs n 0 all) b.fetches needs b.fetched b.fetching in
       let two = nests_claim g fs r ms at_claim at_line 0 k.nests b.nests b.own b.nested in
       let claimed = ap length b.claimed ∙ length-append b.fetched b.own in
-      (subst (BindBelow most_symbols) (sym is) below, omega (arith, few, both, fetched, all_lines, one, two, claimed, nests, bodies, alone, loops, turns))
+      (subst (BindBelow most_symbols) (sym is) below, omega (arith, few, both, fetched, all_lines, one, two, claimed, nests, bodies, some))
 
   bodies_small : (n c line : ℕ) (gs : List StoredText) (ps : List CodeGroup) (claims : List CodeClaim) (needs : List Need) → HaveBodies a all n c line gs ps claims needs →
       AllByRecursion IsSmallFunction gs → AllByRecursion (λ p. BindBelow most_symbols (statement_of p.body)) ps × (groups_lines (map group_of ps) ≤ 22 * length claims)
@@ -250,19 +269,26 @@ module _ (a : Algorithm) (all : List Entry) where
 
 -- ---- plans
 
-each_at : {A : Type 0} (P : A → Type 0) (xs : List A) → ((i : ℕ) (x : A) → slice_get xs i ≡ Some x → P x) → AllByRecursion P xs
-each_at P [] h = tt
-each_at P (x ∷ xs) h = (h 0 x refl, each_at P xs (λ i y e. h (suc i) y e))
-
 at_each : {A : Type 0} (P : A → Type 0) (xs : List A) (i : ℕ) (x : A) → AllByRecursion P xs → slice_get xs i ≡ Some x → P x
 at_each P [] i x h e = absurd (cc e)
 at_each P (y ∷ xs) zero x h e = subst P (some_same y x e) h.0
 at_each P (y ∷ xs) (suc i) x h e = at_each P xs i x h.1 e
 
+-- an update has few reduction variables
+abbrev ranges_in : Option Change → List Range
+ranges_in o = elim o [ Some u ↦ u.ranges | None ↦ [] ]
+
+ranges_few : (a : Algorithm) (before : List Function) (f : Function) (d : ℕ) → AllByRecursion (IsUpdate a before f) f.changes → length (ranges_of f.changes d) ≤ 3
+ranges_few a before f zero h = omega arith
+ranges_few a before f (suc i) h = of (slice_get f.changes i) refl
+  where
+    of : (o : Option Change) → slice_get f.changes i ≡ o → length (ranges_in o) ≤ 3
+    of None e = omega arith
+    of (Some u) e = (let is = at_each (IsUpdate a before f) f.changes i u h e in is.domain.few)
+
 module _ (a : Algorithm) (sch : Schedule) (l : Lowered) (well : IsAlgorithm a) (legal : IsLegal a sch) (small : has_large (stored_functions a sch) ≡ false)
     (kept : region_fault a (stored_functions a sch) ≡ None) (all : are_whole (stored_functions a sch) ≡ true) (groups : HasGroups a (stored_functions a sch) l)
-    (uncut : (n : ℕ) (u : StoredText) → slice_get (stored_functions a sch) n ≡ Some u → IsUncut u)
-    (pure : (n : ℕ) (u : StoredText) → slice_get (stored_functions a sch) n ≡ Some u → u.changes ≡ []) where
+    (uncut : (n : ℕ) (u : StoredText) → slice_get (stored_functions a sch) n ≡ Some u → IsUncut u) where
   abbrev gs : List StoredText
   gs = stored_functions a sch
 
@@ -279,12 +305,20 @@ module _ (a : Algorithm) (sch : Schedule) (l : Lowered) (well : IsAlgorithm a) (
       let laid : IsLaidBy u me.laid.region me.laid.skeleton = subst (λ (y : StoredText). IsLaidBy y me.laid.region me.laid.skeleton) stored me.laid_by in
       let loops = loops_few u me.laid.region me.laid.skeleton laid (uncut n u at) in
       let variables : length u.subject.variables ≡ length f.variables = ap (λ (y : StoredText). length y.subject.variables) w.is in
-      let few = (well.functions w.place f w.at).few in
-      let changes : length f.changes ≡ 0 = ap (λ (y : StoredText). length y.changes) (sym w.is) ∙ ap length (pure n u at) in
+      let is_function = well.functions w.place f w.at in
+      let few = is_function.few in
+      let four = is_function.few_updates in
+      let long : (fs : List FormulaText) → u.formulas ≡ Some fs → length fs ≡ suc (length f.changes) =
+      λ fs e. formulas_long a st f.variables f.value f.changes fs (ap (λ (y : StoredText). y.formulas) (sym w.is) ∙ e) in
+      let updates = recursion_from_All (IsUpdate a (take w.place a.functions) f) f.changes is_function.updates in
+      let three : (d : ℕ) → length (ranges_of f.changes d) ≤ 3 = λ d. ranges_few a (take w.place a.functions) f d updates in
       record {
         uncut = uncut n u at;
         loops = omega (arith, loops, variables, few);
-        one = λ fs e. (let many = formulas_long a st f.variables f.value f.changes fs (ap (λ (y : StoredText). y.formulas) (sym w.is) ∙ e) in omega (arith, many, changes));
+        some = λ fs e. (let many = long fs e in omega (arith, many));
+        few = λ fs e. (let many = long fs e in omega (arith, many, four));
+        reduced = ap (λ (y : StoredText). y.subject.reductions) w.is ∙ sym (ap (λ (y : StoredText). reductions_of y.changes) w.is);
+        ranges = λ d. subst (λ (y : StoredText). length (ranges_of y.changes d) ≤ 3) (sym w.is) (three d);
       })
 
   all_small : AllByRecursion (λ p. BindBelow most_symbols (statement_of p.body)) l.plan.groups.items × (groups_lines (map group_of l.plan.groups.items) ≤ 22 * length l.certificate.claims.items)

@@ -117,3 +117,9 @@ pub mod UncutInside
 pub mod UncutOwn
 pub mod UncutLoads
 pub mod NearClaims
+pub mod CertLimits
+pub mod HeldAll
+pub mod NearPlaced
+pub mod NeedForms
+pub mod RangedBoxes
+pub mod ShortNests

@@ -1,4 +1,4 @@
--- What the checker tells of a plan whose schedule splits nothing, of functions without updates, is a limit.
+-- What the checker tells of a plan whose schedule splits nothing, of functions whose updates set each variable at its own place, is a limit.
 use Rattle.std.proofs.Common.{◌≡◌, ℕ, suc, Bool, true, ◌||◌, List, [], ◌∷◌, Some, refl, sym, ap, ◌∙◌, subst}
 use Rattle.std.specs.Prelude.{slice_get}
 use Rattle.std.specs.List.{AllByRecursion}
@@ -22,12 +22,12 @@ use Rattle.completeness.specs.Owed.{AreGridsFew, AreSymbolsFew, AreClaimsNear}
 use Rattle.completeness.specs.Nested.{TakeSplit}
 use Rattle.completeness.specs.Told.{SplitsNothing, LimitsAloneAreTold}
 use Rattle.completeness.proofs.Shared.{shared, limits as shares_limits, heads}
-use Rattle.completeness.proofs.Lines.{limits as lines_limits}
+use Rattle.completeness.proofs.CertLimits.{certificate_limits}
 use Rattle.completeness.proofs.OnlyLimits.{told}
 use Rattle.completeness.proofs.Served.{made_at}
 use Rattle.completeness.proofs.FewLines.{lines_told, grids_few, symbols_few}
 use Rattle.completeness.proofs.NearClaims.{claims_near}
-use Rattle.completeness.proofs.NearGroups.{near_owed}
+use Rattle.completeness.proofs.NearPlaced.{near_placed_owed}
 
 each_at : {A : Type 0} (P : A → Type 0) (xs : List A) → ((i : ℕ) (x : A) → slice_get xs i ≡ Some x → P x) → AllByRecursion P xs
 each_at P [] h = tt
@@ -57,19 +57,19 @@ limits_alone a s l well legal small regions groups none free =
       head = λ line. heads a p c line stands;
       groups = told a s l well legal small regions groups none.whole free lines_stand (once a s none);
       shown = λ n g at. shown_at n g at;
-      certificate = lines_limits a p c stands;
+      certificate = certificate_limits a s l well legal small (regions none.whole).0 none.whole groups none.uncut none.near stands.lines;
       shares = λ f. shares_limits a p c f stands;
       output = λ n g at is q within. ap (λ (o : _). has_point o q) at ∙ stands.output.inside n g at is q within;
     }
   where
     lines_stand : AreLinesTold (plan_of l.plan)
-    lines_stand = lines_told a s l well legal small (regions none.whole).0 none.whole groups none.uncut none.pure
+    lines_stand = lines_told a s l well legal small (regions none.whole).0 none.whole groups none.uncut
 
     grids : AreGridsFew (plan_of l.plan)
-    grids = grids_few a s l well legal small (regions none.whole).0 none.whole groups none.uncut none.pure
+    grids = grids_few a s l well legal small (regions none.whole).0 none.whole groups none.uncut
 
     symbols : AreSymbolsFew (plan_of l.plan)
-    symbols = symbols_few a s l well legal small (regions none.whole).0 none.whole groups none.uncut none.pure
+    symbols = symbols_few a s l well legal small (regions none.whole).0 none.whole groups none.uncut
 
     near : AreClaimsNear (certificate_of l.certificate)
     near = claims_near a s l well legal small (regions none.whole).0 none.whole groups none.uncut none.near
@@ -81,5 +81,5 @@ limits_alone a s l well legal small regions groups none free =
         let c = certificate_of l.certificate in
         let x = from_map group_of l.plan.groups.items n g at in
         let me = made_at a s l well legal small (regions none.whole).0 none.whole groups n x.0 x.1 in
-        near_owed a s l well legal small regions groups none.whole free lines_stand grids symbols near n g at me.stored me.is (none.uncut n me.stored me.is) (none.pure n me.stored me.is)
-        me.laid me.found (none.near n me.laid me.found) (slid_nests (outline_of p c n g) (rules_of a p c n) (domains_of a)) (slid_take a p c n g)
+        near_placed_owed a s l well legal small regions groups none.whole free lines_stand grids symbols near n g at me.stored me.is (none.uncut n me.stored me.is) me.formulas me.defined
+        (none.placed n me.stored me.is me.formulas me.defined) me.laid me.found (none.near n me.laid me.found) (slid_nests (outline_of p c n g) (rules_of a p c n) (domains_of a)) (slid_take a p c n g)

@@ -37,7 +37,7 @@ use Rattle.lower.specs.Faults.{are_whole, region_fault}
 use Rattle.lower.specs.Regions.{LaidText, bodies_from, laid_functions}
 use Rattle.lower.specs.Owning.{IsLaidBy}
 use Rattle.lower.specs.Loading.{Loads}
-use Rattle.lower.specs.Blocks.{LayText, Whole, difference, multiple_from, is_parallel_named, alone_by, lay_over, dimension_by, dimension_of, dimensions_of, claimed_region}
+use Rattle.lower.specs.Blocks.{LayText, Whole, difference, multiple_from, is_parallel_named, alone_by, lay_over, dimension_by, dimension_of, dimensions_of, owned_region, claimed_region}
 use Rattle.lower.specs.Bodies.{AreNests, first_lines}
 use Rattle.lower.specs.Taken.{sites_of, taken_region}
 use Rattle.lower.specs.Fetches.{Entry, FetchText, IsPart, AreFetched, fetched_groups, loads_from}
@@ -130,9 +130,29 @@ module _ (g : StoredText) (region : List Extent) (k : SkeletonText) (laid : IsLa
       each [] h = tt
       each (y ∷ ys) h = (claim_near y h.0, each ys h.1)
 
+  owned_near : (x : List ℕ) → IsNearNumbers (numbers_named rs x) → IsNearSpan (dimension_of lay [] x).own
+  owned_near x h = of (is_parallel_named lay x)
+    where
+      by : (o : Option Form) → form_named k.known x ≡ o → IsNearSpan (dimension_by lay x [] (alone_by o)).own
+      by None q = whole_near x h
+      by (Some f) q =
+          let fit : Fits m f = found_all (λ y c. Fits m c) k.known x f known_fits q in
+          subst IsNearSpan (sym (λ j. record { lower = f ∷ []; upper = up_none m f fit j ∷ [] })) (exactly_near f (form_near m f fit))
+
+      of : (v : Bool) → IsNearSpan (dimension_by lay x [] (if v then alone_by (form_named k.known x) else Whole)).own
+      of true = by (form_named k.known x) refl
+      of false = whole_near x h
+
+  pub region_near : AllByRecursion IsNearSpan (owned_region (dimensions_of g region k))
+  region_near = subst (λ (cs : List Split). AllByRecursion IsNearSpan (owned_region (map (dimension_of lay cs) xs))) (sym uncut) (each xs (numbers_near g region k laid uncut near few))
+    where
+      each : (ys : List (List ℕ)) → AllByRecursion (λ x. IsNearNumbers (numbers_named rs x)) ys → AllByRecursion IsNearSpan (owned_region (map (dimension_of lay []) ys))
+      each [] h = tt
+      each (y ∷ ys) h = (owned_near y h.0, each ys h.1)
+
 -- ---- all claims
 
-span_within : (x : Span1) → IsNearSpan x → IsWithinSpan x
+pub span_within : (x : Span1) → IsNearSpan x → IsWithinSpan x
 span_within x h =
     (all_weaker IsNearForm (λ f. is_within_limits f ≡ true) (λ f k. k.0) x.lower h.0, all_weaker IsNearForm (λ f. is_within_limits f ≡ true) (λ f k. k.0) x.upper h.1)
 

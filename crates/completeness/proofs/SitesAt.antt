@@ -57,7 +57,7 @@ module _ (a : Algorithm) (g : StoredText) (outer : List Binding) where
       pub added : add_calls a known x (calls_in u) [] ≡ Some calls
       pub site : (ss : List Span1) → Has ss calls → Has (record { scope = known.scope; calls = calls }) out
 
-    one_site : (scope : List Binding) (cs : List (List Span1)) (before : List SiteText) (ss : List Span1) → Has ss cs → Has (record { scope = scope; calls = cs }) (with_site scope cs before)
+    pub one_site : (scope : List Binding) (cs : List (List Span1)) (before : List SiteText) (ss : List Span1) → Has ss cs → Has (record { scope = scope; calls = cs }) (with_site scope cs before)
     one_site scope [] before ss h = absurd h
     one_site scope (c ∷ cs) before ss h = has_last (record { scope = scope; calls = c ∷ cs }) before
 

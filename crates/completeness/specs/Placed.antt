@@ -26,7 +26,7 @@ use Rattle.lower.specs.Groups.{AreGroupsMade}
 use Rattle.completeness.specs.Laws.{IsStore, AreLinesTold, NamesNoLoad}
 use Rattle.completeness.specs.Owed.{EachLine, IsNameTest, AreGridsFew, AreSymbolsFew, AreClaimsNear}
 use Rattle.completeness.specs.Nested.{IsUncut, TakeSplit}
-use Rattle.completeness.specs.Stores.{AreHeld, GroupShown}
+use Rattle.completeness.specs.Stores.{AreHeld, GroupShown, IsNearRegion}
 
 -- a store of which each index of the left side is a form, as those of pure definitions are, and those of updates that set each variable at its own place
 abbrev pub IsPlacedStore : Outline → Statement → Type 0
@@ -111,3 +111,13 @@ PlacedGroupsOweShown =
     → (n : ℕ) (g : Group) → slice_get (plan_of l.plan).groups n ≡ Some g → (u : StoredText) → slice_get (stored_functions a s) n ≡ Some u → IsUncut u
     → (fs : List FormulaText) → u.formulas ≡ Some fs → ArePlaced fs → (r : LaidText) → slice_get (laid_functions a (stored_functions a s)) n ≡ Some (Some r)
     → AreHeld a (stored_functions a s) n u fs r.skeleton → GroupShown TakeSplit a (plan_of l.plan) (certificate_of l.certificate) n g
+
+-- so it is, whatever such a function fetches, where its region begins near 0
+abbrev pub NearPlacedGroupsOweShown : Type 0
+NearPlacedGroupsOweShown =
+    (a : Algorithm) (s : Schedule) (l : Lowered) → IsAlgorithm a → IsLegal a s → AreSmall a s → AreRegionsKept a s → AreGroupsMade a s l
+    → are_whole (stored_functions a s) ≡ true → NamesNoLoad a → AreLinesTold (plan_of l.plan) → AreGridsFew (plan_of l.plan) → AreSymbolsFew (plan_of l.plan)
+    → AreClaimsNear (certificate_of l.certificate)
+    → (n : ℕ) (g : Group) → slice_get (plan_of l.plan).groups n ≡ Some g → (u : StoredText) → slice_get (stored_functions a s) n ≡ Some u → IsUncut u
+    → (fs : List FormulaText) → u.formulas ≡ Some fs → ArePlaced fs → (r : LaidText) → slice_get (laid_functions a (stored_functions a s)) n ≡ Some (Some r)
+    → IsNearRegion r.region → GroupShown TakeSplit a (plan_of l.plan) (certificate_of l.certificate) n g

@@ -1,5 +1,5 @@
--- What the checker tells of a plan whose schedule splits no loop, of an algorithm whose stored functions have no updates, is a limit.
-use Rattle.std.specs.Prelude.{◌≡◌, ◌⊎◌, ℕ, ℤ, true, List, [], Some, slice_get}
+-- What the checker tells of a plan whose schedule splits no loop, of an algorithm whose updates set each variable at its own place, is a limit.
+use Rattle.std.specs.Prelude.{◌≡◌, ℕ, ℤ, true, List, Some, slice_get}
 use Rattle.std.specs.List.{AllByRecursion}
 use Rattle.meaning.specs.Image.Raster.{is_within}
 use Rattle.meaning.specs.Algorithm.{Algorithm}
@@ -22,7 +22,7 @@ use Rattle.validation.specs.Groups.Lines.{flaws_of_groups}
 use Rattle.sched.specs.Schedule.{Schedule}
 use Rattle.sched.specs.Legal.{IsLegal}
 use Rattle.lower.specs.declared.lowering.Lowered.{Lowered}
-use Rattle.lower.specs.Stored.{StoredText, stored_functions}
+use Rattle.lower.specs.Stored.{FormulaText, StoredText, stored_functions}
 use Rattle.lower.specs.Regions.{LaidText, laid_functions}
 use Rattle.lower.specs.Faults.{are_whole}
 use Rattle.lower.specs.Refused.{AreSmall, AreRegionsKept}
@@ -30,33 +30,38 @@ use Rattle.lower.specs.Groups.{AreGroupsMade}
 use Rattle.completeness.specs.Laws.{NamesNoLoad}
 use Rattle.completeness.specs.Nested.{IsUncut}
 use Rattle.completeness.specs.Stores.{IsNearRegion}
+use Rattle.completeness.specs.Placed.{ArePlaced}
 
--- each stored function is a root function that is computed at no loop, without updates, of which no loop is split, and the region that is needed of it begins
--- near 0
+-- each stored function is a root function that is computed at no loop, of which no loop is split; its updates set each variable at its own place, and the
+-- region that is needed of it begins near 0
 pub record SplitsNothing (a : Algorithm) (s : Schedule) : Type 0 where
   pub whole : are_whole (stored_functions a s) ≡ true
   pub uncut : (n : ℕ) (u : StoredText) → slice_get (stored_functions a s) n ≡ Some u → IsUncut u
-  pub pure : (n : ℕ) (u : StoredText) → slice_get (stored_functions a s) n ≡ Some u → u.changes ≡ []
+  pub placed : (n : ℕ) (u : StoredText) → slice_get (stored_functions a s) n ≡ Some u → (fs : List FormulaText) → u.formulas ≡ Some fs → ArePlaced fs
   pub near : (n : ℕ) (r : LaidText) → slice_get (laid_functions a (stored_functions a s)) n ≡ Some (Some r) → IsNearRegion r.region
 
 -- the group of this number is not the output's, or has each point of it
 abbrev pub HasOutputPoints : Algorithm → Plan → ℕ → Group → Type 0
 HasOutputPoints a p n g = g.function ≡ a.output → (at : List ℤ) → is_within a.output_extents at ≡ true → is_cell p (cell n at) ≡ true
 
--- all that the checker asks of the plan is so but for limits: the head is the algorithm's (no K1); what is told first of the lines of groups by names, limits and
--- stored expressions is a limit (K14); all that they owe is shown, by the checker's rules and its tests of nests (no K2, nor K4 to K8); what is told of the
--- certificate's lines by themselves is a limit of forms (K3) or of numbers (K14); what is told of the pieces' shares is a limit (K14, no K9, K10, K11); and the
--- output's group has each point of the output (no K10)
+-- all that the checker asks of the plan is so but for limits: the head is the algorithm's (no K1); what is told first of the lines of groups by names, limits
+-- and stored expressions is a limit (K14); all that they owe is shown, by the checker's rules and its tests of nests (no K2, nor K4 to K8); what is told of the
+-- certificate's lines by themselves is a limit, too (no K2, K3, K8, K10), and so is what is told of the pieces' shares (no K9, K10, K11); and the output's
+-- group has each point of the output (no K10)
 pub record TellsOnlyLimits (a : Algorithm) (p : Plan) (c : Certificate) : Type 0 where
   pub head : (line : ℕ) → ¬ FailsHead a p line
   pub groups : (f : TextFlaw) → first_of (flaws_of_groups a p c) ≡ Some f → f.code ≡ 14
   pub shown : (n : ℕ) (g : Group) → slice_get p.groups n ≡ Some g → IsShown (rules_of a p c n) a p c n g
-  pub certificate : AllByRecursion (λ f. (f.code ≡ 3) ⊎ (f.code ≡ 14)) (flaws_of_certificate a p c)
+  pub certificate : AllByRecursion (λ f. f.code ≡ 14) (flaws_of_certificate a p c)
   pub shares : (f : Flaw) → ErrorMeans p c (SharesFlaw f) → f.code ≡ K14
   pub output : (n : ℕ) (g : Group) → slice_get p.groups n ≡ Some g → HasOutputPoints a p n g
 
--- so it is of the plan that is made of such a schedule
+-- so it is of the plan that is made of such a schedule, where no name reads as a load
+abbrev pub TellsLimitsAlone : Algorithm → Schedule → Lowered → Type 0
+TellsLimitsAlone a s l = SplitsNothing a s → NamesNoLoad a → TellsOnlyLimits a (plan_of l.plan) (certificate_of l.certificate)
+
+-- whatever the schedule is, by what `lower` says of its plan
 abbrev pub LimitsAloneAreTold : Type 0
 LimitsAloneAreTold =
     (a : Algorithm) (s : Schedule) (l : Lowered) → IsAlgorithm a → IsLegal a s → AreSmall a s → AreRegionsKept a s → AreGroupsMade a s l
-    → SplitsNothing a s → NamesNoLoad a → TellsOnlyLimits a (plan_of l.plan) (certificate_of l.certificate)
+    → TellsLimitsAlone a s l

@@ -1,6 +1,6 @@
 //! Laws of what stores owe the checker of the points where they store, in plans that `lower` makes.
 
-ghost use Rattle.completeness.specs.Placed.{LoadsAreLeft, PlacedGroupsOweShown, PointsAreShown};
+ghost use Rattle.completeness.specs.Placed.{LoadsAreLeft, NearPlacedGroupsOweShown, PlacedGroupsOweShown, PointsAreShown};
 
 /// Of a schedule under which each stored function is a root function that is computed at no loop, and a function of which no loop is split, whichever are parallel: of each
 /// store whose left indices are forms, pure definitions' and those of updates that set each variable at its own place, it is shown that the point where it stores has a
@@ -22,4 +22,11 @@ pub fn loads_are_left()
 /// nor K7 is told of them. An update's calls of its own function are of the point where it stores, which has a place and lies in the regions of the claims.
 pub fn placed_groups_owe_shown()
     ensures { PlacedGroupsOweShown }
+{}
+
+/// So it is, whatever such a function fetches, where the region that is needed of it begins within 2^14 of 0 in each dimension: the numbers of its loops, those of
+/// reduction variables as well, are then within 2^15, and over such loops the checker's search finds of each index of each definition the ends by which `lower` told
+/// the regions of the functions that it calls.
+pub fn near_placed_groups_owe_shown()
+    ensures { NearPlacedGroupsOweShown }
 {}
