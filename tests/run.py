@@ -89,9 +89,10 @@ def content(value):
 
 
 def merged(base, row):
-    """What a row says, where the case says the rest; files and other lists by name are joined."""
+    """What a row says, where the case says the rest; files by name are joined, and all of a stream replaces its beginning."""
     says = {key: value for key, value in base.items() if key not in ("rows", "about")}
     for key, value in row.items():
+        says.pop(f"{key}_begins", None)
         both = isinstance(value, dict) and isinstance(says.get(key), dict)
         says[key] = {**says[key], **value} if both else value
     return says

@@ -19,3 +19,4 @@ pub mod Named
 pub mod Placed
 pub mod Small
 pub mod Whole
+pub mod Words

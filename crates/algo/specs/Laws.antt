@@ -1,4 +1,4 @@
--- Laws of refusals.
+-- Laws of refusals and of names.
 use Rattle.std.specs.Prelude.{◌≡◌, ℕ, List}
 use Rattle.tree.specs.declared.token.span.Span.{Span}
 use Rattle.tree.specs.Term.{Term}
@@ -6,14 +6,16 @@ use Rattle.expr.specs.declared.statements.statement.File.{File}
 use Rattle.expr.specs.Statements.Text.{FileText}
 use Rattle.expr.specs.Statements.Grammar.{IsTextOf}
 use Rattle.expr.specs.Statements.View.{file_text}
+use Rattle.meaning.specs.Algorithm.{Algorithm}
 use Rattle.algo.specs.declared.error.Code.TheVariants.{LaterCall}
 use Rattle.algo.specs.declared.error.AlgoError.{AlgoError}
 use Rattle.algo.specs.declared.error.AlgoError.TheVariants.{Memory, Refused}
 use Rattle.algo.specs.Saying.{IsWellFormed}
 use Rattle.algo.specs.Keeping.{FileBreaks}
 use Rattle.algo.specs.Faults.{TellsOfFile}
-use Rattle.algo.specs.Refusal.{IsRefusedText, IsRefusedPlace, IsNoAlgorithm}
+use Rattle.algo.specs.Refusal.{IsRefusedText, IsRefusedPlace, IsNoAlgorithm, IsAlgorithmText}
 use Rattle.algo.specs.Calls.{LaterCallAt}
+use Rattle.algo.specs.Words.{IsNamed}
 
 -- a well-formed file keeps each condition that a refusal can name
 abbrev pub WellFormedBreaksNothing : Type 0
@@ -30,3 +32,7 @@ RefusedIsNoAlgorithm = (text : List ℕ) (e : AlgoError) → IsRefusedText text 
 -- where a text is refused for a call of a function that is not declared before, the bytes at the place are the name of such a call
 abbrev pub LaterCallsAreNamed : Type 0
 LaterCallsAreNamed = (text : List ℕ) (at : Span) → IsRefusedPlace text (Refused LaterCall at) → (file : File) × IsTextOf text (file_text file) × LaterCallAt text file at
+
+-- the names of an algorithm that was read are words of its text: letters, digits and `_`, the first no digit, at most 16 of them, no type and no word of the grammar
+abbrev pub NamesAreWords : Type 0
+NamesAreWords = (text : List ℕ) (a : Algorithm) → IsAlgorithmText text a → IsNamed a

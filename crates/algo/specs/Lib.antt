@@ -10,3 +10,4 @@ pub mod Parts
 pub mod Refusal
 pub mod Saying
 pub mod View
+pub mod Words

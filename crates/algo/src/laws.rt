@@ -1,6 +1,6 @@
 //! Laws, each the contract of a function that does nothing.
 
-ghost use Rattle.algo.specs.Laws.{ToldBreaks, WellFormedBreaksNothing, RefusedIsNoAlgorithm, LaterCallsAreNamed};
+ghost use Rattle.algo.specs.Laws.{ToldBreaks, WellFormedBreaksNothing, RefusedIsNoAlgorithm, LaterCallsAreNamed, NamesAreWords};
 
 /// A fault that is told at its place breaks the condition of its code.
 pub fn told_faults_break_conditions()
@@ -20,4 +20,10 @@ pub fn refused_is_no_algorithm()
 /// The bytes of the text where a later call is refused are its name.
 pub fn later_calls_are_named()
     ensures { LaterCallsAreNamed }
+{}
+
+/// The names of an algorithm text are words: 1 to 16 letters, digits and `_`, the first of them no digit, that are no type
+/// and no word of the grammar.
+pub fn names_are_words()
+    ensures { NamesAreWords }
 {}

@@ -7,7 +7,7 @@ ghost use Rattle.cert.specs.Order as order;
 use plan::certificate::{Claim, Need, Own, Window};
 
 /// A line of a certificate.
-#[derive(Debug, Drop)]
+#[derive(Drop)]
 pub(crate) enum Line {
     Head,
     Own(Own),
@@ -19,7 +19,7 @@ pub(crate) enum Line {
 }
 
 /// What of a line decides which lines may follow it.
-#[derive(Clone, Copy, Debug, PartialEq, Eq, Drop)]
+#[derive(Clone, Copy, PartialEq, Eq, Drop)]
 pub(crate) enum Mark {
     /// There is no line yet.
     Start,

@@ -15,4 +15,5 @@ mod Prepared
 mod Rooms
 mod Samples
 mod Sides
+pub mod Sourced
 mod Tiled

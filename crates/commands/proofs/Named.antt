@@ -1,12 +1,14 @@
 -- What the words name.
-use Rattle.std.proofs.Common.{◌≡◌, refl, Bool, Option, None, Some, option_and_then, option_map, true, codes, arith}
+use Rattle.std.proofs.Common.{◌≡◌, ◌∙◌, ◌⊎◌, inl, inr, refl, sym, Bool, List, Option, None, Some, option_and_then, option_map, true, codes, arith}
+use Rattle.clap.specs.declared.error.Error.{Error}
+use Rattle.clap.specs.declared.error.kind.ErrorKind.TheVariants.{OutOfMemory, ValueValidation}
 use Rattle.clap.specs.declared.parser.matches.Found.{Found}
-use Rattle.clap.specs.Words.{Text, first_value, is_simple, is_simple_and_free, matched_of, raw_values, rows_of}
+use Rattle.clap.specs.Words.{Text, first_value, is_simple, is_simple_and_free, kind_of, matched_of, raw_values, rows_of}
 use Rattle.clap.proofs.OnLiterals.{clap_on_literals}
 use Rattle.clap.proofs.WalkLemmas.{first_value-rows, raw_values-rows}
-use Rattle.commands.specs.Asked.{AskedWay, Plain}
+use Rattle.commands.specs.Asked.{Asked, AskedWay, Plain}
 use Rattle.commands.specs.Line.{all_three, both as both_words, check_in, compare_in, compile_in, draw_in, evaluations_in, explain_in, format_in, is_set, line, by_workers, picture_in, plain_in, replay_in, run_in, stores_in, to_compare, to_compile, to_draw, to_explain, to_format, with_order, workers_in}
-use Rattle.commands.specs.Line.{crop_in, rect_in, side_in, tiles_in, to_crop, to_rect, to_tiles}
+use Rattle.commands.specs.Line.{FailsFor, asked, crop_in, rect_in, side_in, tiles_in, to_crop, to_rect, to_tiles}
 
 pub picture_as : (way : AskedWay) (f : Found) → picture_in way (rows_of f) ≡ all_three way (first_value f (codes "ALG")) (first_value f (codes "IN")) (first_value f (codes "OUT"))
 picture_as way f = rw (first_value-rows f (codes "ALG"), first_value-rows f (codes "IN"), first_value-rows f (codes "OUT")) refl
@@ -68,3 +70,9 @@ line_is_free = refl
 pub line_is_simple : is_simple line ≡ true
 unfolding clap_on_literals
 line_is_simple = refl
+
+-- why words ask for no command, of which so much is found
+pub fails_for : (words : List Text) (error : Error) (found : Option Asked) → found ≡ asked words
+    → (kind_of error ≡ OutOfMemory) ⊎ ((kind_of error ≡ ValueValidation) × (found ≡ None)) → FailsFor words error
+fails_for words error found is (inl memory) = inl (inl memory)
+fails_for words error found is (inr (kind, none)) = inr (kind, sym is ∙ none)

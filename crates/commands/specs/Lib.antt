@@ -4,6 +4,7 @@ pub mod Asked
 pub mod Crops
 pub mod Tilings
 pub mod Files
+pub mod Described
 pub mod Draws
 pub mod Formats
 pub mod Limit
@@ -13,6 +14,7 @@ pub mod Pictures
 pub mod Checks
 pub mod Replays
 pub mod Rooms
+pub mod Sources
 pub mod Status
 pub mod Worked
 pub mod Workers

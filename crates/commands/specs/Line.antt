@@ -258,15 +258,22 @@ asked_of_cut command =
     if bytes_eq command.0 (codes "crop") then crop_in command.1
     else (if bytes_eq command.0 (codes "tiles") then tiles_in command.1 else None)
 
--- what a command of this name asks for, of those that take a plan file
-abbrev pub asked_of_plan : Text × List Row → Option Asked
-asked_of_plan command =
-    if bytes_eq command.0 (codes "run") then run_in command.1
-    else (if bytes_eq command.0 (codes "check") then option_map Check (check_in command.1)
+-- and of those that take an order
+abbrev pub asked_of_order : Text × List Row → Option Asked
+asked_of_order command =
+    if bytes_eq command.0 (codes "draw") then draw_in command.1
+    else (if bytes_eq command.0 (codes "replay") then replay_in command.1 else asked_of_cut command)
+
+-- and of those that tell something of a plan file
+abbrev pub asked_of_check : Text × List Row → Option Asked
+asked_of_check command =
+    if bytes_eq command.0 (codes "check") then option_map Check (check_in command.1)
     else (if bytes_eq command.0 (codes "cost") then option_map Cost (check_in command.1)
-    else (if bytes_eq command.0 (codes "show") then option_map Show (check_in command.1)
-    else (if bytes_eq command.0 (codes "draw") then draw_in command.1
-    else (if bytes_eq command.0 (codes "replay") then replay_in command.1 else asked_of_cut command)))))
+    else (if bytes_eq command.0 (codes "show") then option_map Show (check_in command.1) else asked_of_order command))
+
+-- and of all that take a plan file
+abbrev pub asked_of_plan : Text × List Row → Option Asked
+asked_of_plan command = if bytes_eq command.0 (codes "run") then run_in command.1 else asked_of_check command
 
 -- and of all that take so many words
 abbrev pub asked_of_one : Text × List Row → Option Asked

@@ -23,7 +23,7 @@ use std::io::{Error, Write};
 
 /// A part of the input, as it is told: its low corner and its extents, in samples; 0 and 1 in the second place where the
 /// input has one dimension.
-#[derive(Clone, Copy, Debug, PartialEq, Eq, Drop)]
+#[derive(Clone, Copy, PartialEq, Eq, Drop)]
 pub(crate) struct Part {
     pub x: u32,
     pub y: u32,

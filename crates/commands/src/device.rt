@@ -51,6 +51,10 @@ pub trait Files {
     fn again(&mut self, alloc: Global, name: &str) -> Option<Vec<u8>>
         ensures { SameFiles (contents self.old) (contents self.new) };
 
+    /// What is told of the file that could not be read or written last: its name and why. None where there was none, or where
+    /// memory ran out.
+    fn failure(&self) -> Option<&str>;
+
     /// Makes these the bytes of a file, which is made where there is none. No other file changes. What an error leaves of
     /// this one is not said.
     fn put(&mut self, name: &str, bytes: &[u8]) -> Result<(), FileError>

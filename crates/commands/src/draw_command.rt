@@ -1,17 +1,18 @@
 //! The command that draws which piece owns each pixel.
 
-ghost use Rattle.std.specs.Prelude.{IfErr, IfOk, OnOk, option_map};
+ghost use Rattle.std.specs.Prelude.{◌⊎◌, IfErr, IfOk, OnOk, option_map};
 ghost use Rattle.algo.specs.View.{IsFor};
 ghost use Rattle.checked_plan.specs.View.{algorithm_checked};
 ghost use Rattle.commands.specs.Asked.{draw_asked};
 ghost use Rattle.commands.specs.Draws.{HasOrder, IsDone, IsDrawingFile, IsNoOrderFile, IsOrderFile, IsRefused, IsUnordered};
 ghost use Rattle.commands.specs.Files.{SameFiles};
+ghost use Rattle.commands.specs.Pictures.{IsOfDevice};
 
 use crate::device::Files;
-use crate::picture::algorithm_in;
+use crate::picture::algorithm_file;
 use crate::pipeline::{Fault, State, replay};
 use crate::plan_command::plan_in;
-use crate::replay::order_in;
+use crate::replay::order_file;
 use crate::request::DrawRequest;
 use algo::{Algo, Inputs};
 use checked_plan::Checked;
@@ -47,8 +48,7 @@ fn crew_after<F: Files>(
     ensures ordered { OnOk result (IsOrderFile (F.contents files.old) name.now) }
     ensures refused { IfErr result (IsNoOrderFile (F.contents files.old) name.now) }
 {
-    let text = files.get(alloc, name)?;
-    let order = order_in(alloc, text.as_slice())?;
+    let order = order_file(alloc, files, name)?;
     let inputs = black(alloc, checked.algo())?;
     Ok(replay(alloc, checked, &inputs, order.as_slice())?)
 }
@@ -95,6 +95,22 @@ fn cells_of(crew: Option<&State>) -> Option<Cells<'_>> {
     }
 }
 
+/// The image file of a checked plan's drawing, after an order where one is named.
+fn drawn<F: Files>(
+    alloc: Global,
+    files: &mut F,
+    checked: &Checked<'_>,
+    order: Option<&str>,
+) -> Result<Vec<u8>, Fault>
+    ensures same { SameFiles (F.contents files.old) (F.contents files.new) }
+    ensures ordered { OnOk result (HasOrder (F.contents files.old) (option_map (λ name. name.now) order.entry)) }
+    ensures drawn { IfOk result (λ file. IsDrawingFile (algorithm_checked checked.now) file.items) }
+    ensures refused { IfErr result (λ fault. IsOfDevice fault ⊎ IsUnordered (F.contents files.old) (option_map (λ name. name.now) order.entry) fault) }
+{
+    let crew = crew_asked(alloc, files, checked, order)?;
+    Ok(drawing_file(alloc, checked, cells_of(crew.as_ref()))?)
+}
+
 /// Draws which piece owns each pixel of the output of the plan of a file, which is checked first, and after an order of
 /// workers' steps how far they have come. The drawing is written last, after everything else has succeeded.
 ///
@@ -110,11 +126,9 @@ pub fn draw_command<T: Threads + Sync, F: Files>(
     ensures done { OnOk result (IsDone (F.contents files.old) (F.contents files.new) (draw_asked request.now)) }
     ensures refused { IfErr result (IsRefused (F.contents files.old) (F.contents files.new) (draw_asked request.now)) }
 {
-    let text = files.get(alloc, request.check.algorithm)?;
-    let algo = algorithm_in(alloc, text.as_slice())?;
+    let algo = algorithm_file(alloc, files, request.check.algorithm)?;
     let checked = plan_in(rt, alloc, files, &algo, request.check.plan)?;
-    let crew = crew_asked(alloc, files, &checked, request.order)?;
-    let file = drawing_file(alloc, &checked, cells_of(crew.as_ref()))?;
+    let file = drawn(alloc, files, &checked, request.order)?;
     files.put(request.output, file.as_slice())?;
     Ok(())
 }

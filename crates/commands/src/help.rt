@@ -11,7 +11,7 @@ each pixel of 2 by 10, from standard input to standard output.
 
 Statuses:
   0  done
-  1  the checker refuses a plan
+  1  the checker refuses a plan, or a picture differs
   2  the words
   3  an algorithm, a schedule, a plan's text, an image or an order is refused, or a limit is passed
   4  memory ran out

@@ -29,7 +29,7 @@ pub use crew::{Gate, Unwatched};
 pub use device::{FileError, Files};
 pub use exit::status;
 pub use pages::tell_code;
-pub use picture::{algorithm_in, image_in, picture_command};
+pub use picture::{algorithm_file, algorithm_in, image_file, picture_command};
 /// What `status` tells the exit status of.
 pub use crate::pipeline::Fault;
 pub use replay::replay_command;

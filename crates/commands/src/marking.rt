@@ -17,7 +17,7 @@ const CUT: &str = "..";
 const MOST_BEHIND: usize = 3;
 
 /// Where in a text something is refused.
-#[derive(Clone, Copy, Debug, PartialEq, Eq, Drop)]
+#[derive(Clone, Copy, PartialEq, Eq, Drop)]
 pub enum Place {
     /// Its bytes, the last one excluded.
     Bytes { start: usize, end: usize },
@@ -26,7 +26,7 @@ pub enum Place {
 }
 
 /// A line of a text, or a part of it: the line's number, counted from 1, and its bytes, the last one excluded.
-#[derive(Clone, Copy, Debug, PartialEq, Eq, Drop)]
+#[derive(Clone, Copy, PartialEq, Eq, Drop)]
 struct Line {
     number: usize,
     start: usize,

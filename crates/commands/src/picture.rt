@@ -12,6 +12,7 @@ ghost use Rattle.commands.specs.Files.{SameFiles};
 ghost use Rattle.commands.specs.Means.{AreMeans, IsAfforded, IsHalted, algo_meant, stores_checked};
 ghost use Rattle.commands.specs.Pictures.{IsDone, IsImageFault, IsRefused, IsTextFault, IsTooDear, IsUnready, IsWithin};
 ghost use Rattle.commands.specs.Pipeline.Pictures.{IsBudgetSpent};
+ghost use Rattle.commands.specs.Sources.{IsAlgorithmFile, IsImageFile, IsNoAlgorithmFile, IsNoImageFile, IsPictureOf, IsUnmade};
 
 use crate::device::Files;
 use crate::file::{file_of, room_for};
@@ -51,6 +52,16 @@ pub fn algorithm_in(alloc: Global, bytes: &[u8]) -> Result<Algo, Fault>
         Ok(text) => read_algorithm(alloc, text),
         Err(_) => Err(Fault::Image(PnmError::Device)),
     }
+}
+
+/// Reads an algorithm file.
+pub fn algorithm_file<F: Files>(alloc: Global, files: &mut F, name: &str) -> Result<Algo, Fault>
+    ensures same { SameFiles (F.contents files.old) (F.contents files.new) }
+    ensures said { IfOk result (λ algo. IsAlgorithmFile (F.contents files.old) name.now (algorithm_of algo)) }
+    ensures refused { IfErr result (IsNoAlgorithmFile (F.contents files.old) name.now) }
+{
+    let text = files.get(alloc, name)?;
+    algorithm_in(alloc, text.as_slice())
 }
 
 /// Whether a plan makes no more stores than it may: it is counted before any piece is computed.
@@ -96,13 +107,29 @@ fn means_of<'a, T: Threads + Sync, F: Files>(
 }
 
 /// Reads an image file as the input of an algorithm.
-pub fn image_in(alloc: Global, algo: &Algo, bytes: &[u8]) -> Result<Inputs, Fault>
+fn image_in(alloc: Global, algo: &Algo, bytes: &[u8]) -> Result<Inputs, Fault>
     ensures fits { IfOk result (λ inputs. IsFor algo.now inputs) }
     ensures read { IfOk result (λ inputs. reading (wanted_of (input_frame (algorithm_of algo.now))) bytes.now ≡ Ok (samples_of inputs)) }
     ensures refused { IfErr result (IsImageFault (input_frame (algorithm_of algo.now)) bytes.now) }
 {
     let mut rest = bytes;
     read_inputs(alloc, algo, &mut rest)
+}
+
+/// Reads an image file by its name as the input of an algorithm.
+pub fn image_file<F: Files>(
+    alloc: Global,
+    files: &mut F,
+    algo: &Algo,
+    name: &str,
+) -> Result<Inputs, Fault>
+    ensures same { SameFiles (F.contents files.old) (F.contents files.new) }
+    ensures fits { IfOk result (λ inputs. IsFor algo.now inputs) }
+    ensures read { IfOk result (λ inputs. IsImageFile (F.contents files.old) name.now (algorithm_of algo.now) (samples_of inputs)) }
+    ensures refused { IfErr result (IsNoImageFile (F.contents files.old) name.now (algorithm_of algo.now)) }
+{
+    let bytes = files.get(alloc, name)?;
+    image_in(alloc, algo, bytes.as_slice())
 }
 
 /// The image file of the picture that an algorithm says of an input, each pixel computed by the definitions alone. All its bytes
@@ -146,6 +173,23 @@ fn picture_file<T: Threads + Wait + Sync, F: Files>(
     }
 }
 
+/// The image file of the picture that an algorithm says of the image that is asked for, computed as is asked.
+fn picture_of<T: Threads + Wait + Sync, F: Files>(
+    rt: &T,
+    alloc: Global,
+    files: &mut F,
+    algo: &Algo,
+    request: &PictureRequest<'_>,
+) -> Result<Vec<u8>, Fault>
+    ensures same { SameFiles (F.contents files.old) (F.contents files.new) }
+    ensures made { IfOk result (λ file. IsPictureOf (F.contents files.old) (picture_asked request.now) (algorithm_of algo.now) file.items) }
+    ensures refused { IfErr result (IsUnmade (F.contents files.old) (picture_asked request.now) (algorithm_of algo.now)) }
+{
+    let means = means_of(rt, alloc, files, request.way, algo)?;
+    let inputs = image_file(alloc, files, algo, request.input)?;
+    picture_file(rt, alloc, files, &means, &inputs)
+}
+
 /// Writes the picture that an algorithm says of an image: by its definitions alone, in as many threads as serve; or by the
 /// plan of a file, which is checked and computed by the workers that are asked for.
 ///
@@ -163,13 +207,8 @@ pub fn picture_command<T: Threads + Wait + Sync, F: Files>(
     ensures done { OnOk result (IsDone (F.contents files.old) (F.contents files.new) (picture_asked request.now)) }
     ensures refused { IfErr result (IsRefused (F.contents files.old) (F.contents files.new) (picture_asked request.now)) }
 {
-    let text = files.get(alloc, request.algorithm)?;
-    let algo = algorithm_in(alloc, text.as_slice())?;
-    let means = means_of(rt, alloc, files, request.way, &algo)?;
-    let bytes = files.get(alloc, request.input)?;
-    let inputs = image_in(alloc, &algo, bytes.as_slice())?;
-    drop(bytes);
-    let file = picture_file(rt, alloc, files, &means, &inputs)?;
+    let algo = algorithm_file(alloc, files, request.algorithm)?;
+    let file = picture_of(rt, alloc, files, &algo, request)?;
     files.put(request.output, file.as_slice())?;
     Ok(())
 }

@@ -9,7 +9,7 @@ ghost use Rattle.commands.specs.Means.{IsOfFile};
 ghost use Rattle.commands.specs.Pictures.{IsOfDevice, IsPlanFault};
 
 use crate::device::Files;
-use crate::picture::algorithm_in;
+use crate::picture::algorithm_file;
 use crate::pipeline::{Fault, check_plan};
 use crate::request::CheckRequest;
 use crate::stream::flush;
@@ -43,7 +43,7 @@ pub(crate) fn plan_in<'a, T: Threads + Sync, F: Files>(
 }
 
 /// What is told of a plan that was accepted.
-#[derive(Clone, Copy, Debug, PartialEq, Eq, Drop)]
+#[derive(Clone, Copy, PartialEq, Eq, Drop)]
 pub enum Telling {
     /// How many pieces and cells it has.
     Counts,
@@ -134,8 +134,7 @@ pub fn plan_command<T: Threads + Sync, F: Files, W: Write>(
     ensures done { OnOk result (IsChecked (F.contents files.old) (check_asked request.now)) }
     ensures refused { IfErr result (IsCheckRefused (F.contents files.old) (check_asked request.now)) }
 {
-    let bytes = files.get(alloc, request.algorithm)?;
-    let algo = algorithm_in(alloc, bytes.as_slice())?;
+    let algo = algorithm_file(alloc, files, request.algorithm)?;
     let checked = plan_in(rt, alloc, files, &algo, request.plan)?;
     tell(alloc, out, &checked, telling)
 }

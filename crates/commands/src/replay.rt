@@ -1,15 +1,18 @@
 //! The command that replays an order of workers' steps.
 
 ghost use Rattle.std.specs.Prelude.{◌≡◌, IfErr, IfOk, OnOk};
+ghost use Rattle.checked_plan.specs.View.{algorithm_checked};
 ghost use Rattle.commands.specs.Asked.{replay_asked};
+ghost use Rattle.commands.specs.Draws.{IsNoOrderFile};
 ghost use Rattle.commands.specs.Files.{SameFiles};
 ghost use Rattle.commands.specs.Pictures.{IsOfDevice};
 ghost use Rattle.commands.specs.Replays.{IsOrderFault, IsReplayed, IsReplayRefused};
 ghost use Rattle.commands.specs.Order.Order.{IsOrder};
+ghost use Rattle.commands.specs.Sources.{IsFileOfOrder, IsPlayable, IsUnplayed};
 
 use crate::device::Files;
 use crate::order::{OrderError, read};
-use crate::picture::{algorithm_in, image_in};
+use crate::picture::{algorithm_file, image_file};
 use crate::pipeline::{Fault, State, replay};
 use crate::plan_command::plan_in;
 use crate::request::ReplayRequest;
@@ -22,7 +25,7 @@ use std::str;
 use std::thread::Threads;
 
 /// Reads the text of an order.
-pub(crate) fn order_in(alloc: Global, bytes: &[u8]) -> Result<Vec<u8>, Fault>
+fn order_in(alloc: Global, bytes: &[u8]) -> Result<Vec<u8>, Fault>
     ensures order { IfOk result (λ order. IsOrder bytes.now order.items) }
     ensures refused { IfErr result (IsOrderFault bytes.now) }
 {
@@ -34,6 +37,20 @@ pub(crate) fn order_in(alloc: Global, bytes: &[u8]) -> Result<Vec<u8>, Fault>
         Err(OrderError::Form) => Err(Fault::Order),
         Err(OrderError::Memory) => Err(Fault::Memory),
     }
+}
+
+/// Reads an order file.
+pub(crate) fn order_file<F: Files>(
+    alloc: Global,
+    files: &mut F,
+    name: &str,
+) -> Result<Vec<u8>, Fault>
+    ensures same { SameFiles (F.contents files.old) (F.contents files.new) }
+    ensures order { IfOk result (λ order. IsFileOfOrder (F.contents files.old) name.now order.items) }
+    ensures refused { IfErr result (IsNoOrderFile (F.contents files.old) name.now) }
+{
+    let text = files.get(alloc, name)?;
+    order_in(alloc, text.as_slice())
 }
 
 fn write_counts<W: Write>(
@@ -63,6 +80,24 @@ fn tell<W: Write>(
     }
 }
 
+/// Replays the order of a file on the image of a file, by a checked plan, and tells what came of it.
+fn replayed<F: Files, W: Write>(
+    alloc: Global,
+    files: &mut F,
+    out: &mut W,
+    checked: &Checked<'_>,
+    request: &ReplayRequest<'_>,
+) -> Result<(), Fault>
+    ensures same { SameFiles (F.contents files.old) (F.contents files.new) }
+    ensures done { OnOk result (IsPlayable (F.contents files.old) (replay_asked request.now) (algorithm_checked checked.now)) }
+    ensures refused { IfErr result (IsUnplayed (F.contents files.old) (replay_asked request.now) (algorithm_checked checked.now)) }
+{
+    let inputs = image_file(alloc, files, checked.algo(), request.input)?;
+    let order = order_file(alloc, files, request.order)?;
+    let state = replay(alloc, checked, &inputs, order.as_slice())?;
+    tell(out, order.len(), checked, &state)
+}
+
 /// Checks the plan of a file against an algorithm, replays an order of workers' steps on an image, and tells how many
 /// pieces were drawn and finished, and how many cells set.
 ///
@@ -80,14 +115,7 @@ pub fn replay_command<T: Threads + Sync, F: Files, W: Write>(
     ensures done { OnOk result (IsReplayed (F.contents files.old) (replay_asked request.now)) }
     ensures refused { IfErr result (IsReplayRefused (F.contents files.old) (replay_asked request.now)) }
 {
-    let text = files.get(alloc, request.check.algorithm)?;
-    let algo = algorithm_in(alloc, text.as_slice())?;
+    let algo = algorithm_file(alloc, files, request.check.algorithm)?;
     let checked = plan_in(rt, alloc, files, &algo, request.check.plan)?;
-    let bytes = files.get(alloc, request.input)?;
-    let inputs = image_in(alloc, &algo, bytes.as_slice())?;
-    drop(bytes);
-    let order_text = files.get(alloc, request.order)?;
-    let order = order_in(alloc, order_text.as_slice())?;
-    let state = replay(alloc, &checked, &inputs, order.as_slice())?;
-    tell(out, order.len(), &checked, &state)
+    replayed(alloc, files, out, &checked, request)
 }

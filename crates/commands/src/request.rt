@@ -3,7 +3,7 @@
 use crop::Rect;
 
 /// How a picture is computed.
-#[derive(Clone, Copy, Debug, Drop)]
+#[derive(Clone, Copy, Drop)]
 pub enum Way<'a> {
     /// By the algorithm's definitions alone.
     Plain {
@@ -22,7 +22,7 @@ pub enum Way<'a> {
 }
 
 /// A picture that is asked for: how it is computed, and the names of three files.
-#[derive(Clone, Copy, Debug, Drop)]
+#[derive(Clone, Copy, Drop)]
 pub struct PictureRequest<'a> {
     /// How the picture is computed.
     pub way: Way<'a>,
@@ -35,7 +35,7 @@ pub struct PictureRequest<'a> {
 }
 
 /// An algorithm that is to be written in its canonical text: the names of two files.
-#[derive(Clone, Copy, Debug, Drop)]
+#[derive(Clone, Copy, Drop)]
 pub struct FormatRequest<'a> {
     /// The algorithm's text.
     pub algorithm: &'a str,
@@ -44,7 +44,7 @@ pub struct FormatRequest<'a> {
 }
 
 /// A schedule that is to be compiled: the names of three files.
-#[derive(Clone, Copy, Debug, Drop)]
+#[derive(Clone, Copy, Drop)]
 pub struct CompileRequest<'a> {
     /// The algorithm's text.
     pub algorithm: &'a str,
@@ -55,7 +55,7 @@ pub struct CompileRequest<'a> {
 }
 
 /// A plan that is to be checked: the names of two files.
-#[derive(Clone, Copy, Debug, Drop)]
+#[derive(Clone, Copy, Drop)]
 pub struct CheckRequest<'a> {
     /// The algorithm's text.
     pub algorithm: &'a str,
@@ -64,7 +64,7 @@ pub struct CheckRequest<'a> {
 }
 
 /// A plan whose steps are to be replayed: the names of four files.
-#[derive(Clone, Copy, Debug, Drop)]
+#[derive(Clone, Copy, Drop)]
 pub struct ReplayRequest<'a> {
     /// The plan that is checked first.
     pub check: CheckRequest<'a>,
@@ -75,7 +75,7 @@ pub struct ReplayRequest<'a> {
 }
 
 /// A plan whose pieces are to be drawn: the names of three or four files.
-#[derive(Clone, Copy, Debug, Drop)]
+#[derive(Clone, Copy, Drop)]
 pub struct DrawRequest<'a> {
     /// The plan that is checked first.
     pub check: CheckRequest<'a>,
@@ -86,7 +86,7 @@ pub struct DrawRequest<'a> {
 }
 
 /// Schedules whose pictures are compared with the plain one, or with that of the first of them.
-#[derive(Debug, Drop)]
+#[derive(Drop)]
 pub struct CompareRequest<'a> {
     /// The algorithm's text.
     pub algorithm: &'a str,
@@ -99,7 +99,7 @@ pub struct CompareRequest<'a> {
 }
 
 /// A tile whose algorithm is to be written: its rectangle, and the names of two files.
-#[derive(Clone, Copy, Debug, Drop)]
+#[derive(Clone, Copy, Drop)]
 pub struct CropRequest<'a> {
     /// The algorithm's text.
     pub algorithm: &'a str,
@@ -110,7 +110,7 @@ pub struct CropRequest<'a> {
 }
 
 /// An algorithm that is to be cut into tiles.
-#[derive(Clone, Copy, Debug, Drop)]
+#[derive(Clone, Copy, Drop)]
 pub struct TilesRequest<'a> {
     /// The algorithm's text.
     pub algorithm: &'a str,
@@ -123,7 +123,7 @@ pub struct TilesRequest<'a> {
 }
 
 /// A code that is to be explained.
-#[derive(Clone, Copy, Debug, Drop)]
+#[derive(Clone, Copy, Drop)]
 pub struct ExplainRequest<'a> {
     /// The code of a refusal.
     pub code: &'a str,
@@ -132,7 +132,7 @@ pub struct ExplainRequest<'a> {
 }
 
 /// What the words ask for.
-#[derive(Debug, Drop)]
+#[derive(Drop)]
 pub enum Request<'a> {
     /// A picture.
     Picture(PictureRequest<'a>),

@@ -5,6 +5,7 @@ ghost use Rattle.algo.specs.View.{algorithm_of};
 ghost use Rattle.commands.specs.Asked.{format_asked};
 ghost use Rattle.commands.specs.Formats.{IsCanonical, IsDone, IsNotSpelled, IsRefused};
 ghost use Rattle.commands.specs.Pictures.{IsOfDevice};
+ghost use Rattle.commands.specs.Sources.{IsFormattedText, IsUnformatted};
 
 use crate::device::Files;
 use crate::picture::algorithm_in;
@@ -37,6 +38,15 @@ fn canonical(alloc: Global, algo: &Algo, bytes: &[u8]) -> Result<String, Fault>
     }
 }
 
+/// The canonical text of the algorithm that these bytes are the text of.
+fn formatted(alloc: Global, bytes: &[u8]) -> Result<String, Fault>
+    ensures formatted { IfOk result (λ text. IsFormattedText bytes.now (string_bytes text)) }
+    ensures refused { IfErr result (IsUnformatted bytes.now) }
+{
+    let algo = algorithm_in(alloc, bytes)?;
+    canonical(alloc, &algo, bytes)
+}
+
 /// Writes the canonical text of an algorithm, after everything else has succeeded.
 ///
 /// # Errors
@@ -51,8 +61,7 @@ pub fn format_command<F: Files>(
     ensures refused { IfErr result (IsRefused (F.contents files.old) (F.contents files.new) (format_asked request.now)) }
 {
     let bytes = files.get(alloc, request.algorithm)?;
-    let algo = algorithm_in(alloc, bytes.as_slice())?;
-    let text = canonical(alloc, &algo, bytes.as_slice())?;
+    let text = formatted(alloc, bytes.as_slice())?;
     files.put(request.output, text.as_bytes())?;
     Ok(())
 }

@@ -1,11 +1,12 @@
 //! The words of the command line.
 
-ghost use Rattle.std.specs.Prelude.{◌≡◌, Some, map, option_and_then, option_map, IfOk, MatchResult};
-ghost use Rattle.clap.specs.Words.{first_value, found_of, rows_of, subcommand_rows_of};
+ghost use Rattle.std.specs.Prelude.{◌≡◌, ◌⊎◌, None, Some, map, option_and_then, option_map, IfOk, MatchResult};
+ghost use Rattle.clap.specs.Words.{FailsBy, fault_of, first_value, found_of, kind_of, rows_of, subcommand_of, subcommand_rows_of};
+ghost use Rattle.clap.specs.declared.error.kind.ErrorKind.TheVariants.{OutOfMemory, ValueValidation};
 ghost use Rattle.commands.specs.Asked.{asked_by, check_asked, way_asked};
-ghost use Rattle.commands.specs.Line.{asked_of_cut, crop_in, rect_in, side_in, tiles_in};
+ghost use Rattle.commands.specs.Line.{asked_of_check, asked_of_cut, asked_of_order, crop_in, rect_in, side_in, tiles_in};
 ghost use Rattle.commands.specs.Line.{AsksFor, FailsFor, asked_of_command, asked_of_one, asked_of_plan, check_in, compare_in, compile_in, draw_in, evaluations_in, explain_in, format_in};
-ghost use Rattle.commands.specs.Line.{is_set, picture_in, plain_in, replay_in, run_in, stores_in, to_compare, workers_in};
+ghost use Rattle.commands.specs.Line.{is_set, line, picture_in, plain_in, replay_in, run_in, stores_in, to_compare, workers_in};
 
 mod described;
 mod names;
@@ -23,9 +24,8 @@ use crate::words::names::{
     FORMAT, HEIGHT, INPUT, LEFT, ORDER, ORDER_OPTION, OUTPUT, PLAIN, PLAN, REPLAY, RUN, SCHEDULE,
     SHOW, TILE_HEIGHT, TILE_WIDTH, TILES, TOP, WIDTH, WORKERS,
 };
-use crate::words::values::unfit_told;
+use crate::words::values::unfit;
 use crate::workers::workers_spelled;
-use clap::error::ErrorKind;
 use clap::{ArgMatches, Error};
 use crop::Rect;
 use report::codes::page;
@@ -270,24 +270,42 @@ fn cut_named<'a>(name: &str, matches: &ArgMatches<'a>) -> Option<Request<'a>>
     }
 }
 
+/// The same of commands that take an order.
+fn ordered_named<'a>(name: &str, matches: &ArgMatches<'a>) -> Option<Request<'a>>
+    ensures { option_map asked_by result ≡ asked_of_order (name.now, rows_of (found_of matches.now)) }
+{
+    if name == DRAW {
+        draw_found(matches)
+    } else if name == REPLAY {
+        replay_found(matches)
+    } else {
+        cut_named(name, matches)
+    }
+}
+
+/// The same of commands that tell something of a plan file.
+fn told_named<'a>(name: &str, matches: &ArgMatches<'a>) -> Option<Request<'a>>
+    ensures { option_map asked_by result ≡ asked_of_check (name.now, rows_of (found_of matches.now)) }
+{
+    if name == CHECK {
+        Some(Request::Check(check_found(matches)?))
+    } else if name == COST {
+        Some(Request::Cost(check_found(matches)?))
+    } else if name == SHOW {
+        Some(Request::Show(check_found(matches)?))
+    } else {
+        ordered_named(name, matches)
+    }
+}
+
 /// What the command of this name asks for with its words, where it takes a plan file.
 fn planned_named<'a>(name: &str, matches: &ArgMatches<'a>) -> Option<Request<'a>>
     ensures { option_map asked_by result ≡ asked_of_plan (name.now, rows_of (found_of matches.now)) }
 {
     if name == RUN {
         run_found(matches)
-    } else if name == CHECK {
-        Some(Request::Check(check_found(matches)?))
-    } else if name == COST {
-        Some(Request::Cost(check_found(matches)?))
-    } else if name == SHOW {
-        Some(Request::Show(check_found(matches)?))
-    } else if name == DRAW {
-        draw_found(matches)
-    } else if name == REPLAY {
-        replay_found(matches)
     } else {
-        cut_named(name, matches)
+        told_named(name, matches)
     }
 }
 
@@ -335,6 +353,27 @@ fn request_found<'a>(
     }
 }
 
+/// What is found of the words, where they are as they are wanted.
+fn matches_in<'a>(alloc: Global, words: &'a [&'a str]) -> Result<ArgMatches<'a>, Error>
+    ensures fails { FailsBy (fault_of line (map (λ word. word.now) words.entry.now)) result }
+    ensures found { IfOk result (λ matches. subcommand_rows_of matches ≡ subcommand_of line (map (λ word. word.now) words.entry.now)) }
+{
+    let mut command = command_line(alloc)?;
+    command.try_get_matches_from_mut(words)
+}
+
+/// What words ask for that are as they are wanted, or the fault of a value that is no number or code.
+fn request_in<'a>(alloc: Global, matches: &ArgMatches<'a>) -> Result<Request<'a>, Error>
+    ensures { MatchResult result
+        (λ request. option_and_then asked_of_command (subcommand_rows_of matches.now) ≡ Some (asked_by request))
+        (λ error. (kind_of error ≡ OutOfMemory) ⊎ ((kind_of error ≡ ValueValidation) × (option_and_then asked_of_command (subcommand_rows_of matches.now) ≡ None))) }
+{
+    match request_found(alloc, matches)? {
+        Some(request) => Ok(request),
+        None => Err(unfit(alloc, matches)?),
+    }
+}
+
 /// What the words ask for. The words are those after the program's name.
 ///
 /// # Errors
@@ -344,14 +383,6 @@ pub fn read_words<'a>(alloc: Global, words: &'a [&'a str]) -> Result<Request<'a>
         (λ request. AsksFor (map (λ word. word.now) words.entry.now) (asked_by request))
         (FailsFor (map (λ word. word.now) words.entry.now)) }
 {
-    let mut command = command_line(alloc)?;
-    let matches = command.try_get_matches_from_mut(words)?;
-    let found = request_found(alloc, &matches)?;
-    match found {
-        Some(request) => Ok(request),
-        None => {
-            let told = unfit_told(alloc, &matches)?;
-            Err(command.error(ErrorKind::ValueValidation, told.as_str())?)
-        }
-    }
+    let matches = matches_in(alloc, words)?;
+    request_in(alloc, &matches)
 }

@@ -123,3 +123,4 @@ pub mod NearPlaced
 pub mod NeedForms
 pub mod RangedBoxes
 pub mod ShortNests
+pub mod FaultLimits

@@ -19,6 +19,7 @@ use Rattle.shares.specs.declared.answer.SharesError.TheVariants.{Flaw as SharesF
 use Rattle.shares.specs.Made.{ErrorMeans}
 use Rattle.validation.specs.Certificate.Certificate.{flaws_of_certificate}
 use Rattle.validation.specs.Groups.Lines.{flaws_of_groups}
+use Rattle.audit.specs.Verdict.Faults.{IsFault}
 use Rattle.sched.specs.Schedule.{Schedule}
 use Rattle.sched.specs.Legal.{IsLegal}
 use Rattle.lower.specs.declared.lowering.Lowered.{Lowered}
@@ -57,11 +58,17 @@ pub record TellsOnlyLimits (a : Algorithm) (p : Plan) (c : Certificate) : Type 0
   pub output : (n : ℕ) (g : Group) → slice_get p.groups n ≡ Some g → HasOutputPoints a p n g
 
 -- so it is of the plan that is made of such a schedule, where no name reads as a load
-abbrev pub TellsLimitsAlone : Algorithm → Schedule → Lowered → Type 0
-TellsLimitsAlone a s l = SplitsNothing a s → NamesNoLoad a → TellsOnlyLimits a (plan_of l.plan) (certificate_of l.certificate)
-
--- whatever the schedule is, by what `lower` says of its plan
 abbrev pub LimitsAloneAreTold : Type 0
 LimitsAloneAreTold =
     (a : Algorithm) (s : Schedule) (l : Lowered) → IsAlgorithm a → IsLegal a s → AreSmall a s → AreRegionsKept a s → AreGroupsMade a s l
-    → TellsLimitsAlone a s l
+    → SplitsNothing a s → NamesNoLoad a → TellsOnlyLimits a (plan_of l.plan) (certificate_of l.certificate)
+
+-- each refusal of the plan that is right, whatever its line, is told as a limit (K14)
+abbrev pub TellsLimitsAlone : Algorithm → Plan → Certificate → Type 0
+TellsLimitsAlone a p c = (code line : ℕ) → IsFault a p c code line → code ≡ 14
+
+-- so it is, in the checker's own words, of that plan
+abbrev pub FaultsAreLimits : Type 0
+FaultsAreLimits =
+    (a : Algorithm) (s : Schedule) (l : Lowered) → IsAlgorithm a → IsLegal a s → AreSmall a s → AreRegionsKept a s → AreGroupsMade a s l
+    → SplitsNothing a s → NamesNoLoad a → TellsLimitsAlone a (plan_of l.plan) (certificate_of l.certificate)

@@ -1,6 +1,6 @@
 //! The law of what the checker tells of plans that `lower` makes.
 
-ghost use Rattle.completeness.specs.Told.{LimitsAloneAreTold};
+ghost use Rattle.completeness.specs.Told.{FaultsAreLimits, LimitsAloneAreTold};
 
 /// Of a schedule that splits no loop, under which each stored function is a root function that is computed at no loop, has updates only that set each variable
 /// at its own place, and a region that begins within 2^14 of 0, whichever loops are parallel or unrolled: whatever the checker tells of the plan that `lower`
@@ -10,4 +10,9 @@ ghost use Rattle.completeness.specs.Told.{LimitsAloneAreTold};
 /// more symbols than the checker takes, and that the numbers of claims' regions are near, is so of such plans.)
 pub fn limits_alone_are_told()
     ensures { LimitsAloneAreTold }
+{}
+
+/// So, in the checker's own words, each refusal of such a plan that is right is told as a limit: its code is K14.
+pub fn faults_are_limits()
+    ensures { FaultsAreLimits }
 {}

@@ -11,7 +11,7 @@ pub trait Gate: Sync {
 }
 
 /// A gate that lets all workers pass.
-#[derive(Clone, Copy, Debug, Drop)]
+#[derive(Clone, Copy, Drop)]
 pub struct Unwatched;
 
 impl Gate for Unwatched {

@@ -26,7 +26,7 @@ use std::sync::Wait;
 use std::thread::Threads;
 
 /// Why a run gives no picture.
-#[derive(Clone, Copy, Debug, PartialEq, Eq, Drop)]
+#[derive(Clone, Copy, PartialEq, Eq, Drop)]
 pub enum RunError {
     /// Memory ran out: for the board, or for the private runs of a worker. No worker was started.
     Memory,

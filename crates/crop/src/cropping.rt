@@ -26,7 +26,7 @@ use std::alloc::{AllocError, Global};
 
 /// A rectangle of the output, in samples: `width` by `height` at `x`, `y`. An output of one dimension has `y` 0 and
 /// `height` 1; channels are never cut.
-#[derive(Clone, Copy, Debug, PartialEq, Eq, Drop)]
+#[derive(Clone, Copy, PartialEq, Eq, Drop)]
 pub struct Rect {
     pub x: u32,
     pub y: u32,

@@ -1,7 +1,7 @@
 //! What is cut of an algorithm.
 
 /// The numbers from one to another, both included.
-#[derive(Clone, Copy, Debug, PartialEq, Eq, Drop)]
+#[derive(Clone, Copy, PartialEq, Eq, Drop)]
 pub struct Stretch {
     pub low: i32,
     pub high: i32,

@@ -7,7 +7,7 @@ use crate::cropping::Rect;
 
 /// An output that is cut into tiles of one size: in raster order from the top left corner, those of the last column narrower
 /// and those of the last row lower where the sides don't divide.
-#[derive(Clone, Copy, Debug, PartialEq, Eq, Drop)]
+#[derive(Clone, Copy, PartialEq, Eq, Drop)]
 pub struct Tiling {
     width: u32,
     height: u32,

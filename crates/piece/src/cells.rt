@@ -11,7 +11,7 @@ ghost use Rattle.checked_plan.specs.Output.Cells.{number_in};
 ghost use Rattle.interpreter.specs.CellRows.{along};
 ghost use Rattle.piece.specs.Looked.{IsLookedRow};
 
-use crate::index::{note, value_in};
+use crate::index::{forget, note, value_in};
 use crate::rising::{is_rising, value_among, values_between};
 use crate::types::type_named;
 use checked_plan::Checked;
@@ -109,7 +109,7 @@ impl<'a> LookedCells<'a> {
     {
         self.piece = piece;
         self.looked.clear();
-        self.index.clear();
+        forget(&mut self.index);
         self.rising = is_rising(fetched_of(self.cells.checked(), piece));
     }
 
@@ -155,8 +155,8 @@ impl<'a> LookedCells<'a> {
         }
     }
 
-    /// Takes the value of the next cell that the piece fetches. It takes no memory.
-    pub fn push(&mut self, value: i64)
+    /// Takes the value of the next cell that the piece fetches, and notes it in the index where the numbers do not rise.
+    fn push_noted(&mut self, value: i64)
         requires { length self.old.looked.items < vec_capacity self.old.looked }
         ensures looked { self.new.looked.items ≡ self.old.looked.items ++ value ∷ [] }
         ensures same { (self.new.cells.now ≡ self.old.cells.now) × (self.new.piece ≡ self.old.piece) }
@@ -165,6 +165,21 @@ impl<'a> LookedCells<'a> {
         let next = self.number_to_note();
         note(&mut self.index, next, value);
         self.looked.push_reserved(value);
+    }
+
+    /// Takes the value of the next cell that the piece fetches. It takes no memory.
+    #[inline(always)]
+    pub fn push(&mut self, value: i64)
+        requires { length self.old.looked.items < vec_capacity self.old.looked }
+        ensures looked { self.new.looked.items ≡ self.old.looked.items ++ value ∷ [] }
+        ensures same { (self.new.cells.now ≡ self.old.cells.now) × (self.new.piece ≡ self.old.piece) }
+        ensures room { vec_capacity self.new.looked ≡ vec_capacity self.old.looked }
+    {
+        if self.rising {
+            self.looked.push_reserved(value);
+        } else {
+            self.push_noted(value);
+        }
     }
 
     /// The values of a piece, in the order of the cells that it fetches.

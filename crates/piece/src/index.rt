@@ -1,7 +1,7 @@
 //! Values by the numbers of their cells.
 
 ghost use Rattle.std.specs.Prelude.{◌≡◌, ◌<◌, ◌≤◌, ◌+◌, ℕ, nat_eq};
-ghost use Rattle.indexmap.specs.IndexMap.{get, index_map_len, spare};
+ghost use Rattle.indexmap.specs.IndexMap.{get, index_map_len, spare, IsEmpty};
 ghost use Rattle.piece.specs.Found.{number_or_zero, or_else, value_for};
 
 use indexmap::IndexMap;
@@ -22,6 +22,19 @@ pub(crate) fn note(index: &mut IndexMap<u32, i64>, number: Option<u32>, value: i
     let Ok(_) = index.insert(number, value) else {
         unreachable!()
     };
+}
+
+/// Forgets all values. The room stays. An index that has none stays as it is, since clearing it takes time with its room.
+#[tactic(auto, using(std::proofs::lemmas::List::nil_from_length))]
+pub(crate) fn forget(index: &mut IndexMap<u32, i64>)
+    ensures empty { IsEmpty index.new }
+    ensures len { index_map_len index.new ≡ 0 }
+    ensures room { index_map_len index.old + spare index.old ≤ spare index.new }
+{
+    if index.is_empty() {
+        return;
+    }
+    index.clear();
 }
 
 /// The value of a number, 0 where none is noted.

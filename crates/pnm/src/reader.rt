@@ -1,6 +1,6 @@
 //! Reading a file.
 
-ghost use Rattle.std.specs.Prelude.{◌≡◌, ◌⊎◌, ◌↔◌, ◌<◌, ◌≤◌, ◌+◌, ℕ, List, Option, true, false, fold, length, Ok, Err, MatchResult, IsErrOf, IfOk, IfErr, IfSome, OnErr, OnOk};
+ghost use Rattle.std.specs.Prelude.{◌≡◌, ◌⊎◌, ◌↔◌, ◌<◌, ◌≤◌, ◌+◌, ℕ, List, Option, true, false, fold, length, Ok, Err, MatchResult, IsErrOf, IfOk, IfErr, IfSome, OnErr, OnOk, vec_capacity};
 ghost use Rattle.std.specs.Io.KnownBytes.{Consumes, Keeps};
 ghost use Rattle.meaning.specs.Image.View.{image_of, shape_of, IsShape};
 ghost use Rattle.pnm.specs.declared.state.Wanted.{Wanted as WantedImage};
@@ -63,33 +63,33 @@ fn bytes_left(state: State) -> Option<usize>
     }
 }
 
-/// Takes bytes of a raw raster in which each is a sample, and so many samples are still to come: how many are left.
+/// Takes bytes of a raw raster in which each is a sample, where so many samples are still to come and have room: how many are left.
 #[tactic(auto, using(crate::proofs::InParts::bytes_more))]
-fn take_bytes(samples: &mut Vec<u16>, left: usize, bytes: &[u8]) -> Result<usize, PnmError>
-    requires { length bytes.now ≤ left }
-    ensures leads { IfOk result (λ after. (w : WantedImage) → fold (onward w) (Going (in_raster left) samples.old.items) bytes.now ≡ Going (in_raster after) samples.new.items) }
-    ensures left { IfOk result (λ after. after + length bytes.now ≡ left) }
-    ensures memory { IfErr result (λ e. e ≡ PnmError.Memory) }
+fn take_bytes(samples: &mut Vec<u16>, left: usize, bytes: &[u8]) -> usize
+    requires few { length bytes.now ≤ left }
+    requires room { length samples.old.items + left ≤ vec_capacity samples.old }
+    ensures leads { (w : WantedImage) → fold (onward w) (Going (in_raster left) samples.old.items) bytes.now ≡ Going (in_raster result) samples.new.items }
+    ensures left { result + length bytes.now ≡ left }
+    ensures room { length samples.new.items + result ≤ vec_capacity samples.new }
 {
     for byte in bytes {
-        match samples.push(u16::from(*byte)) {
-            Ok(()) => {}
-            Err(_) => return Err(PnmError::Memory),
-        }
+        samples.push_reserved(u16::from(*byte));
     }
-    Ok(left - bytes.len())
+    left - bytes.len()
 }
 
-/// Reads some samples of a raw raster in which each byte is one, where so many are still to come: how many are left.
+/// Reads some samples of a raw raster in which each byte is one, where so many are still to come and have room: how many are left.
 #[tactic(auto, using(crate::proofs::InParts::leads_on, crate::proofs::InParts::fewer_left))]
 fn read_part<S: Source>(
     source: &mut S,
     samples: &mut Vec<u16>,
     left: usize,
 ) -> Result<usize, PnmError>
-    requires { 0 < left }
+    requires some { 0 < left }
+    requires room { length samples.old.items + left ≤ vec_capacity samples.old }
     ensures leads { IfOk result (λ after. LeadsOn (S.remaining source.old) (S.remaining source.new) (in_raster left) samples.old.items (in_raster after) samples.new.items) }
     ensures fewer { IfOk result (λ after. after < left) }
+    ensures room { IfOk result (λ after. length samples.new.items + after ≤ vec_capacity samples.new) }
     ensures ends { IfErr result (λ e. EndsPart (S.remaining source.old) (S.remaining source.new) e) }
     ensures failed { S.has_failed source.old ≡ false → S.has_failed source.new ≡ true → IsErrOf result PnmError.Device }
     ensures device { IsErrOf result PnmError.Device → S.has_failed source.new ≡ true }
@@ -99,18 +99,20 @@ fn read_part<S: Source>(
     let part = &mut bytes[..left.min(4096)];
     match source.fill(part) {
         Ok(0) => Err(PnmError::TooShort),
-        Ok(count) => take_bytes(samples, left, &part[..count]),
+        Ok(count) => Ok(take_bytes(samples, left, &part[..count])),
         Err(e) => Err(e),
     }
 }
 
-/// Reads the samples of a raw raster in which each byte is one, of which so many are still to come, and the end of the file.
+/// Reads the samples of a raw raster in which each byte is one, of which so many are still to come and have room, and the end of
+/// the file.
 #[tactic(auto, using(crate::proofs::InParts::leads_nowhere, crate::proofs::InParts::leads_further, crate::proofs::InParts::raster_file, crate::proofs::InParts::raster_trails, crate::proofs::InParts::raster_fails, crate::proofs::InParts::raster_ends))]
-fn read_bytes<S: Source>(
+fn read_reserved<S: Source>(
     source: &mut S,
     mut samples: Vec<u16>,
     mut left: usize,
 ) -> Result<Vec<u16>, PnmError>
+    requires room { length samples.items + left ≤ vec_capacity samples }
     requires fresh { S.has_failed source.old ≡ false }
     ensures file { (w : WantedImage) (before : Option (List ℕ)) (bytes : List ℕ) → Consumes before (S.remaining source.old) bytes → walk w bytes ≡ Going (in_raster left) samples.items → IfOk result (λ all. ReadsFile w before (S.remaining source.new) all.items) }
     ensures refusal { (w : WantedImage) (before : Option (List ℕ)) (bytes : List ℕ) → Consumes before (S.remaining source.old) bytes → walk w bytes ≡ Going (in_raster left) samples.items → IfErr result (λ e. Refuses w before (S.remaining source.new) e) }
@@ -128,6 +130,26 @@ fn read_bytes<S: Source>(
         Ok(None) => Ok(samples),
         Ok(Some(_)) => Err(PnmError::Trailing),
         Err(e) => Err(e),
+    }
+}
+
+/// Reads the samples of a raw raster in which each byte is one, of which so many are still to come, and the end of the file. Memory
+/// is taken for those that have no room yet.
+fn read_bytes<S: Source>(
+    source: &mut S,
+    mut samples: Vec<u16>,
+    left: usize,
+) -> Result<Vec<u16>, PnmError>
+    requires fresh { S.has_failed source.old ≡ false }
+    ensures file { (w : WantedImage) (before : Option (List ℕ)) (bytes : List ℕ) → Consumes before (S.remaining source.old) bytes → walk w bytes ≡ Going (in_raster left) samples.items → IfOk result (λ all. ReadsFile w before (S.remaining source.new) all.items) }
+    ensures refusal { (w : WantedImage) (before : Option (List ℕ)) (bytes : List ℕ) → Consumes before (S.remaining source.old) bytes → walk w bytes ≡ Going (in_raster left) samples.items → IfErr result (λ e. Refuses w before (S.remaining source.new) e) }
+    ensures failed { S.has_failed source.new ≡ true → IsErrOf result PnmError.Device }
+    ensures device { IsErrOf result PnmError.Device → S.has_failed source.new ≡ true }
+    ensures same { S.identity source.new ≡ S.identity source.old }
+{
+    match samples.reserve(left) {
+        Ok(()) => read_reserved(source, samples, left),
+        Err(_) => Err(PnmError::Memory),
     }
 }
 

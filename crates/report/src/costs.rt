@@ -26,7 +26,7 @@ use plan::{Group, Plan};
 use std::alloc::{AllocError, Global};
 
 /// What a stored function costs. A number above the greatest `u64` is given as that.
-#[derive(Debug, Drop)]
+#[derive(Drop)]
 pub struct FunctionCost {
     /// The function's name.
     pub name: String,
@@ -41,7 +41,7 @@ pub struct FunctionCost {
 }
 
 /// What a plan costs: its stored functions, in the order of their declaration.
-#[derive(Debug, Drop)]
+#[derive(Drop)]
 pub struct Costs {
     pub functions: Vec<FunctionCost>,
 }

@@ -7,7 +7,7 @@ use lin::Sym;
 use std::alloc::{AllocError, Global};
 
 /// The value of a symbol lies from `low` to `high`, and it may be the first turn of the symbol's loop, or a later one.
-#[derive(Clone, Copy, Debug, Drop)]
+#[derive(Clone, Copy, Drop)]
 pub(crate) struct Binding {
     pub symbol: Sym,
     pub low: i64,

@@ -14,7 +14,7 @@ use crate::known::{Binding, known_of};
 use lin::{Forms, Lin, Multiple, Span1};
 
 /// The numbers from one to another.
-#[derive(Clone, Copy, Debug, Drop)]
+#[derive(Clone, Copy, Drop)]
 pub(crate) struct Range {
     pub low: i64,
     pub high: i64,

@@ -11,7 +11,7 @@ ghost use Rattle.report.specs.Tally.{block_counts, some_counts};
 use plan::{Group, Stmt};
 
 /// What is counted of a function.
-#[derive(Clone, Copy, Debug, Drop)]
+#[derive(Clone, Copy, Drop)]
 pub(crate) enum Deed {
     /// Stores into its buffers.
     Store,

@@ -1,12 +1,21 @@
 //! The program over the real files and streams. Without words it runs one algorithm from standard input to standard output.
 #![tactic(auto)]
 
+mod compare;
+mod compiling;
 mod escaped;
+mod explaining;
+mod program;
 mod progress;
+mod reasons;
+mod schedule_command;
 mod system;
 
 use crate::escaped::Escaped;
+use crate::program::tool;
 use crate::system::SystemFiles;
+use commands::pipeline::Fault;
+use commands::{Files, status};
 use std::alloc::Global;
 use std::env::Env;
 use std::io::{BufReader, BufWriter, Error, ErrorKind, Read, Write};
@@ -14,7 +23,6 @@ use std::process::ExitCode;
 use std::sync::Wait;
 use std::thread::Threads;
 use std::{env, io, str};
-use tool::{Fault, Files, status, tool};
 
 // The status of a command line fault.
 const MISUSED: u8 = 2;

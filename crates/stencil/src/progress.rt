@@ -1,9 +1,9 @@
 //! The line that tells how far a picture has come.
 
+use commands::Gate;
 use std::io::{IsTerminal, Write};
 use std::sync::atomic::{AtomicU64, AtomicUsize, Ordering};
 use std::time::Instant;
-use tool::Gate;
 
 // The line is written at most once in so many milliseconds.
 const TURN: u128 = 250;

@@ -1,11 +1,11 @@
 //! The files of the system.
 
 use crate::progress::Progress;
+use commands::{FileError, Files};
 use std::fs;
 use std::fs::{OpenOptions, TryLockError};
 use std::io::{self, Error, ErrorKind, Read, Write};
 use std::os::unix::fs::MetadataExt;
-use tool::{FileError, Files};
 
 // The name that stands for standard input where a file is read, and for standard output where one is written.
 const STREAM: &str = "-";
@@ -29,6 +29,8 @@ pub(crate) struct SystemFiles<'a> {
     pub(crate) rt: &'a HostRuntime,
     /// Room for the name of a file that is being written.
     part: String,
+    /// What is told of the file that could not be read or written last; nothing where there was none.
+    failure: String,
 }
 
 impl<'a> SystemFiles<'a> {
@@ -36,7 +38,8 @@ impl<'a> SystemFiles<'a> {
     pub(crate) fn new(rt: &'a HostRuntime, words: &[&str]) -> io::Result<SystemFiles<'a>> {
         let longest = words.iter().map(|word| word.len()).max().unwrap_or(0);
         let part = String::with_capacity(rt.alloc(), longest.saturating_add(ENDING))?;
-        Ok(SystemFiles { rt, part })
+        let failure = String::new(rt.alloc());
+        Ok(SystemFiles { rt, part, failure })
     }
 
     /// Writes a file or standard output.
@@ -50,6 +53,33 @@ impl<'a> SystemFiles<'a> {
             Place::Other => fs::write(self.rt, name, bytes),
         }
     }
+}
+
+/// What a file that is read is called.
+fn read_name(name: &str) -> &str {
+    if name == STREAM {
+        "standard input"
+    } else {
+        name
+    }
+}
+
+/// What a file that is written is called.
+fn written_name(name: &str) -> &str {
+    if name == STREAM {
+        "standard output"
+    } else {
+        name
+    }
+}
+
+/// What is told of a file that could not be read or written; nothing where memory runs out.
+fn failure(rt: &HostRuntime, name: &str, act: &str, error: &Error) -> String {
+    let mut told = String::new(rt.alloc());
+    if write!(told, "{name} can't be {act}: {error}").is_err() {
+        told.clear();
+    }
+    told
 }
 
 fn file_error(error: &Error) -> FileError {
@@ -234,7 +264,11 @@ impl<'a> Files for SystemFiles<'a> {
     }
 
     fn get(&mut self, _alloc: std::alloc::Global, name: &str) -> Result<Vec<u8>, FileError> {
-        read(self.rt, name).map_err(|error| file_error(&error))
+        let outcome = read(self.rt, name);
+        if let Err(error) = &outcome {
+            self.failure = failure(self.rt, read_name(name), "read", error);
+        }
+        outcome.map_err(|error| file_error(&error))
     }
 
     /// A regular file is read again; a stream, a pipe or a device is not.
@@ -249,6 +283,18 @@ impl<'a> Files for SystemFiles<'a> {
 
     /// A regular file is written beside its place and renamed when it is whole, so that a failure leaves the old one.
     fn put(&mut self, name: &str, bytes: &[u8]) -> Result<(), FileError> {
-        self.write(name, bytes).map_err(|error| file_error(&error))
+        let outcome = self.write(name, bytes);
+        if let Err(error) = &outcome {
+            self.failure = failure(self.rt, written_name(name), "written", error);
+        }
+        outcome.map_err(|error| file_error(&error))
+    }
+
+    fn failure(&self) -> Option<&str> {
+        if self.failure.is_empty() {
+            None
+        } else {
+            Some(self.failure.as_str())
+        }
     }
 }

@@ -1,5 +1,5 @@
 -- Plan files: what they say, and why a text is none.
-use Rattle.std.specs.Prelude.{◌⊎◌, ℕ, List}
+use Rattle.std.specs.Prelude.{◌≡◌, ◌⊎◌, ℕ, List}
 use Rattle.plan.specs.Plan.{Plan}
 use Rattle.plan.specs.Lines.{certificate_line}
 use Rattle.plan.specs.Certificate.Certificate.{Certificate}
@@ -29,3 +29,7 @@ pub record IsRefusedFile (text : List ℕ) (error : TextError) : Type 0 where
   pub back : List ℕ
   pub cut : IsCut text front back
   pub refused : IsRefused plan_notation 1 front error ⊎ CertificateRefused front back error
+
+-- each text is the file of one plan with one certificate at most
+abbrev pub OneFile : Type 0
+OneFile = (text : List ℕ) (p q : Plan) (c d : Certificate) → IsFileOf text p c → IsFileOf text q d → (p ≡ q) × (c ≡ d)

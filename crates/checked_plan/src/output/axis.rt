@@ -10,7 +10,7 @@ use lin::Span1;
 use std::alloc::{AllocError, Global};
 
 /// A coordinate of a region: its low end and how many whole numbers it has from there on.
-#[derive(Clone, Copy, Debug, PartialEq, Eq, Drop)]
+#[derive(Clone, Copy, PartialEq, Eq, Drop)]
 pub struct Axis {
     pub low: i64,
     pub count: u32,

@@ -1,11 +1,16 @@
 //! What is told of a value of the command line that is no number or code as it is wanted.
 
+ghost use Rattle.std.specs.Prelude.{◌≡◌, IfOk};
+ghost use Rattle.clap.specs.Words.{kind_of};
+
 use crate::limit::{limit_spelled, side_spelled};
+use crate::words::described::{called_command, command_line};
 use crate::words::names::{
     AT_MOST, CODE, HEIGHT, LEFT, TILE_HEIGHT, TILE_WIDTH, TOP, WIDTH, WORKERS,
 };
 use crate::workers::workers_spelled;
-use clap::ArgMatches;
+use clap::error::ErrorKind;
+use clap::{ArgMatches, Command, Error};
 use report::codes::page;
 use std::alloc::{AllocError, Global};
 
@@ -126,9 +131,26 @@ fn told_of(alloc: Global, words: &ArgMatches<'_>) -> Result<String, AllocError> 
 }
 
 /// What is told where the words are as they are wanted, but for a value that is no number or code.
-pub(super) fn unfit_told(alloc: Global, matches: &ArgMatches<'_>) -> Result<String, AllocError> {
+fn unfit_told(alloc: Global, matches: &ArgMatches<'_>) -> Result<String, AllocError> {
     match matches.subcommand() {
         Some((_, words)) => told_of(alloc, words),
         None => String::from_str(alloc, "a command is wanted"),
     }
+}
+
+/// The command that the words name.
+fn named_command<'a>(alloc: Global, matches: &ArgMatches<'_>) -> Result<Command<'a>, AllocError> {
+    match matches.subcommand() {
+        Some((name, _)) => called_command(alloc, name),
+        None => command_line(alloc),
+    }
+}
+
+/// The fault of words that are as they are wanted, but for a value that is no number or code, with the usage of their command.
+pub(super) fn unfit(alloc: Global, matches: &ArgMatches<'_>) -> Result<Error, AllocError>
+    ensures { IfOk result (λ error. kind_of error ≡ ErrorKind.ValueValidation) }
+{
+    let told = unfit_told(alloc, matches)?;
+    let mut command = named_command(alloc, matches)?;
+    command.error(ErrorKind::ValueValidation, told.as_str())
 }

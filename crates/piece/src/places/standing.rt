@@ -8,7 +8,7 @@ ghost use Rattle.piece.specs.Places.Places.{IsPlaceOf};
 use plan::Plan;
 
 /// Where a piece stands: the number of its group, and how many pieces of that group come before it.
-#[derive(Clone, Copy, Debug, PartialEq, Eq, Drop)]
+#[derive(Clone, Copy, PartialEq, Eq, Drop)]
 pub struct Place {
     pub group: usize,
     pub rank: u32,

@@ -4,7 +4,7 @@ use crate::drawing::canvas::Canvas;
 use std::alloc::{AllocError, Global};
 
 /// A colour: how much there is of each light.
-#[derive(Clone, Copy, Debug, PartialEq, Eq, Drop)]
+#[derive(Clone, Copy, PartialEq, Eq, Drop)]
 pub(crate) struct Colour {
     pub red: u8,
     pub green: u8,

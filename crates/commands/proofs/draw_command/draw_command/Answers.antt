@@ -1,106 +1,59 @@
 -- The files stay as they are until the drawing is put; what was read before then is the reason of each refusal.
-use Rattle.std.proofs.Common.{ap, sym, subst, List, ℕ, inl, inr}
+use Rattle.std.proofs.Common.{List, ℕ, ap, inl, inr, refl, subst, sym}
 use Rattle.std.proofs.lemmas.Result.{err_from_is_err_and}
+use Rattle.commands.proofs.Kept.{of_device, same_then}
+use Rattle.commands.proofs.Sourced.{check_refused, check_unread, drawing_kept, drawing_put, is_checked, not_drawn, plan_of_file}
+use Rattle.commands.proofs.Ways.{told}
 use Rattle.meaning.specs.Algorithm.{Algorithm}
-use Rattle.algo.specs.Refusal.{IsAlgorithmText}
 use Rattle.algo.specs.View.{algorithm_of}
-use Rattle.commands.proofs.Drawn.{ordered_before, unordered_before}
-use Rattle.commands.proofs.Kept.{of_device, others_then, same_then}
-use Rattle.commands.proofs.Prepared.{fault_before, plan_before}
-use Rattle.commands.specs.Draws.{IsDrawingFile, IsUnordered}
-use Rattle.commands.specs.Pictures.{IsPlanFault}
+use Rattle.commands.specs.Draws.{IsDrawingFile}
+use Rattle.commands.specs.Status.{fault_of}
 use Rattle.commands.proofs.draw_command.draw_command.Goals as goal
+
+pub returns-in_err-algo-clause-refused : goal.returns-in_err-algo-clause-refused
+returns-in_err-algo-clause-refused g c =
+    let e = c.in_err-algo.field-0.0 in
+    let p = err_from_is_err_and c.from_residual.result c.from_residual.ensures.1 in
+    told _ c.from_residual.result p.0 e p.1 p.2 (inl (c.algorithm_file.ensures.same, inr (inl (check_unread _ _ e c.in_err-algo.ensures.refused))))
 
 pub returns-in_err-checked-clause-refused : goal.returns-in_err-checked-clause-refused
 returns-in_err-checked-clause-refused g c =
+    let before = same_then _ _ _ c.algorithm_file.ensures.same c.plan_in.ensures.same in
+    let e = c.in_err-checked.field-0.0 in
     let p = err_from_is_err_and c.from_residual-in_err-checked.result c.from_residual-in_err-checked.ensures.1 in
-    let a : Algorithm = algorithm_of c.in_ok-algo.algo in
-    let IsText : List ℕ → Type 0 = λ bytes. IsAlgorithmText bytes a in
-    let refused : IsPlanFault (g.F.Files.contents c.get.new.self) _ a p.0 = rw p.2 c.in_err-checked.ensures.refused in
-    rw p.1 (inl (
-      same_then _ _ _ c.get.ensures.same c.plan_in.ensures.same,
-      inr (inl (inr (inr (record {
-        text = c.in_ok-text.text.items;
-        algorithm = a;
-        holds_text = c.in_ok-text.ensures.bytes;
-        is_text = subst IsText c.as_slice.ensures.value c.in_ok-algo.ensures.said;
-        refused = fault_before _ _ _ a _ c.get.ensures.same refused;
-      })))),
-    ))
-
-pub returns-in_err-crew-clause-refused : goal.returns-in_err-crew-clause-refused
-returns-in_err-crew-clause-refused g c =
-    let p = err_from_is_err_and c.from_residual-in_err-crew.result c.from_residual-in_err-crew.ensures.1 in
-    let before = same_then _ _ _ c.get.ensures.same c.plan_in.ensures.same in
-    let a : Algorithm = algorithm_of c.in_ok-algo.algo in
-    let IsText : List ℕ → Type 0 = λ bytes. IsAlgorithmText bytes a in
-    let refused : IsUnordered (g.F.Files.contents c.plan_in.new.files) _ p.0 = rw p.2 c.in_err-crew.ensures.refused in
-    rw p.1 (inl (
-      same_then _ _ _ before c.crew_asked.ensures.same,
-      inr (inr (record {
-        checked = record {
-          text = c.in_ok-text.text.items;
-          algorithm = a;
-          holds_text = c.in_ok-text.ensures.bytes;
-          is_text = subst IsText c.as_slice.ensures.value c.in_ok-algo.ensures.said;
-          planned = plan_before _ _ _ a c.get.ensures.same (c.in_ok-checked.ensures.accepted.0, c.in_ok-checked.ensures.accepted.1, (c.in_ok-checked.checked.plan, c.in_ok-checked.checked.cert, c.in_ok-checked.ensures.accepted.2));
-        };
-        refused = unordered_before _ _ _ _ before refused;
-      })),
+    told _ c.from_residual-in_err-checked.result p.0 e p.1 p.2 (inl (
+      before,
+      inr (inl (check_refused _ _ _ c.in_ok-algo.ensures.said _ c.algorithm_file.ensures.same e
+          c.in_err-checked.ensures.refused)),
     ))
 
 pub returns-in_err-file-clause-refused : goal.returns-in_err-file-clause-refused
 returns-in_err-file-clause-refused g c =
+    let said = c.in_ok-algo.ensures.said in
+    let checked = is_checked _ _ _ said _ c.algorithm_file.ensures.same (plan_of_file _ _ _ c.in_ok-checked.checked c.in_ok-checked.ensures.accepted) in
+    let before = same_then _ _ _ c.algorithm_file.ensures.same c.plan_in.ensures.same in
+    let e = c.in_err-file.field-0.0 in
     let p = err_from_is_err_and c.from_residual-in_err-file.result c.from_residual-in_err-file.ensures.1 in
-    let before = same_then _ _ _ c.get.ensures.same c.plan_in.ensures.same in
-    rw p.1 (inl (same_then _ _ _ before c.crew_asked.ensures.same, inl (inl p.2)))
+    told _ c.from_residual-in_err-file.result p.0 e p.1 p.2 (not_drawn _ _ checked _ before _ e c.drawn.ensures.same c.in_err-file.ensures.refused)
 
 pub returns-in_err-put-clause-refused : goal.returns-in_err-put-clause-refused
 returns-in_err-put-clause-refused g c =
+    let said = c.in_ok-algo.ensures.said in
+    let checked = is_checked _ _ _ said _ c.algorithm_file.ensures.same (plan_of_file _ _ _ c.in_ok-checked.checked c.in_ok-checked.ensures.accepted) in
+    let before = same_then _ _ _ c.algorithm_file.ensures.same c.plan_in.ensures.same in
+    let Drawing : Algorithm → Type 0 = λ x. IsDrawingFile x c.in_ok-file.file.items in
+    let is = subst Drawing (ap algorithm_of c.in_ok-checked.ensures.algo) c.in_ok-file.ensures.drawn in
+    let e = c.in_err-put.field-0.0 in
     let p = err_from_is_err_and c.from_residual-in_err-put.result c.from_residual-in_err-put.ensures.1 in
-    let before = same_then _ _ _ c.get.ensures.same c.plan_in.ensures.same in
-    let same = same_then _ _ _ before c.crew_asked.ensures.same in
-    let a : Algorithm = algorithm_of c.in_ok-algo.algo in
-    let IsText : List ℕ → Type 0 = λ bytes. IsAlgorithmText bytes a in
-    let IsFile : Algorithm → Type 0 = λ b. IsDrawingFile b c.in_ok-file.file.items in
-    rw p.1 (inr (
-      of_device _ _ p.2,
-      others_then _ _ _ _ same c.in_err-put.ensures.others,
-      (
-        c.in_ok-file.file.items,
-        record {
-          checked = record {
-            text = c.in_ok-text.text.items;
-            algorithm = a;
-            holds_text = c.in_ok-text.ensures.bytes;
-            is_text = subst IsText c.as_slice.ensures.value c.in_ok-algo.ensures.said;
-            planned = plan_before _ _ _ a c.get.ensures.same (c.in_ok-checked.ensures.accepted.0, c.in_ok-checked.ensures.accepted.1, (c.in_ok-checked.checked.plan, c.in_ok-checked.checked.cert, c.in_ok-checked.ensures.accepted.2));
-          };
-          ordered = ordered_before _ _ _ before c.in_ok-crew.ensures.ordered;
-          drawn = subst IsFile (ap algorithm_of c.in_ok-checked.ensures.algo) c.in_ok-file.ensures;
-        },
-      ),
-    ))
+    told _ c.from_residual-in_err-put.result p.0 (fault_of e) p.1 p.2 (drawing_kept _ _ checked _ before _ _ c.in_ok-file.file.items c.drawn.ensures.same c.in_ok-file.ensures.ordered is (fault_of e)
+    (of_device e (fault_of e) refl) c.in_err-put.ensures.others)
 
 pub returns-clause-done : goal.returns-clause-done
 returns-clause-done g c =
-    let before = same_then _ _ _ c.get.ensures.same c.plan_in.ensures.same in
-    let same = same_then _ _ _ before c.crew_asked.ensures.same in
-    let a : Algorithm = algorithm_of c.in_ok-algo.algo in
-    let IsText : List ℕ → Type 0 = λ bytes. IsAlgorithmText bytes a in
-    let IsFile : Algorithm → Type 0 = λ b. IsDrawingFile b c.in_ok-file.file.items in
-    let Is : List ℕ → Type 0 = λ bytes. IsDrawingFile a bytes in (
-      c.as_slice-2.result.now,
-      record {
-        checked = record {
-          text = c.in_ok-text.text.items;
-          algorithm = a;
-          holds_text = c.in_ok-text.ensures.bytes;
-          is_text = subst IsText c.as_slice.ensures.value c.in_ok-algo.ensures.said;
-          planned = plan_before _ _ _ a c.get.ensures.same (c.in_ok-checked.ensures.accepted.0, c.in_ok-checked.ensures.accepted.1, (c.in_ok-checked.checked.plan, c.in_ok-checked.checked.cert, c.in_ok-checked.ensures.accepted.2));
-        };
-        ordered = ordered_before _ _ _ before c.in_ok-crew.ensures.ordered;
-        drawn = subst Is (sym c.as_slice-2.ensures.value) (subst IsFile (ap algorithm_of c.in_ok-checked.ensures.algo) c.in_ok-file.ensures);
-      },
-      (c.in_ok-put.ensures.put.0, others_then _ _ _ _ same c.in_ok-put.ensures.put.1),
-    )
+    let said = c.in_ok-algo.ensures.said in
+    let checked = is_checked _ _ _ said _ c.algorithm_file.ensures.same (plan_of_file _ _ _ c.in_ok-checked.checked c.in_ok-checked.ensures.accepted) in
+    let before = same_then _ _ _ c.algorithm_file.ensures.same c.plan_in.ensures.same in
+    let Drawing : Algorithm → Type 0 = λ x. IsDrawingFile x c.in_ok-file.file.items in
+    let is = subst Drawing (ap algorithm_of c.in_ok-checked.ensures.algo) c.in_ok-file.ensures.drawn in
+    let Is : List ℕ → Type 0 = λ bytes. IsDrawingFile (algorithm_of c.in_ok-algo.algo) bytes in
+    drawing_put _ _ checked _ before _ _ c.as_slice.result.now c.drawn.ensures.same c.in_ok-file.ensures.ordered (subst Is (sym c.as_slice.ensures.value) is) c.in_ok-put.ensures.put

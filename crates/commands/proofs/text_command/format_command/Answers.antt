@@ -1,56 +1,32 @@
--- The files stay as they are until the text is put; what was read before then is the reason of each refusal.
-use Rattle.std.proofs.Common.{subst, sym, List, ℕ, inr, length, string_bytes}
+use Rattle.std.proofs.Common.{List, ℕ, refl, string_bytes, subst, sym}
 use Rattle.std.proofs.lemmas.Result.{err_from_is_err_and}
-use Rattle.meaning.specs.Algorithm.{Algorithm}
-use Rattle.algo.specs.Refusal.{IsAlgorithmText}
-use Rattle.algo.specs.View.{algorithm_of}
-use Rattle.commands.proofs.Formatted.{not_spelled}
-use Rattle.commands.proofs.Kept.{of_device, others_then}
-use Rattle.commands.specs.Formats.{IsCanonical, IsNotSpelled}
+use Rattle.commands.proofs.Kept.{of_device}
+use Rattle.commands.proofs.Sourced.{format_kept, format_put, unformatted}
+use Rattle.commands.proofs.Ways.{told}
+use Rattle.commands.specs.Sources.{IsFormattedText, IsUnformatted}
+use Rattle.commands.specs.Status.{fault_of}
 use Rattle.commands.proofs.text_command.format_command.Goals as goal
 
 pub returns-in_err-text-clause-refused : goal.returns-in_err-text-clause-refused
 returns-in_err-text-clause-refused g c =
+    let e = c.in_err-text.field-0.0 in
     let p = err_from_is_err_and c.from_residual-in_err-text.result c.from_residual-in_err-text.ensures.1 in
-    let a : Algorithm = algorithm_of c.in_ok-algo.algo in
-    let IsText : List ℕ → Type 0 = λ bytes. IsAlgorithmText bytes a in
-    let IsUnspelled : List ℕ → Type 0 = λ bytes. IsNotSpelled a (length bytes) p.0 in
-    let refused : IsUnspelled c.as_slice-2.result.now = rw p.2 c.in_err-text.ensures.refused in
-    rw p.1 (not_spelled _ _ _ c.in_ok-bytes.bytes.items a _ c.get.ensures.same c.in_ok-bytes.ensures.bytes (subst IsText c.as_slice.ensures.value c.in_ok-algo.ensures.said)
-    (subst IsUnspelled c.as_slice-2.ensures.value refused))
+    let Refused : List ℕ → Type 0 = λ bytes. IsUnformatted bytes e in
+    told _ c.from_residual-in_err-text.result p.0 e p.1 p.2
+    (unformatted _ _ _ c.in_ok-bytes.bytes.items c.get.ensures.same c.in_ok-bytes.ensures.bytes e (subst Refused c.as_slice.ensures.value c.in_err-text.ensures.refused))
 
 pub returns-in_err-put-clause-refused : goal.returns-in_err-put-clause-refused
 returns-in_err-put-clause-refused g c =
+    let e = c.in_err-put.field-0.0 in
     let p = err_from_is_err_and c.from_residual-in_err-put.result c.from_residual-in_err-put.ensures.1 in
-    let a : Algorithm = algorithm_of c.in_ok-algo.algo in
-    let IsText : List ℕ → Type 0 = λ bytes. IsAlgorithmText bytes a in
-    rw p.1 (inr (
-      of_device _ _ p.2,
-      others_then _ _ _ _ c.get.ensures.same c.in_err-put.ensures.others,
-      (
-        string_bytes c.in_ok-text.text,
-        record {
-          text = c.in_ok-bytes.bytes.items;
-          algorithm = a;
-          holds_text = c.in_ok-bytes.ensures.bytes;
-          is_text = subst IsText c.as_slice.ensures.value c.in_ok-algo.ensures.said;
-          canonical = c.in_ok-text.ensures.canonical;
-        },
-      ),
-    ))
+    let Made : List ℕ → Type 0 = λ bytes. IsFormattedText bytes (string_bytes c.in_ok-text.text) in
+    told _ c.from_residual-in_err-put.result p.0 (fault_of e) p.1 p.2
+    (format_kept _ _ _ c.in_ok-bytes.bytes.items c.get.ensures.same c.in_ok-bytes.ensures.bytes _ _ (subst Made c.as_slice.ensures.value c.in_ok-text.ensures.formatted)
+    (fault_of e) (of_device e (fault_of e) refl) c.in_err-put.ensures.others)
 
 pub returns-clause-done : goal.returns-clause-done
 returns-clause-done g c =
-    let a : Algorithm = algorithm_of c.in_ok-algo.algo in
-    let IsText : List ℕ → Type 0 = λ bytes. IsAlgorithmText bytes a in
-    let Is : List ℕ → Type 0 = λ bytes. IsCanonical a bytes in (
-      c.as_bytes.result.now,
-      record {
-        text = c.in_ok-bytes.bytes.items;
-        algorithm = a;
-        holds_text = c.in_ok-bytes.ensures.bytes;
-        is_text = subst IsText c.as_slice.ensures.value c.in_ok-algo.ensures.said;
-        canonical = subst Is (sym c.as_bytes.ensures.value) c.in_ok-text.ensures.canonical;
-      },
-      (c.in_ok-put.ensures.put.0, others_then _ _ _ _ c.get.ensures.same c.in_ok-put.ensures.put.1),
-    )
+    let Made : List ℕ → Type 0 = λ bytes. IsFormattedText bytes c.as_bytes.result.now in
+    let Is : List ℕ → Type 0 = λ bytes. IsFormattedText c.as_slice.result.now bytes in
+    format_put _ _ _ c.in_ok-bytes.bytes.items c.get.ensures.same c.in_ok-bytes.ensures.bytes _ _
+    (subst Made c.as_slice.ensures.value (subst Is (sym c.as_bytes.ensures.value) c.in_ok-text.ensures.formatted)) c.in_ok-put.ensures.put

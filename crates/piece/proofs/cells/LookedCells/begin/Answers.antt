@@ -12,7 +12,7 @@ invariant_of-self c =
     let list = c.fetched_of.ensures ∙ ap (λ (y : Checked). numbers_of_piece (plan_checked y) c.args.piece) c.checked.ensures in
     record {
       rise = (λ yes. subst (λ (ns : List ℕ). IsStrictlyIncreasing ns) list (OnTrue_at yes c.is_rising-self.ensures));
-      found = (λ not n. none_yet n c.clear-2.new.self.entries _ c.clear.new.self.items c.clear-2.ensures.empty c.clear.ensures.items);
-      few = omega (arith, c.clear-2.ensures.len);
-      room = omega (arith, c.clear.ensures.capacity, c.clear-2.ensures.capacity, c.args.self.now.room);
+      found = (λ not n. none_yet n c.forget.new.index.entries _ c.clear.new.self.items c.forget.ensures.empty c.clear.ensures.items);
+      few = omega (arith, c.forget.ensures.len);
+      room = omega (arith, c.clear.ensures.capacity, c.forget.ensures.room, c.args.self.now.room);
     }

@@ -5,7 +5,7 @@ use Rattle.checked_plan.specs.View.{plan_checked}
 use Rattle.piece.specs.Found.{first_found, or_else, value_for}
 use Rattle.piece.specs.Looked.{numbers_of_piece}
 use Rattle.piece.proofs.Values.{found_next}
-use Rattle.piece.proofs.cells.LookedCells.push.Goals as goal
+use Rattle.piece.proofs.cells.LookedCells.push_noted.Goals as goal
 use mir.Syntax.{w64}
 use mir.Val.{of_z, to_z}
 

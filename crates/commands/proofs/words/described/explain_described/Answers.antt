@@ -1,0 +1,4 @@
+use Rattle.commands.proofs.words.described.explain_described.Goals as goal
+
+pub returns : goal.returns
+returns c = c.described.ensures

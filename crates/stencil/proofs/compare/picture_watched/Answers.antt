@@ -1,0 +1,7 @@
+use Rattle.std.proofs.Common.{inl}
+use Rattle.std.proofs.lemmas.Result.{IfErr-weaker}
+use Rattle.stencil.proofs.compare.picture_watched.Goals as goal
+
+pub returns-clause-refused : goal.returns-clause-refused
+returns-clause-refused g c =
+    IfErr-weaker c.plan_picture.result _ _ (λ fault h. inl h) c.plan_picture.ensures.refused

@@ -1,0 +1,33 @@
+use Rattle.std.proofs.Common.{◌∙◌, inr}
+use Rattle.std.proofs.lemmas.Result.{IfErr-weaker, IfOk-weaker}
+use Rattle.meaning.specs.Algorithm.{Algorithm}
+use Rattle.algo.specs.View.{algorithm_of}
+use Rattle.sched.specs.Schedule.{Schedule}
+use Rattle.sched.specs.View.{schedule_of}
+use Rattle.stencil.specs.Compiling.{IsCompiledPlan, IsNotCompiled, IsUnaccepted}
+use Rattle.commands.specs.Pipeline.PlanFiles.{IsAccepted}
+use Rattle.stencil.proofs.Limited.{is_limit}
+use Rattle.stencil.proofs.compiling.compile_checked.Goals as goal
+
+pub returns-clause-refused : goal.returns-clause-refused
+returns-clause-refused g c =
+    let a : Algorithm = algorithm_of c.args.algo.now in
+    let s : Schedule = schedule_of c.args.sched.now in
+    IfErr-weaker c.accept.result (IsUnaccepted a c.as_str.result.now) (IsNotCompiled a s)
+    (λ fault unaccepted. inr (inr (record {
+      text = c.as_str.result.now;
+      of_schedule = record { made = c.in_ok-plan.plan; lowered = c.in_ok-plan.ensures.made; written = c.as_str.ensures.value ∙ c.in_ok-file.ensures };
+      refused = unaccepted;
+      limit = λ splits names read. is_limit a c.as_str.result.now c.in_ok-plan.plan fault (c.in_ok-plan.ensures.made.limits splits names) read unaccepted;
+    }))) c.accept.ensures.refused
+
+pub returns-clause-of_schedule : goal.returns-clause-of_schedule
+returns-clause-of_schedule g c =
+    let a : Algorithm = algorithm_of c.args.algo.now in
+    let s : Schedule = schedule_of c.args.sched.now in
+    IfOk-weaker c.accept.result (λ checked. IsAccepted a c.as_str.result.now checked.plan checked.cert) (λ checked. IsCompiledPlan a s checked.plan checked.cert)
+    (λ checked accepted. record {
+      text = c.as_str.result.now;
+      of_schedule = record { made = c.in_ok-plan.plan; lowered = c.in_ok-plan.ensures.made; written = c.as_str.ensures.value ∙ c.in_ok-file.ensures };
+      accepted = accepted;
+    }) c.accept.ensures.read

@@ -1,0 +1,14 @@
+use Rattle.std.proofs.Common.{inr}
+use Rattle.stencil.proofs.Explained.{stated_answer}
+use Rattle.commands.proofs.Kept.{same_refl}
+use Rattle.stencil.proofs.Streams.{streams_answer}
+use Rattle.stencil.proofs.program.tool.Goals as goal
+
+pub returns-then-is_empty-clause-streams : goal.returns-then-is_empty-clause-streams
+returns-then-is_empty-clause-streams g c = λ none. streams_answer _ _ c.increment.result _ c.increment.ensures.done c.increment.ensures.refused c.answer.ensures
+
+pub returns-in-Ok-clause-command : goal.returns-in-Ok-clause-command
+returns-in-Ok-clause-command g c = λ some. stated_answer (λ word. word.now) c.as_slice.result.now c.in-Ok.stated.items c.args.words.now _ _ _ c.as_slice.ensures.value c.in-Ok.ensures c.tool_on.ensures
+
+pub returns-in-Err-clause-command : goal.returns-in-Err-clause-command
+returns-in-Err-clause-command g c = λ some. inr (same_refl _, inr (inr c.answer-in-Err.ensures))

@@ -1,0 +1,113 @@
+-- From a schedule to the file of a plan: what a text is read as, and why no plan file comes of it.
+use Rattle.std.specs.Prelude.{◌≡◌, ◌⊎◌, ◌++◌, ℕ, List, ⊤}
+use Rattle.meaning.specs.Algorithm.{Algorithm}
+use Rattle.sched.specs.Schedule.{Schedule}
+use Rattle.sched.specs.Grammar.{IsTextOf}
+use Rattle.sched.specs.Legal.{IsLegal}
+use Rattle.sched.specs.Text.{IsRefused as IsRefusedText}
+use Rattle.sched.specs.declared.error.SchedError.{SchedError}
+use Rattle.lower.specs.Refused.{AreRegionsKept, AreSmall, AreUsesInside, IsRefused as IsRefusedSchedule}
+use Rattle.lower.specs.Groups.{AreGroupsMade}
+use Rattle.completeness.specs.Laws.{HasOwnLines, NamesNoLoad, WholeStands}
+use Rattle.completeness.specs.Told.{SplitsNothing, TellsLimitsAlone}
+use Rattle.lower.specs.declared.error.LowerError.{LowerError}
+use Rattle.lower.specs.declared.lowering.Lowered.{Lowered}
+use Rattle.soundness.specs.declared.outline.refusals.code.K.TheVariants.{K14}
+use Rattle.plan.specs.Plan.{Plan as PlanSaid}
+use Rattle.plan.specs.View.{plan_of}
+use Rattle.plan.specs.declared.plan.Plan.{Plan as PlanMade}
+use Rattle.plan.specs.declared.certificate.cert.Cert.{Cert}
+use Rattle.plan.specs.Certificate.Certificate.{Certificate, certificate_of}
+use Rattle.spelling.specs.Lines.Lines.{lines_text}
+use Rattle.spelling.specs.declared.lines.error.TextError.TheVariants as read
+use Rattle.nest.specs.Notation.{plan_notation}
+use Rattle.cert.specs.Notation.{certificate_lines}
+use Rattle.cert.specs.File.File.{IsFileOf, IsRefusedFile}
+use Rattle.commands.specs.declared.pipeline.fault.Fault.{Fault}
+use Rattle.commands.specs.declared.pipeline.fault.Fault.TheVariants.{Memory, Plan}
+use Rattle.commands.specs.Pipeline.Faults.{schedule_fault}
+use Rattle.stencil.specs.Faults.{lower_fault}
+use Rattle.commands.specs.Pipeline.PlanFiles.{IsAccepted, IsWrong}
+
+-- ---- the schedule's text
+
+-- the text stands for this schedule and nothing else
+pub record IsScheduleText (text : List ℕ) (s : Schedule) : Type 0 where
+  pub found : IsTextOf text s
+  pub only : (other : Schedule) → IsTextOf text other → other ≡ s
+
+-- the text is no schedule, for the reason that the error names
+pub record IsScheduleRefused (text : List ℕ) (fault : Fault) : Type 0 where
+  pub error : SchedError
+  pub refused : IsRefusedText text error
+  pub is : fault ≡ schedule_fault error
+
+-- ---- the schedule
+
+-- the schedule is refused for the algorithm, for the reason that the error names
+pub record IsNotLowered (a : Algorithm) (s : Schedule) (fault : Fault) : Type 0 where
+  pub error : LowerError
+  pub refused : IsRefusedSchedule a s error
+  pub is : fault ≡ lower_fault error
+
+-- ---- the plan
+
+-- what `lower` says of the plan that it makes of a legal schedule, and of its certificate, and what follows: each group has a line of what its pieces own;
+-- where whole functions keep the inner loops of splits serial, these part the cells and are served by those that they need; and where no loop is split,
+-- whatever the checker tells is a limit
+pub record IsLowered (a : Algorithm) (s : Schedule) (l : Lowered) : Type 0 where
+  pub legal : IsLegal a s
+  pub small : AreSmall a s
+  pub regions : AreRegionsKept a s
+  pub uses : AreUsesInside a s
+  pub groups : AreGroupsMade a s l
+  pub own_lines : HasOwnLines (plan_of l.plan) (certificate_of l.certificate)
+  pub shares : WholeStands a s l
+  pub limits : SplitsNothing a s → NamesNoLoad a → TellsLimitsAlone a (plan_of l.plan) (certificate_of l.certificate)
+
+-- the text of a plan file: the plan's lines, and behind them the certificate's
+abbrev pub file_text : PlanSaid → Certificate → List ℕ
+file_text p c = lines_text (plan_notation.lines p) ++ lines_text (certificate_lines c)
+
+-- the text of the plan that is made of the schedule
+pub record IsPlanText (a : Algorithm) (s : Schedule) (text : List ℕ) : Type 0 where
+  pub made : Lowered
+  pub lowered : IsLowered a s made
+  pub written : text ≡ file_text (plan_of made.plan) (certificate_of made.certificate)
+
+-- the checker has accepted this plan with its certificate, as it was read of that text
+pub record IsCompiledPlan (a : Algorithm) (s : Schedule) (plan : PlanMade) (cert : Cert) : Type 0 where
+  pub text : List ℕ
+  pub of_schedule : IsPlanText a s text
+  pub accepted : IsAccepted a text plan cert
+
+-- the reader of plan files refuses the text at this line
+abbrev pub IsUnread : List ℕ → ℕ → Type 0
+IsUnread text line = IsRefusedFile text (read.Form line) ⊎ IsRefusedFile text (read.Limit line)
+
+-- why the text of a compiled plan is not accepted: it says a plan that the checker rightly refuses with this code and line, or the
+-- reader refuses it at the line, which is told as K14; want of memory says nothing
+abbrev pub IsUnaccepted : Algorithm → List ℕ → Fault → Type 0
+IsUnaccepted a text Memory = ⊤
+IsUnaccepted a text (Plan code line) = IsWrong a text code line ⊎ ((code ≡ K14) × IsUnread text line)
+IsUnaccepted a text _ = ⊥
+
+-- the text is read as the plan that was made, with its certificate
+abbrev pub IsReadAs : List ℕ → Lowered → Type 0
+IsReadAs text l = IsFileOf text (plan_of l.plan) (certificate_of l.certificate)
+
+-- what is told of a plan is that it passes a limit
+abbrev pub TellsLimit : Fault → Type 0
+TellsLimit (Plan code line) = code ≡ K14
+TellsLimit _ = ⊤
+
+-- the schedule is legal, and the text of the plan that is made of it is not accepted: where no loop is split, for a limit, if the text is read as that plan
+pub record IsRefusedPlan (a : Algorithm) (s : Schedule) (fault : Fault) : Type 0 where
+  pub text : List ℕ
+  pub of_schedule : IsPlanText a s text
+  pub refused : IsUnaccepted a text fault
+  pub limit : SplitsNothing a s → NamesNoLoad a → IsReadAs text of_schedule.made → TellsLimit fault
+
+-- why no plan file comes of a schedule
+abbrev pub IsNotCompiled : Algorithm → Schedule → Fault → Type 0
+IsNotCompiled a s fault = (fault ≡ Memory) ⊎ (IsNotLowered a s fault ⊎ IsRefusedPlan a s fault)

@@ -1,0 +1,5 @@
+pub mod Answer
+pub mod Compares
+pub mod Compiles
+pub mod Compiling
+pub mod Faults
