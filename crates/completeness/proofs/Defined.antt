@@ -88,7 +88,7 @@ other_put a st xs e us fs i f h at =
     changes_at a st xs us c.value i f c.is (ap (λ (gs : List FormulaText). slice_get gs (suc i)) (same (b.value ∷ c.value) fs c.comes) ∙ at)
 
 -- a dimension is missed where the left index is not the variable
-missing_at : (os : List (Option Term)) (d j : ℕ) (e : Term) → slice_get os j ≡ Some (Some e) → list_any (λ x. x == d + j) (missing_from d os) ≡ true
+pub missing_at : (os : List (Option Term)) (d j : ℕ) (e : Term) → slice_get os j ≡ Some (Some e) → list_any (λ x. x == d + j) (missing_from d os) ≡ true
 missing_at [] d j e q = absurd (cc q)
 missing_at (None ∷ os) d zero e q = absurd (cc q)
 missing_at (None ∷ os) d (suc j) e q = (let next : (d + 1) + j ≡ d + suc j = omega arith in ap (λ (m : ℕ). list_any (λ x. x == m) (missing_from (d + 1) os)) (sym next) ∙ missing_at os (d + 1) j e q)
@@ -104,12 +104,12 @@ missing_at (Some v ∷ os) d (suc j) e q =
     of true h = refl
     of false h = h
 
-record HasMissing (us : List Change) (d : ℕ) (fs : List FormulaText) (j : ℕ) (b : BodyText) : Type 0 where
-  formula : FormulaText
-  at : slice_get fs j ≡ Some formula
-  missing : b.missing ≡ missing_from 0 formula.at
+pub record HasMissing (us : List Change) (d : ℕ) (fs : List FormulaText) (j : ℕ) (b : BodyText) : Type 0 where
+  pub formula : FormulaText
+  pub at : slice_get fs j ≡ Some formula
+  pub missing : b.missing ≡ missing_from 0 formula.at
 
-body_missing : (us : List Change) (d : ℕ) (xs : List (List ℕ)) (fs : List FormulaText) (j : ℕ) (b : BodyText) → slice_get (bodies_from us d xs fs) j ≡ Some b → HasMissing us d fs j b
+pub body_missing : (us : List Change) (d : ℕ) (xs : List (List ℕ)) (fs : List FormulaText) (j : ℕ) (b : BodyText) → slice_get (bodies_from us d xs fs) j ≡ Some b → HasMissing us d fs j b
 body_missing us d xs [] j b e = absurd (cc e)
 body_missing us d xs (f ∷ fs) zero b e = record { formula = f; at = refl; missing = ap (λ (y : BodyText). y.missing) (sym (same _ b e)) }
 body_missing us d xs (f ∷ fs) (suc j) b e =

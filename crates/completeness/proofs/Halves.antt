@@ -112,7 +112,7 @@ module _ (s : Split) where
   abbrev outer_of : Loop → Loop
   outer_of l = record { name = s.outer; dimension = l.dimension; within = None; mark = None }
 
-  all_cut : (P Q : Loop → Type 0) → ((l : Loop) → P l → Q l) → ((l : Loop) → Q (inner_of l) × Q (outer_of l)) → (ls : List Loop) → AllByRecursion P ls → AllByRecursion Q (flat_map (cut_loop s) ls)
+  pub all_cut : (P Q : Loop → Type 0) → ((l : Loop) → P l → Q l) → ((l : Loop) → Q (inner_of l) × Q (outer_of l)) → (ls : List Loop) → AllByRecursion P ls → AllByRecursion Q (flat_map (cut_loop s) ls)
   all_cut P Q keep made [] a = tt
   all_cut P Q keep made (l ∷ ls) a = all_both Q (cut_loop s l) (flat_map (cut_loop s) ls) (of (same_name l.name s.whole)) (all_cut P Q keep made ls a.1)
     where
@@ -198,7 +198,7 @@ all_named : (P : Loop → Type 0) (ls : List Loop) (names : List (List ℕ)) →
 all_named P ls [] a = tt
 all_named P ls (x ∷ xs) a = found_loop P ls x (loops_named ls xs) a (all_named P ls xs a)
 
-all_reordered : (P : Loop → Type 0) (ls : List Loop) (names : List (List ℕ)) → AllByRecursion P ls → AllByRecursion P (filled names (loops_named ls names) ls)
+pub all_reordered : (P : Loop → Type 0) (ls : List Loop) (names : List (List ℕ)) → AllByRecursion P ls → AllByRecursion P (filled names (loops_named ls names) ls)
 all_reordered P ls names a = all_filled P names (loops_named ls names) ls (all_named P ls names a) a
 
 reordered_named : (names : List (List ℕ)) (p : PlacedText) → IsNamed p → IsNamed (record p { loops = filled names (loops_named p.loops names) p.loops })
@@ -272,14 +272,14 @@ parallel_marks x (l ∷ ls) = ((λ same v. absurd (cc v)), parallel_marks x ls)
 
 -- ---- directives
 
-some_placed : (p q : PlacedText) → ◌≡◌ {A = Result PlacedText Rule} (Ok p) (Ok q) → p ≡ q
+pub some_placed : (p q : PlacedText) → ◌≡◌ {A = Result PlacedText Rule} (Ok p) (Ok q) → p ≡ q
 some_placed p q e = cc
 
-let_through : (v : Bool) (r : Rule) (o : Result PlacedText Rule) (q : PlacedText) → (if v then Err r else o) ≡ Ok q → (v ≡ false) × (o ≡ Ok q)
+pub let_through : (v : Bool) (r : Rule) (o : Result PlacedText Rule) (q : PlacedText) → (if v then Err r else o) ≡ Ok q → (v ≡ false) × (o ≡ Ok q)
 let_through true r o q e = absurd (cc e)
 let_through false r o q e = (refl, e)
 
-let_in : (v : Bool) (r : Rule) (p q : PlacedText) → ◌≡◌ {A = Result PlacedText Rule} (if v then Ok p else Err r) (Ok q) → p ≡ q
+pub let_in : (v : Bool) (r : Rule) (p q : PlacedText) → ◌≡◌ {A = Result PlacedText Rule} (if v then Ok p else Err r) (Ok q) → p ≡ q
 let_in true r p q e = some_placed p q e
 let_in false r p q e = absurd (cc e)
 
@@ -296,7 +296,7 @@ or_other true b e f = refl
 or_other false true e f = absurd (cc f)
 or_other false false e f = absurd (cc e)
 
-or_second : (a b : Bool) → (a || b) ≡ false → b ≡ false
+pub or_second : (a b : Bool) → (a || b) ≡ false → b ≡ false
 or_second true b e = absurd (cc e)
 or_second false b e = e
 

@@ -6,7 +6,6 @@ use Rattle.std.specs.List.{AllByRecursion, flat_map}
 use Rattle.std.proofs.lemmas.Int.{ints}
 use Rattle.std.proofs.lemmas.List.{length-append}
 use Rattle.std.proofs.lemmas.Option.{slice_get_within}
-use Rattle.numeric.specs.declared.ty.Ty.{Ty}
 use Rattle.tree.specs.Term.{Term, Number, Name, Call, Minus, Binary, Clamp, Cast, Choice, Terms, End, More, Test, Compares, Fails, Both, Either}
 use Rattle.tree.specs.Uses.{EachCall, EachCallOfTest, EachCallOfAll}
 use Rattle.tree.specs.Typing.{type_of, index_count}
@@ -19,34 +18,28 @@ use Rattle.lin.proofs.TermLemmas.{all_weaker}
 use Rattle.bounds.specs.Projection.Elimination.{is_inner}
 use Rattle.bounds.specs.Projection.Projection.{negated}
 use Rattle.meaning.specs.Algorithm.{Algorithm}
-use Rattle.meaning.specs.Names.{same_name, is_among}
-use Rattle.meaning.specs.Conditions.{AreDistinct}
-use Rattle.meaning.proofs.InliningTyped.{answer-is}
-use Rattle.soundness.proofs.Refines.{name_true}
+use Rattle.meaning.specs.Names.{same_name}
 use Rattle.headline.proofs.Members.{got}
 use Rattle.algo.specs.Scoping.Standing.{Written, calls_of, calls_of_test, calls_of_all}
 use Rattle.sched.specs.declared.numbers.Extent.{Extent}
 use Rattle.sched.specs.Standing.{◌>>=◌}
-use Rattle.sched.specs.Skeleton.{NestText}
 use Rattle.lower.specs.Called.{called}
-use Rattle.lower.specs.Stored.{FormulaText, StoredText, calls_left, calls_in}
-use Rattle.lower.specs.Around.{AroundText, interval_in, head_scope, bind_steps, names_with, left_around, coordinates_behind, around}
-use Rattle.lower.specs.Regions.{LaidText, ends_of, symbols_from, are_within}
+use Rattle.lower.specs.Stored.{calls_left}
+use Rattle.lower.specs.Around.{AroundText, interval_in}
+use Rattle.lower.specs.Regions.{ends_of, symbols_from, are_within}
 use Rattle.lower.specs.Bounded.{whole}
-use Rattle.lower.specs.Taken.{SiteText, add_spans, add_call, add_calls, with_site, add_site, add_sites, holds_call, holds_calls, hold_calls}
+use Rattle.lower.specs.Taken.{add_spans, add_call, add_calls, holds_call, holds_calls}
 use Rattle.lower.specs.Held.{AreTyped}
 use Rattle.lower.specs.Owning.{IsExtent}
 use Rattle.lower.proofs.Laying.{bound, same}
 use Rattle.completeness.proofs.Standing.{Taken}
 use Rattle.completeness.proofs.TakenSites.{Has}
 use Rattle.completeness.proofs.RegionBounds.{IsEnded}
-use Rattle.completeness.proofs.LoadedTerms.{IsTypedCall}
 use Rattle.completeness.proofs.Only.{Only, SpanOnly, only_combined}
-use Rattle.completeness.proofs.Sited.{Below, SiteOnly}
+use Rattle.completeness.proofs.Sited.{Below}
 use Rattle.completeness.proofs.Boxes.{IsBox}
 use Rattle.completeness.proofs.FreedEnds.{AreOver, inside_all, whole_inside}
-use Rattle.completeness.proofs.CallEnds.{IsCallOf, IsIndexEnded, AreIndicesEnded}
-use Rattle.completeness.proofs.FirstNumbers.{FitsIf, some_typed, ends_ordered}
+use Rattle.completeness.proofs.CallEnds.{IsIndexEnded, AreIndicesEnded}
 
 abbrev Ends : Type 0
 Ends = Taken _ _ are_within
@@ -226,95 +219,7 @@ holds_each scope d s [] h = refl
 holds_each scope d s (c ∷ cs) h =
     ap (λ (b : Bool). if b then holds_calls scope d s cs else false) (h c (inl refl)) ∙ holds_each scope d s cs (λ ss k. h ss (inr k))
 
-with_held : (scope : List Binding) (d : ℕ) (s : Span1) (cs : List (List Span1)) → holds_calls scope d s cs ≡ true → hold_calls (with_site scope cs []) d s ≡ true
-with_held scope d s [] h = refl
-with_held scope d s (c ∷ cs) h = ap (λ (b : Bool). if b then true else false) h
-
--- the calls of the one site
-calls_there : (P : SiteText → Type 0) (scope : List Binding) (cs : List (List Span1)) → AllByRecursion P (with_site scope cs []) → (ss : List Span1) → Has ss cs →
-    P (record { scope = scope; calls = cs })
-calls_there P scope [] h ss k = absurd k
-calls_there P scope (c ∷ cs) h ss k = h.0
-
 pub all_has : {A : Type 0} (P : A → Type 0) (xs : List A) (x : A) → AllByRecursion P xs → Has x xs → P x
 all_has P [] x h k = absurd k
 all_has P (y ∷ xs) x h (inl is) = subst P (sym is) h.0
 all_has P (y ∷ xs) x h (inr k) = all_has P xs x h.1 k
-
--- a definition alone, around which stands what is known
-module _ (a : Algorithm) (u : StoredText) (m : LaidText) (f : FormulaText) (w : NestText) (formulas : u.formulas ≡ Some (f ∷ [])) (nests : m.skeleton.nests ≡ w ∷ []) (x : List ℕ) where
-  abbrev outer : List Binding
-  outer = head_scope m.skeleton
-
-  record IsSite (ss : List SiteText) : Type 0 where
-    known : AroundText
-    is : around a u outer w f 0 ≡ Some known
-    calls : List (List Span1)
-    added : add_calls a known x (calls_in f) [] ≡ Some calls
-    are : with_site known.scope calls [] ≡ ss
-
-  site : (ss : List SiteText) → add_sites a u outer None x 0 (f ∷ []) (w ∷ []) [] ≡ Some ss → IsSite ss
-  site ss e =
-      let b = bound (add_site a u outer x 0 f w []) (add_sites a u outer None x (0 + 1) [] []) ss e in
-      let r = bound (around a u outer w f 0) (λ r. add_calls a r x (calls_in f) [] >>= λ cs. Some (with_site r.scope cs [])) b.value b.is in
-      let c = bound (add_calls a r.value x (calls_in f) []) (λ cs. Some (with_site r.value.scope cs [])) b.value r.comes in
-      record { known = r.value; is = r.is; calls = c.value; added = c.is; are = same (with_site r.value.scope c.value []) b.value c.comes ∙ same b.value ss b.comes }
-
-  -- each call of it is one of the definition
-  abbrev call_of : (r : AroundText) → around a u outer w f 0 ≡ Some r → (ss : List Span1) → IsFrom a r x (calls_in f) ss → IsCallOf a u m x
-  call_of r is ss k =
-      record {
-        number = 0;
-        formulas = f ∷ [];
-        formula = f;
-        nest = w;
-        standing = r;
-        defined = formulas;
-        is = refl;
-        nested = ap (λ (ns : List NestText). slice_get ns 0) nests;
-        stands = is;
-        place = k.place;
-        call = k.call;
-        there = k.there;
-        named = k.named;
-      }
-
--- ---- the law of a definition
-
-module _ (a : Algorithm) (u : StoredText) (m : LaidText) (f : FormulaText) (w : NestText) (formulas : u.formulas ≡ Some (f ∷ [])) (nests : m.skeleton.nests ≡ w ∷ [])
-    (boxes : AllByRecursion IsBox (bind_steps (head_scope m.skeleton) w.steps)) (fits : AllByRecursion (FitsIf (length (bind_steps (head_scope m.skeleton) w.steps))) w.at)
-    (none : AllByRecursion (λ o. o ≡ None) f.at) (apart : AreDistinct (names_with u.variables u.changes 0)) (long : length (names_with u.variables u.changes 0) ≡ length w.at)
-    (typed : AllByRecursion (λ c. IsTypedCall (is_among (names_with u.variables u.changes 0)) (called a) c.name c.at) (calls_in f)) where
-  abbrev left : AroundText
-  left = left_around u (head_scope m.skeleton) w 0
-
-  pub site_held : (x : List ℕ) (ss : List SiteText) → add_sites a u (head_scope m.skeleton) None x 0 (f ∷ []) (w ∷ []) [] ≡ Some ss → AllByRecursion SiteOnly ss →
-      (region : List Extent) → AllByRecursion IsExtent region → AllByRecursion IsEnded region → ((t : Ty × ℕ) → called a x ≡ Some t → t.1 ≡ length region) →
-      ((c : IsCallOf a u m x) → index_count c.call.at ≤ length region → AreIndicesEnded a c.standing region 0 c.call.at) →
-      (d : ℕ) (e : Extent) → slice_get region d ≡ Some e → hold_calls ss d (whole e) ≡ true
-  site_held x ss found only region extents ended takes ends d e at =
-      let one = site a u m f w formulas nests x ss found in
-      let r = one.known in
-      let z = bound (coordinates_behind a left f [] 0 w.at) (λ cs. Some (record left { coordinates = cs })) r one.is in
-      let stands : record left { coordinates = z.value } ≡ r = same (record left { coordinates = z.value }) r z.comes in
-      let left_boxes : (i : ℕ) (b : Binding) → slice_get left.scope i ≡ Some b → IsBox b = λ i b q. got IsBox left.scope i b boxes q in
-      let r_boxes : (i : ℕ) (b : Binding) → slice_get r.scope i ≡ Some b → IsBox b =
-      subst (λ (t : AroundText). (i : ℕ) (b : Binding) → slice_get t.scope i ≡ Some b → IsBox b) stands left_boxes in
-      let order = ends_ordered a left r f w.at z.value none z.is stands left_boxes fits apart long in
-      let each : (cs : List Span1) → Has cs one.calls → holds_call r.scope d (whole e) cs ≡ true =
-      λ cs has. elim (calls_from a r x (calls_in f) [] one.calls one.added cs has) [
-        | inl old ↦ absurd old
-        | inr k ↦
-            (let known = is_among left.variables in
-            let t = got (λ c. IsTypedCall known (called a) c.name c.at) (calls_in f) k.place k.call typed k.there in
-            let answer = answer-is (called a k.call.name) (index_count k.call.at) t.1.0 t.1.1 in
-            let name : k.call.name ≡ x = name_true k.call.name x k.named in
-            let takes_here = takes answer.0 (ap (called a) (sym name) ∙ answer.1) in
-            let count : index_count k.call.at ≡ length region = sym answer.2 ∙ takes_here in
-            let few : index_count k.call.at ≤ length region = omega (arith, count) in
-            let of_it = ends (call_of a u m f w formulas nests x r one.is cs k) few in
-            let there = calls_there SiteOnly r.scope one.calls (subst (AllByRecursion SiteOnly) (sym one.are) only) cs has in
-            let forms = all_has (AllByRecursion (SpanOnly (Below (length r.scope)))) one.calls cs there.calls has in
-            call_held a r known r_boxes order region extents ended k.call.at cs of_it (some_typed known (called a) k.call.at t.0) k.added forms count d e at)
-      ] in
-      subst (λ (ts : List SiteText). hold_calls ts d (whole e) ≡ true) one.are (with_held r.scope d (whole e) one.calls (holds_each r.scope d (whole e) one.calls each))

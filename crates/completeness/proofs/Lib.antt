@@ -84,7 +84,6 @@ pub mod PureNests
 pub mod PureScopes
 pub mod UpdateTurns
 pub mod UpdateTests
-pub mod UnsplitNests
 pub mod LoadedTerms
 pub mod RegionBounds
 pub mod StoreBounds
@@ -105,7 +104,6 @@ pub mod CallEnds
 pub mod FirstNumbers
 pub mod NearBoxes
 pub mod HeldWhole
-pub mod NearGroups
 pub mod LimitsAlone
 pub mod FewLines
 pub mod OwnCalls
@@ -124,3 +122,8 @@ pub mod NeedForms
 pub mod RangedBoxes
 pub mod ShortNests
 pub mod FaultLimits
+pub mod NamesRead
+pub mod RangedLefts
+pub mod StoreLists
+pub mod UncutStores
+pub mod Unparallel

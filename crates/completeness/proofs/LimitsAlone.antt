@@ -26,6 +26,7 @@ use Rattle.completeness.proofs.CertLimits.{certificate_limits}
 use Rattle.completeness.proofs.OnlyLimits.{told}
 use Rattle.completeness.proofs.Served.{made_at}
 use Rattle.completeness.proofs.FewLines.{lines_told, grids_few, symbols_few}
+use Rattle.completeness.proofs.NamesRead.{named_no_load}
 use Rattle.completeness.proofs.NearClaims.{claims_near}
 use Rattle.completeness.proofs.NearPlaced.{near_placed_owed}
 
@@ -49,13 +50,13 @@ module _ (a : Algorithm) (s : Schedule) (none : SplitsNothing a s) where
   once = each_at (λ g. AreSplitOnce g.placed.cuts) (stored_functions a s) (λ i g at. subst (λ (cs : List Split). AreSplitOnce cs) (sym (none.uncut i g at)) tt)
 
 pub limits_alone : LimitsAloneAreTold
-limits_alone a s l well legal small regions groups none free =
+limits_alone a s l well legal small regions groups none named =
     let p = plan_of l.plan in
     let c = certificate_of l.certificate in
     let stands : Stands a p c = shared a s l well legal small regions groups none.whole (inners a s none) in
     record {
       head = λ line. heads a p c line stands;
-      groups = told a s l well legal small regions groups none.whole free lines_stand (once a s none);
+      groups = told a s l well legal small regions groups none.whole (named_no_load a named) lines_stand (once a s none);
       shown = λ n g at. shown_at n g at;
       certificate = certificate_limits a s l well legal small (regions none.whole).0 none.whole groups none.uncut none.near stands.lines;
       shares = λ f. shares_limits a p c f stands;
@@ -81,5 +82,5 @@ limits_alone a s l well legal small regions groups none free =
         let c = certificate_of l.certificate in
         let x = from_map group_of l.plan.groups.items n g at in
         let me = made_at a s l well legal small (regions none.whole).0 none.whole groups n x.0 x.1 in
-        near_placed_owed a s l well legal small regions groups none.whole free lines_stand grids symbols near n g at me.stored me.is (none.uncut n me.stored me.is) me.formulas me.defined
+        near_placed_owed a s l well legal small regions groups none.whole (named_no_load a named) lines_stand grids symbols near n g at me.stored me.is (none.uncut n me.stored me.is) me.formulas me.defined
         (none.placed n me.stored me.is me.formulas me.defined) me.laid me.found (none.near n me.laid me.found) (slid_nests (outline_of p c n g) (rules_of a p c n) (domains_of a)) (slid_take a p c n g)

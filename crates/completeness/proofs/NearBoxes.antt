@@ -1,6 +1,6 @@
 -- Of a function whose loops are not split and whose region begins near 0: around the store of its pure definition each symbol is that of a loop over some numbers within 2^15.
-use Rattle.std.proofs.Common.{◌≡◌, ℕ, zero, suc, ◌+◌, ◌-◌, ◌<◌, ◌≤◌, Bool, true, false, List, [], ◌∷◌, ◌++◌, length, Option, Some, None, refl, sym, ap, ◌∙◌, subst, inl, inr, arith}
-use Rattle.std.specs.Prelude.{ℤ, pos, ◌+ℤ◌, ◌-ℤ◌, ◌≤ℤ◌, nat_le, filter, reverse, replicate, if◌then◌else◌, slice_get}
+use Rattle.std.proofs.Common.{◌≡◌, ℕ, zero, suc, ◌+◌, ◌-◌, ◌<◌, ◌≤◌, Bool, true, false, List, [], ◌∷◌, length, Option, Some, None, refl, sym, ap, ◌∙◌, subst, inl, inr, arith}
+use Rattle.std.specs.Prelude.{ℤ, pos, ◌+ℤ◌, ◌-ℤ◌, ◌≤ℤ◌, nat_le, replicate, if◌then◌else◌, slice_get}
 use Rattle.std.specs.List.{AllByRecursion}
 use Rattle.std.specs.Int.RustNames.{unsigned_abs}
 use Rattle.std.proofs.lemmas.Bool.Decides.{nat_tests}
@@ -22,7 +22,7 @@ use Rattle.sched.specs.declared.nest.Turning.{Turning}
 use Rattle.sched.specs.Numbers.{numbers_named, loop_numbers, parallel_loops, grid_counts, or_one, piece_counts}
 use Rattle.sched.specs.Placing.{is_parallel}
 use Rattle.sched.specs.Standing.{◌>>=◌, form_named}
-use Rattle.sched.specs.Skeleton.{BodyText, NestText, SkeletonText, span, loop_turning, is_in_nest, nest_loops, nest_turns, is_missing, variables_at, ranges_at, grid_forms}
+use Rattle.sched.specs.Skeleton.{BodyText, NestText, SkeletonText, span, loop_turning, is_missing, variables_at, grid_forms}
 use Rattle.sched.proofs.Standings.{found_all}
 use Rattle.lower.specs.Stored.{FormulaText, StoredText}
 use Rattle.lower.specs.Faults.{is_whole, is_homeless, are_whole}
@@ -36,8 +36,8 @@ use Rattle.lower.proofs.Owners as owners
 use Rattle.lower.proofs.Reached.{laid_found}
 use Rattle.completeness.specs.Nested.{IsUncut}
 use Rattle.completeness.proofs.Standing.{Taken}
-use Rattle.completeness.proofs.PlainTurns.{steps_for, knowns_for, AreGridded}
-use Rattle.completeness.proofs.PureNests.{all_back, all_get, all_from, all_in}
+use Rattle.completeness.proofs.PlainTurns.{steps_for, knowns_for}
+use Rattle.completeness.proofs.PureNests.{all_get, all_from, all_in}
 use Rattle.completeness.proofs.UpdateTurns.{all_filtered, all_mapped}
 use Rattle.completeness.proofs.Sited.{bind_long}
 use Rattle.completeness.proofs.Boxes.{IsBox}
@@ -215,14 +215,6 @@ module _ (g : StoredText) (region : List Extent) (k : SkeletonText) (laid : IsLa
       let name : leaf.variable ≡ o.name = subst (λ (cs : List Split). IsEnd cs leaf.variable o.name) uncut leaf.end in
       subst (λ (x : List ℕ). IsNearNumbers (numbers_named rs x)) name (all_get (λ x. IsNearNumbers (numbers_named rs x)) xs o.dimension leaf.variable numbers_near leaf.of))
 
-  turns_box : (b : BodyText) → b.ranges ≡ [] → AllByRecursion IsBoxTurn (nest_turns b rs ls)
-  turns_box b none =
-      let part : (v : Bool) → AllByRecursion IsBoxTurn (nest_loops b v rs ls) =
-      λ v. all_mapped (loop_turning rs) IsBoxTurn (filter (is_in_nest b v) (reverse ls))
-      (all_filtered (is_in_nest b v) IsNearLoop (λ o. IsBoxTurn (loop_turning rs o)) (λ o e h. turn_box rs o h) (reverse ls) (all_back IsNearLoop ls loops_near)) in
-      subst (λ (ds : List Turning). AllByRecursion IsBoxTurn ((nest_loops b false rs ls ++ reverse ds) ++ nest_loops b true rs ls)) (sym none)
-      (all-append IsBoxTurn (nest_loops b false rs ls ++ reverse []) (nest_loops b true rs ls) (all-append IsBoxTurn (nest_loops b false rs ls) (reverse []) (part false) tt) (part true))
-
   pub parallel_near : AllByRecursion IsNearLoop (parallel_loops ls)
   parallel_near = all_filtered is_parallel IsNearLoop IsNearLoop (λ o e h. h) ls loops_near
 
@@ -237,30 +229,3 @@ module _ (g : StoredText) (region : List Extent) (k : SkeletonText) (laid : IsLa
       or_one_boxes (grid_counts rs (parallel_loops ls))
       (all_mapped (λ o. (numbers_named rs o.name).count) (λ n. (0 < n) × (n ≤ 8192)) (parallel_loops ls)
       (all_filtered is_parallel IsNearLoop (λ o. (0 < (numbers_named rs o.name).count) × ((numbers_named rs o.name).count ≤ 8192)) (λ o e h. (h.1, h.2)) ls loops_near))
-
-  pub boxed : (bs : List BodyText) (d : ℕ) (w : NestText) → AreGridded xs bs g.placed rs k → slice_get k.nests d ≡ Some w → ((b : BodyText) → slice_get bs d ≡ Some b → b.ranges ≡ []) → IsBoxed k w
-  boxed bs d w shape stands bare =
-      let p = shape.nests d w stands in
-      let none = bare p.body p.at in
-      let ts = nest_turns p.body rs ls in
-      let grid = grid_forms rs 0 (parallel_loops ls) in
-      let scope : List Binding = grid_scope (piece_counts rs ls) in
-      let over : head_scope k ≡ scope = ap (bind_steps (grid_scope k.grid)) shape.head ∙ ap grid_scope shape.grid in
-      let is : bind_steps (head_scope k) w.steps ≡ bind_steps scope (steps_for p.next ts) = (λ i. bind_steps (over i) (p.steps i)) in
-      let many = steps_many p.next ts scope in
-      let wide = or_one_long (grid_counts rs (parallel_loops ls)) in
-      let counts = length-map (parallel_loops ls) (λ (o : Loop). (numbers_named rs o.name).count) in
-      let all = many.0 in
-      let m : ℕ = length (bind_steps scope (steps_for p.next ts)) in
-      let first = grid_fits m 0 (parallel_loops ls) parallel_near (omega (arith, wide, counts, all)) in
-      let last = knowns_fit m p.next ts many.1 in
-      let known : KnownFits m (grid ++ knowns_for p.next ts) = all-append (λ y. Fits m y.form) grid (knowns_for p.next ts) first last in
-      let forms : w.at ≡ variables_at p.body 0 xs (grid ++ knowns_for p.next ts) ++ [] =
-      p.forms ∙ ap (λ (ds : List Turning). variables_at p.body 0 xs (grid ++ knowns_for p.next ts) ++ ranges_at ds (grid ++ knowns_for p.next ts)) none in
-      let fit : AllByRecursion (FitsIf m) w.at =
-      subst (AllByRecursion (FitsIf m)) (sym forms)
-      (all-append (FitsIf m) (variables_at p.body 0 xs (grid ++ knowns_for p.next ts)) [] (variables_fit m p.body 0 xs (grid ++ knowns_for p.next ts) known) tt) in
-      record {
-        boxes = subst (AllByRecursion IsBox) (sym is) (steps_boxes p.next ts scope grid_boxes (turns_box p.body none));
-        fits = subst (λ (s : List Binding). AllByRecursion (FitsIf (length s)) w.at) (sym is) fit;
-      }

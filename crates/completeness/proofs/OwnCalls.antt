@@ -125,7 +125,7 @@ module _ (a : Algorithm) (well : IsAlgorithm a) (place : ℕ) (f : Function) (at
   Allowed name = Back name ⊎ (name ≡ f.name)
 
   -- a name of a function before is not the function's own
-  back_other : (name : List ℕ) → Back name → name ≡ f.name → ⊥
+  pub back_other : (name : List ℕ) → Back name → name ≡ f.name → ⊥
   back_other name back e = (let less = before a well place place f name at_place (sym e) back in absurd (omega (arith, less)))
 
   weaker : (i : ℕ) (name : List ℕ) → i ≤ place → GoesBack a i name → Back name

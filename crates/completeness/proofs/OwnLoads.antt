@@ -65,7 +65,7 @@ span_at_place (y ∷ ys) (r ∷ ss) (suc k) x s once e q = of (same_name y x) on
     of true few rest = (let some = named_at ys k x e in absurd (omega (arith, few, some)))
     of false few rest = rest (omega (arith, few))
 
-among_at : (ys : List (List ℕ)) (k : ℕ) (x : List ℕ) → slice_get ys k ≡ Some x → is_among ys x ≡ true
+pub among_at : (ys : List (List ℕ)) (k : ℕ) (x : List ℕ) → slice_get ys k ≡ Some x → is_among ys x ≡ true
 among_at [] k x e = absurd (cc e)
 among_at (y ∷ ys) zero x e =
     let is : y ≡ x = cc e in

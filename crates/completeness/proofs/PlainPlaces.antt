@@ -17,7 +17,7 @@ use Rattle.plan.specs.declared.stmt.Places.{Places}
 use Rattle.plan.specs.declared.stmt.Places.TheVariants.{From}
 use Rattle.plan.specs.declared.certificate.cert.Claim.{Claim as CodeClaim}
 use Rattle.plan.specs.declared.certificate.cert.Need.{Need}
-use Rattle.plan.specs.Plan.{Index, At, Found, Coordinate, Statement, Seq, For, Let, First, Guard, Alloc, Fetch, Store, Publish, Statements, Empty, Then, Group, Plan, block}
+use Rattle.plan.specs.Plan.{Index, At, Found, Coordinate, Statement, Seq, For, Let, First, Guard, Alloc, Fetch, Store, Publish, Statements, Empty, Then, Plan, block}
 use Rattle.plan.specs.View.{group_of, plan_of, statement_of}
 use Rattle.plan.specs.Lines.{lines, block_lines, body_line}
 use Rattle.plan.specs.Certificate.Certificate.{Certificate, certificate_of}
@@ -32,15 +32,12 @@ use Rattle.soundness.specs.Shown.{Nests, raised, is_seated, are_seated, shows, a
 use Rattle.soundness.specs.Binders.View.{grid_binders}
 use Rattle.rules.specs.Bounding.Rules.{rules_of}
 use Rattle.rules.specs.Bounding.Scopes.{most_symbols, limited, picked_binding, binding_of, symbol_count, scope_of}
-use Rattle.headline.proofs.Lists.{at_map, from_map}
-use Rattle.headline.proofs.Members.{got}
 use Rattle.sched.specs.Schedule.{Schedule}
 use Rattle.sched.specs.Legal.{IsLegal, said, loops_after}
 use Rattle.sched.specs.Subjects.{subject_said, reductions_of}
 use Rattle.sched.specs.Runs.{lines_to}
 use Rattle.sched.specs.declared.schedule.Split.{Split}
 use Rattle.sched.specs.declared.numbers.Numbers.{Numbers}
-use Rattle.sched.specs.declared.numbers.Extent.{Extent}
 use Rattle.sched.specs.declared.skeleton.Known.{Known as KnownForm}
 use Rattle.sched.specs.declared.skeleton.Step.{Step}
 use Rattle.sched.specs.declared.skeleton.Step.TheVariants.{Turns, Named, Tested}
@@ -64,15 +61,13 @@ use Rattle.lower.proofs.Grids.{parallel_named}
 use Rattle.lower.proofs.Laying.{bound, same}
 use Rattle.lower.proofs.Owners as owners
 use Rattle.completeness.specs.Laws.{IsStore as IsStoreLine}
-use Rattle.completeness.specs.Owed.{EachLine, EachOf, BindBelow, AllBindBelow, AreSymbolsFew, AreUnsplit, IsPureStore, the_first, PurePlacesShown, PurePlacesAreShown}
+use Rattle.completeness.specs.Owed.{EachLine, EachOf, BindBelow, AllBindBelow, AreSymbolsFew, IsPureStore, the_first}
 use Rattle.completeness.proofs.Standing.{AreLets, Rises, NestsRise, NamesOwn, names_own}
 use Rattle.completeness.proofs.Laid.{subjects, found}
 use Rattle.completeness.proofs.Defined.{first_put}
 use Rattle.completeness.proofs.Origins.{places_long}
-use Rattle.completeness.proofs.Owned.{same_extents, same_skeleton}
-use Rattle.completeness.proofs.Served.{roots, made_at}
+use Rattle.completeness.proofs.Served.{roots}
 use Rattle.completeness.proofs.Spots.{lets_allot}
-use Rattle.completeness.proofs.Unlike.{placed_body}
 use Rattle.completeness.proofs.GridScope.{number_limited, at_place, scope_long}
 use Rattle.completeness.proofs.SelfBounds.{form_self}
 use Rattle.completeness.proofs.Searched.{up_limited, symbol_above, symbol_below}
@@ -546,25 +541,3 @@ module _ (a : Algorithm) (sch : Schedule) (l : Lowered) (well : IsAlgorithm a) (
 
     pub body_shown : EachLine O R Shown (statement_of q.body) (body_line plan n) (start (grid_binders q.grid.items))
     body_shown = lines_weaker O R Here Shown one_shown (statement_of q.body) (body_line plan n) (start (grid_binders q.grid.items)) body_bound
-
-  shown_at : AreUnsplit (stored_functions a sch) → (n : ℕ) (q : CodeGroup) → slice_get l.plan.groups.items n ≡ Some q → PurePlacesShown a plan cert n (group_of q)
-  shown_at unsplit n q theirs =
-      let me = made_at a sch l well legal small kept all groups n q theirs in
-      let w = found a sch marks me.stored a.functions n me.is in
-      let b = placed_body a entries items 0 0 4 (stored_functions a sch) l.plan.groups.items items l.certificate.needs.items (groups.bodies all)
-      (λ j v e. let none : 0 + j ≡ j = omega arith in ap (slice_get items) none ∙ e) n me.stored q me.is theirs in
-      let counted : 0 + n ≡ n = omega arith in
-      let body = subst (λ (i : ℕ). HasBody a entries i b.first_claim b.line me.stored q b.claims b.needs) counted b.body in
-      let extents : me.laid.region ≡ body.extents = same_extents a sch l well legal small kept all groups n q me.laid body.extents theirs me.found body.region in
-      let skeleton : me.laid.skeleton ≡ body.skeleton =
-      same_skeleton a sch l well legal small kept all groups n me.stored me.laid body.formulas body.extents body.skeleton me.is me.found body.defined extents body.laid in
-      let laid : IsLaidBy me.stored body.extents body.skeleton =
-      subst (λ (k : SkeletonText). IsLaidBy me.stored body.extents k) skeleton (subst (λ (es : List Extent). IsLaidBy me.stored es me.laid.skeleton) extents me.laid_by) in
-      let both = subst (λ (u : StoredText). (h : HasBody a entries n b.first_claim b.line u q b.claims b.needs) × IsLaidBy u h.extents h.skeleton) w.is (body, laid) in
-      let uncut : (loops_after (said sch) w.function).cuts ≡ [] = ap (λ (u : StoredText). u.placed.cuts) (sym w.is) ∙ got (λ (u : StoredText). u.placed.cuts ≡ []) (stored_functions a sch) n me.stored unsplit me.is in
-      body_shown n q w.function b.first_claim b.line b.claims b.needs both.0 both.1 uncut (few n (group_of q) (at_map group_of l.plan.groups.items n q theirs))
-
-pub shown : PurePlacesAreShown
-shown a s l well legal small regions groups all unsplit few n g at =
-    let x = from_map group_of l.plan.groups.items n g at in
-    subst (λ (u : Group). PurePlacesShown a (plan_of l.plan) (certificate_of l.certificate) n u) (sym x.2) (shown_at a s l well legal small (regions all).0 all groups few unsplit n x.0 x.1)

@@ -1,8 +1,8 @@
 -- Nests of functions whose loops no split makes: the steps are loops alone, one after another, and each loop's name stands for its symbol.
 use Rattle.std.proofs.Common.{◌≡◌, ℕ, zero, suc, ◌+◌, ◌≤◌, Bool, true, false, ◌||◌, not, List, [], ◌∷◌, ◌++◌, length, map, Option, Some, None, refl, sym, ap, ◌∙◌, subst}
 use Rattle.std.proofs.Common.{inl, inr, arith, append_assoc}
-use Rattle.std.specs.Prelude.{filter, reverse, slice_get, ◌==◌, ◌&&◌, if◌then◌else◌}
-use Rattle.std.specs.List.{AllByRecursion, list_any}
+use Rattle.std.specs.Prelude.{filter, reverse, slice_get, ◌&&◌, if◌then◌else◌}
+use Rattle.std.specs.List.{AllByRecursion}
 use Rattle.std.specs.Option.{option_map}
 use Rattle.std.proofs.lemmas.List.{reverse-append}
 use Rattle.meaning.specs.Names.{same_name, is_among}
@@ -17,7 +17,7 @@ use Rattle.sched.specs.declared.skeleton.Known.{Known}
 use Rattle.sched.specs.declared.skeleton.Step.{Step}
 use Rattle.sched.specs.declared.skeleton.Step.TheVariants.{Turns}
 use Rattle.sched.specs.declared.nest.Turning.{Turning}
-use Rattle.sched.specs.Numbers.{loop_numbers, or_one, grid_counts, parallel_loops, piece_counts}
+use Rattle.sched.specs.Numbers.{loop_numbers, parallel_loops, piece_counts}
 use Rattle.sched.specs.Placing.{PlacedText, has_double, is_parallel, is_vectorized}
 use Rattle.sched.specs.Standing.{◌>>=◌, StandingText, form_named, alone, settle_some, cuts_by_variable}
 use Rattle.sched.specs.Skeleton.{BodyText, NestText, SkeletonText, span, loop_turning, enter, leave, inside, turn_all, kept_from, is_missing, is_same, is_in_nest, nest_turns}
@@ -146,24 +146,6 @@ skeleton_gridded xs bs p region k uncut e =
       known = known;
       nests = λ d n at. nests_plain xs p rs b.value uncut (grid_forms rs 0 (parallel_loops p.loops)) known bs (length grid) m.value nests d n at;
     })
-
--- of one where no loop is parallel either
-pub record ArePlain (xs : List (List ℕ)) (bs : List BodyText) (p : PlacedText) (region : List Extent) (k : SkeletonText) : Type 0 where
-  pub head : k.head ≡ []
-  pub grid : k.grid ≡ 1 ∷ []
-  pub nests : (d : ℕ) (n : NestText) → slice_get k.nests d ≡ Some n → IsPlain xs bs p (loop_numbers xs p.cuts region) [] 1 d n
-
-pub skeleton_plain : (xs : List (List ℕ)) (bs : List BodyText) (p : PlacedText) (region : List Extent) (k : SkeletonText) → p.cuts ≡ [] → parallel_loops p.loops ≡ [] →
-    skeleton_in xs bs p region ≡ Some k → ArePlain xs bs p region k
-skeleton_plain xs bs p region k uncut serial e =
-    let rs : List Numbers = loop_numbers xs p.cuts region in
-    let all = skeleton_gridded xs bs p region k uncut e in
-    record {
-      head = all.head;
-      grid = all.grid ∙ ap (λ (ls : List Loop). or_one (grid_counts rs ls)) serial;
-      nests = λ d n at.
-          subst (λ (ls : List Loop). IsPlain xs bs p rs (grid_forms rs 0 ls) (length (or_one (grid_counts rs ls))) d n) serial (all.nests d n at);
-    }
 
 -- ---- how often a name stands among others
 
@@ -316,36 +298,9 @@ found_there (u ∷ ts) x i j t few h at e = of (same_name u.name x) refl few h j
 
 -- ---- the loops of a nest that has all variables
 
-filter_all : (f : Loop → Bool) (ls : List Loop) → AllByRecursion (λ l. f l ≡ true) ls → filter f ls ≡ ls
-filter_all f [] h = refl
-filter_all f (l ∷ ls) h = ap (λ (b : Bool). if b then l ∷ filter f ls else filter f ls) h.0 ∙ ap (λ (ms : List Loop). l ∷ ms) (filter_all f ls h.1)
-
 filter_none : (f : Loop → Bool) (ls : List Loop) → AllByRecursion (λ l. f l ≡ false) ls → filter f ls ≡ []
 filter_none f [] h = refl
 filter_none f (l ∷ ls) h = ap (λ (b : Bool). if b then l ∷ filter f ls else filter f ls) h.0 ∙ filter_none f ls h.1
-
-two_more : (xs : List Turning) → xs ++ [] ++ [] ≡ xs
-two_more [] = refl
-two_more (x ∷ xs) = ap (λ (ys : List Turning). x ∷ ys) (two_more xs)
-
--- no loop is parallel or vectorised
-abbrev pub IsSerial : Loop → Type 0
-IsSerial l = (is_parallel l ≡ false) × (is_vectorized l ≡ false)
-
-pub turns_all : (b : BodyText) (rs : List Numbers) (ls : List Loop) → b.missing ≡ [] → b.ranges ≡ [] → AllByRecursion IsSerial (reverse ls) → nest_turns b rs ls ≡ map (loop_turning rs) (reverse ls)
-turns_all b rs ls none_missing none_reduced serial =
-    let one : filter (is_in_nest b false) (reverse ls) ≡ reverse ls = filter_all (is_in_nest b false) (reverse ls) (each (reverse ls) serial).0 in
-    let three : filter (is_in_nest b true) (reverse ls) ≡ [] = filter_none (is_in_nest b true) (reverse ls) (each (reverse ls) serial).1 in
-    (λ i. map (loop_turning rs) (one i) ++ reverse (none_reduced i) ++ map (loop_turning rs) (three i)) ∙ two_more (map (loop_turning rs) (reverse ls))
-  where
-    each : (ms : List Loop) → AllByRecursion IsSerial ms → AllByRecursion (λ l. is_in_nest b false l ≡ true) ms × AllByRecursion (λ l. is_in_nest b true l ≡ false) ms
-    each [] h = (tt, tt)
-    each (l ∷ ms) h =
-        let missing : is_missing b l.dimension ≡ false = ap (λ (es : List ℕ). list_any (λ e. e == l.dimension) es) none_missing in
-        let rest = each ms h.1 in
-        let p = h.0.0 in
-        let v = h.0.1 in
-        (((λ i. not (p i) && not (missing i) && is_same (v i) false), rest.0), ((λ i. not (p i) && not (missing i) && is_same (v i) true), rest.1))
 
 -- of one that lacks variables or has reduction variables: those of the variables that it has, and inside of these the others
 pub turns_parted : (b : BodyText) (rs : List Numbers) (ls : List Loop) → AllByRecursion (λ l. is_vectorized l ≡ false) (reverse ls) →

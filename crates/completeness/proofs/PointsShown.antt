@@ -215,9 +215,9 @@ module _ (a : Algorithm) (sch : Schedule) (l : Lowered) (well : IsAlgorithm a) (
       us = pures_in rs ls b
 
       -- what is so of the span of a coordinate
-      record IsSo (x : List ℕ) (c : Coordinate) : Type 0 where
-        seat : is_seated R known.binders (exactly (form_of c)) (place x) ≡ true
-        inside : is_within R known.binders (exactly (form_of c)) (claim x) ≡ true
+      pub record IsSo (x : List ℕ) (c : Coordinate) : Type 0 where
+        pub seat : is_seated R known.binders (exactly (form_of c)) (place x) ≡ true
+        pub inside : is_within R known.binders (exactly (form_of c)) (claim x) ≡ true
 
       itself_within : (f' : Form) → is_within_limits f' ≡ true → is_within R known.binders (exactly f') (exactly f') ≡ true
       itself_within f' limit = (let self : shown_at_most known.binders f' f' ≡ true = form_self (scope_of known.binders) f' limit in λ j. ((self j || false) && true) && ((self j || false) && true))
@@ -268,7 +268,7 @@ module _ (a : Algorithm) (sch : Schedule) (l : Lowered) (well : IsAlgorithm a) (
             inside = (λ j. is_within R known.binders (exactly (form j)) (claim_is j)) ∙ (λ j. ((up j || false) && true) && ((down j || false) && true));
           }
 
-      one_so : (i : ℕ) (x : List ℕ) (c : Coordinate) → In x xs → IsLeft rs over_grid b u.next us i x c → is_form c ≡ true → IsSo x c
+      pub one_so : (i : ℕ) (x : List ℕ) (c : Coordinate) → In x xs → IsLeft rs over_grid b u.next us i x c → is_form c ≡ true → IsSo x c
       one_so i x c m (inl (e, (t, q))) form = (let clash : false ≡ true = sym (ap has_form q) ∙ form in absurd (cc clash))
       one_so i x c m (inr (e, inl (s, q, at))) form = by_grid x c s m q at
       one_so i x c m (inr (e, inr (j, q, at))) form = by_loop x c j m q at

@@ -1,6 +1,6 @@
 -- Of functions whose loops are not split, what the stores of pure definitions load of the input is shown to lie in it; and where what is fetched is held, all
 -- that they owe is.
-use Rattle.std.proofs.Common.{◌≡◌, ℕ, ◌+◌, ◌<◌, ◌≤◌, ◌^◌, Bool, true, false, ◌&&◌, ◌||◌, List, [], ◌∷◌, ◌++◌}
+use Rattle.std.proofs.Common.{◌≡◌, ℕ, ◌+◌, ◌<◌, ◌≤◌, ◌^◌, Bool, true, false, ◌&&◌, List, [], ◌∷◌, ◌++◌}
 use Rattle.std.proofs.Common.{length, map, take, drop, min, Option, Some, None, IsSome, refl, sym, ap, ◌∙◌, subst, arith}
 use Rattle.std.proofs.Common.{inl, inr, ◌⊎◌}
 use Rattle.std.specs.Prelude.{ℤ, pos, negsuc, ◌+ℤ◌, ◌-ℤ◌, ◌≤ℤ◌, ◌==◌, if◌then◌else◌, string_bytes, slice_get}
@@ -39,7 +39,7 @@ use Rattle.soundness.specs.Origins.{Outline}
 use Rattle.soundness.specs.Given.{function_named, claim_or_none, outline_of}
 use Rattle.soundness.specs.Obligations.{Known, Rules, Obligation, OutOfBuffer, NotClaimed, Named, obligation, seated}
 use Rattle.soundness.specs.Obligations.{region_of, load_obligations, anything, exactly, intervals, index_span, index_loads, variable_span, target_span}
-use Rattle.soundness.specs.Obligations.{may_load, met, coordinate_loads, loads, places_of, claim_obligations, obligations}
+use Rattle.soundness.specs.Obligations.{may_load, met, coordinate_loads, loads, places_of, obligations}
 use Rattle.soundness.specs.Shown.{Nests, is_shown, shows, all_shown, are_within, are_seated, start}
 use Rattle.soundness.specs.Binders.View.{grid_binders}
 use Rattle.soundness.proofs.Refines.{name_refl, eq_refl}
@@ -61,7 +61,6 @@ use Rattle.sched.specs.Skeleton.{BodyText, NestText, SkeletonText, span}
 use Rattle.lower.specs.declared.lowering.Lowered.{Lowered}
 use Rattle.lower.specs.Stored.{FormulaText, StoredText, calls_left, calls_in, some_calls, put, stored_functions, has_large}
 use Rattle.lower.specs.Faults.{are_whole, region_fault, no_totals}
-use Rattle.lower.specs.Refused.{AreSmall, AreRegionsKept}
 use Rattle.bounds.specs.Spans.{numbers}
 use Rattle.sched.specs.declared.skeleton.Step.{Step}
 use Rattle.lower.specs.Regions.{LaidText, missing_from, body_by, bodies_from, skeleton_of, laid_functions}
@@ -74,16 +73,15 @@ use Rattle.lower.specs.Bodies.{first_left, other_lefts, IsIndex, AreCoordinates,
 use Rattle.lower.specs.Fetches.{Entry, FetchText, is_fetched, fetched_groups, loads_from}
 use Rattle.lower.specs.Taken.{SiteText, add_calls, add_sites, sites_of}
 use Rattle.lower.proofs.Extents.{region_is}
-use Rattle.lower.specs.Groups.{HasBody, HasGroups, AreGroupsMade}
+use Rattle.lower.specs.Groups.{HasBody, HasGroups}
 use Rattle.lower.proofs.Blocking.{IsSmall}
 use Rattle.lower.proofs.Laying.{bound, same}
 use Rattle.lower.proofs.Owners as owners
 use Rattle.completeness.specs.Laws.{NamesNoLoad, AreLinesTold}
-use Rattle.completeness.specs.Laws.{IsFetch as IsFetchLine}
 use Rattle.completeness.specs.Laws.{IsStore as IsStoreLine}
-use Rattle.completeness.specs.Owed.{EachLine, BindBelow, AreGridsFew, AreSymbolsFew, IsPureStore, IsNameTest, NameTestsHold, the_first, EachClaim, TakePlain, AreClaimsNear}
-use Rattle.completeness.specs.Nested.{IsUncut, TakePlainTurns, TakeSplit}
-use Rattle.completeness.specs.Stores.{IsHeldPart, PureInputsShown, PureInputsAreShown, AreHeld, PureStoresShown, PureStoresOweShown, PlainGroupsOweShown, UncutGroupsOweShown}
+use Rattle.completeness.specs.Owed.{EachLine, BindBelow, AreGridsFew, AreSymbolsFew, IsPureStore, IsNameTest, NameTestsHold, the_first}
+use Rattle.completeness.specs.Nested.{IsUncut}
+use Rattle.completeness.specs.Stores.{IsHeldPart, PureInputsShown, PureInputsAreShown, AreHeld, PureStoresShown, PureStoresOweShown}
 use Rattle.completeness.proofs.Laid.{found}
 use Rattle.completeness.proofs.Defined.{first_put}
 use Rattle.completeness.proofs.Owned.{same_extents, same_skeleton, some_same}
@@ -94,7 +92,7 @@ use Rattle.completeness.proofs.Held.{held}
 use Rattle.completeness.proofs.Loaded.{Names, not_named, some_of, value_calls}
 use Rattle.completeness.proofs.Mentioned.{each_written, each_called}
 use Rattle.completeness.proofs.ReadBack.{HasIf, last_has, source_is, calls_can}
-use Rattle.completeness.proofs.Counts.{few_claims, bodies_many}
+use Rattle.completeness.proofs.Counts.{few_claims}
 use Rattle.completeness.proofs.Written.{BackIf, IsWritten, written}
 use Rattle.completeness.proofs.PublishShown.{named_alike}
 use Rattle.completeness.proofs.StoreLines.{ours, roots, lines_of, Holding, st, text, Ready, loaded, ready_first, long_at, named_callable, input_callable, some_and, variables_are as coordinates_named}
@@ -115,11 +113,7 @@ use Rattle.completeness.proofs.StoreBounds.{AreAt, IsAt, taken_at, targets_are, 
 use Rattle.completeness.proofs.StoreBounds.{spans_same, intervals_long, Shows, CallShows, term_shows, IsOfInput, seats_none, load_shows}
 use Rattle.completeness.proofs.TakenSites.{IsFound, add_all, each_found, first_site, region_within, places_seat, all_held}
 use Rattle.completeness.proofs.Bodies.{fetch_at, other_at, entry_at}
-use Rattle.completeness.proofs.ClaimLines.{formulas_long, known_stored}
-use Rattle.completeness.proofs.Standing.{nests_long}
-use Rattle.completeness.proofs.Joined.{left as all_left, claims_paired}
-use Rattle.completeness.proofs.UnsplitNests.{shown as claims_shown}
-use Rattle.completeness.proofs.UncutNests.{shown as uncut_claims}
+use Rattle.completeness.proofs.ClaimLines.{known_stored}
 use Rattle.completeness.proofs.RisingForms.{cut_low}
 
 -- ---- coordinates are numbers of 32 bits
@@ -756,42 +750,11 @@ module _ (a : Algorithm) (sch : Schedule) (l : Lowered) (well : IsAlgorithm a) (
           let five = lines_paired O R Three (λ t i y. Named_here t i y × Placed_here t i y) Five (λ t i y x z. (x, z)) s begin known body_three two in
           lines_weaker O R Five AllShown one_all s begin known five
 
-      -- where there is one definition, each store is of it
-      abbrev AllStores : Statement → ℕ → Known → Type 0
-      AllStores s at_line known = IsStoreLine s → (nests : Nests) → all_shown R nests (obligations O R s at_line known) ≡ true
-
-      module _ (single : length k.nests ≡ 1) where
-        each_all : (s : Statement) (at_line : ℕ) (known : Known) → Three s at_line known → AllShown s at_line known → AllStores s at_line known
-        each_all (Store b m cs e) at_line known three shown_here is nests =
-            let x = three.0.0 tt in
-            let less = slice_get_within k.nests x.definition x.nest x.stands in
-            let number : m ≡ x.definition = x.stores.1 in
-            shown_here (omega (arith, less, number, single)) nests
-        each_all (Seq xs) at_line known three shown_here is nests = absurd is
-        each_all (For j x kind body) at_line known three shown_here is nests = absurd is
-        each_all (Let j pick forms) at_line known three shown_here is nests = absurd is
-        each_all (First j x z) at_line known three shown_here is nests = absurd is
-        each_all (Guard low high body) at_line known three shown_here is nests = absurd is
-        each_all (Alloc b x seats) at_line known three shown_here is nests = absurd is
-        each_all (Fetch b x region) at_line known three shown_here is nests = absurd is
-        each_all (Publish x) at_line known three shown_here is nests = absurd is
-
-        pub body_stores : EachLine O R AllStores (statement_of q.body) (body_line plan n) (start (grid_binders q.grid.items))
-        body_stores = lines_paired O R Three AllShown AllStores each_all (statement_of q.body) (body_line plan n) (start (grid_binders q.grid.items)) body_three body_all
-
-  -- all that stores owe is shown
-  abbrev pub StoresShown : ℕ → Group → Type 0
-  StoresShown n g =
-      EachLine (outline_of plan cert n g) (rules_of a plan cert n)
-      (λ s at_line known. IsStoreLine s → (nests : Nests) → all_shown (rules_of a plan cert n) nests (obligations (outline_of plan cert n g) (rules_of a plan cert n) s at_line known) ≡ true)
-      g.body (body_line plan n) (start (grid_binders g.grid))
-
   -- what is loaded of the input, and all where what is fetched is held
   shown_at : (n : ℕ) (q : CodeGroup) → slice_get l.plan.groups.items n ≡ Some q → (v : StoredText) → slice_get (stored_functions a sch) n ≡ Some v → IsUncut v →
       PureInputsShown a plan cert n (group_of q)
       × ((us : List FormulaText) → v.formulas ≡ Some us → (r : LaidText) → slice_get (laid_functions a (stored_functions a sch)) n ≡ Some (Some r) →
-      AreHeld a (stored_functions a sch) n v us r.skeleton → PureStoresShown a plan cert n (group_of q)
-      × (v.changes ≡ [] → StoresShown n (group_of q)))
+      AreHeld a (stored_functions a sch) n v us r.skeleton → PureStoresShown a plan cert n (group_of q))
   shown_at n q theirs v stands plain =
       let me = made_at a sch l well legal small kept all groups n q theirs in
       let w = found a sch flags_of me.stored a.functions n me.is in
@@ -833,20 +796,9 @@ module _ (a : Algorithm) (sch : Schedule) (l : Lowered) (well : IsAlgorithm a) (
             let skeletons : r.skeleton ≡ body.skeleton = ap (λ (y : LaidText). y.skeleton) laid_same ∙ skeleton in
             let held_there = subst (λ (k : SkeletonText). AreHeld a (stored_functions a sch) n (texts w.function) body.formulas k) skeletons
             (subst (λ (fs : List FormulaText). AreHeld a (stored_functions a sch) n (texts w.function) fs r.skeleton) texts_same
-            (subst (λ (u : StoredText). AreHeld a (stored_functions a sch) n u us r.skeleton) this held_parts)) in (
-              body_all n q w.place w.function w.at there b.first_claim b.line b.claims b.needs theirs body holding b.numbered begins limits grid short narrow few_here laid uncut
-                  (map whole me.laid.region) bounded ended held_there,
-              (λ none.
-                  let changes : w.function.changes ≡ [] = ap (λ (u : StoredText). u.changes) (sym this) ∙ none in
-                  let many = formulas_long a flags_of w.function.variables w.function.value w.function.changes body.formulas body.defined in
-                  let nests = nests_long w.function.variables (bodies_from w.function.changes 0 (reductions_of w.function.changes) body.formulas) (loops_after (said sch) w.function) body.extents
-                  body.skeleton body.laid in
-                  let bodies = bodies_many w.function.changes 0 (reductions_of w.function.changes) body.formulas in
-                  let count : length w.function.changes ≡ 0 = ap length changes in
-                  let single : length body.skeleton.nests ≡ 1 = omega (arith, many, nests, bodies, count) in
-                  body_stores n q w.place w.function w.at there b.first_claim b.line b.claims b.needs theirs body holding b.numbered begins limits grid short narrow few_here laid uncut
-                  (map whole me.laid.region) bounded ended held_there single),
-            )),
+            (subst (λ (u : StoredText). AreHeld a (stored_functions a sch) n u us r.skeleton) this held_parts)) in
+            body_all n q w.place w.function w.at there b.first_claim b.line b.claims b.needs theirs body holding b.numbered begins limits grid short narrow few_here laid uncut
+            (map whole me.laid.region) bounded ended held_there),
       )
 
 pub shown : PureInputsAreShown
@@ -859,67 +811,4 @@ pub all_owed : PureStoresOweShown
 all_owed a s l well legal small regions groups all free told grids few n g at v stands plain us defined r laid parts_held =
     let x = from_map group_of l.plan.groups.items n g at in
     subst (λ (u : Group). PureStoresShown a (plan_of l.plan) (certificate_of l.certificate) n u) (sym x.2)
-    ((shown_at a s l well legal small (regions all).0 all groups told free grids few n x.0 x.1 v stands plain).1 us defined r laid parts_held).0
-
--- ---- all lines
-
--- of a group whose claims are shown, where the tests of nests take plain ones
-module _ (a : Algorithm) (s : Schedule) (l : Lowered) (well : IsAlgorithm a) (legal : IsLegal a s) (small : AreSmall a s) (regions : AreRegionsKept a s) (groups : AreGroupsMade a s l)
-    (all : are_whole (stored_functions a s) ≡ true) (free : NamesNoLoad a) (told : AreLinesTold (plan_of l.plan)) (grids : AreGridsFew (plan_of l.plan)) (few : AreSymbolsFew (plan_of l.plan))
-    (near : AreClaimsNear (certificate_of l.certificate)) (n : ℕ) (g : Group) (at : slice_get (plan_of l.plan).groups n ≡ Some g) (v : StoredText)
-    (stands : slice_get (stored_functions a s) n ≡ Some v) (uncut : IsUncut v) (none : v.changes ≡ []) (us : List FormulaText) (defined : v.formulas ≡ Some us) (r : LaidText)
-    (laid : slice_get (laid_functions a (stored_functions a s)) n ≡ Some (Some r)) (parts_held : AreHeld a (stored_functions a s) n v us r.skeleton) where
-  abbrev plan_here : Plan
-  plan_here = plan_of l.plan
-
-  abbrev cert_here : Certificate
-  cert_here = certificate_of l.certificate
-
-  abbrev outline_here : Outline
-  outline_here = outline_of plan_here cert_here n g
-
-  abbrev rules_here : Rules
-  rules_here = rules_of a plan_here cert_here n
-
-  group_by : (nests : Nests) → TakePlain a plan_here cert_here n g nests →
-      EachClaim outline_here rules_here
-      (λ kept begin last known t m. (IsFetchLine t → ⊥) → all_shown rules_here nests (claim_obligations outline_here rules_here kept begin last known t m) ≡ true) [] g.body (body_line plan_here n)
-      (start (grid_binders g.grid)) → all_shown rules_here nests (obligations outline_here rules_here g.body (body_line plan_here n) (start (grid_binders g.grid))) ≡ true
-  group_by nests takes claims =
-      let x = from_map group_of l.plan.groups.items n g at in
-      let both_shown = (shown_at a s l well legal small (regions all).0 all groups told free grids few n x.0 x.1 v stands uncut).1 us defined r laid parts_held in
-      let stores = subst (λ (u : Group). StoresShown a s l well legal small (regions all).0 all groups told free grids few n u) (sym x.2) (both_shown.1 none) in
-      let all_stores = lines_weaker outline_here rules_here (λ t i y. IsStoreLine t → (tests : Nests) → all_shown rules_here tests (obligations outline_here rules_here t i y) ≡ true)
-      (λ t i y. IsStoreLine t → all_shown rules_here nests (obligations outline_here rules_here t i y) ≡ true) (λ t i y z is. z is nests)
-      g.body (body_line plan_here n) (start (grid_binders g.grid)) stores in
-      all_left a s l well legal small regions groups all (grids, near) n g at nests takes all_stores claims
-
--- where the tests take what the nests are, their claims are shown
-claims_taken : (O : Outline) (R : Rules) (T : Nests → Type 0) (nests : Nests) → T nests → (s : Statement) (line : ℕ) (known : Known) →
-    EachClaim O R (λ kept begin last y t m. (IsFetchLine t → ⊥) → (tests : Nests) → T tests → all_shown R tests (claim_obligations O R kept begin last y t m) ≡ true) [] s line known →
-    EachClaim O R (λ kept begin last y t m. (IsFetchLine t → ⊥) → all_shown R nests (claim_obligations O R kept begin last y t m) ≡ true) [] s line known
-claims_taken O R T nests takes s line known claims =
-    claims_paired O R (λ kept begin last y t m. (IsFetchLine t → ⊥) → (tests : Nests) → T tests → all_shown R tests (claim_obligations O R kept begin last y t m) ≡ true)
-    (λ kept begin last y t m. (IsFetchLine t → ⊥) → (tests : Nests) → T tests → all_shown R tests (claim_obligations O R kept begin last y t m) ≡ true)
-    (λ kept begin last y t m. (IsFetchLine t → ⊥) → all_shown R nests (claim_obligations O R kept begin last y t m) ≡ true)
-    (λ kept begin last y t m z w none. z none nests takes) [] s line known claims claims
-
-pub group_owed : PlainGroupsOweShown
-group_owed a s l well legal small regions groups all free told grids few near n g at v stands plain none us defined r laid parts_held nests takes =
-    let p = plan_of l.plan in
-    let c = certificate_of l.certificate in
-    group_by a s l well legal small regions groups all free told grids few near n g at v stands plain.0 none us defined r laid parts_held nests takes.0
-    (claims_taken (outline_of p c n g) (rules_of a p c n) (TakePlainTurns a p c n g) nests takes g.body (body_line p n) (start (grid_binders g.grid))
-    (claims_shown a s l well legal small regions groups all near n g at v stands plain))
-
-or_true : (b d : Bool) → b ≡ true → (b || d) ≡ true
-or_true b d e = ap (λ (v : Bool). v || d) e
-
-pub uncut_owed : UncutGroupsOweShown
-uncut_owed a s l well legal small regions groups all free told grids few near n g at v stands uncut none us defined r laid parts_held nests takes =
-    let p = plan_of l.plan in
-    let c = certificate_of l.certificate in
-    group_by a s l well legal small regions groups all free told grids few near n g at v stands uncut none us defined r laid parts_held nests
-    (λ bs m from places t e. takes.0 bs m from places t (or_true _ _ e))
-    (claims_taken (outline_of p c n g) (rules_of a p c n) (TakeSplit a p c n g) nests takes g.body (body_line p n) (start (grid_binders g.grid))
-    (uncut_claims a s l well legal small regions groups all near n g at v stands uncut))
+    ((shown_at a s l well legal small (regions all).0 all groups told free grids few n x.0 x.1 v stands plain).1 us defined r laid parts_held)

@@ -225,7 +225,7 @@ module _ (a : Algorithm) (sch : Schedule) (l : Lowered) (well : IsAlgorithm a) (
       abbrev IsInside : Coordinate → Type 0
       IsInside c = is_index_span scope (variable_span O R c) ≡ true
 
-      one_inside : (i : ℕ) (x : List ℕ) (c : Coordinate) → In x xs → IsLeft rs over_grid b u.next us i x c → is_form c ≡ true → IsInside c
+      pub one_inside : (i : ℕ) (x : List ℕ) (c : Coordinate) → In x xs → IsLeft rs over_grid b u.next us i x c → is_form c ≡ true → IsInside c
       one_inside i x c m (inl (e, (t, q))) form = (let clash : false ≡ true = sym (ap has_form q) ∙ form in absurd (cc clash))
       one_inside i x c m (inr (e, inl (s, q, at_form))) form = ap (λ (y : Index). is_index_span scope (index_span O R y)) at_form ∙ grid_inside x s m q
       one_inside i x c m (inr (e, inr (j, q, at_form))) form =
@@ -243,7 +243,7 @@ module _ (a : Algorithm) (sch : Schedule) (l : Lowered) (well : IsAlgorithm a) (
           let rest = left_inside (i + 1) ys es (λ y m. some y (inr m)) all_left.1 parts.1 in
           λ j. here j && rest j
 
-      over_inside : (es : List Coordinate) (rs' : List Range) → ReadsIf u.next ts es (map range_name rs') → list_all (is_index_span scope) (map (variable_span O R) es) ≡ true
+      pub over_inside : (es : List Coordinate) (rs' : List Range) → ReadsIf u.next ts es (map range_name rs') → list_all (is_index_span scope) (map (variable_span O R) es) ≡ true
       over_inside [] rs' reads = refl
       over_inside (c ∷ es) [] reads = absurd reads
       over_inside (c ∷ es) (r ∷ rs') reads =
@@ -253,21 +253,21 @@ module _ (a : Algorithm) (sch : Schedule) (l : Lowered) (well : IsAlgorithm a) (
           let rest = over_inside es rs' reads.1 in
           λ j. here j && rest j
 
+      abbrev IsKept : Form → Type 0
+      IsKept f = is_within_limits f ≡ true
+
+      pub one_kept : (i : ℕ) (x : List ℕ) (c : Coordinate) → In x xs → IsLeft rs over_grid b u.next us i x c → is_form c ≡ true → IsKept (form_of c)
+      one_kept i x c m (inl (e, (t, q))) form = (let clash : false ≡ true = sym (ap has_form q) ∙ form in absurd (cc clash))
+      one_kept i x c m (inr (e, inl (s, q, at_form))) form =
+          ap (λ (y : Index). is_within_limits (index_form y)) at_form
+          ∙ up_limited (low x) s (near_ends a sch l well legal small kept all groups n first line g p claims needs at there h lined placed alone_here laid uncut x m).0
+      one_kept i x c m (inr (e, inr (j, q, at_form))) form = ap (λ (y : Index). is_within_limits (index_form y)) at_form
+
       module _ (forms : list_all is_form left ≡ true) where
         pub all_inside : list_all (is_index_span scope) (map (variable_span O R) cs) ≡ true
         all_inside =
             ap (λ (es : List Coordinate). list_all (is_index_span scope) (map (variable_span O R) es)) (sym (take-append-drop (length xs) cs))
             ∙ both_all (variable_span O R) (is_index_span scope) left over (left_inside 0 xs left (λ x m. m) u.left forms) (over_inside over ds u.over)
-
-        abbrev IsKept : Form → Type 0
-        IsKept f = is_within_limits f ≡ true
-
-        one_kept : (i : ℕ) (x : List ℕ) (c : Coordinate) → In x xs → IsLeft rs over_grid b u.next us i x c → is_form c ≡ true → IsKept (form_of c)
-        one_kept i x c m (inl (e, (t, q))) form = (let clash : false ≡ true = sym (ap has_form q) ∙ form in absurd (cc clash))
-        one_kept i x c m (inr (e, inl (s, q, at_form))) form =
-            ap (λ (y : Index). is_within_limits (index_form y)) at_form
-            ∙ up_limited (low x) s (near_ends a sch l well legal small kept all groups n first line g p claims needs at there h lined placed alone_here laid uncut x m).0
-        one_kept i x c m (inr (e, inr (j, q, at_form))) form = ap (λ (y : Index). is_within_limits (index_form y)) at_form
 
         kept_all : (i : ℕ) (ys : List (List ℕ)) (es : List Coordinate) → ((x : List ℕ) → In x ys → In x xs) → AreLeft rs over_grid b u.next us i ys es → list_all is_form es ≡ true →
             AllByRecursion IsKept (map form_of es)

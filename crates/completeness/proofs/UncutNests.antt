@@ -243,7 +243,7 @@ module _ (a : Algorithm) (sch : Schedule) (l : Lowered) (well : IsAlgorithm a) (
 
     -- ---- loops and numbers
 
-    loops_plain : AllByRecursion (OneLoop xs) ls
+    pub loops_plain : AllByRecursion (OneLoop xs) ls
     loops_plain = all_from (OneLoop xs) ls (λ o m.
         let leaf : IsLeaf xs cuts o = all_in (IsLeaf xs cuts) ls o (owners.directed g h.extents k laid).leaves m in
         let name : leaf.variable ≡ o.name = subst (λ (cs : List Split). IsEnd cs leaf.variable o.name) uncut leaf.end in

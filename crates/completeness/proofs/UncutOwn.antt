@@ -133,3 +133,52 @@ module _ (a : Algorithm) (well : IsAlgorithm a) (place : ℕ) (f : Function) (at
       let each : (x : A) → EachCall (P x) u.value = λ x.
       (let e = alone_at a st f.variables y.at m.value m.is lefts long x.0 x.1 x.2 in own_variable a well place f at_place st stays i y o.at u.value value x.0 x.1 e.0 x.2 e.1 e.2) in
       each_call-weaker (ForAll A P) IsOwnCall (λ name args z q. have_all f.variables args (λ j v t. z (j, v, t) q)) u.value (all_calls A P u.value each)
+
+-- ---- where some left indices are others
+
+variable_at : (a : Algorithm) (st : List Bool) (xs : List (List ℕ)) (es : List Term) (os : List (Option Term)) → lefts_put a st xs es ≡ Some os → length es ≡ length xs →
+    (j : ℕ) (v : List ℕ) → slice_get xs j ≡ Some v → ((e : Term) → slice_get os j ≡ Some (Some e) → ⊥) → (e : Term) × (slice_get es j ≡ Some e) × (is_variable v e ≡ true)
+variable_at a st [] es os q long j v at none = absurd (cc at)
+variable_at a st (x ∷ xs) [] os q long j v at none = absurd (omega (arith, long))
+variable_at a st (x ∷ xs) (e ∷ es) os q long j v at none =
+    let b = bound (left_put a st x e) (λ o. lefts_put a st xs es >>= λ rest. Some (o ∷ rest)) os q in
+    let c = bound (lefts_put a st xs es) (λ rest. Some (b.value ∷ rest)) os b.comes in
+    let is = same (b.value ∷ c.value) os c.comes in
+    by b.value c.value b.is j at (λ u k. none u (ap (λ (l : List (Option Term)). slice_get l j) (sym is) ∙ k)) (λ k w never. variable_at a st xs es c.value c.is (omega (arith, long)) k v w never)
+  where
+    of : (o : Option Term) (t : Bool) → is_variable x e ≡ t → (if t then Some None else (put a st e >>= λ i. Some (Some i))) ≡ Some o → ((u : Term) → Some o ≡ Some (Some u) → ⊥) →
+        is_variable x e ≡ true
+    of o true h k never = h
+    of o false h k never =
+        let d = bound (put a st e) (λ i. Some (Some i)) o k in
+        absurd (never d.value (sym d.comes))
+
+    by : (o : Option Term) (rest : List (Option Term)) → left_put a st x e ≡ Some o → (j : ℕ) → slice_get (x ∷ xs) j ≡ Some v → ((u : Term) → slice_get (o ∷ rest) j ≡ Some (Some u) → ⊥) →
+        ((k : ℕ) → slice_get xs k ≡ Some v → ((u : Term) → slice_get rest k ≡ Some (Some u) → ⊥) → (u : Term) × (slice_get es k ≡ Some u) × (is_variable v u ≡ true)) →
+        (u : Term) × (slice_get (e ∷ es) j ≡ Some u) × (is_variable v u ≡ true)
+    by o rest made zero w never later = (e, refl, ap (λ (y : List ℕ). is_variable y e) (sym (same x v w)) ∙ of o (is_variable x e) refl made never)
+    by o rest made (suc k) w never later = later k w never
+
+module _ (a : Algorithm) (well : IsAlgorithm a) (place : ℕ) (f : Function) (at_place : slice_get a.functions place ≡ Some f) (st : List Bool) (stays : StaysCalled a st f.name) (fs : List FormulaText)
+    (defined : formulas_put a st f.variables f.value f.changes ≡ Some fs) where
+  -- each variable that is no other index stands at its place, where the call is of the function itself
+  abbrev pub KeepsPlaces : List (Option Term) → List ℕ → Terms → Type 0
+  KeepsPlaces os name at =
+      name ≡ f.name → (j : ℕ) (v : List ℕ) → slice_get f.variables j ≡ Some v → ((e : Term) → slice_get os j ≡ Some (Some e) → ⊥) → has_variable v j at ≡ true
+
+  pub own_keep : (i : ℕ) (u : FormulaText) → slice_get fs (suc i) ≡ Some u → EachCall (KeepsPlaces u.at) u.value
+  own_keep i u there =
+      let o = other_put a st f.variables f.value f.changes fs i u defined there in
+      let y = o.change in
+      let m = bound (lefts_put a st f.variables y.at) (λ at. put a st y.value >>= λ v. Some (record { at = at; value = v })) u o.is in
+      let r = bound (put a st y.value) (λ v. Some (record { at = m.value; value = v })) u m.comes in
+      let made : FormulaText = record { at = m.value; value = r.value } in
+      let is : made ≡ u = same made u r.comes in
+      let value : put a st y.value ≡ Some u.value = r.is ∙ ap (λ (z : FormulaText). Some z.value) is in
+      let lefts : lefts_put a st f.variables y.at ≡ Some u.at = m.is ∙ ap (λ (z : FormulaText). Some z.at) is in
+      let long = (update_is a place f well at_place i y o.at).places in
+      let A : Type 0 = (j : ℕ) × (v : List ℕ) × (slice_get f.variables j ≡ Some v) × ((e : Term) → slice_get u.at j ≡ Some (Some e) → ⊥) in
+      let P : A → List ℕ → Terms → Type 0 = λ x name args. name ≡ f.name → has_variable x.1 x.0 args ≡ true in
+      let each : (x : A) → EachCall (P x) u.value = λ x.
+      (let e = variable_at a st f.variables y.at u.at lefts long x.0 x.1 x.2 x.3 in own_variable a well place f at_place st stays i y o.at u.value value x.0 x.1 e.0 x.2 e.1 e.2) in
+      each_call-weaker (ForAll A P) (KeepsPlaces u.at) (λ name args z q j v t none. z (j, v, t, none) q) u.value (all_calls A P u.value each)

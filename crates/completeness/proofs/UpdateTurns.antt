@@ -119,10 +119,6 @@ in_append y [] qs = omega arith
 in_append y (None ∷ os) qs = in_append y os qs
 in_append y (Some x ∷ os) qs = (let rest = in_append y os qs in omega (arith, rest))
 
-pub names_long : (b : BodyText) (d : ℕ) (xs : List (List ℕ)) → length (names_at b d xs) ≡ length xs
-names_long b d [] = refl
-names_long b d (x ∷ xs) = ap suc (names_long b (d + 1) xs)
-
 -- these are some of the names, at their places
 abbrev pub OfNames : List (Option (List ℕ)) → List (List ℕ) → Type 0
 OfNames [] [] = Unit {0}
@@ -130,14 +126,6 @@ OfNames [] (x ∷ xs) = ⊥
 OfNames (o ∷ os) [] = ⊥
 OfNames (None ∷ os) (x ∷ xs) = OfNames os xs
 OfNames (Some y ∷ os) (x ∷ xs) = (y ≡ x) × OfNames os xs
-
-pub of_names : (b : BodyText) (d : ℕ) (xs : List (List ℕ)) → OfNames (names_at b d xs) xs
-of_names b d [] = tt
-of_names b d (x ∷ xs) = of (is_missing b d) (of_names b (d + 1) xs)
-  where
-    of : (t : Bool) → OfNames (names_at b (d + 1) xs) xs → OfNames ((if t then None else Some x) ∷ names_at b (d + 1) xs) (x ∷ xs)
-    of true h = h
-    of false h = (refl, h)
 
 names_hits : (b : BodyText) (d : ℕ) (xs : List (List ℕ)) (y : List ℕ) → hits_in y (names_at b d xs) ≤ hits itself y xs
 names_hits b d [] y = omega arith

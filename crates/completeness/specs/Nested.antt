@@ -15,12 +15,10 @@ use Rattle.soundness.specs.Obligations.{Binder, Known, Rules, places_of, goes_on
 use Rattle.soundness.specs.Shown.{Nests, is_shown, all_shown, start}
 use Rattle.soundness.specs.Binders.View.{grid_binders}
 use Rattle.soundness.specs.Nests.Laws.{domains_of}
-use Rattle.soundness.specs.Nests.Tests.{plain_nests}
 use Rattle.tails.specs.Nests.{split_nests}
 use Rattle.rules.specs.Bounding.Rules.{rules_of}
 use Rattle.sched.specs.Schedule.{Schedule}
 use Rattle.sched.specs.Legal.{IsLegal}
-use Rattle.sched.specs.Numbers.{parallel_loops}
 use Rattle.lower.specs.declared.lowering.Lowered.{Lowered}
 use Rattle.lower.specs.Stored.{StoredText, stored_functions}
 use Rattle.lower.specs.Faults.{are_whole}
@@ -65,52 +63,6 @@ LeavesPlacesAndNests a p c n g =
 -- so all that lines owe is shown where what stores owe of places and regions is (K4, K5), and the tests of nests say yes (K6, K7)
 abbrev pub PlacesAndNestsAreLeft : Type 0
 PlacesAndNestsAreLeft = OfWholePlans LeavesPlacesAndNests (λ p c. AreGridsFew p × AreClaimsNear c × AreLinesTold p)
-
--- ---- loops that are neither split nor parallel
-
--- no loop of the function is split, and none is parallel
-abbrev pub IsUnsplit : StoredText → Type 0
-IsUnsplit g = (g.placed.cuts ≡ []) × (parallel_loops g.placed.loops ≡ [])
-
--- all that the claims of pure definitions owe is shown, where the tests of nests say yes to plain nests
-abbrev pub PureClaimsShown : Algorithm → Plan → Certificate → ℕ → Group → Type 0
-PureClaimsShown a p c n g =
-    let outline = outline_of p c n g in
-    let rules = rules_of a p c n in
-    EachClaim outline rules (λ kept begin last known s k. ¬ IsFetch s → (outline.claim k).definition ≡ 0 → (nests : Nests) → TakePlain a p c n g nests →
-    all_shown rules nests (claim_obligations outline rules kept begin last known s k) ≡ true) [] g.body (body_line p n) (start (grid_binders g.grid))
-
--- so it is of each function of which no loop is split or parallel: its nest is made of the loops of its variables, one in another
-abbrev pub PureClaimsOweShown : Type 0
-PureClaimsOweShown =
-    (a : Algorithm) (s : Schedule) (l : Lowered) → IsAlgorithm a → IsLegal a s → AreSmall a s → AreRegionsKept a s → AreGroupsMade a s l
-    → are_whole (stored_functions a s) ≡ true → AreClaimsNear (certificate_of l.certificate)
-    → (n : ℕ) (g : Group) → slice_get (plan_of l.plan).groups n ≡ Some g → (u : StoredText) → slice_get (stored_functions a s) n ≡ Some u → IsUnsplit u
-    → PureClaimsShown a (plan_of l.plan) (certificate_of l.certificate) n g
-
--- the tests of nests say yes to what those of plain nests do, as the checker's do: that a nest makes its claim, and that it does an update's steps in their
--- order
-abbrev pub TakePlainTurns : Algorithm → Plan → Certificate → ℕ → Group → Nests → Type 0
-TakePlainTurns a p c n g nests =
-    TakePlain a p c n g nests × ((bs : List Binder) (m : ℕ) (t : Statement) →
-    (plain_nests (outline_of p c n g) (rules_of a p c n) (domains_of a)).is_in_turn bs m t ≡ true → nests.is_in_turn bs m t ≡ true)
-
--- all that the claims of nests owe is shown, of pure definitions and of updates, where the tests of nests say yes to plain nests
-abbrev pub UnsplitClaimsShown : Algorithm → Plan → Certificate → ℕ → Group → Type 0
-UnsplitClaimsShown a p c n g =
-    let outline = outline_of p c n g in
-    let rules = rules_of a p c n in
-    EachClaim outline rules (λ kept begin last known s k. ¬ IsFetch s → (nests : Nests) → TakePlainTurns a p c n g nests →
-    all_shown rules nests (claim_obligations outline rules kept begin last known s k) ≡ true) [] g.body (body_line p n) (start (grid_binders g.grid))
-
--- so it is of each function of which no loop is split or parallel: the nest of an update is made of the loops of the variables that stand alone as its left
--- indices and, inside of these, of its reduction variables, the last outermost
-abbrev pub UnsplitClaimsOweShown : Type 0
-UnsplitClaimsOweShown =
-    (a : Algorithm) (s : Schedule) (l : Lowered) → IsAlgorithm a → IsLegal a s → AreSmall a s → AreRegionsKept a s → AreGroupsMade a s l
-    → are_whole (stored_functions a s) ≡ true → AreClaimsNear (certificate_of l.certificate)
-    → (n : ℕ) (g : Group) → slice_get (plan_of l.plan).groups n ≡ Some g → (u : StoredText) → slice_get (stored_functions a s) n ≡ Some u → IsUnsplit u
-    → UnsplitClaimsShown a (plan_of l.plan) (certificate_of l.certificate) n g
 
 -- ---- loops that are not split
 

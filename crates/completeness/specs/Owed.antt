@@ -26,7 +26,7 @@ use Rattle.sched.specs.Schedule.{Schedule}
 use Rattle.sched.specs.Legal.{IsLegal}
 use Rattle.sched.specs.Skeleton.{NestText, SkeletonText}
 use Rattle.lower.specs.declared.lowering.Lowered.{Lowered}
-use Rattle.lower.specs.Stored.{StoredText, stored_functions}
+use Rattle.lower.specs.Stored.{stored_functions}
 use Rattle.lower.specs.Regions.{LaidText, laid_functions}
 use Rattle.lower.specs.Around.{bind_steps, head_scope}
 use Rattle.lower.specs.Faults.{are_whole}
@@ -120,13 +120,6 @@ abbrev pub IsPureStore : Statement → Type 0
 IsPureStore (Store b k at e) = k ≡ 0
 IsPureStore _ = ⊥
 
--- the first that each store of a pure definition in a group's body owes is shown: that the point where it stores has a place in its buffer
-abbrev pub PurePlacesShown : Algorithm → Plan → Certificate → ℕ → Group → Type 0
-PurePlacesShown a p c n g =
-    EachLine (outline_of p c n g) (rules_of a p c n)
-    (λ s line known. IsPureStore s → (nests : Nests) → all_shown (rules_of a p c n) nests (the_first (obligations (outline_of p c n g) (rules_of a p c n) s line known)) ≡ true)
-    g.body (body_line p n) (start (grid_binders g.grid))
-
 -- ---- claim by claim
 
 -- this is so of each claim that the last line of a statement names: where these windows are kept, of the line at which the statement begins, its last
@@ -198,16 +191,6 @@ OfWholePlans IsSo Asked =
 abbrev pub AreGridsFew : Plan → Type 0
 AreGridsFew p = (n : ℕ) (g : Group) → slice_get p.groups n ≡ Some g → length g.grid ≤ most_symbols
 
--- of schedules besides that split no loop of a stored function
-abbrev pub AreUnsplit : List StoredText → Type 0
-AreUnsplit gs = AllByRecursion (λ g. g.placed.cuts ≡ []) gs
-
-abbrev pub OfUnsplitPlans : (Algorithm → Plan → Certificate → ℕ → Group → Type 0) → (Plan → Certificate → Type 0) → Type 0
-OfUnsplitPlans IsSo Asked =
-    (a : Algorithm) (s : Schedule) (l : Lowered) → IsAlgorithm a → IsLegal a s → AreSmall a s → AreRegionsKept a s → AreGroupsMade a s l
-    → are_whole (stored_functions a s) ≡ true → AreUnsplit (stored_functions a s) → Asked (plan_of l.plan) (certificate_of l.certificate)
-    → (n : ℕ) (g : Group) → slice_get (plan_of l.plan).groups n ≡ Some g → IsSo a (plan_of l.plan) (certificate_of l.certificate) n g
-
 -- each symbol that a loop or a let of the statement binds is before this one
 abbrev mutual
   pub BindBelow : ℕ → Statement → Type 0
@@ -271,10 +254,6 @@ StoresAndNestsAreLeft = OfWholePlans LeavesStoresAndNests (λ p c. AreGridsFew p
 -- a line `store` owes, of names alone, that its buffer and those of what it loads are in scope (K4), and that the claims by which it loads are in force (K5)
 abbrev pub StoreNamesAreShown : Type 0
 StoreNamesAreShown = OfWholePlans (λ a p c n g. NamesNoLoad a → StoreNamesHold a p c n g) (λ p c. AreLinesTold p)
-
--- of functions whose loops are not split, a store of the pure definition owes that the point where it stores has a place in its buffer (K4)
-abbrev pub PurePlacesAreShown : Type 0
-PurePlacesAreShown = OfUnsplitPlans PurePlacesShown (λ p c. AreSymbolsFew p)
 
 -- at each store of a pure definition in a group's body the checker knows of the symbols, one after another, what is known of them by this skeleton, where the
 -- calls of the definition are bounded: of those of the grid, of the lets over it, and of the loops and lets of the nest

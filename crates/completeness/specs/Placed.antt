@@ -1,6 +1,11 @@
 -- What stores owe the checker of the points where they store, of functions whose loops are not split.
 use Rattle.std.specs.Prelude.{◌≡◌, ℕ, true, List, [], ◌∷◌, ◌++◌, map, flat_map, Some, None, slice_get}
 use Rattle.std.specs.List.{AllByRecursion, list_all}
+use Rattle.numeric.specs.declared.ty.Ty.TheVariants.{I32}
+use Rattle.tree.specs.Term.{Term}
+use Rattle.lin.specs.Regions.{span_inside}
+use Rattle.lin.specs.declared.span.Span1.{Span1}
+use Rattle.bounds.specs.Spans.{range_of}
 use Rattle.plan.specs.Plan.{Statement, Store, Group, Plan}
 use Rattle.plan.specs.Lines.{body_line}
 use Rattle.plan.specs.View.{plan_of}
@@ -17,9 +22,13 @@ use Rattle.soundness.specs.Nests.Tests.{left_of, over_of}
 use Rattle.rules.specs.Bounding.Rules.{rules_of}
 use Rattle.sched.specs.Schedule.{Schedule}
 use Rattle.sched.specs.Legal.{IsLegal}
+use Rattle.sched.specs.declared.numbers.Extent.{Extent}
+use Rattle.sched.specs.Skeleton.{NestText, SkeletonText}
 use Rattle.lower.specs.declared.lowering.Lowered.{Lowered}
 use Rattle.lower.specs.Stored.{FormulaText, StoredText, stored_functions}
 use Rattle.lower.specs.Regions.{LaidText, laid_functions}
+use Rattle.lower.specs.Around.{AroundText, head_scope, around}
+use Rattle.lower.specs.Bounded.{whole}
 use Rattle.lower.specs.Faults.{are_whole}
 use Rattle.lower.specs.Refused.{AreSmall, AreRegionsKept}
 use Rattle.lower.specs.Groups.{AreGroupsMade}
@@ -121,3 +130,24 @@ NearPlacedGroupsOweShown =
     → (n : ℕ) (g : Group) → slice_get (plan_of l.plan).groups n ≡ Some g → (u : StoredText) → slice_get (stored_functions a s) n ≡ Some u → IsUncut u
     → (fs : List FormulaText) → u.formulas ≡ Some fs → ArePlaced fs → (r : LaidText) → slice_get (laid_functions a (stored_functions a s)) n ≡ Some (Some r)
     → IsNearRegion r.region → GroupShown TakeSplit a (plan_of l.plan) (certificate_of l.certificate) n g
+
+-- ---- left indices that are expressions
+
+-- each left index that is no variable is shown to lie in the numbers of its dimension, and to be a number of 32 bits, as the checker tests it
+abbrev pub AreLeftsHeld : Algorithm → StoredText → List FormulaText → List Extent → SkeletonText → Type 0
+AreLeftsHeld a g fs region k =
+    (d : ℕ) (f : FormulaText) (w : NestText) (r : AroundText) → slice_get fs d ≡ Some f → slice_get k.nests d ≡ Some w → around a g (head_scope k) w f d ≡ Some r
+    → (j : ℕ) (e : Term) (x : Extent) (s : Span1) → slice_get f.at j ≡ Some (Some e) → slice_get region j ≡ Some x → slice_get r.coordinates j ≡ Some s
+    → (span_inside r.scope s (whole x) ≡ true) × (span_inside r.scope s (range_of I32) ≡ true)
+
+-- of each function of which no loop is split, whichever are parallel, with whatever updates, all that the lines of its group owe is shown by the tests of split nests,
+-- where what it fetches holds its calls and its left indices are held: K2, K4, K5, K6 and K7 are told of none of them
+abbrev pub HeldGroupsOweShown : Type 0
+HeldGroupsOweShown =
+    (a : Algorithm) (s : Schedule) (l : Lowered) → IsAlgorithm a → IsLegal a s → AreSmall a s → AreRegionsKept a s → AreGroupsMade a s l
+    → are_whole (stored_functions a s) ≡ true → NamesNoLoad a → AreLinesTold (plan_of l.plan) → AreGridsFew (plan_of l.plan) → AreSymbolsFew (plan_of l.plan)
+    → AreClaimsNear (certificate_of l.certificate)
+    → (n : ℕ) (g : Group) → slice_get (plan_of l.plan).groups n ≡ Some g → (u : StoredText) → slice_get (stored_functions a s) n ≡ Some u → IsUncut u
+    → (fs : List FormulaText) → u.formulas ≡ Some fs → (r : LaidText) → slice_get (laid_functions a (stored_functions a s)) n ≡ Some (Some r)
+    → AreHeld a (stored_functions a s) n u fs r.skeleton → AreLeftsHeld a u fs r.region r.skeleton
+    → GroupShown TakeSplit a (plan_of l.plan) (certificate_of l.certificate) n g

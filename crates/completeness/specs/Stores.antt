@@ -1,5 +1,5 @@
 -- What the stores of functions owe the checker whose loops are not split, and all lines of their groups.
-use Rattle.std.specs.Prelude.{◌≡◌, ◌≤◌, ◌⊎◌, ℕ, true, List, [], Some, IsSome, slice_get}
+use Rattle.std.specs.Prelude.{◌≡◌, ◌≤◌, ◌⊎◌, ℕ, true, List, Some, IsSome, slice_get}
 use Rattle.std.specs.List.{AllByRecursion}
 use Rattle.std.specs.Int.RustNames.{unsigned_abs}
 use Rattle.meaning.specs.Algorithm.{Algorithm}
@@ -29,8 +29,8 @@ use Rattle.lower.specs.Faults.{are_whole}
 use Rattle.lower.specs.Refused.{AreSmall, AreRegionsKept}
 use Rattle.lower.specs.Groups.{roots_over, AreGroupsMade}
 use Rattle.completeness.specs.Laws.{NamesNoLoad, AreLinesTold}
-use Rattle.completeness.specs.Owed.{EachLine, IsPureStore, AreGridsFew, AreClaimsNear, AreSymbolsFew}
-use Rattle.completeness.specs.Nested.{IsUnsplit, TakePlainTurns, IsUncut, TakeSplit}
+use Rattle.completeness.specs.Owed.{EachLine, IsPureStore, AreGridsFew, AreSymbolsFew}
+use Rattle.completeness.specs.Nested.{IsUncut}
 
 -- that points are those of a region
 abbrev pub IsRegionTest : Wanted → Type 0
@@ -100,37 +100,8 @@ GroupShown AreSuch a p c n g =
     (nests : Nests) → AreSuch a p c n g nests →
     all_shown rules nests (obligations (outline_of p c n g) rules g.body (body_line p n) (start (grid_binders g.grid))) ≡ true
 
--- so it is, by these tests of nests, of each such function without updates, where what it fetches is held: K2, K4, K5, K6 and K7 are told of no line of its
--- group
-abbrev pub OfHeldGroups : (Algorithm → Plan → Certificate → ℕ → Group → Nests → Type 0) → (StoredText → Type 0) → Type 0
-OfHeldGroups AreSuch IsSuch =
-    (a : Algorithm) (s : Schedule) (l : Lowered) → IsAlgorithm a → IsLegal a s → AreSmall a s → AreRegionsKept a s → AreGroupsMade a s l
-    → are_whole (stored_functions a s) ≡ true → NamesNoLoad a → AreLinesTold (plan_of l.plan) → AreGridsFew (plan_of l.plan) → AreSymbolsFew (plan_of l.plan)
-    → AreClaimsNear (certificate_of l.certificate)
-    → (n : ℕ) (g : Group) → slice_get (plan_of l.plan).groups n ≡ Some g → (u : StoredText) → slice_get (stored_functions a s) n ≡ Some u → IsSuch u
-    → u.changes ≡ [] → (fs : List FormulaText) → u.formulas ≡ Some fs → (r : LaidText) → slice_get (laid_functions a (stored_functions a s)) n ≡ Some (Some r)
-    → AreHeld a (stored_functions a s) n u fs r.skeleton → GroupShown AreSuch a (plan_of l.plan) (certificate_of l.certificate) n g
-
--- of those of which no loop is split or parallel, by the tests of plain nests
-abbrev pub PlainGroupsOweShown : Type 0
-PlainGroupsOweShown = OfHeldGroups TakePlainTurns IsUnsplit
-
--- of those of which no loop is split, whichever are parallel, by the tests of split nests
-abbrev pub UncutGroupsOweShown : Type 0
-UncutGroupsOweShown = OfHeldGroups TakeSplit IsUncut
-
 -- ---- where regions begin near 0
 
 -- the first numbers of a region are within 2^14
 abbrev pub IsNearRegion : List Extent → Type 0
 IsNearRegion es = AllByRecursion (λ x. unsigned_abs x.low ≤ 16384) es
-
--- so all that a group's lines owe is shown, of each function without updates of which no loop is split, and whose region begins near 0, whatever it fetches
-abbrev pub NearGroupsOweShown : Type 0
-NearGroupsOweShown =
-    (a : Algorithm) (s : Schedule) (l : Lowered) → IsAlgorithm a → IsLegal a s → AreSmall a s → AreRegionsKept a s → AreGroupsMade a s l
-    → are_whole (stored_functions a s) ≡ true → NamesNoLoad a → AreLinesTold (plan_of l.plan) → AreGridsFew (plan_of l.plan) → AreSymbolsFew (plan_of l.plan)
-    → AreClaimsNear (certificate_of l.certificate)
-    → (n : ℕ) (g : Group) → slice_get (plan_of l.plan).groups n ≡ Some g → (u : StoredText) → slice_get (stored_functions a s) n ≡ Some u → IsUncut u
-    → u.changes ≡ [] → (r : LaidText) → slice_get (laid_functions a (stored_functions a s)) n ≡ Some (Some r) → IsNearRegion r.region
-    → GroupShown TakeSplit a (plan_of l.plan) (certificate_of l.certificate) n g

@@ -4,6 +4,7 @@ use Rattle.std.specs.List.{AllByRecursion}
 use Rattle.meaning.specs.Image.Raster.{is_within}
 use Rattle.meaning.specs.Algorithm.{Algorithm}
 use Rattle.meaning.specs.Conditions.{IsAlgorithm}
+use Rattle.algo.specs.Words.{IsNamed}
 use Rattle.plan.specs.Plan.{Group, Plan}
 use Rattle.plan.specs.View.{plan_of}
 use Rattle.plan.specs.Certificate.Certificate.{Certificate, certificate_of}
@@ -28,7 +29,6 @@ use Rattle.lower.specs.Regions.{LaidText, laid_functions}
 use Rattle.lower.specs.Faults.{are_whole}
 use Rattle.lower.specs.Refused.{AreSmall, AreRegionsKept}
 use Rattle.lower.specs.Groups.{AreGroupsMade}
-use Rattle.completeness.specs.Laws.{NamesNoLoad}
 use Rattle.completeness.specs.Nested.{IsUncut}
 use Rattle.completeness.specs.Stores.{IsNearRegion}
 use Rattle.completeness.specs.Placed.{ArePlaced}
@@ -57,11 +57,11 @@ pub record TellsOnlyLimits (a : Algorithm) (p : Plan) (c : Certificate) : Type 0
   pub shares : (f : Flaw) → ErrorMeans p c (SharesFlaw f) → f.code ≡ K14
   pub output : (n : ℕ) (g : Group) → slice_get p.groups n ≡ Some g → HasOutputPoints a p n g
 
--- so it is of the plan that is made of such a schedule, where no name reads as a load
+-- so it is of the plan that is made of such a schedule, where what is named has the name of a text, as in each algorithm that was read
 abbrev pub LimitsAloneAreTold : Type 0
 LimitsAloneAreTold =
     (a : Algorithm) (s : Schedule) (l : Lowered) → IsAlgorithm a → IsLegal a s → AreSmall a s → AreRegionsKept a s → AreGroupsMade a s l
-    → SplitsNothing a s → NamesNoLoad a → TellsOnlyLimits a (plan_of l.plan) (certificate_of l.certificate)
+    → SplitsNothing a s → IsNamed a → TellsOnlyLimits a (plan_of l.plan) (certificate_of l.certificate)
 
 -- each refusal of the plan that is right, whatever its line, is told as a limit (K14)
 abbrev pub TellsLimitsAlone : Algorithm → Plan → Certificate → Type 0
@@ -71,4 +71,4 @@ TellsLimitsAlone a p c = (code line : ℕ) → IsFault a p c code line → code 
 abbrev pub FaultsAreLimits : Type 0
 FaultsAreLimits =
     (a : Algorithm) (s : Schedule) (l : Lowered) → IsAlgorithm a → IsLegal a s → AreSmall a s → AreRegionsKept a s → AreGroupsMade a s l
-    → SplitsNothing a s → NamesNoLoad a → TellsLimitsAlone a (plan_of l.plan) (certificate_of l.certificate)
+    → SplitsNothing a s → IsNamed a → TellsLimitsAlone a (plan_of l.plan) (certificate_of l.certificate)

@@ -1,6 +1,6 @@
 //! Laws of what the claims of nests owe the checker, in plans that `lower` makes.
 
-ghost use Rattle.completeness.specs.Nested.{NestTestsAreLeft, PlacesAndNestsAreLeft, PureClaimsOweShown, UncutClaimsOweShown, UnsplitClaimsOweShown};
+ghost use Rattle.completeness.specs.Nested.{NestTestsAreLeft, PlacesAndNestsAreLeft, UncutClaimsOweShown};
 
 /// Of a schedule under which each stored function is a root function that is computed at no loop, whatever the loops: all that the claim of a nest owes is shown where
 /// the tests of nests say yes to the nest. What it stores is of the claim's function, in the claim's buffer, and the claim of the definition before is in force before
@@ -14,18 +14,6 @@ pub fn nest_tests_are_left()
 /// It is asked what is of lines `fetch` and `publish`, and of the names that lines `store` owe.
 pub fn places_and_nests_are_left()
     ensures { PlacesAndNestsAreLeft }
-{}
-
-/// Of such a schedule, each function of which no loop is split or parallel: all that the claim of its pure definition owes is shown, where the tests of nests say yes to
-/// nests of plain loops. The nest runs over the claim's region, each coordinate is the symbol of one loop, and each point has a place of its own.
-pub fn pure_claims_owe_shown()
-    ensures { PureClaimsOweShown }
-{}
-
-/// Of such a schedule and such a function: all that the claims of its updates owe is shown as well, where the tests of nests say yes to nests of plain loops, and to their
-/// order. An update's nest runs over the claim's region in each variable that stands alone on its left side, and there through all points of the reduction in their order.
-pub fn unsplit_claims_owe_shown()
-    ensures { UnsplitClaimsOweShown }
 {}
 
 /// Of such a schedule, each function of which no loop is split, whichever are parallel: all that the claims of its definitions owe is shown, where the tests of nests say

@@ -5,14 +5,13 @@ ghost use Rattle.completeness.specs.Owed.{
   FetchClaimsOweShown,
   FetchLinesOweShown,
   PublishLinesOweShown,
-  PurePlacesAreShown,
   PureScopesAgree,
   StatementsOweTheirOwn,
   StepsOweShown,
   StoreNamesAreShown,
   StoresAndNestsAreLeft,
 };
-ghost use Rattle.completeness.specs.Stores.{NearGroupsOweShown, PlainGroupsOweShown, PureInputsAreShown, PureStoresOweShown, UncutGroupsOweShown};
+ghost use Rattle.completeness.specs.Stores.{PureInputsAreShown, PureStoresOweShown};
 
 /// Of a schedule under which each stored function is a root function that is computed at no loop, whatever the loops, what each line `alloc` of the plan
 /// that `lower` makes owes is shown by the checker's rules (no K2): its buffer is not in scope there.
@@ -62,12 +61,6 @@ pub fn store_names_are_shown()
     ensures { StoreNamesAreShown }
 {}
 
-/// Where besides no loop of a stored function is split, the first that each store of a pure definition owes is shown (no K4): that the point where it stores has
-/// a place in its buffer. It is asked that no group has more symbols than the checker takes.
-pub fn pure_places_are_shown()
-    ensures { PurePlacesAreShown }
-{}
-
 /// Of each store of a pure definition, whatever the loops: what the checker knows of the symbols there, of those of the grid, of the lets over it, and of the
 /// loops and lets of the nest, is what was known of them when the calls of the definition were bounded. It is asked that no grid and no group has more symbols
 /// than the checker takes.
@@ -87,23 +80,4 @@ pub fn pure_inputs_are_shown()
 /// is told by forms over the grid, as only a part is that each call is shown to lie in, or where all numbers of the dimension are shown to hold them.
 pub fn pure_stores_owe_shown()
     ensures { PureStoresOweShown }
-{}
-
-/// So of the group of each function without updates of which no loop is split or parallel, and for which what is fetched holds the calls: all that its lines
-/// owe is shown, where the tests of nests say yes to nests of plain loops. Neither K2, K4, K5, K6 nor K7 is told of them. It is asked besides that the numbers
-/// of claims' regions are within half of the limits of forms.
-pub fn plain_groups_owe_shown()
-    ensures { PlainGroupsOweShown }
-{}
-
-/// And of the group of each such function of which no loop is split, whichever are parallel, where the tests of nests say yes to plain nests and to split ones,
-/// as the checker's do.
-pub fn uncut_groups_owe_shown()
-    ensures { UncutGroupsOweShown }
-{}
-
-/// So it is, whatever is fetched, where the region that is needed of the function begins within 2^14 of 0 in each dimension: the numbers of its loops are then
-/// within 2^15, and over such loops the checker's search finds of each index the ends by which `lower` told the regions of the functions that it calls.
-pub fn near_groups_owe_shown()
-    ensures { NearGroupsOweShown }
 {}

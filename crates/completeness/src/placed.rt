@@ -1,6 +1,6 @@
 //! Laws of what stores owe the checker of the points where they store, in plans that `lower` makes.
 
-ghost use Rattle.completeness.specs.Placed.{LoadsAreLeft, NearPlacedGroupsOweShown, PlacedGroupsOweShown, PointsAreShown};
+ghost use Rattle.completeness.specs.Placed.{HeldGroupsOweShown, LoadsAreLeft, NearPlacedGroupsOweShown, PlacedGroupsOweShown, PointsAreShown};
 
 /// Of a schedule under which each stored function is a root function that is computed at no loop, and a function of which no loop is split, whichever are parallel: of each
 /// store whose left indices are forms, pure definitions' and those of updates that set each variable at its own place, it is shown that the point where it stores has a
@@ -29,4 +29,11 @@ pub fn placed_groups_owe_shown()
 /// the regions of the functions that it calls.
 pub fn near_placed_groups_owe_shown()
     ensures { NearPlacedGroupsOweShown }
+{}
+
+/// And of the group of each function of which no loop is split, whatever its left indices are, where what is fetched holds the calls and each left index that is no
+/// variable is shown to lie in the numbers of its dimension: all that its lines owe is shown. Such an index has reduction variables alone, and its dimension is not
+/// parallel, so that the point where the update stores has a place and lies in the regions of the claims; and so have the points of its calls of its own function.
+pub fn held_groups_owe_shown()
+    ensures { HeldGroupsOweShown }
 {}
