@@ -40,7 +40,7 @@ filter_joined f (x ∷ xs) ys = of (f x) (filter_joined f xs ys)
     of true h = ap (λ (ls : List Loop). x ∷ ls) h
     of false h = h
 
-hits_back : (f : Loop → Bool) (y : List ℕ) (ls : List Loop) → hits loop_name y (filter f (reverse ls)) ≡ hits loop_name y (filter f ls)
+pub hits_back : (f : Loop → Bool) (y : List ℕ) (ls : List Loop) → hits loop_name y (filter f (reverse ls)) ≡ hits loop_name y (filter f ls)
 hits_back f y [] = refl
 hits_back f y (l ∷ ls) =
     let one = ap (λ (ms : List Loop). hits loop_name y (filter f ms)) (reverse-append (l ∷ []) ls) ∙ ap (hits loop_name y) (filter_joined f (reverse ls) (l ∷ []))
@@ -54,7 +54,7 @@ hits_back f y (l ∷ ls) =
     of false = omega arith
 
 -- where what one takes the other does not, both together take no more than all
-two_parts : (f g : Loop → Bool) → ((l : Loop) → f l ≡ true → g l ≡ false) → (y : List ℕ) (ls : List Loop) → hits loop_name y (filter f ls) + hits loop_name y (filter g ls) ≤ hits loop_name y ls
+pub two_parts : (f g : Loop → Bool) → ((l : Loop) → f l ≡ true → g l ≡ false) → (y : List ℕ) (ls : List Loop) → hits loop_name y (filter f ls) + hits loop_name y (filter g ls) ≤ hits loop_name y ls
 two_parts f g apart y [] = omega arith
 two_parts f g apart y (l ∷ ls) = of (f l) (g l) refl refl (two_parts f g apart y ls)
   where

@@ -127,3 +127,12 @@ pub mod RangedLefts
 pub mod StoreLists
 pub mod UncutStores
 pub mod Unparallel
+pub mod BlockMoves
+pub mod BlockTurns
+pub mod BlockTests
+pub mod BlockSums
+pub mod BlockBounds
+pub mod BlockDims
+pub mod BlockFacts
+pub mod BlockNames
+pub mod BlockNests

@@ -122,21 +122,21 @@ AreApart (t ∷ ts) = (is_left t.symbol ts ≡ false) × AreApart ts
 
 -- ---- one of them and the others
 
-record One : Type 0 where
-  one : Item
-  others : List Item
+pub record One : Type 0 where
+  pub one : Item
+  pub others : List Item
 
-abbrev with_it : Item → One → One
+abbrev pub with_it : Item → One → One
 with_it t p = record { one = p.one; others = t ∷ p.others }
 
-abbrev picks : List Item → List One
+abbrev pub picks : List Item → List One
 picks [] = []
 picks (t ∷ ts) = record { one = t; others = ts } ∷ map (with_it t) (picks ts)
 
-abbrev choice_of : One → Choice
+abbrev pub choice_of : One → Choice
 choice_of p = record { one = item_step p.one; others = map item_step p.others }
 
-choices_are : (ts : List Item) → choices (map item_step ts) ≡ map choice_of (picks ts)
+pub choices_are : (ts : List Item) → choices (map item_step ts) ≡ map choice_of (picks ts)
 choices_are [] = refl
 choices_are (t ∷ ts) =
     ap (λ (cs : List Choice). record { one = item_step t; others = map item_step ts } ∷ cs) (ap (map (behind (item_step t))) (choices_are ts) ∙ of (picks ts))
@@ -286,7 +286,7 @@ naming_some i (f ∷ fs) e = of (form_has i f) e (λ k. naming_some i fs k)
     of true k rest = (f, refl)
     of false k rest = rest k
 
-all_loose : (i : ℕ) (ts : List Item) → is_left i ts ≡ false → is_loose i (map item_step ts) ≡ true
+pub all_loose : (i : ℕ) (ts : List Item) → is_left i ts ≡ false → is_loose i (map item_step ts) ≡ true
 all_loose i ts e = ap not (of ts e)
   where
     one : (t : Item) (b : Bool) → binder_has i (step_by b t) ≡ (t.symbol == i)
@@ -303,11 +303,11 @@ all_loose i ts e = ap not (of ts e)
 
 -- ---- no guard, and no idle let
 
-none_first : {A B : Type 0} (f : A → Option B) (xs : List A) → AllByRecursion (λ x. f x ≡ None) xs → first_some f xs ≡ None
+pub none_first : {A B : Type 0} (f : A → Option B) (xs : List A) → AllByRecursion (λ x. f x ≡ None) xs → first_some f xs ≡ None
 none_first f [] h = refl
 none_first f (x ∷ xs) h = (let here = h.0 in let rest = none_first f xs h.1 in λ i. or_else (here i) (rest i))
 
-all_true : {A : Type 0} (P Q : A → Type 0) → ((x : A) → P x → Q x) → (xs : List A) → AllByRecursion P xs → AllByRecursion Q xs
+pub all_true : {A : Type 0} (P Q : A → Type 0) → ((x : A) → P x → Q x) → (xs : List A) → AllByRecursion P xs → AllByRecursion Q xs
 all_true P Q f [] h = tt
 all_true P Q f (x ∷ xs) h = (f x h.0, all_true P Q f xs h.1)
 
@@ -379,7 +379,7 @@ module _ (exact : Bool) (shows : Form → Form → Bool) where
         ∙ ap (λ (o : Option (List Form)). joined o (Some [])) (one_replaced t.low near)
 
   -- forms without the symbol stay
-  opened_none : (i : ℕ) (ms fs : List Form) → list_any (form_has i) fs ≡ false → expanded exact shows i ms fs ≡ Some fs
+  pub opened_none : (i : ℕ) (ms fs : List Form) → list_any (form_has i) fs ≡ false → expanded exact shows i ms fs ≡ Some fs
   opened_none i ms [] e = refl
   opened_none i ms (f ∷ fs) e =
       let parts = or_none (form_has i f) (list_any (form_has i) fs) e in

@@ -241,7 +241,7 @@ skips n (t ∷ ts) bs s less =
     let differs : (n == s) ≡ false = grind (arith, nat_tests) in
     skips (n + 1) ts (Ranged n (span t.low t.last []) ∷ bs) s (omega (arith, less)) ∙ ap (λ (b : Bool). if b then Bound (limited (span t.low t.last [])) else binding_of bs s) differs
 
-tells : (n : ℕ) (ts : List Turning) (bs : List Binder) (j : ℕ) (t : Turning) → slice_get ts j ≡ Some t → binding_of (binders_in (loops_for n ts) bs) (n + j) ≡ Bound (limited (span t.low t.last []))
+pub tells : (n : ℕ) (ts : List Turning) (bs : List Binder) (j : ℕ) (t : Turning) → slice_get ts j ≡ Some t → binding_of (binders_in (loops_for n ts) bs) (n + j) ≡ Bound (limited (span t.low t.last []))
 tells n [] bs j t at = absurd (cc at)
 tells n (u ∷ ts) bs zero t at =
     let is : u ≡ t = cc at in
@@ -256,23 +256,23 @@ count_more : (n : ℕ) (ts : List Turning) (bs : List Binder) → symbol_count b
 count_more n [] bs = omega arith
 count_more n (t ∷ ts) bs = (let rest = count_more (n + 1) ts (Ranged n (span t.low t.last []) ∷ bs) in omega (arith, rest))
 
-count_there : (n : ℕ) (ts : List Turning) (bs : List Binder) (j : ℕ) (t : Turning) → slice_get ts j ≡ Some t → n + j < symbol_count (binders_in (loops_for n ts) bs)
+pub count_there : (n : ℕ) (ts : List Turning) (bs : List Binder) (j : ℕ) (t : Turning) → slice_get ts j ≡ Some t → n + j < symbol_count (binders_in (loops_for n ts) bs)
 count_there n [] bs j t at = absurd (cc at)
 count_there n (u ∷ ts) bs zero t at = (let rest = count_more (n + 1) ts (Ranged n (span u.low u.last []) ∷ bs) in omega (arith, rest))
 count_there n (u ∷ ts) bs (suc j) t at = (let rest = count_there (n + 1) ts (Ranged n (span u.low u.last []) ∷ bs) j t at in omega (arith, rest))
 
-at_place : (f : ℕ → Binding) (a k n : ℕ) → n < k → slice_get (map f (range_with_len a k)) n ≡ Some (f (a + n))
+pub at_place : (f : ℕ → Binding) (a k n : ℕ) → n < k → slice_get (map f (range_with_len a k)) n ≡ Some (f (a + n))
 at_place f a zero n less = absurd (omega (arith, less))
 at_place f a (suc k) zero less = (let none : a ≡ a + 0 = omega arith in ap (λ (m : ℕ). Some (f m)) none)
 at_place f a (suc k) (suc n) less =
     let next : (a + 1) + n ≡ a + suc n = omega arith in
     at_place f (a + 1) k n (omega (arith, less)) ∙ ap (λ (m : ℕ). Some (f m)) next
 
-scope_long : (f : ℕ → Binding) (a k : ℕ) → length (map f (range_with_len a k)) ≡ k
+pub scope_long : (f : ℕ → Binding) (a k : ℕ) → length (map f (range_with_len a k)) ≡ k
 scope_long f a zero = refl
 scope_long f a (suc k) = ap suc (scope_long f (a + 1) k)
 
-at_length : (ts : List Turning) (j : ℕ) (t : Turning) → slice_get ts j ≡ Some t → j < length ts
+pub at_length : (ts : List Turning) (j : ℕ) (t : Turning) → slice_get ts j ≡ Some t → j < length ts
 at_length [] j t at = absurd (cc at)
 at_length (u ∷ ts) zero t at = omega arith
 at_length (u ∷ ts) (suc j) t at = (let rest = at_length ts j t at in omega (arith, rest))

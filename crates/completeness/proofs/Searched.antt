@@ -18,7 +18,7 @@ use Rattle.completeness.proofs.GridScope.{number_limited}
 use Rattle.completeness.proofs.SelfBounds.{least_number, no_replacements, found_below, still}
 
 -- a number and so many times a symbol
-abbrev one_of : ℤ → ℤ → ℕ → Form
+abbrev pub one_of : ℤ → ℤ → ℕ → Form
 one_of z c i = record { constant = z; terms = record { symbol = i; factor = c } ∷ [] }
 
 -- at a symbol of which this is the one form that may stand in its place, which makes of the form this number
@@ -55,7 +55,7 @@ module _ (scope : List Binding) (i : ℕ) (z c r : ℤ) (some : is_zero c ≡ fa
   total_is : total_at (Some b) c cost ≡ 1
   total_is = ap (λ (fs : List Form). total cost fs) one ∙ (let count = cost_is in omega (arith, count))
 
-  least_is : (n : ℕ) → i < n → least scope n (one_of z c i) ≡ Some r
+  pub least_is : (n : ℕ) → i < n → least scope n (one_of z c i) ≡ Some r
   least_is zero less = absurd (omega (arith, less))
   least_is (suc n) less = of (i == n) refl (λ low. least_is n low)
     where
@@ -75,7 +75,7 @@ module _ (scope : List Binding) (i : ℕ) (z c r : ℤ) (some : is_zero c ≡ fa
           below : (v : Bool) → (i == n) ≡ false → i < n
           below v e = grind (arith, nat_tests, less)
 
-  replacements_are : (n : ℕ) → i < n → replacements scope n (one_of z c i) ≡ 1
+  pub replacements_are : (n : ℕ) → i < n → replacements scope n (one_of z c i) ≡ 1
   replacements_are zero less = absurd (omega (arith, less))
   replacements_are (suc n) less = of (i == n) refl (λ low. replacements_are n low)
     where
@@ -95,7 +95,7 @@ module _ (scope : List Binding) (i : ℕ) (z c r : ℤ) (some : is_zero c ≡ fa
           below : (v : Bool) → (i == n) ≡ false → i < n
           below v e = grind (arith, nat_tests, less)
 
-  found : i < length scope → is_within_limits (one_of z c i) ≡ true → sup scope (one_of z c i) ≡ Some r
+  pub found : i < length scope → is_within_limits (one_of z c i) ≡ true → sup scope (one_of z c i) ≡ Some r
   found less limited =
       ap (λ (v : Bool). if v && nat_le (replacements scope (length scope) (one_of z c i)) 4096 then least scope (length scope) (one_of z c i) else None) limited
       ∙ ap (λ (n : ℕ). if nat_le n 4096 then least scope (length scope) (one_of z c i) else None) (replacements_are (length scope) less)
@@ -109,7 +109,7 @@ up_limited z i h = le-leb (unsigned_abs z) (2 ^ 40) h
 down_limited : (z : ℤ) (i : ℕ) → unsigned_abs z ≤ 2 ^ 40 → is_within_limits (one_of z (negsuc 0) i) ≡ true
 down_limited z i h = le-leb (unsigned_abs z) (2 ^ 40) h
 
-numbers_made : (y k z : ℤ) → unsigned_abs y ≤ 2 ^ 40 → unsigned_abs z ≤ 2 ^ 40 → unsigned_abs (y +ℤ k *ℤ z) ≤ 2 ^ 40 → combined (number y) k (number z) ≡ Some (number (y +ℤ k *ℤ z))
+pub numbers_made : (y k z : ℤ) → unsigned_abs y ≤ 2 ^ 40 → unsigned_abs z ≤ 2 ^ 40 → unsigned_abs (y +ℤ k *ℤ z) ≤ 2 ^ 40 → combined (number y) k (number z) ≡ Some (number (y +ℤ k *ℤ z))
 numbers_made y k z hy hz hs = combined-made (number y) (number z) k (number_limited y hy) (number_limited z hz) (number_limited (y +ℤ k *ℤ z) hs)
 
 module _ (scope : List Binding) (i : ℕ) (x : Span1) (less : i < length scope) (there : slice_get scope i ≡ Some (Loop x)) where

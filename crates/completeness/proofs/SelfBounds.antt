@@ -40,7 +40,7 @@ not_below n = grind (arith, nat_tests)
 nothing_left : (z : ℤ) → z +ℤ negsuc 0 *ℤ z ≡ pos 0
 nothing_left z = omega (arith, ints)
 
-term_gone : (t : Multiple) (ts : List Multiple) → plus_term (t ∷ ts) (record { symbol = t.symbol; factor = negsuc 0 *ℤ t.factor }) ≡ ts
+pub term_gone : (t : Multiple) (ts : List Multiple) → plus_term (t ∷ ts) (record { symbol = t.symbol; factor = negsuc 0 *ℤ t.factor }) ≡ ts
 term_gone t ts =
     let m : Multiple = record { symbol = t.symbol; factor = negsuc 0 *ℤ t.factor } in
     let sum : Multiple = record { symbol = t.symbol; factor = t.factor +ℤ negsuc 0 *ℤ t.factor } in

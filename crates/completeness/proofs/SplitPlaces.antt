@@ -61,7 +61,7 @@ all_joined f (x ∷ xs) ys h k = of (f x) h (λ q. all_joined f xs ys q k)
     of true q rest = rest q
     of false q rest = absurd (cc q)
 
-grid_apart : (n : ℕ) (ts : List Turning) (i : ℕ) (ns : List ℕ) → i + length ns ≤ n → list_all (is_apart (along (turns_for n ts))) (grid_from i ns) ≡ true
+pub grid_apart : (n : ℕ) (ts : List Turning) (i : ℕ) (ns : List ℕ) → i + length ns ≤ n → list_all (is_apart (along (turns_for n ts))) (grid_from i ns) ≡ true
 grid_apart n ts i [] less = refl
 grid_apart n ts i (m ∷ ns) less =
     let none = none_along i n ts (omega (arith, less)) in

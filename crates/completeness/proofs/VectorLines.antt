@@ -195,7 +195,7 @@ all_scalar (l ∷ ls) h = (of l.mark refl, all_scalar ls (λ (k, m, less, is, v)
     of (Some mark.Vectorized) e = absurd (h (0, l, omega arith, refl, e))
     of (Some mark.Parallel) e = refl
 
-split_once : (cuts : List Split) → AreSplitOnce cuts → AreOnce cuts
+pub split_once : (cuts : List Split) → AreSplitOnce cuts → AreOnce cuts
 split_once cuts h c d m n = ((λ e. first (named_so d.outer e)), (λ e. second (named_so d.inner e)))
   where
     named_so : (x : List ℕ) → c.whole ≡ x → same_name x c.whole ≡ true

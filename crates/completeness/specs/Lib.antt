@@ -5,3 +5,4 @@ pub mod Nested
 pub mod Stores
 pub mod Placed
 pub mod Told
+pub mod Blocked

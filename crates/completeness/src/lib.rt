@@ -1,6 +1,7 @@
 //! The checker takes what `lower` makes, as far as that is proved: laws alone, over the definitions of both.
 #![tactic(auto)]
 
+pub mod blocked;
 pub mod laws;
 pub mod nests;
 pub mod owed;

@@ -1,6 +1,7 @@
 -- From a schedule to the file of a plan: what a text is read as, and why no plan file comes of it.
 use Rattle.std.specs.Prelude.{◌≡◌, ◌⊎◌, ◌++◌, ℕ, List, ⊤}
 use Rattle.meaning.specs.Algorithm.{Algorithm}
+use Rattle.algo.specs.Words.{IsNamed}
 use Rattle.sched.specs.Schedule.{Schedule}
 use Rattle.sched.specs.Grammar.{IsTextOf}
 use Rattle.sched.specs.Legal.{IsLegal}
@@ -8,7 +9,7 @@ use Rattle.sched.specs.Text.{IsRefused as IsRefusedText}
 use Rattle.sched.specs.declared.error.SchedError.{SchedError}
 use Rattle.lower.specs.Refused.{AreRegionsKept, AreSmall, AreUsesInside, IsRefused as IsRefusedSchedule}
 use Rattle.lower.specs.Groups.{AreGroupsMade}
-use Rattle.completeness.specs.Laws.{HasOwnLines, NamesNoLoad, WholeStands}
+use Rattle.completeness.specs.Laws.{HasOwnLines, WholeStands}
 use Rattle.completeness.specs.Told.{SplitsNothing, TellsLimitsAlone}
 use Rattle.lower.specs.declared.error.LowerError.{LowerError}
 use Rattle.lower.specs.declared.lowering.Lowered.{Lowered}
@@ -63,7 +64,7 @@ pub record IsLowered (a : Algorithm) (s : Schedule) (l : Lowered) : Type 0 where
   pub groups : AreGroupsMade a s l
   pub own_lines : HasOwnLines (plan_of l.plan) (certificate_of l.certificate)
   pub shares : WholeStands a s l
-  pub limits : SplitsNothing a s → NamesNoLoad a → TellsLimitsAlone a (plan_of l.plan) (certificate_of l.certificate)
+  pub limits : SplitsNothing a s → IsNamed a → TellsLimitsAlone a (plan_of l.plan) (certificate_of l.certificate)
 
 -- the text of a plan file: the plan's lines, and behind them the certificate's
 abbrev pub file_text : PlanSaid → Certificate → List ℕ
@@ -106,7 +107,7 @@ pub record IsRefusedPlan (a : Algorithm) (s : Schedule) (fault : Fault) : Type 0
   pub text : List ℕ
   pub of_schedule : IsPlanText a s text
   pub refused : IsUnaccepted a text fault
-  pub limit : SplitsNothing a s → NamesNoLoad a → IsReadAs text of_schedule.made → TellsLimit fault
+  pub limit : SplitsNothing a s → IsNamed a → IsReadAs text of_schedule.made → TellsLimit fault
 
 -- why no plan file comes of a schedule
 abbrev pub IsNotCompiled : Algorithm → Schedule → Fault → Type 0

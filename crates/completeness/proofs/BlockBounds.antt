@@ -1,0 +1,346 @@
+-- At a nest's store the search finds that the coordinates of split loops lie in their places.
+use Rattle.std.proofs.Common.{◌≡◌, ℕ, suc, ◌+◌, ◌-◌, ◌<◌, ◌≤◌, ◌^◌, Bool, true, false, ◌&&◌, ◌||◌, not, List, [], ◌∷◌, ◌++◌, length, Some, refl, sym, ap, ◌∙◌, subst, arith}
+use Rattle.std.specs.Prelude.{ℤ, pos, negsuc, ◌+ℤ◌, ◌-ℤ◌, ◌*ℤ◌, ◌≤ℤ◌, nat_lt, ◌==◌, if◌then◌else◌, min, slice_get}
+use Rattle.std.specs.Int.RustNames.{unsigned_abs}
+use Rattle.std.proofs.lemmas.Bool.{le-leb}
+use Rattle.std.proofs.lemmas.Bool.Decides.{nat_tests}
+use Rattle.std.proofs.lemmas.Int.{ints}
+use Rattle.lin.specs.Forms.{Form, number, in_front, plus_term, plus_multiple, is_within_limits, combined}
+use Rattle.lin.specs.Search.{at_most}
+use Rattle.lin.specs.declared.scope.Binding.{Binding}
+use Rattle.lin.specs.declared.scope.Binding.TheVariants.{Loop as Bound}
+use Rattle.lin.specs.declared.span.Span1.{Span1}
+use Rattle.lin.proofs.Limits.{combined-made}
+use Rattle.plan.specs.declared.stmt.Places.TheVariants.{From}
+use Rattle.soundness.specs.Obligations.{Binder, Rules, anything, exactly}
+use Rattle.soundness.specs.Shown.{raised, is_seated}
+use Rattle.soundness.specs.Nests.Tests.{binders_in}
+use Rattle.rules.specs.Bounding.Scopes.{most_symbols, limited, binding_of, symbol_count, scope_of, shown_at_most}
+use Rattle.sched.specs.declared.nest.Turning.{Turning}
+use Rattle.sched.specs.Standing.{alone}
+use Rattle.sched.specs.Skeleton.{span}
+use Rattle.tails.specs.Steps.{along}
+use Rattle.tails.specs.Apart.{is_steady}
+use Rattle.completeness.proofs.GridScope.{number_limited}
+use Rattle.completeness.proofs.SelfBounds.{form_self, term_gone, found_below, still}
+use Rattle.completeness.proofs.PlainBounds.{loop_above, loop_below}
+use Rattle.completeness.proofs.PlainTests.{loops_for, tells, count_there, at_place, scope_long, at_length}
+use Rattle.completeness.proofs.Searched.{one_of, found, numbers_made}
+use Rattle.completeness.proofs.SplitTests.{turns_for}
+use Rattle.completeness.proofs.SplitPlaces.{inner_is, none_along}
+use Rattle.completeness.proofs.BlockSums.{multiple, pair, two_of, found_two}
+
+-- ---- limits
+
+pub one_limited : (z c : ℤ) (a : ℕ) → unsigned_abs z ≤ 2 ^ 40 → unsigned_abs c ≤ 2 ^ 20 → is_within_limits (one_of z c a) ≡ true
+one_limited z c a near small = (let one = le-leb (unsigned_abs c) (2 ^ 20) small in let two = le-leb (unsigned_abs z) (2 ^ 40) near in λ j. (true && (one j && true)) && two j)
+
+two_limited : (z c : ℤ) (a : ℕ) (d : ℤ) (b : ℕ) → unsigned_abs z ≤ 2 ^ 40 → unsigned_abs c ≤ 2 ^ 20 → unsigned_abs d ≤ 2 ^ 20 → is_within_limits (two_of z c a d b) ≡ true
+two_limited z c a d b near small other =
+    let one = le-leb (unsigned_abs c) (2 ^ 20) small in
+    let two = le-leb (unsigned_abs d) (2 ^ 20) other in
+    let three = le-leb (unsigned_abs z) (2 ^ 40) near in
+    λ j. (true && (one j && (two j && true))) && three j
+
+-- ---- sums of numbers
+
+less_itself : (z : ℤ) → unsigned_abs (z +ℤ negsuc 0 *ℤ z) ≤ 0
+less_itself z = omega (arith, ints)
+
+sum_near : (a b : ℤ) (m n k : ℕ) → unsigned_abs a ≤ m → unsigned_abs b ≤ n → m + n ≤ k → unsigned_abs (a +ℤ b) ≤ k
+sum_near a b m n k h g le = omega (arith, ints, h, g, le)
+
+less_near : (a b : ℤ) → unsigned_abs a ≤ 2 ^ 37 → unsigned_abs b ≤ 2 ^ 37 → unsigned_abs (a +ℤ negsuc 0 *ℤ b) ≤ 2 ^ 38
+less_near a b h g = omega (arith, ints, h, g)
+
+-- ---- two loops from 0 on
+
+module _ (scope : List Binding) (a b : ℕ) (less : a < b) (inside : b < length scope) (k m : ℕ) (few : suc k ≤ 1024) (more : suc m ≤ 1024) (x y : Span1) (there_a : slice_get scope a ≡ Some (Bound x))
+    (there_b : slice_get scope b ≡ Some (Bound y)) (low : ℤ) (near : unsigned_abs low ≤ 2 ^ 36) where
+  abbrev c : ℤ
+  c = pos (suc k)
+
+  abbrev d : ℤ
+  d = pos (suc m)
+
+  abbrev rest : ℕ
+  rest = length scope - suc b
+
+  long : length scope ≡ suc (b + rest)
+  long = omega (arith, inside)
+
+  behind : nat_lt a b ≡ true
+  behind = grind (arith, nat_tests, less)
+
+  -- they are at least the number
+  two_above : x.lower ≡ number (pos 0) ∷ [] → y.lower ≡ number (pos 0) ∷ [] → at_most scope (number low) (two_of low c a d b) ≡ true
+  two_above first second =
+      let z : ℤ = low +ℤ negsuc 0 *ℤ low in
+      let none = less_itself low in
+      let z_near : unsigned_abs z ≤ 2 ^ 40 = omega (arith, none) in
+      let neg_a : negsuc 0 *ℤ pos (suc k) ≡ negsuc k = omega (arith, ints) in
+      let neg_b : negsuc 0 *ℤ pos (suc m) ≡ negsuc m = omega (arith, ints) in
+      let is : plus_multiple (number low) (negsuc 0) (two_of low c a d b) ≡ two_of z (negsuc k) a (negsuc m) b =
+      (λ j. record { constant = z; terms = plus_term (in_front (multiple a (neg_a j)) []) (multiple b (neg_b j)) })
+      ∙ (λ j. record {
+        constant = z;
+        terms = if behind j then multiple a (negsuc k) ∷ multiple b (negsuc m) ∷ []
+            else (if a == b then in_front (record { symbol = b; factor = negsuc k +ℤ negsuc m }) [] else in_front (multiple b (negsuc m)) (multiple a (negsuc k) ∷ []));
+      }) in
+      let limited_sum = two_limited z (negsuc k) a (negsuc m) b z_near (omega (arith, few)) (omega (arith, more)) in
+      let made : combined (number low) (negsuc 0) (two_of low c a d b) ≡ Some (two_of z (negsuc k) a (negsuc m) b) =
+      combined-made (number low) (two_of low c a d b) (negsuc 0) (number_limited low (omega (arith, near))) (two_limited low c a d b (omega (arith, near)) (omega (arith, few)) (omega (arith, more)))
+      (ap is_within_limits is ∙ limited_sum) ∙ ap (λ (f : Form). Some f) is in
+      let mid : ℤ = z +ℤ negsuc m *ℤ pos 0 in
+      let mid_is : mid ≡ z = omega (arith, ints) in
+      let mid_near : unsigned_abs mid ≤ 2 ^ 40 = subst (λ (w : ℤ). unsigned_abs w ≤ 2 ^ 40) (sym mid_is) z_near in
+      let r : ℤ = mid +ℤ negsuc k *ℤ pos 0 in
+      let r_is : r ≡ pos 0 = omega (arith, ints) in
+      let zero_near : unsigned_abs (pos 0) ≤ 2 ^ 40 = omega arith in
+      let made_b : combined (one_of z (negsuc k) a) (negsuc m) (number (pos 0)) ≡ Some (one_of mid (negsuc k) a) =
+      combined-made (one_of z (negsuc k) a) (number (pos 0)) (negsuc m) (one_limited z (negsuc k) a z_near (omega (arith, few))) (number_limited (pos 0) zero_near)
+      (one_limited mid (negsuc k) a mid_near (omega (arith, few))) in
+      let made_a = numbers_made mid (negsuc k) (pos 0) mid_near zero_near (subst (λ (w : ℤ). unsigned_abs w ≤ 2 ^ 40) (sym r_is) zero_near) in
+      found_below scope (number low) (two_of low c a d b) (two_of z (negsuc k) a (negsuc m) b) r made
+      (found_two scope a b less z (negsuc k) (negsuc m) refl refl (Bound x) (Bound y) there_a there_b (number (pos 0)) (number (pos 0)) first second mid r made_b made_a rest long limited_sum)
+      (still r (omega (arith, ints, r_is)))
+
+  -- and at most one that is at least what they come to
+  two_below : (e f high : ℤ) → x.upper ≡ number e ∷ [] → y.upper ≡ number f ∷ [] → unsigned_abs e ≤ 2 ^ 36 → unsigned_abs f ≤ 2 ^ 36 → unsigned_abs (c *ℤ e) ≤ 2 ^ 37 → unsigned_abs (d *ℤ f) ≤ 2 ^ 37 →
+      unsigned_abs high ≤ 2 ^ 37 → ((low +ℤ d *ℤ f) +ℤ c *ℤ e) ≤ℤ high → at_most scope (two_of low c a d b) (number high) ≡ true
+  two_below e f high first second e_near f_near ce_near df_near high_near top =
+      let z : ℤ = low +ℤ negsuc 0 *ℤ high in
+      let half = less_near low high (omega (arith, near)) high_near in
+      let limited_sum = two_limited z c a d b (omega (arith, half)) (omega (arith, few)) (omega (arith, more)) in
+      let made : combined (two_of low c a d b) (negsuc 0) (number high) ≡ Some (two_of z c a d b) =
+      combined-made (two_of low c a d b) (number high) (negsuc 0) (two_limited low c a d b (omega (arith, near)) (omega (arith, few)) (omega (arith, more)))
+      (number_limited high (omega (arith, high_near)))
+      limited_sum in
+      let mid : ℤ = z +ℤ d *ℤ f in
+      let mid_near : unsigned_abs mid ≤ 2 ^ 39 = sum_near z (d *ℤ f) (2 ^ 38) (2 ^ 37) (2 ^ 39) half df_near (omega arith) in
+      let r : ℤ = mid +ℤ c *ℤ e in
+      let r_near : unsigned_abs r ≤ 2 ^ 40 = sum_near mid (c *ℤ e) (2 ^ 39) (2 ^ 37) (2 ^ 40) mid_near ce_near (omega arith) in
+      let made_b : combined (one_of z c a) d (number f) ≡ Some (one_of mid c a) =
+      combined-made (one_of z c a) (number f) d (one_limited z c a (omega (arith, half)) (omega (arith, few))) (number_limited f (omega (arith, f_near)))
+      (one_limited mid c a (omega (arith, mid_near)) (omega (arith, few))) in
+      let made_a = numbers_made mid c e (omega (arith, mid_near)) (omega (arith, e_near)) r_near in
+      found_below scope (two_of low c a d b) (number high) (two_of z c a d b) r made
+      (found_two scope a b less z c d refl refl (Bound x) (Bound y) there_a there_b (number e) (number f) first second mid r made_b made_a rest long limited_sum)
+      (still r (under_it low high (d *ℤ f) (c *ℤ e) top))
+    where
+      under_it : (l h p q : ℤ) → ((l +ℤ p) +ℤ q) ≤ℤ h → (((l +ℤ negsuc 0 *ℤ h) +ℤ p) +ℤ q) ≤ℤ pos 0
+      under_it l h p q le = omega (arith, ints, le)
+
+-- ---- a block's numbers
+
+module _ (scope : List Binding) (s m : ℕ) (less : s < m) (inside : m < length scope) (k : ℕ) (few : suc k ≤ 1024) (y : Span1) (there : slice_get scope m ≡ Some (Bound y)) (low : ℤ)
+    (near : unsigned_abs low ≤ 2 ^ 36) where
+  abbrev c' : ℤ
+  c' = pos (suc k)
+
+  block_above : y.lower ≡ number (pos 0) ∷ [] → at_most scope (one_of low (pos (suc k)) s) (two_of low (pos (suc k)) s (pos 1) m) ≡ true
+  block_above first =
+      let z : ℤ = low +ℤ negsuc 0 *ℤ low in
+      let none = less_itself low in
+      let z_near : unsigned_abs z ≤ 2 ^ 40 = omega (arith, none) in
+      let gone = term_gone (multiple s (pos (suc k))) [] in
+      let is : plus_multiple (one_of low (pos (suc k)) s) (negsuc 0) (two_of low (pos (suc k)) s (pos 1) m) ≡ one_of z (negsuc 0) m =
+      (λ j. record { constant = z; terms = plus_term (gone j) (multiple m (negsuc 0 *ℤ pos 1)) }) in
+      let limited_sum = one_limited z (negsuc 0) m z_near (omega arith) in
+      let made : combined (one_of low (pos (suc k)) s) (negsuc 0) (two_of low (pos (suc k)) s (pos 1) m) ≡ Some (one_of z (negsuc 0) m) =
+      combined-made (one_of low (pos (suc k)) s) (two_of low (pos (suc k)) s (pos 1) m) (negsuc 0) (one_limited low (pos (suc k)) s (omega (arith, near)) (omega (arith, few)))
+      (two_limited low (pos (suc k)) s (pos 1) m (omega (arith, near)) (omega (arith, few)) (omega arith)) (ap is_within_limits is ∙ limited_sum) ∙ ap (λ (f : Form). Some f) is in
+      let r : ℤ = z +ℤ negsuc 0 *ℤ pos 0 in
+      let r_is : r ≡ pos 0 = omega (arith, ints) in
+      let zero_near : unsigned_abs (pos 0) ≤ 2 ^ 40 = omega arith in
+      let sum = numbers_made z (negsuc 0) (pos 0) z_near zero_near (subst (λ (w : ℤ). unsigned_abs w ≤ 2 ^ 40) (sym r_is) zero_near) in
+      found_below scope (one_of low (pos (suc k)) s) (two_of low (pos (suc k)) s (pos 1) m) (one_of z (negsuc 0) m) r made
+      (found scope m z (negsuc 0) r refl (Bound y) there (number (pos 0)) first sum inside limited_sum) (still r (omega (arith, ints, r_is)))
+
+  block_below : y.upper ≡ number (pos k) ∷ [] → at_most scope (two_of low (pos (suc k)) s (pos 1) m) (raised (one_of low (pos (suc k)) s) (pos k)) ≡ true
+  block_below last =
+      let z : ℤ = low +ℤ negsuc 0 *ℤ (low +ℤ pos k) in
+      let z_is : z ≡ negsuc 0 *ℤ pos k = omega (arith, ints) in
+      let z_near : unsigned_abs z ≤ 2 ^ 40 = subst (λ (w : ℤ). unsigned_abs w ≤ 2 ^ 40) (sym z_is) (omega (arith, ints, few)) in
+      let gone = term_gone (multiple s (pos (suc k))) (multiple m (pos 1) ∷ []) in
+      let is : plus_multiple (two_of low (pos (suc k)) s (pos 1) m) (negsuc 0) (raised (one_of low (pos (suc k)) s) (pos k)) ≡ one_of z (pos 1) m = (λ j. record { constant = z; terms = gone j }) in
+      let limited_sum = one_limited z (pos 1) m z_near (omega arith) in
+      let top_near : unsigned_abs (low +ℤ pos k) ≤ 2 ^ 40 = sum_near low (pos k) (2 ^ 36) 1024 (2 ^ 40) near (omega (arith, few)) (omega arith) in
+      let made : combined (two_of low (pos (suc k)) s (pos 1) m) (negsuc 0) (raised (one_of low (pos (suc k)) s) (pos k)) ≡ Some (one_of z (pos 1) m) =
+      combined-made (two_of low (pos (suc k)) s (pos 1) m) (raised (one_of low (pos (suc k)) s) (pos k)) (negsuc 0)
+      (two_limited low (pos (suc k)) s (pos 1) m (omega (arith, near)) (omega (arith, few)) (omega arith)) (one_limited (low +ℤ pos k) (pos (suc k)) s top_near (omega (arith, few)))
+      (ap is_within_limits is ∙ limited_sum) ∙ ap (λ (f : Form). Some f) is in
+      let r : ℤ = z +ℤ pos 1 *ℤ pos k in
+      let r_is : r ≡ pos 0 = omega (arith, ints) in
+      let zero_near : unsigned_abs (pos 0) ≤ 2 ^ 40 = omega arith in
+      let sum = numbers_made z (pos 1) (pos k) z_near (omega (arith, few)) (subst (λ (w : ℤ). unsigned_abs w ≤ 2 ^ 40) (sym r_is) zero_near) in
+      found_below scope (two_of low (pos (suc k)) s (pos 1) m) (raised (one_of low (pos (suc k)) s) (pos k)) (one_of z (pos 1) m) r made
+      (found scope m z (pos 1) r refl (Bound y) there (number (pos k)) last sum inside limited_sum) (still r (omega (arith, ints, r_is)))
+
+-- ---- places
+
+module _ (n : ℕ) (ts : List Turning) (short : n + length ts ≤ most_symbols) (rules : Rules) (bound : rules.at_most ≡ shown_at_most) (bs : List Binder)
+    (near : (j : ℕ) (t : Turning) → slice_get ts j ≡ Some t → (unsigned_abs t.low ≤ 2 ^ 36) × (unsigned_abs t.last ≤ 2 ^ 36)) where
+  abbrev inner : List Binder
+  inner = along (turns_for n ts) ++ bs
+
+  abbrev sc : List Binding
+  sc = scope_of inner
+
+  -- what is known of a loop's symbol
+  pub scope_has : (j : ℕ) (t : Turning) → slice_get ts j ≡ Some t → (slice_get (scope_of inner) (n + j) ≡ Some (Bound (span t.low t.last []))) × (n + j < length (scope_of inner))
+  scope_has j t at = subst (λ (us : List Binder). (slice_get (scope_of us) (n + j) ≡ Some (Bound (span t.low t.last []))) × (n + j < length (scope_of us))) (inner_is n ts bs) (there, inside)
+    where
+      plain : List Binder
+      plain = binders_in (loops_for n ts) bs
+
+      within : n + j < min (symbol_count plain) most_symbols
+      within = (let few = at_length ts j t at in let counts = count_there n ts bs j t at in omega (arith, few, short, counts))
+
+      kept : limited (span t.low t.last []) ≡ span t.low t.last []
+      kept =
+          let ends = near j t at in
+          let low = ends.0 in
+          let last = ends.1 in
+          let one = number_limited t.low (omega (arith, low)) in
+          let two = number_limited t.last (omega (arith, last)) in
+          λ i. if (one i && true) && (two i && true) then span t.low t.last [] else anything
+
+      there : slice_get (scope_of plain) (n + j) ≡ Some (Bound (span t.low t.last []))
+      there =
+          let from_zero : 0 + (n + j) ≡ n + j = omega arith in
+          at_place (binding_of plain) 0 (min (symbol_count plain) most_symbols) (n + j) within ∙ ap (λ (m : ℕ). Some (binding_of plain m)) from_zero
+          ∙ ap (λ (b : Binding). Some b) (tells n ts bs j t at ∙ ap (λ (y : Span1). Bound y) kept)
+
+      inside : n + j < length (scope_of plain)
+      inside = (let long = scope_long (binding_of plain) 0 (min (symbol_count plain) most_symbols) in let w = within in omega (arith, long, w))
+
+  seated_by : (f l : Form) (m : ℕ) → rules.at_most inner l f ≡ true → rules.at_most inner f (raised l (pos m -ℤ pos 1)) ≡ true → is_seated rules inner (exactly f) (From l m) ≡ true
+  seated_by f l m one two = λ j. ((one j || false) && true) && ((two j || false) && true)
+
+  shown : (f g : Form) → at_most sc f g ≡ true → rules.at_most inner f g ≡ true
+  shown f g e = (λ j. bound j inner f g) ∙ e
+
+  -- a form over the grid has its one place
+  pub seat_self : (f : Form) → is_within_limits f ≡ true → is_seated rules inner (exactly f) (From f 1) ≡ true
+  seat_self f limited_form =
+      let self = shown f f (form_self sc f limited_form) in
+      let zero_more : f.constant ≡ f.constant +ℤ (pos 1 -ℤ pos 1) = omega (arith, ints) in
+      let raised_is : f ≡ raised f (pos 1 -ℤ pos 1) = (λ j. record { constant = zero_more j; terms = f.terms }) in
+      seated_by f f 1 self (ap (rules.at_most inner f) (sym raised_is) ∙ self)
+
+  -- a loop's symbol
+  pub seat_loop : (j : ℕ) (t : Turning) → slice_get ts j ≡ Some t → (low : ℤ) (m : ℕ) → t.low ≡ low → t.last ≡ low +ℤ (pos m -ℤ pos 1) →
+      is_seated rules inner (exactly (alone (n + j))) (From (number low) m) ≡ true
+  seat_loop j t at low m from to =
+      let ends = near j t at in
+      let low_near = ends.0 in
+      let last_near = ends.1 in
+      let w = scope_has j t at in
+      let above = loop_above sc (n + j) t.low t.last (omega (arith, low_near)) (omega (arith, last_near)) w.0 w.1 in
+      let below = loop_below sc (n + j) t.low t.last (omega (arith, low_near)) (omega (arith, last_near)) w.0 w.1 in
+      seated_by (alone (n + j)) (number low) m (shown (number low) (alone (n + j)) (ap (λ (z : ℤ). at_most sc (number z) (alone (n + j))) (sym from) ∙ above))
+      (shown (alone (n + j)) (number (low +ℤ (pos m -ℤ pos 1))) (ap (λ (z : ℤ). at_most sc (alone (n + j)) (number z)) (sym to) ∙ below))
+
+  -- the first number of a block, which the grid tells, and a loop's symbol
+  pub seat_block : (s i k : ℕ) (u : Turning) → slice_get ts i ≡ Some u → s < n → u.low ≡ pos 0 → u.last ≡ pos k → suc k ≤ 1024 → (low : ℤ) → unsigned_abs low ≤ 2 ^ 36 →
+      is_seated rules inner (exactly (pair low s (pos (suc k)) (n + i))) (From (one_of low (pos (suc k)) s) (suc k)) ≡ true
+  seat_block s i k u at less from to few low low_near =
+      let w = scope_has i u at in
+      let under : s < n + i = omega (arith, less) in
+      let before : nat_lt s (n + i) ≡ true = grind (arith, nat_tests, under) in
+      let is : pair low s (pos (suc k)) (n + i) ≡ two_of low (pos (suc k)) s (pos 1) (n + i) =
+      (λ j. record { constant = low; terms = if before j then multiple s (pos (suc k)) ∷ multiple (n + i) (pos 1) ∷ [] else multiple (n + i) (pos 1) ∷ multiple s (pos (suc k)) ∷ [] }) in
+      let above = block_above sc s (n + i) under w.1 k few (span u.low u.last []) w.0 low low_near (ap (λ (z : ℤ). number z ∷ []) from) in
+      let below = block_below sc s (n + i) under w.1 k few (span u.low u.last []) w.0 low low_near (ap (λ (z : ℤ). number z ∷ []) to) in
+      let one_less : pos (suc k) -ℤ pos 1 ≡ pos k = omega (arith, ints) in
+      ap (λ (f : Form). is_seated rules inner (exactly f) (From (one_of low (pos (suc k)) s) (suc k))) is
+      ∙ seated_by (two_of low (pos (suc k)) s (pos 1) (n + i)) (one_of low (pos (suc k)) s) (suc k)
+      (shown (one_of low (pos (suc k)) s) (two_of low (pos (suc k)) s (pos 1) (n + i)) above)
+      (ap (λ (z : ℤ). rules.at_most inner (two_of low (pos (suc k)) s (pos 1) (n + i)) (raised (one_of low (pos (suc k)) s) z)) one_less
+      ∙ shown (two_of low (pos (suc k)) s (pos 1) (n + i)) (raised (one_of low (pos (suc k)) s) (pos k)) below)
+
+  -- two loops' symbols
+  pub seat_split : (o i k t : ℕ) (v u : Turning) → slice_get ts o ≡ Some v → slice_get ts i ≡ Some u → (o == i) ≡ false → v.low ≡ pos 0 → v.last ≡ pos t → u.low ≡ pos 0 → u.last ≡ pos k →
+      suc k ≤ 1024 → (low : ℤ) (m : ℕ) → unsigned_abs low ≤ 2 ^ 36 → pos t *ℤ pos (suc k) +ℤ pos k ≡ pos m -ℤ pos 1 → m ≤ 2 ^ 36 →
+      is_seated rules inner (exactly (pair low (n + o) (pos (suc k)) (n + i))) (From (number low) m) ≡ true
+  seat_split o i k t v u at_o at_i differ v_low v_last u_low u_last few low m low_near count small = of (nat_lt (n + o) (n + i)) refl
+    where
+      wo : (slice_get (scope_of inner) (n + o) ≡ Some (Bound (span v.low v.last []))) × (n + o < length (scope_of inner))
+      wo = scope_has o v at_o
+
+      wi : (slice_get (scope_of inner) (n + i) ≡ Some (Bound (span u.low u.last []))) × (n + i < length (scope_of inner))
+      wi = scope_has i u at_i
+
+      high : ℤ
+      high = low +ℤ (pos m -ℤ pos 1)
+
+      high_near : unsigned_abs high ≤ 2 ^ 37
+      high_near = sum_near low (pos m -ℤ pos 1) (2 ^ 36) (2 ^ 36) (2 ^ 37) low_near (less_one m small) (omega arith)
+        where
+          less_one : (m : ℕ) → m ≤ 2 ^ 36 → unsigned_abs (pos m -ℤ pos 1) ≤ 2 ^ 36
+          less_one m le = omega (arith, ints, le)
+
+      t_near : unsigned_abs (pos t) ≤ 2 ^ 36
+      t_near = subst (λ (z : ℤ). unsigned_abs z ≤ 2 ^ 36) v_last (near o v at_o).1
+
+      k_near : unsigned_abs (pos k) ≤ 2 ^ 36
+      k_near = omega (arith, few)
+
+      one_time : (z : ℤ) → pos 1 *ℤ z ≡ z
+      one_time z = omega (arith, ints)
+
+      times : pos (suc k) *ℤ pos t ≡ pos t *ℤ pos (suc k)
+      times = omega (arith, ints)
+
+      outer_near : unsigned_abs (pos (suc k) *ℤ pos t) ≤ 2 ^ 37
+      outer_near = subst (λ (z : ℤ). unsigned_abs z ≤ 2 ^ 37) (sym times) (by (pos t *ℤ pos (suc k)) count)
+        where
+          by : (p : ℤ) → p +ℤ pos k ≡ pos m -ℤ pos 1 → unsigned_abs p ≤ 2 ^ 37
+          by p e = omega (arith, ints, e, small, few)
+
+      inner_near : unsigned_abs (pos 1 *ℤ pos k) ≤ 2 ^ 37
+      inner_near = subst (λ (z : ℤ). unsigned_abs z ≤ 2 ^ 37) (sym (one_time (pos k))) (omega (arith, few))
+
+      top : (p : ℤ) → p ≡ pos t *ℤ pos (suc k) → (((low +ℤ pos k) +ℤ p) ≤ℤ high) × (((low +ℤ p) +ℤ pos k) ≤ℤ high)
+      top p e = by p (ap (λ (z : ℤ). z +ℤ pos k) e ∙ count)
+        where
+          by : (p : ℤ) → p +ℤ pos k ≡ pos m -ℤ pos 1 → (((low +ℤ pos k) +ℤ p) ≤ℤ high) × (((low +ℤ p) +ℤ pos k) ≤ℤ high)
+          by p e = (omega (arith, ints, e), omega (arith, ints, e))
+
+      start : (z : ℤ) → z ≡ pos 0 → number z ∷ [] ≡ number (pos 0) ∷ []
+      start z e = ap (λ (y : ℤ). number y ∷ []) e
+
+      end : (z y : ℤ) → z ≡ y → number z ∷ [] ≡ number y ∷ []
+      end z y e = ap (λ (x : ℤ). number x ∷ []) e
+
+      by_form : (f : Form) → pair low (n + o) (pos (suc k)) (n + i) ≡ f → at_most sc (number low) f ≡ true → at_most sc f (number high) ≡ true →
+          is_seated rules inner (exactly (pair low (n + o) (pos (suc k)) (n + i))) (From (number low) m) ≡ true
+      by_form f is above below =
+          ap (λ (g : Form). is_seated rules inner (exactly g) (From (number low) m)) is ∙ seated_by f (number low) m (shown (number low) f above) (shown f (number high) below)
+
+      of : (b : Bool) → nat_lt (n + o) (n + i) ≡ b → is_seated rules inner (exactly (pair low (n + o) (pos (suc k)) (n + i))) (From (number low) m) ≡ true
+      of true e =
+          let less : n + o < n + i = grind (arith, nat_tests, e) in
+          let is : pair low (n + o) (pos (suc k)) (n + i) ≡ two_of low (pos (suc k)) (n + o) (pos 1) (n + i) =
+          (λ j. record { constant = low; terms = if e j then multiple (n + o) (pos (suc k)) ∷ multiple (n + i) (pos 1) ∷ [] else multiple (n + i) (pos 1) ∷ multiple (n + o) (pos (suc k)) ∷ [] }) in
+          let sum : ((low +ℤ pos 1 *ℤ pos k) +ℤ pos (suc k) *ℤ pos t) ≤ℤ high =
+          subst (λ (z : ℤ). ((low +ℤ z) +ℤ pos (suc k) *ℤ pos t) ≤ℤ high) (sym (one_time (pos k))) (top (pos (suc k) *ℤ pos t) times).0 in
+          by_form (two_of low (pos (suc k)) (n + o) (pos 1) (n + i)) is
+          (two_above sc (n + o) (n + i) less wi.1 k 0 few (omega arith) (span v.low v.last []) (span u.low u.last []) wo.0 wi.0 low low_near (start v.low v_low) (start u.low u_low))
+          (two_below sc (n + o) (n + i) less wi.1 k 0 few (omega arith) (span v.low v.last []) (span u.low u.last []) wo.0 wi.0 low low_near (pos t) (pos k) high (end v.last (pos t) v_last)
+          (end u.last (pos k) u_last) t_near k_near outer_near inner_near high_near sum)
+      of false e =
+          let less : n + i < n + o = grind (arith, nat_tests, e, differ) in
+          let is : pair low (n + o) (pos (suc k)) (n + i) ≡ two_of low (pos 1) (n + i) (pos (suc k)) (n + o) =
+          (λ j. record { constant = low; terms = if e j then multiple (n + o) (pos (suc k)) ∷ multiple (n + i) (pos 1) ∷ [] else multiple (n + i) (pos 1) ∷ multiple (n + o) (pos (suc k)) ∷ [] }) in
+          let sum : ((low +ℤ pos (suc k) *ℤ pos t) +ℤ pos 1 *ℤ pos k) ≤ℤ high =
+          subst (λ (z : ℤ). ((low +ℤ pos (suc k) *ℤ pos t) +ℤ z) ≤ℤ high) (sym (one_time (pos k))) (top (pos (suc k) *ℤ pos t) times).1 in
+          by_form (two_of low (pos 1) (n + i) (pos (suc k)) (n + o)) is
+          (two_above sc (n + i) (n + o) less wo.1 0 k (omega arith) few (span u.low u.last []) (span v.low v.last []) wi.0 wo.0 low low_near (start u.low u_low) (start v.low v_low))
+          (two_below sc (n + i) (n + o) less wo.1 0 k (omega arith) few (span u.low u.last []) (span v.low v.last []) wi.0 wo.0 low low_near (pos k) (pos t) high (end u.last (pos k) u_last)
+          (end v.last (pos t) v_last) k_near t_near inner_near outer_near high_near sum)
+
+  -- the origin of a block's places is over the grid
+  pub steady_one : (z c : ℤ) (s m : ℕ) → s < n → is_steady false (along (turns_for n ts)) (From (one_of z c s) m) ≡ true
+  steady_one z c s m less = (let none = none_along s n ts less in λ j. not (none j) && true)

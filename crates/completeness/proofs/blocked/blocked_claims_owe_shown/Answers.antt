@@ -1,0 +1,5 @@
+use Rattle.completeness.proofs.BlockNests.{shown}
+use Rattle.completeness.proofs.blocked.blocked_claims_owe_shown.Goals as goal
+
+pub returns : goal.returns
+returns c = shown

@@ -1,0 +1,11 @@
+//! Laws of what the claims of nests owe the checker, in plans that `lower` makes of functions whose loops are split.
+
+ghost use Rattle.completeness.specs.Blocked.{BlockedClaimsOweShown};
+
+/// Of a schedule under which each stored function is a root function that is computed at no loop, each function whose loops are split once, whichever others are
+/// parallel: all that the claim of its pure definition owes is shown, where the tests of nests say yes to nests of split loops (no K6). No loop that a split makes is
+/// split again, no inner one is parallel, and over the function's region each split's blocks fill its loop, or run past its end with `roundup`. A coordinate is then the
+/// first number of a block, which the grid or an outer loop tells, and an inner loop's symbol; it comes to all numbers of the claim, and each has a place of its own.
+pub fn blocked_claims_owe_shown()
+    ensures { BlockedClaimsOweShown }
+{}
