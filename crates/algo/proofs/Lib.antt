@@ -17,6 +17,8 @@ pub mod Kept
 pub mod Lists
 pub mod Named
 pub mod Placed
+pub mod PutWritten
 pub mod Small
 pub mod Whole
+pub mod TokenWords
 pub mod Words

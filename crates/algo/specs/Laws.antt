@@ -1,4 +1,4 @@
--- Laws of refusals and of names.
+-- Laws of refusals, and of what an algorithm that was read names and says.
 use Rattle.std.specs.Prelude.{◌≡◌, ℕ, List}
 use Rattle.tree.specs.declared.token.span.Span.{Span}
 use Rattle.tree.specs.Term.{Term}
@@ -16,6 +16,7 @@ use Rattle.algo.specs.Faults.{TellsOfFile}
 use Rattle.algo.specs.Refusal.{IsRefusedText, IsRefusedPlace, IsNoAlgorithm, IsAlgorithmText}
 use Rattle.algo.specs.Calls.{LaterCallAt}
 use Rattle.algo.specs.Words.{IsNamed}
+use Rattle.algo.specs.Written.{AreExpressionsWritten}
 
 -- a well-formed file keeps each condition that a refusal can name
 abbrev pub WellFormedBreaksNothing : Type 0
@@ -36,3 +37,7 @@ LaterCallsAreNamed = (text : List ℕ) (at : Span) → IsRefusedPlace text (Refu
 -- the names of an algorithm that was read are words of its text: letters, digits and `_`, the first no digit, at most 16 of them, no type and no word of the grammar
 abbrev pub NamesAreWords : Type 0
 NamesAreWords = (text : List ℕ) (a : Algorithm) → IsAlgorithmText text a → IsNamed a
+
+-- its expressions have literals from 0 on that are in their types, such names, and an index at least in each call
+abbrev pub ExpressionsAreWritten : Type 0
+ExpressionsAreWritten = (text : List ℕ) (a : Algorithm) → IsAlgorithmText text a → AreExpressionsWritten a

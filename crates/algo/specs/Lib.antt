@@ -11,3 +11,4 @@ pub mod Refusal
 pub mod Saying
 pub mod View
 pub mod Words
+pub mod Written

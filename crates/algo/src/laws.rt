@@ -1,6 +1,6 @@
 //! Laws, each the contract of a function that does nothing.
 
-ghost use Rattle.algo.specs.Laws.{ToldBreaks, WellFormedBreaksNothing, RefusedIsNoAlgorithm, LaterCallsAreNamed, NamesAreWords};
+ghost use Rattle.algo.specs.Laws.{ToldBreaks, WellFormedBreaksNothing, RefusedIsNoAlgorithm, LaterCallsAreNamed, NamesAreWords, ExpressionsAreWritten};
 
 /// A fault that is told at its place breaks the condition of its code.
 pub fn told_faults_break_conditions()
@@ -26,4 +26,10 @@ pub fn later_calls_are_named()
 /// and no word of the grammar.
 pub fn names_are_words()
     ensures { NamesAreWords }
+{}
+
+/// The expressions of an algorithm text have literals from 0 on that are in their types, such names, and an index at least
+/// in each call.
+pub fn expressions_are_written()
+    ensures { ExpressionsAreWritten }
 {}

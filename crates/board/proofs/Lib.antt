@@ -6,3 +6,4 @@ pub mod Told
 pub mod Samples
 pub mod Closing
 pub mod Colours
+pub mod Sheets

@@ -5,3 +5,4 @@ pub mod Rule
 pub mod Steps
 pub mod Seats
 pub mod Shown
+pub mod Sheets

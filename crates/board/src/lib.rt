@@ -1,13 +1,16 @@
 //! Cells that the workers of one run share: which pieces are drawn, which are finished, and the value of each cell.
 //!
 //! The words of one table are a draw counter, a flag a piece and a word a cell. A worker has a seat, which carries what
-//! the worker knows. No call waits, and none but `open` takes memory.
+//! the worker knows. No call waits, and none but `open` takes memory. A sheet has the cells of a run by one worker alone, who
+//! shares them with nobody.
 #![tactic(auto)]
 
 mod board;
 mod law;
+mod read_off;
 mod rows;
 mod seat;
+mod sheet;
 mod shown;
 mod source;
 mod view;
@@ -15,5 +18,6 @@ mod view;
 pub use board::{Board, SeatError, Unfinished};
 pub use law::{Law, Run};
 pub use seat::{BoardSeat, Ticket};
+pub use sheet::Sheet;
 pub use source::{Planes, Source};
 pub use view::View;

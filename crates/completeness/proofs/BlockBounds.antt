@@ -35,7 +35,7 @@ use Rattle.completeness.proofs.BlockSums.{multiple, pair, two_of, found_two}
 pub one_limited : (z c : ℤ) (a : ℕ) → unsigned_abs z ≤ 2 ^ 40 → unsigned_abs c ≤ 2 ^ 20 → is_within_limits (one_of z c a) ≡ true
 one_limited z c a near small = (let one = le-leb (unsigned_abs c) (2 ^ 20) small in let two = le-leb (unsigned_abs z) (2 ^ 40) near in λ j. (true && (one j && true)) && two j)
 
-two_limited : (z c : ℤ) (a : ℕ) (d : ℤ) (b : ℕ) → unsigned_abs z ≤ 2 ^ 40 → unsigned_abs c ≤ 2 ^ 20 → unsigned_abs d ≤ 2 ^ 20 → is_within_limits (two_of z c a d b) ≡ true
+pub two_limited : (z c : ℤ) (a : ℕ) (d : ℤ) (b : ℕ) → unsigned_abs z ≤ 2 ^ 40 → unsigned_abs c ≤ 2 ^ 20 → unsigned_abs d ≤ 2 ^ 20 → is_within_limits (two_of z c a d b) ≡ true
 two_limited z c a d b near small other =
     let one = le-leb (unsigned_abs c) (2 ^ 20) small in
     let two = le-leb (unsigned_abs d) (2 ^ 20) other in
@@ -106,7 +106,7 @@ module _ (scope : List Binding) (a b : ℕ) (less : a < b) (inside : b < length 
       (still r (omega (arith, ints, r_is)))
 
   -- and at most one that is at least what they come to
-  two_below : (e f high : ℤ) → x.upper ≡ number e ∷ [] → y.upper ≡ number f ∷ [] → unsigned_abs e ≤ 2 ^ 36 → unsigned_abs f ≤ 2 ^ 36 → unsigned_abs (c *ℤ e) ≤ 2 ^ 37 → unsigned_abs (d *ℤ f) ≤ 2 ^ 37 →
+  pub two_below : (e f high : ℤ) → x.upper ≡ number e ∷ [] → y.upper ≡ number f ∷ [] → unsigned_abs e ≤ 2 ^ 36 → unsigned_abs f ≤ 2 ^ 36 → unsigned_abs (c *ℤ e) ≤ 2 ^ 37 → unsigned_abs (d *ℤ f) ≤ 2 ^ 37 →
       unsigned_abs high ≤ 2 ^ 37 → ((low +ℤ d *ℤ f) +ℤ c *ℤ e) ≤ℤ high → at_most scope (two_of low c a d b) (number high) ≡ true
   two_below e f high first second e_near f_near ce_near df_near high_near top =
       let z : ℤ = low +ℤ negsuc 0 *ℤ high in

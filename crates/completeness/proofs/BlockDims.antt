@@ -209,7 +209,7 @@ module _ (rs : List Numbers) (c : Split) (free : is_tailed rs c ≡ false) (fits
       all_high z m n h k q = omega (arith, ints, h, k, q)
 
   -- where all blocks are full, the last number is that of the loop
-  full_last : has_rest c own.count ≡ false → last_number own ≡ last_of
+  pub full_last : has_rest c own.count ≡ false → last_number own ≡ last_of
   full_last e =
       let none = no_rest c.factor own.count e in
       let high = top_high own.count c.factor some fits.some in

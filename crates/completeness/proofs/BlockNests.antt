@@ -121,7 +121,7 @@ stored_there : {P : FormulaText → Type 0} (o : Option FormulaText) → IsSomeA
 stored_there None h = absurd h
 stored_there (Some x) h = (x, refl, h)
 
-take_all : {A : Type 0} (m : ℕ) (xs : List A) → length xs ≡ m → (take m xs ≡ xs) × (drop m xs ≡ [])
+pub take_all : {A : Type 0} (m : ℕ) (xs : List A) → length xs ≡ m → (take m xs ≡ xs) × (drop m xs ≡ [])
 take_all zero [] e = (refl, refl)
 take_all zero (x ∷ xs) e = absurd (omega (arith, e))
 take_all (suc m) [] e = absurd (omega (arith, e))
@@ -218,37 +218,37 @@ module _ (a : Algorithm) (sch : Schedule) (l : Lowered) (well : IsAlgorithm a) (
 
     -- ---- loops and splits
 
-    is_named : IsNamed g.placed
+    pub is_named : IsNamed g.placed
     is_named = named g.subject laid.directives g.placed laid.placed
 
-    abbrev others : AreOthers cuts
+    abbrev pub others : AreOthers cuts
     others = is_named.apart
 
-    abbrev once : AreOnce cuts
+    abbrev pub once : AreOnce cuts
     once = split_once cuts split_alone
 
-    made_so : AreMade xs (xs ++ g.subject.reductions) cuts
+    pub made_so : AreMade xs (xs ++ g.subject.reductions) cuts
     made_so = (owners.directed g h.extents k laid).made
 
-    abbrev free : (c : Split) → In c cuts → is_tailed rs c ≡ false
+    abbrev pub free : (c : Split) → In c cuts → is_tailed rs c ≡ false
     free c m = all_in (λ c. is_tailed rs c ≡ false) cuts c filled m
 
-    abbrev halves : (c : Split) → In c cuts → (x : List ℕ) → In x xs → (x ≡ c.outer → ⊥) × (x ≡ c.inner → ⊥)
+    abbrev pub halves : (c : Split) → In c cuts → (x : List ℕ) → In x xs → (x ≡ c.outer → ⊥) × (x ≡ c.inner → ⊥)
     halves c m x q = halves_new cuts xs g.subject.reductions made_so c m x q
 
-    abbrev outers : (c d : Split) → In c cuts → In d cuts → c.outer ≡ d.outer → c ≡ d
+    abbrev pub outers : (c d : Split) → In c cuts → In d cuts → c.outer ≡ d.outer → c ≡ d
     outers c d m q e = outers_apart cuts xs (xs ++ g.subject.reductions) made_so c d m q e
 
-    abbrev gone : (c : Split) → In c cuts → (o : Loop) → In o ls → c.whole ≡ o.name → ⊥
+    abbrev pub gone : (c : Split) → In c cuts → (o : Loop) → In o ls → c.whole ≡ o.name → ⊥
     gone c m o q = all_in (λ o. c.whole ≡ o.name → ⊥) ls o (all_in (λ c. AllByRecursion (λ o. c.whole ≡ o.name → ⊥) ls) cuts c (owners.arranged g h.extents k laid).gone m) q
 
-    wholes : (c : Split) → In c cuts → In c.whole xs
+    pub wholes : (c : Split) → In c cuts → In c.whole xs
     wholes c m = wholes_are cuts once xs (xs ++ g.subject.reductions) made_so c m
 
-    abbrev fits : (c : Split) → In c cuts → CutFits rs c
+    abbrev pub fits : (c : Split) → In c cuts → CutFits rs c
     fits c m = all_in (CutFits rs) cuts c (owners.cuts g h.extents k laid) m
 
-    single : (y : List ℕ) → hits loop_name y ls ≤ 1
+    pub single : (y : List ℕ) → hits loop_name y ls ≤ 1
     single y =
         let one = hits_named y ls in
         let two = hits_once (map loop_name ls) y (owners.directed g h.extents k laid).single in
@@ -257,15 +257,15 @@ module _ (a : Algorithm) (sch : Schedule) (l : Lowered) (well : IsAlgorithm a) (
     single_over : (y : List ℕ) → hits loop_name y (parallel_loops ls) ≤ 1
     single_over y = (let one = single y in let two = hits_fewer is_parallel y ls in omega (arith, one, two))
 
-    abbrev inners : (c : Split) → In c cuts → form_named grid c.inner ≡ None
+    abbrev pub inners : (c : Split) → In c cuts → form_named grid c.inner ≡ None
     inners c m = grid_none rs c.inner 0 (parallel_loops ls) (inners_serial ls cuts keeps c m)
 
-    leaf_of : (o : Loop) → In o ls → LeafOf xs ls cuts rs others once halves outers gone o.name
+    pub leaf_of : (o : Loop) → In o ls → LeafOf xs ls cuts rs others once halves outers gone o.name
     leaf_of o m =
         let leaf : IsLeaf xs cuts o = all_in (IsLeaf xs cuts) ls o (owners.directed g h.extents k laid).leaves m in
         end_leaf cuts once xs cuts (λ d q. q) leaf.variable o.name (at_in xs o.dimension leaf.variable leaf.of) leaf.end
 
-    shape : AreBlocks xs bs g.placed others once rs free k
+    pub shape : AreBlocks xs bs g.placed others once rs free k
     shape = skeleton_blocks xs bs g.placed h.extents k others once free single_over inners h.laid
 
     -- ---- numbers
@@ -284,11 +284,11 @@ module _ (a : Algorithm) (sch : Schedule) (l : Lowered) (well : IsAlgorithm a) (
           of ys es q.1 r.1,
         )
 
-    fit_of : (x : List ℕ) → In x xs → NumbersFit x
+    pub fit_of : (x : List ℕ) → In x xs → NumbersFit x
     fit_of x m = all_in NumbersFit xs x numbers_fit m
 
     -- the numbers of each loop are near
-    near_named : (y : List ℕ) → LeafOf xs ls cuts rs others once halves outers gone y → (unsigned_abs (low y) ≤ 2 ^ 36) × (unsigned_abs (last y) ≤ 2 ^ 36)
+    pub near_named : (y : List ℕ) → LeafOf xs ls cuts rs others once halves outers gone y → (unsigned_abs (low y) ≤ 2 ^ 36) × (unsigned_abs (last y) ≤ 2 ^ 36)
     near_named y (inl m) =
         let fit = fit_of y m in
         let from = fit.0.from in
@@ -316,7 +316,7 @@ module _ (a : Algorithm) (sch : Schedule) (l : Lowered) (well : IsAlgorithm a) (
         let some = (fits c m).some in
         (omega (arith, ints, begins), omega (arith, ints, ends, wide, some))
 
-    dims : O.setting.dimensions 0 ≡ length xs
+    pub dims : O.setting.dimensions 0 ≡ length xs
     dims =
         let lets = (names_own xs bs g.placed h.extents k h.laid).lets in
         ap (λ (s : Statement). dimensions_in (allocated s 0)) h.body.with.is
@@ -414,7 +414,7 @@ module _ (a : Algorithm) (sch : Schedule) (l : Lowered) (well : IsAlgorithm a) (
 
     -- ---- what names stand for over the grid
 
-    grids : (y : List ℕ) (f : Form) → form_named grid y ≡ Some f →
+    pub grids : (y : List ℕ) (f : Form) → form_named grid y ≡ Some f →
         (s : ℕ) × (f ≡ counted_from (low y) s) × (s < length (piece_counts rs ls)) × ((o : Loop) × In o ls × (o.name ≡ y))
     grids y f e = of (hits loop_name y (parallel_loops ls)) refl (either_name rs ls y)
       where
@@ -529,14 +529,14 @@ module _ (a : Algorithm) (sch : Schedule) (l : Lowered) (well : IsAlgorithm a) (
             back : (z : ℤ) (p q : ℕ) → ((z +ℤ (pos p +ℤ (pos q -ℤ pos 1)) -ℤ z) +ℤ pos 1) ≡ pos (p + q)
             back z p q = omega (arith, ints)
 
-    own_places_are : places ≡ map place xs
+    pub own_places_are : places ≡ map place xs
     own_places_are = of xs
       where
         of : (ys : List (List ℕ)) → own_places (map (dimension_of lay cuts) ys) ≡ map place ys
         of [] = refl
         of (y ∷ ys) = ap (λ (ps : List Places). place y ∷ ps) (of ys)
 
-    own_claim_is : region ≡ map claim xs
+    pub own_claim_is : region ≡ map claim xs
     own_claim_is = of xs
       where
         of : (ys : List (List ℕ)) → claimed_region (map (dimension_of lay cuts) ys) ≡ map claim ys
@@ -554,25 +554,25 @@ module _ (a : Algorithm) (sch : Schedule) (l : Lowered) (well : IsAlgorithm a) (
         (ap (λ (c : BodyText). c.missing) (sym is) ∙ ap (missing_from 0) f.at ∙ none_missing 0 v.variables, ap (λ (c : BodyText). c.ranges) (sym is))
 
     module _ (w : NestText) (stands : slice_get k.nests 0 ≡ Some w) where
-      abbrev q : IsBlockNest xs bs g.placed others once rs free grid (length (piece_counts rs ls)) 0 w
+      abbrev pub q : IsBlockNest xs bs g.placed others once rs free grid (length (piece_counts rs ls)) 0 w
       q = shape.nests 0 w stands
 
-      abbrev b : BodyText
+      abbrev pub b : BodyText
       b = q.body
 
-      abbrev m0 : ℕ
+      abbrev pub m0 : ℕ
       m0 = q.next
 
-      abbrev ts : List Turning
+      abbrev pub ts : List Turning
       ts = nest_turns b rs ls
 
-      none_b : b.missing ≡ []
+      pub none_b : b.missing ≡ []
       none_b = (first_body b q.at).0
 
-      bare_b : b.ranges ≡ []
+      pub bare_b : b.ranges ≡ []
       bare_b = (first_body b q.at).1
 
-      abbrev turns : (j : ℕ) (t : Turning) → slice_get ts j ≡ Some t → IsTurnOf xs ls cuts rs others once halves outers gone grid t
+      abbrev pub turns : (j : ℕ) (t : Turning) → slice_get ts j ≡ Some t → IsTurnOf xs ls cuts rs others once halves outers gone grid t
       turns j t e =
           let r = turn_from b none_b bare_b rs ls j t e in
           let name : r.0.name ≡ t.name = ap (λ (v : Turning). v.name) (sym r.3) in
@@ -586,19 +586,19 @@ module _ (a : Algorithm) (sch : Schedule) (l : Lowered) (well : IsAlgorithm a) (
             own = ap (form_named grid) (sym name) ∙ grid_none rs r.0.name 0 (parallel_loops ls) (serial_none r.0 ls r.1 r.2 (single r.0.name));
           }
 
-      abbrev same_places : (i j : ℕ) (t u : Turning) → slice_get ts i ≡ Some t → slice_get ts j ≡ Some u → t.name ≡ u.name → i ≡ j
+      abbrev pub same_places : (i j : ℕ) (t u : Turning) → slice_get ts i ≡ Some t → slice_get ts j ≡ Some u → t.name ≡ u.name → i ≡ j
       same_places i j t u e d s = places_same b none_b bare_b rs ls single i j t u e d s
 
-      abbrev over_names : (y : List ℕ) (f : Form) → form_named grid y ≡ Some f → (s : ℕ) × (f ≡ counted_from (low y) s) × (s < m0) × ((o : Loop) × In o ls × (o.name ≡ y))
+      abbrev pub over_names : (y : List ℕ) (f : Form) → form_named grid y ≡ Some f → (s : ℕ) × (f ≡ counted_from (low y) s) × (s < m0) × ((o : Loop) × In o ls × (o.name ≡ y))
       over_names y f e = (let r = grids y f e in let less = r.2 in let least = q.low in (r.0, r.1, omega (arith, less, least), r.3))
 
-      near : (j : ℕ) (t : Turning) → slice_get ts j ≡ Some t → (unsigned_abs t.low ≤ 2 ^ 36) × (unsigned_abs t.last ≤ 2 ^ 36)
+      pub near : (j : ℕ) (t : Turning) → slice_get ts j ≡ Some t → (unsigned_abs t.low ≤ 2 ^ 36) × (unsigned_abs t.last ≤ 2 ^ 36)
       near j t e =
           let o = turns j t e in
           let ends = near_named t.name o.leaf in
           (subst (λ (z : ℤ). unsigned_abs z ≤ 2 ^ 36) (sym o.from) ends.0, subst (λ (z : ℤ). unsigned_abs z ≤ 2 ^ 36) (sym o.to) ends.1)
 
-      short : m0 + length ts ≤ most_symbols
+      pub short : m0 + length ts ≤ most_symbols
       short =
           let among : AllByRecursion (λ t. In t.name leaf_names) ts = all_slices (λ t. In t.name leaf_names) ts (λ j t e. leaf_among t.name (turns j t e).leaf) in
           let one = few_loops ts among (turns_once b none_b bare_b rs ls single) in
@@ -606,7 +606,7 @@ module _ (a : Algorithm) (sch : Schedule) (l : Lowered) (well : IsAlgorithm a) (
           let three = few_pieces in
           omega (arith, one, two, three)
 
-      few_grid : length k.grid ≤ m0
+      pub few_grid : length k.grid ≤ m0
       few_grid = (let is = ap length shape.grid in let least = q.low in omega (arith, is, least))
 
       abbrev factor_at : ℕ → ℤ
@@ -615,7 +615,7 @@ module _ (a : Algorithm) (sch : Schedule) (l : Lowered) (well : IsAlgorithm a) (
       abbrev owner_at : ℕ → List ℕ
       owner_at = owner xs ls cuts rs others once halves outers gone grid m0 ts turns same_places over_names inners free fits
 
-      abbrev All : List ℕ → Form → Type 0
+      abbrev pub All : List ℕ → Form → Type 0
       All x f =
           HasAll xs ls cuts rs others once halves outers gone grid m0 ts turns same_places over_names inners free fits R refl k.grid few_grid short near (grid_spelled 0 k.grid) claim place x f
 
@@ -644,7 +644,7 @@ module _ (a : Algorithm) (sch : Schedule) (l : Lowered) (well : IsAlgorithm a) (
               (all_in (λ d. Stands q.known d.outer → Stands q.known d.inner → Stands q.known d.whole) (cuts_by_variable cuts (kept_from b 0 xs)) c q.closed among
               (named_stands c.outer halves_there.0) (named_stands c.inner halves_there.1))
 
-      abbrev RightHere : List ℕ → Form → Type 0
+      abbrev pub RightHere : List ℕ → Form → Type 0
       RightHere y f = Right cuts others once rs free grid m0 ts y f
 
       serial_named : (j : ℕ) (t : Turning) → slice_get ts j ≡ Some t → hits loop_name t.name (parallel_loops ls) ≡ 0
@@ -653,7 +653,7 @@ module _ (a : Algorithm) (sch : Schedule) (l : Lowered) (well : IsAlgorithm a) (
           let name : r.0.name ≡ t.name = ap (λ (v : Turning). v.name) (sym r.3) in
           subst (λ (y : List ℕ). hits loop_name y (parallel_loops ls) ≡ 0) name (serial_none r.0 ls r.1 r.2 (single r.0.name))
 
-      has_all : (x : List ℕ) → In x xs → (f : Form) → form_named q.known x ≡ Some f → All x f
+      pub has_all : (x : List ℕ) → In x xs → (f : Form) → form_named q.known x ≡ Some f → All x f
       has_all x m f e = of (found_all RightHere q.known x f q.right e)
         where
           of : RightHere x f → All x f
@@ -850,12 +850,12 @@ module _ (a : Algorithm) (sch : Schedule) (l : Lowered) (well : IsAlgorithm a) (
           (λ m. let clash : true ≡ false = sym m ∙ none in absurd (cc clash)),
         )
 
-    bare_nests : AllByRecursion (λ w. LetsFirst NoLet w.steps) k.nests
+    pub bare_nests : AllByRecursion (λ w. LetsFirst NoLet w.steps) k.nests
     bare_nests = all_slices (λ w. LetsFirst NoLet w.steps) k.nests (λ d w e.
         (let u = shape.nests d w e in subst (LetsFirst NoLet) (sym u.steps) (no_lets NoLet u.next (nest_turns u.body rs ls))))
 
     -- so at each definition's claim of which the first one's is asked
-    yes_first : (d : ℕ) → d ≡ 0 → (ms : Loads) (w : NestText) (v : CodeClaim) (at_line : ℕ) → slice_get k.nests d ≡ Some w → Claims at_line 0 g.subject.name d region v → (cs : List Coordinate)
+    pub yes_first : (d : ℕ) → d ≡ 0 → (ms : Loads) (w : NestText) (v : CodeClaim) (at_line : ℕ) → slice_get k.nests d ≡ Some w → Claims at_line 0 g.subject.name d region v → (cs : List Coordinate)
         (e : Term) → IsStore g fs ms d w (Store 0 d cs e) → (part : List Step) → IsRest w.steps part → (s : Statement) → Then s Empty ≡ down 0 d cs e part → (known : KnownHere) →
         OverGrids known.binders → Holds places known → (c : ℕ) → slice_get items c ≡ Some v → (nests : Nests) → TakeSplit a plan cert n (group_of p) nests → SayYes O R nests known s c
     yes_first zero first ms w v at_line stands says cs e stores part rest s comes known binders holds c found_at_c nests takes =

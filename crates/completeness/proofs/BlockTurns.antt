@@ -395,14 +395,14 @@ pub record IsBlockNest (xs : List (List ℕ)) (bs : List BodyText) (p : PlacedTe
 
 module _ (xs : List (List ℕ)) (p : PlacedText) (others : AreOthers p.cuts) (once : AreOnce p.cuts) (rs : List Numbers) (free : (c : Split) → In c p.cuts → is_tailed rs c ≡ false)
     (grid : List Known) (head : StandingText) (over : head.known ≡ grid) (right : (n : ℕ) (ts : List Turning) → AreRight p.cuts others once rs free grid n ts head) where
-  cuts_sub : (ys : List (List ℕ)) → AllByRecursion (λ d. In d p.cuts) (cuts_by_variable p.cuts ys)
+  pub cuts_sub : (ys : List (List ℕ)) → AllByRecursion (λ d. In d p.cuts) (cuts_by_variable p.cuts ys)
   cuts_sub ys = all_by_variable (λ d. In d p.cuts) p.cuts ys (each p.cuts (λ d m. m))
     where
       each : (ds : List Split) → ((d : Split) → In d ds → In d p.cuts) → AllByRecursion (λ d. In d p.cuts) ds
       each [] f = tt
       each (d ∷ ds) f = (f d (inl refl), each ds (λ e m. f e (inr m)))
 
-  nest_blocked : (b : BodyText) (next : ℕ) (new : StandingText) → nest_in xs p rs b (begun next head) ≡ Some new → (mid : StandingText) × (mid.steps ≡ []) ×
+  pub nest_blocked : (b : BodyText) (next : ℕ) (new : StandingText) → nest_in xs p rs b (begun next head) ≡ Some new → (mid : StandingText) × (mid.steps ≡ []) ×
       ((y : List ℕ) → Stands grid y → Stands mid.known y)
       × IsTurned p.cuts others once rs free grid next (nest_turns b rs p.loops) (cuts_by_variable p.cuts (kept_from b 0 xs)) (cuts_sub (kept_from b 0 xs)) mid new 0 (nest_turns b rs p.loops)
   nest_blocked b next new e =
@@ -485,7 +485,7 @@ pub record AreBlocks (xs : List (List ℕ)) (bs : List BodyText) (p : PlacedText
   pub nests : (d : ℕ) (w : NestText) → slice_get k.nests d ≡ Some w → IsBlockNest xs bs p others once rs free (grid_forms rs 0 (parallel_loops p.loops)) (length (piece_counts rs p.loops)) d w
 
 -- each parallel loop stands under its own name
-grid_named : (rs : List Numbers) (s : ℕ) (ls : List Loop) → ((y : List ℕ) → hits loop_name y ls ≤ 1) → AllByRecursion (λ k. form_named (grid_forms rs s ls) k.name ≡ Some k.form) (grid_forms rs s ls)
+pub grid_named : (rs : List Numbers) (s : ℕ) (ls : List Loop) → ((y : List ℕ) → hits loop_name y ls ≤ 1) → AllByRecursion (λ k. form_named (grid_forms rs s ls) k.name ≡ Some k.form) (grid_forms rs s ls)
 grid_named rs s ls single = all_weaker (Found rs s ls) (λ k. form_named (grid_forms rs s ls) k.name ≡ Some k.form) (λ k h. h.0) (grid_forms rs s ls) (all s ls single)
   where
     Found : List Numbers → ℕ → List Loop → Known → Type 0

@@ -58,7 +58,7 @@ size_without (t ∷ ts) n = of (t.symbol == n) (size_without ts n)
     of false h = omega (arith, ints, h)
 
 -- a product of a factor and a number of a loop
-product_near : (c e : ℤ) → unsigned_abs e ≤ 32768 → unsigned_abs (c *ℤ e) ≤ 32768 * unsigned_abs c
+pub product_near : (c e : ℤ) → unsigned_abs e ≤ 32768 → unsigned_abs (c *ℤ e) ≤ 32768 * unsigned_abs c
 product_near c e near = (let is = unsigned_abs-mul c e in by (unsigned_abs c) (unsigned_abs e) near is)
   where
     times : (m n : ℕ) → n ≤ 32768 → m * n ≤ 32768 * m

@@ -76,6 +76,17 @@ abbrev AreFew : List StoredText → Type 0
 AreFew gs = (i : ℕ) (g : StoredText) → slice_get gs i ≡ Some g → (fs : List FormulaText) → g.formulas ≡ Some fs → length fs ≤ 5
 
 module _ (a : Algorithm) (all : List Entry) (few : length all ≤ 64) where
+  -- a buffer of each other function at most
+  pub fetches_few : (n c line : ℕ) (g : StoredText) (p : CodeGroup) (claims : List CodeClaim) (needs : List Need) (h : HasBody a all n c line g p claims needs) → length h.body.fetches ≤ 64
+  fetches_few n c line g p claims needs h =
+      let b = h.body in
+      let fs = h.formulas in
+      let k = h.skeleton in
+      let one = fetched_many (sites_of a g fs k) (grid_scope k.grid) n 1 (line + first_lines k) (fetched_groups fs n 0 all) b.fetches needs b.fetched b.fetching in
+      let two = fetches_claim (sites_of a g fs k) (grid_scope k.grid) n 1 (line + first_lines k) (fetched_groups fs n 0 all) b.fetches needs b.fetched b.fetching in
+      let most = fetched_few fs n 0 all in
+      omega (arith, one, two, most)
+
   body_few : (n c line : ℕ) (g : StoredText) (p : CodeGroup) (claims : List CodeClaim) (needs : List Need) → HasBody a all n c line g p claims needs →
       ((fs : List FormulaText) → g.formulas ≡ Some fs → length fs ≤ 5) → length claims ≤ 69
   body_few n c line g p claims needs h small =
@@ -141,11 +152,19 @@ module _ (a : Algorithm) (sch : Schedule) (l : Lowered) (well : IsAlgorithm a) (
       omega (arith, long, most)
 
   -- at most 64 functions, each with a claim of each other and of its definitions
+  pub functions_few : length gs ≤ 64
+  functions_few = (let one = stored_few a sch (flags (subjects a sch)) a.functions in let functions = well.few in omega (arith, one, functions))
+
+  pub roots_few : length (roots a sch l well legal small kept all groups) ≤ 64
+  roots_few =
+      let functions = functions_few in
+      let most = rooted_few gs (laid_functions a gs) in
+      omega (arith, functions, most)
+
   pub few_claims : length l.certificate.claims.items < 10000
   few_claims =
       let one = stored_few a sch (flags (subjects a sch)) a.functions in
       let functions = well.few in
-      let most = rooted_few gs (laid_functions a gs) in
-      let entries : length (roots a sch l well legal small kept all groups) ≤ 64 = omega (arith, one, functions, most) in
+      let entries = roots_few in
       let claims = bodies_few a (roots a sch l well legal small kept all groups) entries 0 0 4 gs l.plan.groups.items l.certificate.claims.items l.certificate.needs.items (groups.bodies all) five in
       omega (arith, claims, one, functions)

@@ -102,16 +102,16 @@ ends_hold scope s e v z found fits lies =
 
 -- ---- the first numbers of loops
 
-abbrev first_of : Option Binding → ℤ
+abbrev pub first_of : Option Binding → ℤ
 first_of None = pos 0
 first_of (Some (Loop x)) = elim x.lower [ [] ↦ pos 0 | f ∷ fs ↦ f.constant ]
 first_of (Some (LetMin fs)) = pos 0
 first_of (Some (LetMax fs)) = pos 0
 
-abbrev firsts : List Binding → ℕ → ℤ
+abbrev pub firsts : List Binding → ℕ → ℤ
 firsts scope n = first_of (slice_get scope n)
 
-abbrev IsNear : ℤ → Type 0
+abbrev pub IsNear : ℤ → Type 0
 IsNear z = unsigned_abs z ≤ 32768
 
 first_near : (b : Binding) → IsBox b → IsNear (first_of (Some b))
@@ -150,7 +150,7 @@ first_holds (LetMin fs) v box = absurd box
 first_holds (LetMax fs) v box = absurd box
 
 module _ (scope : List Binding) (boxes : (n : ℕ) (b : Binding) → slice_get scope n ≡ Some b → IsBox b) where
-  firsts_near : (n : ℕ) → IsNear (firsts scope n)
+  pub firsts_near : (n : ℕ) → IsNear (firsts scope n)
   firsts_near n = of (slice_get scope n) refl
     where
       of : (o : Option Binding) → slice_get scope n ≡ o → IsNear (first_of o)
@@ -170,14 +170,14 @@ abbrev pub FitsIf : ℕ → Option Form → Type 0
 FitsIf n None = Unit {0}
 FitsIf n (Some f) = Fits n f
 
-abbrev number_at : (ℕ → ℤ) → Option Form → ℤ
+abbrev pub number_at : (ℕ → ℤ) → Option Form → ℤ
 number_at v None = pos 0
 number_at v (Some f) = form_value f v
 
-index_near : (z : ℤ) → unsigned_abs z ≤ 65536 → IsIndex z
+pub index_near : (z : ℤ) → unsigned_abs z ≤ 65536 → IsIndex z
 index_near z h = record { from = omega (arith, ints, h); to = omega (arith, ints, h) }
 
-fits_index : (n : ℕ) (v : ℕ → ℤ) → ((s : ℕ) → IsNear (v s)) → (o : Option Form) → FitsIf n o → IsIndex (number_at v o)
+pub fits_index : (n : ℕ) (v : ℕ → ℤ) → ((s : ℕ) → IsNear (v s)) → (o : Option Form) → FitsIf n o → IsIndex (number_at v o)
 fits_index n v near None h = index_near (pos 0) (omega arith)
 fits_index n v near (Some f) h =
     let z = h.0 in
@@ -187,7 +187,7 @@ fits_index n v near (Some f) h =
     let far : unsigned_abs (z +ℤ (pos 1 *ℤ y +ℤ pos 0)) ≤ 65536 = omega (arith, ints, symbol, constant) in
     subst (λ (g : Form). IsIndex (form_value g v)) (sym h.2) (index_near (form_value (counted_from z h.1) v) far)
 
-all_indices : (n : ℕ) (v : ℕ → ℤ) → ((s : ℕ) → IsNear (v s)) → (os : List (Option Form)) → AllByRecursion (FitsIf n) os → AllByRecursion IsIndex (map (number_at v) os)
+pub all_indices : (n : ℕ) (v : ℕ → ℤ) → ((s : ℕ) → IsNear (v s)) → (os : List (Option Form)) → AllByRecursion (FitsIf n) os → AllByRecursion IsIndex (map (number_at v) os)
 all_indices n v near [] h = tt
 all_indices n v near (o ∷ os) h = (fits_index n v near o h.0, all_indices n v near os h.1)
 
@@ -288,7 +288,7 @@ some_typed known functions (More e es) h =
 
 module _ (a : Algorithm) (left r : AroundText) (f : FormulaText) (os : List (Option Form)) (cs : List Span1) (none : AllByRecursion (λ o. o ≡ None) f.at)
     (stands : coordinates_behind a left f [] 0 os ≡ Some cs) (is : record left { coordinates = cs } ≡ r) (boxes : (n : ℕ) (b : Binding) → slice_get left.scope n ≡ Some b → IsBox b)
-    (fits : AllByRecursion (FitsIf (length left.scope)) os) (apart : AreDistinct left.variables) (long : length left.variables ≡ length os) where
+    (indices : AllByRecursion IsIndex (map (number_at (firsts left.scope)) os)) (apart : AreDistinct left.variables) (long : length left.variables ≡ length os) where
   abbrev v : ℕ → ℤ
   v = firsts left.scope
 
@@ -304,7 +304,7 @@ module _ (a : Algorithm) (left r : AroundText) (f : FormulaText) (os : List (Opt
   told : AreAsTold (is_among left.variables) (called a) values (nothing a)
   told =
       record {
-        variables_within = λ name known. named_index left.variables zs name (all_indices (length left.scope) v (firsts_near left.scope boxes) os fits);
+        variables_within = λ name known. named_index left.variables zs name indices;
         answers_within = λ name at takes indices. record { ty = refl; within = zero_is (called_type (called a name)) };
       }
 

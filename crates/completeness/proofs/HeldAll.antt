@@ -1,9 +1,10 @@
 -- All numbers of a dimension of a function hold each index at which a later function calls it, in whichever definition, as the checker tests it, where no loop of that one is split, its left
 -- indices are variables and its own region begins near 0.
-use Rattle.std.proofs.Common.{◌≡◌, ℕ, suc, ◌+◌, ◌≤◌, Bool, true, false, List, [], ◌∷◌, ◌++◌, length, Some, None, refl, sym, ap, ◌∙◌, subst, inl, inr, arith}
+use Rattle.std.proofs.Common.{◌≡◌, ℕ, suc, ◌+◌, ◌≤◌, Bool, true, false, List, [], ◌∷◌, ◌++◌, length, map, Some, None, refl, sym, ap, ◌∙◌, subst, inl, inr, arith}
 use Rattle.std.specs.Prelude.{if◌then◌else◌, slice_get}
 use Rattle.std.specs.List.{AllByRecursion}
 use Rattle.numeric.specs.declared.ty.Ty.{Ty}
+use Rattle.tree.specs.Names.{IsIndex}
 use Rattle.tree.specs.Typing.{index_count}
 use Rattle.lin.specs.declared.scope.Binding.{Binding}
 use Rattle.lin.specs.declared.span.Span1.{Span1}
@@ -32,7 +33,7 @@ use Rattle.completeness.proofs.Only.{SpanOnly}
 use Rattle.completeness.proofs.Sited.{Below, SiteOnly}
 use Rattle.completeness.proofs.Boxes.{IsBox}
 use Rattle.completeness.proofs.CallEnds.{IsCallOf, AreIndicesEnded}
-use Rattle.completeness.proofs.FirstNumbers.{FitsIf, some_typed, ends_ordered}
+use Rattle.completeness.proofs.FirstNumbers.{firsts, number_at, some_typed, ends_ordered}
 use Rattle.completeness.proofs.HeldWhole.{calls_from, call_held, holds_each, all_has}
 
 -- ---- sites
@@ -65,7 +66,7 @@ module _ (a : Algorithm) (u : StoredText) (m : LaidText) (fs : List FormulaText)
     pub is : slice_get fs d ≡ Some f
     pub nested : slice_get m.skeleton.nests d ≡ Some w
     pub boxes : AllByRecursion IsBox (bind_steps (head_scope m.skeleton) w.steps)
-    pub fits : AllByRecursion (FitsIf (length (bind_steps (head_scope m.skeleton) w.steps))) w.at
+    pub indices : AllByRecursion IsIndex (map (number_at (firsts (bind_steps (head_scope m.skeleton) w.steps))) w.at)
     pub none : AllByRecursion (λ o. o ≡ None) f.at
     pub apart : AreDistinct (names d)
     pub long : length (names d) ≡ length w.at
@@ -83,7 +84,7 @@ module _ (a : Algorithm) (u : StoredText) (m : LaidText) (fs : List FormulaText)
         let left_boxes : (i : ℕ) (b : Binding) → slice_get left.scope i ≡ Some b → IsBox b = λ i b q. got IsBox left.scope i b h.boxes q in
         let r_boxes : (i : ℕ) (b : Binding) → slice_get r.scope i ≡ Some b → IsBox b =
         subst (λ (t : AroundText). (i : ℕ) (b : Binding) → slice_get t.scope i ≡ Some b → IsBox b) is left_boxes in
-        let order = ends_ordered a left r f w.at z.value h.none z.is is left_boxes h.fits h.apart h.long in
+        let order = ends_ordered a left r f w.at z.value h.none z.is is left_boxes h.indices h.apart h.long in
         holds_each r.scope dim (whole e) calls (λ cs has. elim (calls_from a r x (calls_in f) [] calls added cs has) [
           | inl old ↦ absurd old
           | inr k ↦

@@ -120,7 +120,6 @@ pub mod HeldAll
 pub mod NearPlaced
 pub mod NeedForms
 pub mod RangedBoxes
-pub mod ShortNests
 pub mod FaultLimits
 pub mod NamesRead
 pub mod RangedLefts
@@ -136,3 +135,10 @@ pub mod BlockDims
 pub mod BlockFacts
 pub mod BlockNames
 pub mod BlockNests
+pub mod SaidPlans
+pub mod BlockInside
+pub mod BlockStores
+pub mod BlockChains
+pub mod Shapes
+pub mod HeldNear
+pub mod BlockNear

@@ -1,5 +1,5 @@
 -- What the checker tells of a plan whose schedule splits nothing, of functions whose updates set each variable at its own place, is a limit.
-use Rattle.std.proofs.Common.{◌≡◌, ℕ, suc, Bool, true, ◌||◌, List, [], ◌∷◌, Some, refl, sym, ap, ◌∙◌, subst}
+use Rattle.std.proofs.Common.{◌≡◌, ℕ, suc, Bool, true, false, ◌||◌, List, [], ◌∷◌, Some, refl, sym, ap, ◌∙◌, subst}
 use Rattle.std.specs.Prelude.{slice_get}
 use Rattle.std.specs.List.{AllByRecursion}
 use Rattle.meaning.specs.Algorithm.{Algorithm}
@@ -15,11 +15,13 @@ use Rattle.tails.specs.Windows.Nests.{slid_nests}
 use Rattle.tails.specs.Windows.Shown.{IsShown}
 use Rattle.sched.specs.declared.schedule.Split.{Split}
 use Rattle.sched.specs.Schedule.{Schedule}
-use Rattle.lower.specs.Stored.{stored_functions}
+use Rattle.sched.specs.Numbers.{loop_numbers}
+use Rattle.lower.specs.Stored.{StoredText, stored_functions}
 use Rattle.completeness.specs.Parted.{KeepsInner, InnersAreKept}
 use Rattle.completeness.specs.Laws.{AreSplitOnce, AreLinesTold, Stands}
 use Rattle.completeness.specs.Owed.{AreGridsFew, AreSymbolsFew, AreClaimsNear}
-use Rattle.completeness.specs.Nested.{TakeSplit}
+use Rattle.completeness.specs.Nested.{IsUncut, TakeSplit}
+use Rattle.completeness.specs.Blocked.{is_tailed, IsBlocked}
 use Rattle.completeness.specs.Told.{SplitsNothing, LimitsAloneAreTold}
 use Rattle.completeness.proofs.Shared.{shared, limits as shares_limits, heads}
 use Rattle.completeness.proofs.CertLimits.{certificate_limits}
@@ -41,6 +43,14 @@ or_true b d e = ap (λ (v : Bool). v || d) e
 slid_take : (a : Algorithm) (p : Plan) (c : Certificate) (n : ℕ) (g : Group) → TakeSplit a p c n g (slid_nests (outline_of p c n g) (rules_of a p c n) (domains_of a))
 slid_take a p c n g = ((λ bs m from places t e. or_true _ _ e), (λ bs m t e. e))
 
+-- a function of which no loop is split
+blocked_uncut : (a : Algorithm) (s : Schedule) (n : ℕ) (u : StoredText) → IsUncut u → IsBlocked a s n u
+blocked_uncut a s n u uncut = record {
+  once = subst AreSplitOnce (sym uncut) tt;
+  inners = subst (λ (cs : List Split). KeepsInner u.placed.loops cs) (sym uncut) tt;
+  filled = λ m at. subst (λ (cs : List Split). AllByRecursion (λ c. is_tailed (loop_numbers u.subject.variables u.placed.cuts m.region) c ≡ false) cs) (sym uncut) tt;
+}
+
 module _ (a : Algorithm) (s : Schedule) (none : SplitsNothing a s) where
   inners : InnersAreKept a s
   inners = each_at (λ g. KeepsInner g.placed.loops g.placed.cuts) (stored_functions a s)
@@ -48,6 +58,9 @@ module _ (a : Algorithm) (s : Schedule) (none : SplitsNothing a s) where
 
   once : AllByRecursion (λ g. AreSplitOnce g.placed.cuts) (stored_functions a s)
   once = each_at (λ g. AreSplitOnce g.placed.cuts) (stored_functions a s) (λ i g at. subst (λ (cs : List Split). AreSplitOnce cs) (sym (none.uncut i g at)) tt)
+
+  blocked : (n : ℕ) (u : StoredText) → slice_get (stored_functions a s) n ≡ Some u → IsBlocked a s n u
+  blocked n u at = blocked_uncut a s n u (none.uncut n u at)
 
 pub limits_alone : LimitsAloneAreTold
 limits_alone a s l well legal small regions groups none named =
@@ -64,13 +77,13 @@ limits_alone a s l well legal small regions groups none named =
     }
   where
     lines_stand : AreLinesTold (plan_of l.plan)
-    lines_stand = lines_told a s l well legal small (regions none.whole).0 none.whole groups none.uncut
+    lines_stand = lines_told a s l well legal small (regions none.whole).0 none.whole groups (blocked a s none)
 
     grids : AreGridsFew (plan_of l.plan)
-    grids = grids_few a s l well legal small (regions none.whole).0 none.whole groups none.uncut
+    grids = grids_few a s l well legal small (regions none.whole).0 none.whole groups (blocked a s none)
 
     symbols : AreSymbolsFew (plan_of l.plan)
-    symbols = symbols_few a s l well legal small (regions none.whole).0 none.whole groups none.uncut
+    symbols = symbols_few a s l well legal small (regions none.whole).0 none.whole groups (blocked a s none)
 
     near : AreClaimsNear (certificate_of l.certificate)
     near = claims_near a s l well legal small (regions none.whole).0 none.whole groups none.uncut none.near

@@ -1,10 +1,10 @@
 -- No name that a text can have reads as a load by a claim.
-use Rattle.std.proofs.Common.{◌≡◌, ℕ, zero, suc, Bool, true, false, ◌&&◌, List, [], ◌∷◌, Option, Some, None, refl, ap, subst, arith}
+use Rattle.std.proofs.Common.{◌≡◌, ℕ, zero, suc, Bool, true, false, ◌&&◌, List, [], ◌∷◌, Some, None, refl, ap, subst, arith}
 use Rattle.std.specs.Prelude.{◌==◌, if◌then◌else◌, slice_get}
 use Rattle.std.specs.List.{AllByRecursion}
 use Rattle.std.proofs.lemmas.List.Elements.{recursion_from_All}
 use Rattle.tree.specs.Token.Spelling.{is_word_byte}
-use Rattle.meaning.specs.Algorithm.{Function, Algorithm}
+use Rattle.meaning.specs.Algorithm.{Algorithm}
 use Rattle.algo.specs.Words.{IsName, IsFunctionNamed, IsNamed}
 use Rattle.plan.specs.Claimed.{is_numeral, digits_after, claim_of}
 use Rattle.soundness.proofs.Refines.{eq_true}

@@ -166,7 +166,7 @@ turn_box rs o h = of (numbers_named rs o.name) h.0 h.1 h.2
 count_box : (n : ℕ) → 0 < n → n ≤ 8192 → IsBox (grid_symbol n)
 count_box n some few = inr (pos 0, pos n -ℤ pos 1, refl, omega arith, omega (arith, ints, some, few), omega (arith, ints, some))
 
-or_one_boxes : (ns : List ℕ) → AllByRecursion (λ n. (0 < n) × (n ≤ 8192)) ns → AllByRecursion IsBox (grid_scope (or_one ns))
+pub or_one_boxes : (ns : List ℕ) → AllByRecursion (λ n. (0 < n) × (n ≤ 8192)) ns → AllByRecursion IsBox (grid_scope (or_one ns))
 or_one_boxes [] h = (count_box 1 (omega arith) (omega arith), tt)
 or_one_boxes (n ∷ ns) h = (count_box n h.0.0 h.0.1, of ns h.1)
   where

@@ -1,203 +1,42 @@
 -- Whatever a function fetches, all that the lines of its group owe is shown, where no loop of it is split, each of its definitions sets each variable at its own place, and its region begins
 -- near 0.
-use Rattle.std.proofs.Common.{◌≡◌, ℕ, zero, suc, ◌+◌, Bool, true, false, not, List, [], ◌++◌, length, map, Option, Some, None, refl, sym, ap, ◌∙◌, subst, inr, append-nil, arith}
-use Rattle.std.specs.Prelude.{◌==◌, slice_get}
-use Rattle.std.specs.List.{AllByRecursion}
-use Rattle.std.proofs.lemmas.List.{length-map, length-append}
-use Rattle.numeric.specs.declared.ty.Ty.{Ty}
-use Rattle.tree.specs.Uses.{EachCall}
-use Rattle.meaning.specs.Algorithm.{Range, Function, Algorithm}
-use Rattle.meaning.specs.Names.{is_among}
-use Rattle.meaning.specs.Conditions.{AreDistinct, IsRange, IsAlgorithm, callable}
+use Rattle.std.proofs.Common.{◌≡◌, ℕ, true, false, List, length, Some, None, sym, ap, ◌∙◌, subst}
+use Rattle.std.specs.Prelude.{slice_get}
+use Rattle.lin.specs.declared.scope.Binding.{Binding}
 use Rattle.plan.specs.declared.plan.Group.{Group as CodeGroup}
 use Rattle.plan.specs.View.{group_of}
-use Rattle.lin.proofs.TermLemmas.{all_weaker}
-use Rattle.soundness.proofs.Refines.{and_parts, eq_refl}
+use Rattle.meaning.specs.Algorithm.{Algorithm}
+use Rattle.meaning.specs.Conditions.{IsAlgorithm}
 use Rattle.headline.proofs.Lists.{from_map}
-use Rattle.algo.specs.Scoping.Standing.{Written, calls_of}
+use Rattle.headline.proofs.Members.{got}
 use Rattle.sched.specs.Schedule.{Schedule}
 use Rattle.sched.specs.Legal.{IsLegal}
-use Rattle.sched.specs.Subjects.{reductions_of}
-use Rattle.sched.specs.declared.nest.Turning.{Turning}
-use Rattle.sched.specs.declared.skeleton.Known.{Known}
-use Rattle.sched.specs.Skeleton.{BodyText, NestText, SkeletonText, range_turning, nest_turns, variables_at, ranges_at, grid_forms}
-use Rattle.sched.specs.Standing.{form_named}
-use Rattle.sched.specs.Numbers.{parallel_loops, loop_numbers}
-use Rattle.sched.proofs.Arriving.{skeletal}
+use Rattle.sched.specs.Numbers.{loop_numbers}
 use Rattle.lower.specs.declared.lowering.Lowered.{Lowered}
-use Rattle.lower.specs.Called.{called}
-use Rattle.lower.specs.Stored.{FormulaText, StoredText, calls_in, some_calls, flags, formulas_put, stored_functions, has_large}
-use Rattle.lower.specs.Around.{range_names, ranges_of, names_with}
+use Rattle.lower.specs.Stored.{FormulaText, StoredText, stored_functions, has_large}
 use Rattle.lower.specs.Faults.{are_whole, region_fault}
 use Rattle.lower.specs.Owning.{IsLaidBy}
 use Rattle.lower.specs.Regions.{LaidText, bodies_from, skeleton_of, laid_functions}
 use Rattle.lower.specs.Groups.{HasGroups}
-use Rattle.lower.proofs.Extents.{region_is}
+use Rattle.lower.specs.Around.{head_scope, bind_steps}
 use Rattle.completeness.specs.Nested.{IsUncut}
 use Rattle.completeness.specs.Stores.{AreHeld, IsNearRegion}
 use Rattle.completeness.specs.Placed.{ArePlaced, NearPlacedGroupsOweShown}
-use Rattle.completeness.proofs.Standing.{names_own}
-use Rattle.completeness.proofs.Laid.{IsStoredOf, subjects, found}
+use Rattle.completeness.proofs.Laid.{found}
 use Rattle.completeness.proofs.Owned.{some_same}
-use Rattle.completeness.proofs.Served.{ls as regions_found, ready as all_ready, made_at}
-use Rattle.completeness.proofs.Bodies.{entry_at}
-use Rattle.completeness.proofs.Earlier.{called_before}
-use Rattle.completeness.proofs.ClaimLines.{known_stored}
-use Rattle.completeness.proofs.StoreLines.{named_callable}
-use Rattle.completeness.proofs.Written.{IsWritten, written, variables_long}
-use Rattle.completeness.proofs.PlainTurns.{knowns_for, AreGridded, skeleton_gridded}
-use Rattle.completeness.proofs.PureNests.{all_get}
-use Rattle.completeness.proofs.UpdateTurns.{known_update, ranges_turned, all_mapped}
-use Rattle.completeness.proofs.LoadedTerms.{IsTypedCall, calls_typed}
-use Rattle.completeness.proofs.StoreBounds.{called_is}
-use Rattle.completeness.proofs.RegionBounds.{region_ends}
-use Rattle.completeness.proofs.Sited.{sites_only}
-use Rattle.completeness.proofs.CallEnds.{calls_ended}
-use Rattle.completeness.proofs.NearBoxes.{IsBoxTurn, IsBoxed, regions_few}
-use Rattle.completeness.proofs.RangedBoxes.{range_box, ranged_boxed}
-use Rattle.completeness.proofs.HeldWhole.{all_calls, no_left_calls}
-use Rattle.completeness.proofs.HeldAll.{IsNearNest, sites_held}
+use Rattle.completeness.proofs.Served.{made_at}
+use Rattle.completeness.proofs.PlainTurns.{AreGridded, skeleton_gridded}
+use Rattle.completeness.proofs.NearBoxes.{regions_few}
+use Rattle.completeness.proofs.RangedBoxes.{ranged_boxed}
 use Rattle.completeness.proofs.UncutLoads.{placed_owed}
-
-not_same : (b : Bool) → b ≡ true → not b ≡ true → ⊥
-not_same true e q = cc q
-not_same false e q = cc e
+use Rattle.completeness.proofs.Boxes.{IsBox}
+use Rattle.completeness.proofs.FirstNumbers.{firsts, all_indices, firsts_near}
+use Rattle.completeness.proofs.HeldNear.{held_near}
 
 module _ (a : Algorithm) (sch : Schedule) (l : Lowered) (well : IsAlgorithm a) (legal : IsLegal a sch) (small : has_large (stored_functions a sch) ≡ false)
     (kept : region_fault a (stored_functions a sch) ≡ None) (all : are_whole (stored_functions a sch) ≡ true) (groups : HasGroups a (stored_functions a sch) l) where
   abbrev gs : List StoredText
   gs = stored_functions a sch
-
-  abbrev st : List Bool
-  st = flags (subjects a sch)
-
-  module _ (n : ℕ) (u : StoredText) (at : slice_get gs n ≡ Some u) (uncut : IsUncut u) (fs : List FormulaText) (defined : u.formulas ≡ Some fs) (placed : ArePlaced fs) (m : LaidText)
-      (laid : slice_get (laid_functions a gs) n ≡ Some (Some m)) (made : IsLaidBy u m.region m.skeleton) (over : skeleton_of u fs m.region ≡ Some m.skeleton) (near : IsNearRegion m.region) where
-    abbrev k : SkeletonText
-    k = m.skeleton
-
-    abbrev bs : List BodyText
-    bs = bodies_from u.changes 0 u.subject.reductions fs
-
-    abbrev xs : List (List ℕ)
-    xs = u.subject.variables
-
-    abbrev names : ℕ → List (List ℕ)
-    names d = names_with u.variables u.changes d
-
-    abbrev w : IsStoredOf a sch st a.functions u
-    w = found a sch st u a.functions n at
-
-    abbrev f : Function
-    f = w.function
-
-    put_there : formulas_put a st f.variables f.value f.changes ≡ Some fs
-    put_there = ap (λ (y : StoredText). y.formulas) (sym w.is) ∙ defined
-
-    shape : AreGridded xs bs u.placed (loop_numbers xs u.placed.cuts m.region) k
-    shape = skeleton_gridded xs bs u.placed m.region k uncut over
-
-    reductions : u.subject.reductions ≡ reductions_of u.changes
-    reductions = ap (λ (y : StoredText). y.subject.reductions) w.is ∙ sym (ap (λ (y : StoredText). reductions_of y.changes) w.is)
-
-    variables_are : u.variables ≡ xs
-    variables_are = ap (λ (y : StoredText). y.variables) w.is ∙ sym (ap (λ (y : StoredText). y.subject.variables) w.is)
-
-    -- ---- reduction variables
-
-    ranges_within : (d : ℕ) (v : FormulaText) → slice_get fs d ≡ Some v → AllByRecursion IsRange (ranges_of u.changes d)
-    ranges_within zero v there = tt
-    ranges_within (suc i) v there =
-        let y = known_update a sch well n u at fs defined i v there in
-        subst (AllByRecursion IsRange) (sym y.ranges) y.within
-
-    apart : (d : ℕ) (v : FormulaText) → slice_get fs d ≡ Some v → AreDistinct (names d)
-    apart zero v there =
-        subst (λ (y : StoredText). AreDistinct (names_with y.variables y.changes 0)) (sym w.is) (subst AreDistinct (sym (append-nil f.variables)) (well.functions w.place f w.at).names)
-    apart (suc i) v there =
-        let y = known_update a sch well n u at fs defined i v there in
-        let are : names (suc i) ≡ xs ++ range_names y.change.ranges = λ j. variables_are j ++ range_names (y.ranges j) in
-        subst AreDistinct (sym are) y.names
-
-    -- ---- a definition and its nest
-
-    abbrev Typed : List (List ℕ) → (List ℕ → Option (Ty × ℕ)) → List Written → Type 0
-    Typed ns functions cs = AllByRecursion (λ (c : Written). IsTypedCall (is_among ns) functions c.name c.at) cs
-
-    module _ (d : ℕ) (formula : FormulaText) (nest : NestText) (there : slice_get fs d ≡ Some formula) (stands : slice_get k.nests d ≡ Some nest) where
-      none_left : AllByRecursion (λ o. o ≡ None) formula.at
-      none_left = all_get (λ (y : FormulaText). AllByRecursion (λ o. o ≡ None) y.at) fs d formula placed there
-
-      ranges_are : (b : BodyText) → slice_get bs d ≡ Some b → b.ranges ≡ map range_turning (ranges_of u.changes d)
-      ranges_are b e = ranges_turned u.changes fs d b (ap (λ (rs : List (List ℕ)). slice_get (bodies_from u.changes 0 rs fs) d) (sym reductions) ∙ e)
-
-      ranges_box : (b : BodyText) → slice_get bs d ≡ Some b → AllByRecursion IsBoxTurn b.ranges
-      ranges_box b e =
-          let each = all_weaker IsRange (λ r. IsBoxTurn (range_turning r)) range_box (ranges_of u.changes d) (ranges_within d formula there) in
-          subst (AllByRecursion IsBoxTurn) (sym (ranges_are b e)) (all_mapped range_turning IsBoxTurn (ranges_of u.changes d) each)
-
-      boxes : IsBoxed k nest
-      boxes = ranged_boxed u m.region k made uncut near (regions_few a gs n m all laid) bs d nest shape stands ranges_box
-
-      long : length (names d) ≡ length nest.at
-      long =
-          let p = shape.nests d nest stands in
-          let ts = nest_turns p.body (loop_numbers xs u.placed.cuts m.region) u.placed.loops in
-          let ks : List Known = grid_forms (loop_numbers xs u.placed.cuts m.region) 0 (parallel_loops u.placed.loops) ++ knowns_for p.next ts in
-          let forms = ap length p.forms in
-          let parts = length-append (variables_at p.body 0 xs ks) (ranges_at p.body.ranges ks) in
-          let first = variables_long p.body 0 xs ks in
-          let second = length-map p.body.ranges (λ (t : Turning). form_named ks t.name) in
-          let turned = ap length (ranges_are p.body p.at) in
-          let many = length-map (ranges_of u.changes d) range_turning in
-          let all_names = length-append u.variables (range_names (ranges_of u.changes d)) in
-          let range_many = length-map (ranges_of u.changes d) (λ (r : Range). r.variable) in
-          let variables = ap length variables_are in
-          omega (arith, forms, parts, first, second, turned, many, all_names, range_many, variables)
-
-      typed : Typed (names d) (called a) (calls_in formula)
-      typed =
-          let y : IsWritten a well st w.place f w.at d formula = written a well st w.place f w.at fs put_there d formula there in
-          let each : EachCall (IsTypedCall (is_among y.names) (callable a a.functions)) formula.value =
-          calls_typed (is_among y.names) (callable a a.functions) formula.value y.value.ty y.value.typed in
-          let listed : Typed y.names (callable a a.functions) (calls_of formula.value) = all_calls (IsTypedCall (is_among y.names) (callable a a.functions)) formula.value each in
-          let all_listed : Typed y.names (callable a a.functions) (calls_in formula) =
-          subst (Typed y.names (callable a a.functions)) (sym (ap (λ (cs : List Written). cs ++ calls_of formula.value) (no_left_calls formula.at none_left))) listed in
-          let here : Typed y.names (called a) (calls_in formula) = subst (λ (g : List ℕ → Option (Ty × ℕ)). Typed y.names g (calls_in formula)) (sym (called_is a)) all_listed in
-          subst (λ (ns : List (List ℕ)). Typed ns (called a) (calls_in formula)) (sym y.are ∙ ap (λ (z : StoredText). names_with z.variables z.changes d) (sym w.is)) here
-
-      near_nest : IsNearNest a u m fs defined d formula nest
-      near_nest = record {
-        is = there;
-        nested = stands;
-        boxes = boxes.boxes;
-        fits = boxes.fits;
-        none = none_left;
-        apart = apart d formula there;
-        long = long;
-        typed = typed;
-      }
-
-    -- ---- what it fetches
-
-    pub held_near : AreHeld a gs n u fs k
-    held_near h e there_e fetched ss sites d x at_x =
-        let entry = entry_at gs (regions_found a sch l well legal small kept all groups) all (all_ready a sch l well legal small kept all groups) h e there_e in
-        let tests = and_parts (not (h == n)) (some_calls e.0.subject.name fs) fetched in
-        let differs : (h ≡ n → ⊥) = λ is. not_same (h == n) (ap (λ (i : ℕ). i == n) is ∙ eq_refl n) tests.0 in
-        let less = called_before a sch well h n e.0 u fs entry.is at defined tests.1 differs in
-        let function = known_stored a sch well h e.0 entry.is in
-        let region = region_is a gs h e.0 e.1 entry.is entry.laid in
-        let takes : (t : Ty × ℕ) → called a e.0.subject.name ≡ Some t → t.1 ≡ length e.1.region =
-        λ t q.
-        (let is : (function.function.ty, length function.function.variables) ≡ t =
-        some_same (function.function.ty, length function.function.variables) t
-        (sym (ap (λ (g : List ℕ → Option (Ty × ℕ)). g e.0.subject.name) (called_is a) ∙ named_callable a a.functions e.0.subject.name function.function function.named) ∙ q) in
-        ap (λ (y : Ty × ℕ). y.1) (sym is) ∙ sym function.variables ∙ sym region.long) in
-        let only = sites_only a u fs k e.0.subject.name ss (skeletal xs bs u.placed m.region k over) (names_own xs bs u.placed m.region k over) sites in
-        inr (sites_held a u m fs defined e.0.subject.name e.1.region region.extents (region_ends a gs h e.0 e.1 entry.is entry.laid) takes
-        (λ c count. calls_ended a gs h n e.0 u e.1 m entry.is entry.laid at laid less c count) d x at_x 0 fs k.nests [] ss sites only
-        (λ j v y at_v at_y. let none : j ≡ 0 + j = omega arith in subst (λ (i : ℕ). IsNearNest a u m fs defined i v y) none (near_nest j v y at_v at_y)) refl)
 
   -- of a group of the plan
   pub placed_held : (n : ℕ) (q : CodeGroup) → slice_get l.plan.groups.items n ≡ Some q → (u : StoredText) → slice_get gs n ≡ Some u → IsUncut u → (fs : List FormulaText) → u.formulas ≡ Some fs →
@@ -213,7 +52,18 @@ module _ (a : Algorithm) (sch : Schedule) (l : Lowered) (well : IsAlgorithm a) (
       subst (λ (vs : List FormulaText). skeleton_of u vs m.region ≡ Some m.skeleton) formulas
       (subst (λ (y : LaidText). skeleton_of u me.formulas y.region ≡ Some y.skeleton) region
       (subst (λ (y : StoredText). skeleton_of y me.formulas me.laid.region ≡ Some me.laid.skeleton) stored me.over)) in
-      held_near n u at uncut fs defined placed m laid made over near
+      let bs = bodies_from u.changes 0 u.subject.reductions fs in
+      let shape : AreGridded u.subject.variables bs u.placed (loop_numbers u.subject.variables u.placed.cuts m.region) m.skeleton =
+      skeleton_gridded u.subject.variables bs u.placed m.region m.skeleton uncut over in
+      held_near a sch l well legal small kept all groups n u at fs defined placed m laid over
+      (λ d w stands. let p = shape.nests d w stands in record { body = p.body; at = p.at; known = _; forms = p.forms })
+      (λ d w stands ranges.
+      let b = ranged_boxed u m.region m.skeleton made uncut near (regions_few a gs n m all laid) bs d w shape stands ranges in
+      let scope : List Binding = bind_steps (head_scope m.skeleton) w.steps in
+      record {
+        boxes = b.boxes;
+        indices = all_indices (length scope) (firsts scope) (firsts_near scope (λ i y q. got IsBox scope i y b.boxes q)) w.at b.fits;
+      })
 
 pub near_placed_owed : NearPlacedGroupsOweShown
 near_placed_owed a s l well legal small regions groups all free told grids few near n g at u stands uncut fs defined placed r laid close =

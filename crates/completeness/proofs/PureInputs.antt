@@ -137,11 +137,11 @@ bound_inside known i low last b from to ends near =
     let long : length (scope_of bs) ≡ min (symbol_count bs) most_symbols = scope_long (binding_of bs) 0 (min (symbol_count bs) most_symbols) in
     symbol_inside (scope_of bs) i x low last (omega (arith, within, long)) there refl refl from to ends near
 
-first_none : (lefts : List (Option Term)) → AllByRecursion (λ o. o ≡ None) lefts → first_left lefts ≡ None
+pub first_none : (lefts : List (Option Term)) → AllByRecursion (λ o. o ≡ None) lefts → first_left lefts ≡ None
 first_none [] h = refl
 first_none (o ∷ lefts) h = h.0
 
-others_none : (lefts : List (Option Term)) → AllByRecursion (λ o. o ≡ None) lefts → AllByRecursion (λ o. o ≡ None) (other_lefts lefts)
+pub others_none : (lefts : List (Option Term)) → AllByRecursion (λ o. o ≡ None) lefts → AllByRecursion (λ o. o ≡ None) (other_lefts lefts)
 others_none [] h = tt
 others_none (o ∷ lefts) h = h.1
 
@@ -165,7 +165,7 @@ module _ (O : Outline) (R : Rules) (scope : List Binding) (ms : Loads) (rs : Lis
       let rest = all_inside xs ys (other_lefts lefts) cs small.1 (others_none lefts none) h.2 in
       λ i. here i && rest i
 
-no_left_calls : (os : List (Option Term)) → AllByRecursion (λ o. o ≡ None) os → flat_map calls_left os ≡ []
+pub no_left_calls : (os : List (Option Term)) → AllByRecursion (λ o. o ≡ None) os → flat_map calls_left os ≡ []
 no_left_calls [] h = refl
 no_left_calls (o ∷ os) h = (λ i. calls_left (h.0 i) ++ flat_map calls_left os) ∙ no_left_calls os h.1
 

@@ -26,7 +26,7 @@ use Rattle.completeness.proofs.UpdateTurns.{all_filtered, all_mapped}
 use Rattle.completeness.proofs.Boxes.{IsBox}
 use Rattle.completeness.proofs.FirstNumbers.{Fits, FitsIf}
 use Rattle.completeness.proofs.NearBoxes.{IsBoxTurn, steps_boxes, steps_many, KnownFits, knowns_fit, named_fits, variables_fit, IsNearExtent, IsFew, turn_box, or_one_long, IsBoxed}
-use Rattle.completeness.proofs.NearBoxes.{IsNearLoop, loops_near, parallel_near, grid_fits, grid_boxes}
+use Rattle.completeness.proofs.NearBoxes.{IsNearNumbers, loops_near, parallel_near, grid_fits, grid_boxes}
 
 pub range_box : (d : Range) → IsRange d → IsBoxTurn (range_turning d)
 range_box d is =
@@ -39,6 +39,19 @@ ranges_fit : (m : ℕ) (ds : List Turning) (ks : List Known) → KnownFits m ks 
 ranges_fit m [] ks h = tt
 ranges_fit m (d ∷ ds) ks h = (named_fits m ks d.name h, ranges_fit m ds ks h)
 
+-- the loops of a nest, where all loops run over near numbers
+pub turns_box : (rs : List Numbers) (ls : List Loop) → AllByRecursion (λ o. IsNearNumbers (numbers_named rs o.name)) ls → (b : BodyText) → AllByRecursion IsBoxTurn b.ranges →
+    AllByRecursion IsBoxTurn (nest_turns b rs ls)
+turns_box rs ls close b ranges =
+    let near : Loop → Type 0 = λ o. IsNearNumbers (numbers_named rs o.name) in
+    all-append IsBoxTurn (nest_loops b false rs ls ++ reverse b.ranges) (nest_loops b true rs ls)
+    (all-append IsBoxTurn (nest_loops b false rs ls) (reverse b.ranges)
+    (all_mapped (loop_turning rs) IsBoxTurn (filter (is_in_nest b false) (reverse ls))
+    (all_filtered (is_in_nest b false) near (λ o. IsBoxTurn (loop_turning rs o)) (λ o e h. turn_box rs o h) (reverse ls) (all_back near ls close)))
+    (all_back IsBoxTurn b.ranges ranges))
+    (all_mapped (loop_turning rs) IsBoxTurn (filter (is_in_nest b true) (reverse ls))
+    (all_filtered (is_in_nest b true) near (λ o. IsBoxTurn (loop_turning rs o)) (λ o e h. turn_box rs o h) (reverse ls) (all_back near ls close)))
+
 module _ (g : StoredText) (region : List Extent) (k : SkeletonText) (laid : IsLaidBy g region k) (uncut : IsUncut g) (near : AllByRecursion IsNearExtent region)
     (few : AllByRecursion IsFew region) where
   abbrev xs : List (List ℕ)
@@ -49,20 +62,6 @@ module _ (g : StoredText) (region : List Extent) (k : SkeletonText) (laid : IsLa
 
   abbrev rs : List Numbers
   rs = loop_numbers xs g.placed.cuts region
-
-  abbrev IsClose : Loop → Type 0
-  IsClose o = IsNearLoop g region k laid uncut near few o
-
-  turns_box : (b : BodyText) → AllByRecursion IsBoxTurn b.ranges → AllByRecursion IsBoxTurn (nest_turns b rs ls)
-  turns_box b ranges =
-      let close : AllByRecursion IsClose ls = loops_near g region k laid uncut near few in
-      all-append IsBoxTurn (nest_loops b false rs ls ++ reverse b.ranges) (nest_loops b true rs ls)
-      (all-append IsBoxTurn (nest_loops b false rs ls) (reverse b.ranges)
-      (all_mapped (loop_turning rs) IsBoxTurn (filter (is_in_nest b false) (reverse ls))
-      (all_filtered (is_in_nest b false) IsClose (λ o. IsBoxTurn (loop_turning rs o)) (λ o e h. turn_box rs o h) (reverse ls) (all_back IsClose ls close)))
-      (all_back IsBoxTurn b.ranges ranges))
-      (all_mapped (loop_turning rs) IsBoxTurn (filter (is_in_nest b true) (reverse ls))
-      (all_filtered (is_in_nest b true) IsClose (λ o. IsBoxTurn (loop_turning rs o)) (λ o e h. turn_box rs o h) (reverse ls) (all_back IsClose ls close)))
 
   pub ranged_boxed : (bs : List BodyText) (d : ℕ) (w : NestText) → AreGridded xs bs g.placed rs k → slice_get k.nests d ≡ Some w →
       ((b : BodyText) → slice_get bs d ≡ Some b → AllByRecursion IsBoxTurn b.ranges) → IsBoxed k w
@@ -87,6 +86,7 @@ module _ (g : StoredText) (region : List Extent) (k : SkeletonText) (laid : IsLa
       subst (AllByRecursion (FitsIf m)) (sym p.forms)
       (all-append (FitsIf m) (variables_at p.body 0 xs ks) (ranges_at p.body.ranges ks) (variables_fit m p.body 0 xs ks known) (ranges_fit m p.body.ranges ks known)) in
       record {
-        boxes = subst (AllByRecursion IsBox) (sym is) (steps_boxes p.next ts scope (grid_boxes g region k laid uncut near few) (turns_box p.body within));
+        boxes = subst (AllByRecursion IsBox) (sym is)
+            (steps_boxes p.next ts scope (grid_boxes g region k laid uncut near few) (turns_box rs ls (loops_near g region k laid uncut near few) p.body within));
         fits = subst (λ (s : List Binding). AllByRecursion (FitsIf (length s)) w.at) (sym is) fit;
       }

@@ -6,3 +6,6 @@ pub mod Stores
 pub mod Placed
 pub mod Told
 pub mod Blocked
+pub mod Said
+pub mod Filled
+pub mod Fitting

@@ -2,8 +2,11 @@
 #![tactic(auto)]
 
 pub mod blocked;
+pub mod filled;
+pub mod fitting;
 pub mod laws;
 pub mod nests;
 pub mod owed;
 pub mod placed;
+pub mod said;
 pub mod told;

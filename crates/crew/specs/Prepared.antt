@@ -3,8 +3,6 @@ use Rattle.std.specs.Prelude.{◌≡◌, ◌<◌, List, ℤ, All, length}
 use Rattle.algo.specs.View.{picture_said, samples_of}
 use Rattle.atomic_table.specs.Seated.{TableId}
 use Rattle.board.specs.Layout.{Layout, pieces_of, picture_of}
-use Rattle.board.specs.Seats.{Place, place}
-use Rattle.board.specs.Views.{first_view}
 use Rattle.checked_plan.specs.View.{algorithm_checked, certificate_checked, plan_checked}
 use Rattle.crew.specs.Crews.{ArePieces, IsDeskFor}
 use Rattle.crew.specs.Private.{HasMemory}
@@ -26,9 +24,8 @@ pub record IsPrepared (layout : Layout) (values : List ℤ) (board : TableId) (p
   pub seats : seats_held ws ≡ 64
   pub ready : All (IsReady board p.checked.now (pieces_of layout) (HasMemory layout (plan_checked p.checked.now) (certificate_checked p.checked.now))) ws
 
--- at this board: the first seat, which has drawn nothing, and a desk
-pub record IsPreparedAlone (layout : Layout) (values : List ℤ) (board : TableId) (s : Place) (p : Pieces) (d : Desk) : Type 0 where
+-- a desk, for one worker who has the cells alone
+pub record IsPreparedAlone (layout : Layout) (values : List ℤ) (p : Pieces) (d : Desk) : Type 0 where
   pub said : picture_of layout values ≡ said_of p
   pub pieces : ArePieces layout values p
   pub desk : IsDeskFor layout p d
-  pub seat : s ≡ place board first_view

@@ -1,60 +1,94 @@
 //! The run of a checked plan by one worker.
 
-ghost use Rattle.std.specs.Prelude.{◌≡◌, IfOk};
+ghost use Rattle.std.specs.Prelude.{◌≡◌, ◌<◌, ◌≤◌, ℕ, length, Contains, IfOk, slice_index, vec_capacity};
 ghost use Rattle.algo.specs.View.{picture_said, samples_of, IsFor};
-ghost use Rattle.board.specs.Seats.{place, KnowsAll};
-ghost use Rattle.board.specs.Views.{first_view};
+ghost use Rattle.board.specs.Layout.{pieces_of};
+ghost use Rattle.board.specs.Sheets.{IsPut, IsPutCell};
 ghost use Rattle.checked_plan.specs.View.{algorithm_checked};
 ghost use Rattle.crew.specs.Crews.{ArePieces, IsDeskFor};
 ghost use Rattle.crew.specs.Opening.Layouts.{layout_of, values_of};
+ghost use Rattle.crew.specs.Private.{needs_of, words_at, HasRoom};
 ghost use Rattle.meaning.specs.Image.View.{image_of};
 
 use crate::gate::{Gate, Unwatched};
 use crate::opening::laws::pictures_are_said;
-use crate::opening::open;
-use crate::values::{Desk, Pieces};
-use crate::worker::try_piece;
+use crate::opening::open_alone;
+use crate::values::{Desk, Pieces, PrivateRuns};
 use algo::Inputs;
-use board::{Board, BoardSeat, Run};
+use board::{Run, Sheet};
 use checked_plan::Checked;
 use checked_plan::output::PlanCells;
 use meaning::image::Image;
+use piece::LookedCells;
 use std::alloc::{AllocError, Global};
 use std::marker::{Brand, Model};
 
-/// Draws and computes all pieces, in their order, by the first seat of a board that was just opened, and tells the gate of each.
-/// Each piece needs earlier ones alone, so it waits for nobody. It takes no memory.
+/// Looks at the cells that a piece fetches, each of which is put, and leaves their bits in the order of its list. It takes no
+/// memory.
+fn look_at<J: Run>(sheet: &Sheet<'_, J>, looked: &mut LookedCells<'_>, piece: u32, cells: &[u32])
+    requires put { (k : ℕ) → k < length cells.now → IsPutCell J.layout J.values sheet.now (slice_index cells.now k) }
+    requires room { length cells.now ≤ vec_capacity looked.old.looked }
+    ensures same { looked.new.cells.now ≡ looked.old.cells.now }
+    ensures piece { looked.new.piece ≡ piece }
+    ensures words { looked.new.looked.items ≡ words_at J.values cells.now }
+    ensures room { vec_capacity looked.new.looked ≡ vec_capacity looked.old.looked }
+{
+    looked.begin(piece);
+    for cell in cells {
+        looked.push(i64::from(sheet.look(*cell)));
+    }
+}
+
+/// Looks at the cells that a piece fetches, where all pieces that it needs are put, computes it at the desk, and puts it. It
+/// takes no memory.
+fn fill<J: Run, P: PrivateRuns<J>>(
+    alloc: Global,
+    sheet: &mut Sheet<'_, J>,
+    runs: &P,
+    desk: &mut Desk<'_>,
+    piece: u32,
+)
+    requires runs { P.gives runs.now }
+    requires scratch { P.suffices runs.now desk.old.scratch }
+    requires room { HasRoom (P.plan runs.now) (pieces_of J.layout) desk.old.looked }
+    requires piece { piece < pieces_of J.layout }
+    requires needed { (j : ℕ) → Contains (needs_of (P.plan runs.now) piece) j → (j < pieces_of J.layout) × IsPut J.layout J.values sheet.old j }
+    ensures put { IsPut J.layout J.values sheet.new piece }
+    ensures more { (j : ℕ) → IsPut J.layout J.values sheet.old j → IsPut J.layout J.values sheet.new j }
+    ensures scratch { P.suffices runs.now desk.new.scratch }
+    ensures room { HasRoom (P.plan runs.now) (pieces_of J.layout) desk.new.looked }
+{
+    look_at(sheet, &mut desk.looked, piece, runs.fetched(piece));
+    runs.run(alloc, desk, piece);
+    sheet.put(piece, desk.given());
+}
+
+/// Computes all pieces in their order and puts them, and tells the gate of each. Each piece needs earlier ones alone. It takes no
+/// memory.
 fn fill_all<J: Run, G: Gate>(
     alloc: Global,
-    board: &Board<'_, J>,
-    seat: &mut BoardSeat,
+    sheet: &mut Sheet<'_, J>,
     pieces: &Pieces<'_>,
     desk: &mut Desk<'_>,
     gate: &G,
 )
     requires pieces { ArePieces J.layout J.values pieces.now }
     requires desk { IsDeskFor J.layout pieces.now desk.old }
-    requires seat { seat.old ≡ place board.now first_view }
-    ensures board { seat.new.board ≡ board.now }
-    ensures known { KnowsAll J.layout seat.new.view }
+    ensures { (j : ℕ) → j < pieces_of J.layout → IsPut J.layout J.values sheet.new j }
 {
-    while let Some(ticket) = board.draw(seat) {
-        let piece = ticket.piece();
+    let count = sheet.pieces() as u32;
+    for piece in 0..count {
         gate.enter(piece);
-        if let Err(back) = try_piece(alloc, board, seat, ticket, pieces, desk) {
-            board.abandon(seat, back);
-            unreachable!()
-        }
+        fill::<J, Pieces<'_>>(alloc, sheet, pieces, desk, piece);
         gate.leave(piece);
     }
 }
 
-/// The run of a checked plan on an input by one worker who has not begun, with all the memory that it takes: a board with its
-/// first seat, and a desk. Contracts see it as the picture that the algorithm says of the input.
+/// The run of a checked plan on an input by one worker who has not begun, with all the memory that it takes: the cells, which it
+/// shares with nobody, and a desk. Contracts see it as the picture that the algorithm says of the input.
 #[derive(Drop)]
 pub struct PreparedAlone<'a, J: Run> {
-    board: Board<'a, J>,
-    seat: BoardSeat,
+    sheet: Sheet<'a, J>,
     pieces: Pieces<'a>,
     desk: Desk<'a>,
 }
@@ -67,13 +101,14 @@ impl<'a, J: Run> Model for PreparedAlone<'a, J> {
 
     ghost view = { λ p. said_of p.pieces };
 
-    ghost invariant = { λ p. IsPreparedAlone J.layout J.values p.board p.seat p.pieces p.desk };
+    ghost invariant = { λ p. IsPreparedAlone J.layout J.values p.pieces p.desk };
 }
 
 impl<'a, J: Run> PreparedAlone<'a, J> {
     /// A run that has not begun. `cells` numbers the plan's cells.
     ///
-    /// It takes all memory of the run: that of a board, as `run` does, and of one desk.
+    /// It takes all memory of the run: 4 bytes for each cell, 16 for each piece and 2 for each sample of the picture, 4 more for each
+    /// sample where the region of the output's group is larger than the picture, and that of one desk.
     ///
     /// # Errors
     /// `AllocError` where memory runs out.
@@ -90,12 +125,11 @@ impl<'a, J: Run> PreparedAlone<'a, J> {
         ensures { IfOk result (λ run. run ≡ picture_said (algorithm_checked checked.now) (samples_of inputs.now)) }
     {
         pictures_are_said();
-        let (board, seat) = open::<J>(alloc, checked, inputs)?;
+        let sheet = open_alone::<J>(alloc, checked, inputs)?;
         let pieces = Pieces::of::<J>(checked, inputs);
         let desk = Desk::new::<J>(alloc, &pieces, cells)?;
         Ok(PreparedAlone {
-            board,
-            seat,
+            sheet,
             pieces,
             desk,
         })
@@ -107,16 +141,12 @@ impl<'a, J: Run> PreparedAlone<'a, J> {
         ensures { image_of result ≡ self.entry }
     {
         let PreparedAlone {
-            board,
-            mut seat,
+            mut sheet,
             pieces,
             mut desk,
         } = self;
-        fill_all(alloc, &board, &mut seat, &pieces, &mut desk, gate);
-        let Ok(image) = board.close(seat) else {
-            unreachable!()
-        };
-        image
+        fill_all(alloc, &mut sheet, &pieces, &mut desk, gate);
+        sheet.close()
     }
 }
 
@@ -139,7 +169,7 @@ fn picture_on<J: Run>(
 /// The picture that the algorithm says of the input, computed by one worker in the caller's thread, piece after piece. It
 /// starts no thread and waits for nobody.
 ///
-/// It takes the memory of a board, as `run` does, and of one desk. All of it is taken before the first piece.
+/// It takes the memory that `PreparedAlone::new` says. All of it is taken before the first piece.
 ///
 /// # Errors
 /// `AllocError` where memory runs out.

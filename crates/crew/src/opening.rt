@@ -8,3 +8,4 @@ pub mod laws;
 mod opening;
 
 pub use opening::open;
+pub(crate) use opening::open_alone;

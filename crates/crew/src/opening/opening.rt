@@ -9,7 +9,7 @@ ghost use Rattle.crew.specs.Opening.Layouts.{layout_of, values_of};
 use crate::opening::cells::CheckedCells;
 use crate::opening::laws::values_are_samples;
 use algo::Inputs;
-use board::{Board, BoardSeat, Run};
+use board::{Board, BoardSeat, Run, Sheet};
 use checked_plan::Checked;
 use std::alloc::{AllocError, Global};
 
@@ -35,4 +35,24 @@ pub fn open<'a, J: Run>(
     values_are_samples();
     let cells = CheckedCells::of(alloc, checked)?;
     Board::open(alloc, &cells)
+}
+
+/// The cells of a checked plan on an input of its algorithm, for one worker alone. Nothing is put.
+///
+/// It takes 4 bytes for each cell, and else what a board takes.
+///
+/// # Errors
+/// `AllocError` where memory runs out.
+pub(crate) fn open_alone<'a, J: Run>(
+    alloc: Global,
+    checked: &'a Checked<'a>,
+    inputs: &Inputs,
+) -> Result<Sheet<'a, J>, AllocError>
+    requires layout { J.layout ≡ layout_of checked.now }
+    requires values { J.values ≡ values_of checked.now inputs.now }
+    requires input { IsFor checked.now.algo.now inputs.now }
+{
+    values_are_samples();
+    let cells = CheckedCells::of(alloc, checked)?;
+    Sheet::open(alloc, &cells)
 }

@@ -1,18 +1,10 @@
-use Rattle.std.proofs.Common.{◌≡◌, ◌-◌, false}
-use Rattle.board.specs.Layout.{pieces_of}
-use Rattle.board.specs.Views.{next_after}
+use Rattle.std.proofs.Common.{ℕ, ◌<◌}
+use Rattle.board.specs.Sheets.{IsPut}
 use Rattle.crew.specs.Crews.{IsDeskFor}
-use Rattle.crew.proofs.InOrder.{KnowsBefore}
 use Rattle.crew.proofs.alone.fill_all.Given as goal
 
-abbrev pub invariant-loop-ticket : goal.invariant-loop-ticket
-invariant-loop-ticket g l = record {
-  board : l.seat.board ≡ l.board;
-  allowance : l.seat.view.allowance ≡ 63;
-  left : l.seat.view.none_left ≡ false;
-  before : KnowsBefore l.seat.view;
+abbrev pub invariant-loop-piece : goal.invariant-loop-piece
+invariant-loop-piece g l = record {
+  before : (j : ℕ) → j < l.piece → IsPut g.J.Run.layout g.J.Run.values l.sheet j;
   desk : IsDeskFor g.J.Run.layout l.pieces l.desk;
 }
-
-abbrev pub decreases-loop-ticket : goal.decreases-loop-ticket
-decreases-loop-ticket g l = pieces_of g.J.Run.layout - next_after l.seat.view.last

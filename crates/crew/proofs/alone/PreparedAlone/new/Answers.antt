@@ -8,5 +8,4 @@ invariant_of-result g c =
       said = said_here g.J.Run.layout g.J.Run.values c.args.checked.now c.args.inputs.now c.of-pieces.result c.pictures_are_said.ensures c.requires.layout c.requires.values c.requires.input of.same.0 of.same.1;
       pieces = of.ready;
       desk = c.in_ok-desk.ensures;
-      seat = c.in_ok-board.ensures;
     }

@@ -1,0 +1,16 @@
+-- What stands on a sheet: the bits of the cells' values, as far as they are put.
+use Rattle.std.specs.Prelude.{◌≡◌, ℕ, ◌<◌, ℤ, List, Contains, slice_index}
+use Rattle.board.specs.Layout.{Layout, own_of, pieces_of, value_at}
+use Rattle.board.specs.Words.{bits_of}
+
+-- the cell has the bits of its value
+abbrev pub HasBits : List ℤ → List ℕ → ℕ → Type 0
+HasBits values bits c = slice_index bits c ≡ bits_of (value_at values c)
+
+-- all own cells of piece j have theirs
+abbrev pub IsPut : Layout → List ℤ → List ℕ → ℕ → Type 0
+IsPut plan values bits j = (c : ℕ) → Contains (own_of plan j) c → HasBits values bits c
+
+-- the cell is an own cell of a piece that is put
+abbrev pub IsPutCell : Layout → List ℤ → List ℕ → ℕ → Type 0
+IsPutCell plan values bits c = (j : ℕ) × (j < pieces_of plan) × IsPut plan values bits j × Contains (own_of plan j) c

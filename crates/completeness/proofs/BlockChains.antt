@@ -1,0 +1,217 @@
+-- Nests of functions whose loops are split once, by blocks that need no tail, are few loops, and their symbols are numbered one behind another.
+use Rattle.std.proofs.Common.{◌≡◌, ℕ, suc, ◌+◌, ◌*◌, ◌≤◌, Bool, true, false, List, [], ◌∷◌, ◌++◌, length, map, Some, refl, sym, ap, ◌∙◌, subst, inl, inr, ◌⊎◌, arith}
+use Rattle.std.specs.Prelude.{pos, filter, if◌then◌else◌}
+use Rattle.std.specs.List.{AllByRecursion}
+use Rattle.std.proofs.lemmas.List.{length-append, length-map}
+use Rattle.lin.proofs.TermLemmas.{all_weaker}
+use Rattle.meaning.specs.Names.{same_name}
+use Rattle.soundness.specs.Claims.{In}
+use Rattle.soundness.proofs.Refines.{name_true}
+use Rattle.headline.proofs.Regions.{at_in}
+use Rattle.plan.specs.declared.stmt.Kind.TheVariants.{Serial}
+use Rattle.sched.specs.declared.schedule.Split.{Split}
+use Rattle.sched.specs.declared.numbers.Numbers.{Numbers}
+use Rattle.sched.specs.declared.numbers.Extent.{Extent}
+use Rattle.sched.specs.declared.placing.Loop.{Loop}
+use Rattle.sched.specs.declared.skeleton.Known.{Known}
+use Rattle.sched.specs.declared.nest.Turning.{Turning}
+use Rattle.sched.specs.Numbers.{numbers_named, loop_numbers, parallel_loops, grid_counts, or_one, piece_counts}
+use Rattle.sched.specs.Placing.{PlacedText, is_parallel}
+use Rattle.sched.specs.Standing.{◌>>=◌, StandingText, form_named, settle_some, cuts_by_variable}
+use Rattle.sched.specs.Skeleton.{BodyText, NestText, SkeletonText, loop_turning, nest_turns, begun, nest_in, nest_of, nests_in, grid_forms, over_grid, skeleton_in}
+use Rattle.sched.proofs.Leading.{in_left, in_right}
+use Rattle.sched.proofs.Rooting.{all_by_variable}
+use Rattle.lower.specs.Stored.{StoredText}
+use Rattle.lower.specs.Owning.{IsLaidBy}
+use Rattle.lower.proofs.Laying.{bound, same}
+use Rattle.lower.proofs.Directed.{IsLeaf, AreMade}
+use Rattle.lower.proofs.Owners as owners
+use Rattle.completeness.specs.Laws.{AreSplitOnce}
+use Rattle.completeness.specs.Parted.{KeepsInner}
+use Rattle.completeness.specs.Blocked.{is_tailed}
+use Rattle.completeness.proofs.Standing.{at_grid}
+use Rattle.completeness.proofs.Halves.{AreOthers, IsNamed, named, IsOther}
+use Rattle.completeness.proofs.Lanes.{AreOnce}
+use Rattle.completeness.proofs.VectorLines.{split_once}
+use Rattle.completeness.proofs.PlainTurns.{steps_for, hits, hits_once, turn_name, one_if}
+use Rattle.completeness.proofs.PureNests.{all_from, all_in, loop_name, hits_named, hits_turned, at_most_all, all_once}
+use Rattle.completeness.proofs.UpdateTurns.{hits_fewer, all_mapped}
+use Rattle.completeness.proofs.GridTurns.{grid_none}
+use Rattle.completeness.proofs.BlockTurns.{Right, AreRight, IsSettledGrid, settled_grid, grid_named as named_over_grid, nest_blocked}
+use Rattle.completeness.proofs.BlockFacts.{wholes_are, end_leaf, inners_serial}
+use Rattle.completeness.proofs.BlockDims.{apart_name}
+
+-- nests of loops alone, each from the symbol on that is next behind the one before, and all before a limit
+abbrev pub AreChained : ℕ → ℕ → List NestText → Type 0
+AreChained limit next [] = Unit {0}
+AreChained limit next (n ∷ ns) = (ts : List Turning) × (n.steps ≡ steps_for next ts) × (next + length ts ≤ limit) × AreChained limit (next + length ts) ns
+
+-- a skeleton of such nests, over a grid of few symbols
+pub record IsLooped (k : SkeletonText) : Type 0 where
+  pub head : k.head ≡ []
+  pub grid : length k.grid ≤ 10
+  pub chained : AreChained 256 (length k.grid) k.nests
+
+-- ---- nests
+
+module _ (xs : List (List ℕ)) (p : PlacedText) (others : AreOthers p.cuts) (once : AreOnce p.cuts) (rs : List Numbers) (free : (c : Split) → In c p.cuts → is_tailed rs c ≡ false)
+    (grid : List Known) (head : StandingText) (over : head.known ≡ grid) (right : (n : ℕ) (ts : List Turning) → AreRight p.cuts others once rs free grid n ts head) where
+  nests_chained : (bs : List BodyText) (next : ℕ) (ns : List NestText) → next + 21 * length bs ≤ 256 → AllByRecursion (λ b. length (nest_turns b rs p.loops) ≤ 21) bs →
+      nests_in xs p rs head bs next ≡ Some ns → AreChained 256 next ns
+  nests_chained [] next ns le few e = subst (AreChained 256 next) (same [] ns e) tt
+  nests_chained (b ∷ bs) next ns le few e =
+      let m = bound (nest_in xs p rs b (begun next head)) (λ st. nests_in xs p rs head bs st.next >>= λ nests. Some (nest_of xs b st ∷ nests)) ns e in
+      let r = bound (nests_in xs p rs head bs m.value.next) (λ nests. Some (nest_of xs b m.value ∷ nests)) ns m.comes in
+      let ts = nest_turns b rs p.loops in
+      let t = nest_blocked xs p others once rs free grid head over right b next m.value m.is in
+      let short = few.0 in
+      let zero_more : next + 0 ≡ next = omega arith in
+      let steps : m.value.steps ≡ steps_for next ts = t.3.steps ∙ (λ j. (t.1 j) ++ steps_for (zero_more j) ts) in
+      let up : m.value.next ≡ next + length ts = t.3.next ∙ ap (λ (n : ℕ). n + length ts) zero_more in
+      let is : nests_in xs p rs head bs (next + length ts) ≡ Some r.value = ap (λ (n : ℕ). nests_in xs p rs head bs n) (sym up) ∙ r.is in
+      let rest = nests_chained bs (next + length ts) r.value (omega (arith, le, short)) few.1 is in
+      subst (AreChained 256 next) (same (nest_of xs b m.value ∷ r.value) ns r.comes) (ts, steps, omega (arith, le, short), rest)
+
+-- ---- few loops
+
+few_pieces_of : (rs : List Numbers) (ms : List Loop) → length (or_one (grid_counts rs ms)) ≤ 1 + length ms
+few_pieces_of rs [] = omega arith
+few_pieces_of rs (m ∷ ms) = (let many = length-map (m ∷ ms) (λ (o : Loop). (numbers_named rs o.name).count) in omega (arith, many))
+
+filter_few : {A : Type 0} (f : A → Bool) (xs : List A) → length (filter f xs) ≤ length xs
+filter_few f [] = omega arith
+filter_few f (x ∷ xs) = of (f x) (filter_few f xs)
+  where
+    of : (b : Bool) → length (filter f xs) ≤ length xs → length (if b then x ∷ filter f xs else filter f xs) ≤ suc (length xs)
+    of true h = omega (arith, h)
+    of false h = omega (arith, h)
+
+in_map : (f : Split → List ℕ) (c : Split) (cs : List Split) → In c cs → In (f c) (map f cs)
+in_map f c [] m = absurd m
+in_map f c (d ∷ cs) (inl e) = inl (ap f e)
+in_map f c (d ∷ cs) (inr m) = inr (in_map f c cs m)
+
+abbrev turn_of : Split → Turning
+turn_of c = record { name = c.whole; low = pos 0; last = pos 0; kind = Serial }
+
+none_whole : (c : Split) (ds : List Split) (y : List ℕ) → AllByRecursion (IsOther c) ds → c.whole ≡ y → hits turn_name y (map turn_of ds) ≡ 0
+none_whole c [] y q e = refl
+none_whole c (d ∷ ds) y q e =
+    let differ : same_name d.whole y ≡ false = apart_name d.whole y (λ s. q.0.whole (e ∙ sym s)) in
+    let counts = ap one_if differ in
+    let rest = none_whole c ds y q.1 e in
+    omega (arith, counts, rest)
+
+wholes_once : (cs : List Split) → AreOthers cs → (y : List ℕ) → hits turn_name y (map turn_of cs) ≤ 1
+wholes_once [] o y = omega arith
+wholes_once (c ∷ cs) o y = of (same_name c.whole y) refl (wholes_once cs o.2 y)
+  where
+    of : (b : Bool) → same_name c.whole y ≡ b → hits turn_name y (map turn_of cs) ≤ 1 → one_if b + hits turn_name y (map turn_of cs) ≤ 1
+    of true e rest = (let none = none_whole c cs y o.1 (name_true c.whole y e) in omega (arith, none))
+    of false e rest = omega (arith, rest)
+
+module _ (g : StoredText) (es : List Extent) (k : SkeletonText) (laid : IsLaidBy g es k) (narrow : length g.subject.variables ≤ 3) (alone : AreSplitOnce g.placed.cuts) where
+  abbrev xs : List (List ℕ)
+  xs = g.subject.variables
+
+  abbrev ls : List Loop
+  ls = g.placed.loops
+
+  abbrev cuts : List Split
+  cuts = g.placed.cuts
+
+  abbrev rs : List Numbers
+  rs = loop_numbers xs cuts es
+
+  is_named : IsNamed g.placed
+  is_named = named g.subject laid.directives g.placed laid.placed
+
+  once : AreOnce cuts
+  once = split_once cuts alone
+
+  made_so : AreMade xs (xs ++ g.subject.reductions) cuts
+  made_so = (owners.directed g es k laid).made
+
+  single : (y : List ℕ) → hits loop_name y ls ≤ 1
+  single y =
+      let one = hits_named y ls in
+      let two = hits_once (map loop_name ls) y (owners.directed g es k laid).single in
+      omega (arith, one, two)
+
+  wholes : (c : Split) → In c cuts → In c.whole xs
+  wholes c m = wholes_are cuts once xs (xs ++ g.subject.reductions) made_so c m
+
+  few_cuts : length cuts ≤ 3
+  few_cuts =
+      let ts : List Turning = map turn_of cuts in
+      let one = at_most_all xs ts (all_mapped turn_of (λ t. In t.name xs) cuts (all_from (λ c. In c.whole xs) cuts wholes)) in
+      let two = all_once xs ts (λ y. wholes_once cuts is_named.apart y) in
+      let long = length-map cuts turn_of in
+      omega (arith, one, two, narrow, long)
+
+  abbrev outers : List (List ℕ)
+  outers = map (λ c. c.outer) cuts
+
+  abbrev inners : List (List ℕ)
+  inners = map (λ c. c.inner) cuts
+
+  -- a loop is a variable's, or one that a split makes
+  leaf_among : (o : Loop) → In o ls → In o.name (xs ++ (outers ++ inners))
+  leaf_among o m =
+      let leaf : IsLeaf xs cuts o = all_in (IsLeaf xs cuts) ls o (owners.directed g es k laid).leaves m in
+      of (end_leaf cuts once xs cuts (λ d q. q) leaf.variable o.name (at_in xs o.dimension leaf.variable leaf.of) leaf.end)
+    where
+      of : In o.name xs ⊎ ((c : Split) × In c cuts × ((o.name ≡ c.outer) ⊎ (o.name ≡ c.inner))) → In o.name (xs ++ (outers ++ inners))
+      of (inl q) = in_left o.name xs (outers ++ inners) q
+      of (inr (c, q, inl e)) =
+          in_right o.name xs (outers ++ inners) (in_left o.name outers inners (subst (λ (z : List ℕ). In z outers) (sym e) (in_map (λ c. c.outer) c cuts q)))
+      of (inr (c, q, inr e)) =
+          in_right o.name xs (outers ++ inners) (in_right o.name outers inners (subst (λ (z : List ℕ). In z inners) (sym e) (in_map (λ c. c.inner) c cuts q)))
+
+  pub few_loops : length ls ≤ 9
+  few_loops =
+      let ts : List Turning = map (loop_turning rs) ls in
+      let names : List (List ℕ) = xs ++ (outers ++ inners) in
+      let among : AllByRecursion (λ t. In t.name names) ts = all_mapped (loop_turning rs) (λ t. In t.name names) ls (all_from (λ o. In o.name names) ls leaf_among) in
+      let one = at_most_all names ts among in
+      let two = all_once names ts (λ y. let m = hits_turned rs y ls in let s = single y in omega (arith, m, s)) in
+      let three = length-append xs (outers ++ inners) in
+      let four = length-append outers inners in
+      let five = length-map cuts (λ (c : Split). c.outer) in
+      let six = length-map cuts (λ (c : Split). c.inner) in
+      let cut_few = few_cuts in
+      let long = length-map ls (loop_turning rs) in
+      omega (arith, one, two, three, four, five, six, cut_few, narrow, long)
+
+  pub looped : (bs : List BodyText) → KeepsInner ls cuts → AllByRecursion (λ c. is_tailed rs c ≡ false) cuts → length bs ≤ 5 → AllByRecursion (λ b. length (nest_turns b rs ls) ≤ 21) bs →
+      skeleton_in xs bs g.placed es ≡ Some k → IsLooped k
+  looped bs keeps filled many few e =
+      let others = is_named.apart in
+      let cs : List Split = cuts_by_variable cuts xs in
+      let grid : List ℕ = piece_counts rs ls in
+      let names : List Known = grid_forms rs 0 (parallel_loops ls) in
+      let b = bound (settle_some at_grid rs cs cs (over_grid rs g.placed))
+      (λ head. nests_in xs g.placed rs head bs head.next >>= λ nests. Some (record { grid = grid; head = head.steps; nests = nests; known = head.known; starts = head.starts })) k e in
+      let m = bound (nests_in xs g.placed rs b.value bs b.value.next) (λ nests. Some (record { grid = grid; head = b.value.steps; nests = nests; known = b.value.known; starts = b.value.starts })) k b.comes in
+      let first : (n : ℕ) (ts : List Turning) → IsSettledGrid cuts others once rs free names n ts (over_grid rs g.placed) b.value =
+      λ n ts. settled_grid cuts others once rs free names n ts cs cs (sub_of xs) (over_grid rs g.placed) b.value
+      (λ c q. grid_none rs c.inner 0 (parallel_loops ls) (inners_serial ls cuts keeps c q)) (record {
+        known = all_weaker (λ u. form_named names u.name ≡ Some u.form) (λ u. Right cuts others once rs free names n ts u.name u.form) (λ u h. inl (inl h)) names
+            (named_over_grid rs 0 (parallel_loops ls) single_over);
+        starts = tt;
+      }) b.is in
+      let one = first 0 [] in
+      let nests : nests_in xs g.placed rs b.value bs (length grid) ≡ Some m.value = ap (nests_in xs g.placed rs b.value bs) (sym one.next) ∙ m.is in
+      let pieces : length grid ≤ 10 = (let some = few_pieces_of rs (parallel_loops ls) in let fewer = filter_few is_parallel ls in let loops = few_loops in omega (arith, some, fewer, loops)) in
+      let chained = nests_chained xs g.placed others once rs free names b.value one.known (λ n ts. (first n ts).right) bs (length grid) m.value (omega (arith, pieces, many)) few nests in
+      subst IsLooped (same (record { grid = grid; head = b.value.steps; nests = m.value; known = b.value.known; starts = b.value.starts }) k m.comes)
+      (record { head = one.steps; grid = pieces; chained = chained })
+    where
+      free : (c : Split) → In c cuts → is_tailed rs c ≡ false
+      free c m = all_in (λ c. is_tailed rs c ≡ false) cuts c filled m
+
+      single_over : (y : List ℕ) → hits loop_name y (parallel_loops ls) ≤ 1
+      single_over y = (let one = single y in let two = hits_fewer is_parallel y ls in omega (arith, one, two))
+
+      sub_of : (ys : List (List ℕ)) → AllByRecursion (λ d. In d cuts) (cuts_by_variable cuts ys)
+      sub_of ys = all_by_variable (λ d. In d cuts) cuts ys (all_from (λ d. In d cuts) cuts (λ d m. m))

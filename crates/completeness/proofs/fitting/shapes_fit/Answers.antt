@@ -1,0 +1,9 @@
+use Rattle.completeness.specs.Fitting.{ShapesFit}
+use Rattle.completeness.proofs.Shapes.{shaped}
+use Rattle.completeness.proofs.fitting.shapes_fit.Goals as goal
+
+shapes_fit : ShapesFit
+shapes_fit a s l well legal small regions groups whole blocked = shaped a s l well legal small (regions whole).0 whole groups blocked
+
+pub returns : goal.returns
+returns c = shapes_fit

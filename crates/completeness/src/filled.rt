@@ -1,0 +1,18 @@
+//! Laws of what the lines of groups owe the checker, in plans that `lower` makes of functions whose loops are split.
+
+ghost use Rattle.completeness.specs.Filled.{BlockedGroupsOweShown, NearBlockedGroupsOweShown};
+
+/// Of a schedule under which each stored function is a root function that is computed at no loop, the group of each function without updates whose loops are split once,
+/// over whose region each split's blocks fill its loop, or run past its end with `roundup`, whichever loops are parallel but the inner ones; where what is fetched holds
+/// the calls, and blocks that run past the end reach numbers of 32 bits alone: all that its lines owe is shown, where the tests of nests say yes to plain nests and to
+/// split ones, as the checker's do. Neither K2, K4, K5, K6 nor K7 is told of them. Each coordinate is a number of 32 bits: the first number of a block, which the grid or
+/// an outer loop tells, and an inner loop's symbol.
+pub fn blocked_groups_owe_shown()
+    ensures { BlockedGroupsOweShown }
+{}
+
+/// So it is, whatever such a function fetches, where the region that is needed of it begins within 2^14 of 0 in each dimension: all loops, those over blocks and within
+/// them as well, then run over numbers within 2^15, and the checker's search finds of each index the ends by which `lower` told the regions of the functions it calls.
+pub fn near_blocked_groups_owe_shown()
+    ensures { NearBlockedGroupsOweShown }
+{}
