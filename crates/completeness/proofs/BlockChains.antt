@@ -47,8 +47,9 @@ AreChained limit next [] = Unit {0}
 AreChained limit next (n ∷ ns) = (ts : List Turning) × (n.steps ≡ steps_for next ts) × (next + length ts ≤ limit) × AreChained limit (next + length ts) ns
 
 -- a skeleton of such nests, over a grid of few symbols
-pub record IsLooped (k : SkeletonText) : Type 0 where
+pub record IsLooped (names : List Known) (k : SkeletonText) : Type 0 where
   pub head : k.head ≡ []
+  pub known : k.known ≡ names
   pub grid : length k.grid ≤ 10
   pub chained : AreChained 256 (length k.grid) k.nests
 
@@ -123,10 +124,10 @@ module _ (g : StoredText) (es : List Extent) (k : SkeletonText) (laid : IsLaidBy
   abbrev rs : List Numbers
   rs = loop_numbers xs cuts es
 
-  is_named : IsNamed g.placed
+  pub is_named : IsNamed g.placed
   is_named = named g.subject laid.directives g.placed laid.placed
 
-  once : AreOnce cuts
+  pub once : AreOnce cuts
   once = split_once cuts alone
 
   made_so : AreMade xs (xs ++ g.subject.reductions) cuts
@@ -138,7 +139,7 @@ module _ (g : StoredText) (es : List Extent) (k : SkeletonText) (laid : IsLaidBy
       let two = hits_once (map loop_name ls) y (owners.directed g es k laid).single in
       omega (arith, one, two)
 
-  wholes : (c : Split) → In c cuts → In c.whole xs
+  pub wholes : (c : Split) → In c cuts → In c.whole xs
   wholes c m = wholes_are cuts once xs (xs ++ g.subject.reductions) made_so c m
 
   few_cuts : length cuts ≤ 3
@@ -184,7 +185,7 @@ module _ (g : StoredText) (es : List Extent) (k : SkeletonText) (laid : IsLaidBy
       omega (arith, one, two, three, four, five, six, cut_few, narrow, long)
 
   pub looped : (bs : List BodyText) → KeepsInner ls cuts → AllByRecursion (λ c. is_tailed rs c ≡ false) cuts → length bs ≤ 5 → AllByRecursion (λ b. length (nest_turns b rs ls) ≤ 21) bs →
-      skeleton_in xs bs g.placed es ≡ Some k → IsLooped k
+      skeleton_in xs bs g.placed es ≡ Some k → IsLooped (grid_forms rs 0 (parallel_loops ls)) k
   looped bs keeps filled many few e =
       let others = is_named.apart in
       let cs : List Split = cuts_by_variable cuts xs in
@@ -204,8 +205,8 @@ module _ (g : StoredText) (es : List Extent) (k : SkeletonText) (laid : IsLaidBy
       let nests : nests_in xs g.placed rs b.value bs (length grid) ≡ Some m.value = ap (nests_in xs g.placed rs b.value bs) (sym one.next) ∙ m.is in
       let pieces : length grid ≤ 10 = (let some = few_pieces_of rs (parallel_loops ls) in let fewer = filter_few is_parallel ls in let loops = few_loops in omega (arith, some, fewer, loops)) in
       let chained = nests_chained xs g.placed others once rs free names b.value one.known (λ n ts. (first n ts).right) bs (length grid) m.value (omega (arith, pieces, many)) few nests in
-      subst IsLooped (same (record { grid = grid; head = b.value.steps; nests = m.value; known = b.value.known; starts = b.value.starts }) k m.comes)
-      (record { head = one.steps; grid = pieces; chained = chained })
+      subst (IsLooped names) (same (record { grid = grid; head = b.value.steps; nests = m.value; known = b.value.known; starts = b.value.starts }) k m.comes)
+      (record { head = one.steps; known = one.known; grid = pieces; chained = chained })
     where
       free : (c : Split) → In c cuts → is_tailed rs c ≡ false
       free c m = all_in (λ c. is_tailed rs c ≡ false) cuts c filled m

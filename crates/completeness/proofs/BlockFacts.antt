@@ -50,7 +50,7 @@ names_in (x ∷ names) y (inr m) = of (same_name x y) (names_in names y m)
 -- ---- what splits make
 
 -- a name that is used is none that a split makes
-made_new : (cs : List Split) (names used : List (List ℕ)) → AreMade names used cs → (y : List ℕ) → is_among used y ≡ true → (c : Split) → In c cs → (y ≡ c.outer → ⊥) × (y ≡ c.inner → ⊥)
+pub made_new : (cs : List Split) (names used : List (List ℕ)) → AreMade names used cs → (y : List ℕ) → is_among used y ≡ true → (c : Split) → In c cs → (y ≡ c.outer → ⊥) × (y ≡ c.inner → ⊥)
 made_new [] names used h y there c m = absurd m
 made_new (b ∷ cs) names used h y there c (inl e) = (
   (λ q. (let clash : true ≡ false = sym there ∙ ap (is_among used) (q ∙ ap (λ (d : Split). d.outer) e) ∙ h.1 in cc clash)),
@@ -62,7 +62,7 @@ made_new (b ∷ cs) names used h y there c (inr m) =
 pub halves_new : (cs : List Split) (xs more : List (List ℕ)) → AreMade xs (xs ++ more) cs → (c : Split) → In c cs → (x : List ℕ) → In x xs → (x ≡ c.outer → ⊥) × (x ≡ c.inner → ⊥)
 halves_new cs xs more h c m x k = made_new cs xs (xs ++ more) h x (among_left xs more x (names_in xs x k)) c m
 
-among_end : (xs ys : List (List ℕ)) (y : List ℕ) → is_among ys y ≡ true → is_among (xs ++ ys) y ≡ true
+pub among_end : (xs ys : List (List ℕ)) (y : List ℕ) → is_among ys y ≡ true → is_among (xs ++ ys) y ≡ true
 among_end [] ys y e = e
 among_end (x ∷ xs) ys y e = of (same_name x y) (among_end xs ys y e)
   where

@@ -112,12 +112,12 @@ module _ (xs : List (List ℕ)) (ls : List Loop) (cuts : List Split) (rs : List 
   is_own_half c y (inl e) = true_either (same_name c.outer y) (same_name c.inner y) (inl (ap (same_name c.outer) e ∙ name_refl c.outer))
   is_own_half c y (inr e) = true_either (same_name c.outer y) (same_name c.inner y) (inr (ap (same_name c.inner) e ∙ name_refl c.inner))
 
-  owner_half : (c : Split) → In c cuts → (y : List ℕ) → (y ≡ c.outer) ⊎ (y ≡ c.inner) → owner_named y ≡ c.whole
+  pub owner_half : (c : Split) → In c cuts → (y : List ℕ) → (y ≡ c.outer) ⊎ (y ≡ c.inner) → owner_named y ≡ c.whole
   owner_half c m y h =
       let r = found_in (λ c. is_half c y) cuts c m (is_own_half c y h) in
       ap (λ (o : Option Split). elim o [ Some c ↦ c.whole | None ↦ y ]) r.3 ∙ ap (λ (d : Split). d.whole) (half_is c r.0 m r.1 y h r.2)
 
-  owner_self : (y : List ℕ) → In y xs → owner_named y ≡ y
+  pub owner_self : (y : List ℕ) → In y xs → owner_named y ≡ y
   owner_self y m =
       ap (λ (o : Option Split). elim o [ Some c ↦ c.whole | None ↦ y ])
       (found_not (λ c. is_half c y) cuts (λ d k. (let h = halves d k y m in let one = apart_name d.outer y (λ e. h.0 (sym e)) in let two = apart_name d.inner y (λ e. h.1 (sym e)) in
@@ -163,7 +163,36 @@ module _ (xs : List (List ℕ)) (ls : List Loop) (cuts : List Split) (rs : List 
     pub leaf : LeafOf t.name
     pub own : form_named grid t.name ≡ None
 
-  module _ (grid : List Known) (n : ℕ) (ts : List Turning) (turns : (j : ℕ) (t : Turning) → slice_get ts j ≡ Some t → IsTurnOf grid t)
+  -- the loop of a reduction variable
+  pub record IsForeign (grid : List Known) (t : Turning) : Type 0 where
+    pub own : form_named grid t.name ≡ None
+    pub apart : (x : List ℕ) → In x xs → t.name ≡ x → ⊥
+    pub whole : (c : Split) → In c cuts → t.name ≡ c.whole → ⊥
+    pub half : (c : Split) → In c cuts → (t.name ≡ c.outer) ⊎ (t.name ≡ c.inner) → ⊥
+
+  abbrev pub IsNestTurn : List Known → Turning → Type 0
+  IsNestTurn grid t = IsTurnOf grid t ⊎ IsForeign grid t
+
+  pub owner_foreign : (grid : List Known) (t : Turning) → IsForeign grid t → owner_named t.name ≡ t.name
+  owner_foreign grid t o =
+      ap (λ (o : Option Split). elim o [ Some c ↦ c.whole | None ↦ t.name ])
+      (found_not (λ c. is_half c t.name) cuts (λ d k. (let one = apart_name d.outer t.name (λ e. o.half d k (inl (sym e))) in let two = apart_name d.inner t.name (λ e. o.half d k (inr (sym e))) in
+      λ j. one j || two j)))
+
+  nest_own : (grid : List Known) (t : Turning) → IsNestTurn grid t → form_named grid t.name ≡ None
+  nest_own grid t (inl o) = o.own
+  nest_own grid t (inr o) = o.own
+
+  -- the loop of a variable, or of a half, is no foreign one
+  pub turn_of : (grid : List Known) (t : Turning) (x : List ℕ) → In x xs → t.name ≡ x → IsNestTurn grid t → IsTurnOf grid t
+  turn_of grid t x m e (inl o) = o
+  turn_of grid t x m e (inr o) = absurd (o.apart x m e)
+
+  half_of : (grid : List Known) (t : Turning) (c : Split) → In c cuts → (t.name ≡ c.outer) ⊎ (t.name ≡ c.inner) → IsNestTurn grid t → IsTurnOf grid t
+  half_of grid t c m h (inl o) = o
+  half_of grid t c m h (inr o) = absurd (o.half c m h)
+
+  module _ (grid : List Known) (n : ℕ) (ts : List Turning) (turns : (j : ℕ) (t : Turning) → slice_get ts j ≡ Some t → IsNestTurn grid t)
       (places : (i j : ℕ) (t u : Turning) → slice_get ts i ≡ Some t → slice_get ts j ≡ Some u → t.name ≡ u.name → i ≡ j)
       (grids : (y : List ℕ) (f : Form) → form_named grid y ≡ Some f → (s : ℕ) × (f ≡ counted_from (low y) s) × (s < n) × ((l : Loop) × In l ls × (l.name ≡ y)))
       (inners : (c : Split) → In c cuts → form_named grid c.inner ≡ None) (free : (c : Split) → In c cuts → is_tailed rs c ≡ false) (fits : (c : Split) → In c cuts → CutFits rs c) where
@@ -178,12 +207,12 @@ module _ (xs : List (List ℕ)) (ls : List Loop) (cuts : List Split) (rs : List 
         let place : (n + j) - n ≡ j = omega arith in
         ap (λ (i : ℕ). elim (slice_get ts i) [ Some t ↦ factor_named t.name | None ↦ pos 1 ]) place ∙ ap (λ (o : Option Turning). elim o [ Some t ↦ factor_named t.name | None ↦ pos 1 ]) at
 
-    owner_there : (j : ℕ) (t : Turning) → slice_get ts j ≡ Some t → owner j ≡ owner_named t.name
+    pub owner_there : (j : ℕ) (t : Turning) → slice_get ts j ≡ Some t → owner j ≡ owner_named t.name
     owner_there j t at = ap (λ (o : Option Turning). elim o [ Some t ↦ owner_named t.name | None ↦ [] ]) at
 
     -- each loop is in the coordinate of one variable
-    pub owner_among : ((c : Split) → In c cuts → In c.whole xs) → (j : ℕ) (t : Turning) → slice_get ts j ≡ Some t → In (owner j) xs
-    owner_among wholes j t at = of (turns j t at).leaf
+    pub owner_among : ((c : Split) → In c cuts → In c.whole xs) → (j : ℕ) (t : Turning) → slice_get ts j ≡ Some t → LeafOf t.name → In (owner j) xs
+    owner_among wholes j t at leaf = of leaf
       where
         of : LeafOf t.name → In (owner j) xs
         of (inl m) = subst (λ (y : List ℕ). In y xs) (sym (owner_there j t at ∙ owner_self t.name m)) m
@@ -191,7 +220,10 @@ module _ (xs : List (List ℕ)) (ls : List Loop) (cuts : List Split) (rs : List 
 
     other_owner : (x : List ℕ) (j : ℕ) (t : Turning) → slice_get ts j ≡ Some t → (t.name ≡ x → ⊥) →
         ((c : Split) → In c cuts → c.whole ≡ x → (t.name ≡ c.outer) ⊎ (t.name ≡ c.inner) → ⊥) → same_name x (owner j) ≡ false
-    other_owner x j t at one two = of (turns j t at).leaf
+    other_owner x j t at one two = elim (turns j t at) [
+      | inl o ↦ of o.leaf
+      | inr o ↦ ap (same_name x) (owner_there j t at ∙ owner_foreign grid t o) ∙ apart_name x t.name (λ e. one (sym e))
+    ]
       where
         of : LeafOf t.name → same_name x (owner j) ≡ false
         of (inl m) = ap (same_name x) (owner_there j t at ∙ owner_self t.name m) ∙ apart_name x t.name (λ e. one (sym e))
@@ -212,18 +244,18 @@ module _ (xs : List (List ℕ)) (ls : List Loop) (cuts : List Split) (rs : List 
     one_only true = refl
     one_only false = refl
 
-    module _ (rules : Rules) (bound : rules.at_most ≡ shown_at_most) (counts : List ℕ) (few : length counts ≤ n) (short : n + length ts ≤ most_symbols)
+    module _ (rules : Rules) (bound : rules.at_most ≡ shown_at_most) (counts : List ℕ) (few : length counts ≤ n)
         (near : (j : ℕ) (t : Turning) → slice_get ts j ≡ Some t → (unsigned_abs t.low ≤ 2 ^ 36) × (unsigned_abs t.last ≤ 2 ^ 36))
         (tells : (y : Span1) → spelled_out (grid_from 0 counts) y ≡ y) (claim : List ℕ → Span1) (place : List ℕ → Places) where
       abbrev bs : List Binder
       bs = grid_from 0 counts
 
-      -- a coordinate of this form is as the tests ask
-      pub record HasAll (x : List ℕ) (f : Form) : Type 0 where
+      -- a coordinate of this form is as the tests ask, where the nest has few symbols
+      pub record HasPlain (x : List ℕ) (f : Form) : Type 0 where
         pub sum : IsSum factor n ts owner x
         pub is : sum.form ≡ f
         pub claimed : IsClaimed factor n ts owner rules bs claim x sum
-        pub placed : IsPlaced factor n ts owner rules counts few place x sum
+        pub placed : n + length ts ≤ most_symbols → IsPlaced factor n ts owner rules counts few place x sum
 
       shown : (f g : Form) → (f ≡ g) → is_within_limits f ≡ true → rules.at_most bs f g ≡ true
       shown f g e limited = (λ j. bound j bs f (sym e j)) ∙ form_self (scope_of bs) f limited
@@ -238,13 +270,13 @@ module _ (xs : List (List ℕ)) (ls : List Loop) (cuts : List Split) (rs : List 
 
       -- ---- a form over the grid
 
-      pub over_grid : (x : List ℕ) → (f : Form) → form_named grid x ≡ Some f → (s : ℕ) → f ≡ counted_from (low x) s → s < n → ((l : Loop) × In l ls × (l.name ≡ x)) → unsigned_abs (low x) ≤ 2 ^ 36 →
-          claim x ≡ exactly (counted_from (low x) s) → place x ≡ From (counted_from (low x) s) 1 → HasAll x f
-      over_grid x f named s is less loop low_near claim_is place_is = record {
+      pub plain_grid : (x : List ℕ) → (f : Form) → form_named grid x ≡ Some f → (s : ℕ) → f ≡ counted_from (low x) s → s < n → ((l : Loop) × In l ls × (l.name ≡ x)) → unsigned_abs (low x) ≤ 2 ^ 36 →
+          claim x ≡ exactly (counted_from (low x) s) → place x ≡ From (counted_from (low x) s) 1 → HasPlain x f
+      plain_grid x f named s is less loop low_near claim_is place_is = record {
         sum = k;
         is = sym is;
         claimed = within_same x k (exactly form) (sym (begins_so factor [] form [] tt)) form form refl form form claim_is (shown form form refl limited) (shown form form refl limited);
-        placed = record {
+        placed = λ short. record {
           steady = ap (is_steady false (along (turns_for n ts))) place_is ∙ steady_one n ts short rules bound bs near (low x) (pos 1) s 1 less;
           seated = ap (is_seated rules (along (turns_for n ts) ++ bs) (exactly form)) place_is ∙ seat_self n ts short rules bound bs near form limited;
         };
@@ -264,21 +296,21 @@ module _ (xs : List (List ℕ)) (ls : List Loop) (cuts : List Split) (rs : List 
             own = λ u m. absurd m;
             outer = λ j e. (let differ : (s == n + j) ≡ false = grind (arith, nat_tests, less) in ap (λ (b : Bool). b || false) differ);
             mine = λ j t at. sym (other_owner x j t at
-                (λ e. (let clash : Some f ≡ None = sym named ∙ ap (form_named grid) (sym e) ∙ (turns j t at).own in cc clash))
+                (λ e. (let clash : Some f ≡ None = sym named ∙ ap (form_named grid) (sym e) ∙ nest_own grid t (turns j t at) in cc clash))
                 (λ c m e h. gone c m loop.0 loop.1 (e ∙ sym loop.2)));
           }
 
       -- ---- a loop's symbol
 
-      pub of_loop : (x : List ℕ) → In x xs → (i : ℕ) (t : Turning) → slice_get ts i ≡ Some t → t.name ≡ x → claim x ≡ numbers (low x) (last x) → place x ≡ From (number (low x)) (count x) →
-          HasAll x (alone (n + i))
-      of_loop x mx i t at name claim_is place_is = record {
+      pub plain_loop : (x : List ℕ) → In x xs → (i : ℕ) (t : Turning) → slice_get ts i ≡ Some t → t.name ≡ x → claim x ≡ numbers (low x) (last x) → place x ≡ From (number (low x)) (count x) →
+          HasPlain x (alone (n + i))
+      plain_loop x mx i t at name claim_is place_is = record {
         sum = k;
         is = refl;
         claimed = within_same x k (now factor [] (Sums (alone (n + i)) parts)) refl (number (low x)) (number (last x)) reached (number (low x)) (number (last x)) claim_is
             (shown (number (low x)) (number (low x)) refl (number_limited (low x) (omega (arith, low_near))))
             (shown (number (last x)) (number (last x)) refl (number_limited (last x) (omega (arith, last_near))));
-        placed = record {
+        placed = λ short. record {
           steady = ap (is_steady false (along (turns_for n ts))) place_is;
           seated = ap (is_seated rules (along (turns_for n ts) ++ bs) (exactly (alone (n + i)))) place_is
               ∙ seat_loop n ts short rules bound bs near i t at (low x) (count x) from (to ∙ last_is);
@@ -286,7 +318,7 @@ module _ (xs : List (List ℕ)) (ls : List Loop) (cuts : List Split) (rs : List 
       }
         where
           o : IsTurnOf grid t
-          o = turns i t at
+          o = turn_of grid t x mx name (turns i t at)
 
           from : t.low ≡ low x
           from = o.from ∙ ap low name
@@ -363,7 +395,7 @@ module _ (xs : List (List ℕ)) (ls : List Loop) (cuts : List Split) (rs : List 
         fit = fits c m
 
         o_inner : IsTurnOf grid t
-        o_inner = turns i t at
+        o_inner = half_of grid t c m (inr name) (turns i t at)
 
         t_low : t.low ≡ pos 0
         t_low = o_inner.from ∙ ap low name ∙ inner_low rs c (free c m) fit small some
@@ -391,7 +423,7 @@ module _ (xs : List (List ℕ)) (ls : List Loop) (cuts : List Split) (rs : List 
 
         -- the variable's own name is that of no loop of the nest
         not_whole : (j : ℕ) (v : Turning) → slice_get ts j ≡ Some v → v.name ≡ c.whole → ⊥
-        not_whole j v there e = (let o = turns j v there in gone c m o.loop o.there (sym e ∙ sym o.name))
+        not_whole j v there e = elim (turns j v there) [ inl o ↦ gone c m o.loop o.there (sym e ∙ sym o.name) | inr o ↦ o.whole c m e ]
 
         whose_inner : (j : ℕ) (v : Turning) → slice_get ts j ≡ Some v → (n + i == n + j) ≡ true → same_name c.whole (owner j) ≡ true
         whose_inner j v there e =
@@ -401,11 +433,11 @@ module _ (xs : List (List ℕ)) (ls : List Loop) (cuts : List Split) (rs : List 
 
         -- ---- the grid tells the block
 
-        pub of_block : (s : ℕ) → s < n → form_named grid c.outer ≡ Some (counted_from (pos 0) s) → (f : Form) → f ≡ pair (low c.whole) s (pos c.factor) (n + i) →
+        pub plain_block : (s : ℕ) → s < n → form_named grid c.outer ≡ Some (counted_from (pos 0) s) → (f : Form) → f ≡ pair (low c.whole) s (pos c.factor) (n + i) →
             is_within_limits (pair (low c.whole) s (pos c.factor) (n + i)) ≡ true →
             claim c.whole ≡ record { lower = one_of (low c.whole) (pos c.factor) s ∷ []; upper = one_of ((pos c.factor -ℤ pos 1) +ℤ low c.whole) (pos c.factor) s ∷ [] } →
-            place c.whole ≡ From (one_of (low c.whole) (pos c.factor) s) c.factor → HasAll c.whole f
-        of_block s less over f is limited claim_is place_is = record {
+            place c.whole ≡ From (one_of (low c.whole) (pos c.factor) s) c.factor → HasPlain c.whole f
+        plain_block s less over f is limited claim_is place_is = record {
           sum = k;
           is = sym is;
           claimed = within_same c.whole k (now factor [] (Sums form parts)) refl (one_of (low c.whole) (pos c.factor) s) (one_of ((pos c.factor -ℤ pos 1) +ℤ low c.whole) (pos c.factor) s) reached
@@ -413,7 +445,7 @@ module _ (xs : List (List ℕ)) (ls : List Loop) (cuts : List Split) (rs : List 
               (shown (one_of (low c.whole) (pos c.factor) s) (one_of (low c.whole) (pos c.factor) s) refl (one_limited (low c.whole) (pos c.factor) s (omega (arith, near_low)) (omega (arith, wide))))
               (shown (one_of ((pos c.factor -ℤ pos 1) +ℤ low c.whole) (pos c.factor) s) (one_of ((pos c.factor -ℤ pos 1) +ℤ low c.whole) (pos c.factor) s) refl
               (one_limited ((pos c.factor -ℤ pos 1) +ℤ low c.whole) (pos c.factor) s (high_near c.factor (low c.whole) wide near_low) (omega (arith, wide))));
-          placed = record {
+          placed = λ short. record {
             steady = ap (is_steady false (along (turns_for n ts))) place_is ∙ steady_one n ts short rules bound bs near (low c.whole) (pos c.factor) s c.factor less;
             seated = ap (is_seated rules (along (turns_for n ts) ++ bs) (exactly form)) place_is
                 ∙ (λ j. is_seated rules (along (turns_for n ts) ++ bs) (exactly (pair (low c.whole) s (pos (size_is j)) (n + i))) (From (one_of (low c.whole) (pos (size_is j)) s) (size_is j)))
@@ -450,7 +482,7 @@ module _ (xs : List (List ℕ)) (ls : List Loop) (cuts : List Split) (rs : List 
                     half d md q h = by (subst (λ (e : Split). (v.name ≡ e.outer) ⊎ (v.name ≡ e.inner)) (by_whole cuts others d c md m q) h)
                       where
                         by : (v.name ≡ c.outer) ⊎ (v.name ≡ c.inner) → ⊥
-                        by (inl p) = (let clash : Some (counted_from (pos 0) s) ≡ None = sym over ∙ ap (form_named grid) (sym p) ∙ (turns j v there).own in cc clash)
+                        by (inl p) = (let clash : Some (counted_from (pos 0) s) ≡ None = sym over ∙ ap (form_named grid) (sym p) ∙ nest_own grid v (turns j v there) in cc clash)
                         by (inr p) = apart_place i j t v at there e (name ∙ sym p)
 
             k : IsSum factor n ts owner c.whole
@@ -504,16 +536,16 @@ module _ (xs : List (List ℕ)) (ls : List Loop) (cuts : List Split) (rs : List 
 
         -- ---- both loops in the nest
 
-        pub of_split : (p : ℕ) (v : Turning) → slice_get ts p ≡ Some v → v.name ≡ c.outer → (f : Form) → f ≡ pair (low c.whole) (n + p) (pos c.factor) (n + i) →
+        pub plain_split : (p : ℕ) (v : Turning) → slice_get ts p ≡ Some v → v.name ≡ c.outer → (f : Form) → f ≡ pair (low c.whole) (n + p) (pos c.factor) (n + i) →
             is_within_limits (pair (low c.whole) (n + p) (pos c.factor) (n + i)) ≡ true → claim c.whole ≡ numbers (low c.whole) (last_of rs c (free c m) fit small some) →
-            place c.whole ≡ From (number (low c.whole)) (top (count c.whole) c.factor * c.factor + c.factor) → HasAll c.whole f
-        of_split p v at_p name_p f is limited claim_is place_is = record {
+            place c.whole ≡ From (number (low c.whole)) (top (count c.whole) c.factor * c.factor + c.factor) → HasPlain c.whole f
+        plain_split p v at_p name_p f is limited claim_is place_is = record {
           sum = k;
           is = sym is;
           claimed = within_same c.whole k (now factor [] (Sums form parts)) refl (number (low c.whole)) (number end) reached (number (low c.whole)) (number end) claim_is
               (shown (number (low c.whole)) (number (low c.whole)) refl (number_limited (low c.whole) (omega (arith, near_low))))
               (shown (number end) (number end) refl (number_limited end end_near));
-          placed = record {
+          placed = λ short. record {
             steady = ap (is_steady false (along (turns_for n ts))) place_is;
             seated = ap (is_seated rules (along (turns_for n ts) ++ bs) (exactly form)) place_is
                 ∙ ap (λ (q : ℕ). is_seated rules (along (turns_for n ts) ++ bs) (exactly (pair (low c.whole) (n + p) (pos q) (n + i))) (From (number (low c.whole)) all)) size_is
@@ -547,7 +579,7 @@ module _ (xs : List (List ℕ)) (ls : List Loop) (cuts : List Split) (rs : List 
                 by z a b h g q = omega (arith, ints, h, g, q)
 
             o_outer : IsTurnOf grid v
-            o_outer = turns p v at_p
+            o_outer = half_of grid v c m (inl name_p) (turns p v at_p)
 
             v_low : v.low ≡ pos 0
             v_low = o_outer.from ∙ ap low name_p ∙ outer_low rs c (free c m) fit small some
@@ -672,3 +704,39 @@ module _ (xs : List (List ℕ)) (ls : List Loop) (cuts : List Split) (rs : List 
 
                     same : (z x y : ℤ) → (z +ℤ (x +ℤ (pos 1 *ℤ y +ℤ pos 0))) ≡ z +ℤ (x +ℤ y)
                     same z x y = omega (arith, ints)
+
+    -- where it has
+    module _ (rules : Rules) (bound : rules.at_most ≡ shown_at_most) (counts : List ℕ) (few : length counts ≤ n) (short : n + length ts ≤ most_symbols)
+        (near : (j : ℕ) (t : Turning) → slice_get ts j ≡ Some t → (unsigned_abs t.low ≤ 2 ^ 36) × (unsigned_abs t.last ≤ 2 ^ 36))
+        (tells : (y : Span1) → spelled_out (grid_from 0 counts) y ≡ y) (claim : List ℕ → Span1) (place : List ℕ → Places) where
+      pub record HasAll (x : List ℕ) (f : Form) : Type 0 where
+        pub sum : IsSum factor n ts owner x
+        pub is : sum.form ≡ f
+        pub claimed : IsClaimed factor n ts owner rules (grid_from 0 counts) claim x sum
+        pub placed : IsPlaced factor n ts owner rules counts few place x sum
+
+      as_all : (x : List ℕ) (f : Form) → HasPlain rules bound counts few near tells claim place x f → HasAll x f
+      as_all x f r = record { sum = r.sum; is = r.is; claimed = r.claimed; placed = r.placed short }
+
+      pub over_grid : (x : List ℕ) → (f : Form) → form_named grid x ≡ Some f → (s : ℕ) → f ≡ counted_from (low x) s → s < n → ((l : Loop) × In l ls × (l.name ≡ x)) → unsigned_abs (low x) ≤ 2 ^ 36 →
+          claim x ≡ exactly (counted_from (low x) s) → place x ≡ From (counted_from (low x) s) 1 → HasAll x f
+      over_grid x f named s is less loop low_near claim_is place_is = as_all x f (plain_grid rules bound counts few near tells claim place x f named s is less loop low_near claim_is place_is)
+
+      pub of_loop : (x : List ℕ) → In x xs → (i : ℕ) (t : Turning) → slice_get ts i ≡ Some t → t.name ≡ x → claim x ≡ numbers (low x) (last x) → place x ≡ From (number (low x)) (count x) →
+          HasAll x (alone (n + i))
+      of_loop x mx i t at name claim_is place_is = as_all x (alone (n + i)) (plain_loop rules bound counts few near tells claim place x mx i t at name claim_is place_is)
+
+      module _ (c : Split) (m : In c cuts) (mx : In c.whole xs) (small : IsSmall (numbers_named rs c.whole)) (some : 0 < (numbers_named rs c.whole).count) (i : ℕ) (t : Turning)
+          (at : slice_get ts i ≡ Some t) (name : t.name ≡ c.inner) where
+        pub of_block : (s : ℕ) → s < n → form_named grid c.outer ≡ Some (counted_from (pos 0) s) → (f : Form) → f ≡ pair (low c.whole) s (pos c.factor) (n + i) →
+            is_within_limits (pair (low c.whole) s (pos c.factor) (n + i)) ≡ true →
+            claim c.whole ≡ record { lower = one_of (low c.whole) (pos c.factor) s ∷ []; upper = one_of ((pos c.factor -ℤ pos 1) +ℤ low c.whole) (pos c.factor) s ∷ [] } →
+            place c.whole ≡ From (one_of (low c.whole) (pos c.factor) s) c.factor → HasAll c.whole f
+        of_block s less over f is limited claim_is place_is =
+            as_all c.whole f (plain_block rules bound counts few near tells claim place c m mx small some i t at name s less over f is limited claim_is place_is)
+
+        pub of_split : (p : ℕ) (v : Turning) → slice_get ts p ≡ Some v → v.name ≡ c.outer → (f : Form) → f ≡ pair (low c.whole) (n + p) (pos c.factor) (n + i) →
+            is_within_limits (pair (low c.whole) (n + p) (pos c.factor) (n + i)) ≡ true → claim c.whole ≡ numbers (low c.whole) (last_of rs c (free c m) (fits c m) small some) →
+            place c.whole ≡ From (number (low c.whole)) (top (count c.whole) c.factor * c.factor + c.factor) → HasAll c.whole f
+        of_split p v at_p name_p f is limited claim_is place_is =
+            as_all c.whole f (plain_split rules bound counts few near tells claim place c m mx small some i t at name p v at_p name_p f is limited claim_is place_is)

@@ -21,8 +21,7 @@ use Rattle.plan.specs.declared.stmt.Places.{Places}
 use Rattle.plan.specs.declared.stmt.Places.TheVariants.{From}
 use Rattle.plan.specs.declared.certificate.cert.Claim.{Claim as CodeClaim}
 use Rattle.plan.specs.declared.certificate.cert.Need.{Need}
-use Rattle.plan.specs.declared.certificate.cert.Window.{Window}
-use Rattle.plan.specs.Plan.{At, Coordinate, Statement, Alloc, Store, Publish, Empty, Then, Group, Plan, block}
+use Rattle.plan.specs.Plan.{At, Coordinate, Statement, Alloc, Store, Publish, Empty, Then, Plan, block}
 use Rattle.plan.specs.View.{group_of, plan_of, statement_of}
 use Rattle.plan.specs.Lines.{lines, body_line}
 use Rattle.plan.specs.Semantics.Setting.{allocated, dimensions_in}
@@ -33,15 +32,14 @@ use Rattle.meaning.specs.Names.{same_name}
 use Rattle.soundness.specs.Claims.{In, updates}
 use Rattle.soundness.specs.Origins.{Outline}
 use Rattle.soundness.specs.Given.{outline_of}
-use Rattle.soundness.specs.Obligations.{Binder, Known as KnownHere, Rules, exactly, has_form, is_form, goes_on, claim_obligations, places_of}
-use Rattle.soundness.specs.Shown.{Nests, all_shown, start}
+use Rattle.soundness.specs.Obligations.{Binder, Known as KnownHere, Rules, exactly, has_form, is_form, goes_on, places_of}
+use Rattle.soundness.specs.Shown.{Nests, start}
 use Rattle.soundness.specs.Binders.View.{grid_binders}
 use Rattle.soundness.specs.Nests.Laws.{domains_of}
 use Rattle.soundness.specs.Nests.Tests.{left_of, over_of, plain_nests}
 use Rattle.soundness.proofs.Refines.{name_refl, eq_true, name_true}
 use Rattle.rules.specs.Bounding.Rules.{rules_of}
 use Rattle.rules.specs.Bounding.Scopes.{most_symbols}
-use Rattle.headline.proofs.Lists.{from_map}
 use Rattle.headline.proofs.Regions.{at_in}
 use Rattle.sched.specs.Schedule.{Schedule}
 use Rattle.sched.specs.Legal.{IsLegal}
@@ -82,24 +80,22 @@ use Rattle.lower.proofs.Dividing.{nearest, nearest_of_small}
 use Rattle.lower.proofs.Directed.{IsLeaf, AreMade}
 use Rattle.lower.proofs.Grids.{parallel_named}
 use Rattle.lower.proofs.Owners as owners
-use Rattle.completeness.specs.Laws.{IsFetch, AreSplitOnce}
+use Rattle.completeness.specs.Laws.{AreSplitOnce}
 use Rattle.completeness.specs.Parted.{KeepsInner}
-use Rattle.completeness.specs.Owed.{EachClaim, AreClaimsNear}
 use Rattle.completeness.specs.Nested.{SayYes, TakeSplit}
-use Rattle.completeness.specs.Blocked.{is_tailed, IsBlocked, BlockedClaimsShown, BlockedClaimsOweShown}
+use Rattle.completeness.specs.Blocked.{is_tailed}
 use Rattle.completeness.proofs.Standing.{names_own}
 use Rattle.completeness.proofs.Laid.{subjects, found}
 use Rattle.completeness.proofs.Halves.{AreOthers, IsNamed, named, IsOther, inner_outer}
 use Rattle.completeness.proofs.Lanes.{AreOnce}
 use Rattle.completeness.proofs.VectorLines.{split_once}
-use Rattle.completeness.proofs.Owned.{some_same, same_extents, same_skeleton}
-use Rattle.completeness.proofs.Served.{roots, made_at}
+use Rattle.completeness.proofs.Owned.{some_same}
+use Rattle.completeness.proofs.Served.{roots}
 use Rattle.completeness.proofs.Spots.{lets_allot}
 use Rattle.completeness.proofs.Origins.{places_long}
-use Rattle.completeness.proofs.NamedClaims.{alone_body}
 use Rattle.completeness.proofs.PlainNests.{grid_named}
 use Rattle.completeness.proofs.NestWalk.{down, IsRest, Holds, LetsFirst}
-use Rattle.completeness.proofs.ClaimedNests.{claim_is, own_buffer, near_shown, updating, body_each}
+use Rattle.completeness.proofs.ClaimedNests.{claim_is, own_buffer, updating}
 use Rattle.completeness.proofs.PlainTurns.{steps_for, hits, hits_once, itself, turn_name, one_if, hits_some}
 use Rattle.completeness.proofs.PureNests.{all_from, all_in, none_missing, first_put, loop_name, hits_named, hits_turned, all_slices, at_most_all, all_once, first_steps, no_lets, index_at}
 use Rattle.completeness.proofs.UpdateTurns.{hits_fewer, all_mapped, all_filtered}
@@ -115,9 +111,9 @@ use Rattle.completeness.proofs.BlockFacts.{turn_from, turn_there}
 use Rattle.completeness.proofs.BlockFacts.{turns_once, places_same}
 use Rattle.completeness.proofs.BlockDims.{top, last_of, part_uncut, end_uncut, claim_uncut, cut_once, outer_low, outer_last, inner_low, inner_last, few_numbers}
 use Rattle.completeness.proofs.BlockDims.{end_is, claim_is as block_claim_is, block_claim, block_places, apart_name}
-use Rattle.completeness.proofs.BlockNames.{factor, owner, owner_among, IsTurnOf, LeafOf, HasAll, over_grid, of_loop, of_block, of_split}
+use Rattle.completeness.proofs.BlockNames.{factor, owner, owner_among, IsTurnOf, IsNestTurn, LeafOf, HasAll, over_grid, of_loop, of_block, of_split}
 
-stored_there : {P : FormulaText → Type 0} (o : Option FormulaText) → IsSomeAnd o P → (x : FormulaText) × (o ≡ Some x) × P x
+pub stored_there : {P : FormulaText → Type 0} (o : Option FormulaText) → IsSomeAnd o P → (x : FormulaText) × (o ≡ Some x) × P x
 stored_there None h = absurd h
 stored_there (Some x) h = (x, refl, h)
 
@@ -127,7 +123,7 @@ take_all zero (x ∷ xs) e = absurd (omega (arith, e))
 take_all (suc m) [] e = absurd (omega (arith, e))
 take_all (suc m) (x ∷ xs) e = (let r = take_all m xs (omega (arith, e)) in (ap (λ (ys : List _). x ∷ ys) r.0, r.1))
 
-length_append : {A : Type 0} (xs ys : List A) → length (xs ++ ys) ≡ length xs + length ys
+pub length_append : {A : Type 0} (xs ys : List A) → length (xs ++ ys) ≡ length xs + length ys
 length_append [] ys = omega arith
 length_append (x ∷ xs) ys = (let rest = length_append xs ys in omega (arith, rest))
 
@@ -254,7 +250,7 @@ module _ (a : Algorithm) (sch : Schedule) (l : Lowered) (well : IsAlgorithm a) (
         let two = hits_once (map loop_name ls) y (owners.directed g h.extents k laid).single in
         omega (arith, one, two)
 
-    single_over : (y : List ℕ) → hits loop_name y (parallel_loops ls) ≤ 1
+    pub single_over : (y : List ℕ) → hits loop_name y (parallel_loops ls) ≤ 1
     single_over y = (let one = single y in let two = hits_fewer is_parallel y ls in omega (arith, one, two))
 
     abbrev pub inners : (c : Split) → In c cuts → form_named grid c.inner ≡ None
@@ -409,7 +405,7 @@ module _ (a : Algorithm) (sch : Schedule) (l : Lowered) (well : IsAlgorithm a) (
         of [] = omega arith
         of (m ∷ ms) = (let many = length-map ms (λ (o : Loop). (numbers_named rs o.name).count) in omega (arith, many))
 
-    names_apart : (y : List ℕ) → hits itself y xs ≤ 1
+    pub names_apart : (y : List ℕ) → hits itself y xs ≤ 1
     names_apart y = hits_once xs y laid.variables
 
     -- ---- what names stand for over the grid
@@ -453,7 +449,7 @@ module _ (a : Algorithm) (sch : Schedule) (l : Lowered) (well : IsAlgorithm a) (
     not_split : (x : List ℕ) → ((o : Loop) × In o ls × (o.name ≡ x)) → (d : Split) → In d cuts → d.whole ≡ x → ⊥
     not_split x o d m e = gone d m o.0 o.1 (e ∙ sym o.2)
 
-    dim_grid : (x : List ℕ) (s : ℕ) → form_named grid x ≡ Some (counted_from (low x) s) → ((o : Loop) × In o ls × (o.name ≡ x)) →
+    pub dim_grid : (x : List ℕ) (s : ℕ) → form_named grid x ≡ Some (counted_from (low x) s) → ((o : Loop) × In o ls × (o.name ≡ x)) →
         (claim x ≡ exactly (counted_from (low x) s)) × (place x ≡ From (counted_from (low x) s) 1)
     dim_grid x s e o =
         let f : Form = counted_from (low x) s in
@@ -463,7 +459,7 @@ module _ (a : Algorithm) (sch : Schedule) (l : Lowered) (well : IsAlgorithm a) (
         let up : multiple_from (difference (pos 1) (pos 1)) (pos 1) f ≡ f = ap (λ (z : ℤ). multiple_from z (pos 1) f) none ∙ (λ j. counted_from (same_low j) s) in
         (ap (λ (q : _). (dimension_by lay x cuts q).claim) is ∙ (λ j. record { lower = f ∷ []; upper = up j ∷ [] }), ap (λ (q : _). (dimension_by lay x cuts q).places) is)
 
-    dim_loop : (x : List ℕ) → In x xs → hits loop_name x (parallel_loops ls) ≡ 0 → ((o : Loop) × In o ls × (o.name ≡ x)) →
+    pub dim_loop : (x : List ℕ) → In x xs → hits loop_name x (parallel_loops ls) ≡ 0 → ((o : Loop) × In o ls × (o.name ≡ x)) →
         (claim x ≡ numbers (low x) (last x)) × (place x ≡ From (number (low x)) (count x))
     dim_loop x m none o =
         let is : part_of lay x cuts ≡ Whole = part_uncut lay cuts x (not_split x o) ∙ uncut_serial x none in
@@ -485,7 +481,7 @@ module _ (a : Algorithm) (sch : Schedule) (l : Lowered) (well : IsAlgorithm a) (
             back z c = omega (arith, ints)
 
     -- of a split loop whose outer loop is parallel: a block
-    dim_block : (c : Split) (m : In c cuts) (s : ℕ) → form_named grid c.outer ≡ Some (counted_from (pos 0) s) →
+    pub dim_block : (c : Split) (m : In c cuts) (s : ℕ) → form_named grid c.outer ≡ Some (counted_from (pos 0) s) →
         (claim c.whole ≡ record { lower = one_of (low c.whole) (pos c.factor) s ∷ []; upper = one_of ((pos c.factor -ℤ pos 1) +ℤ low c.whole) (pos c.factor) s ∷ [] })
         × (place c.whole ≡ From (one_of (low c.whole) (pos c.factor) s) c.factor)
     dim_block c m s e =
@@ -503,7 +499,7 @@ module _ (a : Algorithm) (sch : Schedule) (l : Lowered) (well : IsAlgorithm a) (
             blocks_by lay c rest (record { start = counted_from (pos 0) s; length = pos 1; own_limits = []; claim_limits = []; origin = Some (counted_from (pos 0) s); reach = pos 1 }) (num c.whole)
 
     -- of one whose loops are both in the nest: all numbers
-    dim_split : (c : Split) (m : In c cuts) → hits loop_name c.outer (parallel_loops ls) ≡ 0 →
+    pub dim_split : (c : Split) (m : In c cuts) → hits loop_name c.outer (parallel_loops ls) ≡ 0 →
         (claim c.whole ≡ numbers (low c.whole) (last_of rs c (free c m) (fits c m) (fit_of c.whole (wholes c m)).0 (fit_of c.whole (wholes c m)).1))
         × (place c.whole ≡ From (number (low c.whole)) (top (count c.whole) c.factor * c.factor + c.factor))
     dim_split c m none =
@@ -586,6 +582,9 @@ module _ (a : Algorithm) (sch : Schedule) (l : Lowered) (well : IsAlgorithm a) (
             own = ap (form_named grid) (sym name) ∙ grid_none rs r.0.name 0 (parallel_loops ls) (serial_none r.0 ls r.1 r.2 (single r.0.name));
           }
 
+      abbrev pub nest_turns_here : (j : ℕ) (t : Turning) → slice_get ts j ≡ Some t → IsNestTurn xs ls cuts rs others once halves outers gone grid t
+      nest_turns_here j t e = inl (turns j t e)
+
       abbrev pub same_places : (i j : ℕ) (t u : Turning) → slice_get ts i ≡ Some t → slice_get ts j ≡ Some u → t.name ≡ u.name → i ≡ j
       same_places i j t u e d s = places_same b none_b bare_b rs ls single i j t u e d s
 
@@ -610,14 +609,15 @@ module _ (a : Algorithm) (sch : Schedule) (l : Lowered) (well : IsAlgorithm a) (
       few_grid = (let is = ap length shape.grid in let least = q.low in omega (arith, is, least))
 
       abbrev factor_at : ℕ → ℤ
-      factor_at = factor xs ls cuts rs others once halves outers gone grid m0 ts turns same_places over_names inners free fits
+      factor_at = factor xs ls cuts rs others once halves outers gone grid m0 ts nest_turns_here same_places over_names inners free fits
 
       abbrev owner_at : ℕ → List ℕ
-      owner_at = owner xs ls cuts rs others once halves outers gone grid m0 ts turns same_places over_names inners free fits
+      owner_at = owner xs ls cuts rs others once halves outers gone grid m0 ts nest_turns_here same_places over_names inners free fits
 
       abbrev pub All : List ℕ → Form → Type 0
       All x f =
-          HasAll xs ls cuts rs others once halves outers gone grid m0 ts turns same_places over_names inners free fits R refl k.grid few_grid short near (grid_spelled 0 k.grid) claim place x f
+          HasAll xs ls cuts rs others once halves outers gone grid m0 ts nest_turns_here same_places over_names inners free fits R refl k.grid few_grid short near (grid_spelled 0 k.grid) claim
+          place x f
 
       -- ---- each variable's form
 
@@ -661,14 +661,16 @@ module _ (a : Algorithm) (sch : Schedule) (l : Lowered) (well : IsAlgorithm a) (
               let r = over_names x f over in
               let named_so : form_named grid x ≡ Some (counted_from (low x) r.0) = over ∙ ap (λ (u : Form). Some u) r.1 in
               let d = dim_grid x r.0 named_so r.3 in
-              over_grid xs ls cuts rs others once halves outers gone grid m0 ts turns same_places over_names inners free fits R refl k.grid few_grid short near (grid_spelled 0 k.grid) claim place
+              over_grid xs ls cuts rs others once halves outers gone grid m0 ts nest_turns_here same_places over_names inners free fits R refl k.grid few_grid short near (grid_spelled 0 k.grid)
+              claim place
               x f over r.0 r.1 r.2 r.3 (near_named x (inl m)).0 d.0 d.1
           of (inl (inr (i, t, there_t, name, is))) =
               let o = turns i t there_t in
               let none : hits loop_name x (parallel_loops ls) ≡ 0 = subst (λ (y : List ℕ). hits loop_name y (parallel_loops ls) ≡ 0) name (serial_named i t there_t) in
               let d = dim_loop x m none (o.loop, o.there, o.name ∙ name) in
               subst (All x) (sym is)
-              (of_loop xs ls cuts rs others once halves outers gone grid m0 ts turns same_places over_names inners free fits R refl k.grid few_grid short near (grid_spelled 0 k.grid) claim place
+              (of_loop xs ls cuts rs others once halves outers gone grid m0 ts nest_turns_here same_places over_names inners free fits R refl k.grid few_grid short near (grid_spelled 0 k.grid)
+              claim place
               x m i t there_t name d.0 d.1)
           of (inr u) = subst (λ (y : List ℕ). All y f) u.is (inner_of u.by_inner)
             where
@@ -696,7 +698,8 @@ module _ (a : Algorithm) (sch : Schedule) (l : Lowered) (well : IsAlgorithm a) (
                       let form = pair_is (low c.whole) c.factor r.0 (fits c u.there).some (m0 + i) u.start f differ begins sum_so in
                       let named_so : form_named grid c.outer ≡ Some (counted_from (pos 0) r.0) = over ∙ ap (λ (v : Form). Some v) outer_is in
                       let d = dim_block c u.there r.0 named_so in
-                      of_block xs ls cuts rs others once halves outers gone grid m0 ts turns same_places over_names inners free fits R refl k.grid few_grid short near (grid_spelled 0 k.grid) claim
+                      of_block xs ls cuts rs others once halves outers gone grid m0 ts nest_turns_here same_places over_names inners free fits R refl k.grid few_grid short near
+                      (grid_spelled 0 k.grid) claim
                       place c u.there (wholes c u.there) fit.0 fit.1 i t there_t name r.0 r.2 named_so f form.0 form.1 d.0 d.1
                   outer_of (inr (o, v, there_v, outer_name, outer_is)) =
                       let differ : (m0 + o == m0 + i) ≡ false = apart_symbols o i v t there_v there_t outer_name name in
@@ -704,7 +707,8 @@ module _ (a : Algorithm) (sch : Schedule) (l : Lowered) (well : IsAlgorithm a) (
                       let form = pair_is (low c.whole) c.factor (m0 + o) (fits c u.there).some (m0 + i) u.start f differ begins sum_so in
                       let none : hits loop_name c.outer (parallel_loops ls) ≡ 0 = subst (λ (y : List ℕ). hits loop_name y (parallel_loops ls) ≡ 0) outer_name (serial_named o v there_v) in
                       let d = dim_split c u.there none in
-                      of_split xs ls cuts rs others once halves outers gone grid m0 ts turns same_places over_names inners free fits R refl k.grid few_grid short near (grid_spelled 0 k.grid) claim
+                      of_split xs ls cuts rs others once halves outers gone grid m0 ts nest_turns_here same_places over_names inners free fits R refl k.grid few_grid short near
+                      (grid_spelled 0 k.grid) claim
                       place c u.there (wholes c u.there) fit.0 fit.1 i t there_t name o v there_v outer_name f form.0 form.1 d.0 d.1
                     where
                       apart_symbols : (o i : ℕ) (v t : Turning) → slice_get ts o ≡ Some v → slice_get ts i ≡ Some t → v.name ≡ c.outer → t.name ≡ c.inner → (m0 + o == m0 + i) ≡ false
@@ -773,7 +777,7 @@ module _ (a : Algorithm) (sch : Schedule) (l : Lowered) (well : IsAlgorithm a) (
 
       ones : (j : ℕ) (t : Turning) → slice_get ts j ≡ Some t → hits itself (owner_at j) xs ≡ 1
       ones j t e =
-          let m = owner_among xs ls cuts rs others once halves outers gone grid m0 ts turns same_places over_names inners free fits wholes j t e in
+          let m = owner_among xs ls cuts rs others once halves outers gone grid m0 ts nest_turns_here same_places over_names inners free fits wholes j t e (turns j t e).leaf in
           let some = hits_some itself (owner_at j) xs m in
           let few = names_apart (owner_at j) in
           omega (arith, some, few)
@@ -817,10 +821,6 @@ module _ (a : Algorithm) (sch : Schedule) (l : Lowered) (well : IsAlgorithm a) (
     abbrev OverGrids : List Binder → Type 0
     OverGrids bs = bs ≡ grid_binders k.grid
 
-    abbrev Shown : List Window → ℕ → ℕ → KnownHere → Statement → ℕ → Type 0
-    Shown windows begin last known s c = (IsFetch s → ⊥) → (O.claim c).definition ≡ 0 → (nests : Nests) → TakeSplit a plan cert n (group_of p) nests →
-        all_shown R nests (claim_obligations O R windows begin last known s c) ≡ true
-
     yes : (ms : Loads) (w : NestText) (v : CodeClaim) (at_line : ℕ) → slice_get k.nests 0 ≡ Some w → Claims at_line 0 g.subject.name 0 region v → (cs : List Coordinate) (e : Term) →
         IsStore g fs ms 0 w (Store 0 0 cs e) → (part : List Step) → IsRest w.steps part → (s : Statement) → Then s Empty ≡ down 0 0 cs e part → (known : KnownHere) →
         OverGrids known.binders → Holds places known → (c : ℕ) → slice_get items c ≡ Some v → (nests : Nests) → TakeSplit a plan cert n (group_of p) nests → SayYes O R nests known s c
@@ -861,46 +861,3 @@ module _ (a : Algorithm) (sch : Schedule) (l : Lowered) (well : IsAlgorithm a) (
     yes_first zero first ms w v at_line stands says cs e stores part rest s comes known binders holds c found_at_c nests takes =
         yes ms w v at_line stands says cs e stores part rest s comes known binders holds c found_at_c nests takes
     yes_first (suc i) first ms w v at_line stands says cs e stores part rest s comes known binders holds c found_at_c nests takes = absurd (omega (arith, first))
-
-    blocked_shown : AreClaimsNear cert → EachClaim O R Shown [] (statement_of p.body) (body_line plan n) (start (grid_binders p.grid.items))
-    blocked_shown near =
-        body_each a sch l well legal small kept all groups n first line g p claims needs at there h lined placed alone_here Shown
-        (λ windows begin last known b h r c not_fetch. absurd (not_fetch tt)) OverGrids NoLet (λ i pick forms bs x y. absurd x)
-        (λ ms d w v at_line stands says cs e stores part rest s comes known knows holds before begin last c found_at_c not_fetch pure nests takes.
-        let is = claim_is a sch l well legal small kept all groups n first line g p claims needs at there h lined placed alone_here c v found_at_c in
-        let defined : (O.claim c).definition ≡ d = ap (λ (x : Claim). x.definition) is ∙ says.defined in
-        near_shown a sch l well legal small kept all groups n first line g p claims needs at there h lined placed alone_here near d c v at_line found_at_c says cs e part s comes known knows.own
-        holds before begin last not_fetch nests
-        (yes_first d (sym defined ∙ pure) ms w v at_line stands says cs e stores part rest s comes known knows.bound holds c found_at_c nests takes))
-        (subst (LetsFirst NoLet) (sym shape.head) tt) bare_nests refl
-
-  module _ (near : AreClaimsNear cert) where
-    blocked_at : (n : ℕ) (q : CodeGroup) → slice_get made_groups n ≡ Some q → (u : StoredText) → slice_get stored n ≡ Some u → IsBlocked a sch n u → BlockedClaimsShown a plan cert n (group_of q)
-    blocked_at n q there u at blocked =
-        let me = made_at a sch l well legal small kept all groups n q there in
-        let r = alone_body a entries items 0 0 4 stored made_groups items l.certificate.needs.items (groups.bodies all)
-        (λ j v e. let none : 0 + j ≡ j = omega arith in ap (slice_get items) none ∙ e) n me.stored q me.is there in
-        let b = r.placed in
-        let counted : 0 + n ≡ n = omega arith in
-        let body = subst (λ (i : ℕ). HasBody a entries i b.first_claim b.line me.stored q b.claims b.needs) counted b.body in
-        let lined = b.lined in
-        let begins : body_line plan n ≡ b.line + 1 = omega (arith, lined) in
-        let own : (j : ℕ) (w : CodeClaim) → slice_get items j ≡ Some w → b.line < w.line → w.line < b.line + (lines (statement_of q.body) + 1) → In w b.claims =
-        λ j w e low less. let x = r.alone j w e (omega (arith, lined, low)) (omega (arith, lined, less)) in at_in b.claims x.0 w x.2 in
-        let extents : me.laid.region ≡ body.extents = same_extents a sch l well legal small kept all groups n q me.laid body.extents there me.found body.region in
-        let skeleton : me.laid.skeleton ≡ body.skeleton =
-        same_skeleton a sch l well legal small kept all groups n me.stored me.laid body.formulas body.extents body.skeleton me.is me.found body.defined extents body.laid in
-        let laid : IsLaidBy me.stored body.extents body.skeleton =
-        subst (λ (k : SkeletonText). IsLaidBy me.stored body.extents k) skeleton (subst (λ (es : List Extent). IsLaidBy me.stored es me.laid.skeleton) extents me.laid_by) in
-        let same_stored : u ≡ me.stored = some_same u me.stored (sym at ∙ me.is) in
-        let mine : IsBlocked a sch n me.stored = subst (IsBlocked a sch n) same_stored blocked in
-        let filled : AllByRecursion (λ c. is_tailed (loop_numbers me.stored.subject.variables me.stored.placed.cuts body.extents) c ≡ false) me.stored.placed.cuts =
-        subst (λ (es : List Extent). AllByRecursion (λ c. is_tailed (loop_numbers me.stored.subject.variables me.stored.placed.cuts es) c ≡ false) me.stored.placed.cuts) extents
-        (mine.filled me.laid me.found) in
-        blocked_shown n b.first_claim b.line me.stored q b.claims b.needs me.is there body begins b.numbered own laid mine.once mine.inners filled near
-
-pub shown : BlockedClaimsOweShown
-shown a s l well legal small regions groups all near n g at u there blocked =
-    let x = from_map group_of l.plan.groups.items n g at in
-    subst (λ (v : Group). BlockedClaimsShown a (plan_of l.plan) (certificate_of l.certificate) n v) (sym x.2)
-    (blocked_at a s l well legal small (regions all).0 all groups near n x.0 x.1 u there blocked)

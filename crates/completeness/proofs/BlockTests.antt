@@ -59,7 +59,7 @@ module _ (factor : ℕ → ℤ) (n : ℕ) (ts : List Turning) (owner : ℕ → L
   abbrev pub IsClaimed : Rules → List Binder → (List ℕ → Span1) → (x : List ℕ) → IsSum x → Type 0
   IsClaimed rules bs claim x k = is_within rules bs (claim x) (spelled_out bs (now factor [] (Sums k.form k.parts))) ≡ true
 
-  all_sums : (xs : List (List ℕ)) (ks : AreSums xs) → AllByRecursion (TargetFits factor) (targets xs ks)
+  pub all_sums : (xs : List (List ℕ)) (ks : AreSums xs) → AllByRecursion (TargetFits factor) (targets xs ks)
   all_sums [] ks = tt
   all_sums (x ∷ xs) ks = (ks.0.fits, all_sums xs ks.1)
 
@@ -78,11 +78,11 @@ module _ (factor : ℕ → ℤ) (n : ℕ) (ts : List Turning) (owner : ℕ → L
             let turn : v ≡ t = cc some in
             same ∙ (λ k. item_of (n + place k) (turn k))
 
-    fits_all : (xs : List (List ℕ)) (ks : AreSums xs) → AllByRecursion (FitsTo one) (targets xs ks)
+    pub fits_all : (xs : List (List ℕ)) (ks : AreSums xs) → AllByRecursion (FitsTo one) (targets xs ks)
     fits_all [] ks = tt
     fits_all (x ∷ xs) ks = (fits_one x ks.0, fits_all xs ks.1)
 
-    hits_are : (xs : List (List ℕ)) (ks : AreSums xs) → hits_of (n + j) (targets xs ks) ≡ hits itself (owner j) xs
+    pub hits_are : (xs : List (List ℕ)) (ks : AreSums xs) → hits_of (n + j) (targets xs ks) ≡ hits itself (owner j) xs
     hits_are [] ks = refl
     hits_are (x ∷ xs) ks = (let here = ks.0.mine j t at in let rest = hits_are xs ks.1 in λ i. one_if (here i) + rest i)
 

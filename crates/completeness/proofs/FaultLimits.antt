@@ -61,5 +61,5 @@ module _ (a : Algorithm) (p : Plan) (c : Certificate) (t : TellsOnlyLimits a p c
   limit (inr (inr (inr (inr (inr (inr (inr f))))))) = f.code_is
 
 pub faults_limited : FaultsAreLimits
-faults_limited a s l well legal small regions groups none named code line fault =
-    limit a (plan_of l.plan) (certificate_of l.certificate) (limits_alone a s l well legal small regions groups none named) code line fault
+faults_limited a s l well legal small regions groups fills named code line fault =
+    limit a (plan_of l.plan) (certificate_of l.certificate) (limits_alone a s l well legal small regions groups fills named) code line fault

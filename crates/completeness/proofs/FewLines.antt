@@ -20,11 +20,13 @@ use Rattle.sched.specs.Legal.{IsLegal}
 use Rattle.sched.specs.Subjects.{reductions_of}
 use Rattle.sched.specs.Runs.{lines_to}
 use Rattle.sched.specs.declared.placing.Loop.{Loop}
+use Rattle.sched.specs.declared.numbers.Extent.{Extent}
 use Rattle.sched.specs.declared.numbers.Numbers.{Numbers}
 use Rattle.sched.specs.declared.nest.Turning.{Turning}
 use Rattle.sched.specs.declared.skeleton.Step.{Step}
-use Rattle.sched.specs.Numbers.{loop_numbers}
-use Rattle.sched.specs.Skeleton.{range_turning, BodyText, NestText, SkeletonText, loop_turning, is_in_nest, nest_loops, nest_turns}
+use Rattle.sched.specs.declared.skeleton.Known.{Known}
+use Rattle.sched.specs.Numbers.{loop_numbers, parallel_loops}
+use Rattle.sched.specs.Skeleton.{range_turning, BodyText, NestText, SkeletonText, loop_turning, is_in_nest, nest_loops, nest_turns, grid_forms}
 use Rattle.lower.specs.declared.lowering.Lowered.{Lowered}
 use Rattle.lower.specs.Stored.{FormulaText, StoredText, flags, stored_functions, has_large}
 use Rattle.lower.specs.Around.{ranges_of}
@@ -203,11 +205,19 @@ module _ (a : Algorithm) (sch : Schedule) (l : Lowered) (well : IsAlgorithm a) (
     pub needs : List Need
     pub body : HasBody a entries n first_claim line stored q claims needs
     pub grid : q.grid.items ≡ body.skeleton.grid
-    pub looped : IsLooped body.skeleton
+    pub names : List Known
+    pub looped : IsLooped names body.skeleton
     pub definitions : length body.skeleton.nests ≤ 5
 
-  pub group_looped : (n : ℕ) (q : CodeGroup) → slice_get l.plan.groups.items n ≡ Some q → IsGroupLooped n q
-  group_looped n q there =
+  -- the skeleton over the group's region
+  pub record IsStood (u : StoredText) (region : List Extent) (k : SkeletonText) : Type 0 where
+    pub narrow : length u.subject.variables ≤ 3
+    pub definitions : length k.nests ≤ 5
+    pub looped : IsLooped (grid_forms (loop_numbers u.subject.variables u.placed.cuts region) 0 (parallel_loops u.placed.loops)) k
+
+  pub stood : (n : ℕ) (q : CodeGroup) (there : slice_get l.plan.groups.items n ≡ Some q) →
+      let me = made_at a sch l well legal small kept all groups n q there in IsStood me.stored me.laid.region me.laid.skeleton
+  stood n q there =
       let me = made_at a sch l well legal small kept all groups n q there in
       let u : StoredText = me.stored in
       let w = found a sch st u a.functions n me.is in
@@ -235,8 +245,18 @@ module _ (a : Algorithm) (sch : Schedule) (l : Lowered) (well : IsAlgorithm a) (
       omega (arith, all_turns, loops)) in
       let bodies = bodies_many u.changes 0 u.subject.reductions me.formulas in
       let five : length bs ≤ 5 = omega (arith, bodies, long, four) in
-      let over : IsLooped me.laid.skeleton = looped u me.laid.region me.laid.skeleton me.laid_by three mine.once bs mine.inners (mine.filled me.laid me.found) five turns me.over in
       let nests = nests_long u.subject.variables bs u.placed me.laid.region me.laid.skeleton me.over in
+      record {
+        narrow = three;
+        definitions = omega (arith, nests, five);
+        looped = looped u me.laid.region me.laid.skeleton me.laid_by three mine.once bs mine.inners (mine.filled me.laid me.found) five turns me.over;
+      }
+
+  pub group_looped : (n : ℕ) (q : CodeGroup) → slice_get l.plan.groups.items n ≡ Some q → IsGroupLooped n q
+  group_looped n q there =
+      let me = made_at a sch l well legal small kept all groups n q there in
+      let u : StoredText = me.stored in
+      let over = stood n q there in
       let b = body_at a entries 0 0 4 gs l.plan.groups.items l.certificate.claims.items l.certificate.needs.items (groups.bodies all) n u q me.is there in
       let counted : 0 + n ≡ n = omega arith in
       let body = subst (λ (i : ℕ). HasBody a entries i b.first_claim b.line u q b.claims b.own_needs) counted b.body in
@@ -252,8 +272,9 @@ module _ (a : Algorithm) (sch : Schedule) (l : Lowered) (well : IsAlgorithm a) (
         needs = b.own_needs;
         body = body;
         grid = me.grid ∙ ap (λ (k : SkeletonText). k.grid) skeleton;
-        looped = subst IsLooped skeleton over;
-        definitions = subst (λ (k : SkeletonText). length k.nests ≤ 5) skeleton (omega (arith, nests, five));
+        names = grid_forms (loop_numbers u.subject.variables u.placed.cuts me.laid.region) 0 (parallel_loops u.placed.loops);
+        looped = subst (IsLooped (grid_forms (loop_numbers u.subject.variables u.placed.cuts me.laid.region) 0 (parallel_loops u.placed.loops))) skeleton over.looped;
+        definitions = subst (λ (k : SkeletonText). length k.nests ≤ 5) skeleton over.definitions;
       }
 
   body_small : (n : ℕ) (q : CodeGroup) → slice_get l.plan.groups.items n ≡ Some q → BindBelow 256 (statement_of q.body) × (lines (statement_of q.body) + 1 ≤ 700)

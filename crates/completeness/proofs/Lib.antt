@@ -142,3 +142,11 @@ pub mod BlockChains
 pub mod Shapes
 pub mod HeldNear
 pub mod BlockNear
+pub mod TermFits
+pub mod SaidLines
+pub mod WorkedSplits
+pub mod SaidCertificates
+pub mod SaidFiles
+pub mod BlockKept
+pub mod BlockRanges
+pub mod BlockUpdates

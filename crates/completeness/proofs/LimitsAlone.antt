@@ -1,5 +1,5 @@
--- What the checker tells of a plan whose schedule splits nothing, of functions whose updates set each variable at its own place, is a limit.
-use Rattle.std.proofs.Common.{◌≡◌, ℕ, suc, Bool, true, false, ◌||◌, List, [], ◌∷◌, Some, refl, sym, ap, ◌∙◌, subst}
+-- What the checker tells of a plan whose schedule splits loops once at most, by blocks that need no tail, is a limit.
+use Rattle.std.proofs.Common.{◌≡◌, ℕ, suc, Bool, true, ◌||◌, List, [], ◌∷◌, Some, refl, ap, ◌∙◌, inl, inr, ◌⊎◌}
 use Rattle.std.specs.Prelude.{slice_get}
 use Rattle.std.specs.List.{AllByRecursion}
 use Rattle.meaning.specs.Algorithm.{Algorithm}
@@ -13,16 +13,16 @@ use Rattle.headline.specs.Numbers.{has_point}
 use Rattle.headline.proofs.Lists.{from_map}
 use Rattle.tails.specs.Windows.Nests.{slid_nests}
 use Rattle.tails.specs.Windows.Shown.{IsShown}
-use Rattle.sched.specs.declared.schedule.Split.{Split}
 use Rattle.sched.specs.Schedule.{Schedule}
-use Rattle.sched.specs.Numbers.{loop_numbers}
-use Rattle.lower.specs.Stored.{StoredText, stored_functions}
+use Rattle.lower.specs.Stored.{FormulaText, StoredText, stored_functions}
+use Rattle.lower.specs.Regions.{LaidText, laid_functions}
 use Rattle.completeness.specs.Parted.{KeepsInner, InnersAreKept}
 use Rattle.completeness.specs.Laws.{AreSplitOnce, AreLinesTold, Stands}
 use Rattle.completeness.specs.Owed.{AreGridsFew, AreSymbolsFew, AreClaimsNear}
 use Rattle.completeness.specs.Nested.{IsUncut, TakeSplit}
-use Rattle.completeness.specs.Blocked.{is_tailed, IsBlocked}
-use Rattle.completeness.specs.Told.{SplitsNothing, LimitsAloneAreTold}
+use Rattle.completeness.specs.Stores.{GroupShown, IsNearRegion}
+use Rattle.completeness.specs.Placed.{ArePlaced}
+use Rattle.completeness.specs.Told.{FillsBlocks, LimitsAloneAreTold}
 use Rattle.completeness.proofs.Shared.{shared, limits as shares_limits, heads}
 use Rattle.completeness.proofs.CertLimits.{certificate_limits}
 use Rattle.completeness.proofs.OnlyLimits.{told}
@@ -31,6 +31,7 @@ use Rattle.completeness.proofs.FewLines.{lines_told, grids_few, symbols_few}
 use Rattle.completeness.proofs.NamesRead.{named_no_load}
 use Rattle.completeness.proofs.NearClaims.{claims_near}
 use Rattle.completeness.proofs.NearPlaced.{near_placed_owed}
+use Rattle.completeness.proofs.BlockNear.{near_blocked_owed}
 
 each_at : {A : Type 0} (P : A → Type 0) (xs : List A) → ((i : ℕ) (x : A) → slice_get xs i ≡ Some x → P x) → AllByRecursion P xs
 each_at P [] h = tt
@@ -43,50 +44,38 @@ or_true b d e = ap (λ (v : Bool). v || d) e
 slid_take : (a : Algorithm) (p : Plan) (c : Certificate) (n : ℕ) (g : Group) → TakeSplit a p c n g (slid_nests (outline_of p c n g) (rules_of a p c n) (domains_of a))
 slid_take a p c n g = ((λ bs m from places t e. or_true _ _ e), (λ bs m t e. e))
 
--- a function of which no loop is split
-blocked_uncut : (a : Algorithm) (s : Schedule) (n : ℕ) (u : StoredText) → IsUncut u → IsBlocked a s n u
-blocked_uncut a s n u uncut = record {
-  once = subst AreSplitOnce (sym uncut) tt;
-  inners = subst (λ (cs : List Split). KeepsInner u.placed.loops cs) (sym uncut) tt;
-  filled = λ m at. subst (λ (cs : List Split). AllByRecursion (λ c. is_tailed (loop_numbers u.subject.variables u.placed.cuts m.region) c ≡ false) cs) (sym uncut) tt;
-}
-
-module _ (a : Algorithm) (s : Schedule) (none : SplitsNothing a s) where
+module _ (a : Algorithm) (s : Schedule) (fills : FillsBlocks a s) where
   inners : InnersAreKept a s
-  inners = each_at (λ g. KeepsInner g.placed.loops g.placed.cuts) (stored_functions a s)
-      (λ i g at. subst (λ (cs : List Split). KeepsInner g.placed.loops cs) (sym (none.uncut i g at)) tt)
+  inners = each_at (λ g. KeepsInner g.placed.loops g.placed.cuts) (stored_functions a s) (λ i g at. (fills.blocked i g at).inners)
 
   once : AllByRecursion (λ g. AreSplitOnce g.placed.cuts) (stored_functions a s)
-  once = each_at (λ g. AreSplitOnce g.placed.cuts) (stored_functions a s) (λ i g at. subst (λ (cs : List Split). AreSplitOnce cs) (sym (none.uncut i g at)) tt)
-
-  blocked : (n : ℕ) (u : StoredText) → slice_get (stored_functions a s) n ≡ Some u → IsBlocked a s n u
-  blocked n u at = blocked_uncut a s n u (none.uncut n u at)
+  once = each_at (λ g. AreSplitOnce g.placed.cuts) (stored_functions a s) (λ i g at. (fills.blocked i g at).once)
 
 pub limits_alone : LimitsAloneAreTold
-limits_alone a s l well legal small regions groups none named =
+limits_alone a s l well legal small regions groups fills named =
     let p = plan_of l.plan in
     let c = certificate_of l.certificate in
-    let stands : Stands a p c = shared a s l well legal small regions groups none.whole (inners a s none) in
+    let stands : Stands a p c = shared a s l well legal small regions groups fills.whole (inners a s fills) in
     record {
       head = λ line. heads a p c line stands;
-      groups = told a s l well legal small regions groups none.whole (named_no_load a named) lines_stand (once a s none);
+      groups = told a s l well legal small regions groups fills.whole (named_no_load a named) lines_stand (once a s fills);
       shown = λ n g at. shown_at n g at;
-      certificate = certificate_limits a s l well legal small (regions none.whole).0 none.whole groups none.uncut none.near stands.lines;
+      certificate = certificate_limits a s l well legal small (regions fills.whole).0 fills.whole groups fills.blocked stands.lines;
       shares = λ f. shares_limits a p c f stands;
       output = λ n g at is q within. ap (λ (o : _). has_point o q) at ∙ stands.output.inside n g at is q within;
     }
   where
     lines_stand : AreLinesTold (plan_of l.plan)
-    lines_stand = lines_told a s l well legal small (regions none.whole).0 none.whole groups (blocked a s none)
+    lines_stand = lines_told a s l well legal small (regions fills.whole).0 fills.whole groups fills.blocked
 
     grids : AreGridsFew (plan_of l.plan)
-    grids = grids_few a s l well legal small (regions none.whole).0 none.whole groups (blocked a s none)
+    grids = grids_few a s l well legal small (regions fills.whole).0 fills.whole groups fills.blocked
 
     symbols : AreSymbolsFew (plan_of l.plan)
-    symbols = symbols_few a s l well legal small (regions none.whole).0 none.whole groups (blocked a s none)
+    symbols = symbols_few a s l well legal small (regions fills.whole).0 fills.whole groups fills.blocked
 
     near : AreClaimsNear (certificate_of l.certificate)
-    near = claims_near a s l well legal small (regions none.whole).0 none.whole groups none.uncut none.near
+    near = claims_near a s l well legal small (regions fills.whole).0 fills.whole groups fills.blocked
 
     shown_at : (n : ℕ) (g : Group) → slice_get (plan_of l.plan).groups n ≡ Some g →
         IsShown (rules_of a (plan_of l.plan) (certificate_of l.certificate) n) a (plan_of l.plan) (certificate_of l.certificate) n g
@@ -94,6 +83,14 @@ limits_alone a s l well legal small regions groups none named =
         let p = plan_of l.plan in
         let c = certificate_of l.certificate in
         let x = from_map group_of l.plan.groups.items n g at in
-        let me = made_at a s l well legal small (regions none.whole).0 none.whole groups n x.0 x.1 in
-        near_placed_owed a s l well legal small regions groups none.whole (named_no_load a named) lines_stand grids symbols near n g at me.stored me.is (none.uncut n me.stored me.is) me.formulas me.defined
-        (none.placed n me.stored me.is me.formulas me.defined) me.laid me.found (none.near n me.laid me.found) (slid_nests (outline_of p c n g) (rules_of a p c n) (domains_of a)) (slid_take a p c n g)
+        let me = made_at a s l well legal small (regions fills.whole).0 fills.whole groups n x.0 x.1 in
+        owed n g at me.stored me.is me.formulas me.defined me.laid me.found (fills.near n me.laid me.found) (fills.placed n me.stored me.is me.formulas me.defined)
+        (slid_nests (outline_of p c n g) (rules_of a p c n) (domains_of a)) (slid_take a p c n g)
+      where
+        owed : (n : ℕ) (g : Group) → slice_get (plan_of l.plan).groups n ≡ Some g → (u : StoredText) → slice_get (stored_functions a s) n ≡ Some u → (fs : List FormulaText) →
+            u.formulas ≡ Some fs → (r : LaidText) → slice_get (laid_functions a (stored_functions a s)) n ≡ Some (Some r) → IsNearRegion r.region →
+            (IsUncut u × ArePlaced fs) ⊎ (u.changes ≡ []) → GroupShown TakeSplit a (plan_of l.plan) (certificate_of l.certificate) n g
+        owed n g at u is fs defined r found close (inl (uncut, placed)) =
+            near_placed_owed a s l well legal small regions groups fills.whole (named_no_load a named) lines_stand grids symbols near n g at u is uncut fs defined placed r found close
+        owed n g at u is fs defined r found close (inr pure) =
+            near_blocked_owed a s l well legal small regions groups fills.whole (named_no_load a named) lines_stand grids symbols near n g at u is (fills.blocked n u is) pure fs defined r found close

@@ -83,7 +83,7 @@ abbrev pub items_back : ℕ → List Turning → List Item
 items_back n [] = []
 items_back n (t ∷ ts) = items_back (n + 1) ts ++ item_of n t ∷ []
 
-loops_joined : (xs ys : List Item) → map item_loop (xs ++ ys) ≡ map item_loop xs ++ map item_loop ys
+pub loops_joined : (xs ys : List Item) → map item_loop (xs ++ ys) ≡ map item_loop xs ++ map item_loop ys
 loops_joined [] ys = refl
 loops_joined (x ∷ xs) ys = ap (λ (bs : List Binder). item_loop x ∷ bs) (loops_joined xs ys)
 
@@ -93,7 +93,7 @@ along_is n (t ∷ ts) =
     reverse-append (Ranged n (span t.low t.last []) ∷ []) (map binder (turns_for (n + 1) ts)) ∙ ap (λ (bs : List Binder). bs ++ Ranged n (span t.low t.last []) ∷ []) (along_is (n + 1) ts)
     ∙ sym (loops_joined (items_back (n + 1) ts) (item_of n t ∷ []))
 
-left_none : (i : ℕ) (ts : List Item) (t : Item) → is_left i ts ≡ false → (t.symbol == i) ≡ false → is_left i (ts ++ t ∷ []) ≡ false
+pub left_none : (i : ℕ) (ts : List Item) (t : Item) → is_left i ts ≡ false → (t.symbol == i) ≡ false → is_left i (ts ++ t ∷ []) ≡ false
 left_none i [] t e q = λ j. q j || false
 left_none i (u ∷ ts) t e q =
     let parts = or_none (u.symbol == i) (is_left i ts) e in
@@ -101,7 +101,7 @@ left_none i (u ∷ ts) t e q =
     let rest = left_none i ts t parts.1 q in
     λ j. here j || rest j
 
-left_first : (i : ℕ) (ts us : List Item) → is_left i ts ≡ true → is_left i (ts ++ us) ≡ true
+pub left_first : (i : ℕ) (ts us : List Item) → is_left i ts ≡ true → is_left i (ts ++ us) ≡ true
 left_first i [] us e = absurd (cc e)
 left_first i (t ∷ ts) us e = of (t.symbol == i) e (λ k. left_first i ts us k)
   where
@@ -109,7 +109,7 @@ left_first i (t ∷ ts) us e = of (t.symbol == i) e (λ k. left_first i ts us k)
     of true k rest = refl
     of false k rest = rest k
 
-left_last : (i : ℕ) (ts : List Item) (t : Item) → (t.symbol == i) ≡ true → is_left i (ts ++ t ∷ []) ≡ true
+pub left_last : (i : ℕ) (ts : List Item) (t : Item) → (t.symbol == i) ≡ true → is_left i (ts ++ t ∷ []) ≡ true
 left_last i [] t e = λ j. e j || false
 left_last i (u ∷ ts) t e = ap (λ (b : Bool). (u.symbol == i) || b) (left_last i ts t e) ∙ true_end (u.symbol == i)
 
@@ -128,7 +128,7 @@ back_there n (u ∷ ts) (suc i) t at =
     let next : (n + 1) + i ≡ n + suc i = omega arith in
     left_first (n + suc i) (items_back (n + 1) ts) (item_of n u ∷ []) (ap (λ (m : ℕ). is_left m (items_back (n + 1) ts)) (sym next) ∙ back_there (n + 1) ts i t at)
 
-apart_last : (ts : List Item) (t : Item) → AreApart ts → is_left t.symbol ts ≡ false → AreApart (ts ++ t ∷ [])
+pub apart_last : (ts : List Item) (t : Item) → AreApart ts → is_left t.symbol ts ≡ false → AreApart (ts ++ t ∷ [])
 apart_last [] t a e = (refl, tt)
 apart_last (u ∷ ts) t a e =
     let parts = or_none (u.symbol == t.symbol) (is_left t.symbol ts) e in

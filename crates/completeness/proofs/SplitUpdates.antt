@@ -72,7 +72,7 @@ no_more : (ss : List Step) → ss ++ [] ≡ ss
 no_more [] = refl
 no_more (s ∷ ss) = ap (λ (rest : List Step). s ∷ rest) (no_more ss)
 
-loops_are : (n : ℕ) (ts : List Turning) → loops_in (turns_for n ts) ≡ loops_for n ts
+pub loops_are : (n : ℕ) (ts : List Turning) → loops_in (turns_for n ts) ≡ loops_for n ts
 loops_are n [] = refl
 loops_are n (t ∷ ts) = ap (λ (ls : List Loop). record { symbol = n; span = span t.low t.last [] } ∷ ls) (loops_are (n + 1) ts)
 

@@ -117,19 +117,19 @@ length_append : {A : Type 0} (xs ys : List A) → length (xs ++ ys) ≡ length x
 length_append [] ys = omega arith
 length_append (x ∷ xs) ys = (let rest = length_append xs ys in omega (arith, rest))
 
-take_long : {A : Type 0} (m : ℕ) (xs : List A) → m ≤ length xs → length (take m xs) ≡ m
+pub take_long : {A : Type 0} (m : ℕ) (xs : List A) → m ≤ length xs → length (take m xs) ≡ m
 take_long zero xs h = refl
 take_long (suc m) [] h = absurd (omega (arith, h))
 take_long (suc m) (x ∷ xs) h = ap suc (take_long m xs (omega (arith, h)))
 
-coordinates_long : (ms : Loads) (names : List (List ℕ)) (os : List (Option Form)) (lefts : List (Option Term)) (cs : List Coordinate) → AreCoordinates ms names os lefts cs → length cs ≡ length os
+pub coordinates_long : (ms : Loads) (names : List (List ℕ)) (os : List (Option Form)) (lefts : List (Option Term)) (cs : List Coordinate) → AreCoordinates ms names os lefts cs → length cs ≡ length os
 coordinates_long ms names [] lefts [] h = refl
 coordinates_long ms names [] lefts (c ∷ cs) h = absurd h
 coordinates_long ms [] (o ∷ os) lefts cs h = absurd h
 coordinates_long ms (x ∷ names) (o ∷ os) lefts [] h = absurd h
 coordinates_long ms (x ∷ names) (o ∷ os) lefts (c ∷ cs) h = ap suc (coordinates_long ms names os (other_lefts lefts) cs h.2)
 
-parted_coordinates : (ms : Loads) (vs tail : List (Option Form)) (names : List (List ℕ)) (lefts : List (Option Term)) (cs : List Coordinate) → AreCoordinates ms names (vs ++ tail) lefts cs →
+pub parted_coordinates : (ms : Loads) (vs tail : List (Option Form)) (names : List (List ℕ)) (lefts : List (Option Term)) (cs : List Coordinate) → AreCoordinates ms names (vs ++ tail) lefts cs →
     (ns : List (List ℕ)) × (ls : List (Option Term)) × AreCoordinates ms ns tail ls (drop (length vs) cs)
 parted_coordinates ms [] tail names lefts cs h = (names, lefts, h)
 parted_coordinates ms (v ∷ vs) tail [] lefts cs h = absurd h

@@ -153,7 +153,7 @@ loops_joined n (u ∷ us) vs =
 
 -- the loops of the first are none of these, and those of the others all
 module _ (Q : Loop → Bool) where
-  filter_first : (n : ℕ) (us : List Turning) (rest : List Loop) → ((j : ℕ) (t : Turning) → slice_get us j ≡ Some t → Q (record { symbol = n + j; span = span t.low t.last [] }) ≡ false) →
+  pub filter_first : (n : ℕ) (us : List Turning) (rest : List Loop) → ((j : ℕ) (t : Turning) → slice_get us j ≡ Some t → Q (record { symbol = n + j; span = span t.low t.last [] }) ≡ false) →
       filter Q (loops_for n us ++ rest) ≡ filter Q rest
   filter_first n [] rest h = refl
   filter_first n (u ∷ us) rest h =
@@ -252,7 +252,7 @@ module _ (n : ℕ) (all : List Turning) (few : (y : List ℕ) → hits turn_name
 
 -- ---- coordinates as lines have them
 
-none_index : (ms : Loads) (left : Option Term) (i : Index) → IsIndex ms None left i → (e : Term) × (i ≡ Found e)
+pub none_index : (ms : Loads) (left : Option Term) (i : Index) → IsIndex ms None left i → (e : Term) × (i ≡ Found e)
 none_index ms left (At g) h = absurd h
 none_index ms left (Found e) h = (e, refl)
 

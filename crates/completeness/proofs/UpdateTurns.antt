@@ -136,7 +136,7 @@ names_hits b d (x ∷ xs) y = of (is_missing b d) (names_hits b (d + 1) xs y)
     of true h = omega (arith, h)
     of false h = omega (arith, h)
 
-ranges_hits : (y : List ℕ) (ds : List Range) → hits_in y (map range_name ds) ≡ hits itself y (range_names ds)
+pub ranges_hits : (y : List ℕ) (ds : List Range) → hits_in y (map range_name ds) ≡ hits itself y (range_names ds)
 ranges_hits y [] = refl
 ranges_hits y (d ∷ ds) = (let rest = ranges_hits y ds in omega (arith, rest))
 

@@ -42,12 +42,12 @@ pub record IsBlocked (a : Algorithm) (s : Schedule) (n : ℕ) (g : StoredText) :
   pub filled : (l : LaidText) → slice_get (laid_functions a (stored_functions a s)) n ≡ Some (Some l) →
       AllByRecursion (λ c. is_tailed (loop_numbers g.subject.variables g.placed.cuts l.region) c ≡ false) g.placed.cuts
 
--- all that the claims of pure definitions owe is shown, where the tests of nests say yes to split nests
+-- all that the claims of nests owe is shown, where the tests of nests say yes to split nests
 abbrev pub BlockedClaimsShown : Algorithm → Plan → Certificate → ℕ → Group → Type 0
 BlockedClaimsShown a p c n g =
     let outline = outline_of p c n g in
     let rules = rules_of a p c n in
-    EachClaim outline rules (λ kept begin last known s k. ¬ IsFetch s → (outline.claim k).definition ≡ 0 → (nests : Nests) → TakeSplit a p c n g nests →
+    EachClaim outline rules (λ kept begin last known s k. ¬ IsFetch s → (nests : Nests) → TakeSplit a p c n g nests →
     all_shown rules nests (claim_obligations outline rules kept begin last known s k) ≡ true) [] g.body (body_line p n) (start (grid_binders g.grid))
 
 -- so it is of each such function: a coordinate is a form over the grid, a loop's symbol, or the first number of a block and the symbol of a loop over its numbers

@@ -9,3 +9,7 @@ pub mod Blocked
 pub mod Said
 pub mod Filled
 pub mod Fitting
+pub mod SaidLines
+pub mod Worked
+pub mod SaidCertificates
+pub mod SaidFiles

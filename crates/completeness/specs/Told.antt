@@ -1,5 +1,5 @@
--- What the checker tells of a plan whose schedule splits no loop, of an algorithm whose updates set each variable at its own place, is a limit.
-use Rattle.std.specs.Prelude.{◌≡◌, ℕ, ℤ, true, List, Some, slice_get}
+-- What the checker tells of a plan whose schedule splits loops once at most, by blocks that need no tail, is a limit.
+use Rattle.std.specs.Prelude.{◌≡◌, ◌⊎◌, ℕ, ℤ, true, List, [], Some, slice_get}
 use Rattle.std.specs.List.{AllByRecursion}
 use Rattle.meaning.specs.Image.Raster.{is_within}
 use Rattle.meaning.specs.Algorithm.{Algorithm}
@@ -32,13 +32,14 @@ use Rattle.lower.specs.Groups.{AreGroupsMade}
 use Rattle.completeness.specs.Nested.{IsUncut}
 use Rattle.completeness.specs.Stores.{IsNearRegion}
 use Rattle.completeness.specs.Placed.{ArePlaced}
+use Rattle.completeness.specs.Blocked.{IsBlocked}
 
--- each stored function is a root function that is computed at no loop, of which no loop is split; its updates set each variable at its own place, and the
--- region that is needed of it begins near 0
-pub record SplitsNothing (a : Algorithm) (s : Schedule) : Type 0 where
+-- each stored function is a root function that is computed at no loop; its loops are split once at most, by blocks that fill the loop or, with `roundup`, run past
+-- its end; where one is split it has no updates, and else its updates set each variable at its own place; and the region that is needed of it begins near 0
+pub record FillsBlocks (a : Algorithm) (s : Schedule) : Type 0 where
   pub whole : are_whole (stored_functions a s) ≡ true
-  pub uncut : (n : ℕ) (u : StoredText) → slice_get (stored_functions a s) n ≡ Some u → IsUncut u
-  pub placed : (n : ℕ) (u : StoredText) → slice_get (stored_functions a s) n ≡ Some u → (fs : List FormulaText) → u.formulas ≡ Some fs → ArePlaced fs
+  pub blocked : (n : ℕ) (u : StoredText) → slice_get (stored_functions a s) n ≡ Some u → IsBlocked a s n u
+  pub placed : (n : ℕ) (u : StoredText) → slice_get (stored_functions a s) n ≡ Some u → (fs : List FormulaText) → u.formulas ≡ Some fs → (IsUncut u × ArePlaced fs) ⊎ (u.changes ≡ [])
   pub near : (n : ℕ) (r : LaidText) → slice_get (laid_functions a (stored_functions a s)) n ≡ Some (Some r) → IsNearRegion r.region
 
 -- the group of this number is not the output's, or has each point of it
@@ -61,7 +62,7 @@ pub record TellsOnlyLimits (a : Algorithm) (p : Plan) (c : Certificate) : Type 0
 abbrev pub LimitsAloneAreTold : Type 0
 LimitsAloneAreTold =
     (a : Algorithm) (s : Schedule) (l : Lowered) → IsAlgorithm a → IsLegal a s → AreSmall a s → AreRegionsKept a s → AreGroupsMade a s l
-    → SplitsNothing a s → IsNamed a → TellsOnlyLimits a (plan_of l.plan) (certificate_of l.certificate)
+    → FillsBlocks a s → IsNamed a → TellsOnlyLimits a (plan_of l.plan) (certificate_of l.certificate)
 
 -- each refusal of the plan that is right, whatever its line, is told as a limit (K14)
 abbrev pub TellsLimitsAlone : Algorithm → Plan → Certificate → Type 0
@@ -71,4 +72,4 @@ TellsLimitsAlone a p c = (code line : ℕ) → IsFault a p c code line → code 
 abbrev pub FaultsAreLimits : Type 0
 FaultsAreLimits =
     (a : Algorithm) (s : Schedule) (l : Lowered) → IsAlgorithm a → IsLegal a s → AreSmall a s → AreRegionsKept a s → AreGroupsMade a s l
-    → SplitsNothing a s → IsNamed a → TellsLimitsAlone a (plan_of l.plan) (certificate_of l.certificate)
+    → FillsBlocks a s → IsNamed a → TellsLimitsAlone a (plan_of l.plan) (certificate_of l.certificate)

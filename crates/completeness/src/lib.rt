@@ -10,3 +10,4 @@ pub mod owed;
 pub mod placed;
 pub mod said;
 pub mod told;
+pub mod worked;

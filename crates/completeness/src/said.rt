@@ -1,6 +1,9 @@
 //! Laws of what plans name and store.
 
 ghost use Rattle.completeness.specs.Said.{NamesAreNoLoads, PlansAreSaid};
+ghost use Rattle.completeness.specs.SaidLines.{PlansFitByNumbers};
+ghost use Rattle.completeness.specs.SaidCertificates.{CertificatesFitByNumbers};
+ghost use Rattle.completeness.specs.SaidFiles.{FilesFit};
 
 /// Where the names of an algorithm are those of a text, as they are of one that was read, none of them reads as a load by a claim.
 pub fn names_are_no_loads()
@@ -12,4 +15,21 @@ pub fn names_are_no_loads()
 /// names, loads by its claims, an index at least in each call, and at most 256 levels.
 pub fn plans_are_said()
     ensures { PlansAreSaid }
+{}
+
+/// A plan of the shape that `fitting` tells, whose names and expressions a text can say, fits its text, where the numbers in its lines do.
+pub fn plans_fit_by_numbers()
+    ensures { PlansFitByNumbers }
+{}
+
+/// Of an algorithm whose names are those of a text, and of a schedule under which each stored function is a root function that is computed at no loop: the
+/// certificate that `lower` makes fits its text, where the numbers in its lines do: its lines stand in order, and the functions of its claims have names.
+pub fn certificates_fit_by_numbers()
+    ensures { CertificatesFitByNumbers }
+{}
+
+/// Where a plan and a certificate fit their texts, and the lines are within the limits of files, the plan's lines with the certificate's behind them are a plan
+/// file, and it is read as these two.
+pub fn files_fit()
+    ensures { FilesFit }
 {}

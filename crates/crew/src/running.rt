@@ -101,7 +101,7 @@ fn run_on<J: Run + Send + Sync, G: Gate, R: Threads + Wait + Sync>(
 ///
 /// The board takes 8 bytes for each piece and each cell (twice as much while it opens), 16 for each piece, and 2 for each sample
 /// of the picture. Where the region of the output's group is larger than the picture it also takes 4 for each sample. For each
-/// coordinate of a group's region 16 bytes are kept. Each worker has a desk. On it lies a scratch for all groups, which takes 24 bytes
+/// coordinate of a group's region 16 bytes are kept. Each worker has a desk. On it lies a scratch for all groups, which takes 9 bytes
 /// for each place of the buffers, of each number as many as the group asks for that asks for most, 24 for each line that binds a
 /// symbol, 4 for each count of the largest grid, 16 for each coordinate of own cells and of the points at which lines fetch and
 /// store, 8 for each index of the calls in stores, and 8 for each own cell of the piece that owns most; and for each fetched cell of the piece that fetches most 8 bytes, and 16 or more in an index of these cells. All this is taken

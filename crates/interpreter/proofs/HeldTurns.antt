@@ -107,7 +107,7 @@ operation_is bs x b n i k o zs lefts rights there s =
     λ t. with (left t) (λ a. with (right t) (λ c. Some (applied o.op a c)))
 
 -- a point's place is set in the buffer at this position
-set_is : (bs : List Block) (x : Block) (b i m : ℕ) (p : List ℤ) (v : Value) → slice_get bs i ≡ Some x → length x.places ≡ place_count x.rooms → StandsAt bs b p i m →
+pub set_is : (bs : List Block) (x : Block) (b i m : ℕ) (p : List ℤ) (v : Value) → slice_get bs i ≡ Some x → length x.places ≡ place_count x.rooms → StandsAt bs b p i m →
     write (memory_of bs) b p v ≡ Some (memory_of (set bs i (with_places x (slice_set x.places m (Some v)))))
 set_is bs x b i m p v there counts s =
     let both : Some s.spot.block ≡ Some x = sym s.spot.there ∙ there in

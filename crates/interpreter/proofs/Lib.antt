@@ -40,3 +40,7 @@ pub mod Updating
 pub mod PlaceNumbers
 pub mod HeldTurns
 pub mod Residues
+pub mod HeldPlaces
+pub mod RowsHeld
+pub mod Reciprocals
+pub mod SameRegisters

@@ -89,7 +89,7 @@ stands_in blocks b i n block p first there lies inside =
 
 -- ---- what stays when places are set
 
-stands_kept : (old new : List Block) (b i n : ℕ) (p : List ℤ) → ((j m : ℕ) → HasPlace old j m → HasPlace new j m) →
+pub stands_kept : (old new : List Block) (b i n : ℕ) (p : List ℤ) → ((j m : ℕ) → HasPlace old j m → HasPlace new j m) →
     ((c : ℕ) (q : List ℤ) (s : Spot) (l : ℕ) → IsSpot old c q s l → IsSpot new c q s l) →
     StandsAt old b p i n → StandsAt new b p i n
 stands_kept old new b i n p places spots h = record { spot = spots b p (record { buffer = i; place = n }) 0 h.spot; inside = places i n h.inside }

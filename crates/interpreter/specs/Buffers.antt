@@ -1,4 +1,5 @@
 pub mod Rooms
 pub mod Raster
 pub mod Blocks
+pub mod Marks
 pub mod Spots

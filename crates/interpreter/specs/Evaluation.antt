@@ -1,3 +1,4 @@
 pub mod Indices
 pub mod Lanes
 pub mod Repeats
+pub mod Quotients

@@ -1,10 +1,13 @@
 //! The private memory of a piece: buffers of places, each of which holds a value or is unset.
 //!
 //! A buffer has so many places for each coordinate: some from an origin on, or some that are used again and again. All
-//! its places lie in one vector in raster order, the first coordinate fastest, at 24 bytes a place.
+//! its places lie in raster order, the first coordinate fastest, at 9 bytes a place: a mark that says whether it is set and of which
+//! type, and a number.
 
 mod buffer;
+mod held;
 mod limit;
+mod marks;
 mod memory;
 mod raster;
 mod rising;
@@ -13,7 +16,9 @@ mod spot;
 mod stretch;
 mod turning;
 
+pub(crate) use held::{Held, held_at, held_inside, held_window};
 pub use limit::Limit;
+pub(crate) use marks::{Mark, mark_of, marked_type};
 pub use memory::Buffers;
 pub(crate) use memory::larger;
 pub use room::{Room, Rooms};

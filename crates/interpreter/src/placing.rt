@@ -1,9 +1,13 @@
 //! The own places of an update at the turns of a run: found for all turns, and then read and written by their numbers.
 
+ghost use Rattle.std.specs.Bool.{OnTrue};
 ghost use Rattle.std.specs.Prelude.{◌≡◌, ◌<◌, ◌≤◌, ◌==◌, ◌&&◌, ℕ, length, position, drop, IfSome, Some};
-ghost use Rattle.interpreter.specs.PlaceNumbers.{place_at, OperandStands, OperationStands, UpdateStands};
+ghost use Rattle.interpreter.specs.Evaluation.Lanes.{number_at};
+ghost use Rattle.interpreter.specs.PlaceNumbers.{place_at, OperandStands, OperationStands, StandsAt, UpdateStands};
+ghost use Rattle.interpreter.specs.Updates.{columns_at};
 
 use crate::buffers::Buffers;
+use crate::columns::number_of;
 use crate::evaluation::Number;
 use crate::run_reading::registers_behind;
 use crate::updates::{Operand, Operation, Update};
@@ -38,23 +42,102 @@ pub(crate) fn place_of(places: &[usize], turn: usize) -> usize
     }
 }
 
+/// Points whose places are known: their registers, and the numbers of their places.
+#[derive(Clone, Copy, Drop)]
+struct Placed<'a> {
+    registers: &'a [Number],
+    places: &'a [usize],
+}
+
+/// Whether two registers have the same numbers at so many turns. All are looked at, so that several are at once.
+fn is_same_register(left: &[Number], right: &[Number], count: usize) -> bool
+    ensures { OnTrue result ((k : ℕ) → k < count → number_at left.now k ≡ number_at right.now k) }
+{
+    if left.len() < count || right.len() < count {
+        return false;
+    }
+    let mut all = true;
+    for turn in 0..count {
+        let one = left[turn].value == right[turn].value;
+        all = all & one;
+    }
+    all
+}
+
+/// Whether two registers begin with the same number. Nothing rests on it: where they don't, they need not all be looked at.
+fn begin_alike(left: &[Number], right: &[Number]) -> bool {
+    number_of(left, 0) == number_of(right, 0)
+}
+
+/// Whether so many registers, one behind the other, have the same numbers as others at so many turns.
+fn are_same_registers(left: &[Number], right: &[Number], width: usize, count: usize) -> bool
+    ensures { OnTrue result ((k : ℕ) → k < count → columns_at count width left.now k ≡ columns_at count width right.now k) }
+{
+    if width == 0 {
+        return true;
+    }
+    if !begin_alike(left, right) || !is_same_register(left, right, count) {
+        return false;
+    }
+    let left = registers_behind(left, count);
+    let right = registers_behind(right, count);
+    are_same_registers(left, right, width - 1, count)
+}
+
+/// Puts in so many numbers of places.
+fn copy_places(from: &[usize], count: usize, places: &mut [usize])
+    requires from { count ≤ length from.now }
+    requires count { count ≤ length places.old }
+    ensures { (k : ℕ) → k < count → place_at places.new k ≡ place_at from.now k }
+{
+    for turn in 0..count {
+        places[turn] = from[turn];
+    }
+}
+
+/// Puts in the numbers of the places of points of so many coordinates, which are those of the point that is stored to where they are
+/// the same points; nothing where one has no place.
+fn place_own(
+    memory: &Buffers,
+    target: Target,
+    width: usize,
+    registers: &[Number],
+    placed: Placed<'_>,
+    places: &mut [usize],
+) -> Option<()>
+    requires first { position (λ block. block.used && (target.buffer == block.number)) memory.now ≡ Some target.position }
+    requires count { target.count ≤ length places.old }
+    requires listed { target.count ≤ length placed.places.now }
+    requires placed { (k : ℕ) → k < target.count → StandsAt memory.now target.buffer (columns_at target.count target.size placed.registers.now k) target.position (place_at placed.places.now k) }
+    ensures { IfSome result (λ _. (k : ℕ) → k < target.count → StandsAt memory.now target.buffer (columns_at target.count width registers.now k) target.position (place_at places.new k)) }
+{
+    if width == target.size
+        && are_same_registers(registers, placed.registers, width, target.count)
+    {
+        copy_places(placed.places, target.count, places);
+        return Some(());
+    }
+    memory.place_columns(target.position, width, target.count, registers, places)
+}
+
 /// Puts in the numbers of the places of an operand's own points; nothing where one has no place.
 fn place_operand(
     memory: &Buffers,
     target: Target,
     operand: Operand,
     registers: &[Number],
+    placed: Placed<'_>,
     places: &mut [usize],
 ) -> Option<()>
     requires first { position (λ block. block.used && (target.buffer == block.number)) memory.now ≡ Some target.position }
     requires count { target.count ≤ length places.old }
+    requires listed { target.count ≤ length placed.places.now }
+    requires placed { (k : ℕ) → k < target.count → StandsAt memory.now target.buffer (columns_at target.count target.size placed.registers.now k) target.position (place_at placed.places.now k) }
     ensures { IfSome result (λ _. (k : ℕ) → k < target.count → OperandStands memory.now target.buffer target.count target.position operand registers.now places.new k) }
 {
     match operand {
         Operand::Known(_) => Some(()),
-        Operand::Own(width) => {
-            memory.place_columns(target.position, width, target.count, registers, places)
-        }
+        Operand::Own(width) => place_own(memory, target, width, registers, placed, places),
     }
 }
 
@@ -64,17 +147,20 @@ fn place_operation(
     target: Target,
     operation: Operation,
     registers: &[Number],
+    placed: Placed<'_>,
     left: &mut [usize],
     right: &mut [usize],
 ) -> Option<()>
     requires first { position (λ block. block.used && (target.buffer == block.number)) memory.now ≡ Some target.position }
     requires left { target.count ≤ length left.old }
     requires right { target.count ≤ length right.old }
+    requires listed { target.count ≤ length placed.places.now }
+    requires placed { (k : ℕ) → k < target.count → StandsAt memory.now target.buffer (columns_at target.count target.size placed.registers.now k) target.position (place_at placed.places.now k) }
     ensures { IfSome result (λ _. (k : ℕ) → k < target.count → OperationStands memory.now target.buffer target.count target.position operation registers.now left.new right.new k) }
 {
     let behind = registers_behind(registers, operation.width);
-    place_operand(memory, target, operation.left, registers, left)?;
-    place_operand(memory, target, operation.right, behind, right)
+    place_operand(memory, target, operation.left, registers, placed, left)?;
+    place_operand(memory, target, operation.right, behind, placed, right)
 }
 
 /// Puts in the numbers of the places of an update: of the points that are stored to, and of the own points of both operands.
@@ -96,5 +182,17 @@ pub(crate) fn place_update(
 {
     let values = registers_behind(registers, update.start);
     memory.place_columns(target.position, target.size, target.count, registers, point)?;
-    place_operation(memory, target, update.operation, values, left, right)
+    let placed = Placed {
+        registers,
+        places: point,
+    };
+    place_operation(
+        memory,
+        target,
+        update.operation,
+        values,
+        placed,
+        left,
+        right,
+    )
 }

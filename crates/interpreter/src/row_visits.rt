@@ -7,6 +7,7 @@ ghost use Rattle.plan.specs.Certificate.Cells.{is_in_region, is_in_span};
 ghost use Rattle.plan.specs.Semantics.Memory.{read};
 ghost use Rattle.interpreter.specs.Bindings.{symbols_of};
 ghost use Rattle.interpreter.specs.Buffers.Blocks.{limits_of, memory_of};
+ghost use Rattle.interpreter.specs.Buffers.Marks.{held_places};
 ghost use Rattle.interpreter.specs.Buffers.Spots.{set_all, HasPlace, IsSpot};
 ghost use Rattle.interpreter.specs.CellRows.{row_value};
 ghost use Rattle.interpreter.specs.Narrow.{RegionIsNarrow, SpanIsNarrow};
@@ -19,10 +20,10 @@ ghost use Rattle.interpreter.specs.declared.piece.Piece.{Piece as PieceFound};
 ghost use Rattle.interpreter.specs.declared.visits.Visit.TheVariants.{Publish};
 ghost use Rattle.std.specs.Prelude.{flat_map};
 
-use crate::buffers::{Buffers, Spot};
+use crate::buffers::{Buffers, Held, Spot, held_inside, held_window};
 use crate::cells::{CellRow, Cells};
 use crate::piece::Piece;
-use crate::scanlines::{distance, window};
+use crate::scanlines::distance;
 use crate::state::State;
 use crate::symbols::Symbols;
 use crate::visits::{Numbers, Visit, Walk, claim_buffer, is_in_region, is_in_span};
@@ -85,25 +86,27 @@ fn places_of<'m>(
     first: i64,
     others: &[i64],
     count: usize,
-) -> Option<&'m [Option<Value>]>
-    ensures count { IfSome result (λ places. length places.now ≡ count) }
-    ensures held { IfSome result (λ places. (k : ℕ) (v : ValueFound) → slice_get places.now k ≡ Some (Some v) → read (memory_of memory.now) buffer ((first +ℤ pos k) ∷ others.now) ≡ Some v) }
+) -> Option<Held<'m>>
+    ensures count { IfSome result (λ held. length held.marks.now ≡ count) }
+    ensures numbers { IfSome result (λ held. length held.numbers.now ≡ count) }
+    ensures held { IfSome result (λ held. (k : ℕ) (v : ValueFound) → slice_get (held_places held.marks.now held.numbers.now) k ≡ Some (Some v) → read (memory_of memory.now) buffer ((first +ℤ pos k) ∷ others.now) ≡ Some v) }
 {
     let line = memory.scanline(buffer, others)?;
     let start = distance(line.origin, first)?;
-    let places = window(line.places, start, count)?;
-    Some(places)
+    let held = held_window(line.held, start, count)?;
+    Some(held)
 }
 
 /// Takes the numbers that places hold, from the first on, as long as each holds one and there is room: how many it took.
-fn push_held(places: &[Option<Value>], given: &mut SmallVec<i64, 4>) -> usize
-    ensures count { result ≤ length places.now }
-    ensures given { given_from places.now given.old.items result ≡ Some given.new.items }
+fn push_held(held: Held<'_>, given: &mut SmallVec<i64, 4>) -> usize
+    requires { length held.numbers.now ≡ length held.marks.now }
+    ensures count { result ≤ length held.entry.marks.now }
+    ensures given { given_from (held_places held.entry.marks.now held.entry.numbers.now) given.old.items result ≡ Some given.new.items }
     ensures capacity { given.new.capacity ≡ given.old.capacity }
 {
-    let count = places.len().min(given.capacity() - given.len());
+    let count = held.marks.len().min(given.capacity() - given.len());
     for turn in 0..count {
-        let Some(value) = places[turn] else {
+        let Some(value) = held_inside(held.marks, held.numbers, turn) else {
             return turn;
         };
         given.push_reserved(value.number);
@@ -128,10 +131,10 @@ fn give_row(piece: &Piece<'_>, claim: u64, numbers: Numbers, state: &mut State) 
     let Some(count) = count_of(numbers) else {
         return numbers;
     };
-    let Some(places) = places_of(&state.memory, buffer, numbers.low, others, count) else {
+    let Some(held) = places_of(&state.memory, buffer, numbers.low, others, count) else {
         return numbers;
     };
-    let taken = push_held(places, &mut state.given);
+    let taken = push_held(held, &mut state.given);
     behind(numbers, taken)
 }
 

@@ -12,7 +12,7 @@ ghost use Rattle.interpreter.specs.Evaluation.Lanes.{lane, lane_number, lanes_at
 ghost use Rattle.interpreter.specs.Pieces.{around, no_cells};
 ghost use Rattle.interpreter.specs.Runs.{numbers_at, IsBut};
 
-use crate::buffers::Buffers;
+use crate::buffers::{Buffers, held_window};
 use crate::evaluation::{Lanes, Number, RunReader, fill_steps};
 use crate::loads::claim_of;
 use crate::piece::Piece;
@@ -222,9 +222,9 @@ impl RunReading<'_, '_> {
     {
         let line = self.memory.scanline(buffer, others)?;
         let start = distance(line.origin, first)?;
-        let places = window(line.places, start, out.len())?;
-        let ty = type_held(places)?;
-        copy_numbers(places, ty, out)?;
+        let held = held_window(line.held, start, out.len())?;
+        let ty = type_held(held)?;
+        copy_numbers(held, ty, out)?;
         Some(ty)
     }
 

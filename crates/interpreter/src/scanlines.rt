@@ -1,20 +1,22 @@
 //! Rows: what lies at points that differ in the first coordinate alone.
 
-ghost use Rattle.std.specs.Prelude.{◌≡◌, ◌∷◌, [], ◌<◌, ◌+◌, ◌+ℤ◌, ◌-ℤ◌, ℕ, ℤ, Some, IfSome, length, drop, take, pos, slice_index};
+ghost use Rattle.std.specs.Prelude.{◌≡◌, ◌∷◌, [], ◌<◌, ◌+◌, ◌+ℤ◌, ◌-ℤ◌, ℕ, ℤ, Some, IfSome, length, drop, take, pos, slice_get, slice_index};
 ghost use Rattle.numeric.specs.declared.ty.Ty.{Ty as TyFound};
 ghost use Rattle.tree.specs.Meaning.{typed};
+ghost use Rattle.std.specs.Bool.{OnTrue};
+ghost use Rattle.interpreter.specs.Buffers.Marks.{held_places};
 ghost use Rattle.interpreter.specs.Evaluation.Lanes.{number_at};
 ghost use Rattle.interpreter.specs.Scanlines.{along, input_at, pixel_along, sample_along};
 
-use crate::evaluation::Number;
+use crate::buffers::{Held, Mark, held_at, mark_of, marked_type};
+use crate::evaluation::{Number, copy_each};
 use numeric::Ty;
-use tree::Value;
 
 /// Places side by side, the first of which is that of the coordinate `origin`.
 #[derive(Clone, Copy, Drop)]
 pub(crate) struct Scanline<'a> {
     pub origin: i64,
-    pub places: &'a [Option<Value>],
+    pub held: Held<'a>,
 }
 
 /// The number as a `usize`, unless it is below 0.
@@ -251,12 +253,13 @@ pub(crate) fn copy_samples(samples: &[u16], out: &mut [Number])
     }
 }
 
-/// The number that a place holds, where that is of the type.
+/// The number of a place, where its value is of the type.
 #[inline(always)]
-fn number_of(ty: Ty, held: Option<Value>) -> Option<Number>
-    ensures { IfSome result (λ n. held ≡ Some (typed ty n.value)) }
+#[tactic(auto, using(crate::proofs::HeldPlaces::get_held))]
+fn number_held(held: Held<'_>, ty: Ty, place: usize) -> Option<Number>
+    ensures { IfSome result (λ n. slice_get (held_places held.entry.marks.now held.entry.numbers.now) place ≡ Some (Some (typed ty n.value))) }
 {
-    let value = held?;
+    let value = held_at(held.marks, held.numbers, place)?;
     if value.ty == ty {
         Some(Number {
             value: value.number,
@@ -268,18 +271,18 @@ fn number_of(ty: Ty, held: Option<Value>) -> Option<Number>
 
 /// The number at a coordinate, where that is of the type.
 fn number_along(line: Scanline<'_>, ty: Ty, coordinate: Number) -> Option<Number>
-    ensures { IfSome result (λ n. along line.entry.places.now (coordinate.value -ℤ line.entry.origin) ≡ Some (Some (typed ty n.value))) }
+    ensures { IfSome result (λ n. along (held_places line.entry.held.marks.now line.entry.held.numbers.now) (coordinate.value -ℤ line.entry.origin) ≡ Some (Some (typed ty n.value))) }
 {
     let place = coordinate.value.checked_sub(line.origin)?;
     if place < 0 {
         return None;
     }
-    number_of(ty, *line.places.get(place as usize)?)
+    number_held(line.held, ty, place as usize)
 }
 
 /// The numbers at the coordinates that a register has, put into it, where all are of the type.
 pub(crate) fn take_numbers(line: Scanline<'_>, ty: Ty, out: &mut [Number]) -> Option<()>
-    ensures { IfSome result (λ _. (k : ℕ) → k < length out.new → along line.entry.places.now (number_at out.old k -ℤ line.entry.origin) ≡ Some (Some (typed ty (number_at out.new k)))) }
+    ensures { IfSome result (λ _. (k : ℕ) → k < length out.new → along (held_places line.entry.held.marks.now line.entry.held.numbers.now) (number_at out.old k -ℤ line.entry.origin) ≡ Some (Some (typed ty (number_at out.new k)))) }
 {
     for turn in 0..out.len() {
         out[turn] = number_along(line, ty, out[turn])?;
@@ -288,18 +291,31 @@ pub(crate) fn take_numbers(line: Scanline<'_>, ty: Ty, out: &mut [Number]) -> Op
 }
 
 /// The type of what the first of some places holds.
-pub(crate) fn type_held(places: &[Option<Value>]) -> Option<Ty> {
-    let held = *places.first()?;
-    Some(held?.ty)
+pub(crate) fn type_held(held: Held<'_>) -> Option<Ty> {
+    marked_type(*held.marks.first()?)
+}
+
+/// Whether all marks are this one. All are looked at, so that several are at once.
+fn are_marked(marks: &[Mark], mark: Mark) -> bool
+    ensures { OnTrue result ((k : ℕ) → k < length marks.now → slice_get marks.now k ≡ Some mark) }
+{
+    let mut all = true;
+    for place in 0..marks.len() {
+        let one = marks[place] == mark;
+        all = all & one;
+    }
+    all
 }
 
 /// The numbers that as many places hold, put into a register, where all are of the type.
-pub(crate) fn copy_numbers(places: &[Option<Value>], ty: Ty, out: &mut [Number]) -> Option<()>
-    requires { length places.now ≡ length out.old }
-    ensures { IfSome result (λ _. (k : ℕ) → k < length out.new → along places.now (pos k) ≡ Some (Some (typed ty (number_at out.new k)))) }
+pub(crate) fn copy_numbers(held: Held<'_>, ty: Ty, out: &mut [Number]) -> Option<()>
+    requires marks { length held.marks.now ≡ length out.old }
+    requires numbers { length held.numbers.now ≡ length out.old }
+    ensures { IfSome result (λ _. (k : ℕ) → k < length out.new → along (held_places held.entry.marks.now held.entry.numbers.now) (pos k) ≡ Some (Some (typed ty (number_at out.new k)))) }
 {
-    for turn in 0..out.len() {
-        out[turn] = number_of(ty, places[turn])?;
+    if !are_marked(held.marks, mark_of(ty)) {
+        return None;
     }
+    copy_each(held.numbers, out);
     Some(())
 }

@@ -10,7 +10,7 @@ use Rattle.sched.specs.declared.error.SchedError.{SchedError}
 use Rattle.lower.specs.Refused.{AreRegionsKept, AreSmall, AreUsesInside, IsRefused as IsRefusedSchedule}
 use Rattle.lower.specs.Groups.{AreGroupsMade}
 use Rattle.completeness.specs.Laws.{HasOwnLines, WholeStands}
-use Rattle.completeness.specs.Told.{SplitsNothing, TellsLimitsAlone}
+use Rattle.completeness.specs.Told.{FillsBlocks, TellsLimitsAlone}
 use Rattle.lower.specs.declared.error.LowerError.{LowerError}
 use Rattle.lower.specs.declared.lowering.Lowered.{Lowered}
 use Rattle.soundness.specs.declared.outline.refusals.code.K.TheVariants.{K14}
@@ -54,8 +54,8 @@ pub record IsNotLowered (a : Algorithm) (s : Schedule) (fault : Fault) : Type 0 
 -- ---- the plan
 
 -- what `lower` says of the plan that it makes of a legal schedule, and of its certificate, and what follows: each group has a line of what its pieces own;
--- where whole functions keep the inner loops of splits serial, these part the cells and are served by those that they need; and where no loop is split,
--- whatever the checker tells is a limit
+-- where whole functions keep the inner loops of splits serial, these part the cells and are served by those that they need; and where splits are into
+-- whole blocks, whatever the checker tells is a limit
 pub record IsLowered (a : Algorithm) (s : Schedule) (l : Lowered) : Type 0 where
   pub legal : IsLegal a s
   pub small : AreSmall a s
@@ -64,7 +64,7 @@ pub record IsLowered (a : Algorithm) (s : Schedule) (l : Lowered) : Type 0 where
   pub groups : AreGroupsMade a s l
   pub own_lines : HasOwnLines (plan_of l.plan) (certificate_of l.certificate)
   pub shares : WholeStands a s l
-  pub limits : SplitsNothing a s → IsNamed a → TellsLimitsAlone a (plan_of l.plan) (certificate_of l.certificate)
+  pub limits : FillsBlocks a s → IsNamed a → TellsLimitsAlone a (plan_of l.plan) (certificate_of l.certificate)
 
 -- the text of a plan file: the plan's lines, and behind them the certificate's
 abbrev pub file_text : PlanSaid → Certificate → List ℕ
@@ -102,12 +102,13 @@ abbrev pub TellsLimit : Fault → Type 0
 TellsLimit (Plan code line) = code ≡ K14
 TellsLimit _ = ⊤
 
--- the schedule is legal, and the text of the plan that is made of it is not accepted: where no loop is split, for a limit, if the text is read as that plan
+-- the schedule is legal, and the text of the plan that is made of it is not accepted: where splits are into whole blocks, for a limit, if the text is
+-- read as that plan
 pub record IsRefusedPlan (a : Algorithm) (s : Schedule) (fault : Fault) : Type 0 where
   pub text : List ℕ
   pub of_schedule : IsPlanText a s text
   pub refused : IsUnaccepted a text fault
-  pub limit : SplitsNothing a s → IsNamed a → IsReadAs text of_schedule.made → TellsLimit fault
+  pub limit : FillsBlocks a s → IsNamed a → IsReadAs text of_schedule.made → TellsLimit fault
 
 -- why no plan file comes of a schedule
 abbrev pub IsNotCompiled : Algorithm → Schedule → Fault → Type 0

@@ -9,21 +9,26 @@ ghost use Rattle.interpreter.specs.Buffers.Rooms.{room_of};
 ghost use Rattle.interpreter.specs.Scanlines.{along};
 ghost use Rattle.interpreter.specs.Buffers.Raster.{place_count, LiesAt};
 ghost use Rattle.interpreter.specs.Buffers.Blocks.{held_in, unused, IsSetAt};
+ghost use Rattle.interpreter.specs.Buffers.Marks.{held_places, row_held};
 ghost use Rattle.interpreter.specs.Buffers.Spots.{with_place};
 ghost use Rattle.interpreter.specs.HeldTurns.{turned, with_places};
 ghost use Rattle.interpreter.specs.PlaceNumbers.{place_at};
 ghost use Rattle.interpreter.specs.Updates.{columns_at};
 
+use crate::buffers::held::{
+    Held, held_at, held_window, make_as_many, put_numbers, set_held, unset_all,
+};
 use crate::buffers::limit::Limit;
+use crate::buffers::marks::Mark;
 use crate::buffers::raster::{place_columns, place_count, place_number};
 use crate::buffers::rising::{rise_from, rising, standing};
 use crate::buffers::room::Rooms;
 use crate::buffers::stretch::stretch_of;
 use crate::buffers::turning::turn_all;
-use crate::evaluation::Number;
+use crate::evaluation::{Number, Width};
 use crate::placing::Places;
 use crate::run_reading::registers_behind;
-use crate::scanlines::{Scanline, distance, window};
+use crate::scanlines::{Scanline, distance};
 use crate::updates::Operation;
 use smallvec::SmallVec;
 use std::alloc::{AllocError, Global};
@@ -31,27 +36,29 @@ use std::marker::Model;
 use tree::Value;
 
 /// A buffer: its number, for how many places there is memory, whether it is in use, the places of each coordinate, and
-/// what all places hold in raster order.
+/// what all places hold in raster order: a mark and a number each.
 #[derive(Drop)]
 pub struct Buffer {
     number: u64,
     limit: usize,
     is_used: bool,
     rooms: Rooms,
-    places: Vec<Option<Value>>,
+    marks: Vec<Mark>,
+    numbers: Vec<Number>,
 }
 
 impl Model for Buffer {
     ghost use Rattle.std.specs.Prelude.{◌≡◌, ◌<◌, ◌≤◌, ◌^◌, map, length, vec_capacity};
     ghost use Rattle.interpreter.specs.Buffers.Blocks.{Block};
+    ghost use Rattle.interpreter.specs.Buffers.Marks.{held_places};
     ghost use Rattle.interpreter.specs.Buffers.Rooms.{room_of};
     ghost use Rattle.interpreter.specs.Buffers.Raster.{place_count};
 
     ghost Value = { Block };
 
-    ghost view = { λ b. record { number = b.number; limit = b.limit; used = b.is_used; rooms = map room_of b.rooms.items; places = b.places.items } };
+    ghost view = { λ b. record { number = b.number; limit = b.limit; used = b.is_used; rooms = map room_of b.rooms.items; places = held_places b.marks.items b.numbers.items } };
 
-    ghost invariant = { λ b. (length b.places.items ≡ place_count (map room_of b.rooms.items)) × (place_count (map room_of b.rooms.items) < 2 ^ 64) × (b.limit ≤ vec_capacity b.places) × (b.limit < 2 ^ 64) };
+    ghost invariant = { λ b. (length b.marks.items ≡ place_count (map room_of b.rooms.items)) × (place_count (map room_of b.rooms.items) < 2 ^ 64) × (b.limit ≤ vec_capacity b.marks) × (b.limit < 2 ^ 64) × (length b.numbers.items ≡ length b.marks.items) × (b.limit ≤ vec_capacity b.numbers) };
 }
 
 /// Whether there are so many behind those that are skipped.
@@ -81,21 +88,24 @@ fn sum(left: usize, right: usize) -> Option<usize>
 }
 
 impl Buffer {
-    /// A buffer that is not in use. It takes memory for its places, 24 bytes each.
+    /// A buffer that is not in use. It takes memory for its places, 9 bytes each.
     pub(crate) fn new(alloc: Global, limit: Limit) -> Result<Buffer, AllocError>
         ensures number { IfOk result (λ b. b.number ≡ limit.buffer) }
         ensures limit { IfOk result (λ b. b.limit ≡ limit.places) }
         ensures unused { IfOk result (λ b. b.used ≡ false) }
     {
-        let mut places = Vec::with_capacity(alloc, limit.places)?;
+        let mut marks = Vec::with_capacity(alloc, limit.places)?;
+        let mut numbers = Vec::with_capacity(alloc, limit.places)?;
         // Without coordinates there is one place.
-        places.push(None)?;
+        marks.push(Mark::Unset)?;
+        numbers.push(Number { value: 0 })?;
         Ok(Buffer {
             number: limit.buffer,
             limit: limit.places,
             is_used: false,
             rooms: SmallVec::new(alloc),
-            places,
+            marks,
+            numbers,
         })
     }
 
@@ -114,19 +124,19 @@ impl Buffer {
     }
 
     /// Takes the buffer into use, with unset places.
+    #[tactic(auto, using(crate::proofs::HeldPlaces::held_unset, crate::proofs::HeldPlaces::held_length))]
     pub(crate) fn begin(&mut self, rooms: Rooms)
         requires { place_count (map room_of rooms.items) ≤ self.old.limit }
         ensures { self.new ≡ record { number = self.old.number; limit = self.old.limit; used = true; rooms = map room_of rooms.items; places = replicate (place_count (map room_of rooms.items)) None } }
     {
-        self.places.clear();
+        self.is_used = true;
         let Some(count) = place_count(&rooms) else {
             unreachable!()
         };
-        let Ok(()) = self.places.resize(count, None) else {
-            unreachable!()
-        };
+        unset_all(&mut self.marks, count);
+        // What an unset place has as its number is no matter.
+        make_as_many(&mut self.numbers, count);
         self.rooms = rooms;
-        self.is_used = true;
     }
 
     /// Takes the buffer out of use.
@@ -141,24 +151,35 @@ impl Buffer {
         ensures { result ≡ held_at (held_in self.now) (place self.now.rooms at.now) }
     {
         let number = place_number(&self.rooms, at)?;
-        self.places[number]
+        held_at(&self.marks, &self.numbers, number)
+    }
+
+    /// What all places hold.
+    fn held(&self) -> Held<'_>
+        ensures { held_places result.marks.now result.numbers.now ≡ self.now.places }
+    {
+        Held {
+            marks: self.marks.as_slice(),
+            numbers: self.numbers.as_slice(),
+        }
     }
 
     /// What is held at the points with these coordinates behind the first one. Nothing where they have no places, or places
     /// that are used again and again.
     pub(crate) fn scanline(&self, others: &[i64]) -> Option<Scanline<'_>>
-        ensures { IfSome result (λ l. (z : ℤ) (v : ValueHeld) → along l.places.now (z -ℤ l.origin) ≡ Some (Some v) → held_at (held_in self.now) (place self.now.rooms (z ∷ others.now)) ≡ Some v) }
+        ensures { IfSome result (λ l. (z : ℤ) (v : ValueHeld) → along (held_places l.held.marks.now l.held.numbers.now) (z -ℤ l.origin) ≡ Some (Some v) → held_at (held_in self.now) (place self.now.rooms (z ∷ others.now)) ≡ Some v) }
     {
         let stretch = stretch_of(&self.rooms, others)?;
-        let places = window(self.places.as_slice(), stretch.start, stretch.count)?;
+        let held = held_window(self.held(), stretch.start, stretch.count)?;
         Some(Scanline {
             origin: stretch.origin,
-            places,
+            held,
         })
     }
 
     /// The number of the place of the first of so many points, of which each has a first coordinate that is one more than that of
     /// the one before, where the places of the others follow it one by one.
+    #[tactic(auto, using(crate::proofs::HeldPlaces::held_length))]
     pub(crate) fn places_from(&self, first: i64, others: &[i64], count: usize) -> Option<usize>
         ensures lies { IfSome result (λ n. (k : ℕ) → k < count → LiesAt self.now.rooms ((first +ℤ pos k) ∷ others.now) (n + k)) }
         ensures inside { IfSome result (λ n. (k : ℕ) → k < count → n + k < length self.now.places) }
@@ -175,6 +196,7 @@ impl Buffer {
     /// The number of the place of the first of so many points, where the first coordinate rises by one with each turn, the others
     /// stay, and the places of the others follow it one by one. Each of so many coordinates has a register of so many numbers, one
     /// behind the other.
+    #[tactic(auto, using(crate::proofs::HeldPlaces::held_length))]
     fn row_place(&self, width: usize, count: usize, registers: &[Number]) -> Option<usize>
         ensures lies { IfSome result (λ n. (k : ℕ) → k < count → LiesAt self.now.rooms (columns_at count width registers.now k) (n + k)) }
         ensures inside { IfSome result (λ n. (k : ℕ) → k < count → n + k < length self.now.places) }
@@ -195,6 +217,7 @@ impl Buffer {
     }
 
     /// Puts in the numbers of the places of points at so many turns, where these follow one another.
+    #[tactic(auto, using(crate::proofs::HeldPlaces::held_length))]
     fn place_row(
         &self,
         width: usize,
@@ -207,12 +230,13 @@ impl Buffer {
         ensures inside { IfSome result (λ _. (k : ℕ) → k < count → place_at places.new k < length self.now.places) }
     {
         let start = self.row_place(width, count, registers)?;
-        rise_from(self.places.len(), start, count, places);
+        rise_from(self.marks.len(), start, count, places);
         Some(())
     }
 
     /// Puts in the numbers of the places of points at so many turns; nothing where one has no place. Each of so many
     /// coordinates has a register of so many numbers, one behind the other.
+    #[tactic(auto, using(crate::proofs::HeldPlaces::held_length))]
     pub(crate) fn place_columns(
         &self,
         width: usize,
@@ -235,6 +259,7 @@ impl Buffer {
 
     /// Sets the places of so many turns of an operation, by their numbers, one after another. Nothing where one of the own places
     /// is unset at its turn.
+    #[tactic(auto, using(crate::proofs::HeldPlaces::held_length))]
     pub(crate) fn turn_all(
         &mut self,
         operation: Operation,
@@ -247,19 +272,35 @@ impl Buffer {
         ensures turned { option_map (λ _. self.new) result ≡ option_map (with_places self.old) (turned operation numbers.now behind.now places.now.point.now places.now.left.now places.now.right.now self.old.places count) }
         ensures counted { length self.old.places ≡ place_count self.old.rooms }
     {
-        let held = self.places.as_mut_slice();
-        turn_all(operation, numbers, behind, places, count, held)
+        let marks = self.marks.as_mut_slice();
+        let held = self.numbers.as_mut_slice();
+        turn_all(operation, numbers, behind, places, count, marks, held)
     }
 
     /// Sets the place that so many come behind another.
     #[inline(always)]
+    #[tactic(auto, using(crate::proofs::HeldPlaces::held_length))]
     pub(crate) fn put(&mut self, place: usize, behind: usize, value: Value)
         requires { place + behind < length self.old.places }
         ensures is { self.new ≡ with_place self.old (place + behind) value }
         ensures set { (p : List ℤ) → LiesAt self.old.rooms p (place + behind) → IsSetAt self.old self.new p value }
     {
-        let target = place_behind(self.places.len(), place, behind);
-        self.places[target] = Some(value);
+        let target = place_behind(self.marks.len(), place, behind);
+        let marks = self.marks.as_mut_slice();
+        let numbers = self.numbers.as_mut_slice();
+        set_held(marks, numbers, target, value);
+    }
+
+    /// Sets the places from one on, one after another, each to a number of the type.
+    #[tactic(auto, using(crate::proofs::HeldPlaces::held_length))]
+    pub(crate) fn put_numbers<W: Width>(&mut self, place: usize, numbers: &[Number])
+        requires { place + length numbers.now ≤ length self.old.places }
+        ensures set { self.new ≡ with_places self.old (row_held W.ty place numbers.now self.old.places (length numbers.now)) }
+        ensures counted { length self.old.places ≡ place_count self.old.rooms }
+    {
+        let marks = self.marks.as_mut_slice();
+        let held = self.numbers.as_mut_slice();
+        put_numbers::<W>(marks, held, place, numbers);
     }
 
     /// Sets the place of a point; `false` where the point has none.
@@ -269,7 +310,9 @@ impl Buffer {
     {
         match place_number(&self.rooms, at) {
             Some(number) => {
-                self.places[number] = Some(value);
+                let marks = self.marks.as_mut_slice();
+                let numbers = self.numbers.as_mut_slice();
+                set_held(marks, numbers, number, value);
                 true
             }
             None => false,

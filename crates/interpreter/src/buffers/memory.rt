@@ -10,6 +10,7 @@ ghost use Rattle.interpreter.specs.Buffers.Rooms.{room_of};
 ghost use Rattle.tree.specs.Meaning.{typed};
 ghost use Rattle.interpreter.specs.Scanlines.{along};
 ghost use Rattle.interpreter.specs.Evaluation.Lanes.{number_at};
+ghost use Rattle.interpreter.specs.Buffers.Marks.{held_places};
 ghost use Rattle.interpreter.specs.Buffers.Spots.{set_all, HasPlace, IsSpot};
 ghost use Rattle.interpreter.specs.declared.buffers.spot.Spot.{Spot as SpotHeld};
 ghost use Rattle.interpreter.specs.Buffers.Blocks.{limits_of, memory_of, HasMemoryFor, IsMadeFor, IsNumbered};
@@ -25,7 +26,6 @@ use crate::evaluation::{
     Number, Signed8, Signed16, Signed32, Unsigned8, Unsigned16, Unsigned32, Width,
 };
 use crate::placing::{Places, Target};
-use crate::registers::value_at;
 use crate::run_reading::registers_behind;
 use crate::scanlines::Scanline;
 use crate::updates::Update;
@@ -131,7 +131,7 @@ impl Buffers {
     /// Memory for buffers, of which none is in use: one of each number that a limit names, with the most places that a limit of
     /// the number asks for.
     ///
-    /// It takes 24 bytes a place.
+    /// It takes 9 bytes a place.
     pub fn new(alloc: Global, limits: &[Limit]) -> Result<Buffers, AllocError>
         ensures nothing { IfOk result (λ buffers. memory_of buffers ≡ nothing) }
         ensures limits { IfOk result (λ buffers. All (λ x. HasMemoryFor (limits_of buffers) x.buffer x.places) limits.now) }
@@ -181,7 +181,7 @@ impl Buffers {
     /// What is held at the points with these coordinates behind the first one. Nothing where there is no such buffer, or the
     /// points have no places, or places that are used again and again.
     pub(crate) fn scanline(&self, buffer: u64, others: &[i64]) -> Option<Scanline<'_>>
-        ensures { IfSome result (λ l. (z : ℤ) (v : ValueHeld) → along l.places.now (z -ℤ l.origin) ≡ Some (Some v) → read (memory_of self.now) buffer (z ∷ others.now) ≡ Some v) }
+        ensures { IfSome result (λ l. (z : ℤ) (v : ValueHeld) → along (held_places l.held.marks.now l.held.numbers.now) (z -ℤ l.origin) ≡ Some (Some v) → read (memory_of self.now) buffer (z ∷ others.now) ≡ Some v) }
     {
         let found = used_position(&self.buffers, buffer)?;
         self.buffers[found].scanline(others)
@@ -282,10 +282,12 @@ impl Buffers {
         ensures set { (b : ℕ) (points : ℕ → List ℤ) → ((k : ℕ) → k < length numbers.now → IsSpot self.old b (points k) spot k) → set_all (memory_of self.old) b points (λ k. typed W.ty (number_at numbers.now k)) (length numbers.now) ≡ Some (memory_of self.new) }
         ensures limits { limits_of self.new ≡ limits_of self.old }
     {
-        for turn in 0..numbers.len() {
-            let value = value_at(W::kind(), numbers, turn);
-            self.put(spot, turn, value);
+        // A spot of no numbers need not lie in a buffer.
+        let count = numbers.len();
+        if count == 0 {
+            return;
         }
+        self.buffers[spot.buffer].put_numbers::<W>(spot.place, numbers);
     }
 
     /// Sets the places from a spot on, one after another, each to a number of the register, by a loop of the type's own.

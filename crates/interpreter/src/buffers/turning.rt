@@ -3,10 +3,13 @@
 ghost use Rattle.std.specs.Prelude.{◌≡◌, ◌<◌, ◌≤◌, ℕ, List, length, option_map, slice_index_or, slice_set, Some, None};
 ghost use Rattle.plan.specs.Semantics.Found.{with};
 ghost use Rattle.tree.specs.Meaning.{applied, typed};
+ghost use Rattle.interpreter.specs.Buffers.Marks.{held_places};
 ghost use Rattle.interpreter.specs.HeldTurns.{held_operand, held_operation, on_known, on_own, turned};
 ghost use Rattle.interpreter.specs.PlaceNumbers.{place_at};
 ghost use Rattle.interpreter.specs.declared.evaluation.lanes.Number.{Number as NumberHeld};
 
+use crate::buffers::held::{held_at, number_in, put_number, set_held};
+use crate::buffers::marks::Mark;
 use crate::columns::number_of;
 use crate::evaluation::{
     Difference, Larger, Number, Operator, Product, Quotient, Remainder, Signed8, Signed16,
@@ -23,17 +26,18 @@ fn operand_held(
     operand: Operand,
     numbers: &[Number],
     places: &[usize],
-    held: &[Option<Value>],
+    marks: &[Mark],
+    held: &[Number],
     turn: usize,
 ) -> Option<Value>
-    ensures { result ≡ held_operand operand numbers.now places.now held.now turn }
+    ensures { result ≡ held_operand operand numbers.now places.now (held_places marks.now held.now) turn }
 {
     match operand {
         Operand::Known(ty) => Some(Value {
             ty,
             number: number_of(numbers, turn),
         }),
-        Operand::Own(_) => *held.get(place_of(places, turn))?,
+        Operand::Own(_) => held_at(marks, held, place_of(places, turn)),
     }
 }
 
@@ -63,16 +67,19 @@ fn turn_held<O: Operator, W: Width>(
     numbers: &[Number],
     behind: &[Number],
     places: &Places<'_>,
-    held: &mut [Option<Value>],
+    marks: &mut [Mark],
+    held: &mut [Number],
     turn: usize,
 ) -> Option<()>
     requires op { operation.op ≡ O.op }
-    requires point { place_at places.now.point.now turn < length held.old }
-    ensures { option_map (λ _. held.new) result ≡ with (held_operation operation numbers.now behind.now places.now.left.now places.now.right.now held.old turn) (λ v. Some (slice_set held.old (place_at places.now.point.now turn) (Some v))) }
+    requires numbers { length held.old ≡ length marks.old }
+    requires point { place_at places.now.point.now turn < length marks.old }
+    ensures { option_map (λ _. held_places marks.new held.new) result ≡ with (held_operation operation numbers.now behind.now places.now.left.now places.now.right.now (held_places marks.old held.old) turn) (λ v. Some (slice_set (held_places marks.old held.old) (place_at places.now.point.now turn) (Some v))) }
 {
-    let left = operand_held(operation.left, numbers, places.left, held, turn)?;
-    let right = operand_held(operation.right, behind, places.right, held, turn)?;
-    held[place_of(places.point, turn)] = Some(applied_value::<O, W>(operation.op, left, right));
+    let left = operand_held(operation.left, numbers, places.left, marks, held, turn)?;
+    let right = operand_held(operation.right, behind, places.right, marks, held, turn)?;
+    let value = applied_value::<O, W>(operation.op, left, right);
+    set_held(marks, held, place_of(places.point, turn), value);
     Some(())
 }
 
@@ -85,24 +92,18 @@ fn turn_each<O: Operator, W: Width>(
     behind: &[Number],
     places: &Places<'_>,
     count: usize,
-    held: &mut [Option<Value>],
+    marks: &mut [Mark],
+    held: &mut [Number],
 ) -> Option<()>
     requires op { operation.op ≡ O.op }
-    requires point { (k : ℕ) → k < count → place_at places.now.point.now k < length held.old }
-    ensures { option_map (λ _. held.new) result ≡ turned operation numbers.now behind.now places.now.point.now places.now.left.now places.now.right.now held.old count }
+    requires numbers { length held.old ≡ length marks.old }
+    requires point { (k : ℕ) → k < count → place_at places.now.point.now k < length marks.old }
+    ensures { option_map (λ _. held_places marks.new held.new) result ≡ turned operation numbers.now behind.now places.now.point.now places.now.left.now places.now.right.now (held_places marks.old held.old) count }
 {
     for turn in 0..count {
-        turn_held::<O, W>(operation, numbers, behind, places, held, turn)?;
+        turn_held::<O, W>(operation, numbers, behind, places, marks, held, turn)?;
     }
     Some(())
-}
-
-/// What the place of a number holds.
-#[inline(always)]
-fn held_at(held: &[Option<Value>], place: usize) -> Option<Value>
-    ensures { result ≡ slice_index_or held.now place None }
-{
-    *held.get(place)?
 }
 
 /// Sets a place to what an operator has on the value of an own place and a number of this type. Nothing where the own place is
@@ -114,18 +115,24 @@ fn set_by_known<O: Operator, W: Width>(
     own: usize,
     ty: Ty,
     number: Number,
-    held: &mut [Option<Value>],
+    marks: &mut [Mark],
+    held: &mut [Number],
 ) -> Option<()>
     requires op { op ≡ O.op }
-    requires point { point < length held.old }
-    ensures { option_map (λ _. held.new) result ≡ with (with (slice_index_or held.old own None) (λ x. Some (applied op x (typed ty number.value)))) (λ v. Some (slice_set held.old point (Some v))) }
+    requires numbers { length held.old ≡ length marks.old }
+    requires point { point < length marks.old }
+    ensures { option_map (λ _. held_places marks.new held.new) result ≡ with (with (slice_index_or (held_places marks.old held.old) own None) (λ x. Some (applied op x (typed ty number.value)))) (λ v. Some (slice_set (held_places marks.old held.old) point (Some v))) }
 {
-    let value = held_at(held, own)?;
+    if let Some(first) = number_in::<W>(marks, held, own) {
+        put_number::<W>(marks, held, point, applied_number::<O, W>(first, number));
+        return Some(());
+    }
+    let value = held_at(marks, held, own)?;
     let known = Value {
         ty,
         number: number.value,
     };
-    held[point] = Some(applied_value::<O, W>(op, value, known));
+    set_held(marks, held, point, applied(op, value, known));
     Some(())
 }
 
@@ -139,17 +146,19 @@ fn turn_by_known<O: Operator, W: Width>(
     point: &[usize],
     own: &[usize],
     count: usize,
-    held: &mut [Option<Value>],
+    marks: &mut [Mark],
+    held: &mut [Number],
 ) -> Option<()>
     requires op { op ≡ O.op }
+    requires numbers { length held.old ≡ length marks.old }
     requires known { count ≤ length behind.now }
     requires own { count ≤ length own.now }
     requires listed { count ≤ length point.now }
-    requires point { (k : ℕ) → k < count → place_at point.now k < length held.old }
-    ensures { (w n : ℕ) (zs : List NumberHeld) (rights : List ℕ) → option_map (λ _. held.new) result ≡ turned (on_known op w ty n) zs behind.now point.now own.now rights held.old count }
+    requires point { (k : ℕ) → k < count → place_at point.now k < length marks.old }
+    ensures { (w n : ℕ) (zs : List NumberHeld) (rights : List ℕ) → option_map (λ _. held_places marks.new held.new) result ≡ turned (on_known op w ty n) zs behind.now point.now own.now rights (held_places marks.old held.old) count }
 {
     for turn in 0..count {
-        set_by_known::<O, W>(op, point[turn], own[turn], ty, behind[turn], held)?;
+        set_by_known::<O, W>(op, point[turn], own[turn], ty, behind[turn], marks, held)?;
     }
     Some(())
 }
@@ -161,15 +170,24 @@ fn set_by_own<O: Operator, W: Width>(
     point: usize,
     first: usize,
     second: usize,
-    held: &mut [Option<Value>],
+    marks: &mut [Mark],
+    held: &mut [Number],
 ) -> Option<()>
     requires op { op ≡ O.op }
-    requires point { point < length held.old }
-    ensures { option_map (λ _. held.new) result ≡ with (with (slice_index_or held.old first None) (λ x. with (slice_index_or held.old second None) (λ y. Some (applied op x y)))) (λ v. Some (slice_set held.old point (Some v))) }
+    requires numbers { length held.old ≡ length marks.old }
+    requires point { point < length marks.old }
+    ensures { option_map (λ _. held_places marks.new held.new) result ≡ with (with (slice_index_or (held_places marks.old held.old) first None) (λ x. with (slice_index_or (held_places marks.old held.old) second None) (λ y. Some (applied op x y)))) (λ v. Some (slice_set (held_places marks.old held.old) point (Some v))) }
 {
-    let value = held_at(held, first)?;
-    let other = held_at(held, second)?;
-    held[point] = Some(applied_value::<O, W>(op, value, other));
+    let other = held_at(marks, held, second)?;
+    if let Some(value) = number_in::<W>(marks, held, first) {
+        let number = Number {
+            value: other.number,
+        };
+        put_number::<W>(marks, held, point, applied_number::<O, W>(value, number));
+        return Some(());
+    }
+    let value = held_at(marks, held, first)?;
+    set_held(marks, held, point, applied(op, value, other));
     Some(())
 }
 
@@ -182,17 +200,19 @@ fn turn_by_own<O: Operator, W: Width>(
     first: &[usize],
     second: &[usize],
     count: usize,
-    held: &mut [Option<Value>],
+    marks: &mut [Mark],
+    held: &mut [Number],
 ) -> Option<()>
     requires op { op ≡ O.op }
+    requires numbers { length held.old ≡ length marks.old }
     requires first { count ≤ length first.now }
     requires second { count ≤ length second.now }
     requires listed { count ≤ length point.now }
-    requires point { (k : ℕ) → k < count → place_at point.now k < length held.old }
-    ensures { (v w n : ℕ) (zs behind : List NumberHeld) → option_map (λ _. held.new) result ≡ turned (on_own op v w n) zs behind point.now first.now second.now held.old count }
+    requires point { (k : ℕ) → k < count → place_at point.now k < length marks.old }
+    ensures { (v w n : ℕ) (zs behind : List NumberHeld) → option_map (λ _. held_places marks.new held.new) result ≡ turned (on_own op v w n) zs behind point.now first.now second.now (held_places marks.old held.old) count }
 {
     for turn in 0..count {
-        set_by_own::<O, W>(op, point[turn], first[turn], second[turn], held)?;
+        set_by_own::<O, W>(op, point[turn], first[turn], second[turn], marks, held)?;
     }
     Some(())
 }
@@ -205,25 +225,27 @@ fn turn_by<O: Operator, W: Width>(
     behind: &[Number],
     places: &Places<'_>,
     count: usize,
-    held: &mut [Option<Value>],
+    marks: &mut [Mark],
+    held: &mut [Number],
 ) -> Option<()>
     requires op { operation.op ≡ O.op }
-    requires point { (k : ℕ) → k < count → place_at places.now.point.now k < length held.old }
-    ensures { option_map (λ _. held.new) result ≡ turned operation numbers.now behind.now places.now.point.now places.now.left.now places.now.right.now held.old count }
+    requires numbers { length held.old ≡ length marks.old }
+    requires point { (k : ℕ) → k < count → place_at places.now.point.now k < length marks.old }
+    ensures { option_map (λ _. held_places marks.new held.new) result ≡ turned operation numbers.now behind.now places.now.point.now places.now.left.now places.now.right.now (held_places marks.old held.old) count }
 {
     let op = operation.op;
     let (point, first, second) = (places.point, places.left, places.right);
     if point.len() < count || first.len() < count {
-        return turn_each::<O, W>(operation, numbers, behind, places, count, held);
+        return turn_each::<O, W>(operation, numbers, behind, places, count, marks, held);
     }
     match (operation.left, operation.right) {
         (Operand::Own(_), Operand::Known(ty)) if count <= behind.len() => {
-            turn_by_known::<O, W>(op, ty, behind, point, first, count, held)
+            turn_by_known::<O, W>(op, ty, behind, point, first, count, marks, held)
         }
         (Operand::Own(_), Operand::Own(_)) if count <= second.len() => {
-            turn_by_own::<O, W>(op, point, first, second, count, held)
+            turn_by_own::<O, W>(op, point, first, second, count, marks, held)
         }
-        _ => turn_each::<O, W>(operation, numbers, behind, places, count, held),
+        _ => turn_each::<O, W>(operation, numbers, behind, places, count, marks, held),
     }
 }
 
@@ -232,9 +254,10 @@ fn first_type(
     operand: Operand,
     numbers: &[Number],
     places: &[usize],
-    held: &[Option<Value>],
+    marks: &[Mark],
+    held: &[Number],
 ) -> Ty {
-    match operand_held(operand, numbers, places, held, 0) {
+    match operand_held(operand, numbers, places, marks, held, 0) {
         Some(value) => value.ty,
         None => Ty::I32,
     }
@@ -247,19 +270,21 @@ fn turn_in<O: Operator>(
     behind: &[Number],
     places: &Places<'_>,
     count: usize,
-    held: &mut [Option<Value>],
+    marks: &mut [Mark],
+    held: &mut [Number],
 ) -> Option<()>
     requires op { operation.op ≡ O.op }
-    requires point { (k : ℕ) → k < count → place_at places.now.point.now k < length held.old }
-    ensures { option_map (λ _. held.new) result ≡ turned operation numbers.now behind.now places.now.point.now places.now.left.now places.now.right.now held.old count }
+    requires numbers { length held.old ≡ length marks.old }
+    requires point { (k : ℕ) → k < count → place_at places.now.point.now k < length marks.old }
+    ensures { option_map (λ _. held_places marks.new held.new) result ≡ turned operation numbers.now behind.now places.now.point.now places.now.left.now places.now.right.now (held_places marks.old held.old) count }
 {
-    match first_type(operation.left, numbers, places.left, held) {
-        Ty::U8 => turn_by::<O, Unsigned8>(operation, numbers, behind, places, count, held),
-        Ty::U16 => turn_by::<O, Unsigned16>(operation, numbers, behind, places, count, held),
-        Ty::U32 => turn_by::<O, Unsigned32>(operation, numbers, behind, places, count, held),
-        Ty::I8 => turn_by::<O, Signed8>(operation, numbers, behind, places, count, held),
-        Ty::I16 => turn_by::<O, Signed16>(operation, numbers, behind, places, count, held),
-        Ty::I32 => turn_by::<O, Signed32>(operation, numbers, behind, places, count, held),
+    match first_type(operation.left, numbers, places.left, marks, held) {
+        Ty::U8 => turn_by::<O, Unsigned8>(operation, numbers, behind, places, count, marks, held),
+        Ty::U16 => turn_by::<O, Unsigned16>(operation, numbers, behind, places, count, marks, held),
+        Ty::U32 => turn_by::<O, Unsigned32>(operation, numbers, behind, places, count, marks, held),
+        Ty::I8 => turn_by::<O, Signed8>(operation, numbers, behind, places, count, marks, held),
+        Ty::I16 => turn_by::<O, Signed16>(operation, numbers, behind, places, count, marks, held),
+        Ty::I32 => turn_by::<O, Signed32>(operation, numbers, behind, places, count, marks, held),
     }
 }
 
@@ -271,18 +296,20 @@ pub(crate) fn turn_all(
     behind: &[Number],
     places: &Places<'_>,
     count: usize,
-    held: &mut [Option<Value>],
+    marks: &mut [Mark],
+    held: &mut [Number],
 ) -> Option<()>
-    requires { (k : ℕ) → k < count → place_at places.now.point.now k < length held.old }
-    ensures { option_map (λ _. held.new) result ≡ turned operation numbers.now behind.now places.now.point.now places.now.left.now places.now.right.now held.old count }
+    requires numbers { length held.old ≡ length marks.old }
+    requires point { (k : ℕ) → k < count → place_at places.now.point.now k < length marks.old }
+    ensures { option_map (λ _. held_places marks.new held.new) result ≡ turned operation numbers.now behind.now places.now.point.now places.now.left.now places.now.right.now (held_places marks.old held.old) count }
 {
     match operation.op {
-        Op::Add => turn_in::<Sum>(operation, numbers, behind, places, count, held),
-        Op::Sub => turn_in::<Difference>(operation, numbers, behind, places, count, held),
-        Op::Mul => turn_in::<Product>(operation, numbers, behind, places, count, held),
-        Op::Div => turn_in::<Quotient>(operation, numbers, behind, places, count, held),
-        Op::Rem => turn_in::<Remainder>(operation, numbers, behind, places, count, held),
-        Op::Min => turn_in::<Smaller>(operation, numbers, behind, places, count, held),
-        Op::Max => turn_in::<Larger>(operation, numbers, behind, places, count, held),
+        Op::Add => turn_in::<Sum>(operation, numbers, behind, places, count, marks, held),
+        Op::Sub => turn_in::<Difference>(operation, numbers, behind, places, count, marks, held),
+        Op::Mul => turn_in::<Product>(operation, numbers, behind, places, count, marks, held),
+        Op::Div => turn_in::<Quotient>(operation, numbers, behind, places, count, marks, held),
+        Op::Rem => turn_in::<Remainder>(operation, numbers, behind, places, count, marks, held),
+        Op::Min => turn_in::<Smaller>(operation, numbers, behind, places, count, marks, held),
+        Op::Max => turn_in::<Larger>(operation, numbers, behind, places, count, marks, held),
     }
 }

@@ -1,9 +1,11 @@
 //! Quotients and remainders by one number at all turns of a run, without a division at each.
 
-ghost use Rattle.std.specs.Prelude.{◌≡◌, ◌<◌, ◌≤ℤ◌, ◌<ℤ◌, ◌/◌, ◌%◌, ℕ, IfSome, pos, negsuc, length};
+ghost use Rattle.std.specs.Bool.{OnTrue};
+ghost use Rattle.std.specs.Prelude.{◌≡◌, ◌<◌, ◌≤ℤ◌, ◌<ℤ◌, ◌*◌, ◌/◌, ◌%◌, ◌^◌, ℕ, IfSome, pos, negsuc, length};
 ghost use Rattle.numeric.specs.Apply.{apply, quotient, remainder};
 ghost use Rattle.numeric.specs.declared.op.Op.TheVariants.{Div, Rem};
 ghost use Rattle.interpreter.specs.Evaluation.Lanes.{number_at};
+ghost use Rattle.interpreter.specs.Evaluation.Quotients.{IsReciprocal, IsSmall};
 
 use crate::evaluation::kernels::applied_number;
 use crate::evaluation::lanes::Number;
@@ -143,17 +145,105 @@ fn divide_each<W: Width>(out: &mut [Number], divisor: u32)
     }
 }
 
+/// Whether a number is of 16 bits without a sign.
+#[inline(always)]
+fn is_small(number: Number) -> bool
+    ensures { OnTrue result (IsSmall number.value) }
+{
+    let from = number.value >= 0;
+    let below = number.value < 1 << 16;
+    from & below
+}
+
+/// Whether all numbers are of 16 bits without a sign. All are looked at, so that several are at once.
+fn are_small(numbers: &[Number]) -> bool
+    ensures { OnTrue result ((k : ℕ) → k < length numbers.now → IsSmall (number_at numbers.now k)) }
+{
+    let mut all = true;
+    for turn in 0..numbers.len() {
+        let one = is_small(numbers[turn]);
+        all = all & one;
+    }
+    all
+}
+
+/// What numbers of 16 bits are multiplied by, so that the bits of the product above the first 32 are the quotient.
+#[tactic(auto, using(crate::proofs::Reciprocals::reciprocal_is))]
+fn small_reciprocal(divisor: u32) -> Option<u32>
+    ensures { IfSome result (λ m. IsReciprocal m divisor) }
+{
+    if divisor < 2 || divisor > 1 << 16 {
+        return None;
+    }
+    let reciprocal = (u32::MAX / divisor).checked_add(1)?;
+    Some(reciprocal)
+}
+
+/// The bits above the first 32 of a product of two numbers of 32 bits.
+#[inline(always)]
+fn upper_half(left: u32, right: u32) -> i64
+    ensures { result ≡ pos ((left * right) / (2 ^ 32)) }
+{
+    ((u64::from(left) * u64::from(right)) >> 32) as i64
+}
+
+/// A number of 16 bits without a sign.
+#[inline(always)]
+fn small_number(number: Number) -> u32
+    requires { IsSmall number.value }
+    ensures is { number.value ≡ pos result }
+    ensures below { result < 2 ^ 16 }
+{
+    number.value as u32
+}
+
+/// The quotient of a number of 16 bits, wrapped to the type, by the divisor's reciprocal.
+#[inline(always)]
+fn small_quotient<W: Width>(number: Number, divisor: u32, reciprocal: u32) -> Number
+    requires small { IsSmall number.value }
+    requires reciprocal { IsReciprocal reciprocal divisor }
+    ensures { result.value ≡ apply Div W.ty number.value (pos divisor) }
+{
+    let quotient = upper_half(small_number(number), reciprocal);
+    Number {
+        value: W::wrapped(quotient),
+    }
+}
+
+/// Each number of 16 bits divided by one, wrapped to the type, by the divisor's reciprocal.
+#[inline(always)]
+fn divide_small<W: Width>(out: &mut [Number], divisor: u32, reciprocal: u32)
+    requires small { (k : ℕ) → k < length out.old → IsSmall (number_at out.old k) }
+    requires reciprocal { IsReciprocal reciprocal divisor }
+    ensures { (k : ℕ) → k < length out.new → number_at out.new k ≡ apply Div W.ty (number_at out.old k) (pos divisor) }
+{
+    for turn in 0..out.len() {
+        out[turn] = small_quotient::<W>(out[turn], divisor, reciprocal);
+    }
+}
+
+/// Each number divided by one, wrapped to the type: by a product alone where all are of 16 bits.
+#[inline(always)]
+fn divide_in<W: Width>(out: &mut [Number], divisor: u32)
+    ensures { (k : ℕ) → k < length out.new → number_at out.new k ≡ apply Div W.ty (number_at out.old k) (pos divisor) }
+{
+    match small_reciprocal(divisor) {
+        Some(reciprocal) if are_small(out) => divide_small::<W>(out, divisor, reciprocal),
+        _ => divide_each::<W>(out, divisor),
+    }
+}
+
 /// Each number divided by one, wrapped to the type, by a loop of the type's own.
 pub(crate) fn divide_all(ty: Ty, out: &mut [Number], divisor: u32)
     ensures { (k : ℕ) → k < length out.new → number_at out.new k ≡ apply Div ty (number_at out.old k) (pos divisor) }
 {
     match ty {
-        Ty::U8 => divide_each::<Unsigned8>(out, divisor),
-        Ty::U16 => divide_each::<Unsigned16>(out, divisor),
-        Ty::U32 => divide_each::<Unsigned32>(out, divisor),
-        Ty::I8 => divide_each::<Signed8>(out, divisor),
-        Ty::I16 => divide_each::<Signed16>(out, divisor),
-        Ty::I32 => divide_each::<Signed32>(out, divisor),
+        Ty::U8 => divide_in::<Unsigned8>(out, divisor),
+        Ty::U16 => divide_in::<Unsigned16>(out, divisor),
+        Ty::U32 => divide_in::<Unsigned32>(out, divisor),
+        Ty::I8 => divide_in::<Signed8>(out, divisor),
+        Ty::I16 => divide_in::<Signed16>(out, divisor),
+        Ty::I32 => divide_in::<Signed32>(out, divisor),
     }
 }
 

@@ -1,5 +1,5 @@
-use Rattle.std.proofs.Common.{◌≡◌, ◌∷◌, ℕ, ℤ, List, drop, Some, true, pos, map, sym, ap, ◌∙◌, arith, rules, w64, SFits, to_z, of_z}
-use Rattle.std.specs.Prelude.{◌+ℤ◌, ◌≤ℤ◌, slice_get}
+use Rattle.std.proofs.Common.{◌≡◌, ◌∷◌, ℕ, ℤ, List, drop, Some, true, pos, map, length, subst, sym, ap, ◌∙◌, arith, rules, w64, SFits, to_z, of_z}
+use Rattle.std.specs.Prelude.{◌+ℤ◌, ◌≤◌, ◌≤ℤ◌, slice_get}
 use Rattle.std.proofs.lemmas.Int.{ints, to_z-of_z}
 use Rattle.tree.specs.declared.value.Value.{Value}
 use Rattle.plan.specs.Certificate.Cells.{is_in_region}
@@ -9,10 +9,12 @@ use Rattle.plan.specs.Semantics.Memory.{read}
 use Rattle.plan.specs.Semantics.Setting.{buffer_in}
 use Rattle.interpreter.specs.Bindings.{symbols_of}
 use Rattle.interpreter.specs.Buffers.Blocks.{memory_of}
+use Rattle.interpreter.specs.Buffers.Marks.{held_places}
 use Rattle.interpreter.specs.Pieces.{around}
 use Rattle.interpreter.specs.RowVisits.{row_actions}
 use Rattle.interpreter.specs.Steps.{steps}
 use Rattle.interpreter.specs.declared.visits.Visit.TheVariants.{Publish}
+use Rattle.interpreter.proofs.HeldPlaces.{held_length}
 use Rattle.interpreter.proofs.RowVisits.{given_row}
 use Rattle.interpreter.proofs.row_visits.give_row.Goals as goal
 
@@ -24,10 +26,12 @@ returns-clause-run c = λ cell.
     let high = c.args.numbers.high in
     let others : List ℤ = drop 1 old.point.items in
     let s = symbols_of x.constants.now in
-    let places = c.in-Some-places_of.places.now in
+    let places = held_places c.in-Some-places_of.held.marks.now c.in-Some-places_of.held.numbers.now in
     let buffer : ℕ = (around x cell).claim_buffer c.args.claim in
     let taken : ℕ = c.push_held-taken.result in
-    let long = c.in-Some-places_of.ensures.count in
+    let same = held_length c.in-Some-places_of.held.marks.now c.in-Some-places_of.held.numbers.now in
+    let long = same ∙ c.in-Some-places_of.ensures.count in
+    let taken_few : c.push_held-taken.result ≤ length places = subst (λ (n : ℕ). c.push_held-taken.result ≤ n) (sym same) c.push_held-taken.ensures.count in
     let counted = c.in-Some.ensures.0 in
     let behind : c.others-others.result.now ≡ others = c.others-others.ensures ∙ ap (drop 1) c.as_slice.ensures in
     let inside : (z : ℤ) → low ≤ℤ z → z ≤ℤ high → is_in_region s x.group.now.region (z ∷ others) ≡ true =
@@ -39,7 +43,7 @@ returns-clause-run c = λ cell.
     let held : (k : ℕ) (v : Value) → slice_get places k ≡ Some (Some v) → read (memory_of old.memory) buffer ((low +ℤ pos k) ∷ others) ≡ Some v =
     λ k v there. (λ i. read (memory_of old.memory) (sym named i) ((sym first i +ℤ pos k) ∷ sym behind i)) ∙ c.in-Some-places_of.ensures.held k v there in
     given_row x cell c.args.claim low high others (memory_of old.memory) places old.given.items inside held (omega (arith, ints, long, counted)) taken c.push_held-taken.new.given.items
-    c.push_held-taken.ensures.count c.push_held-taken.ensures.given
+    taken_few c.push_held-taken.ensures.given
     ∙ (λ i. steps (around x cell) (row_actions x (Publish c.args.claim) others (sym c.behind.ensures.low i) (sym c.behind.ensures.high i)) (record {
       memory = memory_of old.memory;
       given =

@@ -1,10 +1,11 @@
 use Rattle.std.proofs.Common.{◌≡◌, ◌+◌, Some, length}
+use Rattle.interpreter.specs.Buffers.Marks.{held_places}
 use Rattle.interpreter.specs.RowVisits.{given_from}
 use Rattle.interpreter.proofs.row_visits.push_held.Given as goal
 
 abbrev pub invariant-loop-turn : goal.invariant-loop-turn
 invariant-loop-turn l = record {
-  given : given_from l.places l.initial.given.items l.turn ≡ Some l.given.items;
+  given : given_from (held_places l.held.marks.now l.held.numbers.now) l.initial.given.items l.turn ≡ Some l.given.items;
   capacity : l.given.capacity ≡ l.initial.given.capacity;
   long : length l.given.items ≡ length l.initial.given.items + l.turn;
 }

@@ -1,4 +1,5 @@
 use Rattle.std.proofs.Common.{sym, ap, ◌∙◌}
+use Rattle.interpreter.specs.Buffers.Marks.{held_places}
 use Rattle.interpreter.specs.HeldTurns.{turned}
 use Rattle.interpreter.specs.declared.updates.Operation.{Operation}
 use Rattle.interpreter.proofs.HeldTurns.{known_kind, own_kind}
@@ -11,7 +12,7 @@ returns-in-Own-Known g c =
     let w = c.in-Own-Known.field-0-0 in
     let is = known_kind o w c.in-Own-Known.ty c.in-Own-Known.is-0 c.in-Own-Known.is-1 in
     c.turn_by_known.ensures w o.width c.args.numbers.now p.right.now
-    ∙ ap (λ (x : Operation). turned x c.args.numbers.now c.args.behind.now p.point.now p.left.now p.right.now c.args.held.now c.args.count) (sym is)
+    ∙ ap (λ (x : Operation). turned x c.args.numbers.now c.args.behind.now p.point.now p.left.now p.right.now (held_places c.args.marks.now c.args.held.now) c.args.count) (sym is)
 
 pub returns-in-Own-Own : goal.returns-in-Own-Own
 returns-in-Own-Own g c =
@@ -21,4 +22,4 @@ returns-in-Own-Own g c =
     let w = c.in-Own-Own.field-0-1 in
     let is = own_kind o v w c.in-Own-Own.is-0 c.in-Own-Own.is-1 in
     c.turn_by_own.ensures v w o.width c.args.numbers.now c.args.behind.now
-    ∙ ap (λ (x : Operation). turned x c.args.numbers.now c.args.behind.now p.point.now p.left.now p.right.now c.args.held.now c.args.count) (sym is)
+    ∙ ap (λ (x : Operation). turned x c.args.numbers.now c.args.behind.now p.point.now p.left.now p.right.now (held_places c.args.marks.now c.args.held.now) c.args.count) (sym is)

@@ -1,4 +1,5 @@
 use Rattle.std.proofs.Common.{◌+◌, None, sym, arith}
+use Rattle.interpreter.specs.Buffers.Marks.{held_places}
 use Rattle.interpreter.proofs.HeldTurns.{turned_next, turned_stops}
 use Rattle.interpreter.proofs.buffers.turning.turn_each.Goals as goal
 
@@ -9,7 +10,7 @@ returns-in_err-turn_held g c =
     let zs = c.args.numbers.now in
     let behind = c.args.behind.now in
     let p = c.args.places.now in
-    let h = c.args.held.now in
-    let none = turned_next o zs behind p.point.now p.left.now p.right.now h l.turn l.held None l.invariant (sym c.in_err-turn_held.ensures) in
+    let h = held_places c.args.marks.now c.args.held.now in
+    let none = turned_next o zs behind p.point.now p.left.now p.right.now h l.turn (held_places l.marks l.held) None l.invariant (sym c.in_err-turn_held.ensures) in
     let all = turned_stops o zs behind p.point.now p.left.now p.right.now h (l.turn + 1) c.args.count (omega arith) none in
     rw c.from_residual.ensures (sym all)

@@ -1,6 +1,8 @@
 use Rattle.std.proofs.Common.{◌≡◌, Some}
+use Rattle.interpreter.specs.Buffers.Marks.{held_places}
 use Rattle.interpreter.specs.HeldTurns.{turned}
 use Rattle.interpreter.proofs.buffers.turning.turn_each.Given as goal
 
 abbrev pub invariant-loop-turn : goal.invariant-loop-turn
-invariant-loop-turn g l = turned l.operation l.numbers l.behind l.places.point.now l.places.left.now l.places.right.now l.initial.held l.turn ≡ Some l.held
+invariant-loop-turn g l = turned l.operation l.numbers l.behind l.places.point.now l.places.left.now l.places.right.now (held_places l.initial.marks l.initial.held) l.turn
+    ≡ Some (held_places l.marks l.held)

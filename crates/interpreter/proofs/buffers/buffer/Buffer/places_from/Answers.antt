@@ -6,6 +6,7 @@ use Rattle.interpreter.specs.Buffers.Rooms.{room_of}
 use Rattle.interpreter.specs.Buffers.Raster.{place_count, LiesAt}
 use Rattle.interpreter.specs.Buffers.Blocks.{Block}
 use Rattle.interpreter.specs.declared.buffers.room.Room.{Room as CodeRoom}
+use Rattle.interpreter.proofs.HeldPlaces.{held_length}
 use Rattle.interpreter.proofs.Spots.{lies_from}
 use Rattle.interpreter.proofs.buffers.buffer.Buffer.places_from.Goals as goal
 
@@ -28,5 +29,6 @@ returns-clause-inside c = λ k lt.
     let place : ℕ = c.in_ok-place.place in
     let here = returns-clause-lies c k lt in
     let counted : place + k < place_count (map room_of c.self.inside.rooms.items) = subst (λ (b : Block). place + k < place_count b.rooms) (sym c.self.view_is) here.counted in
-    let inside : place + k < length c.self.inside.places.items = subst (λ (n : ℕ). place + k < n) (sym c.self.invariant.0) counted in
-    subst (λ (b : Block). place + k < length b.places) c.self.view_is inside
+    let inside : place + k < length c.self.inside.marks.items = subst (λ (n : ℕ). place + k < n) (sym c.self.invariant.0) counted in
+    let long = held_length c.self.inside.marks.items c.self.inside.numbers.items in
+    subst (λ (b : Block). place + k < length b.places) c.self.view_is (subst (λ (n : ℕ). place + k < n) (sym long) inside)

@@ -1,38 +1,39 @@
-use Rattle.std.proofs.Common.{◌≡◌, ◌+◌, ◌<◌, ℕ, Some, subst, sym, ap, ◌∙◌, length, arith}
-use Rattle.std.proofs.lemmas.Bool.{ltb-false}
-use Rattle.numeric.specs.declared.ty.Ty.{Ty}
+use Rattle.std.proofs.Common.{◌≡◌, ◌+◌, ◌<◌, ◌∙◌, ℕ, List, Some, subst, set, sym, ap, length, arith}
+use Rattle.std.specs.Prelude.{slice_get}
+use Rattle.std.proofs.lemmas.Option.{get_or_from_slice_get}
 use Rattle.tree.specs.Meaning.{typed}
-use Rattle.plan.specs.Semantics.Memory.{write}
-use Rattle.interpreter.specs.Buffers.Blocks.{memory_of}
-use Rattle.interpreter.specs.Buffers.Spots.{set_all}
+use Rattle.interpreter.specs.Buffers.Blocks.{Block, limits_of, memory_of}
+use Rattle.interpreter.specs.Buffers.Spots.{set_all, HasPlace, IsSpot}
 use Rattle.interpreter.specs.Evaluation.Lanes.{number_at}
-use Rattle.interpreter.proofs.Spots.{set_more}
+use Rattle.interpreter.proofs.Blocks.{same_limits}
+use Rattle.interpreter.proofs.RowsHeld.{row_set}
 use Rattle.interpreter.proofs.buffers.memory.Buffers.put_each.Goals as goal
-
-pub put-requires : goal.put-requires
-put-requires g c =
-    let l = c.loop-turn in
-    let lt : l.turn < length c.args.numbers.now = omega (arith, ltb-false) in
-    l.invariant.places c.args.spot.buffer (c.args.spot.place + l.turn) (c.requires l.turn lt)
-
-pub loop-turn-preserved : goal.loop-turn-preserved
-loop-turn-preserved g c =
-    let l = c.loop-turn in
-    let lt : l.turn < length c.args.numbers.now = omega (arith, ltb-false) in
-    let is = c.value_at-value.ensures ∙ ap (λ (t : Ty). typed t (number_at c.args.numbers.now l.turn)) c.kind.ensures in
-    record {
-      limits = c.put.ensures.limits ∙ l.invariant.limits;
-      places = λ i n h. c.put.ensures.places i n (l.invariant.places i n h);
-      spots = λ b p s k h. c.put.ensures.spots b p s k (l.invariant.spots b p s k h);
-      set = λ b points h.
-          set_more (memory_of c.args.self.now) (memory_of l.self) (memory_of c.put.new.self) b points (λ k. typed g.W.Width.ty (number_at c.args.numbers.now k)) l.turn (l.invariant.set b points h)
-          ((λ i. write (memory_of l.self) b (points l.turn) (sym is i)) ∙ c.put.ensures.set b (points l.turn) (l.invariant.spots b (points l.turn) c.args.spot l.turn
-          (h l.turn lt)));
-    }
 
 pub returns-clause-set : goal.returns-clause-set
 returns-clause-set g c = λ b points h.
-    let l = c.loop-turn in
-    let n = length c.args.numbers.now in
-    let all : l.turn ≡ n = omega (arith, ltb-false) in
-    subst (λ (m : ℕ). set_all (memory_of c.args.self.now) b points (λ k. typed g.W.Width.ty (number_at c.args.numbers.now k)) m ≡ Some (memory_of l.self)) all (l.invariant.set b points h)
+    let blocks : List Block = c.self.inside.buffers.items in
+    let spot = c.args.spot in
+    let zs = c.args.numbers.now in
+    let n = length zs in
+    let old : Block = c.index_mut.result.now in
+    let some : 0 < n = omega arith in
+    let inside : (k : ℕ) → k < n → HasPlace blocks spot.buffer (spot.place + k) =
+    λ k lt. subst (λ (bs : List Block). HasPlace bs spot.buffer (spot.place + k)) (sym c.self.view_is) (c.requires k lt) in
+    let spots : (k : ℕ) → k < n → IsSpot blocks b (points k) spot k = λ k lt. subst (λ (bs : List Block). IsSpot bs b (points k) spot k) (sym c.self.view_is) (h k lt) in
+    let first : HasPlace blocks spot.buffer (spot.place + 0) = inside 0 some in
+    let is : old ≡ first.block = c.index_mut.ensures.value ∙ get_or_from_slice_get blocks spot.buffer first.block old first.there in
+    let there : slice_get blocks spot.buffer ≡ Some old = first.there ∙ ap (λ (x : Block). Some x) (sym is) in
+    ap (λ (bs : List Block). set_all (memory_of bs) b points (λ k. typed g.W.Width.ty (number_at zs k)) n) (sym c.self.view_is)
+    ∙ row_set blocks b points spot old g.W.Width.ty zs there c.put_numbers.ensures.counted n spots inside n (omega arith)
+    ∙ ap (λ (x : Block). Some (memory_of (set blocks spot.buffer x))) (sym c.put_numbers.ensures.set)
+
+pub returns-clause-limits : goal.returns-clause-limits
+returns-clause-limits g c =
+    let blocks : List Block = c.self.inside.buffers.items in
+    let old : Block = c.index_mut.result.now in
+    let new : Block = c.put_numbers.new.self in
+    let is = c.put_numbers.ensures.set in
+    let value = c.index_mut.ensures.value in
+    same_limits blocks c.args.spot.buffer old new (ap (λ block. Block.number block) is ∙ ap (λ block. Block.number block) value) (ap (λ block. Block.limit block) is ∙ ap
+    (λ block. Block.limit block) value)
+    ∙ ap limits_of c.self.view_is

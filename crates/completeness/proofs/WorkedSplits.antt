@@ -1,0 +1,109 @@
+-- The schedule that is written out fills blocks, by computation.
+use Rattle.std.proofs.Common.{◌≡◌, ℕ, zero, suc, false, List, [], ◌∷◌, Option, Some, None, map, refl, sym, ap, ◌∙◌, subst, inr, arith}
+use Rattle.std.specs.Prelude.{pos, slice_get}
+use Rattle.std.specs.List.{AllByRecursion}
+use Rattle.std.proofs.lemmas.Int.{ints}
+use Rattle.sched.specs.declared.numbers.Extent.{Extent}
+use Rattle.meaning.specs.Algorithm.{Function}
+use Rattle.sched.specs.Numbers.{loop_numbers}
+use Rattle.sched.specs.Subjects.{subject_said}
+use Rattle.sched.specs.Legal.{said, loops_after}
+use Rattle.lower.specs.Stored.{StoredText, stored_by, flags, stored_functions}
+use Rattle.lower.specs.Regions.{LaidText, laid_functions}
+use Rattle.completeness.specs.Blocked.{is_tailed, IsBlocked}
+use Rattle.completeness.specs.Stores.{IsNearRegion}
+use Rattle.completeness.specs.Worked.{reader, caller, two_functions, both_split, SplitsFill}
+use Rattle.completeness.proofs.Owned.{some_same}
+
+abbrev gs : List StoredText
+gs = stored_functions two_functions both_split
+
+-- so many numbers from 0 on
+abbrev from_zero : ℕ → Extent
+from_zero n = record { low = pos 0; count = n }
+
+abbrev points : List Extent
+points = from_zero 8 ∷ from_zero 5 ∷ []
+
+abbrev region_in : Option (Option LaidText) → List Extent
+region_in (Some (Some l)) = l.region
+region_in _ = []
+
+region_first : region_in (slice_get (laid_functions two_functions gs) 0) ≡ points
+region_first = refl
+
+region_second : region_in (slice_get (laid_functions two_functions gs) 1) ≡ points
+region_second = refl
+
+near_points : IsNearRegion points
+near_points = (omega (arith, ints), (omega (arith, ints), tt))
+
+-- ---- what is stored
+
+abbrev stored_as : Function → StoredText
+stored_as f =
+    stored_by two_functions (flags (map (subject_said two_functions both_split) two_functions.functions)) f.variables f.value f.changes (subject_said two_functions both_split f)
+    (loops_after (said both_split) f)
+
+abbrev first : StoredText
+first = stored_as reader
+
+abbrev second : StoredText
+second = stored_as caller
+
+first_is : (u : StoredText) → slice_get gs 0 ≡ Some u → first ≡ u
+first_is u at = some_same first u at
+
+second_is : (u : StoredText) → slice_get gs 1 ≡ Some u → second ≡ u
+second_is u at = some_same second u at
+
+-- over a region no split needs a tail
+abbrev IsFilled : StoredText → List Extent → Type 0
+IsFilled g es = AllByRecursion (λ c. is_tailed (loop_numbers g.subject.variables g.placed.cuts es) c ≡ false) g.placed.cuts
+
+first_filled : IsFilled first points
+first_filled = (refl, tt)
+
+second_filled : IsFilled second points
+second_filled = (refl, tt)
+
+first_blocked : IsBlocked two_functions both_split 0 first
+first_blocked = record {
+  once = (refl, tt);
+  inners = (refl, refl, tt);
+  filled = λ l e. subst (IsFilled first) (sym region_first ∙ ap region_in e) first_filled;
+}
+
+second_blocked : IsBlocked two_functions both_split 1 second
+second_blocked = record {
+  once = (refl, tt);
+  inners = (refl, refl, tt);
+  filled = λ l e. subst (IsFilled second) (sym region_second ∙ ap region_in e) second_filled;
+}
+
+blocked : (n : ℕ) (u : StoredText) → slice_get gs n ≡ Some u → IsBlocked two_functions both_split n u
+blocked zero u at = subst (IsBlocked two_functions both_split 0) (first_is u at) first_blocked
+blocked (suc zero) u at = subst (IsBlocked two_functions both_split 1) (second_is u at) second_blocked
+blocked (suc (suc n)) u at = absurd (no_more u at)
+  where
+    no_more : (u : StoredText) → None ≡ Some u → ⊥
+    no_more u q = cc q
+
+unchanged : (n : ℕ) (u : StoredText) → slice_get gs n ≡ Some u → u.changes ≡ []
+unchanged zero u at = ap (λ (g : StoredText). g.changes) (sym (first_is u at))
+unchanged (suc zero) u at = ap (λ (g : StoredText). g.changes) (sym (second_is u at))
+unchanged (suc (suc n)) u at = absurd (no_more u at)
+  where
+    no_more : (u : StoredText) → None ≡ Some u → ⊥
+    no_more u q = cc q
+
+near : (n : ℕ) (r : LaidText) → slice_get (laid_functions two_functions gs) n ≡ Some (Some r) → IsNearRegion r.region
+near zero r at = subst IsNearRegion (sym region_first ∙ ap region_in at) near_points
+near (suc zero) r at = subst IsNearRegion (sym region_second ∙ ap region_in at) near_points
+near (suc (suc n)) r at = absurd (no_more r at)
+  where
+    no_more : (r : LaidText) → None ≡ Some (Some r) → ⊥
+    no_more r q = cc q
+
+pub splits_fill : SplitsFill
+splits_fill = record { whole = refl; blocked = blocked; placed = λ n u at fs e. inr (unchanged n u at); near = near }

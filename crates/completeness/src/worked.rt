@@ -1,0 +1,9 @@
+//! An algorithm and a schedule written out.
+
+ghost use Rattle.completeness.specs.Worked.{SplitsFill};
+
+/// A function over 8 by 5 points that reads the input, computed in a piece for each two rows, which run past the end, and an output that calls it, in blocks of four
+/// numbers whose loop is vectorised: the law of all that the checker tells speaks of such a schedule. By computation.
+pub fn splits_fill()
+    ensures { SplitsFill }
+{}
