@@ -6,7 +6,6 @@ use Rattle.std.proofs.lemmas.Bool.Decides.{nat_tests}
 use Rattle.std.proofs.lemmas.Int.{ints}
 use Rattle.std.proofs.Math.Nat.{div-mul-le_self, lt-div-mul-add}
 use Rattle.lin.specs.Forms.{Form, in_front}
-use Rattle.bounds.specs.Spans.{numbers}
 use Rattle.plan.specs.declared.stmt.Places.TheVariants.{From}
 use Rattle.meaning.specs.Names.{same_name}
 use Rattle.soundness.specs.Claims.{In}

@@ -21,7 +21,6 @@ use Rattle.plan.specs.Semantics.Setting.{or_else}
 use Rattle.soundness.specs.Claims.{In}
 use Rattle.soundness.specs.Obligations.{exactly, form_has, span_has}
 use Rattle.soundness.proofs.Refines.{and_parts, eq_refl, eq_true, number_refl, number_true}
-use Rattle.sched.specs.Skeleton.{span}
 use Rattle.tails.specs.Moves.{Choice, behind, choices, first_some, joined, single, only, naming, not_naming, each_replaced, is_positive, is_loose, paired, State, is_gapless, is_block, Ready}
 use Rattle.tails.specs.Moves.{first_naming, lower_factor, is_single, is_free_loop, ready, is_before, preferred, best, is_idle, after_idle, by_idle, are_blocks, over_turns, over_loop, taken}
 use Rattle.tails.specs.Moves.{after_loop, by_loop}

@@ -1,4 +1,4 @@
--- Whatever a function without updates fetches, all that the lines of its group owe is shown, where its loops are split once, by blocks that need no tail, and its region begins near 0.
+-- Whatever a function fetches whose left indices are the variables at their places, all that the lines of its group owe is shown, where its loops are split once, by blocks that need no tail, and its region begins near 0.
 use Rattle.std.proofs.Common.{◌≡◌, ℕ, zero, suc, ◌+◌, ◌-◌, ◌*◌, ◌<◌, ◌≤◌, Bool, true, false, List, [], ◌∷◌, length, map, Option, Some, None, refl, sym, ap, ◌∙◌, subst, inl, inr, ◌⊎◌, arith}
 use Rattle.std.specs.Prelude.{ℤ, pos, ◌+ℤ◌, ◌-ℤ◌, ◌*ℤ◌, ◌≤ℤ◌, ◌==◌, nat_lt, if◌then◌else◌, slice_get}
 use Rattle.std.specs.List.{AllByRecursion}
@@ -16,7 +16,7 @@ use Rattle.plan.specs.declared.certificate.cert.Need.{Need}
 use Rattle.plan.specs.Plan.{Plan}
 use Rattle.plan.specs.View.{group_of, plan_of, statement_of}
 use Rattle.plan.specs.Lines.{lines, body_line}
-use Rattle.meaning.specs.Algorithm.{Algorithm, Change, Function}
+use Rattle.meaning.specs.Algorithm.{Algorithm}
 use Rattle.meaning.specs.Conditions.{IsAlgorithm}
 use Rattle.soundness.specs.Claims.{In}
 use Rattle.soundness.proofs.Refines.{eq_true}
@@ -37,7 +37,7 @@ use Rattle.sched.specs.Standing.{form_named, alone, counted_from, has_rest}
 use Rattle.sched.specs.Skeleton.{BodyText, NestText, SkeletonText, nest_turns, variables_at, ranges_at, grid_forms, is_missing}
 use Rattle.sched.proofs.Standings.{found_all}
 use Rattle.lower.specs.declared.lowering.Lowered.{Lowered}
-use Rattle.lower.specs.Stored.{FormulaText, StoredText, flags, formulas_put, put, stored_functions, has_large}
+use Rattle.lower.specs.Stored.{FormulaText, StoredText, flags, stored_functions, has_large}
 use Rattle.lower.specs.Faults.{are_whole, region_fault}
 use Rattle.lower.specs.Around.{bind_steps, grid_scope, head_scope}
 use Rattle.lower.specs.Owning.{IsExtent, IsLaidBy}
@@ -45,7 +45,7 @@ use Rattle.lower.specs.Regions.{LaidText, bodies_from, skeleton_of, laid_functio
 use Rattle.lower.specs.Groups.{HasBody, HasGroups}
 use Rattle.lower.proofs.Blocking.{IsSmall, CutFits}
 use Rattle.lower.proofs.Covering.{NumbersAre}
-use Rattle.lower.proofs.Laying.{bound, same}
+use Rattle.lower.proofs.Laying.{same}
 use Rattle.lower.proofs.Owners as owners
 use Rattle.completeness.specs.Laws.{AreSplitOnce}
 use Rattle.completeness.specs.Parted.{KeepsInner}
@@ -53,16 +53,14 @@ use Rattle.completeness.specs.Stores.{AreHeld, IsNearRegion}
 use Rattle.completeness.specs.Placed.{ArePlaced}
 use Rattle.completeness.specs.Blocked.{is_tailed, IsBlocked}
 use Rattle.completeness.specs.Filled.{AreEndsShort, NearBlockedGroupsOweShown}
-use Rattle.completeness.proofs.Laid.{IsStoredOf, subjects, found}
-use Rattle.completeness.proofs.Defined.{first_put, other_put}
+use Rattle.completeness.proofs.Laid.{subjects, found}
 use Rattle.completeness.proofs.Owned.{some_same, same_extents, same_skeleton}
 use Rattle.completeness.proofs.Served.{roots, made_at}
 use Rattle.completeness.proofs.NamedClaims.{alone_body}
 use Rattle.completeness.proofs.Halves.{AreOthers, inner_outer}
 use Rattle.completeness.proofs.Lanes.{AreOnce}
-use Rattle.completeness.proofs.PlainPlaces.{all_none}
 use Rattle.completeness.proofs.PlainTurns.{steps_for}
-use Rattle.completeness.proofs.PureNests.{all_in, all_from, all_slices}
+use Rattle.completeness.proofs.PureNests.{all_in, all_from}
 use Rattle.completeness.proofs.UpdateTurns.{all_mapped, all_filtered}
 use Rattle.completeness.proofs.Boxes.{IsBox, product_near}
 use Rattle.completeness.proofs.FirstNumbers.{IsNear, firsts, number_at, firsts_near, index_near, fits_index}
@@ -364,31 +362,6 @@ module _ (a : Algorithm) (sch : Schedule) (l : Lowered) (well : IsAlgorithm a) (
       ends_short,
     )
 
-  -- without updates each left index is a variable
-  set_of_pure : (n : ℕ) (u : StoredText) → slice_get gs n ≡ Some u → u.changes ≡ [] → (fs : List FormulaText) → u.formulas ≡ Some fs → ArePlaced fs
-  set_of_pure n u at pure fs defined = all_slices (λ (y : FormulaText). AllByRecursion (λ o. o ≡ None) y.at) fs each
-    where
-      w : IsStoredOf a sch st a.functions u
-      w = found a sch st u a.functions n at
-
-      f : Function
-      f = w.function
-
-      put_there : formulas_put a st f.variables f.value f.changes ≡ Some fs
-      put_there = ap (λ (y : StoredText). y.formulas) (sym w.is) ∙ defined
-
-      unchanged : f.changes ≡ []
-      unchanged = ap (λ (y : StoredText). y.changes) (sym w.is) ∙ pure
-
-      each : (d : ℕ) (y : FormulaText) → slice_get fs d ≡ Some y → AllByRecursion (λ o. o ≡ None) y.at
-      each zero y e =
-          let put_first = first_put a st f.variables f.value f.changes fs y put_there e in
-          let b = bound (put a st f.value) (λ v. Some (record { at = map (λ x. None) f.variables; value = v })) y put_first in
-          subst (λ (z : FormulaText). AllByRecursion (λ o. o ≡ None) z.at) (same (record { at = map (λ x. None) f.variables; value = b.value }) y b.comes) (all_none f.variables)
-      each (suc i) y e =
-          let o = other_put a st f.variables f.value f.changes fs i y put_there e in
-          absurd (cc (sym o.at ∙ ap (λ (us : List Change). slice_get us i) unchanged))
-
   -- of a group of the plan
   pub blocked_held : (n : ℕ) (q : CodeGroup) → slice_get l.plan.groups.items n ≡ Some q → (u : StoredText) → slice_get gs n ≡ Some u → IsBlocked a sch n u → (fs : List FormulaText) →
       u.formulas ≡ Some fs → ArePlaced fs → (m : LaidText) → slice_get (laid_functions a gs) n ≡ Some (Some m) → IsNearRegion m.region →
@@ -433,8 +406,7 @@ module _ (a : Algorithm) (sch : Schedule) (l : Lowered) (well : IsAlgorithm a) (
       (held_there, short_there)
 
 pub near_blocked_owed : NearBlockedGroupsOweShown
-near_blocked_owed a s l well legal small regions groups all free told grids few near n g at u stands blocked pure fs defined r laid close =
+near_blocked_owed a s l well legal small regions groups all free told grids few near n g at u stands blocked fs defined set r laid close =
     let x = from_map group_of l.plan.groups.items n g at in
-    let set = set_of_pure a s l well legal small (regions all).0 all groups n u stands pure fs defined in
     let h = blocked_held a s l well legal small (regions all).0 all groups n x.0 x.1 u stands blocked fs defined set r laid close in
-    blocked_owed a s l well legal small regions groups all free told grids few near n g at u stands blocked pure fs defined r laid h.0 h.1
+    blocked_owed a s l well legal small regions groups all free told grids few near n g at u stands blocked fs defined set r laid h.0 h.1

@@ -33,7 +33,7 @@ use Rattle.soundness.specs.Claims.{In, updates}
 use Rattle.soundness.specs.Origins.{Outline}
 use Rattle.soundness.specs.Given.{outline_of}
 use Rattle.soundness.specs.Obligations.{Binder, Known as KnownHere, Rules, exactly, has_form, is_form, goes_on, places_of}
-use Rattle.soundness.specs.Shown.{Nests, start}
+use Rattle.soundness.specs.Shown.{Nests}
 use Rattle.soundness.specs.Binders.View.{grid_binders}
 use Rattle.soundness.specs.Nests.Laws.{domains_of}
 use Rattle.soundness.specs.Nests.Tests.{left_of, over_of, plain_nests}

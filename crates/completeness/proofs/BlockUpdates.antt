@@ -61,7 +61,7 @@ use Rattle.lower.specs.Regions.{bodies_from}
 use Rattle.lower.specs.Around.{names_with}
 use Rattle.lower.specs.Owning.{IsLaidBy}
 use Rattle.lower.specs.Loading.{Loads}
-use Rattle.lower.specs.Blocks.{LayText, sum, lay_over, dimension_of}
+use Rattle.lower.specs.Blocks.{LayText, lay_over, dimension_of}
 use Rattle.lower.specs.Blocks.{dimensions_of, claimed_region, own_places}
 use Rattle.lower.specs.Bodies.{IsIndex, first_left, other_lefts, AreCoordinates, IsStore}
 use Rattle.lower.specs.Fetches.{Entry, Claims}
@@ -74,8 +74,7 @@ use Rattle.completeness.specs.Parted.{KeepsInner}
 use Rattle.completeness.specs.Owed.{EachClaim, AreClaimsNear}
 use Rattle.completeness.specs.Nested.{SayYes, TakeSplit}
 use Rattle.completeness.specs.Blocked.{is_tailed, IsBlocked, BlockedClaimsShown, BlockedClaimsOweShown}
-use Rattle.completeness.proofs.Laid.{found}
-use Rattle.completeness.proofs.Halves.{AreOthers, named, inner_outer}
+use Rattle.completeness.proofs.Halves.{AreOthers, inner_outer}
 use Rattle.completeness.proofs.Lanes.{AreOnce}
 use Rattle.completeness.proofs.Owned.{some_same, same_extents, same_skeleton}
 use Rattle.completeness.proofs.Served.{roots, made_at}

@@ -1,5 +1,5 @@
 -- Of functions whose loops are split once, by blocks that need no tail, the groups have few lines, and bind few symbols.
-use Rattle.std.proofs.Common.{◌≡◌, ℕ, zero, suc, ◌+◌, ◌*◌, ◌≤◌, Bool, true, false, List, [], ◌∷◌, ◌++◌, length, map, Option, Some, None, refl, sym, ap, ◌∙◌, subst, arith}
+use Rattle.std.proofs.Common.{◌≡◌, ℕ, zero, suc, ◌+◌, ◌*◌, ◌≤◌, Bool, true, false, List, [], ◌∷◌, ◌++◌, length, Option, Some, None, refl, sym, ap, ◌∙◌, subst, arith}
 use Rattle.std.specs.Prelude.{filter, reverse, take, if◌then◌else◌, slice_get}
 use Rattle.std.specs.List.{AllByRecursion}
 use Rattle.std.proofs.lemmas.List.Elements.{recursion_from_All}
@@ -37,7 +37,6 @@ use Rattle.lower.specs.Blocks.{dimensions_of, claimed_region, own_places}
 use Rattle.lower.specs.Bodies.{last_claim, IsStore, AreNests, first_lines}
 use Rattle.lower.specs.Fetches.{Entry, FetchText, with_fetches, loads_from}
 use Rattle.lower.specs.Groups.{HasBody, line_behind, HaveBodies, HasGroups}
-use Rattle.lower.proofs.Owners as owners
 use Rattle.completeness.specs.Laws.{AreLinesTold}
 use Rattle.completeness.specs.Owed.{BindBelow, AllBindBelow, AreGridsFew, AreSymbolsFew}
 use Rattle.completeness.specs.Blocked.{IsBlocked}

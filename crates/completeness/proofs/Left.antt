@@ -1,8 +1,7 @@
 -- Where what stores owe of places and what tests of nests say is shown, all that lines owe is.
-use Rattle.std.proofs.Common.{◌≡◌, ℕ, ◌+◌, ◌-◌, Bool, true, ◌&&◌, List, [], ◌∷◌, refl}
+use Rattle.std.proofs.Common.{◌≡◌, ℕ, ◌+◌, ◌-◌, true, ◌&&◌, List, [], ◌∷◌, refl}
 use Rattle.std.specs.List.{AllByRecursion}
-use Rattle.plan.specs.declared.certificate.cert.Window.{Window}
-use Rattle.plan.specs.Plan.{Statement, Seq, For, Let, First, Guard, Alloc, Fetch, Store, Publish, Statements, Empty, Then, Group}
+use Rattle.plan.specs.Plan.{Statement, Seq, For, Let, First, Guard, Alloc, Fetch, Store, Publish, Statements, Empty, Then}
 use Rattle.plan.specs.Lines.{lines, body_line}
 use Rattle.plan.specs.View.{plan_of}
 use Rattle.plan.specs.Certificate.Certificate.{certificate_of}

@@ -150,3 +150,5 @@ pub mod SaidFiles
 pub mod BlockKept
 pub mod BlockRanges
 pub mod BlockUpdates
+pub mod PlacedStores
+pub mod BlockReady

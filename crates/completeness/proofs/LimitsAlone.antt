@@ -1,5 +1,5 @@
 -- What the checker tells of a plan whose schedule splits loops once at most, by blocks that need no tail, is a limit.
-use Rattle.std.proofs.Common.{◌≡◌, ℕ, suc, Bool, true, ◌||◌, List, [], ◌∷◌, Some, refl, ap, ◌∙◌, inl, inr, ◌⊎◌}
+use Rattle.std.proofs.Common.{◌≡◌, ℕ, suc, Bool, true, ◌||◌, List, [], ◌∷◌, Some, refl, ap, ◌∙◌}
 use Rattle.std.specs.Prelude.{slice_get}
 use Rattle.std.specs.List.{AllByRecursion}
 use Rattle.meaning.specs.Algorithm.{Algorithm}
@@ -14,14 +14,11 @@ use Rattle.headline.proofs.Lists.{from_map}
 use Rattle.tails.specs.Windows.Nests.{slid_nests}
 use Rattle.tails.specs.Windows.Shown.{IsShown}
 use Rattle.sched.specs.Schedule.{Schedule}
-use Rattle.lower.specs.Stored.{FormulaText, StoredText, stored_functions}
-use Rattle.lower.specs.Regions.{LaidText, laid_functions}
+use Rattle.lower.specs.Stored.{stored_functions}
 use Rattle.completeness.specs.Parted.{KeepsInner, InnersAreKept}
 use Rattle.completeness.specs.Laws.{AreSplitOnce, AreLinesTold, Stands}
 use Rattle.completeness.specs.Owed.{AreGridsFew, AreSymbolsFew, AreClaimsNear}
-use Rattle.completeness.specs.Nested.{IsUncut, TakeSplit}
-use Rattle.completeness.specs.Stores.{GroupShown, IsNearRegion}
-use Rattle.completeness.specs.Placed.{ArePlaced}
+use Rattle.completeness.specs.Nested.{TakeSplit}
 use Rattle.completeness.specs.Told.{FillsBlocks, LimitsAloneAreTold}
 use Rattle.completeness.proofs.Shared.{shared, limits as shares_limits, heads}
 use Rattle.completeness.proofs.CertLimits.{certificate_limits}
@@ -30,7 +27,6 @@ use Rattle.completeness.proofs.Served.{made_at}
 use Rattle.completeness.proofs.FewLines.{lines_told, grids_few, symbols_few}
 use Rattle.completeness.proofs.NamesRead.{named_no_load}
 use Rattle.completeness.proofs.NearClaims.{claims_near}
-use Rattle.completeness.proofs.NearPlaced.{near_placed_owed}
 use Rattle.completeness.proofs.BlockNear.{near_blocked_owed}
 
 each_at : {A : Type 0} (P : A → Type 0) (xs : List A) → ((i : ℕ) (x : A) → slice_get xs i ≡ Some x → P x) → AllByRecursion P xs
@@ -84,13 +80,6 @@ limits_alone a s l well legal small regions groups fills named =
         let c = certificate_of l.certificate in
         let x = from_map group_of l.plan.groups.items n g at in
         let me = made_at a s l well legal small (regions fills.whole).0 fills.whole groups n x.0 x.1 in
-        owed n g at me.stored me.is me.formulas me.defined me.laid me.found (fills.near n me.laid me.found) (fills.placed n me.stored me.is me.formulas me.defined)
-        (slid_nests (outline_of p c n g) (rules_of a p c n) (domains_of a)) (slid_take a p c n g)
-      where
-        owed : (n : ℕ) (g : Group) → slice_get (plan_of l.plan).groups n ≡ Some g → (u : StoredText) → slice_get (stored_functions a s) n ≡ Some u → (fs : List FormulaText) →
-            u.formulas ≡ Some fs → (r : LaidText) → slice_get (laid_functions a (stored_functions a s)) n ≡ Some (Some r) → IsNearRegion r.region →
-            (IsUncut u × ArePlaced fs) ⊎ (u.changes ≡ []) → GroupShown TakeSplit a (plan_of l.plan) (certificate_of l.certificate) n g
-        owed n g at u is fs defined r found close (inl (uncut, placed)) =
-            near_placed_owed a s l well legal small regions groups fills.whole (named_no_load a named) lines_stand grids symbols near n g at u is uncut fs defined placed r found close
-        owed n g at u is fs defined r found close (inr pure) =
-            near_blocked_owed a s l well legal small regions groups fills.whole (named_no_load a named) lines_stand grids symbols near n g at u is (fills.blocked n u is) pure fs defined r found close
+        near_blocked_owed a s l well legal small regions groups fills.whole (named_no_load a named) lines_stand grids symbols near n g at me.stored me.is (fills.blocked n me.stored me.is) me.formulas
+        me.defined (fills.placed n me.stored me.is me.formulas me.defined) me.laid me.found (fills.near n me.laid me.found) (slid_nests (outline_of p c n g) (rules_of a p c n) (domains_of a))
+        (slid_take a p c n g)

@@ -1,5 +1,5 @@
 -- An expression with each call as a load has the type, the shape and the bounds that it has with its calls, where what is loaded is as what is called.
-use Rattle.std.proofs.Common.{◌≡◌, ℕ, ◌+◌, Bool, true, List, [], ◌∷◌, ◌++◌, Option, Some, refl, ap}
+use Rattle.std.proofs.Common.{◌≡◌, ℕ, Bool, true, List, [], ◌∷◌, ◌++◌, Option, Some, refl, ap}
 use Rattle.std.specs.Prelude.{pos, option_map}
 use Rattle.std.specs.List.{AllByRecursion}
 use Rattle.numeric.specs.declared.ty.Ty.{Ty}

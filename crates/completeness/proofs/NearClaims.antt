@@ -1,5 +1,5 @@
 -- Of functions of which no loop is split and whose regions begin near 0, the regions of claims are within the limits of forms, and those of pieces' own buffers near.
-use Rattle.std.proofs.Common.{◌≡◌, ℕ, zero, suc, ◌+◌, ◌*◌, ◌<◌, ◌≤◌, ◌^◌, Bool, true, false, List, [], ◌∷◌, ◌++◌, length, map, Option, Some, None, refl, sym, ap, ◌∙◌, subst, arith, ◌||◌, ◌-◌}
+use Rattle.std.proofs.Common.{◌≡◌, ℕ, zero, suc, ◌+◌, ◌*◌, ◌<◌, ◌≤◌, ◌^◌, Bool, true, false, List, [], ◌∷◌, ◌++◌, length, map, Option, Some, None, refl, sym, ap, ◌∙◌, subst, arith, ◌||◌}
 use Rattle.std.proofs.Common.{inl, inr, ◌⊎◌}
 use Rattle.std.specs.Prelude.{ℤ, pos, ◌+ℤ◌, ◌-ℤ◌, ◌*ℤ◌, if◌then◌else◌, slice_get}
 use Rattle.std.specs.List.{AllByRecursion}
@@ -48,7 +48,7 @@ use Rattle.completeness.proofs.Bodies.{other_at}
 use Rattle.completeness.proofs.Bounding.{SpanLimited}
 use Rattle.completeness.proofs.FetchForms.{entry_extents}
 use Rattle.completeness.proofs.Needed.{taken_limited}
-use Rattle.completeness.proofs.Owned.{some_same, same_extents, same_skeleton, each}
+use Rattle.completeness.proofs.Owned.{some_same, same_extents, same_skeleton}
 use Rattle.completeness.proofs.GridScope.{number_limited}
 use Rattle.completeness.proofs.Served.{roots, made_at}
 use Rattle.completeness.proofs.PlainTurns.{hits, one_if}

@@ -22,7 +22,6 @@ use Rattle.lower.specs.Around.{head_scope, bind_steps}
 use Rattle.completeness.specs.Nested.{IsUncut}
 use Rattle.completeness.specs.Stores.{AreHeld, IsNearRegion}
 use Rattle.completeness.specs.Placed.{ArePlaced, NearPlacedGroupsOweShown}
-use Rattle.completeness.proofs.Laid.{found}
 use Rattle.completeness.proofs.Owned.{some_same}
 use Rattle.completeness.proofs.Served.{made_at}
 use Rattle.completeness.proofs.PlainTurns.{AreGridded, skeleton_gridded}

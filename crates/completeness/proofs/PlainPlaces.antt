@@ -412,7 +412,7 @@ module _ (a : Algorithm) (sch : Schedule) (l : Lowered) (well : IsAlgorithm a) (
   cert = certificate_of l.certificate
 
   module _ (n : ℕ) (q : CodeGroup) (f : Function) (first line : ℕ) (claims : List CodeClaim) (needs : List Need) (h : HasBody a entries n first line (text f) q claims needs)
-      (laid : IsLaidBy (text f) h.extents h.skeleton) (uncut : (loops_after (said sch) f).cuts ≡ []) (few_here : BindBelow most_symbols (statement_of q.body)) where
+      (laid : IsLaidBy (text f) h.extents h.skeleton) (few_here : BindBelow most_symbols (statement_of q.body)) where
     abbrev k : SkeletonText
     k = h.skeleton
 
@@ -446,80 +446,8 @@ module _ (a : Algorithm) (sch : Schedule) (l : Lowered) (well : IsAlgorithm a) (
         ap (λ (s : Statement). allocated s 0) h.body.with.is ∙ lets_allot k.head (Then (Alloc 0 f.name own) (block (with_fetches h.body.fetches rest))) 0 names.lets in
         ap dimensions_in there ∙ places_long lay (loops_after (said sch) f).cuts f.variables
 
-    -- ---- a store of the pure definition
-
-    module _ (nests : Nests) (known : Known) (line_here : ℕ) (has_own : places_of known.buffers 0 ≡ Some own) (w : NestText) (ms : Loads) (stands : slice_get k.nests 0 ≡ Some w) (cs : List Coordinate) (e : Term)
-        (u : FormulaText) (defined : slice_get fs 0 ≡ Some u) (is : IsStored ms (names_with f.variables f.changes 0) w cs e u)
-        (loops : (i : ℕ) (x : Span1) → InSteps i x w.steps → IsBound known i x) where
-      abbrev b : BodyText
-      b = body_by [] (reductions_of f.changes) u
-
-      abbrev rs : List Numbers
-      rs = loop_numbers f.variables (loops_after (said sch) f).cuts h.extents
-
-      pure_at : u.at ≡ map (λ x. None) f.variables
-      pure_at =
-          let put_first = first_put a marks f.variables f.value f.changes fs u h.defined defined in
-          let r = bound (put a marks f.value) (λ v. Some (record { at = map (λ x. None) f.variables; value = v })) u put_first in
-          sym (ap (λ (y : FormulaText). y.at) (same (record { at = map (λ x. None) f.variables; value = r.value }) u r.comes))
-
-      no_missing : b.missing ≡ []
-      no_missing = ap (missing_from 0) pure_at ∙ none_missing 0 f.variables
-
-      plain_first : IsPlainFirst f.variables b (loops_after (said sch) f) rs k w
-      plain_first =
-          let r = first_of fs u defined in
-          let told = ap (λ (us : List FormulaText). skeleton_of g us h.extents) (sym r.1) ∙ h.laid in
-          first_nest f.variables b (loops_after (said sch) f) rs uncut refl (bodies_from f.changes 1 (drop 0 (reductions_of f.changes)) r.0) h.extents k refl told w stands
-
-      seats_true : (names : List (List ℕ)) (left : List Span1) →
-          are_seated R known.binders (map (target_span O R known names left) (take (O.setting.dimensions 0) cs)) own ≡ true
-      seats_true names left =
-          let p = plain_first in
-          let seat : (x : List ℕ) (f' : Form) → IsSmall (numbers_named rs x) → form_named p.known x ≡ Some f' →
-          is_seated R known.binders (exactly f') (dimension_of lay (loops_after (said sch) f).cuts x).places ≡ true =
-          λ x f' s named. ap (λ (ds : List Split). is_seated R known.binders (exactly f') (dimension_of lay ds x).places) uncut
-          ∙ one_seated a plan cert n known lay p.head w loops x f' s (p.found x f' named) in
-          let coordinates : AreCoordinates ms (f.variables ++ []) (map (form_named p.known) f.variables ++ []) u.at cs =
-          subst (λ (os : List (Option Form)). AreCoordinates ms (f.variables ++ []) os u.at cs) (p.at ∙ ap (λ (os : List (Option Form)). os ++ []) (variables_are b no_missing 0 f.variables p.known)) is.at in
-          let none : AllByRecursion (λ o. o ≡ None) u.at = subst (AllByRecursion (λ o. o ≡ None)) (sym pure_at) (all_none f.variables) in
-          ap (λ (m : ℕ). are_seated R known.binders (map (target_span O R known names left) (take m cs)) own) dimensions
-          ∙ all_seated O R known names left ms lay (loops_after (said sch) f).cuts p.known seat f.variables [] [] u.at cs (owners.small g h.extents k laid) none coordinates
-
-      first_shown : all_shown R nests (the_first (obligations O R (Store 0 0 cs e) line_here known)) ≡ true
-      first_shown =
-          let m = O.setting.dimensions 0 in
-          let names = map (λ (c : Coordinate). c.variable) (take m cs ++ drop m cs) in
-          let left = map (variable_span O R) (take m cs ++ drop m cs) in
-          let seats = map (target_span O R known names left) (take m cs) in
-          ap (λ (o : Option (List Places)). shows R nests known.binders (seated O R o seats) && true) has_own ∙ ap (λ (v : Bool). v && true) (seats_true names left)
-
     abbrev Here : Statement → ℕ → Known → Type 0
     Here s line known = BoundHere g fs k.nests own s line known
-
-    abbrev Shown : Statement → ℕ → Known → Type 0
-    Shown s line known = IsPureStore s → (nests : Nests) → all_shown R nests (the_first (obligations O R s line known)) ≡ true
-
-    one_shown : (s : Statement) (line : ℕ) (known : Known) → Here s line known → Shown s line known
-    one_shown (Store b m cs e) line known here = λ pure nests. of pure nests (here tt)
-      where
-        of : m ≡ 0 → (nests : Nests) → BoundAt g fs k.nests own (Store b m cs e) known → all_shown R nests (the_first (obligations O R (Store b m cs e) line known)) ≡ true
-        of pure nests r =
-            let zero_is : r.definition ≡ 0 = sym r.stores.1 ∙ pure in
-            let stands = subst (λ (d : ℕ). slice_get k.nests d ≡ Some r.nest) zero_is r.stands in
-            let stored = subst (λ (d : ℕ). IsStore g fs r.loads d r.nest (Store b m cs e)) zero_is r.stores in
-            let x = some_and (IsStored r.loads (names_with f.variables f.changes 0) r.nest cs e) (slice_get fs 0) stored.2 in
-            let shown = first_shown nests known line r.own r.nest r.loads stands cs e x.0 x.1 x.2 r.loops in
-            subst (λ (c : ℕ). all_shown R nests (the_first (obligations O R (Store c m cs e) line known)) ≡ true) (sym stored.0)
-            (subst (λ (d : ℕ). all_shown R nests (the_first (obligations O R (Store 0 d cs e) line known)) ≡ true) (sym pure) shown)
-    one_shown (Seq xs) line known here = λ pure. absurd pure
-    one_shown (For j x kind body) line known here = λ pure. absurd pure
-    one_shown (Let j pick forms) line known here = λ pure. absurd pure
-    one_shown (First j x z) line known here = λ pure. absurd pure
-    one_shown (Guard low high body) line known here = λ pure. absurd pure
-    one_shown (Alloc b x seats) line known here = λ pure. absurd pure
-    one_shown (Fetch b x region) line known here = λ pure. absurd pure
-    one_shown (Publish x) line known here = λ pure. absurd pure
 
     pub body_bound : EachLine O R Here (statement_of q.body) (body_line plan n) (start (grid_binders q.grid.items))
     body_bound =
@@ -539,5 +467,82 @@ module _ (a : Algorithm) (sch : Schedule) (l : Lowered) (well : IsAlgorithm a) (
         let bound_here = lets_own g fs k.nests own O R k.head (block (Alloc 0 f.name own ∷ with_fetches b.fetches rest)) names.lets low inner (body_line plan n) (start (grid_binders q.grid.items)) in
         subst (λ (s : Statement). EachLine O R Here s (body_line plan n) (start (grid_binders q.grid.items))) (sym b.with.is) bound_here
 
-    pub body_shown : EachLine O R Shown (statement_of q.body) (body_line plan n) (start (grid_binders q.grid.items))
-    body_shown = lines_weaker O R Here Shown one_shown (statement_of q.body) (body_line plan n) (start (grid_binders q.grid.items)) body_bound
+    -- where no loop is split
+
+    module _ (uncut : (loops_after (said sch) f).cuts ≡ []) where
+      -- ---- a store of the pure definition
+
+      module _ (nests : Nests) (known : Known) (line_here : ℕ) (has_own : places_of known.buffers 0 ≡ Some own) (w : NestText) (ms : Loads) (stands : slice_get k.nests 0 ≡ Some w)
+          (cs : List Coordinate) (e : Term)
+          (u : FormulaText) (defined : slice_get fs 0 ≡ Some u) (is : IsStored ms (names_with f.variables f.changes 0) w cs e u)
+          (loops : (i : ℕ) (x : Span1) → InSteps i x w.steps → IsBound known i x) where
+        abbrev b : BodyText
+        b = body_by [] (reductions_of f.changes) u
+
+        abbrev rs : List Numbers
+        rs = loop_numbers f.variables (loops_after (said sch) f).cuts h.extents
+
+        pure_at : u.at ≡ map (λ x. None) f.variables
+        pure_at =
+            let put_first = first_put a marks f.variables f.value f.changes fs u h.defined defined in
+            let r = bound (put a marks f.value) (λ v. Some (record { at = map (λ x. None) f.variables; value = v })) u put_first in
+            sym (ap (λ (y : FormulaText). y.at) (same (record { at = map (λ x. None) f.variables; value = r.value }) u r.comes))
+
+        no_missing : b.missing ≡ []
+        no_missing = ap (missing_from 0) pure_at ∙ none_missing 0 f.variables
+
+        plain_first : IsPlainFirst f.variables b (loops_after (said sch) f) rs k w
+        plain_first =
+            let r = first_of fs u defined in
+            let told = ap (λ (us : List FormulaText). skeleton_of g us h.extents) (sym r.1) ∙ h.laid in
+            first_nest f.variables b (loops_after (said sch) f) rs uncut refl (bodies_from f.changes 1 (drop 0 (reductions_of f.changes)) r.0) h.extents k refl told w stands
+
+        seats_true : (names : List (List ℕ)) (left : List Span1) →
+            are_seated R known.binders (map (target_span O R known names left) (take (O.setting.dimensions 0) cs)) own ≡ true
+        seats_true names left =
+            let p = plain_first in
+            let seat : (x : List ℕ) (f' : Form) → IsSmall (numbers_named rs x) → form_named p.known x ≡ Some f' →
+            is_seated R known.binders (exactly f') (dimension_of lay (loops_after (said sch) f).cuts x).places ≡ true =
+            λ x f' s named. ap (λ (ds : List Split). is_seated R known.binders (exactly f') (dimension_of lay ds x).places) uncut
+            ∙ one_seated a plan cert n known lay p.head w loops x f' s (p.found x f' named) in
+            let coordinates : AreCoordinates ms (f.variables ++ []) (map (form_named p.known) f.variables ++ []) u.at cs =
+            subst (λ (os : List (Option Form)). AreCoordinates ms (f.variables ++ []) os u.at cs)
+            (p.at ∙ ap (λ (os : List (Option Form)). os ++ []) (variables_are b no_missing 0 f.variables p.known)) is.at in
+            let none : AllByRecursion (λ o. o ≡ None) u.at = subst (AllByRecursion (λ o. o ≡ None)) (sym pure_at) (all_none f.variables) in
+            ap (λ (m : ℕ). are_seated R known.binders (map (target_span O R known names left) (take m cs)) own) dimensions
+            ∙ all_seated O R known names left ms lay (loops_after (said sch) f).cuts p.known seat f.variables [] [] u.at cs (owners.small g h.extents k laid) none coordinates
+
+        first_shown : all_shown R nests (the_first (obligations O R (Store 0 0 cs e) line_here known)) ≡ true
+        first_shown =
+            let m = O.setting.dimensions 0 in
+            let names = map (λ (c : Coordinate). c.variable) (take m cs ++ drop m cs) in
+            let left = map (variable_span O R) (take m cs ++ drop m cs) in
+            let seats = map (target_span O R known names left) (take m cs) in
+            ap (λ (o : Option (List Places)). shows R nests known.binders (seated O R o seats) && true) has_own ∙ ap (λ (v : Bool). v && true) (seats_true names left)
+
+      abbrev Shown : Statement → ℕ → Known → Type 0
+      Shown s line known = IsPureStore s → (nests : Nests) → all_shown R nests (the_first (obligations O R s line known)) ≡ true
+
+      one_shown : (s : Statement) (line : ℕ) (known : Known) → Here s line known → Shown s line known
+      one_shown (Store b m cs e) line known here = λ pure nests. of pure nests (here tt)
+        where
+          of : m ≡ 0 → (nests : Nests) → BoundAt g fs k.nests own (Store b m cs e) known → all_shown R nests (the_first (obligations O R (Store b m cs e) line known)) ≡ true
+          of pure nests r =
+              let zero_is : r.definition ≡ 0 = sym r.stores.1 ∙ pure in
+              let stands = subst (λ (d : ℕ). slice_get k.nests d ≡ Some r.nest) zero_is r.stands in
+              let stored = subst (λ (d : ℕ). IsStore g fs r.loads d r.nest (Store b m cs e)) zero_is r.stores in
+              let x = some_and (IsStored r.loads (names_with f.variables f.changes 0) r.nest cs e) (slice_get fs 0) stored.2 in
+              let shown = first_shown nests known line r.own r.nest r.loads stands cs e x.0 x.1 x.2 r.loops in
+              subst (λ (c : ℕ). all_shown R nests (the_first (obligations O R (Store c m cs e) line known)) ≡ true) (sym stored.0)
+              (subst (λ (d : ℕ). all_shown R nests (the_first (obligations O R (Store 0 d cs e) line known)) ≡ true) (sym pure) shown)
+      one_shown (Seq xs) line known here = λ pure. absurd pure
+      one_shown (For j x kind body) line known here = λ pure. absurd pure
+      one_shown (Let j pick forms) line known here = λ pure. absurd pure
+      one_shown (First j x z) line known here = λ pure. absurd pure
+      one_shown (Guard low high body) line known here = λ pure. absurd pure
+      one_shown (Alloc b x seats) line known here = λ pure. absurd pure
+      one_shown (Fetch b x region) line known here = λ pure. absurd pure
+      one_shown (Publish x) line known here = λ pure. absurd pure
+
+      pub body_shown : EachLine O R Shown (statement_of q.body) (body_line plan n) (start (grid_binders q.grid.items))
+      body_shown = lines_weaker O R Here Shown one_shown (statement_of q.body) (body_line plan n) (start (grid_binders q.grid.items)) body_bound

@@ -423,7 +423,7 @@ module _ (a : Algorithm) (sch : Schedule) (l : Lowered) (well : IsAlgorithm a) (
 
     points_shown : EachLine O R Shown (statement_of p.body) (body_line plan n) (start (grid_binders p.grid.items))
     points_shown =
-        let bound = body_bound a sch l well legal small kept all groups few_symbols n p f first line claims needs h laid uncut few_here in
+        let bound = body_bound a sch l well legal small kept all groups few_symbols n p f first line claims needs h laid few_here in
         let under = each_named O R (line + 1) (line + (lines (statement_of p.body) + 1)) (statement_of p.body) (body_line plan n) (start (grid_binders p.grid.items)) tt full
         (omega (arith, lined)) (omega (arith, lined)) in
         lines_paired O R Here Under Shown one_shown (statement_of p.body) (body_line plan n) (start (grid_binders p.grid.items)) bound under

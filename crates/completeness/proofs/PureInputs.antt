@@ -695,7 +695,7 @@ module _ (a : Algorithm) (sch : Schedule) (l : Lowered) (well : IsAlgorithm a) (
         let begin = body_line plan n in
         let known = start (grid_binders q.grid.items) in
         let stored = body_stored a sch l well legal small kept all groups told free n q place f at there first line claims needs theirs h hold numbered lined in
-        let here = body_bound a sch l well legal small kept all groups few n q f first line claims needs h laid uncut few_here in
+        let here = body_bound a sch l well legal small kept all groups few n q f first line claims needs h laid few_here in
         let scoped = body_scoped a sch l well legal small kept all groups grids few n q f first line claims needs h limits grid short narrow few_here in
         let two = lines_paired O R Stored Bound (λ t i y. Stored t i y × Bound t i y) (λ t i y x z. (x, z)) s begin known stored here in
         lines_paired O R (λ t i y. Stored t i y × Bound t i y) Scoped Three (λ t i y x z. (x, z)) s begin known two scoped
@@ -745,7 +745,7 @@ module _ (a : Algorithm) (sch : Schedule) (l : Lowered) (well : IsAlgorithm a) (
           let begin = body_line plan n in
           let known = start (grid_binders q.grid.items) in
           let named = body_holds a sch l well legal small kept all groups told free n q place f at there first line claims needs theirs h hold numbered lined in
-          let placed = body_shown a sch l well legal small kept all groups few n q f first line claims needs h laid uncut few_here in
+          let placed = body_shown a sch l well legal small kept all groups few n q f first line claims needs h laid few_here uncut in
           let two = lines_paired O R Named_here Placed_here (λ t i y. Named_here t i y × Placed_here t i y) (λ t i y x z. (x, z)) s begin known named placed in
           let five = lines_paired O R Three (λ t i y. Named_here t i y × Placed_here t i y) Five (λ t i y x z. (x, z)) s begin known body_three two in
           lines_weaker O R Five AllShown one_all s begin known five

@@ -1,5 +1,5 @@
 -- Lists of loops, names and steps, as nests of functions whose loops are not split have them.
-use Rattle.std.proofs.Common.{◌≡◌, ℕ, zero, suc, ◌+◌, ◌-◌, ◌≤◌, Bool, true, List, [], ◌∷◌, ◌++◌, length, map}
+use Rattle.std.proofs.Common.{◌≡◌, ℕ, zero, suc, ◌+◌, ◌≤◌, Bool, true, List, [], ◌∷◌, ◌++◌, length, map}
 use Rattle.std.proofs.Common.{Option, Some, None, refl, sym, ap, ◌∙◌, subst, inl, inr, arith}
 use Rattle.std.specs.Prelude.{reverse, slice_get}
 use Rattle.std.specs.List.{AllByRecursion}
@@ -25,7 +25,6 @@ use Rattle.lower.specs.Regions.{missing_from}
 use Rattle.lower.specs.Loading.{Loads}
 use Rattle.lower.specs.Bodies.{IsIndex}
 use Rattle.lower.proofs.Laying.{bound, same}
-use Rattle.lower.proofs.Owners as owners
 use Rattle.completeness.proofs.Standing.{AreLets}
 use Rattle.completeness.proofs.NestWalk.{IsRest, LetsFirst}
 use Rattle.completeness.proofs.PlainTurns.{steps_for, one_if, hits}

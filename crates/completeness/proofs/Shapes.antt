@@ -189,13 +189,13 @@ nests_shaped next (w ∷ ns) chain u fs r ms c line d xs (claim ∷ cs) h =
       single = singles_both h.first h.others single rest.single;
       work = works_both h.first h.others work rest.work;
       runs = λ g b ls k.
-      let others : List Line = block_lines (block h.others) in
-      let more : Runs g (next + length ts) b 0 (others ++ ls) = rest.runs g b ls k in
-      let first = turns_run g b next 0 (next + length ts) ts nest.store (others ++ ls) s.stays refl under (omega (arith, under)) more in
-      let there : Runs g next b 0 (block_lines (block h.first) ++ (others ++ ls)) = subst (λ (y : Statements). Runs g next b 0 (block_lines y ++ (others ++ ls))) are first in
-      let joined : block_lines (block h.first) ++ (others ++ ls) ≡ block_lines (block (h.first ++ h.others)) ++ ls =
-      sym (append_assoc (block_lines (block h.first)) others ls) ∙ ap (λ (y : List Line). y ++ ls) (sym (lines_both h.first h.others)) in
-      subst (λ (y : List Line). Runs g next b 0 y) joined there;
+          let others : List Line = block_lines (block h.others) in
+          let more : Runs g (next + length ts) b 0 (others ++ ls) = rest.runs g b ls k in
+          let first = turns_run g b next 0 (next + length ts) ts nest.store (others ++ ls) s.stays refl under (omega (arith, under)) more in
+          let there : Runs g next b 0 (block_lines (block h.first) ++ (others ++ ls)) = subst (λ (y : Statements). Runs g next b 0 (block_lines y ++ (others ++ ls))) are first in
+          let joined : block_lines (block h.first) ++ (others ++ ls) ≡ block_lines (block (h.first ++ h.others)) ++ ls =
+          sym (append_assoc (block_lines (block h.first)) others ls) ∙ ap (λ (y : List Line). y ++ ls) (sym (lines_both h.first h.others)) in
+          subst (λ (y : List Line). Runs g next b 0 y) joined there;
     })
 
 -- buffers are numbered as they are fetched into
@@ -273,14 +273,14 @@ module _ (a : Algorithm) (sch : Schedule) (l : Lowered) (well : IsAlgorithm a) (
         form = subst (λ (y : Statement). is_body y ≡ true) is (fetches_formed b.fetches rest form);
         grid = omega (arith, few, grid);
         runs = λ g ls behind.
-        let published : (m j : ℕ) → Runs g m j 0 (PublishLine last ∷ ls) = λ m j may. behind _ refl in
-        let nested : (j : ℕ) → Runs g (length k.grid) j 0 (block_lines (block b.nests) ++ (PublishLine last ∷ ls)) = λ j. nests.runs g j (PublishLine last ∷ ls) (λ m. published m j) in
-        let joined : block_lines (block b.nests) ++ (PublishLine last ∷ ls) ≡ block_lines (block rest) ++ ls =
-        sym (append_assoc (block_lines (block b.nests)) (PublishLine last ∷ []) ls) ∙ ap (λ (y : List Line). y ++ ls) (sym (lines_both b.nests publish)) in
-        let fetched = fetches_run (sites_of a u fs k) (grid_scope k.grid) n 1 (line + first_lines k) (fetched_groups fs n 0 entries) b.fetches v.needs b.fetched b.fetching (omega (arith, buffers))
-        g (length k.grid) rest ls (λ j. subst (λ (y : List Line). Runs g (length k.grid) j 0 y) joined (nested j)) in
-        let alloc : Runs g (length k.grid) 0 0 (block_lines code ++ ls) = fetched in
-        subst (λ (y : Statement). Runs g (length q.grid.items) 0 0 (statement_lines y ++ ls)) is (subst (λ (m : ℕ). Runs g m 0 0 (block_lines code ++ ls)) (sym grid) alloc);
+            let published : (m j : ℕ) → Runs g m j 0 (PublishLine last ∷ ls) = λ m j may. behind _ refl in
+            let nested : (j : ℕ) → Runs g (length k.grid) j 0 (block_lines (block b.nests) ++ (PublishLine last ∷ ls)) = λ j. nests.runs g j (PublishLine last ∷ ls) (λ m. published m j) in
+            let joined : block_lines (block b.nests) ++ (PublishLine last ∷ ls) ≡ block_lines (block rest) ++ ls =
+            sym (append_assoc (block_lines (block b.nests)) (PublishLine last ∷ []) ls) ∙ ap (λ (y : List Line). y ++ ls) (sym (lines_both b.nests publish)) in
+            let fetched = fetches_run (sites_of a u fs k) (grid_scope k.grid) n 1 (line + first_lines k) (fetched_groups fs n 0 entries) b.fetches v.needs b.fetched b.fetching (omega (arith, buffers))
+            g (length k.grid) rest ls (λ j. subst (λ (y : List Line). Runs g (length k.grid) j 0 y) joined (nested j)) in
+            let alloc : Runs g (length k.grid) 0 0 (block_lines code ++ ls) = fetched in
+            subst (λ (y : Statement). Runs g (length q.grid.items) 0 0 (statement_lines y ++ ls)) is (subst (λ (m : ℕ). Runs g m 0 0 (block_lines code ++ ls)) (sym grid) alloc);
       })
 
   pub shaped : IsShaped (plan_of l.plan)

@@ -1,7 +1,6 @@
 -- Of functions whose loops are not split, and whose definitions set each variable at its own place, all that a group's lines owe is shown.
-use Rattle.std.proofs.Common.{◌≡◌, Option, Some, None}
+use Rattle.std.proofs.Common.{◌≡◌, Some, None}
 use Rattle.std.specs.List.{AllByRecursion}
-use Rattle.tree.specs.Term.{Term}
 use Rattle.lower.specs.Stored.{FormulaText}
 use Rattle.completeness.specs.Placed.{PlacedGroupsOweShown}
 use Rattle.completeness.proofs.PureNests.{all_get}

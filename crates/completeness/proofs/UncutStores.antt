@@ -1266,7 +1266,7 @@ module _ (a : Algorithm) (sch : Schedule) (l : Lowered) (well : IsAlgorithm a) (
         let begin = body_line plan n in
         let known = start (grid_binders q.grid.items) in
         let stored = body_stored a sch l well legal small kept all groups told free n q place f at there first line claims needs theirs h hold numbered lined in
-        let here = body_bound a sch l well legal small kept all groups few n q f first line claims needs h laid uncut few_here in
+        let here = body_bound a sch l well legal small kept all groups few n q f first line claims needs h laid few_here in
         let binders = bound_each a sch l well legal small kept all groups n first line g q claims needs h uncut limits grid short narrow in
         let under = each_named O R (line + 1) (line + (lines s + 1)) s begin known tt full (omega (arith, lined)) (omega (arith, lined)) in
         let two = lines_paired O R Stored Bound (λ t i y. Stored t i y × Bound t i y) (λ t i y x z. (x, z)) s begin known stored here in

@@ -1,5 +1,5 @@
 -- The schedule that is written out fills blocks, by computation.
-use Rattle.std.proofs.Common.{◌≡◌, ℕ, zero, suc, false, List, [], ◌∷◌, Option, Some, None, map, refl, sym, ap, ◌∙◌, subst, inr, arith}
+use Rattle.std.proofs.Common.{◌≡◌, ℕ, zero, suc, false, List, [], ◌∷◌, Option, Some, None, map, refl, sym, ap, ◌∙◌, subst, arith}
 use Rattle.std.specs.Prelude.{pos, slice_get}
 use Rattle.std.specs.List.{AllByRecursion}
 use Rattle.std.proofs.lemmas.Int.{ints}
@@ -8,10 +8,11 @@ use Rattle.meaning.specs.Algorithm.{Function}
 use Rattle.sched.specs.Numbers.{loop_numbers}
 use Rattle.sched.specs.Subjects.{subject_said}
 use Rattle.sched.specs.Legal.{said, loops_after}
-use Rattle.lower.specs.Stored.{StoredText, stored_by, flags, stored_functions}
+use Rattle.lower.specs.Stored.{FormulaText, StoredText, stored_by, flags, stored_functions}
 use Rattle.lower.specs.Regions.{LaidText, laid_functions}
 use Rattle.completeness.specs.Blocked.{is_tailed, IsBlocked}
 use Rattle.completeness.specs.Stores.{IsNearRegion}
+use Rattle.completeness.specs.Placed.{ArePlaced}
 use Rattle.completeness.specs.Worked.{reader, caller, two_functions, both_split, SplitsFill}
 use Rattle.completeness.proofs.Owned.{some_same}
 
@@ -89,10 +90,26 @@ blocked (suc (suc n)) u at = absurd (no_more u at)
     no_more : (u : StoredText) → None ≡ Some u → ⊥
     no_more u q = cc q
 
-unchanged : (n : ℕ) (u : StoredText) → slice_get gs n ≡ Some u → u.changes ≡ []
-unchanged zero u at = ap (λ (g : StoredText). g.changes) (sym (first_is u at))
-unchanged (suc zero) u at = ap (λ (g : StoredText). g.changes) (sym (second_is u at))
-unchanged (suc (suc n)) u at = absurd (no_more u at)
+formulas_in : Option (List FormulaText) → List FormulaText
+formulas_in (Some fs) = fs
+formulas_in None = []
+
+first_placed : ArePlaced (formulas_in first.formulas)
+unfolding formulas_in
+first_placed = ((refl, (refl, tt)), tt)
+
+second_placed : ArePlaced (formulas_in second.formulas)
+unfolding formulas_in
+second_placed = ((refl, (refl, tt)), tt)
+
+as_found : (g u : StoredText) (fs : List FormulaText) → g ≡ u → u.formulas ≡ Some fs → formulas_in g.formulas ≡ fs
+unfolding formulas_in
+as_found g u fs is e = ap (λ (v : StoredText). formulas_in v.formulas) is ∙ ap formulas_in e
+
+placed : (n : ℕ) (u : StoredText) → slice_get gs n ≡ Some u → (fs : List FormulaText) → u.formulas ≡ Some fs → ArePlaced fs
+placed zero u at fs e = subst ArePlaced (as_found first u fs (first_is u at) e) first_placed
+placed (suc zero) u at fs e = subst ArePlaced (as_found second u fs (second_is u at) e) second_placed
+placed (suc (suc n)) u at fs e = absurd (no_more u at)
   where
     no_more : (u : StoredText) → None ≡ Some u → ⊥
     no_more u q = cc q
@@ -106,4 +123,4 @@ near (suc (suc n)) r at = absurd (no_more r at)
     no_more r q = cc q
 
 pub splits_fill : SplitsFill
-splits_fill = record { whole = refl; blocked = blocked; placed = λ n u at fs e. inr (unchanged n u at); near = near }
+splits_fill = record { whole = refl; blocked = blocked; placed = placed; near = near }

@@ -1,5 +1,5 @@
 -- What the checker tells of a plan whose schedule splits loops once at most, by blocks that need no tail, is a limit.
-use Rattle.std.specs.Prelude.{◌≡◌, ◌⊎◌, ℕ, ℤ, true, List, [], Some, slice_get}
+use Rattle.std.specs.Prelude.{◌≡◌, ℕ, ℤ, true, List, Some, slice_get}
 use Rattle.std.specs.List.{AllByRecursion}
 use Rattle.meaning.specs.Image.Raster.{is_within}
 use Rattle.meaning.specs.Algorithm.{Algorithm}
@@ -29,17 +29,16 @@ use Rattle.lower.specs.Regions.{LaidText, laid_functions}
 use Rattle.lower.specs.Faults.{are_whole}
 use Rattle.lower.specs.Refused.{AreSmall, AreRegionsKept}
 use Rattle.lower.specs.Groups.{AreGroupsMade}
-use Rattle.completeness.specs.Nested.{IsUncut}
 use Rattle.completeness.specs.Stores.{IsNearRegion}
 use Rattle.completeness.specs.Placed.{ArePlaced}
 use Rattle.completeness.specs.Blocked.{IsBlocked}
 
 -- each stored function is a root function that is computed at no loop; its loops are split once at most, by blocks that fill the loop or, with `roundup`, run past
--- its end; where one is split it has no updates, and else its updates set each variable at its own place; and the region that is needed of it begins near 0
+-- its end; its updates set each variable at its own place; and the region that is needed of it begins near 0
 pub record FillsBlocks (a : Algorithm) (s : Schedule) : Type 0 where
   pub whole : are_whole (stored_functions a s) ≡ true
   pub blocked : (n : ℕ) (u : StoredText) → slice_get (stored_functions a s) n ≡ Some u → IsBlocked a s n u
-  pub placed : (n : ℕ) (u : StoredText) → slice_get (stored_functions a s) n ≡ Some u → (fs : List FormulaText) → u.formulas ≡ Some fs → (IsUncut u × ArePlaced fs) ⊎ (u.changes ≡ [])
+  pub placed : (n : ℕ) (u : StoredText) → slice_get (stored_functions a s) n ≡ Some u → (fs : List FormulaText) → u.formulas ≡ Some fs → ArePlaced fs
   pub near : (n : ℕ) (r : LaidText) → slice_get (laid_functions a (stored_functions a s)) n ≡ Some (Some r) → IsNearRegion r.region
 
 -- the group of this number is not the output's, or has each point of it

@@ -2,11 +2,12 @@
 
 ghost use Rattle.completeness.specs.Filled.{BlockedGroupsOweShown, NearBlockedGroupsOweShown};
 
-/// Of a schedule under which each stored function is a root function that is computed at no loop, the group of each function without updates whose loops are split once,
-/// over whose region each split's blocks fill its loop, or run past its end with `roundup`, whichever loops are parallel but the inner ones; where what is fetched holds
-/// the calls, and blocks that run past the end reach numbers of 32 bits alone: all that its lines owe is shown, where the tests of nests say yes to plain nests and to
-/// split ones, as the checker's do. Neither K2, K4, K5, K6 nor K7 is told of them. Each coordinate is a number of 32 bits: the first number of a block, which the grid or
-/// an outer loop tells, and an inner loop's symbol.
+/// Of a schedule under which each stored function is a root function that is computed at no loop, the group of each function whose left indices are the variables at their
+/// own places, in the pure definition and in updates, and whose loops are split once, where over its region each split's blocks fill its loop, or run past its end with
+/// `roundup`, whichever loops are parallel but the inner ones; where what is fetched holds the calls, and blocks that run past the end reach numbers of 32 bits alone: all
+/// that its lines owe is shown, where the tests of nests say yes to plain nests and to split ones, as the checker's do. Neither K2, K4, K5, K6 nor K7 is told of them.
+/// Each coordinate is a number of 32 bits: the first number of a block, which the grid or an outer loop tells, and an inner loop's symbol. Reduction variables are loops
+/// over their ranges; an update's calls of its own function are of the point where it stores.
 pub fn blocked_groups_owe_shown()
     ensures { BlockedGroupsOweShown }
 {}

@@ -1,0 +1,903 @@
+-- What the stores of definitions owe whose left indices are all the variables at their own places, whatever forms stand for these: all of it is shown, where at each store each form is a
+-- number of 32 bits within the limits of forms, has a place in the function's buffer and lies in the region of its claims, and what is fetched holds the calls.
+use Rattle.std.proofs.Common.{◌≡◌, ℕ, zero, suc, ◌+◌, ◌<◌, ◌≤◌, Bool, true, false, ◌&&◌, List, [], ◌∷◌, ◌++◌, length, map, take, drop, Option, Some, None, IsSome, refl, sym, ap, ◌∙◌, subst}
+use Rattle.std.proofs.Common.{inl, inr, ◌⊎◌, arith, ◌||◌, ◌-◌, append-nil, length-append}
+use Rattle.std.specs.Prelude.{◌==◌, if◌then◌else◌, string_bytes, slice_get, filter}
+use Rattle.std.specs.List.{AllByRecursion, list_all, flat_map}
+use Rattle.std.proofs.lemmas.List.{length-map, take-append-drop}
+use Rattle.std.proofs.lemmas.Option.{slice_get_within}
+use Rattle.numeric.specs.declared.ty.Ty.{Ty}
+use Rattle.tree.specs.Term.{Term, Terms, Number, Name, Call, Minus, Binary, Clamp, Cast, Choice}
+use Rattle.tree.specs.Uses.{EachCall, EachCallOfAll}
+use Rattle.tree.specs.Typing.{index_count}
+use Rattle.tree.specs.Substitution.{all_with_calls, with_calls}
+use Rattle.tree.proofs.Uses.{each_call-weaker}
+use Rattle.lin.specs.Forms.{Form, is_within_limits, number}
+use Rattle.lin.specs.declared.span.Span1.{Span1}
+use Rattle.lin.specs.Search.{at_most}
+use Rattle.lin.specs.declared.scope.Binding.{Binding}
+use Rattle.plan.specs.declared.plan.Group.{Group as CodeGroup}
+use Rattle.plan.specs.declared.stmt.Places.{Places}
+use Rattle.plan.specs.declared.certificate.cert.Claim.{Claim as CodeClaim}
+use Rattle.plan.specs.declared.certificate.cert.Need.{Need}
+use Rattle.plan.specs.Plan.{Index, At, Found, Coordinate, Statement, Seq, For, Let, First, Guard, Alloc, Fetch, Store, Publish, Plan}
+use Rattle.plan.specs.View.{group_of, plan_of, statement_of}
+use Rattle.plan.specs.Lines.{lines, body_line}
+use Rattle.plan.specs.Certificate.Certificate.{Claim, Certificate, certificate_of, claim_of}
+use Rattle.plan.specs.Claimed.{claim_of as claim_named}
+use Rattle.plan.specs.Semantics.Run.{Source, Input, ByClaim, claim_source}
+use Rattle.meaning.specs.Algorithm.{Range, Function, Algorithm}
+use Rattle.meaning.specs.Names.{same_name, is_among}
+use Rattle.meaning.specs.Conditions.{AreDistinct, IsAlgorithm, callable, is_variable, has_variable}
+use Rattle.meaning.specs.Inlining.Laws.{StaysCalled}
+use Rattle.meaning.proofs.Calls.{callable_found, none_is_input}
+use Rattle.meaning.proofs.InliningTyped.{answer-is}
+use Rattle.soundness.specs.Claims.{In}
+use Rattle.soundness.specs.Origins.{Outline}
+use Rattle.soundness.specs.Given.{function_named, claim_or_none, outline_of}
+use Rattle.soundness.specs.Obligations.{NotTheDefinition, Known, Rules, Obligation, Inside, obligation, seated, exactly, region_of, load_obligations, intervals, index_met, index_place}
+use Rattle.soundness.specs.Obligations.{index_loads, variable_span, target_span, may_load, met, coordinate_loads, loads, places_of, NotClaimed, Updating, serves, claimed, obligations}
+use Rattle.soundness.specs.Obligations.{index_span}
+use Rattle.soundness.specs.Shown.{Nests, is_shown, shows, are_within, are_seated, start, is_within, is_seated}
+use Rattle.soundness.specs.Binders.View.{grid_binders}
+use Rattle.soundness.proofs.Refines.{name_refl, name_true, eq_refl, eq_true, and_parts}
+use Rattle.algo.specs.Scoping.Standing.{Written, written as written_call, calls_of}
+use Rattle.rules.specs.Bounding.Called.{called, call_of, source_call}
+use Rattle.rules.specs.Bounding.Scopes.{scope_of}
+use Rattle.rules.specs.Bounding.Rules.{is_index_span, rules_of}
+use Rattle.headline.proofs.Lists.{at_left, at_map, from_map}
+use Rattle.headline.proofs.Regions.{at_in}
+use Rattle.sched.specs.Schedule.{Schedule}
+use Rattle.sched.specs.Legal.{IsLegal, said, loops_after}
+use Rattle.sched.specs.Subjects.{reductions_of}
+use Rattle.sched.specs.declared.skeleton.Known.{Known as KnownForm}
+use Rattle.sched.specs.Skeleton.{NestText, SkeletonText}
+use Rattle.sched.specs.Standing.{form_named}
+use Rattle.lower.specs.declared.lowering.Lowered.{Lowered}
+use Rattle.lower.specs.Stored.{FormulaText, StoredText, calls_in, some_calls, stored_functions, has_large}
+use Rattle.lower.specs.Faults.{are_whole, region_fault}
+use Rattle.lower.specs.Regions.{bodies_from}
+use Rattle.lower.specs.Around.{AroundText, range_names, ranges_of, names_with, grid_scope, head_scope, bind_steps, left_around, coordinates_behind}
+use Rattle.lower.specs.Bounded.{whole, is_on_input, is_call_bounded, is_bounded}
+use Rattle.lower.specs.Loading.{Loads, last_of, name_by, loaded_name, as_load}
+use Rattle.lower.specs.Blocks.{dimensions_of, claimed_region, own_places}
+use Rattle.lower.specs.Bodies.{IsStored, first_lines, IsStore, AreNests, last_claim, first_left, other_lefts, IsIndex, AreCoordinates}
+use Rattle.lower.specs.Fetches.{Entry, FetchText, is_fetched, fetched_groups}
+use Rattle.lower.specs.Taken.{SiteText, add_calls, sites_of}
+use Rattle.lower.proofs.Extents.{region_is}
+use Rattle.lower.specs.Groups.{HasBody, HasGroups}
+use Rattle.lower.proofs.Laying.{bound, same}
+use Rattle.lower.proofs.Owners as owners
+use Rattle.completeness.specs.Laws.{NamesNoLoad, AreLinesTold, IsStore as IsStoreLine}
+use Rattle.completeness.specs.Owed.{EachLine, IsNameTest}
+use Rattle.completeness.specs.Stores.{IsHeldPart, AreHeld}
+use Rattle.completeness.proofs.Laid.{none_twice}
+use Rattle.completeness.proofs.Owned.{some_same}
+use Rattle.completeness.proofs.Served.{ls as regions_found, ready as all_ready}
+use Rattle.completeness.proofs.Held.{held}
+use Rattle.completeness.proofs.Loaded.{Names, not_named, some_of, value_calls}
+use Rattle.completeness.proofs.Mentioned.{each_written, each_called}
+use Rattle.completeness.proofs.ReadBack.{HasIf, last_has, source_is, calls_can}
+use Rattle.completeness.proofs.Counts.{few_claims}
+use Rattle.completeness.proofs.Written.{BackIf, IsWritten, written}
+use Rattle.completeness.proofs.PublishShown.{named_alike}
+use Rattle.completeness.proofs.ClaimLines.{known_stored, named_here}
+use Rattle.completeness.proofs.StoreLines.{ours, roots, lines_of, Holding, st, text, Ready, loaded, long_at, named_callable, input_callable, some_and, variables_are as coordinates_named}
+use Rattle.completeness.proofs.Fresh.{all_flat}
+use Rattle.completeness.proofs.InForce.{StoreAt, StoreHere, all_loads, Held as AreLoaded}
+use Rattle.completeness.proofs.StoreNames.{FetchedBy, fetch_known, lines_weaker, body_stored, own_claim, own_long, at_place, own_known, own_function, loads_ready, IsLast, last_is, differs}
+use Rattle.completeness.proofs.Left.{lines_paired}
+use Rattle.completeness.proofs.PlainNests.{InSteps}
+use Rattle.completeness.proofs.PlainPlaces.{IsBound, BoundAt, BoundHere}
+use Rattle.completeness.proofs.PlainTurns.{hits, hits_once, itself}
+use Rattle.completeness.proofs.PureNests.{all_get}
+use Rattle.completeness.proofs.PureScopes.{map_both}
+use Rattle.completeness.proofs.UpdateTurns.{known_update}
+use Rattle.completeness.proofs.RegionBounds.{calls_bounded, input_bounded}
+use Rattle.completeness.proofs.LoadedTerms.{Same, IsTypedCall, calls_typed, each_of, each_inner, each_both}
+use Rattle.completeness.proofs.StoreBounds.{AreAt, targets_are, input_within, spans_same, intervals_long, Shows, CallShows, term_shows, IsAt, taken_at, spans_are}
+use Rattle.completeness.proofs.TakenSites.{IsFound, add_all, each_found, region_within, places_seat, all_held}
+use Rattle.completeness.proofs.Bodies.{fetch_at, other_at, entry_at}
+use Rattle.completeness.proofs.RisingForms.{cut_low}
+use Rattle.completeness.proofs.UncutNests.{nested}
+use Rattle.completeness.proofs.StoreBinders.{at_steps, StoreBound, BoundThere}
+use Rattle.completeness.proofs.SitesAt.{IsBoundedAt, bounded_at, IsSiteAt, site_at}
+use Rattle.completeness.proofs.OwnLoads.{IsPoint, variable_bounds, span_at_place, among_at}
+use Rattle.completeness.proofs.UncutOwn.{own_stays, own_keep}
+use Rattle.completeness.proofs.SelfBounds.{form_self}
+use Rattle.completeness.proofs.ClaimedNests.{named_over}
+use Rattle.completeness.proofs.UnderWay.{HasLines, body_has_lines, NamedIn, AllNamed, each_named}
+use Rattle.completeness.proofs.StoreLists.{taken_got, seated_by, within_by, interval_nth, variable_nth}
+use Rattle.completeness.specs.Placed.{ArePlaced}
+use Rattle.completeness.proofs.PureInputs.{first_none, others_none, no_left_calls}
+
+-- ---- forms
+
+-- a form that a variable's name stands for
+pub record IsRightForm (R : Rules) (known : Known) (place_of : List ℕ → Places) (claim_of_var : List ℕ → Span1) (x : List ℕ) (f : Form) : Type 0 where
+  pub inside : is_index_span (scope_of known.binders) (exactly f) ≡ true
+  pub seated : is_seated R known.binders (exactly f) (place_of x) ≡ true
+  pub within : is_within R known.binders (exactly f) (claim_of_var x) ≡ true
+  pub kept : is_within_limits f ≡ true
+
+-- what is known at the store of a nest
+pub record IsReadyNest (R : Rules) (head : List Binding) (place_of : List ℕ → Places) (claim_of_var : List ℕ → Span1) (xs rn : List (List ℕ)) (w : NestText) (known : Known) : Type 0 where
+  pub scoped : scope_of known.binders ≡ bind_steps head w.steps
+  pub names : List KnownForm
+  pub forms : w.at ≡ map (form_named names) (xs ++ rn)
+  pub each : (x : List ℕ) → In x xs → (f : Form) → form_named names x ≡ Some f → IsRightForm R known place_of claim_of_var x f
+  pub over : (x : List ℕ) → In x rn → (f : Form) → form_named names x ≡ Some f → is_index_span (scope_of known.binders) (exactly f) ≡ true
+
+in_parts : (x : List ℕ) (xs ys : List (List ℕ)) → In x (xs ++ ys) → In x xs ⊎ In x ys
+in_parts x [] ys m = inr m
+in_parts x (z ∷ xs) ys (inl e) = inl (inl e)
+in_parts x (z ∷ xs) ys (inr m) = elim (in_parts x xs ys m) [ inl k ↦ inl (inr k) | inr k ↦ inr k ]
+
+long_taken : {A : Type 0} (m : ℕ) (xs : List A) → m ≤ length xs → length (take m xs) ≡ m
+long_taken zero xs le = refl
+long_taken (suc m) [] le = absurd (omega (arith, le))
+long_taken (suc m) (x ∷ xs) le = ap suc (long_taken m xs (omega (arith, le)))
+
+-- each coordinate is a form of which this is so
+module _ (ms : Loads) (ks : List KnownForm) (P : List ℕ → Form → Type 0) where
+  abbrev EachForm : List (List ℕ) → List Coordinate → Type 0
+  EachForm [] [] = Unit {0}
+  EachForm [] (c ∷ cs) = ⊥
+  EachForm (x ∷ xs) [] = ⊥
+  EachForm (x ∷ xs) (c ∷ cs) = ((f : Form) × (c.index ≡ At f) × P x f) × EachForm xs cs
+
+  one_form : (x : List ℕ) (o : Option Form) (left : Option Term) (i : Index) → left ≡ None → IsIndex ms o left i → ((f : Form) → o ≡ Some f → P x f) → (f : Form) × (i ≡ At f) × P x f
+  one_form x (Some f) left (At g) none q k = (f, ap (λ (u : Form). At u) q, k f refl)
+  one_form x (Some f) left (Found t) none q k = absurd q
+  one_form x None left (At g) none q k = absurd q
+  one_form x None None (Found t) none q k = absurd q
+  one_form x None (Some u) (Found t) none q k = absurd (cc none)
+
+  each_form : (xs : List (List ℕ)) (lefts : List (Option Term)) (cs : List Coordinate) → ((x : List ℕ) → In x xs → (f : Form) → form_named ks x ≡ Some f → P x f) →
+      AllByRecursion (λ o. o ≡ None) lefts → AreCoordinates ms xs (map (form_named ks) xs) lefts cs → EachForm xs cs
+  each_form [] lefts [] each none h = tt
+  each_form [] lefts (c ∷ cs) each none h = absurd h
+  each_form (x ∷ xs) lefts [] each none h = absurd h
+  each_form (x ∷ xs) lefts (c ∷ cs) each none h = (
+    one_form x (form_named ks x) (first_left lefts) c.index (first_none lefts none) h.1 (λ f q. each x (inl refl) f q),
+    each_form xs (other_lefts lefts) cs (λ y m. each y (inr m)) (others_none lefts none) h.2,
+  )
+
+  forms_long : (xs : List (List ℕ)) (cs : List Coordinate) → EachForm xs cs → length cs ≡ length xs
+  forms_long [] [] h = refl
+  forms_long [] (c ∷ cs) h = absurd h
+  forms_long (x ∷ xs) [] h = absurd h
+  forms_long (x ∷ xs) (c ∷ cs) h = ap suc (forms_long xs cs h.1)
+
+  form_there : (xs : List (List ℕ)) (cs : List Coordinate) → EachForm xs cs → (j : ℕ) (x : List ℕ) (c : Coordinate) → slice_get xs j ≡ Some x → slice_get cs j ≡ Some c →
+      (f : Form) × (c.index ≡ At f) × P x f
+  form_there [] cs h j x c at_x at_c = absurd (cc at_x)
+  form_there (y ∷ xs) [] h j x c at_x at_c = absurd h
+  form_there (y ∷ xs) (d ∷ cs) h zero x c at_x at_c =
+      let name : y ≡ x = cc at_x in
+      let coordinate : d ≡ c = cc at_c in
+      (h.0.0, ap (λ (z : Coordinate). z.index) (sym coordinate) ∙ h.0.1, subst (λ (z : List ℕ). P z h.0.0) name h.0.2)
+  form_there (y ∷ xs) (d ∷ cs) h (suc j) x c at_x at_c = form_there xs cs h.1 j x c at_x at_c
+
+  module _ (O : Outline) (R : Rules) (scope : List Binding) (inside : (x : List ℕ) (f : Form) → P x f → is_index_span scope (exactly f) ≡ true) where
+    forms_inside : (xs : List (List ℕ)) (cs : List Coordinate) → EachForm xs cs → list_all (is_index_span scope) (map (variable_span O R) cs) ≡ true
+    forms_inside [] [] h = refl
+    forms_inside [] (c ∷ cs) h = absurd h
+    forms_inside (x ∷ xs) [] h = absurd h
+    forms_inside (x ∷ xs) (c ∷ cs) h =
+        let here : is_index_span scope (index_span O R c.index) ≡ true = ap (λ (i : Index). is_index_span scope (index_span O R i)) h.0.1 ∙ inside x h.0.0 h.0.2 in
+        let rest = forms_inside xs cs h.1 in
+        λ j. here j && rest j
+
+second : (t : Ty) (n : ℕ) (s : Ty × ℕ) → Some (t, n) ≡ Some s → n ≡ s.1
+second t n s e = (let same_pair : (t, n) ≡ s = cc e in ap (λ (y : Ty × ℕ). y.1) same_pair)
+
+is_name : (x : List ℕ) (t : Term) → is_variable x t ≡ true → t ≡ Name x
+is_name x (Number t n) q = absurd (cc q)
+is_name x (Name y) q = ap (λ (z : List ℕ). Name z) (sym (name_true x y q))
+is_name x (Call y at) q = absurd (cc q)
+is_name x (Minus b) q = absurd (cc q)
+is_name x (Binary op b c) q = absurd (cc q)
+is_name x (Clamp b l u) q = absurd (cc q)
+is_name x (Cast t b) q = absurd (cc q)
+is_name x (Choice c b d) q = absurd (cc q)
+
+-- ---- groups
+
+module _ (a : Algorithm) (sch : Schedule) (l : Lowered) (well : IsAlgorithm a) (legal : IsLegal a sch) (small : has_large (stored_functions a sch) ≡ false)
+    (kept : region_fault a (stored_functions a sch) ≡ None) (all : are_whole (stored_functions a sch) ≡ true) (groups : HasGroups a (stored_functions a sch) l) (told : AreLinesTold (plan_of l.plan))
+    (free : NamesNoLoad a) where
+  abbrev mine : List CodeClaim
+  mine = ours a sch l well legal small kept all groups told free
+
+  abbrev entries : List Entry
+  entries = roots a sch l well legal small kept all groups told free
+
+  abbrev IsHolding : ℕ → CodeGroup → List ℕ → ℕ → Type 0
+  IsHolding n q = Holding a sch l well legal small kept all groups told free (lines_of a sch l well legal small kept all groups told free n q)
+
+  abbrev texts : Function → StoredText
+  texts f = text a sch l well legal small kept all groups told free f
+
+  abbrev flags_of : List Bool
+  flags_of = st a sch l well legal small kept all groups told free
+
+  abbrev plan : Plan
+  plan = plan_of l.plan
+
+  abbrev cert : Certificate
+  cert = certificate_of l.certificate
+
+  module _ (n : ℕ) (q : CodeGroup) (place : ℕ) (f : Function) (at : slice_get a.functions place ≡ Some f) (there : slice_get (stored_functions a sch) n ≡ Some (texts f)) (first line : ℕ)
+      (claims : List CodeClaim) (needs : List Need) (theirs : slice_get l.plan.groups.items n ≡ Some q) (h : HasBody a entries n first line (texts f) q claims needs)
+      (hold : (j : ℕ) (w : CodeClaim) → slice_get claims j ≡ Some w → IsHolding n q (string_bytes w.function) (first + j))
+      (numbered : (j : ℕ) (v : CodeClaim) → slice_get claims j ≡ Some v → slice_get mine (first + j) ≡ Some v) (lined : body_line plan n ≡ line + 1)
+      (alone_here : (j : ℕ) (w : CodeClaim) → slice_get mine j ≡ Some w → line < w.line → w.line < line + (lines (statement_of q.body) + 1) → In w claims)
+      (bounded : is_bounded a (texts f) (head_scope h.skeleton) (map whole h.extents) 0 h.formulas h.skeleton.nests ≡ Some true) (placed : ArePlaced h.formulas)
+      (held_parts : AreHeld a (stored_functions a sch) n (texts f) h.formulas h.skeleton) (place_of : List ℕ → Places) (claim_of_var : List ℕ → Span1)
+      (places_are : own_places (dimensions_of (texts f) h.extents h.skeleton) ≡ map place_of f.variables)
+      (claims_are : claimed_region (dimensions_of (texts f) h.extents h.skeleton) ≡ map claim_of_var f.variables)
+      (dims_are : (outline_of plan cert n (group_of q)).setting.dimensions 0 ≡ length f.variables)
+      (ready_nest : (d : ℕ) (w : NestText) → slice_get h.skeleton.nests d ≡ Some w → (known : Known) → known.binders ≡ at_steps w.steps (grid_binders h.skeleton.grid) →
+      ((i : ℕ) (x : Span1) → InSteps i x w.steps → IsBound known i x) →
+      IsReadyNest (rules_of a plan cert n) (head_scope h.skeleton) place_of claim_of_var f.variables (range_names (ranges_of f.changes d)) w known)
+      (bound_all : EachLine (outline_of plan cert n (group_of q)) (rules_of a plan cert n)
+      (λ s i y. BoundHere (texts f) h.formulas h.skeleton.nests (own_places (dimensions_of (texts f) h.extents h.skeleton)) s i y) (statement_of q.body) (body_line plan n)
+      (start (grid_binders q.grid.items)))
+      (binders_all : EachLine (outline_of plan cert n (group_of q)) (rules_of a plan cert n)
+      (λ s i y. BoundThere (texts f) h.formulas h.skeleton.nests (grid_binders h.skeleton.grid) s i y) (statement_of q.body) (body_line plan n) (start (grid_binders q.grid.items))) where
+    abbrev k : SkeletonText
+    k = h.skeleton
+
+    abbrev fs : List FormulaText
+    fs = h.formulas
+
+    abbrev g : StoredText
+    g = texts f
+
+    abbrev xs : List (List ℕ)
+    xs = f.variables
+
+    abbrev fetches : List FetchText
+    fetches = h.body.fetches
+
+    abbrev places : List Places
+    places = own_places (dimensions_of g h.extents k)
+
+    abbrev region : List Span1
+    region = claimed_region (dimensions_of g h.extents k)
+
+    abbrev regions : List Span1
+    regions = map whole h.extents
+
+    abbrev first_own : ℕ
+    first_own = first + length fetches
+
+    abbrev O : Outline
+    O = outline_of plan cert n (group_of q)
+
+    abbrev R : Rules
+    R = rules_of a plan cert n
+
+    abbrev F : List ℕ
+    F = O.setting.buffer_function 0
+
+    -- ---- the regions of its claims
+
+    claims_over : (us : List FormulaText) (r : List Span1) (ms : Loads) (m at_line d : ℕ) (ns : List NestText) (ss : List Statement) (cs : List CodeClaim) → AreNests g us r ms m at_line d ns ss cs →
+        (j : ℕ) (v : CodeClaim) → slice_get cs j ≡ Some v → v.region ≡ r
+    claims_over us r ms m at_line d [] ss cs is j v e = absurd (cc (is.1, e))
+    claims_over us r ms m at_line d (w ∷ ns) ss [] is j v e = absurd is
+    claims_over us r ms m at_line d (w ∷ ns) ss (c ∷ cs) is zero v e = ap (λ (x : CodeClaim). x.region) (sym (same c v e)) ∙ is.here.claims.over
+    claims_over us r ms m at_line d (w ∷ ns) ss (c ∷ cs) is (suc j) v e =
+        claims_over us r (ms ++ (g.subject.name, m) ∷ []) (m + 1) _ (d + 1) ns is.others cs is.behind j v e
+
+    own_over : (d : ℕ) → d < length k.nests → (O.claim (first_own + d)).region ≡ region
+    own_over d less =
+        let same_long = own_long a sch l well legal small kept all groups told free n q place f at there first line claims needs theirs h hold numbered lined in
+        let v = at_place h.body.own d (omega (arith, same_long, less)) in
+        let stands = own_claim a sch l well legal small kept all groups told free n q place f at there first line claims needs theirs h hold numbered lined d v.0 v.1 in
+        let claim : O.claim (first_own + d) ≡ claim_of v.0 = ap claim_or_none (at_map claim_of mine (first_own + d) v.0 stands) in
+        ap (λ (c : Claim). c.region) claim ∙ claims_over fs _ _ _ _ 0 k.nests h.body.nests h.body.own h.body.nested d v.0 v.1
+
+    -- ---- reduction variables
+
+    distinct_at : (d : ℕ) (u : FormulaText) → slice_get fs d ≡ Some u → AreDistinct (names_with f.variables f.changes d)
+    distinct_at zero u defined = subst AreDistinct (sym (append-nil f.variables)) (well.functions place f at).names
+    distinct_at (suc i) u defined =
+        let v = known_update a sch well n g there fs h.defined i u defined in
+        subst (λ (ds : List Range). AreDistinct (f.variables ++ range_names ds)) (sym v.ranges) v.names
+
+    -- variables at their places in calls of the function itself
+    abbrev Keeping : List (Option Term) → List ℕ → Terms → Type 0
+    Keeping os name args =
+        name ≡ f.name → (j : ℕ) (x : List ℕ) → slice_get f.variables j ≡ Some x → ((t : Term) → slice_get os j ≡ Some (Some t) → ⊥) → has_variable x j args ≡ true
+
+    owns : (d : ℕ) (u : FormulaText) → slice_get fs d ≡ Some u → (e : ℕ) → d ≡ suc e → EachCall (Keeping u.at) u.value
+    owns d u defined e is = own_keep a well place f at flags_of (own_stays a sch well n g there) fs h.defined e u (ap (slice_get fs) (sym is) ∙ defined)
+
+    -- ---- a nest
+
+    module _ (d : ℕ) (w : NestText) (stands : slice_get k.nests d ≡ Some w) (u : FormulaText) (defined : slice_get fs d ≡ Some u) where
+      none_left : AllByRecursion (λ o. o ≡ None) u.at
+      none_left = all_get (λ (y : FormulaText). AllByRecursion (λ o. o ≡ None) y.at) fs d u placed defined
+
+      no_expression : (j : ℕ) (t : Term) → slice_get u.at j ≡ Some (Some t) → ⊥
+      no_expression j t at_j = (let clash : Some t ≡ None = all_get (λ (o : Option Term). o ≡ None) u.at j (Some t) none_left at_j in cc clash)
+
+      abbrev ms : Loads
+      ms = all_loads g fs k.nests places fetches first d
+
+      less : d < length k.nests
+      less = slice_get_within k.nests d w stands
+
+      ready : Ready a sch l well legal small kept all groups told free n q place f at there first line claims needs theirs h hold d ms
+      ready = loads_ready a sch l well legal small kept all groups told free n q place f at there first line claims needs theirs h hold numbered lined d less
+
+      -- what is loaded is of the type of what is called, and is the input where that is called
+      abbrev IsKind : Option ℕ → Source → Type 0
+      IsKind o s = ((c : ℕ) × (o ≡ Some c) × (s ≡ ByClaim c)) ⊎ (s ≡ Input)
+
+      source_at : (x : List ℕ) (o : Option ℕ) → last_of None ms x ≡ o → HasIf (IsHolding n q) x o → IsSome (callable a a.functions x) → StaysCalled a flags_of x → some_calls x fs ≡ true →
+          BackIf a well flags_of place f at d x →
+          (source_call a plan cert (O.source (name_by o x)) ≡ callable a a.functions x) × (O.source (name_by o x) ≡ Input → x ≡ a.input) × IsKind o (O.source (name_by o x))
+      source_at x (Some c) e by can stays called_here back =
+          let source : O.source (64 ∷ _) ≡ ByClaim c =
+          source_is a free plan cert n (group_of q) groups.head.input.named mine refl (few_claims a sch l well legal small kept all groups) [] tt c (slice_get_within mine c by.claim by.at) in
+          let claim : slice_get cert.claims c ≡ Some (claim_of by.claim) = at_map claim_of mine c by.claim by.at in
+          let named : function_named a.functions (string_bytes by.claim.function) ≡ Some by.function = ap (function_named a.functions) by.named ∙ named_alike a.functions x ∙ by.known in (
+            ap (source_call a plan cert) source ∙ ap (λ (o : Option Claim). call_of (function_named a.functions (claim_or_none o).function)) claim ∙ ap call_of named
+                ∙ sym (named_callable a a.functions x by.function by.known),
+            (λ is. let clash : ByClaim c ≡ Input = sym source ∙ is in absurd (cc clash)),
+            inl (c, refl, source),
+          )
+      source_at x None e by can stays called_here back = elim (callable_found a a.functions x can) [
+        | inl input ↦
+            (let name : same_name x plan.input.name ≡ true = ap (λ (y : List ℕ). same_name y plan.input.name) (input ∙ sym groups.head.input.named) ∙ name_refl plan.input.name in
+            let source : O.source x ≡ Input = ap (λ (b : Bool). if b then Input else claim_source (length cert.claims) (claim_named x)) name in
+            (ap (source_call a plan cert) source ∙ sym (ap (callable a a.functions) input ∙ input_callable a a.functions (none_is_input a well.names)), (λ is. input), inr source))
+        | inr z ↦ absurd (not_named ms x e (subst (Names ms) z.3 (loaded a sch l well legal small kept all groups told free n q place f at there first line claims needs theirs h hold d ms
+            ready z.0 z.1 z.2 (subst (StaysCalled a flags_of) (sym z.3) stays) (ap (λ (y : List ℕ). some_calls y fs) z.3 ∙ called_here)
+            (subst (BackIf a well flags_of place f at d) (sym z.3) back))))
+      ]
+
+      abbrev rn : List (List ℕ)
+      rn = range_names (ranges_of f.changes d)
+
+      -- ---- a store
+
+      module _ (nests : Nests) (at_line : ℕ) (known : Known) (cs : List Coordinate) (e : Term) (stores : IsStore g fs ms d w (Store 0 d cs e))
+          (is : IsStored ms (names_with f.variables f.changes d) w cs e u) (loops : (i : ℕ) (x : Span1) → InSteps i x w.steps → IsBound known i x)
+          (binders : known.binders ≡ at_steps w.steps (grid_binders k.grid)) (held_here : AreLoaded g fs k.nests places fetches first known) (own_here : places_of known.buffers 0 ≡ Some places)
+          (under : AllByRecursion (λ v. NamedIn O R (line + 1) (line + (lines (statement_of q.body) + 1)) v.next) known.updating) where
+        abbrev m : ℕ
+        m = O.setting.dimensions 0
+
+        abbrev at' : List Coordinate
+        at' = take m cs
+
+        abbrev over : List Coordinate
+        over = drop m cs
+
+        abbrev names : List (List ℕ)
+        names = map (λ (c : Coordinate). c.variable) (at' ++ over)
+
+        abbrev left : List Span1
+        left = map (variable_span O R) (at' ++ over)
+
+        -- the span where a coordinate stores
+        abbrev T : Coordinate → Span1
+        T c = target_span O R known names left c
+
+        abbrev vars : List Span1
+        vars = map T at' ++ map (variable_span O R) over
+
+        abbrev N : List (List ℕ)
+        N = names_with f.variables f.changes d
+
+        abbrev scope : List Binding
+        scope = scope_of known.binders
+
+        nest_ready : IsReadyNest R (head_scope k) place_of claim_of_var f.variables rn w known
+        nest_ready = ready_nest d w stands known binders loops
+
+        scoped : scope ≡ bind_steps (head_scope k) w.steps
+        scoped = nest_ready.scoped
+
+        fb : IsBoundedAt a g (head_scope k) regions d u w
+        fb =
+            let none : 0 + d ≡ d = omega arith in
+            let from_first = bounded_at a g (head_scope k) regions 0 fs k.nests bounded d u w defined stands in
+            subst (λ (j : ℕ). IsBoundedAt a g (head_scope k) regions j u w) none from_first
+
+        abbrev r : AroundText
+        r = fb.known
+
+        abbrev plain_left : AroundText
+        plain_left = left_around g (head_scope k) w d
+
+        spans : (zs : List Span1) × (coordinates_behind a plain_left u [] 0 w.at ≡ Some zs) × (record plain_left { coordinates = zs } ≡ r)
+        spans =
+            let c = bound (coordinates_behind a plain_left u [] 0 w.at) (λ zs. Some (record plain_left { coordinates = zs })) r fb.is in
+            (c.value, c.is, same (record plain_left { coordinates = c.value }) r c.comes)
+
+        by_forms : AreAt cs × (spans.0 ≡ [] ++ map (variable_span O R) cs)
+        by_forms = spans_are O R a ms plain_left u [] spans.0 0 w.at (names_with f.variables f.changes d) u.at cs none_left is.at spans.1
+
+        left_at : AreAt at'
+        left_at = taken_at m cs by_forms.0
+
+        together : at' ++ over ≡ cs
+        together = take-append-drop m cs
+
+        names_here : map (λ (c : Coordinate). c.variable) cs ≡ names_with f.variables f.changes d
+        names_here =
+            coordinates_named ms (names_with f.variables f.changes d) w.at u.at cs is.at
+            (long_at a sch l well legal small kept all groups told free n q place f at there first line claims needs theirs h hold d w stands)
+
+        names_text : names ≡ names_with f.variables f.changes d
+        names_text = ap (map (λ (c : Coordinate). c.variable)) together ∙ names_here
+
+        names_are : names ≡ r.variables
+        names_are = names_text ∙ ap (λ (y : AroundText). y.variables) spans.2
+
+        vars_here : vars ≡ map (variable_span O R) cs
+        vars_here =
+            ap (λ (ss : List Span1). ss ++ map (variable_span O R) over) (targets_are O R known names left at' left_at)
+            ∙ sym (map_both (variable_span O R) at' over) ∙ ap (map (variable_span O R)) together
+
+        vars_are : vars ≡ r.coordinates
+        vars_are = vars_here ∙ sym by_forms.1 ∙ ap (λ (y : AroundText). y.coordinates) spans.2
+
+        scope_is : scope_of known.binders ≡ r.scope
+        scope_is = scoped ∙ ap (λ (y : AroundText). y.scope) spans.2
+
+        -- ---- its coordinates
+
+        names_all : names ≡ f.variables ++ rn
+        names_all = names_text
+
+        abbrev IsRight : List ℕ → Form → Type 0
+        IsRight x c = (is_index_span scope (exactly c) ≡ true) × (In x f.variables → IsRightForm R known place_of claim_of_var x c)
+
+        right_of : (x : List ℕ) → In x (f.variables ++ rn) → (c : Form) → form_named nest_ready.names x ≡ Some c → IsRight x c
+        right_of x m c named = (
+          elim (in_parts x f.variables rn m) [ inl k ↦ (nest_ready.each x k c named).inside | inr k ↦ nest_ready.over x k c named ],
+          (λ k. nest_ready.each x k c named),
+        )
+
+        all_coordinates : EachForm ms nest_ready.names IsRight (f.variables ++ rn) cs
+        all_coordinates =
+            each_form ms nest_ready.names IsRight (f.variables ++ rn) u.at cs right_of none_left
+            (subst (λ (os : List (Option Form)). AreCoordinates ms (f.variables ++ rn) os u.at cs) nest_ready.forms is.at)
+
+        inside : list_all (is_index_span scope) vars ≡ true
+        inside =
+            ap (list_all (is_index_span scope)) vars_here
+            ∙ forms_inside ms nest_ready.names IsRight O R scope (λ x c z. z.0) (f.variables ++ rn) cs all_coordinates
+
+        long : (length names == length vars) ≡ true
+        long =
+            (λ i. length (ap (map (λ (c : Coordinate). c.variable)) together i) == length (vars_here i))
+            ∙ (λ i. length-map cs (λ (c : Coordinate). c.variable) i == length-map cs (variable_span O R) i) ∙ eq_refl (length cs)
+
+        at_long : length at' ≡ length xs
+        at_long =
+            let many = forms_long ms nest_ready.names IsRight (f.variables ++ rn) cs all_coordinates in
+            let parts_long = length-append f.variables rn in
+            ap (λ (j : ℕ). length (take j cs)) dims_are ∙ long_taken (length f.variables) cs (omega (arith, many, parts_long))
+
+        y : IsWritten a well flags_of place f at d u
+        y = written a well flags_of place f at fs h.defined d u defined
+
+        names_written : is_among y.names ≡ is_among names
+        names_written = ap is_among (sym y.are ∙ sym names_text)
+
+        -- ---- each call
+
+        abbrev IsTyped : List ℕ → Terms → Type 0
+        IsTyped = IsTypedCall (is_among names) (callable a a.functions)
+
+        abbrev IsSame : List ℕ → Terms → Type 0
+        IsSame = Same (called a plan cert) (callable a a.functions) ms
+
+        abbrev IsBoundedCall : List ℕ → Terms → Type 0
+        IsBoundedCall x es = is_call_bounded a r u regions g.subject.name (written_call x es) ≡ Some true
+
+        abbrev SourceIs : List ℕ → Terms → Type 0
+        SourceIs x es =
+            (called a plan cert (loaded_name ms x) ≡ callable a a.functions x) × (O.source (loaded_name ms x) ≡ Input → x ≡ a.input)
+            × IsKind (last_of None ms x) (O.source (loaded_name ms x))
+
+        sources : EachCall SourceIs u.value
+        sources =
+            let C : List ℕ → Terms → Type 0 = λ x es. IsSome (callable a a.functions x) in
+            let S : List ℕ → Terms → Type 0 = λ x es. StaysCalled a flags_of x in
+            let Q : List ℕ → Type 0 = λ x. some_calls x fs ≡ true in
+            let B : List ℕ → Terms → Type 0 = λ x es. BackIf a well flags_of place f at d x in
+            let can = calls_can (is_among y.names) (callable a a.functions) u.value y.value.ty y.value.typed in
+            let some = each_written Q u.value (each_called Q (calls_of u.value) (λ x z. some_of x fs d u defined (value_calls x u z))) in
+            let left_two = each_both C S u.value can y.value.stays in
+            let right_two = each_both (λ x es. Q x) B u.value some y.value.back in
+            let four = each_both (λ x es. C x es × S x es) (λ x es. Q x × B x es) u.value left_two right_two in
+            each_call-weaker (λ x es. (C x es × S x es) × (Q x × B x es)) SourceIs
+            (λ x es z. source_at x (last_of None ms x) refl (last_has (IsHolding n q) x ms None ready.holds tt) z.0.0 z.0.1 z.1.0 z.1.1) u.value four
+
+        typed : EachCall IsTyped u.value
+        typed = subst (λ (known_names : List ℕ → Bool). EachCall (IsTypedCall known_names (callable a a.functions)) u.value) names_written
+            (calls_typed (is_among y.names) (callable a a.functions) u.value y.value.ty y.value.typed)
+
+        calls_in_bounds : EachCall IsBoundedCall u.value
+        calls_in_bounds =
+            each_of IsBoundedCall u.value
+            (subst (AllByRecursion (λ (c : Written). is_call_bounded a r u regions g.subject.name c ≡ Some true)) (ap (λ (ys : List Written). ys ++ calls_of u.value) (no_left_calls u.at none_left))
+            (calls_bounded a r u regions g.subject.name (calls_in u) fb.bounded))
+
+        abbrev IsFoundCall : List ℕ → Terms → Type 0
+        IsFoundCall x es = (out : List (List Span1)) → add_calls a r x (calls_in u) [] ≡ Some out → IsFound a r x out (written_call x es)
+
+        found_calls : EachCall IsFoundCall u.value
+        found_calls =
+            each_of IsFoundCall u.value
+            (subst (AllByRecursion (λ (c : Written). (out : List (List Span1)) → add_calls a r c.name (calls_in u) [] ≡ Some out → IsFound a r c.name out c))
+            (ap (λ (ys : List Written). ys ++ calls_of u.value) (no_left_calls u.at none_left))
+            (each_found a r (calls_in u) (calls_in u) (λ x out z. (add_all a r x (calls_in u) [] out z).0)))
+
+        one_within : (x : List ℕ) (es : Terms) → IsTyped x es → EachCallOfAll IsSame es → IsBoundedCall x es → SourceIs x es → O.source (loaded_name ms x) ≡ Input →
+            are_within R known.binders (intervals O R known.binders names vars (all_with_calls (as_load ms) es)) R.extents ≡ true
+        one_within x es t s c from input =
+            let name : x ≡ a.input = from.1 input in
+            let answer = answer-is (callable a a.functions x) (index_count es) t.1.0 t.1.1 in
+            let takes : Some (a.input_ty, length a.input_extents) ≡ Some answer.0 =
+            sym (ap (callable a a.functions) name ∙ input_callable a a.functions (none_is_input a well.names)) ∙ answer.1 in
+            let count : length a.input_extents ≡ answer.0.1 = second a.input_ty (length a.input_extents) answer.0 takes in
+            let on : is_on_input a r es a.input_extents ≡ Some true =
+            input_bounded a r u regions g.subject.name (written_call x es) (ap (λ (z : List ℕ). same_name z a.input) name ∙ name_refl a.input) c in
+            input_within a plan cert n O known.binders names vars r scope_is names_are vars_are inside long ms es a.input_extents on (sym (count ∙ answer.2)) s t.0
+
+        abbrev may : ℕ → Bool
+        may = may_load O R known 0 F d
+
+        abbrev meets : ℕ → List (List Span1)
+        meets = met O R F d at'
+
+        -- a test of something else than names
+        abbrev IsMore : Obligation → Type 0
+        IsMore o = IsNameTest o.wanted → ⊥
+
+        abbrev ShowsBy : Source → List Span1 → Type 0
+        ShowsBy s ss = Shows O R nests IsMore (load_obligations O R at_line known may meets s ss)
+
+        -- ---- dimension by dimension
+
+        -- what is so of a span at this place
+        abbrev IsFine : List ℕ → Coordinate → Span1 → Type 0
+        IsFine x c s =
+            (is_seated R known.binders s (place_of x) ≡ true) × (is_within R known.binders s (claim_of_var x) ≡ true) × (is_within R known.binders s (index_met O R c.index) ≡ true)
+
+        -- the coordinate at a place
+        placed_form : (j : ℕ) (x : List ℕ) (c : Coordinate) → slice_get xs j ≡ Some x → slice_get at' j ≡ Some c → (z : Form) × (c.index ≡ At z) × IsRightForm R known place_of claim_of_var x z
+        placed_form j x c at_x at_c =
+            let r' = form_there ms nest_ready.names IsRight (f.variables ++ rn) cs all_coordinates j x c (at_left f.variables rn j x at_x) (taken_got m cs j c at_c) in
+            (r'.0, r'.1, r'.2.1 (at_in f.variables j x at_x))
+
+        fine_form : (x : List ℕ) (c : Coordinate) (z : Form) → c.index ≡ At z → IsRightForm R known place_of claim_of_var x z → IsFine x c (exactly z)
+        fine_form x c z is_z right =
+            let self : at_most scope z z ≡ true = form_self scope z right.kept in (
+              right.seated,
+              right.within,
+              ap (λ (i : Index). is_within R known.binders (exactly z) (index_met O R i)) is_z ∙ (λ j. ((self j || false) && true) && ((self j || false) && true)),
+            )
+
+        -- so it is of spans one by one
+        all_fine : (ss : List Span1) → length ss ≡ length xs →
+            ((j : ℕ) (s : Span1) (x : List ℕ) (c : Coordinate) → slice_get ss j ≡ Some s → slice_get xs j ≡ Some x → slice_get at' j ≡ Some c → IsFine x c s) →
+            (are_seated R known.binders ss places ≡ true) × (are_within R known.binders ss region ≡ true)
+            × (are_within R known.binders ss (map (λ (c : Coordinate). index_met O R c.index) at') ≡ true)
+        all_fine ss long_so each = (
+          ap (are_seated R known.binders ss) places_are
+              ∙ seated_by R known.binders ss (map place_of xs) (long_so ∙ sym (length-map xs place_of))
+              (λ j s p at_s at_p. (let x = from_map place_of xs j p at_p in let c = coordinate_at j x.0 x.1 in ap (is_seated R known.binders s) x.2 ∙ (each j s x.0 c.0 at_s x.1 c.1).0)),
+          ap (are_within R known.binders ss) claims_are
+              ∙ within_by R known.binders ss (map claim_of_var xs) (long_so ∙ sym (length-map xs claim_of_var))
+              (λ j s p at_s at_p. (let x = from_map claim_of_var xs j p at_p in let c = coordinate_at j x.0 x.1 in ap (is_within R known.binders s) x.2 ∙ (each j s x.0 c.0 at_s x.1 c.1).1)),
+          within_by R known.binders ss (map (λ (c : Coordinate). index_met O R c.index) at') (long_so ∙ sym at_long ∙ sym (length-map at' (λ (c : Coordinate). index_met O R c.index)))
+              (λ j s p at_s at_p. (let c = from_map (λ (c : Coordinate). index_met O R c.index) at' j p at_p in let x = variable_here j c.0 c.1 in
+              ap (is_within R known.binders s) c.2 ∙ (each j s x.0 c.0 at_s x.1 c.1).2)),
+        )
+          where
+            coordinate_at : (j : ℕ) (x : List ℕ) → slice_get xs j ≡ Some x → (c : Coordinate) × (slice_get at' j ≡ Some c)
+            coordinate_at j x at_x = (let less_j = slice_get_within xs j x at_x in let many = at_long in at_place at' j (omega (arith, less_j, many)))
+
+            variable_here : (j : ℕ) (c : Coordinate) → slice_get at' j ≡ Some c → (x : List ℕ) × (slice_get xs j ≡ Some x)
+            variable_here j c at_c = (let less_j = slice_get_within at' j c at_c in let many = at_long in at_place xs j (omega (arith, less_j, many)))
+
+        -- where it stores
+        target_fine : (j : ℕ) (x : List ℕ) (c : Coordinate) → slice_get xs j ≡ Some x → slice_get at' j ≡ Some c → IsFine x c (T c)
+        target_fine j x c at_x at_c =
+            let p = placed_form j x c at_x at_c in
+            subst (IsFine x c) (ap (index_place O R known names left) (sym p.1)) (fine_form x c p.0 p.1 p.2)
+
+        points_fine : (are_seated R known.binders (map T at') places ≡ true) × (are_within R known.binders (map T at') region ≡ true)
+        points_fine =
+            let all_so = all_fine (map T at') (length-map at' T ∙ at_long) (λ j s x c at_s at_x at_c. (let t = from_map T at' j s at_s in
+            let same_c : t.0 ≡ c = some_same t.0 c (sym t.1 ∙ at_c) in subst (IsFine x c) (sym (t.2 ∙ ap T same_c)) (target_fine j x c at_x at_c))) in
+            (all_so.0, all_so.1)
+
+        no_meets : (j : ℕ) (x : List ℕ) (i : ℕ) (t : FetchText) → slice_get fetches i ≡ Some t → t.function ≡ x → (same_name f.name x ≡ false) ⊎ (j ≡ 0) → met O R F j at' (first + i) ≡ []
+        no_meets zero x i t stands_there name other = refl
+        no_meets (suc j) x i t stands_there name (inr none) = absurd (omega (arith, none))
+        no_meets (suc j) x i t stands_there name (inl none) =
+            let fk = fetch_known a sch l well legal small kept all groups told free n q place f at there first line claims needs theirs h hold numbered lined i t stands_there in
+            let own = own_function a sch l well legal small kept all groups told free n q place f at there first line claims needs theirs h hold numbered lined in
+            let other = differs a sch l well legal small kept all groups told free n q place f at there first line claims needs theirs h hold numbered lined f.name x none in
+            let function : (O.claim (first + i)).function ≡ x = fk.function ∙ name in
+            let test : same_name (O.claim (first + i)).function F ≡ false = (λ z. same_name (function z) (own z)) ∙ other in
+            ap (λ (b : Bool). if b then map (λ (c : Coordinate). index_met O R c.index) at' ∷ [] else []) test
+
+        fetch_shows : (x : List ℕ) (es : Terms) → IsTyped x es → EachCallOfAll IsSame es → IsFoundCall x es → (c : ℕ) → FetchedBy fetches first x c → (same_name f.name x ≡ false) ⊎ (d ≡ 0) →
+            ShowsBy (ByClaim c) (intervals O R known.binders names vars (all_with_calls (as_load ms) es))
+        fetch_shows x es t s found_call c by different =
+            let ss = intervals O R known.binders names vars (all_with_calls (as_load ms) es) in
+            let j = by.0 in
+            let f_text = by.1 in
+            let stands_there = by.2 in
+            let fk = fetch_known a sch l well legal small kept all groups told free n q place f at there first line claims needs theirs h hold numbered lined j f_text stands_there in
+            let buffer : (O.claim c).buffer ≡ f_text.buffer = ap (λ (m : ℕ). (O.claim m).buffer) by.4 ∙ fk.buffered in
+            let held_places : places_of known.buffers (O.claim c).buffer ≡ Some f_text.places = ap (places_of known.buffers) buffer ∙ (held_here j f_text stands_there).1 in
+            let over_region : (O.claim c).region ≡ f_text.region = ap (λ (m : ℕ). (O.claim m).region) by.4 ∙ fk.region in
+            let fa = fetch_at (sites_of a g fs k) (grid_scope k.grid) n 1 (line + first_lines k) (fetched_groups fs n 0 entries) fetches needs h.body.fetched h.body.fetching j f_text stands_there in
+            let z = fa.group.1 in
+            let other = other_at fs n 0 entries fa.place fa.group fa.listed in
+            let number : fa.group.0 ≡ other.place = (let m = other.numbered in omega (arith, m)) in
+            let function : z.0.subject.name ≡ x = sym fa.fetched.named ∙ by.3 in
+            let sites = fa.part.taken.sites in
+            let listed = ap (sites_of a g fs k) (sym function) ∙ fa.part.taken.called in
+            let zero_on : 0 + d ≡ d = omega arith in
+            let site : IsSiteAt a g (head_scope k) x d u w sites =
+            subst (λ (j : ℕ). IsSiteAt a g (head_scope k) x j u w sites) zero_on (site_at a g (head_scope k) x 0 fs k.nests [] sites listed d u w defined stands) in
+            let same_known : site.known ≡ r = same site.known r (sym site.is ∙ fb.is) in
+            let added : add_calls a r x (calls_in u) [] ≡ Some site.calls = subst (λ (z : AroundText). add_calls a z x (calls_in u) [] ≡ Some site.calls) same_known site.added in
+            let call = found_call site.calls added in
+            let spans_eq : ss ≡ call.0 = spans_same a plan cert n O known.binders names vars r scope_is names_are vars_are inside long ms es [] call.0 call.1 s t.0 in
+            let one_site : SiteText = record { scope = site.known.scope; calls = site.calls } in
+            let has = site.site call.0 call.2 in
+            let entry = entry_at (stored_functions a sch) (regions_found a sch l well legal small kept all groups) all (all_ready a sch l well legal small kept all groups) other.place z other.at in
+            let fetched_is : is_fetched fs n other.place z ≡ true = ap (λ (m : ℕ). is_fetched fs n m z) (sym number) ∙ other.fetched in
+            let held_all = all_held (grid_scope k.grid) sites one_site call.0 has call.2
+            (λ dim s' x' needed.
+            cut_low a g fs f.variables (bodies_from f.changes 0 (reductions_of f.changes) fs) (loops_after (said sch) f) h.extents k h.laid z.0.subject.name sites fa.part.taken.called
+            (grid_scope k.grid) dim s' x' needed) 0 z.1.region
+            (λ i x' at_x. let none : i ≡ 0 + i = omega arith in
+            subst (λ (m : ℕ). IsHeldPart (grid_scope k.grid) sites m x') none (held_parts other.place z other.at fetched_is sites fa.part.taken.called i x' at_x)) in
+            let answer = answer-is (callable a a.functions x) (index_count es) t.1.0 t.1.1 in
+            let known_function = known_stored a sch well other.place z.0 entry.is in
+            let takes : Some (known_function.function.ty, length known_function.function.variables) ≡ Some answer.0 =
+            sym (ap (callable a a.functions) (sym function) ∙ named_callable a a.functions z.0.subject.name known_function.function known_function.named) ∙ answer.1 in
+            let count : length known_function.function.variables ≡ answer.0.1 = second known_function.function.ty (length known_function.function.variables) answer.0 takes in
+            let long_region = (region_is a (stored_functions a sch) other.place z.0 z.1 entry.is entry.laid).long in
+            let many : length call.0 ≡ length z.1.region =
+            sym (ap length spans_eq) ∙ intervals_long a plan cert n O known.binders names vars r scope_is names_are vars_are inside long ms es ∙ sym answer.2 ∙ sym count
+            ∙ sym known_function.variables ∙ sym long_region in
+            let scope_there : scope_of known.binders ≡ one_site.scope = scope_is ∙ ap (λ (z : AroundText). z.scope) (sym same_known) in
+            let there_too : (i : ℕ) → slice_get call.0 (0 + i) ≡ slice_get call.0 i = λ i. let none : 0 + i ≡ i = omega arith in ap (slice_get call.0) none in
+            let within = region_within (grid_scope k.grid) sites one_site.scope call.0 R known.binders scope_there (λ x y. refl) 0 z.1.region call.0 there_too many held_all in
+            let seats = places_seat (grid_scope k.grid) sites one_site.scope call.0 R known.binders scope_there (λ x y. refl) 0 z.1.region call.0 there_too many held_all in
+            let within_claim : are_within R known.binders ss (region_of O R c) ≡ true =
+            (λ i. are_within R known.binders (spans_eq i) (over_region i)) ∙ ap (are_within R known.binders call.0) fa.part.taken.region ∙ within in
+            let seated_all : shows R nests known.binders (seated O R (places_of known.buffers (O.claim c).buffer) ss) ≡ true =
+            ap (λ (o : Option (List Places)). shows R nests known.binders (seated O R o ss)) held_places ∙ (λ i. are_seated R known.binders (spans_eq i) (fa.part.taken.places i)) ∙ seats in
+            let no_met : meets c ≡ [] = ap meets by.4 ∙ no_meets d x j f_text stands_there by.3 different in
+            let rest : Shows O R nests IsMore (map (λ ys. obligation O R NotTheDefinition at_line known (Inside ss ys)) (meets c)) =
+            subst (λ (yss : List (List Span1)). Shows O R nests IsMore (map (λ ys. obligation O R NotTheDefinition at_line known (Inside ss ys)) yss)) (sym no_met) tt in
+            ((λ more. seated_all), (λ more. absurd (more tt), (λ more. within_claim, rest)))
+
+        -- ---- calls of the function itself
+
+        abbrev Keeps : List ℕ → Terms → Type 0
+        Keeps name args = (i : ℕ) → d ≡ suc i → name ≡ f.name → (j : ℕ) (x : List ℕ) → slice_get f.variables j ≡ Some x → has_variable x j args ≡ true
+
+        abbrev own_spans : Terms → List Span1
+        own_spans es = intervals O R known.binders names vars (all_with_calls (as_load ms) es)
+
+        own_fine : (x : List ℕ) (es : Terms) → x ≡ f.name → Keeps x es → (i : ℕ) → d ≡ suc i → (j : ℕ) (s : Span1) (z : List ℕ) (c : Coordinate) → slice_get (own_spans es) j ≡ Some s →
+            slice_get xs j ≡ Some z → slice_get at' j ≡ Some c → IsFine z c s
+        own_fine x es name keeps i later j s z c at_s at_z at_c =
+            let index = interval_nth O R known.binders names vars ms es j s at_s in
+            let p = placed_form j z c at_z at_c in
+            let variable = variable_nth z j es index.0 (keeps i later name j z at_z) index.1 in
+            let term : index.0 ≡ Name z = is_name z index.0 variable in
+            let names_j : slice_get names j ≡ Some z = ap (λ (ys : List (List ℕ)). slice_get ys j) names_all ∙ at_left xs rn j z at_z in
+            let target_c : T c ≡ exactly p.0 = ap (index_place O R known names left) p.1 in
+            let vars_j : slice_get vars j ≡ Some (exactly p.0) =
+            at_left (map T at') (map (variable_span O R) over) j (exactly p.0) (at_map T at' j c at_c ∙ ap (λ (y : Span1). Some y) target_c) in
+            let once : hits itself z names ≤ 1 =
+            subst (λ (ys : List (List ℕ)). hits itself z ys ≤ 1) (sym names_all) (hits_once (xs ++ rn) z (none_twice (xs ++ rn) (distinct_at d u defined))) in
+            let point : IsPoint a plan cert n O known names vars inside long ms z p.0 = record {
+              among = among_at names j z names_j;
+              spans = span_at_place names vars j z (exactly p.0) once names_j vars_j;
+              limited = p.2.kept;
+            } in
+            let bounds : R.interval known.binders names vars (Name z) ≡ exactly p.0 = variable_bounds a plan cert n O known names vars inside long ms z p.0 point in
+            let is_s : exactly p.0 ≡ s = sym bounds ∙ ap (λ (y : Term). R.interval known.binders names vars (with_calls (as_load ms) y)) (sym term) ∙ index.2 in
+            subst (IsFine z c) is_s (fine_form z c p.0 p.1 p.2)
+
+        met_within : (ss : List Span1) → are_within R known.binders ss (map (λ (c : Coordinate). index_met O R c.index) at') ≡ true → (j : ℕ) (c : ℕ) →
+            Shows O R nests IsMore (map (λ ys. obligation O R NotTheDefinition at_line known (Inside ss ys)) (met O R F j at' c))
+        met_within ss so zero c = tt
+        met_within ss so (suc j) c = of (same_name (O.claim c).function F)
+          where
+            of : (b : Bool) →
+                Shows O R nests IsMore (map (λ ys. obligation O R NotTheDefinition at_line known (Inside ss ys)) (if b then map (λ (c : Coordinate). index_met O R c.index) at' ∷ [] else []))
+            of true = ((λ more. so), tt)
+            of false = tt
+
+        own_shows : (x : List ℕ) (es : Terms) → IsTyped x es → Keeps x es → (c i : ℕ) → d ≡ suc i → same_name f.name x ≡ true → c ≡ first_own + i → ShowsBy (ByClaim c) (own_spans es)
+        own_shows x es t keeps c i later own number =
+            let name : x ≡ f.name = sym (name_true f.name x own) in
+            let there_too : i < length k.nests = (let l' = less in omega (arith, l', later)) in
+            let known_own = own_known a sch l well legal small kept all groups told free n q place f at there first line claims needs theirs h hold numbered lined i there_too in
+            let buffer : (O.claim c).buffer ≡ 0 = ap (λ (j : ℕ). (O.claim j).buffer) number ∙ known_own.buffered in
+            let over_region : (O.claim c).region ≡ region = ap (λ (j : ℕ). (O.claim j).region) number ∙ own_over i there_too in
+            let answer = answer-is (callable a a.functions x) (index_count es) t.1.0 t.1.1 in
+            let takes : Some (f.ty, length f.variables) ≡ Some answer.0 =
+            sym (ap (callable a a.functions) name ∙ named_callable a a.functions f.name f (named_here a well place f at)) ∙ answer.1 in
+            let count : length f.variables ≡ answer.0.1 = second f.ty (length f.variables) answer.0 takes in
+            let many : length (own_spans es) ≡ length xs = intervals_long a plan cert n O known.binders names vars r scope_is names_are vars_are inside long ms es ∙ sym (count ∙ answer.2) in
+            let all_so = all_fine (own_spans es) many (λ j s z c' at_s at_z at_c. own_fine x es name keeps i later j s z c' at_s at_z at_c) in
+            let held_places : places_of known.buffers (O.claim c).buffer ≡ Some places = ap (places_of known.buffers) buffer ∙ own_here in (
+              (λ more. ap (λ (o : Option (List Places)). shows R nests known.binders (seated O R o (own_spans es))) held_places ∙ all_so.0),
+              (λ more. absurd (more tt), (λ more. ap (are_within R known.binders (own_spans es)) over_region ∙ all_so.1, met_within (own_spans es) all_so.2 d c)),
+            )
+
+        -- ---- all that is loaded
+
+        abbrev IsReadyCall : List ℕ → Terms → Type 0
+        IsReadyCall x es = (IsTyped x es × EachCallOfAll IsSame es) × (IsBoundedCall x es × SourceIs x es)
+
+        abbrev IsTold : List ℕ → Terms → Type 0
+        IsTold x es = IsReadyCall x es × (IsFoundCall x es × Keeps x es)
+
+        owning_calls : (j : ℕ) → d ≡ j → EachCall Keeps u.value
+        owning_calls zero pure = each_call-weaker IsTyped Keeps (λ x es z i later. absurd (omega (arith, pure, later))) u.value typed
+        owning_calls (suc j) later =
+            each_call-weaker (Keeping u.at) Keeps (λ x es z i more name j' x' at_x. z name j' x' at_x (no_expression j')) u.value (owns d u defined j later)
+
+        told_calls : EachCall IsTold u.value
+        told_calls =
+            let same_all : EachCall IsSame u.value = each_call-weaker SourceIs IsSame (λ x es z. z.0) u.value sources in
+            let inner = each_inner IsSame u.value same_all in
+            let one = each_both IsTyped (λ x es. EachCallOfAll IsSame es) u.value typed inner in
+            let two = each_both IsBoundedCall SourceIs u.value calls_in_bounds sources in
+            let three = each_both (λ x es. IsTyped x es × EachCallOfAll IsSame es) (λ x es. IsBoundedCall x es × SourceIs x es) u.value one two in
+            let four = each_both IsFoundCall Keeps u.value found_calls (owning_calls d refl) in
+            each_both IsReadyCall (λ x es. IsFoundCall x es × Keeps x es) u.value three four
+
+        call_shows : (x : List ℕ) (es : Terms) → IsTold x es → CallShows O R nests IsMore at_line known may meets names vars ms x es
+        call_shows x es z = elim z.0.1.1.2 [
+          | inl by ↦
+              subst (λ (s : Source). ShowsBy s (intervals O R known.binders names vars (all_with_calls (as_load ms) es))) (sym by.2)
+              (by_claim by.0 (last_is a sch l well legal small kept all groups told free n q place f at there first line claims needs theirs h hold numbered lined d x by.0 by.1))
+          | inr input ↦
+              subst (λ (s : Source). ShowsBy s (intervals O R known.binders names vars (all_with_calls (as_load ms) es))) (sym input)
+              ((λ more. one_within x es z.0.0.0 z.0.0.1 z.0.1.0 z.0.1.1 input), tt)
+        ]
+          where
+            by_claim : (c : ℕ) → IsLast a sch l well legal small kept all groups told free n q place f at there first line claims needs theirs h hold numbered lined d x c →
+                ShowsBy (ByClaim c) (intervals O R known.binders names vars (all_with_calls (as_load ms) es))
+            by_claim c (inl own) = own_shows x es z.0.0.0 z.1.1 c own.0 own.1 own.2 own.3
+            by_claim c (inr by) = fetch_shows x es z.0.0.0 z.0.0.1 z.1.0 c by.1 by.0
+
+        -- ---- all that the store owes
+
+        claimed_shows : (j : ℕ) → Shows O R nests IsMore (claimed O R at_line known 0 F j (map T at'))
+        claimed_shows zero = tt
+        claimed_shows (suc j) = each known.updating under
+          where
+            each : (vs : List Updating) → AllByRecursion (λ v. NamedIn O R (line + 1) (line + (lines (statement_of q.body) + 1)) v.next) vs →
+                Shows O R nests IsMore (map (λ v. obligation O R NotClaimed at_line known (Inside (map T at') (region_of O R v.next))) (filter (serves O R 0 F (suc j)) vs))
+            each [] named = tt
+            each (z ∷ vs) named = of (serves O R 0 F (suc j) z) refl (each vs named.1)
+              where
+                of : (t : Bool) → serves O R 0 F (suc j) z ≡ t →
+                    Shows O R nests IsMore (map (λ v. obligation O R NotClaimed at_line known (Inside (map T at') (region_of O R v.next))) (filter (serves O R 0 F (suc j)) vs)) →
+                    Shows O R nests IsMore (map (λ v. obligation O R NotClaimed at_line known (Inside (map T at') (region_of O R v.next)))
+                    (if t then z ∷ filter (serves O R 0 F (suc j)) vs else filter (serves O R 0 F (suc j)) vs))
+                of false p rest = rest
+                of true p rest =
+                    let buffer : (O.claim z.next).buffer ≡ 0 = eq_true (O.claim z.next).buffer 0 (and_parts ((O.claim z.next).buffer == 0) _ p).0 in
+                    let low_line = named.0.2 in
+                    let over_region = named_over a sch l well legal small kept all groups n first line g q claims needs there theirs h lined numbered alone_here z.next named.0.0 named.0.1
+                    (omega (arith, low_line)) named.0.3 buffer in
+                    ((λ more. ap (are_within R known.binders (map T at')) over_region ∙ points_fine.1), rest)
+
+        store_shows : Shows O R nests IsMore (obligations O R (Store 0 d cs e) at_line known)
+        store_shows =
+            let value = subst (λ (t : Term). Shows O R nests IsMore (loads O R at_line known may meets names vars t)) (sym is.value)
+            (term_shows O R nests IsMore at_line known may meets names vars ms u.value
+            (each_call-weaker IsTold (CallShows O R nests IsMore at_line known may meets names vars ms) call_shows u.value told_calls)) in
+            let coordinates : Shows O R nests IsMore (flat_map (coordinate_loads O R at_line known may meets names left) at') =
+            all_flat (λ (c : Coordinate). IsAt c.index) (λ o. IsMore o → is_shown R nests o ≡ true) (coordinate_loads O R at_line known may meets names left)
+            (λ c z. no_loads c.index z) at' left_at in
+            let behind_all = joined (flat_map (coordinate_loads O R at_line known may meets names left) at') (loads O R at_line known may meets names vars e) coordinates value in (
+              (λ more. ap (λ (o : Option (List Places)). shows R nests known.binders (seated O R o (map T at'))) own_here ∙ points_fine.0),
+              (
+                (λ more. absurd (more tt)),
+                joined (claimed O R at_line known 0 F d (map T at')) (flat_map (coordinate_loads O R at_line known may meets names left) at'
+                    ++ loads O R at_line known may meets names vars e) (claimed_shows d) behind_all,
+              ),
+            )
+          where
+            no_loads : (i : Index) → IsAt i → Shows O R nests IsMore (index_loads O R at_line known may meets names left i)
+            no_loads (At z) z' = tt
+            no_loads (Found z) z' = absurd z'
+
+            joined : (ps qs : List Obligation) → Shows O R nests IsMore ps → Shows O R nests IsMore qs → Shows O R nests IsMore (ps ++ qs)
+            joined [] qs one two = two
+            joined (x ∷ ps) qs one two = (one.0, joined ps qs one.1 two)
+
+    -- ---- the body
+
+    abbrev Stored : Statement → ℕ → Known → Type 0
+    Stored s at_line known = StoreHere g fs k.nests places fetches first s at_line known
+
+    abbrev Bound : Statement → ℕ → Known → Type 0
+    Bound s at_line known = BoundHere g fs k.nests places s at_line known
+
+    abbrev There : Statement → ℕ → Known → Type 0
+    There s at_line known = BoundThere g fs k.nests (grid_binders k.grid) s at_line known
+
+    abbrev Under : Statement → ℕ → Known → Type 0
+    Under s at_line known = AllNamed O R (line + 1) (line + (lines (statement_of q.body) + 1)) s at_line known
+
+    abbrev Four : Statement → ℕ → Known → Type 0
+    Four s at_line known = (Stored s at_line known × Bound s at_line known) × (There s at_line known × Under s at_line known)
+
+    abbrev More : Obligation → Type 0
+    More o = IsNameTest o.wanted → ⊥
+
+    abbrev AllShown : Statement → ℕ → Known → Type 0
+    AllShown s at_line known = IsStoreLine s → (nests : Nests) → Shows O R nests More (obligations O R s at_line known)
+
+    one_store : (b m : ℕ) (cs : List Coordinate) (e : Term) (at_line : ℕ) (known : Known) (nests : Nests) → StoreAt g fs k.nests places fetches first (Store b m cs e) known →
+        BoundAt g fs k.nests places (Store b m cs e) known → StoreBound g fs k.nests (grid_binders k.grid) (Store b m cs e) known → Under (Store b m cs e) at_line known →
+        Shows O R nests More (obligations O R (Store b m cs e) at_line known)
+    one_store b m cs e at_line known nests x y z under =
+        let d = x.definition in
+        let one : y.definition ≡ d = sym y.stores.1 ∙ x.stores.1 in
+        let two : z.definition ≡ d = sym z.stores.1 ∙ x.stores.1 in
+        let y_nest : y.nest ≡ x.nest = some_same y.nest x.nest (sym (ap (slice_get k.nests) (sym one) ∙ y.stands) ∙ x.stands) in
+        let z_nest : z.nest ≡ x.nest = some_same z.nest x.nest (sym (ap (slice_get k.nests) (sym two) ∙ z.stands) ∙ x.stands) in
+        let stored = subst (λ (ls : Loads). IsStore g fs ls d x.nest (Store b m cs e)) x.loaded x.stores in
+        let u = some_and (IsStored (all_loads g fs k.nests places fetches first d) (names_with f.variables f.changes d) x.nest cs e) (slice_get fs d) stored.2 in
+        let loops = subst (λ (w : NestText). (i : ℕ) (s : Span1) → InSteps i s w.steps → IsBound known i s) y_nest y.loops in
+        let binders : known.binders ≡ at_steps x.nest.steps (grid_binders k.grid) = z.binders ∙ ap (λ (w : NestText). at_steps w.steps (grid_binders k.grid)) z_nest in
+        let shown_here = store_shows d x.nest x.stands u.0 u.1 nests at_line known cs e (refl, refl, stored.2) u.2 loops binders x.held x.own under in
+        subst (λ (s : Statement). Shows O R nests More (obligations O R s at_line known)) (λ i. Store (sym stored.0 i) (sym stored.1 i) cs e) shown_here
+
+    one_shows : (s : Statement) (at_line : ℕ) (known : Known) → Four s at_line known → AllShown s at_line known
+    one_shows (Store b m cs e) at_line known four one nests = one_store b m cs e at_line known nests (four.0.0 tt) (four.0.1 tt) (four.1.0 tt) four.1.1
+    one_shows (Seq ss) at_line known four one nests = absurd one
+    one_shows (For j x kind body) at_line known four one nests = absurd one
+    one_shows (Let j pick forms) at_line known four one nests = absurd one
+    one_shows (First j x z) at_line known four one nests = absurd one
+    one_shows (Guard low high body) at_line known four one nests = absurd one
+    one_shows (Alloc b x seats) at_line known four one nests = absurd one
+    one_shows (Fetch b x area) at_line known four one nests = absurd one
+    one_shows (Publish x) at_line known four one nests = absurd one
+
+    full : HasLines (statement_of q.body)
+    full = subst HasLines (sym h.body.with.is) (body_has_lines g fs region _ _ _ 0 k.nests h.body.nests h.body.own h.body.nested (last_claim first h.body.fetches k) k.head
+        (Alloc 0 g.subject.name places) (omega arith) tt h.body.fetches)
+
+    pub body_shows : EachLine O R AllShown (statement_of q.body) (body_line plan n) (start (grid_binders q.grid.items))
+    body_shows =
+        let s = statement_of q.body in
+        let begin = body_line plan n in
+        let known = start (grid_binders q.grid.items) in
+        let stored = body_stored a sch l well legal small kept all groups told free n q place f at there first line claims needs theirs h hold numbered lined in
+        let under = each_named O R (line + 1) (line + (lines s + 1)) s begin known tt full (omega (arith, lined)) (omega (arith, lined)) in
+        let two = lines_paired O R Stored Bound (λ t i y. Stored t i y × Bound t i y) (λ t i y x z. (x, z)) s begin known stored bound_all in
+        let three = lines_paired O R There Under (λ t i y. There t i y × Under t i y) (λ t i y x z. (x, z)) s begin known binders_all under in
+        let four = lines_paired O R (λ t i y. Stored t i y × Bound t i y) (λ t i y. There t i y × Under t i y) Four (λ t i y x z. (x, z)) s begin known two three in
+        lines_weaker O R Four AllShown one_shows s begin known four
