@@ -3,7 +3,7 @@ use Rattle.std.proofs.Common.{◌≡◌, ℕ, zero, suc, ◌+◌, ◌*◌, ◌<�
 use Rattle.std.proofs.Math.Nat.{suc-mul}
 use Rattle.std.proofs.lemmas.List.{drop-drop, length-take-le, take_more_set}
 use Rattle.interpreter.specs.declared.evaluation.lanes.Lanes.{Lanes}
-use Rattle.interpreter.specs.declared.evaluation.lanes.Lanes.TheVariants.{Broadcast, Ramp, Vector}
+use Rattle.interpreter.specs.declared.evaluation.lanes.Lanes.TheVariants.{Broadcast, Ramp, Clamped, Vector}
 use Rattle.interpreter.specs.declared.evaluation.lanes.Number.{Number}
 use Rattle.interpreter.specs.Evaluation.Lanes.{lane_number, lanes_at, number_at}
 
@@ -15,6 +15,7 @@ number_drop (z ∷ zs) (suc n) j = let e : suc (n + j) ≡ suc n + j = omega ari
 lane_same : (x : Lanes) (k : ℕ) (old new : List Number) → number_at new k ≡ number_at old k → lane_number x new k ≡ lane_number x old k
 lane_same (Broadcast t z) k old new h = refl
 lane_same (Ramp t z) k old new h = refl
+lane_same (Clamped t r) k old new h = refl
 lane_same (Vector t) k old new h = h
 
 lanes_same : (n k : ℕ) (xs : List Lanes) (old new : List Number) → k < n → ((j : ℕ) → j < length xs * n → number_at new j ≡ number_at old j) → lanes_at n xs new k ≡ lanes_at n xs old k

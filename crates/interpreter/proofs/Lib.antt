@@ -19,6 +19,7 @@ pub mod Summing
 pub mod GridPoints
 pub mod Moving
 pub mod Buts
+pub mod ClampedRamps
 pub mod StoreTurns
 pub mod Each
 pub mod FoundRuns

@@ -18,8 +18,8 @@ mod widths;
 
 pub use evaluation::evaluate;
 pub use indices::indices_after;
-pub(crate) use kernels::{applied_number, copy_each, copy_register, fill_steps};
-pub use lanes::{Lanes, Number};
+pub(crate) use kernels::{applied_number, clamped_number, copy_each, copy_register, fill_steps};
+pub use lanes::{ClampedRamp, Lanes, Number};
 pub(crate) use operations::{
     Difference, Larger, Operator, Product, Quotient, Remainder, Smaller, Sum,
 };

@@ -8,12 +8,12 @@ ghost use Rattle.plan.specs.Semantics.Run.{look};
 ghost use Rattle.meaning.specs.Names.{bound};
 ghost use Rattle.interpreter.specs.Buffers.Blocks.{memory_of};
 ghost use Rattle.numeric.specs.declared.ty.Ty.TheVariants.{I32};
-ghost use Rattle.interpreter.specs.Evaluation.Lanes.{lane, lane_number, lanes_at, number_at, IsNarrowFor};
+ghost use Rattle.interpreter.specs.Evaluation.Lanes.{clamped_number, lane, lane_number, lanes_at, number_at, IsNarrowFor};
 ghost use Rattle.interpreter.specs.Pieces.{around, no_cells};
 ghost use Rattle.interpreter.specs.Runs.{numbers_at, IsBut};
 
 use crate::buffers::{Buffers, held_window};
-use crate::evaluation::{Lanes, Number, RunReader, fill_steps};
+use crate::evaluation::{ClampedRamp, Lanes, Number, RunReader, clamped_number, fill_steps};
 use crate::loads::claim_of;
 use crate::piece::Piece;
 use crate::reading::{Reading, number_bound};
@@ -376,6 +376,22 @@ pub(crate) fn registers_behind(registers: &[Number], count: usize) -> &[Number]
     behind
 }
 
+/// The number so many turns after the first, if it is of 64 bits.
+fn risen_at(first: Number, turn: usize) -> Option<Number>
+    ensures { IfSome result (λ n. n.value ≡ first.value +ℤ pos turn) }
+{
+    let value = first.value.checked_add(i64::try_from(turn).ok()?)?;
+    Some(Number { value })
+}
+
+/// The number of a clamped ramp at a turn, if that of the ramp is of 64 bits.
+fn clamped_at(ramp: ClampedRamp, turn: usize) -> Option<Number>
+    ensures { IfSome result (λ n. n.value ≡ clamped_number ramp turn) }
+{
+    let number = risen_at(ramp.first, turn)?;
+    Some(clamped_number(number, ramp.low, ramp.high))
+}
+
 /// The number of lanes at a turn, over this register.
 fn number_in(lanes: Lanes, register: &[Number], turn: usize) -> Option<i64>
     ensures { IfSome result (λ z. z ≡ lane_number lanes register.now turn) }
@@ -383,6 +399,7 @@ fn number_in(lanes: Lanes, register: &[Number], turn: usize) -> Option<i64>
     match lanes {
         Lanes::Broadcast(_, number) => Some(number.value),
         Lanes::Ramp(_, number) => number.value.checked_add(i64::try_from(turn).ok()?),
+        Lanes::Clamped(_, ramp) => Some(clamped_at(ramp, turn)?.value),
         Lanes::Vector(_) => Some(register.get(turn)?.value),
     }
 }

@@ -42,7 +42,7 @@ use crate::state::State;
 use crate::store::{known_numbers, of_function, store};
 use crate::symbols::{Binding, Symbols};
 use crate::turns::{Turns, turn};
-use crate::updates::{Update, store_turns, update_part};
+use crate::updates::{Update, is_update, store_turns, update_part};
 use numeric::Ty;
 use plan::{Coordinate, Index, Stmt};
 use tree::Expr;
@@ -135,7 +135,7 @@ pub(crate) struct Part {
 /// What the loop's symbol is in the turn that so many of these come before.
 fn turn_in(part: Part, index: usize) -> Binding
     requires inside { index < part.count }
-    requires few { part.count ≤ 256 }
+    requires few { part.count ≤ 512 }
     requires high { (part.low +ℤ pos part.count) ≤ℤ pos (2 ^ 63) }
     ensures { result ≡ record { symbol = part.turns.symbol; value = part.low +ℤ pos index; first = int_le (part.low +ℤ pos index) part.turns.low } }
 {
@@ -144,7 +144,7 @@ fn turn_in(part: Part, index: usize) -> Binding
 
 /// The number behind these turns, if there is one of 64 bits.
 fn behind(part: Part) -> Option<i64>
-    requires { part.count ≤ 256 }
+    requires { part.count ≤ 512 }
     ensures { MatchOption result (pos (2 ^ 63) ≤ℤ (part.low +ℤ pos part.count)) (λ z. z ≡ part.low +ℤ pos part.count) }
 {
     part.low.checked_add(part.count as i64)
@@ -228,7 +228,7 @@ fn write_points<'a>(
     requires ready { IsReady piece.now }
     requires forms { are_forms line.now.coordinates.now ≡ true }
     requires narrow { (k : ℕ) → k < part.count → All (CoordinateIsNarrow (bind (symbols_of symbols.old) part.turns.symbol (part.low +ℤ pos k) (int_le (part.low +ℤ pos k) part.turns.low))) line.now.coordinates.now }
-    requires few { part.count ≤ 256 }
+    requires few { part.count ≤ 512 }
     requires high { (part.low +ℤ pos part.count) ≤ℤ pos (2 ^ 63) }
     requires count { part.count ≤ length state.old.registers.items }
     requires symbols { length symbols.old.bound < symbols.old.room }
@@ -366,7 +366,7 @@ fn write_part<'a>(
     requires ready { IsReady piece.now }
     requires forms { are_forms line.now.coordinates.now ≡ true }
     requires narrow { (k : ℕ) → k < part.count → All (CoordinateIsNarrow (bind (symbols_of symbols.old) part.turns.symbol (part.low +ℤ pos k) (int_le (part.low +ℤ pos k) part.turns.low))) line.now.coordinates.now }
-    requires few { part.count ≤ 256 }
+    requires few { part.count ≤ 512 }
     requires high { (part.low +ℤ pos part.count) ≤ℤ pos (2 ^ 63) }
     requires count { part.count ≤ length state.old.registers.items }
     requires symbols { length symbols.old.bound < symbols.old.room }
@@ -398,7 +398,7 @@ fn store_one_by_one<'a>(
 ) -> Result<(), Stop>
     requires ready { IsReady piece.now }
     requires narrow { (k : ℕ) → k < part.count → All (CoordinateIsNarrow (bind (symbols_of symbols.old) part.turns.symbol (part.low +ℤ pos k) (int_le (part.low +ℤ pos k) part.turns.low))) line.now.coordinates.now }
-    requires few { part.count ≤ 256 }
+    requires few { part.count ≤ 512 }
     requires high { (part.low +ℤ pos part.count) ≤ℤ pos (2 ^ 63) }
     requires symbols { length symbols.old.bound < symbols.old.room }
     requires numbers { length line.now.coordinates.now ≤ state.old.numbers.room }
@@ -434,7 +434,7 @@ fn store_known_part<'a>(
 ) -> Result<(), Stop>
     requires ready { IsReady piece.now }
     requires narrow { (k : ℕ) → k < part.count → All (CoordinateIsNarrow (bind (symbols_of symbols.old) part.turns.symbol (part.low +ℤ pos k) (int_le (part.low +ℤ pos k) part.turns.low))) line.now.coordinates.now }
-    requires few { part.count ≤ 256 }
+    requires few { part.count ≤ 512 }
     requires high { (part.low +ℤ pos part.count) ≤ℤ pos (2 ^ 63) }
     requires symbols { length symbols.old.bound < symbols.old.room }
     requires numbers { length line.now.coordinates.now ≤ state.old.numbers.room }
@@ -510,8 +510,8 @@ fn store_update<'a>(
     }
 }
 
-/// The store at some turns of a loop.
-fn store_part<'a>(
+/// The store at at most 256 turns of a loop, for which the places of an update have room.
+fn store_short_part<'a>(
     piece: &'a Piece<'a>,
     line: &StoreLine<'a>,
     part: Part,
@@ -536,18 +536,55 @@ fn store_part<'a>(
     }
 }
 
-/// The turns of a loop from this number on, at most as many as are taken together.
-fn first_part(turns: Turns, low: i64) -> Part
-    requires { low ≤ℤ turns.high }
+/// The store at some turns of a loop.
+fn store_part<'a>(
+    piece: &'a Piece<'a>,
+    line: &StoreLine<'a>,
+    part: Part,
+    symbols: &mut Symbols,
+    state: &mut State,
+) -> Result<(), Stop>
+    requires ready { IsReady piece.now }
+    requires narrow { (k : ℕ) → k < part.count → All (CoordinateIsNarrow (bind (symbols_of symbols.old) part.turns.symbol (part.low +ℤ pos k) (int_le (part.low +ℤ pos k) part.turns.low))) line.now.coordinates.now }
+    requires few { part.count ≤ 512 }
+    requires high { (part.low +ℤ pos part.count) ≤ℤ pos (2 ^ 63) }
+    requires symbols { length symbols.old.bound < symbols.old.room }
+    requires numbers { length line.now.coordinates.now ≤ state.old.numbers.room }
+    requires point { length line.now.coordinates.now ≤ state.old.point.room }
+    requires stack { indices_of_all line.now.coordinates.now + indices_in (term_of line.now.value.now) ≤ state.old.stack.room }
+    ensures symbols { OnOk result (symbols.new ≡ symbols.old) }
+    ensures large { OnOk result (IsAsLarge state.old state.new) }
+    ensures run { (definition : ℕ) (cell : List ℕ → List ℤ → ValueFound) → EndsIn state.old.given.capacity (λ _. progress_of state.new) result (steps (around piece.now cell) (flat_map (store_at piece.now line.now.buffer line.now.coordinates.now (term_of line.now.value.now) (symbols_of symbols.old) part.turns.symbol part.turns.low definition) (rising part.low part.count)) (progress_of state.old)) }
+{
+    if part.count > 256 {
+        store_known_part(piece, line, part, symbols, state)
+    } else {
+        store_short_part(piece, line, part, symbols, state)
+    }
+}
+
+/// How many turns of a store are taken together at most. An update takes memory for the places of each of its turns.
+fn most_turns(piece: &Piece<'_>, line: &StoreLine<'_>) -> usize
+    ensures some { 0 < result }
+    ensures few { result ≤ 512 }
+{
+    if is_update(piece, line) { 256 } else { 512 }
+}
+
+/// The turns of a loop from this number on, at most so many.
+fn first_part(turns: Turns, low: i64, most: usize) -> Part
+    requires low { low ≤ℤ turns.high }
+    requires some { 0 < most }
+    requires few { most ≤ 512 }
     ensures turns { result.turns ≡ turns }
     ensures low { result.low ≡ low }
     ensures some { 0 < result.count }
-    ensures few { result.count ≤ 256 }
+    ensures few { result.count ≤ 512 }
     ensures high { (low +ℤ pos result.count) ≤ℤ (turns.high +ℤ pos 1) }
 {
     let count = match turns.high.checked_sub(low) {
-        Some(more) if more < 255 => more as usize + 1,
-        _ => 256,
+        Some(more) if more < most as i64 => more as usize + 1,
+        _ => most,
     };
     Part { turns, low, count }
 }
@@ -570,9 +607,10 @@ pub(crate) fn run_stores<'a>(
     ensures large { OnOk result (IsAsLarge state.old state.new) }
     ensures run { (definition : ℕ) (cell : List ℕ → List ℤ → ValueFound) → EndsIn state.old.given.capacity (λ _. progress_of state.new) result (steps (around piece.now cell) (flat_map (store_at piece.now line.now.buffer line.now.coordinates.now (term_of line.now.value.now) (symbols_of symbols.old) turns.symbol turns.low definition) (between turns.low turns.high)) (progress_of state.old)) }
 {
+    let most = most_turns(piece, line);
     let mut low = turns.low;
     while low <= turns.high {
-        let part = first_part(turns, low);
+        let part = first_part(turns, low, most);
         store_part(piece, line, part, symbols, state)?;
         let Some(next) = behind(part) else {
             return Ok(());

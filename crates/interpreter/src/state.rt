@@ -44,7 +44,7 @@ impl State {
             numbers: Row::new(alloc, needs.coordinates)?,
             point: Row::new(alloc, needs.coordinates)?,
             stack: Row::new(alloc, needs.indices)?,
-            registers: registers(alloc, 256, 16)?,
+            registers: registers(alloc, 512, 16)?,
         })
     }
 }

@@ -266,7 +266,7 @@ fn update_run(
 }
 
 /// Whether a line stores an operation of which an operand is what the buffer that is stored to has.
-fn is_update(piece: &Piece<'_>, line: &StoreLine<'_>) -> bool {
+pub(crate) fn is_update(piece: &Piece<'_>, line: &StoreLine<'_>) -> bool {
     match line.value {
         Expr::Binary { left, right, .. } => {
             own_call(piece, line.buffer, left).is_some()

@@ -1,13 +1,15 @@
 -- What an expression comes to at the turns of a run.
 use Rattle.std.specs.Prelude.{◌≡◌, ℕ, ◌<◌, ◌≤◌, ◌^◌, List, [], ◌∷◌, drop, Bool, not, Option, Some, ℤ, pos, ◌+ℤ◌, ◌≤ℤ◌, slice_index_or}
+use Rattle.std.specs.Int.{int_max, int_min}
 use Rattle.std.specs.Ordering.{int_eq}
 use Rattle.numeric.specs.declared.ty.Ty.{Ty}
 use Rattle.numeric.specs.Wrap.{greatest, least}
 use Rattle.tree.specs.declared.value.Value.{Value}
 use Rattle.tree.specs.Meaning.{typed}
 use Rattle.interpreter.specs.declared.evaluation.lanes.Number.{Number}
+use Rattle.interpreter.specs.declared.evaluation.lanes.ClampedRamp.{ClampedRamp}
 use Rattle.interpreter.specs.declared.evaluation.lanes.Lanes.{Lanes}
-use Rattle.interpreter.specs.declared.evaluation.lanes.Lanes.TheVariants.{Broadcast, Ramp, Vector}
+use Rattle.interpreter.specs.declared.evaluation.lanes.Lanes.TheVariants.{Broadcast, Ramp, Clamped, Vector}
 
 -- what a register holds for a turn
 abbrev pub number_at : List Number → ℕ → ℤ
@@ -16,12 +18,18 @@ number_at zs k = (slice_index_or zs k (record { value = pos 0 })).value
 abbrev pub type_of : Lanes → Ty
 type_of (Broadcast t z) = t
 type_of (Ramp t z) = t
+type_of (Clamped t r) = t
 type_of (Vector t) = t
+
+-- the number of a clamped ramp at a turn
+abbrev pub clamped_number : ClampedRamp → ℕ → ℤ
+clamped_number r k = int_max (int_min (r.first.value +ℤ pos k) r.high.value) r.low.value
 
 -- the number at a turn, where the register holds these
 abbrev pub lane_number : Lanes → List Number → ℕ → ℤ
 lane_number (Broadcast t z) zs k = z.value
 lane_number (Ramp t z) zs k = z.value +ℤ pos k
+lane_number (Clamped t r) zs k = clamped_number r k
 lane_number (Vector t) zs k = number_at zs k
 
 abbrev pub lane : Lanes → List Number → ℕ → Value
@@ -42,6 +50,7 @@ pub record IsRamp (n : ℕ) (first : Value) : Type 0 where
 abbrev pub IsNarrowFor : ℕ → Lanes → Type 0
 IsNarrowFor n (Broadcast t z) = Unit {0}
 IsNarrowFor n (Ramp t z) = IsShortRamp n z.value
+IsNarrowFor n (Clamped t r) = IsShortRamp n r.first.value
 IsNarrowFor n (Vector t) = Unit {0}
 
 -- at each of so many turns, this is found

@@ -60,7 +60,7 @@ fn wrapped_number<W: Width>(number: Number) -> Number
 }
 
 /// A number, not above another and then not below a third.
-fn clamped_number(number: Number, low: Number, high: Number) -> Number
+pub(crate) fn clamped_number(number: Number, low: Number, high: Number) -> Number
     ensures { result.value ≡ int_max (int_min number.value high.value) low.value }
 {
     Number {

@@ -1,15 +1,16 @@
 //! What calls find at the turns of a run, by the numbers of their indices.
 
-ghost use Rattle.std.specs.Prelude.{◌≡◌, ◌∷◌, ◌<◌, ◌+ℤ◌, ℕ, List, pos, IfSome, Some, length};
+ghost use Rattle.std.specs.Prelude.{◌≡◌, ◌∷◌, ◌<◌, ◌≤◌, ◌+◌, ◌+ℤ◌, ◌≤ℤ◌, ℕ, List, pos, IfSome, Some, length};
 ghost use Rattle.plan.specs.Semantics.Memory.{Memory};
 ghost use Rattle.tree.specs.declared.value.Value.{Value as ValueFound};
 ghost use Rattle.tree.specs.Meaning.{typed};
 ghost use Rattle.interpreter.specs.declared.evaluation.lanes.Number.{Number as NumberHeld};
-ghost use Rattle.interpreter.specs.Evaluation.Lanes.{lane_number, lanes_at, number_at};
+ghost use Rattle.interpreter.specs.Evaluation.Lanes.{clamped_number, lane_number, lanes_at, number_at};
 
-use crate::evaluation::kernels::{copy_register, fill, fill_steps};
-use crate::evaluation::lanes::{Lanes, Number};
+use crate::evaluation::kernels::{clamp_between, copy_register, fill, fill_steps};
+use crate::evaluation::lanes::{ClampedRamp, Lanes, Number};
 use crate::evaluation::run_reader::RunReader;
+use crate::scanlines::distance;
 use numeric::Ty;
 
 /// The number of lanes that have one value at all turns.
@@ -62,6 +63,7 @@ fn look_along<R: RunReader>(
 {
     match first {
         Lanes::Ramp(_, number) => look_rising(name, number.value, others, reader, out),
+        Lanes::Clamped(_, ramp) => look_clamped(name, ramp, others, reader, out),
         Lanes::Broadcast(_, number) => {
             fill(number, out);
             reader.look_each(name, others, out)
@@ -87,6 +89,141 @@ fn look_rising<R: RunReader>(
         Some(ty) => Some(ty),
         None => {
             fill_steps(first, 1, out)?;
+            reader.look_each(name, others, out)
+        }
+    }
+}
+
+/// How many of so many turns of a ramp come before it reaches a number.
+fn turns_below(first: i64, number: i64, count: usize) -> Option<usize>
+    ensures most { IfSome result (λ n. n ≤ count) }
+    ensures below { IfSome result (λ n. (k : ℕ) → k < n → (first +ℤ pos k) ≤ℤ number) }
+    ensures above { IfSome result (λ n. (k : ℕ) → n ≤ k → k < count → number ≤ℤ (first +ℤ pos k)) }
+{
+    if number <= first {
+        return Some(0);
+    }
+    let turns = distance(first, number)?;
+    if turns < count {
+        Some(turns)
+    } else {
+        Some(count)
+    }
+}
+
+/// What a name finds at this first index, of the type, put in for each turn.
+fn look_standing<R: RunReader>(
+    name: &str,
+    first: i64,
+    others: &[i64],
+    ty: Ty,
+    reader: &R,
+    out: &mut [Number],
+) -> Option<()>
+    ensures { IfSome result (λ _. (m : Memory ValueFound) → R.agrees reader.now m → (k : ℕ) → k < length out.new → R.look reader.now m name.now (first ∷ others.now) ≡ Some (typed ty (number_at out.new k))) }
+{
+    if out.len() == 0 {
+        return Some(());
+    }
+    let found = look_once(name, first, others, ty, reader, out)?;
+    fill(found, out);
+    Some(())
+}
+
+/// What a name finds at this first index, of the type, by way of the register.
+fn look_once<R: RunReader>(
+    name: &str,
+    first: i64,
+    others: &[i64],
+    ty: Ty,
+    reader: &R,
+    out: &mut [Number],
+) -> Option<Number>
+    ensures { IfSome result (λ n. (m : Memory ValueFound) → R.agrees reader.now m → R.look reader.now m name.now (first ∷ others.now) ≡ Some (typed ty n.value)) }
+{
+    if out.len() < 1 {
+        return None;
+    }
+    let (one, _) = out.split_at_mut(1);
+    if reader.look_row(name, first, others, one)? != ty {
+        return None;
+    }
+    Some(one[0])
+}
+
+/// The number that lies so many behind another, if it is of 64 bits.
+fn number_after(first: i64, turns: usize) -> Option<i64>
+    ensures { IfSome result (λ z. z ≡ first +ℤ pos turns) }
+{
+    first.checked_add(i64::try_from(turns).ok()?)
+}
+
+/// Where a clamped ramp leaves its lower end and where it reaches its upper end, if it does anything between them.
+#[derive(Clone, Copy, Drop)]
+struct Bends {
+    start: i64,
+    before: usize,
+    after: usize,
+}
+
+/// Where a clamped ramp bends in so many turns.
+fn bends_of(ramp: ClampedRamp, count: usize) -> Option<Bends>
+    ensures order { IfSome result (λ b. (b.before ≤ b.after) × (b.after ≤ count)) }
+    ensures low { IfSome result (λ b. (k : ℕ) → k < b.before → clamped_number ramp k ≡ ramp.low.value) }
+    ensures rising { IfSome result (λ b. (k : ℕ) → b.before + k < b.after → clamped_number ramp (b.before + k) ≡ b.start +ℤ pos k) }
+    ensures high { IfSome result (λ b. (k : ℕ) → b.after ≤ k → k < count → clamped_number ramp k ≡ ramp.high.value) }
+{
+    if ramp.high.value < ramp.low.value {
+        return None;
+    }
+    let before = turns_below(ramp.first.value, ramp.low.value, count)?;
+    let after = turns_below(ramp.first.value, ramp.high.value, count)?;
+    if after <= before {
+        return None;
+    }
+    let start = number_after(ramp.first.value, before)?;
+    Some(Bends {
+        start,
+        before,
+        after,
+    })
+}
+
+/// What a name finds at the turns of a run, where the first index is a clamped ramp's number, which bends in them: along a row,
+/// before which and behind which it stays.
+fn look_bent<R: RunReader>(
+    name: &str,
+    ramp: ClampedRamp,
+    others: &[i64],
+    reader: &R,
+    out: &mut [Number],
+) -> Option<Ty>
+    ensures { IfSome result (λ t. (m : Memory ValueFound) → R.agrees reader.now m → (k : ℕ) → k < length out.new → R.look reader.now m name.now (clamped_number ramp k ∷ others.now) ≡ Some (typed t (number_at out.new k))) }
+{
+    let bends = bends_of(ramp, out.len())?;
+    let (left, rest) = out.split_at_mut(bends.before);
+    let (middle, right) = rest.split_at_mut(bends.after - bends.before);
+    let ty = reader.look_row(name, bends.start, others, middle)?;
+    look_standing(name, ramp.low.value, others, ty, reader, left)?;
+    look_standing(name, ramp.high.value, others, ty, reader, right)?;
+    Some(ty)
+}
+
+/// What a name finds at the turns of a run, where the first index is a clamped ramp's number.
+fn look_clamped<R: RunReader>(
+    name: &str,
+    ramp: ClampedRamp,
+    others: &[i64],
+    reader: &R,
+    out: &mut [Number],
+) -> Option<Ty>
+    ensures { IfSome result (λ t. (m : Memory ValueFound) → R.agrees reader.now m → (k : ℕ) → k < length out.new → R.look reader.now m name.now (clamped_number ramp k ∷ others.now) ≡ Some (typed t (number_at out.new k))) }
+{
+    match look_bent(name, ramp, others, reader, out) {
+        Some(ty) => Some(ty),
+        None => {
+            fill_steps(ramp.first.value, 1, out)?;
+            clamp_between(out, ramp.low, ramp.high);
             reader.look_each(name, others, out)
         }
     }

@@ -7,14 +7,14 @@ ghost use Rattle.std.specs.Int.{int_max, int_min};
 ghost use Rattle.numeric.specs.Wrap.{wrap};
 ghost use Rattle.tree.specs.Meaning.{applied, clamped, negated, typed};
 ghost use Rattle.interpreter.specs.declared.evaluation.lanes.Number.{Number as NumberHeld};
-ghost use Rattle.interpreter.specs.Evaluation.Lanes.{lane, lane_number, mask_at, number_at, type_of, IsNarrowFor, IsRamp, IsShortRamp};
+ghost use Rattle.interpreter.specs.Evaluation.Lanes.{clamped_number, lane, lane_number, mask_at, number_at, type_of, IsNarrowFor, IsRamp, IsShortRamp};
 ghost use Rattle.interpreter.specs.Evaluation.Repeats.{repeated_value};
 
 use crate::evaluation::kernels::{
     apply_all, apply_by, choose_each, clamp_between, clamp_each, compare_all, compare_with,
     copy_each, fill, fill_rising, negate_all, wrap_all,
 };
-use crate::evaluation::lanes::{Lanes, Number};
+use crate::evaluation::lanes::{ClampedRamp, Lanes, Number};
 use crate::evaluation::operators::{applied, clamped, negated, wrapped};
 use crate::evaluation::quotients::{divide_all, reduce_all};
 use crate::evaluation::repeats::Repeat;
@@ -27,6 +27,7 @@ pub(crate) fn type_of(lanes: Lanes) -> Ty
 {
     match lanes {
         Lanes::Broadcast(ty, _) | Lanes::Ramp(ty, _) => ty,
+        Lanes::Clamped(ty, _) => ty,
         Lanes::Vector(ty) => ty,
     }
 }
@@ -70,6 +71,15 @@ fn ramp(value: Value) -> Lanes
     Lanes::Ramp(value.ty, number_of(value))
 }
 
+/// Puts the numbers of a clamped ramp in.
+fn fill_clamped(ramp: ClampedRamp, out: &mut [Number])
+    requires { IsShortRamp (length out.old) ramp.first.value }
+    ensures { (k : ℕ) → k < length out.new → number_at out.new k ≡ clamped_number ramp k }
+{
+    fill_rising(ramp.first, out);
+    clamp_between(out, ramp.low, ramp.high);
+}
+
 /// Puts the numbers into the register.
 pub(crate) fn spread(lanes: Lanes, out: &mut [Number])
     requires { IsNarrowFor (length out.old) lanes }
@@ -78,6 +88,7 @@ pub(crate) fn spread(lanes: Lanes, out: &mut [Number])
     match lanes {
         Lanes::Broadcast(_, value) => fill(value, out),
         Lanes::Ramp(_, value) => fill_rising(value, out),
+        Lanes::Clamped(_, ramp) => fill_clamped(ramp, out),
         Lanes::Vector(_) => {}
     }
 }
@@ -141,7 +152,7 @@ fn apply_whole(op: Op, left: Lanes, right: Lanes, count: usize) -> Option<Lanes>
         Lanes::Ramp(ty, number) => {
             Some(ramp(move_ramp(op, value_of(ty, number), right, count)?))
         }
-        Lanes::Vector(_) => None,
+        Lanes::Clamped(_, _) | Lanes::Vector(_) => None,
     }
 }
 
@@ -266,6 +277,19 @@ fn is_between(first: i64, low: i64, high: i64, count: usize) -> bool
     low <= first && count < 1 << 60 && first < 1 << 60 && first + count as i64 <= high
 }
 
+/// A ramp between two values.
+fn clamped_ramp(ty: Ty, first: Number, low: Value, high: Value) -> Lanes
+    ensures narrow { (n : ℕ) → IsShortRamp n first.value → IsNarrowFor n result }
+    ensures lanes { (zs : List NumberHeld) (k : ℕ) → lane result zs k ≡ clamped (typed ty (first.value +ℤ pos k)) low high }
+{
+    let ramp = ClampedRamp {
+        first,
+        low: number_of(low),
+        high: number_of(high),
+    };
+    Lanes::Clamped(ty, ramp)
+}
+
 /// Lanes between others, where no register is needed.
 fn clamp_whole(value: Lanes, low: Lanes, high: Lanes, count: usize) -> Option<Lanes>
     requires { IsNarrowFor count value }
@@ -285,6 +309,7 @@ fn clamp_whole(value: Lanes, low: Lanes, high: Lanes, count: usize) -> Option<La
         Lanes::Ramp(_, first) if is_between(first.value, low.number, high.number, count) => {
             Some(value)
         }
+        Lanes::Ramp(ty, first) => Some(clamped_ramp(ty, first, low, high)),
         _ => None,
     }
 }
