@@ -1,26 +1,18 @@
 -- No name that a text can have reads as a load by a claim.
-use Rattle.std.proofs.Common.{◌≡◌, ℕ, zero, suc, Bool, true, false, ◌&&◌, List, [], ◌∷◌, Some, None, refl, ap, subst, arith}
-use Rattle.std.specs.Prelude.{◌==◌, if◌then◌else◌, slice_get}
+use Rattle.std.proofs.Common.{◌≡◌, ℕ, zero, suc, Bool, ◌&&◌, List, [], ◌∷◌, Some, None, refl, ap, subst}
+use Rattle.std.specs.Prelude.{if◌then◌else◌, slice_get}
 use Rattle.std.specs.List.{AllByRecursion}
 use Rattle.std.proofs.lemmas.List.Elements.{recursion_from_All}
-use Rattle.tree.specs.Token.Spelling.{is_word_byte}
 use Rattle.meaning.specs.Algorithm.{Algorithm}
 use Rattle.algo.specs.Words.{IsName, IsFunctionNamed, IsNamed}
+use Rattle.algo.proofs.Words.{begins_without_at}
 use Rattle.plan.specs.Claimed.{is_numeral, digits_after, claim_of}
-use Rattle.soundness.proofs.Refines.{eq_true}
 use Rattle.completeness.specs.Laws.{NamesNoLoad}
 use Rattle.completeness.proofs.Owned.{some_same}
 
-no_at : (b : ℕ) → is_word_byte b ≡ true → (b == 64) ≡ false
-no_at b h = of (b == 64) refl
-  where
-    of : (t : Bool) → (b == 64) ≡ t → t ≡ false
-    of false e = refl
-    of true e = (let here : is_word_byte 64 ≡ true = subst (λ (c : ℕ). is_word_byte c ≡ true) (eq_true b 64 e) h in absurd (cc here))
-
 no_load : (x : List ℕ) → IsName x → claim_of x ≡ None
 no_load [] h = refl
-no_load (b ∷ bs) h = ap (λ (t : Bool). if t && is_numeral bs then Some (digits_after 0 bs) else None) (no_at b (h.word.bytes 0 0 (omega arith)))
+no_load (b ∷ bs) h = ap (λ (t : Bool). if t && is_numeral bs then Some (digits_after 0 bs) else None) (begins_without_at b bs h)
 
 at_each : {A : Type 0} (P : A → Type 0) (xs : List A) (i : ℕ) (x : A) → AllByRecursion P xs → slice_get xs i ≡ Some x → P x
 at_each P [] i x h e = absurd (cc e)

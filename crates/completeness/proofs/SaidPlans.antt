@@ -16,7 +16,6 @@ use Rattle.plan.specs.declared.plan.Group.{Group as CodeGroup}
 use Rattle.plan.specs.declared.certificate.cert.Claim.{Claim as CodeClaim}
 use Rattle.plan.specs.declared.certificate.cert.Need.{Need}
 use Rattle.plan.specs.Plan.{Index, At, Found, Coordinate, Statement, Seq, For, Let, First, Guard, Alloc, Fetch, Store, Publish, Statements, Empty, Then, Group, block}
-use Rattle.plan.specs.Claimed.{is_numeral, digits_after, claim_of as claim_named}
 use Rattle.plan.specs.View.{group_of, plan_of, statement_of}
 use Rattle.plan.specs.Lines.{block_lines}
 use Rattle.plan.specs.Certificate.Certificate.{claim_of, certificate_of}
@@ -26,7 +25,6 @@ use Rattle.meaning.specs.Inlining.PutIn.{put_in, calls_updates}
 use Rattle.headline.proofs.Lists.{from_map}
 use Rattle.algo.specs.Words.{IsName, IsRangeNamed, IsChangeNamed, IsFunctionNamed, IsNamed}
 use Rattle.algo.specs.Written.{IsWritten, IsChangeWritten, IsFunctionWritten, AreExpressionsWritten}
-use Rattle.algo.proofs.Words.{begins_without_at}
 use Rattle.algo.proofs.PutWritten.{put_in_written, renamed_written, depth_renamed}
 use Rattle.sched.specs.Schedule.{Schedule}
 use Rattle.sched.specs.Legal.{IsLegal, said, loops_after}
@@ -46,7 +44,7 @@ use Rattle.lower.specs.Bodies.{first_lines, last_claim, first_left, other_lefts,
 use Rattle.lower.specs.Fetches.{Entry, FetchText, Calls, AreFetched, fetched_groups, loads_from, with_fetches}
 use Rattle.lower.specs.Groups.{HasBody, HasGroups}
 use Rattle.lower.proofs.Laying.{bound, same}
-use Rattle.completeness.specs.Said.{IsCalledBy, IsSaid, IsIndexSaid, IsCoordinateSaid, IsStatementSaid, AreStatementsSaid, IsGroupSaid, IsPlanSaid, PlansAreSaid, NamesAreNoLoads}
+use Rattle.completeness.specs.Said.{IsCalledBy, IsSaid, IsIndexSaid, IsCoordinateSaid, IsStatementSaid, AreStatementsSaid, IsGroupSaid, IsPlanSaid, PlansAreSaid}
 use Rattle.completeness.proofs.Laid.{subjects, found}
 use Rattle.completeness.proofs.Bodies.{other_at, entry_at}
 use Rattle.completeness.proofs.Served.{ls as regions_found, roots, ready, Made, made_at}
@@ -370,12 +368,3 @@ module _ (a : Algorithm) (sch : Schedule) (l : Lowered) (well : IsAlgorithm a) (
 
 pub plans_are_said : PlansAreSaid
 plans_are_said a s l well legal small regions groups all named written = plan_said a s l well legal small (regions all).0 all groups named written
-
--- ---- loads
-
-no_load : (x : List ℕ) → IsName x → claim_named x ≡ None
-no_load [] h = refl
-no_load (b ∷ bs) h = ap (λ (t : Bool). if t && is_numeral bs then Some (digits_after 0 bs) else None) (begins_without_at b bs h)
-
-pub names_are_no_loads : NamesAreNoLoads
-names_are_no_loads a h = record { input = no_load a.input h.input; functions = λ k f at. no_load f.name (function_named a h k f at).name }

@@ -1,26 +1,23 @@
 -- What the checker tells of a plan whose schedule splits loops once at most, by blocks that need no tail, is a limit.
-use Rattle.std.specs.Prelude.{◌≡◌, ℕ, ℤ, true, List, Some, slice_get}
+use Rattle.std.specs.Prelude.{◌≡◌, ℕ, true, List, Some, slice_get}
 use Rattle.std.specs.List.{AllByRecursion}
-use Rattle.meaning.specs.Image.Raster.{is_within}
 use Rattle.meaning.specs.Algorithm.{Algorithm}
 use Rattle.meaning.specs.Conditions.{IsAlgorithm}
 use Rattle.algo.specs.Words.{IsNamed}
 use Rattle.plan.specs.Plan.{Group, Plan}
 use Rattle.plan.specs.View.{plan_of}
 use Rattle.plan.specs.Certificate.Certificate.{Certificate, certificate_of}
-use Rattle.plan.specs.Certificate.Cells.{cell}
 use Rattle.soundness.specs.Outline.Flaws.{Flaw as TextFlaw, first_of}
 use Rattle.soundness.specs.declared.outline.refusals.code.Flaw.{Flaw}
 use Rattle.soundness.specs.declared.outline.refusals.code.K.TheVariants.{K14}
 use Rattle.headline.specs.Head.{FailsHead}
-use Rattle.headline.specs.Numbers.{is_cell}
 use Rattle.rules.specs.Bounding.Rules.{rules_of}
 use Rattle.tails.specs.Windows.Shown.{IsShown}
 use Rattle.shares.specs.declared.answer.SharesError.TheVariants.{Flaw as SharesFlaw}
 use Rattle.shares.specs.Made.{ErrorMeans}
 use Rattle.validation.specs.Certificate.Certificate.{flaws_of_certificate}
 use Rattle.validation.specs.Groups.Lines.{flaws_of_groups}
-use Rattle.audit.specs.Verdict.Faults.{IsFault}
+use Rattle.audit.specs.Verdict.Faults.{HasEachPoint, IsFault}
 use Rattle.sched.specs.Schedule.{Schedule}
 use Rattle.sched.specs.Legal.{IsLegal}
 use Rattle.lower.specs.declared.lowering.Lowered.{Lowered}
@@ -42,8 +39,8 @@ pub record FillsBlocks (a : Algorithm) (s : Schedule) : Type 0 where
   pub near : (n : ℕ) (r : LaidText) → slice_get (laid_functions a (stored_functions a s)) n ≡ Some (Some r) → IsNearRegion r.region
 
 -- the group of this number is not the output's, or has each point of it
-abbrev pub HasOutputPoints : Algorithm → Plan → ℕ → Group → Type 0
-HasOutputPoints a p n g = g.function ≡ a.output → (at : List ℤ) → is_within a.output_extents at ≡ true → is_cell p (cell n at) ≡ true
+abbrev pub HasOutputPoints : Algorithm → Plan → Certificate → ℕ → Group → Type 0
+HasOutputPoints a p c n g = g.function ≡ a.output → HasEachPoint a p c n
 
 -- all that the checker asks of the plan is so but for limits: the head is the algorithm's (no K1); what is told first of the lines of groups by names, limits
 -- and stored expressions is a limit (K14); all that they owe is shown, by the checker's rules and its tests of nests (no K2, nor K4 to K8); what is told of the
@@ -55,7 +52,7 @@ pub record TellsOnlyLimits (a : Algorithm) (p : Plan) (c : Certificate) : Type 0
   pub shown : (n : ℕ) (g : Group) → slice_get p.groups n ≡ Some g → IsShown (rules_of a p c n) a p c n g
   pub certificate : AllByRecursion (λ f. f.code ≡ 14) (flaws_of_certificate a p c)
   pub shares : (f : Flaw) → ErrorMeans p c (SharesFlaw f) → f.code ≡ K14
-  pub output : (n : ℕ) (g : Group) → slice_get p.groups n ≡ Some g → HasOutputPoints a p n g
+  pub output : (n : ℕ) (g : Group) → slice_get p.groups n ≡ Some g → HasOutputPoints a p c n g
 
 -- so it is of the plan that is made of such a schedule, where what is named has the name of a text, as in each algorithm that was read
 abbrev pub LimitsAloneAreTold : Type 0

@@ -16,7 +16,7 @@ ghost use Rattle.interpreter.specs.PlaceNumbers.{place_at};
 ghost use Rattle.interpreter.specs.Updates.{columns_at};
 
 use crate::buffers::held::{
-    Held, held_at, held_window, make_as_many, put_numbers, set_held, unset_all,
+    Held, held_at, held_window, make_as_many, place_behind, put_numbers, set_held, unset_all,
 };
 use crate::buffers::limit::Limit;
 use crate::buffers::marks::Mark;
@@ -70,14 +70,6 @@ fn have_room(all: usize, skipped: usize, count: usize) -> bool
     } else {
         false
     }
-}
-
-/// The number of the place that so many come behind another, where there are so many places.
-fn place_behind(count: usize, place: usize, behind: usize) -> usize
-    requires { place + behind < count }
-    ensures { result ≡ place + behind }
-{
-    place + behind
 }
 
 /// The sum, where it is a `usize`.

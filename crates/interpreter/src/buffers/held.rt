@@ -138,7 +138,7 @@ pub(crate) fn put_number<W: Width>(
 
 /// The number of the place so many behind another, where there are so many places.
 #[inline(always)]
-fn place_behind(all: usize, place: usize, behind: usize) -> usize
+pub(crate) fn place_behind(all: usize, place: usize, behind: usize) -> usize
     requires { place + behind < all }
     ensures { result ≡ place + behind }
 {

@@ -4,6 +4,7 @@ ghost use Rattle.std.specs.Prelude.{◌≡◌, ◌<◌, ◌≤◌, ◌+◌, ◌+
 ghost use Rattle.interpreter.specs.Evaluation.Lanes.{number_at};
 ghost use Rattle.interpreter.specs.PlaceNumbers.{place_at};
 
+use crate::buffers::held::place_behind;
 use crate::evaluation::Number;
 use crate::scanlines::distance;
 use crate::update_reading::{are_few, rises, stays};
@@ -48,15 +49,6 @@ pub(crate) fn rising(registers: &[Number], count: usize) -> Option<i64>
     } else {
         None
     }
-}
-
-/// The number of the place so many behind another, where there are so many places.
-#[inline(always)]
-fn place_behind(all: usize, place: usize, behind: usize) -> usize
-    requires { place + behind < all }
-    ensures { result ≡ place + behind }
-{
-    place + behind
 }
 
 /// Puts in the numbers of so many places that lie side by side from one on, where there are so many in all.
