@@ -21,4 +21,5 @@ pub mod PutWritten
 pub mod Small
 pub mod Whole
 pub mod TokenWords
+pub mod WordProps
 pub mod Words

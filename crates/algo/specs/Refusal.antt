@@ -46,6 +46,19 @@ pub record IsAlgorithmText (text : List ℕ) (a : Algorithm) : Type 0 where
   pub said : a ≡ says file
   pub kept : IsWellFormed file
 
+-- some text says the algorithm
+abbrev pub IsRead : Algorithm → Type 0
+IsRead a = ∥ ((text : List ℕ) × IsAlgorithmText text a) ∥₁
+
+-- the text stands for this file and nothing else
+pub record IsOnlyTextOf (text : List ℕ) (file : FileText Term) : Type 0 where
+  pub found : IsTextOf text file
+  pub only : (other : FileText Term) → IsTextOf text other → other ≡ file
+
+-- some text does
+abbrev pub IsFileRead : FileText Term → Type 0
+IsFileRead file = ∥ ((text : List ℕ) × IsOnlyTextOf text file) ∥₁
+
 -- the form of the text is refused
 pub record FormRefused (text : List ℕ) (e : AlgoError) : Type 0 where
   pub fault : FormError

@@ -4,6 +4,7 @@ ghost use Rattle.std.specs.Prelude.{◌≡◌};
 ghost use Rattle.meaning.specs.Conditions.{IsAlgorithm};
 ghost use Rattle.meaning.proofs.Props.{IsAlgorithm-prop};
 ghost use Rattle.algo.specs.Parts.{algorithm_from, output_type};
+ghost use Rattle.algo.specs.Refusal.{IsRead};
 
 use crate::error::AlgoError;
 use crate::file::read_file;
@@ -13,6 +14,7 @@ use std::alloc::Global;
 
 /// An algorithm: one input, functions in the order of their declaration, and the output, which is one of them.
 /// Every algorithm is well formed: calls go to the input and to earlier functions, types agree, and it keeps the limits.
+/// And it was read: some text says it.
 #[derive(Drop)]
 pub struct Algo {
     pub(crate) name: String,
@@ -21,6 +23,7 @@ pub struct Algo {
     pub(crate) output: Port,
     pub ghost well_formed: { IsAlgorithm (algorithm_from name input functions.entries output) } by { IsAlgorithm-prop (algorithm_from name input functions.entries output) },
     pub ghost output_typed: { output.shape.ty ≡ output_type (algorithm_from name input functions.entries output) },
+    pub ghost read: { IsRead (algorithm_from name input functions.entries output) },
 }
 
 impl Algo {
@@ -29,6 +32,8 @@ impl Algo {
     ghost use Rattle.algo.specs.Parts.{functions_of, input_frame, output_frame};
     ghost use Rattle.algo.specs.View.{algorithm_of, HasDefinition};
     ghost use Rattle.algo.specs.Definitions.{IsDefinition};
+    ghost use Rattle.algo.specs.Words.{IsNamed};
+    ghost use Rattle.algo.specs.Written.{AreExpressionsWritten};
     ghost use Rattle.algo.specs.Refusal.{IsAlgorithmText, IsRefusedText, IsRefusedPlace, IsNoAlgorithm};
 
     /// Reads an algorithm text.
@@ -99,5 +104,12 @@ impl Algo {
     /// Every algorithm is well formed.
     pub fn is_well_formed(&self)
         ensures { IsAlgorithm (algorithm_of self.now) }
+    {}
+
+    /// Every algorithm was read: some text says it, so what it names has names, and its expressions can be written.
+    pub fn is_read(&self)
+        ensures text { IsRead (algorithm_of self.now) }
+        ensures named { IsNamed (algorithm_of self.now) }
+        ensures written { AreExpressionsWritten (algorithm_of self.now) }
     {}
 }

@@ -12,6 +12,7 @@ ghost use Rattle.algo.specs.Context.{function_names, AreFunctions, only_input};
 ghost use Rattle.algo.specs.Saying.{says, IsWellFormed, names_declared, HasSmallExpressions};
 ghost use Rattle.algo.specs.Keeping.{Breaks, KeepsInput, KeepsOutput, FileBreaks};
 ghost use Rattle.algo.specs.Faults.{BadSizeAt, InputFaultAt, Tells, TellsOfFile, OutputFaultAt};
+ghost use Rattle.algo.specs.Refusal.{IsFileRead};
 ghost use Rattle.algo.specs.View.{algorithm_of};
 
 use crate::algorithm::Algo;
@@ -183,7 +184,8 @@ fn by_name(
 
 /// The algorithm that the statements of a text say.
 pub(crate) fn read_file(alloc: Global, file: &File) -> Result<Algo, AlgoError>
-    requires { All HasSmallExpressions (map statement_text file.now.statements.items) }
+    requires small { All HasSmallExpressions (map statement_text file.now.statements.items) }
+    requires read { IsFileRead (file_text file.now) }
     ensures said { IfOk result (λ a. algorithm_of a ≡ says (file_text file.now)) }
     ensures kept { IfOk result (λ _. IsWellFormed (file_text file.now)) }
     ensures refused { IfErr result (FileBreaks (file_text file.now)) }

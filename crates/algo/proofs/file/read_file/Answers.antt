@@ -1,10 +1,13 @@
-use Rattle.std.proofs.Common.{◌≡◌, sym, subst, string_bytes}
+use Rattle.std.proofs.Common.{◌≡◌, sym, ap, ◌∙◌, subst, map, string_bytes, rules}
+use Rattle.std.proofs.Math.Logic.{∥∥₁_elim, ∥∥₁_prop}
 use Rattle.meaning.specs.Image.View.{AreExtents, IsSampleType}
 use Rattle.meaning.specs.Conditions.{IsAlgorithm, IsOutput, function_named}
 use Rattle.std.specs.Prelude.{MatchOption, IsSome, IfSome}
-use Rattle.expr.specs.Statements.View.{output_text}
+use Rattle.expr.specs.Statements.View.{file_text, output_text, statement_text}
 use Rattle.algo.specs.declared.error.Code.{Code}
 use Rattle.algo.specs.Keeping.{KeepsOutput}
+use Rattle.algo.specs.Saying.{says, functions_said, FollowFunctions}
+use Rattle.algo.specs.Refusal.{IsRead}
 use Rattle.algo.specs.declared.error.Code.TheVariants.{Name, IndexCount, Limit, SampleType}
 use Rattle.algo.specs.Parts.{functions_of, algorithm_from, output_type}
 use Rattle.algo.specs.Context.{function_names, only_input}
@@ -41,7 +44,24 @@ invariant_of-result c =
     let ty : output.shape.ty ≡ output_type (algorithm_from name input entries output) =
     type_at (function_named fs (string_bytes output.name)) output.shape.ty (subst (λ n. IsSome (function_named fs n)) (sym c.in_ok-output.ensures.name) (keeps Name))
     (subst (λ n. IfSome (function_named fs n) (λ f. output.shape.ty ≡ f.ty)) (sym c.in_ok-output.ensures.name) own) in
+    let file = file_text c.args.file.now in
+    let statements = c.deref-2.ensures.value in
+    let follow : FollowFunctions file.statements = subst (λ ss. FollowFunctions (map statement_text ss)) statements c.in_ok-functions.ensures.follow in
+    let functions = c.in_ok-functions.ensures.said ∙ ap (λ ss. functions_said (map statement_text ss)) statements in
+    let own_name : string_bytes name ≡ file.name = search rules in
+    let said : algorithm_from name input entries output ≡ says file = λ i. record {
+      name = own_name i;
+      input = c.in_ok-input.ensures.name i;
+      input_ty = c.in_ok-input.ensures.ty i;
+      input_extents = c.in_ok-input.ensures.extents i;
+      functions = functions i;
+      output = c.in_ok-output.ensures.name i;
+      output_extents = c.in_ok-output.ensures.extents i;
+    } in
+    let read : IsRead (algorithm_from name input entries output) = ∥∥₁_elim c.requires.read ∥∥₁_prop (λ t.
+    ∣ (t.0, record { file = file; found = t.1.found; only = t.1.only; said = said; kept = record { updates = follow; algorithm = subst IsAlgorithm said is } }) ∣₁) in
     record {
       well_formed = subst (λ es. IsAlgorithm (algorithm_from name input es output)) (sym c.in_ok-by_name.ensures.entries) is;
       output_typed = subst (λ es. output.shape.ty ≡ output_type (algorithm_from name input es output)) (sym c.in_ok-by_name.ensures.entries) ty;
+      read = subst (λ es. IsRead (algorithm_from name input es output)) (sym c.in_ok-by_name.ensures.entries) read;
     }

@@ -8,8 +8,13 @@ use Rattle.algo.proofs.Exclusion.{error_excludes}
 use Rattle.algo.proofs.Small.{all_small}
 use Rattle.algo.proofs.algorithm.Algo.read.Goals as goal
 
-pub read_file-requires : goal.read_file-requires
-read_file-requires c = all_small (map statement_text c.in_ok-file.file.statements.items) c.in_ok-file.ensures.small
+pub read_file-requires-clause-small : goal.read_file-requires-clause-small
+read_file-requires-clause-small c = all_small (map statement_text c.in_ok-file.file.statements.items) c.in_ok-file.ensures.small
+
+pub read_file-requires-clause-read : goal.read_file-requires-clause-read
+read_file-requires-clause-read c =
+    let read = c.in_ok-file.ensures in
+    ∣ (c.args.text.now, record { found = read.found; only = read.only }) ∣₁
 
 pub returns-in_err-file-clause-only : goal.returns-in_err-file-clause-only
 returns-in_err-file-clause-only c =
