@@ -33,11 +33,11 @@ use Rattle.sched.specs.declared.skeleton.Known.{Known}
 use Rattle.sched.specs.declared.nest.Turning.{Turning}
 use Rattle.sched.specs.Numbers.{numbers_named, loop_numbers, parallel_loops, grid_counts, piece_counts, last_number}
 use Rattle.sched.specs.Placing.{is_parallel}
-use Rattle.sched.specs.Standing.{form_named, alone, counted_from, has_rest}
+use Rattle.sched.specs.Standing.{form_named, counted_from, has_rest}
 use Rattle.sched.specs.Skeleton.{BodyText, NestText, SkeletonText, nest_turns, variables_at, ranges_at, grid_forms, is_missing}
 use Rattle.sched.proofs.Standings.{found_all}
 use Rattle.lower.specs.declared.lowering.Lowered.{Lowered}
-use Rattle.lower.specs.Stored.{FormulaText, StoredText, flags, stored_functions, has_large}
+use Rattle.lower.specs.Stored.{FormulaText, StoredText, stored_functions, has_large}
 use Rattle.lower.specs.Faults.{are_whole, region_fault}
 use Rattle.lower.specs.Around.{bind_steps, grid_scope, head_scope}
 use Rattle.lower.specs.Owning.{IsExtent, IsLaidBy}
@@ -53,7 +53,6 @@ use Rattle.completeness.specs.Stores.{AreHeld, IsNearRegion}
 use Rattle.completeness.specs.Placed.{ArePlaced}
 use Rattle.completeness.specs.Blocked.{is_tailed, IsBlocked}
 use Rattle.completeness.specs.Filled.{AreEndsShort, NearBlockedGroupsOweShown}
-use Rattle.completeness.proofs.Laid.{subjects, found}
 use Rattle.completeness.proofs.Owned.{some_same, same_extents, same_skeleton}
 use Rattle.completeness.proofs.Served.{roots, made_at}
 use Rattle.completeness.proofs.NamedClaims.{alone_body}
@@ -127,9 +126,6 @@ module _ (a : Algorithm) (sch : Schedule) (l : Lowered) (well : IsAlgorithm a) (
     (kept : region_fault a (stored_functions a sch) ≡ None) (all : are_whole (stored_functions a sch) ≡ true) (groups : HasGroups a (stored_functions a sch) l) where
   abbrev gs : List StoredText
   gs = stored_functions a sch
-
-  abbrev st : List Bool
-  st = flags (subjects a sch)
 
   abbrev items : List CodeClaim
   items = l.certificate.claims.items

@@ -31,7 +31,6 @@ use Rattle.sched.specs.declared.schedule.Split.{Split}
 use Rattle.sched.specs.declared.numbers.Extent.{Extent}
 use Rattle.sched.specs.declared.numbers.Numbers.{Numbers}
 use Rattle.sched.specs.Numbers.{loop_numbers}
-use Rattle.sched.specs.Standing.{alone}
 use Rattle.sched.specs.Skeleton.{SkeletonText}
 use Rattle.sched.specs.declared.skeleton.Step.{Step}
 use Rattle.sched.specs.Runs.{lines_to}
@@ -46,10 +45,9 @@ use Rattle.lower.specs.Bounded.{whole, is_bounded}
 use Rattle.lower.specs.Owning.{IsLaidBy}
 use Rattle.lower.specs.Blocks.{dimensions_of, own_places, claimed_region, dimension_of, lay_over}
 use Rattle.lower.specs.Bodies.{last_claim}
-use Rattle.lower.specs.Fetches.{Entry, FetchText, with_fetches}
+use Rattle.lower.specs.Fetches.{Entry, with_fetches}
 use Rattle.lower.specs.Groups.{HasBody, HasGroups}
 use Rattle.lower.proofs.Laying.{same}
-use Rattle.lower.proofs.Owners as owners
 use Rattle.completeness.specs.Laws.{NamesNoLoad, AreLinesTold, IsStore as IsStoreLine, IsFetch, AreSplitOnce}
 use Rattle.completeness.specs.Owed.{EachLine, BindBelow, AreGridsFew, AreSymbolsFew, IsNameTest, EachClaim, TakePlain}
 use Rattle.completeness.specs.Stores.{AreHeld}
@@ -128,9 +126,6 @@ module _ (a : Algorithm) (sch : Schedule) (l : Lowered) (well : IsAlgorithm a) (
 
     abbrev g : StoredText
     g = texts f
-
-    abbrev fetches : List FetchText
-    fetches = h.body.fetches
 
     abbrev places : List Places
     places = own_places (dimensions_of g h.extents k)

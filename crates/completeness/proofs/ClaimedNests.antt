@@ -268,9 +268,6 @@ module _ (a : Algorithm) (sch : Schedule) (l : Lowered) (well : IsAlgorithm a) (
     abbrev Any : List Binder → Type 0
     Any bs = Unit {0}
 
-    abbrev Here : Known → Type 0
-    Here known = Knows Any items line end known
-
     pub claim_is : (c : ℕ) (v : CodeClaim) → slice_get items c ≡ Some v → O.claim c ≡ claim_of v
     claim_is c v e = ap claim_or_none (claim_at c v e)
 

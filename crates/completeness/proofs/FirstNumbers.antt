@@ -187,10 +187,6 @@ fits_index n v near (Some f) h =
     let far : unsigned_abs (z +ℤ (pos 1 *ℤ y +ℤ pos 0)) ≤ 65536 = omega (arith, ints, symbol, constant) in
     subst (λ (g : Form). IsIndex (form_value g v)) (sym h.2) (index_near (form_value (counted_from z h.1) v) far)
 
-pub all_indices : (n : ℕ) (v : ℕ → ℤ) → ((s : ℕ) → IsNear (v s)) → (os : List (Option Form)) → AllByRecursion (FitsIf n) os → AllByRecursion IsIndex (map (number_at v) os)
-all_indices n v near [] h = tt
-all_indices n v near (o ∷ os) h = (fits_index n v near o h.0, all_indices n v near os h.1)
-
 behind : (ss : List Span1) (zs : List ℤ) (s : Span1) (z : ℤ) (v : ℕ → ℤ) → IsInRegion ss v zs → IsInSpan s v z → IsInRegion (ss ++ s ∷ []) v (zs ++ z ∷ [])
 behind [] [] s z v h k = (k, tt)
 behind [] (y ∷ zs) s z v h k = absurd h

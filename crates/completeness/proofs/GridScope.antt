@@ -67,12 +67,6 @@ count_first (Ranged j x ∷ xs) ys = (let rest = count_first xs ys in omega (ari
 count_first (Picked j pick fs ∷ xs) ys = (let rest = count_first xs ys in omega (arith, rest))
 count_first (Passed low high ∷ xs) ys = count_first xs ys
 
-count_second : (xs ys : List Binder) → symbol_count ys ≤ symbol_count (xs ++ ys)
-count_second [] ys = omega arith
-count_second (Ranged j x ∷ xs) ys = (let rest = count_second xs ys in omega (arith, rest))
-count_second (Picked j pick fs ∷ xs) ys = (let rest = count_second xs ys in omega (arith, rest))
-count_second (Passed low high ∷ xs) ys = count_second xs ys
-
 counts : (i : ℕ) (n : ℕ) (ns : List ℕ) → i + suc (length ns) ≤ symbol_count (grid_from i (n ∷ ns))
 counts i n [] = omega arith
 counts i n (m ∷ ns) =

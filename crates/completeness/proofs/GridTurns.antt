@@ -1,19 +1,18 @@
--- The loops of a function whose loops are not split: which names are those of parallel loops, and what they stand for.
-use Rattle.std.proofs.Common.{◌≡◌, ℕ, zero, suc, ◌+◌, ◌<◌, ◌≤◌, Bool, true, false, not, List, [], ◌∷◌, ◌++◌, length, Some, None, refl, sym, ap, ◌∙◌, inl, inr, ◌⊎◌, arith}
-use Rattle.std.specs.Prelude.{◌&&◌, if◌then◌else◌, find, filter, reverse}
+-- The loops of a function: which names are those of parallel loops, and what they stand for.
+use Rattle.std.proofs.Common.{◌≡◌, ℕ, zero, suc, ◌+◌, ◌<◌, ◌≤◌, Bool, true, false, List, [], ◌∷◌, ◌++◌, length, Some, None, refl, sym, ap, ◌∙◌, inl, inr, ◌⊎◌, arith}
+use Rattle.std.specs.Prelude.{if◌then◌else◌, find, filter, reverse}
 use Rattle.std.specs.List.{AllByRecursion}
 use Rattle.std.specs.Option.{option_map}
 use Rattle.std.proofs.lemmas.List.{reverse-append, length-map}
-use Rattle.lin.specs.Forms.{Form}
 use Rattle.meaning.specs.Names.{same_name}
-use Rattle.soundness.proofs.Refines.{and_parts, name_refl, name_true}
+use Rattle.soundness.proofs.Refines.{name_refl, name_true}
 use Rattle.sched.specs.declared.numbers.Numbers.{Numbers}
 use Rattle.sched.specs.declared.placing.Loop.{Loop}
 use Rattle.sched.specs.declared.skeleton.Known.{Known}
 use Rattle.sched.specs.Numbers.{numbers_named, parallel_loops, grid_counts, or_one}
-use Rattle.sched.specs.Placing.{is_parallel, is_vectorized}
+use Rattle.sched.specs.Placing.{is_parallel}
 use Rattle.sched.specs.Standing.{form_named, counted_from}
-use Rattle.sched.specs.Skeleton.{BodyText, is_missing, is_same, is_in_nest, grid_forms}
+use Rattle.sched.specs.Skeleton.{grid_forms}
 use Rattle.completeness.proofs.PlainTurns.{one_if, hits, hits_append}
 use Rattle.completeness.proofs.PureNests.{loop_name}
 
@@ -65,22 +64,6 @@ two_parts f g apart y (l ∷ ls) = of (f l) (g l) refl refl (two_parts f g apart
     of false true p q h = omega (arith, h)
     of false false p q h = omega (arith, h)
 
--- the name of a loop of a nest is no parallel loop's
-pub kept_own : (b : BodyText) (ls : List Loop) (y : List ℕ) → hits loop_name y ls ≤ 1 → 1 ≤ hits loop_name y (filter (is_in_nest b false) (reverse ls)) → hits loop_name y (parallel_loops ls) ≡ 0
-kept_own b ls y single some =
-    let back = hits_back (is_in_nest b false) y ls in
-    let both = two_parts (is_in_nest b false) is_parallel apart y ls in
-    omega (arith, single, some, back, both)
-  where
-    is_not : (t : Bool) → not t ≡ true → t ≡ false
-    is_not true e = absurd (cc e)
-    is_not false e = refl
-
-    apart : (l : Loop) → is_in_nest b false l ≡ true → is_parallel l ≡ false
-    apart l e =
-        let parts = and_parts (not (is_parallel l) && not (is_missing b l.dimension)) (is_same (is_vectorized l) false) e in
-        is_not (is_parallel l) (and_parts (not (is_parallel l)) (not (is_missing b l.dimension)) parts.0).0
-
 -- ---- what names stand for over the grid
 
 pub grid_none : (rs : List Numbers) (y : List ℕ) (s : ℕ) (ls : List Loop) → hits loop_name y ls ≡ 0 → form_named (grid_forms rs s ls) y ≡ None
@@ -130,25 +113,3 @@ either_name rs ls y = of (hits loop_name y (parallel_loops ls)) refl
         let less = r.2 in
         let many = counts_long rs (parallel_loops ls) in
         inl (record { symbol = r.0; named = r.1; low = omega (arith, less, many) })
-
--- ---- names behind others
-
-pub named_first : (ks us : List Known) (y : List ℕ) (f : Form) → form_named ks y ≡ Some f → form_named (ks ++ us) y ≡ Some f
-named_first [] us y f e = absurd (cc e)
-named_first (k ∷ ks) us y f e = of (same_name k.name y) e (λ q. named_first ks us y f q)
-  where
-    of : (b : Bool) → option_map (λ (u : Known). u.form) (if b then Some k else find (λ u. same_name u.name y) ks) ≡ Some f →
-        (form_named ks y ≡ Some f → form_named (ks ++ us) y ≡ Some f) →
-        option_map (λ (u : Known). u.form) (if b then Some k else find (λ u. same_name u.name y) (ks ++ us)) ≡ Some f
-    of true q rest = q
-    of false q rest = rest q
-
-pub named_second : (ks us : List Known) (y : List ℕ) → form_named ks y ≡ None → form_named (ks ++ us) y ≡ form_named us y
-named_second [] us y e = refl
-named_second (k ∷ ks) us y e = of (same_name k.name y) e (λ q. named_second ks us y q)
-  where
-    of : (b : Bool) → option_map (λ (u : Known). u.form) (if b then Some k else find (λ u. same_name u.name y) ks) ≡ None →
-        (form_named ks y ≡ None → form_named (ks ++ us) y ≡ form_named us y) →
-        option_map (λ (u : Known). u.form) (if b then Some k else find (λ u. same_name u.name y) (ks ++ us)) ≡ form_named us y
-    of true q rest = absurd (cc q)
-    of false q rest = rest q

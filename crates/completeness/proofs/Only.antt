@@ -110,9 +110,6 @@ module _ (P : ℕ → Type 0) where
       let one = kept-all Only (checked (number z) ∷ []) (checked-all Only (number z ∷ []) (tt, tt)) in
       span_only (kept (checked (number z) ∷ [])) (kept (checked (number z) ∷ [])) one one
 
-  numbers_only : (low high : ℤ) → SpanOnly (numbers low high)
-  numbers_only low high = ((tt, tt), (tt, tt))
-
   or_range_only : (ty : Ty) (s : Span1) → SpanOnly s → SpanOnly (or_range ty s)
   or_range_only ty s h = of (is_empty s.lower || is_empty s.upper)
     where

@@ -67,14 +67,12 @@ use Rattle.lower.specs.Taken.{SiteText, add_calls, sites_of}
 use Rattle.lower.proofs.Extents.{region_is}
 use Rattle.lower.specs.Groups.{HasBody, HasGroups}
 use Rattle.lower.proofs.Laying.{bound, same}
-use Rattle.lower.proofs.Owners as owners
 use Rattle.completeness.specs.Laws.{NamesNoLoad, AreLinesTold, IsStore as IsStoreLine}
 use Rattle.completeness.specs.Owed.{EachLine, IsNameTest}
 use Rattle.completeness.specs.Stores.{IsHeldPart, AreHeld}
 use Rattle.completeness.proofs.Laid.{none_twice}
 use Rattle.completeness.proofs.Owned.{some_same}
 use Rattle.completeness.proofs.Served.{ls as regions_found, ready as all_ready}
-use Rattle.completeness.proofs.Held.{held}
 use Rattle.completeness.proofs.Loaded.{Names, not_named, some_of, value_calls}
 use Rattle.completeness.proofs.Mentioned.{each_written, each_called}
 use Rattle.completeness.proofs.ReadBack.{HasIf, last_has, source_is, calls_can}
@@ -99,7 +97,6 @@ use Rattle.completeness.proofs.StoreBounds.{AreAt, targets_are, input_within, sp
 use Rattle.completeness.proofs.TakenSites.{IsFound, add_all, each_found, region_within, places_seat, all_held}
 use Rattle.completeness.proofs.Bodies.{fetch_at, other_at, entry_at}
 use Rattle.completeness.proofs.RisingForms.{cut_low}
-use Rattle.completeness.proofs.UncutNests.{nested}
 use Rattle.completeness.proofs.StoreBinders.{at_steps, StoreBound, BoundThere}
 use Rattle.completeness.proofs.SitesAt.{IsBoundedAt, bounded_at, IsSiteAt, site_at}
 use Rattle.completeness.proofs.OwnLoads.{IsPoint, variable_bounds, span_at_place, among_at}
@@ -391,9 +388,6 @@ module _ (a : Algorithm) (sch : Schedule) (l : Lowered) (well : IsAlgorithm a) (
 
         abbrev vars : List Span1
         vars = map T at' ++ map (variable_span O R) over
-
-        abbrev N : List (List ℕ)
-        N = names_with f.variables f.changes d
 
         abbrev scope : List Binding
         scope = scope_of known.binders

@@ -1,80 +1,57 @@
--- Of functions whose loops are not split, the point where the pure definition is stored is shown to have a place in its buffer.
-use Rattle.std.proofs.Common.{◌≡◌, ℕ, zero, suc, ◌+◌, ◌-◌, ◌<◌, ◌≤◌, ◌^◌, Bool, true, false, ◌&&◌, ◌||◌, List, [], ◌∷◌, ◌++◌, length, map, take, drop, max, min, Option, Some, None}
+-- At each store of a group the symbol of each loop around it is one that the scope has, of a loop over its numbers.
+use Rattle.std.proofs.Common.{◌≡◌, ℕ, zero, suc, ◌+◌, ◌-◌, ◌<◌, ◌≤◌, Bool, true, false, List, [], ◌∷◌, ◌++◌, map, max, Option, Some, None}
 use Rattle.std.proofs.Common.{refl, sym, ap, ◌∙◌, subst, inl, inr, ◌⊎◌, arith}
-use Rattle.std.specs.Prelude.{ℤ, pos, negsuc, ◌+ℤ◌, ◌-ℤ◌, ◌≤ℤ◌, ◌==◌, if◌then◌else◌, slice_get}
+use Rattle.std.specs.Prelude.{◌==◌, if◌then◌else◌, slice_get}
 use Rattle.std.specs.List.{AllByRecursion, list_any}
-use Rattle.std.specs.Int.RustNames.{unsigned_abs}
 use Rattle.std.proofs.lemmas.Bool.Decides.{nat_tests}
-use Rattle.std.proofs.lemmas.Int.{ints}
 use Rattle.tree.specs.Term.{Term}
-use Rattle.lin.specs.Forms.{Form, number, is_within_limits}
-use Rattle.lin.specs.Search.{at_most}
 use Rattle.lin.specs.declared.scope.Binding.{Binding}
 use Rattle.lin.specs.declared.scope.Binding.TheVariants.{Loop as LoopBinding}
 use Rattle.lin.specs.declared.span.Span1.{Span1}
 use Rattle.plan.specs.declared.plan.Group.{Group as CodeGroup}
 use Rattle.plan.specs.declared.stmt.Places.{Places}
-use Rattle.plan.specs.declared.stmt.Places.TheVariants.{From}
 use Rattle.plan.specs.declared.certificate.cert.Claim.{Claim as CodeClaim}
 use Rattle.plan.specs.declared.certificate.cert.Need.{Need}
-use Rattle.plan.specs.Plan.{Index, At, Found, Coordinate, Statement, Seq, For, Let, First, Guard, Alloc, Fetch, Store, Publish, Statements, Empty, Then, Plan, block}
+use Rattle.plan.specs.Plan.{Statement, Seq, For, Let, First, Guard, Alloc, Fetch, Store, Publish, Statements, Empty, Then, Plan, block}
 use Rattle.plan.specs.View.{group_of, plan_of, statement_of}
 use Rattle.plan.specs.Lines.{lines, block_lines, body_line}
 use Rattle.plan.specs.Certificate.Certificate.{Certificate, certificate_of}
-use Rattle.plan.specs.Semantics.Setting.{allocated, dimensions_in}
 use Rattle.meaning.specs.Algorithm.{Function, Algorithm}
 use Rattle.meaning.specs.Conditions.{IsAlgorithm}
 use Rattle.soundness.specs.Origins.{Outline}
 use Rattle.soundness.specs.Given.{outline_of}
-use Rattle.soundness.specs.Obligations.{Binder, Ranged, Known, Rules, anything, exactly, places_of, more_buffers, within, onwards, in_block, in_loop, in_guard, seated, index_place, target_span}
-use Rattle.soundness.specs.Obligations.{variable_span, obligations}
-use Rattle.soundness.specs.Shown.{Nests, raised, is_seated, are_seated, shows, all_shown, start}
+use Rattle.soundness.specs.Obligations.{Ranged, Known, Rules, places_of, more_buffers, within, onwards, in_block, in_loop, in_guard}
+use Rattle.soundness.specs.Shown.{start}
 use Rattle.soundness.specs.Binders.View.{grid_binders}
 use Rattle.rules.specs.Bounding.Rules.{rules_of}
-use Rattle.rules.specs.Bounding.Scopes.{most_symbols, limited, picked_binding, binding_of, symbol_count, scope_of}
+use Rattle.rules.specs.Bounding.Scopes.{most_symbols, limited, picked_binding, binding_of, symbol_count}
 use Rattle.sched.specs.Schedule.{Schedule}
 use Rattle.sched.specs.Legal.{IsLegal, said, loops_after}
 use Rattle.sched.specs.Subjects.{subject_said, reductions_of}
 use Rattle.sched.specs.Runs.{lines_to}
-use Rattle.sched.specs.declared.schedule.Split.{Split}
-use Rattle.sched.specs.declared.numbers.Numbers.{Numbers}
 use Rattle.sched.specs.declared.skeleton.Known.{Known as KnownForm}
 use Rattle.sched.specs.declared.skeleton.Step.{Step}
 use Rattle.sched.specs.declared.skeleton.Step.TheVariants.{Turns, Named, Tested}
-use Rattle.sched.specs.Numbers.{loop_numbers, numbers_named, last_number, parallel_loops}
-use Rattle.sched.specs.Standing.{form_named, alone}
-use Rattle.sched.specs.Skeleton.{BodyText, NestText, SkeletonText, span, variables_at, grid_forms}
+use Rattle.sched.specs.Standing.{form_named}
+use Rattle.sched.specs.Skeleton.{BodyText, NestText, SkeletonText, variables_at}
 use Rattle.lower.specs.declared.lowering.Lowered.{Lowered}
-use Rattle.lower.specs.Stored.{FormulaText, StoredText, put, stored_by, stored_functions, flags, has_large}
+use Rattle.lower.specs.Stored.{FormulaText, StoredText, stored_by, stored_functions, flags, has_large}
 use Rattle.lower.specs.Faults.{are_whole, region_fault}
-use Rattle.lower.specs.Regions.{missing_from, body_by, bodies_from, count_of, skeleton_of}
-use Rattle.lower.specs.Around.{names_with}
+use Rattle.lower.specs.Regions.{bodies_from}
 use Rattle.lower.specs.Owning.{IsLaidBy}
 use Rattle.lower.specs.Loading.{Loads}
-use Rattle.lower.specs.Blocks.{sum, difference, LayText, Whole, alone_by, is_parallel_named, whole_places, dimension_by, dimension_of, lay_over, dimensions_of, own_places}
-use Rattle.lower.specs.Bodies.{first_left, other_lefts, IsIndex, AreCoordinates, IsStored, last_claim, IsStore, AreNests}
+use Rattle.lower.specs.Blocks.{dimensions_of, own_places}
+use Rattle.lower.specs.Bodies.{last_claim, IsStore, AreNests}
 use Rattle.lower.specs.Fetches.{Entry, FetchText, Calls, AreFetched, with_fetches}
 use Rattle.lower.specs.Groups.{HasBody, HasGroups}
-use Rattle.lower.proofs.Blocking.{IsSmall}
-use Rattle.lower.proofs.Dividing.{nearest_of_small}
-use Rattle.lower.proofs.Grids.{parallel_named}
-use Rattle.lower.proofs.Laying.{bound, same}
-use Rattle.lower.proofs.Owners as owners
+use Rattle.lower.proofs.Laying.{bound}
 use Rattle.completeness.specs.Laws.{IsStore as IsStoreLine}
-use Rattle.completeness.specs.Owed.{EachLine, EachOf, BindBelow, AllBindBelow, AreSymbolsFew, IsPureStore, the_first}
+use Rattle.completeness.specs.Owed.{EachLine, EachOf, BindBelow, AllBindBelow, AreSymbolsFew}
 use Rattle.completeness.proofs.Standing.{AreLets, Rises, NestsRise, NamesOwn, names_own}
-use Rattle.completeness.proofs.Laid.{subjects, found}
-use Rattle.completeness.proofs.Defined.{first_put}
-use Rattle.completeness.proofs.Origins.{places_long}
+use Rattle.completeness.proofs.Laid.{subjects}
 use Rattle.completeness.proofs.Served.{roots}
-use Rattle.completeness.proofs.Spots.{lets_allot}
-use Rattle.completeness.proofs.GridScope.{number_limited, at_place, scope_long}
-use Rattle.completeness.proofs.SelfBounds.{form_self}
-use Rattle.completeness.proofs.Searched.{up_limited, symbol_above, symbol_below}
-use Rattle.completeness.proofs.StoreLines.{some_and}
-use Rattle.completeness.proofs.StoreNames.{lines_weaker}
 use Rattle.completeness.proofs.InForce.{zero_other}
-use Rattle.completeness.proofs.PlainNests.{InSteps, ByLoop, IsPlainFirst, grid_named, grid_form, first_nest}
+use Rattle.completeness.proofs.PlainNests.{InSteps}
 
 -- ---- what the binders at a store tell of the loops around it
 
@@ -269,84 +246,6 @@ module _ (g : StoredText) (fs : List FormulaText) (nests : List NestText) (place
 
 -- ---- seats
 
-or_right : (b : Bool) → b ≡ true → (b || false) ≡ true
-or_right b e = ap (λ (v : Bool). v || false) e
-
-module _ (a : Algorithm) (plan : Plan) (cert : Certificate) (n : ℕ) (known : Known) where
-  abbrev bs : List Binder
-  bs = known.binders
-
-  -- the loop's symbol, over as many numbers as there are places
-  loop_seated : (i : ℕ) (low : ℤ) (count : ℕ) → IsBound known i (span low (low +ℤ pos count -ℤ pos 1) []) → negsuc 2147483647 ≤ℤ low → low ≤ℤ pos 2147483647 → count < 4294967296 →
-      is_seated (rules_of a plan cert n) bs (exactly (alone i)) (From (number low) count) ≡ true
-  loop_seated i low count b from to few =
-      let last : ℤ = low +ℤ pos count -ℤ pos 1 in
-      let near : unsigned_abs low ≤ 2 ^ 38 = omega (arith, ints, from, to) in
-      let far : unsigned_abs last ≤ 2 ^ 38 = omega (arith, ints, from, to, few) in
-      let x : Span1 = span low last [] in
-      let one = number_limited low (omega (arith, near)) in
-      let two = number_limited last (omega (arith, far)) in
-      let whole : limited x ≡ x = (λ k. if (one k && true) && (two k && true) then x else anything) in
-      let none : 0 + i ≡ i = omega arith in
-      let count_of_symbols = b.1 in
-      let most = b.2 in
-      let within : i < min (symbol_count bs) most_symbols = omega (arith, count_of_symbols, most) in
-      let there : slice_get (scope_of bs) i ≡ Some (LoopBinding x) =
-      at_place (binding_of bs) 0 (min (symbol_count bs) most_symbols) i within ∙ ap (λ (m : ℕ). Some (binding_of bs m)) none ∙ ap (λ (c : Binding). Some c) (b.0 ∙ ap (λ (y : Span1). LoopBinding y) whole) in
-      let long : length (scope_of bs) ≡ min (symbol_count bs) most_symbols = scope_long (binding_of bs) 0 (min (symbol_count bs) most_symbols) in
-      let less : i < length (scope_of bs) = omega (arith, within, long) in
-      let above = symbol_above (scope_of bs) i x less there low refl (omega (arith, near)) in
-      let high : ℤ = low +ℤ (pos count -ℤ pos 1) in
-      let below = symbol_below (scope_of bs) i x less there last high refl (omega (arith, ints)) far (omega (arith, ints, from, to, few)) in
-      λ k. ((above k || false) && true) && ((below k || false) && true)
-
-  -- a form in a place of its own
-  form_seated : (f : Form) → is_within_limits f ≡ true → is_seated (rules_of a plan cert n) bs (exactly f) (From f 1) ≡ true
-  form_seated f limited_form =
-      let self = form_self (scope_of bs) f limited_form in
-      let zero_more : f.constant ≡ f.constant +ℤ (pos 1 -ℤ pos 1) = omega (arith, ints) in
-      let raised_is : f ≡ raised f (pos 1 -ℤ pos 1) = (λ k. record { constant = zero_more k; terms = f.terms }) in
-      let high : at_most (scope_of bs) f (raised f (pos 1 -ℤ pos 1)) ≡ true = ap (at_most (scope_of bs) f) (sym raised_is) ∙ self in
-      λ k. ((self k || false) && true) && ((high k || false) && true)
-
-  -- a coordinate of the first nest, in its dimension's place
-  module _ (l : LayText) (k_known : l.known ≡ grid_forms l.numbers 0 (parallel_loops l.loops)) (w : NestText)
-      (loops : (i : ℕ) (x : Span1) → InSteps i x w.steps → IsBound known i x) where
-    part_place : (x : List ℕ) → form_named l.known x ≡ None → (v : Bool) →
-        (dimension_by l x [] (if v then alone_by (form_named l.known x) else Whole)).places ≡ whole_places l x []
-    part_place x none true = ap (λ (o : Option Form). (dimension_by l x [] (alone_by o)).places) none
-    part_place x none false = refl
-
-    one_seated : (x : List ℕ) (f : Form) → IsSmall (numbers_named l.numbers x) → (form_named l.known x ≡ Some f) ⊎ ((form_named l.known x ≡ None) × ByLoop l.numbers x f w.steps) →
-        is_seated (rules_of a plan cert n) bs (exactly f) (dimension_of l [] x).places ≡ true
-    one_seated x f small (inl q) =
-        let named = ap (λ (ks : List KnownForm). form_named ks x) (sym k_known) ∙ q in
-        let parallel : is_parallel_named l x ≡ true = parallel_named l.loops x ∙ grid_named l.numbers x 0 (parallel_loops l.loops) f named in
-        let told = grid_form l.numbers x 0 (parallel_loops l.loops) f named in
-        let from = small.from in
-        let to = small.to in
-        let limited_form : is_within_limits f ≡ true = ap is_within_limits told.1 ∙ up_limited (numbers_named l.numbers x).low told.0 (omega (arith, ints, from, to)) in
-        let place : (dimension_of l [] x).places ≡ From f 1 = (λ k. (dimension_by l x [] (if parallel k then alone_by (q k) else Whole)).places) in
-        ap (is_seated (rules_of a plan cert n) bs (exactly f)) place ∙ form_seated f limited_form
-    one_seated x f small (inr by) =
-        let r = numbers_named l.numbers x in
-        let i = by.1.0 in
-        let from = small.from in
-        let to = small.to in
-        let few = small.few in
-        let last = last_number r in
-        let span_count : difference last r.low ≡ last -ℤ r.low = nearest_of_small (last -ℤ r.low) (omega (arith, ints)) (omega (arith, ints, few)) in
-        let all_count : sum (difference last r.low) (pos 1) ≡ difference last r.low +ℤ pos 1 =
-        nearest_of_small (difference last r.low +ℤ pos 1) (omega (arith, ints, span_count)) (omega (arith, ints, span_count, few)) in
-        let count : sum (difference last r.low) (pos 1) ≡ pos r.count = omega (arith, ints, all_count, span_count) in
-        let place : (dimension_of l [] x).places ≡ From (number r.low) r.count =
-        part_place x by.0 (is_parallel_named l x) ∙ ap (λ (z : ℤ). From (number r.low) (count_of z)) count in
-        (λ k. is_seated (rules_of a plan cert n) bs (exactly (by.1.1 k)) (place k)) ∙ loop_seated i r.low r.count (loops i (span r.low last []) by.1.2) from to few
-
-pub none_missing : (d : ℕ) (xs : List (List ℕ)) → missing_from d (map (λ x. None) xs) ≡ []
-none_missing d [] = refl
-none_missing d (x ∷ xs) = none_missing (d + 1) xs
-
 pub all_none : (xs : List (List ℕ)) → AllByRecursion (λ (o : Option Term). o ≡ None) (map (λ x. None) xs)
 all_none [] = tt
 all_none (x ∷ xs) = (refl, all_none xs)
@@ -355,49 +254,13 @@ pub variables_are : (b : BodyText) → b.missing ≡ [] → (d : ℕ) (xs : List
 variables_are b none d [] ks = refl
 variables_are b none d (x ∷ xs) ks = (let rest = variables_are b none (d + 1) xs ks in λ i. (if list_any (λ e. e == d) (none i) then None else form_named ks x) ∷ rest i)
 
-first_none : (lefts : List (Option Term)) → AllByRecursion (λ o. o ≡ None) lefts → first_left lefts ≡ None
-first_none [] h = refl
-first_none (o ∷ lefts) h = h.0
-
-others_none : (lefts : List (Option Term)) → AllByRecursion (λ o. o ≡ None) lefts → AllByRecursion (λ o. o ≡ None) (other_lefts lefts)
-others_none [] h = tt
-others_none (o ∷ lefts) h = h.1
-
-module _ (O : Outline) (R : Rules) (known : Known) (names : List (List ℕ)) (left : List Span1) (ms : Loads) (l : LayText) (cuts : List Split) (ks : List KnownForm)
-    (seat : (x : List ℕ) (f : Form) → IsSmall (numbers_named l.numbers x) → form_named ks x ≡ Some f → is_seated R known.binders (exactly f) (dimension_of l cuts x).places ≡ true) where
-  index_seated : (x : List ℕ) (small : IsSmall (numbers_named l.numbers x)) (o : Option Form) → form_named ks x ≡ o → (i : Index) (lefts : Option Term) → lefts ≡ None → IsIndex ms o lefts i →
-      is_seated R known.binders (index_place O R known names left i) (dimension_of l cuts x).places ≡ true
-  index_seated x small (Some f) e (At h) lefts none q = ap (λ (u : Form). is_seated R known.binders (exactly u) (dimension_of l cuts x).places) q ∙ seat x f small e
-  index_seated x small (Some f) e (Found t) lefts none q = absurd q
-  index_seated x small None e (At h) lefts none q = absurd q
-  index_seated x small None e (Found t) None none q = absurd q
-  index_seated x small None e (Found t) (Some u) none q = absurd (cc none)
-
-  all_seated : (xs ys : List (List ℕ)) (zs : List (Option Form)) (lefts : List (Option Term)) (cs : List Coordinate) → AllByRecursion (λ x. IsSmall (numbers_named l.numbers x)) xs →
-      AllByRecursion (λ o. o ≡ None) lefts → AreCoordinates ms (xs ++ ys) (map (form_named ks) xs ++ zs) lefts cs →
-      are_seated R known.binders (map (target_span O R known names left) (take (length xs) cs)) (own_places (map (dimension_of l cuts) xs)) ≡ true
-  all_seated [] ys zs lefts [] small none h = refl
-  all_seated [] ys zs lefts (c ∷ cs) small none h = refl
-  all_seated (x ∷ xs) ys zs lefts [] small none h = absurd h
-  all_seated (x ∷ xs) ys zs lefts (c ∷ cs) small none h =
-      let here = index_seated x small.0 (form_named ks x) refl c.index (first_left lefts) (first_none lefts none) h.1 in
-      let rest = all_seated xs ys zs (other_lefts lefts) cs small.1 (others_none lefts none) h.2 in
-      λ i. here i && rest i
-
 -- ---- groups
-
-pub first_of : {A : Type 0} (xs : List A) (x : A) → slice_get xs 0 ≡ Some x → (rest : List A) × (xs ≡ x ∷ rest)
-first_of [] x e = absurd (cc e)
-first_of (y ∷ xs) x e = (let same : y ≡ x = cc e in (xs, ap (λ z. z ∷ xs) same))
 
 module _ (a : Algorithm) (sch : Schedule) (l : Lowered) (well : IsAlgorithm a) (legal : IsLegal a sch) (small : has_large (stored_functions a sch) ≡ false)
     (kept : region_fault a (stored_functions a sch) ≡ None) (all : are_whole (stored_functions a sch) ≡ true) (groups : HasGroups a (stored_functions a sch) l)
     (few : AreSymbolsFew (plan_of l.plan)) where
   abbrev entries : List Entry
   entries = roots a sch l well legal small kept all groups
-
-  abbrev items : List CodeClaim
-  items = l.certificate.claims.items
 
   abbrev marks : List Bool
   marks = flags (subjects a sch)
@@ -422,9 +285,6 @@ module _ (a : Algorithm) (sch : Schedule) (l : Lowered) (well : IsAlgorithm a) (
     abbrev g : StoredText
     g = text f
 
-    abbrev lay : LayText
-    lay = lay_over g h.extents k
-
     abbrev own : List Places
     own = own_places (dimensions_of g h.extents k)
 
@@ -439,12 +299,6 @@ module _ (a : Algorithm) (sch : Schedule) (l : Lowered) (well : IsAlgorithm a) (
 
     names : NamesOwn k
     names = names_own f.variables (bodies_from f.changes 0 (reductions_of f.changes) fs) g.placed h.extents k h.laid
-
-    dimensions : O.setting.dimensions 0 ≡ length f.variables
-    dimensions =
-        let there : allocated (statement_of q.body) 0 ≡ Some (record { function = f.name; places = own }) =
-        ap (λ (s : Statement). allocated s 0) h.body.with.is ∙ lets_allot k.head (Then (Alloc 0 f.name own) (block (with_fetches h.body.fetches rest))) 0 names.lets in
-        ap dimensions_in there ∙ places_long lay (loops_after (said sch) f).cuts f.variables
 
     abbrev Here : Statement → ℕ → Known → Type 0
     Here s line known = BoundHere g fs k.nests own s line known
@@ -466,83 +320,4 @@ module _ (a : Algorithm) (sch : Schedule) (l : Lowered) (well : IsAlgorithm a) (
         let low : AllBindBelow most_symbols (lines_to k.head (block (Alloc 0 f.name own ∷ with_fetches b.fetches rest))) = subst (BindBelow most_symbols) b.with.is few_here in
         let bound_here = lets_own g fs k.nests own O R k.head (block (Alloc 0 f.name own ∷ with_fetches b.fetches rest)) names.lets low inner (body_line plan n) (start (grid_binders q.grid.items)) in
         subst (λ (s : Statement). EachLine O R Here s (body_line plan n) (start (grid_binders q.grid.items))) (sym b.with.is) bound_here
-
     -- where no loop is split
-
-    module _ (uncut : (loops_after (said sch) f).cuts ≡ []) where
-      -- ---- a store of the pure definition
-
-      module _ (nests : Nests) (known : Known) (line_here : ℕ) (has_own : places_of known.buffers 0 ≡ Some own) (w : NestText) (ms : Loads) (stands : slice_get k.nests 0 ≡ Some w)
-          (cs : List Coordinate) (e : Term)
-          (u : FormulaText) (defined : slice_get fs 0 ≡ Some u) (is : IsStored ms (names_with f.variables f.changes 0) w cs e u)
-          (loops : (i : ℕ) (x : Span1) → InSteps i x w.steps → IsBound known i x) where
-        abbrev b : BodyText
-        b = body_by [] (reductions_of f.changes) u
-
-        abbrev rs : List Numbers
-        rs = loop_numbers f.variables (loops_after (said sch) f).cuts h.extents
-
-        pure_at : u.at ≡ map (λ x. None) f.variables
-        pure_at =
-            let put_first = first_put a marks f.variables f.value f.changes fs u h.defined defined in
-            let r = bound (put a marks f.value) (λ v. Some (record { at = map (λ x. None) f.variables; value = v })) u put_first in
-            sym (ap (λ (y : FormulaText). y.at) (same (record { at = map (λ x. None) f.variables; value = r.value }) u r.comes))
-
-        no_missing : b.missing ≡ []
-        no_missing = ap (missing_from 0) pure_at ∙ none_missing 0 f.variables
-
-        plain_first : IsPlainFirst f.variables b (loops_after (said sch) f) rs k w
-        plain_first =
-            let r = first_of fs u defined in
-            let told = ap (λ (us : List FormulaText). skeleton_of g us h.extents) (sym r.1) ∙ h.laid in
-            first_nest f.variables b (loops_after (said sch) f) rs uncut refl (bodies_from f.changes 1 (drop 0 (reductions_of f.changes)) r.0) h.extents k refl told w stands
-
-        seats_true : (names : List (List ℕ)) (left : List Span1) →
-            are_seated R known.binders (map (target_span O R known names left) (take (O.setting.dimensions 0) cs)) own ≡ true
-        seats_true names left =
-            let p = plain_first in
-            let seat : (x : List ℕ) (f' : Form) → IsSmall (numbers_named rs x) → form_named p.known x ≡ Some f' →
-            is_seated R known.binders (exactly f') (dimension_of lay (loops_after (said sch) f).cuts x).places ≡ true =
-            λ x f' s named. ap (λ (ds : List Split). is_seated R known.binders (exactly f') (dimension_of lay ds x).places) uncut
-            ∙ one_seated a plan cert n known lay p.head w loops x f' s (p.found x f' named) in
-            let coordinates : AreCoordinates ms (f.variables ++ []) (map (form_named p.known) f.variables ++ []) u.at cs =
-            subst (λ (os : List (Option Form)). AreCoordinates ms (f.variables ++ []) os u.at cs)
-            (p.at ∙ ap (λ (os : List (Option Form)). os ++ []) (variables_are b no_missing 0 f.variables p.known)) is.at in
-            let none : AllByRecursion (λ o. o ≡ None) u.at = subst (AllByRecursion (λ o. o ≡ None)) (sym pure_at) (all_none f.variables) in
-            ap (λ (m : ℕ). are_seated R known.binders (map (target_span O R known names left) (take m cs)) own) dimensions
-            ∙ all_seated O R known names left ms lay (loops_after (said sch) f).cuts p.known seat f.variables [] [] u.at cs (owners.small g h.extents k laid) none coordinates
-
-        first_shown : all_shown R nests (the_first (obligations O R (Store 0 0 cs e) line_here known)) ≡ true
-        first_shown =
-            let m = O.setting.dimensions 0 in
-            let names = map (λ (c : Coordinate). c.variable) (take m cs ++ drop m cs) in
-            let left = map (variable_span O R) (take m cs ++ drop m cs) in
-            let seats = map (target_span O R known names left) (take m cs) in
-            ap (λ (o : Option (List Places)). shows R nests known.binders (seated O R o seats) && true) has_own ∙ ap (λ (v : Bool). v && true) (seats_true names left)
-
-      abbrev Shown : Statement → ℕ → Known → Type 0
-      Shown s line known = IsPureStore s → (nests : Nests) → all_shown R nests (the_first (obligations O R s line known)) ≡ true
-
-      one_shown : (s : Statement) (line : ℕ) (known : Known) → Here s line known → Shown s line known
-      one_shown (Store b m cs e) line known here = λ pure nests. of pure nests (here tt)
-        where
-          of : m ≡ 0 → (nests : Nests) → BoundAt g fs k.nests own (Store b m cs e) known → all_shown R nests (the_first (obligations O R (Store b m cs e) line known)) ≡ true
-          of pure nests r =
-              let zero_is : r.definition ≡ 0 = sym r.stores.1 ∙ pure in
-              let stands = subst (λ (d : ℕ). slice_get k.nests d ≡ Some r.nest) zero_is r.stands in
-              let stored = subst (λ (d : ℕ). IsStore g fs r.loads d r.nest (Store b m cs e)) zero_is r.stores in
-              let x = some_and (IsStored r.loads (names_with f.variables f.changes 0) r.nest cs e) (slice_get fs 0) stored.2 in
-              let shown = first_shown nests known line r.own r.nest r.loads stands cs e x.0 x.1 x.2 r.loops in
-              subst (λ (c : ℕ). all_shown R nests (the_first (obligations O R (Store c m cs e) line known)) ≡ true) (sym stored.0)
-              (subst (λ (d : ℕ). all_shown R nests (the_first (obligations O R (Store 0 d cs e) line known)) ≡ true) (sym pure) shown)
-      one_shown (Seq xs) line known here = λ pure. absurd pure
-      one_shown (For j x kind body) line known here = λ pure. absurd pure
-      one_shown (Let j pick forms) line known here = λ pure. absurd pure
-      one_shown (First j x z) line known here = λ pure. absurd pure
-      one_shown (Guard low high body) line known here = λ pure. absurd pure
-      one_shown (Alloc b x seats) line known here = λ pure. absurd pure
-      one_shown (Fetch b x region) line known here = λ pure. absurd pure
-      one_shown (Publish x) line known here = λ pure. absurd pure
-
-      pub body_shown : EachLine O R Shown (statement_of q.body) (body_line plan n) (start (grid_binders q.grid.items))
-      body_shown = lines_weaker O R Here Shown one_shown (statement_of q.body) (body_line plan n) (start (grid_binders q.grid.items)) body_bound

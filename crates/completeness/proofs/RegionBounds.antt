@@ -1,26 +1,22 @@
 -- The ends of regions are 32-bit numbers, and where no rule is broken, each index of the input in a definition is shown to lie on its extent.
 use Rattle.std.proofs.Common.{◌≡◌, ℕ, zero, suc, ◌+◌, Bool, true, false, ◌&&◌, List, [], ◌∷◌, Option, Some, None, refl, sym, ap, ◌∙◌, subst, arith}
-use Rattle.std.specs.Prelude.{ℤ, pos, negsuc, ◌+ℤ◌, ◌-ℤ◌, ◌≤ℤ◌, int_le, find, if◌then◌else◌, slice_get}
+use Rattle.std.specs.Prelude.{ℤ, pos, negsuc, ◌+ℤ◌, ◌-ℤ◌, ◌≤ℤ◌, int_le, if◌then◌else◌, slice_get}
 use Rattle.std.specs.List.{AllByRecursion}
 use Rattle.std.proofs.lemmas.Int.{ints}
-use Rattle.lin.specs.declared.scope.Binding.{Binding}
 use Rattle.lin.specs.declared.span.Span1.{Span1}
 use Rattle.meaning.specs.Algorithm.{Algorithm}
 use Rattle.meaning.specs.Names.{same_name}
 use Rattle.meaning.proofs.InliningTyped.{both_true}
 use Rattle.algo.specs.Scoping.Standing.{Written}
 use Rattle.sched.specs.declared.numbers.Extent.{Extent}
-use Rattle.sched.specs.declared.numbers.Numbers.{Numbers}
 use Rattle.sched.specs.declared.region_rule.RegionRule.{RegionRule}
 use Rattle.sched.specs.declared.region_rule.RegionRule.TheVariants.{ShortShift, TooMuch}
-use Rattle.sched.specs.Numbers.{numbers_named, last_number, whole_numbers}
 use Rattle.sched.specs.Standing.{◌>>=◌}
-use Rattle.sched.specs.Skeleton.{NestText}
-use Rattle.lower.specs.Stored.{FormulaText, StoredText, calls_in}
+use Rattle.lower.specs.Stored.{FormulaText, StoredText}
 use Rattle.lower.specs.Regions.{LaidText, count_of, is_i32, are_within, extent_between, may_have, extent_of, region_of, reach_of, laid_over, laid_by}
 use Rattle.lower.specs.Regions.{laid_within, laid_functions}
-use Rattle.lower.specs.Around.{AroundText, around}
-use Rattle.lower.specs.Bounded.{is_on_input, is_in_region, is_call_bounded, are_bounded, is_definition_bounded, is_bounded, is_root_bounded}
+use Rattle.lower.specs.Around.{AroundText}
+use Rattle.lower.specs.Bounded.{is_on_input, is_in_region, is_call_bounded, are_bounded, is_root_bounded}
 use Rattle.lower.specs.Faults.{with_laid, totals_with, is_shifted_little, pass_limits, unless_bounded, fault_within, fault_by, fault_of, or_later, fault_from}
 use Rattle.lower.proofs.Laying.{bound, same}
 use Rattle.lower.proofs.Reached.{laid_found}
@@ -95,25 +91,6 @@ region_ends a [] n g l at laid = absurd (cc at)
 region_ends a (s ∷ later) zero g l at laid = laid_ended a s later (laid_functions a later) l (same (laid_within a s later (laid_functions a later)) (Some l) laid)
 region_ends a (s ∷ later) (suc n) g l at laid = region_ends a later n g l at laid
 
--- ---- numbers of loops
-
-abbrev pub IsEndedLoop : Numbers → Type 0
-IsEndedLoop r = last_number r ≤ℤ pos 2147483647
-
-pub whole_ended : (xs : List (List ℕ)) (es : List Extent) → AllByRecursion IsEnded es → AllByRecursion IsEndedLoop (whole_numbers xs es)
-whole_ended [] es h = tt
-whole_ended (x ∷ xs) [] h = tt
-whole_ended (x ∷ xs) (e ∷ es) h = (h.0, whole_ended xs es h.1)
-
-pub named_ended : (rs : List Numbers) → AllByRecursion IsEndedLoop rs → (x : List ℕ) → IsEndedLoop (numbers_named rs x)
-named_ended [] h x = omega (arith, ints)
-named_ended (r ∷ rs) h x = of (same_name r.name x) (named_ended rs h.1 x)
-  where
-    of : (b : Bool) → IsEndedLoop (numbers_named rs x) →
-        IsEndedLoop (elim (if b then Some r else find (λ r. same_name r.name x) rs) [ Some r ↦ r | None ↦ record { name = x; low = pos 0; count = 0 } ])
-    of true k = h.0
-    of false k = k
-
 -- ---- no rule is broken
 
 none_first : (g : StoredText) (o : Option RegionRule) (later : Option (RegionRule × List ℕ)) → or_later g o later ≡ None → o ≡ None
@@ -152,23 +129,6 @@ root_bounded a large t (g ∷ gs) (m ∷ ls) h (suc n) u fs l at is laid =
     root_bounded a large (totals_with t g m) gs ls (none_later g (fault_of a large t g m) (fault_from a large (totals_with t g m) gs ls) h) n u fs l at is laid
 
 -- ---- the first definition
-
--- what is known around its store, by which each of its calls is bounded
-pub record IsFirstBounded (a : Algorithm) (g : StoredText) (outer : List Binding) (region : List Span1) (u : FormulaText) (w : NestText) : Type 0 where
-  pub known : AroundText
-  pub is : around a g outer w u 0 ≡ Some known
-  pub bounded : are_bounded a known u region g.subject.name (calls_in u) ≡ Some true
-
-pub first_bounded : (a : Algorithm) (g : StoredText) (outer : List Binding) (region : List Span1) (u : FormulaText) (us : List FormulaText) (w : NestText) (ws : List NestText) →
-    is_bounded a g outer region 0 (u ∷ us) (w ∷ ws) ≡ Some true → IsFirstBounded a g outer region u w
-first_bounded a g outer region u us w ws h =
-    let b = bound (is_definition_bounded a g outer region 0 u w) (λ is. if is then is_bounded a g outer region (0 + 1) us ws else Some false) true h in
-    let d = bound (around a g outer w u 0) (λ r. are_bounded a r u region g.subject.name (calls_in u)) b.value b.is in
-    record { known = d.value; is = d.is; bounded = d.comes ∙ ap (λ (v : Bool). Some v) (of b.value b.comes) }
-  where
-    of : (v : Bool) → (if v then is_bounded a g outer region (0 + 1) us ws else Some false) ≡ Some true → v ≡ true
-    of true q = refl
-    of false q = absurd (cc q)
 
 pub calls_bounded : (a : Algorithm) (r : AroundText) (f : FormulaText) (region : List Span1) (x : List ℕ) (cs : List Written) → are_bounded a r f region x cs ≡ Some true →
     AllByRecursion (λ c. is_call_bounded a r f region x c ≡ Some true) cs

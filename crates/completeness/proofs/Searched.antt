@@ -113,20 +113,6 @@ pub numbers_made : (y k z : ℤ) → unsigned_abs y ≤ 2 ^ 40 → unsigned_abs 
 numbers_made y k z hy hz hs = combined-made (number y) (number z) k (number_limited y hy) (number_limited z hz) (number_limited (y +ℤ k *ℤ z) hs)
 
 module _ (scope : List Binding) (i : ℕ) (x : Span1) (less : i < length scope) (there : slice_get scope i ≡ Some (Loop x)) where
-  -- it is at least the span's lower end
-  pub symbol_above : (low : ℤ) → x.lower ≡ number low ∷ [] → unsigned_abs low ≤ 2 ^ 39 → at_most scope (number low) (alone i) ≡ true
-  symbol_above low one near =
-      let is : low +ℤ negsuc 0 *ℤ pos 0 ≡ low = omega (arith, ints) in
-      let form : plus_multiple (number low) (negsuc 0) (alone i) ≡ one_of low (negsuc 0) i = (λ k. record { constant = is k; terms = record { symbol = i; factor = negsuc 0 } ∷ [] }) in
-      let far : unsigned_abs low ≤ 2 ^ 40 = omega (arith, near) in
-      let limited = down_limited low i far in
-      let made : combined (number low) (negsuc 0) (alone i) ≡ Some (one_of low (negsuc 0) i) =
-      combined-made (number low) (alone i) (negsuc 0) (number_limited low far) (up_limited (pos 0) i (omega arith)) (ap is_within_limits form ∙ limited) ∙ ap (λ (f : Form). Some f) form in
-      let r : ℤ = low +ℤ negsuc 0 *ℤ low in
-      let sum = numbers_made low (negsuc 0) low far far (omega (arith, ints, near)) in
-      found_below scope (number low) (alone i) (one_of low (negsuc 0) i) r made
-      (found scope i low (negsuc 0) r refl (Loop x) there (number low) one sum less limited) (still r (omega (arith, ints)))
-
   -- or any number below that
   pub symbol_over : (z low : ℤ) → x.lower ≡ number low ∷ [] → z ≤ℤ low → unsigned_abs z ≤ 2 ^ 38 → unsigned_abs low ≤ 2 ^ 38 → at_most scope (number z) (alone i) ≡ true
   symbol_over z low one le near far =

@@ -21,16 +21,14 @@ use Rattle.lin.specs.declared.scope.Binding.TheVariants.{Loop as LoopBinding, Le
 use Rattle.lin.specs.declared.span.Span1.{Span1}
 use Rattle.bounds.specs.Interval.{interval}
 use Rattle.bounds.proofs.ListSound.{all-append}
-use Rattle.plan.specs.declared.stmt.Places.{Places}
 use Rattle.plan.specs.Plan.{Index, At, Found, Coordinate, Plan}
 use Rattle.plan.specs.Certificate.Certificate.{Certificate}
-use Rattle.plan.specs.Semantics.Run.{Source, Input, ByClaim, Unknown}
 use Rattle.meaning.specs.Algorithm.{Function, Algorithm}
 use Rattle.meaning.specs.Names.{same_name, is_among}
 use Rattle.meaning.specs.Conditions.{callable, function_named}
 use Rattle.meaning.proofs.InliningTyped.{both_true, index-is}
 use Rattle.soundness.specs.Origins.{Outline}
-use Rattle.soundness.specs.Obligations.{Binder, Known, Rules, NotTheDefinition, Inside, Obligation, obligation, anything, seated, exactly, places_of}
+use Rattle.soundness.specs.Obligations.{Binder, Known, Rules, Obligation, anything, exactly}
 use Rattle.soundness.specs.Obligations.{load_obligations, loads, loads_of_test, loads_of_all, intervals, index_span, variable_span, target_span}
 use Rattle.soundness.specs.Shown.{Nests, is_shown, is_within, are_within}
 use Rattle.soundness.specs.Binders.View.{grid_span}
@@ -49,7 +47,6 @@ use Rattle.lower.specs.Bounded.{is_on_input}
 use Rattle.lower.specs.Taken.{add_spans}
 use Rattle.lower.specs.Loading.{Loads, loaded_name, as_load}
 use Rattle.lower.specs.Bodies.{first_left, other_lefts, IsIndex, AreCoordinates}
-use Rattle.completeness.specs.Stores.{IsRegionTest, IsInputTest}
 use Rattle.completeness.proofs.LoadedTerms.{Same, type_same, interval_same}
 use Rattle.completeness.proofs.Searched.{symbol_over, symbol_below, counted_over, counted_under}
 
@@ -273,23 +270,3 @@ module _ (O : Outline) (R : Rules) (nests : Nests) (T : Obligation → Type 0) w
       all_show : (at : Terms) → EachCallOfAll CallShows at → Shows (loads_of_all O R line known may meets names vars (all_with_calls (as_load ms) at))
       all_show End h = tt
       all_show (More a rest) h = shows_both (These a) (loads_of_all O R line known may meets names vars (all_with_calls (as_load ms) rest)) (term_shows a h.0) (all_show rest h.1)
-
--- ---- of the input
-
-abbrev pub IsOfInput : Obligation → Type 0
-IsOfInput o = IsInputTest o.code o.wanted
-
-module _ (O : Outline) (R : Rules) (nests : Nests) (line : ℕ) (known : Known) (may : ℕ → Bool) (meets : ℕ → List (List Span1)) where
-  pub seats_none : (xs : List Span1) (o : Option (List Places)) → IsRegionTest (seated O R o xs) → ⊥
-  seats_none xs None h = h
-  seats_none xs (Some ps) h = h
-
-  meets_none : (xs : List Span1) (yss : List (List Span1)) → Shows O R nests IsOfInput (map (λ ys. obligation O R NotTheDefinition line known (Inside xs ys)) yss)
-  meets_none xs [] = tt
-  meets_none xs (ys ∷ yss) = (λ k. absurd k, meets_none xs yss)
-
-  -- of the input the points are shown to be of its extents
-  pub load_shows : (s : Source) (xs : List Span1) → (s ≡ Input → are_within R known.binders xs R.extents ≡ true) → Shows O R nests IsOfInput (load_obligations O R line known may meets s xs)
-  load_shows Input xs h = (λ k. h refl, tt)
-  load_shows (ByClaim c) xs h = (λ k. absurd (seats_none xs (places_of known.buffers (O.claim c).buffer) k), (λ k. absurd k, (λ k. absurd k, meets_none xs (meets c))))
-  load_shows Unknown xs h = (λ k. absurd k, tt)

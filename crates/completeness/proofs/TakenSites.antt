@@ -61,11 +61,6 @@ module _ (a : Algorithm) (r : AroundText) (x : List ℕ) where
   abbrev pub IsFound : List (List Span1) → Written → Type 0
   IsFound out c = (ss : List Span1) × (add_spans a r c.at [] ≡ Some ss) × Has ss out
 
-  found_more : (out more : List (List Span1)) → ((ss : List Span1) → Has ss out → Has ss more) → (cs : List Written) → AllByRecursion (λ c. same_name c.name x ≡ true → IsFound out c) cs →
-      AllByRecursion (λ c. same_name c.name x ≡ true → IsFound more c) cs
-  found_more out more w [] h = tt
-  found_more out more w (c ∷ cs) h = ((λ s. (let k = h.0 s in (k.0, k.1, w k.0 k.2))), found_more out more w cs h.1)
-
   pub add_all : (cs : List Written) (before out : List (List Span1)) → add_calls a r x cs before ≡ Some out →
       AllByRecursion (λ c. same_name c.name x ≡ true → IsFound out c) cs × ((ss : List Span1) → Has ss before → Has ss out)
   add_all [] before out e = (tt, λ ss h. subst (λ (o : List (List Span1)). Has ss o) (same before out e) h)
@@ -108,34 +103,6 @@ module _ (a : Algorithm) (g : StoredText) (outer : List Binding) (x : List ℕ) 
       let c = bound (add_calls a r.value x (calls_in f) []) (λ cs. Some (with_site r.value.scope cs before)) b.value r.comes in
       let is = same (with_site r.value.scope c.value before) b.value c.comes in
       sites_kept (d + 1) fs ns t b.value out b.comes (subst (λ (o : List SiteText). Has t o) is (with_kept r.value.scope c.value t before h))
-
-  -- the site of the first definition
-  pub record IsFirstSite (u : FormulaText) (w : NestText) (out : List SiteText) : Type 0 where
-    pub known : AroundText
-    pub is : around a g outer w u 0 ≡ Some known
-    pub calls : List (List Span1)
-    pub added : add_calls a known x (calls_in u) [] ≡ Some calls
-    pub site : (ss : List Span1) → Has ss calls → Has (record { scope = known.scope; calls = calls }) out
-
-  pub first_site : (u : FormulaText) (us : List FormulaText) (w : NestText) (ws : List NestText) (out : List SiteText) →
-      add_sites a g outer None x 0 (u ∷ us) (w ∷ ws) [] ≡ Some out → IsFirstSite u w out
-  first_site u us w ws out e =
-      let b = bound (add_site a g outer x 0 u w []) (add_sites a g outer None x (0 + 1) us ws) out e in
-      let r = bound (around a g outer w u 0) (λ r. add_calls a r x (calls_in u) [] >>= λ cs. Some (with_site r.scope cs [])) b.value b.is in
-      let c = bound (add_calls a r.value x (calls_in u) []) (λ cs. Some (with_site r.value.scope cs [])) b.value r.comes in
-      let is = same (with_site r.value.scope c.value []) b.value c.comes in
-      record {
-        known = r.value;
-        is = r.is;
-        calls = c.value;
-        added = c.is;
-        site = λ ss h. sites_kept (0 + 1) us ws (record { scope = r.value.scope; calls = c.value }) b.value out b.comes
-            (subst (λ (o : List SiteText). Has (record { scope = r.value.scope; calls = c.value }) o) is (one r.value.scope c.value ss h));
-      }
-    where
-      one : (scope : List Binding) (cs : List (List Span1)) (ss : List Span1) → Has ss cs → Has (record { scope = scope; calls = cs }) (with_site scope cs [])
-      one scope [] ss h = absurd h
-      one scope (c ∷ cs) ss h = inl refl
 
 -- ---- what holds all calls holds each
 

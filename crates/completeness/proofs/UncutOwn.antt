@@ -1,7 +1,6 @@
 -- Where each left index of an update is the variable at its place, each call of the function itself has all variables at their places.
 use Rattle.std.proofs.Common.{◌≡◌, ℕ, zero, suc, Bool, true, false, List, [], ◌∷◌, length, map, Option, Some, None, refl, sym, ap, ◌∙◌, subst, arith}
 use Rattle.std.specs.Prelude.{if◌then◌else◌, slice_get}
-use Rattle.std.specs.List.{AllByRecursion}
 use Rattle.tree.specs.Term.{Term, Number, Name, Call, Minus, Binary, Clamp, Cast, Choice, Terms, End, More, Test, Compares, Fails, Both, Either}
 use Rattle.tree.specs.Uses.{EachCall, EachCallOfTest, EachCallOfAll}
 use Rattle.tree.proofs.Uses.{each_call-weaker}
@@ -20,7 +19,6 @@ use Rattle.lower.proofs.Laying.{bound, same}
 use Rattle.completeness.proofs.Laid.{subjects}
 use Rattle.completeness.proofs.Defined.{other_put}
 use Rattle.completeness.proofs.OwnCalls.{own_variable}
-use Rattle.completeness.proofs.OwnLoads.{HaveVariables, have_all}
 
 -- ---- what is so of each call for each of these is so for all of them
 
@@ -84,55 +82,6 @@ own_stays a s well n g at =
     let flag : slice_get (flags (subjects a s)) r.place ≡ Some true =
     at_map (λ u. u.is_stored) (subjects a s) r.place (subject_said a s r.function) (at_map (subject_said a s) a.functions r.place r.function r.at) ∙ ap (λ (b : Bool). Some b) r.stored in
     subst (StaysCalled a (flags (subjects a s))) r.named (stored_stays a well (flags (subjects a s)) r.place r.function r.at flag)
-
--- ---- the left indices
-
-alone_at : (a : Algorithm) (st : List Bool) (xs : List (List ℕ)) (es : List Term) (os : List (Option Term)) → lefts_put a st xs es ≡ Some os → AllByRecursion (λ o. o ≡ None) os →
-    length es ≡ length xs → (j : ℕ) (v : List ℕ) → slice_get xs j ≡ Some v → (e : Term) × (slice_get es j ≡ Some e) × (is_variable v e ≡ true)
-alone_at a st [] es os q none long j v at = absurd (cc at)
-alone_at a st (x ∷ xs) [] os q none long j v at = absurd (omega (arith, long))
-alone_at a st (x ∷ xs) (e ∷ es) os q none long j v at =
-    let b = bound (left_put a st x e) (λ o. lefts_put a st xs es >>= λ rest. Some (o ∷ rest)) os q in
-    let c = bound (lefts_put a st xs es) (λ rest. Some (b.value ∷ rest)) os b.comes in
-    let both = subst (AllByRecursion (λ o. o ≡ None)) (sym (same (b.value ∷ c.value) os c.comes)) none in
-    at_place j at (of (is_variable x e) refl (b.is ∙ ap (λ (o : Option Term). Some o) both.0)) (alone_at a st xs es c.value c.is both.1 (omega (arith, long)))
-  where
-    of : (t : Bool) → is_variable x e ≡ t → (if t then Some None else (put a st e >>= λ i. Some (Some i))) ≡ Some None → is_variable x e ≡ true
-    of true h k = h
-    of false h k =
-        let d = bound (put a st e) (λ i. Some (Some i)) None k in
-        let clash : Some d.value ≡ None = same (Some d.value) None d.comes in
-        absurd (cc clash)
-
-    at_place : (j : ℕ) → slice_get (x ∷ xs) j ≡ Some v → is_variable x e ≡ true → ((j : ℕ) (v : List ℕ) → slice_get xs j ≡ Some v → (u : Term) × (slice_get es j ≡ Some u) × (is_variable v u ≡ true)) →
-        (u : Term) × (slice_get (e ∷ es) j ≡ Some u) × (is_variable v u ≡ true)
-    at_place zero q h rest = (e, refl, ap (λ (y : List ℕ). is_variable y e) (sym (same x v q)) ∙ h)
-    at_place (suc j) q h rest = rest j v q
-
--- ---- an update's own calls
-
-module _ (a : Algorithm) (well : IsAlgorithm a) (place : ℕ) (f : Function) (at_place : slice_get a.functions place ≡ Some f) (st : List Bool) (stays : StaysCalled a st f.name) (fs : List FormulaText)
-    (defined : formulas_put a st f.variables f.value f.changes ≡ Some fs) where
-  -- all variables at their places, where the call is of the function itself
-  abbrev pub IsOwnCall : List ℕ → Terms → Type 0
-  IsOwnCall name at = name ≡ f.name → HaveVariables f.variables at
-
-  pub own_have : (i : ℕ) (u : FormulaText) → slice_get fs (suc i) ≡ Some u → AllByRecursion (λ o. o ≡ None) u.at → EachCall IsOwnCall u.value
-  own_have i u there none =
-      let o = other_put a st f.variables f.value f.changes fs i u defined there in
-      let y = o.change in
-      let m = bound (lefts_put a st f.variables y.at) (λ at. put a st y.value >>= λ v. Some (record { at = at; value = v })) u o.is in
-      let r = bound (put a st y.value) (λ v. Some (record { at = m.value; value = v })) u m.comes in
-      let made : FormulaText = record { at = m.value; value = r.value } in
-      let is : made ≡ u = same made u r.comes in
-      let value : put a st y.value ≡ Some u.value = r.is ∙ ap (λ (z : FormulaText). Some z.value) is in
-      let lefts : AllByRecursion (λ o. o ≡ None) m.value = subst (λ (z : FormulaText). AllByRecursion (λ o. o ≡ None) z.at) (sym is) none in
-      let long = (update_is a place f well at_place i y o.at).places in
-      let A : Type 0 = (j : ℕ) × (v : List ℕ) × (slice_get f.variables j ≡ Some v) in
-      let P : A → List ℕ → Terms → Type 0 = λ x name args. name ≡ f.name → has_variable x.1 x.0 args ≡ true in
-      let each : (x : A) → EachCall (P x) u.value = λ x.
-      (let e = alone_at a st f.variables y.at m.value m.is lefts long x.0 x.1 x.2 in own_variable a well place f at_place st stays i y o.at u.value value x.0 x.1 e.0 x.2 e.1 e.2) in
-      each_call-weaker (ForAll A P) IsOwnCall (λ name args z q. have_all f.variables args (λ j v t. z (j, v, t) q)) u.value (all_calls A P u.value each)
 
 -- ---- where some left indices are others
 

@@ -1,13 +1,11 @@
 -- What the claims of nests owe the checker.
-use Rattle.std.specs.Prelude.{◌≡◌, ℕ, true, Option, Some, List, [], slice_get}
+use Rattle.std.specs.Prelude.{◌≡◌, ℕ, true, Option, Some, List, []}
 use Rattle.std.specs.List.{AllByRecursion}
 use Rattle.plan.specs.declared.stmt.Places.{Places}
 use Rattle.plan.specs.Plan.{Statement, Group, Plan}
 use Rattle.plan.specs.Lines.{body_line}
-use Rattle.plan.specs.View.{plan_of}
-use Rattle.plan.specs.Certificate.Certificate.{Certificate, certificate_of}
+use Rattle.plan.specs.Certificate.Certificate.{Certificate}
 use Rattle.meaning.specs.Algorithm.{Algorithm}
-use Rattle.meaning.specs.Conditions.{IsAlgorithm}
 use Rattle.soundness.specs.Origins.{Outline}
 use Rattle.soundness.specs.Given.{outline_of}
 use Rattle.soundness.specs.Claims.{updates}
@@ -17,13 +15,6 @@ use Rattle.soundness.specs.Binders.View.{grid_binders}
 use Rattle.soundness.specs.Nests.Laws.{domains_of}
 use Rattle.tails.specs.Nests.{split_nests}
 use Rattle.rules.specs.Bounding.Rules.{rules_of}
-use Rattle.sched.specs.Schedule.{Schedule}
-use Rattle.sched.specs.Legal.{IsLegal}
-use Rattle.lower.specs.declared.lowering.Lowered.{Lowered}
-use Rattle.lower.specs.Stored.{StoredText, stored_functions}
-use Rattle.lower.specs.Faults.{are_whole}
-use Rattle.lower.specs.Refused.{AreSmall, AreRegionsKept}
-use Rattle.lower.specs.Groups.{AreGroupsMade}
 use Rattle.completeness.specs.Laws.{IsFetch, IsStore, AreLinesTold, NamesNoLoad}
 use Rattle.completeness.specs.Owed.{EachLine, EachClaim, IsNameTest, TakePlain, OfWholePlans, AreGridsFew, AreClaimsNear}
 
@@ -64,11 +55,7 @@ LeavesPlacesAndNests a p c n g =
 abbrev pub PlacesAndNestsAreLeft : Type 0
 PlacesAndNestsAreLeft = OfWholePlans LeavesPlacesAndNests (λ p c. AreGridsFew p × AreClaimsNear c × AreLinesTold p)
 
--- ---- loops that are not split
-
--- no loop of the function is split
-abbrev pub IsUncut : StoredText → Type 0
-IsUncut g = g.placed.cuts ≡ []
+-- ---- nests of split loops
 
 -- the tests of nests say yes to what those of plain and of split nests do, as the checker's do
 abbrev pub TakeSplit : Algorithm → Plan → Certificate → ℕ → Group → Nests → Type 0
@@ -77,19 +64,3 @@ TakeSplit a p c n g nests =
     ((bs : List Binder) (m : ℕ) (from : Option ℕ) (places : List Places) (t : Statement) →
     split.is_made bs m from places t ≡ true → nests.is_made bs m from places t ≡ true)
     × ((bs : List Binder) (m : ℕ) (t : Statement) → split.is_in_turn bs m t ≡ true → nests.is_in_turn bs m t ≡ true)
-
--- all that the claims of nests owe is shown, where the tests of nests say yes to split nests
-abbrev pub UncutClaimsShown : Algorithm → Plan → Certificate → ℕ → Group → Type 0
-UncutClaimsShown a p c n g =
-    let outline = outline_of p c n g in
-    let rules = rules_of a p c n in
-    EachClaim outline rules (λ kept begin last known s k. ¬ IsFetch s → (nests : Nests) → TakeSplit a p c n g nests →
-    all_shown rules nests (claim_obligations outline rules kept begin last known s k) ≡ true) [] g.body (body_line p n) (start (grid_binders g.grid))
-
--- so it is of each function of which no loop is split, whichever are parallel: a coordinate is a form over the grid, or the symbol of a loop of the nest
-abbrev pub UncutClaimsOweShown : Type 0
-UncutClaimsOweShown =
-    (a : Algorithm) (s : Schedule) (l : Lowered) → IsAlgorithm a → IsLegal a s → AreSmall a s → AreRegionsKept a s → AreGroupsMade a s l
-    → are_whole (stored_functions a s) ≡ true → AreClaimsNear (certificate_of l.certificate)
-    → (n : ℕ) (g : Group) → slice_get (plan_of l.plan).groups n ≡ Some g → (u : StoredText) → slice_get (stored_functions a s) n ≡ Some u → IsUncut u
-    → UncutClaimsShown a (plan_of l.plan) (certificate_of l.certificate) n g

@@ -8,7 +8,7 @@ use Rattle.meaning.specs.Algorithm.{Algorithm}
 use Rattle.meaning.specs.Conditions.{IsAlgorithm}
 use Rattle.plan.specs.declared.stmt.Places.{Places}
 use Rattle.plan.specs.declared.certificate.cert.Window.{Window}
-use Rattle.plan.specs.Plan.{Statement, Seq, For, Let, First, Guard, Store, Statements, Empty, Then, Group, Plan}
+use Rattle.plan.specs.Plan.{Statement, Seq, For, Let, First, Guard, Statements, Empty, Then, Group, Plan}
 use Rattle.plan.specs.Lines.{lines, body_line}
 use Rattle.plan.specs.View.{plan_of}
 use Rattle.plan.specs.Certificate.Certificate.{Claim, Certificate, certificate_of}
@@ -21,14 +21,11 @@ use Rattle.soundness.specs.Nests.Laws.{domains_of}
 use Rattle.soundness.specs.Nests.Tests.{plain_nests}
 use Rattle.soundness.specs.Binders.View.{grid_binders}
 use Rattle.rules.specs.Bounding.Rules.{rules_of}
-use Rattle.rules.specs.Bounding.Scopes.{most_symbols, scope_of}
+use Rattle.rules.specs.Bounding.Scopes.{most_symbols}
 use Rattle.sched.specs.Schedule.{Schedule}
 use Rattle.sched.specs.Legal.{IsLegal}
-use Rattle.sched.specs.Skeleton.{NestText, SkeletonText}
 use Rattle.lower.specs.declared.lowering.Lowered.{Lowered}
 use Rattle.lower.specs.Stored.{stored_functions}
-use Rattle.lower.specs.Regions.{LaidText, laid_functions}
-use Rattle.lower.specs.Around.{bind_steps, head_scope}
 use Rattle.lower.specs.Faults.{are_whole}
 use Rattle.lower.specs.Refused.{AreSmall, AreRegionsKept}
 use Rattle.lower.specs.Groups.{AreGroupsMade}
@@ -109,16 +106,6 @@ StoreNamesHold a p c n g =
     EachLine (outline_of p c n g) (rules_of a p c n)
     (λ s line known. IsStore s → (nests : Nests) → NameTestsHold (rules_of a p c n) nests (obligations (outline_of p c n g) (rules_of a p c n) s line known))
     g.body (body_line p n) (start (grid_binders g.grid))
-
--- the first of these, where there is one
-abbrev pub the_first : List Obligation → List Obligation
-the_first [] = []
-the_first (o ∷ os) = o ∷ []
-
--- a store of a function's pure definition
-abbrev pub IsPureStore : Statement → Type 0
-IsPureStore (Store b k at e) = k ≡ 0
-IsPureStore _ = ⊥
 
 -- ---- claim by claim
 
@@ -254,20 +241,3 @@ StoresAndNestsAreLeft = OfWholePlans LeavesStoresAndNests (λ p c. AreGridsFew p
 -- a line `store` owes, of names alone, that its buffer and those of what it loads are in scope (K4), and that the claims by which it loads are in force (K5)
 abbrev pub StoreNamesAreShown : Type 0
 StoreNamesAreShown = OfWholePlans (λ a p c n g. NamesNoLoad a → StoreNamesHold a p c n g) (λ p c. AreLinesTold p)
-
--- at each store of a pure definition in a group's body the checker knows of the symbols, one after another, what is known of them by this skeleton, where the
--- calls of the definition are bounded: of those of the grid, of the lets over it, and of the loops and lets of the nest
-abbrev pub PureScopesAre : Algorithm → Plan → Certificate → ℕ → Group → SkeletonText → Type 0
-PureScopesAre a p c n g k =
-    EachLine (outline_of p c n g) (rules_of a p c n)
-    (λ s line known. IsPureStore s → (w : NestText) → slice_get k.nests 0 ≡ Some w → scope_of known.binders ≡ bind_steps (head_scope k) w.steps)
-    g.body (body_line p n) (start (grid_binders g.grid))
-
--- so it is by the skeleton over the region that is needed of the function, whatever the loops
-abbrev pub PureScopesAgree : Type 0
-PureScopesAgree =
-    (a : Algorithm) (s : Schedule) (l : Lowered) → IsAlgorithm a → IsLegal a s → AreSmall a s → AreRegionsKept a s → AreGroupsMade a s l
-    → are_whole (stored_functions a s) ≡ true → AreGridsFew (plan_of l.plan) → AreSymbolsFew (plan_of l.plan)
-    → (n : ℕ) (g : Group) → slice_get (plan_of l.plan).groups n ≡ Some g
-    → (r : LaidText) → slice_get (laid_functions a (stored_functions a s)) n ≡ Some (Some r)
-    → PureScopesAre a (plan_of l.plan) (certificate_of l.certificate) n g r.skeleton

@@ -7,7 +7,6 @@ pub mod fitting;
 pub mod laws;
 pub mod nests;
 pub mod owed;
-pub mod placed;
 pub mod said;
 pub mod told;
 pub mod worked;

@@ -1,6 +1,6 @@
 //! Laws of what the claims of nests owe the checker, in plans that `lower` makes.
 
-ghost use Rattle.completeness.specs.Nested.{NestTestsAreLeft, PlacesAndNestsAreLeft, UncutClaimsOweShown};
+ghost use Rattle.completeness.specs.Nested.{NestTestsAreLeft, PlacesAndNestsAreLeft};
 
 /// Of a schedule under which each stored function is a root function that is computed at no loop, whatever the loops: all that the claim of a nest owes is shown where
 /// the tests of nests say yes to the nest. What it stores is of the claim's function, in the claim's buffer, and the claim of the definition before is in force before
@@ -14,10 +14,4 @@ pub fn nest_tests_are_left()
 /// It is asked what is of lines `fetch` and `publish`, and of the names that lines `store` owe.
 pub fn places_and_nests_are_left()
     ensures { PlacesAndNestsAreLeft }
-{}
-
-/// Of such a schedule, each function of which no loop is split, whichever are parallel: all that the claims of its definitions owe is shown, where the tests of nests say
-/// yes to nests of split loops as to those of plain ones. Over a piece, a parallel loop's coordinate is one number, which the grid tells.
-pub fn uncut_claims_owe_shown()
-    ensures { UncutClaimsOweShown }
 {}

@@ -5,13 +5,11 @@ ghost use Rattle.completeness.specs.Owed.{
   FetchClaimsOweShown,
   FetchLinesOweShown,
   PublishLinesOweShown,
-  PureScopesAgree,
   StatementsOweTheirOwn,
   StepsOweShown,
   StoreNamesAreShown,
   StoresAndNestsAreLeft,
 };
-ghost use Rattle.completeness.specs.Stores.{PureInputsAreShown, PureStoresOweShown};
 
 /// Of a schedule under which each stored function is a root function that is computed at no loop, whatever the loops, what each line `alloc` of the plan
 /// that `lower` makes owes is shown by the checker's rules (no K2): its buffer is not in scope there.
@@ -59,25 +57,4 @@ pub fn stores_and_nests_are_left()
 /// definition before (no K5 for that). It is asked that no name of the algorithm reads as a load, and that all lines can be told.
 pub fn store_names_are_shown()
     ensures { StoreNamesAreShown }
-{}
-
-/// Of each store of a pure definition, whatever the loops: what the checker knows of the symbols there, of those of the grid, of the lets over it, and of the
-/// loops and lets of the nest, is what was known of them when the calls of the definition were bounded. It is asked that no grid and no group has more symbols
-/// than the checker takes.
-pub fn pure_scopes_agree()
-    ensures { PureScopesAgree }
-{}
-
-/// Of each function of which no loop is split: that what its pure definition loads of the input lies in it is shown (no K4). The checker bounds each index by
-/// what was known when the index was held to be on the input's extents. It is asked what is of the names that stores owe, and of the symbols of grids and
-/// groups.
-pub fn pure_inputs_are_shown()
-    ensures { PureInputsAreShown }
-{}
-
-/// Where besides what such a function fetches holds its calls, all that the store of its pure definition owes is shown (no K4, no K5): that the points that it
-/// loads of other functions have places, and lie in the regions of the claims by which it loads, too. What is fetched of a dimension holds the calls where it
-/// is told by forms over the grid, as only a part is that each call is shown to lie in, or where all numbers of the dimension are shown to hold them.
-pub fn pure_stores_owe_shown()
-    ensures { PureStoresOweShown }
 {}
