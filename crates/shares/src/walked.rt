@@ -1,6 +1,6 @@
 //! The cells of a piece by their numbers.
 
-ghost use Rattle.std.specs.Prelude.{◌≡◌, ◌≤◌, ◌<◌, ◌*◌, ◌+◌, ◌^◌, ◌++◌, IfOk, OnOk, All, flat_map, length, drop, pos, ◌+ℤ◌, ◌-ℤ◌, ◌≤ℤ◌};
+ghost use Rattle.std.specs.Prelude.{◌≡◌, ◌≤◌, ◌<◌, ◌*◌, ◌+◌, ◌^◌, ◌++◌, IfOk, OnOk, ◌-◌, All, flat_map, length, take, drop, pos, ◌+ℤ◌, ◌-ℤ◌, ◌≤ℤ◌};
 ghost use Rattle.std.specs.List.{range_with_len};
 ghost use Rattle.plan.specs.Symbols.{clipped};
 ghost use Rattle.shares.specs.Boxes.{point_count};
@@ -22,14 +22,25 @@ fn common(own: Side, extent: Side) -> Side
     Side { low, count }
 }
 
+/// Numbers the cells from this place on one after another, from `first` on.
+fn number_cells(cells: &mut [u32], begun: usize, first: u32)
+    requires begun { begun ≤ length cells.old }
+    requires last { first + (length cells.old - begun) < 2 ^ 32 }
+    ensures { cells.new ≡ take begun cells.old ++ range_with_len first (length cells.old - begun) }
+{
+    for place in begun..cells.len() {
+        cells[place] = first + (place - begun) as u32;
+    }
+}
+
 /// Adds so many numbers from `first` on.
 pub(crate) fn push_row(cells: &mut Vec<u32>, first: u32, count: u32) -> Result<(), AllocError>
     requires { first + count < 2 ^ 32 }
     ensures { OnOk result (cells.new.items ≡ cells.old.items ++ range_with_len first count) }
 {
-    for place in 0..count {
-        cells.push(first + place)?;
-    }
+    let begun = cells.len();
+    cells.resize(begun + count as usize, 0)?;
+    number_cells(cells.as_mut_slice(), begun, first);
     Ok(())
 }
 
