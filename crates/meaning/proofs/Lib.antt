@@ -4,6 +4,7 @@ pub mod Back
 pub mod Calls
 pub mod Cases
 pub mod Counts
+pub mod Greatest
 pub mod Points
 pub mod Props
 pub mod Steps

@@ -1,10 +1,31 @@
 //! An image and its samples.
 
-ghost use Rattle.std.specs.Prelude.{◌≡◌, ◌↔◌, IsTrue};
+ghost use Rattle.std.specs.Prelude.{◌≡◌, ℕ, ◌≤◌, ◌↔◌, All, IsTrue};
 
 use crate::image::extents::place_of;
 use crate::image::shape::Shape;
 use numeric::Ty;
+
+/// The greatest of some samples, or 0 of none.
+fn greatest(samples: &[u16]) -> u16
+    ensures { (m : ℕ) → (result ≤ m) ↔ All (λ s. s ≤ m) samples.now }
+{
+    let mut most = 0;
+    for sample in samples {
+        if most < *sample {
+            most = *sample;
+        }
+    }
+    most
+}
+
+/// Whether some samples are at most this one.
+fn are_within(samples: &[u16], most: u16) -> bool
+    ensures { IsTrue result ↔ All (λ s. s ≤ most) samples.now }
+{
+    greatest(samples) <= most
+}
+
 /// An image with its samples in the order of a file's raster: rows from the top, in a row from the left,
 /// and the colours of a pixel side by side.
 #[derive(Debug, PartialEq, Eq, Drop)]
@@ -27,7 +48,7 @@ impl Image {
         self.ty == shape.ty
             && self.extents == shape.extents
             && self.samples.len() == shape.sample_count()
-            && self.samples.iter().all(|sample| *sample <= max)
+            && are_within(self.samples.as_slice(), max)
     }
 
     /// The sample at a point, and 0 where the point does not lie on the extents.
