@@ -152,7 +152,7 @@ module _ (a : Algorithm) (sch : Schedule) (l : Lowered) (well : IsAlgorithm a) (
 
   module _ (n : ℕ) (q : CodeGroup) (place : ℕ) (f : Function) (at : slice_get a.functions place ≡ Some f) (there : slice_get (stored_functions a sch) n ≡ Some (T f)) (first line : ℕ)
       (claims : List CodeClaim) (needs : List Need) (theirs : slice_get l.plan.groups.items n ≡ Some q) (h : HasBody a entries n first line (T f) q claims needs) where
-    own_places_limited : AllByRecursion PlaceLimited (own_places (dimensions_of (T f) h.extents h.skeleton))
+    pub own_places_limited : AllByRecursion PlaceLimited (own_places (dimensions_of (T f) h.extents h.skeleton))
     own_places_limited =
         let named = has_names a sch l well legal small kept all groups n q place f at there first line claims needs theirs h in
         let forms = limited a sch l well legal small kept all groups n q place f at there first line claims needs theirs h in

@@ -79,7 +79,7 @@ few_pieces_of : (rs : List Numbers) (ms : List Loop) → length (or_one (grid_co
 few_pieces_of rs [] = omega arith
 few_pieces_of rs (m ∷ ms) = (let many = length-map (m ∷ ms) (λ (o : Loop). (numbers_named rs o.name).count) in omega (arith, many))
 
-filter_few : {A : Type 0} (f : A → Bool) (xs : List A) → length (filter f xs) ≤ length xs
+pub filter_few : {A : Type 0} (f : A → Bool) (xs : List A) → length (filter f xs) ≤ length xs
 filter_few f [] = omega arith
 filter_few f (x ∷ xs) = of (f x) (filter_few f xs)
   where

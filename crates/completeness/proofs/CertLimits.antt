@@ -101,7 +101,7 @@ module _ (a : Algorithm) (p : Plan) (c : Certificate) (k : LinesAreKnown a p c) 
 -- ---- plans whose splits need no tail
 
 -- each own region is of a group
-own_group : (ps : List CodeGroup) (os : List Own) (m : ℕ) → AreOwned m ps os → (i : ℕ) (o : Own) → slice_get os i ≡ Some o → (q : CodeGroup) × (slice_get ps i ≡ Some q)
+pub own_group : (ps : List CodeGroup) (os : List Own) (m : ℕ) → AreOwned m ps os → (i : ℕ) (o : Own) → slice_get os i ≡ Some o → (q : CodeGroup) × (slice_get ps i ≡ Some q)
 own_group ps [] m h i o at = absurd (cc at)
 own_group [] (w ∷ os) m h i o at = absurd h
 own_group (p ∷ ps) (w ∷ os) m h zero o at = (p, refl)

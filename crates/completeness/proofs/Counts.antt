@@ -38,7 +38,7 @@ fetched_few us n h (e ∷ es) = of (is_fetched us n h e) (fetched_few us n (h + 
     of true k = omega (arith, k)
     of false k = omega (arith, k)
 
-fetched_many : (calls : Calls) (grid : List Binding) (n b line : ℕ) (xs : List (ℕ × Entry)) (fs : List FetchText) (ws : List Need) (cs : List CodeClaim) → AreFetched calls grid n b line xs fs ws cs →
+pub fetched_many : (calls : Calls) (grid : List Binding) (n b line : ℕ) (xs : List (ℕ × Entry)) (fs : List FetchText) (ws : List Need) (cs : List CodeClaim) → AreFetched calls grid n b line xs fs ws cs →
     length cs ≡ length xs
 fetched_many calls grid n b line [] [] [] [] h = refl
 fetched_many calls grid n b line [] [] [] (c ∷ cs) h = absurd h
@@ -72,7 +72,7 @@ bodies_many us d xs [] = refl
 bodies_many us d xs (f ∷ fs) = ap suc (bodies_many us (d + 1) (drop (length _) xs) fs)
 
 -- each definition of these has at most four updates
-abbrev AreFew : List StoredText → Type 0
+abbrev pub AreFew : List StoredText → Type 0
 AreFew gs = (i : ℕ) (g : StoredText) → slice_get gs i ≡ Some g → (fs : List FormulaText) → g.formulas ≡ Some fs → length fs ≤ 5
 
 module _ (a : Algorithm) (all : List Entry) (few : length all ≤ 64) where
@@ -143,7 +143,7 @@ module _ (a : Algorithm) (sch : Schedule) (l : Lowered) (well : IsAlgorithm a) (
   abbrev gs : List StoredText
   gs = stored_functions a sch
 
-  five : AreFew gs
+  pub five : AreFew gs
   five i g at fs e =
       let w = found a sch (flags (subjects a sch)) g a.functions i at in
       let f = w.function in

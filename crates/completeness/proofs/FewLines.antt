@@ -79,7 +79,7 @@ fetches_below : (m : ℕ) (fs : List FetchText) (xs : List Statement) → AllBin
 fetches_below m [] xs h = h
 fetches_below m (f ∷ fs) xs h = (tt, (tt, fetches_below m fs xs h))
 
-lines_both : (xs ys : List Statement) → block_lines (block (xs ++ ys)) ≡ block_lines (block xs) + block_lines (block ys)
+pub lines_both : (xs ys : List Statement) → block_lines (block (xs ++ ys)) ≡ block_lines (block xs) + block_lines (block ys)
 lines_both [] ys = omega arith
 lines_both (x ∷ xs) ys = (let rest = lines_both xs ys in omega (arith, rest))
 
@@ -105,11 +105,11 @@ store_below m g fs ms d w (Publish x) h = absurd h
 -- ---- nests
 
 -- the statements bind symbols before the limit, and have few lines
-record AreSmallHere (next many : ℕ) (xs : List Statement) : Type 0 where
+pub record AreSmallHere (next many : ℕ) (xs : List Statement) : Type 0 where
   below : AllBindBelow 256 (block xs)
-  few : block_lines (block xs) + 2 * next ≤ 512 + many
+  pub few : block_lines (block xs) + 2 * next ≤ 512 + many
 
-nests_small : (next : ℕ) (ns : List NestText) → next ≤ 256 → AreChained 256 next ns → (g : StoredText) (fs : List FormulaText) (r : List Span1) (ms : Loads) (c line d : ℕ)
+pub nests_small : (next : ℕ) (ns : List NestText) → next ≤ 256 → AreChained 256 next ns → (g : StoredText) (fs : List FormulaText) (r : List Span1) (ms : Loads) (c line d : ℕ)
     (xs : List Statement) (cs : List CodeClaim) → AreNests g fs r ms c line d ns xs cs → AreSmallHere next (length ns) xs
 nests_small next [] le chain g fs r ms c line d xs cs h =
     let none : block_lines (block xs) ≡ 0 = ap (λ (ys : List Statement). block_lines (block ys)) h.0 in
@@ -170,12 +170,12 @@ ranges_few a before f (suc i) h = of (slice_get f.changes i) refl
     of (Some u) e = (let is = at_each (IsUpdate a before f) f.changes i u h e in is.domain.few)
 
 -- each group has few lines
-lines_many : (gs : List Group) → ((n : ℕ) (g : Group) → slice_get gs n ≡ Some g → lines g.body + 1 ≤ 700) → groups_lines gs ≤ 700 * length gs
+pub lines_many : (gs : List Group) → ((n : ℕ) (g : Group) → slice_get gs n ≡ Some g → lines g.body + 1 ≤ 700) → groups_lines gs ≤ 700 * length gs
 lines_many [] each = omega arith
 lines_many (g ∷ gs) each = (let one = each 0 g refl in let rest = lines_many gs (λ n u at. each (suc n) u at) in omega (arith, one, rest))
 
 -- a group for each function
-bodies_long : (a : Algorithm) (all : List Entry) (n c line : ℕ) (gs : List StoredText) (ps : List CodeGroup) (claims : List CodeClaim) (needs : List Need) →
+pub bodies_long : (a : Algorithm) (all : List Entry) (n c line : ℕ) (gs : List StoredText) (ps : List CodeGroup) (claims : List CodeClaim) (needs : List Need) →
     HaveBodies a all n c line gs ps claims needs → length ps ≡ length gs
 bodies_long a all n c line [] [] claims needs h = refl
 bodies_long a all n c line [] (p ∷ ps) claims needs h = absurd h
@@ -276,7 +276,7 @@ module _ (a : Algorithm) (sch : Schedule) (l : Lowered) (well : IsAlgorithm a) (
         definitions = subst (λ (k : SkeletonText). length k.nests ≤ 5) skeleton over.definitions;
       }
 
-  body_small : (n : ℕ) (q : CodeGroup) → slice_get l.plan.groups.items n ≡ Some q → BindBelow 256 (statement_of q.body) × (lines (statement_of q.body) + 1 ≤ 700)
+  pub body_small : (n : ℕ) (q : CodeGroup) → slice_get l.plan.groups.items n ≡ Some q → BindBelow 256 (statement_of q.body) × (lines (statement_of q.body) + 1 ≤ 700)
   body_small n q there =
       let r = group_looped n q there in
       let u = r.stored in

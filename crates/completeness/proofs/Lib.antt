@@ -145,3 +145,17 @@ pub mod BlockRanges
 pub mod BlockUpdates
 pub mod PlacedStores
 pub mod BlockReady
+pub mod RisingSpans
+pub mod TextForms
+pub mod OwnTexts
+pub mod FetchTexts
+pub mod NumberLines
+pub mod GroupTexts
+pub mod StoodTexts
+pub mod NumberBodies
+pub mod NumberPlans
+pub mod NeedTexts
+pub mod NumberClaims
+pub mod NumberCertificates
+pub mod ReadFiles
+pub mod MadeFiles

@@ -90,7 +90,7 @@ near_numbers low last h k = ((near_number low h, tt), (near_number last k, tt))
 exactly_near : (f : Form) → IsNearForm f → IsNearSpan (exactly f)
 exactly_near f h = ((h, tt), (h, tt))
 
-no_loop : (ms : List Loop) (x : List ℕ) → hits loop_name x ms ≡ 0 → has_loop ms x ≡ false
+pub no_loop : (ms : List Loop) (x : List ℕ) → hits loop_name x ms ≡ 0 → has_loop ms x ≡ false
 no_loop [] x q = refl
 no_loop (o ∷ ms) x q = of (same_name o.name x) q (λ r. no_loop ms x r)
   where
@@ -99,7 +99,7 @@ no_loop (o ∷ ms) x q = of (same_name o.name x) q (λ r. no_loop ms x r)
     of false r rest = rest (omega (arith, r))
 
 -- one turn of a loop over the grid
-up_counted : (z : ℤ) (s : ℕ) → raised (counted_from z s) (difference (pos 1) (pos 1)) ≡ counted_from z s
+pub up_counted : (z : ℤ) (s : ℕ) → raised (counted_from z s) (difference (pos 1) (pos 1)) ≡ counted_from z s
 up_counted z s =
     let none : difference (pos 1) (pos 1) ≡ pos 0 = nearest_of_small (pos 1 -ℤ pos 1) (omega (arith, ints)) (omega (arith, ints)) in
     let same_low : pos 0 +ℤ pos 1 *ℤ z ≡ z = omega (arith, ints) in
@@ -114,7 +114,7 @@ counted_over rs s [] = tt
 counted_over rs s (m ∷ ms) = ((s, refl), counted_over rs (s + 1) ms)
 
 -- the loop is split by one of these, or by none
-split_or : (cs : List Split) (x : List ℕ) → ((c : Split) × In c cs × (c.whole ≡ x)) ⊎ ((c : Split) → In c cs → c.whole ≡ x → ⊥)
+pub split_or : (cs : List Split) (x : List ℕ) → ((c : Split) × In c cs × (c.whole ≡ x)) ⊎ ((c : Split) → In c cs → c.whole ≡ x → ⊥)
 split_or [] x = inr (λ c m e. absurd m)
 split_or (d ∷ cs) x = of (same_name d.whole x) refl (split_or cs x)
   where
@@ -128,7 +128,7 @@ split_or (d ∷ cs) x = of (same_name d.whole x) refl (split_or cs x)
         by c (inl q) k = (let clash : true ≡ false = sym (name_refl d.whole) ∙ ap (same_name d.whole) (ap (λ (y : Split). y.whole) (sym q) ∙ k) ∙ e in cc clash)
         by c (inr q) k = none c q k
 
-abbrev first_of : List Form → Form → Form
+abbrev pub first_of : List Form → Form → Form
 first_of [] other = other
 first_of (f ∷ fs) other = f
 

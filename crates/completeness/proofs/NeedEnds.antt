@@ -18,7 +18,7 @@ use Rattle.lower.proofs.Laying.{bound, same}
 use Rattle.lower.proofs.Gridded.{IsBetween, AreBetween}
 
 module _ (low n : ℤ) where
-  as_many : (before fs bs : List Form) → add_blocks low n before fs ≡ Some bs → length bs ≡ length before + length fs
+  pub as_many : (before fs bs : List Form) → add_blocks low n before fs ≡ Some bs → length bs ≡ length before + length fs
   as_many before [] bs e = (let one = ap length (sym (same before bs e)) in omega (arith, one))
   as_many before (f ∷ fs) bs e =
       let b = bound (block_at low n f) (λ b. add_blocks low n (before ++ b ∷ []) fs) bs e in

@@ -145,7 +145,7 @@ module _ (a : Algorithm) (sch : Schedule) (l : Lowered) (well : IsAlgorithm a) (
   entries = roots a sch l well legal small kept all groups
 
   -- the grid of each of the groups
-  entry_short : (place : ℕ) (e : Entry) → slice_get entries place ≡ Some e → AllByRecursion IsShort e.1.skeleton.grid
+  pub entry_short : (place : ℕ) (e : Entry) → slice_get entries place ≡ Some e → AllByRecursion IsShort e.1.skeleton.grid
   entry_short place e at =
       let entry = entry_at gs (regions_found a sch l well legal small kept all groups) all (all_ready a sch l well legal small kept all groups) place e at in
       let there = group_at gs l.plan.groups.items (each a sch l well legal small kept all groups) place e.0 entry.is in

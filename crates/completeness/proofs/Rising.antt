@@ -64,12 +64,12 @@ module _ (scope : List Binding) where
       all-append (λ m. Made Rises m) (option_to_list (option_map (moved upper f) (gap scope upper f others))) (all_moved scope upper fs others)
       (moved_rises upper f (gap scope upper f others) h.0) (all_moved_rise upper fs others h.1)
 
-  union_rises : (upper : Bool) (fs gs : List Form) → AllRise fs → AllRise gs → AllIn Rises (union scope upper fs gs)
+  pub union_rises : (upper : Bool) (fs gs : List Form) → AllRise fs → AllRise gs → AllIn Rises (union scope upper fs gs)
   union_rises upper fs gs h k =
       kept-all Rises (all_moved scope upper fs gs ++ all_moved scope upper gs fs)
       (all-append (λ m. Made Rises m) (all_moved scope upper fs gs) (all_moved scope upper gs fs) (all_moved_rise upper fs gs h) (all_moved_rise upper gs fs k))
 
-joined_rises : (fs gs : List Form) → AllRise fs → AllRise gs → AllIn Rises (joined fs gs)
+pub joined_rises : (fs gs : List Form) → AllRise fs → AllRise gs → AllIn Rises (joined fs gs)
 joined_rises fs gs h k = kept-all Rises (map checked (fs ++ gs)) (checked-all Rises (fs ++ gs) (all-append Rises fs gs h k))
 
 abbrev Whatever : Form → Type 0
@@ -183,7 +183,7 @@ module _ (scope : List Binding) where
       mapped_rises (or_range ty) (or_range_rises ty) (span_of (joined a.lower b.lower) (union scope true a.upper b.upper))
       (span_rises (joined a.lower b.lower) (union scope true a.upper b.upper) (joined_rises a.lower b.lower h.0 k.0) (union_rises scope true a.upper b.upper h.1 k.1))
 
-  choice_rises : (ty : Ty) (a b : Span1) → SpanRises a → SpanRises b → FindsRising (choice_of scope ty a b)
+  pub choice_rises : (ty : Ty) (a b : Span1) → SpanRises a → SpanRises b → FindsRising (choice_of scope ty a b)
   choice_rises ty a b h k =
       mapped_rises (or_range ty) (or_range_rises ty) (span_of (union scope false a.lower b.lower) (union scope true a.upper b.upper))
       (span_rises (union scope false a.lower b.lower) (union scope true a.upper b.upper) (union_rises scope false a.lower b.lower h.0 k.0) (union_rises scope true a.upper b.upper h.1 k.1))
@@ -255,7 +255,7 @@ module _ (scope : List Binding) (inner : List ℕ) where
       of None = λ fs e. absurd (cc e)
       of (Some bounds) = multiples_rise (negsuc 0) bounds
 
-  each_rise : (fs : List Form) → AllByRecursion (λ f. AllIn Rises (form_bounds scope inner false f)) fs
+  pub each_rise : (fs : List Form) → AllByRecursion (λ f. AllIn Rises (form_bounds scope inner false f)) fs
   each_rise [] = tt
   each_rise (f ∷ fs) = (bounds_rise f, each_rise fs)
 

@@ -132,7 +132,7 @@ all_turned rs cs (t ∷ ts) st new h e =
 
 -- ---- nests
 
-abbrev RisesIf : Option Form → Type 0
+abbrev pub RisesIf : Option Form → Type 0
 RisesIf None = Unit {0}
 RisesIf (Some f) = Rises f
 
@@ -179,7 +179,7 @@ grid_rises rs s [] = tt
 grid_rises rs s (l ∷ ls) = (((λ h. omega (arith, ints, h)), tt, tt), grid_rises rs (s + 1) ls)
 
 -- the forms of a nest's coordinates are canonical
-nests_rise : (xs : List (List ℕ)) (bs : List BodyText) (p : PlacedText) (region : List Extent) (k : SkeletonText) → skeleton_in xs bs p region ≡ Some k → AllByRecursion NestRises k.nests
+pub nests_rise : (xs : List (List ℕ)) (bs : List BodyText) (p : PlacedText) (region : List Extent) (k : SkeletonText) → skeleton_in xs bs p region ≡ Some k → AllByRecursion NestRises k.nests
 nests_rise xs bs p region k e =
     let rs : List Numbers = loop_numbers xs p.cuts region in
     let cs : List Split = cuts_by_variable p.cuts xs in
@@ -239,7 +239,7 @@ module _ (a : Algorithm) (r : AroundText) (rising : AllByRecursion SpanRises r.c
 
 -- ---- where the calls stand
 
-abbrev SiteRises : SiteText → Type 0
+abbrev pub SiteRises : SiteText → Type 0
 SiteRises t = AllByRecursion (AllByRecursion SpanRises) t.calls
 
 site_rises : (scope : List Binding) (cs : List (List Span1)) (before : List SiteText) → AllByRecursion (AllByRecursion SpanRises) cs → AllByRecursion SiteRises before →
@@ -261,7 +261,7 @@ module _ (k : SkeletonText) (a : Algorithm) (g : StoredText) (x : List ℕ) wher
       let calls = calls_rise a b.value known x (calls_in f) [] y.value tt y.is in
       subst (AllByRecursion SiteRises) (same (with_site b.value.scope y.value before) ss y.comes) (site_rises b.value.scope y.value before calls h)
 
-  all_rise : (d : ℕ) (fs : List FormulaText) (ns : List NestText) (before ss : List SiteText) → AllByRecursion NestRises ns → AllByRecursion SiteRises before →
+  pub all_rise : (d : ℕ) (fs : List FormulaText) (ns : List NestText) (before ss : List SiteText) → AllByRecursion NestRises ns → AllByRecursion SiteRises before →
       add_sites a g (head_scope k) None x d fs ns before ≡ Some ss → AllByRecursion SiteRises ss
   all_rise d fs [] before ss good h e = subst (AllByRecursion SiteRises) (same before ss e) h
   all_rise d [] (n ∷ ns) before ss good h e = subst (AllByRecursion SiteRises) (same before ss e) h
@@ -312,7 +312,7 @@ module _ (grid : List Binding) where
       let h : LowIf b.value = sites_low d ss None b.value a tt b.is in
       subst (λ (p : Option Span1). LowIf p) b.comes h
 
-symbolic_low : (kept fs : List Form) → AllRise kept → AllRise fs → AllRise (add_symbolic kept fs)
+pub symbolic_low : (kept fs : List Form) → AllRise kept → AllRise fs → AllRise (add_symbolic kept fs)
 symbolic_low kept [] h k = h
 symbolic_low kept (f ∷ fs) h k = of (not (is_number f) && nat_lt (length kept) 3) (symbolic_low kept fs h k.1) (symbolic_low (kept ++ f ∷ []) fs (all-append Rises kept (f ∷ []) h (k.0, tt)) k.1)
   where

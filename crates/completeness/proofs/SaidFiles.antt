@@ -41,7 +41,7 @@ no_line (FetchLine b g region) e = let h = first_byte 102 99 _ _ e in omega (ari
 no_line (StoreLine b k at e) same = let h = first_byte 115 99 _ _ same in omega (arith, h)
 no_line (PublishLine c) e = let h = first_byte 112 99 _ _ e in omega (arith, h)
 
-no_lines : (ls : List Line) → AllByRecursion IsOther (map line_text ls)
+pub no_lines : (ls : List Line) → AllByRecursion IsOther (map line_text ls)
 no_lines [] = tt
 no_lines (l ∷ ls) = (no_line l, no_lines ls)
 
@@ -85,7 +85,7 @@ strip (a ∷ l) behind (b ∷ bytes) tail p e =
 -- ---- the cut
 
 -- behind lines of which none is `cert`, no earlier line is
-no_earlier : (ls : List (List ℕ)) (back front rest : List ℕ) → are_lines ls ≡ true → AllByRecursion IsOther ls → lines_text ls ++ back ≡ front ++ (certificate_head ++ rest)
+pub no_earlier : (ls : List (List ℕ)) (back front rest : List ℕ) → are_lines ls ≡ true → AllByRecursion IsOther ls → lines_text ls ++ back ≡ front ++ (certificate_head ++ rest)
     → Ends front → length (lines_text ls) ≤ length front
 no_earlier [] back front rest p others e ends = omega arith
 no_earlier (l ∷ ls) back front rest p others e (inl none) =

@@ -13,3 +13,4 @@ pub mod SaidLines
 pub mod Worked
 pub mod SaidCertificates
 pub mod SaidFiles
+pub mod OfPlans

@@ -4,6 +4,7 @@ ghost use Rattle.completeness.specs.Said.{NamesAreNoLoads, PlansAreSaid};
 ghost use Rattle.completeness.specs.SaidLines.{PlansFitByNumbers};
 ghost use Rattle.completeness.specs.SaidCertificates.{CertificatesFitByNumbers};
 ghost use Rattle.completeness.specs.SaidFiles.{FilesFit};
+ghost use Rattle.completeness.specs.OfPlans.{FilesAreOfPlans};
 
 /// Where the names of an algorithm are those of a text, as they are of one that was read, none of them reads as a load by a claim.
 pub fn names_are_no_loads()
@@ -32,4 +33,12 @@ pub fn certificates_fit_by_numbers()
 /// file, and it is read as these two.
 pub fn files_fit()
     ensures { FilesFit }
+{}
+
+/// Of an algorithm whose names and expressions are those of a text, and of a schedule of which `told` has it that limits alone are told (each stored function is a
+/// root function that is computed at no loop, and splits loops once at most, by blocks that fill the loop or by `roundup`): the lines of the plan that `lower`
+/// makes, with its certificate's behind them, are a plan file of these two and of no other plan. Where none of them has more than 65,536 bytes, they are read as
+/// these two; else the text is refused as past that limit; and it is never refused for its form.
+pub fn files_are_of_plans()
+    ensures { FilesAreOfPlans }
 {}
