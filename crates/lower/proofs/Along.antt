@@ -34,8 +34,9 @@ use Rattle.lower.specs.Placed.{LaterText, PlacedText, inner_seen, later_seen}
 use Rattle.lower.specs.Homes.{HostText, host_at, hosts_named, is_over_grid, spot_in, put_before}
 use Rattle.lower.specs.Demanded.{scope_at, sites_at, is_rounding, is_rounded, IsNeeded}
 use Rattle.lower.specs.Slid.{TrackText, is_single, is_split, fit_along, sliding_seen, sliding_at, new_from, new_region, held_along, IsLater, HasLater, HoldsNone, HoldsBy, Holds}
+use Rattle.lower.specs.Parted.{IfParted, parted_nests}
 use Rattle.lower.specs.Turned.{IfWhole, whole_nests}
-use Rattle.lower.specs.Computed.{before, spots_in, spots_by, spots_of_hosts, spots_at, spots_of, is_called, called_spots, IsComputed, AreComputed, AreComputedIf, AreFound, AreFoundIf, IsComputedAt, IsComputedBy, AreComputedAt}
+use Rattle.lower.specs.Computed.{before, spots_in, spots_by, spots_of_hosts, spots_at, spots_of, is_called, called_spots, IfPlain, IsComputed, AreComputed, AreComputedIf, AreFound, AreFoundIf, IsComputedAt, IsComputedBy, AreComputedAt}
 
 -- ---- splits
 
@@ -85,8 +86,8 @@ module _ (g : StoredText) (scope : List Binding) (r : List Span1) (d : ℕ) wher
 
 pub later_made : (g : StoredText) (fs : List FormulaText) (x : TrackText × ℕ) (scope : List Binding) (h r : List Span1) (s : Span1) (l : LaterText) → slice_get h x.1 ≡ Some s
     → l.symbol ≡ x.0.symbol → l.dimension ≡ x.1 → new_from x.0.symbol s ≡ Some l.first_new → l.scope ≡ scope ++ LetMin l.first_new ∷ [] → r ≡ new_region scope x.1 0 h
-    → IfWhole g.placed.cuts (whole_nests g fs l.scope r ≡ Some l.nests) → IsLater g fs x scope h l
-later_made g fs x scope h r s l along symbol dimension first scoped new nests =
+    → IfWhole g.placed.cuts (whole_nests g fs l.scope r ≡ Some l.nests) → IfParted g.placed.cuts (parted_nests g fs l.scope r l.nests) → IsLater g fs x scope h l
+later_made g fs x scope h r s l along symbol dimension first scoped new nests cut =
     record {
       symbol = symbol;
       dimension = dimension;
@@ -96,6 +97,7 @@ later_made g fs x scope h r s l along symbol dimension first scoped new nests =
       scoped = scoped;
       nested = whole_too (whole_nests g fs l.scope r ≡ Some l.nests) (whole_nests g fs l.scope (new_region scope x.1 0 h) ≡ Some l.nests) g.placed.cuts
           (λ told. ap (whole_nests g fs l.scope) (sym new) ∙ told) nests;
+      parted = subst (λ q. IfParted g.placed.cuts (parted_nests g fs l.scope q l.nests)) new cut;
     }
 
 module _ (es : List Entry) (g : StoredText) (fs : List FormulaText) (scope : List Binding) (r : List Span1) (held : List Span1) (later : Option LaterText) where
@@ -123,8 +125,9 @@ module _ (a : Algorithm) (e : Entry) (es : List Entry) (is : List PlacedText) (c
   pub is_computed : (home store : Spot) (sites : List SiteText) (around : List Binding) (needed : List Span1) (o : Option (TrackText × ℕ)) (i : PlacedText) → i.function ≡ c.0 → i.formulas ≡ c.2
       → i.home ≡ home → i.store ≡ store → around ≡ scope_at e is home → i.scope ≡ bind_steps around i.lets → sites_at a e is home c.0.subject.name ≡ Some sites
       → IsNeeded around sites c.0 c.1.region needed → o ≡ sliding_at e is c.0 home store needed → Holds es c.0 c.2 around needed o i.region i.later
-      → IfWhole c.0.placed.cuts (i.lets ≡ []) → IfWhole c.0.placed.cuts (whole_nests c.0 c.2 around i.region ≡ Some i.nests) → IsComputed a e es is c i
-  is_computed home store sites around needed o i function formulas at stored is_around scoped called is_needed slides holds lets nests =
+      → IfWhole c.0.placed.cuts (i.lets ≡ []) → IfWhole c.0.placed.cuts (whole_nests c.0 c.2 around i.region ≡ Some i.nests)
+      → IfPlain c.0 c.2 (i.lets ≡ []) → IfPlain c.0 c.2 (parted_nests c.0 c.2 around i.region i.nests) → IsComputed a e es is c i
+  is_computed home store sites around needed o i function formulas at stored is_around scoped called is_needed slides holds lets nests unnamed cut =
       let there : around ≡ scope_at e is i.home = is_around ∙ ap (scope_at e is) (sym at) in
       let sliding : o ≡ sliding_at e is c.0 i.home i.store needed = slides ∙ (λ j. sliding_at e is c.0 (sym at j) (sym stored j) needed) in
       let by : Holds es c.0 c.2 around needed (sliding_at e is c.0 i.home i.store needed) i.region i.later =
@@ -141,6 +144,8 @@ module _ (a : Algorithm) (e : Entry) (es : List Entry) (is : List PlacedText) (c
         unnamed = lets;
         nested = whole_too (whole_nests c.0 c.2 around i.region ≡ Some i.nests) (whole_nests c.0 c.2 (scope_at e is i.home) i.region ≡ Some i.nests) c.0.placed.cuts
             (λ told. ap (λ (b : List Binding). whole_nests c.0 c.2 b i.region) (sym there) ∙ told) nests;
+        unnamed_too = unnamed;
+        parted = subst (λ (b : List Binding). IfPlain c.0 c.2 (parted_nests c.0 c.2 b i.region i.nests)) there cut;
       }
 
   pub nothing_calls : (s : Spot) (sites : List Site) → sites_at a e is s c.0.subject.name ≡ Some (map site_of sites) → sites ≡ [] → IsComputedAt a e es is c s None

@@ -31,6 +31,7 @@ pub mod Nested
 pub mod Origins
 pub mod Outsides
 pub mod Owners
+pub mod Parted
 pub mod Places
 pub mod Planned
 pub mod Puts

@@ -19,11 +19,13 @@ pub mod Loading
 pub mod Making
 pub mod Needs
 pub mod Owning
+pub mod Parted
 pub mod Placed
 pub mod Planned
 pub mod Refused
 pub mod Regions
 pub mod Renamed
+pub mod Settled
 pub mod Slid
 pub mod Stored
 pub mod Taken

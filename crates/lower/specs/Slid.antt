@@ -23,6 +23,7 @@ use Rattle.lower.specs.Windows.{window_size, all_fit}
 use Rattle.lower.specs.Fetches.{Entry}
 use Rattle.lower.specs.Placed.{LaterText, PlacedText, same_spot}
 use Rattle.lower.specs.Demanded.{steps_at, is_scattered}
+use Rattle.lower.specs.Parted.{IfParted, parted_nests}
 use Rattle.lower.specs.Turned.{IfWhole, symbol, whole_nests}
 
 -- ---- the loop
@@ -237,7 +238,7 @@ module _ (es : List Entry) (g : StoredText) (fs : List FormulaText) (scope : Lis
   held_along x = if is_repeated scope x.0 then (held_region g fs scope x.0 x.1 r >>= if_held x.0 x.1) else None
 
 -- the turns after the first one: along that loop, in that dimension, from the least of these forms on, which the symbol behind all others stands for; where no loop of the
--- function is split, its nests are its loops over what is new
+-- function is split, its nests are its loops over what is new, and where some are, these with what their splits put behind them
 pub record IsLater (g : StoredText) (fs : List FormulaText) (x : TrackText × ℕ) (scope : List Binding) (h : List Span1) (l : LaterText) : Type 0 where
   pub symbol : l.symbol ≡ x.0.symbol
   pub dimension : l.dimension ≡ x.1
@@ -246,6 +247,7 @@ pub record IsLater (g : StoredText) (fs : List FormulaText) (x : TrackText × �
   pub first_new : new_from x.0.symbol span ≡ Some l.first_new
   pub scoped : l.scope ≡ scope ++ LetMin l.first_new ∷ []
   pub nested : IfWhole g.placed.cuts (whole_nests g fs l.scope (new_region scope x.1 0 h) ≡ Some l.nests)
+  pub parted : IfParted g.placed.cuts (parted_nests g fs l.scope (new_region scope x.1 0 h) l.nests)
 
 abbrev pub HasLater : StoredText → List FormulaText → TrackText × ℕ → List Binding → List Span1 → Option LaterText → Type 0
 HasLater g fs x scope h None = slice_get h x.1 ≡ None

@@ -12,7 +12,7 @@ use tree::{Cond, Expr};
 
 /// A call: the name, and the indices.
 #[derive(Clone, Copy, Drop)]
-pub(crate) struct Call<'a> {
+pub struct Call<'a> {
     pub name: &'a str,
     pub at: &'a [Expr],
 }
@@ -20,7 +20,7 @@ pub(crate) struct Call<'a> {
 /// The calls so far and those of an expression; a call comes before those of its indices.
 #[cycle(calls)]
 #[tactic(auto, using(crate::proofs::Calling::behind_two, crate::proofs::Calling::behind_three))]
-pub(crate) fn with_calls<'a>(
+pub fn with_calls<'a>(
     known: Vec<Call<'a>>,
     expr: &'a Expr,
 ) -> Result<Vec<Call<'a>>, AllocError>
@@ -92,7 +92,7 @@ fn with_calls_of_all<'a>(known: Vec<Call<'a>>, at: &'a [Expr]) -> Result<Vec<Cal
 }
 
 /// The calls of a definition: those of its left indices, and then those of its value.
-pub(crate) fn calls_of<'a>(alloc: Global, formula: &'a Formula) -> Result<Vec<Call<'a>>, AllocError>
+pub fn calls_of<'a>(alloc: Global, formula: &'a Formula) -> Result<Vec<Call<'a>>, AllocError>
     ensures { IfOk result (λ v. map call_of v.items ≡ calls_in (formula_of formula.now)) }
 {
     let mut calls = Vec::new(alloc);

@@ -17,7 +17,7 @@ use tree::Expr;
 
 /// A definition over stored functions and the input alone.
 #[derive(Drop)]
-pub(crate) struct Formula {
+pub struct Formula {
     /// The left index of each variable; none where it is the variable alone.
     pub at: Vec<Option<Expr>>,
     pub value: Expr,
@@ -25,7 +25,7 @@ pub(crate) struct Formula {
 
 /// A stored function.
 #[derive(Drop)]
-pub(crate) struct Stored<'a> {
+pub struct Stored<'a> {
     pub subject: &'a Subject,
     pub function: &'a Function,
     pub placed: &'a Placed,
@@ -179,8 +179,9 @@ fn formulas_of(
     Ok(all)
 }
 
-// None where one of them passes the limits.
-fn small_formulas(
+/// The definitions of a function with the calls of functions that are not stored put in, the pure one first; none where one of them
+/// then passes the limits of an expression.
+pub fn small_formulas(
     alloc: Global,
     algo: &Algo,
     stored: &[bool],
@@ -275,7 +276,7 @@ fn stored_from<'a>(
 }
 
 /// The stored functions, in the order of declaration.
-pub(crate) fn stored_functions<'a>(
+pub fn stored_functions<'a>(
     alloc: Global,
     algo: &'a Algo,
     placement: &'a Placement,
@@ -293,40 +294,4 @@ pub(crate) fn stored_functions<'a>(
         &placement.subjects,
         &placement.functions,
     )
-}
-
-// Which functions are stored, where the one of this number is stored too.
-fn flags_with(
-    alloc: Global,
-    algo: &Algo,
-    placement: &Placement,
-    also: usize,
-) -> Result<Vec<bool>, AllocError>
-    ensures { IfOk result (λ v. length v.items ≡ length (algorithm_of algo.now).functions) }
-{
-    let mut stored = Vec::new(alloc);
-    for number in 0..algo.funcs().len() {
-        let is_stored = match placement.subjects.get(number) {
-            Some(subject) => subject.is_stored,
-            None => false,
-        };
-        stored.push(is_stored || number == also)?;
-    }
-    Ok(stored)
-}
-
-/// Whether the definitions of a function are within the limits where another one, or it itself, is stored too.
-pub(crate) fn fits_with(
-    alloc: Global,
-    algo: &Algo,
-    placement: &Placement,
-    number: usize,
-    also: usize,
-) -> Result<bool, AllocError> {
-    let stored = flags_with(alloc, algo, placement, also)?;
-    let Some((_, function)) = algo.funcs().get_index(number) else {
-        return Ok(false);
-    };
-    let formulas = small_formulas(alloc, algo, &stored, function)?;
-    Ok(formulas.is_some())
 }

@@ -16,8 +16,7 @@ use crate::fetching::{Root, Site, add_inner_sites, add_sites, needed_span, short
 use crate::forms::{is_inside, whole};
 use crate::guarded::{Over, told_nests};
 use crate::inner::Inner;
-use crate::reasons::reach::whole_region;
-use crate::regions::MOST_NUMBERS;
+use crate::regions::{MOST_NUMBERS, whole_region};
 use crate::rounded::is_rounded;
 use crate::sliding::Later;
 use crate::spots::{
@@ -101,7 +100,7 @@ fn host_sites(
 }
 
 /// The calls of a function at the place and inside of it.
-pub(crate) fn sites_at<'b, 'a>(
+pub fn sites_at<'b, 'a>(
     alloc: Global,
     algo: &Algo,
     group: &'b Root<'a>,
@@ -220,7 +219,8 @@ fn told_sites_at(
     Ok(sites)
 }
 
-pub(crate) fn is_scattered(root: &Root<'_>, dimension: usize) -> bool
+/// Whether an update sets points elsewhere in a dimension than at its variable, so that all of it is needed.
+pub fn is_scattered(root: &Root<'_>, dimension: usize) -> bool
     ensures { result ≡ spec.is_scattered (stored_of root.now.stored.now) dimension }
 {
     root.stored
@@ -273,7 +273,7 @@ fn add_needed(
 }
 
 /// What is needed of a function: in a dimension that an update scatters all of it.
-pub(crate) fn region_at(
+pub fn region_at(
     alloc: Global,
     root: &Root<'_>,
     scope: &Scope,

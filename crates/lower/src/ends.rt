@@ -1,5 +1,15 @@
 //! The ends of the loops of a function over what one turn needs of it: how many numbers they have, and what splits run over.
 
+ghost use Rattle.std.specs.Prelude.{◌≡◌, ◌++◌, [], true, Some, IfOk, OnOk};
+ghost use Rattle.std.specs.Option.{option_copied};
+ghost use Rattle.sched.specs.Numbers.{numbers_named};
+ghost use Rattle.sched.specs.Standing as standing;
+ghost use Rattle.lower.specs.Limited.{Gives, Tells};
+ghost use Rattle.lower.specs.Parted as parted;
+ghost use Rattle.lower.specs.Settled as settled;
+ghost use Rattle.lower.specs.Stored.{stored_of};
+ghost use Rattle.lower.specs.Taken as taken;
+
 use crate::error::Stop;
 use crate::fetching::{Root, shortest};
 use crate::forms::{one_form, raised};
@@ -26,7 +36,7 @@ pub(crate) struct Reach {
 
 /// What a turn needs of a function.
 #[derive(Clone, Copy, Drop)]
-pub(crate) struct Needed<'b> {
+pub struct Needed<'b> {
     /// What stands around its nests.
     pub scope: &'b Scope,
     pub region: &'b Region,
@@ -41,8 +51,6 @@ pub(crate) struct Frame {
     pub numbers: Vec<Numbers>,
     /// What the splits' loops run over.
     pub reaches: Vec<Reach>,
-    /// The lets around the nest.
-    pub lets: Vec<Step>,
     /// The loops over blocks of which one turn has more than another.
     pub counted: Vec<Counted>,
 }
@@ -54,43 +62,77 @@ pub(crate) struct Counted {
     pub further: Forms,
 }
 
-pub(crate) fn number_named(numbers: &[Numbers], name: &Name) -> u32 {
-    for one in numbers {
-        if one.name.as_str() == name.as_str() {
-            return one.count;
+/// How many numbers the loop of this name has.
+pub(crate) fn number_named(numbers: &[Numbers], name: &Name) -> u32
+    ensures { result ≡ (numbers_named numbers.now name.now).count }
+{
+    match numbers {
+        [] => 0,
+        [one, rest @ ..] => {
+            if one.name.as_str() == name.as_str() {
+                return one.count;
+            }
+            number_named(rest, name)
         }
     }
-    0
 }
 
-pub(crate) fn reach_named<'a>(reaches: &'a [Reach], name: &Name) -> Option<&'a Reach> {
-    reaches
-        .iter()
-        .find(|one| one.name.as_str() == name.as_str())
+/// What the loop of this name runs over, which is split.
+pub(crate) fn reach_named<'a>(reaches: &'a [Reach], name: &Name) -> Option<&'a Reach>
+    ensures { option_copied result ≡ settled.reach_named reaches.now name.now }
+{
+    match reaches {
+        [] => None,
+        [one, rest @ ..] => {
+            if one.name.as_str() == name.as_str() {
+                return Some(one);
+            }
+            reach_named(rest, name)
+        }
+    }
 }
 
-fn is_whole(cuts: &[Split], name: &Name) -> bool {
+fn is_whole(cuts: &[Split], name: &Name) -> bool
+    ensures { result ≡ parted.is_cut cuts.now name.now }
+{
     cuts.iter().any(|cut| cut.whole.as_str() == name.as_str())
 }
 
-// Whether of so many numbers the last block of the split is not full.
-pub(crate) fn has_rest(cut: &Split, count: u32) -> bool {
-    count.checked_rem(cut.factor) != Some(0)
+/// Whether of so many numbers the last block of the split is not full.
+pub(crate) fn has_rest(cut: &Split, count: u32) -> bool
+    ensures { result ≡ standing.has_rest cut.now count }
+{
+    cut.factor == 0 || count % cut.factor != 0
 }
 
-pub(crate) fn is_half(cut: &Split, name: &Name) -> bool {
+/// Whether the split makes the loop of this name.
+pub(crate) fn is_half(cut: &Split, name: &Name) -> bool
+    ensures { result ≡ standing.is_half cut.now name.now }
+{
     cut.outer.as_str() == name.as_str() || cut.inner.as_str() == name.as_str()
 }
 
-// Whether a loop that the split makes is split again, by blocks that run past its last number.
-pub(crate) fn is_overrun(numbers: &[Numbers], cuts: &[Split], cut: &Split) -> bool {
-    cuts.iter().any(|other| is_half(cut, &other.whole)
-        && other.tail == Tail::Roundup
-        && has_rest(other, number_named(numbers, &other.whole)))
+// Whether the blocks of the split run past the last number of its loop.
+fn overruns(numbers: &[Numbers], cut: &Split) -> bool
+    ensures { result ≡ standing.overruns numbers.now cut.now }
+{
+    match cut.tail {
+        Tail::Roundup => has_rest(cut, number_named(numbers, &cut.whole)),
+        Tail::Guard | Tail::Shift => false,
+    }
+}
+
+/// Whether a loop that the split makes is split again, by blocks that run past its last number.
+pub(crate) fn is_overrun(numbers: &[Numbers], cuts: &[Split], cut: &Split) -> bool
+    ensures { result ≡ standing.is_overrun numbers.now cuts.now cut.now }
+{
+    cuts.iter().any(|other| is_half(cut, &other.whole) && overruns(numbers, other))
 }
 
 // The most numbers that a dimension has in one turn.
-fn most_of(alloc: Global, scope: &Scope, span: &Span1) -> Result<i64, Stop> {
+fn most_of(alloc: Global, scope: &Scope, span: &Span1) -> Result<i64, Stop>
+    ensures { Gives result (λ most. most) (parted.most_of (taken.shortest scope.now span.now)) }
+{
     match shortest(alloc, scope, span)? {
         Some((_, count)) => Ok(count),
         None => Err(Stop::Limit),
@@ -118,12 +160,7 @@ fn is_telling(
 }
 
 // The form alone that is shown to be the smallest or largest of some; all of them where none is.
-fn told_forms(
-    alloc: Global,
-    scope: &Scope,
-    forms: &Forms,
-    pick: Pick,
-) -> Result<Forms, AllocError> {
+fn told_of(alloc: Global, scope: &Scope, forms: &Forms, pick: Pick) -> Result<Forms, AllocError> {
     for form in forms.as_slice() {
         if is_telling(alloc, scope, form, forms.as_slice(), pick)? {
             return one_form(alloc, form.copy(alloc)?);
@@ -132,12 +169,45 @@ fn told_forms(
     forms.copy(alloc)
 }
 
+// The same; of one form it is that.
+fn told_forms(alloc: Global, scope: &Scope, forms: &Forms, pick: Pick) -> Result<Forms, AllocError>
+    ensures { IfOk result (parted.AreEnds forms.now) }
+{
+    match forms.as_slice() {
+        [] => forms.copy(alloc),
+        [only] => one_form(alloc, only.copy(alloc)?),
+        [_first, _second, ..] => told_of(alloc, scope, forms, pick),
+    }
+}
+
 /// The span by one form on each side where on that one is shown to be its end, as of two numbers one is.
-pub(crate) fn told_span(alloc: Global, scope: &Scope, span: &Span1) -> Result<Span1, AllocError> {
-    Ok(Span1 {
-        lower: told_forms(alloc, scope, &span.lower, Pick::Max)?,
-        upper: told_forms(alloc, scope, &span.upper, Pick::Min)?,
-    })
+pub(crate) fn told_span(alloc: Global, scope: &Scope, span: &Span1) -> Result<Span1, AllocError>
+    ensures lower { IfOk result (λ told. parted.AreEnds span.now.lower told.lower) }
+    ensures upper { IfOk result (λ told. parted.AreEnds span.now.upper told.upper) }
+{
+    let lower = told_forms(alloc, scope, &span.lower, Pick::Max)?;
+    let upper = told_forms(alloc, scope, &span.upper, Pick::Min)?;
+    Ok(Span1 { lower, upper })
+}
+
+// The symbol of a let for the smallest or largest of some forms.
+#[tactic(auto, using(crate::proofs::Parted::lets_named))]
+fn let_of(
+    alloc: Global,
+    forms: &Forms,
+    pick: Pick,
+    first: Sym,
+    lets: &mut Vec<Step>,
+) -> Result<Lin, AllocError>
+    ensures { IfOk result (λ _. parted.are_lets lets.old.items ≡ true → parted.are_lets lets.new.items ≡ true) }
+{
+    let symbol = first.saturating_add(lets.len());
+    lets.push(Step::Named {
+        symbol,
+        pick,
+        forms: forms.copy(alloc)?,
+    })?;
+    Lin::symbol(alloc, symbol)
 }
 
 // A form for the smallest or largest of some: the only one, or a let.
@@ -147,29 +217,43 @@ fn one_of(
     pick: Pick,
     first: Sym,
     lets: &mut Vec<Step>,
-) -> Result<Lin, AllocError> {
+) -> Result<Lin, AllocError>
+    ensures form { IfOk result (parted.IsEnd forms.now) }
+    ensures lets { IfOk result (λ _. parted.are_lets lets.old.items ≡ true → parted.are_lets lets.new.items ≡ true) }
+{
     match forms.as_slice() {
+        [] => let_of(alloc, forms, pick, first, lets),
         [only] => only.copy(alloc),
-        _ => {
-            let symbol = first.saturating_add(lets.len());
-            lets.push(Step::Named {
-                symbol,
-                pick,
-                forms: forms.copy(alloc)?,
-            })?;
-            Lin::symbol(alloc, symbol)
-        }
+        [_first, _second, ..] => let_of(alloc, forms, pick, first, lets),
     }
 }
 
+// Whether so many numbers from the first one on are not shown to end at the last one.
+fn varies_from(alloc: Global, scope: &Scope, low: &Lin, high: &Lin, most: i64) -> Result<bool, Stop>
+    ensures { Gives result (λ yes. yes) (parted.varies_from scope.now low.now high.now most) }
+{
+    let last = raised(alloc, low, most.saturating_sub(1))?;
+    Ok(!scope.at_most(alloc, &last, high)?)
+}
+
 // Whether a dimension is not shown to have in each turn as many numbers as the most.
-fn varies(alloc: Global, scope: &Scope, span: &Span1, most: i64) -> Result<bool, Stop> {
-    match (span.lower.as_slice(), span.upper.as_slice()) {
-        ([low], [high]) => {
-            let last = raised(alloc, low, most.saturating_sub(1))?;
-            Ok(!scope.at_most(alloc, &last, high)?)
-        }
-        _ => Ok(true),
+fn varies(
+    alloc: Global,
+    scope: &Scope,
+    lower: &[Lin],
+    upper: &[Lin],
+    most: i64,
+) -> Result<bool, Stop>
+    ensures { Gives result (λ yes. yes) (parted.varies_in scope.now lower.now upper.now most) }
+{
+    match lower {
+        [] => Ok(true),
+        [low] => match upper {
+            [] => Ok(true),
+            [high] => varies_from(alloc, scope, low, high, most),
+            [_first, _second, ..] => Ok(true),
+        },
+        [_first, _second, ..] => Ok(true),
     }
 }
 
@@ -234,13 +318,17 @@ fn is_behind(
 }
 
 // The forms that tell the first number: one alone, where that is shown to be at least what is kept; else all of them.
+#[tactic(auto, using(crate::proofs::Parted::same_ends))]
 fn lower_of(
     alloc: Global,
     scope: &Scope,
     span: &Span1,
     told: &Span1,
     kept: Option<&Span1>,
-) -> Result<Forms, AllocError> {
+) -> Result<Forms, AllocError>
+    requires { parted.AreEnds span.now.lower told.now.lower }
+    ensures { IfOk result (parted.AreEnds span.now.lower) }
+{
     if is_behind(alloc, scope, kept, &told.lower)? {
         told.lower.copy(alloc)
     } else {
@@ -248,16 +336,28 @@ fn lower_of(
     }
 }
 
-// The same forms, the last one first.
-fn last_first(alloc: Global, forms: &Forms) -> Result<Forms, AllocError> {
+// Several forms, the last one first.
+fn turned_of(alloc: Global, forms: &[Lin]) -> Result<Forms, AllocError> {
     let mut turned = Forms::new(alloc);
-    for form in forms.as_slice().iter().rev() {
+    for form in forms.iter().rev() {
         turned.push(form.copy(alloc)?)?;
     }
     Ok(turned)
 }
 
+// The same forms, the last one first.
+fn last_first(alloc: Global, forms: &Forms) -> Result<Forms, AllocError>
+    ensures { IfOk result (parted.AreEnds forms.now) }
+{
+    match forms.as_slice() {
+        [] => forms.copy(alloc),
+        [only] => one_form(alloc, only.copy(alloc)?),
+        [_first, _second, ..] => turned_of(alloc, forms.as_slice()),
+    }
+}
+
 // The first number that loops run over.
+#[tactic(auto, using(crate::proofs::Parted::end_over))]
 fn low_of(
     alloc: Global,
     scope: &Scope,
@@ -265,21 +365,31 @@ fn low_of(
     told: &Span1,
     kept: Option<&Span1>,
     lets: &mut Vec<Step>,
-) -> Result<Lin, AllocError> {
+) -> Result<Lin, AllocError>
+    requires { parted.AreEnds span.now.lower told.now.lower }
+    ensures form { IfOk result (parted.IsEnd span.now.lower) }
+    ensures lets { IfOk result (λ _. parted.are_lets lets.old.items ≡ true → parted.are_lets lets.new.items ≡ true) }
+{
     let lower = lower_of(alloc, scope, span, told, kept)?;
-    one_of(alloc, &lower, Pick::Max, scope.len(), lets)
+    let low = one_of(alloc, &lower, Pick::Max, scope.len(), lets)?;
+    Ok(low)
 }
 
 // The last number that loops run over. The upper ends stand last first in the let for the smallest of them: the first of two may be
 // what a guard in front says to be at most the second, and the checker takes such a let as that guard's own.
+#[tactic(auto, using(crate::proofs::Parted::end_over))]
 fn last_of(
     alloc: Global,
     scope: &Scope,
     told: &Span1,
     lets: &mut Vec<Step>,
-) -> Result<Lin, AllocError> {
+) -> Result<Lin, AllocError>
+    ensures form { IfOk result (parted.IsEnd told.now.upper) }
+    ensures lets { IfOk result (λ _. parted.are_lets lets.old.items ≡ true → parted.are_lets lets.new.items ≡ true) }
+{
     let turned = last_first(alloc, &told.upper)?;
-    one_of(alloc, &turned, Pick::Min, scope.len(), lets)
+    let last = one_of(alloc, &turned, Pick::Min, scope.len(), lets)?;
+    Ok(last)
 }
 
 // What is known of the numbers that loops run over.
@@ -297,8 +407,16 @@ fn facts_of(
     rounding: Option<u32>,
     kept: Option<&Span1>,
     most: i64,
-) -> Result<Facts, Stop> {
-    let varies = varies(alloc, scope, told, most)?;
+) -> Result<Facts, Stop>
+    ensures { IfOk result (λ facts. parted.varies_in scope.now told.now.lower told.now.upper most ≡ Some facts.varies) }
+{
+    let varies = varies(
+        alloc,
+        scope,
+        told.lower.as_slice(),
+        told.upper.as_slice(),
+        most,
+    )?;
     let is_even = are_even(alloc, scope, told, rounding, most)?;
     let is_told = is_behind(alloc, scope, kept, &told.upper)?;
     Ok(Facts {
@@ -309,6 +427,7 @@ fn facts_of(
 }
 
 // What the loops that a split makes run over, at most so many numbers.
+#[tactic(auto, using(crate::proofs::Parted::is_reach))]
 fn reach_told(
     alloc: Global,
     scope: &Scope,
@@ -319,7 +438,13 @@ fn reach_told(
     kept: Option<&Span1>,
     most: i64,
     lets: &mut Vec<Step>,
-) -> Result<Reach, Stop> {
+) -> Result<Reach, Stop>
+    requires lower { parted.AreEnds span.now.lower told.now.lower }
+    requires upper { parted.AreEnds span.now.upper told.now.upper }
+    requires most { parted.most_of (taken.shortest scope.now span.now) ≡ Some most }
+    ensures reach { IfOk result (parted.IsReach scope.now name span.now) }
+    ensures lets { IfOk result (λ _. parted.are_lets lets.old.items ≡ true → parted.are_lets lets.new.items ≡ true) }
+{
     let low = low_of(alloc, scope, span, told, kept, lets)?;
     let last = last_of(alloc, scope, told, lets)?;
     let facts = facts_of(alloc, scope, told, rounding, kept, most)?;
@@ -342,13 +467,26 @@ fn reach_of(
     span: &Span1,
     kept: Option<&Span1>,
     lets: &mut Vec<Step>,
-) -> Result<Reach, Stop> {
+) -> Result<Reach, Stop>
+    ensures reach { IfOk result (parted.IsReach scope.now name span.now) }
+    ensures lets { IfOk result (λ _. parted.are_lets lets.old.items ≡ true → parted.are_lets lets.new.items ≡ true) }
+{
     let most = most_of(alloc, scope, span)?;
     let told = told_span(alloc, scope, span)?;
     reach_told(alloc, scope, name, rounding, span, &told, kept, most, lets)
 }
 
-fn half_reach(alloc: Global, numbers: &[Numbers], name: Name) -> Reach {
+// How many numbers those are, where so many can be counted.
+fn count_of(most: i64) -> u32
+    ensures { result ≡ parted.count_of most }
+{
+    u32::try_from(most).unwrap_or(1)
+}
+
+// A loop that a split makes has as many numbers in each turn.
+fn half_reach(alloc: Global, numbers: &[Numbers], name: Name) -> Reach
+    ensures { result ≡ parted.half_reach numbers.now name }
+{
     let count = number_named(numbers, &name);
     Reach {
         name,
@@ -360,56 +498,143 @@ fn half_reach(alloc: Global, numbers: &[Numbers], name: Name) -> Reach {
     }
 }
 
-// The most numbers of each dimension, from 0 on.
-pub(crate) fn extents_of(
+// The most numbers of these dimensions, from 0 on, behind others.
+fn add_extents(
     alloc: Global,
     scope: &Scope,
-    region: &Region,
-) -> Result<Vec<Extent>, Stop> {
-    let mut extents = Vec::new(alloc);
-    for span in region.as_slice() {
-        let most = most_of(alloc, scope, span)?;
-        extents.push(Extent {
-            low: 0,
-            count: u32::try_from(most).unwrap_or(1),
-        })?;
+    spans: &[Span1],
+    extents: &mut Vec<Extent>,
+) -> Result<(), Stop>
+    ensures { Tells result extents.new.items (parted.add_extents scope.now spans.now extents.old.items) }
+{
+    match spans {
+        [] => Ok(()),
+        [span, rest @ ..] => {
+            let most = most_of(alloc, scope, span)?;
+            extents.push(Extent {
+                low: 0,
+                count: count_of(most),
+            })?;
+            add_extents(alloc, scope, rest, extents)
+        }
     }
+}
+
+// The most numbers of each dimension, from 0 on.
+pub(crate) fn extents_of(alloc: Global, scope: &Scope, region: &Region) -> Result<Vec<Extent>, Stop>
+    ensures { Gives result (λ v. v.items) (parted.add_extents scope.now region.now []) }
+{
+    let mut extents = Vec::new(alloc);
+    add_extents(alloc, scope, region.as_slice(), &mut extents)?;
     Ok(extents)
 }
 
-// What the loops of the split variables run over, behind their lets.
-fn variable_reaches(
-    alloc: Global,
-    root: &Root<'_>,
-    needed: Needed<'_>,
-    blocks: &[Option<Blocks>],
-    definition: usize,
-    lets: &mut Vec<Step>,
-) -> Result<Vec<Reach>, Stop> {
-    let cuts = &root.stored.placed.cuts;
-    let variables = &root.stored.subject.variables;
-    let kept = if definition == 0 {
-        needed.kept.as_slice()
-    } else {
-        &[]
-    };
-    let mut reaches = Vec::new(alloc);
-    let spans = variables.iter().zip(needed.region.as_slice().iter());
-    for (dimension, (variable, span)) in spans.enumerate() {
-        if is_whole(cuts, variable) {
-            let rounding = rounding(cuts, variable);
-            let kept = kept.get(dimension);
-            let scope = needed.scope;
-            let mut reach = reach_of(alloc, scope, *variable, rounding, span, kept, lets)?;
-            reach.is_even = reach.is_even || counted_at(blocks, dimension).is_some();
-            reaches.push(reach)?;
-        }
+// What the loop of a split variable runs over, if it is split, before others.
+fn with_reach(first: Option<Reach>, others: Vec<Reach>) -> Result<Vec<Reach>, AllocError>
+    ensures { IfOk result (λ v. v.items ≡ parted.with_reach first others.items) }
+{
+    let mut reaches = others;
+    if let Some(first) = first {
+        reaches.insert(0, first)?;
     }
     Ok(reaches)
 }
 
+// The same; where its blocks are counted, each turn has as many.
+fn with_even(reach: Reach, is_counted: bool) -> Reach
+    ensures named { result.name ≡ reach.name }
+    ensures low { result.low ≡ reach.low }
+    ensures last { result.last ≡ reach.last }
+    ensures varies { result.varies ≡ reach.varies }
+{
+    let Reach {
+        name,
+        low,
+        last,
+        varies,
+        is_even,
+        is_told,
+    } = reach;
+    Reach {
+        name,
+        low,
+        last,
+        varies,
+        is_even: is_even || is_counted,
+        is_told,
+    }
+}
+
+// What the loop of a variable runs over, if it is split, behind its lets; where its blocks are counted, each turn has as many.
+#[tactic(auto, using(crate::proofs::Parted::is_reach_if, crate::proofs::Parted::not_reach))]
+fn reach_at(
+    alloc: Global,
+    cuts: &[Split],
+    scope: &Scope,
+    is_counted: bool,
+    variable: &Name,
+    span: &Span1,
+    kept: Option<&Span1>,
+    lets: &mut Vec<Step>,
+) -> Result<Option<Reach>, Stop>
+    ensures reach { IfOk result (parted.IsReachIf scope.now (parted.is_cut cuts.now variable.now) variable.now span.now) }
+    ensures lets { IfOk result (λ _. parted.are_lets lets.old.items ≡ true → parted.are_lets lets.new.items ≡ true) }
+{
+    if !is_whole(cuts, variable) {
+        return Ok(None);
+    }
+    let rounding = rounding(cuts, variable);
+    let reach = reach_of(alloc, scope, *variable, rounding, span, kept, lets)?;
+    Ok(Some(with_even(reach, is_counted)))
+}
+
+// What the loops of these variables that are split run over, behind their lets.
+#[tactic(auto, using(crate::proofs::Parted::reaches_more))]
+fn variable_reaches(
+    alloc: Global,
+    cuts: &[Split],
+    scope: &Scope,
+    blocks: &[Option<Blocks>],
+    kept: &[Span1],
+    dimension: usize,
+    variables: &[Name],
+    spans: &[Span1],
+    lets: &mut Vec<Step>,
+) -> Result<Vec<Reach>, Stop>
+    ensures reaches { IfOk result (λ v. parted.AreReaches scope.now cuts.now variables.now spans.now v.items) }
+    ensures lets { IfOk result (λ _. parted.are_lets lets.old.items ≡ true → parted.are_lets lets.new.items ≡ true) }
+{
+    let [variable, others @ ..] = variables else {
+        return Ok(Vec::new(alloc));
+    };
+    let [span, rest @ ..] = spans else {
+        return Ok(Vec::new(alloc));
+    };
+    let Some(next) = dimension.checked_add(1) else {
+        return Err(Stop::Memory);
+    };
+    let is_counted = counted_at(blocks, dimension).is_some();
+    let own = kept.get(dimension);
+    let first = reach_at(alloc, cuts, scope, is_counted, variable, span, own, lets)?;
+    let behind = variable_reaches(alloc, cuts, scope, blocks, kept, next, others, rest, lets)?;
+    Ok(with_reach(first, behind)?)
+}
+
 // The loops over blocks that are counted.
 fn counted_loops(
+    alloc: Global,
+    root: &Root<'_>,
+    blocks: &[Option<Blocks>],
+) -> Result<Vec<Counted>, AllocError>
+    ensures { blocks.now ≡ [] → IfOk result (λ v. v.items ≡ []) }
+{
+    if blocks.is_empty() {
+        return Ok(Vec::new(alloc));
+    }
+    counted_of(alloc, root, blocks)
+}
+
+fn counted_of(
     alloc: Global,
     root: &Root<'_>,
     blocks: &[Option<Blocks>],
@@ -427,26 +652,71 @@ fn counted_loops(
     Ok(found)
 }
 
+// Those of the loops that splits make, behind others.
+fn add_half_reaches(
+    alloc: Global,
+    numbers: &[Numbers],
+    cuts: &[Split],
+    reaches: &mut Vec<Reach>,
+) -> Result<(), AllocError>
+    ensures { OnOk result (reaches.new.items ≡ reaches.old.items ++ parted.half_reaches numbers.now cuts.now) }
+{
+    match cuts {
+        [] => Ok(()),
+        [cut, rest @ ..] => {
+            reaches.push(half_reach(alloc, numbers, cut.outer))?;
+            reaches.push(half_reach(alloc, numbers, cut.inner))?;
+            add_half_reaches(alloc, numbers, rest, reaches)
+        }
+    }
+}
+
+// What is kept of the pure definition; of an update it is not asked.
+fn kept_of<'b>(kept: &'b Region, definition: usize) -> &'b [Span1] {
+    if definition == 0 {
+        kept.as_slice()
+    } else {
+        &[]
+    }
+}
+
+// What is said of the loops that are split, and the lets around the nest.
+#[tactic(auto, using(crate::proofs::Parted::is_frame))]
 pub(crate) fn frame_of(
     alloc: Global,
     root: &Root<'_>,
     needed: Needed<'_>,
     blocks: &[Option<Blocks>],
     definition: usize,
-) -> Result<Frame, Stop> {
+) -> Result<(Frame, Vec<Step>), Stop>
+    ensures over { IfOk result (λ made. parted.IsFrame (stored_of root.now.stored.now) needed.entry.scope.now needed.entry.region.now
+        (parted.frame_seen made.0) made.1.items) }
+    ensures uncounted { blocks.now ≡ [] → IfOk result (λ made. (parted.frame_seen made.0).counted ≡ []) }
+{
     let cuts = &root.stored.placed.cuts;
+    let variables = &root.stored.subject.variables;
     let extents = extents_of(alloc, needed.scope, needed.region)?;
-    let numbers = loop_numbers(alloc, &root.stored.subject.variables, cuts, &extents)?;
+    let numbers = loop_numbers(alloc, variables, cuts, &extents)?;
+    let kept = kept_of(needed.kept, definition);
+    let spans = needed.region.as_slice();
     let mut lets = Vec::new(alloc);
-    let mut reaches = variable_reaches(alloc, root, needed, blocks, definition, &mut lets)?;
-    for cut in cuts {
-        reaches.push(half_reach(alloc, &numbers, cut.outer))?;
-        reaches.push(half_reach(alloc, &numbers, cut.inner))?;
-    }
-    Ok(Frame {
+    let mut reaches = variable_reaches(
+        alloc,
+        cuts,
+        needed.scope,
+        blocks,
+        kept,
+        0,
+        variables,
+        spans,
+        &mut lets,
+    )?;
+    add_half_reaches(alloc, &numbers, cuts, &mut reaches)?;
+    let counted = counted_loops(alloc, root, blocks)?;
+    let frame = Frame {
         numbers,
         reaches,
-        lets,
-        counted: counted_loops(alloc, root, blocks)?,
-    })
+        counted,
+    };
+    Ok((frame, lets))
 }

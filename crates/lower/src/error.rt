@@ -48,7 +48,7 @@ impl From<SchedError> for LowerError {
 
 /// Why a part of a plan was not made.
 #[derive(Clone, Copy, Drop)]
-pub(crate) enum Stop {
+pub enum Stop {
     /// Memory ran out.
     Memory,
     /// A form leaves the limits of forms, or a bound is missing.

@@ -43,7 +43,7 @@ const MOST_FORMS: usize = 3;
 
 /// A stored function with its definitions and its region.
 #[derive(Clone, Copy, Drop)]
-pub(crate) struct Root<'a> {
+pub struct Root<'a> {
     pub stored: &'a Stored<'a>,
     pub formulas: &'a [Formula],
     pub laid: &'a Laid,
@@ -60,7 +60,7 @@ pub(crate) struct Fetched {
 
 /// The calls of a function in one definition, with what is known around them.
 #[derive(Drop)]
-pub(crate) struct Site {
+pub struct Site {
     pub scope: Scope,
     pub calls: Vec<Region>,
 }
@@ -347,7 +347,7 @@ fn with_span(alloc: Global, grid: &Scope, known: Option<Span1>, next: Span1) -> 
 }
 
 /// The span without the inner symbols; where there are none it stays as it is.
-pub(crate) fn freed(
+pub fn freed(
     alloc: Global,
     scope: &Scope,
     inner: &[Sym],
@@ -536,7 +536,7 @@ fn shorter(place: usize, count: Option<i64>, best: Option<(usize, i64)>) -> Opti
 }
 
 /// The lower form from which on there are the fewest numbers, and how many.
-pub(crate) fn shortest(
+pub fn shortest(
     alloc: Global,
     grid: &Scope,
     span: &Span1,

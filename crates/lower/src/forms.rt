@@ -46,7 +46,7 @@ pub(crate) fn exactly(alloc: Global, form: &Lin) -> Result<Span1, AllocError>
 }
 
 /// The span of these numbers and those between them.
-pub(crate) fn between(alloc: Global, low: i64, high: i64) -> Result<Span1, AllocError>
+pub fn between(alloc: Global, low: i64, high: i64) -> Result<Span1, AllocError>
     ensures { IfOk result (λ span. span ≡ numbers low high) }
 {
     let lower = one_form(alloc, Lin::number(alloc, low))?;
@@ -65,7 +65,7 @@ pub(crate) fn anything(alloc: Global) -> Span1
 }
 
 /// The last number of an extent; one below the first where it has none.
-pub(crate) fn last_of(extent: &Extent) -> i64
+pub fn last_of(extent: &Extent) -> i64
     ensures { result ≡ extent.now.low +ℤ pos extent.now.count -ℤ pos 1 }
 {
     i64::from(extent.low) + i64::from(extent.count) - 1
@@ -106,7 +106,7 @@ fn alone(alloc: Global, span: &Span1) -> Result<Region, AllocError>
 }
 
 /// Whether each number of a span is shown to be one of another.
-pub(crate) fn is_inside(
+pub fn is_inside(
     alloc: Global,
     scope: &Scope,
     inner: &Span1,

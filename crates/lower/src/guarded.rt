@@ -11,7 +11,6 @@ use lin::{Lin, Region, Scope, Sym};
 use plan::Pick;
 use sched::{Nest, Split, Step, Tail};
 use std::alloc::{AllocError, Global};
-use std::mem;
 use tree::token::Name;
 
 /// The nests of a function over a region, and what stands around them.
@@ -91,8 +90,7 @@ impl Told {
     fn limit(&mut self, alloc: Global, symbol: Sym, form: &Lin, last: &Lin) -> Result<(), Stop> {
         let rest = form.without(alloc, symbol)?;
         let limit = last.plus_multiple(alloc, -1, &rest)?;
-        let steps = mem::replace(&mut self.steps, Vec::new(alloc));
-        self.steps = all_limited(alloc, steps, symbol, &limit)?;
+        self.steps = all_limited(alloc, &self.steps, symbol, &limit)?;
         Ok(())
     }
 

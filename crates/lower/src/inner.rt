@@ -9,6 +9,7 @@ ghost use Rattle.lower.specs.Computed as computed;
 ghost use Rattle.lower.specs.Demanded as demanded;
 ghost use Rattle.lower.specs.Groups.{inners_of as placed_inners, root_of};
 ghost use Rattle.lower.specs.Homes as spec;
+ghost use Rattle.lower.specs.Parted.{parted_nests};
 ghost use Rattle.lower.specs.Placed.{inner_seen, later_seen};
 ghost use Rattle.lower.specs.Slid as slid;
 ghost use Rattle.lower.specs.Stored.{formula_of, stored_of};
@@ -40,7 +41,7 @@ use tree::token::Name;
 
 /// A function that is computed inside loops.
 #[derive(Drop)]
-pub(crate) struct Inner<'a> {
+pub struct Inner<'a> {
     pub root: Root<'a>,
     /// Where it is computed.
     pub home: Spot,
@@ -267,6 +268,11 @@ fn inner_of<'a>(
     ensures lets { IfOk result (λ one. IfWhole (stored_of root.now.stored.now).placed.cuts (one.lets.items ≡ [])) }
     ensures nests { IfOk result (λ one. IfWhole (stored_of root.now.stored.now).placed.cuts (whole_nests (stored_of root.now.stored.now)
         (map formula_of root.now.formulas.now) around.now one.region ≡ Some (map nest_seen one.nests.items))) }
+    ensures unnamed { IfOk result (λ one. computed.IfPlain (stored_of root.now.stored.now) (map formula_of root.now.formulas.now)
+        (one.lets.items ≡ [])) }
+    ensures parted { IfOk result (λ one. computed.IfPlain (stored_of root.now.stored.now) (map formula_of root.now.formulas.now)
+        (parted_nests (stored_of root.now.stored.now) (map formula_of root.now.formulas.now) around.now one.region
+        (map nest_seen one.nests.items))) }
 {
     let (home, store) = spots;
     let (region, later) = turns_of(alloc, functions, root, outer, around, needed, sliding)?;
@@ -588,7 +594,7 @@ fn inners_before<'a>(
 
 /// The functions that are computed inside the loops of a group, the last declared first, of these in the order of
 /// declaration; or the name of the first that is looked for of which a bound is missing there.
-pub(crate) fn inners_of<'a>(
+pub fn inners_of<'a>(
     alloc: Global,
     algo: &Algo,
     group: &Root<'a>,

@@ -21,7 +21,6 @@ use crate::error::Stop;
 use crate::fetching::Root;
 use crate::forms::{between, is_inside, whole};
 use crate::parties::{Party, fault_inside};
-use crate::reasons::SizeCause;
 use crate::regions::{Laid, counts};
 use crate::scopes::{Around, around_in, head_scope, interval};
 use crate::uses::{are_whole, has_outside_use};
@@ -34,10 +33,10 @@ use tree::Expr;
 use tree::token::Name;
 
 /// The most shared cells of all root functions.
-const MOST_CELLS: u64 = 1 << 24;
+pub const MOST_CELLS: u64 = 1 << 24;
 
 /// The most pieces of all root functions.
-const MOST_PIECES: u64 = 1 << 20;
+pub const MOST_PIECES: u64 = 1 << 20;
 
 /// What the root functions so far have together.
 #[derive(Clone, Copy, Drop)]
@@ -46,7 +45,8 @@ pub(crate) struct Totals {
     pieces: u64,
 }
 
-fn product(counts: &[u32]) -> u64
+/// How many pieces a grid of these counts has; the greatest number of 64 bits where there are more.
+pub fn product(counts: &[u32]) -> u64
     ensures { result ≡ faults.product counts.now }
 {
     match counts {
@@ -55,7 +55,8 @@ fn product(counts: &[u32]) -> u64
     }
 }
 
-fn cells_of(region: &[Extent]) -> u64
+/// How many cells a region has; the greatest number of 64 bits where there are more.
+pub fn cells_of(region: &[Extent]) -> u64
     ensures { result ≡ faults.cells_of region.now }
 {
     match region {
@@ -588,54 +589,4 @@ pub(crate) fn first_fault(
     fault_from(
         alloc, algo, stored, parties, count, has_large, totals, stored, laid,
     )
-}
-
-// ---- what is told of a refusal
-
-// The greater of two numbers with their functions.
-fn more(known: (u64, Name), next: u64, name: Name) -> (u64, Name) {
-    if next > known.0 { (next, name) } else { known }
-}
-
-/// Which limit the root functions up to the one of this name pass, and which of them has the most.
-pub(crate) fn excess_of(
-    stored: &[Stored<'_>],
-    laid: &[Option<Laid>],
-    name: &Name,
-) -> Option<SizeCause> {
-    let mut totals = Totals {
-        cells: 0,
-        pieces: 0,
-    };
-    let mut cells = (0, *name);
-    let mut pieces = (0, *name);
-    for (one, laid) in stored.iter().zip(laid.iter()) {
-        if let Some(laid) = laid {
-            if one.subject.is_root {
-                totals = totals.joined(laid);
-                cells = more(cells, cells_of(&laid.region), one.subject.name);
-                pieces = more(pieces, product(&laid.skeleton.grid), one.subject.name);
-            }
-        }
-        if one.subject.name.as_str() == name.as_str() {
-            return cause_of(totals, cells.1, pieces.1);
-        }
-    }
-    None
-}
-
-fn cause_of(totals: Totals, widest: Name, finest: Name) -> Option<SizeCause> {
-    if totals.cells > MOST_CELLS {
-        return Some(SizeCause::Cells {
-            count: totals.cells,
-            most: widest,
-        });
-    }
-    if totals.pieces > MOST_PIECES {
-        return Some(SizeCause::Pieces {
-            count: totals.pieces,
-            most: finest,
-        });
-    }
-    None
 }

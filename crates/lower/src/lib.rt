@@ -9,9 +9,11 @@ mod ends;
 mod error;
 mod fetching;
 mod forms;
+pub mod functions;
 mod group;
 mod guarded;
 mod inner;
+pub mod inside;
 pub mod laws;
 mod legality;
 mod loading;
@@ -22,12 +24,13 @@ mod nests;
 mod parties;
 mod parts;
 mod pieces;
-mod reasons;
+pub mod reach;
 mod regions;
 mod renaming;
 mod rounded;
 mod scopes;
 mod sliding;
+pub mod spans;
 mod spots;
 mod standing;
 mod storage;
@@ -36,9 +39,5 @@ mod uses;
 mod whole;
 mod windows;
 
-pub use error::LowerError;
-pub use lowering::{Lowered, lower, reason};
-pub use reasons::{
-    Amount, BoundCause, Cause, Excess, FoldCause, LargestSplit, Link, Reason, SizeCause,
-    Standstill, Storage, TurnCause,
-};
+pub use error::{LowerError, Stop};
+pub use lowering::{Lowered, lower};

@@ -170,7 +170,7 @@ fn laid_out(
 }
 
 /// What of a stored function stands in its plan, over a region.
-pub(crate) fn skeleton_of(
+pub fn skeleton_of(
     alloc: Global,
     stored: &Stored<'_>,
     formulas: &[Formula],

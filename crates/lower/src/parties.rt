@@ -26,7 +26,7 @@ use tree::token::Name;
 
 /// A root function, and those that are computed inside its loops.
 #[derive(Drop)]
-pub(crate) struct Party<'a> {
+pub struct Party<'a> {
     pub root: Root<'a>,
     /// Or the name of one of which a bound is missing.
     pub inners: Result<Vec<Inner<'a>>, Name>,
@@ -75,7 +75,7 @@ fn before_roots<'a>(
 }
 
 /// The stored functions that have a region and definitions: those that are root, or those that are computed inside loops.
-pub(crate) fn roots_of<'a>(
+pub fn roots_of<'a>(
     alloc: Global,
     stored: &'a [Stored<'a>],
     laid: &'a [Option<Laid>],
@@ -158,7 +158,7 @@ fn parties_from<'a>(
 
 /// Each root function with those that are computed inside its loops, in the order of declaration.
 #[tactic(auto, using(crate::proofs::Rooted::no_entries, crate::proofs::Grouped::at_home_among, crate::proofs::Grouped::found_among))]
-pub(crate) fn parties_of<'a>(
+pub fn parties_of<'a>(
     alloc: Global,
     algo: &Algo,
     stored: &'a [Stored<'a>],
@@ -485,7 +485,7 @@ fn are_same(first: &[Option<Laid>], second: &[Option<Laid>]) -> bool {
 
 /// The regions that all turns ask for, where the functions inside loops have these regions; none where they are the same, or
 /// where bounds are missing.
-pub(crate) fn laid_by_turns(
+pub fn laid_by_turns(
     alloc: Global,
     algo: &Algo,
     stored: &[Stored<'_>],

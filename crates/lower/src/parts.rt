@@ -270,7 +270,8 @@ pub(crate) fn is_same_number(first: Option<usize>, second: Option<usize>) -> boo
     }
 }
 
-pub(crate) fn is_same_spot(first: Spot, second: Spot) -> bool
+/// Whether two places are the same.
+pub fn is_same_spot(first: Spot, second: Spot) -> bool
     ensures { result ≡ spec.same_spot first second }
 {
     is_same_host(first.host, second.host)

@@ -10,17 +10,19 @@ ghost use Rattle.lower.specs.Limited.{Tells, Gives};
 ghost use Rattle.lower.specs.Stored.{formula_of, stored_of, are_calls_of, some_calls};
 ghost use Rattle.lower.specs.Calls.{call_of};
 ghost use Rattle.lower.specs.Around.{around_of};
+ghost use Rattle.lower.specs.Bounded as limits;
 ghost use Rattle.lower.specs.Regions as spec;
 
 use crate::calls::{Call, calls_of};
 use crate::definitions::{Formula, Stored};
 use crate::error::Stop;
+use crate::forms::whole;
 use crate::nests::skeleton_of;
 use crate::scopes::{Around, around_in, head_scope, interval, left_index};
 use algo::Algo;
 use algo::scoping::same_name;
 use bounds::projection::project_span;
-use lin::{Lin, Scope, Span1, Sym};
+use lin::{Lin, Region, Scope, Span1, Sym};
 use sched::{Extent, Nest, Skeleton};
 use std::alloc::{AllocError, Global};
 use tree::Expr;
@@ -36,16 +38,16 @@ const MOST_ROUNDS: usize = 4;
 
 /// A region within the limits, and the loops over it.
 #[derive(Drop)]
-pub(crate) struct Laid {
+pub struct Laid {
     pub region: Vec<Extent>,
     pub skeleton: Skeleton,
 }
 
 /// The lowest and the highest number of a coordinate.
 #[derive(Clone, Copy, Drop)]
-pub(crate) struct Ends {
-    low: i64,
-    high: i64,
+pub struct Ends {
+    pub low: i64,
+    pub high: i64,
 }
 
 // ---- the ends of a span
@@ -112,7 +114,7 @@ fn least_number(forms: &[Lin]) -> Option<i64>
 
 /// So many symbols, from one of them on.
 #[tactic(auto, using(crate::proofs::Places::symbols_next, crate::proofs::Places::symbols_none))]
-pub(crate) fn symbols_from(alloc: Global, first: Sym, count: usize) -> Result<Vec<Sym>, AllocError>
+pub fn symbols_from(alloc: Global, first: Sym, count: usize) -> Result<Vec<Sym>, AllocError>
     ensures { IfOk result (λ v. v.items ≡ spec.symbols_from first (count - first)) }
 {
     let mut symbols = Vec::new(alloc);
@@ -148,7 +150,7 @@ pub(crate) fn projected(
 }
 
 /// The ends of a span over all values of the symbols.
-pub(crate) fn ends_of(alloc: Global, scope: &Scope, span: &Span1) -> Result<Ends, Stop>
+pub fn ends_of(alloc: Global, scope: &Scope, span: &Span1) -> Result<Ends, Stop>
     ensures { Gives result (λ ends. ends) (spec.ends_of scope.now span.now) }
 {
     let symbols = symbols_from(alloc, 0, scope.len())?;
@@ -186,7 +188,7 @@ fn hull(known: Option<Ends>, next: Ends) -> Ends
 }
 
 /// Widens the ends of a place.
-pub(crate) fn widen(reach: &mut Vec<Option<Ends>>, place: usize, next: Ends)
+pub fn widen(reach: &mut Vec<Option<Ends>>, place: usize, next: Ends)
     ensures { reach.new.items ≡ spec.widen reach.old.items place next }
 {
     if place < reach.len() {
@@ -195,7 +197,7 @@ pub(crate) fn widen(reach: &mut Vec<Option<Ends>>, place: usize, next: Ends)
 }
 
 /// Whether an index at this place is looked at: of an update's own calls only where its left index is not the variable.
-pub(crate) fn counts(own: Option<&Formula>, place: usize) -> bool
+pub fn counts(own: Option<&Formula>, place: usize) -> bool
     ensures { result ≡ spec.counts (option_map (λ f. formula_of f.now) own.entry) place }
 {
     match own {
@@ -304,7 +306,7 @@ pub(crate) fn are_calls_of(callee: &str, calls: &[Call<'_>]) -> bool
 }
 
 /// Whether one of the definitions calls the function of this name.
-pub(crate) fn formulas_call(
+pub fn formulas_call(
     alloc: Global,
     formulas: &[Formula],
     callee: &str,
@@ -494,8 +496,8 @@ fn may_have(is_root: bool, count: u32) -> bool
     if is_root { count <= MOST_NUMBERS } else { true }
 }
 
-// The extent between these ends, where it is within the limits of a root function, or of one that is computed inside a loop.
-fn extent_of(is_root: bool, ends: Option<Ends>) -> Option<Extent>
+/// The extent between these ends, where it is within the limits of a root function, or of one that is computed inside a loop.
+pub fn extent_of(is_root: bool, ends: Option<Ends>) -> Option<Extent>
     ensures { result ≡ spec.extent_of is_root ends }
 {
     let extent = extent_between(ends?)?;
@@ -626,14 +628,14 @@ fn add_all_extents(
 }
 
 /// Adds the extents of the output.
-pub(crate) fn add_extents(algo: &Algo, reach: &mut Vec<Option<Ends>>) -> Result<(), AllocError>
+pub fn add_extents(algo: &Algo, reach: &mut Vec<Option<Ends>>) -> Result<(), AllocError>
     ensures { OnOk result (reach.new.items ≡ spec.add_extents 0 (algorithm_of algo.now).output_extents reach.old.items) }
 {
     add_all_extents(0, &algo.output().shape.extents, reach)
 }
 
 /// No ends of so many places.
-pub(crate) fn unreached(alloc: Global, count: usize) -> Result<Vec<Option<Ends>>, AllocError>
+pub fn unreached(alloc: Global, count: usize) -> Result<Vec<Option<Ends>>, AllocError>
     ensures { IfOk result (λ v. v.items ≡ spec.unreached count) }
 {
     let mut reach = Vec::new(alloc);
@@ -748,9 +750,20 @@ fn laid_or_none(
     }
 }
 
+/// The region of a function, as spans of numbers.
+pub fn whole_region(alloc: Global, laid: &Laid) -> Result<Region, AllocError>
+    ensures { IfOk result (λ region. region ≡ map limits.whole laid.now.region.items) }
+{
+    let mut region = Region::new(alloc);
+    for extent in &laid.region {
+        region.push(whole(alloc, extent)?)?;
+    }
+    Ok(region)
+}
+
 /// The region of each stored function with the loops over it, in the order of declaration; none where no region within the
 /// limits is found.
-pub(crate) fn laid_functions(
+pub fn laid_functions(
     alloc: Global,
     algo: &Algo,
     stored: &[Stored<'_>],
@@ -766,23 +779,4 @@ pub(crate) fn laid_functions(
             Ok(found)
         }
     }
-}
-
-// ---- what is told of a refusal
-
-impl Ends {
-    /// The lowest and the highest number.
-    pub(crate) fn numbers(self) -> (i64, i64) {
-        (self.low, self.high)
-    }
-}
-
-/// Whether the ends are those of an extent within the limits.
-pub(crate) fn is_extent(ends: Option<Ends>) -> bool {
-    extent_of(true, ends).is_some()
-}
-
-/// Whether the numbers between the ends may be needed of the function by all that reads it.
-pub(crate) fn may_be_needed(stored: &Stored<'_>, ends: Ends) -> bool {
-    extent_of(stored.subject.is_root, Some(ends)).is_some()
 }

@@ -4,7 +4,9 @@
 ghost use Rattle.std.specs.Prelude.{◌≡◌, [], IfOk, IfSome, Some, map};
 ghost use Rattle.std.specs.List.{list_any};
 ghost use Rattle.lower.specs.Around.{bind_steps as bound_by};
+ghost use Rattle.lower.specs.Computed as computed;
 ghost use Rattle.lower.specs.Demanded as demanded;
+ghost use Rattle.lower.specs.Parted.{IfParted, parted_nests};
 ghost use Rattle.lower.specs.Stored.{formula_of, stored_of};
 ghost use Rattle.lower.specs.Turned.{IfWhole, whole_nests};
 ghost use Rattle.sched.specs.Skeleton.{nest_seen};
@@ -16,6 +18,7 @@ use crate::fetching::{Root, count_from, run_of, shortest};
 use crate::forms::{one_form, raised, two_forms};
 use crate::legality::is_bounded;
 use crate::scopes::bind_steps;
+use crate::sliding::is_single;
 use crate::storage::stored_from;
 use crate::turns::{nests_begun, nests_over};
 use algo::Algo;
@@ -457,6 +460,8 @@ fn lain_plainly(alloc: Global, root: &Root<'_>, needed: Needed<'_>) -> Result<La
     ensures lets { IfOk result (λ lain. lain.begun.lets.items ≡ []) }
     ensures nests { IfOk result (λ lain. IfWhole (stored_of root.now.stored.now).placed.cuts (whole_nests (stored_of root.now.stored.now)
         (map formula_of root.now.formulas.now) needed.entry.scope.now needed.entry.region.now ≡ Some (map nest_seen lain.nests.items))) }
+    ensures parted { IfOk result (λ lain. IfParted (stored_of root.now.stored.now).placed.cuts (parted_nests (stored_of root.now.stored.now)
+        (map formula_of root.now.formulas.now) needed.entry.scope.now needed.entry.region.now (map nest_seen lain.nests.items))) }
 {
     let nests = nests_over(alloc, root, needed)?;
     let begun = unnamed(alloc, needed.region)?;
@@ -499,9 +504,51 @@ fn lain_behind(
     }))
 }
 
-/// The nests of a function over a region. Of one that calls itself in an update, what its blocks make is told, where names tell it
-/// and no index leaves what there is.
-#[tactic(auto, using(crate::proofs::Along::if_whole, crate::proofs::Along::not_whole))]
+fn is_roundup(tail: Tail) -> bool
+    ensures { result ≡ computed.is_roundup tail }
+{
+    match tail {
+        Tail::Roundup => true,
+        Tail::Guard | Tail::Shift => false,
+    }
+}
+
+fn has_roundup(cuts: &[Split]) -> bool
+    ensures { result ≡ list_any (λ c. computed.is_roundup c.tail) cuts.now }
+{
+    cuts.iter().any(|cut| is_roundup(cut.tail))
+}
+
+// Whether no update of the function may read what its nests make past what is needed.
+fn is_plain(root: &Root<'_>) -> bool
+    ensures { result ≡ computed.is_plain (stored_of root.now.stored.now) (map formula_of root.now.formulas.now) }
+{
+    is_single(root.formulas) || !has_roundup(&root.stored.placed.cuts)
+}
+
+// The nests of a function in blocks that run past the end of what is needed. Of one that calls itself in an update, what its blocks
+// make is told, where names tell it and no index leaves what there is.
+fn lain_rounded(
+    alloc: Global,
+    algo: &Algo,
+    root: &Root<'_>,
+    needed: Needed<'_>,
+) -> Result<Lain, Stop>
+    ensures { IfOk result (λ lain. lain.scope ≡ bound_by needed.entry.scope.now lain.begun.lets.items) }
+{
+    if !calls_itself(alloc, root)? {
+        return lain_plainly(alloc, root, needed);
+    }
+    if let Some(begun) = named_over(alloc, root, needed.scope, needed.region)? {
+        if let Some(lain) = lain_behind(alloc, algo, root, needed, begun)? {
+            return Ok(lain);
+        }
+    }
+    lain_plainly(alloc, root, needed)
+}
+
+/// The nests of a function over a region.
+#[tactic(auto, using(crate::proofs::Along::if_whole, crate::proofs::Along::not_whole, crate::proofs::Parted::if_plain, crate::proofs::Parted::plainly, crate::proofs::Parted::not_plain))]
 pub(crate) fn lain_over(
     alloc: Global,
     algo: &Algo,
@@ -512,19 +559,19 @@ pub(crate) fn lain_over(
     ensures lets { IfOk result (λ lain. IfWhole (stored_of root.now.stored.now).placed.cuts (lain.begun.lets.items ≡ [])) }
     ensures nests { IfOk result (λ lain. IfWhole (stored_of root.now.stored.now).placed.cuts (whole_nests (stored_of root.now.stored.now)
         (map formula_of root.now.formulas.now) needed.entry.scope.now needed.entry.region.now ≡ Some (map nest_seen lain.nests.items))) }
+    ensures unnamed { IfOk result (λ lain. computed.IfPlain (stored_of root.now.stored.now) (map formula_of root.now.formulas.now)
+        (lain.begun.lets.items ≡ [])) }
+    ensures parted { IfOk result (λ lain. computed.IfPlain (stored_of root.now.stored.now) (map formula_of root.now.formulas.now)
+        (parted_nests (stored_of root.now.stored.now) (map formula_of root.now.formulas.now) needed.entry.scope.now needed.entry.region.now
+        (map nest_seen lain.nests.items))) }
 {
     if root.stored.placed.cuts.is_empty() {
         return Ok(lain_plainly(alloc, root, needed)?);
     }
-    if root.formulas.len() < 2 || !calls_itself(alloc, root)? {
+    if is_plain(root) {
         return Ok(lain_plainly(alloc, root, needed)?);
     }
-    if let Some(begun) = named_over(alloc, root, needed.scope, needed.region)? {
-        if let Some(lain) = lain_behind(alloc, algo, root, needed, begun)? {
-            return Ok(lain);
-        }
-    }
-    Ok(lain_plainly(alloc, root, needed)?)
+    Ok(lain_rounded(alloc, algo, root, needed)?)
 }
 
 // ---- claims

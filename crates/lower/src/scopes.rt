@@ -24,7 +24,7 @@ use tree::Expr;
 
 /// What is known around the store of a definition: the symbols, and what its variables stand for.
 #[derive(Drop)]
-pub(crate) struct Around<'a> {
+pub struct Around<'a> {
     pub scope: Scope,
     pub variables: Vec<&'a str>,
     pub coordinates: Region,
@@ -103,7 +103,7 @@ pub(crate) fn grid_scope(alloc: Global, grid: &[u32]) -> Result<Scope, AllocErro
 }
 
 /// What stands around all nests of a root function: the symbols of its grid, and the lets over them.
-pub(crate) fn head_scope(alloc: Global, skeleton: &Skeleton) -> Result<Scope, AllocError>
+pub fn head_scope(alloc: Global, skeleton: &Skeleton) -> Result<Scope, AllocError>
     ensures { IfOk result (λ scope. scope ≡ spec.head_scope (skeleton_seen skeleton.now)) }
 {
     let mut scope = grid_scope(alloc, &skeleton.grid)?;
@@ -127,7 +127,7 @@ pub(crate) fn ranges_of(function: &Function, definition: usize) -> &[Range]
 
 /// The variables of the function, and behind them the reduction variables of the definition of this number.
 #[tactic(auto, using(crate::proofs::Places::pushed))]
-pub(crate) fn variables_of<'a>(
+pub fn variables_of<'a>(
     alloc: Global,
     function: &'a Function,
     definition: usize,
@@ -148,7 +148,7 @@ pub(crate) fn variables_of<'a>(
 
 /// What the value of an expression stays within.
 #[tactic(auto, using(crate::proofs::Stops::form_gives))]
-pub(crate) fn interval(
+pub fn interval(
     alloc: Global,
     algo: &Algo,
     around: &Around<'_>,
@@ -249,8 +249,8 @@ fn add_coordinates(
     }
 }
 
-// What is known around the store of the definition of this number, where what left indices come to is not looked at.
-fn around_left<'a>(
+/// What is known around the store of the definition of this number, where what left indices come to is not looked at.
+pub fn around_left<'a>(
     alloc: Global,
     stored: &Stored<'a>,
     outer: &Scope,
@@ -269,7 +269,7 @@ fn around_left<'a>(
 }
 
 /// What is known around the store of the definition of this number, in a nest inside of other symbols.
-pub(crate) fn around_in<'a>(
+pub fn around_in<'a>(
     alloc: Global,
     algo: &Algo,
     stored: &Stored<'a>,

@@ -14,7 +14,6 @@ use crate::ends::Needed;
 use crate::error::Stop;
 use crate::fetching::{Root, freed, shortest};
 use crate::forms::{MOST_FORMS, raised};
-use crate::reasons::Standstill;
 use crate::turns::nests_over;
 use crate::windows::{all_fit, window_size};
 use lin::{Binding, Forms, Lin, Region, Scope, Span1, Sym};
@@ -25,14 +24,15 @@ use tree::token::Name;
 
 /// The loop along which a function may slide, and what stands in it.
 #[derive(Drop)]
-pub(crate) struct Track {
-    symbol: Sym,
+pub struct Track {
+    /// The symbol of the loop.
+    pub symbol: Sym,
     /// What the loop runs over.
-    span: Span1,
+    pub span: Span1,
     /// The symbols of the lets behind the loop.
-    lets: Vec<Sym>,
+    pub lets: Vec<Sym>,
     /// Whether a guard stands behind the loop.
-    is_guarded: bool,
+    pub is_guarded: bool,
 }
 
 /// The dimension in which a function slides, and along which loop.
@@ -44,7 +44,7 @@ pub(crate) struct Sliding {
 
 /// The nests of the turns after the first one, over what is new.
 #[derive(Drop)]
-pub(crate) struct Later {
+pub struct Later {
     /// The loop along which the function slides.
     pub symbol: Sym,
     pub dimension: usize,
@@ -126,7 +126,7 @@ fn track_here(alloc: Global, step: &Step, behind: &[Step]) -> Result<Option<Trac
 }
 
 /// The innermost loop of the steps, with what stands behind it.
-pub(crate) fn track_of(alloc: Global, steps: &[Step]) -> Result<Option<Track>, AllocError>
+pub fn track_of(alloc: Global, steps: &[Step]) -> Result<Option<Track>, AllocError>
     ensures { IfOk result (λ found. option_map spec.track_seen found ≡ spec.track_of steps.now) }
 {
     match steps {
@@ -171,7 +171,8 @@ fn are_named(forms: &[Lin], track: &Track) -> bool
     forms.iter().any(|form| is_named(form, track))
 }
 
-fn moves(span: &Span1, track: &Track) -> bool
+/// Whether an end of a span moves with the loop: it has its symbol, or that of a let behind it.
+pub fn moves(span: &Span1, track: &Track) -> bool
     ensures { result ≡ spec.moves (spec.track_seen track.now) span.now }
 {
     are_named(span.lower.as_slice(), track) || are_named(span.upper.as_slice(), track)
@@ -235,25 +236,10 @@ fn slid_from(
 }
 
 /// The dimension in which a region slides along the loop: the only one that moves, where it never falls.
-pub(crate) fn sliding_dimension(region: &Region, track: &Track) -> Result<Option<usize>, AllocError>
+pub fn sliding_dimension(region: &Region, track: &Track) -> Result<Option<usize>, AllocError>
     ensures { IfOk result (λ found. found ≡ spec.sliding_dimension (spec.track_seen track.now) region.now) }
 {
     slid_from(region.as_slice(), track, 0, None)
-}
-
-/// Why a region slides in no dimension along the loop.
-pub(crate) fn standstill(region: &Region, track: &Track) -> Standstill {
-    let mut moving: usize = 0;
-    for span in region.as_slice() {
-        if moves(span, track) {
-            moving = moving.saturating_add(1);
-        }
-    }
-    match moving {
-        0 => Standstill::Still,
-        1 => Standstill::Falls,
-        _ => Standstill::Several,
-    }
 }
 
 // ---- what is new
@@ -591,8 +577,9 @@ fn freed_region(
     Ok(Some(with_span(alloc, region, sliding.dimension, &held)?))
 }
 
+/// Whether the function has no updates.
 #[tactic(auto, using(crate::proofs::Along::single_seen))]
-fn is_single(formulas: &[Formula]) -> bool
+pub(crate) fn is_single(formulas: &[Formula]) -> bool
     ensures { result ≡ spec.is_single (map formula_of formulas.now) }
 {
     formulas.len() == 1

@@ -29,8 +29,8 @@ use tree::token::Name;
 
 /// Whose nests: those of the group's own function, of one that is computed inside by its number, or of that one over what is
 /// new where it slides.
-#[derive(Clone, Copy, PartialEq, Eq, Drop)]
-pub(crate) enum Host {
+#[derive(Clone, Copy, Drop)]
+pub enum Host {
     Own,
     Inner(usize),
     Later(usize),
@@ -38,7 +38,7 @@ pub(crate) enum Host {
 
 impl Host {
     /// The number among those that are computed inside.
-    pub(crate) fn number(self) -> Option<usize>
+    pub fn number(self) -> Option<usize>
         ensures { result ≡ demanded.number_of self }
     {
         match self {
@@ -49,8 +49,8 @@ impl Host {
 }
 
 /// A place in the nests of a function.
-#[derive(Clone, Copy, PartialEq, Eq, Drop)]
-pub(crate) struct Spot {
+#[derive(Clone, Copy, Drop)]
+pub struct Spot {
     pub host: Host,
     /// The definition in whose nest the place is; none where it is before all nests, over the grid alone.
     pub definition: Option<usize>,
@@ -161,7 +161,7 @@ pub(crate) fn later_at<'b>(inners: &'b [Inner<'_>], number: usize) -> Option<&'b
 }
 
 /// The nests of a function among those computed inside, or of the group's own.
-pub(crate) fn nests_at<'b>(group: &'b Root<'_>, inners: &'b [Inner<'_>], host: Host) -> &'b [Nest] {
+pub fn nests_at<'b>(group: &'b Root<'_>, inners: &'b [Inner<'_>], host: Host) -> &'b [Nest] {
     match host {
         Host::Own => &group.laid.skeleton.nests,
         Host::Inner(number) => match inners.get(number) {
@@ -176,7 +176,7 @@ pub(crate) fn nests_at<'b>(group: &'b Root<'_>, inners: &'b [Inner<'_>], host: H
 }
 
 /// A function among those computed inside, or the group's own.
-pub(crate) fn root_at<'a>(group: &Root<'a>, inners: &[Inner<'a>], host: Host) -> Root<'a> {
+pub fn root_at<'a>(group: &Root<'a>, inners: &[Inner<'a>], host: Host) -> Root<'a> {
     match host.number() {
         None => *group,
         Some(number) => match inners.get(number) {
@@ -211,8 +211,8 @@ fn later_scope(alloc: Global, inners: &[Inner<'_>], number: usize) -> Result<Sco
     }
 }
 
-// What stands around all nests of the function.
-pub(crate) fn scope_over(
+/// What stands around all nests of the function.
+pub fn scope_over(
     alloc: Global,
     group: &Root<'_>,
     inners: &[Inner<'_>],
@@ -257,7 +257,7 @@ fn first_steps(steps: &[Step], count: usize) -> Option<&[Step]>
 
 /// The steps around a place in a nest; none over the grid.
 #[tactic(auto, using(crate::proofs::Demands::steps_found, crate::proofs::Demands::no_steps))]
-pub(crate) fn steps_at<'b, 'a>(
+pub fn steps_at<'b, 'a>(
     group: &'b Root<'a>,
     inners: &'b [Inner<'a>],
     spot: Spot,
@@ -281,7 +281,7 @@ fn with_steps(alloc: Global, scope: Scope, steps: &[Step]) -> Result<Scope, Allo
 
 /// What stands around a place.
 #[tactic(auto, using(crate::proofs::Demands::scope_with, crate::proofs::Demands::scope_without))]
-pub(crate) fn scope_at<'b, 'a>(
+pub fn scope_at<'b, 'a>(
     alloc: Global,
     group: &'b Root<'a>,
     inners: &'b [Inner<'a>],
@@ -422,7 +422,7 @@ fn stands_inside(inners: &[Inner<'_>], spot: Spot, deep: usize, number: usize) -
 
 /// Whether the function of this number is computed at the place, or inside of it.
 #[tactic(auto, using(crate::proofs::Demands::same_length))]
-pub(crate) fn is_inside_spot(inners: &[Inner<'_>], number: usize, spot: Spot) -> bool
+pub fn is_inside_spot(inners: &[Inner<'_>], number: usize, spot: Spot) -> bool
     ensures { result ≡ demanded.stands_inside (map inner_seen inners.now) spot (length (map inner_seen inners.now)) number }
 {
     stands_inside(inners, spot, inners.len(), number)
@@ -531,7 +531,7 @@ fn add_spots<'b, 'a>(
 }
 
 /// The places at which a function is computed in a group.
-pub(crate) fn spots_of<'b, 'a>(
+pub fn spots_of<'b, 'a>(
     alloc: Global,
     group: &'b Root<'a>,
     inners: &'b [Inner<'a>],

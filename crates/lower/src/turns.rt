@@ -1,15 +1,19 @@
 //! The loops, lets and guards of a function that is computed inside loops, over what one turn of them needs of it.
 
-ghost use Rattle.std.specs.Prelude.{◌≡◌, ◌++◌, [], None, Some, if◌then◌else◌, IfOk, OnOk, length, map};
+ghost use Rattle.std.specs.Prelude.{◌≡◌, ◌∷◌, ◌++◌, [], None, Some, if◌then◌else◌, IfOk, OnOk, length, map, reverse};
 ghost use Rattle.std.specs.Option.{option_copied};
 ghost use Rattle.sched.specs.Standing.{form_named as form_named_of};
-ghost use Rattle.sched.specs.Skeleton.{body_of, nest_seen, is_missing as is_missing_of, ranges_at as ranges_at_of, variables_at as variables_at_of};
+ghost use Rattle.sched.specs.Skeleton.{body_of, nest_seen, kept_from, is_missing as is_missing_of, ranges_at as ranges_at_of, variables_at as variables_at_of};
 ghost use Rattle.lower.specs.Limited.{Gives, Tells};
 ghost use Rattle.lower.specs.Stored.{formula_of, stored_of};
+ghost use Rattle.lower.specs.Parted as parted;
+ghost use Rattle.lower.specs.Settled.{standing_seen};
 ghost use Rattle.lower.specs.Turned as spec;
+ghost use Rattle.meaning.specs.Names.{is_among as is_among_of};
+ghost use Rattle.sched.specs.Standing.{cuts_by_variable, cuts_of as cuts_of_loops};
 
 use crate::blocks::form_named;
-use crate::ends::{Frame, Needed, extents_of, frame_of, is_half, number_named};
+use crate::ends::{Counted, Frame, Needed, extents_of, frame_of, is_half, number_named};
 use crate::error::Stop;
 use crate::fetching::{Root, shortest};
 use crate::forms::between;
@@ -20,7 +24,6 @@ use lin::{Forms, Lin, Region, Scope, Span1, Sym};
 use plan::Kind;
 use sched::{Body, Known, Loop, Mark, Nest, Numbers, Split, Step, Tail, Turning, loop_numbers};
 use std::alloc::{AllocError, Global};
-use std::mem;
 use tree::token::Name;
 
 // ---- loops
@@ -31,37 +34,89 @@ fn is_missing(body: &Body, dimension: usize) -> bool
     body.missing.iter().any(|one| *one == dimension)
 }
 
-fn push_forms(alloc: Global, known: &mut Forms, others: &Forms) -> Result<(), AllocError> {
-    for form in others.as_slice() {
-        known.push(form.copy(alloc)?)?;
+// Forms behind others.
+fn push_forms(alloc: Global, known: &mut Forms, others: &[Lin]) -> Result<(), AllocError>
+    ensures { OnOk result (known.new ≡ known.old ++ others.now) }
+{
+    match others {
+        [] => Ok(()),
+        [form, rest @ ..] => {
+            known.push(form.copy(alloc)?)?;
+            push_forms(alloc, known, rest)
+        }
+    }
+}
+
+// Whether the loop is a variable's, which no split has taken.
+fn is_variable(variables: &[Name], one: &Loop) -> bool
+    ensures { result ≡ parted.is_variable variables.now one.now }
+{
+    match variables.get(one.dimension) {
+        Some(variable) => variable.as_str() == one.name.as_str(),
+        None => false,
+    }
+}
+
+fn push_forms_if(
+    alloc: Global,
+    is_asked: bool,
+    known: &mut Forms,
+    others: &[Lin],
+) -> Result<(), AllocError>
+    ensures { OnOk result (known.new ≡ known.old ++ parted.forms_if is_asked others.now) }
+{
+    if is_asked {
+        push_forms(alloc, known, others)?;
     }
     Ok(())
+}
+
+// The further upper forms of the loop of this name, behind others.
+fn add_further(
+    alloc: Global,
+    counted: &[Counted],
+    name: &Name,
+    upper: &mut Forms,
+) -> Result<(), AllocError>
+    ensures { OnOk result (upper.new ≡ upper.old ++ parted.further_of counted.now name.now) }
+{
+    match counted {
+        [] => Ok(()),
+        [one, rest @ ..] => {
+            let is_same = one.name.as_str() == name.as_str();
+            push_forms_if(alloc, is_same, upper, one.further.as_slice())?;
+            add_further(alloc, rest, name, upper)
+        }
+    }
+}
+
+// A loop that a split makes runs over its numbers.
+fn half_span(alloc: Global, frame: &Frame, name: &Name) -> Result<Span1, AllocError>
+    ensures { IfOk result (λ span. span ≡ parted.half_span (parted.frame_seen frame.now) name.now) }
+{
+    let count = number_named(&frame.numbers, name);
+    let mut span = between(alloc, 0, i64::from(count) - 1)?;
+    add_further(alloc, &frame.counted, name, &mut span.upper)?;
+    Ok(span)
 }
 
 // What a loop runs over: a variable over what is needed, a loop that a split makes over its numbers.
 fn span_of(
     alloc: Global,
-    root: &Root<'_>,
+    variables: &[Name],
     region: &Region,
     frame: &Frame,
     one: &Loop,
-) -> Result<Span1, Stop> {
-    if let Some(variable) = root.stored.subject.variables.get(one.dimension) {
-        if variable.as_str() == one.name.as_str() {
-            return match region.as_slice().get(one.dimension) {
-                Some(span) => Ok(span.copy(alloc)?),
-                None => Err(Stop::Limit),
-            };
-        }
+) -> Result<Span1, Stop>
+    ensures { Gives result (λ span. span) (parted.span_of variables.now region.now (parted.frame_seen frame.now) one.now) }
+{
+    if !is_variable(variables, one) {
+        return Ok(half_span(alloc, frame, &one.name)?);
     }
-    let count = number_named(&frame.numbers, &one.name);
-    let mut span = between(alloc, 0, i64::from(count) - 1)?;
-    for counted in &frame.counted {
-        if counted.name.as_str() == one.name.as_str() {
-            push_forms(alloc, &mut span.upper, &counted.further)?;
-        }
+    match region.as_slice().get(one.dimension) {
+        Some(span) => Ok(span.copy(alloc)?),
+        None => Err(Stop::Limit),
     }
-    Ok(span)
 }
 
 fn kind_of(mark: Option<Mark>) -> Kind
@@ -74,101 +129,218 @@ fn kind_of(mark: Option<Mark>) -> Kind
     }
 }
 
-// The pure loops of a definition that are vectorised, or that are not, the outermost first.
-fn pure_runs(
+// A loop of a function whose loops are split.
+fn split_run(
     alloc: Global,
-    root: &Root<'_>,
+    variables: &[Name],
+    region: &Region,
+    frame: &Frame,
+    one: &Loop,
+) -> Result<Run, Stop>
+    ensures { Gives result (λ run. run) (parted.run_of variables.now region.now (parted.frame_seen frame.now) one.now) }
+{
+    let span = span_of(alloc, variables, region, frame, one)?;
+    Ok(Run {
+        name: one.name,
+        span,
+        kind: kind_of(one.mark),
+    })
+}
+
+// A loop behind others, if it is one of those that are asked for.
+fn add_split_run(
+    alloc: Global,
+    variables: &[Name],
+    region: &Region,
+    frame: &Frame,
+    is_asked: bool,
+    one: &Loop,
+    runs: &mut Vec<Run>,
+) -> Result<(), Stop>
+    ensures { Tells result runs.new.items
+        (parted.add_run variables.now region.now (parted.frame_seen frame.now) is_asked one.now runs.old.items) }
+{
+    if !is_asked {
+        return Ok(());
+    }
+    let run = split_run(alloc, variables, region, frame, one)?;
+    runs.push(run)?;
+    Ok(())
+}
+
+// The loops of a definition that are vectorised, or that are not, the outermost first, behind others.
+fn add_split_runs(
+    alloc: Global,
+    variables: &[Name],
     region: &Region,
     frame: &Frame,
     body: &Body,
     is_lane: bool,
-) -> Result<Vec<Run>, Stop> {
-    let mut runs = Vec::new(alloc);
-    for one in root.stored.placed.loops.iter().rev() {
-        if !is_missing(body, one.dimension) && (one.mark == Some(Mark::Vectorized)) == is_lane {
-            runs.push(Run {
-                name: one.name,
-                span: span_of(alloc, root, region, frame, one)?,
-                kind: kind_of(one.mark),
-            })?;
+    loops: &[Loop],
+    runs: &mut Vec<Run>,
+) -> Result<(), Stop>
+    ensures { Tells result runs.new.items
+        (parted.add_runs variables.now region.now (parted.frame_seen frame.now) (body_of body.now) is_lane loops.now runs.old.items) }
+{
+    match loops {
+        [] => Ok(()),
+        [one, rest @ ..] => {
+            add_split_runs(alloc, variables, region, frame, body, is_lane, rest, runs)?;
+            let is_asked = is_run(body, is_lane, one);
+            add_split_run(alloc, variables, region, frame, is_asked, one, runs)
         }
     }
-    Ok(runs)
 }
 
-// The loops of the reduction, the last variable outermost.
-fn range_runs(alloc: Global, ranges: &[Turning]) -> Result<Vec<Run>, AllocError> {
-    let mut runs = Vec::new(alloc);
-    for range in ranges.iter().rev() {
-        runs.push(Run {
-            name: range.name,
-            span: between(alloc, range.low, range.last)?,
-            kind: range.kind,
-        })?;
-    }
-    Ok(runs)
-}
-
-fn runs_of(
+// All loops of a definition: those of a reduction inside, and a vectorised one inside these.
+fn split_runs(
     alloc: Global,
-    root: &Root<'_>,
+    variables: &[Name],
+    loops: &[Loop],
     region: &Region,
     frame: &Frame,
     body: &Body,
-) -> Result<Vec<Run>, Stop> {
-    let mut runs = pure_runs(alloc, root, region, frame, body, false)?;
-    let mut ranges = range_runs(alloc, &body.ranges)?;
-    runs.append(&mut ranges)?;
-    let mut lanes = pure_runs(alloc, root, region, frame, body, true)?;
-    runs.append(&mut lanes)?;
+) -> Result<Vec<Run>, Stop>
+    ensures { Gives result (λ runs. runs.items)
+        (parted.all_runs variables.now region.now (parted.frame_seen frame.now) loops.now (body_of body.now)) }
+{
+    let mut runs = Vec::new(alloc);
+    add_split_runs(
+        alloc, variables, region, frame, body, false, loops, &mut runs,
+    )?;
+    add_range_runs(alloc, &body.ranges, &mut runs)?;
+    add_split_runs(
+        alloc, variables, region, frame, body, true, loops, &mut runs,
+    )?;
     Ok(runs)
 }
 
 // ---- splits
 
+fn kept_tail(is_alone: bool, tail: Tail) -> Tail
+    ensures { result ≡ parted.kept_tail is_alone tail }
+{
+    match tail {
+        Tail::Shift => { if is_alone { Tail::Guard } else { Tail::Shift } }
+        Tail::Guard => Tail::Guard,
+        Tail::Roundup => Tail::Roundup,
+    }
+}
+
+// Whether a loop that the split makes is split again.
+fn has_split_half(cuts: &[Split], cut: &Split) -> bool
+    ensures { result ≡ parted.has_split_half cuts.now cut.now }
+{
+    cuts.iter().any(|other| is_half(cut, &other.whole))
+}
+
+// Whether its blocks have one number, and its halves are not split again.
+fn is_alone(cuts: &[Split], cut: &Split) -> bool
+    ensures { result ≡ parted.is_alone cuts.now cut.now }
+{
+    cut.factor == 1 && !has_split_half(cuts, cut)
+}
+
 // A block of one number begins at no smaller number where `shift` moves it back: it is kept as with `guard`, unless its halves are
 // split again.
-fn as_kept(cuts: &[Split], cut: &Split) -> Split {
-    let is_alone = !cuts.iter().any(|other| is_half(cut, &other.whole));
-    let tail = match cut.tail {
-        Tail::Shift if cut.factor == 1 && is_alone => Tail::Guard,
-        tail => tail,
-    };
+fn as_kept(cuts: &[Split], cut: &Split) -> Split
+    ensures { result ≡ parted.as_kept cuts.now cut.now }
+{
     Split {
         whole: cut.whole,
         outer: cut.outer,
         inner: cut.inner,
         factor: cut.factor,
-        tail,
+        tail: kept_tail(is_alone(cuts, cut), cut.tail),
+    }
+}
+
+fn is_among(names: &[Name], name: &Name) -> bool
+    ensures { result ≡ is_among_of names.now name.now }
+{
+    names.iter().any(|other| other.as_str() == name.as_str())
+}
+
+// The splits of these loops and of what these make, behind others.
+fn add_cuts(cuts: &[Split], names: &mut Vec<Name>, found: &mut Vec<Split>) -> Result<(), AllocError>
+    ensures { OnOk result (found.new.items ≡ found.old.items ++ cuts_of_loops cuts.now names.old.items) }
+{
+    match cuts {
+        [] => Ok(()),
+        [cut, rest @ ..] => {
+            if is_among(&*names, &cut.whole) {
+                found.push(*cut)?;
+                names.push(cut.outer)?;
+                names.push(cut.inner)?;
+            }
+            add_cuts(rest, names, found)
+        }
     }
 }
 
 // The splits of the variable and of what these make, later ones first.
-fn cuts_of(alloc: Global, cuts: &[Split], variable: &Name) -> Result<Vec<Split>, AllocError> {
+fn cuts_of(alloc: Global, cuts: &[Split], variable: &Name) -> Result<Vec<Split>, AllocError>
+    ensures { IfOk result (λ found. found.items ≡ reverse (cuts_of_loops cuts.now (variable.now ∷ []))) }
+{
     let mut names = Vec::new(alloc);
     names.push(*variable)?;
     let mut found = Vec::new(alloc);
-    for cut in cuts {
-        if names.iter().any(|name| name.as_str() == cut.whole.as_str()) {
-            found.push(as_kept(cuts, cut))?;
-            names.push(cut.outer)?;
-            names.push(cut.inner)?;
-        }
-    }
+    add_cuts(cuts, &mut names, &mut found)?;
     found.reverse();
     Ok(found)
 }
 
-// Those of the variables that the definition has.
-fn body_cuts(alloc: Global, root: &Root<'_>, body: &Body) -> Result<Vec<Split>, AllocError> {
-    let mut found = Vec::new(alloc);
-    for (dimension, variable) in root.stored.subject.variables.iter().enumerate() {
-        if !is_missing(body, dimension) {
-            let mut own = cuts_of(alloc, &root.stored.placed.cuts, variable)?;
-            found.append(&mut own)?;
+// Those of the variables from this one on that the definition has, behind others.
+fn add_body_cuts(
+    alloc: Global,
+    cuts: &[Split],
+    body: &Body,
+    dimension: usize,
+    variables: &[Name],
+    found: &mut Vec<Split>,
+) -> Result<(), AllocError>
+    ensures { OnOk result (found.new.items ≡ found.old.items
+        ++ cuts_by_variable cuts.now (kept_from (body_of body.now) dimension variables.now)) }
+{
+    match variables {
+        [] => Ok(()),
+        [variable, rest @ ..] => {
+            let Some(next) = dimension.checked_add(1) else {
+                return Err(AllocError);
+            };
+            if !is_missing(body, dimension) {
+                let mut own = cuts_of(alloc, cuts, variable)?;
+                found.append(&mut own)?;
+            }
+            add_body_cuts(alloc, cuts, body, next, rest, found)
         }
     }
-    Ok(found)
+}
+
+// The splits as they are kept, behind others.
+fn add_kept(all: &[Split], cuts: &[Split], made: &mut Vec<Split>) -> Result<(), AllocError>
+    ensures { OnOk result (made.new.items ≡ made.old.items ++ map (parted.as_kept all.now) cuts.now) }
+{
+    match cuts {
+        [] => Ok(()),
+        [cut, rest @ ..] => {
+            made.push(as_kept(all, cut))?;
+            add_kept(all, rest, made)
+        }
+    }
+}
+
+// Those of the variables that the definition has.
+fn body_cuts(alloc: Global, root: &Root<'_>, body: &Body) -> Result<Vec<Split>, AllocError>
+    ensures { IfOk result (λ v. v.items ≡ parted.body_cuts (stored_of root.now.stored.now) (body_of body.now)) }
+{
+    let cuts = &root.stored.placed.cuts;
+    let mut found = Vec::new(alloc);
+    let variables = &root.stored.subject.variables;
+    add_body_cuts(alloc, cuts, body, 0, variables, &mut found)?;
+    let mut made = Vec::new(alloc);
+    add_kept(cuts, &found, &mut made)?;
+    Ok(made)
 }
 
 // ---- nests
@@ -257,45 +429,40 @@ fn coordinates_at(
 }
 
 // What stands behind these steps, of which the first binds the symbol behind those of a scope.
-fn behind(alloc: Global, scope: &Scope, steps: Vec<Step>) -> Standing {
-    Standing {
+fn behind(alloc: Global, scope: &Scope, steps: Vec<Step>) -> Result<Standing, AllocError>
+    ensures { IfOk result (λ st. standing_seen st ≡ parted.begun (length scope.now) steps.items) }
+{
+    let Some(next) = scope.len().checked_add(steps.len()) else {
+        return Err(AllocError);
+    };
+    Ok(Standing {
         known: Vec::new(alloc),
         starts: Vec::new(alloc),
         bound: Vec::new(alloc),
-        next: scope.len().saturating_add(steps.len()),
+        next,
         steps,
-    }
+    })
 }
 
-// Adds the turns of a definition's loops.
-fn add_loops(
+// The nest of a definition, behind these lets.
+fn nest_in(
     alloc: Global,
     root: &Root<'_>,
+    scope: &Scope,
     region: &Region,
     frame: &Frame,
+    lets: Vec<Step>,
     body: &Body,
-    standing: &mut Standing,
-) -> Result<(), Stop> {
+) -> Result<Nest, Stop>
+    ensures { Gives result nest_seen (parted.nest_in (stored_of root.now.stored.now) region.now (length scope.now)
+        (parted.frame_seen frame.now) lets.items (body_of body.now)) }
+{
+    let variables = &root.stored.subject.variables;
+    let loops = &root.stored.placed.loops;
+    let runs = split_runs(alloc, variables, loops, region, frame, body)?;
     let cuts = body_cuts(alloc, root, body)?;
-    let runs = runs_of(alloc, root, region, frame, body)?;
-    for run in runs {
-        standing.turn(alloc, frame, &cuts, run)?;
-    }
-    Ok(())
-}
-
-fn nest_over(
-    alloc: Global,
-    root: &Root<'_>,
-    needed: Needed<'_>,
-    blocks: &[Option<Blocks>],
-    definition: usize,
-    body: &Body,
-) -> Result<Nest, Stop> {
-    let mut frame = frame_of(alloc, root, needed, blocks, definition)?;
-    let steps = mem::replace(&mut frame.lets, Vec::new(alloc));
-    let mut standing = behind(alloc, needed.scope, steps);
-    add_loops(alloc, root, needed.region, &frame, body, &mut standing)?;
+    let mut standing = behind(alloc, scope, lets)?;
+    standing.turn_all(alloc, frame, &cuts, &runs)?;
     let at = coordinates_at(alloc, root, body, &standing.known)?;
     Ok(Nest {
         steps: standing.steps,
@@ -303,18 +470,68 @@ fn nest_over(
     })
 }
 
+#[tactic(auto, using(crate::proofs::Parted::nest_over))]
+fn nest_over(
+    alloc: Global,
+    root: &Root<'_>,
+    needed: Needed<'_>,
+    blocks: &[Option<Blocks>],
+    definition: usize,
+    body: &Body,
+) -> Result<Nest, Stop>
+    ensures { blocks.now ≡ [] → IfOk result (λ nest. parted.IsNestOver (stored_of root.now.stored.now) needed.entry.scope.now
+        needed.entry.region.now (body_of body.now) (nest_seen nest)) }
+{
+    let (frame, lets) = frame_of(alloc, root, needed, blocks, definition)?;
+    nest_in(alloc, root, needed.scope, needed.region, &frame, lets, body)
+}
+
+// The first nest before others.
+fn with_first(first: Nest, others: Vec<Nest>) -> Result<Vec<Nest>, AllocError>
+    ensures { IfOk result (λ v. map nest_seen v.items ≡ nest_seen first ∷ map nest_seen others.items) }
+{
+    let mut nests = others;
+    nests.insert(0, first)?;
+    Ok(nests)
+}
+
+// The nests of the definitions from this one on.
+#[tactic(auto, using(crate::proofs::Parted::one_more))]
+fn nests_from(
+    alloc: Global,
+    root: &Root<'_>,
+    needed: Needed<'_>,
+    blocks: &[Option<Blocks>],
+    definition: usize,
+    bodies: &[Body],
+) -> Result<Vec<Nest>, Stop>
+    ensures { blocks.now ≡ [] → IfOk result (λ v. parted.AreNestsOver (stored_of root.now.stored.now) needed.entry.scope.now
+        needed.entry.region.now (map body_of bodies.now) (map nest_seen v.items)) }
+{
+    match bodies {
+        [] => Ok(Vec::new(alloc)),
+        [body, rest @ ..] => {
+            let Some(next) = definition.checked_add(1) else {
+                return Err(Stop::Memory);
+            };
+            let first = nest_over(alloc, root, needed, blocks, definition, body)?;
+            let others = nests_from(alloc, root, needed, blocks, next, rest)?;
+            Ok(with_first(first, others)?)
+        }
+    }
+}
+
 fn nests_with(
     alloc: Global,
     root: &Root<'_>,
     needed: Needed<'_>,
     blocks: &[Option<Blocks>],
-) -> Result<Vec<Nest>, Stop> {
-    let mut nests = Vec::new(alloc);
+) -> Result<Vec<Nest>, Stop>
+    ensures { blocks.now ≡ [] → IfOk result (λ v. parted.parted_nests (stored_of root.now.stored.now) (map formula_of root.now.formulas.now)
+        needed.entry.scope.now needed.entry.region.now (map nest_seen v.items)) }
+{
     let bodies = bodies(alloc, root.stored, root.formulas)?;
-    for (definition, body) in bodies.iter().enumerate() {
-        nests.push(nest_over(alloc, root, needed, blocks, definition, body)?)?;
-    }
-    Ok(nests)
+    nests_from(alloc, root, needed, blocks, 0, &bodies)
 }
 
 // ---- where no loop is split
@@ -522,14 +739,16 @@ fn whole_nests(
 // ---- over a region
 
 /// The nests of a function's definitions over what a turn needs, in which the symbols are numbered from those around on.
-#[tactic(auto, using(crate::proofs::Along::if_whole, crate::proofs::Along::not_whole))]
-pub(crate) fn nests_over(
+#[tactic(auto, using(crate::proofs::Along::if_whole, crate::proofs::Along::not_whole, crate::proofs::Parted::if_parted, crate::proofs::Parted::not_parted))]
+pub fn nests_over(
     alloc: Global,
     root: &Root<'_>,
     needed: Needed<'_>,
 ) -> Result<Vec<Nest>, Stop>
-    ensures { IfOk result (λ v. spec.IfWhole (stored_of root.now.stored.now).placed.cuts (spec.whole_nests (stored_of root.now.stored.now)
+    ensures whole { IfOk result (λ v. spec.IfWhole (stored_of root.now.stored.now).placed.cuts (spec.whole_nests (stored_of root.now.stored.now)
         (map formula_of root.now.formulas.now) needed.entry.scope.now needed.entry.region.now ≡ Some (map nest_seen v.items))) }
+    ensures parted { IfOk result (λ v. parted.IfParted (stored_of root.now.stored.now).placed.cuts (parted.parted_nests (stored_of root.now.stored.now)
+        (map formula_of root.now.formulas.now) needed.entry.scope.now needed.entry.region.now (map nest_seen v.items))) }
 {
     if root.stored.placed.cuts.is_empty() {
         return Ok(whole_nests(alloc, root, needed.scope, needed.region)?);

@@ -78,7 +78,7 @@ fn size_within(
 }
 
 /// How many numbers the window of a span has: the smallest over all pairs of a lower and an upper form.
-pub(crate) fn window_size(
+pub fn window_size(
     alloc: Global,
     scope: &Scope,
     span: &Span1,

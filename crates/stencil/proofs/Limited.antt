@@ -4,15 +4,19 @@ use Rattle.meaning.specs.Algorithm.{Algorithm}
 use Rattle.soundness.specs.declared.outline.refusals.code.K.{K}
 use Rattle.soundness.specs.declared.outline.refusals.code.K.TheVariants.{K1, K2, K3, K4, K5, K6, K7, K8, K9, K10, K11, K12, K13, K14}
 use Rattle.soundness.specs.Outline.Refusals.Codes.{number_of}
+use Rattle.plan.specs.Plan.{Plan}
 use Rattle.plan.specs.View.{plan_of}
-use Rattle.plan.specs.Certificate.Certificate.{certificate_of}
-use Rattle.cert.proofs.OneFiles.{one_file}
+use Rattle.plan.specs.Certificate.Certificate.{Certificate, certificate_of}
+use Rattle.spelling.specs.declared.lines.error.TextError.TheVariants as read
+use Rattle.cert.specs.File.File.{IsFileOf, IsRefusedFile}
 use Rattle.lower.specs.declared.lowering.Lowered.{Lowered}
 use Rattle.completeness.specs.Told.{TellsLimitsAlone}
+use Rattle.completeness.specs.OfPlans.{file_text, IsFileOfPlan}
 use Rattle.commands.specs.declared.pipeline.fault.Fault.{Fault}
-use Rattle.commands.specs.declared.pipeline.fault.Fault.TheVariants.{Memory, Algo, Schedule as NoSchedule, Rule, Names, Plan, Form, Limit, Order, Image, Budget, Unfinished, Outside, Uncut, Difference}
+use Rattle.commands.specs.declared.pipeline.fault.Fault.TheVariants.{Memory, Algo, Schedule as NoSchedule, Rule, Names, Plan as Refused, Form, Limit}
+use Rattle.commands.specs.declared.pipeline.fault.Fault.TheVariants.{Order, Image, Budget, Unfinished, Outside, Uncut, Difference}
 use Rattle.commands.specs.Pipeline.PlanFiles.{IsWrong}
-use Rattle.stencil.specs.Compiling.{IsReadAs, IsUnaccepted, TellsLimit}
+use Rattle.stencil.specs.Compiling.{IsLimit, IsUnaccepted, IsUnread}
 
 code_of : (code : K) → number_of code ≡ 14 → code ≡ K14
 code_of K1 is = absurd cc
@@ -30,30 +34,45 @@ code_of K12 is = absurd cc
 code_of K13 is = absurd cc
 code_of K14 is = refl
 
--- what is wrong with a text is wrong with the plan as which it is read
-wrong_is_limit : (a : Algorithm) (text : List ℕ) (made : Lowered) (code : K) (line : ℕ) → TellsLimitsAlone a (plan_of made.plan) (certificate_of made.certificate)
-    → IsReadAs text made → IsWrong a text code line → code ≡ K14
-wrong_is_limit a text made code line limits read wrong =
-    let same = one_file text (plan_of made.plan) (plan_of wrong.plan) (certificate_of made.certificate) (certificate_of wrong.cert) read wrong.file in
-    let of_plan = subst (λ p. TellsLimitsAlone a p (certificate_of made.certificate)) same.0 limits in
-    let of_both = subst (λ c. TellsLimitsAlone a (plan_of wrong.plan) c) same.1 of_plan in
-    code_of code (of_both (number_of code) line wrong.refused.0)
+module _ (text : List ℕ) (made : Lowered) where
+  abbrev p : Plan
+  p = plan_of made.plan
 
-pub is_limit : (a : Algorithm) (text : List ℕ) (made : Lowered) (fault : Fault) → TellsLimitsAlone a (plan_of made.plan) (certificate_of made.certificate)
-    → IsReadAs text made → IsUnaccepted a text fault → TellsLimit fault
-is_limit a text made Memory limits read h = tt
-is_limit a text made (Plan code line) limits read (inl wrong) = wrong_is_limit a text made code line limits read wrong
-is_limit a text made (Plan code line) limits read (inr unread) = unread.0
-is_limit a text made (Form line) limits read h = tt
-is_limit a text made (Limit line) limits read h = tt
-is_limit a text made (Algo code span) limits read h = tt
-is_limit a text made (NoSchedule code span) limits read h = tt
-is_limit a text made (Rule rule function) limits read h = tt
-is_limit a text made Names limits read h = tt
-is_limit a text made Order limits read h = tt
-is_limit a text made (Image e) limits read h = tt
-is_limit a text made Budget limits read h = tt
-is_limit a text made (Unfinished piece) limits read h = tt
-is_limit a text made Outside limits read h = tt
-is_limit a text made (Uncut name) limits read h = tt
-is_limit a text made Difference limits read h = tt
+  abbrev c : Certificate
+  c = certificate_of made.certificate
+
+  module _ (file : IsFileOfPlan p c) (written : text ≡ file_text p c) where
+    -- the text is read as no other plan than the one that was made
+    pub same_plan : (q : Plan) (d : Certificate) → IsFileOf text q d → (q ≡ p) × (d ≡ c)
+    same_plan q d read = file.alone q d (subst (λ t. IsFileOf t q d) written read)
+
+    unread_is_limit : (line : ℕ) → IsUnread text line → IsRefusedFile text (read.Limit line)
+    unread_is_limit line (inl form) = absurd (file.formed line (subst (λ t. IsRefusedFile t (read.Form line)) written form))
+    unread_is_limit line (inr limit) = limit
+
+    module _ (a : Algorithm) (limits : TellsLimitsAlone a p c) where
+      -- what is wrong with the text is wrong with that plan
+      wrong_is_limit : (code : K) (line : ℕ) → IsWrong a text code line → code ≡ K14
+      wrong_is_limit code line wrong =
+          let same = same_plan (plan_of wrong.plan) (certificate_of wrong.cert) wrong.file in
+          let of_plan : TellsLimitsAlone a (plan_of wrong.plan) c = subst (λ q. TellsLimitsAlone a q c) (sym same.0) limits in
+          let of_both : TellsLimitsAlone a (plan_of wrong.plan) (certificate_of wrong.cert) = subst (λ d. TellsLimitsAlone a (plan_of wrong.plan) d) (sym same.1) of_plan in
+          code_of code (of_both (number_of code) line wrong.refused.0)
+
+      pub is_limit : (fault : Fault) → IsUnaccepted a text fault → IsLimit a text fault
+      is_limit Memory h = tt
+      is_limit (Refused code line) (inl wrong) = (wrong_is_limit code line wrong, inl wrong)
+      is_limit (Refused code line) (inr unread) = (unread.0, inr (unread_is_limit line unread.1))
+      is_limit (Form line) h = absurd h
+      is_limit (Limit line) h = absurd h
+      is_limit (Algo code span) h = absurd h
+      is_limit (NoSchedule code span) h = absurd h
+      is_limit (Rule rule function) h = absurd h
+      is_limit Names h = absurd h
+      is_limit Order h = absurd h
+      is_limit (Image e) h = absurd h
+      is_limit Budget h = absurd h
+      is_limit (Unfinished piece) h = absurd h
+      is_limit Outside h = absurd h
+      is_limit (Uncut name) h = absurd h
+      is_limit Difference h = absurd h

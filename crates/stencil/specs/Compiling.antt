@@ -1,7 +1,6 @@
 -- From a schedule to the file of a plan: what a text is read as, and why no plan file comes of it.
-use Rattle.std.specs.Prelude.{◌≡◌, ◌⊎◌, ◌++◌, ℕ, List, ⊤}
+use Rattle.std.specs.Prelude.{◌≡◌, ◌⊎◌, ℕ, List, ⊤}
 use Rattle.meaning.specs.Algorithm.{Algorithm}
-use Rattle.algo.specs.Words.{IsNamed}
 use Rattle.sched.specs.Schedule.{Schedule}
 use Rattle.sched.specs.Grammar.{IsTextOf}
 use Rattle.sched.specs.Legal.{IsLegal}
@@ -11,19 +10,16 @@ use Rattle.lower.specs.Refused.{AreRegionsKept, AreSmall, AreUsesInside, IsRefus
 use Rattle.lower.specs.Groups.{AreGroupsMade}
 use Rattle.completeness.specs.Laws.{HasOwnLines, WholeStands}
 use Rattle.completeness.specs.Told.{FillsBlocks, TellsLimitsAlone}
+use Rattle.completeness.specs.OfPlans.{file_text, IsFileOfPlan}
 use Rattle.lower.specs.declared.error.LowerError.{LowerError}
 use Rattle.lower.specs.declared.lowering.Lowered.{Lowered}
 use Rattle.soundness.specs.declared.outline.refusals.code.K.TheVariants.{K14}
-use Rattle.plan.specs.Plan.{Plan as PlanSaid}
 use Rattle.plan.specs.View.{plan_of}
 use Rattle.plan.specs.declared.plan.Plan.{Plan as PlanMade}
 use Rattle.plan.specs.declared.certificate.cert.Cert.{Cert}
-use Rattle.plan.specs.Certificate.Certificate.{Certificate, certificate_of}
-use Rattle.spelling.specs.Lines.Lines.{lines_text}
+use Rattle.plan.specs.Certificate.Certificate.{certificate_of}
 use Rattle.spelling.specs.declared.lines.error.TextError.TheVariants as read
-use Rattle.nest.specs.Notation.{plan_notation}
-use Rattle.cert.specs.Notation.{certificate_lines}
-use Rattle.cert.specs.File.File.{IsFileOf, IsRefusedFile}
+use Rattle.cert.specs.File.File.{IsRefusedFile}
 use Rattle.commands.specs.declared.pipeline.fault.Fault.{Fault}
 use Rattle.commands.specs.declared.pipeline.fault.Fault.TheVariants.{Memory, Plan}
 use Rattle.commands.specs.Pipeline.Faults.{schedule_fault}
@@ -55,7 +51,7 @@ pub record IsNotLowered (a : Algorithm) (s : Schedule) (fault : Fault) : Type 0 
 
 -- what `lower` says of the plan that it makes of a legal schedule, and of its certificate, and what follows: each group has a line of what its pieces own;
 -- where whole functions keep the inner loops of splits serial, these part the cells and are served by those that they need; and where splits are into
--- whole blocks, whatever the checker tells is a limit
+-- whole blocks, whatever the checker tells is a limit, and the text is a file of this plan alone, but for the limits of files
 pub record IsLowered (a : Algorithm) (s : Schedule) (l : Lowered) : Type 0 where
   pub legal : IsLegal a s
   pub small : AreSmall a s
@@ -64,23 +60,21 @@ pub record IsLowered (a : Algorithm) (s : Schedule) (l : Lowered) : Type 0 where
   pub groups : AreGroupsMade a s l
   pub own_lines : HasOwnLines (plan_of l.plan) (certificate_of l.certificate)
   pub shares : WholeStands a s l
-  pub limits : FillsBlocks a s → IsNamed a → TellsLimitsAlone a (plan_of l.plan) (certificate_of l.certificate)
+  pub limits : FillsBlocks a s → TellsLimitsAlone a (plan_of l.plan) (certificate_of l.certificate)
+  pub file : FillsBlocks a s → IsFileOfPlan (plan_of l.plan) (certificate_of l.certificate)
 
--- the text of a plan file: the plan's lines, and behind them the certificate's
-abbrev pub file_text : PlanSaid → Certificate → List ℕ
-file_text p c = lines_text (plan_notation.lines p) ++ lines_text (certificate_lines c)
-
--- the text of the plan that is made of the schedule
+-- the text of the plan that is made of the schedule, with its certificate
 pub record IsPlanText (a : Algorithm) (s : Schedule) (text : List ℕ) : Type 0 where
   pub made : Lowered
   pub lowered : IsLowered a s made
   pub written : text ≡ file_text (plan_of made.plan) (certificate_of made.certificate)
 
--- the checker has accepted this plan with its certificate, as it was read of that text
+-- the checker has accepted this plan with its certificate, as it was read of that text; where splits are into whole blocks, they are those that were made
 pub record IsCompiledPlan (a : Algorithm) (s : Schedule) (plan : PlanMade) (cert : Cert) : Type 0 where
   pub text : List ℕ
   pub of_schedule : IsPlanText a s text
   pub accepted : IsAccepted a text plan cert
+  pub same : FillsBlocks a s → (plan_of plan ≡ plan_of of_schedule.made.plan) × (certificate_of cert ≡ certificate_of of_schedule.made.certificate)
 
 -- the reader of plan files refuses the text at this line
 abbrev pub IsUnread : List ℕ → ℕ → Type 0
@@ -93,22 +87,19 @@ IsUnaccepted a text Memory = ⊤
 IsUnaccepted a text (Plan code line) = IsWrong a text code line ⊎ ((code ≡ K14) × IsUnread text line)
 IsUnaccepted a text _ = ⊥
 
--- the text is read as the plan that was made, with its certificate
-abbrev pub IsReadAs : List ℕ → Lowered → Type 0
-IsReadAs text l = IsFileOf text (plan_of l.plan) (certificate_of l.certificate)
+-- a limit is told of the text, as K14: one of the checker's, which its plan passes at this line, or one of the reader's, which this line of the text passes;
+-- want of memory says nothing
+abbrev pub IsLimit : Algorithm → List ℕ → Fault → Type 0
+IsLimit a text Memory = ⊤
+IsLimit a text (Plan code line) = (code ≡ K14) × (IsWrong a text code line ⊎ IsRefusedFile text (read.Limit line))
+IsLimit a text _ = ⊥
 
--- what is told of a plan is that it passes a limit
-abbrev pub TellsLimit : Fault → Type 0
-TellsLimit (Plan code line) = code ≡ K14
-TellsLimit _ = ⊤
-
--- the schedule is legal, and the text of the plan that is made of it is not accepted: where splits are into whole blocks, for a limit, if the text is
--- read as that plan
+-- the schedule is legal, and the text of the plan that is made of it is not accepted: where splits are into whole blocks, for a limit
 pub record IsRefusedPlan (a : Algorithm) (s : Schedule) (fault : Fault) : Type 0 where
   pub text : List ℕ
   pub of_schedule : IsPlanText a s text
   pub refused : IsUnaccepted a text fault
-  pub limit : FillsBlocks a s → IsNamed a → IsReadAs text of_schedule.made → TellsLimit fault
+  pub limit : FillsBlocks a s → IsLimit a text fault
 
 -- why no plan file comes of a schedule
 abbrev pub IsNotCompiled : Algorithm → Schedule → Fault → Type 0

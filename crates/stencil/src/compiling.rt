@@ -6,7 +6,8 @@ ghost use Rattle.sched.specs.Legal.{IsLegal};
 ghost use Rattle.sched.specs.View.{schedule_of};
 ghost use Rattle.plan.specs.View.{plan_of};
 ghost use Rattle.plan.specs.Certificate.Certificate.{certificate_of};
-ghost use Rattle.stencil.specs.Compiling.{IsCompiledPlan, IsLowered, IsNotCompiled, IsNotLowered, IsPlanText, IsScheduleRefused, IsScheduleText, IsUnaccepted, file_text};
+ghost use Rattle.completeness.specs.OfPlans.{file_text};
+ghost use Rattle.stencil.specs.Compiling.{IsCompiledPlan, IsLowered, IsNotCompiled, IsNotLowered, IsPlanText, IsScheduleRefused, IsScheduleText, IsUnaccepted};
 ghost use Rattle.stencil.specs.Faults.{limit_fault, lower_fault};
 ghost use Rattle.commands.specs.Pipeline.PlanFiles.{HasPlan, IsAccepted};
 
@@ -14,6 +15,7 @@ use algo::Algo;
 use checked_plan::Checked;
 use commands::pipeline::{BrokenRule, Fault, check_plan};
 use completeness::laws::{own_lines_stand, whole_plans_are_shared};
+use completeness::said::files_are_of_plans;
 use completeness::told::faults_are_limits;
 use lower::{LowerError, Lowered, lower};
 use sched::Sched;
@@ -53,9 +55,11 @@ fn lowered(alloc: Global, algo: &Algo, sched: &Sched) -> Result<Lowered, Fault>
     ensures refused { IfErr result (IsNotLowered (algorithm_of algo.now) (schedule_of sched.now)) }
 {
     algo.is_well_formed();
+    algo.is_read();
     own_lines_stand();
     whole_plans_are_shared();
     faults_are_limits();
+    files_are_of_plans();
     match lower(alloc, algo, sched) {
         Ok(lowered) => Ok(lowered),
         Err(error) => Err(refused(error)),

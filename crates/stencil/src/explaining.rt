@@ -3,7 +3,7 @@
 ghost use Rattle.std.specs.Prelude.{◌≡◌, OnOk};
 ghost use Rattle.commands.specs.Files.{SameFiles};
 
-use crate::reasons::{
+use crate::origins::{
     file_again, first_no_text, plan_again, reason_again, refused_among, schedule_refused,
 };
 use commands::marking::{Place, bytes_of, show, show_places};

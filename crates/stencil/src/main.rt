@@ -5,9 +5,9 @@ mod compare;
 mod compiling;
 mod escaped;
 mod explaining;
+mod origins;
 mod program;
 mod progress;
-mod reasons;
 mod schedule_command;
 mod system;
 

@@ -27,7 +27,8 @@ returns-in_err-accept-clause-refused g c =
       text = c.as_str.result.now;
       of_schedule = record { made = c.in_ok-plan.plan; lowered = c.in_ok-plan.ensures.made; written = c.as_str.ensures.value ∙ c.in_ok-file.ensures };
       refused = refused;
-      limit = λ splits names read. is_limit a c.as_str.result.now c.in_ok-plan.plan p.0 (c.in_ok-plan.ensures.made.limits splits names) read refused;
+      limit = λ splits. is_limit c.as_str.result.now c.in_ok-plan.plan (c.in_ok-plan.ensures.made.file splits) (c.as_str.ensures.value ∙ c.in_ok-file.ensures) a
+          (c.in_ok-plan.ensures.made.limits splits) p.0 refused;
     })))
 
 pub returns-clause-of_schedule : goal.returns-clause-of_schedule

@@ -3,10 +3,12 @@ use Rattle.std.proofs.lemmas.Result.{IfErr-weaker, IfOk-weaker}
 use Rattle.meaning.specs.Algorithm.{Algorithm}
 use Rattle.algo.specs.View.{algorithm_of}
 use Rattle.sched.specs.Schedule.{Schedule}
+use Rattle.plan.specs.View.{plan_of}
+use Rattle.plan.specs.Certificate.Certificate.{certificate_of}
 use Rattle.sched.specs.View.{schedule_of}
 use Rattle.stencil.specs.Compiling.{IsCompiledPlan, IsNotCompiled, IsUnaccepted}
 use Rattle.commands.specs.Pipeline.PlanFiles.{IsAccepted}
-use Rattle.stencil.proofs.Limited.{is_limit}
+use Rattle.stencil.proofs.Limited.{is_limit, same_plan}
 use Rattle.stencil.proofs.compiling.compile_checked.Goals as goal
 
 pub returns-clause-refused : goal.returns-clause-refused
@@ -18,7 +20,8 @@ returns-clause-refused g c =
       text = c.as_str.result.now;
       of_schedule = record { made = c.in_ok-plan.plan; lowered = c.in_ok-plan.ensures.made; written = c.as_str.ensures.value ∙ c.in_ok-file.ensures };
       refused = unaccepted;
-      limit = λ splits names read. is_limit a c.as_str.result.now c.in_ok-plan.plan fault (c.in_ok-plan.ensures.made.limits splits names) read unaccepted;
+      limit = λ splits. is_limit c.as_str.result.now c.in_ok-plan.plan (c.in_ok-plan.ensures.made.file splits) (c.as_str.ensures.value ∙ c.in_ok-file.ensures) a
+          (c.in_ok-plan.ensures.made.limits splits) fault unaccepted;
     }))) c.accept.ensures.refused
 
 pub returns-clause-of_schedule : goal.returns-clause-of_schedule
@@ -30,4 +33,6 @@ returns-clause-of_schedule g c =
       text = c.as_str.result.now;
       of_schedule = record { made = c.in_ok-plan.plan; lowered = c.in_ok-plan.ensures.made; written = c.as_str.ensures.value ∙ c.in_ok-file.ensures };
       accepted = accepted;
+      same = λ splits. same_plan c.as_str.result.now c.in_ok-plan.plan (c.in_ok-plan.ensures.made.file splits) (c.as_str.ensures.value ∙ c.in_ok-file.ensures)
+          (plan_of checked.plan) (certificate_of checked.cert) accepted.file;
     }) c.accept.ensures.read

@@ -12,8 +12,10 @@ returns-in-Ok-clause-made c = record {
   own_lines = c.own_lines_stand.ensures (algorithm_of c.args.algo.now) (schedule_of c.args.sched.now) c.in-Ok.lowered c.in-Ok.ensures.groups;
   shares = c.whole_plans_are_shared.ensures (algorithm_of c.args.algo.now) (schedule_of c.args.sched.now) c.in-Ok.lowered c.is_well_formed.ensures c.in-Ok.ensures.legal
       c.in-Ok.ensures.small c.in-Ok.ensures.regions c.in-Ok.ensures.groups;
-  limits = c.faults_are_limits.ensures (algorithm_of c.args.algo.now) (schedule_of c.args.sched.now) c.in-Ok.lowered c.is_well_formed.ensures c.in-Ok.ensures.legal
-      c.in-Ok.ensures.small c.in-Ok.ensures.regions c.in-Ok.ensures.groups;
+  limits = λ splits. c.faults_are_limits.ensures (algorithm_of c.args.algo.now) (schedule_of c.args.sched.now) c.in-Ok.lowered c.is_well_formed.ensures c.in-Ok.ensures.legal
+      c.in-Ok.ensures.small c.in-Ok.ensures.regions c.in-Ok.ensures.groups splits c.is_read.ensures.named;
+  file = λ splits. c.files_are_of_plans.ensures (algorithm_of c.args.algo.now) (schedule_of c.args.sched.now) c.in-Ok.lowered c.is_well_formed.ensures c.in-Ok.ensures.legal
+      c.in-Ok.ensures.small c.in-Ok.ensures.regions c.in-Ok.ensures.groups splits c.is_read.ensures.named c.is_read.ensures.written;
 }
 
 pub returns-in-Err-clause-refused : goal.returns-in-Err-clause-refused

@@ -1,0 +1,421 @@
+//! Why no bounds are found of what the turns of loops need.
+
+use crate::asked::{is_whole, read_reason, unbounded_at};
+use crate::causes::{BoundCause, Cause, Reason, TurnCause};
+use crate::reach::number_named;
+use crate::readings::{Reading, add_readings};
+use crate::slides::readings_at;
+use algo::Algo;
+use lin::{Region, Scope};
+use lower::Stop;
+use lower::functions::Stored;
+use lower::inside::{
+    Host, Inner, Needed, Party, Root, Site, Spot, inners_of, laid_by_turns, nests_over, parties_of,
+    region_at, root_at, roots_of, scope_at, sites_at, spots_of,
+};
+use lower::reach::{Laid, laid_functions};
+use lower::spans::{head_scope, shortest};
+use sched::Nest;
+use std::alloc::{AllocError, Global};
+use tree::token::Name;
+
+// Whether there is none within the limits.
+fn passes_limits<T: Drop>(made: Result<T, Stop>) -> Result<bool, AllocError> {
+    match made {
+        Ok(_) => Ok(false),
+        Err(Stop::Limit) => Ok(true),
+        Err(Stop::Memory) => Err(AllocError),
+    }
+}
+
+// ---- one place
+
+// The function in which an index stands.
+fn caller_of<'a>(group: &Root<'a>, inners: &[Inner<'a>], reading: &Reading<'_>) -> Root<'a> {
+    match reading.number {
+        Some(number) => root_at(group, inners, Host::Inner(number)),
+        None => *group,
+    }
+}
+
+// The first index with a form past the limits.
+fn flawed_reason<'a>(
+    alloc: Global,
+    algo: &Algo,
+    group: &Root<'a>,
+    inners: &[Inner<'a>],
+    function: Name,
+    readings: &[Reading<'_>],
+) -> Result<Option<Reason>, AllocError> {
+    for reading in readings {
+        if reading.span.is_none() {
+            let caller = caller_of(group, inners, reading);
+            let reason = unbounded_at(alloc, algo, Some(&caller), function, reading)?;
+            return Ok(Some(reason));
+        }
+    }
+    Ok(None)
+}
+
+// The first dimension of which bounds do not tell how many numbers there are.
+fn uncounted(alloc: Global, scope: &Scope, region: &Region) -> Result<Option<usize>, AllocError> {
+    for (dimension, span) in region.as_slice().iter().enumerate() {
+        if shortest(alloc, scope, span)?.is_none() {
+            return Ok(Some(dimension));
+        }
+    }
+    Ok(None)
+}
+
+// The first index of a dimension.
+fn first_of<'b, 'a>(readings: &'b [Reading<'a>], dimension: usize) -> Option<&'b Reading<'a>> {
+    for one in readings {
+        if one.dimension == dimension {
+            return Some(one);
+        }
+    }
+    None
+}
+
+// The cause, with the place of the first index of a dimension.
+fn at_first(
+    alloc: Global,
+    readings: &[Reading<'_>],
+    dimension: usize,
+    cause: BoundCause,
+) -> Result<Reason, AllocError> {
+    match first_of(readings, dimension) {
+        Some(reading) => Cause::Bound(cause).at(alloc, reading.index.span()),
+        None => Ok(Cause::Bound(cause).alone(alloc)),
+    }
+}
+
+// The first dimension whose loop is split.
+fn first_cut(root: &Root<'_>) -> usize {
+    let cuts = &root.stored.placed.cuts;
+    for (dimension, variable) in root.stored.subject.variables.iter().enumerate() {
+        if is_whole(cuts, variable) {
+            return dimension;
+        }
+    }
+    0
+}
+
+// Why no loops are made over what is needed of a function at a place.
+fn loops_reason(
+    alloc: Global,
+    root: &Root<'_>,
+    scope: &Scope,
+    region: &Region,
+    readings: &[Reading<'_>],
+    turn: Name,
+) -> Result<Option<Reason>, AllocError> {
+    let function = root.stored.subject.name;
+    if let Some(dimension) = uncounted(alloc, scope, region)? {
+        let Some(variable) = root.stored.subject.variables.get(dimension) else {
+            return Ok(None);
+        };
+        let cause = BoundCause::Turn(TurnCause::NoCount {
+            function,
+            variable: *variable,
+            turn,
+        });
+        return Ok(Some(at_first(alloc, readings, dimension, cause)?));
+    }
+    let needed = Needed {
+        scope,
+        region,
+        kept: region,
+    };
+    if passes_limits(nests_over(alloc, root, needed))? {
+        let cause = BoundCause::Turn(TurnCause::Forms { function, turn });
+        return Ok(Some(at_first(alloc, readings, first_cut(root), cause)?));
+    }
+    Ok(None)
+}
+
+// Why bounds of what these sites need of a function at a place are missing.
+fn sites_reason<'a>(
+    alloc: Global,
+    group: &Root<'a>,
+    inners: &[Inner<'a>],
+    root: &Root<'a>,
+    spot: Spot,
+    turn: Name,
+    readings: &[Reading<'a>],
+    sites: &[Site],
+) -> Result<Option<Reason>, Stop> {
+    let scope = scope_at(alloc, group, inners, spot)?;
+    let region = region_at(alloc, root, &scope, sites)?;
+    Ok(loops_reason(alloc, root, &scope, &region, readings, turn)?)
+}
+
+// The same of all sites at the place, where there are some.
+fn needed_reason<'a>(
+    alloc: Global,
+    algo: &Algo,
+    group: &Root<'a>,
+    inners: &[Inner<'a>],
+    root: &Root<'a>,
+    spot: Spot,
+    turn: Name,
+    readings: &[Reading<'a>],
+) -> Result<Option<Reason>, Stop> {
+    let callee = root.stored.subject.name.as_str();
+    let sites = sites_at(alloc, algo, group, inners, spot, callee)?;
+    if sites.is_empty() {
+        return Ok(None);
+    }
+    sites_reason(
+        alloc,
+        group,
+        inners,
+        root,
+        spot,
+        turn,
+        readings,
+        sites.as_slice(),
+    )
+}
+
+// Why bounds of what is needed of a function at a place are missing.
+fn spot_reason<'a>(
+    alloc: Global,
+    algo: &Algo,
+    group: &Root<'a>,
+    inners: &[Inner<'a>],
+    root: &Root<'a>,
+    spot: Spot,
+) -> Result<Option<Reason>, Stop> {
+    let function = root.stored.subject.name;
+    let Some(home) = root.stored.placed.homes.first() else {
+        return Ok(None);
+    };
+    let callee = function.as_str();
+    let readings = readings_at(alloc, algo, group, inners, spot, callee)?;
+    match flawed_reason(alloc, algo, group, inners, function, &readings)? {
+        Some(flawed) => Ok(Some(flawed)),
+        None => needed_reason(
+            alloc,
+            algo,
+            group,
+            inners,
+            root,
+            spot,
+            home.turn,
+            readings.as_slice(),
+        ),
+    }
+}
+
+// The first place at which bounds are missing.
+fn place_reason<'a>(
+    alloc: Global,
+    algo: &Algo,
+    group: &Root<'a>,
+    inners: &[Inner<'a>],
+    root: &Root<'a>,
+) -> Result<Option<Reason>, Stop> {
+    for spot in spots_of(alloc, group, inners, root)? {
+        let found = spot_reason(alloc, algo, group, inners, root, spot)?;
+        if found.is_some() {
+            return Ok(found);
+        }
+    }
+    Ok(None)
+}
+
+// Why bounds of a function are missing that is computed inside of a group, where those that are declared later have them.
+fn inner_reason<'a>(
+    alloc: Global,
+    algo: &Algo,
+    group: &Root<'a>,
+    rest: &[Root<'a>],
+    root: &Root<'a>,
+) -> Result<Reason, AllocError> {
+    let cause = Cause::Bound(BoundCause::Turn(TurnCause::Unknown(root.stored.subject.name)));
+    let found = match inners_of(alloc, algo, group, rest)? {
+        Ok(inners) => place_reason(alloc, algo, group, &inners, root),
+        Err(_) => Err(Stop::Limit),
+    };
+    match found {
+        Ok(Some(reason)) => Ok(reason),
+        Ok(None) | Err(Stop::Limit) => Ok(cause.alone(alloc)),
+        Err(Stop::Memory) => Err(AllocError),
+    }
+}
+
+// The place of a function among others; none where it is none of them.
+fn place_named(functions: &[Root<'_>], name: &Name) -> Option<usize> {
+    for (place, one) in functions.iter().enumerate() {
+        if one.stored.subject.name.as_str() == name.as_str() {
+            return Some(place);
+        }
+    }
+    None
+}
+
+// Why bounds of a function are missing, if they are missing of it in the loops of this group.
+fn missing_turn<'a>(
+    alloc: Global,
+    algo: &Algo,
+    group: &Root<'a>,
+    functions: &[Root<'a>],
+    name: &Name,
+) -> Result<Option<Reason>, AllocError> {
+    match inners_of(alloc, algo, group, functions)? {
+        Err(missing) if missing.as_str() == name.as_str() => {
+            let Some(place) = place_named(functions, name) else {
+                return Ok(None);
+            };
+            let Some([one, rest @ ..]) = functions.get(place..) else {
+                return Ok(None);
+            };
+            Ok(Some(inner_reason(alloc, algo, group, rest, one)?))
+        }
+        _ => Ok(None),
+    }
+}
+
+/// Why bounds of a function are missing that is computed inside the loops of a root function.
+pub(crate) fn turn_reason<'a>(
+    alloc: Global,
+    algo: &Algo,
+    stored: &'a [Stored<'a>],
+    laid: &'a [Option<Laid>],
+    one: &Stored<'_>,
+) -> Result<Option<Reason>, AllocError> {
+    let functions = roots_of(alloc, stored, laid, false)?;
+    for group in roots_of(alloc, stored, laid, true)? {
+        let found = missing_turn(alloc, algo, &group, &functions, &one.subject.name)?;
+        if found.is_some() {
+            return Ok(found);
+        }
+    }
+    Ok(None)
+}
+
+// ---- all turns
+
+// The indices at which the nests of another function call the one of this name.
+fn add_nests<'a>(
+    alloc: Global,
+    algo: &Algo,
+    stored: &[Stored<'_>],
+    root: &Root<'a>,
+    outer: &Scope,
+    nests: &[Nest],
+    callee: &str,
+    found: &mut Vec<Reading<'a>>,
+) -> Result<(), Stop> {
+    let name = root.stored.subject.name;
+    if name.as_str() == callee {
+        return Ok(());
+    }
+    let number = number_named(stored, &name);
+    add_readings(alloc, algo, root, number, outer, nests, None, callee, found)
+}
+
+// The indices at which the nests of a party call a function, but for its own.
+fn add_party<'a>(
+    alloc: Global,
+    algo: &Algo,
+    stored: &[Stored<'_>],
+    party: &Party<'a>,
+    callee: &str,
+    found: &mut Vec<Reading<'a>>,
+) -> Result<(), Stop> {
+    let skeleton = &party.root.laid.skeleton;
+    let outer = head_scope(alloc, skeleton)?;
+    let nests = &skeleton.nests;
+    add_nests(
+        alloc,
+        algo,
+        stored,
+        &party.root,
+        &outer,
+        nests,
+        callee,
+        found,
+    )?;
+    let Ok(inners) = &party.inners else {
+        return Ok(());
+    };
+    for inner in inners {
+        let nests = &inner.nests;
+        add_nests(
+            alloc,
+            algo,
+            stored,
+            &inner.root,
+            &inner.scope,
+            nests,
+            callee,
+            found,
+        )?;
+    }
+    Ok(())
+}
+
+// The indices at which the turns of all loops call a function, but for its own.
+fn turned_readings<'a>(
+    alloc: Global,
+    algo: &Algo,
+    stored: &[Stored<'_>],
+    parties: &[Party<'a>],
+    callee: &str,
+) -> Result<Vec<Reading<'a>>, Stop> {
+    let mut found = Vec::new(alloc);
+    for party in parties {
+        add_party(alloc, algo, stored, party, callee, &mut found)?;
+    }
+    Ok(found)
+}
+
+// The last function that had a region and has none now, from one of them on.
+fn last_missing(known: &[Option<Laid>], made: &[Option<Laid>], number: usize) -> Option<usize> {
+    let mut found = None;
+    for (place, (one, other)) in known.iter().zip(made.iter()).enumerate() {
+        if place >= number && one.is_some() && other.is_none() {
+            found = Some(place);
+        }
+    }
+    found
+}
+
+// Why the turns of loops ask for no region of a function, where the functions have these regions.
+fn asked_by_turns<'a>(
+    alloc: Global,
+    algo: &Algo,
+    stored: &'a [Stored<'a>],
+    laid: &'a [Option<Laid>],
+    number: usize,
+) -> Result<Option<Reason>, Stop> {
+    let parties = parties_of(alloc, algo, stored, laid)?;
+    let Some(one) = stored.get(number) else {
+        return Ok(None);
+    };
+    let name = one.subject.name;
+    let readings = turned_readings(alloc, algo, stored, &parties, name.as_str())?;
+    read_reason(alloc, algo, stored, laid, number, &readings)
+}
+
+/// Why a function has a region by the loops over whole functions, and none by their turns.
+pub(crate) fn turned_region(
+    alloc: Global,
+    algo: &Algo,
+    stored: &[Stored<'_>],
+    number: usize,
+) -> Result<Option<Reason>, Stop> {
+    let mut laid = laid_functions(alloc, algo, stored)?;
+    for _round in 0..stored.len() {
+        let Some(made) = laid_by_turns(alloc, algo, stored, &laid)? else {
+            return Ok(None);
+        };
+        if let Some(last) = last_missing(&laid, &made, number) {
+            return asked_by_turns(alloc, algo, stored, &laid, last);
+        }
+        laid = made;
+    }
+    Ok(None)
+}

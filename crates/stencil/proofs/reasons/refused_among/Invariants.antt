@@ -1,5 +1,0 @@
-use Rattle.commands.specs.Files.{SameFiles}
-use Rattle.stencil.proofs.reasons.refused_among.Given as goal
-
-abbrev pub invariant-loop-name : goal.invariant-loop-name
-invariant-loop-name g l = SameFiles (g.F.Files.contents l.fn.files) (g.F.Files.contents l.files)

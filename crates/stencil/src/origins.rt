@@ -1,0 +1,257 @@
+//! Where a refusal comes from: which file it is of, and what made a schedule break a rule, found again of the files.
+
+ghost use Rattle.commands.specs.Files.{SameFiles};
+
+use crate::compiling::{compile_checked, plan_text, read_schedule};
+use algo::Algo;
+use commands::pipeline::Fault;
+use commands::{Files, algorithm_in};
+use lower::{LowerError, lower};
+use reasons::{Reason, reason};
+use sched::Sched;
+use std::alloc::Global;
+use std::str;
+use std::thread::Threads;
+
+/// What made the schedule break the rule that it is refused for, where that is found and memory is there to tell it.
+fn reason_of(alloc: Global, algo: &Algo, sched: &Sched, error: &LowerError) -> Option<Reason> {
+    match reason(alloc, algo, sched, error) {
+        Ok(found) => found,
+        Err(_) => None,
+    }
+}
+
+/// What made a schedule break a rule, where it breaks one.
+fn broken_by(alloc: Global, algo: &Algo, sched: &Sched) -> Option<Reason> {
+    let Err(error) = lower(alloc, algo, sched) else {
+        return None;
+    };
+    reason_of(alloc, algo, sched, &error)
+}
+
+/// Whether a plan comes of a schedule that the checker accepts; none where memory runs out.
+fn is_taken<T: Threads + Sync>(rt: &T, alloc: Global, algo: &Algo, sched: &Sched) -> Option<bool> {
+    let outcome = compile_checked(rt, alloc, algo, sched);
+    match &outcome {
+        Ok(_) => Some(true),
+        Err(Fault::Memory) => None,
+        Err(_) => Some(false),
+    }
+}
+
+/// What a schedule's bytes are read as; none where they are no text.
+fn schedule_of(alloc: Global, bytes: &[u8]) -> Option<Result<Sched, Fault>> {
+    match str::from_utf8(bytes) {
+        Ok(text) => Some(read_schedule(alloc, text)),
+        Err(_) => None,
+    }
+}
+
+/// A schedule as its file is read once more; none where that can't be.
+fn schedule_again<F: Files>(
+    alloc: Global,
+    files: &mut F,
+    name: &str,
+) -> Option<Result<Sched, Fault>>
+    ensures { SameFiles (F.contents files.old) (F.contents files.new) }
+{
+    let bytes = files.again(alloc, name)?;
+    schedule_of(alloc, bytes.as_slice())
+}
+
+/// A file that is read once more: its name and its bytes; none where that can't be.
+pub(crate) fn file_again<'a, F: Files>(
+    alloc: Global,
+    files: &mut F,
+    name: &'a str,
+) -> Option<(&'a str, Vec<u8>)>
+    ensures { SameFiles (F.contents files.old) (F.contents files.new) }
+{
+    let bytes = files.again(alloc, name)?;
+    Some((name, bytes))
+}
+
+/// The first of these schedules whose text is refused, with its bytes, where one is; none where one before it can't be read
+/// again. Of names that are alike and stand together the first alone is read.
+#[tactic(auto, using(commands::proofs::Kept::same_then))]
+pub(crate) fn refused_among<'a, F: Files>(
+    alloc: Global,
+    files: &mut F,
+    names: &[&'a str],
+) -> Option<(&'a str, Vec<u8>)>
+    ensures { SameFiles (F.contents files.old) (F.contents files.new) }
+{
+    let mut taken = None;
+    for name in names {
+        if taken == Some(*name) {
+            continue;
+        }
+        let Some(bytes) = files.again(alloc, name) else {
+            return None;
+        };
+        match schedule_of(alloc, bytes.as_slice()) {
+            Some(Ok(_)) => taken = Some(*name),
+            Some(Err(Fault::Schedule { .. })) => return Some((*name, bytes)),
+            _ => return None,
+        }
+    }
+    None
+}
+
+/// The same of a schedule as its file is read once more; none where that can't be.
+fn is_taken_again<T: Threads + Sync, F: Files>(
+    rt: &T,
+    alloc: Global,
+    files: &mut F,
+    algo: &Algo,
+    name: &str,
+) -> Option<bool>
+    ensures { SameFiles (F.contents files.old) (F.contents files.new) }
+{
+    let Some(Ok(sched)) = schedule_again(alloc, files, name) else {
+        return None;
+    };
+    is_taken(rt, alloc, algo, &sched)
+}
+
+/// The first of these schedules that no accepted plan comes of, and `last` where there is none; none where one can't be read
+/// again. Of names that are alike and stand together the first alone is read.
+#[tactic(auto, using(commands::proofs::Kept::same_then))]
+fn first_untaken<'a, T: Threads + Sync, F: Files>(
+    rt: &T,
+    alloc: Global,
+    files: &mut F,
+    algo: &Algo,
+    names: &[&'a str],
+    last: &'a str,
+) -> Option<&'a str>
+    ensures { SameFiles (F.contents files.old) (F.contents files.new) }
+{
+    let mut taken = None;
+    for name in names {
+        if taken == Some(*name) {
+            continue;
+        }
+        match is_taken_again(rt, alloc, files, algo, name) {
+            Some(true) => taken = Some(*name),
+            Some(false) => return Some(*name),
+            None => return None,
+        }
+    }
+    Some(last)
+}
+
+/// The same of schedules of an algorithm whose file is read once more.
+#[tactic(auto, using(commands::proofs::Kept::same_then))]
+fn untaken_again<'a, T: Threads + Sync, F: Files>(
+    rt: &T,
+    alloc: Global,
+    files: &mut F,
+    algorithm: &str,
+    names: &[&'a str],
+    last: &'a str,
+) -> Option<&'a str>
+    ensures { SameFiles (F.contents files.old) (F.contents files.new) }
+{
+    let Some(text) = files.again(alloc, algorithm) else {
+        return None;
+    };
+    let Ok(algo) = algorithm_in(alloc, text.as_slice()) else {
+        return None;
+    };
+    first_untaken(rt, alloc, files, &algo, names, last)
+}
+
+/// Which of these schedules it was that no plan came of, or none that the checker accepts; none where that can't be told. Of one
+/// schedule nothing is read.
+pub(crate) fn schedule_refused<'a, T: Threads + Sync, F: Files>(
+    rt: &T,
+    alloc: Global,
+    files: &mut F,
+    algorithm: &str,
+    names: &[&'a str],
+) -> Option<&'a str>
+    ensures { SameFiles (F.contents files.old) (F.contents files.new) }
+{
+    let Some((last, before)) = names.split_last() else {
+        return None;
+    };
+    if before.is_empty() {
+        return Some(*last);
+    }
+    untaken_again(rt, alloc, files, algorithm, before, last)
+}
+
+/// The text of the plan that is made of a schedule of an algorithm, where both can be read again.
+#[tactic(auto, using(commands::proofs::Kept::same_then))]
+pub(crate) fn plan_again<F: Files>(
+    alloc: Global,
+    files: &mut F,
+    algorithm: &str,
+    schedule: &str,
+) -> Option<String>
+    ensures { SameFiles (F.contents files.old) (F.contents files.new) }
+{
+    let Some(text) = files.again(alloc, algorithm) else {
+        return None;
+    };
+    let Ok(algo) = algorithm_in(alloc, text.as_slice()) else {
+        return None;
+    };
+    let Some(Ok(sched)) = schedule_again(alloc, files, schedule) else {
+        return None;
+    };
+    plan_text(alloc, &algo, &sched).ok()
+}
+
+/// What made a schedule of an algorithm break a rule, with the algorithm's text, where both can be read again.
+#[tactic(auto, using(commands::proofs::Kept::same_then))]
+pub(crate) fn reason_again<F: Files>(
+    alloc: Global,
+    files: &mut F,
+    algorithm: &str,
+    schedule: &str,
+) -> Option<(Vec<u8>, Reason)>
+    ensures { SameFiles (F.contents files.old) (F.contents files.new) }
+{
+    let Some(text) = files.again(alloc, algorithm) else {
+        return None;
+    };
+    let Ok(algo) = algorithm_in(alloc, text.as_slice()) else {
+        return None;
+    };
+    let Some(Ok(sched)) = schedule_again(alloc, files, schedule) else {
+        return None;
+    };
+    match broken_by(alloc, &algo, &sched) {
+        Some(reason) => Some((text, reason)),
+        None => None,
+    }
+}
+
+/// Whether a file, read once more, is no text.
+fn is_no_text<F: Files>(alloc: Global, files: &mut F, name: &str) -> bool
+    ensures { SameFiles (F.contents files.old) (F.contents files.new) }
+{
+    match files.again(alloc, name) {
+        Some(bytes) => str::from_utf8(bytes.as_slice()).is_err(),
+        None => false,
+    }
+}
+
+/// The first of these files that is no text, of those that can be read again.
+#[tactic(auto, using(commands::proofs::Kept::same_then))]
+pub(crate) fn first_no_text<'a, F: Files>(
+    alloc: Global,
+    files: &mut F,
+    names: &[&'a str],
+) -> Option<&'a str>
+    ensures { SameFiles (F.contents files.old) (F.contents files.new) }
+{
+    for name in names {
+        if is_no_text(alloc, files, name) {
+            return Some(*name);
+        }
+    }
+    None
+}
