@@ -20,10 +20,7 @@ pub struct Call<'a> {
 /// The calls so far and those of an expression; a call comes before those of its indices.
 #[cycle(calls)]
 #[tactic(auto, using(crate::proofs::Calling::behind_two, crate::proofs::Calling::behind_three))]
-pub fn with_calls<'a>(
-    known: Vec<Call<'a>>,
-    expr: &'a Expr,
-) -> Result<Vec<Call<'a>>, AllocError>
+pub fn with_calls<'a>(known: Vec<Call<'a>>, expr: &'a Expr) -> Result<Vec<Call<'a>>, AllocError>
     ensures { IfOk result (λ v. map call_of v.items ≡ map call_of known.entry.items ++ calls_of (term_of expr.now)) }
 {
     match expr {

@@ -347,12 +347,7 @@ fn with_span(alloc: Global, grid: &Scope, known: Option<Span1>, next: Span1) -> 
 }
 
 /// The span without the inner symbols; where there are none it stays as it is.
-pub fn freed(
-    alloc: Global,
-    scope: &Scope,
-    inner: &[Sym],
-    span: &Span1,
-) -> Result<Span1, Stop>
+pub fn freed(alloc: Global, scope: &Scope, inner: &[Sym], span: &Span1) -> Result<Span1, Stop>
     ensures { Gives result (λ free. free) (spec.freed scope.now inner.now span.now) }
 {
     match inner {

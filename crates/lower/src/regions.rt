@@ -306,11 +306,7 @@ pub(crate) fn are_calls_of(callee: &str, calls: &[Call<'_>]) -> bool
 }
 
 /// Whether one of the definitions calls the function of this name.
-pub fn formulas_call(
-    alloc: Global,
-    formulas: &[Formula],
-    callee: &str,
-) -> Result<bool, AllocError>
+pub fn formulas_call(alloc: Global, formulas: &[Formula], callee: &str) -> Result<bool, AllocError>
     ensures { IfOk result (λ yes. yes ≡ some_calls callee.now (map formula_of formulas.now)) }
 {
     match formulas {

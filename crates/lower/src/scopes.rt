@@ -148,12 +148,7 @@ pub fn variables_of<'a>(
 
 /// What the value of an expression stays within.
 #[tactic(auto, using(crate::proofs::Stops::form_gives))]
-pub fn interval(
-    alloc: Global,
-    algo: &Algo,
-    around: &Around<'_>,
-    expr: &Expr,
-) -> Result<Span1, Stop>
+pub fn interval(alloc: Global, algo: &Algo, around: &Around<'_>, expr: &Expr) -> Result<Span1, Stop>
     ensures { Gives result (λ span. span) (spec.interval_in (algorithm_of algo.now) (spec.around_of around.now) (term_of expr.now)) }
 {
     let named = Named {

@@ -740,11 +740,7 @@ fn whole_nests(
 
 /// The nests of a function's definitions over what a turn needs, in which the symbols are numbered from those around on.
 #[tactic(auto, using(crate::proofs::Along::if_whole, crate::proofs::Along::not_whole, crate::proofs::Parted::if_parted, crate::proofs::Parted::not_parted))]
-pub fn nests_over(
-    alloc: Global,
-    root: &Root<'_>,
-    needed: Needed<'_>,
-) -> Result<Vec<Nest>, Stop>
+pub fn nests_over(alloc: Global, root: &Root<'_>, needed: Needed<'_>) -> Result<Vec<Nest>, Stop>
     ensures whole { IfOk result (λ v. spec.IfWhole (stored_of root.now.stored.now).placed.cuts (spec.whole_nests (stored_of root.now.stored.now)
         (map formula_of root.now.formulas.now) needed.entry.scope.now needed.entry.region.now ≡ Some (map nest_seen v.items))) }
     ensures parted { IfOk result (λ v. parted.IfParted (stored_of root.now.stored.now).placed.cuts (parted.parted_nests (stored_of root.now.stored.now)

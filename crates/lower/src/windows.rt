@@ -78,11 +78,7 @@ fn size_within(
 }
 
 /// How many numbers the window of a span has: the smallest over all pairs of a lower and an upper form.
-pub fn window_size(
-    alloc: Global,
-    scope: &Scope,
-    span: &Span1,
-) -> Result<Option<i64>, AllocError>
+pub fn window_size(alloc: Global, scope: &Scope, span: &Span1) -> Result<Option<i64>, AllocError>
     ensures { IfOk result (λ size. size ≡ spec.window_size scope.now span.now) }
 {
     size_within(alloc, scope, span.lower.as_slice(), span.upper.as_slice())

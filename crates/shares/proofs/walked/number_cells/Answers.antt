@@ -12,7 +12,9 @@ loop-place-preserved c =
     let within : k < length cells = omega (arith, inv.1, c.loop-place-test.true) in
     let next : k + 1 - begun ≡ suc (k - begun) = omega (arith, inv.0) in
     let more : range_with_len first (k - begun) ++ (first + (k - begun)) ∷ [] ≡ range_with_len first (k + 1 - begun) =
-        sym (ap (λ (n : ℕ). range_with_len first n) next ∙ range_more first (k - begun)) in
-    (omega (arith, inv.0), length-set cells k (first + (k - begun)) ∙ inv.1,
-    take-set_at cells k (k + 1) (first + (k - begun)) (omega arith) within ∙ ap (λ (xs : List ℕ). xs ++ (first + (k - begun)) ∷ []) inv.2
-    ∙ append_assoc before (range_with_len first (k - begun)) ((first + (k - begun)) ∷ []) ∙ ap (λ (xs : List ℕ). before ++ xs) more)
+    sym (ap (λ (n : ℕ). range_with_len first n) next ∙ range_more first (k - begun)) in (
+      omega (arith, inv.0),
+      length-set cells k (first + (k - begun)) ∙ inv.1,
+      take-set_at cells k (k + 1) (first + (k - begun)) (omega arith) within ∙ ap (λ (xs : List ℕ). xs ++ (first + (k - begun)) ∷ []) inv.2
+          ∙ append_assoc before (range_with_len first (k - begun)) ((first + (k - begun)) ∷ []) ∙ ap (λ (xs : List ℕ). before ++ xs) more,
+    )
