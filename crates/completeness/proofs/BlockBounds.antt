@@ -1,8 +1,9 @@
 -- At a nest's store the search finds that the coordinates of split loops lie in their places.
-use Rattle.std.proofs.Common.{◌≡◌, ℕ, suc, ◌+◌, ◌-◌, ◌<◌, ◌≤◌, ◌^◌, Bool, true, false, ◌&&◌, ◌||◌, not, List, [], ◌∷◌, ◌++◌, length, Some, refl, sym, ap, ◌∙◌, subst, arith}
+use Rattle.std.proofs.Common.{◌≡◌, ℕ, zero, suc, ◌+◌, ◌-◌, ◌*◌, ◌<◌, ◌≤◌, ◌^◌, Bool, true, false, ◌&&◌, ◌||◌, not, List, [], ◌∷◌, ◌++◌, length, Option, Some, None, refl, sym, ap, ◌∙◌, subst, arith}
 use Rattle.std.specs.Prelude.{ℤ, pos, negsuc, ◌+ℤ◌, ◌-ℤ◌, ◌*ℤ◌, ◌≤ℤ◌, nat_lt, ◌==◌, if◌then◌else◌, min, slice_get}
 use Rattle.std.specs.Int.RustNames.{unsigned_abs}
-use Rattle.std.proofs.lemmas.Bool.{le-leb}
+use Rattle.std.specs.List.{AllByRecursion, list_all}
+use Rattle.std.proofs.Math.Nat.{mul-suc}
 use Rattle.std.proofs.lemmas.Bool.Decides.{nat_tests}
 use Rattle.std.proofs.lemmas.Int.{ints}
 use Rattle.lin.specs.Forms.{Form, number, in_front, plus_term, plus_multiple, is_within_limits, combined}
@@ -14,33 +15,25 @@ use Rattle.lin.proofs.Limits.{combined-made}
 use Rattle.plan.specs.declared.stmt.Places.TheVariants.{From}
 use Rattle.soundness.specs.Obligations.{Binder, Rules, anything, exactly}
 use Rattle.soundness.specs.Shown.{raised, is_seated}
+use Rattle.soundness.specs.Binders.View.{grid_binders}
 use Rattle.soundness.specs.Nests.Tests.{binders_in}
 use Rattle.rules.specs.Bounding.Scopes.{most_symbols, limited, binding_of, symbol_count, scope_of, shown_at_most}
 use Rattle.sched.specs.declared.nest.Turning.{Turning}
 use Rattle.sched.specs.Standing.{alone}
 use Rattle.sched.specs.Skeleton.{span}
+use Rattle.lower.specs.Around.{grid_symbol}
 use Rattle.tails.specs.Steps.{along}
 use Rattle.tails.specs.Apart.{is_steady}
-use Rattle.completeness.proofs.GridScope.{number_limited}
+use Rattle.completeness.proofs.GridCounts.{IsShort}
+use Rattle.completeness.proofs.GridScope.{number_limited, grid_tells}
 use Rattle.completeness.proofs.SelfBounds.{form_self, term_gone, found_below, still}
 use Rattle.completeness.proofs.PlainBounds.{loop_above, loop_below}
-use Rattle.completeness.proofs.PlainTests.{loops_for, tells, count_there, at_place, scope_long, at_length}
+use Rattle.completeness.proofs.PlainTests.{limited_loops, skips, count_more, tells, count_there, at_place, scope_long, at_length}
 use Rattle.completeness.proofs.Searched.{one_of, found, numbers_made}
-use Rattle.completeness.proofs.SplitTests.{turns_for}
+use Rattle.completeness.proofs.SplitTests.{limited_turns}
 use Rattle.completeness.proofs.SplitPlaces.{inner_is, none_along}
-use Rattle.completeness.proofs.BlockSums.{multiple, pair, two_of, found_two}
-
--- ---- limits
-
-pub one_limited : (z c : ℤ) (a : ℕ) → unsigned_abs z ≤ 2 ^ 40 → unsigned_abs c ≤ 2 ^ 20 → is_within_limits (one_of z c a) ≡ true
-one_limited z c a near small = (let one = le-leb (unsigned_abs c) (2 ^ 20) small in let two = le-leb (unsigned_abs z) (2 ^ 40) near in λ j. (true && (one j && true)) && two j)
-
-pub two_limited : (z c : ℤ) (a : ℕ) (d : ℤ) (b : ℕ) → unsigned_abs z ≤ 2 ^ 40 → unsigned_abs c ≤ 2 ^ 20 → unsigned_abs d ≤ 2 ^ 20 → is_within_limits (two_of z c a d b) ≡ true
-two_limited z c a d b near small other =
-    let one = le-leb (unsigned_abs c) (2 ^ 20) small in
-    let two = le-leb (unsigned_abs d) (2 ^ 20) other in
-    let three = le-leb (unsigned_abs z) (2 ^ 40) near in
-    λ j. (true && (one j && (two j && true))) && three j
+use Rattle.completeness.proofs.BlockSums.{multiple, pair, two_of, found_two, one_limited, two_limited}
+use Rattle.completeness.proofs.GuardSums.{left_over, limited_below, kept_below}
 
 -- ---- sums of numbers
 
@@ -73,7 +66,7 @@ module _ (scope : List Binding) (a b : ℕ) (less : a < b) (inside : b < length 
   behind = grind (arith, nat_tests, less)
 
   -- they are at least the number
-  two_above : x.lower ≡ number (pos 0) ∷ [] → y.lower ≡ number (pos 0) ∷ [] → at_most scope (number low) (two_of low c a d b) ≡ true
+  pub two_above : x.lower ≡ number (pos 0) ∷ [] → y.lower ≡ number (pos 0) ∷ [] → at_most scope (number low) (two_of low c a d b) ≡ true
   two_above first second =
       let z : ℤ = low +ℤ negsuc 0 *ℤ low in
       let none = less_itself low in
@@ -106,7 +99,8 @@ module _ (scope : List Binding) (a b : ℕ) (less : a < b) (inside : b < length 
       (still r (omega (arith, ints, r_is)))
 
   -- and at most one that is at least what they come to
-  pub two_below : (e f high : ℤ) → x.upper ≡ number e ∷ [] → y.upper ≡ number f ∷ [] → unsigned_abs e ≤ 2 ^ 36 → unsigned_abs f ≤ 2 ^ 36 → unsigned_abs (c *ℤ e) ≤ 2 ^ 37 → unsigned_abs (d *ℤ f) ≤ 2 ^ 37 →
+  pub two_below : (e f high : ℤ) → x.upper ≡ number e ∷ [] → y.upper ≡ number f ∷ [] → unsigned_abs e ≤ 2 ^ 36 → unsigned_abs f ≤ 2 ^ 36 → unsigned_abs (c *ℤ e) ≤ 2 ^ 37 →
+      unsigned_abs (d *ℤ f) ≤ 2 ^ 37 →
       unsigned_abs high ≤ 2 ^ 37 → ((low +ℤ d *ℤ f) +ℤ c *ℤ e) ≤ℤ high → at_most scope (two_of low c a d b) (number high) ≡ true
   two_below e f high first second e_near f_near ce_near df_near high_near top =
       let z : ℤ = low +ℤ negsuc 0 *ℤ high in
@@ -135,10 +129,7 @@ module _ (scope : List Binding) (a b : ℕ) (less : a < b) (inside : b < length 
 
 module _ (scope : List Binding) (s m : ℕ) (less : s < m) (inside : m < length scope) (k : ℕ) (few : suc k ≤ 1024) (y : Span1) (there : slice_get scope m ≡ Some (Bound y)) (low : ℤ)
     (near : unsigned_abs low ≤ 2 ^ 36) where
-  abbrev c' : ℤ
-  c' = pos (suc k)
-
-  block_above : y.lower ≡ number (pos 0) ∷ [] → at_most scope (one_of low (pos (suc k)) s) (two_of low (pos (suc k)) s (pos 1) m) ≡ true
+  pub block_above : y.lower ≡ number (pos 0) ∷ [] → at_most scope (one_of low (pos (suc k)) s) (two_of low (pos (suc k)) s (pos 1) m) ≡ true
   block_above first =
       let z : ℤ = low +ℤ negsuc 0 *ℤ low in
       let none = less_itself low in
@@ -157,7 +148,7 @@ module _ (scope : List Binding) (s m : ℕ) (less : s < m) (inside : m < length 
       found_below scope (one_of low (pos (suc k)) s) (two_of low (pos (suc k)) s (pos 1) m) (one_of z (negsuc 0) m) r made
       (found scope m z (negsuc 0) r refl (Bound y) there (number (pos 0)) first sum inside limited_sum) (still r (omega (arith, ints, r_is)))
 
-  block_below : y.upper ≡ number (pos k) ∷ [] → at_most scope (two_of low (pos (suc k)) s (pos 1) m) (raised (one_of low (pos (suc k)) s) (pos k)) ≡ true
+  pub block_below : y.upper ≡ number (pos k) ∷ [] → at_most scope (two_of low (pos (suc k)) s (pos 1) m) (raised (one_of low (pos (suc k)) s) (pos k)) ≡ true
   block_below last =
       let z : ℤ = low +ℤ negsuc 0 *ℤ (low +ℤ pos k) in
       let z_is : z ≡ negsuc 0 *ℤ pos k = omega (arith, ints) in
@@ -179,41 +170,49 @@ module _ (scope : List Binding) (s m : ℕ) (less : s < m) (inside : m < length 
 
 -- ---- places
 
-module _ (n : ℕ) (ts : List Turning) (short : n + length ts ≤ most_symbols) (rules : Rules) (bound : rules.at_most ≡ shown_at_most) (bs : List Binder)
-    (near : (j : ℕ) (t : Turning) → slice_get ts j ≡ Some t → (unsigned_abs t.low ≤ 2 ^ 36) × (unsigned_abs t.last ≤ 2 ^ 36)) where
+-- each further upper form is within the limits
+module _ (lim : ℕ → List Form) (n : ℕ) (ts : List Turning) (short : n + length ts ≤ most_symbols) (rules : Rules) (bound : rules.at_most ≡ shown_at_most) (bs : List Binder)
+    (near : (j : ℕ) (t : Turning) → slice_get ts j ≡ Some t → (unsigned_abs t.low ≤ 2 ^ 36) × (unsigned_abs t.last ≤ 2 ^ 36))
+    (limits_in : (j : ℕ) (t : Turning) → slice_get ts j ≡ Some t → list_all is_within_limits (lim (n + j)) ≡ true) where
   abbrev inner : List Binder
-  inner = along (turns_for n ts) ++ bs
+  inner = along (limited_turns lim n ts) ++ bs
 
   abbrev sc : List Binding
   sc = scope_of inner
 
   -- what is known of a loop's symbol
-  pub scope_has : (j : ℕ) (t : Turning) → slice_get ts j ≡ Some t → (slice_get (scope_of inner) (n + j) ≡ Some (Bound (span t.low t.last []))) × (n + j < length (scope_of inner))
-  scope_has j t at = subst (λ (us : List Binder). (slice_get (scope_of us) (n + j) ≡ Some (Bound (span t.low t.last []))) × (n + j < length (scope_of us))) (inner_is n ts bs) (there, inside)
+  pub scope_has : (j : ℕ) (t : Turning) → slice_get ts j ≡ Some t → (slice_get (scope_of inner) (n + j) ≡ Some (Bound (span t.low t.last (lim (n + j))))) × (n + j < length (scope_of inner))
+  scope_has j t at =
+      subst (λ (us : List Binder). (slice_get (scope_of us) (n + j) ≡ Some (Bound (span t.low t.last (lim (n + j))))) × (n + j < length (scope_of us))) (inner_is lim n ts bs) (there, inside)
     where
       plain : List Binder
-      plain = binders_in (loops_for n ts) bs
+      plain = binders_in (limited_loops lim n ts) bs
 
       within : n + j < min (symbol_count plain) most_symbols
-      within = (let few = at_length ts j t at in let counts = count_there n ts bs j t at in omega (arith, few, short, counts))
+      within = (let few = at_length ts j t at in let counts = count_there lim n ts bs j t at in omega (arith, few, short, counts))
 
-      kept : limited (span t.low t.last []) ≡ span t.low t.last []
+      kept : limited (span t.low t.last (lim (n + j))) ≡ span t.low t.last (lim (n + j))
       kept =
           let ends = near j t at in
           let low = ends.0 in
           let last = ends.1 in
           let one = number_limited t.low (omega (arith, low)) in
           let two = number_limited t.last (omega (arith, last)) in
-          λ i. if (one i && true) && (two i && true) then span t.low t.last [] else anything
+          let three = limits_in j t at in
+          λ i. if (one i && true) && (two i && three i) then span t.low t.last (lim (n + j)) else anything
 
-      there : slice_get (scope_of plain) (n + j) ≡ Some (Bound (span t.low t.last []))
+      there : slice_get (scope_of plain) (n + j) ≡ Some (Bound (span t.low t.last (lim (n + j))))
       there =
           let from_zero : 0 + (n + j) ≡ n + j = omega arith in
           at_place (binding_of plain) 0 (min (symbol_count plain) most_symbols) (n + j) within ∙ ap (λ (m : ℕ). Some (binding_of plain m)) from_zero
-          ∙ ap (λ (b : Binding). Some b) (tells n ts bs j t at ∙ ap (λ (y : Span1). Bound y) kept)
+          ∙ ap (λ (b : Binding). Some b) (tells lim n ts bs j t at ∙ ap (λ (y : Span1). Bound y) kept)
 
       inside : n + j < length (scope_of plain)
       inside = (let long = scope_long (binding_of plain) 0 (min (symbol_count plain) most_symbols) in let w = within in omega (arith, long, w))
+
+  -- where it has no further upper form
+  pub scope_bare : (j : ℕ) (t : Turning) → slice_get ts j ≡ Some t → lim (n + j) ≡ [] → (slice_get (scope_of inner) (n + j) ≡ Some (Bound (span t.low t.last []))) × (n + j < length (scope_of inner))
+  scope_bare j t at none = (let r = scope_has j t at in (r.0 ∙ ap (λ (fs : List Form). Some (Bound (span t.low t.last fs))) none, r.1))
 
   seated_by : (f l : Form) (m : ℕ) → rules.at_most inner l f ≡ true → rules.at_most inner f (raised l (pos m -ℤ pos 1)) ≡ true → is_seated rules inner (exactly f) (From l m) ≡ true
   seated_by f l m one two = λ j. ((one j || false) && true) && ((two j || false) && true)
@@ -230,23 +229,23 @@ module _ (n : ℕ) (ts : List Turning) (short : n + length ts ≤ most_symbols) 
       seated_by f f 1 self (ap (rules.at_most inner f) (sym raised_is) ∙ self)
 
   -- a loop's symbol
-  pub seat_loop : (j : ℕ) (t : Turning) → slice_get ts j ≡ Some t → (low : ℤ) (m : ℕ) → t.low ≡ low → t.last ≡ low +ℤ (pos m -ℤ pos 1) →
+  pub seat_loop : (j : ℕ) (t : Turning) → slice_get ts j ≡ Some t → lim (n + j) ≡ [] → (low : ℤ) (m : ℕ) → t.low ≡ low → t.last ≡ low +ℤ (pos m -ℤ pos 1) →
       is_seated rules inner (exactly (alone (n + j))) (From (number low) m) ≡ true
-  seat_loop j t at low m from to =
+  seat_loop j t at bare low m from to =
       let ends = near j t at in
       let low_near = ends.0 in
       let last_near = ends.1 in
-      let w = scope_has j t at in
+      let w = scope_bare j t at bare in
       let above = loop_above sc (n + j) t.low t.last (omega (arith, low_near)) (omega (arith, last_near)) w.0 w.1 in
       let below = loop_below sc (n + j) t.low t.last (omega (arith, low_near)) (omega (arith, last_near)) w.0 w.1 in
       seated_by (alone (n + j)) (number low) m (shown (number low) (alone (n + j)) (ap (λ (z : ℤ). at_most sc (number z) (alone (n + j))) (sym from) ∙ above))
       (shown (alone (n + j)) (number (low +ℤ (pos m -ℤ pos 1))) (ap (λ (z : ℤ). at_most sc (alone (n + j)) (number z)) (sym to) ∙ below))
 
   -- the first number of a block, which the grid tells, and a loop's symbol
-  pub seat_block : (s i k : ℕ) (u : Turning) → slice_get ts i ≡ Some u → s < n → u.low ≡ pos 0 → u.last ≡ pos k → suc k ≤ 1024 → (low : ℤ) → unsigned_abs low ≤ 2 ^ 36 →
+  pub seat_block : (s i k : ℕ) (u : Turning) → slice_get ts i ≡ Some u → lim (n + i) ≡ [] → s < n → u.low ≡ pos 0 → u.last ≡ pos k → suc k ≤ 1024 → (low : ℤ) → unsigned_abs low ≤ 2 ^ 36 →
       is_seated rules inner (exactly (pair low s (pos (suc k)) (n + i))) (From (one_of low (pos (suc k)) s) (suc k)) ≡ true
-  seat_block s i k u at less from to few low low_near =
-      let w = scope_has i u at in
+  seat_block s i k u at bare less from to few low low_near =
+      let w = scope_bare i u at bare in
       let under : s < n + i = omega (arith, less) in
       let before : nat_lt s (n + i) ≡ true = grind (arith, nat_tests, under) in
       let is : pair low s (pos (suc k)) (n + i) ≡ two_of low (pos (suc k)) s (pos 1) (n + i) =
@@ -261,16 +260,17 @@ module _ (n : ℕ) (ts : List Turning) (short : n + length ts ≤ most_symbols) 
       ∙ shown (two_of low (pos (suc k)) s (pos 1) (n + i)) (raised (one_of low (pos (suc k)) s) (pos k)) below)
 
   -- two loops' symbols
-  pub seat_split : (o i k t : ℕ) (v u : Turning) → slice_get ts o ≡ Some v → slice_get ts i ≡ Some u → (o == i) ≡ false → v.low ≡ pos 0 → v.last ≡ pos t → u.low ≡ pos 0 → u.last ≡ pos k →
+  pub seat_split : (o i k t : ℕ) (v u : Turning) → slice_get ts o ≡ Some v → slice_get ts i ≡ Some u → lim (n + o) ≡ [] → lim (n + i) ≡ [] → (o == i) ≡ false → v.low ≡ pos 0 → v.last ≡ pos t →
+      u.low ≡ pos 0 → u.last ≡ pos k →
       suc k ≤ 1024 → (low : ℤ) (m : ℕ) → unsigned_abs low ≤ 2 ^ 36 → pos t *ℤ pos (suc k) +ℤ pos k ≡ pos m -ℤ pos 1 → m ≤ 2 ^ 36 →
       is_seated rules inner (exactly (pair low (n + o) (pos (suc k)) (n + i))) (From (number low) m) ≡ true
-  seat_split o i k t v u at_o at_i differ v_low v_last u_low u_last few low m low_near count small = of (nat_lt (n + o) (n + i)) refl
+  seat_split o i k t v u at_o at_i bare_o bare_i differ v_low v_last u_low u_last few low m low_near count small = of (nat_lt (n + o) (n + i)) refl
     where
       wo : (slice_get (scope_of inner) (n + o) ≡ Some (Bound (span v.low v.last []))) × (n + o < length (scope_of inner))
-      wo = scope_has o v at_o
+      wo = scope_bare o v at_o bare_o
 
       wi : (slice_get (scope_of inner) (n + i) ≡ Some (Bound (span u.low u.last []))) × (n + i < length (scope_of inner))
-      wi = scope_has i u at_i
+      wi = scope_bare i u at_i bare_i
 
       high : ℤ
       high = low +ℤ (pos m -ℤ pos 1)
@@ -341,6 +341,98 @@ module _ (n : ℕ) (ts : List Turning) (short : n + length ts ≤ most_symbols) 
           (two_below sc (n + i) (n + o) less wo.1 0 k (omega arith) few (span u.low u.last []) (span v.low v.last []) wi.0 wo.0 low low_near (pos k) (pos t) high (end u.last (pos k) u_last)
           (end v.last (pos t) v_last) k_near t_near inner_near outer_near high_near sum)
 
+  -- a block whose last number is kept within the loop: the grid tells its first one
+  pub seat_kept_block : (s i k : ℕ) (u : Turning) → slice_get ts i ≡ Some u → s < n → (x : Span1) → slice_get (scope_of inner) s ≡ Some (Bound x) → x.lower ≡ number (pos 0) ∷ [] → u.low ≡ pos 0 →
+      u.last ≡ pos k → suc k ≤ 1024 → (low last : ℤ) → unsigned_abs low ≤ 2 ^ 36 → unsigned_abs last ≤ 2 ^ 36 → lim (n + i) ≡ left_over last low (pos (suc k)) s ∷ [] →
+      is_seated rules inner (exactly (pair low s (pos (suc k)) (n + i))) (From (one_of low (pos (suc k)) s) (suc k)) ≡ true
+  seat_kept_block s i k u at less x there x_low from to few low last low_near last_near limit =
+      let w = scope_has i u at in
+      let under : s < n + i = omega (arith, less) in
+      let before : nat_lt s (n + i) ≡ true = grind (arith, nat_tests, under) in
+      let is : pair low s (pos (suc k)) (n + i) ≡ two_of low (pos (suc k)) s (pos 1) (n + i) =
+      (λ j. record { constant = low; terms = if before j then multiple s (pos (suc k)) ∷ multiple (n + i) (pos 1) ∷ [] else multiple (n + i) (pos 1) ∷ multiple s (pos (suc k)) ∷ [] }) in
+      let above = block_above sc s (n + i) under w.1 k few (span u.low u.last (lim (n + i))) w.0 low low_near (ap (λ (z : ℤ). number z ∷ []) from) in
+      let y_last : number u.last ∷ lim (n + i) ≡ number (pos k) ∷ left_over last low (pos (suc k)) s ∷ [] = (λ j. number (to j) ∷ limit j) in
+      let below = kept_below sc s (n + i) under w.1 k few x (span u.low u.last (lim (n + i))) there w.0 low last low_near last_near x_low y_last in
+      let one_less : pos (suc k) -ℤ pos 1 ≡ pos k = omega (arith, ints) in
+      ap (λ (f : Form). is_seated rules inner (exactly f) (From (one_of low (pos (suc k)) s) (suc k))) is
+      ∙ seated_by (two_of low (pos (suc k)) s (pos 1) (n + i)) (one_of low (pos (suc k)) s) (suc k)
+      (shown (one_of low (pos (suc k)) s) (two_of low (pos (suc k)) s (pos 1) (n + i)) above)
+      (ap (λ (z : ℤ). rules.at_most inner (two_of low (pos (suc k)) s (pos 1) (n + i)) (raised (one_of low (pos (suc k)) s) z)) one_less
+      ∙ shown (two_of low (pos (suc k)) s (pos 1) (n + i)) (raised (one_of low (pos (suc k)) s) (pos k)) below)
+
+  -- two loops' symbols, of which the inner one is kept
+  pub seat_kept_split : (o i k t : ℕ) (v u : Turning) → slice_get ts o ≡ Some v → slice_get ts i ≡ Some u → o < i → lim (n + o) ≡ [] → v.low ≡ pos 0 → v.last ≡ pos t → u.low ≡ pos 0 →
+      u.last ≡ pos k → suc k ≤ 1024 → (low : ℤ) (m : ℕ) → unsigned_abs low ≤ 2 ^ 36 → m ≤ 2 ^ 36 → t * suc k ≤ 2 ^ 36 → unsigned_abs ((pos m -ℤ pos 1) +ℤ low) ≤ 2 ^ 36 →
+      lim (n + i) ≡ left_over ((pos m -ℤ pos 1) +ℤ low) low (pos (suc k)) (n + o) ∷ [] →
+      is_seated rules inner (exactly (pair low (n + o) (pos (suc k)) (n + i))) (From (number low) m) ≡ true
+  seat_kept_split o i k t v u at_o at_i first bare v_low v_last u_low u_last few low m low_near small times last_near limit =
+      let wo = scope_bare o v at_o bare in
+      let wi = scope_has i u at_i in
+      let less : n + o < n + i = omega (arith, first) in
+      let before : nat_lt (n + o) (n + i) ≡ true = grind (arith, nat_tests, less) in
+      let is : pair low (n + o) (pos (suc k)) (n + i) ≡ two_of low (pos (suc k)) (n + o) (pos 1) (n + i) =
+      (λ j. record { constant = low; terms = if before j then multiple (n + o) (pos (suc k)) ∷ multiple (n + i) (pos 1) ∷ [] else multiple (n + i) (pos 1) ∷ multiple (n + o) (pos (suc k)) ∷ [] }) in
+      let last : ℤ = (pos m -ℤ pos 1) +ℤ low in
+      let y_last : number u.last ∷ lim (n + i) ≡ number (pos k) ∷ left_over last low (pos (suc k)) (n + o) ∷ [] = (λ j. number (u_last j) ∷ limit j) in
+      let above = two_above sc (n + o) (n + i) less wi.1 k 0 few (omega arith) (span v.low v.last []) (span u.low u.last (lim (n + i))) wo.0 wi.0 low low_near
+      (ap (λ (z : ℤ). number z ∷ []) v_low) (ap (λ (z : ℤ). number z ∷ []) u_low) in
+      let high_is : low +ℤ (pos m -ℤ pos 1) ≡ last = turned low (pos m -ℤ pos 1) in
+      let below = limited_below sc (n + o) (n + i) less wi.1 k t few (span v.low v.last []) (span u.low u.last (lim (n + i))) wo.0 wi.0 low last low_near last_near
+      (ap (λ (z : ℤ). number z ∷ []) v_last) y_last (t_near t k times) (times_near t k times) last (wider last last_near) (itself last) in
+      ap (λ (f : Form). is_seated rules inner (exactly f) (From (number low) m)) is
+      ∙ seated_by (two_of low (pos (suc k)) (n + o) (pos 1) (n + i)) (number low) m (shown (number low) (two_of low (pos (suc k)) (n + o) (pos 1) (n + i)) above)
+      (ap (λ (z : ℤ). rules.at_most inner (two_of low (pos (suc k)) (n + o) (pos 1) (n + i)) (number z)) high_is
+      ∙ shown (two_of low (pos (suc k)) (n + o) (pos 1) (n + i)) (number last) below)
+    where
+      turned : (z y : ℤ) → (z +ℤ y) ≡ y +ℤ z
+      turned z y = omega (arith, ints)
+
+      itself : (z : ℤ) → z ≤ℤ z
+      itself z = omega (arith, ints)
+
+      wider : (z : ℤ) → unsigned_abs z ≤ 2 ^ 36 → unsigned_abs z ≤ 2 ^ 37
+      wider z h = omega (arith, h)
+
+      at_most_times : (b d : ℕ) → b ≤ b * suc d
+      at_most_times b d = (let is = mul-suc b d in omega (arith, is))
+
+      t_near : (t k : ℕ) → t * suc k ≤ 2 ^ 36 → unsigned_abs (pos t) ≤ 2 ^ 36
+      t_near t k h = (let le = at_most_times t k in omega (arith, le, h))
+
+      times_near : (t k : ℕ) → t * suc k ≤ 2 ^ 36 → unsigned_abs (pos (suc k) *ℤ pos t) ≤ 2 ^ 38
+      times_near t k h = subst (λ (z : ℤ). unsigned_abs z ≤ 2 ^ 38) (sym (times_is t k)) (omega (arith, h))
+        where
+          times_is : (t k : ℕ) → pos (suc k) *ℤ pos t ≡ pos (t * suc k)
+          times_is t k = omega (arith, ints)
+
   -- the origin of a block's places is over the grid
-  pub steady_one : (z c : ℤ) (s m : ℕ) → s < n → is_steady false (along (turns_for n ts)) (From (one_of z c s) m) ≡ true
-  steady_one z c s m less = (let none = none_along s n ts less in λ j. not (none j) && true)
+  pub steady_one : (z c : ℤ) (s m : ℕ) → s < n → is_steady false (along (limited_turns lim n ts)) (From (one_of z c s) m) ≡ true
+  steady_one z c s m less = (let none = none_along lim s n ts less in λ j. not (none j) && true)
+
+-- a symbol of the grid is known there
+pub grid_there : (lim : ℕ → List Form) (n : ℕ) (ts : List Turning) → n + length ts ≤ most_symbols → (counts : List ℕ) → AllByRecursion IsShort counts → length counts ≤ n → (s : ℕ) →
+    s < length counts →
+    (m : ℕ) × (slice_get (scope_of (along (limited_turns lim n ts) ++ grid_binders counts)) s ≡ Some (grid_symbol m))
+grid_there lim n ts short counts few behind s inside = of (slice_get counts s) refl
+  where
+    plain : List Binder
+    plain = binders_in (limited_loops lim n ts) (grid_binders counts)
+
+    within : s < min (symbol_count plain) most_symbols
+    within = (let many = (grid_tells counts few).many in let more = count_more lim n ts (grid_binders counts) in omega (arith, many, more, inside, behind, short))
+
+    none_there : (ns : List ℕ) (j : ℕ) → j < length ns → slice_get ns j ≡ None → ⊥
+    none_there [] j less e = omega (arith, less)
+    none_there (x ∷ ns) zero less e = cc e
+    none_there (x ∷ ns) (suc j) less e = none_there ns j (omega (arith, less)) e
+
+    of : (o : Option ℕ) → slice_get counts s ≡ o → (m : ℕ) × (slice_get (scope_of (along (limited_turns lim n ts) ++ grid_binders counts)) s ≡ Some (grid_symbol m))
+    of None e = absurd (none_there counts s inside e)
+    of (Some m) e =
+        let from_zero : 0 + s ≡ s = omega arith in (
+          m,
+          subst (λ (us : List Binder). slice_get (scope_of us) s ≡ Some (grid_symbol m)) (inner_is lim n ts (grid_binders counts))
+              (at_place (binding_of plain) 0 (min (symbol_count plain) most_symbols) s within ∙ ap (λ (i : ℕ). Some (binding_of plain i)) from_zero
+              ∙ ap (λ (b : Binding). Some b) (skips lim n ts (grid_binders counts) s (omega (arith, inside, behind)) ∙ (grid_tells counts few).tells s m e)),
+        )

@@ -1,8 +1,10 @@
--- Nests of functions whose loops are split once, by blocks that need no tail, are few loops, and their symbols are numbered one behind another.
-use Rattle.std.proofs.Common.{◌≡◌, ℕ, suc, ◌+◌, ◌*◌, ◌≤◌, Bool, true, false, List, [], ◌∷◌, ◌++◌, length, map, Some, refl, sym, ap, ◌∙◌, subst, inl, inr, ◌⊎◌, arith}
-use Rattle.std.specs.Prelude.{pos, filter, if◌then◌else◌}
+-- Nests of functions whose loops are split once, by blocks that need no line of their own, are few loops, and their symbols are numbered one behind another.
+use Rattle.std.proofs.Common.{◌≡◌, ℕ, suc, ◌+◌, ◌*◌, ◌<◌, ◌≤◌, Bool, true, false, List, [], ◌∷◌, ◌++◌, length, map, Some, None, refl, sym, ap, ◌∙◌, subst, inl, inr, ◌⊎◌, arith}
+use Rattle.std.specs.Prelude.{pos, negsuc, filter, if◌then◌else◌, slice_get}
 use Rattle.std.specs.List.{AllByRecursion}
 use Rattle.std.proofs.lemmas.List.{length-append, length-map}
+use Rattle.std.proofs.lemmas.Option.{slice_get_within}
+use Rattle.lin.specs.Forms.{Form, number, without}
 use Rattle.lin.proofs.TermLemmas.{all_weaker}
 use Rattle.meaning.specs.Names.{same_name}
 use Rattle.soundness.specs.Claims.{In}
@@ -15,9 +17,9 @@ use Rattle.sched.specs.declared.numbers.Extent.{Extent}
 use Rattle.sched.specs.declared.placing.Loop.{Loop}
 use Rattle.sched.specs.declared.skeleton.Known.{Known}
 use Rattle.sched.specs.declared.nest.Turning.{Turning}
-use Rattle.sched.specs.Numbers.{numbers_named, loop_numbers, parallel_loops, grid_counts, or_one, piece_counts}
+use Rattle.sched.specs.Numbers.{numbers_named, last_number, loop_numbers, parallel_loops, grid_counts, or_one, piece_counts}
 use Rattle.sched.specs.Placing.{PlacedText, is_parallel}
-use Rattle.sched.specs.Standing.{◌>>=◌, StandingText, form_named, settle_some, cuts_by_variable}
+use Rattle.sched.specs.Standing.{◌>>=◌, StandingText, form_named, counted_from, settle_some, cuts_by_variable}
 use Rattle.sched.specs.Skeleton.{BodyText, NestText, SkeletonText, loop_turning, nest_turns, begun, nest_in, nest_of, nests_in, grid_forms, over_grid, skeleton_in}
 use Rattle.sched.proofs.Leading.{in_left, in_right}
 use Rattle.sched.proofs.Rooting.{all_by_variable}
@@ -25,26 +27,36 @@ use Rattle.lower.specs.Stored.{StoredText}
 use Rattle.lower.specs.Owning.{IsLaidBy}
 use Rattle.lower.proofs.Laying.{bound, same}
 use Rattle.lower.proofs.Directed.{IsLeaf, AreMade}
+use Rattle.lower.proofs.Blocking.{CutFits}
 use Rattle.lower.proofs.Owners as owners
 use Rattle.completeness.specs.Laws.{AreSplitOnce}
 use Rattle.completeness.specs.Parted.{KeepsInner}
-use Rattle.completeness.specs.Blocked.{is_tailed}
+use Rattle.completeness.specs.Blocked.{makes_line}
 use Rattle.completeness.proofs.Standing.{at_grid}
 use Rattle.completeness.proofs.Halves.{AreOthers, IsNamed, named, IsOther}
 use Rattle.completeness.proofs.Lanes.{AreOnce}
 use Rattle.completeness.proofs.VectorLines.{split_once}
-use Rattle.completeness.proofs.PlainTurns.{steps_for, hits, hits_once, turn_name, one_if}
+use Rattle.completeness.proofs.PlainTurns.{hits, hits_once, turn_name, one_if}
 use Rattle.completeness.proofs.PureNests.{all_from, all_in, loop_name, hits_named, hits_turned, at_most_all, all_once}
 use Rattle.completeness.proofs.UpdateTurns.{hits_fewer, all_mapped}
 use Rattle.completeness.proofs.GridTurns.{grid_none}
-use Rattle.completeness.proofs.BlockTurns.{Right, AreRight, IsSettledGrid, settled_grid, grid_named as named_over_grid, nest_blocked}
+use Rattle.completeness.proofs.BlockTurns.{bare, limited_for, LimitsAre, Right, AreRight, IsSettledGrid, settled_grid, grid_named as named_over_grid, nest_blocked}
 use Rattle.completeness.proofs.BlockFacts.{wholes_are, end_leaf, inners_serial}
 use Rattle.completeness.proofs.BlockDims.{apart_name}
+use Rattle.completeness.proofs.BlockOrder.{IsOrdered}
+use Rattle.completeness.proofs.PlainNests.{grid_place}
+use Rattle.completeness.proofs.Rising.{AllRise, combined_rises}
+
+-- further upper forms of a loop: one at most, with rising symbols
+abbrev pub AreCaps : List Form → Type 0
+AreCaps fs = (length fs ≤ 1) × AllRise fs
 
 -- nests of loops alone, each from the symbol on that is next behind the one before, and all before a limit
 abbrev pub AreChained : ℕ → ℕ → List NestText → Type 0
 AreChained limit next [] = Unit {0}
-AreChained limit next (n ∷ ns) = (ts : List Turning) × (n.steps ≡ steps_for next ts) × (next + length ts ≤ limit) × AreChained limit (next + length ts) ns
+AreChained limit next (n ∷ ns) =
+    (ts : List Turning) × (limits : ℕ → List Form) × (n.steps ≡ limited_for limits next ts) × (next + length ts ≤ limit) × AreChained limit (next + length ts) ns
+    × ((j : ℕ) (t : Turning) → slice_get ts j ≡ Some t → AreCaps (limits (next + j)))
 
 -- a skeleton of such nests, over a grid of few symbols
 pub record IsLooped (names : List Known) (k : SkeletonText) : Type 0 where
@@ -55,23 +67,42 @@ pub record IsLooped (names : List Known) (k : SkeletonText) : Type 0 where
 
 -- ---- nests
 
-module _ (xs : List (List ℕ)) (p : PlacedText) (others : AreOthers p.cuts) (once : AreOnce p.cuts) (rs : List Numbers) (free : (c : Split) → In c p.cuts → is_tailed rs c ≡ false)
-    (grid : List Known) (head : StandingText) (over : head.known ≡ grid) (right : (n : ℕ) (ts : List Turning) → AreRight p.cuts others once rs free grid n ts head) where
-  nests_chained : (bs : List BodyText) (next : ℕ) (ns : List NestText) → next + 21 * length bs ≤ 256 → AllByRecursion (λ b. length (nest_turns b rs p.loops) ≤ 21) bs →
+module _ (xs : List (List ℕ)) (p : PlacedText) (others : AreOthers p.cuts) (once : AreOnce p.cuts) (rs : List Numbers) (free : (c : Split) → In c p.cuts → makes_line p.loops rs c ≡ false)
+    (grid : List Known) (inners : (c : Split) → In c p.cuts → form_named grid c.inner ≡ None) (some : (c : Split) → In c p.cuts → 0 < c.factor) (begin : ℕ)
+    (outers : (c : Split) → In c p.cuts → (f : Form) → form_named grid c.outer ≡ Some f → (s : ℕ) × (f ≡ counted_from (pos 0) s) × (s < begin)) (head : StandingText)
+    (over : head.known ≡ grid) (right : (n : ℕ) (ts : List Turning) → AreRight p.cuts others once rs p.loops free grid n ts bare head) where
+  abbrev Ordered : List BodyText → Type 0
+  Ordered bs = AllByRecursion (λ b. IsOrdered p.cuts rs (nest_turns b rs p.loops)) bs
+
+  -- that of a guarded split is a sum of forms
+  caps_are : (n s : ℕ) (ts : List Turning) (t : Turning) (fs : List Form) → LimitsAre p.cuts others once rs p.loops free grid n ts s t fs → AreCaps fs
+  caps_are n s ts t fs (inl e) = subst AreCaps (sym e) (omega arith, tt)
+  caps_are n s ts t fs (inr (c, m, k, q, f, limit, e)) =
+      subst AreCaps (sym e) (omega arith, (combined_rises (number (last_number (numbers_named rs c.whole))) (negsuc 0) (without limit.form s) tt f limit.less, tt))
+
+  nests_chained : (bs : List BodyText) (next : ℕ) (ns : List NestText) → begin ≤ next → Ordered bs → next + 21 * length bs ≤ 256 → AllByRecursion (λ b. length (nest_turns b rs p.loops) ≤ 21) bs →
       nests_in xs p rs head bs next ≡ Some ns → AreChained 256 next ns
-  nests_chained [] next ns le few e = subst (AreChained 256 next) (same [] ns e) tt
-  nests_chained (b ∷ bs) next ns le few e =
+  nests_chained [] next ns least ordered le few e = subst (AreChained 256 next) (same [] ns e) tt
+  nests_chained (b ∷ bs) next ns least ordered le few e =
       let m = bound (nest_in xs p rs b (begun next head)) (λ st. nests_in xs p rs head bs st.next >>= λ nests. Some (nest_of xs b st ∷ nests)) ns e in
       let r = bound (nests_in xs p rs head bs m.value.next) (λ nests. Some (nest_of xs b m.value ∷ nests)) ns m.comes in
       let ts = nest_turns b rs p.loops in
-      let t = nest_blocked xs p others once rs free grid head over right b next m.value m.is in
+      let t = nest_blocked xs p others once rs free grid inners some begin outers head over right b next least ordered.0 m.value m.is in
+      let limits : ℕ → List Form = t.3.limits in
       let short = few.0 in
       let zero_more : next + 0 ≡ next = omega arith in
-      let steps : m.value.steps ≡ steps_for next ts = t.3.steps ∙ (λ j. (t.1 j) ++ steps_for (zero_more j) ts) in
+      let steps : m.value.steps ≡ limited_for limits next ts = t.3.steps ∙ (λ j. (t.1 j) ++ limited_for limits (zero_more j) ts) in
       let up : m.value.next ≡ next + length ts = t.3.next ∙ ap (λ (n : ℕ). n + length ts) zero_more in
       let is : nests_in xs p rs head bs (next + length ts) ≡ Some r.value = ap (λ (n : ℕ). nests_in xs p rs head bs n) (sym up) ∙ r.is in
-      let rest = nests_chained bs (next + length ts) r.value (omega (arith, le, short)) few.1 is in
-      subst (AreChained 256 next) (same (nest_of xs b m.value ∷ r.value) ns r.comes) (ts, steps, omega (arith, le, short), rest)
+      let rest = nests_chained bs (next + length ts) r.value (omega (arith, least)) ordered.1 (omega (arith, le, short)) few.1 is in
+      subst (AreChained 256 next) (same (nest_of xs b m.value ∷ r.value) ns r.comes) (
+        ts,
+        limits,
+        steps,
+        omega (arith, le, short),
+        rest,
+        (λ j u at. let none : next + (0 + j) ≡ next + j = omega arith in subst (λ (i : ℕ). AreCaps (limits i)) none (caps_are next (next + (0 + j)) ts u (limits (next + (0 + j))) (t.3.bounded j u at))),
+      )
 
 -- ---- few loops
 
@@ -184,32 +215,66 @@ module _ (g : StoredText) (es : List Extent) (k : SkeletonText) (laid : IsLaidBy
       let long = length-map ls (loop_turning rs) in
       omega (arith, one, two, three, four, five, six, cut_few, narrow, long)
 
-  pub looped : (bs : List BodyText) → KeepsInner ls cuts → AllByRecursion (λ c. is_tailed rs c ≡ false) cuts → length bs ≤ 5 → AllByRecursion (λ b. length (nest_turns b rs ls) ≤ 21) bs →
+  pub looped : (bs : List BodyText) → KeepsInner ls cuts → AllByRecursion (λ c. makes_line ls rs c ≡ false) cuts →
+      AllByRecursion (λ b. IsOrdered cuts rs (nest_turns b rs ls)) bs → length bs ≤ 5 → AllByRecursion (λ b. length (nest_turns b rs ls) ≤ 21) bs →
       skeleton_in xs bs g.placed es ≡ Some k → IsLooped (grid_forms rs 0 (parallel_loops ls)) k
-  looped bs keeps filled many few e =
+  looped bs keeps filled ordered many few e =
       let others = is_named.apart in
       let cs : List Split = cuts_by_variable cuts xs in
       let grid : List ℕ = piece_counts rs ls in
       let names : List Known = grid_forms rs 0 (parallel_loops ls) in
       let b = bound (settle_some at_grid rs cs cs (over_grid rs g.placed))
       (λ head. nests_in xs g.placed rs head bs head.next >>= λ nests. Some (record { grid = grid; head = head.steps; nests = nests; known = head.known; starts = head.starts })) k e in
-      let m = bound (nests_in xs g.placed rs b.value bs b.value.next) (λ nests. Some (record { grid = grid; head = b.value.steps; nests = nests; known = b.value.known; starts = b.value.starts })) k b.comes in
-      let first : (n : ℕ) (ts : List Turning) → IsSettledGrid cuts others once rs free names n ts (over_grid rs g.placed) b.value =
-      λ n ts. settled_grid cuts others once rs free names n ts cs cs (sub_of xs) (over_grid rs g.placed) b.value
-      (λ c q. grid_none rs c.inner 0 (parallel_loops ls) (inners_serial ls cuts keeps c q)) (record {
-        known = all_weaker (λ u. form_named names u.name ≡ Some u.form) (λ u. Right cuts others once rs free names n ts u.name u.form) (λ u h. inl (inl h)) names
+      let m = bound (nests_in xs g.placed rs b.value bs b.value.next) (λ nests. Some (record {
+        grid = grid;
+        head = b.value.steps;
+        nests = nests;
+        known = b.value.known;
+        starts =
+            b.value.starts;
+      })) k b.comes in
+      let first : (n : ℕ) (ts : List Turning) → IsSettledGrid cuts others once rs ls free names n ts bare (over_grid rs g.placed) b.value =
+      λ n ts. settled_grid cuts others once rs ls free names n ts at_grid bare cs cs (sub_of xs) (over_grid rs g.placed) b.value
+      none (record {
+        known = all_weaker (λ u. form_named names u.name ≡ Some u.form) (λ u. Right cuts others once rs ls free names n ts bare u.name u.form) (λ u h. inl (inl h)) names
             (named_over_grid rs 0 (parallel_loops ls) single_over);
         starts = tt;
       }) b.is in
       let one = first 0 [] in
       let nests : nests_in xs g.placed rs b.value bs (length grid) ≡ Some m.value = ap (nests_in xs g.placed rs b.value bs) (sym one.next) ∙ m.is in
       let pieces : length grid ≤ 10 = (let some = few_pieces_of rs (parallel_loops ls) in let fewer = filter_few is_parallel ls in let loops = few_loops in omega (arith, some, fewer, loops)) in
-      let chained = nests_chained xs g.placed others once rs free names b.value one.known (λ n ts. (first n ts).right) bs (length grid) m.value (omega (arith, pieces, many)) few nests in
+      let itself : length grid ≤ length grid = omega arith in
+      let chained = nests_chained xs g.placed others once rs free names none some (length grid) outers b.value one.known (λ n ts. (first n ts).right) bs (length grid) m.value itself ordered
+      (omega (arith, pieces, many)) few nests in
       subst (IsLooped names) (same (record { grid = grid; head = b.value.steps; nests = m.value; known = b.value.known; starts = b.value.starts }) k m.comes)
       (record { head = one.steps; known = one.known; grid = pieces; chained = chained })
     where
-      free : (c : Split) → In c cuts → is_tailed rs c ≡ false
-      free c m = all_in (λ c. is_tailed rs c ≡ false) cuts c filled m
+      free : (c : Split) → In c cuts → makes_line ls rs c ≡ false
+      free c m = all_in (λ c. makes_line ls rs c ≡ false) cuts c filled m
+
+      fits : (c : Split) → In c cuts → CutFits rs c
+      fits c m = all_in (CutFits rs) cuts c (owners.cuts g es k laid) m
+
+      some : (c : Split) → In c cuts → 0 < c.factor
+      some c m = (fits c m).some
+
+      none : (c : Split) → In c cuts → form_named (grid_forms rs 0 (parallel_loops ls)) c.inner ≡ None
+      none c m = grid_none rs c.inner 0 (parallel_loops ls) (inners_serial ls cuts keeps c m)
+
+      -- a piece counts the blocks from 0 on
+      outers : (c : Split) → In c cuts → (f : Form) → form_named (grid_forms rs 0 (parallel_loops ls)) c.outer ≡ Some f →
+          (s : ℕ) × (f ≡ counted_from (pos 0) s) × (s < length (piece_counts rs ls))
+      outers c m f e =
+          let r = grid_place rs c.outer 0 (parallel_loops ls) f e in
+          let zero_more : 0 + r.0 ≡ r.0 = omega arith in
+          let zero_low : (numbers_named rs c.outer).low ≡ pos 0 = ap (λ (q : Numbers). q.low) (fits c m).outer in
+          let less = slice_get_within (grid_counts rs (parallel_loops ls)) r.0 _ r.2 in
+          let one_more = or_one_many (grid_counts rs (parallel_loops ls)) in
+          (r.0, r.1 ∙ (λ j. counted_from (zero_low j) (zero_more j)), omega (arith, less, one_more))
+        where
+          or_one_many : (ns : List ℕ) → length ns ≤ length (or_one ns)
+          or_one_many [] = omega arith
+          or_one_many (n ∷ ns) = omega arith
 
       single_over : (y : List ℕ) → hits loop_name y (parallel_loops ls) ≤ 1
       single_over y = (let one = single y in let two = hits_fewer is_parallel y ls in omega (arith, one, two))

@@ -1,11 +1,11 @@
--- What belongs to a piece of a dimension that is split once, by blocks that need no tail: all numbers, or one block.
-use Rattle.std.proofs.Common.{◌≡◌, ℕ, ◌+◌, ◌-◌, ◌*◌, ◌^◌, ◌<◌, ◌≤◌, Bool, true, false, ◌||◌, not, List, [], ◌∷◌, Option, Some, None, refl, sym, ap, ◌∙◌, inl, inr, arith}
+-- What belongs to a piece of a dimension that is split once, by blocks that need no line of their own: all numbers, or one block, kept within the split loop.
+use Rattle.std.proofs.Common.{◌≡◌, ℕ, ◌+◌, ◌-◌, ◌*◌, ◌^◌, ◌<◌, ◌≤◌, Bool, true, false, ◌&&◌, ◌||◌, not, List, [], ◌∷◌, Some, None, refl, sym, ap, ◌∙◌, inl, inr, arith}
 use Rattle.std.specs.Prelude.{ℤ, pos, negsuc, ◌+ℤ◌, ◌-ℤ◌, ◌*ℤ◌, ◌≤ℤ◌, ◌==◌, ◌/◌, ◌%◌, if◌then◌else◌}
 use Rattle.std.specs.Option.{option_map}
 use Rattle.std.proofs.lemmas.Bool.Decides.{nat_tests}
 use Rattle.std.proofs.lemmas.Int.{ints}
 use Rattle.std.proofs.Math.Nat.{div-mul-le_self, lt-div-mul-add}
-use Rattle.lin.specs.Forms.{Form, in_front}
+use Rattle.lin.specs.Forms.{Form, number, in_front}
 use Rattle.plan.specs.declared.stmt.Places.TheVariants.{From}
 use Rattle.meaning.specs.Names.{same_name}
 use Rattle.soundness.specs.Claims.{In}
@@ -13,6 +13,7 @@ use Rattle.soundness.proofs.Refines.{name_refl, name_true}
 use Rattle.sched.specs.declared.schedule.Split.{Split}
 use Rattle.sched.specs.declared.schedule.Tail.{Tail}
 use Rattle.sched.specs.declared.schedule.Tail.TheVariants.{Guard, Roundup, Shift}
+use Rattle.sched.specs.declared.placing.Loop.{Loop}
 use Rattle.sched.specs.declared.numbers.Numbers.{Numbers}
 use Rattle.sched.specs.Numbers.{blocks, numbers_named, last_number}
 use Rattle.sched.specs.Standing.{form_named, has_rest, counted_from}
@@ -21,7 +22,7 @@ use Rattle.lower.specs.Blocks.{sum, difference, product, stepped, multiple_from,
 use Rattle.lower.specs.Blocks.{with_last, reach_over, places_by, block_span, uncut, blocks_by, joined, part_of, dimension_by}
 use Rattle.lower.proofs.Blocking.{IsSmall, CutFits}
 use Rattle.lower.proofs.Dividing.{nearest, nearest_of_small}
-use Rattle.completeness.specs.Blocked.{is_tailed}
+use Rattle.completeness.specs.Blocked.{is_tailed, is_entered, makes_line}
 use Rattle.completeness.proofs.Halves.{AreOthers, by_whole}
 use Rattle.completeness.proofs.Lanes.{AreOnce}
 use Rattle.completeness.proofs.Searched.{one_of}
@@ -146,8 +147,9 @@ module _ (l : LayText) where
 
 -- ---- ends
 
--- a split whose blocks need no tail
-module _ (rs : List Numbers) (c : Split) (free : is_tailed rs c ≡ false) (fits : CutFits rs c) (small : IsSmall (numbers_named rs c.whole)) (some : 0 < (numbers_named rs c.whole).count) where
+-- a split whose blocks need no line
+module _ (ls : List Loop) (rs : List Numbers) (c : Split) (free : makes_line ls rs c ≡ false) (fits : CutFits rs c) (small : IsSmall (numbers_named rs c.whole)) (some : 0 <
+    (numbers_named rs c.whole).count) where
   abbrev own : Numbers
   own = numbers_named rs c.whole
 
@@ -226,51 +228,92 @@ module _ (rs : List Numbers) (c : Split) (free : is_tailed rs c ≡ false) (fits
       by : (z : ℤ) (m p n : ℕ) → m ≤ p + n → p + n ≤ m → z +ℤ pos m -ℤ pos 1 ≡ z +ℤ (pos p +ℤ (pos n -ℤ pos 1))
       by z m p n le ge = omega (arith, ints, le, ge)
 
-  reaches : last_number own ≤ℤ last_of
+  pub reaches : last_number own ≤ℤ last_of
   reaches = (let high = top_high own.count c.factor some fits.some in by own.low own.count (t * c.factor) c.factor high)
     where
       by : (z : ℤ) (m p n : ℕ) → m ≤ p + n → (z +ℤ pos m -ℤ pos 1) ≤ℤ (z +ℤ (pos p +ℤ (pos n -ℤ pos 1)))
       by z m p n le = omega (arith, ints, le)
 
+  -- a guard keeps the numbers within the loop
+  abbrev pub end_of_all : ℤ
+  end_of_all = if is_tailed rs c then last_number own else last_of
+
+  abbrev pub all_of : ℕ
+  all_of = if is_tailed rs c then own.count else t * c.factor + c.factor
+
+  abbrev pub kept_cap : List Form
+  kept_cap = if is_tailed rs c then number (last_number own) ∷ [] else []
+
+  abbrev Freed : Tail → Type 0
+  Freed tail = (elim tail [ Guard ↦ has_rest c own.count && not (is_entered ls c) | Roundup ↦ false | Shift ↦ true ]) ≡ false
+
+  abbrev end_by : Tail → ℤ
+  end_by tail = if (elim tail [ Guard ↦ has_rest c own.count | Roundup ↦ false | Shift ↦ true ]) then last_number own else last_of
+
+  guarded_end : last_number own ≡ (if has_rest c own.count then last_number own else last_of)
+  guarded_end = of (has_rest c own.count) refl
+    where
+      of : (b : Bool) → has_rest c own.count ≡ b → last_number own ≡ (if b then last_number own else last_of)
+      of true e = refl
+      of false e = full_last e
+
+  -- so many numbers from the first one on to that end
+  pub counted : (pos all_of -ℤ pos 1) +ℤ own.low ≡ end_of_all
+  counted = of (is_tailed rs c)
+    where
+      of : (b : Bool) → (pos (if b then own.count else t * c.factor + c.factor) -ℤ pos 1) +ℤ own.low ≡ (if b then last_number own else last_of)
+      of true = by own.low own.count
+        where
+          by : (z : ℤ) (m : ℕ) → (pos m -ℤ pos 1) +ℤ z ≡ z +ℤ pos m -ℤ pos 1
+          by z m = omega (arith, ints)
+      of false = by own.low (t * c.factor) c.factor
+        where
+          by : (z : ℤ) (p n : ℕ) → (pos (p + n) -ℤ pos 1) +ℤ z ≡ z +ℤ (pos p +ℤ (pos n -ℤ pos 1))
+          by z p n = omega (arith, ints)
+
   -- the end of what is visited
-  pub end_is : split_end c own (last_number (numbers_named rs c.outer)) (last_number (numbers_named rs c.inner)) ≡ last_of
+  pub end_is : split_end c own (last_number (numbers_named rs c.outer)) (last_number (numbers_named rs c.inner)) ≡ end_of_all
   unfolding split_end
   end_is = of c.tail free
     where
-      of : (tail : Tail) → (elim tail [ Guard ↦ has_rest c own.count | Roundup ↦ false | Shift ↦ true ]) ≡ false → (elim tail [
+      of : (tail : Tail) → Freed tail → (elim tail [
         | Guard ↦ last_number own
         | Roundup ↦ sum (stepped own.low (factor_of c) (last_number (numbers_named rs c.outer))) (last_number (numbers_named rs c.inner))
         | Shift ↦ sum (difference (last_number own) (difference (factor_of c) (pos 1))) (last_number (numbers_named rs c.inner))
-      ]) ≡ last_of
-      of Guard e = full_last e
+      ]) ≡ end_by tail
+      of Guard e = guarded_end
       of Roundup e = steps_are (last_number (numbers_named rs c.inner)) inner_last
       of Shift e = absurd (cc e)
 
   -- and of what claims speak of
-  pub claim_is : split_claim_end c own (last_number (numbers_named rs c.outer)) ≡ last_of
+  pub claim_is : split_claim_end c own (last_number (numbers_named rs c.outer)) ≡ end_of_all
   unfolding split_claim_end
   claim_is = of c.tail free
     where
       full : difference (factor_of c) (pos 1) ≡ pos c.factor -ℤ pos 1
       full = (let wide = fits.few in let size = fits.some in nearest_of_small (pos c.factor -ℤ pos 1) (omega (arith, ints, size)) (omega (arith, ints, wide)))
 
-      of : (tail : Tail) → (elim tail [ Guard ↦ has_rest c own.count | Roundup ↦ false | Shift ↦ true ]) ≡ false → (elim tail [
+      of : (tail : Tail) → Freed tail → (elim tail [
         | Guard ↦ last_number own
         | Roundup ↦ sum (stepped own.low (factor_of c) (last_number (numbers_named rs c.outer))) (difference (factor_of c) (pos 1))
         | Shift ↦ last_number own
-      ]) ≡ last_of
-      of Guard e = full_last e
+      ]) ≡ end_by tail
+      of Guard e = guarded_end
       of Roundup e = steps_are (difference (factor_of c) (pos 1)) full
       of Shift e = absurd (cc e)
 
   -- ---- a block
 
-  no_last : claim_last c own ≡ None
-  no_last = of c.tail free
+  cap_is : with_last [] (claim_last c own) ≡ kept_cap
+  cap_is = of c.tail free
     where
-      of : (tail : Tail) → (elim tail [ Guard ↦ has_rest c own.count | Roundup ↦ false | Shift ↦ true ]) ≡ false →
-          ◌≡◌ {A = Option ℤ} (elim tail [ Guard ↦ own_last c own | Roundup ↦ None | Shift ↦ own_last c own ]) None
-      of Guard e = ap (λ (b : Bool). if b then Some (last_number own) else None) e
+      by : (b : Bool) → with_last [] (if b then Some (last_number own) else None) ≡ (if b then number (last_number own) ∷ [] else [])
+      by true = refl
+      by false = refl
+
+      of : (tail : Tail) → Freed tail → with_last [] (elim tail [ Guard ↦ own_last c own | Roundup ↦ None | Shift ↦ own_last c own ])
+          ≡ (if (elim tail [ Guard ↦ has_rest c own.count | Roundup ↦ false | Shift ↦ true ]) then number (last_number own) ∷ [] else [])
+      of Guard e = by (has_rest c own.count)
       of Roundup e = refl
       of Shift e = absurd (cc e)
 
@@ -297,20 +340,20 @@ module _ (rs : List Numbers) (c : Split) (free : is_tailed rs c ≡ false) (fits
         let size = fits.some in
         ap (λ (z : ℤ). nearest (z -ℤ pos 1)) one_factor ∙ nearest_of_small (pos c.factor -ℤ pos 1) (omega (arith, ints, size)) (omega (arith, ints, wide))
 
-    -- the first number, and the last
+    -- the first number, the last one of a full block, and that of the loop
     pub block_claim : block_span b.start b.length b.claim_limits
-        ≡ record { lower = one_of own.low (pos c.factor) s ∷ []; upper = one_of ((pos c.factor -ℤ pos 1) +ℤ own.low) (pos c.factor) s ∷ [] }
+        ≡ record { lower = one_of own.low (pos c.factor) s ∷ []; upper = one_of ((pos c.factor -ℤ pos 1) +ℤ own.low) (pos c.factor) s ∷ kept_cap }
     block_claim =
-        let limits : b.claim_limits ≡ [] = ap (with_last []) no_last in
+        let limits = cap_is in
         let there = some_factor c.factor fits.some in
         let once : pos 1 *ℤ pos c.factor ≡ pos c.factor = omega (arith, ints) in
         let up : (pos c.factor -ℤ pos 1) +ℤ pos 1 *ℤ own.low ≡ (pos c.factor -ℤ pos 1) +ℤ own.low = ap (λ (z : ℤ). (pos c.factor -ℤ pos 1) +ℤ z) (one_time own.low) in
         (λ j. block_span (start_so j) b.length (limits j))
-        ∙ ap (λ (z : ℤ). record { lower = one_of own.low (pos c.factor) s ∷ []; upper = raised (one_of own.low (pos c.factor) s) z ∷ [] }) size_less
-        ∙ (λ j. record { lower = one_of own.low (pos c.factor) s ∷ []; upper = record { constant = up j; terms = in_front (multiple s (once j)) [] } ∷ [] })
+        ∙ ap (λ (z : ℤ). record { lower = one_of own.low (pos c.factor) s ∷ []; upper = raised (one_of own.low (pos c.factor) s) z ∷ kept_cap }) size_less
+        ∙ (λ j. record { lower = one_of own.low (pos c.factor) s ∷ []; upper = record { constant = up j; terms = in_front (multiple s (once j)) [] } ∷ kept_cap })
         ∙ (λ j. record {
           lower = one_of own.low (pos c.factor) s ∷ [];
-          upper = record { constant = (pos c.factor -ℤ pos 1) +ℤ own.low; terms = if there j then [] else multiple s (pos c.factor) ∷ [] } ∷ [];
+          upper = record { constant = (pos c.factor -ℤ pos 1) +ℤ own.low; terms = if there j then [] else multiple s (pos c.factor) ∷ [] } ∷ kept_cap;
         })
       where
         one_time : (z : ℤ) → pos 1 *ℤ z ≡ z
@@ -319,7 +362,7 @@ module _ (rs : List Numbers) (c : Split) (free : is_tailed rs c ≡ false) (fits
     origin_is : b.origin ≡ Some (one_of own.low (pos c.factor) s)
     origin_is = of c.tail free ∙ ap (λ (f : Form). Some f) start_so
       where
-        of : (tail : Tail) → (elim tail [ Guard ↦ has_rest c own.count | Roundup ↦ false | Shift ↦ true ]) ≡ false → (elim tail [
+        of : (tail : Tail) → Freed tail → (elim tail [
           | Guard ↦ option_map (multiple_from own.low (factor_of c)) outer.origin
           | Roundup ↦ option_map (multiple_from own.low (factor_of c)) outer.origin
           | Shift ↦ if true then form_named l.starts c.whole else None
@@ -354,7 +397,7 @@ module _ (rs : List Numbers) (c : Split) (free : is_tailed rs c ≡ false) (fits
             back : (z : ℤ) → ((z -ℤ pos 1) +ℤ pos 1) ≡ z
             back z = omega (arith, ints)
 
-        of : (tail : Tail) → (elim tail [ Guard ↦ has_rest c own.count | Roundup ↦ false | Shift ↦ true ]) ≡ false → (elim tail [
+        of : (tail : Tail) → Freed tail → (elim tail [
           | Guard ↦ sum (stepped (pos c.factor -ℤ pos 1) (factor_of c) (difference outer.reach (pos 1))) (pos 1)
           | Roundup ↦ sum (stepped (pos c.factor -ℤ pos 1) (factor_of c) (difference outer.reach (pos 1))) (pos 1)
           | Shift ↦ sum (pos c.factor -ℤ pos 1) (pos 1)

@@ -17,8 +17,9 @@ use Rattle.rules.specs.Bounding.Rules.{is_index_span}
 use Rattle.completeness.proofs.GridScope.{number_limited}
 use Rattle.completeness.proofs.SelfBounds.{found_below, still}
 use Rattle.completeness.proofs.Searched.{one_of, numbers_made}
-use Rattle.completeness.proofs.BlockSums.{multiple, pair, two_of, found_two}
-use Rattle.completeness.proofs.BlockBounds.{one_limited, two_limited, two_below}
+use Rattle.completeness.proofs.BlockSums.{multiple, pair, two_of, found_two, one_limited, two_limited}
+use Rattle.completeness.proofs.BlockBounds.{two_above, two_below}
+use Rattle.completeness.proofs.GuardSums.{left_over, limited_below}
 
 -- ---- two loops from 0 on, with the first number added, are no less than a smaller number
 
@@ -110,8 +111,8 @@ module _ (scope : List Binding) (a b : ℕ) (differ : (a == b) ≡ false) (insid
   inner_near : unsigned_abs (pos 1 *ℤ pos k) ≤ 2 ^ 37
   inner_near = subst (λ (z : ℤ). unsigned_abs z ≤ 2 ^ 37) (sym once) (omega (arith, few))
 
-  tops : (p : ℤ) → (low +ℤ (p +ℤ pos k)) ≤ℤ pos 2147483647 → (((low +ℤ pos k) +ℤ p) ≤ℤ pos 2147483647) × (((low +ℤ p) +ℤ pos k) ≤ℤ pos 2147483647)
-  tops p e = (omega (arith, ints, e), omega (arith, ints, e))
+  tops : (high p : ℤ) → (low +ℤ (p +ℤ pos k)) ≤ℤ high → (((low +ℤ pos k) +ℤ p) ≤ℤ high) × (((low +ℤ p) +ℤ pos k) ≤ℤ high)
+  tops high p e = (omega (arith, ints, e), omega (arith, ints, e))
 
   by_form : (f : Form) → pair low a (pos (suc k)) b ≡ f → at_most scope (number (least I32)) f ≡ true → at_most scope f (number (greatest I32)) ≡ true →
       is_index_span scope (exactly (pair low a (pos (suc k)) b)) ≡ true
@@ -127,7 +128,7 @@ module _ (scope : List Binding) (a b : ℕ) (differ : (a == b) ≡ false) (insid
           (λ j. record { constant = low; terms = if e j then multiple a (pos (suc k)) ∷ multiple b (pos 1) ∷ [] else multiple b (pos 1) ∷ multiple a (pos (suc k)) ∷ [] }) in
           let sum : ((low +ℤ pos 1 *ℤ pos k) +ℤ pos (suc k) *ℤ pos t) ≤ℤ pos 2147483647 =
           subst (λ (z : ℤ). ((low +ℤ z) +ℤ pos (suc k) *ℤ pos t) ≤ℤ pos 2147483647) (sym once)
-          (subst (λ (z : ℤ). ((low +ℤ pos k) +ℤ z) ≤ℤ pos 2147483647) (sym times) (tops (pos (t * suc k)) ends).0) in
+          (subst (λ (z : ℤ). ((low +ℤ pos k) +ℤ z) ≤ℤ pos 2147483647) (sym times) (tops (pos 2147483647) (pos (t * suc k)) ends).0) in
           by_form (two_of low (pos (suc k)) a (pos 1) b) is
           (two_over scope a b less inside_b k 0 few (omega arith) x y there_a there_b low from to x_low y_low)
           (two_below scope a b less inside_b k 0 few (omega arith) x y there_a there_b low low_near (pos t) (pos k) (pos 2147483647) x_last y_last t_near k_near outer_near inner_near high_near sum)
@@ -137,7 +138,65 @@ module _ (scope : List Binding) (a b : ℕ) (differ : (a == b) ≡ false) (insid
           (λ j. record { constant = low; terms = if e j then multiple a (pos (suc k)) ∷ multiple b (pos 1) ∷ [] else multiple b (pos 1) ∷ multiple a (pos (suc k)) ∷ [] }) in
           let sum : ((low +ℤ pos (suc k) *ℤ pos t) +ℤ pos 1 *ℤ pos k) ≤ℤ pos 2147483647 =
           subst (λ (z : ℤ). ((low +ℤ pos (suc k) *ℤ pos t) +ℤ z) ≤ℤ pos 2147483647) (sym once)
-          (subst (λ (z : ℤ). ((low +ℤ z) +ℤ pos k) ≤ℤ pos 2147483647) (sym times) (tops (pos (t * suc k)) ends).1) in
+          (subst (λ (z : ℤ). ((low +ℤ z) +ℤ pos k) ≤ℤ pos 2147483647) (sym times) (tops (pos 2147483647) (pos (t * suc k)) ends).1) in
           by_form (two_of low (pos 1) b (pos (suc k)) a) is
           (two_over scope b a less inside_a 0 k (omega arith) few y x there_b there_a low from to y_low x_low)
           (two_below scope b a less inside_a 0 k (omega arith) few y x there_b there_a low low_near (pos k) (pos t) (pos 2147483647) y_last x_last k_near t_near inner_near outer_near high_near sum)
+
+  -- it is at least the first number, and at most what they come to
+  pub pair_bounds : (high : ℤ) → unsigned_abs high ≤ 2 ^ 37 → (low +ℤ (pos (t * suc k) +ℤ pos k)) ≤ℤ high →
+      (at_most scope (number low) (pair low a (pos (suc k)) b) ≡ true) × (at_most scope (pair low a (pos (suc k)) b) (number high) ≡ true)
+  pair_bounds high near top = of (nat_lt a b) refl
+    where
+      of : (v : Bool) → nat_lt a b ≡ v → (at_most scope (number low) (pair low a (pos (suc k)) b) ≡ true) × (at_most scope (pair low a (pos (suc k)) b) (number high) ≡ true)
+      of true e =
+          let less : a < b = grind (arith, nat_tests, e) in
+          let is : pair low a (pos (suc k)) b ≡ two_of low (pos (suc k)) a (pos 1) b =
+          (λ j. record { constant = low; terms = if e j then multiple a (pos (suc k)) ∷ multiple b (pos 1) ∷ [] else multiple b (pos 1) ∷ multiple a (pos (suc k)) ∷ [] }) in
+          let sum : ((low +ℤ pos 1 *ℤ pos k) +ℤ pos (suc k) *ℤ pos t) ≤ℤ high =
+          subst (λ (z : ℤ). ((low +ℤ z) +ℤ pos (suc k) *ℤ pos t) ≤ℤ high) (sym once)
+          (subst (λ (z : ℤ). ((low +ℤ pos k) +ℤ z) ≤ℤ high) (sym times) (tops high (pos (t * suc k)) top).0) in
+          let above = two_above scope a b less inside_b k 0 few (omega arith) x y there_a there_b low low_near x_low y_low in
+          let below = two_below scope a b less inside_b k 0 few (omega arith) x y there_a there_b low low_near (pos t) (pos k) high x_last y_last t_near k_near outer_near inner_near near sum in
+          (ap (at_most scope (number low)) is ∙ above, ap (λ (f : Form). at_most scope f (number high)) is ∙ below)
+      of false e =
+          let less : b < a = grind (arith, nat_tests, e, differ) in
+          let is : pair low a (pos (suc k)) b ≡ two_of low (pos 1) b (pos (suc k)) a =
+          (λ j. record { constant = low; terms = if e j then multiple a (pos (suc k)) ∷ multiple b (pos 1) ∷ [] else multiple b (pos 1) ∷ multiple a (pos (suc k)) ∷ [] }) in
+          let sum : ((low +ℤ pos (suc k) *ℤ pos t) +ℤ pos 1 *ℤ pos k) ≤ℤ high =
+          subst (λ (z : ℤ). ((low +ℤ pos (suc k) *ℤ pos t) +ℤ z) ≤ℤ high) (sym once)
+          (subst (λ (z : ℤ). ((low +ℤ z) +ℤ pos k) ≤ℤ high) (sym times) (tops high (pos (t * suc k)) top).1) in
+          let above = two_above scope b a less inside_a 0 k (omega arith) few y x there_b there_a low low_near y_low x_low in
+          let below = two_below scope b a less inside_a 0 k (omega arith) few y x there_b there_a low low_near (pos k) (pos t) high y_last x_last k_near t_near inner_near outer_near near sum in
+          (ap (at_most scope (number low)) is ∙ above, ap (λ (f : Form). at_most scope f (number high)) is ∙ below)
+
+-- ---- blocks that a guard keeps within the loop
+
+module _ (scope : List Binding) (a b : ℕ) (less : a < b) (inside : b < length scope) (t k : ℕ) (few : suc k ≤ 1024) (t_few : t ≤ 2 ^ 32) (all_few : t * suc k ≤ 2 ^ 32) (x y : Span1)
+    (there_a : slice_get scope a ≡ Some (Bound x)) (there_b : slice_get scope b ≡ Some (Bound y)) (low last : ℤ) (x_low : x.lower ≡ number (pos 0) ∷ []) (x_last : x.upper ≡ number (pos t) ∷ [])
+    (y_low : y.lower ≡ number (pos 0) ∷ []) (y_last : y.upper ≡ number (pos k) ∷ left_over last low (pos (suc k)) a ∷ []) (from : negsuc 2147483647 ≤ℤ low) (to : low ≤ℤ pos 2147483647)
+    (last_near : unsigned_abs last ≤ 2 ^ 36) where
+  kept_low_near : unsigned_abs low ≤ 2 ^ 36
+  kept_low_near = omega (arith, ints, from, to)
+
+  kept_top_near : unsigned_abs (pos t) ≤ 2 ^ 36
+  kept_top_near = omega (arith, t_few)
+
+  kept_times : unsigned_abs (pos (suc k) *ℤ pos t) ≤ 2 ^ 38
+  kept_times = subst (λ (z : ℤ). unsigned_abs z ≤ 2 ^ 38) (sym times_are) (by (t * suc k) all_few)
+    where
+      times_are : pos (suc k) *ℤ pos t ≡ pos (t * suc k)
+      times_are = omega (arith, ints)
+
+      by : (p : ℕ) → p ≤ 2 ^ 32 → unsigned_abs (pos p) ≤ 2 ^ 38
+      by p e = omega (arith, e)
+
+  -- at most any number that the last one is at most
+  pub kept_under : (high : ℤ) → unsigned_abs high ≤ 2 ^ 37 → last ≤ℤ high → at_most scope (two_of low (pos (suc k)) a (pos 1) b) (number high) ≡ true
+  kept_under high near le = limited_below scope a b less inside k t few x y there_a there_b low last kept_low_near last_near x_last y_last kept_top_near kept_times high near le
+
+  pub kept_inside : last ≤ℤ pos 2147483647 → is_index_span scope (exactly (two_of low (pos (suc k)) a (pos 1) b)) ≡ true
+  kept_inside ends =
+      let above = two_over scope a b less inside k 0 few (omega arith) x y there_a there_b low from to x_low y_low in
+      let below = kept_under (pos 2147483647) (omega (arith, ints)) ends in
+      λ j. ((above j || false) && true) && ((below j || false) && true)

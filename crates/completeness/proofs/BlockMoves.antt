@@ -1,6 +1,6 @@
 -- Loops over numbers, each of one coordinate, which is a form over its loops' symbols: in whatever order the loops are taken away, each coordinate comes to all
 -- numbers from its least to its greatest, where the loops of smaller factors together make up the factor of the next.
-use Rattle.std.proofs.Common.{◌≡◌, ℕ, zero, suc, ◌+◌, ◌≤◌, ◌^◌, Bool, true, false, ◌&&◌, ◌||◌, not, List, [], ◌∷◌, ◌++◌, length, map, Option, Some, None}
+use Rattle.std.proofs.Common.{◌≡◌, ℕ, suc, ◌+◌, ◌≤◌, ◌^◌, Bool, true, false, ◌&&◌, ◌||◌, not, List, [], ◌∷◌, ◌++◌, length, map, Option, Some, None}
 use Rattle.std.proofs.Common.{refl, sym, ap, ◌∙◌, subst, inl, inr, ◌⊎◌, arith}
 use Rattle.std.specs.Prelude.{ℤ, pos, ◌+ℤ◌, ◌-ℤ◌, ◌*ℤ◌, ◌≤ℤ◌, int_le, nat_le, ◌==◌, if◌then◌else◌, filter, flat_map, option_and_then}
 use Rattle.std.specs.List.{AllByRecursion, list_any, list_all}
@@ -10,36 +10,29 @@ use Rattle.std.specs.Int.RustNames.{unsigned_abs}
 use Rattle.std.proofs.lemmas.Bool.{le-leb}
 use Rattle.std.proofs.lemmas.Bool.Decides.{nat_tests}
 use Rattle.std.proofs.lemmas.Int.{ints}
-use Rattle.std.proofs.lemmas.List.{length-map}
 use Rattle.lin.specs.Forms.{Form, number, factor_of, is_within_limits, plus_multiple, without, combined, same_terms}
 use Rattle.lin.specs.Search.{replaced}
 use Rattle.lin.specs.declared.form.Multiple.{Multiple}
 use Rattle.lin.specs.declared.span.Span1.{Span1}
 use Rattle.lin.proofs.Limits.{combined-made, le_true}
 use Rattle.plan.specs.declared.stmt.Pick.TheVariants.{Min}
-use Rattle.plan.specs.Semantics.Setting.{or_else}
 use Rattle.soundness.specs.Claims.{In}
 use Rattle.soundness.specs.Obligations.{exactly, form_has, span_has}
 use Rattle.soundness.proofs.Refines.{and_parts, eq_refl, eq_true, number_refl, number_true}
-use Rattle.tails.specs.Moves.{Choice, behind, choices, first_some, joined, single, only, naming, not_naming, each_replaced, is_positive, is_loose, paired, State, is_gapless, is_block, Ready}
-use Rattle.tails.specs.Moves.{first_naming, lower_factor, is_single, is_free_loop, ready, is_before, preferred, best, is_idle, after_idle, by_idle, are_blocks, over_turns, over_loop, taken}
-use Rattle.tails.specs.Moves.{after_loop, by_loop}
-use Rattle.tails.specs.Moves.{expanded, opened, without_let, is_free_let, after_let, by_let, after_guard, by_guard, next, run, spans_over, span_from}
+use Rattle.tails.specs.Moves.{joined, single, only, naming, not_naming, each_replaced, is_positive, is_gapless, is_block, Ready}
+use Rattle.tails.specs.Moves.{first_naming, lower_factor, is_single, is_free_loop, ready, is_before, preferred, best, are_blocks, over_turns, over_loop, taken}
+use Rattle.tails.specs.Moves.{expanded, opened, span_from}
 use Rattle.completeness.proofs.GridScope.{number_limited}
 use Rattle.completeness.proofs.PlainTurns.{one_if}
 use Rattle.completeness.proofs.UpdateTurns.{all_mapped}
-use Rattle.completeness.proofs.LoopMoves.{false_end, true_end, or_none, other_way, Item, item_span, item_loop, is_lone, step_by, item_step, paired_items, is_left, AreApart, One, with_it, picks}
-use Rattle.completeness.proofs.LoopMoves.{choice_of, choices_are, all_loose, none_first, all_true, opened_none}
+use Rattle.completeness.proofs.LoopMoves.{false_end, true_end, or_none, other_way, Item, item_span, item_loop, is_lone, step_by, item_step, is_left, AreApart, One, with_it, picks}
+use Rattle.completeness.proofs.LoopMoves.{choice_of, all_loose, opened_none}
 
 -- ---- booleans and numbers
 
 and_end : (b : Bool) → (b && true) ≡ b
 and_end true = refl
 and_end false = refl
-
-not_true : (b : Bool) → not b ≡ true → b ≡ false
-not_true true e = absurd (cc e)
-not_true false e = refl
 
 pub is_le : (x y : ℤ) → x ≤ℤ y → int_le x y ≡ true
 is_le x y h = grind (arith, nat_tests, ints)
@@ -50,7 +43,7 @@ le_is x y e = grind (arith, nat_tests, ints)
 pub not_le : (x y : ℤ) → (y +ℤ pos 1) ≤ℤ x → int_le x y ≡ false
 not_le x y h = grind (arith, nat_tests, ints)
 
-le_not : (x y : ℤ) → int_le x y ≡ false → (y +ℤ pos 1) ≤ℤ x
+pub le_not : (x y : ℤ) → int_le x y ≡ false → (y +ℤ pos 1) ≤ℤ x
 le_not x y e = grind (arith, nat_tests, ints)
 
 sum_small : (a b : ℤ) (m n : ℕ) → unsigned_abs a ≤ m → unsigned_abs b ≤ n → unsigned_abs (a +ℤ b) ≤ m + n
@@ -87,17 +80,6 @@ kept_factor keep i there (t ∷ xs) = of (keep t.symbol) refl (kept_factor keep 
     of true e rest = ap (λ (z : ℤ). (if t.symbol == i then t.factor else pos 0) +ℤ z) rest
     of false e rest =
         rest ∙ nothing_more (factor_of xs i) ∙ sym (ap (λ (c : Bool). (if c then t.factor else pos 0) +ℤ factor_of xs i) (left_out keep t.symbol i there e))
-
-kept_none : (keep : ℕ → Bool) (i : ℕ) (xs : List Multiple) → list_any (λ t. t.symbol == i) xs ≡ false → list_any (λ t. t.symbol == i) (filter (λ t. keep t.symbol) xs) ≡ false
-kept_none keep i [] e = refl
-kept_none keep i (t ∷ xs) e =
-    let parts = or_none (t.symbol == i) (list_any (λ t. t.symbol == i) xs) e in
-    of (keep t.symbol) parts.0 (kept_none keep i xs parts.1)
-  where
-    of : (b : Bool) → (t.symbol == i) ≡ false → list_any (λ t. t.symbol == i) (filter (λ t. keep t.symbol) xs) ≡ false →
-        list_any (λ t. t.symbol == i) (if b then t ∷ filter (λ t. keep t.symbol) xs else filter (λ t. keep t.symbol) xs) ≡ false
-    of true here rest = λ j. here j || rest j
-    of false here rest = rest
 
 kept_twice : (g h : ℕ → Bool) (xs : List Multiple) → filter (λ t. g t.symbol) (filter (λ t. h t.symbol) xs) ≡ filter (λ t. h t.symbol && g t.symbol) xs
 kept_twice g h [] = refl
@@ -169,7 +151,7 @@ of_all P [] x h m = absurd m
 of_all P (y ∷ xs) x h (inl e) = subst P (sym e) h.0
 of_all P (y ∷ xs) x h (inr m) = of_all P xs x h.1 m
 
-lone_ends : (u : Item) → is_lone u ≡ true → u.low ≡ u.last
+pub lone_ends : (u : Item) → is_lone u ≡ true → u.low ≡ u.last
 lone_ends u e = number_true u.low u.last (and_parts (int_eq u.low u.last) true e).0
 
 -- ---- coordinates
@@ -206,16 +188,16 @@ pub record ItemFits (gs : List Target) (t : Item) : Type 0 where
   pub last_near : unsigned_abs t.last ≤ 2 ^ 40
 
 -- what is so of one of these loops and the others
-record OneFits (gs : List Target) (ts : List Item) (p : One) : Type 0 where
-  here : ItemFits gs p.one
-  loose : is_left p.one.symbol p.others ≡ false
-  apart : AreApart p.others
-  fit : AllByRecursion (ItemFits gs) p.others
-  there : is_left p.one.symbol ts ≡ true
-  same : (i : ℕ) → (p.one.symbol == i) ≡ false → is_left i p.others ≡ is_left i ts
-  fewer : suc (length p.others) ≡ length ts
+pub record OneFits (gs : List Target) (ts : List Item) (p : One) : Type 0 where
+  pub here : ItemFits gs p.one
+  pub loose : is_left p.one.symbol p.others ≡ false
+  pub apart : AreApart p.others
+  pub fit : AllByRecursion (ItemFits gs) p.others
+  pub there : is_left p.one.symbol ts ≡ true
+  pub same : (i : ℕ) → (p.one.symbol == i) ≡ false → is_left i p.others ≡ is_left i ts
+  pub fewer : suc (length p.others) ≡ length ts
 
-all_picks : (gs : List Target) (ts : List Item) → AreApart ts → AllByRecursion (ItemFits gs) ts → AllByRecursion (OneFits gs ts) (picks ts)
+pub all_picks : (gs : List Target) (ts : List Item) → AreApart ts → AllByRecursion (ItemFits gs) ts → AllByRecursion (OneFits gs ts) (picks ts)
 all_picks gs [] apart fit = tt
 all_picks gs (t ∷ ts) apart fit = (
   record {
@@ -257,7 +239,7 @@ all_picks gs (t ∷ ts) apart fit = (
         )
 
 -- what is so of one of all picks is so of each loop
-ones_all : (P : Item → Type 0) (ts : List Item) → AllByRecursion (λ p. P p.one) (picks ts) → AllByRecursion P ts
+pub ones_all : (P : Item → Type 0) (ts : List Item) → AllByRecursion (λ p. P p.one) (picks ts) → AllByRecursion P ts
 ones_all P [] h = tt
 ones_all P (t ∷ ts) h = (h.0, ones_all P ts (back (picks ts) h.1))
   where
@@ -361,7 +343,7 @@ module _ (factor : ℕ → ℤ) where
         let two = same_gone us none in
         λ j. record { constant = f.constant +ℤ one j; terms = filter (λ t. not (two t.symbol j)) f.terms }
 
-    same_now : (g : Target) → is_of p.one.symbol g ≡ false → now ts g ≡ now p.others g
+    pub same_now : (g : Target) → is_of p.one.symbol g ≡ false → now ts g ≡ now p.others g
     same_now (Kept y) none = refl
     same_now (Sums f us) none =
         let lows = same_form_at (λ u. u.low) f us none in
@@ -386,7 +368,7 @@ module _ (factor : ℕ → ℤ) where
     form_names : (e : Item → ℤ) (f : Form) (us : List Item) → FitsTo t (Sums f us) → SumFits f us → form_has t.symbol (form_at e ts f us) ≡ is_left t.symbol us
     form_names e f us h k = kept_any (λ s. not (is_gone ts us s)) t.symbol (kept_here us) f.terms ∙ has_form f us h k
 
-    names_it : (g : Target) → FitsTo t g → TargetFits g → span_has t.symbol (now ts g) ≡ is_of t.symbol g
+    pub names_it : (g : Target) → FitsTo t g → TargetFits g → span_has t.symbol (now ts g) ≡ is_of t.symbol g
     names_it (Kept y) h k = h
     names_it (Sums f us) h k =
         let one = form_names (λ u. u.low) f us h k in
@@ -397,7 +379,7 @@ module _ (factor : ℕ → ℤ) where
         both true = refl
         both false = refl
 
-    some_names : (gs : List Target) → AllByRecursion (FitsTo t) gs → AllByRecursion TargetFits gs → 1 ≤ hits_of t.symbol gs → list_any (span_has t.symbol) (map (now ts) gs) ≡ true
+    pub some_names : (gs : List Target) → AllByRecursion (FitsTo t) gs → AllByRecursion TargetFits gs → 1 ≤ hits_of t.symbol gs → list_any (span_has t.symbol) (map (now ts) gs) ≡ true
     some_names [] h k some = absurd (omega (arith, some))
     some_names (g ∷ gs) h k some =
         ap (λ (b : Bool). b || list_any (span_has t.symbol) (map (now ts) gs)) (names_it g h.0 k.0) ∙ of (is_of t.symbol g) some (λ q. some_names gs h.1 k.1 q)
@@ -407,7 +389,7 @@ module _ (factor : ℕ → ℤ) where
         of true q rest = refl
         of false q rest = rest (omega (arith, q))
 
-    none_names : (gs : List Target) → AllByRecursion (FitsTo t) gs → AllByRecursion TargetFits gs → hits_of t.symbol gs ≡ 0 → list_any (span_has t.symbol) (map (now ts) gs) ≡ false
+    pub none_names : (gs : List Target) → AllByRecursion (FitsTo t) gs → AllByRecursion TargetFits gs → hits_of t.symbol gs ≡ 0 → list_any (span_has t.symbol) (map (now ts) gs) ≡ false
     none_names [] h k none = refl
     none_names (g ∷ gs) h k none =
         ap (λ (b : Bool). b || list_any (span_has t.symbol) (map (now ts) gs)) (names_it g h.0 k.0) ∙ of (is_of t.symbol g) none (λ q. none_names gs h.1 k.1 q)
@@ -427,7 +409,7 @@ module _ (factor : ℕ → ℤ) where
         let parts = or_none (form_has t.symbol f) (list_any (form_has t.symbol) fs) e in
         ap (λ (b : Bool). option_map (λ f. factor_of f.terms t.symbol) (if b then Some f else first_naming t.symbol (fs ++ more))) parts.0 ∙ skipped fs more parts.1
 
-    found_factor : (gs : List Target) → AllByRecursion (FitsTo t) gs → AllByRecursion TargetFits gs → 1 ≤ hits_of t.symbol gs → lower_factor t.symbol (map (now ts) gs) ≡ Some (factor t.symbol)
+    pub found_factor : (gs : List Target) → AllByRecursion (FitsTo t) gs → AllByRecursion TargetFits gs → 1 ≤ hits_of t.symbol gs → lower_factor t.symbol (map (now ts) gs) ≡ Some (factor t.symbol)
     found_factor [] h k some = absurd (omega (arith, some))
     found_factor (Kept y ∷ gs) h k some =
         let parts = or_none (list_any (form_has t.symbol) y.lower) (list_any (form_has t.symbol) y.upper) h.0 in
@@ -643,14 +625,14 @@ module _ (factor : ℕ → ℤ) where
 
   -- ---- which loop is taken first
 
-  before_le : (a b : ℤ) (s t : Bool) → (int_le (b +ℤ pos 1) a || (int_eq b a && (s && not t))) ≡ true → b ≤ℤ a
+  pub before_le : (a b : ℤ) (s t : Bool) → (int_le (b +ℤ pos 1) a || (int_eq b a && (s && not t))) ≡ true → b ≤ℤ a
   before_le a b s t e = of (int_le (b +ℤ pos 1) a) refl e
     where
       of : (c : Bool) → int_le (b +ℤ pos 1) a ≡ c → (c || (int_eq b a && (s && not t))) ≡ true → b ≤ℤ a
       of true k q = (let le = le_is (b +ℤ pos 1) a k in omega (arith, ints, le))
       of false k q = (let is = number_true b a (and_parts (int_eq b a) (s && not t) q).0 in omega (arith, ints, is))
 
-  not_before : (a b : ℤ) (s t : Bool) → (int_le (b +ℤ pos 1) a || (int_eq b a && (s && not t))) ≡ false → a ≤ℤ b
+  pub not_before : (a b : ℤ) (s t : Bool) → (int_le (b +ℤ pos 1) a || (int_eq b a && (s && not t))) ≡ false → a ≤ℤ b
   not_before a b s t e =
       let parts = or_none (int_le (b +ℤ pos 1) a) (int_eq b a && (s && not t)) e in
       let le = le_not (b +ℤ pos 1) a parts.0 in
@@ -658,11 +640,11 @@ module _ (factor : ℕ → ℤ) where
 
   module _ (gs : List Target) (targets : AllByRecursion TargetFits gs) where
     -- no loop of more turns than one has a smaller factor
-    abbrev Least : One → List Item → Type 0
+    abbrev pub Least : One → List Item → Type 0
     Least p ts = AllByRecursion (λ q. is_lone q ≡ false → factor p.one.symbol ≤ℤ factor q.symbol) ts
 
     -- a loop of a coordinate that is left is one of those that are left
-    left_one : (ts : List Item) → AllByRecursion (ItemFits gs) ts → (f : Form) (us : List Item) → In (Sums f us) gs → (u : Item) → In u us → is_left u.symbol ts ≡ true → In u ts
+    pub left_one : (ts : List Item) → AllByRecursion (ItemFits gs) ts → (f : Form) (us : List Item) → In (Sums f us) gs → (u : Item) → In u us → is_left u.symbol ts ≡ true → In u ts
     left_one ts fit f us m u there left =
         let q = left_in u.symbol ts left in
         let fits = of_all (FitsTo q.0) gs (Sums f us) (of_all (ItemFits gs) ts q.0 fit q.1).fits m in
@@ -770,7 +752,7 @@ module _ (factor : ℕ → ℤ) where
           by true e = later (own.0 u mu e) (int_le (factor u.symbol +ℤ pos 1) (factor v.symbol)) refl first
           by false e = order u v mu mv one two (sym (h.same u.symbol (other_way u.symbol p.one.symbol e)) ∙ gone) still
 
-      keeps : (hs : List Target) → ((g : Target) → In g hs → In g gs) → AllByRecursion (InOrder ts) hs → AllByRecursion (InOrder p.others) hs
+      pub keeps : (hs : List Target) → ((g : Target) → In g hs → In g gs) → AllByRecursion (InOrder ts) hs → AllByRecursion (InOrder p.others) hs
       keeps [] sub k = tt
       keeps (Kept y ∷ hs) sub k = (tt, keeps hs (λ g m. sub g (inr m)) k.1)
       keeps (Sums f us ∷ hs) sub k = (keeps_sums f us (sub (Sums f us) (inl refl)) k.0, keeps hs (λ g m. sub g (inr m)) k.1)
@@ -778,9 +760,6 @@ module _ (factor : ℕ → ℤ) where
     -- ---- the moves
 
     module _ (exact : Bool) (shows : Form → Form → Bool) where
-      abbrev state : List Item → State
-      state ts = record { steps = map item_step ts; spans = map (now ts) gs }
-
       rest_now : (ts : List Item) (p : One) → OneFits gs ts p → (hs : List Target) → hits_of p.one.symbol hs ≡ 0 → map (now ts) hs ≡ map (now p.others) hs
       rest_now ts p h [] none = refl
       rest_now ts p h (g ∷ hs) none = of (is_of p.one.symbol g) refl none (λ k. rest_now ts p h hs k)
@@ -799,7 +778,7 @@ module _ (factor : ℕ → ℤ) where
             over_is p ts h.same h.loose h.there h.here.near h.here.last_near f us (of_all (FitsTo p.one) gs (Sums f us) h.here.fits m) (of_all TargetFits gs (Sums f us) targets m) e exact shows
             (wide_is ts p h fit turns least f us m order e)
 
-        taken_is : is_lone p.one ≡ false → Least p ts → (hs : List Target) → ((g : Target) → In g hs → In g gs) → AllByRecursion (FitsTo p.one) hs → AllByRecursion TargetFits hs →
+        pub taken_is : is_lone p.one ≡ false → Least p ts → (hs : List Target) → ((g : Target) → In g hs → In g gs) → AllByRecursion (FitsTo p.one) hs → AllByRecursion TargetFits hs →
             AllByRecursion (InOrder ts) hs → hits_of p.one.symbol hs ≡ 1 → taken exact shows p.one.symbol (item_span p.one) (map (now ts) hs) ≡ Some (map (now p.others) hs)
         taken_is turns least [] sub fits sums order once = absurd (omega (arith, once))
         taken_is turns least (g ∷ hs) sub fits sums order once =
@@ -828,10 +807,10 @@ module _ (factor : ℕ → ℤ) where
 
         -- ---- loops of more turns than one
 
-        abbrev ready_of : Ready
+        abbrev pub ready_of : Ready
         ready_of = record { symbol = p.one.symbol; span = item_span p.one; others = map item_step p.others; factor = factor p.one.symbol; is_single = is_single (item_span p.one) }
 
-        is_ready : ready (map (now ts) gs) (item_loop p.one) (map item_step p.others) ≡ Some ready_of
+        pub is_ready : ready (map (now ts) gs) (item_loop p.one) (map item_step p.others) ≡ Some ready_of
         is_ready =
             let once = h.here.once in
             let found = found_factor ts p.one h.there gs h.here.fits targets (omega (arith, once)) in
@@ -842,7 +821,7 @@ module _ (factor : ℕ → ℤ) where
 
         -- ---- lets alone
 
-        opened_all : is_lone p.one ≡ true → (hs : List Target) → ((g : Target) → In g hs → In g gs) → AllByRecursion (FitsTo p.one) hs → AllByRecursion TargetFits hs →
+        pub opened_all : is_lone p.one ≡ true → (hs : List Target) → ((g : Target) → In g hs → In g gs) → AllByRecursion (FitsTo p.one) hs → AllByRecursion TargetFits hs →
             opened exact shows p.one.symbol Min (number p.one.low ∷ []) (map (now ts) hs) ≡ Some (map (now p.others) hs)
         opened_all lone [] sub fits sums = refl
         opened_all lone (g ∷ hs) sub fits sums = of g fits.0 sums.0 (is_of p.one.symbol g) refl (opened_all lone hs (λ x m. sub x (inr m)) fits.1 sums.1)
@@ -867,31 +846,19 @@ module _ (factor : ℕ → ℤ) where
                 let same = same_now p ts h.same g e in
                 here_is g ((λ j. span_from (lower j) (upper j)) ∙ ap (λ (y : Span1). Some y) same) rest
 
-        let_is : is_lone p.one ≡ true → after_let exact shows (map (now ts) gs) (item_step p.one) (map item_step p.others) ≡ Some (state p.others)
-        let_is lone =
-            let once = h.here.once in
-            let loose = all_loose p.one.symbol p.others h.loose in
-            let free : is_free_let exact shows p.one.symbol (number p.one.low ∷ []) (map item_step p.others) ≡ true = ap (λ (b : Bool). b && true) loose in
-            let some = some_names ts p.one h.there gs h.here.fits targets (omega (arith, once)) in
-            let opens = opened_all lone gs (λ g m. m) h.here.fits targets in
-            let without_it : without_let exact shows p.one.symbol Min (number p.one.low ∷ []) (map (now ts) gs) ≡ Some (map (now p.others) gs) =
-            (λ j. if some j then (if false_end exact j then None else opens j) else Some (map (now ts) gs)) in
-            ap (λ (b : Bool). after_let exact shows (map (now ts) gs) (step_by b p.one) (map item_step p.others)) lone
-            ∙ (λ j. if free j then option_map (λ zs. record { steps = map item_step p.others; spans = zs }) (without_it j) else None)
-
-      abbrev ready_as : One → Ready
+      abbrev pub ready_as : One → Ready
       ready_as p = record { symbol = p.one.symbol; span = item_span p.one; others = map item_step p.others; factor = factor p.one.symbol; is_single = is_single (item_span p.one) }
 
       -- none is ready, or one of them, of which none has a smaller factor
-      abbrev LeastOf : One → List One → Type 0
+      abbrev pub LeastOf : One → List One → Type 0
       LeastOf p ps = AllByRecursion (λ r. is_lone r.one ≡ false → factor p.one.symbol ≤ℤ factor r.one.symbol) ps
 
-      abbrev BestIs : List Item → List One → Option Ready → Type 0
+      abbrev pub BestIs : List Item → List One → Option Ready → Type 0
       BestIs ts ps o =
           ((o ≡ None) × AllByRecursion (λ p. is_lone p.one ≡ true) ps)
           ⊎ ((p : One) × (o ≡ Some (ready_as p)) × OneFits gs ts p × (is_lone p.one ≡ false) × LeastOf p ps)
 
-      best_is : (ts : List Item) → AllByRecursion (ItemFits gs) ts → (ps : List One) → AllByRecursion (OneFits gs ts) ps → BestIs ts ps (best (map (now ts) gs) (map choice_of ps))
+      pub best_is : (ts : List Item) → AllByRecursion (ItemFits gs) ts → (ps : List One) → AllByRecursion (OneFits gs ts) ps → BestIs ts ps (best (map (now ts) gs) (map choice_of ps))
       best_is ts fit [] h = inl (refl, tt)
       best_is ts fit (p ∷ ps) h = of (is_lone p.one) refl (best_is ts fit ps h.1)
         where
@@ -949,100 +916,6 @@ module _ (factor : ℕ → ℤ) where
               inr (q.0, ap (λ (o : Option Ready). preferred o rest_of) none ∙ q.1, q.2, q.3, ((λ turned. let clash : true ≡ false = sym e ∙ turned in absurd (cc clash)), q.4))
           of false e rest =
               by e (ap (λ (b : Bool). ready (map (now ts) gs) (step_by b p.one) (map item_step p.others)) e ∙ is_ready ts p h.0 fit) rest
-
-      -- ---- the next move
-
-      record Moved (ts : List Item) : Type 0 where
-        pick : One
-        fits : OneFits gs ts pick
-        order : AllByRecursion (InOrder pick.others) gs
-        is : next exact shows (state ts) ≡ Some (state pick.others)
-
-      next_is : (t : Item) (ts : List Item) → AreApart (t ∷ ts) → AllByRecursion (ItemFits gs) (t ∷ ts) → AllByRecursion (InOrder (t ∷ ts)) gs → Moved (t ∷ ts)
-      next_is t ts apart fit order = of (best_is (t ∷ ts) fit (picks (t ∷ ts)) all)
-        where
-          all : AllByRecursion (OneFits gs (t ∷ ts)) (picks (t ∷ ts))
-          all = all_picks gs (t ∷ ts) apart fit
-
-          are : choices (map item_step (t ∷ ts)) ≡ map choice_of (picks (t ∷ ts))
-          are = choices_are (t ∷ ts)
-
-          no_guard : by_guard exact shows (state (t ∷ ts)) ≡ None
-          no_guard =
-              ap (first_some (λ (c : Choice). after_guard exact shows (map (now (t ∷ ts)) gs) c.one c.others)) are
-              ∙ none_first (λ (c : Choice). after_guard exact shows (map (now (t ∷ ts)) gs) c.one c.others) (map choice_of (picks (t ∷ ts)))
-              (all_mapped choice_of (λ c. after_guard exact shows (map (now (t ∷ ts)) gs) c.one c.others ≡ None) (picks (t ∷ ts))
-              (all_true (OneFits gs (t ∷ ts)) (λ p. after_guard exact shows (map (now (t ∷ ts)) gs) (item_step p.one) (map item_step p.others) ≡ None) (λ p k. none p (is_lone p.one))
-              (picks (t ∷ ts)) all))
-            where
-              none : (p : One) (b : Bool) → after_guard exact shows (map (now (t ∷ ts)) gs) (step_by b p.one) (map item_step p.others) ≡ None
-              none p true = refl
-              none p false = refl
-
-          no_idle : by_idle (state (t ∷ ts)) ≡ None
-          no_idle =
-              ap (first_some (λ (c : Choice). after_idle (map (now (t ∷ ts)) gs) c.one c.others)) are
-              ∙ none_first (λ (c : Choice). after_idle (map (now (t ∷ ts)) gs) c.one c.others) (map choice_of (picks (t ∷ ts)))
-              (all_mapped choice_of (λ c. after_idle (map (now (t ∷ ts)) gs) c.one c.others ≡ None) (picks (t ∷ ts))
-              (all_true (OneFits gs (t ∷ ts)) (λ p. after_idle (map (now (t ∷ ts)) gs) (item_step p.one) (map item_step p.others) ≡ None) (λ p k. none p k (is_lone p.one))
-              (picks (t ∷ ts)) all))
-            where
-              none : (p : One) → OneFits gs (t ∷ ts) p → (b : Bool) → after_idle (map (now (t ∷ ts)) gs) (step_by b p.one) (map item_step p.others) ≡ None
-              none p k true =
-                  let once = k.here.once in
-                  let some = some_names (t ∷ ts) p.one k.there gs k.here.fits targets (omega (arith, once)) in
-                  let idle : is_idle (map (now (t ∷ ts)) gs) (step_by true p.one) (map item_step p.others) ≡ false =
-                  ap (λ (b : Bool). (is_loose p.one.symbol (map item_step p.others) && true) && not b) some ∙ false_end (is_loose p.one.symbol (map item_step p.others) && true) in
-                  ap (λ (b : Bool). if b then Some (record { steps = map item_step p.others; spans = map (now (t ∷ ts)) gs }) else None) idle
-              none p k false = refl
-
-          of : BestIs (t ∷ ts) (picks (t ∷ ts)) (best (map (now (t ∷ ts)) gs) (map choice_of (picks (t ∷ ts)))) → Moved (t ∷ ts)
-          of (inr q) =
-              let p : One = q.0 in
-              let least : Least p (t ∷ ts) = ones_all (λ r. is_lone r ≡ false → factor p.one.symbol ≤ℤ factor r.symbol) (t ∷ ts) q.4 in
-              let take = taken_is (t ∷ ts) p q.2 fit q.3 least gs (λ g m. m) q.2.here.fits targets order q.2.here.once in
-              let loop : by_loop exact shows (state (t ∷ ts)) ≡ Some (state p.others) =
-              (λ j. option_and_then (after_loop exact shows (map (now (t ∷ ts)) gs)) (best (map (now (t ∷ ts)) gs) (are j)))
-              ∙ ap (option_and_then (after_loop exact shows (map (now (t ∷ ts)) gs))) q.1 ∙ ap (option_map (λ zs. record { steps = map item_step p.others; spans = zs })) take in
-              record {
-                pick = p;
-                fits = q.2;
-                order = keeps (t ∷ ts) p q.2 fit (inr least) gs (λ g m. m) order;
-                is = (λ j. or_else (no_guard j) (or_else (no_idle j) (or_else (loop j) (by_let exact shows (state (t ∷ ts))))));
-              }
-          of (inl q) =
-              let p : One = record { one = t; others = ts } in
-              let loop : by_loop exact shows (state (t ∷ ts)) ≡ None =
-              (λ j. option_and_then (after_loop exact shows (map (now (t ∷ ts)) gs)) (best (map (now (t ∷ ts)) gs) (are j)))
-              ∙ ap (option_and_then (after_loop exact shows (map (now (t ∷ ts)) gs))) q.0 in
-              let lets : by_let exact shows (state (t ∷ ts)) ≡ Some (state ts) =
-              ap (λ (o : Option State). or_else o (first_some (λ (c : Choice). after_let exact shows (map (now (t ∷ ts)) gs) c.one c.others)
-              (map (behind (item_step t)) (choices (map item_step ts))))) (let_is (t ∷ ts) p all.0 fit q.1.0) in
-              record {
-                pick = p;
-                fits = all.0;
-                order = keeps (t ∷ ts) p all.0 fit (inl q.1.0) gs (λ g m. m) order;
-                is = (λ j. or_else (no_guard j) (or_else (no_idle j) (or_else (loop j) (lets j))));
-              }
-
-      -- ---- all moves
-
-      run_is : (n : ℕ) (ts : List Item) → length ts ≤ n → AreApart ts → AllByRecursion (ItemFits gs) ts → AllByRecursion (InOrder ts) gs → run exact shows n (state ts) ≡ Some (map (now []) gs)
-      run_is zero [] few apart fit order = refl
-      run_is zero (t ∷ ts) few apart fit order = absurd (omega (arith, few))
-      run_is (suc n) [] few apart fit order = refl
-      run_is (suc n) (t ∷ ts) few apart fit order =
-          let m = next_is t ts apart fit order in
-          let fewer = m.fits.fewer in
-          ap (option_and_then (run exact shows n)) m.is ∙ run_is n m.pick.others (omega (arith, few, fewer)) m.fits.apart m.fits.fit m.order
-
-      -- each form is that of its coordinate before any loop is taken away
-      pub spans_are : (ts : List Item) → AreApart ts → AllByRecursion (ItemFits gs) ts → AllByRecursion (InOrder ts) gs → (fs : List Form) → map exactly fs ≡ map (now ts) gs →
-          spans_over exact shows (paired (map item_loop ts)) fs ≡ Some (map (now []) gs)
-      spans_are ts apart fit order fs are =
-          let many : length (map item_step ts) ≡ length ts = length-map ts item_step in
-          (λ j. spans_over exact shows (paired_items ts j) fs) ∙ (λ j. run exact shows (length (map item_step ts)) (record { steps = map item_step ts; spans = are j }))
-          ∙ run_is (length (map item_step ts)) ts (omega (arith, many)) apart fit order
 
     -- before any loop is taken away none is gone
     pub all_in_order : (ts : List Item) → (hs : List Target) → AllByRecursion (λ g. (i : ℕ) → is_of i g ≡ true → is_left i ts ≡ true) hs → AllByRecursion (InOrder ts) hs

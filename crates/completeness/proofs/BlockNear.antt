@@ -1,6 +1,7 @@
--- Whatever a function fetches whose left indices are the variables at their places, all that the lines of its group owe is shown, where its loops are split once, by blocks that need no tail, and its region begins near 0.
+-- Whatever a function fetches whose left indices are the variables at their places, all that the lines of its group owe is shown, where its loops are split once, by blocks that need no
+-- line of their own, and its region begins near 0.
 use Rattle.std.proofs.Common.{◌≡◌, ℕ, zero, suc, ◌+◌, ◌-◌, ◌*◌, ◌<◌, ◌≤◌, Bool, true, false, List, [], ◌∷◌, length, map, Option, Some, None, refl, sym, ap, ◌∙◌, subst, inl, inr, ◌⊎◌, arith}
-use Rattle.std.specs.Prelude.{ℤ, pos, ◌+ℤ◌, ◌-ℤ◌, ◌*ℤ◌, ◌≤ℤ◌, ◌==◌, nat_lt, if◌then◌else◌, slice_get}
+use Rattle.std.specs.Prelude.{ℤ, pos, negsuc, ◌+ℤ◌, ◌-ℤ◌, ◌*ℤ◌, ◌≤ℤ◌, ◌==◌, nat_lt, if◌then◌else◌, slice_get}
 use Rattle.std.specs.List.{AllByRecursion}
 use Rattle.std.specs.Int.RustNames.{unsigned_abs}
 use Rattle.std.proofs.lemmas.Bool.Decides.{nat_tests}
@@ -22,7 +23,6 @@ use Rattle.soundness.specs.Claims.{In}
 use Rattle.soundness.proofs.Refines.{eq_true}
 use Rattle.headline.proofs.Lists.{from_map}
 use Rattle.headline.proofs.Regions.{at_in}
-use Rattle.headline.proofs.Members.{got}
 use Rattle.sched.specs.Schedule.{Schedule}
 use Rattle.sched.specs.Legal.{IsLegal}
 use Rattle.sched.specs.declared.schedule.Split.{Split}
@@ -34,7 +34,7 @@ use Rattle.sched.specs.declared.nest.Turning.{Turning}
 use Rattle.sched.specs.Numbers.{numbers_named, loop_numbers, parallel_loops, grid_counts, piece_counts, last_number}
 use Rattle.sched.specs.Placing.{is_parallel}
 use Rattle.sched.specs.Standing.{form_named, counted_from, has_rest}
-use Rattle.sched.specs.Skeleton.{BodyText, NestText, SkeletonText, nest_turns, variables_at, ranges_at, grid_forms, is_missing}
+use Rattle.sched.specs.Skeleton.{BodyText, NestText, SkeletonText, nest_turns, variables_at, ranges_at, grid_forms, is_missing, span}
 use Rattle.sched.proofs.Standings.{found_all}
 use Rattle.lower.specs.declared.lowering.Lowered.{Lowered}
 use Rattle.lower.specs.Stored.{FormulaText, StoredText, stored_functions, has_large}
@@ -51,26 +51,26 @@ use Rattle.completeness.specs.Laws.{AreSplitOnce}
 use Rattle.completeness.specs.Parted.{KeepsInner}
 use Rattle.completeness.specs.Stores.{AreHeld, IsNearRegion}
 use Rattle.completeness.specs.Placed.{ArePlaced}
-use Rattle.completeness.specs.Blocked.{is_tailed, IsBlocked}
+use Rattle.completeness.specs.Blocked.{is_tailed, makes_line, IsKept}
 use Rattle.completeness.specs.Filled.{AreEndsShort, NearBlockedGroupsOweShown}
 use Rattle.completeness.proofs.Owned.{some_same, same_extents, same_skeleton}
 use Rattle.completeness.proofs.Served.{roots, made_at}
 use Rattle.completeness.proofs.NamedClaims.{alone_body}
 use Rattle.completeness.proofs.Halves.{AreOthers, inner_outer}
 use Rattle.completeness.proofs.Lanes.{AreOnce}
-use Rattle.completeness.proofs.PlainTurns.{steps_for}
-use Rattle.completeness.proofs.PureNests.{all_in, all_from}
+use Rattle.completeness.proofs.PureNests.{all_in, all_from, all_get}
 use Rattle.completeness.proofs.UpdateTurns.{all_mapped, all_filtered}
-use Rattle.completeness.proofs.Boxes.{IsBox, product_near}
+use Rattle.completeness.proofs.Boxes.{IsCapped, IsBox, AreBoxes, product_near}
 use Rattle.completeness.proofs.FirstNumbers.{IsNear, firsts, number_at, firsts_near, index_near, fits_index}
-use Rattle.completeness.proofs.NearBoxes.{IsNearNumbers, IsFew, IsBoxTurn, or_one_boxes, steps_boxes, regions_few}
+use Rattle.completeness.proofs.NearBoxes.{IsNearNumbers, IsFew, IsBoxTurn, plain_box, or_one_boxes, steps_boxes, regions_few}
 use Rattle.completeness.proofs.RangedBoxes.{turns_box}
 use Rattle.completeness.proofs.HeldNear.{IsFormed, IsIndexed, held_near}
 use Rattle.completeness.proofs.BlockSums.{multiple, pair, pair_is}
-use Rattle.completeness.proofs.BlockTurns.{Leaf, Right, IsBlockNest, AreBlocks}
-use Rattle.completeness.proofs.BlockDims.{top, top_low, blocks_top, outer_low}
+use Rattle.completeness.proofs.BlockTurns.{Leaf, IsLimit, Right, IsBlockNest, AreBlocks, limited_for}
+use Rattle.completeness.proofs.BlockDims.{top, top_low, blocks_top, outer_low, inner_low, inner_last}
 use Rattle.completeness.proofs.BlockStores.{blocked_owed}
 use Rattle.completeness.proofs.BlockNests as nests_of
+use Rattle.completeness.proofs.BlockLoops as loops_of
 
 -- ---- values
 
@@ -138,7 +138,7 @@ module _ (a : Algorithm) (sch : Schedule) (l : Lowered) (well : IsAlgorithm a) (
       (placed : (j : ℕ) (v : CodeClaim) → slice_get claims j ≡ Some v → slice_get items (first + j) ≡ Some v)
       (alone_here : (j : ℕ) (w : CodeClaim) → slice_get items j ≡ Some w → line < w.line → w.line < line + (lines (statement_of p.body) + 1) → In w claims)
       (laid : IsLaidBy g h.extents h.skeleton) (split_alone : AreSplitOnce g.placed.cuts) (keeps : KeepsInner g.placed.loops g.placed.cuts)
-      (filled : AllByRecursion (λ c. is_tailed (loop_numbers g.subject.variables g.placed.cuts h.extents) c ≡ false) g.placed.cuts) (near : IsNearRegion h.extents)
+      (filled : AllByRecursion (λ c. makes_line g.placed.loops (loop_numbers g.subject.variables g.placed.cuts h.extents) c ≡ false) g.placed.cuts) (near : IsNearRegion h.extents)
       (few : AllByRecursion IsFew h.extents) where
     abbrev k : SkeletonText
     k = h.skeleton
@@ -173,7 +173,7 @@ module _ (a : Algorithm) (sch : Schedule) (l : Lowered) (well : IsAlgorithm a) (
     abbrev once : AreOnce cuts
     once = nests_of.once a sch l well legal small kept all groups n first line g p claims needs at there h lined placed alone_here laid split_alone keeps filled
 
-    abbrev untailed : (c : Split) → In c cuts → is_tailed rs c ≡ false
+    abbrev untailed : (c : Split) → In c cuts → makes_line ls rs c ≡ false
     untailed c m = nests_of.free a sch l well legal small kept all groups n first line g p claims needs at there h lined placed alone_here laid split_alone keeps filled c m
 
     fits : (c : Split) → In c cuts → CutFits rs c
@@ -185,7 +185,7 @@ module _ (a : Algorithm) (sch : Schedule) (l : Lowered) (well : IsAlgorithm a) (
     fit_of : (x : List ℕ) → In x xs → IsSmall (numbers_named rs x) × (0 < (numbers_named rs x).count)
     fit_of x m = nests_of.fit_of a sch l well legal small kept all groups n first line g p claims needs at there h lined placed alone_here laid split_alone keeps filled x m
 
-    shape_here : AreBlocks xs bs g.placed others once rs untailed k
+    abbrev shape_here : AreBlocks xs bs g.placed others once rs untailed k
     shape_here = nests_of.shape a sch l well legal small kept all groups n first line g p claims needs at there h lined placed alone_here laid split_alone keeps filled
 
     -- ---- loops run over near numbers
@@ -236,9 +236,9 @@ module _ (a : Algorithm) (sch : Schedule) (l : Lowered) (well : IsAlgorithm a) (
     loop_near : (o : Loop) → In o ls → IsNearNumbers (numbers_named rs o.name)
     loop_near o m = all_in (λ o. IsNearNumbers (numbers_named rs o.name)) ls o loops_near m
 
-    grid_near : AllByRecursion IsBox (grid_scope (piece_counts rs ls))
-    grid_near =
-        or_one_boxes (grid_counts rs (parallel_loops ls))
+    grid_near : (scope : List Binding) → AllByRecursion (IsBox scope) (grid_scope (piece_counts rs ls))
+    grid_near scope =
+        or_one_boxes scope (grid_counts rs (parallel_loops ls))
         (all_mapped (λ o. (numbers_named rs o.name).count) (λ n. (0 < n) × (n ≤ 8192)) (parallel_loops ls)
         (all_filtered is_parallel (λ o. IsNearNumbers (numbers_named rs o.name)) (λ o. (0 < (numbers_named rs o.name).count) × ((numbers_named rs o.name).count ≤ 8192)) (λ o e q. (q.1, q.2)) ls
         loops_near))
@@ -252,15 +252,76 @@ module _ (a : Algorithm) (sch : Schedule) (l : Lowered) (well : IsAlgorithm a) (
       abbrev ts : List Turning
       ts = nest_turns q.body rs ls
 
-      boxes_here : AllByRecursion IsBoxTurn q.body.ranges → AllByRecursion IsBox (bind_steps (head_scope k) w.steps)
+      abbrev around_store : List Binding
+      around_store = bind_steps (grid_scope k.grid) w.steps
+
+      -- the loop of a split that a guard keeps
+      capped : (c : Split) (m : In c cuts) (j : ℕ) (t : Turning) → slice_get ts j ≡ Some t → t.name ≡ c.inner → (f : Form) →
+          IsLimit cuts others once rs ls untailed over_grid q.next ts (q.next + j) c f → q.limits (q.next + j) ≡ f ∷ [] → IsCapped around_store (span t.low t.last (q.limits (q.next + j)))
+      capped c m j t e name f limit is =
+          let whole = whole_near c.whole (wholes c m) in
+          let fit = fit_of c.whole (wholes c m) in
+          let count : ℕ = (numbers_named rs c.whole).count in
+          let size : ℕ = c.factor - 1 in
+          let some = (fits c m).some in
+          let wide = (fits c m).few in
+          let size_so : c.factor ≡ suc size = omega (arith, some) in
+          let o = loops_of.outer_bound a sch l well legal small kept all groups n first line g p claims needs at there h lined placed alone_here laid split_alone keeps filled d w stands c m
+          limit.outer limit.by_outer in
+          let before : o.0 < q.next + j = elim o.3 [
+            | inl less ↦ omega (arith, less)
+            | inr (i, v, at_v, v_name, place) ↦ (let first = limit.before i v at_v v_name in omega (arith, first, place))
+          ] in
+          let left = loops_of.limit_left a sch l well legal small kept all groups n first line g p claims needs at there h lined placed alone_here laid split_alone keeps filled d w stands c
+          m j f limit o.0 o.1 before in
+          let y = loops_of.leaf_turn a sch l well legal small kept all groups n first line g p claims needs at there h lined placed alone_here laid split_alone keeps filled d w stands j t e
+          c.inner name (inr (c, m, inr refl)) in
+          let begins : t.low ≡ pos 0 = y.0 ∙ inner_low ls rs c (untailed c m) (fits c m) fit.0 fit.1 in
+          let stops : t.last ≡ pos size = y.1 ∙ inner_last ls rs c (untailed c m) (fits c m) fit.0 fit.1 ∙ omega (arith, ints, size_so) in
+          let few_count = whole.2 in
+          let some_count = whole.1 in
+          let tops_low = top_low count c.factor some_count some in
+          let times : top count c.factor * suc size ≡ top count c.factor * c.factor = ap (λ (z : ℕ). top count c.factor * z) (sym size_so) in
+          let rest : last_number (numbers_named rs c.whole) +ℤ negsuc 0 *ℤ low c.whole ≡ pos (count - 1) = of_last (low c.whole) count some_count in
+          let turned : negsuc 0 *ℤ pos c.factor ≡ negsuc size = by_size c.factor size size_so in
+          let form : f ≡ record { constant = pos (count - 1); terms = record { symbol = o.0; factor = negsuc size } ∷ [] } =
+          left ∙ (λ i. record { constant = rest i; terms = record { symbol = o.0; factor = turned i } ∷ [] }) in
+          let limits_so = is ∙ ap (λ (z : Form). z ∷ []) form in
+          record {
+            last = size;
+            most = count - 1;
+            factor = size;
+            symbol = o.0;
+            top = top count c.factor;
+            outer = o.2;
+            is = (λ i. span (begins i) (stops i) (limits_so i));
+            few = omega (arith, wide, size_so);
+            light = omega (arith, few_count, some_count, tops_low, times);
+          }
+        where
+          of_last : (z : ℤ) (n : ℕ) → 0 < n → ((z +ℤ pos n -ℤ pos 1) +ℤ negsuc 0 *ℤ z) ≡ pos (n - 1)
+          of_last z n some = omega (arith, ints, some)
+
+          by_size : (n m : ℕ) → n ≡ suc m → negsuc 0 *ℤ pos n ≡ negsuc m
+          by_size n m e = omega (arith, ints, e)
+
+      boxes_here : AllByRecursion IsBoxTurn q.body.ranges → AreBoxes (bind_steps (head_scope k) w.steps)
       boxes_here ranges =
-          let over : head_scope k ≡ grid_scope (piece_counts rs ls) = ap (bind_steps (grid_scope k.grid)) shape_here.head ∙ ap grid_scope shape_here.grid in
-          let is : bind_steps (head_scope k) w.steps ≡ bind_steps (grid_scope (piece_counts rs ls)) (steps_for q.next ts) = (λ i. bind_steps (over i) (q.steps i)) in
-          subst (AllByRecursion IsBox) (sym is) (steps_boxes q.next ts (grid_scope (piece_counts rs ls)) grid_near (turns_box rs ls loops_near q.body ranges))
+          let over : head_scope k ≡ grid_scope k.grid = ap (bind_steps (grid_scope k.grid)) shape_here.head in
+          let steps : bind_steps (grid_scope k.grid) (limited_for q.limits q.next ts) ≡ around_store = ap (bind_steps (grid_scope k.grid)) (sym q.steps) in
+          let grid : AllByRecursion (IsBox around_store) (grid_scope k.grid) =
+          subst (λ (ns : List ℕ). AllByRecursion (IsBox around_store) (grid_scope ns)) (sym shape_here.grid) (grid_near around_store) in
+          let turns : AllByRecursion IsBoxTurn ts = turns_box rs ls loops_near q.body ranges in
+          let all_boxes : AreBoxes around_store =
+          steps_boxes q.limits q.next ts (grid_scope k.grid) around_store steps grid (λ j t e. elim (q.bounded j t e) [
+            | inl none ↦ plain_box q.limits around_store (q.next + j) t (all_get IsBoxTurn ts j t turns e) none
+            | inr (c, m, tailed, name, f, limit, is) ↦ inr (inr (capped c m j t e name f limit is))
+          ]) in
+          subst (λ (scope : List Binding). AreBoxes (bind_steps scope w.steps)) (sym over) all_boxes
 
       module _ (v : ℕ → ℤ) (v_near : (s : ℕ) → IsNear (v s)) where
         -- a form over the grid, or a loop's symbol
-        leaf_index : (y : List ℕ) (f : Form) → Leaf cuts others once rs untailed over_grid q.next ts y f → IsIndex (form_value f v)
+        leaf_index : (y : List ℕ) (f : Form) → Leaf cuts others once rs ls untailed over_grid q.next ts y f → IsIndex (form_value f v)
         leaf_index y f (inl over) =
             let r = nests_of.grids a sch l well legal small kept all groups n first line g p claims needs at there h lined placed alone_here laid split_alone keeps filled y f over in
             let o = r.3 in
@@ -268,7 +329,7 @@ module _ (a : Algorithm) (sch : Schedule) (l : Lowered) (well : IsAlgorithm a) (
             fits_index (suc r.0) v v_near (Some f) (low y, r.0, r.1, omega (arith, close), omega arith)
         leaf_index y f (inr (i, t, there_t, name, is)) = fits_index (suc (q.next + i)) v v_near (Some f) (pos 0, q.next + i, is, omega arith, omega arith)
 
-        right_index : (y : List ℕ) (f : Form) → Right cuts others once rs untailed over_grid q.next ts y f → IsIndex (form_value f v)
+        right_index : (y : List ℕ) (f : Form) → Right cuts others once rs ls untailed over_grid q.next ts q.limits y f → IsIndex (form_value f v)
         right_index y f (inl leaf) = leaf_index y f leaf
         right_index y f (inr u) = inner_of u.by_inner
           where
@@ -279,12 +340,12 @@ module _ (a : Algorithm) (sch : Schedule) (l : Lowered) (well : IsAlgorithm a) (
             whole_fit = fit_of u.split.whole (wholes u.split u.there)
 
             -- the outer loop's symbol
-            outer_there : (i : ℕ) (t : Turning) → slice_get ts i ≡ Some t → t.name ≡ u.split.inner → Leaf cuts others once rs untailed over_grid q.next ts u.split.outer u.outer →
+            outer_there : (i : ℕ) (t : Turning) → slice_get ts i ≡ Some t → t.name ≡ u.split.inner → Leaf cuts others once rs ls untailed over_grid q.next ts u.split.outer u.outer →
                 (s : ℕ) × (u.outer ≡ counted_from (pos 0) s) × ((s == q.next + i) ≡ false)
             outer_there i t there_t name (inl over) =
                 let r = nests_of.grids a sch l well legal small kept all groups n first line g p claims needs at there h lined placed alone_here laid split_alone keeps filled u.split.outer
                 u.outer over in
-                let zero_low : low u.split.outer ≡ pos 0 = outer_low rs u.split (untailed u.split u.there) (fits u.split u.there) whole_fit.0 whole_fit.1 in
+                let zero_low : low u.split.outer ≡ pos 0 = outer_low ls rs u.split (untailed u.split u.there) (fits u.split u.there) whole_fit.0 whole_fit.1 in
                 let less = r.2 in
                 let least = q.low in
                 let under : r.0 < q.next + i = omega (arith, less, least) in
@@ -300,7 +361,7 @@ module _ (a : Algorithm) (sch : Schedule) (l : Lowered) (well : IsAlgorithm a) (
                     let same_turn : v' ≡ t = cc some in
                     absurd (inner_outer cuts others u.split u.split u.there u.there (sym name ∙ ap (λ (x : Turning). x.name) (sym same_turn) ∙ outer_name))
 
-            inner_of : Leaf cuts others once rs untailed over_grid q.next ts u.split.inner u.inner → IsIndex (form_value f v)
+            inner_of : Leaf cuts others once rs ls untailed over_grid q.next ts u.split.inner u.inner → IsIndex (form_value f v)
             inner_of (inl over) =
                 let clash : Some u.inner ≡ None = sym over ∙ nests_of.inners a sch l well legal small kept all groups n first line g p claims needs at there h lined placed alone_here laid
                 split_alone keeps filled u.split u.there in
@@ -317,7 +378,7 @@ module _ (a : Algorithm) (sch : Schedule) (l : Lowered) (well : IsAlgorithm a) (
         known_index : AllByRecursion (λ k. IsIndex (form_value k.form v)) q.known
         known_index = of q.known q.right
           where
-            of : (ks : List Known) → AllByRecursion (λ k. Right cuts others once rs untailed over_grid q.next ts k.name k.form) ks → AllByRecursion (λ k. IsIndex (form_value k.form v)) ks
+            of : (ks : List Known) → AllByRecursion (λ k. Right cuts others once rs ls untailed over_grid q.next ts q.limits k.name k.form) ks → AllByRecursion (λ k. IsIndex (form_value k.form v)) ks
             of [] r = tt
             of (x ∷ ks) r = (right_index x.name x.form r.0, of ks r.1)
 
@@ -333,14 +394,15 @@ module _ (a : Algorithm) (sch : Schedule) (l : Lowered) (well : IsAlgorithm a) (
         let v = shape_here.nests d w stands in
         let boxes = boxes_here d w stands (ranges v.body v.at) in
         let scope : List Binding = bind_steps (head_scope k) w.steps in
-        record { boxes = boxes; indices = all_index d w stands (firsts scope) (firsts_near scope (λ i y e. got IsBox scope i y boxes e)) }
+        record { boxes = boxes; indices = all_index d w stands (firsts scope) (firsts_near scope boxes) }
 
     formed_here : (d : ℕ) (w : NestText) → slice_get k.nests d ≡ Some w → IsFormed xs bs d w
     formed_here d w stands = (let v = shape_here.nests d w stands in record { body = v.body; at = v.at; known = v.known; forms = v.forms })
 
     -- blocks end near, as well
     ends_short : AreEndsShort rs cuts
-    ends_short = all_from (λ c. has_rest c (numbers_named rs c.whole).count ≡ true → (last_number (numbers_named rs c.whole) +ℤ pos c.factor) ≤ℤ pos 2147483647) cuts (λ c m e.
+    ends_short = all_from (λ c. is_tailed rs c ≡ false → has_rest c (numbers_named rs c.whole).count ≡ true → (last_number (numbers_named rs c.whole) +ℤ pos c.factor) ≤ℤ pos 2147483647) cuts
+        (λ c m bare e.
         let close = whole_near c.whole (wholes c m) in
         by (low c.whole) (numbers_named rs c.whole).count c.factor close.0 close.2 (fits c m).few)
       where
@@ -359,7 +421,7 @@ module _ (a : Algorithm) (sch : Schedule) (l : Lowered) (well : IsAlgorithm a) (
     )
 
   -- of a group of the plan
-  pub blocked_held : (n : ℕ) (q : CodeGroup) → slice_get l.plan.groups.items n ≡ Some q → (u : StoredText) → slice_get gs n ≡ Some u → IsBlocked a sch n u → (fs : List FormulaText) →
+  pub blocked_held : (n : ℕ) (q : CodeGroup) → slice_get l.plan.groups.items n ≡ Some q → (u : StoredText) → slice_get gs n ≡ Some u → IsKept a sch n u → (fs : List FormulaText) →
       u.formulas ≡ Some fs → ArePlaced fs → (m : LaidText) → slice_get (laid_functions a gs) n ≡ Some (Some m) → IsNearRegion m.region →
       AreHeld a gs n u fs m.skeleton × AreEndsShort (loop_numbers u.subject.variables u.placed.cuts m.region) u.placed.cuts
   blocked_held n q theirs u at blocked fs defined set m found_there near =
@@ -381,9 +443,9 @@ module _ (a : Algorithm) (sch : Schedule) (l : Lowered) (well : IsAlgorithm a) (
       let stored : me.stored ≡ u = some_same me.stored u (sym me.is ∙ at) in
       let region : me.laid ≡ m = some_same me.laid m (some_same (Some me.laid) (Some m) (sym me.found ∙ found_there)) in
       let formulas : body.formulas ≡ fs = same body.formulas fs (sym body.defined ∙ ap (λ (y : StoredText). y.formulas) stored ∙ defined) in
-      let mine : IsBlocked a sch n me.stored = subst (IsBlocked a sch n) (sym stored) blocked in
-      let filled : AllByRecursion (λ c. is_tailed (loop_numbers me.stored.subject.variables me.stored.placed.cuts body.extents) c ≡ false) me.stored.placed.cuts =
-      subst (λ (es : List Extent). AllByRecursion (λ c. is_tailed (loop_numbers me.stored.subject.variables me.stored.placed.cuts es) c ≡ false) me.stored.placed.cuts) extents
+      let mine : IsKept a sch n me.stored = subst (IsKept a sch n) (sym stored) blocked in
+      let filled : AllByRecursion (λ c. makes_line me.stored.placed.loops (loop_numbers me.stored.subject.variables me.stored.placed.cuts body.extents) c ≡ false) me.stored.placed.cuts =
+      subst (λ (es : List Extent). AllByRecursion (λ c. makes_line me.stored.placed.loops (loop_numbers me.stored.subject.variables me.stored.placed.cuts es) c ≡ false) me.stored.placed.cuts) extents
       (mine.filled me.laid me.found) in
       let near_here : IsNearRegion body.extents = subst IsNearRegion extents (subst (λ (y : LaidText). IsNearRegion y.region) (sym region) near) in
       let few_here : AllByRecursion IsFew body.extents = subst (AllByRecursion IsFew) extents (regions_few a gs n me.laid all me.found) in

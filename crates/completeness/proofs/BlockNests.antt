@@ -1,4 +1,4 @@
--- The claims of pure definitions of functions whose loops are split once, by blocks that need no tail, are shown.
+-- The claims of pure definitions of functions whose loops are split once, by blocks that need no line of their own, are shown.
 use Rattle.std.proofs.Common.{◌≡◌, ℕ, zero, suc, ◌+◌, ◌-◌, ◌*◌, ◌<◌, ◌≤◌, ◌^◌, Bool, true, false, ◌&&◌, ◌||◌, List, [], ◌∷◌, ◌++◌, length, map, take, drop}
 use Rattle.std.proofs.Common.{Option, Some, None, refl, sym, ap, ◌∙◌, subst, inl, inr, ◌⊎◌, arith}
 use Rattle.std.specs.Prelude.{ℤ, pos, ◌+ℤ◌, ◌-ℤ◌, ◌*ℤ◌, ◌==◌, if◌then◌else◌, slice_get, IsSomeAnd}
@@ -83,7 +83,7 @@ use Rattle.lower.proofs.Owners as owners
 use Rattle.completeness.specs.Laws.{AreSplitOnce}
 use Rattle.completeness.specs.Parted.{KeepsInner}
 use Rattle.completeness.specs.Nested.{SayYes, TakeSplit}
-use Rattle.completeness.specs.Blocked.{is_tailed}
+use Rattle.completeness.specs.Blocked.{is_tailed, makes_line}
 use Rattle.completeness.proofs.Standing.{names_own}
 use Rattle.completeness.proofs.Laid.{subjects, found}
 use Rattle.completeness.proofs.Halves.{AreOthers, IsNamed, named, IsOther, inner_outer}
@@ -96,22 +96,26 @@ use Rattle.completeness.proofs.Origins.{places_long}
 use Rattle.completeness.proofs.PlainNests.{grid_named}
 use Rattle.completeness.proofs.NestWalk.{down, IsRest, Holds, LetsFirst}
 use Rattle.completeness.proofs.ClaimedNests.{claim_is, own_buffer, updating}
-use Rattle.completeness.proofs.PlainTurns.{steps_for, hits, hits_once, itself, turn_name, one_if, hits_some}
+use Rattle.completeness.proofs.PlainTurns.{limited_for, hits, hits_once, itself, turn_name, one_if, hits_some}
 use Rattle.completeness.proofs.PureNests.{all_from, all_in, none_missing, first_put, loop_name, hits_named, hits_turned, all_slices, at_most_all, all_once, first_steps, no_lets, index_at}
 use Rattle.completeness.proofs.UpdateTurns.{hits_fewer, all_mapped, all_filtered}
 use Rattle.completeness.proofs.GridTurns.{grid_none, grid_some, OverGrid, NotOverGrid, either_name}
 use Rattle.completeness.proofs.LoopMoves.{true_end}
-use Rattle.completeness.proofs.SplitTests.{turns_for, spine_is, grid_spelled}
+use Rattle.completeness.proofs.SplitTests.{limited_turns, spine_is, grid_spelled}
 use Rattle.completeness.proofs.Searched.{one_of}
 use Rattle.completeness.proofs.BlockSums.{pair_is}
-use Rattle.completeness.proofs.BlockTurns.{Leaf, Right, IsBlockNest, AreBlocks, skeleton_blocks}
-use Rattle.completeness.proofs.BlockTests.{AreSums, Each, sum_forms, IsClaimed, IsPlaced, covered, places_there}
+use Rattle.completeness.proofs.BlockTurns.{Leaf, LimitsAre, Right, IsBlockNest, AreBlocks, skeleton_blocks}
+use Rattle.completeness.proofs.BlockOrder.{IsOrdered, bodies_ordered}
+use Rattle.completeness.proofs.BlockCaps.{HaveNot}
+use Rattle.completeness.proofs.GridCounts.{IsShort, grid_few}
+use Rattle.completeness.proofs.GuardSums.{left_over}
+use Rattle.completeness.proofs.BlockTests.{AreSums, Each, sum_forms, IsClaimed, IsPlaced, LimitsFit, covered, places_there}
 use Rattle.completeness.proofs.BlockFacts.{halves_new, outers_apart, wholes_are, end_leaf, loops_held, in_all_cuts, all_kept, parallel_found, serial_none, parallel_some, inners_serial}
 use Rattle.completeness.proofs.BlockFacts.{turn_from, turn_there}
 use Rattle.completeness.proofs.BlockFacts.{turns_once, places_same}
-use Rattle.completeness.proofs.BlockDims.{top, last_of, part_uncut, end_uncut, claim_uncut, cut_once, outer_low, outer_last, inner_low, inner_last, few_numbers}
+use Rattle.completeness.proofs.BlockDims.{top, end_of_all, all_of, kept_cap, counted, part_uncut, end_uncut, claim_uncut, cut_once, outer_low, outer_last, inner_low, inner_last, few_numbers}
 use Rattle.completeness.proofs.BlockDims.{end_is, claim_is as block_claim_is, block_claim, block_places, apart_name}
-use Rattle.completeness.proofs.BlockNames.{factor, owner, owner_among, IsTurnOf, IsNestTurn, LeafOf, HasAll, over_grid, of_loop, of_block, of_split}
+use Rattle.completeness.proofs.BlockNames.{factor, owner, tops, tops_bare, limits_fit, told_at, told_before, owner_among, IsTurnOf, IsNestTurn, LeafOf, HasAll, over_grid, of_loop, of_block, of_split}
 
 pub stored_there : {P : FormulaText → Type 0} (o : Option FormulaText) → IsSomeAnd o P → (x : FormulaText) × (o ≡ Some x) × P x
 stored_there None h = absurd h
@@ -154,7 +158,7 @@ module _ (a : Algorithm) (sch : Schedule) (l : Lowered) (well : IsAlgorithm a) (
       (placed : (j : ℕ) (v : CodeClaim) → slice_get claims j ≡ Some v → slice_get items (first + j) ≡ Some v)
       (alone_here : (j : ℕ) (w : CodeClaim) → slice_get items j ≡ Some w → line < w.line → w.line < line + (lines (statement_of p.body) + 1) → In w claims)
       (laid : IsLaidBy g h.extents h.skeleton) (split_alone : AreSplitOnce g.placed.cuts) (keeps : KeepsInner g.placed.loops g.placed.cuts)
-      (filled : AllByRecursion (λ c. is_tailed (loop_numbers g.subject.variables g.placed.cuts h.extents) c ≡ false) g.placed.cuts) where
+      (filled : AllByRecursion (λ c. makes_line g.placed.loops (loop_numbers g.subject.variables g.placed.cuts h.extents) c ≡ false) g.placed.cuts) where
     abbrev k : SkeletonText
     k = h.skeleton
 
@@ -226,8 +230,8 @@ module _ (a : Algorithm) (sch : Schedule) (l : Lowered) (well : IsAlgorithm a) (
     pub made_so : AreMade xs (xs ++ g.subject.reductions) cuts
     made_so = (owners.directed g h.extents k laid).made
 
-    abbrev pub free : (c : Split) → In c cuts → is_tailed rs c ≡ false
-    free c m = all_in (λ c. is_tailed rs c ≡ false) cuts c filled m
+    abbrev pub free : (c : Split) → In c cuts → makes_line ls rs c ≡ false
+    free c m = all_in (λ c. makes_line ls rs c ≡ false) cuts c filled m
 
     abbrev pub halves : (c : Split) → In c cuts → (x : List ℕ) → In x xs → (x ≡ c.outer → ⊥) × (x ≡ c.inner → ⊥)
     halves c m x q = halves_new cuts xs g.subject.reductions made_so c m x q
@@ -261,9 +265,6 @@ module _ (a : Algorithm) (sch : Schedule) (l : Lowered) (well : IsAlgorithm a) (
         let leaf : IsLeaf xs cuts o = all_in (IsLeaf xs cuts) ls o (owners.directed g h.extents k laid).leaves m in
         end_leaf cuts once xs cuts (λ d q. q) leaf.variable o.name (at_in xs o.dimension leaf.variable leaf.of) leaf.end
 
-    pub shape : AreBlocks xs bs g.placed others once rs free k
-    shape = skeleton_blocks xs bs g.placed h.extents k others once free single_over inners h.laid
-
     -- ---- numbers
 
     abbrev NumbersFit : List ℕ → Type 0
@@ -294,9 +295,9 @@ module _ (a : Algorithm) (sch : Schedule) (l : Lowered) (well : IsAlgorithm a) (
         (omega (arith, ints, from, to), omega (arith, ints, from, to, few_numbers_here, some))
     near_named y (inr (c, m, inl e)) =
         let fit = fit_of c.whole (wholes c m) in
-        let begins = ap low e ∙ outer_low rs c (free c m) (fits c m) fit.0 fit.1 in
-        let ends = ap last e ∙ outer_last rs c (free c m) (fits c m) fit.0 fit.1 in
-        let few_here = few_numbers rs c (free c m) (fits c m) fit.0 fit.1 in
+        let begins = ap low e ∙ outer_low ls rs c (free c m) (fits c m) fit.0 fit.1 in
+        let ends = ap last e ∙ outer_last ls rs c (free c m) (fits c m) fit.0 fit.1 in
+        let few_here = few_numbers ls rs c (free c m) (fits c m) fit.0 fit.1 in
         let wide = (fits c m).some in
         let most = at_most_times (top (count c.whole) c.factor) c.factor wide in
         (omega (arith, ints, begins), omega (arith, ints, ends, few_here, most))
@@ -306,8 +307,8 @@ module _ (a : Algorithm) (sch : Schedule) (l : Lowered) (well : IsAlgorithm a) (
         at_most_times b (suc d) some = (let is = mul-suc b d in omega (arith, is))
     near_named y (inr (c, m, inr e)) =
         let fit = fit_of c.whole (wholes c m) in
-        let begins = ap low e ∙ inner_low rs c (free c m) (fits c m) fit.0 fit.1 in
-        let ends = ap last e ∙ inner_last rs c (free c m) (fits c m) fit.0 fit.1 in
+        let begins = ap low e ∙ inner_low ls rs c (free c m) (fits c m) fit.0 fit.1 in
+        let ends = ap last e ∙ inner_last ls rs c (free c m) (fits c m) fit.0 fit.1 in
         let wide = (fits c m).few in
         let some = (fits c m).some in
         (omega (arith, ints, begins), omega (arith, ints, ends, wide, some))
@@ -420,6 +421,25 @@ module _ (a : Algorithm) (sch : Schedule) (l : Lowered) (well : IsAlgorithm a) (
         of (suc m) q (inr w) = (let clash : Some f ≡ None = sym e ∙ w.named in absurd (cc clash))
         of (suc m) q (inl w) = (w.symbol, cc (sym e ∙ w.named), w.low, parallel_found y ls (omega (arith, q)))
 
+    outers_there : (c : Split) → In c cuts → (f : Form) → form_named grid c.outer ≡ Some f → (s : ℕ) × (f ≡ counted_from (pos 0) s) × (s < length (piece_counts rs ls))
+    outers_there c m f e =
+        let r = grids c.outer f e in
+        let fit = fit_of c.whole (wholes c m) in
+        let zero_low : low c.outer ≡ pos 0 = outer_low ls rs c (free c m) (fits c m) fit.0 fit.1 in
+        (r.0, r.1 ∙ ap (λ (z : ℤ). counted_from z r.0) zero_low, r.2)
+
+    pub ordered : (d : ℕ) (b : BodyText) → slice_get bs d ≡ Some b → IsOrdered cuts rs (nest_turns b rs ls)
+    ordered d b e = bodies_ordered a sch legal n g at h.extents k laid free fs d b e
+
+    pub shape : AreBlocks xs bs g.placed others once rs free k
+    shape = skeleton_blocks xs bs g.placed h.extents k others once free single_over inners (λ c m. (fits c m).some) outers_there ordered h.laid
+
+    abbrev pub sized : (c : Split) → In c cuts → IsSmall (num c.whole) × (0 < (num c.whole).count)
+    sized c m = fit_of c.whole (wholes c m)
+
+    pub shorts : AllByRecursion IsShort k.grid
+    shorts = grid_few g h.extents k laid
+
     is_over : (x : List ℕ) (f : Form) → form_named grid x ≡ Some f → is_parallel_named lay x ≡ true
     is_over x f e = parallel_named ls x ∙ grid_named rs x 0 (parallel_loops ls) f e
 
@@ -482,7 +502,11 @@ module _ (a : Algorithm) (sch : Schedule) (l : Lowered) (well : IsAlgorithm a) (
 
     -- of a split loop whose outer loop is parallel: a block
     pub dim_block : (c : Split) (m : In c cuts) (s : ℕ) → form_named grid c.outer ≡ Some (counted_from (pos 0) s) →
-        (claim c.whole ≡ record { lower = one_of (low c.whole) (pos c.factor) s ∷ []; upper = one_of ((pos c.factor -ℤ pos 1) +ℤ low c.whole) (pos c.factor) s ∷ [] })
+        (claim c.whole ≡ record {
+          lower = one_of (low c.whole) (pos c.factor) s ∷ [];
+          upper = one_of ((pos c.factor -ℤ pos 1) +ℤ low c.whole) (pos c.factor) s
+              ∷ kept_cap ls rs c (free c m) (fits c m) (fit_of c.whole (wholes c m)).0 (fit_of c.whole (wholes c m)).1;
+        })
         × (place c.whole ≡ From (one_of (low c.whole) (pos c.factor) s) c.factor)
     dim_block c m s e =
         let fit = fit_of c.whole (wholes c m) in
@@ -490,8 +514,8 @@ module _ (a : Algorithm) (sch : Schedule) (l : Lowered) (well : IsAlgorithm a) (
         let outer = uncut_grid c.outer (counted_from (pos 0) s) e in
         let inner = uncut_serial c.inner (inners_serial ls cuts keeps c m) in
         let is : part_of lay c.whole cuts ≡ Run (block_text c m s o.rest) = o.part ∙ (λ j. joined lay c o.rest (outer j) (inner j)) in (
-          ap (λ (q : _). (dimension_by lay c.whole cuts q).claim) is ∙ block_claim rs c (free c m) (fits c m) fit.0 fit.1 lay refl s o.rest o.inner_end,
-          ap (λ (q : _). (dimension_by lay c.whole cuts q).places) is ∙ block_places rs c (free c m) (fits c m) fit.0 fit.1 lay refl s o.rest o.inner_end c.whole cuts,
+          ap (λ (q : _). (dimension_by lay c.whole cuts q).claim) is ∙ block_claim ls rs c (free c m) (fits c m) fit.0 fit.1 lay refl s o.rest o.inner_end,
+          ap (λ (q : _). (dimension_by lay c.whole cuts q).places) is ∙ block_places ls rs c (free c m) (fits c m) fit.0 fit.1 lay refl s o.rest o.inner_end c.whole cuts,
         )
       where
         block_text : (c : Split) → In c cuts → ℕ → List Split → BlockText
@@ -500,30 +524,43 @@ module _ (a : Algorithm) (sch : Schedule) (l : Lowered) (well : IsAlgorithm a) (
 
     -- of one whose loops are both in the nest: all numbers
     pub dim_split : (c : Split) (m : In c cuts) → hits loop_name c.outer (parallel_loops ls) ≡ 0 →
-        (claim c.whole ≡ numbers (low c.whole) (last_of rs c (free c m) (fits c m) (fit_of c.whole (wholes c m)).0 (fit_of c.whole (wholes c m)).1))
-        × (place c.whole ≡ From (number (low c.whole)) (top (count c.whole) c.factor * c.factor + c.factor))
+        (claim c.whole ≡ numbers (low c.whole) (end_of_all ls rs c (free c m) (fits c m) (fit_of c.whole (wholes c m)).0 (fit_of c.whole (wholes c m)).1))
+        × (place c.whole ≡ From (number (low c.whole)) (all_of ls rs c (free c m) (fits c m) (fit_of c.whole (wholes c m)).0 (fit_of c.whole (wholes c m)).1))
     dim_split c m none =
         let fit = fit_of c.whole (wholes c m) in
         let o = cut_once lay cuts others once c m in
         let outer = uncut_serial c.outer none in
         let inner = uncut_serial c.inner (inners_serial ls cuts keeps c m) in
         let is : part_of lay c.whole cuts ≡ Whole = o.part ∙ (λ j. joined lay c o.rest (outer j) (inner j)) in
-        let ends = o.claim ∙ block_claim_is rs c (free c m) (fits c m) fit.0 fit.1 in
-        let end = o.end ∙ end_is rs c (free c m) (fits c m) fit.0 fit.1 in (
+        let ends = o.claim ∙ block_claim_is ls rs c (free c m) (fits c m) fit.0 fit.1 in
+        let end = o.end ∙ end_is ls rs c (free c m) (fits c m) fit.0 fit.1 in
+        let counts = counted ls rs c (free c m) (fits c m) fit.0 fit.1 in (
           ap (λ (q : _). (dimension_by lay c.whole cuts q).claim) is ∙ ap (λ (z : ℤ). numbers (low c.whole) z) ends,
-          ap (λ (q : _). (dimension_by lay c.whole cuts q).places) is ∙ ap (λ (z : ℤ). places_from (number (low c.whole)) (sum (difference z (low c.whole)) (pos 1))) end
+          ap (λ (q : _). (dimension_by lay c.whole cuts q).places) is ∙ ap (λ (z : ℤ). places_from (number (low c.whole)) (sum (difference z (low c.whole)) (pos 1))) (end ∙ sym counts)
               ∙ ap (λ (w : ℤ). From (number (low c.whole)) (count_of w))
-              (as_many (low c.whole) (top (count c.whole) c.factor * c.factor) c.factor (few_numbers rs c (free c m) (fits c m) fit.0 fit.1) (fits c m).few (fits c m).some),
+              (as_many (low c.whole) (all_of ls rs c (free c m) (fits c m) fit.0 fit.1) (few_of c m (is_tailed rs c)) (some_of c m (is_tailed rs c))),
         )
       where
-        as_many : (z : ℤ) (p q : ℕ) → p ≤ 2 ^ 32 → q ≤ 1024 → 0 < q → sum (difference (z +ℤ (pos p +ℤ (pos q -ℤ pos 1))) z) (pos 1) ≡ pos (p + q)
-        as_many z p q few wide some =
-            let y : ℤ = z +ℤ (pos p +ℤ (pos q -ℤ pos 1)) -ℤ z in
-            let one : nearest y ≡ y = nearest_of_small y (omega (arith, ints, some)) (omega (arith, ints, few, wide)) in
-            ap (λ (w : ℤ). nearest (w +ℤ pos 1)) one ∙ ap nearest (back z p q) ∙ nearest_of_small (pos (p + q)) (omega (arith, ints)) (omega (arith, ints, few, wide))
+        few_of : (c : Split) (m : In c cuts) (b : Bool) → (if b then (num c.whole).count else top (count c.whole) c.factor * c.factor + c.factor) ≤ 2 ^ 33
+        few_of c m true = (let few = (fit_of c.whole (wholes c m)).0.few in omega (arith, few))
+        few_of c m false =
+            let fit = fit_of c.whole (wholes c m) in
+            let few = few_numbers ls rs c (free c m) (fits c m) fit.0 fit.1 in
+            let wide = (fits c m).few in
+            omega (arith, few, wide)
+
+        some_of : (c : Split) (m : In c cuts) (b : Bool) → 0 < (if b then (num c.whole).count else top (count c.whole) c.factor * c.factor + c.factor)
+        some_of c m true = (fit_of c.whole (wholes c m)).1
+        some_of c m false = (let some = (fits c m).some in omega (arith, some))
+
+        as_many : (z : ℤ) (p : ℕ) → p ≤ 2 ^ 33 → 0 < p → sum (difference ((pos p -ℤ pos 1) +ℤ z) z) (pos 1) ≡ pos p
+        as_many z p few some =
+            let y : ℤ = (pos p -ℤ pos 1) +ℤ z -ℤ z in
+            let one : nearest y ≡ y = nearest_of_small y (omega (arith, ints, some)) (omega (arith, ints, few)) in
+            ap (λ (w : ℤ). nearest (w +ℤ pos 1)) one ∙ ap nearest (back z p) ∙ nearest_of_small (pos p) (omega (arith, ints)) (omega (arith, ints, few))
           where
-            back : (z : ℤ) (p q : ℕ) → ((z +ℤ (pos p +ℤ (pos q -ℤ pos 1)) -ℤ z) +ℤ pos 1) ≡ pos (p + q)
-            back z p q = omega (arith, ints)
+            back : (z : ℤ) (p : ℕ) → (((pos p -ℤ pos 1) +ℤ z -ℤ z) +ℤ pos 1) ≡ pos p
+            back z p = omega (arith, ints)
 
     pub own_places_are : places ≡ map place xs
     own_places_are = of xs
@@ -608,15 +645,25 @@ module _ (a : Algorithm) (sch : Schedule) (l : Lowered) (well : IsAlgorithm a) (
       pub few_grid : length k.grid ≤ m0
       few_grid = (let is = ap length shape.grid in let least = q.low in omega (arith, is, least))
 
+      abbrev pub lims : ℕ → List Form
+      lims = q.limits
+
+      abbrev pub bounds : (j : ℕ) (t : Turning) → slice_get ts j ≡ Some t → LimitsAre cuts others once rs ls free grid m0 ts (m0 + j) t (lims (m0 + j))
+      bounds j t e = q.bounded j t e
+
       abbrev factor_at : ℕ → ℤ
-      factor_at = factor xs ls cuts rs others once halves outers gone grid m0 ts nest_turns_here same_places over_names inners free fits
+      factor_at = factor xs ls cuts rs others once halves outers gone grid m0 ts nest_turns_here same_places over_names inners free fits sized lims bounds
+
+      abbrev tops_at : ℕ → List Form
+      tops_at = tops xs ls cuts rs others once halves outers gone grid m0 ts nest_turns_here same_places over_names inners free fits sized lims bounds
 
       abbrev owner_at : ℕ → List ℕ
-      owner_at = owner xs ls cuts rs others once halves outers gone grid m0 ts nest_turns_here same_places over_names inners free fits
+      owner_at = owner xs ls cuts rs others once halves outers gone grid m0 ts nest_turns_here same_places over_names inners free fits sized lims bounds
 
       abbrev pub All : List ℕ → Form → Type 0
       All x f =
-          HasAll xs ls cuts rs others once halves outers gone grid m0 ts nest_turns_here same_places over_names inners free fits R refl k.grid few_grid short near (grid_spelled 0 k.grid) claim
+          HasAll xs ls cuts rs others once halves outers gone grid m0 ts nest_turns_here same_places over_names inners free fits sized lims bounds R refl k.grid few_grid shorts short near
+          (grid_spelled 0 k.grid) claim
           place x f
 
       -- ---- each variable's form
@@ -645,7 +692,7 @@ module _ (a : Algorithm) (sch : Schedule) (l : Lowered) (well : IsAlgorithm a) (
               (named_stands c.outer halves_there.0) (named_stands c.inner halves_there.1))
 
       abbrev pub RightHere : List ℕ → Form → Type 0
-      RightHere y f = Right cuts others once rs free grid m0 ts y f
+      RightHere y f = Right cuts others once rs ls free grid m0 ts lims y f
 
       serial_named : (j : ℕ) (t : Turning) → slice_get ts j ≡ Some t → hits loop_name t.name (parallel_loops ls) ≡ 0
       serial_named j t e =
@@ -661,7 +708,8 @@ module _ (a : Algorithm) (sch : Schedule) (l : Lowered) (well : IsAlgorithm a) (
               let r = over_names x f over in
               let named_so : form_named grid x ≡ Some (counted_from (low x) r.0) = over ∙ ap (λ (u : Form). Some u) r.1 in
               let d = dim_grid x r.0 named_so r.3 in
-              over_grid xs ls cuts rs others once halves outers gone grid m0 ts nest_turns_here same_places over_names inners free fits R refl k.grid few_grid short near (grid_spelled 0 k.grid)
+              over_grid xs ls cuts rs others once halves outers gone grid m0 ts nest_turns_here same_places over_names inners free fits sized lims bounds R refl k.grid few_grid shorts short near
+              (grid_spelled 0 k.grid)
               claim place
               x f over r.0 r.1 r.2 r.3 (near_named x (inl m)).0 d.0 d.1
           of (inl (inr (i, t, there_t, name, is))) =
@@ -669,7 +717,8 @@ module _ (a : Algorithm) (sch : Schedule) (l : Lowered) (well : IsAlgorithm a) (
               let none : hits loop_name x (parallel_loops ls) ≡ 0 = subst (λ (y : List ℕ). hits loop_name y (parallel_loops ls) ≡ 0) name (serial_named i t there_t) in
               let d = dim_loop x m none (o.loop, o.there, o.name ∙ name) in
               subst (All x) (sym is)
-              (of_loop xs ls cuts rs others once halves outers gone grid m0 ts nest_turns_here same_places over_names inners free fits R refl k.grid few_grid short near (grid_spelled 0 k.grid)
+              (of_loop xs ls cuts rs others once halves outers gone grid m0 ts nest_turns_here same_places over_names inners free fits sized lims bounds R refl k.grid few_grid shorts short near
+              (grid_spelled 0 k.grid)
               claim place
               x m i t there_t name d.0 d.1)
           of (inr u) = subst (λ (y : List ℕ). All y f) u.is (inner_of u.by_inner)
@@ -680,17 +729,25 @@ module _ (a : Algorithm) (sch : Schedule) (l : Lowered) (well : IsAlgorithm a) (
               fit : NumbersFit c.whole
               fit = fit_of c.whole (wholes c u.there)
 
-              inner_of : Leaf cuts others once rs free grid m0 ts c.inner u.inner → All c.whole f
+              inner_of : Leaf cuts others once rs ls free grid m0 ts c.inner u.inner → All c.whole f
               inner_of (inl over) = (let clash : Some u.inner ≡ None = sym over ∙ inners c u.there in absurd (cc clash))
               inner_of (inr (i, t, there_t, name, inner_is)) = outer_of u.by_outer
                 where
+                  limit_at : (s : ℕ) → u.outer ≡ counted_from (pos 0) s → is_tailed rs c ≡ true → lims (m0 + i) ≡ left_over (last c.whole) (low c.whole) (pos c.factor) s ∷ []
+                  limit_at s is tailed =
+                      told_at xs ls cuts rs others once halves outers gone grid m0 ts nest_turns_here same_places over_names inners free fits sized lims bounds c u.there s u.outer u.by_outer is i t
+                      there_t name (u.kept tailed)
+
+                  inside_grid : (outer : Form) (over : form_named grid c.outer ≡ Some outer) → (over_names c.outer outer over).0 < length k.grid
+                  inside_grid outer over = (let less = (grids c.outer outer over).2 in let is = ap length shape.grid in omega (arith, less, is))
+
                   sum_so : combined u.start (pos 1) (alone (m0 + i)) ≡ Some f
                   sum_so = ap (combined u.start (pos 1)) (sym inner_is) ∙ u.sum
 
-                  outer_of : Leaf cuts others once rs free grid m0 ts c.outer u.outer → All c.whole f
+                  outer_of : Leaf cuts others once rs ls free grid m0 ts c.outer u.outer → All c.whole f
                   outer_of (inl over) =
                       let r = over_names c.outer u.outer over in
-                      let zero_low : low c.outer ≡ pos 0 = outer_low rs c (free c u.there) (fits c u.there) fit.0 fit.1 in
+                      let zero_low : low c.outer ≡ pos 0 = outer_low ls rs c (free c u.there) (fits c u.there) fit.0 fit.1 in
                       let outer_is : u.outer ≡ counted_from (pos 0) r.0 = r.1 ∙ ap (λ (z : ℤ). counted_from z r.0) zero_low in
                       let less = r.2 in
                       let differ : (r.0 == m0 + i) ≡ false = grind (arith, nat_tests, less) in
@@ -698,18 +755,25 @@ module _ (a : Algorithm) (sch : Schedule) (l : Lowered) (well : IsAlgorithm a) (
                       let form = pair_is (low c.whole) c.factor r.0 (fits c u.there).some (m0 + i) u.start f differ begins sum_so in
                       let named_so : form_named grid c.outer ≡ Some (counted_from (pos 0) r.0) = over ∙ ap (λ (v : Form). Some v) outer_is in
                       let d = dim_block c u.there r.0 named_so in
-                      of_block xs ls cuts rs others once halves outers gone grid m0 ts nest_turns_here same_places over_names inners free fits R refl k.grid few_grid short near
+                      of_block xs ls cuts rs others once halves outers gone grid m0 ts nest_turns_here same_places over_names inners free fits sized lims bounds R refl k.grid few_grid shorts
+                      short near
                       (grid_spelled 0 k.grid) claim
-                      place c u.there (wholes c u.there) fit.0 fit.1 i t there_t name r.0 r.2 named_so f form.0 form.1 d.0 d.1
+                      place c u.there (wholes c u.there) fit.0 fit.1 i t there_t name r.0 (inside_grid u.outer over) r.2 named_so f form.0 form.1 (limit_at r.0 outer_is) d.0 d.1
                   outer_of (inr (o, v, there_v, outer_name, outer_is)) =
                       let differ : (m0 + o == m0 + i) ≡ false = apart_symbols o i v t there_v there_t outer_name name in
                       let begins = ap (combined (number (low c.whole)) (pos c.factor)) (sym outer_is) ∙ u.begins in
                       let form = pair_is (low c.whole) c.factor (m0 + o) (fits c u.there).some (m0 + i) u.start f differ begins sum_so in
                       let none : hits loop_name c.outer (parallel_loops ls) ≡ 0 = subst (λ (y : List ℕ). hits loop_name y (parallel_loops ls) ≡ 0) outer_name (serial_named o v there_v) in
                       let d = dim_split c u.there none in
-                      of_split xs ls cuts rs others once halves outers gone grid m0 ts nest_turns_here same_places over_names inners free fits R refl k.grid few_grid short near
+                      of_split xs ls cuts rs others once halves outers gone grid m0 ts nest_turns_here same_places over_names inners free fits sized lims bounds R refl k.grid few_grid shorts
+                      short near
                       (grid_spelled 0 k.grid) claim
-                      place c u.there (wholes c u.there) fit.0 fit.1 i t there_t name o v there_v outer_name f form.0 form.1 d.0 d.1
+                      place c u.there (wholes c u.there) fit.0 fit.1 i t there_t name o v there_v outer_name f form.0 form.1
+                      (λ tailed. (
+                        told_before xs ls cuts rs others once halves outers gone grid m0 ts nest_turns_here same_places over_names inners free fits sized lims bounds c o i v t there_v
+                            outer_name there_t name (u.kept tailed),
+                        limit_at (m0 + o) outer_is tailed,
+                      )) d.0 d.1
                     where
                       apart_symbols : (o i : ℕ) (v t : Turning) → slice_get ts o ≡ Some v → slice_get ts i ≡ Some t → v.name ≡ c.outer → t.name ≡ c.inner → (m0 + o == m0 + i) ≡ false
                       apart_symbols o i v t ev et nv nt = by (m0 + o == m0 + i) refl
@@ -733,16 +797,18 @@ module _ (a : Algorithm) (sch : Schedule) (l : Lowered) (well : IsAlgorithm a) (
       found_at : (x : List ℕ) → In x xs → Found x
       found_at x m = (let s = stands_all x m in record { form = s.0; is = s.1; all_of = has_all x m s.0 s.1 })
 
-      sums : (ys : List (List ℕ)) → ((x : List ℕ) → In x ys → In x xs) → AreSums factor_at m0 ts owner_at ys
+      sums : (ys : List (List ℕ)) → ((x : List ℕ) → In x ys → In x xs) → AreSums factor_at m0 ts owner_at lims tops_at ys
       sums [] sub = tt
       sums (y ∷ ys) sub = ((found_at y (sub y (inl refl))).all_of.sum, sums ys (λ x m. sub x (inr m)))
 
-      claimed_all : (ys : List (List ℕ)) (sub : (x : List ℕ) → In x ys → In x xs) → Each factor_at m0 ts owner_at (IsClaimed factor_at m0 ts owner_at R (grid_binders k.grid) claim) ys (sums ys sub)
+      claimed_all : (ys : List (List ℕ)) (sub : (x : List ℕ) → In x ys → In x xs) → Each factor_at m0 ts owner_at lims tops_at (IsClaimed factor_at m0 ts owner_at lims tops_at R
+          (grid_binders k.grid) claim) ys (sums ys sub)
       unfolding sums found_at
       claimed_all [] sub = tt
       claimed_all (y ∷ ys) sub = ((found_at y (sub y (inl refl))).all_of.claimed, claimed_all ys (λ x m. sub x (inr m)))
 
-      placed_all : (ys : List (List ℕ)) (sub : (x : List ℕ) → In x ys → In x xs) → Each factor_at m0 ts owner_at (IsPlaced factor_at m0 ts owner_at R k.grid few_grid place) ys (sums ys sub)
+      placed_all : (ys : List (List ℕ)) (sub : (x : List ℕ) → In x ys → In x xs) → Each factor_at m0 ts owner_at lims tops_at
+          (IsPlaced factor_at m0 ts owner_at lims tops_at R k.grid few_grid place) ys (sums ys sub)
       unfolding sums found_at
       placed_all [] sub = tt
       placed_all (y ∷ ys) sub = ((found_at y (sub y (inl refl))).all_of.placed, placed_all ys (λ x m. sub x (inr m)))
@@ -750,7 +816,7 @@ module _ (a : Algorithm) (sch : Schedule) (l : Lowered) (well : IsAlgorithm a) (
       -- the coordinates of the store are these forms
       record Reads (ys : List (List ℕ)) (sub : (x : List ℕ) → In x ys → In x xs) (cs : List Coordinate) : Type 0 where
         forms : list_all is_form cs ≡ true
-        are : map form_of cs ≡ sum_forms factor_at m0 ts owner_at ys (sums ys sub)
+        are : map form_of cs ≡ sum_forms factor_at m0 ts owner_at lims tops_at ys (sums ys sub)
         long : length cs ≡ length ys
 
       reads : (ms : Loads) (d : ℕ) (ys : List (List ℕ)) (sub : (x : List ℕ) → In x ys → In x xs) (names : List (List ℕ)) (lefts : List (Option Term)) (cs : List Coordinate) →
@@ -777,10 +843,16 @@ module _ (a : Algorithm) (sch : Schedule) (l : Lowered) (well : IsAlgorithm a) (
 
       ones : (j : ℕ) (t : Turning) → slice_get ts j ≡ Some t → hits itself (owner_at j) xs ≡ 1
       ones j t e =
-          let m = owner_among xs ls cuts rs others once halves outers gone grid m0 ts nest_turns_here same_places over_names inners free fits wholes j t e (turns j t e).leaf in
+          let m = owner_among xs ls cuts rs others once halves outers gone grid m0 ts nest_turns_here same_places over_names inners free fits sized lims bounds wholes j t e (turns j t e).leaf in
           let some = hits_some itself (owner_at j) xs m in
           let few = names_apart (owner_at j) in
           omega (arith, some, few)
+
+      fit_limits : LimitsFit factor_at m0 ts owner_at lims tops_at
+      fit_limits = limits_fit xs ls cuts rs others once halves outers gone grid m0 ts nest_turns_here same_places over_names inners free fits sized lims bounds
+
+      bare_tops : (s i : ℕ) → HaveNot i (tops_at s)
+      bare_tops = tops_bare xs ls cuts rs others once halves outers gone grid m0 ts nest_turns_here same_places over_names inners free fits sized lims bounds
 
       module _ (ms : Loads) (cs : List Coordinate) (e : Term) (stores : IsStore g fs ms 0 w (Store 0 0 cs e)) (c : Claim) (defined : c.definition ≡ 0)
           (named_so : same_name (O.setting.buffer_function 0) c.function ≡ true) (over_region : c.region ≡ region) where
@@ -792,7 +864,7 @@ module _ (a : Algorithm) (sch : Schedule) (l : Lowered) (well : IsAlgorithm a) (
             reads ms 0 xs (λ x m. m) (names_with g.variables g.changes 0) f.0.at cs
             (subst (λ (os : List (Option Form)). AreCoordinates ms (names_with g.variables g.changes 0) os f.0.at cs) os f.2.at)
 
-        pure_made : makes_split R (grid_binders k.grid) c (map place xs) (stored_by O.setting c (Some (record { steps = turns_for m0 ts; line = Store 0 0 cs e }))) ≡ true
+        pure_made : makes_split R (grid_binders k.grid) c (map place xs) (stored_by O.setting c (Some (record { steps = limited_turns lims m0 ts; line = Store 0 0 cs e }))) ≡ true
         pure_made =
             let r = coordinates in
             let parts = take_all (length xs) cs r.long in
@@ -803,14 +875,14 @@ module _ (a : Algorithm) (sch : Schedule) (l : Lowered) (well : IsAlgorithm a) (
             let bare : is_empty (over_of O.setting 0 cs) ≡ true = ap is_empty over_at in
             let pure : is_pure O.setting c 0 cs ≡ true = λ j. one j && (named_so j && (forms j && bare j)) in
             let same_forms = ap (map form_of) left_at ∙ r.are in
-            let stored_so : stored_by O.setting c (Some (record { steps = turns_for m0 ts; line = Store 0 0 cs e }))
-            ≡ Some (record { steps = turns_for m0 ts; forms = sum_forms factor_at m0 ts owner_at xs (sums xs (λ x m. m)) }) =
-            (λ j. option_map (λ fs'. record { steps = turns_for m0 ts; forms = fs' }) (if pure j then Some (same_forms j) else None)) in
-            let has = places_there factor_at m0 ts owner_at R k.grid few_grid place xs (sums xs (λ x m. m)) (placed_all xs (λ x m. m)) in
+            let stored_so : stored_by O.setting c (Some (record { steps = limited_turns lims m0 ts; line = Store 0 0 cs e }))
+            ≡ Some (record { steps = limited_turns lims m0 ts; forms = sum_forms factor_at m0 ts owner_at lims tops_at xs (sums xs (λ x m. m)) }) =
+            (λ j. option_map (λ fs'. record { steps = limited_turns lims m0 ts; forms = fs' }) (if pure j then Some (same_forms j) else None)) in
+            let has = places_there factor_at m0 ts owner_at lims tops_at R k.grid few_grid place xs (sums xs (λ x m. m)) (placed_all xs (λ x m. m)) in
             let over_all : c.region ≡ map claim xs = over_region ∙ own_claim_is in
-            let cover = covered factor_at m0 ts owner_at xs (sums xs (λ x m. m)) ones near_forty R (grid_binders k.grid) claim (claimed_all xs (λ x m. m)) in
-            let all_covered : covers R (grid_binders k.grid) (turns_for m0 ts) (sum_forms factor_at m0 ts owner_at xs (sums xs (λ x m. m))) c.region ≡ true =
-            ap (covers R (grid_binders k.grid) (turns_for m0 ts) (sum_forms factor_at m0 ts owner_at xs (sums xs (λ x m. m)))) over_all ∙ cover in
+            let cover = covered factor_at m0 ts owner_at lims tops_at xs (sums xs (λ x m. m)) ones near_forty fit_limits bare_tops R (grid_binders k.grid) claim (claimed_all xs (λ x m. m)) in
+            let all_covered : covers R (grid_binders k.grid) (limited_turns lims m0 ts) (sum_forms factor_at m0 ts owner_at lims tops_at xs (sums xs (λ x m. m))) c.region ≡ true =
+            ap (covers R (grid_binders k.grid) (limited_turns lims m0 ts) (sum_forms factor_at m0 ts owner_at lims tops_at xs (sums xs (λ x m. m)))) over_all ∙ cover in
             ap (makes_split R (grid_binders k.grid) c (map place xs)) stored_so ∙ (λ j. has j && all_covered j)
 
     -- ---- the law
@@ -827,7 +899,7 @@ module _ (a : Algorithm) (sch : Schedule) (l : Lowered) (well : IsAlgorithm a) (
     yes ms w v at_line stands says cs e stores part rest s comes known binders holds c found_at_c nests takes =
         let u = shape.nests 0 w stands in
         let turned : List Turning = nest_turns u.body rs ls in
-        let code : Then s Empty ≡ down 0 0 cs e (steps_for u.next turned) = comes ∙ ap (down 0 0 cs e) (first_steps u.next turned w.steps part u.steps rest) in
+        let code : Then s Empty ≡ down 0 0 cs e (limited_for u.limits u.next turned) = comes ∙ ap (down 0 0 cs e) (first_steps u.limits u.next turned w.steps part u.steps rest) in
         let is = claim_is a sch l well legal small kept all groups n first line g p claims needs at there h lined placed alone_here c v found_at_c in
         let buffered : (O.claim c).buffer ≡ 0 = ap (λ (x : Claim). x.buffer) is ∙ says.buffered in
         let name : (O.claim c).function ≡ g.subject.name = ap (λ (x : Claim). x.function) is ∙ says.named in
@@ -837,7 +909,8 @@ module _ (a : Algorithm) (sch : Schedule) (l : Lowered) (well : IsAlgorithm a) (
         let named_so : same_name (O.setting.buffer_function 0) (O.claim c).function ≡ true = (λ j. same_name (buffer j) (name j)) ∙ name_refl g.subject.name in
         let none : updates O.setting s (O.claim c).buffer (O.claim c).function ≡ false = updating O R nests 0 c cs e buffered defined named_so part s comes in
         let goes : goes_on O R s c ≡ None = ap (λ (b : Bool). if b then Some ((O.claim c).definition - 1) else None) none in
-        let spine : spine_of s (O.claim c).buffer ≡ Some (record { steps = turns_for u.next turned; line = Store 0 0 cs e }) = ap (spine_of s) buffered ∙ spine_is 0 cs e u.next turned s code in
+        let spine : spine_of s (O.claim c).buffer ≡ Some (record { steps = limited_turns u.limits u.next turned; line = Store 0 0 cs e }) = ap (spine_of s) buffered
+        ∙ spine_is u.limits 0 cs e u.next turned s code in
         let test = pure_made w stands ms cs e stores (O.claim c) defined named_so over in (
           (λ seats held.
               let one : Some seats ≡ Some (map place xs) = sym held ∙ ap (places_of known.buffers) buffered ∙ holds ∙ ap (λ (us : List Places). Some us) own_places_are in
@@ -852,7 +925,7 @@ module _ (a : Algorithm) (sch : Schedule) (l : Lowered) (well : IsAlgorithm a) (
 
     pub bare_nests : AllByRecursion (λ w. LetsFirst NoLet w.steps) k.nests
     bare_nests = all_slices (λ w. LetsFirst NoLet w.steps) k.nests (λ d w e.
-        (let u = shape.nests d w e in subst (LetsFirst NoLet) (sym u.steps) (no_lets NoLet u.next (nest_turns u.body rs ls))))
+        (let u = shape.nests d w e in subst (LetsFirst NoLet) (sym u.steps) (no_lets NoLet u.limits u.next (nest_turns u.body rs ls))))
 
     -- so at each definition's claim of which the first one's is asked
     pub yes_first : (d : ℕ) → d ≡ 0 → (ms : Loads) (w : NestText) (v : CodeClaim) (at_line : ℕ) → slice_get k.nests d ≡ Some w → Claims at_line 0 g.subject.name d region v → (cs : List Coordinate)

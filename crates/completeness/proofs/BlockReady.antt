@@ -1,8 +1,9 @@
--- At the stores of functions whose loops are split once, by blocks that need no tail, and whose left indices are the variables at their places, of updates as well: each coordinate is a number
+-- At the stores of functions whose loops are split once, by blocks that need no line of their own, and whose left indices are the variables at their places, of updates as well: each
+-- coordinate is a number
 -- of 32 bits, has a place and lies in the claims' region.
-use Rattle.std.proofs.Common.{◌≡◌, ℕ, zero, suc, ◌+◌, ◌-◌, ◌*◌, ◌<◌, ◌≤◌, Bool, true, false, List, [], ◌∷◌, length, map, Option, Some, None, refl, sym, ap, ◌∙◌, subst, inl, inr, ◌⊎◌, arith}
-use Rattle.std.proofs.Common.{◌^◌, ◌&&◌, ◌||◌, not, append-nil, ◌++◌}
-use Rattle.std.specs.Prelude.{ℤ, pos, ◌+ℤ◌, ◌-ℤ◌, ◌*ℤ◌, ◌≤ℤ◌, ◌==◌, if◌then◌else◌, slice_get, filter, reverse, min, negsuc}
+use Rattle.std.proofs.Common.{◌≡◌, ℕ, suc, ◌+◌, ◌-◌, ◌*◌, ◌<◌, ◌≤◌, Bool, true, false, List, [], ◌∷◌, length, map, Option, Some, None, refl, sym, ap, ◌∙◌, subst, inl, inr, ◌⊎◌, arith}
+use Rattle.std.proofs.Common.{◌^◌, ◌&&◌, ◌||◌, ◌++◌}
+use Rattle.std.specs.Prelude.{ℤ, pos, ◌+ℤ◌, ◌-ℤ◌, ◌≤ℤ◌, ◌==◌, if◌then◌else◌, nat_lt, slice_get, min, negsuc}
 use Rattle.std.specs.List.{AllByRecursion}
 use Rattle.std.specs.Int.RustNames.{unsigned_abs}
 use Rattle.std.proofs.lemmas.Bool.Decides.{nat_tests}
@@ -15,7 +16,6 @@ use Rattle.lin.specs.declared.scope.Binding.{Binding}
 use Rattle.lin.specs.Search.{at_most}
 use Rattle.lin.specs.declared.scope.Binding.TheVariants.{Loop as Bound}
 use Rattle.lin.specs.declared.span.Span1.{Span1}
-use Rattle.bounds.proofs.ListSound.{all-append}
 use Rattle.bounds.specs.Spans.{numbers}
 use Rattle.plan.specs.declared.plan.Group.{Group as CodeGroup}
 use Rattle.plan.specs.declared.certificate.cert.Claim.{Claim as CodeClaim}
@@ -26,17 +26,15 @@ use Rattle.plan.specs.Lines.{lines, body_line}
 use Rattle.plan.specs.declared.stmt.Places.{Places}
 use Rattle.plan.specs.declared.stmt.Places.TheVariants.{From}
 use Rattle.plan.specs.Certificate.Certificate.{Certificate, certificate_of}
-use Rattle.meaning.specs.Algorithm.{Algorithm, Change, Function, Range}
-use Rattle.meaning.specs.Conditions.{IsAlgorithm, AreDistinct, IsRange}
-use Rattle.meaning.specs.Names.{is_among}
+use Rattle.meaning.specs.Algorithm.{Algorithm, Range}
+use Rattle.meaning.specs.Conditions.{IsAlgorithm, IsRange}
 use Rattle.soundness.specs.Claims.{In}
 use Rattle.soundness.proofs.Refines.{eq_true}
-use Rattle.soundness.specs.Obligations.{Binder, Known as KnownHere, Rules, exactly, anything}
+use Rattle.soundness.specs.Obligations.{Known as KnownHere, Rules, exactly}
 use Rattle.soundness.specs.Shown.{raised, is_seated, is_within}
 use Rattle.soundness.specs.Binders.View.{grid_binders}
 use Rattle.rules.specs.Bounding.Rules.{is_index_span, rules_of}
 use Rattle.rules.specs.Bounding.Scopes.{most_symbols, limited, binding_of, symbol_count, scope_of}
-use Rattle.headline.proofs.Lists.{at_left, at_right, at_map}
 use Rattle.sched.specs.Schedule.{Schedule}
 use Rattle.sched.specs.Legal.{IsLegal}
 use Rattle.sched.specs.declared.schedule.Split.{Split}
@@ -45,17 +43,14 @@ use Rattle.sched.specs.declared.numbers.Extent.{Extent}
 use Rattle.sched.specs.declared.numbers.Numbers.{Numbers}
 use Rattle.sched.specs.declared.skeleton.Known.{Known}
 use Rattle.sched.specs.declared.nest.Turning.{Turning}
-use Rattle.sched.specs.Numbers.{numbers_named, loop_numbers, parallel_loops, grid_counts, piece_counts, last_number, or_one}
-use Rattle.sched.specs.Placing.{is_parallel, is_vectorized}
+use Rattle.sched.specs.Numbers.{numbers_named, loop_numbers, parallel_loops, piece_counts, last_number}
+use Rattle.sched.specs.Placing.{is_parallel}
 use Rattle.sched.specs.Standing.{form_named, alone, counted_from, has_rest}
-use Rattle.sched.specs.Skeleton.{BodyText, NestText, SkeletonText, nest_turns, ranges_at, grid_forms, is_missing, span, loop_turning, range_turning, nest_loops, is_in_nest, is_same}
+use Rattle.sched.specs.Skeleton.{BodyText, NestText, SkeletonText, nest_turns, ranges_at, grid_forms, span, loop_turning, range_turning}
 use Rattle.sched.proofs.Standings.{found_all}
-use Rattle.sched.specs.Subjects.{reductions_of}
-use Rattle.sched.proofs.Leading.{in_right, in_left}
 use Rattle.sched.specs.declared.skeleton.Step.{Step}
-use Rattle.tails.specs.Steps.{along}
 use Rattle.lower.specs.declared.lowering.Lowered.{Lowered}
-use Rattle.lower.specs.Stored.{FormulaText, StoredText, flags, formulas_put, put, stored_functions, has_large}
+use Rattle.lower.specs.Stored.{FormulaText, StoredText, flags, stored_functions, has_large}
 use Rattle.lower.specs.Faults.{are_whole, region_fault}
 use Rattle.lower.specs.Around.{bind_steps, grid_scope, head_scope, range_names, ranges_of, grid_symbol}
 use Rattle.lower.specs.Owning.{IsLaidBy}
@@ -63,76 +58,47 @@ use Rattle.lower.specs.Regions.{bodies_from, missing_from}
 use Rattle.lower.specs.Groups.{HasBody, HasGroups}
 use Rattle.lower.proofs.Blocking.{IsSmall, CutFits}
 use Rattle.lower.proofs.Covering.{NumbersAre}
-use Rattle.lower.proofs.Laying.{bound, same}
 use Rattle.lower.specs.Blocks.{dimension_of, lay_over}
 use Rattle.lower.proofs.Owners as owners
 use Rattle.completeness.specs.Laws.{AreSplitOnce}
 use Rattle.completeness.specs.Parted.{KeepsInner}
 use Rattle.completeness.specs.Placed.{ArePlaced}
-use Rattle.completeness.specs.Blocked.{is_tailed}
+use Rattle.completeness.specs.Blocked.{is_tailed, makes_line}
 use Rattle.completeness.specs.Filled.{AreEndsShort}
-use Rattle.completeness.proofs.Laid.{IsStoredOf, subjects, found}
-use Rattle.completeness.proofs.Defined.{first_put, other_put, body_missing, HasMissing}
+use Rattle.completeness.proofs.Laid.{subjects}
 use Rattle.completeness.proofs.Served.{roots}
 use Rattle.completeness.proofs.Halves.{AreOthers, inner_outer}
 use Rattle.completeness.proofs.Lanes.{AreOnce}
-use Rattle.completeness.proofs.PlainPlaces.{all_none, IsBound, variables_are}
-use Rattle.completeness.proofs.PureNests.{all_in, all_from, all_slices, all_back, loop_name, all_get}
-use Rattle.completeness.proofs.UpdateTurns.{all_mapped, all_filtered, known_update, ranges_turned}
+use Rattle.completeness.proofs.PlainPlaces.{IsBound, variables_are}
+use Rattle.completeness.proofs.PureNests.{all_in, loop_name, all_get}
 use Rattle.completeness.proofs.NearBoxes.{IsBoxTurn}
-use Rattle.completeness.proofs.BlockSums.{pair, pair_is}
-use Rattle.completeness.proofs.BlockTurns.{Leaf, Right, IsBlockNest, AreBlocks}
+use Rattle.completeness.proofs.BlockSums.{pair, pair_is, multiple, two_of}
+use Rattle.completeness.proofs.BlockTurns.{Leaf, Right, IsBlockNest, AreBlocks, limited_for}
 use Rattle.completeness.proofs.BlockDims.{top, top_low, outer_low, last_of as block_last, full_last, outer_last, inner_low, inner_last, few_numbers}
 use Rattle.completeness.proofs.RegionBounds.{IsEnded}
 use Rattle.completeness.proofs.Limited.{StepIs, IsNestLimited, IsLimited}
 use Rattle.completeness.proofs.GridCounts.{IsShort}
-use Rattle.completeness.proofs.GridScope.{number_limited, at_place, scope_long}
-use Rattle.completeness.proofs.PlainNests.{InSteps, grid_place}
+use Rattle.completeness.proofs.GridScope.{at_place, scope_long}
+use Rattle.completeness.proofs.PlainNests.{InSteps}
 use Rattle.completeness.proofs.PlainTurns.{hits}
 use Rattle.completeness.proofs.PointsShown.{in_steps}
-use Rattle.completeness.proofs.PureScopes.{map_both, grid_is, count_from}
+use Rattle.completeness.proofs.PureScopes.{map_both, grid_is, count_from, span_stays}
 use Rattle.completeness.proofs.Searched.{one_of, up_limited}
 use Rattle.completeness.proofs.SelfBounds.{form_self}
-use Rattle.completeness.proofs.SplitTests.{turns_for}
-use Rattle.completeness.proofs.SplitPlaces.{inner_is}
-use Rattle.completeness.proofs.StoreBinders.{at_steps, at_loops}
-use Rattle.completeness.proofs.StoreBounds.{symbol_inside, counted_inside, steps_keep}
-use Rattle.completeness.proofs.UncutScopes.{scope_at}
+use Rattle.completeness.proofs.StoreBinders.{at_steps}
+use Rattle.completeness.proofs.StoreBounds.{symbol_inside, counted_inside}
+use Rattle.completeness.proofs.UncutScopes.{turn_limited, scope_at}
 use Rattle.completeness.proofs.RangedBoxes.{range_box}
-use Rattle.completeness.proofs.BlockFacts.{made_new, among_end, names_in, serial_none}
-use Rattle.completeness.proofs.BlockBounds.{seat_loop, seat_block, seat_split}
-use Rattle.completeness.proofs.BlockInside.{pair_inside}
+use Rattle.completeness.proofs.BlockBounds.{two_above, block_above, block_below}
+use Rattle.completeness.proofs.PlainBounds.{loop_above, loop_below}
+use Rattle.completeness.proofs.GridTurns.{grid_none}
+use Rattle.completeness.proofs.GuardSums.{left_over, kept_below}
+use Rattle.completeness.proofs.BlockInside.{pair_inside, pair_bounds, kept_under, kept_inside}
 use Rattle.completeness.proofs.PlacedStores.{IsRightForm, IsReadyNest}
 use Rattle.completeness.proofs.BlockNests as nests_of
+use Rattle.completeness.proofs.BlockLoops as loops_of
 
 -- ---- names
-
-in_at : (xs : List (List ℕ)) (x : List ℕ) → In x xs → (j : ℕ) × (slice_get xs j ≡ Some x)
-in_at [] x m = absurd m
-in_at (y ∷ xs) x (inl e) = (0, ap (λ (z : List ℕ). Some z) (sym e))
-in_at (y ∷ xs) x (inr m) = (let r = in_at xs x m in (suc r.0, r.1))
-
--- distinct names in one list and in another behind it
-names_apart : (xs ys : List (List ℕ)) → AreDistinct (xs ++ ys) → (x y : List ℕ) → In x xs → In y ys → y ≡ x → ⊥
-names_apart xs ys distinct x y mx my e =
-    let i = in_at xs x mx in
-    let j = in_at ys y my in
-    let less = slice_get_within xs i.0 x i.1 in
-    let there : slice_get (xs ++ ys) (length xs + j.0) ≡ Some x = at_right xs ys (length xs + j.0) j.0 refl ∙ j.1 ∙ ap (λ (z : List ℕ). Some z) e in
-    let same_place = distinct i.0 (length xs + j.0) x (at_left xs ys i.0 x i.1) there in
-    absurd (omega (arith, less, same_place))
-
--- each reduction variable is among those of all updates
-in_all : (us : List Change) (d : ℕ) (x : List ℕ) → In x (range_names (ranges_of us d)) → In x (reductions_of us)
-in_all us zero x m = absurd m
-in_all [] (suc k) x m = absurd m
-in_all (u ∷ us) (suc zero) x m = in_left x (range_names u.ranges) (reductions_of us) m
-in_all (u ∷ us) (suc (suc k)) x m = in_right x (range_names u.ranges) (reductions_of us) (in_all us (suc k) x m)
-
-in_names : (ds : List Range) (r : Range) → In r ds → In r.variable (range_names ds)
-in_names [] r m = absurd m
-in_names (d ∷ ds) r (inl e) = inl (ap (λ (x : Range). x.variable) e)
-in_names (d ∷ ds) r (inr m) = inr (in_names ds r m)
 
 missing_none : (k : ℕ) (os : List (Option Term)) → AllByRecursion (λ o. o ≡ None) os → missing_from k os ≡ []
 missing_none k [] h = refl
@@ -144,14 +110,9 @@ map_names ks (d ∷ ds) = (let rest = map_names ks ds in λ j. form_named ks d.v
 
 -- ---- what is bound
 
-bound_there : (known : KnownHere) (i : ℕ) (low last : ℤ) → IsBound known i (span low last []) → unsigned_abs low ≤ 2 ^ 36 → unsigned_abs last ≤ 2 ^ 36 →
-    (slice_get (scope_of known.binders) i ≡ Some (Bound (span low last []))) × (i < length (scope_of known.binders))
-bound_there known i low last b low_near last_near =
+bound_there : (known : KnownHere) (i : ℕ) (x : Span1) → IsBound known i x → limited x ≡ x → (slice_get (scope_of known.binders) i ≡ Some (Bound x)) × (i < length (scope_of known.binders))
+bound_there known i x b same_span =
     let bs = known.binders in
-    let x : Span1 = span low last [] in
-    let one = number_limited low (omega (arith, low_near)) in
-    let two = number_limited last (omega (arith, last_near)) in
-    let same_span : limited x ≡ x = (λ k. if (one k && true) && (two k && true) then x else anything) in
     let none : 0 + i ≡ i = omega arith in
     let count = b.1 in
     let most = b.2 in
@@ -161,11 +122,6 @@ bound_there known i low last b low_near last_near =
     ∙ ap (λ (c : Binding). Some c) (b.0 ∙ ap (λ (y : Span1). Bound y) same_span) in
     let long : length (scope_of bs) ≡ min (symbol_count bs) most_symbols = scope_long (binding_of bs) 0 (min (symbol_count bs) most_symbols) in
     (there, omega (arith, within, long))
-
--- a place's numbers, as a region
-as_region : (R : Rules) (bs : List Binder) (f l u : Form) (m : ℕ) → raised l (pos m -ℤ pos 1) ≡ u → is_seated R bs (exactly f) (From l m) ≡ true →
-    is_within R bs (exactly f) (record { lower = l ∷ []; upper = u ∷ [] }) ≡ true
-as_region R bs f l u m e seat = ap (λ (v : Form). is_within R bs (exactly f) (record { lower = l ∷ []; upper = v ∷ [] })) (sym e) ∙ seat
 
 -- ---- groups
 
@@ -186,37 +142,12 @@ module _ (a : Algorithm) (sch : Schedule) (l : Lowered) (well : IsAlgorithm a) (
   abbrev plan : Plan
   plan = plan_of l.plan
 
-  -- without updates each left index is a variable
-  pub set_of_pure : (n : ℕ) (u : StoredText) → slice_get gs n ≡ Some u → u.changes ≡ [] → (fs : List FormulaText) → u.formulas ≡ Some fs → ArePlaced fs
-  set_of_pure n u at pure fs defined = all_slices (λ (y : FormulaText). AllByRecursion (λ o. o ≡ None) y.at) fs each
-    where
-      w : IsStoredOf a sch st a.functions u
-      w = found a sch st u a.functions n at
-
-      f : Function
-      f = w.function
-
-      put_there : formulas_put a st f.variables f.value f.changes ≡ Some fs
-      put_there = ap (λ (y : StoredText). y.formulas) (sym w.is) ∙ defined
-
-      unchanged : f.changes ≡ []
-      unchanged = ap (λ (y : StoredText). y.changes) (sym w.is) ∙ pure
-
-      each : (d : ℕ) (y : FormulaText) → slice_get fs d ≡ Some y → AllByRecursion (λ o. o ≡ None) y.at
-      each zero y e =
-          let put_first = first_put a st f.variables f.value f.changes fs y put_there e in
-          let b = bound (put a st f.value) (λ v. Some (record { at = map (λ x. None) f.variables; value = v })) y put_first in
-          subst (λ (z : FormulaText). AllByRecursion (λ o. o ≡ None) z.at) (same (record { at = map (λ x. None) f.variables; value = b.value }) y b.comes) (all_none f.variables)
-      each (suc i) y e =
-          let o = other_put a st f.variables f.value f.changes fs i y put_there e in
-          absurd (cc (sym o.at ∙ ap (λ (us : List Change). slice_get us i) unchanged))
-
   module _ (n first line : ℕ) (g : StoredText) (p : CodeGroup) (claims : List CodeClaim) (needs : List Need) (at : slice_get gs n ≡ Some g) (there : slice_get l.plan.groups.items n ≡ Some p)
       (h : HasBody a (roots a sch l well legal small kept all groups) n first line g p claims needs) (lined : body_line plan n ≡ line + 1)
       (placed : (j : ℕ) (v : CodeClaim) → slice_get claims j ≡ Some v → slice_get items (first + j) ≡ Some v)
       (alone_here : (j : ℕ) (w : CodeClaim) → slice_get items j ≡ Some w → line < w.line → w.line < line + (lines (statement_of p.body) + 1) → In w claims)
       (laid : IsLaidBy g h.extents h.skeleton) (split_alone : AreSplitOnce g.placed.cuts) (keeps : KeepsInner g.placed.loops g.placed.cuts)
-      (filled : AllByRecursion (λ c. is_tailed (loop_numbers g.subject.variables g.placed.cuts h.extents) c ≡ false) g.placed.cuts) (limits : IsLimited h.skeleton)
+      (filled : AllByRecursion (λ c. makes_line g.placed.loops (loop_numbers g.subject.variables g.placed.cuts h.extents) c ≡ false) g.placed.cuts) (limits : IsLimited h.skeleton)
       (short : AllByRecursion IsShort h.skeleton.grid) (narrow : length h.skeleton.grid ≤ most_symbols) (ended : AllByRecursion IsEnded h.extents)
       (early : AreEndsShort (loop_numbers g.subject.variables g.placed.cuts h.extents) g.placed.cuts) (set : ArePlaced h.formulas) where
     abbrev k : SkeletonText
@@ -252,7 +183,7 @@ module _ (a : Algorithm) (sch : Schedule) (l : Lowered) (well : IsAlgorithm a) (
     abbrev once : AreOnce cuts
     once = nests_of.once a sch l well legal small kept all groups n first line g p claims needs at there h lined placed alone_here laid split_alone keeps filled
 
-    abbrev untailed : (c : Split) → In c cuts → is_tailed rs c ≡ false
+    abbrev untailed : (c : Split) → In c cuts → makes_line ls rs c ≡ false
     untailed c m = nests_of.free a sch l well legal small kept all groups n first line g p claims needs at there h lined placed alone_here laid split_alone keeps filled c m
 
     fits : (c : Split) → In c cuts → CutFits rs c
@@ -264,7 +195,7 @@ module _ (a : Algorithm) (sch : Schedule) (l : Lowered) (well : IsAlgorithm a) (
     fit_of : (x : List ℕ) → In x xs → IsSmall (numbers_named rs x) × (0 < (numbers_named rs x).count)
     fit_of x m = nests_of.fit_of a sch l well legal small kept all groups n first line g p claims needs at there h lined placed alone_here laid split_alone keeps filled x m
 
-    shape_here : AreBlocks xs bs g.placed others once rs untailed k
+    abbrev shape_here : AreBlocks xs bs g.placed others once rs untailed k
     shape_here = nests_of.shape a sch l well legal small kept all groups n first line g p claims needs at there h lined placed alone_here laid split_alone keeps filled
 
     abbrev R : Rules
@@ -294,36 +225,25 @@ module _ (a : Algorithm) (sch : Schedule) (l : Lowered) (well : IsAlgorithm a) (
     ended_named : (x : List ℕ) → In x xs → last_number (numbers_named rs x) ≤ℤ pos 2147483647
     ended_named x m = all_in (λ x. last_number (numbers_named rs x) ≤ℤ pos 2147483647) xs x ended_all m
 
-    -- so do those of a split's blocks
-    blocks_ended : (c : Split) (m : In c cuts) →
-        block_last rs c (untailed c m) (fits c m) (fit_of c.whole (wholes c m)).0 (fit_of c.whole (wholes c m)).1 ≤ℤ pos 2147483647
-    blocks_ended c m = of (has_rest c (count c.whole)) refl
+    -- so do those of a split's blocks, where no guard keeps them
+    blocks_ended : (c : Split) (m : In c cuts) → is_tailed rs c ≡ false →
+        block_last ls rs c (untailed c m) (fits c m) (fit_of c.whole (wholes c m)).0 (fit_of c.whole (wholes c m)).1 ≤ℤ pos 2147483647
+    blocks_ended c m bare = of (has_rest c (count c.whole)) refl
       where
         fit : IsSmall (numbers_named rs c.whole) × (0 < (numbers_named rs c.whole).count)
         fit = fit_of c.whole (wholes c m)
 
         of : (b : Bool) → has_rest c (count c.whole) ≡ b →
-            block_last rs c (untailed c m) (fits c m) (fit_of c.whole (wholes c m)).0 (fit_of c.whole (wholes c m)).1 ≤ℤ pos 2147483647
-        of false e = subst (λ (z : ℤ). z ≤ℤ pos 2147483647) (full_last rs c (untailed c m) (fits c m) fit.0 fit.1 e) (ended_named c.whole (wholes c m))
+            block_last ls rs c (untailed c m) (fits c m) (fit_of c.whole (wholes c m)).0 (fit_of c.whole (wholes c m)).1 ≤ℤ pos 2147483647
+        of false e = subst (λ (z : ℤ). z ≤ℤ pos 2147483647) (full_last ls rs c (untailed c m) (fits c m) fit.0 fit.1 e) (ended_named c.whole (wholes c m))
         of true e =
-            let near = all_in (λ c. has_rest c (numbers_named rs c.whole).count ≡ true → (last_number (numbers_named rs c.whole) +ℤ pos c.factor) ≤ℤ pos 2147483647) cuts c early m e in
+            let near = all_in (λ c. is_tailed rs c ≡ false → has_rest c (numbers_named rs c.whole).count ≡ true → (last_number (numbers_named rs c.whole) +ℤ pos c.factor) ≤ℤ pos 2147483647)
+            cuts c early
+            m bare e in
             by (low c.whole) (count c.whole) (top (count c.whole) c.factor * c.factor) c.factor fit.1 (top_low (count c.whole) c.factor fit.1 (fits c m).some) near
           where
             by : (z : ℤ) (n p w : ℕ) → 0 < n → p ≤ n - 1 → (z +ℤ pos n -ℤ pos 1 +ℤ pos w) ≤ℤ pos 2147483647 → (z +ℤ (pos p +ℤ (pos w -ℤ pos 1))) ≤ℤ pos 2147483647
             by z n p w some le h = omega (arith, ints, some, le, h)
-
-    -- ---- reduction variables
-
-    ranged_at : (j : ℕ) (u : FormulaText) → slice_get fs j ≡ Some u → AreDistinct (xs ++ range_names (ranges_of g.changes j)) × AllByRecursion IsRange (ranges_of g.changes j)
-    ranged_at zero u e =
-        let fn = found a sch st g a.functions n at in (
-          subst (λ (u : StoredText). AreDistinct (u.subject.variables ++ [])) (sym fn.is)
-              (subst AreDistinct (sym (append-nil fn.function.variables)) (well.functions fn.place fn.function fn.at).names),
-          tt,
-        )
-    ranged_at (suc i) u e =
-        let v = known_update a sch well n g at fs h.defined i u e in
-        (subst (λ (ds : List Range). AreDistinct (xs ++ range_names ds)) (sym v.ranges) v.names, subst (AllByRecursion IsRange) (sym v.ranges) v.within)
 
     -- ---- a nest
 
@@ -343,93 +263,23 @@ module _ (a : Algorithm) (sch : Schedule) (l : Lowered) (well : IsAlgorithm a) (
       abbrev rn : List (List ℕ)
       rn = range_names ranges
 
-      formula_here : HasMissing g.changes 0 fs d q.body
-      formula_here = body_missing g.changes 0 g.subject.reductions fs d q.body q.at
-
       none_missing_here : q.body.missing ≡ []
       none_missing_here =
-          formula_here.missing ∙ missing_none 0 formula_here.formula.at (all_get (λ (y : FormulaText). AllByRecursion (λ o. o ≡ None) y.at) fs d formula_here.formula set formula_here.at)
+          let f = loops_of.formula_here a sch l well legal small kept all groups n first line g p claims needs at there h lined placed alone_here laid split_alone keeps filled d w stands in
+          f.missing ∙ missing_none 0 f.formula.at (all_get (λ (y : FormulaText). AllByRecursion (λ o. o ≡ None) y.at) fs d f.formula set f.at)
 
-      reductions_are : g.subject.reductions ≡ reductions_of g.changes
-      reductions_are =
-          let v = found a sch st g a.functions n at in
-          ap (λ (y : StoredText). y.subject.reductions) v.is ∙ sym (ap (λ (y : StoredText). reductions_of y.changes) v.is)
-
-      ranges_are : q.body.ranges ≡ map range_turning ranges
-      ranges_are = ranges_turned g.changes fs d q.body (ap (λ (names : List (List ℕ)). slice_get (bodies_from g.changes 0 names fs) d) (sym reductions_are) ∙ q.at)
-
-      distinct_here : AreDistinct (xs ++ rn)
-      distinct_here = (ranged_at d formula_here.formula formula_here.at).0
-
-      within_here : AllByRecursion IsRange ranges
-      within_here = (ranged_at d formula_here.formula formula_here.at).1
-
-      -- no reduction variable has the name of another loop
-      reduction_apart : (x y : List ℕ) → In x rn → LeafName y → x ≡ y → ⊥
-      reduction_apart x y m (inl k) e = names_apart xs rn distinct_here y x k m e
-      reduction_apart x y m (inr (c, k, half)) e =
-          let among : is_among g.subject.reductions x ≡ true =
-          ap (λ (names : List (List ℕ)). is_among names x) reductions_are ∙ names_in (reductions_of g.changes) x (in_all g.changes d x m) in
-          let new = made_new cuts xs (xs ++ g.subject.reductions) (nests_of.made_so a sch l well legal small kept all groups n first line g p claims needs at there h lined placed alone_here laid
-          split_alone keeps filled) x (among_end xs g.subject.reductions x among) c k in
-          elim half [ inl o ↦ new.0 (e ∙ o) | inr i ↦ new.1 (e ∙ i) ]
-
-      -- ---- its loops
-
-      abbrev IsKind : Turning → Type 0
-      IsKind t = ((o : Loop) × In o ls × (is_parallel o ≡ false) × (t ≡ loop_turning rs o)) ⊎ ((r : Range) × In r ranges × (t ≡ range_turning r))
-
-      loops_kind : (v : Bool) → AllByRecursion IsKind (nest_loops q.body v rs ls)
-      loops_kind v =
-          all_mapped (loop_turning rs) IsKind (filter (is_in_nest q.body v) (reverse ls))
-          (all_filtered (is_in_nest q.body v) (λ o. In o ls) (λ o. IsKind (loop_turning rs o)) (λ o e m. inl (o, m, serial o v e, refl)) (reverse ls)
-          (all_back (λ o. In o ls) ls (all_from (λ o. In o ls) ls (λ o m. m))))
-        where
-          serial : (o : Loop) (v : Bool) → is_in_nest q.body v o ≡ true → is_parallel o ≡ false
-          serial o v e = of (is_parallel o) refl e
-            where
-              of : (b : Bool) → is_parallel o ≡ b → (not b && not (is_missing q.body o.dimension) && is_same (is_vectorized o) v) ≡ true → is_parallel o ≡ false
-              of true p r = absurd (cc r)
-              of false p r = p
-
-      kinds_are : AllByRecursion IsKind ts
-      kinds_are =
-          let reductions : AllByRecursion IsKind (reverse q.body.ranges) =
-          all_back IsKind q.body.ranges (subst (AllByRecursion IsKind) (sym ranges_are)
-          (all_mapped range_turning IsKind ranges (all_from (λ r. IsKind (range_turning r)) ranges (λ r m. inr (r, m, refl))))) in
-          all-append IsKind (nest_loops q.body false rs ls ++ reverse q.body.ranges) (nest_loops q.body true rs ls)
-          (all-append IsKind (nest_loops q.body false rs ls) (reverse q.body.ranges) (loops_kind false) reductions) (loops_kind true)
-
-      kind_of_turn : (j : ℕ) (t : Turning) → slice_get ts j ≡ Some t → IsKind t
-      kind_of_turn j t e = all_get IsKind ts j t kinds_are e
-
-      -- a loop of this name, or of a half
-      leaf_turn : (j : ℕ) (t : Turning) → slice_get ts j ≡ Some t → (y : List ℕ) → t.name ≡ y → LeafName y →
+      abbrev leaf_turn : (j : ℕ) (t : Turning) → slice_get ts j ≡ Some t → (y : List ℕ) → t.name ≡ y → LeafName y →
           (t.low ≡ low y) × (t.last ≡ last_number (numbers_named rs y)) × ((o : Loop) × In o ls × (o.name ≡ y)) × (hits loop_name y (parallel_loops ls) ≡ 0)
-      leaf_turn j t e y name leaf = elim (kind_of_turn j t e) [
-        | inl (o, m, serial, is) ↦
-            (let named_so : o.name ≡ y = ap (λ (z : Turning). z.name) (sym is) ∙ name in (
-              ap (λ (z : Turning). z.low) is ∙ ap low named_so,
-              ap (λ (z : Turning). z.last) is ∙ ap (λ (z : List ℕ). last_number (numbers_named rs z)) named_so,
-              (o, m, named_so),
-              subst (λ (z : List ℕ). hits loop_name z (parallel_loops ls) ≡ 0) named_so (serial_none o ls m serial (nests_of.single a sch l well legal small kept all groups n first line g p claims
-                  needs at there h lined placed alone_here laid split_alone keeps filled o.name)),
-            ))
-        | inr (r, m, is) ↦ absurd (reduction_apart r.variable y (in_names ranges r m) leaf (ap (λ (z : Turning). z.name) (sym is) ∙ name))
-      ]
+      leaf_turn j t e y name leaf = loops_of.leaf_turn a sch l well legal small kept all groups n first line g p claims needs at there h lined placed alone_here laid split_alone keeps
+          filled d w stands j t e y name leaf
 
-      near_here : (j : ℕ) (t : Turning) → slice_get ts j ≡ Some t → (unsigned_abs t.low ≤ 2 ^ 36) × (unsigned_abs t.last ≤ 2 ^ 36)
-      near_here j t e = elim (kind_of_turn j t e) [
-        | inl (o, m, serial, is) ↦
-            (let ends = nests_of.near_named a sch l well legal small kept all groups n first line g p claims needs at there h lined placed alone_here laid split_alone keeps filled o.name
-            (nests_of.leaf_of a sch l well legal small kept all groups n first line g p claims needs at there h lined placed alone_here laid split_alone keeps filled o m) in
-            subst (λ (z : Turning). (unsigned_abs z.low ≤ 2 ^ 36) × (unsigned_abs z.last ≤ 2 ^ 36)) (sym is) ends)
-        | inr (r, m, is) ↦
-            (let box = range_box r (all_in IsRange ranges r within_here m) in
-            let one = box.0 in
-            let two = box.1 in
-            subst (λ (z : Turning). (unsigned_abs z.low ≤ 2 ^ 36) × (unsigned_abs z.last ≤ 2 ^ 36)) (sym is) (omega (arith, one), omega (arith, two)))
-      ]
+      abbrev unlimited : (j : ℕ) (t : Turning) → slice_get ts j ≡ Some t → ((c : Split) → In c cuts → t.name ≡ c.inner → ⊥) → q.limits (m0 + j) ≡ []
+      unlimited j t e none = loops_of.unlimited a sch l well legal small kept all groups n first line g p claims needs at there h lined placed alone_here laid split_alone keeps filled d w
+          stands j t e none
+
+      abbrev reduction_apart : (x y : List ℕ) → In x rn → LeafName y → x ≡ y → ⊥
+      reduction_apart x y m leaf e = loops_of.reduction_apart a sch l well legal small kept all groups n first line g p claims needs at there h lined placed alone_here laid split_alone
+          keeps filled d w stands x y m leaf e
 
       -- ---- at its store
 
@@ -437,17 +287,15 @@ module _ (a : Algorithm) (sch : Schedule) (l : Lowered) (well : IsAlgorithm a) (
         abbrev scope : List Binding
         scope = scope_of known.binders
 
-        inner_so : known.binders ≡ along (turns_for m0 ts) ++ grid_binders k.grid
-        inner_so = binders ∙ ap (λ (ss : List Step). at_steps ss (grid_binders k.grid)) q.steps ∙ at_loops m0 ts (grid_binders k.grid) ∙ inner_is m0 ts (grid_binders k.grid)
+        steps_kept : AllByRecursion StepIs (limited_for q.limits m0 ts)
+        steps_kept = subst (AllByRecursion StepIs) q.steps (all_get IsNestLimited k.nests d w limits.nests stands).steps
 
         scoped : scope ≡ bind_steps (head_scope k) w.steps
         scoped =
-            let steps = all_get IsNestLimited k.nests d w limits.nests stands in
             let counted = count_from 0 k.grid in
             let least = q.low in
             let many : length k.grid ≡ length (piece_counts rs ls) = ap length shape_here.grid in
-            let at_scope = scope_at m0 ts (grid_binders k.grid) (grid_scope k.grid) (grid_is k.grid short narrow) (omega (arith, counted, least, many))
-            (subst (AllByRecursion StepIs) q.steps steps.steps)
+            let at_scope = scope_at q.limits m0 ts (grid_binders k.grid) (grid_scope k.grid) (grid_is k.grid short narrow) (omega (arith, counted, least, many)) steps_kept
             (λ i x there_i. (loops i x (subst (λ (ss : List Step). InSteps i x ss) (sym q.steps) there_i)).2) in
             ap scope_of binders ∙ ap (λ (ss : List Step). scope_of (at_steps ss (grid_binders k.grid))) q.steps ∙ at_scope ∙ ap (bind_steps (grid_scope k.grid)) (sym q.steps)
             ∙ ap (λ (ss : List Step). bind_steps (bind_steps (grid_scope k.grid) ss) w.steps) (sym shape_here.head)
@@ -455,24 +303,34 @@ module _ (a : Algorithm) (sch : Schedule) (l : Lowered) (well : IsAlgorithm a) (
         grid_scoped : scope ≡ bind_steps (grid_scope k.grid) w.steps
         grid_scoped = scoped ∙ ap (λ (ss : List Step). bind_steps (bind_steps (grid_scope k.grid) ss) w.steps) shape_here.head
 
-        bound_turn : (j : ℕ) (t : Turning) → slice_get ts j ≡ Some t → IsBound known (m0 + j) (span t.low t.last [])
-        bound_turn j t e = loops (m0 + j) (span t.low t.last []) (subst (λ (ss : List Step). InSteps (m0 + j) (span t.low t.last []) ss) (sym q.steps) (in_steps m0 ts j t e))
+        -- the span of a loop's symbol
+        abbrev turn_span : ℕ → Turning → Span1
+        turn_span j t = span t.low t.last (q.limits (m0 + j))
 
-        loop_there : (j : ℕ) (t : Turning) → slice_get ts j ≡ Some t → (slice_get scope (m0 + j) ≡ Some (Bound (span t.low t.last []))) × (m0 + j < length scope)
-        loop_there j t e = (let ends = near_here j t e in bound_there known (m0 + j) t.low t.last (bound_turn j t e) ends.0 ends.1)
+        loop_there : (j : ℕ) (t : Turning) → slice_get ts j ≡ Some t → (slice_get scope (m0 + j) ≡ Some (Bound (turn_span j t))) × (m0 + j < length scope)
+        loop_there j t e =
+            let inside = in_steps q.limits m0 ts j t e in
+            let limited_span = turn_limited q.limits m0 ts steps_kept j t e in
+            bound_there known (m0 + j) (turn_span j t) (loops (m0 + j) (turn_span j t) (subst (λ (ss : List Step). InSteps (m0 + j) (turn_span j t) ss) (sym q.steps) inside))
+            (span_stays (turn_span j t) limited_span.0 limited_span.1)
 
-        -- where there is a loop, all symbols are among those that the checker takes
-        few_symbols : (j : ℕ) (t : Turning) → slice_get ts j ≡ Some t → m0 + length ts ≤ most_symbols
-        few_symbols j t e =
-            let less = slice_get_within ts j t e in
-            let last_turn = at_index ts (length ts - 1) (omega (arith, less)) in
-            let most = (bound_turn (length ts - 1) last_turn.0 last_turn.1).2 in
-            omega (arith, most, less)
-          where
-            at_index : (us : List Turning) (i : ℕ) → i < length us → (t : Turning) × (slice_get us i ≡ Some t)
-            at_index [] i lt = absurd (omega (arith, lt))
-            at_index (u ∷ us) zero lt = (u, refl)
-            at_index (u ∷ us) (suc i) lt = at_index us i (omega (arith, lt))
+        -- where no further form tells its numbers
+        loop_plain : (j : ℕ) (t : Turning) → slice_get ts j ≡ Some t → q.limits (m0 + j) ≡ [] → slice_get scope (m0 + j) ≡ Some (Bound (span t.low t.last []))
+        loop_plain j t e none = (loop_there j t e).0 ∙ ap (λ (fs : List Form). Some (Bound (span t.low t.last fs))) none
+
+        -- ---- places and regions
+
+        seat_by : (f l u : Form) (m : ℕ) → raised l (pos m -ℤ pos 1) ≡ u → at_most scope l f ≡ true → at_most scope f u ≡ true → is_seated R known.binders (exactly f) (From l m) ≡ true
+        seat_by f l u m e one two =
+            let up : at_most scope f (raised l (pos m -ℤ pos 1)) ≡ true = ap (at_most scope f) e ∙ two in
+            λ j. ((one j || false) && true) && ((up j || false) && true)
+
+        within_one : (f l u : Form) → at_most scope l f ≡ true → at_most scope f u ≡ true → is_within R known.binders (exactly f) (record { lower = l ∷ []; upper = u ∷ [] }) ≡ true
+        within_one f l u one two = λ j. ((one j || false) && true) && ((two j || false) && true)
+
+        within_two : (f l u v : Form) → at_most scope l f ≡ true → at_most scope f u ≡ true → at_most scope f v ≡ true →
+            is_within R known.binders (exactly f) (record { lower = l ∷ []; upper = u ∷ v ∷ [] }) ≡ true
+        within_two f l u v one two three = λ j. ((one j || false) && true) && ((two j || false) && ((three j || false) && true))
 
         -- ---- forms
 
@@ -483,22 +341,9 @@ module _ (a : Algorithm) (sch : Schedule) (l : Lowered) (well : IsAlgorithm a) (
         grid_there : (y : List ℕ) (c : Form) → form_named over_grid y ≡ Some c →
             (s : ℕ) × (c ≡ counted_from (low y) s) × (slice_get scope s ≡ Some (grid_symbol (count y))) × (s < length scope) × (s < m0)
         grid_there y c named =
-            let r = grid_place rs y 0 (parallel_loops ls) c named in
-            let j = r.0 in
-            let none : 0 + j ≡ j = omega arith in
-            let in_grid : slice_get k.grid j ≡ Some (count y) =
-            ap (λ (ns : List ℕ). slice_get ns j) shape_here.grid ∙ or_one_at (grid_counts rs (parallel_loops ls)) j (count y) r.2 in
-            let in_scope : slice_get (grid_scope k.grid) j ≡ Some (grid_symbol (count y)) = at_map grid_symbol k.grid j (count y) in_grid in
-            let within : j < length (grid_scope k.grid) = slice_get_within (grid_scope k.grid) j (grid_symbol (count y)) in_scope in
-            let at_scope : slice_get scope j ≡ Some (grid_symbol (count y)) = ap (λ (sc : List Binding). slice_get sc j) grid_scoped ∙ steps_keep (grid_scope k.grid) w.steps j within ∙ in_scope in
-            let less = slice_get_within k.grid j (count y) in_grid in
-            let many : length k.grid ≡ length (piece_counts rs ls) = ap length shape_here.grid in
-            let least = q.low in
-            (j, r.1 ∙ ap (counted_from (low y)) none, at_scope, slice_get_within scope j (grid_symbol (count y)) at_scope, omega (arith, less, many, least))
-          where
-            or_one_at : (ns : List ℕ) (j m : ℕ) → slice_get ns j ≡ Some m → slice_get (or_one ns) j ≡ Some m
-            or_one_at [] j m e = absurd (cc e)
-            or_one_at (n ∷ ns) j m e = e
+            let r = loops_of.grid_bound a sch l well legal small kept all groups n first line g p claims needs at there h lined placed alone_here laid split_alone keeps filled d w stands y c named in
+            let at_scope : slice_get scope r.0 ≡ Some (grid_symbol (count y)) = ap (λ (sc : List Binding). slice_get sc r.0) grid_scoped ∙ r.2 in
+            (r.0, r.1, at_scope, slice_get_within scope r.0 (grid_symbol (count y)) at_scope, r.3)
 
         right_grid : (x : List ℕ) → In x xs → (c : Form) → form_named over_grid x ≡ Some c → IsRight x c
         right_grid x m c over =
@@ -544,19 +389,28 @@ module _ (a : Algorithm) (sch : Schedule) (l : Lowered) (well : IsAlgorithm a) (
             let few_numbers_here = fit.0.few in
             let ends = ended_named x m in
             let near : unsigned_abs (last_number (numbers_named rs x)) ≤ 2 ^ 38 = omega (arith, ints, from, to, few_numbers_here) in
-            let s = loop_there i t there_t in
+            let none = unlimited i t there_t (λ c k e. (nests_of.halves a sch l well legal small kept all groups n first line g p claims needs at there h lined placed alone_here laid split_alone keeps
+            filled c k x m).1 (sym name ∙ e)) in
+            let s : (slice_get scope (m0 + i) ≡ Some (Bound (span t.low t.last []))) × (m0 + i < length scope) = (loop_plain i t there_t none, (loop_there i t there_t).1) in
             let dims_here = nests_of.dim_loop a sch l well legal small kept all groups n first line g p claims needs at there h lined placed alone_here laid split_alone keeps filled x m y.3 y.2 in
             let last_is : last_number (numbers_named rs x) ≡ low x +ℤ (pos (count x) -ℤ pos 1) = regrouped (low x) (count x) in
-            let seat : is_seated R known.binders (exactly (alone (m0 + i))) (From (number (low x)) (count x)) ≡ true =
-            ap (λ (bs : List Binder). is_seated R bs (exactly (alone (m0 + i))) (From (number (low x)) (count x))) inner_so
-            ∙ seat_loop m0 ts (few_symbols i t there_t) R refl (grid_binders k.grid) near_here i t there_t (low x) (count x) y.0 (y.1 ∙ last_is) in
+            let ends_near = loops_of.near_here a sch l well legal small kept all groups n first line g p claims needs at there h lined placed alone_here laid split_alone keeps filled d w
+            stands i t there_t in
+            let low_near = ends_near.0 in
+            let last_near = ends_near.1 in
+            let above = loop_above scope (m0 + i) t.low t.last (omega (arith, low_near)) (omega (arith, last_near)) s.0 s.1 in
+            let below = loop_below scope (m0 + i) t.low t.last (omega (arith, low_near)) (omega (arith, last_near)) s.0 s.1 in
+            let over : at_most scope (number (low x)) (alone (m0 + i)) ≡ true = ap (λ (z : ℤ). at_most scope (number z) (alone (m0 + i))) (sym y.0) ∙ above in
+            let under : at_most scope (alone (m0 + i)) (number (last_number (numbers_named rs x))) ≡ true =
+            ap (λ (z : ℤ). at_most scope (alone (m0 + i)) (number z)) (sym y.1) ∙ below in
+            let seat = seat_by (alone (m0 + i)) (number (low x)) (number (last_number (numbers_named rs x))) (count x) (ap number (sym last_is)) over under in
             record {
               inside = symbol_inside scope (m0 + i) (span t.low t.last []) (low x) (last_number (numbers_named rs x)) s.1 s.0 (ap (λ (z : ℤ). number z ∷ []) y.0) (ap (λ (z : ℤ). number z ∷ [])
                   y.1) from to
                   ends near;
               seated = ap (is_seated R known.binders (exactly (alone (m0 + i)))) dims_here.1 ∙ seat;
               within = ap (is_within R known.binders (exactly (alone (m0 + i)))) dims_here.0
-                  ∙ as_region R known.binders (alone (m0 + i)) (number (low x)) (number (last_number (numbers_named rs x))) (count x) (ap number (sym last_is)) seat;
+                  ∙ within_one (alone (m0 + i)) (number (low x)) (number (last_number (numbers_named rs x))) over under;
               kept = up_limited (pos 0) (m0 + i) (omega arith);
             }
           where
@@ -569,6 +423,9 @@ module _ (a : Algorithm) (sch : Schedule) (l : Lowered) (well : IsAlgorithm a) (
           abbrev size : ℕ
           size = c.factor - 1
 
+          abbrev last_one : ℤ
+          last_one = last_number (numbers_named rs c.whole)
+
           whole_fit : IsSmall (numbers_named rs c.whole) × (0 < (numbers_named rs c.whole).count)
           whole_fit = fit_of c.whole (wholes c m)
 
@@ -579,67 +436,195 @@ module _ (a : Algorithm) (sch : Schedule) (l : Lowered) (well : IsAlgorithm a) (
           inner_turn =
               let y = leaf_turn i t there_t c.inner name (inr (c, m, inr refl)) in
               let is = size_is in
-              (y.0 ∙ inner_low rs c (untailed c m) (fits c m) whole_fit.0 whole_fit.1, y.1 ∙ inner_last rs c (untailed c m) (fits c m) whole_fit.0 whole_fit.1 ∙ omega (arith, ints, is))
+              (y.0 ∙ inner_low ls rs c (untailed c m) (fits c m) whole_fit.0 whole_fit.1, y.1 ∙ inner_last ls rs c (untailed c m) (fits c m) whole_fit.0 whole_fit.1 ∙ omega (arith, ints, is))
 
           abbrev tops : ℕ
           tops = top (count c.whole) c.factor
 
-          inside_pair : (s : ℕ) (y : Span1) → slice_get scope s ≡ Some (Bound y) → s < length scope → y.lower ≡ number (pos 0) ∷ [] → y.upper ≡ number (pos tops) ∷ [] → (s == m0 + i) ≡ false →
-              is_index_span scope (exactly (pair (low c.whole) s (pos c.factor) (m0 + i))) ≡ true
-          inside_pair s y there_s less lower upper differ =
-              let is = size_is in
-              let wide = (fits c m).few in
-              let x = loop_there i t there_t in
-              let all_few = few_numbers rs c (untailed c m) (fits c m) whole_fit.0 whole_fit.1 in
-              let few_here : tops * suc size ≤ 2 ^ 32 = subst (λ (z : ℕ). tops * z ≤ 2 ^ 32) is all_few in
-              let less_times = at_most_times tops size in
-              let ends : (low c.whole +ℤ (pos (tops * suc size) +ℤ pos size)) ≤ℤ pos 2147483647 =
-              end_at (low c.whole) (tops * c.factor) (tops * suc size) c.factor size (ap (λ (z : ℕ). tops * z) is) is (blocks_ended c m) in
-              ap (λ (z : ℕ). is_index_span scope (exactly (pair (low c.whole) s (pos z) (m0 + i)))) is
-              ∙ pair_inside scope s (m0 + i) differ less x.1 y (span t.low t.last []) there_s x.0 tops size (omega (arith, wide, is)) (omega (arith, few_here, less_times)) few_here lower upper
-              (ap (λ (z : ℤ). number z ∷ []) inner_turn.0) (ap (λ (z : ℤ). number z ∷ []) inner_turn.1) (low c.whole) whole_fit.0.from whole_fit.0.to ends
-            where
-              at_most_times : (b d : ℕ) → b ≤ b * suc d
-              at_most_times b d = (let is = mul-suc b d in omega (arith, is))
+          abbrev here : Span1
+          here = turn_span i t
 
-              end_at : (z : ℤ) (p q w m : ℕ) → p ≡ q → w ≡ suc m → (z +ℤ (pos p +ℤ (pos w -ℤ pos 1))) ≤ℤ pos 2147483647 → (z +ℤ (pos q +ℤ pos m)) ≤ℤ pos 2147483647
-              end_at z p q w m e d h = omega (arith, ints, e, d, h)
+          there_here : (slice_get scope (m0 + i) ≡ Some (Bound here)) × (m0 + i < length scope)
+          there_here = loop_there i t there_t
+
+          lower_here : here.lower ≡ number (pos 0) ∷ []
+          lower_here = ap (λ (z : ℤ). number z ∷ []) inner_turn.0
+
+          upper_bare : is_tailed rs c ≡ false → here.upper ≡ number (pos size) ∷ []
+          upper_bare bare = (let last_is = inner_turn.1 in let none = loops_of.unguarded a sch l well legal small kept all groups n first line g p claims needs at there h lined placed
+              alone_here laid split_alone keeps filled d w stands c m bare i t there_t name in λ j. number (last_is j) ∷ none j)
+
+          upper_kept : (s : ℕ) → q.limits (m0 + i) ≡ left_over last_one (low c.whole) (pos c.factor) s ∷ [] →
+              here.upper ≡ number (pos size) ∷ left_over last_one (low c.whole) (pos (suc size)) s ∷ []
+          upper_kept s e =
+              let last_is = inner_turn.1 in
+              let is = e ∙ ap (λ (z : ℕ). left_over last_one (low c.whole) (pos z) s ∷ []) size_is in
+              λ j. number (last_is j) ∷ is j
 
           low_here : unsigned_abs (low c.whole) ≤ 2 ^ 36
           low_here = (let from = whole_fit.0.from in let to = whole_fit.0.to in omega (arith, ints, from, to))
 
+          last_here : unsigned_abs last_one ≤ 2 ^ 36
+          last_here = (let from = whole_fit.0.from in let to = whole_fit.0.to in let few_count = whole_fit.0.few in omega (arith, ints, from, to, few_count))
+
           size_few : suc size ≤ 1024
           size_few = (let wide = (fits c m).few in let is = size_is in omega (arith, wide, is))
 
+          all_few : tops * suc size ≤ 2 ^ 32
+          all_few = (let is = size_is in subst (λ (z : ℕ). tops * z ≤ 2 ^ 32) is (few_numbers ls rs c (untailed c m) (fits c m) whole_fit.0 whole_fit.1))
+
+          tops_few : tops ≤ 2 ^ 32
+          tops_few = (let all_of = all_few in let less = at_most_times tops size in omega (arith, all_of, less))
+            where
+              at_most_times : (b d : ℕ) → b ≤ b * suc d
+              at_most_times b d = (let is = mul-suc b d in omega (arith, is))
+
+          abbrev at_pair : ℕ → Form
+          at_pair s = pair (low c.whole) s (pos c.factor) (m0 + i)
+
+          pair_suc : (s : ℕ) → at_pair s ≡ pair (low c.whole) s (pos (suc size)) (m0 + i)
+          pair_suc s = (let is = size_is in ap (λ (z : ℕ). pair (low c.whole) s (pos z) (m0 + i)) is)
+
+          pair_two : (s : ℕ) → s < m0 + i → at_pair s ≡ two_of (low c.whole) (pos (suc size)) s (pos 1) (m0 + i)
+          pair_two s less =
+              let behind : nat_lt s (m0 + i) ≡ true = grind (arith, nat_tests, less) in
+              pair_suc s ∙ (λ j. record {
+                constant = low c.whole;
+                terms = if behind j then multiple s (pos (suc size)) ∷ multiple (m0 + i) (pos 1) ∷ [] else multiple (m0 + i) (pos 1) ∷ multiple s (pos (suc size)) ∷ [];
+              })
+
+          -- where no guard keeps the blocks
+          bare_inside : is_tailed rs c ≡ false → (s : ℕ) (y : Span1) → slice_get scope s ≡ Some (Bound y) → s < length scope → y.lower ≡ number (pos 0) ∷ [] → y.upper ≡ number (pos tops) ∷ [] →
+              (s == m0 + i) ≡ false → is_index_span scope (exactly (at_pair s)) ≡ true
+          bare_inside bare s y there_s less lower upper differ =
+              ap (λ (f : Form). is_index_span scope (exactly f)) (pair_suc s)
+              ∙ pair_inside scope s (m0 + i) differ less there_here.1 y here there_s there_here.0 tops size size_few tops_few all_few lower upper lower_here (upper_bare bare) (low c.whole)
+              whole_fit.0.from whole_fit.0.to ends
+            where
+              end_at : (z : ℤ) (p q w m : ℕ) → p ≡ q → w ≡ suc m → (z +ℤ (pos p +ℤ (pos w -ℤ pos 1))) ≤ℤ pos 2147483647 → (z +ℤ (pos q +ℤ pos m)) ≤ℤ pos 2147483647
+              end_at z p q w m e d h = omega (arith, ints, e, d, h)
+
+              ends : (low c.whole +ℤ (pos (tops * suc size) +ℤ pos size)) ≤ℤ pos 2147483647
+              ends = (let is = size_is in end_at (low c.whole) (tops * c.factor) (tops * suc size) c.factor size (ap (λ (z : ℕ). tops * z) is) is (blocks_ended c m bare))
+
+          bare_bounds : is_tailed rs c ≡ false → (s : ℕ) (y : Span1) → slice_get scope s ≡ Some (Bound y) → s < length scope → y.lower ≡ number (pos 0) ∷ [] → y.upper ≡ number (pos tops) ∷ [] →
+              (s == m0 + i) ≡ false → let high : ℤ = block_last ls rs c (untailed c m) (fits c m) whole_fit.0 whole_fit.1 in
+              (at_most scope (number (low c.whole)) (at_pair s) ≡ true) × (at_most scope (at_pair s) (number high) ≡ true)
+          bare_bounds bare s y there_s less lower upper differ =
+              let is = size_is in
+              let from = whole_fit.0.from in
+              let to = whole_fit.0.to in
+              let high : ℤ = block_last ls rs c (untailed c m) (fits c m) whole_fit.0 whole_fit.1 in
+              let sum_is = end_is (low c.whole) (tops * c.factor) (tops * suc size) c.factor size (ap (λ (z : ℕ). tops * z) is) is in
+              let few_all = all_few in
+              let small_size = size_few in
+              let near = near_at (low c.whole) (tops * suc size) size low_here few_all small_size in
+              let high_near : unsigned_abs high ≤ 2 ^ 37 = subst (λ (z : ℤ). unsigned_abs z ≤ 2 ^ 37) (sym sum_is) near in
+              let at_high : (low c.whole +ℤ (pos (tops * suc size) +ℤ pos size)) ≤ℤ high = itself (low c.whole +ℤ (pos (tops * suc size) +ℤ pos size)) high (sym sum_is) in
+              let both = pair_bounds scope s (m0 + i) differ less there_here.1 y here there_s there_here.0 tops size size_few tops_few all_few lower upper lower_here (upper_bare bare) (low c.whole)
+              from to (ends_at bare) high high_near at_high in
+              (ap (at_most scope (number (low c.whole))) (pair_suc s) ∙ both.0, ap (λ (f : Form). at_most scope f (number high)) (pair_suc s) ∙ both.1)
+            where
+              end_is : (z : ℤ) (p q w m : ℕ) → p ≡ q → w ≡ suc m → (z +ℤ (pos p +ℤ (pos w -ℤ pos 1))) ≡ z +ℤ (pos q +ℤ pos m)
+              end_is z p q w m e d = omega (arith, ints, e, d)
+
+              near_at : (z : ℤ) (p m : ℕ) → unsigned_abs z ≤ 2 ^ 36 → p ≤ 2 ^ 32 → suc m ≤ 1024 → unsigned_abs (z +ℤ (pos p +ℤ pos m)) ≤ 2 ^ 37
+              near_at z p m h k g = omega (arith, ints, h, k, g)
+
+              itself : (z y : ℤ) → z ≡ y → z ≤ℤ y
+              itself z y e = omega (arith, ints, e)
+
+              end_at : (z : ℤ) (p q w m : ℕ) → p ≡ q → w ≡ suc m → (z +ℤ (pos p +ℤ (pos w -ℤ pos 1))) ≤ℤ pos 2147483647 → (z +ℤ (pos q +ℤ pos m)) ≤ℤ pos 2147483647
+              end_at z p q w m e d h = omega (arith, ints, e, d, h)
+
+              ends_at : is_tailed rs c ≡ false → (low c.whole +ℤ (pos (tops * suc size) +ℤ pos size)) ≤ℤ pos 2147483647
+              ends_at bare = (let is = size_is in end_at (low c.whole) (tops * c.factor) (tops * suc size) c.factor size (ap (λ (z : ℕ). tops * z) is) is (blocks_ended c m bare))
+
+          -- where a guard does
+          module _ (s : ℕ) (less : s < m0 + i) (y : Span1) (there_s : slice_get scope s ≡ Some (Bound y)) (lower : y.lower ≡ number (pos 0) ∷ []) (upper : y.upper ≡ number (pos tops) ∷ [])
+              (limit : q.limits (m0 + i) ≡ left_over last_one (low c.whole) (pos c.factor) s ∷ []) where
+            guard_inside : is_index_span scope (exactly (at_pair s)) ≡ true
+            guard_inside =
+                ap (λ (f : Form). is_index_span scope (exactly f)) (pair_two s less)
+                ∙ kept_inside scope s (m0 + i) less there_here.1 tops size size_few tops_few all_few y here there_s there_here.0 (low c.whole) last_one lower upper lower_here (upper_kept s limit)
+                whole_fit.0.from whole_fit.0.to last_here (ended_named c.whole (wholes c m))
+
+            guard_under : at_most scope (at_pair s) (number last_one) ≡ true
+            guard_under =
+                let near = last_here in
+                ap (λ (f : Form). at_most scope f (number last_one)) (pair_two s less)
+                ∙ kept_under scope s (m0 + i) less there_here.1 tops size size_few tops_few all_few y here there_s there_here.0 (low c.whole) last_one lower upper lower_here (upper_kept s limit)
+                whole_fit.0.from whole_fit.0.to last_here last_one (omega (arith, near)) (itself last_one)
+              where
+                itself : (z : ℤ) → z ≤ℤ z
+                itself z = omega (arith, ints)
+
+            guard_over : at_most scope (number (low c.whole)) (at_pair s) ≡ true
+            guard_over =
+                ap (at_most scope (number (low c.whole))) (pair_two s less)
+                ∙ two_above scope s (m0 + i) less there_here.1 size 0 size_few (omega arith) y here there_s there_here.0 (low c.whole) low_here lower lower_here
+
+            guard_block : at_most scope (at_pair s) (raised (one_of (low c.whole) (pos c.factor) s) (pos size)) ≡ true
+            guard_block =
+                let is = size_is in
+                ap (λ (f : Form). at_most scope f (raised (one_of (low c.whole) (pos c.factor) s) (pos size))) (pair_two s less)
+                ∙ ap (λ (z : ℕ). at_most scope (two_of (low c.whole) (pos (suc size)) s (pos 1) (m0 + i)) (raised (one_of (low c.whole) (pos z) s) (pos size))) is
+                ∙ kept_below scope s (m0 + i) less there_here.1 size size_few y here there_s there_here.0 (low c.whole) last_one low_here last_here lower (upper_kept s limit)
+
+          -- the first number of a block is at most the position
+          block_over : (s : ℕ) → s < m0 + i → at_most scope (one_of (low c.whole) (pos c.factor) s) (at_pair s) ≡ true
+          block_over s less =
+              let is = size_is in
+              ap (at_most scope (one_of (low c.whole) (pos c.factor) s)) (pair_two s less)
+              ∙ ap (λ (z : ℕ). at_most scope (one_of (low c.whole) (pos z) s) (two_of (low c.whole) (pos (suc size)) s (pos 1) (m0 + i))) is
+              ∙ block_above scope s (m0 + i) less there_here.1 size size_few here there_here.0 (low c.whole) low_here lower_here
+
+          bare_block : is_tailed rs c ≡ false → (s : ℕ) → s < m0 + i → at_most scope (at_pair s) (raised (one_of (low c.whole) (pos c.factor) s) (pos size)) ≡ true
+          bare_block bare s less =
+              let is = size_is in
+              ap (λ (f : Form). at_most scope f (raised (one_of (low c.whole) (pos c.factor) s) (pos size))) (pair_two s less)
+              ∙ ap (λ (z : ℕ). at_most scope (two_of (low c.whole) (pos (suc size)) s (pos 1) (m0 + i)) (raised (one_of (low c.whole) (pos z) s) (pos size))) is
+              ∙ block_below scope s (m0 + i) less there_here.1 size size_few here there_here.0 (low c.whole) low_here (upper_bare bare)
+
           -- the grid tells the block
           right_block : (outer : Form) → form_named over_grid c.outer ≡ Some outer → (f : Form) → ((s : ℕ) → outer ≡ counted_from (pos 0) s → (s == m0 + i) ≡ false →
-              (f ≡ pair (low c.whole) s (pos c.factor) (m0 + i)) × (is_within_limits (pair (low c.whole) s (pos c.factor) (m0 + i)) ≡ true)) → IsRight c.whole f
-          right_block outer over f form_so =
+              (f ≡ at_pair s) × (is_within_limits (at_pair s) ≡ true)) →
+              ((s : ℕ) → outer ≡ counted_from (pos 0) s → s < m0 + i → is_tailed rs c ≡ true → q.limits (m0 + i) ≡ left_over last_one (low c.whole) (pos c.factor) s ∷ []) → IsRight c.whole f
+          right_block outer over f form_so limit_so =
               let r = grid_there c.outer outer over in
-              let zero_low : low c.outer ≡ pos 0 = outer_low rs c (untailed c m) (fits c m) whole_fit.0 whole_fit.1 in
-              let stops = outer_last rs c (untailed c m) (fits c m) whole_fit.0 whole_fit.1 in
+              let s = r.0 in
+              let zero_low : low c.outer ≡ pos 0 = outer_low ls rs c (untailed c m) (fits c m) whole_fit.0 whole_fit.1 in
+              let stops = outer_last ls rs c (untailed c m) (fits c m) whole_fit.0 whole_fit.1 in
               let less = r.4 in
-              let under : r.0 < m0 + i = omega (arith, less) in
-              let differ : (r.0 == m0 + i) ≡ false = grind (arith, nat_tests, under) in
-              let outer_is : outer ≡ counted_from (pos 0) r.0 = r.1 ∙ ap (λ (z : ℤ). counted_from z r.0) zero_low in
+              let under : s < m0 + i = omega (arith, less) in
+              let differ : (s == m0 + i) ≡ false = grind (arith, nat_tests, under) in
+              let outer_is : outer ≡ counted_from (pos 0) s = r.1 ∙ ap (λ (z : ℤ). counted_from z s) zero_low in
               let last_is : pos (count c.outer) -ℤ pos 1 ≡ pos tops = last_from (low c.outer) (count c.outer) tops zero_low stops in
-              let form = form_so r.0 outer_is differ in
-              let named_so : form_named over_grid c.outer ≡ Some (counted_from (pos 0) r.0) = over ∙ ap (λ (v : Form). Some v) outer_is in
-              let dims_here = nests_of.dim_block a sch l well legal small kept all groups n first line g p claims needs at there h lined placed alone_here laid split_alone keeps filled c m r.0
+              let form = form_so s outer_is differ in
+              let named_so : form_named over_grid c.outer ≡ Some (counted_from (pos 0) s) = over ∙ ap (λ (v : Form). Some v) outer_is in
+              let dims_here = nests_of.dim_block a sch l well legal small kept all groups n first line g p claims needs at there h lined placed alone_here laid split_alone keeps filled c m s
               named_so in
-              let p : Form = pair (low c.whole) r.0 (pos c.factor) (m0 + i) in
-              let seat : is_seated R known.binders (exactly p) (From (one_of (low c.whole) (pos c.factor) r.0) c.factor) ≡ true =
-              ap (λ (bs : List Binder). is_seated R bs (exactly p) (From (one_of (low c.whole) (pos c.factor) r.0) c.factor)) inner_so
-              ∙ (λ j. is_seated R (along (turns_for m0 ts) ++ grid_binders k.grid) (exactly (pair (low c.whole) r.0 (pos (size_is j)) (m0 + i))) (From (one_of (low c.whole) (pos (size_is j))
-              r.0) (size_is j)))
-              ∙ seat_block m0 ts (few_symbols i t there_t) R refl (grid_binders k.grid) near_here r.0 i size t there_t less inner_turn.0 inner_turn.1 size_few (low c.whole) low_here in
-              let swapped : low c.whole +ℤ (pos c.factor -ℤ pos 1) ≡ (pos c.factor -ℤ pos 1) +ℤ low c.whole = around (low c.whole) (pos c.factor -ℤ pos 1) in
+              let x : Span1 = numbers (pos 0) (pos (count c.outer) -ℤ pos 1) in
+              let first : Form = one_of (low c.whole) (pos c.factor) s in
+              let is = size_is in
+              let one_less : pos c.factor -ℤ pos 1 ≡ pos size = omega (arith, ints, is) in
+              let up : raised first (pos c.factor -ℤ pos 1) ≡ raised first (pos size) = ap (raised first) one_less in
+              let swapped : raised first (pos size) ≡ one_of ((pos c.factor -ℤ pos 1) +ℤ low c.whole) (pos c.factor) s =
+              (λ j. one_of (around (low c.whole) (pos size) j) (pos c.factor) s) ∙ ap (λ (z : ℤ). one_of (z +ℤ low c.whole) (pos c.factor) s) (sym one_less) in
+              let upper_x : x.upper ≡ number (pos tops) ∷ [] = ap (λ (z : ℤ). number z ∷ []) last_is in
+              let over_first = block_over s under in
+              let by : (v : Bool) → is_tailed rs c ≡ v →
+              (is_index_span scope (exactly (at_pair s)) ≡ true) × (at_most scope (at_pair s) (raised first (pos size)) ≡ true)
+              × (is_within R known.binders (exactly (at_pair s)) (record {
+                lower = first ∷ [];
+                upper = one_of ((pos c.factor -ℤ pos 1) +ℤ low c.whole) (pos c.factor) s ∷ (if v then number last_one ∷ [] else []);
+              }) ≡ true) =
+              λ v e. kinds v e s under x r.2 refl upper_x r.3 differ (limit_so s outer_is under) swapped over_first in
+              let b = by (is_tailed rs c) refl in
               subst (IsRight c.whole) (sym form.0) (record {
-                inside = inside_pair r.0 (numbers (pos 0) (pos (count c.outer) -ℤ pos 1)) r.2 r.3 refl (ap (λ (z : ℤ). number z ∷ []) last_is) differ;
-                seated = ap (is_seated R known.binders (exactly p)) dims_here.1 ∙ seat;
-                within = ap (is_within R known.binders (exactly p)) dims_here.0
-                    ∙ as_region R known.binders p (one_of (low c.whole) (pos c.factor) r.0) (one_of ((pos c.factor -ℤ pos 1) +ℤ low c.whole) (pos c.factor) r.0) c.factor
-                    (λ j. one_of (swapped j) (pos c.factor) r.0) seat;
+                inside = b.0;
+                seated = ap (is_seated R known.binders (exactly (at_pair s))) dims_here.1 ∙ seat_by (at_pair s) first (raised first (pos size)) c.factor up over_first b.1;
+                within = ap (is_within R known.binders (exactly (at_pair s))) dims_here.0 ∙ b.2;
                 kept = form.1;
               })
             where
@@ -649,51 +634,82 @@ module _ (a : Algorithm) (sch : Schedule) (l : Lowered) (well : IsAlgorithm a) (
               last_from : (z : ℤ) (n t : ℕ) → z ≡ pos 0 → (z +ℤ pos n -ℤ pos 1) ≡ pos t → pos n -ℤ pos 1 ≡ pos t
               last_from z n t h e = omega (arith, ints, h, e)
 
+              kinds : (v : Bool) → is_tailed rs c ≡ v → (s : ℕ) → s < m0 + i → (x : Span1) → slice_get scope s ≡ Some (Bound x) → x.lower ≡ number (pos 0) ∷ [] → x.upper ≡ number (pos tops) ∷ [] →
+                  s < length scope → (s == m0 + i) ≡ false → (is_tailed rs c ≡ true → q.limits (m0 + i) ≡ left_over last_one (low c.whole) (pos c.factor) s ∷ []) →
+                  raised (one_of (low c.whole) (pos c.factor) s) (pos size) ≡ one_of ((pos c.factor -ℤ pos 1) +ℤ low c.whole) (pos c.factor) s →
+                  at_most scope (one_of (low c.whole) (pos c.factor) s) (at_pair s) ≡ true →
+                  (is_index_span scope (exactly (at_pair s)) ≡ true) × (at_most scope (at_pair s) (raised (one_of (low c.whole) (pos c.factor) s) (pos size)) ≡ true)
+                  × (is_within R known.binders (exactly (at_pair s)) (record {
+                    lower = one_of (low c.whole) (pos c.factor) s ∷ [];
+                    upper = one_of ((pos c.factor -ℤ pos 1) +ℤ low c.whole) (pos c.factor) s ∷ (if v then number last_one ∷ [] else []);
+                  }) ≡ true)
+              kinds false e s under x there_s lower upper inside differ limit swapped over_first =
+                  let below = bare_block e s under in
+                  let turned : at_most scope (at_pair s) (one_of ((pos c.factor -ℤ pos 1) +ℤ low c.whole) (pos c.factor) s) ≡ true = ap (at_most scope (at_pair s)) (sym swapped) ∙ below in (
+                    bare_inside e s x there_s inside lower upper differ,
+                    below,
+                    within_one (at_pair s) (one_of (low c.whole) (pos c.factor) s) (one_of ((pos c.factor -ℤ pos 1) +ℤ low c.whole) (pos c.factor) s) over_first turned,
+                  )
+              kinds true e s under x there_s lower upper inside differ limit swapped over_first =
+                  let below = guard_block s under x there_s lower upper (limit e) in
+                  let turned : at_most scope (at_pair s) (one_of ((pos c.factor -ℤ pos 1) +ℤ low c.whole) (pos c.factor) s) ≡ true = ap (at_most scope (at_pair s)) (sym swapped) ∙ below in (
+                    guard_inside s under x there_s lower upper (limit e),
+                    below,
+                    within_two (at_pair s) (one_of (low c.whole) (pos c.factor) s) (one_of ((pos c.factor -ℤ pos 1) +ℤ low c.whole) (pos c.factor) s) (number last_one) over_first turned
+                        (guard_under s under x there_s lower upper (limit e)),
+                  )
+
           -- both loops are in the nest
           right_split : (o : ℕ) (v : Turning) → slice_get ts o ≡ Some v → v.name ≡ c.outer → (f : Form) → ((m0 + o == m0 + i) ≡ false →
-              (f ≡ pair (low c.whole) (m0 + o) (pos c.factor) (m0 + i)) × (is_within_limits (pair (low c.whole) (m0 + o) (pos c.factor) (m0 + i)) ≡ true)) → IsRight c.whole f
-          right_split o v there_v outer_name f form_so =
+              (f ≡ at_pair (m0 + o)) × (is_within_limits (at_pair (m0 + o)) ≡ true)) →
+              (is_tailed rs c ≡ true → (m0 + o < m0 + i) × (q.limits (m0 + i) ≡ left_over last_one (low c.whole) (pos c.factor) (m0 + o) ∷ [])) → IsRight c.whole f
+          right_split o v there_v outer_name f form_so limit_so =
               let y = leaf_turn o v there_v c.outer outer_name (inr (c, m, inl refl)) in
-              let begins : v.low ≡ pos 0 = y.0 ∙ outer_low rs c (untailed c m) (fits c m) whole_fit.0 whole_fit.1 in
-              let stops : v.last ≡ pos tops = y.1 ∙ outer_last rs c (untailed c m) (fits c m) whole_fit.0 whole_fit.1 in
+              let begins : v.low ≡ pos 0 = y.0 ∙ outer_low ls rs c (untailed c m) (fits c m) whole_fit.0 whole_fit.1 in
+              let stops : v.last ≡ pos tops = y.1 ∙ outer_last ls rs c (untailed c m) (fits c m) whole_fit.0 whole_fit.1 in
               let differ : (m0 + o == m0 + i) ≡ false = by (m0 + o == m0 + i) refl in
-              let places_differ : (o == i) ≡ false = grind (arith, nat_tests, differ) in
-              let s = loop_there o v there_v in
+              let none = unlimited o v there_v (λ b k e. inner_outer cuts others b c k m (sym e ∙ outer_name)) in
+              let s = loop_plain o v there_v none in
               let form = form_so differ in
               let dims_here = nests_of.dim_split a sch l well legal small kept all groups n first line g p claims needs at there h lined placed alone_here laid split_alone keeps filled c m y.3 in
-              let all_numbers : ℕ = tops * c.factor + c.factor in
-              let p : Form = pair (low c.whole) (m0 + o) (pos c.factor) (m0 + i) in
-              let few_all = few_numbers rs c (untailed c m) (fits c m) whole_fit.0 whole_fit.1 in
-              let wide = (fits c m).few in
-              let counted : pos tops *ℤ pos (suc size) +ℤ pos size ≡ pos all_numbers -ℤ pos 1 = count_blocks tops c.factor size size_is in
-              let seat : is_seated R known.binders (exactly p) (From (number (low c.whole)) all_numbers) ≡ true =
-              ap (λ (bs : List Binder). is_seated R bs (exactly p) (From (number (low c.whole)) all_numbers)) inner_so
-              ∙ ap (λ (z : ℕ). is_seated R (along (turns_for m0 ts) ++ grid_binders k.grid) (exactly (pair (low c.whole) (m0 + o) (pos z) (m0 + i))) (From (number (low c.whole)) all_numbers)) size_is
-              ∙ seat_split m0 ts (few_symbols i t there_t) R refl (grid_binders k.grid) near_here o i size tops v t there_v there_t places_differ begins stops inner_turn.0 inner_turn.1 size_few
-              (low c.whole) all_numbers low_here counted (sum_few (tops * c.factor) c.factor few_all wide) in
-              let end_is_so : low c.whole +ℤ (pos all_numbers -ℤ pos 1) ≡ block_last rs c (untailed c m) (fits c m) whole_fit.0 whole_fit.1 = regrouped (low c.whole) (tops * c.factor) c.factor in
+              let k = kinds (is_tailed rs c) refl (m0 + o) (span v.low v.last []) s (loop_there o v there_v).1 (ap (λ (z : ℤ). number z ∷ []) begins) (ap (λ (z : ℤ). number z ∷ []) stops)
+              differ limit_so in
               subst (IsRight c.whole) (sym form.0) (record {
-                inside = inside_pair (m0 + o) (span v.low v.last []) s.0 s.1 (ap (λ (z : ℤ). number z ∷ []) begins) (ap (λ (z : ℤ). number z ∷ []) stops) differ;
-                seated = ap (is_seated R known.binders (exactly p)) dims_here.1 ∙ seat;
-                within = ap (is_within R known.binders (exactly p)) dims_here.0
-                    ∙ as_region R known.binders p (number (low c.whole)) (number (block_last rs c (untailed c m) (fits c m) whole_fit.0 whole_fit.1)) all_numbers (ap number end_is_so) seat;
+                inside = k.0;
+                seated = ap (is_seated R known.binders (exactly (at_pair (m0 + o)))) dims_here.1 ∙ k.1;
+                within = ap (is_within R known.binders (exactly (at_pair (m0 + o)))) dims_here.0 ∙ k.2;
                 kept = form.1;
               })
             where
-              regrouped : (z : ℤ) (p w : ℕ) → (z +ℤ (pos (p + w) -ℤ pos 1)) ≡ z +ℤ (pos p +ℤ (pos w -ℤ pos 1))
-              regrouped z p w = omega (arith, ints)
-
-              sum_few : (p w : ℕ) → p ≤ 2 ^ 32 → w ≤ 1024 → p + w ≤ 2 ^ 36
-              sum_few p w h g = omega (arith, h, g)
-
-              count_blocks : (a b q : ℕ) → b ≡ suc q → pos a *ℤ pos (suc q) +ℤ pos q ≡ pos (a * b + b) -ℤ pos 1
-              count_blocks a b q e = ap (λ (w : ℤ). w +ℤ pos q) (product a (suc q)) ∙ (let prod = ap (λ (w : ℕ). a * w) e in sums (a * suc q) (a * b) b q prod e)
+              kinds : (v : Bool) → is_tailed rs c ≡ v → (s : ℕ) (x : Span1) → slice_get scope s ≡ Some (Bound x) → s < length scope → x.lower ≡ number (pos 0) ∷ [] →
+                  x.upper ≡ number (pos tops) ∷ [] → (s == m0 + i) ≡ false →
+                  (is_tailed rs c ≡ true → (s < m0 + i) × (q.limits (m0 + i) ≡ left_over last_one (low c.whole) (pos c.factor) s ∷ [])) →
+                  (is_index_span scope (exactly (at_pair s)) ≡ true)
+                  × (is_seated R known.binders (exactly (at_pair s)) (From (number (low c.whole)) (if v then count c.whole else tops * c.factor + c.factor)) ≡ true)
+                  × (is_within R known.binders (exactly (at_pair s)) (numbers (low c.whole) (if v then last_one else block_last ls rs c (untailed c m) (fits c m) whole_fit.0 whole_fit.1)) ≡ true)
+              kinds false e s x there_s inside lower upper differ limit =
+                  let high : ℤ = block_last ls rs c (untailed c m) (fits c m) whole_fit.0 whole_fit.1 in
+                  let both = bare_bounds e s x there_s inside lower upper differ in
+                  let end_is_so : low c.whole +ℤ (pos (tops * c.factor + c.factor) -ℤ pos 1) ≡ high = regrouped (low c.whole) (tops * c.factor) c.factor in (
+                    bare_inside e s x there_s inside lower upper differ,
+                    seat_by (at_pair s) (number (low c.whole)) (number high) (tops * c.factor + c.factor) (ap number end_is_so) both.0 both.1,
+                    within_one (at_pair s) (number (low c.whole)) (number high) both.0 both.1,
+                  )
                 where
-                  product : (a b : ℕ) → pos a *ℤ pos b ≡ pos (a * b)
-                  product a b = omega (arith, ints)
-
-                  sums : (x y b q : ℕ) → y ≡ x → b ≡ suc q → pos x +ℤ pos q ≡ pos (y + b) -ℤ pos 1
-                  sums x y b q e k = omega (arith, ints, e, k)
+                  regrouped : (z : ℤ) (p w : ℕ) → (z +ℤ (pos (p + w) -ℤ pos 1)) ≡ z +ℤ (pos p +ℤ (pos w -ℤ pos 1))
+                  regrouped z p w = omega (arith, ints)
+              kinds true e s x there_s inside lower upper differ limit =
+                  let w = limit e in
+                  let over = guard_over s w.0 x there_s lower upper w.1 in
+                  let under = guard_under s w.0 x there_s lower upper w.1 in
+                  let last_so : low c.whole +ℤ (pos (count c.whole) -ℤ pos 1) ≡ last_one = regrouped (low c.whole) (count c.whole) in (
+                    guard_inside s w.0 x there_s lower upper w.1,
+                    seat_by (at_pair s) (number (low c.whole)) (number last_one) (count c.whole) (ap number last_so) over under,
+                    within_one (at_pair s) (number (low c.whole)) (number last_one) over under,
+                  )
+                where
+                  regrouped : (z : ℤ) (n : ℕ) → (z +ℤ (pos n -ℤ pos 1)) ≡ z +ℤ pos n -ℤ pos 1
+                  regrouped z n = omega (arith, ints)
 
               by : (e : Bool) → (m0 + o == m0 + i) ≡ e → (m0 + o == m0 + i) ≡ false
               by false e = e
@@ -705,9 +721,9 @@ module _ (a : Algorithm) (sch : Schedule) (l : Lowered) (well : IsAlgorithm a) (
                   absurd (inner_outer cuts others c c m m (sym name ∙ ap (λ (x : Turning). x.name) (sym same_turn) ∙ outer_name))
 
         right_at : (x : List ℕ) → In x xs → (f : Form) → form_named q.known x ≡ Some f → IsRight x f
-        right_at x m f named = of (found_all (Right cuts others once rs untailed over_grid m0 ts) q.known x f q.right named)
+        right_at x m f named = of (found_all (Right cuts others once rs ls untailed over_grid m0 ts q.limits) q.known x f q.right named)
           where
-            of : Right cuts others once rs untailed over_grid m0 ts x f → IsRight x f
+            of : Right cuts others once rs ls untailed over_grid m0 ts q.limits x f → IsRight x f
             of (inl (inl over)) = right_grid x m f over
             of (inl (inr (i, t, there_t, name, is))) = subst (IsRight x) (sym is) (right_loop x m i t there_t name)
             of (inr u) = subst (λ (y : List ℕ). IsRight y f) u.is (inner_of u.by_inner)
@@ -715,7 +731,7 @@ module _ (a : Algorithm) (sch : Schedule) (l : Lowered) (well : IsAlgorithm a) (
                 sp : Split
                 sp = u.split
 
-                inner_of : Leaf cuts others once rs untailed over_grid m0 ts sp.inner u.inner → IsRight sp.whole f
+                inner_of : Leaf cuts others once rs ls untailed over_grid m0 ts sp.inner u.inner → IsRight sp.whole f
                 inner_of (inl over) =
                     let clash : Some u.inner ≡ None = sym over ∙ nests_of.inners a sch l well legal small kept all groups n first line g p claims needs at there h lined placed alone_here laid
                     split_alone keeps filled sp u.there in
@@ -725,38 +741,72 @@ module _ (a : Algorithm) (sch : Schedule) (l : Lowered) (well : IsAlgorithm a) (
                     sum_so : combined u.start (pos 1) (alone (m0 + i)) ≡ Some f
                     sum_so = ap (combined u.start (pos 1)) (sym inner_form) ∙ u.sum
 
-                    outer_of : Leaf cuts others once rs untailed over_grid m0 ts sp.outer u.outer → IsRight sp.whole f
+                    -- no loop of the nest has a name that is over the grid
+                    apart_from : (outer : Form) → form_named over_grid sp.outer ≡ Some outer → (o : ℕ) (v : Turning) → slice_get ts o ≡ Some v → v.name ≡ sp.outer → ⊥
+                    apart_from outer over o v there_v v_name =
+                        let y = leaf_turn o v there_v sp.outer v_name (inr (sp, u.there, inl refl)) in
+                        let clash : Some outer ≡ None = sym over ∙ grid_none rs sp.outer 0 (parallel_loops ls) y.3 in
+                        cc clash
+
+                    outer_of : Leaf cuts others once rs ls untailed over_grid m0 ts sp.outer u.outer → IsRight sp.whole f
                     outer_of (inl over) =
                         right_block sp u.there i t there_t name u.outer over f (λ s outer_is differ.
                         pair_is (low sp.whole) sp.factor s (fits sp u.there).some (m0 + i) u.start f differ (ap (combined (number (low sp.whole)) (pos sp.factor)) (sym outer_is) ∙ u.begins) sum_so)
+                        (λ s outer_is under tailed.
+                        let z = u.kept tailed in
+                        loops_of.guarded a sch l well legal small kept all groups n first line g p claims needs at there h lined placed alone_here laid split_alone keeps filled d w stands
+                        sp u.there i t there_t name s under
+                        (λ other leaf. elim leaf [
+                          | inl over_too ↦ (let is : Some other ≡ Some u.outer = sym over_too ∙ over in let forms : other ≡ u.outer = cc is in forms ∙ outer_is)
+                          | inr (o, v, there_v, v_name, rest) ↦ absurd (apart_from u.outer over o v there_v v_name)
+                        ]) z.0 z.1 z.2 z.3 z.4 z.5 z.6)
                     outer_of (inr (o, v, there_v, outer_name, outer_is)) =
                         right_split sp u.there i t there_t name o v there_v outer_name f (λ differ.
                         pair_is (low sp.whole) sp.factor (m0 + o) (fits sp u.there).some (m0 + i) u.start f differ (ap (combined (number (low sp.whole)) (pos sp.factor)) (sym outer_is) ∙
                         u.begins) sum_so)
+                        (λ tailed.
+                        let z = u.kept tailed in
+                        let order = nests_of.ordered a sch l well legal small kept all groups n first line g p claims needs at there h lined placed alone_here laid split_alone keeps filled d q.body
+                        q.at in
+                        let below = order.order sp u.there tailed i o t v there_t name there_v outer_name in
+                        let under : m0 + o < m0 + i = omega (arith, below) in (
+                          under,
+                          loops_of.guarded a sch l well legal small kept all groups n first line g p claims needs at there h lined placed alone_here laid split_alone keeps filled d w stands
+                              sp u.there i t there_t name (m0 + o) under
+                              (λ other leaf. elim leaf [
+                                | inl over_grid_too ↦ absurd (apart_from other over_grid_too o v there_v outer_name)
+                                | inr (o', v', there_v', v_name, is) ↦
+                                    (let same_place : o' ≡ o = order.outer_once sp u.there o' o v' v there_v' there_v v_name outer_name in
+                                    is ∙ ap (λ (j : ℕ). alone (m0 + j)) same_place)
+                              ]) z.0 z.1 z.2 z.3 z.4 z.5 z.6,
+                        ))
 
         -- a reduction variable's form is the symbol of its loop
         over_at : (x : List ℕ) → In x rn → (f : Form) → form_named q.known x ≡ Some f → is_index_span scope (exactly f) ≡ true
-        over_at x m f named = of (found_all (Right cuts others once rs untailed over_grid m0 ts) q.known x f q.right named)
+        over_at x m f named = of (found_all (Right cuts others once rs ls untailed over_grid m0 ts q.limits) q.known x f q.right named)
           where
-            of : Right cuts others once rs untailed over_grid m0 ts x f → is_index_span scope (exactly f) ≡ true
+            of : Right cuts others once rs ls untailed over_grid m0 ts q.limits x f → is_index_span scope (exactly f) ≡ true
             of (inl (inl over)) =
                 let o = (nests_of.grids a sch l well legal small kept all groups n first line g p claims needs at there h lined placed alone_here laid split_alone keeps filled x f over).3 in
                 absurd (reduction_apart x o.0.name m (nests_of.leaf_of a sch l well legal small kept all groups n first line g p claims needs at there h lined placed alone_here laid split_alone
                 keeps filled o.0 o.1) (sym o.2))
             of (inl (inr (i, t, there_t, name, is))) =
-                let s = loop_there i t there_t in
-                let box = box_of (kind_of_turn i t there_t) in
+                let none = unlimited i t there_t (λ c k e. reduction_apart x c.inner m (inr (c, k, inr refl)) (sym name ∙ e)) in
+                let s : (slice_get scope (m0 + i) ≡ Some (Bound (span t.low t.last []))) × (m0 + i < length scope) = (loop_plain i t there_t none, (loop_there i t there_t).1) in
+                let box = box_of (loops_of.kind_of_turn a sch l well legal small kept all groups n first line g p claims needs at there h lined placed alone_here laid split_alone keeps
+                filled d w stands i t there_t) in
                 let one = box.0 in
                 let two = box.1 in
                 ap (λ (y : Form). is_index_span scope (exactly y)) is
                 ∙ symbol_inside scope (m0 + i) (span t.low t.last []) t.low t.last s.1 s.0 refl refl (omega (arith, ints, one)) (omega (arith, ints, one)) (omega (arith, ints, two)) (omega
                 (arith, two))
               where
-                box_of : IsKind t → IsBoxTurn t
+                box_of : ((o : Loop) × In o ls × (is_parallel o ≡ false) × (t ≡ loop_turning rs o)) ⊎ ((r : Range) × In r ranges × (t ≡ range_turning r)) → IsBoxTurn t
                 box_of (inl (o, k, serial, e)) =
                     absurd (reduction_apart x o.name m (nests_of.leaf_of a sch l well legal small kept all groups n first line g p claims needs at there h lined placed alone_here laid
                     split_alone keeps filled o k) (sym name ∙ ap (λ (z : Turning). z.name) e))
-                box_of (inr (r, k, e)) = subst IsBoxTurn (sym e) (range_box r (all_in IsRange ranges r within_here k))
+                box_of (inr (r, k, e)) = subst IsBoxTurn (sym e) (range_box r (all_in IsRange ranges r (loops_of.within_here a sch l well legal small kept all groups n first line g p claims
+                    needs at there h lined placed alone_here laid split_alone keeps filled d w stands) k))
             of (inr u) = absurd (reduction_apart x u.split.whole m (inl (wholes u.split u.there)) (sym u.is))
 
         pub ready_here : IsReadyNest R (head_scope k) place_named claim_named xs rn w known
@@ -764,7 +814,8 @@ module _ (a : Algorithm) (sch : Schedule) (l : Lowered) (well : IsAlgorithm a) (
           scoped = scoped;
           names = q.known;
           forms = q.forms ∙ ap (λ (os : List (Option Form)). os ++ ranges_at q.body.ranges q.known) (variables_are q.body none_missing_here 0 xs q.known)
-              ∙ ap (λ (ds : List Turning). map (form_named q.known) xs ++ ranges_at ds q.known) ranges_are
+              ∙ ap (λ (ds : List Turning). map (form_named q.known) xs ++ ranges_at ds q.known) (loops_of.ranges_are a sch l well legal small kept all groups n first line g p claims needs
+              at there h lined placed alone_here laid split_alone keeps filled d w stands)
               ∙ ap (λ (os : List (Option Form)). map (form_named q.known) xs ++ os) (map_names q.known ranges) ∙ sym (map_both (form_named q.known) xs rn);
           each = right_at;
           over = over_at;

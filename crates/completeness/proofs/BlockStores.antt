@@ -1,4 +1,5 @@
--- Of functions whose loops are split once, by blocks that need no tail, and whose left indices are the variables at their places: all that the lines of their groups owe is shown, where what is
+-- Of functions whose loops are split once, by blocks that need no line of their own, and whose left indices are the variables at their places: all that the lines of their groups owe is
+-- shown, where what is
 -- fetched holds the calls.
 use Rattle.std.proofs.Common.{◌≡◌, ℕ, ◌+◌, ◌<◌, ◌≤◌, Bool, true, false, List, [], ◌∷◌, ◌++◌, length, map, Some, None, sym, ap, ◌∙◌, subst, arith, ◌||◌}
 use Rattle.std.specs.Prelude.{string_bytes, slice_get}
@@ -66,7 +67,7 @@ use Rattle.completeness.proofs.RegionBounds.{IsEnded, region_ends, root_bounded}
 use Rattle.completeness.proofs.StoreBounds.{Shows}
 use Rattle.completeness.specs.Parted.{KeepsInner}
 use Rattle.completeness.specs.Nested.{SayYes, TakeSplit}
-use Rattle.completeness.specs.Blocked.{is_tailed, IsBlocked}
+use Rattle.completeness.specs.Blocked.{makes_line, IsKept}
 use Rattle.completeness.specs.Filled.{AreEndsShort, BlockedGroupsOweShown}
 use Rattle.completeness.proofs.NamedClaims.{alone_body}
 use Rattle.completeness.proofs.NestWalk.{LetsFirst}
@@ -114,7 +115,7 @@ module _ (a : Algorithm) (sch : Schedule) (l : Lowered) (well : IsAlgorithm a) (
       (limits : IsLimited h.skeleton) (grid : q.grid.items ≡ h.skeleton.grid) (short : AllByRecursion IsShort h.skeleton.grid) (narrow : length h.skeleton.grid ≤ most_symbols)
       (few_here : BindBelow most_symbols (statement_of q.body)) (laid : IsLaidBy (texts f) h.extents h.skeleton) (split_alone : AreSplitOnce (texts f).placed.cuts)
       (keeps : KeepsInner (texts f).placed.loops (texts f).placed.cuts)
-      (filled : AllByRecursion (λ c. is_tailed (loop_numbers (texts f).subject.variables (texts f).placed.cuts h.extents) c ≡ false) (texts f).placed.cuts)
+      (filled : AllByRecursion (λ c. makes_line (texts f).placed.loops (loop_numbers (texts f).subject.variables (texts f).placed.cuts h.extents) c ≡ false) (texts f).placed.cuts)
       (early : AreEndsShort (loop_numbers (texts f).subject.variables (texts f).placed.cuts h.extents) (texts f).placed.cuts) (set : ArePlaced h.formulas)
       (bounded : is_bounded a (texts f) (head_scope h.skeleton) (map whole h.extents) 0 h.formulas h.skeleton.nests ≡ Some true) (ended : AllByRecursion IsEnded h.extents)
       (held_parts : AreHeld a (stored_functions a sch) n (texts f) h.formulas h.skeleton) where
@@ -195,7 +196,7 @@ module _ (a : Algorithm) (sch : Schedule) (l : Lowered) (well : IsAlgorithm a) (
       Shows (outline_of plan cert n x) (rules_of a plan cert n) nests (λ o. IsNameTest o.wanted → ⊥) (obligations (outline_of plan cert n x) (rules_of a plan cert n) s at_line known))
       x.body (body_line plan n) (start (grid_binders x.grid))
 
-  group_at : (n : ℕ) (q : CodeGroup) → slice_get l.plan.groups.items n ≡ Some q → (v : StoredText) → slice_get (stored_functions a sch) n ≡ Some v → IsBlocked a sch n v →
+  group_at : (n : ℕ) (q : CodeGroup) → slice_get l.plan.groups.items n ≡ Some q → (v : StoredText) → slice_get (stored_functions a sch) n ≡ Some v → IsKept a sch n v →
       (us : List FormulaText) → v.formulas ≡ Some us → ArePlaced us → (r : LaidText) → slice_get (laid_functions a (stored_functions a sch)) n ≡ Some (Some r) →
       AreHeld a (stored_functions a sch) n v us r.skeleton → AreEndsShort (loop_numbers v.subject.variables v.placed.cuts r.region) v.placed.cuts →
       StoresAreShown n (group_of q)
@@ -224,9 +225,11 @@ module _ (a : Algorithm) (sch : Schedule) (l : Lowered) (well : IsAlgorithm a) (
       let narrow : length body.skeleton.grid ≤ most_symbols = subst (λ (ns : List ℕ). length ns ≤ most_symbols) grid (grids n (group_of q) (at_map group_of l.plan.groups.items n q theirs)) in
       let limits = skeleton_limited a sch l well legal small kept all groups n q w.place w.function w.at there b.first_claim b.line b.claims b.needs theirs body in
       let this : v ≡ texts w.function = some_same v (texts w.function) (sym stands ∙ there) in
-      let mine_so : IsBlocked a sch n (texts w.function) = subst (IsBlocked a sch n) this blocked in
-      let filled : AllByRecursion (λ c. is_tailed (loop_numbers (texts w.function).subject.variables (texts w.function).placed.cuts body.extents) c ≡ false) (texts w.function).placed.cuts =
-      subst (λ (es : List Extent). AllByRecursion (λ c. is_tailed (loop_numbers (texts w.function).subject.variables (texts w.function).placed.cuts es) c ≡ false) (texts w.function).placed.cuts)
+      let mine_so : IsKept a sch n (texts w.function) = subst (IsKept a sch n) this blocked in
+      let filled : AllByRecursion (λ c. makes_line (texts w.function).placed.loops (loop_numbers (texts w.function).subject.variables (texts w.function).placed.cuts body.extents) c ≡ false)
+      (texts w.function).placed.cuts =
+      subst (λ (es : List Extent). AllByRecursion (λ c. makes_line (texts w.function).placed.loops (loop_numbers (texts w.function).subject.variables (texts w.function).placed.cuts es) c ≡
+      false) (texts w.function).placed.cuts)
       extents
       (mine_so.filled me.laid me.found) in
       let root = root_bounded a (has_large (stored_functions a sch)) no_totals (stored_functions a sch) (laid_functions a (stored_functions a sch)) kept n (texts w.function) body.formulas me.laid

@@ -6,6 +6,7 @@ use Rattle.std.specs.List.{list_any}
 use Rattle.std.specs.Option.{option_map_or}
 use Rattle.std.specs.Ordering.{int_eq}
 use Rattle.std.specs.Int.RustNames.{unsigned_abs}
+use Rattle.std.proofs.lemmas.Bool.{le-leb}
 use Rattle.std.proofs.lemmas.Bool.Decides.{nat_tests}
 use Rattle.std.proofs.lemmas.Int.{ints}
 use Rattle.lin.specs.Forms.{Form, number, is_zero, factor_of, in_front, plus_multiple, without, is_within_limits, combined}
@@ -349,3 +350,15 @@ module _ (scope : List Binding) (a b : ℕ) (less : a < b) (z c d : ℤ) (some_c
       ap (λ (v : Bool). if v && nat_le (replacements scope (length scope) form) 4096 then least scope (length scope) form else None) limited
       ∙ ap (λ (n : ℕ). if nat_le (replacements scope n form) 4096 then least scope n form else None) long
       ∙ ap (λ (n : ℕ). if nat_le n 4096 then least scope (suc (b + k)) form else None) (replacements_two k) ∙ least_two k
+
+-- ---- limits
+
+pub one_limited : (z c : ℤ) (a : ℕ) → unsigned_abs z ≤ 2 ^ 40 → unsigned_abs c ≤ 2 ^ 20 → is_within_limits (one_of z c a) ≡ true
+one_limited z c a near small = (let one = le-leb (unsigned_abs c) (2 ^ 20) small in let two = le-leb (unsigned_abs z) (2 ^ 40) near in λ j. (true && (one j && true)) && two j)
+
+pub two_limited : (z c : ℤ) (a : ℕ) (d : ℤ) (b : ℕ) → unsigned_abs z ≤ 2 ^ 40 → unsigned_abs c ≤ 2 ^ 20 → unsigned_abs d ≤ 2 ^ 20 → is_within_limits (two_of z c a d b) ≡ true
+two_limited z c a d b near small other =
+    let one = le-leb (unsigned_abs c) (2 ^ 20) small in
+    let two = le-leb (unsigned_abs d) (2 ^ 20) other in
+    let three = le-leb (unsigned_abs z) (2 ^ 40) near in
+    λ j. (true && (one j && (two j && true))) && three j

@@ -1,4 +1,4 @@
--- The claims of updates of functions whose loops are split once, by blocks that need no tail, are shown: the loops of the reduction variables stand anywhere among the others.
+-- The claims of updates of functions whose loops are split once, by blocks that need no line of their own, are shown: the loops of the reduction variables stand anywhere among the others.
 use Rattle.std.proofs.Common.{◌≡◌, ℕ, zero, suc, ◌+◌, ◌-◌, ◌<◌, ◌≤◌, ◌^◌, Bool, true, false, ◌&&◌, ◌||◌, List, [], ◌∷◌, ◌++◌, length, map, take, drop}
 use Rattle.std.proofs.Common.{Option, Some, None, refl, sym, ap, ◌∙◌, subst, inl, inr, ◌⊎◌, arith}
 use Rattle.std.specs.Prelude.{ℤ, pos, ◌==◌, if◌then◌else◌, slice_get}
@@ -73,7 +73,7 @@ use Rattle.completeness.specs.Laws.{IsFetch, AreSplitOnce}
 use Rattle.completeness.specs.Parted.{KeepsInner}
 use Rattle.completeness.specs.Owed.{EachClaim, AreClaimsNear}
 use Rattle.completeness.specs.Nested.{SayYes, TakeSplit}
-use Rattle.completeness.specs.Blocked.{is_tailed, IsBlocked, BlockedClaimsShown, BlockedClaimsOweShown}
+use Rattle.completeness.specs.Blocked.{is_tailed, makes_line, IsKept, BlockedClaimsShown, BlockedClaimsOweShown}
 use Rattle.completeness.proofs.Halves.{AreOthers, inner_outer}
 use Rattle.completeness.proofs.Lanes.{AreOnce}
 use Rattle.completeness.proofs.Owned.{some_same, same_extents, same_skeleton}
@@ -81,18 +81,21 @@ use Rattle.completeness.proofs.Served.{roots, made_at}
 use Rattle.completeness.proofs.NamedClaims.{alone_body}
 use Rattle.completeness.proofs.NestWalk.{down, IsRest, Holds, LetsFirst}
 use Rattle.completeness.proofs.ClaimedNests.{claim_is, own_buffer, near_shown, updating, body_each}
-use Rattle.completeness.proofs.PlainTurns.{steps_for, hits, hits_once, itself, turn_name, one_if, hits_some}
+use Rattle.completeness.proofs.PlainTurns.{limited_for, hits, hits_once, itself, turn_name, one_if, hits_some}
 use Rattle.completeness.proofs.PureNests.{all_in, loop_name, first_steps, index_at}
 use Rattle.completeness.proofs.UpdateTurns.{hits_fewer}
 use Rattle.completeness.proofs.GridTurns.{grid_none, grid_some}
 use Rattle.completeness.proofs.LoopMoves.{true_end}
-use Rattle.completeness.proofs.SplitTests.{turns_for, spine_is, grid_spelled}
+use Rattle.completeness.proofs.SplitTests.{limited_turns, spine_is, grid_spelled}
 use Rattle.completeness.proofs.BlockSums.{pair_is}
-use Rattle.completeness.proofs.BlockTurns.{Leaf, Right, IsBlockNest, AreBlocks}
-use Rattle.completeness.proofs.BlockTests.{AreSums, Each, sum_forms, IsClaimed}
+use Rattle.completeness.proofs.BlockTurns.{Leaf, LimitsAre, Right, IsBlockNest, AreBlocks}
+use Rattle.completeness.proofs.BlockCaps.{HaveNot}
+use Rattle.completeness.proofs.GridCounts.{IsShort}
+use Rattle.completeness.proofs.GuardSums.{left_over}
+use Rattle.completeness.proofs.BlockTests.{AreSums, Each, sum_forms, IsClaimed, LimitsFit, are_low}
 use Rattle.completeness.proofs.BlockFacts.{loops_held, in_all_cuts, serial_none, parallel_some}
 use Rattle.completeness.proofs.BlockDims.{outer_low}
-use Rattle.completeness.proofs.BlockNames.{factor, owner, IsTurnOf, IsNestTurn, LeafOf}
+use Rattle.completeness.proofs.BlockNames.{factor, owner, tops, tops_bare, limits_fit, told_at, told_before, IsKeptBy, kept_by, IsTurnOf, IsNestTurn, LeafOf}
 use Rattle.std.specs.Prelude.{not, filter, reverse}
 use Rattle.meaning.specs.Algorithm.{Range}
 use Rattle.meaning.specs.Conditions.{AreDistinct, IsRange}
@@ -100,7 +103,7 @@ use Rattle.soundness.specs.Obligations.{is_next}
 use Rattle.soundness.specs.Nests.Nest.{Loop as NestLoop, is_symbol}
 use Rattle.soundness.specs.Nests.Tests.{is_among as is_among_loops, are_whole as are_whole_loops, is_reduced}
 use Rattle.sched.specs.Skeleton.{span, range_turning}
-use Rattle.tails.specs.Steps.{binder}
+use Rattle.tails.specs.Steps.{binder, binds}
 use Rattle.tails.specs.Maps.{is_beyond, is_once}
 use Rattle.tails.specs.Moves.{is_outer}
 use Rattle.tails.specs.Apart.{is_apart}
@@ -110,7 +113,7 @@ use Rattle.headline.proofs.Lists.{at_left, at_right}
 use Rattle.soundness.proofs.Refines.{eq_refl}
 use Rattle.completeness.proofs.Laid.{none_twice}
 use Rattle.completeness.proofs.Written.{variables_long}
-use Rattle.completeness.proofs.PlainTests.{loops_for}
+use Rattle.completeness.proofs.PlainTests.{limited_loops}
 use Rattle.completeness.proofs.PlainTurns.{hits_append, found_at, found_some, found_there}
 use Rattle.completeness.proofs.UpdateTurns.{known_update, ranges_turned, range_name, ranges_hits}
 use Rattle.completeness.proofs.UpdateTests.{ReadsIf, none_if, some_if, along_back, along_ranges, near_ranges, whole_all, loops_joined, filter_first, none_index}
@@ -119,7 +122,8 @@ use Rattle.completeness.proofs.SplitTests.{scoped}
 use Rattle.completeness.proofs.UncutNests.{parted_coordinates, coordinates_long, take_long}
 use Rattle.completeness.proofs.BlockNames.{IsNestTurn, IsForeign, HasPlain, owner_named, plain_grid, plain_loop, plain_block, plain_split, owner_there, owner_foreign, turn_of, owner_half, owner_self}
 use Rattle.completeness.proofs.BlockFacts.{made_new, among_end, names_in}
-use Rattle.completeness.proofs.BlockKept.{is_kept, pure_are, reducing_are, AreGone, kept_once as met_once_kept, kept_covers, kept_outer, out_beyond, out_apart}
+use Rattle.completeness.proofs.BlockKept.{is_kept, pure_are, reducing_are, AreGone, kept_once as met_once_kept, kept_covers, kept_outer, left_out, AreBare, AreOutside, out_beyond, out_free}
+use Rattle.completeness.proofs.BlockKept.{out_none, out_apart}
 use Rattle.completeness.proofs.BlockRanges.{kept_once, kept_index, kept_among, end_whole, reduced_in, IsLoopTurn, IsRangeTurn, first as first_loops}
 use Rattle.completeness.proofs.BlockRanges.{last as last_loops, between, turned, parts, loop_parts, range_parts, loop_there, range_there, turns_once as nest_once}
 use Rattle.completeness.proofs.PureNests.{all_get}
@@ -136,26 +140,27 @@ hits_absent f y (x ∷ xs) h = of (same_name (f x) y) refl (hits_absent f y xs (
 
 -- ---- loops that stand in the middle
 
-module _ (Q : NestLoop → Bool) where
-  middle_yes : (n : ℕ) (vs : List Turning) (rest : List NestLoop) → ((j : ℕ) (t : Turning) → slice_get vs j ≡ Some t → Q (record { symbol = n + j; span = span t.low t.last [] }) ≡ true) →
-      filter Q (loops_for n vs ++ rest) ≡ loops_for n vs ++ filter Q rest
+module _ (lim : ℕ → List Form) (Q : NestLoop → Bool) where
+  middle_yes : (n : ℕ) (vs : List Turning) (rest : List NestLoop) → ((j : ℕ) (t : Turning) → slice_get vs j ≡ Some t → Q (record { symbol = n + j; span = span t.low t.last (lim (n + j)) }) ≡ true) →
+      filter Q (limited_loops lim n vs ++ rest) ≡ limited_loops lim n vs ++ filter Q rest
   middle_yes n [] rest h = refl
   middle_yes n (u ∷ vs) rest h =
       let none : n + 0 ≡ n = omega arith in
-      let here : Q (record { symbol = n; span = span u.low u.last [] }) ≡ true = subst (λ (m : ℕ). Q (record { symbol = m; span = span u.low u.last [] }) ≡ true) none (h 0 u refl) in
-      ap (λ (b : Bool). if b then record { symbol = n; span = span u.low u.last [] } ∷ filter Q (loops_for (n + 1) vs ++ rest) else filter Q (loops_for (n + 1) vs ++ rest)) here
-      ∙ ap (λ (ls : List NestLoop). record { symbol = n; span = span u.low u.last [] } ∷ ls)
+      let here : Q (record { symbol = n; span = span u.low u.last (lim n) }) ≡ true = subst (λ (m : ℕ). Q (record { symbol = m; span = span u.low u.last (lim m) }) ≡ true) none (h 0 u refl) in
+      ap (λ (b : Bool). if b then record { symbol = n; span = span u.low u.last (lim n) } ∷ filter Q (limited_loops lim (n + 1) vs ++ rest) else filter Q (limited_loops lim (n + 1) vs ++ rest)) here
+      ∙ ap (λ (ls : List NestLoop). record { symbol = n; span = span u.low u.last (lim n) } ∷ ls)
       (middle_yes (n + 1) vs rest (λ j t e. let next : n + suc j ≡ (n + 1) + j = omega arith in
-      subst (λ (m : ℕ). Q (record { symbol = m; span = span t.low t.last [] }) ≡ true) next (h (suc j) t e)))
+      subst (λ (m : ℕ). Q (record { symbol = m; span = span t.low t.last (lim m) }) ≡ true) next (h (suc j) t e)))
 
-  middle_no : (n : ℕ) (vs : List Turning) → ((j : ℕ) (t : Turning) → slice_get vs j ≡ Some t → Q (record { symbol = n + j; span = span t.low t.last [] }) ≡ false) → filter Q (loops_for n vs) ≡ []
+  middle_no : (n : ℕ) (vs : List Turning) → ((j : ℕ) (t : Turning) → slice_get vs j ≡ Some t → Q (record { symbol = n + j; span = span t.low t.last (lim (n + j)) }) ≡ false) →
+      filter Q (limited_loops lim n vs) ≡ []
   middle_no n [] h = refl
   middle_no n (u ∷ vs) h =
       let none : n + 0 ≡ n = omega arith in
-      let here : Q (record { symbol = n; span = span u.low u.last [] }) ≡ false = subst (λ (m : ℕ). Q (record { symbol = m; span = span u.low u.last [] }) ≡ false) none (h 0 u refl) in
-      ap (λ (b : Bool). if b then record { symbol = n; span = span u.low u.last [] } ∷ filter Q (loops_for (n + 1) vs) else filter Q (loops_for (n + 1) vs)) here
+      let here : Q (record { symbol = n; span = span u.low u.last (lim n) }) ≡ false = subst (λ (m : ℕ). Q (record { symbol = m; span = span u.low u.last (lim m) }) ≡ false) none (h 0 u refl) in
+      ap (λ (b : Bool). if b then record { symbol = n; span = span u.low u.last (lim n) } ∷ filter Q (limited_loops lim (n + 1) vs) else filter Q (limited_loops lim (n + 1) vs)) here
       ∙ middle_no (n + 1) vs (λ j t e. let next : n + suc j ≡ (n + 1) + j = omega arith in
-      subst (λ (m : ℕ). Q (record { symbol = m; span = span t.low t.last [] }) ≡ false) next (h (suc j) t e))
+      subst (λ (m : ℕ). Q (record { symbol = m; span = span t.low t.last (lim m) }) ≡ false) next (h (suc j) t e))
 
 -- ---- groups
 
@@ -184,7 +189,7 @@ module _ (a : Algorithm) (sch : Schedule) (l : Lowered) (well : IsAlgorithm a) (
       (placed : (j : ℕ) (v : CodeClaim) → slice_get claims j ≡ Some v → slice_get items (first + j) ≡ Some v)
       (alone_here : (j : ℕ) (w : CodeClaim) → slice_get items j ≡ Some w → line < w.line → w.line < line + (lines (statement_of p.body) + 1) → In w claims)
       (laid : IsLaidBy g h.extents h.skeleton) (split_alone : AreSplitOnce g.placed.cuts) (keeps : KeepsInner g.placed.loops g.placed.cuts)
-      (filled : AllByRecursion (λ c. is_tailed (loop_numbers g.subject.variables g.placed.cuts h.extents) c ≡ false) g.placed.cuts) where
+      (filled : AllByRecursion (λ c. makes_line g.placed.loops (loop_numbers g.subject.variables g.placed.cuts h.extents) c ≡ false) g.placed.cuts) where
     abbrev k : SkeletonText
     k = h.skeleton
 
@@ -227,9 +232,6 @@ module _ (a : Algorithm) (sch : Schedule) (l : Lowered) (well : IsAlgorithm a) (
     abbrev num : List ℕ → Numbers
     num x = numbers_named rs x
 
-    abbrev count : List ℕ → ℕ
-    count x = (num x).count
-
     abbrev lay : LayText
     lay = lay_over g h.extents k
 
@@ -250,7 +252,7 @@ module _ (a : Algorithm) (sch : Schedule) (l : Lowered) (well : IsAlgorithm a) (
     abbrev once : AreOnce cuts
     once = nests_of.once a sch l well legal small kept all groups n first line g p claims needs at there h lined placed alone_here laid split_alone keeps filled
 
-    abbrev free : (c : Split) → In c cuts → is_tailed rs c ≡ false
+    abbrev free : (c : Split) → In c cuts → makes_line ls rs c ≡ false
     free = nests_of.free a sch l well legal small kept all groups n first line g p claims needs at there h lined placed alone_here laid split_alone keeps filled
 
     abbrev halves : (c : Split) → In c cuts → (x : List ℕ) → In x xs → (x ≡ c.outer → ⊥) × (x ≡ c.inner → ⊥)
@@ -285,6 +287,12 @@ module _ (a : Algorithm) (sch : Schedule) (l : Lowered) (well : IsAlgorithm a) (
 
     fit_of : (x : List ℕ) → In x xs → NumbersFit x
     fit_of = nests_of.fit_of a sch l well legal small kept all groups n first line g p claims needs at there h lined placed alone_here laid split_alone keeps filled
+
+    abbrev sized : (c : Split) → In c cuts → IsSmall (num c.whole) × (0 < (num c.whole).count)
+    sized = nests_of.sized a sch l well legal small kept all groups n first line g p claims needs at there h lined placed alone_here laid split_alone keeps filled
+
+    shorts : AllByRecursion IsShort k.grid
+    shorts = nests_of.shorts a sch l well legal small kept all groups n first line g p claims needs at there h lined placed alone_here laid split_alone keeps filled
 
     near_named : (y : List ℕ) → LeafOf xs ls cuts rs others once halves outers gone y → (unsigned_abs (low y) ≤ 2 ^ 36) × (unsigned_abs (last y) ≤ 2 ^ 36)
     near_named = nests_of.near_named a sch l well legal small kept all groups n first line g p claims needs at there h lined placed alone_here laid split_alone keeps filled
@@ -439,17 +447,27 @@ module _ (a : Algorithm) (sch : Schedule) (l : Lowered) (well : IsAlgorithm a) (
       few_grid : length k.grid ≤ m0
       few_grid = (let is = ap length shape.grid in let least = q.low in omega (arith, is, least))
 
+      abbrev lims : ℕ → List Form
+      lims = q.limits
+
+      abbrev bounds : (j : ℕ) (t : Turning) → slice_get ts j ≡ Some t → LimitsAre cuts others once rs ls free grid m0 ts (m0 + j) t (lims (m0 + j))
+      bounds j t e = q.bounded j t e
+
       abbrev factor_at : ℕ → ℤ
-      factor_at = factor xs ls cuts rs others once halves outers gone grid m0 ts turns same_places over_names inners free fits
+      factor_at = factor xs ls cuts rs others once halves outers gone grid m0 ts turns same_places over_names inners free fits sized lims bounds
+
+      abbrev tops_at : ℕ → List Form
+      tops_at = tops xs ls cuts rs others once halves outers gone grid m0 ts turns same_places over_names inners free fits sized lims bounds
 
       abbrev owner_at : ℕ → List ℕ
-      owner_at = owner xs ls cuts rs others once halves outers gone grid m0 ts turns same_places over_names inners free fits
+      owner_at = owner xs ls cuts rs others once halves outers gone grid m0 ts turns same_places over_names inners free fits sized lims bounds
 
       abbrev Plain : List ℕ → Form → Type 0
-      Plain x f = HasPlain xs ls cuts rs others once halves outers gone grid m0 ts turns same_places over_names inners free fits R refl k.grid few_grid near (grid_spelled 0 k.grid) claim place x f
+      Plain x f = HasPlain xs ls cuts rs others once halves outers gone grid m0 ts turns same_places over_names inners free fits sized lims bounds R refl k.grid few_grid shorts near
+          (grid_spelled 0 k.grid) claim place x f
 
       abbrev RightHere : List ℕ → Form → Type 0
-      RightHere y f = Right cuts others once rs free grid m0 ts y f
+      RightHere y f = Right cuts others once rs ls free grid m0 ts lims y f
 
       -- a loop of the nest that has the name of a variable or of a half is one of the function
       serial_at : (j : ℕ) (t : Turning) → slice_get ts j ≡ Some t → (y : List ℕ) → t.name ≡ y → ((e : Range) → In e ds → e.variable ≡ y → ⊥) → hits loop_name y (parallel_loops ls) ≡ 0
@@ -469,7 +487,8 @@ module _ (a : Algorithm) (sch : Schedule) (l : Lowered) (well : IsAlgorithm a) (
               let r = over_names x f over in
               let named_so : form_named grid x ≡ Some (counted_from (low x) r.0) = over ∙ ap (λ (u : Form). Some u) r.1 in
               let d = nests_of.dim_grid a sch l well legal small kept all groups n first line g p claims needs at there h lined placed alone_here laid split_alone keeps filled x r.0 named_so r.3 in
-              plain_grid xs ls cuts rs others once halves outers gone grid m0 ts turns same_places over_names inners free fits R refl k.grid few_grid near (grid_spelled 0 k.grid) claim place
+              plain_grid xs ls cuts rs others once halves outers gone grid m0 ts turns same_places over_names inners free fits sized lims bounds R refl k.grid few_grid shorts near
+              (grid_spelled 0 k.grid) claim place
               x f over r.0 r.1 r.2 r.3 (near_named x (inl m)).0 d.0 d.1
           of (inl (inr (j, t, there_t, name, is))) =
               let o = turn_of xs ls cuts rs others once halves outers gone grid t x m name (turns j t there_t) in
@@ -477,7 +496,8 @@ module _ (a : Algorithm) (sch : Schedule) (l : Lowered) (well : IsAlgorithm a) (
               let d = nests_of.dim_loop a sch l well legal small kept all groups n first line g p claims needs at there h lined placed alone_here laid split_alone keeps filled x m none
               (o.loop, o.there, o.name ∙ name) in
               subst (Plain x) (sym is)
-              (plain_loop xs ls cuts rs others once halves outers gone grid m0 ts turns same_places over_names inners free fits R refl k.grid few_grid near (grid_spelled 0 k.grid) claim place
+              (plain_loop xs ls cuts rs others once halves outers gone grid m0 ts turns same_places over_names inners free fits sized lims bounds R refl k.grid few_grid shorts near
+              (grid_spelled 0 k.grid) claim place
               x m j t there_t name d.0 d.1)
           of (inr u) = subst (λ (y : List ℕ). Plain y f) u.is (inner_of u.by_inner)
             where
@@ -487,17 +507,30 @@ module _ (a : Algorithm) (sch : Schedule) (l : Lowered) (well : IsAlgorithm a) (
               fit : NumbersFit c.whole
               fit = fit_of c.whole (wholes c u.there)
 
-              inner_of : Leaf cuts others once rs free grid m0 ts c.inner u.inner → Plain c.whole f
+              inner_of : Leaf cuts others once rs ls free grid m0 ts c.inner u.inner → Plain c.whole f
               inner_of (inl over) = (let clash : Some u.inner ≡ None = sym over ∙ inners c u.there in absurd (cc clash))
               inner_of (inr (j, t, there_t, name, inner_is)) = outer_of u.by_outer
                 where
+                  limit_at : (s : ℕ) → u.outer ≡ counted_from (pos 0) s → is_tailed rs c ≡ true → lims (m0 + j) ≡ left_over (last c.whole) (low c.whole) (pos c.factor) s ∷ []
+                  limit_at s is tailed =
+                      told_at xs ls cuts rs others once halves outers gone grid m0 ts turns same_places over_names inners free fits sized lims bounds c u.there s u.outer u.by_outer is j t
+                      there_t name (u.kept tailed)
+
+                  inside_grid : (outer : Form) (over : form_named grid c.outer ≡ Some outer) → (over_names c.outer outer over).0 < length k.grid
+                  inside_grid outer over =
+                      let r = nests_of.grids a sch l well legal small kept all groups n first line g p claims needs at there h lined placed alone_here laid split_alone keeps filled c.outer outer
+                      over in
+                      let less = r.2 in
+                      let is = ap length shape.grid in
+                      omega (arith, less, is)
+
                   sum_so : combined u.start (pos 1) (alone (m0 + j)) ≡ Some f
                   sum_so = ap (combined u.start (pos 1)) (sym inner_is) ∙ u.sum
 
-                  outer_of : Leaf cuts others once rs free grid m0 ts c.outer u.outer → Plain c.whole f
+                  outer_of : Leaf cuts others once rs ls free grid m0 ts c.outer u.outer → Plain c.whole f
                   outer_of (inl over) =
                       let r = over_names c.outer u.outer over in
-                      let zero_low : low c.outer ≡ pos 0 = outer_low rs c (free c u.there) (fits c u.there) fit.0 fit.1 in
+                      let zero_low : low c.outer ≡ pos 0 = outer_low ls rs c (free c u.there) (fits c u.there) fit.0 fit.1 in
                       let outer_is : u.outer ≡ counted_from (pos 0) r.0 = r.1 ∙ ap (λ (z : ℤ). counted_from z r.0) zero_low in
                       let less = r.2 in
                       let differ : (r.0 == m0 + j) ≡ false = grind (arith, nat_tests, less) in
@@ -506,8 +539,9 @@ module _ (a : Algorithm) (sch : Schedule) (l : Lowered) (well : IsAlgorithm a) (
                       let named_so : form_named grid c.outer ≡ Some (counted_from (pos 0) r.0) = over ∙ ap (λ (v : Form). Some v) outer_is in
                       let d = nests_of.dim_block a sch l well legal small kept all groups n first line g p claims needs at there h lined placed alone_here laid split_alone keeps filled c u.there
                       r.0 named_so in
-                      plain_block xs ls cuts rs others once halves outers gone grid m0 ts turns same_places over_names inners free fits R refl k.grid few_grid near (grid_spelled 0 k.grid) claim
-                      place c u.there (wholes c u.there) fit.0 fit.1 j t there_t name r.0 r.2 named_so f form.0 form.1 d.0 d.1
+                      plain_block xs ls cuts rs others once halves outers gone grid m0 ts turns same_places over_names inners free fits sized lims bounds R refl k.grid few_grid shorts near
+                      (grid_spelled 0 k.grid) claim
+                      place c u.there (wholes c u.there) fit.0 fit.1 j t there_t name r.0 (inside_grid u.outer over) r.2 named_so f form.0 form.1 (limit_at r.0 outer_is) d.0 d.1
                   outer_of (inr (o, v, there_v, outer_name, outer_is)) =
                       let differ : (m0 + o == m0 + j) ≡ false = apart_symbols o j v t there_v there_t outer_name name in
                       let begins = ap (combined (number (low c.whole)) (pos c.factor)) (sym outer_is) ∙ u.begins in
@@ -515,8 +549,14 @@ module _ (a : Algorithm) (sch : Schedule) (l : Lowered) (well : IsAlgorithm a) (
                       let none = serial_at o v there_v c.outer outer_name (λ e me s. range_half e me c u.there (inl s)) in
                       let d = nests_of.dim_split a sch l well legal small kept all groups n first line g p claims needs at there h lined placed alone_here laid split_alone keeps filled c u.there
                       none in
-                      plain_split xs ls cuts rs others once halves outers gone grid m0 ts turns same_places over_names inners free fits R refl k.grid few_grid near (grid_spelled 0 k.grid) claim
-                      place c u.there (wholes c u.there) fit.0 fit.1 j t there_t name o v there_v outer_name f form.0 form.1 d.0 d.1
+                      plain_split xs ls cuts rs others once halves outers gone grid m0 ts turns same_places over_names inners free fits sized lims bounds R refl k.grid few_grid shorts near
+                      (grid_spelled 0 k.grid) claim
+                      place c u.there (wholes c u.there) fit.0 fit.1 j t there_t name o v there_v outer_name f form.0 form.1
+                      (λ tailed. (
+                        told_before xs ls cuts rs others once halves outers gone grid m0 ts turns same_places over_names inners free fits sized lims bounds c o j v t there_v outer_name
+                            there_t name (u.kept tailed),
+                        limit_at (m0 + o) outer_is tailed,
+                      )) d.0 d.1
                     where
                       apart_symbols : (o j : ℕ) (v t : Turning) → slice_get ts o ≡ Some v → slice_get ts j ≡ Some t → v.name ≡ c.outer → t.name ≡ c.inner → (m0 + o == m0 + j) ≡ false
                       apart_symbols o j v t ev et nv nt = by (m0 + o == m0 + j) refl
@@ -611,17 +651,17 @@ module _ (a : Algorithm) (sch : Schedule) (l : Lowered) (well : IsAlgorithm a) (
       found_kept : (x : List ℕ) → In x kept_names → FoundHere x
       found_kept x m = (let s = stands_kept x m in record { form = s.0; is = s.1; plain = has_plain x (kept_among b 0 xs x m) s.0 s.1 })
 
-      abbrev sums : (ys : List (List ℕ)) → ((x : List ℕ) → In x ys → In x kept_names) → AreSums factor_at m0 ts owner_at ys
+      abbrev sums : (ys : List (List ℕ)) → ((x : List ℕ) → In x ys → In x kept_names) → AreSums factor_at m0 ts owner_at lims tops_at ys
       sums [] sub = tt
       sums (y ∷ ys) sub = ((found_kept y (sub y (inl refl))).plain.sum, sums ys (λ x m. sub x (inr m)))
 
       claimed_all : (ys : List (List ℕ)) (sub : (x : List ℕ) → In x ys → In x kept_names) →
-          Each factor_at m0 ts owner_at (IsClaimed factor_at m0 ts owner_at R (grid_binders k.grid) claim) ys (sums ys sub)
+          Each factor_at m0 ts owner_at lims tops_at (IsClaimed factor_at m0 ts owner_at lims tops_at R (grid_binders k.grid) claim) ys (sums ys sub)
       claimed_all [] sub = tt
       claimed_all (y ∷ ys) sub = ((found_kept y (sub y (inl refl))).plain.claimed, claimed_all ys (λ x m. sub x (inr m)))
 
       abbrev forms_of : (ys : List (List ℕ)) → ((x : List ℕ) → In x ys → In x kept_names) → List Form
-      forms_of ys sub = sum_forms factor_at m0 ts owner_at ys (sums ys sub)
+      forms_of ys sub = sum_forms factor_at m0 ts owner_at lims tops_at ys (sums ys sub)
 
       -- the left coordinates that are forms
       reads : (ms : Loads) (d : ℕ) (ys : List (List ℕ)) (sub : (x : List ℕ) → In x (kept_from b d ys) → In x kept_names) (tail : List (Option Form)) (names : List (List ℕ))
@@ -689,6 +729,20 @@ module _ (a : Algorithm) (sch : Schedule) (l : Lowered) (well : IsAlgorithm a) (
             (r.0, r.1, index_at ms (form_named q.known e.variable) (first_left lefts) c.index (alone (m0 + r.0)) r.2 are.1),
             reads_over ms es (λ d m. sub d (inr m)) names (other_lefts lefts) cs are.2,
           )
+
+      fit_limits : LimitsFit factor_at m0 ts owner_at lims tops_at
+      fit_limits = limits_fit xs ls cuts rs others once halves outers gone grid m0 ts turns same_places over_names inners free fits sized lims bounds
+
+      bare_tops : (s i : ℕ) → HaveNot i (tops_at s)
+      bare_tops = tops_bare xs ls cuts rs others once halves outers gone grid m0 ts turns same_places over_names inners free fits sized lims bounds
+
+      -- no guard is of a reduction variable
+      range_bare : (j : ℕ) (t : Turning) → slice_get ts j ≡ Some t → IsRangeTurn b rs ls ds ranged t → lims (m0 + j) ≡ []
+      range_bare j t at_j (d, m, is) = of (bounds j t at_j)
+        where
+          of : LimitsAre cuts others once rs ls free grid m0 ts (m0 + j) t (lims (m0 + j)) → lims (m0 + j) ≡ []
+          of (inl e) = e
+          of (inr (c, mc, tailed, name, f, l, e)) = absurd (range_half d m c mc (inr (ap (λ (v : Turning). v.name) (sym is) ∙ name)))
 
       near_forty : (j : ℕ) (t : Turning) → slice_get ts j ≡ Some t → (unsigned_abs t.low ≤ 2 ^ 40) × (unsigned_abs t.last ≤ 2 ^ 40)
       near_forty j t e = (let r = near j t e in let one = r.0 in let two = r.1 in (omega (arith, one), omega (arith, two)))
@@ -774,14 +828,14 @@ module _ (a : Algorithm) (sch : Schedule) (l : Lowered) (well : IsAlgorithm a) (
             let same_hits = ranges_hits t.name ds in
             some_if m0 ts turns_alone j t at_j over (map range_name ds) over_reads (omega (arith, some, same_hits))
 
-        gone_kept : AreGone factor_at m0 ts owner_at keep kept_names
+        gone_kept : AreGone factor_at m0 ts owner_at lims tops_at keep kept_names
         gone_kept j t at_j out = of (part j t at_j)
           where
             of : IsLoopTurn b rs ls ds ranged t ⊎ IsRangeTurn b rs ls ds ranged t → hits itself (owner_at j) kept_names ≡ 0
             of (inl o) = (let clash : true ≡ false = sym (ap not (loop_free j t at_j o)) ∙ out in absurd (cc clash))
             of (inr (d, m, is)) =
                 let owner_so : owner_at j ≡ d.variable =
-                owner_there xs ls cuts rs others once halves outers gone grid m0 ts turns same_places over_names inners free fits j t at_j
+                owner_there xs ls cuts rs others once halves outers gone grid m0 ts turns same_places over_names inners free fits sized lims bounds j t at_j
                 ∙ owner_foreign xs ls cuts rs others once halves outers gone grid t (range_turn t (d, m, is)) ∙ ap (λ (v : Turning). v.name) is in
                 ap (λ (y : List ℕ). hits itself y kept_names) owner_so
                 ∙ hits_absent itself d.variable kept_names (λ x mx s. range_apart d m x (kept_among b 0 xs x mx) (sym s))
@@ -794,10 +848,44 @@ module _ (a : Algorithm) (sch : Schedule) (l : Lowered) (well : IsAlgorithm a) (
             of (inl (o, mo, serial, has, is)) =
                 let v = loop_leaf o mo in
                 let owner_so : owner_at j ≡ v.0 =
-                owner_there xs ls cuts rs others once halves outers gone grid m0 ts turns same_places over_names inners free fits j t at_j
+                owner_there xs ls cuts rs others once halves outers gone grid m0 ts turns same_places over_names inners free fits sized lims bounds j t at_j
                 ∙ ap (λ (u : Turning). owner_named xs ls cuts rs others once halves outers gone u.name) is ∙ owner_is o mo in
                 ap (λ (y : List ℕ). hits itself y kept_names) owner_so ∙ kept_once b xs o.dimension v.0 v.1 has
                 (nests_of.names_apart a sch l well legal small kept all groups n first line g p claims needs at there h lined placed alone_here laid split_alone keeps filled v.0)
+
+        -- its loop has no further upper form, and those of the others name other symbols
+        bare_out : AreBare lims keep m0 ts
+        bare_out j t at_j out = of (part j t at_j)
+          where
+            of : IsLoopTurn b rs ls ds ranged t ⊎ IsRangeTurn b rs ls ds ranged t → lims (m0 + j) ≡ []
+            of (inl o) = (let clash : true ≡ false = sym (ap not (loop_free j t at_j o)) ∙ out in absurd (cc clash))
+            of (inr r) = range_bare j t at_j r
+
+        outside : AreOutside lims keep m0 ts m0 ts
+        outside j t at_j = of (bounds j t at_j)
+          where
+            Outer : Form → Type 0
+            Outer f = is_outer (map binder (left_out lims keep m0 ts)) f ≡ true
+
+            of : LimitsAre cuts others once rs ls free grid m0 ts (m0 + j) t (lims (m0 + j)) → AllByRecursion Outer (lims (m0 + j))
+            of (inl e) = subst (AllByRecursion Outer) (sym e) tt
+            of (inr (c, mc, tailed, name, f, l, e)) = subst (AllByRecursion Outer) (sym e) (subst Outer (sym limit.is) (by limit.whose), tt)
+              where
+                limit : IsKeptBy xs ls cuts rs others once halves outers gone grid m0 ts turns same_places over_names inners free fits sized lims bounds c (m0 + j) f l.outer
+                limit = kept_by xs ls cuts rs others once halves outers gone grid m0 ts turns same_places over_names inners free fits sized lims bounds c mc j f l
+
+                not_bound : list_any (binds limit.symbol) (map binder (left_out lims keep m0 ts)) ≡ false → Outer (left_over (last c.whole) (low c.whole) (pos c.factor) limit.symbol)
+                not_bound none = λ i. not (none i) && true
+
+                by : (limit.symbol < m0) ⊎ ((o : ℕ) × (v : Turning) × (slice_get ts o ≡ Some v) × (v.name ≡ c.outer) × (limit.symbol ≡ m0 + o)) →
+                    Outer (left_over (last c.whole) (low c.whole) (pos c.factor) limit.symbol)
+                by (inl less) = not_bound (out_none lims keep limit.symbol m0 ts less)
+                by (inr (o, v, at_o, outer, symbol)) = not_bound (ap (λ (i : ℕ). list_any (binds i) (map binder (left_out lims keep m0 ts))) symbol ∙ out_free lims keep (m0 + o) (which
+                    (part o v at_o)) m0 ts)
+                  where
+                    which : IsLoopTurn b rs ls ds ranged v ⊎ IsRangeTurn b rs ls ds ranged v → keep (m0 + o) ≡ true
+                    which (inl r) = ap not (loop_free o v at_o r)
+                    which (inr (d, m, is)) = absurd (range_half d m c mc (inl (ap (λ (w : Turning). w.name) (sym is) ∙ outer)))
 
         -- each reduction variable's loop runs over its range, in order
         there_middle : (j : ℕ) (t : Turning) → slice_get middle j ≡ Some t → slice_get ts (length firsts + j) ≡ Some t
@@ -812,63 +900,67 @@ module _ (a : Algorithm) (sch : Schedule) (l : Lowered) (well : IsAlgorithm a) (
         abbrev Q : NestLoop → Bool
         Q = is_among_loops over
 
-        filtered : filter Q (loops_for m0 ts) ≡ loops_for (m0 + length firsts) middle
+        filtered : filter Q (limited_loops lims m0 ts) ≡ limited_loops lims (m0 + length firsts) middle
         filtered =
             let m1 = m0 + length firsts in
             let m2 = m1 + length middle in
-            let one : loops_for m0 ts ≡ loops_for m0 firsts ++ loops_for m1 (middle ++ lasts) = ap (loops_for m0) three ∙ loops_joined m0 firsts (middle ++ lasts) in
-            let two : loops_for m1 (middle ++ lasts) ≡ loops_for m1 middle ++ loops_for m2 lasts = loops_joined m1 middle lasts in
-            let none_first = filter_first Q m0 firsts (loops_for m1 (middle ++ lasts)) (λ j t at_j.
+            let one : limited_loops lims m0 ts ≡ limited_loops lims m0 firsts ++ limited_loops lims m1 (middle ++ lasts) = ap (limited_loops lims m0) three ∙ loops_joined lims m0 firsts
+            (middle ++ lasts) in
+            let two : limited_loops lims m1 (middle ++ lasts) ≡ limited_loops lims m1 middle ++ limited_loops lims m2 lasts = loops_joined lims m1 middle lasts in
+            let none_first = filter_first lims Q m0 firsts (limited_loops lims m1 (middle ++ lasts)) (λ j t at_j.
             loop_free j t (ap (λ (us : List Turning). slice_get us j) three ∙ at_left firsts (middle ++ lasts) j t at_j)
             (all_get (IsLoopTurn b rs ls ds ranged) firsts j t (loop_parts b rs ls ds ranged false) at_j)) in
-            let yes_middle = middle_yes Q m1 middle (loops_for m2 lasts) (λ j t at_j.
+            let yes_middle = middle_yes lims Q m1 middle (limited_loops lims m2 lasts) (λ j t at_j.
             let place : m0 + (length firsts + j) ≡ m1 + j = omega arith in
             ap (λ (s : ℕ). list_any (is_symbol s) over) (sym place)
             ∙ range_met (length firsts + j) t (there_middle j t at_j) (all_get (IsRangeTurn b rs ls ds ranged) middle j t (range_parts b rs ls ds ranged) at_j)) in
-            let none_last = middle_no Q m2 lasts (λ j t at_j.
+            let none_last = middle_no lims Q m2 lasts (λ j t at_j.
             let place : m0 + (length firsts + (length middle + j)) ≡ m2 + j = omega arith in
             ap (λ (s : ℕ). list_any (is_symbol s) over) (sym place)
             ∙ loop_free (length firsts + (length middle + j)) t (there_last j t at_j) (all_get (IsLoopTurn b rs ls ds ranged) lasts j t (loop_parts b rs ls ds ranged true) at_j)) in
-            ap (filter Q) one ∙ none_first ∙ ap (filter Q) two ∙ yes_middle ∙ ap (λ (ys : List NestLoop). loops_for m1 middle ++ ys) none_last ∙ no_more (loops_for m1 middle)
+            ap (filter Q) one ∙ none_first ∙ ap (filter Q) two ∙ yes_middle ∙ ap (λ (ys : List NestLoop). limited_loops lims m1 middle ++ ys) none_last ∙ no_more (limited_loops lims m1 middle)
           where
             no_more : (ys : List NestLoop) → ys ++ [] ≡ ys
             no_more [] = refl
             no_more (y ∷ ys) = ap (λ (zs : List NestLoop). y ∷ zs) (no_more ys)
 
-        order : is_reduced R (grid_binders k.grid) (Some ds) over (loops_in (turns_for m0 ts)) ≡ true
+        order : is_reduced R (grid_binders k.grid) (Some ds) over (loops_in (limited_turns lims m0 ts)) ≡ true
         order =
-            ap (λ (us : List NestLoop). are_whole_loops R (grid_binders k.grid) (filter Q us) (reverse over) (reverse ds)) (loops_are m0 ts)
+            ap (λ (us : List NestLoop). are_whole_loops R (grid_binders k.grid) (filter Q us) (reverse over) (reverse ds)) (loops_are lims m0 ts)
             ∙ ap (λ (us : List NestLoop). are_whole_loops R (grid_binders k.grid) us (reverse over) (reverse ds)) filtered
-            ∙ whole_all m0 ts turns_alone R refl (grid_binders k.grid) (length firsts) middle (reverse over) (reverse ds) (λ j t at_j. there_middle j t at_j) (near_ranges ds within)
+            ∙ whole_all lims m0 ts turns_alone R refl (grid_binders k.grid) (length firsts) middle (reverse over) (reverse ds) (λ j t at_j. there_middle j t at_j)
+            (λ j t at_j. range_bare (length firsts + j) t (there_middle j t at_j) (all_get (IsRangeTurn b rs ls ds ranged) middle j t (range_parts b rs ls ds ranged) at_j)) (near_ranges ds within)
             (along_back m0 ts (map range_turning ds) over ds (along_ranges m0 ts ds over over_reads))
 
-        abbrev kept_sums : AreSums factor_at m0 ts owner_at kept_names
+        abbrev kept_sums : AreSums factor_at m0 ts owner_at lims tops_at kept_names
         kept_sums = sums kept_names (λ x m. m)
 
-        parted_here : is_parted over (turns_for m0 ts) (forms_in left) ≡ true
+        parted_here : is_parted over (limited_turns lims m0 ts) (forms_in left) ≡ true
         parted_here =
-            let one = out_beyond keep (map binder (turns_for m0 ts)) m0 ts in
-            let two = out_apart keep m0 m0 ts ts in
-            let three = kept_outer factor_at m0 ts owner_at keep kept_names kept_sums gone_kept ones_kept near_forty in
-            let r = reducing_are over m0 ts in
-            let v = pure_are over m0 ts in
+            let one = out_beyond lims keep (map binder (limited_turns lims m0 ts)) m0 ts bare_out in
+            let two = out_apart lims keep m0 m0 ts ts outside in
+            let three = kept_outer factor_at m0 ts owner_at lims tops_at keep kept_names kept_sums gone_kept ones_kept near_forty fit_limits bare_tops in
+            let r = reducing_are lims over m0 ts in
+            let v = pure_are lims over m0 ts in
             let f = left_reads.0 in
-            (λ j. list_all (is_beyond (map binder (turns_for m0 ts))) (map binder (r j)) && (list_all (is_apart (map binder (r j))) (map binder (v j)) && list_all (is_outer (map binder (r j))) (f j)))
+            (λ j. list_all (is_beyond (map binder (limited_turns lims m0 ts))) (map binder (r j)) && (list_all (is_apart (map binder (r j))) (map binder (v j)) && list_all (is_outer
+            (map binder (r j))) (f j)))
             ∙ (λ j. one j && (two j && three j))
 
-        once_here : is_once (pure_steps over (turns_for m0 ts)) (forms_in left) ≡ true
+        once_here : is_once (pure_steps over (limited_turns lims m0 ts)) (forms_in left) ≡ true
         once_here =
-            let v = pure_are over m0 ts in
+            let v = pure_are lims over m0 ts in
             let f = left_reads.0 in
-            (λ j. is_once (v j) (f j)) ∙ met_once_kept factor_at m0 ts owner_at keep kept_names kept_sums gone_kept ones_kept near_forty
+            (λ j. is_once (v j) (f j)) ∙ met_once_kept factor_at m0 ts owner_at lims tops_at keep kept_names kept_sums gone_kept ones_kept near_forty fit_limits bare_tops
 
-        covers_here : covers R (grid_binders k.grid) (pure_steps over (turns_for m0 ts)) (forms_in left) (at_forms left (map claim xs)) ≡ true
+        covers_here : covers R (grid_binders k.grid) (pure_steps over (limited_turns lims m0 ts)) (forms_in left) (at_forms left (map claim xs)) ≡ true
         covers_here =
-            let v = pure_are over m0 ts in
+            let v = pure_are lims over m0 ts in
             let f = left_reads.0 in
             let c = left_reads.1 in
             (λ j. covers R (grid_binders k.grid) (v j) (f j) (c j))
-            ∙ kept_covers factor_at m0 ts owner_at keep kept_names kept_sums gone_kept ones_kept near_forty R (grid_binders k.grid) claim (claimed_all kept_names (λ x m. m))
+            ∙ kept_covers factor_at m0 ts owner_at lims tops_at keep kept_names kept_sums gone_kept ones_kept near_forty fit_limits bare_tops R (grid_binders k.grid) claim
+            (claimed_all kept_names (λ x m. m))
 
         module _ (domain : domains_of a g.subject.name (suc i) ≡ Some ds) (c : Claim) (defined : c.definition ≡ suc i) (named_so : same_name (O.setting.buffer_function 0) c.function ≡ true)
             (name : c.function ≡ g.subject.name) (over_region : c.region ≡ region) where
@@ -878,22 +970,22 @@ module _ (a : Algorithm) (sch : Schedule) (l : Lowered) (well : IsAlgorithm a) (
           over_is : over_of O.setting 0 cs ≡ over
           over_is = ap (λ (m : ℕ). drop m cs) (nests_of.dims a sch l well legal small kept all groups n first line g p claims needs at there h lined placed alone_here laid split_alone keeps filled)
 
-          stepped : is_stepped O.setting R (domains_of a) (grid_binders k.grid) c (turns_for m0 ts) (Store 0 (suc i) cs e) ≡ true
+          stepped : is_stepped O.setting R (domains_of a) (grid_binders k.grid) c (limited_turns lims m0 ts) (Store 0 (suc i) cs e) ≡ true
           stepped =
               let one : (c.definition == suc i) ≡ true = ap (λ (m : ℕ). m == suc i) defined ∙ eq_refl (suc i) in
               let left_at = left_is in
               let over_at = over_is in
               let domain_is : domains_of a c.function (suc i) ≡ Some ds = ap (λ (x : List ℕ). domains_of a x (suc i)) name ∙ domain in
-              let turn : is_reduced R (grid_binders k.grid) (domains_of a c.function (suc i)) (over_of O.setting 0 cs) (loops_in (turns_for m0 ts)) ≡ true =
-              (λ j. is_reduced R (grid_binders k.grid) (domain_is j) (over_at j) (loops_in (turns_for m0 ts))) ∙ order in
-              let scope = scoped m0 ts in
-              let parts_so : is_parted (over_of O.setting 0 cs) (turns_for m0 ts) (forms_in (left_of O.setting 0 cs)) ≡ true =
-              (λ j. is_parted (over_at j) (turns_for m0 ts) (forms_in (left_at j))) ∙ parted_here in
-              let once_so : is_once (pure_steps (over_of O.setting 0 cs) (turns_for m0 ts)) (forms_in (left_of O.setting 0 cs)) ≡ true =
-              (λ j. is_once (pure_steps (over_at j) (turns_for m0 ts)) (forms_in (left_at j))) ∙ once_here in
+              let turn : is_reduced R (grid_binders k.grid) (domains_of a c.function (suc i)) (over_of O.setting 0 cs) (loops_in (limited_turns lims m0 ts)) ≡ true =
+              (λ j. is_reduced R (grid_binders k.grid) (domain_is j) (over_at j) (loops_in (limited_turns lims m0 ts))) ∙ order in
+              let scope = scoped lims m0 ts (are_low factor_at m0 ts owner_at lims tops_at fit_limits) in
+              let parts_so : is_parted (over_of O.setting 0 cs) (limited_turns lims m0 ts) (forms_in (left_of O.setting 0 cs)) ≡ true =
+              (λ j. is_parted (over_at j) (limited_turns lims m0 ts) (forms_in (left_at j))) ∙ parted_here in
+              let once_so : is_once (pure_steps (over_of O.setting 0 cs) (limited_turns lims m0 ts)) (forms_in (left_of O.setting 0 cs)) ≡ true =
+              (λ j. is_once (pure_steps (over_at j) (limited_turns lims m0 ts)) (forms_in (left_at j))) ∙ once_here in
               λ j. one j && (named_so j && (turn j && (scope j && (parts_so j && once_so j))))
 
-          spread : is_spread O.setting R (grid_binders k.grid) c (turns_for m0 ts) (Store 0 (suc i) cs e) ≡ true
+          spread : is_spread O.setting R (grid_binders k.grid) c (limited_turns lims m0 ts) (Store 0 (suc i) cs e) ≡ true
           spread =
               let left_at = left_is in
               let over_at = over_is in
@@ -902,9 +994,9 @@ module _ (a : Algorithm) (sch : Schedule) (l : Lowered) (well : IsAlgorithm a) (
               let long : length (left_of O.setting 0 cs) ≡ length xs = ap length left_at ∙ left_long in
               let wide : length c.region ≡ length xs = ap length whole_region ∙ length-map xs claim in
               let many : (length (left_of O.setting 0 cs) == length c.region) ≡ true = (λ j. long j == wide j) ∙ eq_refl (length xs) in
-              let all_covered : covers R (grid_binders k.grid) (pure_steps (over_of O.setting 0 cs) (turns_for m0 ts)) (forms_in (left_of O.setting 0 cs))
+              let all_covered : covers R (grid_binders k.grid) (pure_steps (over_of O.setting 0 cs) (limited_turns lims m0 ts)) (forms_in (left_of O.setting 0 cs))
               (at_forms (left_of O.setting 0 cs) c.region) ≡ true =
-              (λ j. covers R (grid_binders k.grid) (pure_steps (over_at j) (turns_for m0 ts)) (forms_in (left_at j)) (at_forms (left_at j) (whole_region j))) ∙ covers_here in
+              (λ j. covers R (grid_binders k.grid) (pure_steps (over_at j) (limited_turns lims m0 ts)) (forms_in (left_at j)) (at_forms (left_at j) (whole_region j))) ∙ covers_here in
               λ j. many j && all_covered j
 
     -- ---- the law
@@ -929,7 +1021,7 @@ module _ (a : Algorithm) (sch : Schedule) (l : Lowered) (well : IsAlgorithm a) (
         ranges_turned g.changes fs (suc i) q.body (ap (λ (names : List (List ℕ)). slice_get (bodies_from g.changes 0 names fs) (suc i)) (sym of_update.reductions) ∙ q.at)
         ∙ ap (map range_turning) of_update.ranges in
         let ts : List Turning = nest_turns q.body rs ls in
-        let code : Then s Empty ≡ down 0 (suc i) cs e (steps_for q.next ts) = comes ∙ ap (down 0 (suc i) cs e) (first_steps q.next ts w.steps part q.steps rest) in
+        let code : Then s Empty ≡ down 0 (suc i) cs e (limited_for q.limits q.next ts) = comes ∙ ap (down 0 (suc i) cs e) (first_steps q.limits q.next ts w.steps part q.steps rest) in
         let is = claim_is a sch l well legal small kept all groups n first line g p claims needs at there h lined placed alone_here c v found_at_c in
         let buffered : (O.claim c).buffer ≡ 0 = ap (λ (x : Claim). x.buffer) is ∙ says.buffered in
         let name : (O.claim c).function ≡ g.subject.name = ap (λ (x : Claim). x.function) is ∙ says.named in
@@ -940,8 +1032,8 @@ module _ (a : Algorithm) (sch : Schedule) (l : Lowered) (well : IsAlgorithm a) (
         let changed : updates O.setting s (O.claim c).buffer (O.claim c).function ≡ true = updating O R nests (suc i) c cs e buffered defined named_so part s comes in
         let one_less : (O.claim c).definition - 1 ≡ i = omega (arith, defined) in
         let goes : goes_on O R s c ≡ Some i = ap (λ (t : Bool). if t then Some ((O.claim c).definition - 1) else None) changed ∙ ap (λ (m : ℕ). Some m) one_less in
-        let spine : spine_of s (O.claim c).buffer ≡ Some (record { steps = turns_for q.next ts; line = Store 0 (suc i) cs e }) =
-        ap (spine_of s) buffered ∙ spine_is (suc i) cs e q.next ts s code in
+        let spine : spine_of s (O.claim c).buffer ≡ Some (record { steps = limited_turns q.limits q.next ts; line = Store 0 (suc i) cs e }) =
+        ap (spine_of s) buffered ∙ spine_is q.limits (suc i) cs e q.next ts s code in
         let turn = stepped i w stands ds reduced of_update.names of_update.within ranged ms cs e stores of_update.domain (O.claim c) defined named_so name over in
         let wide = spread i w stands ds reduced of_update.names of_update.within ranged ms cs e stores of_update.domain (O.claim c) defined named_so name over in
         let after : is_next i (O.claim c).definition ≡ true = ap (is_next i) defined ∙ eq_refl i in (
@@ -997,7 +1089,7 @@ module _ (a : Algorithm) (sch : Schedule) (l : Lowered) (well : IsAlgorithm a) (
         (nests_of.bare_nests a sch l well legal small kept all groups n first line g p claims needs at there h lined placed alone_here laid split_alone keeps filled) refl
 
   -- the tests of nests say yes to each claim of a nest of such a function
-  pub yes_at : (n : ℕ) (q : CodeGroup) → slice_get made_groups n ≡ Some q → (u : StoredText) → slice_get stored n ≡ Some u → IsBlocked a sch n u →
+  pub yes_at : (n : ℕ) (q : CodeGroup) → slice_get made_groups n ≡ Some q → (u : StoredText) → slice_get stored n ≡ Some u → IsKept a sch n u →
       EachClaim (outline_of plan cert n (group_of q)) (rules_of a plan cert n)
       (λ kept begin last known s c. (IsFetch s → ⊥) → (nests : Nests) → TakeSplit a plan cert n (group_of q) nests →
       SayYes (outline_of plan cert n (group_of q)) (rules_of a plan cert n) nests known s c)
@@ -1019,14 +1111,14 @@ module _ (a : Algorithm) (sch : Schedule) (l : Lowered) (well : IsAlgorithm a) (
       let laid : IsLaidBy me.stored body.extents body.skeleton =
       subst (λ (k : SkeletonText). IsLaidBy me.stored body.extents k) skeleton (subst (λ (es : List Extent). IsLaidBy me.stored es me.laid.skeleton) extents me.laid_by) in
       let same_stored : u ≡ me.stored = some_same u me.stored (sym at ∙ me.is) in
-      let mine : IsBlocked a sch n me.stored = subst (IsBlocked a sch n) same_stored blocked in
-      let filled : AllByRecursion (λ c. is_tailed (loop_numbers me.stored.subject.variables me.stored.placed.cuts body.extents) c ≡ false) me.stored.placed.cuts =
-      subst (λ (es : List Extent). AllByRecursion (λ c. is_tailed (loop_numbers me.stored.subject.variables me.stored.placed.cuts es) c ≡ false) me.stored.placed.cuts) extents
+      let mine : IsKept a sch n me.stored = subst (IsKept a sch n) same_stored blocked in
+      let filled : AllByRecursion (λ c. makes_line me.stored.placed.loops (loop_numbers me.stored.subject.variables me.stored.placed.cuts body.extents) c ≡ false) me.stored.placed.cuts =
+      subst (λ (es : List Extent). AllByRecursion (λ c. makes_line me.stored.placed.loops (loop_numbers me.stored.subject.variables me.stored.placed.cuts es) c ≡ false) me.stored.placed.cuts) extents
       (mine.filled me.laid me.found) in
       yes_each n b.first_claim b.line me.stored q b.claims b.needs me.is there body begins b.numbered own laid mine.once mine.inners filled
 
   module _ (near : AreClaimsNear cert) where
-    blocked_at : (n : ℕ) (q : CodeGroup) → slice_get made_groups n ≡ Some q → (u : StoredText) → slice_get stored n ≡ Some u → IsBlocked a sch n u → BlockedClaimsShown a plan cert n (group_of q)
+    blocked_at : (n : ℕ) (q : CodeGroup) → slice_get made_groups n ≡ Some q → (u : StoredText) → slice_get stored n ≡ Some u → IsKept a sch n u → BlockedClaimsShown a plan cert n (group_of q)
     blocked_at n q there u at blocked =
         let me = made_at a sch l well legal small kept all groups n q there in
         let r = alone_body a entries items 0 0 4 stored made_groups items l.certificate.needs.items (groups.bodies all)
@@ -1044,9 +1136,10 @@ module _ (a : Algorithm) (sch : Schedule) (l : Lowered) (well : IsAlgorithm a) (
         let laid : IsLaidBy me.stored body.extents body.skeleton =
         subst (λ (k : SkeletonText). IsLaidBy me.stored body.extents k) skeleton (subst (λ (es : List Extent). IsLaidBy me.stored es me.laid.skeleton) extents me.laid_by) in
         let same_stored : u ≡ me.stored = some_same u me.stored (sym at ∙ me.is) in
-        let mine : IsBlocked a sch n me.stored = subst (IsBlocked a sch n) same_stored blocked in
-        let filled : AllByRecursion (λ c. is_tailed (loop_numbers me.stored.subject.variables me.stored.placed.cuts body.extents) c ≡ false) me.stored.placed.cuts =
-        subst (λ (es : List Extent). AllByRecursion (λ c. is_tailed (loop_numbers me.stored.subject.variables me.stored.placed.cuts es) c ≡ false) me.stored.placed.cuts) extents
+        let mine : IsKept a sch n me.stored = subst (IsKept a sch n) same_stored blocked in
+        let filled : AllByRecursion (λ c. makes_line me.stored.placed.loops (loop_numbers me.stored.subject.variables me.stored.placed.cuts body.extents) c ≡ false) me.stored.placed.cuts =
+        subst (λ (es : List Extent). AllByRecursion (λ c. makes_line me.stored.placed.loops (loop_numbers me.stored.subject.variables me.stored.placed.cuts es) c ≡ false) me.stored.placed.cuts)
+        extents
         (mine.filled me.laid me.found) in
         blocked_shown n b.first_claim b.line me.stored q b.claims b.needs me.is there body begins b.numbered own laid mine.once mine.inners filled near
 

@@ -1,61 +1,165 @@
--- Over loops of numbers the search for a bound of a form finds what freeing it of all symbols does, and with a number more a number more.
+-- Over loops of numbers, some of which have a further upper form, the search for a bound of a form finds no more than what freeing it of all symbols does, and with a number more a number more.
 use Rattle.std.proofs.Common.{◌≡◌, ℕ, zero, suc, ◌+◌, ◌*◌, ◌<◌, ◌≤◌, ◌^◌, Bool, true, false, ◌&&◌, ◌||◌, List}
-use Rattle.std.proofs.Common.{[], ◌∷◌, length, map, Option, Some, None, refl, sym, ap, ◌∙◌, subst, inl, inr, ◌⊎◌, arith}
-use Rattle.std.specs.Prelude.{ℤ, pos, negsuc, ◌+ℤ◌, ◌*ℤ◌, ◌≤ℤ◌, ◌==◌, not, nat_le, filter, option_and_then, if◌then◌else◌, slice_get}
+use Rattle.std.proofs.Common.{[], ◌∷◌, ◌++◌, length, map, Option, Some, None, refl, sym, ap, ◌∙◌, subst, inl, inr, ◌⊎◌, arith}
+use Rattle.std.specs.Prelude.{ℤ, pos, negsuc, ◌+ℤ◌, ◌*ℤ◌, ◌≤ℤ◌, ◌==◌, not, nat_lt, nat_le, filter, fold, option_and_then, if◌then◌else◌, slice_get}
 use Rattle.std.specs.List.{AllByRecursion, list_any}
 use Rattle.std.specs.Option.{option_map_or}
+use Rattle.std.specs.Int.{int_min}
 use Rattle.std.specs.Int.RustNames.{unsigned_abs}
-use Rattle.std.proofs.lemmas.Int.{ints, unsigned_abs-mul}
+use Rattle.std.proofs.Math.Nat.{mul_left_comm, mul_comm, mul-add, mul-le-mul_left, mul-le-mul_right}
+use Rattle.std.proofs.lemmas.Int.{ints, clamps, unsigned_abs-mul}
 use Rattle.std.proofs.lemmas.Bool.{le-leb}
-use Rattle.lin.specs.Forms.{Form, number, factor_of, is_zero, is_within_limits, combined, plus_terms, plus_multiple, without, AreWithin}
+use Rattle.std.proofs.lemmas.Bool.Decides.{nat_tests}
+use Rattle.std.proofs.lemmas.Option.{slice_get_within}
+use Rattle.lin.specs.Forms.{Form, number, factor_of, is_zero, is_within_limits, combined, in_front, plus_term, plus_terms, plus_multiple, without, AreWithin}
 use Rattle.lin.specs.declared.form.Multiple.{Multiple}
-use Rattle.lin.specs.Search.{candidates, any_may_be, that_counts, replaced, result_at, total, total_at, least, replacements, sup, at_most}
+use Rattle.lin.specs.Search.{candidates, any_may_be, pick, that_counts, replaced, result_at, total, total_at, least, replacements, sup, at_most}
 use Rattle.lin.specs.declared.scope.Binding.{Binding}
 use Rattle.lin.specs.declared.scope.Binding.TheVariants.{Loop, LetMin, LetMax}
 use Rattle.lin.specs.declared.span.Span1.{Span1}
 use Rattle.lin.proofs.Limits.{combined-made, combined-means, within_limits-terms, within_limits-few, within_limits-without}
+use Rattle.bounds.specs.Lists.{checked}
 use Rattle.bounds.specs.Spans.{numbers}
-use Rattle.bounds.specs.Projection.Elimination.{is_inner, names_inner, is_eliminated, that_count, bounds_at, bounds_below, replacements_below, eliminated}
+use Rattle.bounds.specs.Projection.Elimination.{is_inner, names_inner, is_eliminated, both, that_count, bounds_at, bounds_below, replacements_below, eliminated}
 use Rattle.bounds.specs.Projection.Projection.{negated}
+use Rattle.bounds.proofs.ListSound.{AllIn, all-append, kept-all, checked-all}
 use Rattle.soundness.specs.Obligations.{anything}
 use Rattle.soundness.specs.Shown.{raised}
+use Rattle.soundness.proofs.Refines.{eq_true}
 use Rattle.lower.proofs.Laying.{same}
 use Rattle.completeness.proofs.TakenSites.{Has}
 use Rattle.completeness.proofs.SelfBounds.{found_below, still}
+use Rattle.completeness.proofs.Only.{only_combined}
 
 -- ---- boxes
 
--- there are numbers of a loop, all within 2^15, or nothing is known of the symbol
-abbrev pub IsBox : Binding → Type 0
-IsBox (Loop x) = (x ≡ anything) ⊎ ((low : ℤ) × (last : ℤ) × (x ≡ numbers low last) × (unsigned_abs low ≤ 32768) × (unsigned_abs last ≤ 32768) × (low ≤ℤ last))
-IsBox (LetMin fs) = ⊥
-IsBox (LetMax fs) = ⊥
+-- a loop from 0 on, that goes besides no farther than a number less multiples of the symbol of another loop from 0 on
+pub record IsCapped (scope : List Binding) (x : Span1) : Type 0 where
+  pub last : ℕ
+  pub most : ℕ
+  pub factor : ℕ
+  pub symbol : ℕ
+  pub top : ℕ
+  pub outer : slice_get scope symbol ≡ Some (Loop (numbers (pos 0) (pos top)))
+  pub is :
+      x ≡ record { lower = number (pos 0) ∷ []; upper = number (pos last) ∷ record { constant = pos most; terms = record { symbol = symbol; factor = negsuc factor } ∷ [] } ∷ [] }
+  pub few : last ≤ 32768
+  pub light : most + top * suc factor ≤ 32768
 
--- no form may stand in the symbol's place, or one number
-one_candidate : (b : Binding) → IsBox b → (c : ℤ) → (candidates b c ≡ []) ⊎ ((e : ℤ) × (candidates b c ≡ number e ∷ []) × (unsigned_abs e ≤ 32768))
-one_candidate (Loop x) (inl is) (pos n) = inl (ap (λ (y : Span1). y.upper) is)
-one_candidate (Loop x) (inl is) (negsuc n) = inl (ap (λ (y : Span1). y.lower) is)
-one_candidate (Loop x) (inr k) (pos n) = inr (k.1, ap (λ (y : Span1). y.upper) k.2, k.4)
-one_candidate (Loop x) (inr k) (negsuc n) = inr (k.0, ap (λ (y : Span1). y.lower) k.2, k.3)
-one_candidate (LetMin fs) box c = absurd box
-one_candidate (LetMax fs) box c = absurd box
+abbrev pub IsNumbers : Span1 → Type 0
+IsNumbers x = (low : ℤ) × (last : ℤ) × (x ≡ numbers low last) × (unsigned_abs low ≤ 32768) × (unsigned_abs last ≤ 32768) × (low ≤ℤ last)
 
--- ---- sizes
+-- there are numbers of a loop, all within 2^15, with a further upper form or without; or nothing is known of the symbol
+abbrev pub IsBox : List Binding → Binding → Type 0
+IsBox scope (Loop x) = (x ≡ anything) ⊎ (IsNumbers x ⊎ IsCapped scope x)
+IsBox scope (LetMin fs) = ⊥
+IsBox scope (LetMax fs) = ⊥
 
-abbrev pub size : List Multiple → ℕ
-size [] = 0
-size (t ∷ ts) = unsigned_abs t.factor + size ts
+abbrev pub AreBoxes : List Binding → Type 0
+AreBoxes scope = (n : ℕ) (b : Binding) → slice_get scope n ≡ Some b → IsBox scope b
 
--- the factor of a symbol, and what is left without it
-size_without : (ts : List Multiple) (n : ℕ) → unsigned_abs (factor_of ts n) + size (filter (λ t. not (t.symbol == n)) ts) ≤ size ts
-size_without [] n = omega (arith, ints)
-size_without (t ∷ ts) n = of (t.symbol == n) (size_without ts n)
+-- ---- lists
+
+pub has_all : {A : Type 0} (P : A → Type 0) (xs : List A) → ((x : A) → Has x xs → P x) → AllByRecursion P xs
+has_all P [] h = tt
+has_all P (x ∷ xs) h = (h x (inl refl), has_all P xs (λ y k. h y (inr k)))
+
+pub one_of_all : {A : Type 0} (P : A → Type 0) (xs : List A) (x : A) → AllByRecursion P xs → Has x xs → P x
+one_of_all P [] x h k = absurd k
+one_of_all P (y ∷ xs) x h (inl is) = subst P (sym is) h.0
+one_of_all P (y ∷ xs) x h (inr k) = one_of_all P xs x h.1 k
+
+none_has : {A : Type 0} (x : A) (xs ys : List A) → Some ys ≡ Some xs → Has x xs → Has x ys
+none_has x xs ys e h = subst (Has x) (sym (same ys xs e)) h
+
+has_map : {A B : Type 0} (f : A → B) (xs : List A) (x : A) → Has x xs → Has (f x) (map f xs)
+has_map f [] x h = absurd h
+has_map f (y ∷ xs) x (inl is) = inl (ap f is)
+has_map f (y ∷ xs) x (inr h) = inr (has_map f xs x h)
+
+-- what is so of each form of all results is so of those that count
+pub fold_all : (scope : List Binding) (P : Form → Type 0) (acc : Option (List Form)) (os : List (Option (List Form))) → AllIn P acc → AllByRecursion (λ o. AllIn P o) os →
+    AllIn P (fold (both scope false) acc os)
+fold_all scope P acc [] h k = h
+fold_all scope P acc (o ∷ os) h k = fold_all scope P (both scope false acc o) os (of acc o h k.0) k.1
   where
-    of : (b : Bool) → unsigned_abs (factor_of ts n) + size (filter (λ t. not (t.symbol == n)) ts) ≤ size ts →
-        unsigned_abs ((if b then t.factor else pos 0) +ℤ factor_of ts n) + size (if not b then t ∷ filter (λ t. not (t.symbol == n)) ts else filter (λ t. not (t.symbol == n)) ts)
-        ≤ unsigned_abs t.factor + size ts
-    of true h = omega (arith, ints, h)
-    of false h = omega (arith, ints, h)
+    of : (a b : Option (List Form)) → AllIn P a → AllIn P b → AllIn P (both scope false a b)
+    of None b x y = λ xs e. absurd (cc e)
+    of (Some a) None x y = λ xs e. absurd (cc e)
+    of (Some a) (Some b) x y = kept-all P (map checked (a ++ b)) (checked-all P (a ++ b) (all-append P a b (x a refl) (y b refl)))
+
+-- where they are some, so is each
+abbrev IsSomeList : Option (List Form) → Type 0
+IsSomeList o = (xs : List Form) × (o ≡ Some xs)
+
+fold_some : (scope : List Binding) (largest : Bool) (acc : Option (List Form)) (os : List (Option (List Form))) (bs : List Form) → fold (both scope largest) acc os ≡ Some bs →
+    IsSomeList acc × AllByRecursion IsSomeList os
+fold_some scope largest acc [] bs h = ((bs, h), tt)
+fold_some scope largest acc (o ∷ os) bs h =
+    let r = fold_some scope largest (both scope largest acc o) os bs h in
+    let k = of largest acc o r.0.0 r.0.1 in
+    (k.0, (k.1, r.1))
+  where
+    of : (v : Bool) (a b : Option (List Form)) (xs : List Form) → both scope v a b ≡ Some xs → IsSomeList a × IsSomeList b
+    of true None b xs e = absurd (cc e)
+    of true (Some a) None xs e = absurd (cc e)
+    of true (Some a) (Some b) xs e = ((a, refl), (b, refl))
+    of false None b xs e = absurd (cc e)
+    of false (Some a) None xs e = absurd (cc e)
+    of false (Some a) (Some b) xs e = ((a, refl), (b, refl))
+
+count_some : (scope : List Binding) (largest : Bool) (os : List (Option (List Form))) (bs : List Form) → that_count scope largest os ≡ Some bs → AllByRecursion IsSomeList os
+count_some scope largest [] bs h = tt
+count_some scope largest (o ∷ os) bs h = (let r = fold_some scope largest o os bs h in (r.0, r.1))
+
+-- the smallest of all is at most each
+fold_smallest : (acc : Option ℤ) (os : List (Option ℤ)) (r : ℤ) → ((a : ℤ) × (acc ≡ Some a) × (a ≤ℤ r)) ⊎ Has (Some r) os → (m : ℤ) × (fold (pick false) acc os ≡ Some m) × (m ≤ℤ r)
+fold_smallest acc [] r (inl h) = h
+fold_smallest acc [] r (inr h) = absurd h
+fold_smallest acc (o ∷ os) r h = fold_smallest (pick false acc o) os r (of acc o h)
+  where
+    least_left : (x y : ℤ) → x ≤ℤ r → int_min x y ≤ℤ r
+    least_left x y k = omega (arith, ints, clamps, k)
+
+    least_right : (x y : ℤ) → y ≡ r → int_min x y ≤ℤ r
+    least_right x y k = omega (arith, ints, clamps, k)
+
+    itself : (y : ℤ) → y ≡ r → y ≤ℤ r
+    itself y k = omega (arith, ints, k)
+
+    of : (a b : Option ℤ) → ((x : ℤ) × (a ≡ Some x) × (x ≤ℤ r)) ⊎ Has (Some r) (b ∷ os) → ((x : ℤ) × (pick false a b ≡ Some x) × (x ≤ℤ r)) ⊎ Has (Some r) os
+    of a b (inr (inr k)) = inr k
+    of None b (inl k) = absurd (cc k.1)
+    of None None (inr (inl e)) = absurd (cc e)
+    of None (Some y) (inr (inl e)) = (let is : r ≡ y = cc e in inl (y, refl, itself y (sym is)))
+    of (Some x) None (inl k) = (let is : x ≡ k.0 = cc k.1 in let le = k.2 in inl (x, refl, subst (λ (z : ℤ). z ≤ℤ r) (sym is) le))
+    of (Some x) None (inr (inl e)) = absurd (cc e)
+    of (Some x) (Some y) (inl k) = (let is : x ≡ k.0 = cc k.1 in inl (int_min x y, refl, least_left x y (subst (λ (z : ℤ). z ≤ℤ r) (sym is) k.2)))
+    of (Some x) (Some y) (inr (inl e)) = (let is : r ≡ y = cc e in inl (int_min x y, refl, least_right x y (sym is)))
+
+smallest : (os : List (Option ℤ)) (r : ℤ) → Has (Some r) os → (m : ℤ) × (that_counts false os ≡ Some m) × (m ≤ℤ r)
+smallest [] r h = absurd h
+smallest (o ∷ os) r (inl e) = fold_smallest o os r (inl (r, sym e, itself r))
+  where
+    itself : (y : ℤ) → y ≤ℤ y
+    itself y = omega (arith, ints)
+smallest (o ∷ os) r (inr h) = fold_smallest o os r (inr h)
+
+-- ---- weights: how far multiples go
+
+-- how far from 0 the numbers of a symbol's loop go
+abbrev pub far_of : List Form → ℕ
+far_of [] = 0
+far_of (f ∷ fs) = unsigned_abs f.constant
+
+abbrev pub weight_of : Option Binding → ℕ
+weight_of None = 0
+weight_of (Some (Loop x)) = elim x.upper [ [] ↦ 0 | f ∷ fs ↦ elim fs [ [] ↦ far_of x.lower + unsigned_abs f.constant | g ∷ gs ↦ 32768 ] ]
+weight_of (Some (LetMin fs)) = 0
+weight_of (Some (LetMax fs)) = 0
+
+spread : (w p q s : ℕ) → p ≤ q + s → w * p ≤ w * q + w * s
+spread w p q s h = (let most = mul-le-mul_left w h in let parts = mul-add w q s in omega (arith, most, parts))
 
 -- a product of a factor and a number of a loop
 pub product_near : (c e : ℤ) → unsigned_abs e ≤ 32768 → unsigned_abs (c *ℤ e) ≤ 32768 * unsigned_abs c
@@ -68,106 +172,271 @@ product_near c e near = (let is = unsigned_abs-mul c e in by (unsigned_abs c) (u
     by : (m n : ℕ) → n ≤ 32768 → unsigned_abs (c *ℤ e) ≡ m * n → unsigned_abs (c *ℤ e) ≤ 32768 * m
     by m n h is = (let most = times m n h in omega (arith, is, most))
 
+module _ (scope : List Binding) where
+  abbrev pub weight_at : ℕ → ℕ
+  weight_at n = weight_of (slice_get scope n)
+
+  abbrev pub weight : List Multiple → ℕ
+  weight [] = 0
+  weight (t ∷ ts) = weight_at t.symbol * unsigned_abs t.factor + weight ts
+
+  -- the factor of a symbol, and what is left without it
+  weight_without : (ts : List Multiple) (n : ℕ) → weight_at n * unsigned_abs (factor_of ts n) + weight (filter (λ t. not (t.symbol == n)) ts) ≤ weight ts
+  weight_without [] n = (let none = nothing (weight_at n) in omega (arith, none))
+    where
+      nothing : (w : ℕ) → w * 0 ≡ 0
+      nothing w = omega arith
+  weight_without (t ∷ ts) n = of (t.symbol == n) refl (weight_without ts n)
+    where
+      sum : (p q : ℤ) → unsigned_abs (p +ℤ q) ≤ unsigned_abs p + unsigned_abs q
+      sum p q = omega (arith, ints)
+
+      zero_more : (q : ℤ) → pos 0 +ℤ q ≡ q
+      zero_more q = omega (arith, ints)
+
+      of : (b : Bool) → (t.symbol == n) ≡ b → weight_at n * unsigned_abs (factor_of ts n) + weight (filter (λ t. not (t.symbol == n)) ts) ≤ weight ts →
+          weight_at n * unsigned_abs ((if b then t.factor else pos 0) +ℤ factor_of ts n)
+          + weight (if not b then t ∷ filter (λ t. not (t.symbol == n)) ts else filter (λ t. not (t.symbol == n)) ts) ≤ weight_at t.symbol * unsigned_abs t.factor + weight ts
+      of true e h =
+          let is : t.symbol ≡ n = eq_true t.symbol n e in
+          let more = spread (weight_at n) (unsigned_abs (t.factor +ℤ factor_of ts n)) (unsigned_abs t.factor) (unsigned_abs (factor_of ts n)) (sum t.factor (factor_of ts n)) in
+          let here : weight_at t.symbol * unsigned_abs t.factor ≡ weight_at n * unsigned_abs t.factor = ap (λ (m : ℕ). weight_at m * unsigned_abs t.factor) is in
+          omega (arith, more, here, h)
+      of false e h =
+          let here : weight_at n * unsigned_abs (pos 0 +ℤ factor_of ts n) ≡ weight_at n * unsigned_abs (factor_of ts n) =
+          ap (λ (z : ℤ). weight_at n * unsigned_abs z) (zero_more (factor_of ts n)) in
+          omega (arith, here, h)
+
+  weight_front : (t : Multiple) (ts : List Multiple) → weight (in_front t ts) ≤ weight_at t.symbol * unsigned_abs t.factor + weight ts
+  weight_front t ts = of (is_zero t.factor)
+    where
+      of : (b : Bool) → weight (if b then ts else t ∷ ts) ≤ weight_at t.symbol * unsigned_abs t.factor + weight ts
+      of true = omega arith
+      of false = omega arith
+
+  weight_term : (ts : List Multiple) (t : Multiple) → weight (plus_term ts t) ≤ weight ts + weight_at t.symbol * unsigned_abs t.factor
+  weight_term [] t = (let front = weight_front t [] in omega (arith, front))
+  weight_term (x ∷ xs) t = of (nat_lt x.symbol t.symbol) (x.symbol == t.symbol) refl (weight_term xs t)
+    where
+      sum : (p q : ℤ) → unsigned_abs (p +ℤ q) ≤ unsigned_abs p + unsigned_abs q
+      sum p q = omega (arith, ints)
+
+      of : (a b : Bool) → (x.symbol == t.symbol) ≡ b → weight (plus_term xs t) ≤ weight xs + weight_at t.symbol * unsigned_abs t.factor →
+          weight (if a then x ∷ plus_term xs t else (if b then in_front (record { symbol = t.symbol; factor = x.factor +ℤ t.factor }) xs else in_front t (x ∷ xs)))
+          ≤ (weight_at x.symbol * unsigned_abs x.factor + weight xs) + weight_at t.symbol * unsigned_abs t.factor
+      of true b e rest = omega (arith, rest)
+      of false true e rest =
+          let is : x.symbol ≡ t.symbol = eq_true x.symbol t.symbol e in
+          let front = weight_front (record { symbol = t.symbol; factor = x.factor +ℤ t.factor }) xs in
+          let more = spread (weight_at t.symbol) (unsigned_abs (x.factor +ℤ t.factor)) (unsigned_abs x.factor) (unsigned_abs t.factor) (sum x.factor t.factor) in
+          let here : weight_at x.symbol * unsigned_abs x.factor ≡ weight_at t.symbol * unsigned_abs x.factor = ap (λ (m : ℕ). weight_at m * unsigned_abs x.factor) is in
+          omega (arith, front, more, here)
+      of false false e rest = (let front = weight_front t (x ∷ xs) in omega (arith, front))
+
+  weight_terms : (ts : List Multiple) (k : ℤ) (us : List Multiple) → weight (plus_terms ts k us) ≤ weight ts + unsigned_abs k * weight us
+  weight_terms ts k [] = omega arith
+  weight_terms ts k (u ∷ us) =
+      let v : Multiple = record { symbol = u.symbol; factor = k *ℤ u.factor } in
+      let rest = weight_terms (plus_term ts v) k us in
+      let one = weight_term ts v in
+      let product : weight_at u.symbol * unsigned_abs (k *ℤ u.factor) ≡ unsigned_abs k * (weight_at u.symbol * unsigned_abs u.factor) =
+      ap (λ (m : ℕ). weight_at u.symbol * m) (unsigned_abs-mul k u.factor) ∙ mul_left_comm (weight_at u.symbol) (unsigned_abs k) (unsigned_abs u.factor) in
+      let parts = mul-add (unsigned_abs k) (weight_at u.symbol * unsigned_abs u.factor) (weight us) in
+      omega (arith, rest, one, product, parts)
+
+  few_weight : (b : Binding) → IsBox scope b → weight_of (Some b) ≤ 65536
+  few_weight (Loop x) (inl is) = subst (λ (y : Span1). weight_of (Some (Loop y)) ≤ 65536) (sym is) (omega arith)
+  few_weight (Loop x) (inr (inl k)) = (let low = k.3 in let last = k.4 in subst (λ (y : Span1). weight_of (Some (Loop y)) ≤ 65536) (sym k.2) (omega (arith, low, last)))
+  few_weight (Loop x) (inr (inr k)) = subst (λ (y : Span1). weight_of (Some (Loop y)) ≤ 65536) (sym k.is) (omega arith)
+  few_weight (LetMin fs) box = absurd box
+  few_weight (LetMax fs) box = absurd box
+
+  -- a form that may stand in a symbol's place goes no farther than the symbol
+  candidates_light : (b : Binding) → IsBox scope b → (c : ℤ) → AllByRecursion (λ f. unsigned_abs f.constant + weight f.terms ≤ weight_of (Some b)) (candidates b c)
+  candidates_light (Loop x) (inl is) (pos n) =
+      subst (λ (y : Span1). AllByRecursion (λ f. unsigned_abs f.constant + weight f.terms ≤ weight_of (Some (Loop y))) y.upper) (sym is) tt
+  candidates_light (Loop x) (inl is) (negsuc n) =
+      subst (λ (y : Span1). AllByRecursion (λ f. unsigned_abs f.constant + weight f.terms ≤ weight_of (Some (Loop y))) y.lower) (sym is) tt
+  candidates_light (Loop x) (inr (inl k)) (pos n) =
+      subst (λ (y : Span1). AllByRecursion (λ f. unsigned_abs f.constant + weight f.terms ≤ weight_of (Some (Loop y))) y.upper) (sym k.2) (omega arith, tt)
+  candidates_light (Loop x) (inr (inl k)) (negsuc n) =
+      subst (λ (y : Span1). AllByRecursion (λ f. unsigned_abs f.constant + weight f.terms ≤ weight_of (Some (Loop y))) y.lower) (sym k.2) (omega arith, tt)
+  candidates_light (Loop x) (inr (inr k)) (pos n) =
+      let few = k.few in
+      let light = k.light in
+      let none : 0 + k.top ≡ k.top = omega arith in
+      let top_is : weight_at k.symbol ≡ k.top = ap weight_of k.outer ∙ none in
+      let limit : k.most + (weight_at k.symbol * suc k.factor + 0) ≤ 32768 = subst (λ (w : ℕ). k.most + (w * suc k.factor + 0) ≤ 32768) (sym top_is) (omega (arith, light)) in
+      subst (λ (y : Span1). AllByRecursion (λ f. unsigned_abs f.constant + weight f.terms ≤ weight_of (Some (Loop y))) y.upper) (sym k.is) (omega (arith, few), (limit, tt))
+  candidates_light (Loop x) (inr (inr k)) (negsuc n) =
+      subst (λ (y : Span1). AllByRecursion (λ f. unsigned_abs f.constant + weight f.terms ≤ weight_of (Some (Loop y))) y.lower) (sym k.is) (omega arith, tt)
+  candidates_light (LetMin fs) box c = absurd box
+  candidates_light (LetMax fs) box c = absurd box
+
+  none_may : (b : Binding) → IsBox scope b → (c : ℤ) → any_may_be b c ≡ false
+  none_may (Loop x) box c = refl
+  none_may (LetMin fs) box c = absurd box
+  none_may (LetMax fs) box c = absurd box
+
+-- the symbols of such forms are those of the scope
+module _ (scope : List Binding) (P : ℕ → Type 0) (all : (m : ℕ) → m < length scope → P m) where
+  candidates_only : (b : Binding) → IsBox scope b → (c : ℤ) → AllByRecursion (λ f. AllByRecursion (λ t. P t.symbol) f.terms) (candidates b c)
+  candidates_only (Loop x) (inl is) (pos n) = subst (λ (y : Span1). AllByRecursion (λ f. AllByRecursion (λ t. P t.symbol) f.terms) y.upper) (sym is) tt
+  candidates_only (Loop x) (inl is) (negsuc n) = subst (λ (y : Span1). AllByRecursion (λ f. AllByRecursion (λ t. P t.symbol) f.terms) y.lower) (sym is) tt
+  candidates_only (Loop x) (inr (inl k)) (pos n) = subst (λ (y : Span1). AllByRecursion (λ f. AllByRecursion (λ t. P t.symbol) f.terms) y.upper) (sym k.2) (tt, tt)
+  candidates_only (Loop x) (inr (inl k)) (negsuc n) = subst (λ (y : Span1). AllByRecursion (λ f. AllByRecursion (λ t. P t.symbol) f.terms) y.lower) (sym k.2) (tt, tt)
+  candidates_only (Loop x) (inr (inr k)) (pos n) =
+      subst (λ (y : Span1). AllByRecursion (λ f. AllByRecursion (λ t. P t.symbol) f.terms) y.upper) (sym k.is)
+      (tt, ((all k.symbol (slice_get_within scope k.symbol (Loop (numbers (pos 0) (pos k.top))) k.outer), tt), tt))
+  candidates_only (Loop x) (inr (inr k)) (negsuc n) = subst (λ (y : Span1). AllByRecursion (λ f. AllByRecursion (λ t. P t.symbol) f.terms) y.lower) (sym k.is) (tt, tt)
+  candidates_only (LetMin fs) box c = absurd box
+  candidates_only (LetMax fs) box c = absurd box
+
 -- ---- one symbol
 
-module _ (scope : List Binding) (inner : List ℕ) (boxes : (n : ℕ) (b : Binding) → slice_get scope n ≡ Some b → IsBox b) where
-  abbrev rest_of : ℕ → Form → List Multiple
-  rest_of n form = filter (λ t. not (t.symbol == n)) form.terms
-
-  abbrev next_of : ℕ → Form → ℤ → Form
-  next_of n form e = record { constant = form.constant +ℤ factor_of form.terms n *ℤ e; terms = rest_of n form }
-
+module _ (scope : List Binding) (inner : List ℕ) (boxes : AreBoxes scope) where
   -- what stands in the symbol's place, and what is found then
-  record IsStep (n : ℕ) (form : Form) (bs : List Form) : Type 0 where
+  record IsStep (n : ℕ) (form : Form) (y : Form) : Type 0 where
     binding : Binding
     there : slice_get scope n ≡ Some binding
-    stands : ℤ
-    one : candidates binding (factor_of form.terms n) ≡ number stands ∷ []
-    near : unsigned_abs stands ≤ 32768
-    made : replaced form n (factor_of form.terms n) (number stands) ≡ Some (next_of n form stands)
-    comes : bounds_below scope inner n (next_of n form stands) ≡ Some bs
+    other : Form
+    among : Has other (candidates binding (factor_of form.terms n))
+    next : Form
+    made : replaced form n (factor_of form.terms n) other ≡ Some next
+    found : List Form
+    comes : bounds_below scope inner n next ≡ Some found
+    has : Has y found
 
-  none_has : {A : Type 0} (x : A) (xs ys : List A) → Some ys ≡ Some xs → Has x xs → Has x ys
-  none_has x xs ys e h = subst (Has x) (sym (same ys xs e)) h
+  module _ (n : ℕ) (form : Form) (y : Form) where
+    abbrev result_of : Form → Option (List Form)
+    result_of other = option_and_then (λ next. bounds_below scope inner n next) (replaced form n (factor_of form.terms n) other)
 
-  step : (n : ℕ) (form : Form) (bs : List Form) (y : Form) →
-      bounds_at scope (slice_get scope n) (factor_of form.terms n) (λ other. option_and_then (λ next. bounds_below scope inner n next) (replaced form n (factor_of form.terms n) other)) ≡ Some bs →
-      Has y bs → IsStep n form bs
+    -- one of these gives it
+    abbrev IsGiven : List Form → Form → Type 0
+    IsGiven cs f = (other : Form) × Has other cs × (found : List Form) × (result_of other ≡ Some found) × Has f found
+
+    each_given : (cs ds : List Form) → ((f : Form) → Has f ds → Has f cs) → AllByRecursion (λ o. AllIn (IsGiven cs) o) (map result_of ds)
+    each_given cs [] w = tt
+    each_given cs (d ∷ ds) w = ((λ xs e. has_all (IsGiven cs) xs (λ f k. (d, w d (inl refl), xs, e, k))), each_given cs ds (λ f k. w f (inr k)))
+
+    given_one : (cs bs : List Form) → that_count scope false (map result_of cs) ≡ Some bs → Has y bs → IsGiven cs y
+    given_one [] bs q has = absurd (none_has y bs [] q has)
+    given_one (f ∷ fs) bs q has =
+        let ps = each_given (f ∷ fs) (f ∷ fs) (λ g k. k) in
+        one_of_all (IsGiven (f ∷ fs)) bs y (fold_all scope (IsGiven (f ∷ fs)) (result_of f) (map result_of fs) ps.0 ps.1 bs q) has
+
+  step : (n : ℕ) (form : Form) (bs : List Form) (y : Form) → bounds_at scope (slice_get scope n) (factor_of form.terms n) (result_of n form y) ≡ Some bs → Has y bs → IsStep n form y
   step n form bs y h has = at_binding (slice_get scope n) refl h
     where
-      result : Form → Option (List Form)
-      result other = option_and_then (λ next. bounds_below scope inner n next) (replaced form n (factor_of form.terms n) other)
+      by_made : (b : Binding) → slice_get scope n ≡ Some b → (other : Form) → Has other (candidates b (factor_of form.terms n)) → (found : List Form) → Has y found → (o : Option Form) →
+          replaced form n (factor_of form.terms n) other ≡ o → option_and_then (λ next. bounds_below scope inner n next) o ≡ Some found → IsStep n form y
+      by_made b there other among found in_found None q k = absurd (cc k)
+      by_made b there other among found in_found (Some next) q k = record {
+        binding = b;
+        there = there;
+        other = other;
+        among = among;
+        next = next;
+        made = q;
+        found = found;
+        comes = k;
+        has = in_found;
+      }
 
-      at_made : (b : Binding) (e : ℤ) → slice_get scope n ≡ Some b → candidates b (factor_of form.terms n) ≡ number e ∷ [] → unsigned_abs e ≤ 32768 → (o : Option Form) →
-          replaced form n (factor_of form.terms n) (number e) ≡ o → option_and_then (λ next. bounds_below scope inner n next) o ≡ Some bs → IsStep n form bs
-      at_made b e there one near None q k = absurd (cc k)
-      at_made b e there one near (Some next) q k =
-          let means = combined-means (without form n) (factor_of form.terms n) (number e) next q in
-          let is : next ≡ next_of n form e = means.is in
-          record {
-            binding = b;
-            there = there;
-            stands = e;
-            one = one;
-            near = near;
-            made = q ∙ ap (λ (f : Form). Some f) is;
-            comes = ap (bounds_below scope inner n) (sym is) ∙ k;
-          }
-
-      at_binding : (o : Option Binding) → slice_get scope n ≡ o → bounds_at scope o (factor_of form.terms n) result ≡ Some bs → IsStep n form bs
+      at_binding : (o : Option Binding) → slice_get scope n ≡ o → bounds_at scope o (factor_of form.terms n) (result_of n form y) ≡ Some bs → IsStep n form y
       at_binding None q k = absurd (none_has y bs [] k has)
-      at_binding (Some b) q k = elim (one_candidate b (boxes n b q) (factor_of form.terms n)) [
-        | inl none ↦
-            absurd (none_has y bs [] (sym (ap (λ (fs : List Form). that_count scope (any_may_be b (factor_of form.terms n)) (map result fs)) none) ∙ k) has)
-        | inr one ↦
-            at_made b one.0 q one.1 one.2 (replaced form n (factor_of form.terms n) (number one.0)) refl
-            (sym (ap (λ (fs : List Form). that_count scope (any_may_be b (factor_of form.terms n)) (map result fs)) one.1) ∙ k)
-      ]
+      at_binding (Some b) q k =
+          let c : ℤ = factor_of form.terms n in
+          let r = given_one n form y (candidates b c) bs
+          (sym (ap (λ (v : Bool). that_count scope v (map (result_of n form y) (candidates b c))) (none_may scope b (boxes n b q) c)) ∙ k) has in
+          by_made b q r.0 r.1 r.2 r.4 (replaced form n c r.0) refl r.3
 
   -- ---- how far a form's number is
 
-  far : (n : ℕ) (form : Form) (bs : List Form) (u : Form) → bounds_below scope inner n form ≡ Some bs → Has u bs → unsigned_abs form.constant ≤ unsigned_abs u.constant + 32768 * size form.terms
+  -- with what stands in the symbol's place the form goes no farther than with the symbol
+  step_far : (n : ℕ) (form : Form) (y : Form) (s : IsStep n form y) → (v : ℕ) → unsigned_abs s.next.constant ≤ v + weight scope s.next.terms → unsigned_abs form.constant ≤ v + weight scope form.terms
+  step_far n form y s v h =
+      let c : ℤ = factor_of form.terms n in
+      let means = combined-means (without form n) c s.other s.next s.made in
+      let light : unsigned_abs s.other.constant + weight scope s.other.terms ≤ weight_of (Some s.binding) =
+      one_of_all (λ f. unsigned_abs f.constant + weight scope f.terms ≤ weight_of (Some s.binding)) (candidates s.binding c) s.other
+      (candidates_light scope s.binding (boxes n s.binding s.there) c) s.among in
+      let here : weight_of (Some s.binding) ≡ weight_at scope n = ap weight_of (sym s.there) in
+      let left = weight_without scope form.terms n in
+      let terms = weight_terms scope (without form n).terms c s.other.terms in
+      let parts = mul-add (unsigned_abs c) (unsigned_abs s.other.constant) (weight scope s.other.terms) in
+      let most : unsigned_abs c * (unsigned_abs s.other.constant + weight scope s.other.terms) ≤ unsigned_abs c * weight_at scope n =
+      mul-le-mul_left (unsigned_abs c) (subst (λ (w : ℕ). unsigned_abs s.other.constant + weight scope s.other.terms ≤ w) here light) in
+      let turned = mul_comm (unsigned_abs c) (weight_at scope n) in
+      let product = unsigned_abs-mul c s.other.constant in
+      let constant : s.next.constant ≡ form.constant +ℤ c *ℤ s.other.constant = ap (λ (f : Form). f.constant) means.is in
+      let terms_are : weight scope s.next.terms ≡ weight scope (plus_terms (without form n).terms c s.other.terms) = ap (λ (f : Form). weight scope f.terms) means.is in
+      let sum : unsigned_abs form.constant ≤ unsigned_abs s.next.constant + unsigned_abs (c *ℤ s.other.constant) =
+      subst (λ (z : ℤ). unsigned_abs form.constant ≤ unsigned_abs z + unsigned_abs (c *ℤ s.other.constant)) (sym constant) (part form.constant (c *ℤ s.other.constant)) in
+      omega (arith, h, left, terms, parts, most, turned, product, terms_are, sum)
+    where
+      part : (a b : ℤ) → unsigned_abs a ≤ unsigned_abs (a +ℤ b) + unsigned_abs b
+      part a b = omega (arith, ints)
+
+  far : (n : ℕ) (form : Form) (bs : List Form) (u : Form) → bounds_below scope inner n form ≡ Some bs → Has u bs → unsigned_abs form.constant ≤ unsigned_abs u.constant + weight scope form.terms
   far zero form bs u h has = of (names_inner inner form) h
     where
-      of : (b : Bool) → Some (if b then [] else form ∷ []) ≡ Some bs → unsigned_abs form.constant ≤ unsigned_abs u.constant + 32768 * size form.terms
+      of : (b : Bool) → Some (if b then [] else form ∷ []) ≡ Some bs → unsigned_abs form.constant ≤ unsigned_abs u.constant + weight scope form.terms
       of true q = absurd (none_has u bs [] q has)
       of false q = elim (none_has u bs (form ∷ []) q has) [
         | inl is ↦ (let same_number : unsigned_abs u.constant ≡ unsigned_abs form.constant = ap (λ (f : Form). unsigned_abs f.constant) is in omega (arith, same_number))
         | inr later ↦ absurd later
       ]
-  far (suc n) form bs u h has = of (is_eliminated inner n (factor_of form.terms n)) h (λ q. far n form bs u q has) (λ next q. far n next bs u q has)
+  far (suc n) form bs u h has = of (is_eliminated inner n (factor_of form.terms n)) h (λ q. far n form bs u q has) (λ next found q k. far n next found u q k)
     where
-      part : (a b : ℤ) → unsigned_abs a ≤ unsigned_abs (a +ℤ b) + unsigned_abs b
-      part a b = omega (arith, ints)
-
       of : (b : Bool) →
           (if b then bounds_at scope (slice_get scope n) (factor_of form.terms n)
           (λ other. option_and_then (λ next. bounds_below scope inner n next) (replaced form n (factor_of form.terms n) other)) else bounds_below scope inner n form) ≡ Some bs →
-          (bounds_below scope inner n form ≡ Some bs → unsigned_abs form.constant ≤ unsigned_abs u.constant + 32768 * size form.terms) →
-          ((next : Form) → bounds_below scope inner n next ≡ Some bs → unsigned_abs next.constant ≤ unsigned_abs u.constant + 32768 * size next.terms) →
-          unsigned_abs form.constant ≤ unsigned_abs u.constant + 32768 * size form.terms
+          (bounds_below scope inner n form ≡ Some bs → unsigned_abs form.constant ≤ unsigned_abs u.constant + weight scope form.terms) →
+          ((next : Form) (found : List Form) → bounds_below scope inner n next ≡ Some found → Has u found → unsigned_abs next.constant ≤ unsigned_abs u.constant + weight scope next.terms) →
+          unsigned_abs form.constant ≤ unsigned_abs u.constant + weight scope form.terms
       of false q stays steps = stays q
-      of true q stays steps =
-          let s = step n form bs u q has in
-          let c = factor_of form.terms n in
-          let later = steps (next_of n form s.stands) s.comes in
-          let product = product_near c s.stands s.near in
-          let sizes = size_without form.terms n in
-          let sum : unsigned_abs form.constant ≤ unsigned_abs (form.constant +ℤ c *ℤ s.stands) + unsigned_abs (c *ℤ s.stands) = part form.constant (c *ℤ s.stands) in
-          omega (arith, later, product, sizes, sum)
+      of true q stays steps = (let s = step n form bs u q has in step_far n form u s (unsigned_abs u.constant) (steps s.next s.found s.comes s.has))
+
+  -- a form within the limits goes no farther than 2^39 from its number
+  all_few : (n : ℕ) → weight_at scope n ≤ 65536
+  all_few n = of (slice_get scope n) refl
+    where
+      of : (o : Option Binding) → slice_get scope n ≡ o → weight_of o ≤ 65536
+      of None e = omega arith
+      of (Some b) e = few_weight scope b (boxes n b e)
+
+  weight_few : (ts : List Multiple) → AreWithin (2 ^ 20) ts → weight scope ts ≤ 68719476736 * length ts
+  weight_few [] h = omega arith
+  weight_few (t ∷ ts) h =
+      let here : unsigned_abs t.factor ≤ 1048576 = h.0 in
+      let most = mul-le-mul_right (unsigned_abs t.factor) (all_few t.symbol) in
+      let rest = weight_few ts h.1 in
+      omega (arith, here, most, rest)
+
+  near_form : (n : ℕ) (form : Form) (bs : List Form) (u : Form) → bounds_below scope inner n form ≡ Some bs → Has u bs → is_within_limits form ≡ true → unsigned_abs u.constant ≤ 2 ^ 31 →
+      unsigned_abs form.constant ≤ 2 ^ 39 + 2 ^ 31
+  near_form n form bs u h has limited near =
+      let f = far n form bs u h has in
+      let sized = weight_few form.terms (within_limits-terms form limited) in
+      let count = within_limits-few form limited in
+      omega (arith, f, sized, count, near)
 
   -- ---- the same search
 
   -- with a number more
   module _ (z : ℤ) (z_near : unsigned_abs z ≤ 2 ^ 32) where
-    record IsFound (n : ℕ) (form : Form) (y : ℤ) : Type 0 where
-      bound : least scope n (raised form z) ≡ Some (y +ℤ z)
-      count : replacements scope n (raised form z) ≡ replacements_below scope inner n form
+    -- what stands in the symbol's place makes the same of both
+    raised_made : (n : ℕ) (form : Form) (c : ℤ) (other next : Form) → replaced form n c other ≡ Some next → plus_multiple (without (raised form z) n) c other ≡ raised next z
+    raised_made n form c other next made =
+        let means = combined-means (without form n) c other next made in
+        let sum : (form.constant +ℤ z) +ℤ c *ℤ other.constant ≡ (form.constant +ℤ c *ℤ other.constant) +ℤ z = around form.constant z (c *ℤ other.constant) in
+        (λ i. record { constant = sum i; terms = plus_terms (without form n).terms c other.terms }) ∙ ap (λ (f : Form). raised f z) (sym means.is)
+      where
+        around : (p q r : ℤ) → (p +ℤ q) +ℤ r ≡ (p +ℤ r) +ℤ q
+        around p q r = omega (arith, ints)
 
-    abbrev IsNear : Form → Type 0
-    IsNear form = unsigned_abs form.constant + 32768 * size form.terms ≤ 2 ^ 39 + 2 ^ 32
-
-    raised_within : (form : Form) → is_within_limits form ≡ true → IsNear form → is_within_limits (raised form z) ≡ true
+    raised_within : (form : Form) → is_within_limits form ≡ true → unsigned_abs form.constant ≤ 2 ^ 39 + 2 ^ 31 → is_within_limits (raised form z) ≡ true
     raised_within form limited near =
         let far_enough : unsigned_abs (form.constant +ℤ z) ≤ 2 ^ 40 = omega (arith, ints, near, z_near) in
         let last = le-leb (unsigned_abs (form.constant +ℤ z)) (2 ^ 40) far_enough in
@@ -177,32 +446,77 @@ module _ (scope : List Binding) (inner : List ℕ) (boxes : (n : ℕ) (b : Bindi
         last_and true b c h k = k
         last_and false b c h k = absurd (cc h)
 
-    -- what stands in the symbol's place makes the same of both
-    raised_made : (n : ℕ) (form : Form) (e : ℤ) → is_within_limits form ≡ true → IsNear form → unsigned_abs e ≤ 32768 → is_within_limits (next_of n form e) ≡ true → IsNear (next_of n form e) →
-        replaced (raised form z) n (factor_of form.terms n) (number e) ≡ Some (raised (next_of n form e) z)
-    raised_made n form e limited near e_near next_limited next_near =
-        let c = factor_of form.terms n in
-        let sum : (form.constant +ℤ z) +ℤ c *ℤ e ≡ (form.constant +ℤ c *ℤ e) +ℤ z = omega (arith, ints) in
-        let is : plus_multiple (without (raised form z) n) c (number e) ≡ raised (next_of n form e) z = λ i. record { constant = sum i; terms = rest_of n form } in
-        let number_within : is_within_limits (number e) ≡ true = le-leb (unsigned_abs e) (2 ^ 40) (omega (arith, e_near)) in
-        combined-made (without (raised form z) n) (number e) c (within_limits-without (raised form z) n (raised_within form limited near)) number_within
-        (ap is_within_limits is ∙ raised_within (next_of n form e) next_limited next_near)
-        ∙ ap (λ (f : Form). Some f) is
+    -- it takes no more replacements
+    abbrev AreFewer : ℕ → Type 0
+    AreFewer n = (next : Form) (found : List Form) → bounds_below scope inner n next ≡ Some found → replacements scope n (raised next z) ≤ replacements_below scope inner n next
 
-    next_near : (n : ℕ) (form : Form) (e : ℤ) → unsigned_abs e ≤ 32768 → IsNear form → IsNear (next_of n form e)
-    next_near n form e e_near near =
-        let c = factor_of form.terms n in
-        let product = product_near c e e_near in
-        let sizes = size_without form.terms n in
-        let sum : unsigned_abs (form.constant +ℤ c *ℤ e) ≤ unsigned_abs form.constant + unsigned_abs (c *ℤ e) = part form.constant (c *ℤ e) in
-        omega (arith, near, product, sizes, sum)
+    module _ (n : ℕ) (form : Form) (steps : AreFewer n) where
+      abbrev c_here : ℤ
+      c_here = factor_of form.terms n
+
+      abbrev result_here : Form → Option (List Form)
+      result_here other = option_and_then (λ next. bounds_below scope inner n next) (replaced form n c_here other)
+
+      abbrev cost : Form → ℕ
+      cost other = suc (option_map_or (λ f. replacements scope n f) (replaced (raised form z) n c_here other) 0)
+
+      abbrev cost_below : Form → ℕ
+      cost_below other = suc (option_map_or (λ f. replacements_below scope inner n f) (replaced form n c_here other) 0)
+
+      one_cost : (other : Form) → IsSomeList (result_here other) → cost other ≤ cost_below other
+      one_cost other some = by (replaced form n c_here other) refl some (replaced (raised form z) n c_here other) refl
+        where
+          by : (o : Option Form) → replaced form n c_here other ≡ o → IsSomeList (option_and_then (λ next. bounds_below scope inner n next) o) → (p : Option Form) →
+              replaced (raised form z) n c_here other ≡ p → suc (option_map_or (λ f. replacements scope n f) p 0) ≤ suc (option_map_or (λ f. replacements_below scope inner n f) o 0)
+          by None e k p q = absurd (cc k.1)
+          by (Some next) e k None q = omega arith
+          by (Some next) e k (Some g) q =
+              let means = combined-means (without (raised form z) n) c_here other g q in
+              let is : g ≡ raised next z = means.is ∙ raised_made n form c_here other next e in
+              let most = steps next k.0 k.1 in
+              let here : replacements scope n g ≡ replacements scope n (raised next z) = ap (λ (f : Form). replacements scope n f) is in
+              omega (arith, most, here)
+
+      all_costs : (cs : List Form) → AllByRecursion IsSomeList (map result_here cs) → total cost cs ≤ total cost_below cs
+      all_costs [] h = omega arith
+      all_costs (c ∷ cs) h = (let here = one_cost c h.0 in let rest = all_costs cs h.1 in omega (arith, here, rest))
+
+      binding_costs : (bs : List Form) (o : Option Binding) → bounds_at scope o c_here result_here ≡ Some bs → total_at o c_here cost ≤ total_at o c_here cost_below
+      binding_costs bs None q = omega arith
+      binding_costs bs (Some b) q = all_costs (candidates b c_here) (count_some scope (any_may_be b c_here) (map result_here (candidates b c_here)) bs q)
+
+    counts : (n : ℕ) (form : Form) (bs : List Form) → ((m : ℕ) → m < n → is_inner inner m ≡ true) → bounds_below scope inner n form ≡ Some bs →
+        replacements scope n (raised form z) ≤ replacements_below scope inner n form
+    counts zero form bs inside h = omega arith
+    counts (suc n) form bs inside h =
+        of (is_zero (factor_of form.terms n)) (is_inner inner n) (inside n (omega arith)) h (λ q. counts n form bs (λ m less. inside m (omega (arith, less))) q)
+        (λ next found q. counts n next found (λ m less. inside m (omega (arith, less))) q)
       where
-        part : (a b : ℤ) → unsigned_abs (a +ℤ b) ≤ unsigned_abs a + unsigned_abs b
-        part a b = omega (arith, ints)
+        of : (y v : Bool) → v ≡ true →
+            (if v && not y then bounds_at scope (slice_get scope n) (factor_of form.terms n)
+            (λ other. option_and_then (λ next. bounds_below scope inner n next) (replaced form n (factor_of form.terms n) other)) else bounds_below scope inner n form) ≡ Some bs →
+            (bounds_below scope inner n form ≡ Some bs → replacements scope n (raised form z) ≤ replacements_below scope inner n form) → AreFewer n →
+            (if y then replacements scope n (raised form z) else total_at (slice_get scope n) (factor_of form.terms n)
+            (λ other. suc (option_map_or (λ f. replacements scope n f) (replaced (raised form z) n (factor_of form.terms n) other) 0)))
+            ≤ (if v && not y then total_at (slice_get scope n) (factor_of form.terms n)
+            (λ other. suc (option_map_or (λ f. replacements_below scope inner n f) (replaced form n (factor_of form.terms n) other) 0)) else replacements_below scope inner n form)
+        of y false e q stays steps = absurd (cc e)
+        of true true e q stays steps = stays q
+        of false true e q stays steps = binding_costs n form steps bs (slice_get scope n) q
+
+    -- it finds no more than each one that is freed
+    record IsFound (n : ℕ) (form : Form) (y : ℤ) : Type 0 where
+      comes_to : ℤ
+      bound : least scope n (raised form z) ≡ Some comes_to
+      most : comes_to ≤ℤ (y +ℤ z)
 
     -- each symbol of the form is one of those
     abbrev AreInner : List Multiple → Type 0
     AreInner ts = AllByRecursion (λ t. is_inner inner t.symbol ≡ true) ts
+
+    no_terms : (ts : List Multiple) → AreInner ts → list_any (λ t. is_inner inner t.symbol) ts ≡ false → ts ≡ []
+    no_terms [] h e = refl
+    no_terms (t ∷ ts) h e = absurd (cc (e, ap (λ (b : Bool). b || list_any (λ t. is_inner inner t.symbol) ts) h.0))
 
     inner_left : (test : Multiple → Bool) (ts : List Multiple) → AreInner ts → AreInner (filter test ts)
     inner_left test [] h = tt
@@ -212,92 +526,93 @@ module _ (scope : List Binding) (inner : List ℕ) (boxes : (n : ℕ) (b : Bindi
         of true k = (h.0, k)
         of false k = k
 
-    no_terms : (ts : List Multiple) → AreInner ts → list_any (λ t. is_inner inner t.symbol) ts ≡ false → ts ≡ []
-    no_terms [] h e = refl
-    no_terms (t ∷ ts) h e = absurd (cc (e, ap (λ (b : Bool). b || list_any (λ t. is_inner inner t.symbol) ts) h.0))
+    module _ (all : (m : ℕ) → m < length scope → is_inner inner m ≡ true) where
+      search : (n : ℕ) (form : Form) (bs : List Form) (u : Form) → ((m : ℕ) → m < n → is_inner inner m ≡ true) → AreInner form.terms → is_within_limits form ≡ true →
+          unsigned_abs u.constant ≤ 2 ^ 31 → bounds_below scope inner n form ≡ Some bs → Has u bs → IsFound n form u.constant
+      search zero form bs u inside among limited near h has = of (names_inner inner form) refl h
+        where
+          itself : (y : ℤ) → y ≤ℤ y
+          itself y = omega (arith, ints)
 
-    search : (n : ℕ) (form : Form) (bs : List Form) (u : Form) → ((m : ℕ) → m < n → is_inner inner m ≡ true) → AreInner form.terms → is_within_limits form ≡ true → IsNear form →
-        bounds_below scope inner n form ≡ Some bs → Has u bs → IsFound n form u.constant
-    search zero form bs u inside among limited near h has = of (names_inner inner form) refl h
-      where
-        number_found : (c : ℤ) (ts : List Multiple) → ts ≡ [] → IsFound zero (record { constant = c; terms = ts }) c
-        number_found c [] e = record { bound = refl; count = refl }
-        number_found c (t ∷ ts) e = absurd (cc e)
+          number_found : (c : ℤ) (ts : List Multiple) → ts ≡ [] → IsFound zero (record { constant = c; terms = ts }) c
+          number_found c [] e = record { comes_to = c +ℤ z; bound = refl; most = itself (c +ℤ z) }
+          number_found c (t ∷ ts) e = absurd (cc e)
 
-        of : (b : Bool) → names_inner inner form ≡ b → Some (if b then [] else form ∷ []) ≡ Some bs → IsFound zero form u.constant
-        of true e q = absurd (none_has u bs [] q has)
-        of false e q = elim (none_has u bs (form ∷ []) q has) [
-          | inl is ↦ subst (λ (z : ℤ). IsFound zero form z) (sym (ap (λ (f : Form). f.constant) is)) (number_found form.constant form.terms (no_terms form.terms among e))
-          | inr later ↦ absurd later
-        ]
-    search (suc n) form bs u inside among limited near h has =
-        let c = factor_of form.terms n in
-        of (is_zero c) refl (λ q. search n form bs u (λ m less. inside m (omega (arith, less))) among limited near q has)
-        (λ next next_among next_limited next_near q. search n next bs u (λ m less. inside m (omega (arith, less))) next_among next_limited next_near q has)
-      where
-        elimination : (other : Form) → Option (List Form)
-        elimination other = option_and_then (λ next. bounds_below scope inner n next) (replaced form n (factor_of form.terms n) other)
+          of : (b : Bool) → names_inner inner form ≡ b → Some (if b then [] else form ∷ []) ≡ Some bs → IsFound zero form u.constant
+          of true e q = absurd (none_has u bs [] q has)
+          of false e q = elim (none_has u bs (form ∷ []) q has) [
+            | inl is ↦ subst (λ (y : ℤ). IsFound zero form y) (sym (ap (λ (f : Form). f.constant) is)) (number_found form.constant form.terms (no_terms form.terms among e))
+            | inr later ↦ absurd later
+          ]
+      search (suc n) form bs u inside among limited near h has =
+          of (is_zero (factor_of form.terms n)) refl (λ q. search n form bs u (λ m less. inside m (omega (arith, less))) among limited near q has)
+          (λ next found next_among next_limited q k. search n next found u (λ m less. inside m (omega (arith, less))) next_among next_limited near q k)
+        where
+          elimination : (other : Form) → Option (List Form)
+          elimination other = option_and_then (λ next. bounds_below scope inner n next) (replaced form n (factor_of form.terms n) other)
 
-        and_false : (b : Bool) → (b && false) ≡ false
-        and_false true = refl
-        and_false false = refl
+          and_false : (b : Bool) → (b && false) ≡ false
+          and_false true = refl
+          and_false false = refl
 
-        of : (b : Bool) → is_zero (factor_of form.terms n) ≡ b → (bounds_below scope inner n form ≡ Some bs → IsFound n form u.constant) →
-            ((next : Form) → AreInner next.terms → is_within_limits next ≡ true → IsNear next → bounds_below scope inner n next ≡ Some bs → IsFound n next u.constant) → IsFound (suc n) form u.constant
-        of true e stays steps =
-            let none : is_eliminated inner n (factor_of form.terms n) ≡ false = ap (λ (t : Bool). is_inner inner n && not t) e ∙ and_false (is_inner inner n) in
-            let q : bounds_below scope inner n form ≡ Some bs =
-            sym (ap (λ (t : Bool). if t then bounds_at scope (slice_get scope n) (factor_of form.terms n) elimination else bounds_below scope inner n form) none) ∙ h in
-            let r = stays q in
-            record {
-              bound =
-                  ap (λ (t : Bool). if t then least scope n (raised form z) else result_at (slice_get scope n) (factor_of form.terms n)
-                  (λ other. option_and_then (λ next. least scope n next) (replaced (raised form z) n (factor_of form.terms n) other))) e ∙ r.bound;
-              count =
-                  ap (λ (t : Bool). if t then replacements scope n (raised form z) else total_at (slice_get scope n) (factor_of form.terms n)
-                  (λ other. suc (option_map_or (λ next. replacements scope n next) (replaced (raised form z) n (factor_of form.terms n) other) 0))) e ∙ r.count
-                  ∙ sym (ap (λ (t : Bool). if t then total_at (slice_get scope n) (factor_of form.terms n)
-                  (λ other. suc (option_map_or (λ next. replacements_below scope inner n next) (replaced form n (factor_of form.terms n) other) 0)) else replacements_below scope inner n form) none);
-            }
-        of false e stays steps =
-            let c = factor_of form.terms n in
-            let some : is_eliminated inner n c ≡ true = λ i. inside n (omega arith) i && not (e i) in
-            let q : bounds_at scope (slice_get scope n) c elimination ≡ Some bs =
-            sym (ap (λ (t : Bool). if t then bounds_at scope (slice_get scope n) c elimination else bounds_below scope inner n form) some) ∙ h in
-            let s = step n form bs u q has in
-            let x = s.stands in
-            let next = next_of n form x in
-            let means = combined-means (without form n) c (number x) next s.made in
-            let near_too = next_near n form x s.near near in
-            let r = steps next (inner_left (λ t. not (t.symbol == n)) form.terms among) means.within near_too s.comes in
-            let made = raised_made n form x limited near s.near means.within near_too in
-            let branch : Form → Option ℤ = λ other. option_and_then (λ f. least scope n f) (replaced (raised form z) n c other) in
-            let cost : Form → ℕ = λ other. suc (option_map_or (λ f. replacements scope n f) (replaced (raised form z) n c other) 0) in
-            let cost_below : Form → ℕ = λ other. suc (option_map_or (λ f. replacements_below scope inner n f) (replaced form n c other) 0) in
-            let bound_is : result_at (slice_get scope n) c branch ≡ Some (u.constant +ℤ z) =
-            ap (λ (o : Option Binding). result_at o c branch) s.there ∙ ap (λ (fs : List Form). that_counts (any_may_be s.binding c) (map branch fs)) s.one
-            ∙ ap (λ (o : Option Form). option_and_then (λ f. least scope n f) o) made ∙ r.bound in
-            let count_is : total_at (slice_get scope n) c cost ≡ total_at (slice_get scope n) c cost_below =
-            ap (λ (o : Option Binding). total_at o c cost) s.there ∙ ap (total cost) s.one
-            ∙ ap (λ (o : Option Form). suc (option_map_or (λ f. replacements scope n f) o 0) + 0) made ∙ ap (λ (m : ℕ). suc m + 0) r.count
-            ∙ sym (ap (λ (o : Option Form). suc (option_map_or (λ f. replacements_below scope inner n f) o 0) + 0) s.made)
-            ∙ sym (ap (λ (o : Option Binding). total_at o c cost_below) s.there ∙ ap (total cost_below) s.one) in
-            record {
-              bound = ap (λ (t : Bool). if t then least scope n (raised form z) else result_at (slice_get scope n) c branch) e ∙ bound_is;
-              count =
-                  ap (λ (t : Bool). if t then replacements scope n (raised form z) else total_at (slice_get scope n) c cost) e ∙ count_is
-                  ∙ sym (ap (λ (t : Bool). if t then total_at (slice_get scope n) c cost_below else replacements_below scope inner n form) some);
-            }
+          of : (b : Bool) → is_zero (factor_of form.terms n) ≡ b → (bounds_below scope inner n form ≡ Some bs → IsFound n form u.constant) →
+              ((next : Form) (found : List Form) → AreInner next.terms → is_within_limits next ≡ true → bounds_below scope inner n next ≡ Some found → Has u found → IsFound n next u.constant) →
+              IsFound (suc n) form u.constant
+          of true e stays steps =
+              let none : is_eliminated inner n (factor_of form.terms n) ≡ false = ap (λ (t : Bool). is_inner inner n && not t) e ∙ and_false (is_inner inner n) in
+              let q : bounds_below scope inner n form ≡ Some bs =
+              sym (ap (λ (t : Bool). if t then bounds_at scope (slice_get scope n) (factor_of form.terms n) elimination else bounds_below scope inner n form) none) ∙ h in
+              let r = stays q in
+              record {
+                comes_to = r.comes_to;
+                bound =
+                    ap (λ (t : Bool). if t then least scope n (raised form z) else result_at (slice_get scope n) (factor_of form.terms n)
+                    (λ other. option_and_then (λ next. least scope n next) (replaced (raised form z) n (factor_of form.terms n) other))) e ∙ r.bound;
+                most = r.most;
+              }
+          of false e stays steps =
+              let c = factor_of form.terms n in
+              let some : is_eliminated inner n c ≡ true = λ i. inside n (omega arith) i && not (e i) in
+              let q : bounds_at scope (slice_get scope n) c elimination ≡ Some bs =
+              sym (ap (λ (t : Bool). if t then bounds_at scope (slice_get scope n) c elimination else bounds_below scope inner n form) some) ∙ h in
+              let s = step n form bs u q has in
+              let means = combined-means (without form n) c s.other s.next s.made in
+              let only : AreInner s.other.terms =
+              one_of_all (λ f. AllByRecursion (λ t. is_inner inner t.symbol ≡ true) f.terms) (candidates s.binding c) s.other
+              (candidates_only scope (λ m. is_inner inner m ≡ true) all s.binding (boxes n s.binding s.there) c) s.among in
+              let next_among : AreInner s.next.terms =
+              only_combined (λ m. is_inner inner m ≡ true) (without form n) c s.other (inner_left (λ t. not (t.symbol == n)) form.terms among) only s.next s.made in
+              let r = steps s.next s.found next_among means.within s.comes s.has in
+              let near_here = near_form (suc n) form bs u h has limited near in
+              let near_next = near_form n s.next s.found u s.comes s.has means.within near in
+              let is = raised_made n form c s.other s.next s.made in
+              let made : replaced (raised form z) n c s.other ≡ Some (raised s.next z) =
+              combined-made (without (raised form z) n) s.other c (within_limits-without (raised form z) n (raised_within form limited near_here)) means.second
+              (ap is_within_limits is ∙ raised_within s.next means.within near_next) ∙ ap (λ (f : Form). Some f) is in
+              let branch : Form → Option ℤ = λ other. option_and_then (λ f. least scope n f) (replaced (raised form z) n c other) in
+              let this : branch s.other ≡ Some r.comes_to = ap (λ (o : Option Form). option_and_then (λ f. least scope n f) o) made ∙ r.bound in
+              let listed : Has (Some r.comes_to) (map branch (candidates s.binding c)) =
+              subst (λ (o : Option ℤ). Has o (map branch (candidates s.binding c))) this (has_map branch (candidates s.binding c) s.other s.among) in
+              let t = smallest (map branch (candidates s.binding c)) r.comes_to listed in
+              let bound_is : result_at (slice_get scope n) c branch ≡ Some t.0 =
+              ap (λ (o : Option Binding). result_at o c branch) s.there
+              ∙ ap (λ (v : Bool). that_counts v (map branch (candidates s.binding c))) (none_may scope s.binding (boxes n s.binding s.there) c) ∙ t.1 in
+              record {
+                comes_to = t.0;
+                bound = ap (λ (v : Bool). if v then least scope n (raised form z) else result_at (slice_get scope n) c branch) e ∙ bound_is;
+                most = both_most t.0 r.comes_to (u.constant +ℤ z) t.2 r.most;
+              }
+            where
+              both_most : (x y w : ℤ) → x ≤ℤ y → y ≤ℤ w → x ≤ℤ w
+              both_most x y w h g = omega (arith, ints, h, g)
 
 -- ---- forms as bounds
 
-size_few : (ts : List Multiple) → AreWithin (2 ^ 20) ts → size ts ≤ 1048576 * length ts
-size_few [] h = omega arith
-size_few (t ∷ ts) h = (let here : unsigned_abs t.factor ≤ 1048576 = h.0 in let rest = size_few ts h.1 in omega (arith, here, rest))
+few_still : (m n : ℕ) → m ≤ n → nat_le n 4096 ≡ true → nat_le m 4096 ≡ true
+few_still m n le h = grind (arith, nat_tests, le, h)
 
 -- a number that is at most one that frees a form is shown to be at most the form
-module _ (scope : List Binding) (inner : List ℕ) (boxes : (n : ℕ) (b : Binding) → slice_get scope n ≡ Some b → IsBox b)
-    (all : (m : ℕ) → m < length scope → is_inner inner m ≡ true) where
+module _ (scope : List Binding) (inner : List ℕ) (boxes : AreBoxes scope) (all : (m : ℕ) → m < length scope → is_inner inner m ≡ true) where
   -- the negation of the form, freed, has this one
   pub shown_above : (m nf : Form) (us : List Form) (u : Form) (e : ℤ) → negated m ≡ Some nf → eliminated scope inner nf ≡ Some us → Has u us →
       AllByRecursion (λ (t : Multiple). is_inner inner t.symbol ≡ true) nf.terms → (e +ℤ u.constant) ≤ℤ pos 0 → unsigned_abs e ≤ 2 ^ 31 → unsigned_abs u.constant ≤ 2 ^ 31 →
@@ -305,13 +620,10 @@ module _ (scope : List Binding) (inner : List ℕ) (boxes : (n : ℕ) (b : Bindi
   shown_above m nf us u e negation freed has among le e_near u_near =
       let means = combined-means (number (pos 0)) (negsuc 0) m nf negation in
       let limited = means.within in
-      let tests = tests_of (is_within_limits nf) (nat_le (replacements_below scope inner (length scope) nf) 4096) freed in
-      let f = far scope inner boxes (length scope) nf us u tests.1 has in
-      let sized = size_few nf.terms (within_limits-terms nf limited) in
-      let count = within_limits-few nf limited in
-      let near : unsigned_abs nf.constant + 32768 * size nf.terms ≤ 2 ^ 39 + 2 ^ 32 = omega (arith, f, sized, count, u_near) in
+      let tests = tests_of (is_within_limits nf) (nat_le (replacements_below scope inner (length scope) nf) 4096) refl freed in
+      let near = near_form scope inner boxes (length scope) nf us u tests.1 has limited u_near in
       let z_near : unsigned_abs e ≤ 2 ^ 32 = omega (arith, e_near) in
-      let r = search scope inner boxes e z_near (length scope) nf us u all among limited near tests.1 has in
+      let r = search scope inner boxes e z_near all (length scope) nf us u all among limited u_near tests.1 has in
       let sum : e +ℤ negsuc 0 *ℤ m.constant ≡ (pos 0 +ℤ negsuc 0 *ℤ m.constant) +ℤ e = omega (arith, ints) in
       let is : plus_multiple (number e) (negsuc 0) m ≡ raised nf e =
       (λ i. record { constant = sum i; terms = plus_terms [] (negsuc 0) m.terms }) ∙ ap (λ (g : Form). raised g e) (sym means.is) in
@@ -319,40 +631,41 @@ module _ (scope : List Binding) (inner : List ℕ) (boxes : (n : ℕ) (b : Bindi
       let number_ok : is_within_limits (number e) ≡ true = le-leb (unsigned_abs e) (2 ^ 40) (omega (arith, e_near)) in
       let made : combined (number e) (negsuc 0) m ≡ Some (raised nf e) =
       combined-made (number e) m (negsuc 0) number_ok means.second (ap is_within_limits is ∙ raised_ok) ∙ ap (λ (g : Form). Some g) is in
-      let few : nat_le (replacements scope (length scope) (raised nf e)) 4096 ≡ true = ap (λ (k : ℕ). nat_le k 4096) r.count ∙ tests.0 in
-      let found_sup : sup scope (raised nf e) ≡ Some (u.constant +ℤ e) =
-      (λ i. if raised_ok i && few i then least scope (length scope) (raised nf e) else None) ∙ r.bound in
-      found_below scope (number e) m (raised nf e) (u.constant +ℤ e) made found_sup (still (u.constant +ℤ e) (omega (arith, ints, le)))
+      let few = few_still (replacements scope (length scope) (raised nf e)) (replacements_below scope inner (length scope) nf)
+      (counts scope inner boxes e z_near (length scope) nf us all tests.1) tests.0 in
+      let found_sup : sup scope (raised nf e) ≡ Some r.comes_to = (λ i. if raised_ok i && few i then least scope (length scope) (raised nf e) else None) ∙ r.bound in
+      let most = r.most in
+      found_below scope (number e) m (raised nf e) r.comes_to made found_sup (still r.comes_to (omega (arith, ints, le, most)))
     where
-      tests_of : (a b : Bool) → (if a then (if b then bounds_below scope inner (length scope) nf else Some []) else None) ≡ Some us →
-          (b ≡ true) × (bounds_below scope inner (length scope) nf ≡ Some us)
-      tests_of true true h = (refl, h)
-      tests_of true false h = absurd (none_has scope inner boxes u us [] h has)
-      tests_of false b h = absurd (cc h)
+      tests_of : (a b : Bool) → nat_le (replacements_below scope inner (length scope) nf) 4096 ≡ b →
+          (if a then (if b then bounds_below scope inner (length scope) nf else Some []) else None) ≡ Some us →
+          (nat_le (replacements_below scope inner (length scope) nf) 4096 ≡ true) × (bounds_below scope inner (length scope) nf ≡ Some us)
+      tests_of true true q h = (q, h)
+      tests_of true false q h = absurd (none_has u us [] h has)
+      tests_of false b q h = absurd (cc h)
 
   -- the form, freed, is at most the number
   pub shown_under : (m : Form) (us : List Form) (u : Form) (e : ℤ) → eliminated scope inner m ≡ Some us → Has u us → AllByRecursion (λ (t : Multiple). is_inner inner t.symbol ≡ true) m.terms →
       u.constant ≤ℤ e → unsigned_abs e ≤ 2 ^ 31 → unsigned_abs u.constant ≤ 2 ^ 31 → at_most scope m (number e) ≡ true
   shown_under m us u e freed has among le e_near u_near =
-      let tests = tests_of (is_within_limits m) refl (nat_le (replacements_below scope inner (length scope) m) 4096) freed in
+      let tests = tests_of (is_within_limits m) refl (nat_le (replacements_below scope inner (length scope) m) 4096) refl freed in
       let limited = tests.0 in
-      let f = far scope inner boxes (length scope) m us u tests.2 has in
-      let sized = size_few m.terms (within_limits-terms m limited) in
-      let count = within_limits-few m limited in
-      let near : unsigned_abs m.constant + 32768 * size m.terms ≤ 2 ^ 39 + 2 ^ 32 = omega (arith, f, sized, count, u_near) in
+      let near = near_form scope inner boxes (length scope) m us u tests.2 has limited u_near in
       let z : ℤ = negsuc 0 *ℤ e in
       let z_near : unsigned_abs z ≤ 2 ^ 32 = omega (arith, ints, e_near) in
-      let r = search scope inner boxes z z_near (length scope) m us u all among limited near tests.2 has in
+      let r = search scope inner boxes z z_near all (length scope) m us u all among limited u_near tests.2 has in
       let raised_ok = raised_within scope inner boxes z z_near m limited near in
       let number_ok : is_within_limits (number e) ≡ true = le-leb (unsigned_abs e) (2 ^ 40) (omega (arith, e_near)) in
       let made : combined m (negsuc 0) (number e) ≡ Some (raised m z) = combined-made m (number e) (negsuc 0) limited number_ok raised_ok in
-      let few : nat_le (replacements scope (length scope) (raised m z)) 4096 ≡ true = ap (λ (k : ℕ). nat_le k 4096) r.count ∙ tests.1 in
-      let found_sup : sup scope (raised m z) ≡ Some (u.constant +ℤ z) =
-      (λ i. if raised_ok i && few i then least scope (length scope) (raised m z) else None) ∙ r.bound in
-      found_below scope m (number e) (raised m z) (u.constant +ℤ z) made found_sup (still (u.constant +ℤ z) (omega (arith, ints, le)))
+      let few = few_still (replacements scope (length scope) (raised m z)) (replacements_below scope inner (length scope) m)
+      (counts scope inner boxes z z_near (length scope) m us all tests.2) tests.1 in
+      let found_sup : sup scope (raised m z) ≡ Some r.comes_to = (λ i. if raised_ok i && few i then least scope (length scope) (raised m z) else None) ∙ r.bound in
+      let most = r.most in
+      found_below scope m (number e) (raised m z) r.comes_to made found_sup (still r.comes_to (omega (arith, ints, le, most)))
     where
-      tests_of : (a : Bool) → is_within_limits m ≡ a → (b : Bool) → (if a then (if b then bounds_below scope inner (length scope) m else Some []) else None) ≡ Some us →
-          (is_within_limits m ≡ true) × (b ≡ true) × (bounds_below scope inner (length scope) m ≡ Some us)
-      tests_of true e true h = (e, refl, h)
-      tests_of true e false h = absurd (none_has scope inner boxes u us [] h has)
-      tests_of false e b h = absurd (cc h)
+      tests_of : (a : Bool) → is_within_limits m ≡ a → (b : Bool) → nat_le (replacements_below scope inner (length scope) m) 4096 ≡ b →
+          (if a then (if b then bounds_below scope inner (length scope) m else Some []) else None) ≡ Some us →
+          (is_within_limits m ≡ true) × (nat_le (replacements_below scope inner (length scope) m) 4096 ≡ true) × (bounds_below scope inner (length scope) m ≡ Some us)
+      tests_of true e true q h = (e, q, h)
+      tests_of true e false q h = absurd (none_has u us [] h has)
+      tests_of false e b q h = absurd (cc h)

@@ -1,4 +1,4 @@
--- Of the certificate's lines of a plan whose splits need no tail no more than limits of numbers is told: their forms are within the limits of forms.
+-- Of the certificate's lines of a plan whose splits need no line of their own no more than limits of numbers is told: their forms are within the limits of forms.
 use Rattle.std.proofs.Common.{◌≡◌, ℕ, zero, suc, ◌+◌, Bool, true, false, ◌&&◌, List, [], ◌∷◌, ◌++◌, Option, Some, None, refl, sym, ap, ◌∙◌, subst, arith}
 use Rattle.std.specs.Prelude.{nat_lt, not, take, slice_get}
 use Rattle.std.specs.List.{AllByRecursion}
@@ -29,7 +29,7 @@ use Rattle.lower.specs.Faults.{are_whole, region_fault}
 use Rattle.lower.specs.Groups.{AreOwned, HasGroups}
 use Rattle.completeness.specs.Laws.{LinesAreKnown}
 use Rattle.completeness.specs.Owed.{IsNearSpan, IsWithinSpan}
-use Rattle.completeness.specs.Blocked.{IsBlocked}
+use Rattle.completeness.specs.Blocked.{IsKept}
 use Rattle.completeness.proofs.Owned.{some_same, own_found}
 use Rattle.completeness.proofs.Served.{made_at}
 use Rattle.completeness.proofs.NearClaims.{span_within, group_near, claims_near}
@@ -98,7 +98,7 @@ module _ (a : Algorithm) (p : Plan) (c : Certificate) (k : LinesAreKnown a p c) 
   pub all_limits : AreLimits (flaws_of_certificate a p c)
   all_limits = all-append IsLimit (flaws_of_regions p c) (flaws_of_claims a p c) regions claims
 
--- ---- plans whose splits need no tail
+-- ---- plans whose splits need no line of their own
 
 -- each own region is of a group
 pub own_group : (ps : List CodeGroup) (os : List Own) (m : ℕ) → AreOwned m ps os → (i : ℕ) (o : Own) → slice_get os i ≡ Some o → (q : CodeGroup) × (slice_get ps i ≡ Some q)
@@ -114,7 +114,7 @@ at_each P (y ∷ xs) (suc i) x h e = at_each P xs i x h.1 e
 
 module _ (a : Algorithm) (sch : Schedule) (l : Lowered) (well : IsAlgorithm a) (legal : IsLegal a sch) (small : has_large (stored_functions a sch) ≡ false)
     (kept : region_fault a (stored_functions a sch) ≡ None) (all : are_whole (stored_functions a sch) ≡ true) (groups : HasGroups a (stored_functions a sch) l)
-    (blocked : (n : ℕ) (u : StoredText) → slice_get (stored_functions a sch) n ≡ Some u → IsBlocked a sch n u) where
+    (blocked : (n : ℕ) (u : StoredText) → slice_get (stored_functions a sch) n ≡ Some u → IsKept a sch n u) where
   own_within : (i : ℕ) (o : Own) → slice_get l.certificate.own.items i ≡ Some o → AllByRecursion IsWithinSpan o.region
   own_within i o at =
       let x = own_group l.plan.groups.items l.certificate.own.items 0 groups.owned i o at in

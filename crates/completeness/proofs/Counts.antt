@@ -38,7 +38,8 @@ fetched_few us n h (e ∷ es) = of (is_fetched us n h e) (fetched_few us n (h + 
     of true k = omega (arith, k)
     of false k = omega (arith, k)
 
-pub fetched_many : (calls : Calls) (grid : List Binding) (n b line : ℕ) (xs : List (ℕ × Entry)) (fs : List FetchText) (ws : List Need) (cs : List CodeClaim) → AreFetched calls grid n b line xs fs ws cs →
+pub fetched_many : (calls : Calls) (grid : List Binding) (n b line : ℕ) (xs : List (ℕ × Entry)) (fs : List FetchText) (ws : List Need) (cs : List CodeClaim) → AreFetched calls grid n b line
+    xs fs ws cs →
     length cs ≡ length xs
 fetched_many calls grid n b line [] [] [] [] h = refl
 fetched_many calls grid n b line [] [] [] (c ∷ cs) h = absurd h

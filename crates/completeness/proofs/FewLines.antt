@@ -1,4 +1,4 @@
--- Of functions whose loops are split once, by blocks that need no tail, the groups have few lines, and bind few symbols.
+-- Of functions whose loops are split once, by blocks that need no line of their own, the groups have few lines, and bind few symbols.
 use Rattle.std.proofs.Common.{◌≡◌, ℕ, zero, suc, ◌+◌, ◌*◌, ◌≤◌, Bool, true, false, List, [], ◌∷◌, ◌++◌, length, Option, Some, None, refl, sym, ap, ◌∙◌, subst, arith}
 use Rattle.std.specs.Prelude.{filter, reverse, take, if◌then◌else◌, slice_get}
 use Rattle.std.specs.List.{AllByRecursion}
@@ -7,6 +7,7 @@ use Rattle.std.proofs.lemmas.List.{length-append, length-map, reverse-append}
 use Rattle.lin.specs.declared.span.Span1.{Span1}
 use Rattle.meaning.specs.Algorithm.{Range, Change, Function, Algorithm}
 use Rattle.meaning.specs.Conditions.{IsUpdate, IsAlgorithm}
+use Rattle.lin.specs.Forms.{Form}
 use Rattle.plan.specs.declared.plan.Group.{Group as CodeGroup}
 use Rattle.plan.specs.declared.certificate.cert.Claim.{Claim as CodeClaim}
 use Rattle.plan.specs.declared.certificate.cert.Need.{Need}
@@ -15,6 +16,7 @@ use Rattle.plan.specs.View.{group_of, plan_of, statement_of}
 use Rattle.plan.specs.Lines.{lines, block_lines, groups_lines}
 use Rattle.rules.specs.Bounding.Scopes.{most_symbols}
 use Rattle.headline.proofs.Lists.{from_map}
+use Rattle.sched.specs.declared.schedule.Split.{Split}
 use Rattle.sched.specs.Schedule.{Schedule}
 use Rattle.sched.specs.Legal.{IsLegal}
 use Rattle.sched.specs.Subjects.{reductions_of}
@@ -39,7 +41,8 @@ use Rattle.lower.specs.Fetches.{Entry, FetchText, with_fetches, loads_from}
 use Rattle.lower.specs.Groups.{HasBody, line_behind, HaveBodies, HasGroups}
 use Rattle.completeness.specs.Laws.{AreLinesTold}
 use Rattle.completeness.specs.Owed.{BindBelow, AllBindBelow, AreGridsFew, AreSymbolsFew}
-use Rattle.completeness.specs.Blocked.{IsBlocked}
+use Rattle.soundness.specs.Claims.{In}
+use Rattle.completeness.specs.Blocked.{makes_line, IsKept}
 use Rattle.completeness.proofs.Standing.{nests_long}
 use Rattle.completeness.proofs.Laid.{subjects, found}
 use Rattle.completeness.proofs.Owned.{some_same, same_extents, same_skeleton}
@@ -47,7 +50,9 @@ use Rattle.completeness.proofs.Served.{roots, made_at}
 use Rattle.completeness.proofs.Bodies.{body_at}
 use Rattle.completeness.proofs.Counts.{bodies_many, fetches_few, roots_few, functions_few}
 use Rattle.completeness.proofs.ClaimLines.{formulas_long}
-use Rattle.completeness.proofs.PlainTurns.{steps_for}
+use Rattle.completeness.proofs.BlockTurns.{limited_for}
+use Rattle.completeness.proofs.BlockOrder.{IsOrdered, bodies_ordered}
+use Rattle.completeness.proofs.PureNests.{all_in}
 use Rattle.completeness.proofs.BlockChains.{AreChained, IsLooped, few_loops, looped}
 use Rattle.completeness.proofs.UpdateTurns.{ranges_turned}
 
@@ -71,9 +76,9 @@ all_below : (m : ℕ) (xs ys : List Statement) → AllBindBelow m (block xs) →
 all_below m [] ys h k = k
 all_below m (x ∷ xs) ys h k = (h.0, all_below m xs ys h.1 k)
 
-steps_below : (m n : ℕ) (ts : List Turning) (rest : Statements) → n + length ts ≤ m → AllBindBelow m rest → AllBindBelow m (lines_to (steps_for n ts) rest)
-steps_below m n [] rest le h = h
-steps_below m n (t ∷ ts) rest le h = ((omega (arith, le), steps_below m (n + 1) ts rest (omega (arith, le)) h), tt)
+steps_below : (m : ℕ) (limits : ℕ → List Form) (n : ℕ) (ts : List Turning) (rest : Statements) → n + length ts ≤ m → AllBindBelow m rest → AllBindBelow m (lines_to (limited_for limits n ts) rest)
+steps_below m limits n [] rest le h = h
+steps_below m limits n (t ∷ ts) rest le h = ((omega (arith, le), steps_below m limits (n + 1) ts rest (omega (arith, le)) h), tt)
 
 fetches_below : (m : ℕ) (fs : List FetchText) (xs : List Statement) → AllBindBelow m (block xs) → AllBindBelow m (block (with_fetches fs xs))
 fetches_below m [] xs h = h
@@ -83,9 +88,9 @@ pub lines_both : (xs ys : List Statement) → block_lines (block (xs ++ ys)) ≡
 lines_both [] ys = omega arith
 lines_both (x ∷ xs) ys = (let rest = lines_both xs ys in omega (arith, rest))
 
-steps_lines : (n : ℕ) (ts : List Turning) (rest : Statements) → block_lines (lines_to (steps_for n ts) rest) ≡ 2 * length ts + block_lines rest
-steps_lines n [] rest = omega arith
-steps_lines n (t ∷ ts) rest = (let more = steps_lines (n + 1) ts rest in omega (arith, more))
+steps_lines : (limits : ℕ → List Form) (n : ℕ) (ts : List Turning) (rest : Statements) → block_lines (lines_to (limited_for limits n ts) rest) ≡ 2 * length ts + block_lines rest
+steps_lines limits n [] rest = omega arith
+steps_lines limits n (t ∷ ts) rest = (let more = steps_lines limits (n + 1) ts rest in omega (arith, more))
 
 fetches_lines : (fs : List FetchText) (xs : List Statement) → block_lines (block (with_fetches fs xs)) ≡ 2 * length fs + block_lines (block xs)
 fetches_lines [] xs = omega arith
@@ -118,13 +123,14 @@ nests_small next (w ∷ ns) le chain g fs r ms c line d xs [] h = absurd h
 nests_small next (w ∷ ns) le chain g fs r ms c line d xs (claim ∷ cs) h =
     let nest = h.here.nest in
     let ts = chain.0 in
-    let under = chain.2 in
+    let limits = chain.1 in
+    let under = chain.3 in
     let store = store_below 256 g fs ms d w nest.store nest.stores in
     let one = store.1 in
-    let rest = nests_small (next + length ts) ns under chain.3 g fs r (ms ++ (g.subject.name, c) ∷ []) (c + 1) (line + block_lines (block h.first)) (d + 1) h.others cs h.behind in
-    let are : block h.first ≡ lines_to (steps_for next ts) (Then nest.store Empty) = nest.comes ∙ ap (λ (ss : List Step). lines_to ss (Then nest.store Empty)) chain.1 in
-    let first : AllBindBelow 256 (block h.first) = subst (AllBindBelow 256) (sym are) (steps_below 256 next ts (Then nest.store Empty) under (store.0, tt)) in
-    let many : block_lines (block h.first) ≡ 2 * length ts + block_lines (Then nest.store Empty) = ap block_lines are ∙ steps_lines next ts (Then nest.store Empty) in
+    let rest = nests_small (next + length ts) ns under chain.4 g fs r (ms ++ (g.subject.name, c) ∷ []) (c + 1) (line + block_lines (block h.first)) (d + 1) h.others cs h.behind in
+    let are : block h.first ≡ lines_to (limited_for limits next ts) (Then nest.store Empty) = nest.comes ∙ ap (λ (ss : List Step). lines_to ss (Then nest.store Empty)) chain.2 in
+    let first : AllBindBelow 256 (block h.first) = subst (AllBindBelow 256) (sym are) (steps_below 256 limits next ts (Then nest.store Empty) under (store.0, tt)) in
+    let many : block_lines (block h.first) ≡ 2 * length ts + block_lines (Then nest.store Empty) = ap block_lines are ∙ steps_lines limits next ts (Then nest.store Empty) in
     let both : block_lines (block xs) ≡ block_lines (block h.first) + block_lines (block h.others) = ap (λ (ys : List Statement). block_lines (block ys)) h.are ∙ lines_both h.first h.others in
     let few_there = rest.few in
     record {
@@ -184,7 +190,7 @@ bodies_long a all n c line (g ∷ gs) (p ∷ ps) claims needs h = ap suc (bodies
 
 module _ (a : Algorithm) (sch : Schedule) (l : Lowered) (well : IsAlgorithm a) (legal : IsLegal a sch) (small : has_large (stored_functions a sch) ≡ false)
     (kept : region_fault a (stored_functions a sch) ≡ None) (all : are_whole (stored_functions a sch) ≡ true) (groups : HasGroups a (stored_functions a sch) l)
-    (blocked : (n : ℕ) (u : StoredText) → slice_get (stored_functions a sch) n ≡ Some u → IsBlocked a sch n u) where
+    (blocked : (n : ℕ) (u : StoredText) → slice_get (stored_functions a sch) n ≡ Some u → IsKept a sch n u) where
   abbrev gs : List StoredText
   gs = stored_functions a sch
 
@@ -242,13 +248,18 @@ module _ (a : Algorithm) (sch : Schedule) (l : Lowered) (well : IsAlgorithm a) (
       let most = ranges d in
       let all_turns = turns_small y rs u.placed.loops (omega (arith, count, most)) in
       omega (arith, all_turns, loops)) in
+      let free : (c : Split) → In c u.placed.cuts → makes_line u.placed.loops rs c ≡ false =
+      λ c m. all_in (λ c. makes_line u.placed.loops rs c ≡ false) u.placed.cuts c (mine.filled me.laid me.found) m in
+      let ordered : AllByRecursion (λ y. IsOrdered u.placed.cuts rs (nest_turns y rs u.placed.loops)) bs =
+      each_at (λ y. IsOrdered u.placed.cuts rs (nest_turns y rs u.placed.loops)) bs
+      (λ d y at. bodies_ordered a sch legal n u me.is me.laid.region me.laid.skeleton me.laid_by free me.formulas d y at) in
       let bodies = bodies_many u.changes 0 u.subject.reductions me.formulas in
       let five : length bs ≤ 5 = omega (arith, bodies, long, four) in
       let nests = nests_long u.subject.variables bs u.placed me.laid.region me.laid.skeleton me.over in
       record {
         narrow = three;
         definitions = omega (arith, nests, five);
-        looped = looped u me.laid.region me.laid.skeleton me.laid_by three mine.once bs mine.inners (mine.filled me.laid me.found) five turns me.over;
+        looped = looped u me.laid.region me.laid.skeleton me.laid_by three mine.once bs mine.inners (mine.filled me.laid me.found) ordered five turns me.over;
       }
 
   pub group_looped : (n : ℕ) (q : CodeGroup) → slice_get l.plan.groups.items n ≡ Some q → IsGroupLooped n q

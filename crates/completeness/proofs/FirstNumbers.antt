@@ -40,7 +40,7 @@ use Rattle.lower.specs.Regions.{ends_between, ends_of, symbols_from, greater, le
 use Rattle.lower.proofs.Laying.{bound, same}
 use Rattle.lower.proofs.Reached.{none_is}
 use Rattle.completeness.proofs.Standing.{Taken}
-use Rattle.completeness.proofs.Boxes.{IsBox}
+use Rattle.completeness.proofs.Boxes.{IsCapped, IsBox, AreBoxes}
 
 abbrev Ends : Type 0
 Ends = Taken _ _ are_within
@@ -114,11 +114,13 @@ firsts scope n = first_of (slice_get scope n)
 abbrev pub IsNear : ℤ → Type 0
 IsNear z = unsigned_abs z ≤ 32768
 
-first_near : (b : Binding) → IsBox b → IsNear (first_of (Some b))
-first_near (Loop x) (inl is) = subst IsNear (ap (λ (y : Span1). first_of (Some (Loop y))) (sym is)) (omega arith)
-first_near (Loop x) (inr k) = subst IsNear (ap (λ (y : Span1). first_of (Some (Loop y))) (sym k.2)) k.3
-first_near (LetMin fs) box = absurd box
-first_near (LetMax fs) box = absurd box
+module _ (scope : List Binding) where
+  first_near : (b : Binding) → IsBox scope b → IsNear (first_of (Some b))
+  first_near (Loop x) (inl is) = subst IsNear (ap (λ (y : Span1). first_of (Some (Loop y))) (sym is)) (omega arith)
+  first_near (Loop x) (inr (inl k)) = subst IsNear (ap (λ (y : Span1). first_of (Some (Loop y))) (sym k.2)) k.3
+  first_near (Loop x) (inr (inr k)) = subst IsNear (ap (λ (y : Span1). first_of (Some (Loop y))) (sym k.is)) (omega arith)
+  first_near (LetMin fs) box = absurd box
+  first_near (LetMax fs) box = absurd box
 
 anything_holds : (v : ℕ → ℤ) (z : ℤ) → IsInSpan anything v z
 anything_holds v z = (All-nil (λ f. form_value f v ≤ℤ z), All-nil (λ f. z ≤ℤ form_value f v))
@@ -139,26 +141,47 @@ at_form f v =
     itself : (z : ℤ) → z ≤ℤ z
     itself z = omega (arith, ints)
 
-first_holds : (b : Binding) (v : ℕ → ℤ) → IsBox b → Holds b (first_of (Some b)) v
-first_holds (Loop x) v (inl is) = subst (λ (y : Span1). IsInSpan y v (first_of (Some (Loop x)))) (sym is) (anything_holds v (first_of (Some (Loop x))))
-first_holds (Loop x) v (inr k) =
+-- of a loop with a further upper form the other loop's first number is 0
+capped_holds : (scope : List Binding) (x : Span1) → IsCapped scope x → IsInSpan x (firsts scope) (pos 0)
+capped_holds scope x k =
+    let v = firsts scope in
+    let zero_there : v k.symbol ≡ pos 0 = ap first_of k.outer in
+    let f : Form = record { constant = pos k.most; terms = record { symbol = k.symbol; factor = negsuc k.factor } ∷ [] } in
+    let value : form_value f v ≡ pos k.most = (λ j. pos k.most +ℤ (negsuc k.factor *ℤ zero_there j +ℤ pos 0)) ∙ nothing (pos k.most) (negsuc k.factor) in
+    let above : pos 0 ≤ℤ form_value f v = subst (λ (z : ℤ). pos 0 ≤ℤ z) (sym value) (omega (arith, ints)) in
+    subst (λ (y : Span1). IsInSpan y v (pos 0)) (sym k.is) (
+      All-cons (λ g. form_value g v ≤ℤ pos 0) (number (pos 0)) [] (omega (arith, ints)) (All-nil (λ g. form_value g v ≤ℤ pos 0)),
+      All-cons (λ g. pos 0 ≤ℤ form_value g v) (number (pos k.last)) (f ∷ []) (omega (arith, ints))
+          (All-cons (λ g. pos 0 ≤ℤ form_value g v) f [] above (All-nil (λ g. pos 0 ≤ℤ form_value g v))),
+    )
+  where
+    nothing : (p q : ℤ) → p +ℤ (q *ℤ pos 0 +ℤ pos 0) ≡ p
+    nothing p q = omega (arith, ints)
+
+first_holds : (scope : List Binding) (b : Binding) → IsBox scope b → Holds b (first_of (Some b)) (firsts scope)
+first_holds scope (Loop x) (inl is) =
+    subst (λ (y : Span1). IsInSpan y (firsts scope) (first_of (Some (Loop x)))) (sym is) (anything_holds (firsts scope) (first_of (Some (Loop x))))
+first_holds scope (Loop x) (inr (inl k)) =
     let low = k.0 in
     let last = k.1 in
     let from : low ≤ℤ low = omega (arith, ints) in
-    subst (λ (y : Span1). IsInSpan y v (first_of (Some (Loop y)))) (sym k.2) (between low last low v from k.5)
-first_holds (LetMin fs) v box = absurd box
-first_holds (LetMax fs) v box = absurd box
+    subst (λ (y : Span1). IsInSpan y (firsts scope) (first_of (Some (Loop y)))) (sym k.2) (between low last low (firsts scope) from k.5)
+first_holds scope (Loop x) (inr (inr k)) =
+    let zero_first : first_of (Some (Loop x)) ≡ pos 0 = ap (λ (y : Span1). first_of (Some (Loop y))) k.is in
+    subst (λ (z : ℤ). IsInSpan x (firsts scope) z) (sym zero_first) (capped_holds scope x k)
+first_holds scope (LetMin fs) box = absurd box
+first_holds scope (LetMax fs) box = absurd box
 
-module _ (scope : List Binding) (boxes : (n : ℕ) (b : Binding) → slice_get scope n ≡ Some b → IsBox b) where
+module _ (scope : List Binding) (boxes : AreBoxes scope) where
   pub firsts_near : (n : ℕ) → IsNear (firsts scope n)
   firsts_near n = of (slice_get scope n) refl
     where
       of : (o : Option Binding) → slice_get scope n ≡ o → IsNear (first_of o)
       of None e = omega arith
-      of (Some b) e = first_near b (boxes n b e)
+      of (Some b) e = first_near scope b (boxes n b e)
 
   firsts_hold : HoldsIn scope (firsts scope)
-  firsts_hold = λ n b at. subst (λ (o : Option Binding). Holds b (first_of o) (firsts scope)) (sym at) (first_holds b (firsts scope) (boxes n b at))
+  firsts_hold = λ n b at. subst (λ (o : Option Binding). Holds b (first_of o) (firsts scope)) (sym at) (first_holds scope b (boxes n b at))
 
 -- ---- coordinates
 
@@ -283,7 +306,7 @@ some_typed known functions (More e es) h =
     (ap is_some (index-is (type_of known functions e) k.0), some_typed known functions es k.1)
 
 module _ (a : Algorithm) (left r : AroundText) (f : FormulaText) (os : List (Option Form)) (cs : List Span1) (none : AllByRecursion (λ o. o ≡ None) f.at)
-    (stands : coordinates_behind a left f [] 0 os ≡ Some cs) (is : record left { coordinates = cs } ≡ r) (boxes : (n : ℕ) (b : Binding) → slice_get left.scope n ≡ Some b → IsBox b)
+    (stands : coordinates_behind a left f [] 0 os ≡ Some cs) (is : record left { coordinates = cs } ≡ r) (boxes : AreBoxes left.scope)
     (indices : AllByRecursion IsIndex (map (number_at (firsts left.scope)) os)) (apart : AreDistinct left.variables) (long : length left.variables ≡ length os) where
   abbrev v : ℕ → ℤ
   v = firsts left.scope

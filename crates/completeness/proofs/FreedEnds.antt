@@ -1,6 +1,6 @@
 -- The ends of a span that is freed of all symbols are those of one of its forms; so the span is shown to lie in the numbers between ends that hold these, where loops run over numbers.
-use Rattle.std.proofs.Common.{◌≡◌, ℕ, zero, suc, ◌+◌, ◌<◌, ◌≤◌, ◌^◌, Bool, true, false, ◌&&◌, ◌||◌, List, [], ◌∷◌, ◌++◌, length, map, Option, Some, None, refl, sym, ap, ◌∙◌, subst, inl, inr, arith}
-use Rattle.std.specs.Prelude.{ℤ, pos, negsuc, ◌==◌, ◌+ℤ◌, ◌-ℤ◌, ◌*ℤ◌, ◌≤ℤ◌, int_le, fold, option_and_then, if◌then◌else◌, slice_get}
+use Rattle.std.proofs.Common.{◌≡◌, ℕ, zero, suc, ◌+◌, ◌<◌, ◌≤◌, ◌^◌, Bool, true, false, ◌&&◌, ◌||◌, List, [], ◌∷◌, length, map, Option, Some, None, refl, sym, ap, ◌∙◌, inl, inr, arith}
+use Rattle.std.specs.Prelude.{ℤ, pos, negsuc, ◌==◌, ◌+ℤ◌, ◌-ℤ◌, ◌*ℤ◌, ◌≤ℤ◌, int_le, option_and_then, if◌then◌else◌}
 use Rattle.std.specs.List.{AllByRecursion, list_any}
 use Rattle.std.specs.Int.RustNames.{unsigned_abs}
 use Rattle.std.proofs.lemmas.Int.{ints}
@@ -11,32 +11,23 @@ use Rattle.lin.specs.Regions.{span_inside}
 use Rattle.lin.specs.Search.{at_most}
 use Rattle.lin.specs.declared.scope.Binding.{Binding}
 use Rattle.lin.specs.declared.span.Span1.{Span1}
-use Rattle.bounds.specs.Lists.{checked, all_combined}
+use Rattle.bounds.specs.Lists.{all_combined}
 use Rattle.bounds.specs.Spans.{span_of, multiples}
-use Rattle.bounds.specs.Projection.Elimination.{is_inner, both, eliminated}
+use Rattle.bounds.specs.Projection.Elimination.{is_inner, eliminated}
 use Rattle.bounds.specs.Projection.Projection.{negated, form_bounds, side_bounds, projected_span}
-use Rattle.bounds.proofs.ListSound.{AllIn, all_in_some, all-append, kept-all, checked-all, all_combined-all}
+use Rattle.bounds.proofs.ListSound.{AllIn, all_in_some, kept-all, all_combined-all}
 use Rattle.sched.specs.declared.numbers.Extent.{Extent}
 use Rattle.lower.specs.Regions.{number_of, greater, less, greatest_number, least_number, symbols_from, ends_between, ends_of, are_within}
 use Rattle.lower.specs.Bounded.{whole}
 use Rattle.lower.proofs.Laying.{bound, same}
 use Rattle.completeness.proofs.Standing.{Taken}
 use Rattle.completeness.proofs.TakenSites.{Has}
-use Rattle.completeness.proofs.Boxes.{IsBox, shown_above, shown_under}
+use Rattle.completeness.proofs.Boxes.{AreBoxes, has_all, one_of_all, fold_all, shown_above, shown_under}
 
 abbrev Ends : Type 0
 Ends = Taken _ _ are_within
 
 -- ---- lists
-
-has_all : {A : Type 0} (P : A → Type 0) (xs : List A) → ((x : A) → Has x xs → P x) → AllByRecursion P xs
-has_all P [] h = tt
-has_all P (x ∷ xs) h = (h x (inl refl), has_all P xs (λ y k. h y (inr k)))
-
-one_of_all : {A : Type 0} (P : A → Type 0) (xs : List A) (x : A) → AllByRecursion P xs → Has x xs → P x
-one_of_all P [] x h k = absurd k
-one_of_all P (y ∷ xs) x h (inl is) = subst P (sym is) h.0
-one_of_all P (y ∷ xs) x h (inr k) = one_of_all P xs x h.1 k
 
 any_by : {A : Type 0} (f : A → Bool) (xs : List A) (x : A) → Has x xs → f x ≡ true → list_any f xs ≡ true
 any_by f [] x k e = absurd k
@@ -87,15 +78,6 @@ least_has (f ∷ fs) c e = of (number_of f) refl (least_number fs) refl e (λ d 
 -- ---- the forms that ends come of
 
 module _ (scope : List Binding) (inner : List ℕ) where
-  fold_all : (P : Form → Type 0) (acc : Option (List Form)) (os : List (Option (List Form))) → AllIn P acc → AllByRecursion (λ o. AllIn P o) os → AllIn P (fold (both scope false) acc os)
-  fold_all P acc [] h k = h
-  fold_all P acc (o ∷ os) h k = fold_all P (both scope false acc o) os (of acc o h k.0) k.1
-    where
-      of : (a b : Option (List Form)) → AllIn P a → AllIn P b → AllIn P (both scope false a b)
-      of None b x y = λ xs e. absurd (cc e)
-      of (Some a) None x y = λ xs e. absurd (cc e)
-      of (Some a) (Some b) x y = kept-all P (map checked (a ++ b)) (checked-all P (a ++ b) (all-append P a b (x a refl) (y b refl)))
-
   -- of an upper form
   abbrev IsFreed : List Form → Form → Type 0
   IsFreed fs g = (m : Form) × (us : List Form) × Has m fs × (eliminated scope inner m ≡ Some us) × Has g us
@@ -108,7 +90,7 @@ module _ (scope : List Binding) (inner : List ℕ) where
 
   uppers_freed : (fs : List Form) → AllIn (IsFreed fs) (side_bounds scope inner true fs)
   uppers_freed fs =
-      fold_all (IsFreed fs) (Some []) (map (form_bounds scope inner true) fs) (all_in_some (IsFreed fs) [] tt) (each fs (λ m h. h))
+      fold_all scope (IsFreed fs) (Some []) (map (form_bounds scope inner true) fs) (all_in_some (IsFreed fs) [] tt) (each fs (λ m h. h))
     where
       each : (ms : List Form) → ((m : Form) → Has m ms → Has m fs) → AllByRecursion (λ o. AllIn (IsFreed fs) o) (map (form_bounds scope inner true) ms)
       each [] w = tt
@@ -116,7 +98,7 @@ module _ (scope : List Binding) (inner : List ℕ) where
 
   lowers_freed : (fs : List Form) → AllIn (IsNegated fs) (side_bounds scope inner false fs)
   lowers_freed fs =
-      fold_all (IsNegated fs) (Some []) (map (form_bounds scope inner false) fs) (all_in_some (IsNegated fs) [] tt) (each fs (λ m h. h))
+      fold_all scope (IsNegated fs) (Some []) (map (form_bounds scope inner false) fs) (all_in_some (IsNegated fs) [] tt) (each fs (λ m h. h))
     where
       freed_by : (m nf : Form) (us : List Form) → Has m fs → negated m ≡ Some nf → eliminated scope inner nf ≡ Some us → AllIn (IsNegated fs) (multiples (negsuc 0) us)
       freed_by m nf us has n e =
@@ -157,7 +139,7 @@ all_inner s (suc n) m low less = of (s == m) refl (λ q. all_inner (s + 1) n m (
     of true e rest = refl
     of false e rest = rest (grind (arith, nat_tests, e, low))
 
-module _ (scope : List Binding) (boxes : (n : ℕ) (b : Binding) → slice_get scope n ≡ Some b → IsBox b) where
+module _ (scope : List Binding) (boxes : AreBoxes scope) where
   abbrev symbols : List ℕ
   symbols = symbols_from 0 (length scope)
 

@@ -30,7 +30,7 @@ none_parallel x (o ∷ ls) h = of (is_parallel o) refl h (λ k. none_parallel x 
     of true e k rest = (λ name. (let counts = named name in absurd (omega (arith, counts, k))), rest (omega (arith, k)))
     of false e k rest = (λ name. e, rest k)
 
-filter_joined : (f : Loop → Bool) (xs ys : List Loop) → filter f (xs ++ ys) ≡ filter f xs ++ filter f ys
+pub filter_joined : (f : Loop → Bool) (xs ys : List Loop) → filter f (xs ++ ys) ≡ filter f xs ++ filter f ys
 filter_joined f [] ys = refl
 filter_joined f (x ∷ xs) ys = of (f x) (filter_joined f xs ys)
   where

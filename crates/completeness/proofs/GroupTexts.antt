@@ -1,4 +1,4 @@
--- What pieces own, and what their claims speak of, has a text, in plans whose splits need no tail.
+-- What pieces own, and what their claims speak of, has a text, in plans whose splits need no line of their own.
 use Rattle.std.proofs.Common.{◌≡◌, ℕ, true, List, Some, None, false}
 use Rattle.std.specs.Prelude.{slice_get}
 use Rattle.std.specs.List.{AllByRecursion}
@@ -16,7 +16,7 @@ use Rattle.lower.specs.Faults.{are_whole, region_fault}
 use Rattle.lower.specs.Blocks.{dimensions_of, owned_region, claimed_region, own_places}
 use Rattle.lower.specs.Groups.{HasGroups}
 use Rattle.completeness.specs.Owed.{IsNearSpan, IsWithinSpan}
-use Rattle.completeness.specs.Blocked.{IsBlocked}
+use Rattle.completeness.specs.Blocked.{IsKept}
 use Rattle.completeness.proofs.FewLines.{stood}
 use Rattle.completeness.proofs.NearClaims.{span_within, group_near}
 use Rattle.completeness.proofs.OwnTexts.{IsGood, IsGoodPlace, own_said, region_said, places_said}
@@ -30,7 +30,7 @@ spans_fit ss good within =
 
 module _ (a : Algorithm) (sch : Schedule) (l : Lowered) (well : IsAlgorithm a) (legal : IsLegal a sch) (small : has_large (stored_functions a sch) ≡ false)
     (kept : region_fault a (stored_functions a sch) ≡ None) (all : are_whole (stored_functions a sch) ≡ true) (groups : HasGroups a (stored_functions a sch) l)
-    (blocked : (n : ℕ) (u : StoredText) → slice_get (stored_functions a sch) n ≡ Some u → IsBlocked a sch n u) where
+    (blocked : (n : ℕ) (u : StoredText) → slice_get (stored_functions a sch) n ≡ Some u → IsKept a sch n u) where
   -- of a group's own claims, of what its pieces own, and the places of its buffer
   pub group_texts : (n : ℕ) (q : CodeGroup) (there : slice_get l.plan.groups.items n ≡ Some q) → let me = made_at a sch l well legal small kept all groups n q there in
       (fits_region (claimed_region (dimensions_of me.stored me.laid.region me.laid.skeleton)) ≡ true)

@@ -1,5 +1,5 @@
--- All numbers of a dimension of a function hold each index at which a later function calls it, in whichever definition, as the checker tests it, where no loop of that one is split, its left
--- indices are variables and its own region begins near 0.
+-- All numbers of a dimension of a function hold each index at which a later function calls it, in whichever definition, as the checker tests it, where that one's left indices are variables
+-- and around its stores all symbols are of loops over some numbers near 0.
 use Rattle.std.proofs.Common.{◌≡◌, ℕ, suc, ◌+◌, ◌≤◌, Bool, true, false, List, [], ◌∷◌, ◌++◌, length, map, Some, None, refl, sym, ap, ◌∙◌, subst, inl, inr, arith}
 use Rattle.std.specs.Prelude.{if◌then◌else◌, slice_get}
 use Rattle.std.specs.List.{AllByRecursion}
@@ -31,7 +31,7 @@ use Rattle.completeness.proofs.RegionBounds.{IsEnded}
 use Rattle.completeness.proofs.LoadedTerms.{IsTypedCall}
 use Rattle.completeness.proofs.Only.{SpanOnly}
 use Rattle.completeness.proofs.Sited.{Below, SiteOnly}
-use Rattle.completeness.proofs.Boxes.{IsBox}
+use Rattle.completeness.proofs.Boxes.{AreBoxes}
 use Rattle.completeness.proofs.CallEnds.{IsCallOf, AreIndicesEnded}
 use Rattle.completeness.proofs.FirstNumbers.{firsts, number_at, some_typed, ends_ordered}
 use Rattle.completeness.proofs.HeldWhole.{calls_from, call_held, holds_each, all_has}
@@ -65,7 +65,7 @@ module _ (a : Algorithm) (u : StoredText) (m : LaidText) (fs : List FormulaText)
   pub record IsNearNest (d : ℕ) (f : FormulaText) (w : NestText) : Type 0 where
     pub is : slice_get fs d ≡ Some f
     pub nested : slice_get m.skeleton.nests d ≡ Some w
-    pub boxes : AllByRecursion IsBox (bind_steps (head_scope m.skeleton) w.steps)
+    pub boxes : AreBoxes (bind_steps (head_scope m.skeleton) w.steps)
     pub indices : AllByRecursion IsIndex (map (number_at (firsts (bind_steps (head_scope m.skeleton) w.steps))) w.at)
     pub none : AllByRecursion (λ o. o ≡ None) f.at
     pub apart : AreDistinct (names d)
@@ -81,9 +81,8 @@ module _ (a : Algorithm) (u : StoredText) (m : LaidText) (fs : List FormulaText)
         let left : AroundText = left_around u outer w d in
         let z = bound (coordinates_behind a left f [] 0 w.at) (λ cs. Some (record left { coordinates = cs })) r stands in
         let is : record left { coordinates = z.value } ≡ r = same (record left { coordinates = z.value }) r z.comes in
-        let left_boxes : (i : ℕ) (b : Binding) → slice_get left.scope i ≡ Some b → IsBox b = λ i b q. got IsBox left.scope i b h.boxes q in
-        let r_boxes : (i : ℕ) (b : Binding) → slice_get r.scope i ≡ Some b → IsBox b =
-        subst (λ (t : AroundText). (i : ℕ) (b : Binding) → slice_get t.scope i ≡ Some b → IsBox b) is left_boxes in
+        let left_boxes : AreBoxes left.scope = h.boxes in
+        let r_boxes : AreBoxes r.scope = subst (λ (t : AroundText). AreBoxes t.scope) is left_boxes in
         let order = ends_ordered a left r f w.at z.value h.none z.is is left_boxes h.indices h.apart h.long in
         holds_each r.scope dim (whole e) calls (λ cs has. elim (calls_from a r x (calls_in f) [] calls added cs has) [
           | inl old ↦ absurd old

@@ -51,7 +51,7 @@ use Rattle.completeness.proofs.NearBoxes.{IsBoxTurn}
 use Rattle.completeness.proofs.RangedBoxes.{range_box}
 use Rattle.completeness.proofs.HeldWhole.{all_calls, no_left_calls}
 use Rattle.completeness.proofs.HeldAll.{IsNearNest, sites_held}
-use Rattle.completeness.proofs.Boxes.{IsBox}
+use Rattle.completeness.proofs.Boxes.{AreBoxes}
 use Rattle.completeness.proofs.FirstNumbers.{firsts, number_at}
 
 -- the coordinates of a nest are what names stand for there
@@ -63,7 +63,7 @@ pub record IsFormed (xs : List (List ℕ)) (bs : List BodyText) (d : ℕ) (w : N
 
 -- what stands around a store: boxes; and each coordinate is a number of 32 bits at their first numbers
 pub record IsIndexed (k : SkeletonText) (w : NestText) : Type 0 where
-  pub boxes : AllByRecursion IsBox (bind_steps (head_scope k) w.steps)
+  pub boxes : AreBoxes (bind_steps (head_scope k) w.steps)
   pub indices : AllByRecursion IsIndex (map (number_at (firsts (bind_steps (head_scope k) w.steps))) w.at)
 
 not_same : (b : Bool) → b ≡ true → not b ≡ true → ⊥

@@ -1,5 +1,5 @@
--- All numbers of a dimension of a function hold each index at which a later function without updates calls it, as the checker tests it, where no loop of that one is split and its own
--- region begins near 0.
+-- All numbers of a dimension of a function hold each index at which a later function calls it, as the checker tests it, where around that one's store all symbols are of loops over some
+-- numbers near 0.
 use Rattle.std.proofs.Common.{◌≡◌, ℕ, zero, suc, ◌+◌, ◌<◌, Bool, true, false, List, [], ◌∷◌, ◌++◌, length, Option, Some, None, IsSome, refl, sym, ap, ◌∙◌, subst, inl, inr, ◌⊎◌, arith}
 use Rattle.std.specs.Prelude.{pos, negsuc, ◌≤ℤ◌, if◌then◌else◌, slice_get}
 use Rattle.std.specs.List.{AllByRecursion, flat_map}
@@ -37,7 +37,7 @@ use Rattle.completeness.proofs.TakenSites.{Has}
 use Rattle.completeness.proofs.RegionBounds.{IsEnded}
 use Rattle.completeness.proofs.Only.{Only, SpanOnly, only_combined}
 use Rattle.completeness.proofs.Sited.{Below}
-use Rattle.completeness.proofs.Boxes.{IsBox}
+use Rattle.completeness.proofs.Boxes.{AreBoxes}
 use Rattle.completeness.proofs.FreedEnds.{AreOver, inside_all, whole_inside}
 use Rattle.completeness.proofs.CallEnds.{IsIndexEnded, AreIndicesEnded}
 
@@ -169,7 +169,7 @@ module _ (a : Algorithm) (r : AroundText) (known : List ℕ → Bool) (region : 
       subst (IsSpanAt out) next (span_at es (k + 1) (before ++ b.value ∷ []) out (omega (arith, many, long)) h.1 g.1 b.comes j (omega (arith, lt)))
 
 -- where there are numbers of each loop, all numbers of the dimension hold the call
-module _ (a : Algorithm) (r : AroundText) (known : List ℕ → Bool) (boxes : (n : ℕ) (b : Binding) → slice_get r.scope n ≡ Some b → IsBox b)
+module _ (a : Algorithm) (r : AroundText) (known : List ℕ → Bool) (boxes : AreBoxes r.scope)
     (order : (e : Term) (s : Span1) (ends : Ends) → interval_in a r e ≡ Some s → IsSome (type_of known (called a) e) → ends_of r.scope s ≡ Some ends → ends.low ≤ℤ ends.high)
     (region : List Extent) (extents : AllByRecursion IsExtent region) (ended : AllByRecursion IsEnded region) where
   abbrev over : List Multiple → Type 0

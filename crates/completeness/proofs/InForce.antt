@@ -526,7 +526,8 @@ module _ (g : StoredText) (fs : List FormulaText) (nests : List NestText) (place
       own_more : HasOwn known → HasOwn two
       own_more own = (let test : (0 == t.buffer) ≡ false = ap (λ (b : ℕ). 0 == b) buffer ∙ zero_other i in ap (λ (b : Bool). if b then Some t.places else places_of known.buffers 0) test ∙ own)
 
-    pub fetches_each : (calls : Calls) (grid : List Binding) (n b at_line : ℕ) (xs : List (ℕ × Entry)) (ts : List FetchText) (ws : List Need) (cs : List CodeClaim) → AreFetched calls grid n b at_line xs ts ws cs →
+    pub fetches_each : (calls : Calls) (grid : List Binding) (n b at_line : ℕ) (xs : List (ℕ × Entry)) (ts : List FetchText) (ws : List Need) (cs : List CodeClaim) → AreFetched calls grid n
+        b at_line xs ts ws cs →
         (i : ℕ) → ((j : ℕ) (f : FetchText) → slice_get ts j ≡ Some f → slice_get fetches (i + j) ≡ Some f) →
         ((j : ℕ) (v : CodeClaim) → slice_get cs j ≡ Some v → is_member (first + (i + j)) (O.named v.line) ≡ true) → length fetches ≡ i + length ts → (next : ℕ) → next ≡ at_line + 2 * length ts →
         (rest : List Statement) → ((known : Known) → Held known → HasOwn known → EachOf O R StoreHere (block rest) next known) → (known : Known) → HeldTo i known → HasOwn known →

@@ -145,6 +145,11 @@ pub mod BlockRanges
 pub mod BlockUpdates
 pub mod PlacedStores
 pub mod BlockReady
+pub mod BlockCaps
+pub mod BlockLimits
+pub mod BlockOrder
+pub mod GuardSums
+pub mod BlockLoops
 pub mod RisingSpans
 pub mod TextForms
 pub mod OwnTexts

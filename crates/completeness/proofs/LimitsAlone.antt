@@ -1,4 +1,4 @@
--- What the checker tells of a plan whose schedule splits loops once at most, by blocks that need no tail, is a limit.
+-- What the checker tells of a plan whose schedule splits loops once at most, by blocks that need no line of their own, is a limit.
 use Rattle.std.proofs.Common.{◌≡◌, ℕ, suc, Bool, true, ◌||◌, List, [], ◌∷◌, Some, refl, ap, ◌∙◌}
 use Rattle.std.specs.Prelude.{slice_get}
 use Rattle.std.specs.List.{AllByRecursion}

@@ -1,9 +1,8 @@
 -- Loops over numbers, and the choices among them of one that is taken away.
-use Rattle.std.proofs.Common.{◌≡◌, ℕ, ◌≤◌, ◌^◌, Bool, true, false, ◌&&◌, ◌||◌, not, List, [], ◌∷◌, map, Option, Some, None}
+use Rattle.std.proofs.Common.{◌≡◌, ℕ, Bool, true, false, ◌&&◌, ◌||◌, not, List, [], ◌∷◌, map, Option, Some, None}
 use Rattle.std.proofs.Common.{refl, sym, ap, ◌∙◌}
 use Rattle.std.specs.Prelude.{ℤ, pos, int_le, ◌==◌, if◌then◌else◌}
 use Rattle.std.specs.List.{AllByRecursion, list_any}
-use Rattle.std.specs.Int.RustNames.{unsigned_abs}
 use Rattle.lin.specs.Forms.{Form, number, factor_of, same_form}
 use Rattle.lin.specs.declared.span.Span1.{Span1}
 use Rattle.plan.specs.declared.stmt.Pick.TheVariants.{Min}
@@ -11,7 +10,7 @@ use Rattle.plan.specs.Semantics.Setting.{or_else}
 use Rattle.soundness.specs.Obligations.{Binder, Ranged, Picked, form_has, binder_has}
 use Rattle.soundness.proofs.Refines.{eq_refl, eq_true}
 use Rattle.sched.specs.Skeleton.{span}
-use Rattle.tails.specs.Moves.{Choice, behind, choices, first_some, joined, each_replaced, is_loose, paired}
+use Rattle.tails.specs.Moves.{Choice, first_some, joined, each_replaced, is_loose}
 use Rattle.tails.specs.Moves.{expanded}
 
 -- ---- booleans
@@ -55,6 +54,10 @@ item_span t = span t.low t.last []
 abbrev pub item_loop : Item → Binder
 item_loop t = Ranged t.symbol (item_span t)
 
+-- with the further upper forms of its symbol
+abbrev pub limited_loop : (ℕ → List Form) → Item → Binder
+limited_loop lim t = Ranged t.symbol (span t.low t.last (lim t.symbol))
+
 -- a loop of one turn is a let
 abbrev pub is_lone : Item → Bool
 is_lone t = same_form (number t.low) (number t.last)
@@ -64,10 +67,6 @@ step_by b t = if b then Picked t.symbol Min (number t.low ∷ []) else Ranged t.
 
 abbrev pub item_step : Item → Binder
 item_step t = step_by (is_lone t) t
-
-pub paired_items : (ts : List Item) → paired (map item_loop ts) ≡ map item_step ts
-paired_items [] = refl
-paired_items (t ∷ ts) = ap (λ (bs : List Binder). item_step t ∷ bs) (paired_items ts)
 
 abbrev pub is_left : ℕ → List Item → Bool
 is_left i ts = list_any (λ t. t.symbol == i) ts
@@ -92,15 +91,6 @@ picks (t ∷ ts) = record { one = t; others = ts } ∷ map (with_it t) (picks ts
 
 abbrev pub choice_of : One → Choice
 choice_of p = record { one = item_step p.one; others = map item_step p.others }
-
-pub choices_are : (ts : List Item) → choices (map item_step ts) ≡ map choice_of (picks ts)
-choices_are [] = refl
-choices_are (t ∷ ts) =
-    ap (λ (cs : List Choice). record { one = item_step t; others = map item_step ts } ∷ cs) (ap (map (behind (item_step t))) (choices_are ts) ∙ of (picks ts))
-  where
-    of : (ps : List One) → map (behind (item_step t)) (map choice_of ps) ≡ map choice_of (map (with_it t) ps)
-    of [] = refl
-    of (p ∷ ps) = ap (λ (cs : List Choice). choice_of (with_it t p) ∷ cs) (of ps)
 
 -- ---- what the spans name
 
@@ -132,11 +122,6 @@ all_true P Q f (x ∷ xs) h = (f x h.0, all_true P Q f xs h.1)
 -- ---- the moves
 
 module _ (exact : Bool) (shows : Form → Form → Bool) where
-  -- over all turns of its loop, the symbol alone is each of the loop's numbers
-  module _ (t : Item) (near : unsigned_abs t.low ≤ 2 ^ 40) (last_near : unsigned_abs t.last ≤ 2 ^ 40) where
-    abbrev i : ℕ
-    i = t.symbol
-
   -- forms without the symbol stay
   pub opened_none : (i : ℕ) (ms fs : List Form) → list_any (form_has i) fs ≡ false → expanded exact shows i ms fs ≡ Some fs
   opened_none i ms [] e = refl

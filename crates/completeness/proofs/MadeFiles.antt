@@ -1,4 +1,4 @@
--- The text of a plan that is made of a schedule whose splits need no tail is a file of this plan.
+-- The text of a plan that is made of a schedule whose splits need no line of their own is a file of this plan.
 use Rattle.std.proofs.Common.{◌≡◌, true}
 use Rattle.plan.specs.View.{plan_of}
 use Rattle.plan.specs.Certificate.Certificate.{certificate_of}

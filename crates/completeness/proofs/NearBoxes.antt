@@ -1,16 +1,19 @@
 -- Root functions have few numbers in each dimension, and turns over numbers that begin near 0 are over numbers within 2^15.
-use Rattle.std.proofs.Common.{◌≡◌, ℕ, zero, suc, ◌+◌, ◌-◌, ◌<◌, ◌≤◌, Bool, true, false, List, [], ◌∷◌, length, Option, Some, None, refl, sym, ap, ◌∙◌, subst, inl, inr, arith}
+use Rattle.std.proofs.Common.{◌≡◌, ℕ, zero, suc, ◌+◌, ◌-◌, ◌<◌, ◌≤◌, Bool, true, false, List, [], ◌∷◌, ◌++◌, length, Option, Some, None, refl, sym, ap, ◌∙◌, subst, inl, inr, arith, length-append}
 use Rattle.std.specs.Prelude.{pos, ◌+ℤ◌, ◌-ℤ◌, ◌≤ℤ◌, nat_le, replicate, if◌then◌else◌, slice_get}
 use Rattle.std.specs.List.{AllByRecursion}
 use Rattle.std.specs.Int.RustNames.{unsigned_abs}
 use Rattle.std.proofs.lemmas.Bool.Decides.{nat_tests}
 use Rattle.std.proofs.lemmas.Int.{ints}
+use Rattle.lin.specs.Forms.{Form}
 use Rattle.lin.specs.declared.scope.Binding.{Binding}
 use Rattle.lin.specs.declared.scope.Binding.TheVariants.{Loop as LoopBinding}
+use Rattle.lin.specs.declared.span.Span1.{Span1}
 use Rattle.bounds.proofs.ListSound.{all-append}
 use Rattle.meaning.specs.Algorithm.{Algorithm}
 use Rattle.soundness.specs.Obligations.{anything}
 use Rattle.soundness.proofs.Refines.{and_parts}
+use Rattle.headline.proofs.Members.{got}
 use Rattle.sched.specs.declared.placing.Loop.{Loop}
 use Rattle.sched.specs.declared.numbers.Extent.{Extent}
 use Rattle.sched.specs.declared.numbers.Numbers.{Numbers}
@@ -25,8 +28,9 @@ use Rattle.lower.specs.Regions.{LaidText, extent_between, may_have, extent_of, r
 use Rattle.lower.proofs.Laying.{bound, same}
 use Rattle.lower.proofs.Reached.{laid_found}
 use Rattle.completeness.proofs.Standing.{Taken}
-use Rattle.completeness.proofs.PlainTurns.{steps_for}
-use Rattle.completeness.proofs.Boxes.{IsBox}
+use Rattle.completeness.proofs.BlockTurns.{limited_for}
+use Rattle.completeness.proofs.StoreBounds.{steps_keep}
+use Rattle.completeness.proofs.Boxes.{IsBox, AreBoxes}
 
 abbrev Ends : Type 0
 Ends = Taken _ _ are_within
@@ -74,23 +78,75 @@ regions_few a (s ∷ later) (suc n) l all laid = regions_few a later n l (and_pa
 
 -- ---- scopes of loops
 
-nothing_known : (n : ℕ) → AllByRecursion IsBox (replicate n (LoopBinding anything))
-nothing_known zero = tt
-nothing_known (suc n) = (inl refl, nothing_known n)
-
-boxes_bound : (scope : List Binding) (i : ℕ) (b : Binding) → AllByRecursion IsBox scope → IsBox b → AllByRecursion IsBox (bind scope i b)
-boxes_bound scope i b h k =
-    all-append IsBox (skip_to scope i) (b ∷ [])
-    (all-append IsBox scope (replicate (i - length scope) (LoopBinding anything)) h (nothing_known (i - length scope))) (k, tt)
-
 abbrev pub IsBoxTurn : Turning → Type 0
 IsBoxTurn t = (unsigned_abs t.low ≤ 32768) × (unsigned_abs t.last ≤ 32768) × (t.low ≤ℤ t.last)
 
-pub steps_boxes : (n : ℕ) (ts : List Turning) (scope : List Binding) → AllByRecursion IsBox scope → AllByRecursion IsBoxTurn ts → AllByRecursion IsBox (bind_steps scope (steps_for n ts))
-steps_boxes n [] scope h k = h
-steps_boxes n (t ∷ ts) scope h k =
-    let b : Binding = LoopBinding (span t.low t.last []) in
-    steps_boxes (n + 1) ts (bind scope n b) (boxes_bound scope n b h (inr (t.low, t.last, refl, k.0.0, k.0.1, k.0.2))) k.1
+replicated : (P : Binding → Type 0) (n : ℕ) → P (LoopBinding anything) → AllByRecursion P (replicate n (LoopBinding anything))
+replicated P zero h = tt
+replicated P (suc n) h = (h, replicated P n h)
+
+replicate_long : (n : ℕ) → length (replicate n (LoopBinding anything)) ≡ n
+replicate_long zero = refl
+replicate_long (suc n) = ap suc (replicate_long n)
+
+last_of : (xs : List Binding) (b : Binding) (n : ℕ) → length xs ≡ n → slice_get (xs ++ b ∷ []) n ≡ Some b
+last_of [] b zero e = refl
+last_of [] b (suc n) e = absurd (omega (arith, e))
+last_of (x ∷ xs) b zero e = absurd (omega (arith, e))
+last_of (x ∷ xs) b (suc n) e = last_of xs b n (omega (arith, e))
+
+skip_long : (scope : List Binding) (n : ℕ) → length scope ≤ n → length (skip_to scope n) ≡ n
+skip_long scope n le =
+    let both = length-append scope (replicate (n - length scope) (LoopBinding anything)) in
+    let more = replicate_long (n - length scope) in
+    omega (arith, both, more, le)
+
+bound_long : (scope : List Binding) (n : ℕ) (b : Binding) → length scope ≤ n → length (bind scope n b) ≡ n + 1
+bound_long scope n b le = (let both = length-append (skip_to scope n) (b ∷ []) in let skipped = skip_long scope n le in omega (arith, both, skipped))
+
+module _ (limits : ℕ → List Form) where
+  abbrev turn_span : ℕ → Turning → Span1
+  turn_span s t = span t.low t.last (limits s)
+
+  -- what is so of the bindings of a scope, of such of which nothing is known, and of loops, is so of all behind these loops
+  pub all_bound : (P : Binding → Type 0) (n : ℕ) (ts : List Turning) (scope : List Binding) → AllByRecursion P scope → P (LoopBinding anything) →
+      ((j : ℕ) (t : Turning) → slice_get ts j ≡ Some t → P (LoopBinding (turn_span (n + j) t))) → AllByRecursion P (bind_steps scope (limited_for limits n ts))
+  all_bound P n [] scope h none each = h
+  all_bound P n (t ∷ ts) scope h none each =
+      let here : n + 0 ≡ n = omega arith in
+      let first : P (LoopBinding (turn_span n t)) = subst (λ (m : ℕ). P (LoopBinding (turn_span m t))) here (each 0 t refl) in
+      all_bound P (n + 1) ts (bind scope n (LoopBinding (turn_span n t)))
+      (all-append P (skip_to scope n) (LoopBinding (turn_span n t) ∷ [])
+      (all-append P scope (replicate (n - length scope) (LoopBinding anything)) h (replicated P (n - length scope) none)) (first, tt)) none
+      (λ j u e. let next : n + suc j ≡ (n + 1) + j = omega arith in subst (λ (m : ℕ). P (LoopBinding (turn_span m u))) next (each (suc j) u e))
+
+  -- at its symbol each loop stands
+  pub turn_there : (n : ℕ) (ts : List Turning) (scope : List Binding) → length scope ≤ n → (j : ℕ) (t : Turning) → slice_get ts j ≡ Some t →
+      slice_get (bind_steps scope (limited_for limits n ts)) (n + j) ≡ Some (LoopBinding (turn_span (n + j) t))
+  turn_there n [] scope le j t e = absurd (cc e)
+  turn_there n (u ∷ ts) scope le zero t e =
+      let b : Binding = LoopBinding (turn_span n u) in
+      let is : u ≡ t = cc e in
+      let none : n + 0 ≡ n = omega arith in
+      let long = bound_long scope n b le in
+      let kept = steps_keep (bind scope n b) (limited_for limits (n + 1) ts) n (omega (arith, long)) in
+      let here : slice_get (bind scope n b) n ≡ Some b = last_of (skip_to scope n) b n (skip_long scope n le) in
+      ap (slice_get (bind_steps scope (limited_for limits n (u ∷ ts)))) none ∙ kept ∙ here ∙ (λ i. Some (LoopBinding (turn_span (sym none i) (is i))))
+  turn_there n (u ∷ ts) scope le (suc j) t e =
+      let b : Binding = LoopBinding (turn_span n u) in
+      let long = bound_long scope n b le in
+      let next : n + suc j ≡ (n + 1) + j = omega arith in
+      ap (slice_get (bind_steps scope (limited_for limits n (u ∷ ts)))) next ∙ turn_there (n + 1) ts (bind scope n b) (omega (arith, long)) j t e
+      ∙ ap (λ (m : ℕ). Some (LoopBinding (turn_span m t))) (sym next)
+
+  -- a loop's numbers, where no further form tells them
+  pub plain_box : (scope : List Binding) (s : ℕ) (t : Turning) → IsBoxTurn t → limits s ≡ [] → IsBox scope (LoopBinding (turn_span s t))
+  plain_box scope s t k none = inr (inl (t.low, t.last, ap (λ (fs : List Form). span t.low t.last fs) none, k.0, k.1, k.2))
+
+  pub steps_boxes : (n : ℕ) (ts : List Turning) (scope : List Binding) (all : List Binding) → bind_steps scope (limited_for limits n ts) ≡ all → AllByRecursion (IsBox all) scope →
+      ((j : ℕ) (t : Turning) → slice_get ts j ≡ Some t → IsBox all (LoopBinding (turn_span (n + j) t))) → AreBoxes all
+  steps_boxes n ts scope all is h each i b e =
+      got (IsBox all) all i b (subst (AllByRecursion (IsBox all)) is (all_bound (IsBox all) n ts scope h (inl refl) each)) e
 
 -- ---- the loops of a function
 
@@ -104,13 +160,13 @@ turn_box rs o h = of (numbers_named rs o.name) h.0 h.1 h.2
         (unsigned_abs r.low ≤ 32768) × (unsigned_abs (r.low +ℤ pos r.count -ℤ pos 1) ≤ 32768) × (r.low ≤ℤ (r.low +ℤ pos r.count -ℤ pos 1))
     of r near some few = (omega (arith, near), omega (arith, ints, near, some, few), omega (arith, ints, some))
 
-count_box : (n : ℕ) → 0 < n → n ≤ 8192 → IsBox (grid_symbol n)
-count_box n some few = inr (pos 0, pos n -ℤ pos 1, refl, omega arith, omega (arith, ints, some, few), omega (arith, ints, some))
+count_box : (scope : List Binding) (n : ℕ) → 0 < n → n ≤ 8192 → IsBox scope (grid_symbol n)
+count_box scope n some few = inr (inl (pos 0, pos n -ℤ pos 1, refl, omega arith, omega (arith, ints, some, few), omega (arith, ints, some)))
 
-pub or_one_boxes : (ns : List ℕ) → AllByRecursion (λ n. (0 < n) × (n ≤ 8192)) ns → AllByRecursion IsBox (grid_scope (or_one ns))
-or_one_boxes [] h = (count_box 1 (omega arith) (omega arith), tt)
-or_one_boxes (n ∷ ns) h = (count_box n h.0.0 h.0.1, of ns h.1)
+pub or_one_boxes : (scope : List Binding) (ns : List ℕ) → AllByRecursion (λ n. (0 < n) × (n ≤ 8192)) ns → AllByRecursion (IsBox scope) (grid_scope (or_one ns))
+or_one_boxes scope [] h = (count_box scope 1 (omega arith) (omega arith), tt)
+or_one_boxes scope (n ∷ ns) h = (count_box scope n h.0.0 h.0.1, of ns h.1)
   where
-    of : (ms : List ℕ) → AllByRecursion (λ n. (0 < n) × (n ≤ 8192)) ms → AllByRecursion IsBox (grid_scope ms)
+    of : (ms : List ℕ) → AllByRecursion (λ n. (0 < n) × (n ≤ 8192)) ms → AllByRecursion (IsBox scope) (grid_scope ms)
     of [] k = tt
-    of (m ∷ ms) k = (count_box m k.0.0 k.0.1, of ms k.1)
+    of (m ∷ ms) k = (count_box scope m k.0.0 k.0.1, of ms k.1)

@@ -37,7 +37,8 @@ use Rattle.lower.specs.Around.{grid_scope}
 use Rattle.lower.specs.Faults.{are_whole, region_fault}
 use Rattle.lower.specs.Owning.{IsLaidBy, IsExtent}
 use Rattle.lower.specs.Loading.{Loads}
-use Rattle.lower.specs.Blocks.{LayText, Whole, difference, is_parallel_named, alone_by, lay_over, dimension_by, dimension_of, dimensions_of, owned_region, claimed_region, PartText, BlockText, raised, uncut, joined, blocks_by, Run, block_span, with_last, part_of, claim_end_of}
+use Rattle.lower.specs.Blocks.{LayText, Whole, difference, is_parallel_named, alone_by, lay_over, dimension_by, dimension_of, dimensions_of, owned_region, claimed_region, PartText}
+use Rattle.lower.specs.Blocks.{BlockText, raised, uncut, joined, blocks_by, Run, block_span, with_last, part_of, claim_end_of}
 use Rattle.lower.specs.Bodies.{AreNests, first_lines}
 use Rattle.lower.specs.Taken.{sites_of, taken_region}
 use Rattle.lower.specs.Fetches.{Entry, FetchText, IsPart, AreFetched, fetched_groups, loads_from}
@@ -64,14 +65,14 @@ use Rattle.lower.proofs.Grids.{parallel_named}
 use Rattle.lower.proofs.Owners as owners
 use Rattle.completeness.specs.Laws.{AreSplitOnce}
 use Rattle.completeness.specs.Parted.{KeepsInner}
-use Rattle.completeness.specs.Blocked.{is_tailed, IsBlocked}
+use Rattle.completeness.specs.Blocked.{is_tailed, makes_line, IsKept}
 use Rattle.completeness.proofs.Halves.{AreOthers}
 use Rattle.completeness.proofs.Lanes.{AreOnce}
 use Rattle.completeness.proofs.VectorLines.{split_once}
 use Rattle.completeness.proofs.PureNests.{all_in, loop_name}
 use Rattle.completeness.proofs.Searched.{one_of}
-use Rattle.completeness.proofs.BlockBounds.{one_limited}
 use Rattle.completeness.proofs.BlockFacts.{inners_serial}
+use Rattle.completeness.proofs.BlockSums.{one_limited}
 use Rattle.completeness.proofs.BlockDims.{top, IsCutOnce, cut_once, part_uncut, claim_uncut, claim_is, few_numbers, block_claim}
 use Rattle.completeness.proofs.BlockChains.{is_named}
 use Rattle.completeness.proofs.FewLines.{stood}
@@ -134,7 +135,7 @@ first_of (f ∷ fs) other = f
 
 module _ (g : StoredText) (region : List Extent) (k : SkeletonText) (laid : IsLaidBy g region k) (narrow : length g.subject.variables ≤ 3) (alone : AreSplitOnce g.placed.cuts)
     (keeps : KeepsInner g.placed.loops g.placed.cuts)
-    (filled : AllByRecursion (λ c. is_tailed (loop_numbers g.subject.variables g.placed.cuts region) c ≡ false) g.placed.cuts)
+    (filled : AllByRecursion (λ c. makes_line g.placed.loops (loop_numbers g.subject.variables g.placed.cuts region) c ≡ false) g.placed.cuts)
     (known : k.known ≡ grid_forms (loop_numbers g.subject.variables g.placed.cuts region) 0 (parallel_loops g.placed.loops)) where
   abbrev xs : List (List ℕ)
   xs = g.subject.variables
@@ -164,8 +165,8 @@ module _ (g : StoredText) (region : List Extent) (k : SkeletonText) (laid : IsLa
   abbrev once : AreOnce cuts
   once = split_once cuts alone
 
-  abbrev free : (c : Split) → In c cuts → is_tailed rs c ≡ false
-  free c m = all_in (λ c. is_tailed rs c ≡ false) cuts c filled m
+  abbrev free : (c : Split) → In c cuts → makes_line ls rs c ≡ false
+  free c m = all_in (λ c. makes_line ls rs c ≡ false) cuts c filled m
 
   abbrev fits : (c : Split) → In c cuts → CutFits rs c
   fits c m = all_in (CutFits rs) cuts c (owners.cuts g region k laid) m
@@ -236,11 +237,16 @@ module _ (g : StoredText) (region : List Extent) (k : SkeletonText) (laid : IsLa
 
     all_whole : IsNear c.whole Whole
     all_whole =
-        let end = part.claim ∙ claim_is rs c (free c m) (fits c m) h.0 h.1 in
-        let few = few_numbers rs c (free c m) (fits c m) h.0 h.1 in
+        let end = part.claim ∙ claim_is ls rs c (free c m) (fits c m) h.0 h.1 in
+        let few = few_numbers ls rs c (free c m) (fits c m) h.0 h.1 in
         let wide = (fits c m).few in
-        whole_near c.whole h (subst (λ (z : ℤ). unsigned_abs z ≤ 2 ^ 36) (sym end) (far low (top (num c.whole).count size * size) size (near_low c.whole h) few wide))
+        let bare = far low (top (num c.whole).count size * size) size (near_low c.whole h) few wide in
+        whole_near c.whole h (subst (λ (z : ℤ). unsigned_abs z ≤ 2 ^ 36) (sym end) (either (is_tailed rs c) (last_number (num c.whole)) _ (near_last c.whole h) bare))
       where
+        either : (v : Bool) (y z : ℤ) → unsigned_abs y ≤ 2 ^ 36 → unsigned_abs z ≤ 2 ^ 36 → unsigned_abs (if v then y else z) ≤ 2 ^ 36
+        either true y z h k = h
+        either false y z h k = k
+
         far : (z : ℤ) (p q : ℕ) → unsigned_abs z ≤ 2 ^ 32 → p ≤ 2 ^ 32 → q ≤ 1024 → unsigned_abs (z +ℤ (pos p +ℤ (pos q -ℤ pos 1))) ≤ 2 ^ 36
         far z p q one two three = omega (arith, ints, one, two, three)
 
@@ -251,13 +257,13 @@ module _ (g : StoredText) (region : List Extent) (k : SkeletonText) (laid : IsLa
     block_near : (s : ℕ) → IsNear c.whole (Run (blocks_by lay c part.rest (outer s) (num c.whole)))
     block_near s =
         let b : BlockText = blocks_by lay c part.rest (outer s) (num c.whole) in
-        let is = block_claim rs c (free c m) (fits c m) h.0 h.1 lay refl s part.rest part.inner_end in
+        let is = block_claim ls rs c (free c m) (fits c m) h.0 h.1 lay refl s part.rest part.inner_end in
         let wide = (fits c m).few in
         let near = near_low c.whole h in
         let small : unsigned_abs (pos size) ≤ 2 ^ 20 = omega (arith, ints, wide) in
         let one : IsNearForm (one_of low (pos size) s) = near_one low (pos size) s (omega (arith, near)) small in
         let two : IsNearForm (one_of ((pos size -ℤ pos 1) +ℤ low) (pos size) s) = near_one ((pos size -ℤ pos 1) +ℤ low) (pos size) s (far low size near wide) small in
-        let claim : IsNearSpan (block_span b.start b.length b.claim_limits) = subst IsNearSpan (sym is) ((one, tt), (two, tt)) in
+        let claim : IsNearSpan (block_span b.start b.length b.claim_limits) = subst IsNearSpan (sym is) ((one, tt), (two, caps (is_tailed rs c))) in
         let start : b.start ≡ one_of low (pos size) s = ap (λ (x : Span1). first_of x.lower b.start) is in
         let up : raised b.start (difference b.length (pos 1)) ≡ one_of ((pos size -ℤ pos 1) +ℤ low) (pos size) s = ap (λ (x : Span1). first_of x.upper b.start) is in
         let own : IsNearSpan (block_span b.start b.length b.own_limits) = ((subst IsNearForm (sym start) one, tt), (subst IsNearForm (sym up) two, limits (has_rest c (num c.whole).count))) in
@@ -265,6 +271,10 @@ module _ (g : StoredText) (region : List Extent) (k : SkeletonText) (laid : IsLa
       where
         far : (z : ℤ) (q : ℕ) → unsigned_abs z ≤ 2 ^ 32 → q ≤ 1024 → unsigned_abs ((pos q -ℤ pos 1) +ℤ z) ≤ 2 ^ 39
         far z q one two = omega (arith, ints, one, two)
+
+        caps : (v : Bool) → AllByRecursion IsNearForm (if v then number (last_number (num c.whole)) ∷ [] else [])
+        caps true = (let last = near_last c.whole h in (near_number (last_number (num c.whole)) (omega (arith, last)), tt))
+        caps false = tt
 
         limits : (v : Bool) → AllByRecursion IsNearForm (with_last [] (if v then Some (last_number (num c.whole)) else None))
         limits true = (let last = near_last c.whole h in (near_number (last_number (num c.whole)) (omega (arith, last)), tt))
@@ -337,7 +347,7 @@ own_good g fs r ms c line d (n ∷ ns) ys (w ∷ cs) near h =
 
 module _ (a : Algorithm) (sch : Schedule) (l : Lowered) (well : IsAlgorithm a) (legal : IsLegal a sch) (small : has_large (stored_functions a sch) ≡ false)
     (kept : region_fault a (stored_functions a sch) ≡ None) (all : are_whole (stored_functions a sch) ≡ true) (groups : HasGroups a (stored_functions a sch) l)
-    (blocked : (n : ℕ) (u : StoredText) → slice_get (stored_functions a sch) n ≡ Some u → IsBlocked a sch n u) where
+    (blocked : (n : ℕ) (u : StoredText) → slice_get (stored_functions a sch) n ≡ Some u → IsKept a sch n u) where
   abbrev gs : List StoredText
   gs = stored_functions a sch
 

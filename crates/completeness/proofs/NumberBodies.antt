@@ -1,4 +1,4 @@
--- The numbers in the lines of the bodies of groups have a text, in plans whose splits need no tail.
+-- The numbers in the lines of the bodies of groups have a text, in plans whose splits need no line of their own.
 use Rattle.std.proofs.Common.{◌≡◌, ℕ, zero, suc, ◌+◌, ◌*◌, ◌<◌, ◌≤◌, ◌^◌, true, false, List, [], ◌∷◌, ◌++◌, length, Some, None, refl, sym, ap, ◌∙◌, subst, arith}
 use Rattle.std.specs.Prelude.{◌-◌, slice_get}
 use Rattle.std.specs.List.{AllByRecursion}
@@ -32,7 +32,7 @@ use Rattle.lower.specs.Bodies.{last_claim, first_lines}
 use Rattle.lower.specs.Taken.{sites_of}
 use Rattle.lower.specs.Fetches.{Entry, FetchText, IsPart, AreFetched, fetched_groups, with_fetches, loads_from}
 use Rattle.lower.specs.Groups.{HasBody, HasGroups}
-use Rattle.completeness.specs.Blocked.{IsBlocked}
+use Rattle.completeness.specs.Blocked.{IsKept}
 use Rattle.completeness.proofs.AllocForms.{own_places_limited}
 use Rattle.completeness.proofs.BlockChains.{AreChained}
 use Rattle.completeness.proofs.Bodies.{other_at}
@@ -43,7 +43,7 @@ use Rattle.completeness.proofs.FetchTexts.{region_has_text, places_have_text}
 use Rattle.completeness.proofs.Limited.{StepIs, IsNestLimited}
 use Rattle.completeness.proofs.LimitedLines.{text, limited}
 use Rattle.completeness.proofs.Needed.{PlaceLimited, seated_within}
-use Rattle.completeness.proofs.NumberLines.{both, less, Numbered, joined, FitsIf, nest_forms, lines_both, nests_numbered, places_fit, IsNumbered, fetches_numbered}
+use Rattle.completeness.proofs.NumberLines.{both, less, Numbered, joined, FitsIf, over_below, nest_forms, lines_both, nests_numbered, places_fit, IsNumbered, fetches_numbered}
 use Rattle.completeness.proofs.RisingForms.{RisesIf, nests_rise}
 use Rattle.completeness.proofs.Served.{roots}
 use Rattle.completeness.proofs.Standing.{Here, OnlyIf, OverGrid, names_own, nests_long}
@@ -58,8 +58,8 @@ forms_fit : (k : SkeletonText) → k.head ≡ [] → length k.grid ≤ 10 → (n
     AllByRecursion (λ w. AllByRecursion FitsIf w.at) ns
 forms_fit k none few next [] chain limits rises only = tt
 forms_fit k none few next (w ∷ ns) chain limits rises only = (
-  nest_forms k none few next chain.0 w chain.1 chain.2 limits.0.at rises.0 (only 0 w refl),
-  forms_fit k none few (next + length chain.0) ns chain.3 limits.1 rises.1 (λ i u at. only (suc i) u at),
+  nest_forms k none few next chain.0 chain.1 w chain.2 chain.3 limits.0.at rises.0 (only 0 w refl),
+  forms_fit k none few (next + length chain.0) ns chain.4 limits.1 rises.1 (λ i u at. only (suc i) u at),
 )
 
 module _ (a : Algorithm) (sch : Schedule) (l : Lowered) (well : IsAlgorithm a) (legal : IsLegal a sch) (small : has_large (stored_functions a sch) ≡ false)
@@ -145,7 +145,7 @@ module _ (a : Algorithm) (sch : Schedule) (l : Lowered) (well : IsAlgorithm a) (
   -- ---- bodies
 
   module _ (planned : unplanned a (stored_functions a sch) ≡ None)
-      (blocked : (n : ℕ) (u : StoredText) → slice_get (stored_functions a sch) n ≡ Some u → IsBlocked a sch n u) where
+      (blocked : (n : ℕ) (u : StoredText) → slice_get (stored_functions a sch) n ≡ Some u → IsKept a sch n u) where
     abbrev T : Function → StoredText
     T f = text a sch l well legal small kept all groups f
 
@@ -174,7 +174,8 @@ module _ (a : Algorithm) (sch : Schedule) (l : Lowered) (well : IsAlgorithm a) (
         let steps = all_weaker IsNestLimited (λ w. AllByRecursion StepIs w.steps) (λ w s. s.steps) k.nests limits.nests in
         let definitions = x.definitions in
         let nests : Numbered (block_lines (block b.nests)) =
-        nests_numbered (length k.grid) k.nests x.looped.chained steps forms g fs region ms (first + length b.fetches) (line + first_lines k + 2 * length b.fetches) 0 b.nests b.own
+        nests_numbered (OverGrid k) (over_below k x.looped.head few) (length k.grid) k.nests x.looped.chained steps names.steps_over forms g fs region ms (first + length b.fetches) (line +
+        first_lines k + 2 * length b.fetches) 0 b.nests b.own
         (omega (arith, definitions)) b.nested in
         let small_last = last_small n first line g q claims needs there h count in
         let publish : Numbered (PublishLine last ∷ []) = both _ _ (less last (2 ^ 63) (omega (arith, small_last))) refl in

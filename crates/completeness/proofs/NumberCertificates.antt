@@ -1,4 +1,4 @@
--- The numbers in the lines of a certificate have a text, where its plan's splits need no tail.
+-- The numbers in the lines of a certificate have a text, where its plan's splits need no line of their own.
 use Rattle.std.proofs.Common.{◌≡◌, ℕ, zero, suc, ◌+◌, ◌*◌, ◌<◌, ◌≤◌, ◌^◌, true, false, List, [], ◌∷◌, ◌++◌, length, map, Option, Some, None, refl, sym, ap, ◌∙◌, subst, arith}
 use Rattle.std.specs.Prelude.{◌-◌, ◌&&◌, nat_lt, slice_get}
 use Rattle.std.specs.List.{AllByRecursion, list_all}
@@ -30,7 +30,7 @@ use Rattle.lower.specs.Stored.{StoredText, stored_functions, has_large}
 use Rattle.lower.specs.Faults.{are_whole, region_fault}
 use Rattle.lower.specs.Fetches.{Entry}
 use Rattle.lower.specs.Groups.{AreOwned, line_behind, HaveBodies, HasGroups}
-use Rattle.completeness.specs.Blocked.{IsBlocked}
+use Rattle.completeness.specs.Blocked.{IsKept}
 use Rattle.completeness.specs.SaidCertificates.{has_numbers}
 use Rattle.completeness.proofs.CertLimits.{own_group}
 use Rattle.completeness.proofs.Counts.{functions_few}
@@ -88,7 +88,7 @@ owns_numbered n (p ∷ ps) (o ∷ os) h le region =
 
 module _ (a : Algorithm) (sch : Schedule) (l : Lowered) (well : IsAlgorithm a) (legal : IsLegal a sch) (small : has_large (stored_functions a sch) ≡ false)
     (kept : region_fault a (stored_functions a sch) ≡ None) (all : are_whole (stored_functions a sch) ≡ true) (groups : HasGroups a (stored_functions a sch) l)
-    (blocked : (n : ℕ) (u : StoredText) → slice_get (stored_functions a sch) n ≡ Some u → IsBlocked a sch n u) where
+    (blocked : (n : ℕ) (u : StoredText) → slice_get (stored_functions a sch) n ≡ Some u → IsKept a sch n u) where
   abbrev gs : List StoredText
   gs = stored_functions a sch
 

@@ -1,4 +1,4 @@
--- The numbers in claims and need lines have a text, in plans whose splits need no tail; and the claims are few.
+-- The numbers in claims and need lines have a text, in plans whose splits need no line of their own; and the claims are few.
 use Rattle.std.proofs.Common.{◌≡◌, ℕ, suc, ◌+◌, ◌*◌, ◌<◌, ◌≤◌, ◌^◌, Bool, true, false, List, [], ◌∷◌, ◌++◌, length, Some, None, refl, sym, ap, ◌∙◌, subst, arith}
 use Rattle.std.specs.Prelude.{◌-◌, ◌==◌, not, if◌then◌else◌, slice_get}
 use Rattle.std.specs.List.{AllByRecursion}
@@ -35,7 +35,7 @@ use Rattle.lower.specs.Taken.{sites_of, taken_region}
 use Rattle.lower.specs.Needs.{pieces_needed}
 use Rattle.lower.specs.Fetches.{Entry, FetchText, IsPart, IsFetched, AreFetched, is_fetched, fetched_groups, loads_from, Calls}
 use Rattle.lower.specs.Groups.{HasBody, HasGroups}
-use Rattle.completeness.specs.Blocked.{IsBlocked}
+use Rattle.completeness.specs.Blocked.{IsKept}
 use Rattle.completeness.specs.SaidCertificates.{has_numbers}
 use Rattle.completeness.proofs.Bodies.{other_at, entry_at}
 use Rattle.completeness.proofs.Counts.{five, fetched_many, fetches_few, roots_few, functions_few, nests_claim}
@@ -203,7 +203,7 @@ module _ (a : Algorithm) (sch : Schedule) (l : Lowered) (well : IsAlgorithm a) (
           (one_claim (d + 0) x (there 0 x refl) b own_line f w v (omega (arith, le)) (omega (arith, under)) is.0 is.1, rest.1),
         )
 
-  module _ (blocked : (n : ℕ) (u : StoredText) → slice_get (stored_functions a sch) n ≡ Some u → IsBlocked a sch n u) where
+  module _ (blocked : (n : ℕ) (u : StoredText) → slice_get (stored_functions a sch) n ≡ Some u → IsKept a sch n u) where
     -- of a body of the group n, from this line on
     pub record IsBodySmall (n : ℕ) (claims : List CodeClaim) (needs : List Need) : Type 0 where
       pub claimed : AllByRecursion IsClaimSmall claims

@@ -1,4 +1,4 @@
--- The numbers in the lines of a plan have a text, where its splits need no tail.
+-- The numbers in the lines of a plan have a text, where its splits need no line of their own.
 use Rattle.std.proofs.Common.{◌≡◌, ℕ, suc, ◌+◌, ◌^◌, true, false, List, [], ◌∷◌, length, map, Some, None, refl, sym, ap, ◌∙◌, subst, arith}
 use Rattle.std.specs.Prelude.{nat_lt, slice_get}
 use Rattle.std.specs.List.{AllByRecursion}
@@ -27,7 +27,7 @@ use Rattle.lower.specs.Owning.{IsExtent}
 use Rattle.lower.specs.Fetches.{Entry}
 use Rattle.lower.specs.Groups.{HasBody, HasGroups}
 use Rattle.lower.proofs.Owners as owners
-use Rattle.completeness.specs.Blocked.{IsBlocked}
+use Rattle.completeness.specs.Blocked.{IsKept}
 use Rattle.completeness.proofs.Counts.{functions_few}
 use Rattle.completeness.proofs.GridCounts.{IsShort, grid_few}
 use Rattle.completeness.proofs.Laid.{subjects, found}
@@ -90,7 +90,7 @@ groups_numbered n (g ∷ gs) each =
 
 module _ (a : Algorithm) (sch : Schedule) (l : Lowered) (well : IsAlgorithm a) (legal : IsLegal a sch) (small : has_large (stored_functions a sch) ≡ false)
     (kept : region_fault a (stored_functions a sch) ≡ None) (all : are_whole (stored_functions a sch) ≡ true) (groups : HasGroups a (stored_functions a sch) l)
-    (planned : unplanned a (stored_functions a sch) ≡ None) (blocked : (n : ℕ) (u : StoredText) → slice_get (stored_functions a sch) n ≡ Some u → IsBlocked a sch n u) where
+    (planned : unplanned a (stored_functions a sch) ≡ None) (blocked : (n : ℕ) (u : StoredText) → slice_get (stored_functions a sch) n ≡ Some u → IsKept a sch n u) where
   abbrev entries : List Entry
   entries = roots a sch l well legal small kept all groups
 

@@ -23,7 +23,8 @@ use Rattle.lower.specs.Fetches.{Entry}
 use Rattle.lower.specs.Groups.{rooted}
 use Rattle.lower.specs.Blocks.{factor_of, own_last, claim_last, BlockText, PartText, Whole, Run, Scattered, LayText, alone_by, is_parallel_named, uncut, is_guarded, product, reach_over, end_of}
 use Rattle.lower.specs.Blocks.{places_by, whole_dimension, own_places, dimensions_of, lay_over}
-use Rattle.lower.specs.Planned.{maybe_stepped, maybe_moved, told_start, told_limits, told_inner_limits, shifted_origin, told_origin, told_inner_origin, told_blocks, told_within, told_joined, told_part}
+use Rattle.lower.specs.Planned.{maybe_stepped, maybe_moved, told_start, told_limits, told_inner_limits, shifted_origin, told_origin, told_inner_origin, told_blocks, told_within, told_joined}
+use Rattle.lower.specs.Planned.{told_part}
 use Rattle.lower.specs.Planned.{told_span, told_by, told_dimension, add_dimensions, told_dimensions, is_owned_by, is_written, is_planned, name_unless, or_later, unplanned_at}
 use Rattle.lower.specs.Planned.{first_unplanned, first_unlaid, unplanned_over}
 use Rattle.lower.proofs.Laying.{bound, same}
@@ -105,7 +106,15 @@ module _ (l : LayText) (known : AllByRecursion (λ (k : Known). Limited k.form) 
 
     within_limited : (inner : BlockText) (p : PartText) → told_within l c cs own outer inner ≡ Some p → OriginLimited p
     within_limited inner p e =
-        let run : Form → List Form → List Form → Option Form → PartText = λ s o k g. Run (record { start = s; length = inner.length; own_limits = o; claim_limits = k; origin = g; reach = inner.reach }) in
+        let run : Form → List Form → List Form → Option Form → PartText = λ s o k g. Run (record {
+          start = s;
+          length = inner.length;
+          own_limits = o;
+          claim_limits = k;
+          origin = g;
+          reach =
+              inner.reach;
+        }) in
         let last : Form → List Form → List Form → Option PartText = λ s o k. told_inner_origin l c cs own outer inner >>= λ g. Some (run s o k g) in
         let owned : Form → Option (List Form) = λ base. told_inner_limits c own base (own_last c own) inner.own_limits outer.own_limits in
         let claimed : Form → Option (List Form) = λ base. told_inner_limits c own base (claim_last c own) inner.claim_limits outer.claim_limits in

@@ -33,7 +33,7 @@ use Rattle.lower.proofs.Grids.{parallel_named}
 use Rattle.lower.proofs.Owners as owners
 use Rattle.completeness.specs.Laws.{AreSplitOnce}
 use Rattle.completeness.specs.Parted.{KeepsInner}
-use Rattle.completeness.specs.Blocked.{is_tailed}
+use Rattle.completeness.specs.Blocked.{is_tailed, makes_line}
 use Rattle.completeness.proofs.Halves.{AreOthers}
 use Rattle.completeness.proofs.Lanes.{AreOnce}
 use Rattle.completeness.proofs.VectorLines.{split_once}
@@ -95,7 +95,7 @@ counted_over rs s (m ∷ ms) le = ((s, omega (arith, le), refl), counted_over rs
 
 module _ (g : StoredText) (region : List Extent) (k : SkeletonText) (laid : IsLaidBy g region k) (narrow : length g.subject.variables ≤ 3) (alone : AreSplitOnce g.placed.cuts)
     (keeps : KeepsInner g.placed.loops g.placed.cuts)
-    (filled : AllByRecursion (λ c. is_tailed (loop_numbers g.subject.variables g.placed.cuts region) c ≡ false) g.placed.cuts)
+    (filled : AllByRecursion (λ c. makes_line g.placed.loops (loop_numbers g.subject.variables g.placed.cuts region) c ≡ false) g.placed.cuts)
     (known : k.known ≡ grid_forms (loop_numbers g.subject.variables g.placed.cuts region) 0 (parallel_loops g.placed.loops)) where
   abbrev xs : List (List ℕ)
   xs = g.subject.variables
@@ -125,8 +125,8 @@ module _ (g : StoredText) (region : List Extent) (k : SkeletonText) (laid : IsLa
   abbrev once : AreOnce cuts
   once = split_once cuts alone
 
-  abbrev free : (c : Split) → In c cuts → is_tailed rs c ≡ false
-  free c m = all_in (λ c. is_tailed rs c ≡ false) cuts c filled m
+  abbrev free : (c : Split) → In c cuts → makes_line ls rs c ≡ false
+  free c m = all_in (λ c. makes_line ls rs c ≡ false) cuts c filled m
 
   abbrev fits : (c : Split) → In c cuts → CutFits rs c
   fits c m = all_in (CutFits rs) cuts c (owners.cuts g region k laid) m
@@ -200,11 +200,16 @@ module _ (g : StoredText) (region : List Extent) (k : SkeletonText) (laid : IsLa
 
     all_whole : IsSaid c.whole Whole
     all_whole =
-        let end = part.end ∙ end_is rs c (free c m) (fits c m) h.0 h.1 in
-        let few = few_numbers rs c (free c m) (fits c m) h.0 h.1 in
+        let end = part.end ∙ end_is ls rs c (free c m) (fits c m) h.0 h.1 in
+        let few = few_numbers ls rs c (free c m) (fits c m) h.0 h.1 in
         let wide = (fits c m).few in
-        whole_near c.whole h (subst (λ (z : ℤ). unsigned_abs z ≤ 2 ^ 36) (sym end) (far low (top (num c.whole).count size * size) size (near_low c.whole h) few wide))
+        let bare = far low (top (num c.whole).count size * size) size (near_low c.whole h) few wide in
+        whole_near c.whole h (subst (λ (z : ℤ). unsigned_abs z ≤ 2 ^ 36) (sym end) (either (is_tailed rs c) (last_number (num c.whole)) _ (near_last c.whole h) bare))
       where
+        either : (v : Bool) (y z : ℤ) → unsigned_abs y ≤ 2 ^ 36 → unsigned_abs z ≤ 2 ^ 36 → unsigned_abs (if v then y else z) ≤ 2 ^ 36
+        either true y z h k = h
+        either false y z h k = k
+
         far : (z : ℤ) (p q : ℕ) → unsigned_abs z ≤ 2 ^ 32 → p ≤ 2 ^ 32 → q ≤ 1024 → unsigned_abs (z +ℤ (pos p +ℤ (pos q -ℤ pos 1))) ≤ 2 ^ 36
         far z p q one two three = omega (arith, ints, one, two, three)
 
@@ -215,18 +220,28 @@ module _ (g : StoredText) (region : List Extent) (k : SkeletonText) (laid : IsLa
     block_near : (s : ℕ) → s < 1000 → IsSaid c.whole (Run (blocks_by lay c part.rest (outer s) (num c.whole)))
     block_near s below =
         let b : BlockText = blocks_by lay c part.rest (outer s) (num c.whole) in
-        let is = block_claim rs c (free c m) (fits c m) h.0 h.1 lay refl s part.rest part.inner_end in
-        let seats = block_places rs c (free c m) (fits c m) h.0 h.1 lay refl s part.rest part.inner_end c.whole cuts in
+        let is = block_claim ls rs c (free c m) (fits c m) h.0 h.1 lay refl s part.rest part.inner_end in
+        let seats = block_places ls rs c (free c m) (fits c m) h.0 h.1 lay refl s part.rest part.inner_end c.whole cuts in
         let wide = (fits c m).few in
         let one : IsGoodForm (one_of low (pos size) s) = good_times low size s (fits c m).some below in
         let two : IsGoodForm (one_of ((pos size -ℤ pos 1) +ℤ low) (pos size) s) = good_times ((pos size -ℤ pos 1) +ℤ low) size s (fits c m).some below in
-        let claim : IsGood (block_span b.start b.length b.claim_limits) = subst IsGood (sym is) (good_one (one_of low (pos size) s) (one_of ((pos size -ℤ pos 1) +ℤ low) (pos size) s) one two) in
+        let claim : IsGood (block_span b.start b.length b.claim_limits) = subst IsGood (sym is)
+        (capped (is_tailed rs c) (one_of low (pos size) s) (one_of ((pos size -ℤ pos 1) +ℤ low) (pos size) s) one two) in
         let start : b.start ≡ one_of low (pos size) s = ap (λ (x : Span1). first_of x.lower b.start) is in
         let up : raised b.start (difference b.length (pos 1)) ≡ one_of ((pos size -ℤ pos 1) +ℤ low) (pos size) s = ap (λ (x : Span1). first_of x.upper b.start) is in
         let own : IsGood (block_span b.start b.length b.own_limits) =
         limited (has_rest c (num c.whole).count) b.start (raised b.start (difference b.length (pos 1))) (subst IsGoodForm (sym start) one) (subst IsGoodForm (sym up) two) in
         (claim, own, subst IsGoodPlace (sym seats) (one, omega (arith, wide)))
       where
+        capped : (v : Bool) (f h : Form) → IsGoodForm f → IsGoodForm h →
+            IsGood (record { lower = f ∷ []; upper = h ∷ (if v then number (last_number (num c.whole)) ∷ [] else []) })
+        capped true f h a b = (
+          record { rises = ((a.0, tt), (b.0, (tt, tt))); lower_some = omega arith; lower_few = omega arith; upper_some = omega arith; upper_few = omega arith },
+          (a.1, tt),
+          (b.1, (tt, tt)),
+        )
+        capped false f h a b = good_one f h a b
+
         limited : (v : Bool) (f h : Form) → IsGoodForm f → IsGoodForm h → IsGood (record { lower = f ∷ []; upper = h ∷ with_last [] (if v then Some (last_number (num c.whole)) else None) })
         limited true f h a b = (
           record { rises = ((a.0, tt), (b.0, (tt, tt))); lower_some = omega arith; lower_few = omega arith; upper_some = omega arith; upper_few = omega arith },

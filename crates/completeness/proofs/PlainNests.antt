@@ -32,7 +32,8 @@ pub grid_named : (rs : List Numbers) (x : List ℕ) (s : ℕ) (ls : List Loop) (
 grid_named rs x s [] f e = absurd (cc e)
 grid_named rs x s (l ∷ ls) f e = of (same_name l.name x) e (grid_named rs x (s + 1) ls f)
   where
-    of : (b : Bool) → option_map (λ (u : Known). u.form) (if b then Some (record { name = l.name; form = counted_from (numbers_named rs l.name).low s }) else find (λ u. same_name u.name x) (grid_forms rs (s + 1) ls))
+    of : (b : Bool) → option_map (λ (u : Known). u.form) (if b then Some (record { name = l.name; form = counted_from (numbers_named rs l.name).low s }) else find (λ u. same_name u.name x)
+        (grid_forms rs (s + 1) ls))
         ≡ Some f → (form_named (grid_forms rs (s + 1) ls) x ≡ Some f → has_loop ls x ≡ true) → (b || has_loop ls x) ≡ true
     of true q rest = refl
     of false q rest = rest q

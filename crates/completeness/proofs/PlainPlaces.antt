@@ -1,10 +1,9 @@
 -- At each store of a group the symbol of each loop around it is one that the scope has, of a loop over its numbers.
-use Rattle.std.proofs.Common.{◌≡◌, ℕ, zero, suc, ◌+◌, ◌-◌, ◌<◌, ◌≤◌, Bool, true, false, List, [], ◌∷◌, ◌++◌, map, max, Option, Some, None}
+use Rattle.std.proofs.Common.{◌≡◌, ℕ, zero, suc, ◌+◌, ◌-◌, ◌<◌, ◌≤◌, Bool, true, false, List, [], ◌∷◌, ◌++◌, map, max, Some, None}
 use Rattle.std.proofs.Common.{refl, sym, ap, ◌∙◌, subst, inl, inr, ◌⊎◌, arith}
 use Rattle.std.specs.Prelude.{◌==◌, if◌then◌else◌, slice_get}
-use Rattle.std.specs.List.{AllByRecursion, list_any}
+use Rattle.std.specs.List.{list_any}
 use Rattle.std.proofs.lemmas.Bool.Decides.{nat_tests}
-use Rattle.tree.specs.Term.{Term}
 use Rattle.lin.specs.declared.scope.Binding.{Binding}
 use Rattle.lin.specs.declared.scope.Binding.TheVariants.{Loop as LoopBinding}
 use Rattle.lin.specs.declared.span.Span1.{Span1}
@@ -218,8 +217,10 @@ module _ (g : StoredText) (fs : List FormulaText) (nests : List NestText) (place
 
     -- ---- before the nests
 
-    fetches_own : (calls : Calls) (grid : List Binding) (n b at_line : ℕ) (xs : List (ℕ × Entry)) (ts : List FetchText) (ws : List Need) (cs : List CodeClaim) → AreFetched calls grid n b at_line xs ts ws cs →
-        1 ≤ b → (rest : List Statement) → AllBindBelow most_symbols (block (with_fetches ts rest)) → (AllBindBelow most_symbols (block rest) → AllOwn (block rest)) → AllOwn (block (with_fetches ts rest))
+    fetches_own : (calls : Calls) (grid : List Binding) (n b at_line : ℕ) (xs : List (ℕ × Entry)) (ts : List FetchText) (ws : List Need) (cs : List CodeClaim) → AreFetched calls grid n b
+        at_line xs ts ws cs →
+        1 ≤ b → (rest : List Statement) → AllBindBelow most_symbols (block (with_fetches ts rest)) → (AllBindBelow most_symbols (block rest) → AllOwn (block rest)) → AllOwn (block
+        (with_fetches ts rest))
     fetches_own calls grid n b at_line [] [] [] [] is some rest few k line known own = k few line known own
     fetches_own calls grid n b at_line [] [] [] (v ∷ cs) is some rest few k line known own = absurd is
     fetches_own calls grid n b at_line [] [] (w ∷ ws) cs is some rest few k line known own = absurd is
@@ -244,11 +245,7 @@ module _ (g : StoredText) (fs : List FormulaText) (nests : List NestText) (place
     lets_own (Named i pick forms ∷ ts) inner lets few k line known = (λ one. absurd one, lets_own ts inner lets few.1 k _ _)
     lets_own (Tested low high ∷ ts) inner lets few k line known = absurd lets
 
--- ---- seats
-
-pub all_none : (xs : List (List ℕ)) → AllByRecursion (λ (o : Option Term). o ≡ None) (map (λ x. None) xs)
-all_none [] = tt
-all_none (x ∷ xs) = (refl, all_none xs)
+-- ---- coordinates
 
 pub variables_are : (b : BodyText) → b.missing ≡ [] → (d : ℕ) (xs : List (List ℕ)) (ks : List KnownForm) → variables_at b d xs ks ≡ map (form_named ks) xs
 variables_are b none d [] ks = refl
@@ -307,7 +304,8 @@ module _ (a : Algorithm) (sch : Schedule) (l : Lowered) (well : IsAlgorithm a) (
     body_bound =
         let b = h.body in
         let claim = last_claim first b.fetches k in
-        let none : (j : ℕ) (w : NestText) → slice_get k.nests j ≡ Some w → slice_get k.nests (0 + j) ≡ Some w = λ j w e. let zero_first : 0 + j ≡ j = omega arith in ap (slice_get k.nests) zero_first ∙ e in
+        let none : (j : ℕ) (w : NestText) → slice_get k.nests j ≡ Some w → slice_get k.nests (0 + j) ≡ Some w = λ j w e. let zero_first : 0 + j ≡ j = omega arith in ap (slice_get k.nests)
+        zero_first ∙ e in
         let nests : AllBindBelow most_symbols (block rest) → (line : ℕ) (known : Known) → places_of known.buffers 0 ≡ Some own → EachOf O R Here (block rest) line known =
         λ low. nests_own g fs k.nests own O R _ claim _ _ _ 0 names.next k.nests b.nests b.own b.nested names.nests_rise none low in
         let inner : AllBindBelow most_symbols (block (Alloc 0 f.name own ∷ with_fetches b.fetches rest)) → (line : ℕ) (known : Known) →

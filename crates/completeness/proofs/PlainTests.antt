@@ -4,6 +4,7 @@ use Rattle.std.proofs.Common.{refl, sym, ap, ◌∙◌, arith}
 use Rattle.std.specs.Prelude.{◌==◌, if◌then◌else◌, slice_get}
 use Rattle.std.specs.List.{range_with_len}
 use Rattle.std.proofs.lemmas.Bool.Decides.{nat_tests}
+use Rattle.lin.specs.Forms.{Form}
 use Rattle.lin.specs.declared.scope.Binding.{Binding}
 use Rattle.lin.specs.declared.scope.Binding.TheVariants.{Loop as Bound}
 use Rattle.plan.specs.Plan.{At, Coordinate}
@@ -19,16 +20,17 @@ use Rattle.sched.specs.declared.nest.Turning.{Turning}
 use Rattle.sched.specs.Standing.{alone}
 use Rattle.sched.specs.Skeleton.{span}
 use Rattle.completeness.proofs.NestWalk.{down}
-use Rattle.completeness.proofs.PlainTurns.{steps_for, hits, turn_name, found_at, found_name, found_there}
+use Rattle.completeness.proofs.PlainTurns.{limited_for, hits, turn_name, found_at, found_name, found_there}
 
 -- ---- the nest
 
-abbrev pub loops_for : ℕ → List Turning → List Loop
-loops_for n [] = []
-loops_for n (t ∷ ts) = record { symbol = n; span = span t.low t.last [] } ∷ loops_for (n + 1) ts
+-- with the further upper forms of each symbol
+abbrev pub limited_loops : (ℕ → List Form) → ℕ → List Turning → List Loop
+limited_loops lim n [] = []
+limited_loops lim n (t ∷ ts) = record { symbol = n; span = span t.low t.last (lim n) } ∷ limited_loops lim (n + 1) ts
 
-module _ (d : ℕ) (at : List Coordinate) (e : Term) where
-  pub down_changes : (n : ℕ) (ts : List Turning) → block_changes (down 0 d at e (steps_for n ts)) 0 ≡ true
+module _ (lim : ℕ → List Form) (d : ℕ) (at : List Coordinate) (e : Term) where
+  pub down_changes : (n : ℕ) (ts : List Turning) → block_changes (down 0 d at e (limited_for lim n ts)) 0 ≡ true
   down_changes n [] = refl
   down_changes n (t ∷ ts) = ap (λ (b : Bool). b || false) (down_changes (n + 1) ts)
 
@@ -68,31 +70,37 @@ module _ (n : ℕ) (ts : List Turning) (few : (y : List ℕ) → hits turn_name 
 
 -- ---- binders
 
-skips : (n : ℕ) (ts : List Turning) (bs : List Binder) (s : ℕ) → s < n → binding_of (binders_in (loops_for n ts) bs) s ≡ binding_of bs s
-skips n [] bs s less = refl
-skips n (t ∷ ts) bs s less =
-    let differs : (n == s) ≡ false = grind (arith, nat_tests) in
-    skips (n + 1) ts (Ranged n (span t.low t.last []) ∷ bs) s (omega (arith, less)) ∙ ap (λ (b : Bool). if b then Bound (limited (span t.low t.last [])) else binding_of bs s) differs
+module _ (lim : ℕ → List Form) where
+  pub skips : (n : ℕ) (ts : List Turning) (bs : List Binder) (s : ℕ) → s < n → binding_of (binders_in (limited_loops lim n ts) bs) s ≡ binding_of bs s
+  skips n [] bs s less = refl
+  skips n (t ∷ ts) bs s less =
+      let differs : (n == s) ≡ false = grind (arith, nat_tests) in
+      skips (n + 1) ts (Ranged n (span t.low t.last (lim n)) ∷ bs) s (omega (arith, less))
+      ∙ ap (λ (b : Bool). if b then Bound (limited (span t.low t.last (lim n))) else binding_of bs s) differs
 
-pub tells : (n : ℕ) (ts : List Turning) (bs : List Binder) (j : ℕ) (t : Turning) → slice_get ts j ≡ Some t → binding_of (binders_in (loops_for n ts) bs) (n + j) ≡ Bound (limited (span t.low t.last []))
-tells n [] bs j t at = absurd (cc at)
-tells n (u ∷ ts) bs zero t at =
-    let is : u ≡ t = cc at in
-    let none : n + 0 ≡ n = omega arith in
-    ap (binding_of (binders_in (loops_for (n + 1) ts) (Ranged n (span u.low u.last []) ∷ bs))) none ∙ skips (n + 1) ts (Ranged n (span u.low u.last []) ∷ bs) n (omega arith)
-    ∙ ap (λ (b : Bool). if b then Bound (limited (span u.low u.last [])) else binding_of bs n) (eq_refl n) ∙ ap (λ (v : Turning). Bound (limited (span v.low v.last []))) is
-tells n (u ∷ ts) bs (suc j) t at =
-    let next : n + suc j ≡ (n + 1) + j = omega arith in
-    ap (binding_of (binders_in (loops_for (n + 1) ts) (Ranged n (span u.low u.last []) ∷ bs))) next ∙ tells (n + 1) ts (Ranged n (span u.low u.last []) ∷ bs) j t at
+  pub tells : (n : ℕ) (ts : List Turning) (bs : List Binder) (j : ℕ) (t : Turning) → slice_get ts j ≡ Some t →
+      binding_of (binders_in (limited_loops lim n ts) bs) (n + j) ≡ Bound (limited (span t.low t.last (lim (n + j))))
+  tells n [] bs j t at = absurd (cc at)
+  tells n (u ∷ ts) bs zero t at =
+      let is : u ≡ t = cc at in
+      let none : n + 0 ≡ n = omega arith in
+      ap (binding_of (binders_in (limited_loops lim (n + 1) ts) (Ranged n (span u.low u.last (lim n)) ∷ bs))) none
+      ∙ skips (n + 1) ts (Ranged n (span u.low u.last (lim n)) ∷ bs) n (omega arith)
+      ∙ ap (λ (b : Bool). if b then Bound (limited (span u.low u.last (lim n))) else binding_of bs n) (eq_refl n) ∙ ap (λ (v : Turning). Bound (limited (span v.low v.last (lim n)))) is
+      ∙ ap (λ (m : ℕ). Bound (limited (span t.low t.last (lim m)))) (sym none)
+  tells n (u ∷ ts) bs (suc j) t at =
+      let next : n + suc j ≡ (n + 1) + j = omega arith in
+      ap (binding_of (binders_in (limited_loops lim (n + 1) ts) (Ranged n (span u.low u.last (lim n)) ∷ bs))) next
+      ∙ tells (n + 1) ts (Ranged n (span u.low u.last (lim n)) ∷ bs) j t at ∙ ap (λ (m : ℕ). Bound (limited (span t.low t.last (lim m)))) (sym next)
 
-count_more : (n : ℕ) (ts : List Turning) (bs : List Binder) → symbol_count bs ≤ symbol_count (binders_in (loops_for n ts) bs)
-count_more n [] bs = omega arith
-count_more n (t ∷ ts) bs = (let rest = count_more (n + 1) ts (Ranged n (span t.low t.last []) ∷ bs) in omega (arith, rest))
+  pub count_more : (n : ℕ) (ts : List Turning) (bs : List Binder) → symbol_count bs ≤ symbol_count (binders_in (limited_loops lim n ts) bs)
+  count_more n [] bs = omega arith
+  count_more n (t ∷ ts) bs = (let rest = count_more (n + 1) ts (Ranged n (span t.low t.last (lim n)) ∷ bs) in omega (arith, rest))
 
-pub count_there : (n : ℕ) (ts : List Turning) (bs : List Binder) (j : ℕ) (t : Turning) → slice_get ts j ≡ Some t → n + j < symbol_count (binders_in (loops_for n ts) bs)
-count_there n [] bs j t at = absurd (cc at)
-count_there n (u ∷ ts) bs zero t at = (let rest = count_more (n + 1) ts (Ranged n (span u.low u.last []) ∷ bs) in omega (arith, rest))
-count_there n (u ∷ ts) bs (suc j) t at = (let rest = count_there (n + 1) ts (Ranged n (span u.low u.last []) ∷ bs) j t at in omega (arith, rest))
+  pub count_there : (n : ℕ) (ts : List Turning) (bs : List Binder) (j : ℕ) (t : Turning) → slice_get ts j ≡ Some t → n + j < symbol_count (binders_in (limited_loops lim n ts) bs)
+  count_there n [] bs j t at = absurd (cc at)
+  count_there n (u ∷ ts) bs zero t at = (let rest = count_more (n + 1) ts (Ranged n (span u.low u.last (lim n)) ∷ bs) in omega (arith, rest))
+  count_there n (u ∷ ts) bs (suc j) t at = (let rest = count_there (n + 1) ts (Ranged n (span u.low u.last (lim n)) ∷ bs) j t at in omega (arith, rest))
 
 pub at_place : (f : ℕ → Binding) (a k n : ℕ) → n < k → slice_get (map f (range_with_len a k)) n ≡ Some (f (a + n))
 at_place f a zero n less = absurd (omega (arith, less))

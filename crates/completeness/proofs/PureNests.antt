@@ -27,7 +27,7 @@ use Rattle.lower.specs.Bodies.{IsIndex}
 use Rattle.lower.proofs.Laying.{bound, same}
 use Rattle.completeness.proofs.Standing.{AreLets}
 use Rattle.completeness.proofs.NestWalk.{IsRest, LetsFirst}
-use Rattle.completeness.proofs.PlainTurns.{steps_for, one_if, hits}
+use Rattle.completeness.proofs.PlainTurns.{limited_for, one_if, hits}
 use Rattle.completeness.proofs.PlainTurns.{itself, turn_name}
 
 -- ---- lists
@@ -129,19 +129,19 @@ all_once (x ∷ xs) ts few = (let here = few x in let rest = all_once xs ts few 
 
 -- ---- steps
 
-pub first_steps : (n : ℕ) (ts : List Turning) (all part : List Step) → all ≡ steps_for n ts → IsRest all part → part ≡ steps_for n ts
-first_steps n ts all part e h = of h.lets h.are (sym e ∙ h.is)
+pub first_steps : (lim : ℕ → List Form) (n : ℕ) (ts : List Turning) (all part : List Step) → all ≡ limited_for lim n ts → IsRest all part → part ≡ limited_for lim n ts
+first_steps lim n ts all part e h = of h.lets h.are (sym e ∙ h.is)
   where
-    of : (ls : List Step) → AreLets ls → steps_for n ts ≡ ls ++ part → part ≡ steps_for n ts
+    of : (ls : List Step) → AreLets ls → limited_for lim n ts ≡ ls ++ part → part ≡ limited_for lim n ts
     of [] are q = sym q
     of (Turns i x kind ∷ ls) are q = absurd are
     of (Named i pick fs ∷ ls) are q = absurd (none n ts q)
       where
-        none : (n : ℕ) (ts : List Turning) → steps_for n ts ≡ Named i pick fs ∷ (ls ++ part) → ⊥
+        none : (n : ℕ) (ts : List Turning) → limited_for lim n ts ≡ Named i pick fs ∷ (ls ++ part) → ⊥
         none n [] p = cc p
         none n (t ∷ ts) p = cc p
     of (Tested low high ∷ ls) are q = absurd are
 
-pub no_lets : (L : ℕ → Pick → List Form → Type 0) (n : ℕ) (ts : List Turning) → LetsFirst L (steps_for n ts)
-no_lets L n [] = tt
-no_lets L n (t ∷ ts) = tt
+pub no_lets : (L : ℕ → Pick → List Form → Type 0) (lim : ℕ → List Form) (n : ℕ) (ts : List Turning) → LetsFirst L (limited_for lim n ts)
+no_lets L lim n [] = tt
+no_lets L lim n (t ∷ ts) = tt

@@ -85,7 +85,7 @@ all_limited : (fs : List Form) → AreLimited fs → list_all is_within_limits f
 all_limited [] h = refl
 all_limited (f ∷ fs) h = (let here = h.0 in let rest = all_limited fs h.1 in λ i. here i && rest i)
 
-span_stays : (x : Span1) → AreLimited x.lower → AreLimited x.upper → limited x ≡ x
+pub span_stays : (x : Span1) → AreLimited x.lower → AreLimited x.upper → limited x ≡ x
 span_stays x low high = (let one = all_limited x.lower low in let two = all_limited x.upper high in λ i. if one i && two i then x else anything)
 
 same_test : (i : ℕ) → (i == i) ≡ true

@@ -1,4 +1,4 @@
--- The groups of functions whose loops are split once, by blocks that need no tail, have the form that texts of groups have, and number their symbols and buffers in order.
+-- The groups of functions whose loops are split once, by blocks that need no line of their own, have the form that texts of groups have, and number their symbols and buffers in order.
 use Rattle.std.proofs.Common.{◌≡◌, ℕ, suc, ◌+◌, ◌-◌, ◌*◌, ◌<◌, ◌≤◌, Bool, true, false, ◌&&◌, List, [], ◌∷◌, ◌++◌, length, Some, None, refl, sym, ap, ◌∙◌, subst, append_assoc, append-nil, arith}
 use Rattle.std.specs.Prelude.{◌==◌, nat_lt, nat_le, slice_get}
 use Rattle.std.specs.List.{list_all}
@@ -7,6 +7,7 @@ use Rattle.lin.specs.declared.span.Span1.{Span1}
 use Rattle.lin.specs.declared.scope.Binding.{Binding}
 use Rattle.meaning.specs.Algorithm.{Algorithm}
 use Rattle.meaning.specs.Conditions.{IsAlgorithm}
+use Rattle.lin.specs.Forms.{Form}
 use Rattle.plan.specs.declared.certificate.cert.Claim.{Claim as CodeClaim}
 use Rattle.plan.specs.declared.certificate.cert.Need.{Need}
 use Rattle.plan.specs.Plan.{Statement, Seq, For, Let, First, Guard, Alloc, Fetch, Store, Publish, Statements, Empty, Then, Group, block}
@@ -33,11 +34,11 @@ use Rattle.lower.specs.Bodies.{last_claim, IsStore, AreNests, first_lines}
 use Rattle.lower.specs.Fetches.{Entry, FetchText, Calls, AreFetched, fetched_groups, with_fetches, loads_from}
 use Rattle.lower.specs.Taken.{sites_of}
 use Rattle.lower.specs.Groups.{HasGroups}
-use Rattle.completeness.specs.Blocked.{IsBlocked}
+use Rattle.completeness.specs.Blocked.{IsKept}
 use Rattle.completeness.specs.Fitting.{IsShaped}
 use Rattle.completeness.proofs.Counts.{fetches_few, roots_few}
 use Rattle.completeness.proofs.FewLines.{group_looped}
-use Rattle.completeness.proofs.PlainTurns.{steps_for}
+use Rattle.completeness.proofs.BlockTurns.{limited_for}
 use Rattle.completeness.proofs.Served.{roots}
 use Rattle.completeness.proofs.BlockChains.{AreChained}
 
@@ -123,30 +124,30 @@ abbrev Stays : Statement → Type 0
 Stays s = (g n b d : ℕ) (ls : List Line) → Runs g n b d ls → Runs g n b d (statement_lines s ++ ls)
 
 -- the lines of a nest, before others
-turns_run : (g b n d m : ℕ) (ts : List Turning) (s : Statement) (ms : List Line) → Stays s → n + length ts ≡ m → m ≤ 256 → d + length ts ≤ 256 → Runs g m b d ms →
-    Runs g n b d (block_lines (lines_to (steps_for n ts) (Then s Empty)) ++ ms)
-turns_run g b n d m [] s ms stays is le low h may =
+turns_run : (limits : ℕ → List Form) (g b n d m : ℕ) (ts : List Turning) (s : Statement) (ms : List Line) → Stays s → n + length ts ≡ m → m ≤ 256 → d + length ts ≤ 256 → Runs g m b d ms →
+    Runs g n b d (block_lines (lines_to (limited_for limits n ts) (Then s Empty)) ++ ms)
+turns_run limits g b n d m [] s ms stays is le low h may =
     let same : m ≡ n = omega (arith, is) in
     let one : statement_lines s ++ ms ≡ (statement_lines s ++ []) ++ ms = ap (λ (ls : List Line). ls ++ ms) (sym (append-nil (statement_lines s))) in
     subst (λ (ls : List Line). Runs g n b d ls) one (stays g n b d ms (subst (λ (k : ℕ). Runs g k b d ms) same h)) may
-turns_run g b n d m (t ∷ ts) s ms stays is le low h may =
-    let inner : List Line = block_lines (lines_to (steps_for (n + 1) ts) (Then s Empty)) in
+turns_run limits g b n d m (t ∷ ts) s ms stays is le low h may =
+    let inner : List Line = block_lines (lines_to (limited_for limits (n + 1) ts) (Then s Empty)) in
     let back : (d + 1) - 1 ≡ d = omega arith in
     let behind : Runs g m b (d + 1) (EndLine ∷ ms) = λ v. ap (λ (k : ℕ). are_numbered (inside g m b k v) ms) back ∙ h v in
-    let rest = turns_run g b (n + 1) (d + 1) m ts s (EndLine ∷ ms) stays (omega (arith, is)) le (omega (arith, low)) behind false in
+    let rest = turns_run limits g b (n + 1) (d + 1) m ts s (EndLine ∷ ms) stays (omega (arith, is)) le (omega (arith, low)) behind false in
     let joined : inner ++ (EndLine ∷ ms) ≡ ((inner ++ EndLine ∷ []) ++ []) ++ ms =
     sym (append_assoc inner (EndLine ∷ []) ms) ∙ ap (λ (ls : List Line). ls ++ ms) (sym (append-nil (inner ++ EndLine ∷ []))) in
     let room : nat_lt n 256 ≡ true = less n 256 (omega (arith, is, le)) in
     let deep : nat_lt d 512 ≡ true = less d 512 (omega (arith, low)) in
     both _ _ (both _ _ (both _ _ room deep) (same_number n)) (subst (λ (ls : List Line). are_numbered (inside g (n + 1) b (d + 1) false) ls ≡ true) joined rest)
 
-turns_single : (n : ℕ) (ts : List Turning) (s : Statement) → is_single s ≡ true → are_single (lines_to (steps_for n ts) (Then s Empty)) ≡ true
-turns_single n [] s h = both _ _ h refl
-turns_single n (t ∷ ts) s h = both _ _ (turns_single (n + 1) ts s h) refl
+turns_single : (limits : ℕ → List Form) (n : ℕ) (ts : List Turning) (s : Statement) → is_single s ≡ true → are_single (lines_to (limited_for limits n ts) (Then s Empty)) ≡ true
+turns_single limits n [] s h = both _ _ h refl
+turns_single limits n (t ∷ ts) s h = both _ _ (turns_single limits (n + 1) ts s h) refl
 
-turns_work : (n : ℕ) (ts : List Turning) (s : Statement) → is_work s ≡ true → are_work (lines_to (steps_for n ts) (Then s Empty)) ≡ true
-turns_work n [] s h = both _ _ h refl
-turns_work n (t ∷ ts) s h = both _ _ (turns_work (n + 1) ts s h) refl
+turns_work : (limits : ℕ → List Form) (n : ℕ) (ts : List Turning) (s : Statement) → is_work s ≡ true → are_work (lines_to (limited_for limits n ts) (Then s Empty)) ≡ true
+turns_work limits n [] s h = both _ _ h refl
+turns_work limits n (t ∷ ts) s h = both _ _ (turns_work limits (n + 1) ts s h) refl
 
 -- a store
 record IsLine (s : Statement) : Type 0 where
@@ -179,19 +180,20 @@ nests_shaped next (w ∷ ns) chain u fs r ms c line d xs [] h = absurd h
 nests_shaped next (w ∷ ns) chain u fs r ms c line d xs (claim ∷ cs) h =
     let nest = h.here.nest in
     let ts = chain.0 in
-    let under = chain.2 in
+    let limits = chain.1 in
+    let under = chain.3 in
     let s = store_line u fs ms d w nest.store nest.stores in
-    let rest = nests_shaped (next + length ts) ns chain.3 u fs r (ms ++ (u.subject.name, c) ∷ []) (c + 1) (line + _) (d + 1) h.others cs h.behind in
-    let are : lines_to (steps_for next ts) (Then nest.store Empty) ≡ block h.first = sym (nest.comes ∙ ap (λ (ss : List Step). lines_to ss (Then nest.store Empty)) chain.1) in
-    let single : are_single (block h.first) ≡ true = subst (λ (y : Statements). are_single y ≡ true) are (turns_single next ts nest.store s.single) in
-    let work : are_work (block h.first) ≡ true = subst (λ (y : Statements). are_work y ≡ true) are (turns_work next ts nest.store s.work) in
+    let rest = nests_shaped (next + length ts) ns chain.4 u fs r (ms ++ (u.subject.name, c) ∷ []) (c + 1) (line + _) (d + 1) h.others cs h.behind in
+    let are : lines_to (limited_for limits next ts) (Then nest.store Empty) ≡ block h.first = sym (nest.comes ∙ ap (λ (ss : List Step). lines_to ss (Then nest.store Empty)) chain.2) in
+    let single : are_single (block h.first) ≡ true = subst (λ (y : Statements). are_single y ≡ true) are (turns_single limits next ts nest.store s.single) in
+    let work : are_work (block h.first) ≡ true = subst (λ (y : Statements). are_work y ≡ true) are (turns_work limits next ts nest.store s.work) in
     subst (AreShaped next) (sym h.are) (record {
       single = singles_both h.first h.others single rest.single;
       work = works_both h.first h.others work rest.work;
       runs = λ g b ls k.
           let others : List Line = block_lines (block h.others) in
           let more : Runs g (next + length ts) b 0 (others ++ ls) = rest.runs g b ls k in
-          let first = turns_run g b next 0 (next + length ts) ts nest.store (others ++ ls) s.stays refl under (omega (arith, under)) more in
+          let first = turns_run limits g b next 0 (next + length ts) ts nest.store (others ++ ls) s.stays refl under (omega (arith, under)) more in
           let there : Runs g next b 0 (block_lines (block h.first) ++ (others ++ ls)) = subst (λ (y : Statements). Runs g next b 0 (block_lines y ++ (others ++ ls))) are first in
           let joined : block_lines (block h.first) ++ (others ++ ls) ≡ block_lines (block (h.first ++ h.others)) ++ ls =
           sym (append_assoc (block_lines (block h.first)) others ls) ∙ ap (λ (y : List Line). y ++ ls) (sym (lines_both h.first h.others)) in
@@ -238,7 +240,7 @@ all_tested test (g ∷ gs) each = both _ _ (each 0 g refl) (all_tested test gs (
 
 module _ (a : Algorithm) (sch : Schedule) (l : Lowered) (well : IsAlgorithm a) (legal : IsLegal a sch) (small : has_large (stored_functions a sch) ≡ false)
     (kept : region_fault a (stored_functions a sch) ≡ None) (all : are_whole (stored_functions a sch) ≡ true) (groups : HasGroups a (stored_functions a sch) l)
-    (blocked : (n : ℕ) (u : StoredText) → slice_get (stored_functions a sch) n ≡ Some u → IsBlocked a sch n u) where
+    (blocked : (n : ℕ) (u : StoredText) → slice_get (stored_functions a sch) n ≡ Some u → IsKept a sch n u) where
   abbrev entries : List Entry
   entries = roots a sch l well legal small kept all groups
 

@@ -2,11 +2,13 @@
 use Rattle.std.proofs.Common.{◌≡◌, ℕ, zero, suc, ◌+◌, ◌<◌, Bool, true, false, ◌&&◌, ◌||◌, not, List, [], ◌∷◌, ◌++◌, map, Some, None}
 use Rattle.std.proofs.Common.{refl, sym, ap, ◌∙◌, subst, arith}
 use Rattle.std.specs.Prelude.{◌==◌, if◌then◌else◌, slice_get}
-use Rattle.std.specs.List.{AllByRecursion, list_any}
+use Rattle.std.specs.List.{AllByRecursion, list_any, list_all}
 use Rattle.std.proofs.lemmas.Bool.Decides.{nat_tests}
 use Rattle.std.proofs.lemmas.List.{reverse-append}
 use Rattle.tree.specs.Term.{Term}
 use Rattle.bounds.proofs.ListSound.{all-append}
+use Rattle.lin.specs.Forms.{Form}
+use Rattle.lin.specs.declared.form.Multiple.{Multiple}
 use Rattle.lin.specs.declared.span.Span1.{Span1}
 use Rattle.plan.specs.Plan.{Coordinate, Statement, Seq, For, Let, First, Guard, Alloc, Fetch, Store, Publish, Statements, Empty, Then}
 use Rattle.soundness.specs.Claims.{changes}
@@ -16,17 +18,19 @@ use Rattle.soundness.proofs.Refines.{eq_refl}
 use Rattle.sched.specs.declared.nest.Turning.{Turning}
 use Rattle.sched.specs.Skeleton.{span}
 use Rattle.tails.specs.Steps.{Step, Turns, Spine, beyond, past, spine_of, block_spine, binder, along, binds}
+use Rattle.tails.specs.Moves.{is_outer}
 use Rattle.tails.specs.Maps.{is_scoped, spelled_out}
 use Rattle.completeness.proofs.NestWalk.{down}
-use Rattle.completeness.proofs.PlainTurns.{steps_for}
+use Rattle.completeness.proofs.PlainTurns.{limited_for}
 use Rattle.completeness.proofs.PlainTests.{down_changes}
-use Rattle.completeness.proofs.LoopMoves.{true_end, or_none, other_way, Item, item_loop, is_left, AreApart}
+use Rattle.completeness.proofs.LoopMoves.{true_end, or_none, other_way, Item, limited_loop, is_left, AreApart}
 
 -- ---- the way down to the store
 
-abbrev pub turns_for : ℕ → List Turning → List Step
-turns_for n [] = []
-turns_for n (t ∷ ts) = Turns n (span t.low t.last []) t.kind ∷ turns_for (n + 1) ts
+-- with the further upper forms of each symbol
+abbrev pub limited_turns : (ℕ → List Form) → ℕ → List Turning → List Step
+limited_turns lim n [] = []
+limited_turns lim n (t ∷ ts) = Turns n (span t.low t.last (lim n)) t.kind ∷ limited_turns lim (n + 1) ts
 
 past_none : (s : Statement) → past s None ≡ None
 past_none (Seq all) = refl
@@ -39,14 +43,15 @@ past_none (Fetch c g region) = refl
 past_none (Store c k at e) = refl
 past_none (Publish c) = refl
 
-module _ (d : ℕ) (at : List Coordinate) (e : Term) where
-  down_spine : (n : ℕ) (ts : List Turning) → block_spine (down 0 d at e (steps_for n ts)) 0 ≡ Some (record { steps = turns_for n ts; line = Store 0 d at e })
+module _ (lim : ℕ → List Form) (d : ℕ) (at : List Coordinate) (e : Term) where
+  down_spine : (n : ℕ) (ts : List Turning) → block_spine (down 0 d at e (limited_for lim n ts)) 0 ≡ Some (record { steps = limited_turns lim n ts; line = Store 0 d at e })
   down_spine n [] = refl
   down_spine n (t ∷ ts) =
-      ap (λ (b : Bool). if b then beyond (Turns n (span t.low t.last []) t.kind) (block_spine (down 0 d at e (steps_for (n + 1) ts)) 0) else None) (down_changes d at e (n + 1) ts)
-      ∙ ap (beyond (Turns n (span t.low t.last []) t.kind)) (down_spine (n + 1) ts)
+      ap (λ (b : Bool). if b then beyond (Turns n (span t.low t.last (lim n)) t.kind) (block_spine (down 0 d at e (limited_for lim (n + 1) ts)) 0) else None) (down_changes lim d at e (n + 1) ts)
+      ∙ ap (beyond (Turns n (span t.low t.last (lim n)) t.kind)) (down_spine (n + 1) ts)
 
-  pub spine_is : (n : ℕ) (ts : List Turning) (s : Statement) → Then s Empty ≡ down 0 d at e (steps_for n ts) → spine_of s 0 ≡ Some (record { steps = turns_for n ts; line = Store 0 d at e })
+  pub spine_is : (n : ℕ) (ts : List Turning) (s : Statement) → Then s Empty ≡ down 0 d at e (limited_for lim n ts) →
+      spine_of s 0 ≡ Some (record { steps = limited_turns lim n ts; line = Store 0 d at e })
   spine_is n ts s comes = of (changes s 0) (ap (λ (code : Statements). block_spine code 0) comes ∙ down_spine n ts)
     where
       of : {N : Spine} (b : Bool) → (if b then spine_of s 0 else past s None) ≡ Some N → spine_of s 0 ≡ Some N
@@ -62,15 +67,15 @@ abbrev pub items_back : ℕ → List Turning → List Item
 items_back n [] = []
 items_back n (t ∷ ts) = items_back (n + 1) ts ++ item_of n t ∷ []
 
-pub loops_joined : (xs ys : List Item) → map item_loop (xs ++ ys) ≡ map item_loop xs ++ map item_loop ys
-loops_joined [] ys = refl
-loops_joined (x ∷ xs) ys = ap (λ (bs : List Binder). item_loop x ∷ bs) (loops_joined xs ys)
+pub loops_joined : (lim : ℕ → List Form) (xs ys : List Item) → map (limited_loop lim) (xs ++ ys) ≡ map (limited_loop lim) xs ++ map (limited_loop lim) ys
+loops_joined lim [] ys = refl
+loops_joined lim (x ∷ xs) ys = ap (λ (bs : List Binder). limited_loop lim x ∷ bs) (loops_joined lim xs ys)
 
-pub along_is : (n : ℕ) (ts : List Turning) → along (turns_for n ts) ≡ map item_loop (items_back n ts)
-along_is n [] = refl
-along_is n (t ∷ ts) =
-    reverse-append (Ranged n (span t.low t.last []) ∷ []) (map binder (turns_for (n + 1) ts)) ∙ ap (λ (bs : List Binder). bs ++ Ranged n (span t.low t.last []) ∷ []) (along_is (n + 1) ts)
-    ∙ sym (loops_joined (items_back (n + 1) ts) (item_of n t ∷ []))
+pub along_is : (lim : ℕ → List Form) (n : ℕ) (ts : List Turning) → along (limited_turns lim n ts) ≡ map (limited_loop lim) (items_back n ts)
+along_is lim n [] = refl
+along_is lim n (t ∷ ts) =
+    reverse-append (Ranged n (span t.low t.last (lim n)) ∷ []) (map binder (limited_turns lim (n + 1) ts))
+    ∙ ap (λ (bs : List Binder). bs ++ Ranged n (span t.low t.last (lim n)) ∷ []) (along_is lim (n + 1) ts) ∙ sym (loops_joined lim (items_back (n + 1) ts) (item_of n t ∷ []))
 
 pub left_none : (i : ℕ) (ts : List Item) (t : Item) → is_left i ts ≡ false → (t.symbol == i) ≡ false → is_left i (ts ++ t ∷ []) ≡ false
 left_none i [] t e q = λ j. q j || false
@@ -127,16 +132,45 @@ back_all P n (t ∷ ts) h =
 
 -- ---- each step names symbols of earlier ones
 
-pub none_bind : (k n : ℕ) (ts : List Turning) → k < n → list_any (binds k) (map binder (turns_for n ts)) ≡ false
-none_bind k n [] less = refl
-none_bind k n (t ∷ ts) less =
+pub none_bind : (lim : ℕ → List Form) (k n : ℕ) (ts : List Turning) → k < n → list_any (binds k) (map binder (limited_turns lim n ts)) ≡ false
+none_bind lim k n [] less = refl
+none_bind lim k n (t ∷ ts) less =
     let differs : (k == n) ≡ false = grind (arith, nat_tests) in
-    let rest = none_bind k (n + 1) ts (omega (arith, less)) in
+    let rest = none_bind lim k (n + 1) ts (omega (arith, less)) in
     λ j. differs j || rest j
 
-pub scoped : (n : ℕ) (ts : List Turning) → is_scoped (map binder (turns_for n ts)) ≡ true
-scoped n [] = refl
-scoped n (t ∷ ts) = (let none = none_bind n (n + 1) ts (omega arith) in let rest = scoped (n + 1) ts in λ j. not (none j) && rest j)
+-- each symbol of the form is a lower one
+abbrev pub IsBelow : ℕ → Form → Type 0
+IsBelow s f = AllByRecursion (λ t. t.symbol < s) f.terms
+
+-- so of the further upper forms of each loop
+abbrev pub AreLow : (ℕ → List Form) → ℕ → List Turning → Type 0
+AreLow lim n ts = (j : ℕ) (t : Turning) → slice_get ts j ≡ Some t → AllByRecursion (IsBelow (n + j)) (lim (n + j))
+
+pub outer_below : (lim : ℕ → List Form) (n : ℕ) (ts : List Turning) (f : Form) → IsBelow n f → is_outer (map binder (limited_turns lim n ts)) f ≡ true
+outer_below lim n ts f h = of f.terms h
+  where
+    of : (ms : List Multiple) → AllByRecursion (λ t. t.symbol < n) ms → list_all (λ t. not (list_any (binds t.symbol) (map binder (limited_turns lim n ts)))) ms ≡ true
+    of [] k = refl
+    of (m ∷ ms) k = (let here = none_bind lim m.symbol n ts k.0 in let rest = of ms k.1 in λ j. not (here j) && rest j)
+
+pub low_later : (lim : ℕ → List Form) (n : ℕ) (t : Turning) (ts : List Turning) → AreLow lim n (t ∷ ts) → AreLow lim (n + 1) ts
+low_later lim n t ts h j u e = (let next : n + suc j ≡ (n + 1) + j = omega arith in subst (λ (s : ℕ). AllByRecursion (IsBelow s) (lim s)) next (h (suc j) u e))
+
+pub low_here : (lim : ℕ → List Form) (n : ℕ) (t : Turning) (ts : List Turning) → AreLow lim n (t ∷ ts) → AllByRecursion (IsBelow n) (lim n)
+low_here lim n t ts h = (let none : n + 0 ≡ n = omega arith in subst (λ (s : ℕ). AllByRecursion (IsBelow s) (lim s)) none (h 0 t refl))
+
+pub scoped : (lim : ℕ → List Form) (n : ℕ) (ts : List Turning) → AreLow lim n ts → is_scoped (map binder (limited_turns lim n ts)) ≡ true
+scoped lim n [] low = refl
+scoped lim n (t ∷ ts) low =
+    let none = none_bind lim n (n + 1) ts (omega arith) in
+    let outer = all_outer (lim n) (low_here lim n t ts low) in
+    let rest = scoped lim (n + 1) ts (low_later lim n t ts low) in
+    λ j. (true && (true && outer j)) && (not (none j) && rest j)
+  where
+    all_outer : (fs : List Form) → AllByRecursion (IsBelow n) fs → list_all (is_outer (map binder (limited_turns lim n (t ∷ ts)))) fs ≡ true
+    all_outer [] h = refl
+    all_outer (f ∷ fs) h = (let here = outer_below lim n (t ∷ ts) f h.0 in let rest = all_outer fs h.1 in λ j. here j && rest j)
 
 -- ---- what is around the steps tells no more of a span
 

@@ -1,4 +1,4 @@
--- What of the skeletons of groups has a text, in plans whose splits need no tail.
+-- What of the skeletons of groups has a text, in plans whose splits need no line of their own.
 use Rattle.std.proofs.Common.{◌≡◌, ℕ, ◌≤◌, true, List, Some, None, false, sym, ◌∙◌, subst, length}
 use Rattle.std.specs.Prelude.{slice_get}
 use Rattle.std.specs.List.{AllByRecursion}
@@ -20,7 +20,7 @@ use Rattle.lower.specs.Faults.{are_whole, region_fault}
 use Rattle.lower.specs.Blocks.{dimensions_of, claimed_region, own_places}
 use Rattle.lower.specs.Fetches.{Entry}
 use Rattle.lower.specs.Groups.{HasBody, HasGroups}
-use Rattle.completeness.specs.Blocked.{IsBlocked}
+use Rattle.completeness.specs.Blocked.{IsKept}
 use Rattle.completeness.proofs.BlockChains.{IsLooped}
 use Rattle.completeness.proofs.FewLines.{stood}
 use Rattle.completeness.proofs.GroupTexts.{group_texts}
@@ -38,7 +38,7 @@ pub record IsStoodText (u : StoredText) (es : List Extent) (k : SkeletonText) : 
 
 module _ (a : Algorithm) (sch : Schedule) (l : Lowered) (well : IsAlgorithm a) (legal : IsLegal a sch) (small : has_large (stored_functions a sch) ≡ false)
     (kept : region_fault a (stored_functions a sch) ≡ None) (all : are_whole (stored_functions a sch) ≡ true) (groups : HasGroups a (stored_functions a sch) l)
-    (blocked : (n : ℕ) (u : StoredText) → slice_get (stored_functions a sch) n ≡ Some u → IsBlocked a sch n u) where
+    (blocked : (n : ℕ) (u : StoredText) → slice_get (stored_functions a sch) n ≡ Some u → IsKept a sch n u) where
   abbrev entries : List Entry
   entries = roots a sch l well legal small kept all groups
 

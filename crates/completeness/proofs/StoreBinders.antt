@@ -9,10 +9,8 @@ use Rattle.plan.specs.Plan.{Statement, Seq, For, Let, First, Guard, Alloc, Fetch
 use Rattle.plan.specs.Lines.{lines, block_lines}
 use Rattle.soundness.specs.Origins.{Outline}
 use Rattle.soundness.specs.Obligations.{Binder, Ranged, Picked, Passed, Known, Rules, more_binders, onwards}
-use Rattle.soundness.specs.Nests.Tests.{binders_in}
 use Rattle.sched.specs.declared.skeleton.Step.{Step}
 use Rattle.sched.specs.declared.skeleton.Step.TheVariants.{Turns, Named, Tested}
-use Rattle.sched.specs.declared.nest.Turning.{Turning}
 use Rattle.sched.specs.Runs.{lines_to}
 use Rattle.sched.specs.Skeleton.{NestText}
 use Rattle.lower.specs.Stored.{FormulaText, StoredText}
@@ -22,8 +20,6 @@ use Rattle.lower.specs.Fetches.{FetchText, with_fetches}
 use Rattle.completeness.specs.Laws.{IsStore as IsStoreLine}
 use Rattle.completeness.specs.Owed.{EachLine, EachOf}
 use Rattle.completeness.proofs.NestWalk.{LetsFirst}
-use Rattle.completeness.proofs.PlainTurns.{steps_for}
-use Rattle.completeness.proofs.PlainTests.{loops_for}
 
 -- what is bound inside of steps, the innermost first
 abbrev pub at_steps : List Step → List Binder → List Binder
@@ -31,10 +27,6 @@ at_steps [] bs = bs
 at_steps (Turns i x kind ∷ ts) bs = at_steps ts (Ranged i x ∷ bs)
 at_steps (Named i pick fs ∷ ts) bs = at_steps ts (Picked i pick fs ∷ bs)
 at_steps (Tested low high ∷ ts) bs = at_steps ts (Passed low high ∷ bs)
-
-pub at_loops : (n : ℕ) (ts : List Turning) (bs : List Binder) → at_steps (steps_for n ts) bs ≡ binders_in (loops_for n ts) bs
-at_loops n [] bs = refl
-at_loops n (t ∷ ts) bs = at_loops (n + 1) ts _
 
 abbrev pub Bare : NestText → Type 0
 Bare w = LetsFirst (λ i pick fs. ⊥) w.steps

@@ -86,7 +86,8 @@ last_more (m ∷ ms) o y x k = last_more ms (if same_name m.0 x then Some m.1 el
 abbrev pub FetchedBy : List FetchText → ℕ → List ℕ → ℕ → Type 0
 FetchedBy fetches first x c = (j : ℕ) × (f : FetchText) × (slice_get fetches j ≡ Some f) × (f.function ≡ x) × (c ≡ first + j)
 
-pub all_fetched : (fetches : List FetchText) (first : ℕ) (ts : List FetchText) (i : ℕ) → ((j : ℕ) (f : FetchText) → slice_get ts j ≡ Some f → slice_get fetches (i + j) ≡ Some f) → (c : ℕ) → c ≡ first + i →
+pub all_fetched : (fetches : List FetchText) (first : ℕ) (ts : List FetchText) (i : ℕ) → ((j : ℕ) (f : FetchText) → slice_get ts j ≡ Some f → slice_get fetches (i + j) ≡ Some f) → (c : ℕ) →
+    c ≡ first + i →
     AllByRecursion (λ m. FetchedBy fetches first m.0 m.1) (loads_from c ts)
 all_fetched fetches first [] i there c e = tt
 all_fetched fetches first (t ∷ ts) i there c e =
@@ -458,7 +459,8 @@ module _ (a : Algorithm) (sch : Schedule) (l : Lowered) (well : IsAlgorithm a) (
         of true e = (let same : y ≡ x = name_true y x e in absurd (cc (none, ap (λ (z : List ℕ). same_name x z) same ∙ name_refl x)))
         of false e = e
 
-    module _ (nests : Nests) (at_line : ℕ) (known : Known) (loaded_here : AreLoaded (texts f) fs k.nests places fetches first known) (own : HasOwn (texts f) fs k.nests places fetches first known) where
+    module _ (nests : Nests) (at_line : ℕ) (known : Known) (loaded_here : AreLoaded (texts f) fs k.nests places fetches first known) (own : HasOwn (texts f) fs k.nests places fetches first
+        known) where
       abbrev F : List ℕ
       F = O.setting.buffer_function 0
 
@@ -551,7 +553,8 @@ module _ (a : Algorithm) (sch : Schedule) (l : Lowered) (well : IsAlgorithm a) (
             BackIf a well flags_of place f at d x → Fine (O.source (name_by o x))
         source_fine x (Some c) e held_by can stays called back =
             let source : O.source (64 ∷ _) ≡ ByClaim c =
-            source_is a free plan cert n (group_of q) groups.head.input.named mine refl (few_claims a sch l well legal small kept all groups) [] tt c (slice_get_within mine c held_by.claim held_by.at) in
+            source_is a free plan cert n (group_of q) groups.head.input.named mine refl (few_claims a sch l well legal small kept all groups) [] tt c (slice_get_within mine c held_by.claim
+            held_by.at) in
             subst Fine (sym source) (claim_fine x c (last_is d x c e))
         source_fine x None e held_by can stays called back = elim (callable_found a a.functions x can) [
           | inl input ↦
@@ -592,7 +595,8 @@ module _ (a : Algorithm) (sch : Schedule) (l : Lowered) (well : IsAlgorithm a) (
               let C : Coordinate → Type 0 = CoordinateHolds O R nests at_line known (MayLoad d) meets names vars ms in
               all_flat C (λ o. IsNameTest o.wanted → is_shown R nests o ≡ true) (coordinate_loads O R at_line known (MayLoad d) meets names vars) (λ c h. h) (take n cs)
               (all_taken C n cs
-              (coordinates_hold O R nests at_line known (MayLoad d) meets names vars ms (names_with f.variables f.changes d) w.at u.at cs is (lefts_fine u.at (λ j e at_j x. left_calls x u j e at_j) y.lefts)))
+              (coordinates_hold O R nests at_line known (MayLoad d) meets names vars ms (names_with f.variables f.changes d) w.at u.at cs is (lefts_fine u.at (λ j e at_j x. left_calls x u j
+              e at_j) y.lefts)))
 
       insides_hold : (xs : List Span1) (us : List Updating) → Hold O R nests (map (λ u. obligation O R NotClaimed at_line known (Inside xs (region_of O R u.next))) us)
       insides_hold xs [] = tt
@@ -616,7 +620,8 @@ module _ (a : Algorithm) (sch : Schedule) (l : Lowered) (well : IsAlgorithm a) (
           let loaded_term = term_fine d less under meets w stands u defined names vars u.value (y d less under meets w stands u defined names vars).value (λ x. value_calls x u) in
           let value = subst (λ (t : Term). Hold O R nests (loads O R at_line known (MayLoad d) meets names vars t)) (sym is.value) loaded_term in
           let coordinates = coordinates_fine d less under meets w stands u defined names left cs is.at n in
-          let behind = hold_both O R nests (flat_map (coordinate_loads O R at_line known (MayLoad d) meets names left) at') (loads O R at_line known (MayLoad d) meets names vars e) coordinates value in
+          let behind = hold_both O R nests (flat_map (coordinate_loads O R at_line known (MayLoad d) meets names left) at') (loads O R at_line known (MayLoad d) meets names vars e)
+          coordinates value in
           let rest = hold_both O R nests (claimed O R at_line known 0 F d seats)
           (flat_map (coordinate_loads O R at_line known (MayLoad d) meets names left) at' ++ loads O R at_line known (MayLoad d) meets names vars e) (claimed_hold d seats) behind in
           (seats_hold O R nests at_line known seats (places_of known.buffers 0) places own, (λ k. begun_here d less under, rest))
@@ -681,7 +686,8 @@ module _ (a : Algorithm) (sch : Schedule) (l : Lowered) (well : IsAlgorithm a) (
         let begun : EachOf O R Here code (line + 1) (start (grid_binders q.grid.items)) =
         lets_at g fs k.nests places fetches first O R seated buffered owns own_function k.head (block (Alloc 0 f.name places ∷ with_fetches fetches rest)) (line + 1) begin lets refl inner
         (start (grid_binders q.grid.items)) in
-        let there_line : EachOf O R Here code (body_line plan n) (start (grid_binders q.grid.items)) = subst (λ (m : ℕ). EachOf O R Here code m (start (grid_binders q.grid.items))) (sym lined) begun in
+        let there_line : EachOf O R Here code (body_line plan n) (start (grid_binders q.grid.items)) = subst (λ (m : ℕ). EachOf O R Here code m (start (grid_binders q.grid.items))) (sym
+        lined) begun in
         subst (λ (s : Statement). EachLine O R Here s (body_line plan n) (start (grid_binders q.grid.items))) (sym b.with.is) there_line
 
     pub body_holds : EachLine O R Holding_here (statement_of q.body) (body_line plan n) (start (grid_binders q.grid.items))

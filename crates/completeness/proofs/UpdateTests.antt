@@ -7,7 +7,7 @@ use Rattle.std.specs.Int.RustNames.{unsigned_abs}
 use Rattle.std.proofs.lemmas.Int.{ints}
 use Rattle.std.proofs.lemmas.List.{reverse-append}
 use Rattle.tree.specs.Term.{Term}
-use Rattle.lin.specs.Forms.{number}
+use Rattle.lin.specs.Forms.{Form, number}
 use Rattle.lin.proofs.TermLemmas.{all_weaker}
 use Rattle.plan.specs.Plan.{Index, At, Found, Coordinate}
 use Rattle.meaning.specs.Algorithm.{Range}
@@ -26,7 +26,7 @@ use Rattle.lower.specs.Bodies.{IsIndex}
 use Rattle.completeness.proofs.GridScope.{number_limited}
 use Rattle.completeness.proofs.SelfBounds.{form_self}
 use Rattle.completeness.proofs.PlainTurns.{one_if, hits, turn_name, found_at}
-use Rattle.completeness.proofs.PlainTests.{loops_for, here_is}
+use Rattle.completeness.proofs.PlainTests.{limited_loops, here_is}
 use Rattle.completeness.proofs.PureNests.{all_back}
 use Rattle.completeness.proofs.UpdateTurns.{range_name, hits_in, all_mapped}
 
@@ -79,24 +79,25 @@ module _ (n : ℕ) (ts : List Turning) (few : (y : List ℕ) → hits turn_name 
 
 -- ---- loops one after another
 
-pub loops_joined : (n : ℕ) (us vs : List Turning) → loops_for n (us ++ vs) ≡ loops_for n us ++ loops_for (n + length us) vs
-loops_joined n [] vs = (let none : n ≡ n + 0 = omega arith in ap (λ (m : ℕ). loops_for m vs) none)
-loops_joined n (u ∷ us) vs =
+pub loops_joined : (lim : ℕ → List Form) (n : ℕ) (us vs : List Turning) → limited_loops lim n (us ++ vs) ≡ limited_loops lim n us ++ limited_loops lim (n + length us) vs
+loops_joined lim n [] vs = (let none : n ≡ n + 0 = omega arith in ap (λ (m : ℕ). limited_loops lim m vs) none)
+loops_joined lim n (u ∷ us) vs =
     let next : (n + 1) + length us ≡ n + suc (length us) = omega arith in
-    let rest = loops_joined (n + 1) us vs ∙ ap (λ (m : ℕ). loops_for (n + 1) us ++ loops_for m vs) next in
-    ap (λ (ls : List Loop). record { symbol = n; span = span u.low u.last [] } ∷ ls) rest
+    let rest = loops_joined lim (n + 1) us vs ∙ ap (λ (m : ℕ). limited_loops lim (n + 1) us ++ limited_loops lim m vs) next in
+    ap (λ (ls : List Loop). record { symbol = n; span = span u.low u.last (lim n) } ∷ ls) rest
 
 -- the loops of the first are none of these, and those of the others all
-module _ (Q : Loop → Bool) where
-  pub filter_first : (n : ℕ) (us : List Turning) (rest : List Loop) → ((j : ℕ) (t : Turning) → slice_get us j ≡ Some t → Q (record { symbol = n + j; span = span t.low t.last [] }) ≡ false) →
-      filter Q (loops_for n us ++ rest) ≡ filter Q rest
+module _ (lim : ℕ → List Form) (Q : Loop → Bool) where
+  pub filter_first : (n : ℕ) (us : List Turning) (rest : List Loop) →
+      ((j : ℕ) (t : Turning) → slice_get us j ≡ Some t → Q (record { symbol = n + j; span = span t.low t.last (lim (n + j)) }) ≡ false) → filter Q (limited_loops lim n us ++ rest) ≡ filter Q rest
   filter_first n [] rest h = refl
   filter_first n (u ∷ us) rest h =
       let none : n + 0 ≡ n = omega arith in
-      let here : Q (record { symbol = n; span = span u.low u.last [] }) ≡ false = subst (λ (m : ℕ). Q (record { symbol = m; span = span u.low u.last [] }) ≡ false) none (h 0 u refl) in
-      ap (λ (b : Bool). if b then record { symbol = n; span = span u.low u.last [] } ∷ filter Q (loops_for (n + 1) us ++ rest) else filter Q (loops_for (n + 1) us ++ rest)) here
+      let here : Q (record { symbol = n; span = span u.low u.last (lim n) }) ≡ false =
+      subst (λ (m : ℕ). Q (record { symbol = m; span = span u.low u.last (lim m) }) ≡ false) none (h 0 u refl) in
+      ap (λ (b : Bool). if b then record { symbol = n; span = span u.low u.last (lim n) } ∷ filter Q (limited_loops lim (n + 1) us ++ rest) else filter Q (limited_loops lim (n + 1) us ++ rest)) here
       ∙ filter_first (n + 1) us rest (λ j t e. let next : n + suc j ≡ (n + 1) + j = omega arith in
-      subst (λ (m : ℕ). Q (record { symbol = m; span = span t.low t.last [] }) ≡ false) next (h (suc j) t e))
+      subst (λ (m : ℕ). Q (record { symbol = m; span = span t.low t.last (lim m) }) ≡ false) next (h (suc j) t e))
 
 -- ---- the loops of a reduction
 
@@ -151,22 +152,26 @@ module _ (rules : Rules) (bound : rules.at_most ≡ shown_at_most) (bs : List Bi
       let e = number_same d.high t.last (sym last) high_near in
       λ i. (((a i || false) && true) && ((b i || false) && true)) && (((c i || false) && true) && ((e i || false) && true))
 
-module _ (n : ℕ) (all : List Turning) (few : (y : List ℕ) → hits turn_name y all ≤ 1) (rules : Rules) (bound : rules.at_most ≡ shown_at_most) (bs : List Binder) where
+module _ (lim : ℕ → List Form) (n : ℕ) (all : List Turning) (few : (y : List ℕ) → hits turn_name y all ≤ 1) (rules : Rules) (bound : rules.at_most ≡ shown_at_most) (bs : List Binder) where
   pub whole_all : (off : ℕ) (ts : List Turning) (cs : List Coordinate) (ds : List Range) → ((k : ℕ) (t : Turning) → slice_get ts k ≡ Some t → slice_get all (off + k) ≡ Some t) →
-      AllByRecursion IsNearTurn ts → Along n all ts cs ds → are_whole rules bs (loops_for (n + off) ts) cs ds ≡ true
-  whole_all off [] [] [] stands near h = refl
-  whole_all off [] [] (d ∷ ds) stands near h = absurd h
-  whole_all off [] (c ∷ cs) ds stands near h = absurd h
-  whole_all off (t ∷ ts) [] ds stands near h = absurd h
-  whole_all off (t ∷ ts) (c ∷ cs) [] stands near h = absurd h
-  whole_all off (t ∷ ts) (c ∷ cs) (d ∷ ds) stands near h =
+      ((k : ℕ) (t : Turning) → slice_get ts k ≡ Some t → lim (n + (off + k)) ≡ []) → AllByRecursion IsNearTurn ts → Along n all ts cs ds →
+      are_whole rules bs (limited_loops lim (n + off) ts) cs ds ≡ true
+  whole_all off [] [] [] stands bare near h = refl
+  whole_all off [] [] (d ∷ ds) stands bare near h = absurd h
+  whole_all off [] (c ∷ cs) ds stands bare near h = absurd h
+  whole_all off (t ∷ ts) [] ds stands bare near h = absurd h
+  whole_all off (t ∷ ts) (c ∷ cs) [] stands bare near h = absurd h
+  whole_all off (t ∷ ts) (c ∷ cs) (d ∷ ds) stands bare near h =
       let none : off + 0 ≡ off = omega arith in
       let there : slice_get all off ≡ Some t = ap (slice_get all) (sym none) ∙ stands 0 t refl in
       let symbol : is_symbol (n + off) c ≡ true = here_is n all few off t there c t.name h.0.0 ∙ name_refl t.name in
-      let one = whole_one rules bound bs t d near.0 h.0.1 h.0.2 in
+      let free : lim (n + off) ≡ [] = ap (λ (k : ℕ). lim (n + k)) (sym none) ∙ bare 0 t refl in
+      let one : is_whole rules bs (span t.low t.last (lim (n + off))) d ≡ true = ap (λ (fs : List Form). is_whole rules bs (span t.low t.last fs) d) free
+      ∙ whole_one rules bound bs t d near.0 h.0.1 h.0.2 in
       let next : n + (off + 1) ≡ (n + off) + 1 = omega arith in
-      let rest : are_whole rules bs (loops_for ((n + off) + 1) ts) cs ds ≡ true = subst (λ (m : ℕ). are_whole rules bs (loops_for m ts) cs ds ≡ true) next
-      (whole_all (off + 1) ts cs ds (λ k u e. let place : off + suc k ≡ (off + 1) + k = omega arith in ap (slice_get all) (sym place) ∙ stands (suc k) u e) near.1 h.1) in
+      let rest : are_whole rules bs (limited_loops lim ((n + off) + 1) ts) cs ds ≡ true = subst (λ (m : ℕ). are_whole rules bs (limited_loops lim m ts) cs ds ≡ true) next
+      (whole_all (off + 1) ts cs ds (λ k u e. let place : off + suc k ≡ (off + 1) + k = omega arith in ap (slice_get all) (sym place) ∙ stands (suc k) u e)
+      (λ k u e. let place : off + suc k ≡ (off + 1) + k = omega arith in ap (λ (m : ℕ). lim (n + m)) (sym place) ∙ bare (suc k) u e) near.1 h.1) in
       λ i. symbol i && (one i && rest i)
 
 -- ---- coordinates as lines have them

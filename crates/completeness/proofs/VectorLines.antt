@@ -185,7 +185,7 @@ bodies_serial : (us : List Change) (d : ℕ) (xs : List (List ℕ)) (fs : List F
 bodies_serial us d xs [] = tt
 bodies_serial us d xs (f ∷ fs) = (turnings_serial (ranges_of us d) xs, bodies_serial us (d + 1) (drop (length (ranges_of us d)) xs) fs)
 
-all_scalar : (ls : List Loop) → ¬ Any IsVectorized ls → AllByRecursion (λ l. is_vectorized l ≡ false) ls
+pub all_scalar : (ls : List Loop) → ¬ Any IsVectorized ls → AllByRecursion (λ l. is_vectorized l ≡ false) ls
 all_scalar [] h = tt
 all_scalar (l ∷ ls) h = (of l.mark refl, all_scalar ls (λ (k, m, less, is, v). h (suc k, m, omega (arith, less), is, v)))
   where

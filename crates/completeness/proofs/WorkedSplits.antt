@@ -10,7 +10,7 @@ use Rattle.sched.specs.Subjects.{subject_said}
 use Rattle.sched.specs.Legal.{said, loops_after}
 use Rattle.lower.specs.Stored.{FormulaText, StoredText, stored_by, flags, stored_functions}
 use Rattle.lower.specs.Regions.{LaidText, laid_functions}
-use Rattle.completeness.specs.Blocked.{is_tailed, IsBlocked}
+use Rattle.completeness.specs.Blocked.{makes_line, IsKept}
 use Rattle.completeness.specs.Stores.{IsNearRegion}
 use Rattle.completeness.specs.Placed.{ArePlaced}
 use Rattle.completeness.specs.Worked.{reader, caller, two_functions, both_split, SplitsFill}
@@ -58,33 +58,33 @@ first_is u at = some_same first u at
 second_is : (u : StoredText) → slice_get gs 1 ≡ Some u → second ≡ u
 second_is u at = some_same second u at
 
--- over a region no split needs a tail
+-- over a region no split makes a line of its own
 abbrev IsFilled : StoredText → List Extent → Type 0
-IsFilled g es = AllByRecursion (λ c. is_tailed (loop_numbers g.subject.variables g.placed.cuts es) c ≡ false) g.placed.cuts
+IsFilled g es = AllByRecursion (λ c. makes_line g.placed.loops (loop_numbers g.subject.variables g.placed.cuts es) c ≡ false) g.placed.cuts
 
 first_filled : IsFilled first points
 first_filled = (refl, tt)
 
 second_filled : IsFilled second points
-second_filled = (refl, tt)
+second_filled = (refl, (refl, tt))
 
-first_blocked : IsBlocked two_functions both_split 0 first
+first_blocked : IsKept two_functions both_split 0 first
 first_blocked = record {
   once = (refl, tt);
   inners = (refl, refl, tt);
   filled = λ l e. subst (IsFilled first) (sym region_first ∙ ap region_in e) first_filled;
 }
 
-second_blocked : IsBlocked two_functions both_split 1 second
+second_blocked : IsKept two_functions both_split 1 second
 second_blocked = record {
-  once = (refl, tt);
-  inners = (refl, refl, tt);
+  once = (refl, (refl, tt));
+  inners = (refl, refl, (refl, refl, tt));
   filled = λ l e. subst (IsFilled second) (sym region_second ∙ ap region_in e) second_filled;
 }
 
-blocked : (n : ℕ) (u : StoredText) → slice_get gs n ≡ Some u → IsBlocked two_functions both_split n u
-blocked zero u at = subst (IsBlocked two_functions both_split 0) (first_is u at) first_blocked
-blocked (suc zero) u at = subst (IsBlocked two_functions both_split 1) (second_is u at) second_blocked
+blocked : (n : ℕ) (u : StoredText) → slice_get gs n ≡ Some u → IsKept two_functions both_split n u
+blocked zero u at = subst (IsKept two_functions both_split 0) (first_is u at) first_blocked
+blocked (suc zero) u at = subst (IsKept two_functions both_split 1) (second_is u at) second_blocked
 blocked (suc (suc n)) u at = absurd (no_more u at)
   where
     no_more : (u : StoredText) → None ≡ Some u → ⊥

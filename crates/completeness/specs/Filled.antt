@@ -1,5 +1,5 @@
--- What the lines of a group owe the checker, of a function whose loops are split once, by blocks that need no tail.
-use Rattle.std.specs.Prelude.{◌≡◌, ℕ, true, List, Some, ℤ, pos, ◌+ℤ◌, ◌≤ℤ◌, slice_get}
+-- What the lines of a group owe the checker, of a function whose loops are split once, by blocks that need no line of their own.
+use Rattle.std.specs.Prelude.{◌≡◌, ℕ, true, false, List, Some, pos, ◌+ℤ◌, ◌≤ℤ◌, slice_get}
 use Rattle.std.specs.List.{AllByRecursion}
 use Rattle.plan.specs.Plan.{Group}
 use Rattle.plan.specs.View.{plan_of}
@@ -23,14 +23,15 @@ use Rattle.completeness.specs.Owed.{AreGridsFew, AreSymbolsFew, AreClaimsNear}
 use Rattle.completeness.specs.Nested.{TakeSplit}
 use Rattle.completeness.specs.Stores.{AreHeld, GroupShown, IsNearRegion}
 use Rattle.completeness.specs.Placed.{ArePlaced}
-use Rattle.completeness.specs.Blocked.{IsBlocked}
+use Rattle.completeness.specs.Blocked.{is_tailed, IsKept}
 
--- where the blocks of a split run past the end of its loop, the numbers that they reach are of 32 bits
+-- where the blocks of a split run past the end of its loop, and no guard keeps them within it, the numbers that they reach are of 32 bits
 abbrev pub AreEndsShort : List Numbers → List Split → Type 0
 AreEndsShort rs cs =
-    AllByRecursion (λ c. has_rest c (numbers_named rs c.whole).count ≡ true → (last_number (numbers_named rs c.whole) +ℤ pos c.factor) ≤ℤ pos 2147483647) cs
+    AllByRecursion
+    (λ c. is_tailed rs c ≡ false → has_rest c (numbers_named rs c.whole).count ≡ true → (last_number (numbers_named rs c.whole) +ℤ pos c.factor) ≤ℤ pos 2147483647) cs
 
--- of each function whose loops are split once, by blocks that need no tail, whichever loops are parallel but the inner ones, and whose left indices are the variables
+-- of each function whose loops are split once, by blocks that need no line of their own, whichever loops are parallel but the inner ones, and whose left indices are the variables
 -- at their places, in updates too, where what it fetches holds its calls: all that the lines of its group owe is shown by the tests of split nests: K2, K4, K5, K6
 -- and K7 are told of none of them
 abbrev pub BlockedGroupsOweShown : Type 0
@@ -38,7 +39,7 @@ BlockedGroupsOweShown =
     (a : Algorithm) (s : Schedule) (l : Lowered) → IsAlgorithm a → IsLegal a s → AreSmall a s → AreRegionsKept a s → AreGroupsMade a s l
     → are_whole (stored_functions a s) ≡ true → NamesNoLoad a → AreLinesTold (plan_of l.plan) → AreGridsFew (plan_of l.plan) → AreSymbolsFew (plan_of l.plan)
     → AreClaimsNear (certificate_of l.certificate)
-    → (n : ℕ) (g : Group) → slice_get (plan_of l.plan).groups n ≡ Some g → (u : StoredText) → slice_get (stored_functions a s) n ≡ Some u → IsBlocked a s n u
+    → (n : ℕ) (g : Group) → slice_get (plan_of l.plan).groups n ≡ Some g → (u : StoredText) → slice_get (stored_functions a s) n ≡ Some u → IsKept a s n u
     → (fs : List FormulaText) → u.formulas ≡ Some fs → ArePlaced fs → (r : LaidText) → slice_get (laid_functions a (stored_functions a s)) n ≡ Some (Some r)
     → AreHeld a (stored_functions a s) n u fs r.skeleton → AreEndsShort (loop_numbers u.subject.variables u.placed.cuts r.region) u.placed.cuts
     → GroupShown TakeSplit a (plan_of l.plan) (certificate_of l.certificate) n g
@@ -49,6 +50,6 @@ NearBlockedGroupsOweShown =
     (a : Algorithm) (s : Schedule) (l : Lowered) → IsAlgorithm a → IsLegal a s → AreSmall a s → AreRegionsKept a s → AreGroupsMade a s l
     → are_whole (stored_functions a s) ≡ true → NamesNoLoad a → AreLinesTold (plan_of l.plan) → AreGridsFew (plan_of l.plan) → AreSymbolsFew (plan_of l.plan)
     → AreClaimsNear (certificate_of l.certificate)
-    → (n : ℕ) (g : Group) → slice_get (plan_of l.plan).groups n ≡ Some g → (u : StoredText) → slice_get (stored_functions a s) n ≡ Some u → IsBlocked a s n u
+    → (n : ℕ) (g : Group) → slice_get (plan_of l.plan).groups n ≡ Some g → (u : StoredText) → slice_get (stored_functions a s) n ≡ Some u → IsKept a s n u
     → (fs : List FormulaText) → u.formulas ≡ Some fs → ArePlaced fs → (r : LaidText) → slice_get (laid_functions a (stored_functions a s)) n ≡ Some (Some r)
     → IsNearRegion r.region → GroupShown TakeSplit a (plan_of l.plan) (certificate_of l.certificate) n g

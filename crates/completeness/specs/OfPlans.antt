@@ -1,4 +1,4 @@
--- The texts of plans that are made of schedules that split loops once, by blocks that need no tail, are files of these plans alone.
+-- The texts of plans that are made of schedules that split loops once, by blocks that need no line of their own, are files of these plans alone.
 use Rattle.std.specs.Prelude.{◌≡◌, ◌++◌, ℕ, Bool, true, nat_le, List, length}
 use Rattle.std.specs.List.{list_all}
 use Rattle.meaning.specs.Algorithm.{Algorithm}

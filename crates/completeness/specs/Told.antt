@@ -1,4 +1,4 @@
--- What the checker tells of a plan whose schedule splits loops once at most, by blocks that need no tail, is a limit.
+-- What the checker tells of a plan whose schedule splits loops once at most, by blocks that need no line of their own, is a limit.
 use Rattle.std.specs.Prelude.{◌≡◌, ℕ, true, List, Some, slice_get}
 use Rattle.std.specs.List.{AllByRecursion}
 use Rattle.meaning.specs.Algorithm.{Algorithm}
@@ -28,13 +28,14 @@ use Rattle.lower.specs.Refused.{AreSmall, AreRegionsKept}
 use Rattle.lower.specs.Groups.{AreGroupsMade}
 use Rattle.completeness.specs.Stores.{IsNearRegion}
 use Rattle.completeness.specs.Placed.{ArePlaced}
-use Rattle.completeness.specs.Blocked.{IsBlocked}
+use Rattle.completeness.specs.Blocked.{IsKept}
 
--- each stored function is a root function that is computed at no loop; its loops are split once at most, by blocks that fill the loop or, with `roundup`, run past
--- its end; its updates set each variable at its own place; and the region that is needed of it begins near 0
+-- each stored function is a root function that is computed at no loop; its loops are split once at most, by blocks that fill the loop, that run past its end with
+-- `roundup`, or that `guard` keeps within it where the inner loop stands inside of the outer one, or a piece tells the block; its updates set each variable at its
+-- own place; and the region that is needed of it begins near 0
 pub record FillsBlocks (a : Algorithm) (s : Schedule) : Type 0 where
   pub whole : are_whole (stored_functions a s) ≡ true
-  pub blocked : (n : ℕ) (u : StoredText) → slice_get (stored_functions a s) n ≡ Some u → IsBlocked a s n u
+  pub blocked : (n : ℕ) (u : StoredText) → slice_get (stored_functions a s) n ≡ Some u → IsKept a s n u
   pub placed : (n : ℕ) (u : StoredText) → slice_get (stored_functions a s) n ≡ Some u → (fs : List FormulaText) → u.formulas ≡ Some fs → ArePlaced fs
   pub near : (n : ℕ) (r : LaidText) → slice_get (laid_functions a (stored_functions a s)) n ≡ Some (Some r) → IsNearRegion r.region
 

@@ -42,11 +42,11 @@ two_functions = record {
 abbrev halved : List ℕ → List ℕ → List ℕ → ℕ → Tail → DirectiveText
 halved v outer inner n t = split (record { whole = v; outer = outer; inner = inner; factor = n; tail = t })
 
--- a piece for each two rows, which run past the end; and blocks of four numbers, whose loop is vectorised
+-- a piece for each two rows, which run past the end; and blocks of two rows, which a guard keeps within the picture, by four numbers, whose loop is vectorised
 abbrev pub both_split : Schedule
 both_split =
     record { function = codes "f"; directives = compute_root ∷ halved y (codes "yo") (codes "yi") 2 Roundup ∷ parallel (codes "yo") ∷ [] }
-    ∷ record { function = codes "out"; directives = halved x (codes "xo") (codes "xi") 4 Guard ∷ vectorize (codes "xi") ∷ [] } ∷ []
+    ∷ record { function = codes "out"; directives = halved y (codes "yo") (codes "yi") 2 Guard ∷ halved x (codes "xo") (codes "xi") 4 Guard ∷ vectorize (codes "xi") ∷ [] } ∷ []
 
 -- they are such as the law asks
 abbrev pub SplitsFill : Type 0

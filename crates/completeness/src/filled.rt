@@ -2,18 +2,20 @@
 
 ghost use Rattle.completeness.specs.Filled.{BlockedGroupsOweShown, NearBlockedGroupsOweShown};
 
-/// Of a schedule under which each stored function is a root function that is computed at no loop, the group of each function whose left indices are the variables at their
-/// own places, in the pure definition and in updates, and whose loops are split once, where over its region each split's blocks fill its loop, or run past its end with
-/// `roundup`, whichever loops are parallel but the inner ones; where what is fetched holds the calls, and blocks that run past the end reach numbers of 32 bits alone: all
-/// that its lines owe is shown, where the tests of nests say yes to plain nests and to split ones, as the checker's do. Neither K2, K4, K5, K6 nor K7 is told of them.
-/// Each coordinate is a number of 32 bits: the first number of a block, which the grid or an outer loop tells, and an inner loop's symbol. Reduction variables are loops
-/// over their ranges; an update's calls of its own function are of the point where it stores.
+/// Of a schedule under which each stored function is a root function that is computed at no loop, the group of each function whose left indices are the
+/// variables at their own places, in the pure definition and in updates, and whose loops are split once, where over its region each split's blocks fill its
+/// loop, run past its end with `roundup`, or are kept within it by `guard` where the inner loop stands inside of the outer one or a piece tells the block,
+/// whichever loops are parallel but the inner ones; where what is fetched holds the calls, and blocks that run past the end reach numbers of 32 bits alone: all
+/// that its lines owe is shown, where the tests of nests say yes to plain nests and to split ones, as the checker's do. Neither K2, K4, K5, K6 nor K7 is told
+/// of them. Each coordinate is a number of 32 bits: the first number of a block, which the grid or an outer loop tells, and an inner loop's symbol. Reduction
+/// variables are loops over their ranges; an update's calls of its own function are of the point where it stores.
 pub fn blocked_groups_owe_shown()
     ensures { BlockedGroupsOweShown }
 {}
 
-/// So it is, whatever such a function fetches, where the region that is needed of it begins within 2^14 of 0 in each dimension: all loops, those over blocks and within
-/// them as well, then run over numbers within 2^15, and the checker's search finds of each index the ends by which `lower` told the regions of the functions it calls.
+/// So it is, whatever such a function fetches, where the region that is needed of it begins within 2^14 of 0 in each dimension: all loops, those over blocks
+/// and within them as well, then run over numbers within 2^15, and the checker's search finds of each index no more than the ends by which `lower` told the
+/// regions of the functions it calls.
 pub fn near_blocked_groups_owe_shown()
     ensures { NearBlockedGroupsOweShown }
 {}
