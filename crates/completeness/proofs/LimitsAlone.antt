@@ -19,7 +19,7 @@ use Rattle.completeness.specs.Parted.{KeepsInner, InnersAreKept}
 use Rattle.completeness.specs.Laws.{AreSplitOnce, AreLinesTold, Stands}
 use Rattle.completeness.specs.Owed.{AreGridsFew, AreSymbolsFew, AreClaimsNear}
 use Rattle.completeness.specs.Nested.{TakeSplit}
-use Rattle.completeness.specs.Told.{FillsBlocks, LimitsAloneAreTold}
+use Rattle.completeness.specs.Told.{SplitsPlainly, LimitsAloneAreTold}
 use Rattle.completeness.proofs.Shared.{shared, limits as shares_limits, heads}
 use Rattle.completeness.proofs.CertLimits.{certificate_limits}
 use Rattle.completeness.proofs.OnlyLimits.{told}
@@ -40,7 +40,7 @@ or_true b d e = ap (λ (v : Bool). v || d) e
 slid_take : (a : Algorithm) (p : Plan) (c : Certificate) (n : ℕ) (g : Group) → TakeSplit a p c n g (slid_nests (outline_of p c n g) (rules_of a p c n) (domains_of a))
 slid_take a p c n g = ((λ bs m from places t e. or_true _ _ e), (λ bs m t e. e))
 
-module _ (a : Algorithm) (s : Schedule) (fills : FillsBlocks a s) where
+module _ (a : Algorithm) (s : Schedule) (fills : SplitsPlainly a s) where
   inners : InnersAreKept a s
   inners = each_at (λ g. KeepsInner g.placed.loops g.placed.cuts) (stored_functions a s) (λ i g at. (fills.blocked i g at).inners)
 

@@ -1,7 +1,7 @@
 -- What the stores of definitions owe whose left indices are all the variables at their own places, whatever forms stand for these: all of it is shown, where at each store each form is a
 -- number of 32 bits within the limits of forms, has a place in the function's buffer and lies in the region of its claims, and what is fetched holds the calls.
 use Rattle.std.proofs.Common.{◌≡◌, ℕ, zero, suc, ◌+◌, ◌<◌, ◌≤◌, Bool, true, false, ◌&&◌, List, [], ◌∷◌, ◌++◌, length, map, take, drop, Option, Some, None, IsSome, refl, sym, ap, ◌∙◌, subst}
-use Rattle.std.proofs.Common.{inl, inr, ◌⊎◌, arith, ◌||◌, ◌-◌, append-nil, length-append}
+use Rattle.std.proofs.Common.{inl, inr, ◌⊎◌, arith, ◌||◌, append-nil, length-append}
 use Rattle.std.specs.Prelude.{◌==◌, if◌then◌else◌, string_bytes, slice_get, filter}
 use Rattle.std.specs.List.{AllByRecursion, list_all, flat_map}
 use Rattle.std.proofs.lemmas.List.{length-map, take-append-drop}

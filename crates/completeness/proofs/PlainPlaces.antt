@@ -43,7 +43,6 @@ use Rattle.lower.specs.Blocks.{dimensions_of, own_places}
 use Rattle.lower.specs.Bodies.{last_claim, IsStore, AreNests}
 use Rattle.lower.specs.Fetches.{Entry, FetchText, Calls, AreFetched, with_fetches}
 use Rattle.lower.specs.Groups.{HasBody, HasGroups}
-use Rattle.lower.proofs.Laying.{bound}
 use Rattle.completeness.specs.Laws.{IsStore as IsStoreLine}
 use Rattle.completeness.specs.Owed.{EachLine, EachOf, BindBelow, AllBindBelow, AreSymbolsFew}
 use Rattle.completeness.proofs.Standing.{AreLets, Rises, NestsRise, NamesOwn, names_own}

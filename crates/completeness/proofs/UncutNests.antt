@@ -1,5 +1,5 @@
 -- The coordinates of a store, behind those of its variables.
-use Rattle.std.proofs.Common.{◌≡◌, ℕ, zero, suc, ◌+◌, ◌≤◌, List, [], ◌∷◌, ◌++◌, length, take, drop}
+use Rattle.std.proofs.Common.{◌≡◌, ℕ, zero, suc, ◌≤◌, List, [], ◌∷◌, ◌++◌, length, take, drop}
 use Rattle.std.proofs.Common.{Option, refl, ap, arith}
 use Rattle.tree.specs.Term.{Term}
 use Rattle.lin.specs.Forms.{Form}

@@ -122,5 +122,5 @@ near (suc (suc n)) r at = absurd (no_more r at)
     no_more : (r : LaidText) → None ≡ Some (Some r) → ⊥
     no_more r q = cc q
 
-pub splits_fill : SplitsFill
-splits_fill = record { whole = refl; blocked = blocked; placed = placed; near = near }
+pub splits_are_plain : SplitsFill
+splits_are_plain = record { whole = refl; blocked = blocked; placed = placed; near = near }

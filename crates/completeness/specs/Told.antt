@@ -33,7 +33,7 @@ use Rattle.completeness.specs.Blocked.{IsKept}
 -- each stored function is a root function that is computed at no loop; its loops are split once at most, by blocks that fill the loop, that run past its end with
 -- `roundup`, or that `guard` keeps within it where the inner loop stands inside of the outer one, or a piece tells the block; its updates set each variable at its
 -- own place; and the region that is needed of it begins near 0
-pub record FillsBlocks (a : Algorithm) (s : Schedule) : Type 0 where
+pub record SplitsPlainly (a : Algorithm) (s : Schedule) : Type 0 where
   pub whole : are_whole (stored_functions a s) ≡ true
   pub blocked : (n : ℕ) (u : StoredText) → slice_get (stored_functions a s) n ≡ Some u → IsKept a s n u
   pub placed : (n : ℕ) (u : StoredText) → slice_get (stored_functions a s) n ≡ Some u → (fs : List FormulaText) → u.formulas ≡ Some fs → ArePlaced fs
@@ -59,7 +59,7 @@ pub record TellsOnlyLimits (a : Algorithm) (p : Plan) (c : Certificate) : Type 0
 abbrev pub LimitsAloneAreTold : Type 0
 LimitsAloneAreTold =
     (a : Algorithm) (s : Schedule) (l : Lowered) → IsAlgorithm a → IsLegal a s → AreSmall a s → AreRegionsKept a s → AreGroupsMade a s l
-    → FillsBlocks a s → IsNamed a → TellsOnlyLimits a (plan_of l.plan) (certificate_of l.certificate)
+    → SplitsPlainly a s → IsNamed a → TellsOnlyLimits a (plan_of l.plan) (certificate_of l.certificate)
 
 -- each refusal of the plan that is right, whatever its line, is told as a limit (K14)
 abbrev pub TellsLimitsAlone : Algorithm → Plan → Certificate → Type 0
@@ -69,4 +69,4 @@ TellsLimitsAlone a p c = (code line : ℕ) → IsFault a p c code line → code 
 abbrev pub FaultsAreLimits : Type 0
 FaultsAreLimits =
     (a : Algorithm) (s : Schedule) (l : Lowered) → IsAlgorithm a → IsLegal a s → AreSmall a s → AreRegionsKept a s → AreGroupsMade a s l
-    → FillsBlocks a s → IsNamed a → TellsLimitsAlone a (plan_of l.plan) (certificate_of l.certificate)
+    → SplitsPlainly a s → IsNamed a → TellsLimitsAlone a (plan_of l.plan) (certificate_of l.certificate)

@@ -7,7 +7,7 @@ use Rattle.meaning.specs.Algorithm.{Function, Algorithm}
 use Rattle.sched.specs.declared.schedule.Tail.{Tail}
 use Rattle.sched.specs.declared.schedule.Tail.TheVariants.{Guard, Roundup}
 use Rattle.sched.specs.Schedule.{DirectiveText, compute_root, split, vectorize, parallel, Schedule}
-use Rattle.completeness.specs.Told.{FillsBlocks}
+use Rattle.completeness.specs.Told.{SplitsPlainly}
 
 abbrev x : List ℕ
 x = codes "x"
@@ -50,4 +50,4 @@ both_split =
 
 -- they are such as the law asks
 abbrev pub SplitsFill : Type 0
-SplitsFill = FillsBlocks two_functions both_split
+SplitsFill = SplitsPlainly two_functions both_split

@@ -9,7 +9,7 @@ use Rattle.sched.specs.declared.error.SchedError.{SchedError}
 use Rattle.lower.specs.Refused.{AreRegionsKept, AreSmall, AreUsesInside, IsRefused as IsRefusedSchedule}
 use Rattle.lower.specs.Groups.{AreGroupsMade}
 use Rattle.completeness.specs.Laws.{HasOwnLines, WholeStands}
-use Rattle.completeness.specs.Told.{FillsBlocks, TellsLimitsAlone}
+use Rattle.completeness.specs.Told.{SplitsPlainly, TellsLimitsAlone}
 use Rattle.completeness.specs.OfPlans.{file_text, IsFileOfPlan}
 use Rattle.lower.specs.declared.error.LowerError.{LowerError}
 use Rattle.lower.specs.declared.lowering.Lowered.{Lowered}
@@ -50,8 +50,8 @@ pub record IsNotLowered (a : Algorithm) (s : Schedule) (fault : Fault) : Type 0 
 -- ---- the plan
 
 -- what `lower` says of the plan that it makes of a legal schedule, and of its certificate, and what follows: each group has a line of what its pieces own;
--- where whole functions keep the inner loops of splits serial, these part the cells and are served by those that they need; and where splits are into
--- whole blocks, whatever the checker tells is a limit, and the text is a file of this plan alone, but for the limits of files
+-- where whole functions keep the inner loops of splits serial, these part the cells and are served by those that they need; and where loops are
+-- split plainly, whatever the checker tells is a limit, and the text is a file of this plan alone, but for the limits of files
 pub record IsLowered (a : Algorithm) (s : Schedule) (l : Lowered) : Type 0 where
   pub legal : IsLegal a s
   pub small : AreSmall a s
@@ -60,8 +60,8 @@ pub record IsLowered (a : Algorithm) (s : Schedule) (l : Lowered) : Type 0 where
   pub groups : AreGroupsMade a s l
   pub own_lines : HasOwnLines (plan_of l.plan) (certificate_of l.certificate)
   pub shares : WholeStands a s l
-  pub limits : FillsBlocks a s → TellsLimitsAlone a (plan_of l.plan) (certificate_of l.certificate)
-  pub file : FillsBlocks a s → IsFileOfPlan (plan_of l.plan) (certificate_of l.certificate)
+  pub limits : SplitsPlainly a s → TellsLimitsAlone a (plan_of l.plan) (certificate_of l.certificate)
+  pub file : SplitsPlainly a s → IsFileOfPlan (plan_of l.plan) (certificate_of l.certificate)
 
 -- the text of the plan that is made of the schedule, with its certificate
 pub record IsPlanText (a : Algorithm) (s : Schedule) (text : List ℕ) : Type 0 where
@@ -69,12 +69,12 @@ pub record IsPlanText (a : Algorithm) (s : Schedule) (text : List ℕ) : Type 0 
   pub lowered : IsLowered a s made
   pub written : text ≡ file_text (plan_of made.plan) (certificate_of made.certificate)
 
--- the checker has accepted this plan with its certificate, as it was read of that text; where splits are into whole blocks, they are those that were made
+-- the checker has accepted this plan with its certificate, as it was read of that text; where loops are split plainly, they are those that were made
 pub record IsCompiledPlan (a : Algorithm) (s : Schedule) (plan : PlanMade) (cert : Cert) : Type 0 where
   pub text : List ℕ
   pub of_schedule : IsPlanText a s text
   pub accepted : IsAccepted a text plan cert
-  pub same : FillsBlocks a s → (plan_of plan ≡ plan_of of_schedule.made.plan) × (certificate_of cert ≡ certificate_of of_schedule.made.certificate)
+  pub same : SplitsPlainly a s → (plan_of plan ≡ plan_of of_schedule.made.plan) × (certificate_of cert ≡ certificate_of of_schedule.made.certificate)
 
 -- the reader of plan files refuses the text at this line
 abbrev pub IsUnread : List ℕ → ℕ → Type 0
@@ -94,12 +94,12 @@ IsLimit a text Memory = ⊤
 IsLimit a text (Plan code line) = (code ≡ K14) × (IsWrong a text code line ⊎ IsRefusedFile text (read.Limit line))
 IsLimit a text _ = ⊥
 
--- the schedule is legal, and the text of the plan that is made of it is not accepted: where splits are into whole blocks, for a limit
+-- the schedule is legal, and the text of the plan that is made of it is not accepted: where loops are split plainly, for a limit
 pub record IsRefusedPlan (a : Algorithm) (s : Schedule) (fault : Fault) : Type 0 where
   pub text : List ℕ
   pub of_schedule : IsPlanText a s text
   pub refused : IsUnaccepted a text fault
-  pub limit : FillsBlocks a s → IsLimit a text fault
+  pub limit : SplitsPlainly a s → IsLimit a text fault
 
 -- why no plan file comes of a schedule
 abbrev pub IsNotCompiled : Algorithm → Schedule → Fault → Type 0
