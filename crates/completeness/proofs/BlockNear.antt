@@ -75,16 +75,16 @@ use Rattle.completeness.proofs.BlockLoops as loops_of
 -- ---- values
 
 -- the first number of a block and a number within it, added, near 0
-pair_index : (v : ℕ → ℤ) → ((s : ℕ) → IsNear (v s)) → (z : ℤ) (s c m : ℕ) → unsigned_abs z ≤ 32768 → c ≤ 1024 → IsIndex (form_value (pair z s (pos c) m) v)
+pair_index : (v : ℕ → ℤ) → ((s : ℕ) → IsNear (v s)) → (z : ℤ) (s c m : ℕ) → unsigned_abs z ≤ 73728 → c ≤ 1024 → IsIndex (form_value (pair z s (pos c) m) v)
 pair_index v near z s c m low few = of (nat_lt s m) refl
   where
-    by : (p q : ℤ) → unsigned_abs p ≤ 33554432 → unsigned_abs q ≤ 32768 → (unsigned_abs (z +ℤ (p +ℤ (pos 1 *ℤ q +ℤ pos 0))) ≤ 33619968) × (unsigned_abs (z +ℤ (pos 1 *ℤ q +ℤ (p +ℤ pos 0))) ≤ 33619968)
+    by : (p q : ℤ) → unsigned_abs p ≤ 75497472 → unsigned_abs q ≤ 73728 → (unsigned_abs (z +ℤ (p +ℤ (pos 1 *ℤ q +ℤ pos 0))) ≤ 75644928) × (unsigned_abs (z +ℤ (pos 1 *ℤ q +ℤ (p +ℤ pos 0))) ≤ 75644928)
     by p q h g = (omega (arith, ints, low, h, g), omega (arith, ints, low, h, g))
 
-    product : unsigned_abs (pos c *ℤ v s) ≤ 33554432
+    product : unsigned_abs (pos c *ℤ v s) ≤ 75497472
     product = (let most = product_near (pos c) (v s) (near s) in omega (arith, most, few))
 
-    index : (y : ℤ) → unsigned_abs y ≤ 33619968 → IsIndex y
+    index : (y : ℤ) → unsigned_abs y ≤ 75644928 → IsIndex y
     index y h = record { from = omega (arith, ints, h); to = omega (arith, ints, h) }
 
     of : (b : Bool) → nat_lt s m ≡ b → IsIndex (form_value (pair z s (pos c) m) v)
@@ -406,7 +406,7 @@ module _ (a : Algorithm) (sch : Schedule) (l : Lowered) (well : IsAlgorithm a) (
         let close = whole_near c.whole (wholes c m) in
         by (low c.whole) (numbers_named rs c.whole).count c.factor close.0 close.2 (fits c m).few)
       where
-        by : (z : ℤ) (n w : ℕ) → unsigned_abs z ≤ 16384 → n ≤ 8192 → w ≤ 1024 → (z +ℤ pos n -ℤ pos 1 +ℤ pos w) ≤ℤ pos 2147483647
+        by : (z : ℤ) (n w : ℕ) → unsigned_abs z ≤ 65536 → n ≤ 8192 → w ≤ 1024 → (z +ℤ pos n -ℤ pos 1 +ℤ pos w) ≤ℤ pos 2147483647
         by z n w h k q = omega (arith, ints, h, k, q)
 
     -- so what is fetched holds the calls

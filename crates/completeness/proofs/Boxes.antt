@@ -47,9 +47,9 @@ pub record IsCapped (scope : List Binding) (x : Span1) : Type 0 where
   pub light : most + top * suc factor ≤ 32768
 
 abbrev pub IsNumbers : Span1 → Type 0
-IsNumbers x = (low : ℤ) × (last : ℤ) × (x ≡ numbers low last) × (unsigned_abs low ≤ 32768) × (unsigned_abs last ≤ 32768) × (low ≤ℤ last)
+IsNumbers x = (low : ℤ) × (last : ℤ) × (x ≡ numbers low last) × (unsigned_abs low ≤ 73728) × (unsigned_abs last ≤ 73728) × (low ≤ℤ last)
 
--- there are numbers of a loop, all within 2^15, with a further upper form or without; or nothing is known of the symbol
+-- there are numbers of a loop, all within 73,728, with a further upper form or without; or nothing is known of the symbol
 abbrev pub IsBox : List Binding → Binding → Type 0
 IsBox scope (Loop x) = (x ≡ anything) ⊎ (IsNumbers x ⊎ IsCapped scope x)
 IsBox scope (LetMin fs) = ⊥
@@ -152,9 +152,33 @@ abbrev pub far_of : List Form → ℕ
 far_of [] = 0
 far_of (f ∷ fs) = unsigned_abs f.constant
 
+abbrev pub greater : ℕ → ℕ → ℕ
+greater m n = if nat_le m n then n else m
+
+left_most : (m n : ℕ) → m ≤ greater m n
+left_most m n = of (nat_le m n) refl
+  where
+    of : (v : Bool) → nat_le m n ≡ v → m ≤ (if v then n else m)
+    of true e = grind (arith, nat_tests, e)
+    of false e = omega arith
+
+right_most : (m n : ℕ) → n ≤ greater m n
+right_most m n = of (nat_le m n) refl
+  where
+    of : (v : Bool) → nat_le m n ≡ v → n ≤ (if v then n else m)
+    of true e = omega arith
+    of false e = grind (arith, nat_tests, e)
+
+both_under : (m n k : ℕ) → m ≤ k → n ≤ k → greater m n ≤ k
+both_under m n k h g = of (nat_le m n)
+  where
+    of : (v : Bool) → (if v then n else m) ≤ k
+    of true = g
+    of false = h
+
 abbrev pub weight_of : Option Binding → ℕ
 weight_of None = 0
-weight_of (Some (Loop x)) = elim x.upper [ [] ↦ 0 | f ∷ fs ↦ elim fs [ [] ↦ far_of x.lower + unsigned_abs f.constant | g ∷ gs ↦ 32768 ] ]
+weight_of (Some (Loop x)) = elim x.upper [ [] ↦ 0 | f ∷ fs ↦ elim fs [ [] ↦ greater (far_of x.lower) (unsigned_abs f.constant) | g ∷ gs ↦ 32768 ] ]
 weight_of (Some (LetMin fs)) = 0
 weight_of (Some (LetMax fs)) = 0
 
@@ -162,14 +186,14 @@ spread : (w p q s : ℕ) → p ≤ q + s → w * p ≤ w * q + w * s
 spread w p q s h = (let most = mul-le-mul_left w h in let parts = mul-add w q s in omega (arith, most, parts))
 
 -- a product of a factor and a number of a loop
-pub product_near : (c e : ℤ) → unsigned_abs e ≤ 32768 → unsigned_abs (c *ℤ e) ≤ 32768 * unsigned_abs c
+pub product_near : (c e : ℤ) → unsigned_abs e ≤ 73728 → unsigned_abs (c *ℤ e) ≤ 73728 * unsigned_abs c
 product_near c e near = (let is = unsigned_abs-mul c e in by (unsigned_abs c) (unsigned_abs e) near is)
   where
-    times : (m n : ℕ) → n ≤ 32768 → m * n ≤ 32768 * m
+    times : (m n : ℕ) → n ≤ 73728 → m * n ≤ 73728 * m
     times zero n h = omega arith
     times (suc m) n h = (let rest = times m n h in omega (arith, h, rest))
 
-    by : (m n : ℕ) → n ≤ 32768 → unsigned_abs (c *ℤ e) ≡ m * n → unsigned_abs (c *ℤ e) ≤ 32768 * m
+    by : (m n : ℕ) → n ≤ 73728 → unsigned_abs (c *ℤ e) ≡ m * n → unsigned_abs (c *ℤ e) ≤ 73728 * m
     by m n h is = (let most = times m n h in omega (arith, is, most))
 
 module _ (scope : List Binding) where
@@ -244,10 +268,11 @@ module _ (scope : List Binding) where
       let parts = mul-add (unsigned_abs k) (weight_at u.symbol * unsigned_abs u.factor) (weight us) in
       omega (arith, rest, one, product, parts)
 
-  few_weight : (b : Binding) → IsBox scope b → weight_of (Some b) ≤ 65536
-  few_weight (Loop x) (inl is) = subst (λ (y : Span1). weight_of (Some (Loop y)) ≤ 65536) (sym is) (omega arith)
-  few_weight (Loop x) (inr (inl k)) = (let low = k.3 in let last = k.4 in subst (λ (y : Span1). weight_of (Some (Loop y)) ≤ 65536) (sym k.2) (omega (arith, low, last)))
-  few_weight (Loop x) (inr (inr k)) = subst (λ (y : Span1). weight_of (Some (Loop y)) ≤ 65536) (sym k.is) (omega arith)
+  few_weight : (b : Binding) → IsBox scope b → weight_of (Some b) ≤ 73728
+  few_weight (Loop x) (inl is) = subst (λ (y : Span1). weight_of (Some (Loop y)) ≤ 73728) (sym is) (omega arith)
+  few_weight (Loop x) (inr (inl k)) =
+      subst (λ (y : Span1). weight_of (Some (Loop y)) ≤ 73728) (sym k.2) (both_under (unsigned_abs k.0) (unsigned_abs k.1) 73728 k.3 k.4)
+  few_weight (Loop x) (inr (inr k)) = subst (λ (y : Span1). weight_of (Some (Loop y)) ≤ 73728) (sym k.is) (omega arith)
   few_weight (LetMin fs) box = absurd box
   few_weight (LetMax fs) box = absurd box
 
@@ -258,13 +283,15 @@ module _ (scope : List Binding) where
   candidates_light (Loop x) (inl is) (negsuc n) =
       subst (λ (y : Span1). AllByRecursion (λ f. unsigned_abs f.constant + weight f.terms ≤ weight_of (Some (Loop y))) y.lower) (sym is) tt
   candidates_light (Loop x) (inr (inl k)) (pos n) =
-      subst (λ (y : Span1). AllByRecursion (λ f. unsigned_abs f.constant + weight f.terms ≤ weight_of (Some (Loop y))) y.upper) (sym k.2) (omega arith, tt)
+      subst (λ (y : Span1). AllByRecursion (λ f. unsigned_abs f.constant + weight f.terms ≤ weight_of (Some (Loop y))) y.upper) (sym k.2)
+      (let most = right_most (unsigned_abs k.0) (unsigned_abs k.1) in omega (arith, most), tt)
   candidates_light (Loop x) (inr (inl k)) (negsuc n) =
-      subst (λ (y : Span1). AllByRecursion (λ f. unsigned_abs f.constant + weight f.terms ≤ weight_of (Some (Loop y))) y.lower) (sym k.2) (omega arith, tt)
+      subst (λ (y : Span1). AllByRecursion (λ f. unsigned_abs f.constant + weight f.terms ≤ weight_of (Some (Loop y))) y.lower) (sym k.2)
+      (let most = left_most (unsigned_abs k.0) (unsigned_abs k.1) in omega (arith, most), tt)
   candidates_light (Loop x) (inr (inr k)) (pos n) =
       let few = k.few in
       let light = k.light in
-      let none : 0 + k.top ≡ k.top = omega arith in
+      let none : greater 0 k.top ≡ k.top = (let first : nat_le 0 k.top ≡ true = grind (arith, nat_tests) in λ i. if first i then k.top else 0) in
       let top_is : weight_at k.symbol ≡ k.top = ap weight_of k.outer ∙ none in
       let limit : k.most + (weight_at k.symbol * suc k.factor + 0) ≤ 32768 = subst (λ (w : ℕ). k.most + (w * suc k.factor + 0) ≤ 32768) (sym top_is) (omega (arith, light)) in
       subst (λ (y : Span1). AllByRecursion (λ f. unsigned_abs f.constant + weight f.terms ≤ weight_of (Some (Loop y))) y.upper) (sym k.is) (omega (arith, few), (limit, tt))
@@ -398,15 +425,15 @@ module _ (scope : List Binding) (inner : List ℕ) (boxes : AreBoxes scope) wher
       of false q stays steps = stays q
       of true q stays steps = (let s = step n form bs u q has in step_far n form u s (unsigned_abs u.constant) (steps s.next s.found s.comes s.has))
 
-  -- a form within the limits goes no farther than 2^39 from its number
-  all_few : (n : ℕ) → weight_at scope n ≤ 65536
+  -- a form within the limits goes no farther than 2^39 + 2^38 from 0
+  all_few : (n : ℕ) → weight_at scope n ≤ 73728
   all_few n = of (slice_get scope n) refl
     where
-      of : (o : Option Binding) → slice_get scope n ≡ o → weight_of o ≤ 65536
+      of : (o : Option Binding) → slice_get scope n ≡ o → weight_of o ≤ 73728
       of None e = omega arith
       of (Some b) e = few_weight scope b (boxes n b e)
 
-  weight_few : (ts : List Multiple) → AreWithin (2 ^ 20) ts → weight scope ts ≤ 68719476736 * length ts
+  weight_few : (ts : List Multiple) → AreWithin (2 ^ 20) ts → weight scope ts ≤ 77309411328 * length ts
   weight_few [] h = omega arith
   weight_few (t ∷ ts) h =
       let here : unsigned_abs t.factor ≤ 1048576 = h.0 in
@@ -415,7 +442,7 @@ module _ (scope : List Binding) (inner : List ℕ) (boxes : AreBoxes scope) wher
       omega (arith, here, most, rest)
 
   near_form : (n : ℕ) (form : Form) (bs : List Form) (u : Form) → bounds_below scope inner n form ≡ Some bs → Has u bs → is_within_limits form ≡ true → unsigned_abs u.constant ≤ 2 ^ 31 →
-      unsigned_abs form.constant ≤ 2 ^ 39 + 2 ^ 31
+      unsigned_abs form.constant ≤ 2 ^ 39 + 2 ^ 38
   near_form n form bs u h has limited near =
       let f = far n form bs u h has in
       let sized = weight_few form.terms (within_limits-terms form limited) in
@@ -436,7 +463,7 @@ module _ (scope : List Binding) (inner : List ℕ) (boxes : AreBoxes scope) wher
         around : (p q r : ℤ) → (p +ℤ q) +ℤ r ≡ (p +ℤ r) +ℤ q
         around p q r = omega (arith, ints)
 
-    raised_within : (form : Form) → is_within_limits form ≡ true → unsigned_abs form.constant ≤ 2 ^ 39 + 2 ^ 31 → is_within_limits (raised form z) ≡ true
+    raised_within : (form : Form) → is_within_limits form ≡ true → unsigned_abs form.constant ≤ 2 ^ 39 + 2 ^ 38 → is_within_limits (raised form z) ≡ true
     raised_within form limited near =
         let far_enough : unsigned_abs (form.constant +ℤ z) ≤ 2 ^ 40 = omega (arith, ints, near, z_near) in
         let last = le-leb (unsigned_abs (form.constant +ℤ z)) (2 ^ 40) far_enough in

@@ -112,7 +112,7 @@ abbrev pub firsts : List Binding → ℕ → ℤ
 firsts scope n = first_of (slice_get scope n)
 
 abbrev pub IsNear : ℤ → Type 0
-IsNear z = unsigned_abs z ≤ 32768
+IsNear z = unsigned_abs z ≤ 73728
 
 module _ (scope : List Binding) where
   first_near : (b : Binding) → IsBox scope b → IsNear (first_of (Some b))
@@ -187,7 +187,7 @@ module _ (scope : List Binding) (boxes : AreBoxes scope) where
 
 -- a form is a symbol and a number
 abbrev pub Fits : ℕ → Form → Type 0
-Fits n f = (z : ℤ) × (s : ℕ) × (f ≡ counted_from z s) × (unsigned_abs z ≤ 32768) × (s < n)
+Fits n f = (z : ℤ) × (s : ℕ) × (f ≡ counted_from z s) × (unsigned_abs z ≤ 73728) × (s < n)
 
 abbrev pub FitsIf : ℕ → Option Form → Type 0
 FitsIf n None = Unit {0}
@@ -197,7 +197,7 @@ abbrev pub number_at : (ℕ → ℤ) → Option Form → ℤ
 number_at v None = pos 0
 number_at v (Some f) = form_value f v
 
-pub index_near : (z : ℤ) → unsigned_abs z ≤ 65536 → IsIndex z
+pub index_near : (z : ℤ) → unsigned_abs z ≤ 147456 → IsIndex z
 index_near z h = record { from = omega (arith, ints, h); to = omega (arith, ints, h) }
 
 pub fits_index : (n : ℕ) (v : ℕ → ℤ) → ((s : ℕ) → IsNear (v s)) → (o : Option Form) → FitsIf n o → IsIndex (number_at v o)
@@ -205,9 +205,9 @@ fits_index n v near None h = index_near (pos 0) (omega arith)
 fits_index n v near (Some f) h =
     let z = h.0 in
     let y : ℤ = v h.1 in
-    let symbol : unsigned_abs y ≤ 32768 = near h.1 in
+    let symbol : unsigned_abs y ≤ 73728 = near h.1 in
     let constant = h.3 in
-    let far : unsigned_abs (z +ℤ (pos 1 *ℤ y +ℤ pos 0)) ≤ 65536 = omega (arith, ints, symbol, constant) in
+    let far : unsigned_abs (z +ℤ (pos 1 *ℤ y +ℤ pos 0)) ≤ 147456 = omega (arith, ints, symbol, constant) in
     subst (λ (g : Form). IsIndex (form_value g v)) (sym h.2) (index_near (form_value (counted_from z h.1) v) far)
 
 behind : (ss : List Span1) (zs : List ℤ) (s : Span1) (z : ℤ) (v : ℕ → ℤ) → IsInRegion ss v zs → IsInSpan s v z → IsInRegion (ss ++ s ∷ []) v (zs ++ z ∷ [])

@@ -1,4 +1,4 @@
--- Root functions have few numbers in each dimension, and turns over numbers that begin near 0 are over numbers within 2^15.
+-- Root functions have few numbers in each dimension, and turns over numbers that begin near 0 are over numbers within 73,728.
 use Rattle.std.proofs.Common.{◌≡◌, ℕ, zero, suc, ◌+◌, ◌-◌, ◌<◌, ◌≤◌, Bool, true, false, List, [], ◌∷◌, ◌++◌, length, Option, Some, None, refl, sym, ap, ◌∙◌, subst, inl, inr, arith, length-append}
 use Rattle.std.specs.Prelude.{pos, ◌+ℤ◌, ◌-ℤ◌, ◌≤ℤ◌, nat_le, replicate, if◌then◌else◌, slice_get}
 use Rattle.std.specs.List.{AllByRecursion}
@@ -79,7 +79,7 @@ regions_few a (s ∷ later) (suc n) l all laid = regions_few a later n l (and_pa
 -- ---- scopes of loops
 
 abbrev pub IsBoxTurn : Turning → Type 0
-IsBoxTurn t = (unsigned_abs t.low ≤ 32768) × (unsigned_abs t.last ≤ 32768) × (t.low ≤ℤ t.last)
+IsBoxTurn t = (unsigned_abs t.low ≤ 73728) × (unsigned_abs t.last ≤ 73728) × (t.low ≤ℤ t.last)
 
 replicated : (P : Binding → Type 0) (n : ℕ) → P (LoopBinding anything) → AllByRecursion P (replicate n (LoopBinding anything))
 replicated P zero h = tt
@@ -151,13 +151,13 @@ module _ (limits : ℕ → List Form) where
 -- ---- the loops of a function
 
 abbrev pub IsNearNumbers : Numbers → Type 0
-IsNearNumbers r = (unsigned_abs r.low ≤ 16384) × (0 < r.count) × (r.count ≤ 8192)
+IsNearNumbers r = (unsigned_abs r.low ≤ 65536) × (0 < r.count) × (r.count ≤ 8192)
 
 pub turn_box : (rs : List Numbers) (o : Loop) → IsNearNumbers (numbers_named rs o.name) → IsBoxTurn (loop_turning rs o)
 turn_box rs o h = of (numbers_named rs o.name) h.0 h.1 h.2
   where
-    of : (r : Numbers) → unsigned_abs r.low ≤ 16384 → 0 < r.count → r.count ≤ 8192 →
-        (unsigned_abs r.low ≤ 32768) × (unsigned_abs (r.low +ℤ pos r.count -ℤ pos 1) ≤ 32768) × (r.low ≤ℤ (r.low +ℤ pos r.count -ℤ pos 1))
+    of : (r : Numbers) → unsigned_abs r.low ≤ 65536 → 0 < r.count → r.count ≤ 8192 →
+        (unsigned_abs r.low ≤ 73728) × (unsigned_abs (r.low +ℤ pos r.count -ℤ pos 1) ≤ 73728) × (r.low ≤ℤ (r.low +ℤ pos r.count -ℤ pos 1))
     of r near some few = (omega (arith, near), omega (arith, ints, near, some, few), omega (arith, ints, some))
 
 count_box : (scope : List Binding) (n : ℕ) → 0 < n → n ≤ 8192 → IsBox scope (grid_symbol n)

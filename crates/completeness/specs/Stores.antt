@@ -46,6 +46,6 @@ GroupShown AreSuch a p c n g =
 
 -- ---- where regions begin near 0
 
--- the first numbers of a region are within 2^14
+-- the first numbers of a region are within 2^16
 abbrev pub IsNearRegion : List Extent → Type 0
-IsNearRegion es = AllByRecursion (λ x. unsigned_abs x.low ≤ 16384) es
+IsNearRegion es = AllByRecursion (λ x. unsigned_abs x.low ≤ 65536) es

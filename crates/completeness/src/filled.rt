@@ -13,8 +13,8 @@ pub fn blocked_groups_owe_shown()
     ensures { BlockedGroupsOweShown }
 {}
 
-/// So it is, whatever such a function fetches, where the region that is needed of it begins within 2^14 of 0 in each dimension: all loops, those over blocks
-/// and within them as well, then run over numbers within 2^15, and the checker's search finds of each index no more than the ends by which `lower` told the
+/// So it is, whatever such a function fetches, where the region that is needed of it begins within 2^16 of 0 in each dimension: all loops, those over blocks
+/// and within them as well, then run over numbers within 73,728, and the checker's search finds of each index no more than the ends by which `lower` told the
 /// regions of the functions it calls.
 pub fn near_blocked_groups_owe_shown()
     ensures { NearBlockedGroupsOweShown }

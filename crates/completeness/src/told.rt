@@ -2,7 +2,7 @@
 
 ghost use Rattle.completeness.specs.Told.{FaultsAreLimits, LimitsAloneAreTold};
 
-/// Of a schedule under which each stored function is a root function that is computed at no loop, with a region that begins within 2^14 of 0; whose loops are
+/// Of a schedule under which each stored function is a root function that is computed at no loop, with a region that begins within 2^16 of 0; whose loops are
 /// split once at most, by blocks that fill the loop, that run past its end with `roundup`, or that `guard` keeps within it where the inner loop stands inside
 /// of the outer one or a piece tells the block; and whose updates set each variable at its own place, whatever they sum up; whichever loops are parallel (but
 /// inner ones of splits), vectorised, unrolled or reordered: whatever the checker tells of the plan that `lower` makes is a limit (K14). Its head is the
