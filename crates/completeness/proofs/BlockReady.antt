@@ -81,13 +81,12 @@ use Rattle.completeness.proofs.GridCounts.{IsShort}
 use Rattle.completeness.proofs.GridScope.{at_place, scope_long}
 use Rattle.completeness.proofs.PlainNests.{InSteps}
 use Rattle.completeness.proofs.PlainTurns.{hits}
-use Rattle.completeness.proofs.PointsShown.{in_steps}
 use Rattle.completeness.proofs.PureScopes.{map_both, grid_is, count_from, span_stays}
 use Rattle.completeness.proofs.Searched.{one_of, up_limited}
 use Rattle.completeness.proofs.SelfBounds.{form_self}
 use Rattle.completeness.proofs.StoreBinders.{at_steps}
 use Rattle.completeness.proofs.StoreBounds.{symbol_inside, counted_inside}
-use Rattle.completeness.proofs.UncutScopes.{turn_limited, scope_at}
+use Rattle.completeness.proofs.UncutScopes.{turn_limited, scope_at, in_steps}
 use Rattle.completeness.proofs.RangedBoxes.{range_box}
 use Rattle.completeness.proofs.BlockBounds.{two_above, block_above, block_below}
 use Rattle.completeness.proofs.PlainBounds.{loop_above, loop_below}

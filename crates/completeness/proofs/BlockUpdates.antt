@@ -117,9 +117,8 @@ use Rattle.completeness.proofs.PlainTests.{limited_loops}
 use Rattle.completeness.proofs.PlainTurns.{hits_append, found_at, found_some, found_there}
 use Rattle.completeness.proofs.UpdateTurns.{known_update, ranges_turned, range_name, ranges_hits}
 use Rattle.completeness.proofs.UpdateTests.{ReadsIf, none_if, some_if, along_back, along_ranges, near_ranges, whole_all, loops_joined, filter_first, none_index}
-use Rattle.completeness.proofs.SplitUpdates.{loops_are}
+use Rattle.completeness.proofs.UpdateTests.{parted_coordinates, coordinates_long, take_long, loops_are}
 use Rattle.completeness.proofs.SplitTests.{scoped}
-use Rattle.completeness.proofs.UncutNests.{parted_coordinates, coordinates_long, take_long}
 use Rattle.completeness.proofs.BlockNames.{IsNestTurn, IsForeign, HasPlain, owner_named, plain_grid, plain_loop, plain_block, plain_split, owner_there, owner_foreign, turn_of, owner_half, owner_self}
 use Rattle.completeness.proofs.BlockFacts.{made_new, among_end, names_in}
 use Rattle.completeness.proofs.BlockKept.{is_kept, pure_are, reducing_are, AreGone, kept_once as met_once_kept, kept_covers, kept_outer, left_out, AreBare, AreOutside, out_beyond, out_free}

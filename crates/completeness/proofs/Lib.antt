@@ -87,16 +87,12 @@ pub mod UpdateTests
 pub mod LoadedTerms
 pub mod RegionBounds
 pub mod StoreBounds
-pub mod PureInputs
 pub mod LoopMoves
 pub mod GridTurns
 pub mod SplitTests
 pub mod SplitPlaces
-pub mod SplitUpdates
-pub mod UncutNests
 pub mod TakenSites
 pub mod UnderWay
-pub mod PointsShown
 pub mod Boxes
 pub mod FreedEnds
 pub mod CallEnds

@@ -93,7 +93,7 @@ use Rattle.completeness.proofs.PureScopes.{map_both}
 use Rattle.completeness.proofs.UpdateTurns.{known_update}
 use Rattle.completeness.proofs.RegionBounds.{calls_bounded, input_bounded}
 use Rattle.completeness.proofs.LoadedTerms.{Same, IsTypedCall, calls_typed, each_of, each_inner, each_both}
-use Rattle.completeness.proofs.StoreBounds.{AreAt, targets_are, input_within, spans_same, intervals_long, Shows, CallShows, term_shows, IsAt, taken_at, spans_are}
+use Rattle.completeness.proofs.StoreBounds.{first_none, others_none, AreAt, targets_are, input_within, spans_same, intervals_long, Shows, CallShows, term_shows, IsAt, taken_at, spans_are}
 use Rattle.completeness.proofs.TakenSites.{IsFound, add_all, each_found, region_within, places_seat, all_held}
 use Rattle.completeness.proofs.Bodies.{fetch_at, other_at, entry_at}
 use Rattle.completeness.proofs.RisingForms.{cut_low}
@@ -106,7 +106,7 @@ use Rattle.completeness.proofs.ClaimedNests.{named_over}
 use Rattle.completeness.proofs.UnderWay.{HasLines, body_has_lines, NamedIn, AllNamed, each_named}
 use Rattle.completeness.proofs.StoreLists.{taken_got, seated_by, within_by, interval_nth, variable_nth}
 use Rattle.completeness.specs.Placed.{ArePlaced}
-use Rattle.completeness.proofs.PureInputs.{first_none, others_none, no_left_calls}
+use Rattle.completeness.proofs.HeldWhole.{no_left_calls}
 
 -- ---- forms
 

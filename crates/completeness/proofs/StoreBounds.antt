@@ -82,11 +82,11 @@ taken_at zero (c ∷ cs) h = tt
 taken_at (suc n) [] h = tt
 taken_at (suc n) (c ∷ cs) h = (h.0, taken_at n cs h.1)
 
-first_none : (lefts : List (Option Term)) → AllByRecursion (λ o. o ≡ None) lefts → first_left lefts ≡ None
+pub first_none : (lefts : List (Option Term)) → AllByRecursion (λ o. o ≡ None) lefts → first_left lefts ≡ None
 first_none [] h = refl
 first_none (o ∷ lefts) h = h.0
 
-others_none : (lefts : List (Option Term)) → AllByRecursion (λ o. o ≡ None) lefts → AllByRecursion (λ o. o ≡ None) (other_lefts lefts)
+pub others_none : (lefts : List (Option Term)) → AllByRecursion (λ o. o ≡ None) lefts → AllByRecursion (λ o. o ≡ None) (other_lefts lefts)
 others_none [] h = tt
 others_none (o ∷ lefts) h = h.1
 

@@ -16,6 +16,8 @@ use Rattle.completeness.proofs.PlainNests.{InSteps}
 use Rattle.completeness.proofs.BlockTurns.{limited_for}
 use Rattle.completeness.proofs.PureScopes.{loop_scope}
 use Rattle.completeness.proofs.StoreBinders.{at_steps}
+use Rattle.std.proofs.Common.{◌≡◌, ℕ, zero, suc, ◌+◌, List, [], ◌∷◌}
+use Rattle.std.proofs.Common.{Some, sym, subst, inl, inr, arith}
 
 -- the forms of each loop's span are within the limits
 pub turn_limited : (limits : ℕ → List Form) (n : ℕ) (ts : List Turning) → AllByRecursion StepIs (limited_for limits n ts) → (j : ℕ) (t : Turning) → slice_get ts j ≡ Some t →
@@ -39,3 +41,14 @@ scope_at limits n (t ∷ ts) bs scope is count kept few =
     let x : Span1 = span t.low t.last (limits n) in
     let next = loop_scope scope n n x bs refl (few n x (inl (refl, refl))) kept.0.0 kept.0.1 is count in
     scope_at limits (n + 1) ts (Ranged n x ∷ bs) (bind scope n (LoopBinding x)) next.0 next.1 kept.1 (λ i y there. few i y (inr there))
+
+-- each loop of a nest is one of its steps
+pub in_steps : (limits : ℕ → List Form) (n : ℕ) (ts : List Turning) (i : ℕ) (t : Turning) → slice_get ts i ≡ Some t → InSteps (n + i) (span t.low t.last (limits (n + i))) (limited_for limits n ts)
+in_steps limits n [] i t at = absurd (cc at)
+in_steps limits n (u ∷ ts) zero t at =
+    let is : u ≡ t = cc at in
+    let none : n + 0 ≡ n = omega arith in
+    inl (none, (λ j. span (sym is j).low (sym is j).last (limits (none j))))
+in_steps limits n (u ∷ ts) (suc i) t at =
+    let next : n + suc i ≡ (n + 1) + i = omega arith in
+    inr (subst (λ (m : ℕ). InSteps m (span t.low t.last (limits m)) (limited_for limits (n + 1) ts)) (sym next) (in_steps limits (n + 1) ts i t at))

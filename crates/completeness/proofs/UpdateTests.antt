@@ -29,6 +29,18 @@ use Rattle.completeness.proofs.PlainTurns.{one_if, hits, turn_name, found_at}
 use Rattle.completeness.proofs.PlainTests.{limited_loops, here_is}
 use Rattle.completeness.proofs.PureNests.{all_back}
 use Rattle.completeness.proofs.UpdateTurns.{range_name, hits_in, all_mapped}
+use Rattle.std.proofs.Common.{◌≡◌, ℕ, ◌+◌, List, [], ◌∷◌, refl, ap}
+use Rattle.lin.specs.Forms.{Form}
+use Rattle.soundness.specs.Nests.Nest.{Loop}
+use Rattle.sched.specs.Skeleton.{span}
+use Rattle.tails.specs.Updates.{loops_in}
+use Rattle.completeness.proofs.PlainTests.{limited_loops}
+use Rattle.completeness.proofs.SplitTests.{limited_turns}
+use Rattle.std.proofs.Common.{◌≡◌, ℕ, zero, suc, ◌≤◌, List, [], ◌∷◌, ◌++◌, length, take, drop}
+use Rattle.std.proofs.Common.{Option, refl, ap, arith}
+use Rattle.lin.specs.Forms.{Form}
+use Rattle.plan.specs.Plan.{Coordinate}
+use Rattle.lower.specs.Bodies.{other_lefts, AreCoordinates}
 
 -- ---- coordinates
 
@@ -195,3 +207,30 @@ near_ranges ds h = all_back IsNearTurn (map range_turning ds) (all_mapped range_
         let rises = is.rises in
         let to = is.to in
         record { near = omega (arith, ints, from, rises, to); last_near = omega (arith, ints, from, rises, to) }
+
+-- ---- the coordinates of a store, behind those of its variables
+
+pub take_long : {A : Type 0} (m : ℕ) (xs : List A) → m ≤ length xs → length (take m xs) ≡ m
+take_long zero xs h = refl
+take_long (suc m) [] h = absurd (omega (arith, h))
+take_long (suc m) (x ∷ xs) h = ap suc (take_long m xs (omega (arith, h)))
+
+pub coordinates_long : (ms : Loads) (names : List (List ℕ)) (os : List (Option Form)) (lefts : List (Option Term)) (cs : List Coordinate) → AreCoordinates ms names os lefts cs → length cs ≡ length os
+coordinates_long ms names [] lefts [] h = refl
+coordinates_long ms names [] lefts (c ∷ cs) h = absurd h
+coordinates_long ms [] (o ∷ os) lefts cs h = absurd h
+coordinates_long ms (x ∷ names) (o ∷ os) lefts [] h = absurd h
+coordinates_long ms (x ∷ names) (o ∷ os) lefts (c ∷ cs) h = ap suc (coordinates_long ms names os (other_lefts lefts) cs h.2)
+
+pub parted_coordinates : (ms : Loads) (vs tail : List (Option Form)) (names : List (List ℕ)) (lefts : List (Option Term)) (cs : List Coordinate) → AreCoordinates ms names (vs ++ tail) lefts cs →
+    (ns : List (List ℕ)) × (ls : List (Option Term)) × AreCoordinates ms ns tail ls (drop (length vs) cs)
+parted_coordinates ms [] tail names lefts cs h = (names, lefts, h)
+parted_coordinates ms (v ∷ vs) tail [] lefts cs h = absurd h
+parted_coordinates ms (v ∷ vs) tail (x ∷ names) lefts [] h = absurd h
+parted_coordinates ms (v ∷ vs) tail (x ∷ names) lefts (c ∷ cs) h = parted_coordinates ms vs tail names (other_lefts lefts) cs h.2
+
+-- ---- the loops of a nest, as the test of an update's steps finds them
+
+pub loops_are : (lim : ℕ → List Form) (n : ℕ) (ts : List Turning) → loops_in (limited_turns lim n ts) ≡ limited_loops lim n ts
+loops_are lim n [] = refl
+loops_are lim n (t ∷ ts) = ap (λ (ls : List Loop). record { symbol = n; span = span t.low t.last (lim n) } ∷ ls) (loops_are lim (n + 1) ts)
