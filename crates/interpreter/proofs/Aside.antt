@@ -7,11 +7,9 @@ use Rattle.tree.specs.Meaning.{typed}
 use Rattle.plan.specs.Semantics.Memory.{Memory}
 use Rattle.plan.specs.Semantics.Run.{look}
 use Rattle.interpreter.specs.Buffers.Blocks.{memory_of}
-use Rattle.interpreter.specs.Evaluation.Lanes.{number_at}
 use Rattle.interpreter.specs.Pieces.{around, no_cells}
 use Rattle.interpreter.specs.RunReadings.{source_at, IsAside, Means}
 use Rattle.interpreter.specs.Runs.{IsBut}
-use Rattle.interpreter.specs.declared.evaluation.lanes.Number.{Number}
 use Rattle.interpreter.specs.declared.run_reading.RunReading.{RunReading}
 use Rattle.interpreter.specs.declared.run_reading.Source.{Source}
 use Rattle.interpreter.specs.declared.run_reading.Source.TheVariants.{Input, Buffer}
@@ -23,11 +21,11 @@ aside_same r m n Input p h but = refl
 aside_same r m n (Buffer c) p h but = read_but r.buffer c m n p but h
 
 -- what a source has in one memory, a name that means it finds in each that differs in that buffer alone
-pub finds_aside : (r : RunReading) (name : List ℕ) (s t : Source) (n : ℕ) (points : ℕ → List ℤ) (zs : List Number) (o : Option Ty) → s ≡ t → Means r name s →
-    IfSome o (λ ty. (k : ℕ) → k < n → source_at r (memory_of r.memory.now) t (points k) ≡ Some (typed ty (number_at zs k))) →
-    IfSome o (λ ty. (m : Memory Value) → IsBut r.buffer (memory_of r.memory.now) m → (k : ℕ) → k < n → look (around r.piece.now no_cells) m name (points k) ≡ Some (typed ty (number_at zs k)))
-finds_aside r name s t n points zs None is means h = h
-finds_aside r name s t n points zs (Some ty) is means h = λ m but k lt.
+pub finds_aside : (r : RunReading) (name : List ℕ) (s t : Source) (n : ℕ) (points : ℕ → List ℤ) (number : Ty → ℕ → ℤ) (o : Option Ty) → s ≡ t → Means r name s →
+    IfSome o (λ ty. (k : ℕ) → k < n → source_at r (memory_of r.memory.now) t (points k) ≡ Some (typed ty (number ty k))) →
+    IfSome o (λ ty. (m : Memory Value) → IsBut r.buffer (memory_of r.memory.now) m → (k : ℕ) → k < n → look (around r.piece.now no_cells) m name (points k) ≡ Some (typed ty (number ty k)))
+finds_aside r name s t n points number None is means h = h
+finds_aside r name s t n points number (Some ty) is means h = λ m but k lt.
     means.look m (points k)
     ∙ aside_same r (memory_of r.memory.now) m s (points k) means.aside but
     ∙ ap (λ (x : Source). source_at r (memory_of r.memory.now) x (points k)) is

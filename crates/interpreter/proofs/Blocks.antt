@@ -1,5 +1,5 @@
 -- What buffers show after one of them was made or changed.
-use Rattle.std.proofs.Common.{◌≡◌, ℕ, zero, suc, ◌<◌, ◌≤◌, refl, sym, subst, ap, ◌∙◌, inl, inr, arith, Bool, true, false, cond, ◌&&◌, List, [], ◌∷◌, ◌++◌, Option, Some, None, ℤ, length, get_or, set, replicate, map, take, ◌+◌, position, option_map, find}
+use Rattle.std.proofs.Common.{◌≡◌, ℕ, zero, suc, ◌<◌, ◌≤◌, refl, sym, subst, ap, ◌∙◌, inl, inr, arith, Bool, true, false, cond, ◌&&◌, List, [], ◌∷◌, ◌++◌, Option, Some, None, ℤ, length, get_or, set, replicate, take, ◌+◌, position, option_map, find}
 use Rattle.std.specs.Prelude.{All, IsFalse, ◌==◌, ◌||◌, slice_get, nat_lt}
 use Rattle.std.specs.List.{position_or_len, list_any, AllByRecursion}
 use Rattle.std.specs.Bool.{OnTrue}

@@ -6,10 +6,10 @@ use Rattle.std.proofs.lemmas.Bool.{cases_lt}
 use Rattle.std.proofs.lemmas.Int.{ints, clamps}
 use Rattle.std.proofs.lemmas.List.{get_or_append_left, get_or-append-add, length-append}
 use Rattle.numeric.specs.declared.ty.Ty.{Ty}
+use Rattle.numeric.specs.Wrap.{wrap}
 use Rattle.tree.specs.declared.value.Value.{Value}
 use Rattle.tree.specs.Meaning.{typed}
-use Rattle.interpreter.specs.declared.evaluation.lanes.Number.{Number}
-use Rattle.interpreter.specs.Evaluation.Lanes.{number_at}
+use Rattle.interpreter.specs.Evaluation.Words.{bits_at, word_at}
 
 pub low_end : (first begun low least high : ℤ) (k : ℕ) → begun ≡ first → least ≡ low → (begun +ℤ pos k) ≤ℤ least → int_max (int_min (first +ℤ pos k) high) low ≡ low
 low_end first begun low least high k is same below = omega (arith, ints, clamps, is, same, below)
@@ -22,31 +22,31 @@ pub between_ends : (first begun low least high greatest start : ℤ) (n k : ℕ)
     start ≡ begun +ℤ pos n → int_max (int_min (first +ℤ pos (n + k)) high) low ≡ start +ℤ pos k
 between_ends first begun low least high greatest start n k is same equal from to behind = omega (arith, ints, clamps, is, same, equal, from, to, behind)
 
-front_number : (xs ys : List Number) (k : ℕ) → k < length xs → number_at (xs ++ ys) k ≡ number_at xs k
-front_number xs ys k lt = ap (λ (n : Number). n.value) (get_or_append_left xs ys (record { value = pos 0 }) k lt)
+front_word : (xs ys : List ℕ) (k : ℕ) → k < length xs → bits_at (xs ++ ys) k ≡ bits_at xs k
+front_word xs ys k lt = get_or_append_left xs ys 0 k lt
 
-later_number : (xs ys : List Number) (k : ℕ) → number_at (xs ++ ys) (length xs + k) ≡ number_at ys k
-later_number xs ys k = ap (λ (n : Number). n.value) (get_or-append-add xs ys k (record { value = pos 0 }))
+later_word : (xs ys : List ℕ) (k : ℕ) → bits_at (xs ++ ys) (length xs + k) ≡ bits_at ys k
+later_word xs ys k = get_or-append-add xs ys k 0
 
 -- what is found at a low end, along a row and at a high end is found at all turns
-pub along_parts : (find : ℤ → Option Value) (t : Ty) (at : ℕ → ℤ) (before after : ℕ) (low high start : ℤ) (left middle right : List Number) →
+pub along_parts : (find : ℤ → Option Value) (t : Ty) (at : ℕ → ℤ) (before after : ℕ) (low high start : ℤ) (left middle right : List ℕ) →
     length left ≡ before → length middle ≡ after - before → before ≤ after →
     ((k : ℕ) → k < before → at k ≡ low) →
     ((k : ℕ) → before + k < after → at (before + k) ≡ start +ℤ pos k) →
     ((k : ℕ) → after ≤ k → k < length (left ++ (middle ++ right)) → at k ≡ high) →
-    ((k : ℕ) → k < length left → find low ≡ Some (typed t (number_at left k))) →
-    ((k : ℕ) → k < length middle → find (start +ℤ pos k) ≡ Some (typed t (number_at middle k))) →
-    ((k : ℕ) → k < length right → find high ≡ Some (typed t (number_at right k))) →
-    (k : ℕ) → k < length (left ++ (middle ++ right)) → find (at k) ≡ Some (typed t (number_at (left ++ (middle ++ right)) k))
+    ((k : ℕ) → k < length left → find low ≡ Some (typed t (word_at t left k))) →
+    ((k : ℕ) → k < length middle → find (start +ℤ pos k) ≡ Some (typed t (word_at t middle k))) →
+    ((k : ℕ) → k < length right → find high ≡ Some (typed t (word_at t right k))) →
+    (k : ℕ) → k < length (left ++ (middle ++ right)) → find (at k) ≡ Some (typed t (word_at t (left ++ (middle ++ right)) k))
 along_parts find t at before after low high start left middle right long wide order at_low at_rising at_high found_low found_rising found_high k lt =
-    let whole : List Number = left ++ (middle ++ right) in
-    let value : ℤ → Option Value = λ (z : ℤ). Some (typed t z) in
+    let whole : List ℕ = left ++ (middle ++ right) in
+    let value : ℕ → Option Value = λ (w : ℕ). Some (typed t (wrap t (pos w))) in
     let all : length whole ≡ length left + length (middle ++ right) = length-append left (middle ++ right) in
     let rest : length (middle ++ right) ≡ length middle + length right = length-append middle right in
     elim (cases_lt k before) [
       | inl less ↦
           (let inside : k < length left = omega (arith, long, less) in
-          ap find (at_low k less) ∙ found_low k inside ∙ ap value (sym (front_number left (middle ++ right) k inside)))
+          ap find (at_low k less) ∙ found_low k inside ∙ ap value (sym (front_word left (middle ++ right) k inside)))
       | inr past ↦ elim (cases_lt k after) [
         | inl less ↦
             (let j : ℕ = k - before in
@@ -54,12 +54,12 @@ along_parts find t at before after low high start left middle right long wide or
             let there : k ≡ length left + j = omega (arith, past, long) in
             let inside : j < length middle = omega (arith, past, less, wide) in
             ap (λ (n : ℕ). find (at n)) is ∙ ap find (at_rising j (omega (arith, past, less))) ∙ found_rising j inside
-            ∙ ap value (sym (ap (number_at whole) there ∙ later_number left (middle ++ right) j ∙ front_number middle right j inside)))
+            ∙ ap value (sym (ap (bits_at whole) there ∙ later_word left (middle ++ right) j ∙ front_word middle right j inside)))
         | inr beyond ↦
             (let j : ℕ = k - after in
             let there : k ≡ length left + (length middle + j) = omega (arith, beyond, long, wide, order) in
             let inside : j < length right = omega (arith, beyond, long, wide, order, lt, all, rest) in
             ap find (at_high k beyond lt) ∙ found_high j inside
-            ∙ ap value (sym (ap (number_at whole) there ∙ later_number left (middle ++ right) (length middle + j) ∙ later_number middle right j)))
+            ∙ ap value (sym (ap (bits_at whole) there ∙ later_word left (middle ++ right) (length middle + j) ∙ later_word middle right j)))
       ]
     ]

@@ -1,5 +1,5 @@
 -- An update's turns over what the places of one buffer hold: they are its turns in memory, and those of its loop.
-use Rattle.std.proofs.Common.{◌≡◌, ℕ, zero, suc, ◌+◌, ◌-◌, ◌<◌, ◌≤◌, inl, inr, List, length, drop, get_or, set, position, Option, Some, None, option_map, refl, sym, subst, ap, ◌∙◌, arith, ℤ, pos}
+use Rattle.std.proofs.Common.{◌≡◌, ℕ, zero, suc, ◌+◌, ◌-◌, ◌<◌, ◌≤◌, inl, inr, List, length, drop, get_or, set, Option, Some, None, option_map, refl, sym, subst, ap, ◌∙◌, arith, ℤ, pos}
 use Rattle.std.specs.Prelude.{◌+ℤ◌, flat_map, slice_get, slice_set, IfSome}
 use Rattle.std.proofs.lemmas.Bool.{cases_lt}
 use Rattle.std.proofs.lemmas.List.{get_or-set_same, length-set, set-get_or, set-set}

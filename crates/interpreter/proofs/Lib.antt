@@ -45,3 +45,5 @@ pub mod HeldPlaces
 pub mod RowsHeld
 pub mod Reciprocals
 pub mod SameRegisters
+pub mod EachWord
+pub mod Words

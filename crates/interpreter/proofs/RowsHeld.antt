@@ -3,20 +3,16 @@ use Rattle.std.proofs.Common.{◌≡◌, ℕ, zero, suc, ◌+◌, ◌<◌, ◌�
 use Rattle.std.specs.Prelude.{slice_get}
 use Rattle.std.proofs.lemmas.List.{get_or-set_same, length-set, set-get_or, set-set}
 use Rattle.std.proofs.lemmas.Option.{get_or_from_slice_get, slice_get-get_or, slice_get_within}
-use Rattle.numeric.specs.declared.ty.Ty.{Ty}
 use Rattle.tree.specs.declared.value.Value.{Value}
-use Rattle.tree.specs.Meaning.{typed}
 use Rattle.plan.specs.Semantics.Found.{with}
 use Rattle.plan.specs.Semantics.Memory.{Memory, write}
 use Rattle.interpreter.specs.Buffers.Blocks.{Block, memory_of}
 use Rattle.interpreter.specs.Buffers.Marks.{row_held}
 use Rattle.interpreter.specs.Buffers.Raster.{place_count, LiesAt}
 use Rattle.interpreter.specs.Buffers.Spots.{set_all, HasPlace, IsSpot}
-use Rattle.interpreter.specs.Evaluation.Lanes.{number_at}
 use Rattle.interpreter.specs.HeldTurns.{with_places}
 use Rattle.interpreter.specs.PlaceNumbers.{StandsAt}
 use Rattle.interpreter.specs.declared.buffers.spot.Spot.{Spot}
-use Rattle.interpreter.specs.declared.evaluation.lanes.Number.{Number}
 use Rattle.interpreter.proofs.HeldTurns.{set_is}
 use Rattle.interpreter.proofs.PlaceNumbers.{stands_kept}
 use Rattle.interpreter.proofs.Spots.{place_kept, spot_kept}
@@ -30,15 +26,12 @@ stands_behind blocks b p s k spot inside =
       inside = inside;
     }
 
-module _ (blocks : List Block) (b : ℕ) (points : ℕ → List ℤ) (s : Spot) (block : Block) (t : Ty) (zs : List Number) where
+module _ (blocks : List Block) (b : ℕ) (points : ℕ → List ℤ) (s : Spot) (block : Block) (values : ℕ → Value) where
   abbrev row : ℕ → List (Option Value)
-  row k = row_held t s.place zs block.places k
+  row k = row_held values s.place block.places k
 
   abbrev now : ℕ → List Block
   now k = set blocks s.buffer (with_places block (row k))
-
-  abbrev values : ℕ → Value
-  values k = typed t (number_at zs k)
 
   row_length : (k : ℕ) → length (row k) ≡ length block.places
   row_length zero = refl

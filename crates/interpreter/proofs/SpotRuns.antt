@@ -7,17 +7,17 @@ use Rattle.tree.specs.declared.value.Value.{Value}
 use Rattle.tree.specs.Meaning.{typed}
 use Rattle.tree.specs.Term.{Term}
 use Rattle.numeric.specs.declared.ty.Ty.{Ty}
+use Rattle.numeric.specs.Wrap.{wrap}
 use Rattle.plan.specs.declared.stmt.Coordinate.{Coordinate}
 use Rattle.plan.specs.Symbols.{Symbols, rising}
 use Rattle.plan.specs.Semantics.Actions.{Action}
 use Rattle.plan.specs.Semantics.Found.{with}
 use Rattle.plan.specs.Semantics.Memory.{Memory, write}
 use Rattle.interpreter.specs.Buffers.Spots.{set_all}
-use Rattle.interpreter.specs.Evaluation.Lanes.{number_at}
+use Rattle.interpreter.specs.Evaluation.Words.{word_at}
 use Rattle.interpreter.specs.Pieces.{around, setting}
 use Rattle.interpreter.specs.Runs.{are_forms, numbers_of, store_at, FindsTurns, IsBut}
 use Rattle.interpreter.specs.Steps.{Progress, steps}
-use Rattle.interpreter.specs.declared.evaluation.lanes.Number.{Number}
 use Rattle.interpreter.specs.declared.piece.Piece.{Piece}
 use Rattle.interpreter.proofs.Buts.{but_itself, but_written}
 use Rattle.interpreter.proofs.Ending.{goes_on}
@@ -26,7 +26,7 @@ use Rattle.interpreter.proofs.Storing.{sets}
 use Rattle.interpreter.proofs.StoreRuns.{first_set, set_there, turns_begin, turns_done}
 
 module _ (x : Piece) (cell : List ℕ → List ℤ → Value) (b d n size : ℕ) (cs : List Coordinate) (e : Term) (s : Symbols) (j : ℕ) (begin low : ℤ)
-    (memory : Memory Value) (given : List ℤ) (t : Ty) (zs : List Number) where
+    (memory : Memory Value) (given : List ℤ) (t : Ty) (zs : List ℕ) where
   abbrev actions_at : ℤ → List Action
   actions_at = store_at x b cs e s j begin d
 
@@ -34,7 +34,7 @@ module _ (x : Piece) (cell : List ℕ → List ℤ → Value) (b d n size : ℕ)
   points k = numbers_of (take size cs) s j begin (low +ℤ pos k)
 
   abbrev values : ℕ → Value
-  values k = typed t (number_at zs k)
+  values k = typed t (word_at t zs k)
 
   abbrev now : Memory Value → Progress
   now m = record { memory = m; given = given }
@@ -72,11 +72,10 @@ module _ (x : Piece) (cell : List ℕ → List ℤ → Value) (b d n size : ℕ)
   run_set forms is finds m h = turns_done (around x cell) actions_at low n n (now m) whole (omega arith) (before forms is finds n m (omega arith) h).comes
 
 -- the numbers of the first so many places of a register are those of the register
-pub finds_taken : (x : Piece) (b n : ℕ) (cs : List Coordinate) (e : Term) (s : Symbols) (j : ℕ) (begin low : ℤ) (memory : Memory Value) (t : Ty) (zs : List Number) →
+pub finds_taken : (x : Piece) (b n : ℕ) (cs : List Coordinate) (e : Term) (s : Symbols) (j : ℕ) (begin low : ℤ) (memory : Memory Value) (t : Ty) (zs : List ℕ) →
     FindsTurns x b cs e s j begin low memory n t zs → FindsTurns x b cs e s j begin low memory n t (take n zs)
 finds_taken x b n cs e s j begin low memory t zs finds = λ m but k lt.
-    let same : number_at (take n zs) k ≡ number_at zs k = ap (λ (w : Number). w.value) (get_or-take n zs k (record { value = pos 0 }) lt) in
-    finds m but k lt ∙ ap (λ (y : ℤ). Some (typed t y)) (sym same)
+    finds m but k lt ∙ ap (λ (w : ℕ). Some (typed t (wrap t (pos w)))) (sym (get_or-take n zs k 0 lt))
 
 pub take_few : {A : Type 0} (n : ℕ) (xs : List A) → length (take n xs) ≤ n
 take_few zero xs = omega arith

@@ -14,13 +14,12 @@ use Rattle.plan.specs.Semantics.Actions.{Action}
 use Rattle.plan.specs.Semantics.Found.{with}
 use Rattle.plan.specs.Semantics.Memory.{Memory, write}
 use Rattle.plan.specs.Semantics.Run.{Around}
-use Rattle.interpreter.specs.Evaluation.Lanes.{number_at}
+use Rattle.interpreter.specs.Evaluation.Words.{bits_at, word_at}
 use Rattle.interpreter.specs.Pieces.{around, setting}
 use Rattle.interpreter.specs.Runs.{are_forms, store_at, FindsTurns, IsBut}
 use Rattle.interpreter.specs.Steps.{Progress, steps}
 use Rattle.interpreter.specs.Targets.{known_number}
 use Rattle.interpreter.specs.Visits.{between}
-use Rattle.interpreter.specs.declared.evaluation.lanes.Number.{Number}
 use Rattle.interpreter.specs.declared.piece.Piece.{Piece}
 use Rattle.interpreter.proofs.Running.{Comes}
 use Rattle.interpreter.proofs.Steps.{steps-append}
@@ -35,18 +34,18 @@ first_turn A f z n i p whole lt h =
     h ∙ ap (λ (l : List ℤ). steps A (flat_map f l) p) (rising_next z n i lt) ∙ steps-append A (f (z +ℤ pos i)) (flat_map f (rising (z +ℤ pos (i + 1)) (n - (i + 1)))) p
 
 -- where the value at each turn is found before, the first turn sets it
-pub first_set : (x : Piece) (cell : List ℕ → List ℤ → Value) (b d n i size : ℕ) (cs : List Coordinate) (e : Term) (s : Symbols) (j : ℕ) (begin low : ℤ) (memory : Memory Value) (t : Ty) (zs : List Number)
+pub first_set : (x : Piece) (cell : List ℕ → List ℤ → Value) (b d n i size : ℕ) (cs : List Coordinate) (e : Term) (s : Symbols) (j : ℕ) (begin low : ℤ) (memory : Memory Value) (t : Ty) (zs : List ℕ)
     (p : Progress) (whole : Option Progress) →
     are_forms cs ≡ true → size ≡ (setting x).dimensions b → FindsTurns x b cs e s j begin low memory n t zs → IsBut b memory p.memory → i < n →
     Comes (around x cell) whole (flat_map (store_at x b cs e s j begin d) (rising (low +ℤ pos i) (n - i))) p →
-    whole ≡ with (sets b p (map (known_number (bind s j (low +ℤ pos i) (int_le (low +ℤ pos i) begin))) (take size cs)) (typed t (number_at zs i)))
+    whole ≡ with (sets b p (map (known_number (bind s j (low +ℤ pos i) (int_le (low +ℤ pos i) begin))) (take size cs)) (typed t (word_at t zs i)))
     (steps (around x cell) (flat_map (store_at x b cs e s j begin d) (rising (low +ℤ pos (i + 1)) (n - (i + 1)))))
 first_set x cell b d n i size cs e s j begin low memory t zs p whole forms is finds but lt h =
     let A = around x cell in
     let f = store_at x b cs e s j begin d in
     let z = low +ℤ pos i in
     let now = bind s j z (int_le z begin) in
-    let v = typed t (number_at zs i) in
+    let v = typed t (word_at t zs i) in
     let go : Progress → Option Progress = steps A (flat_map f (rising (low +ℤ pos (i + 1)) (n - (i + 1)))) in
     first_turn A f low n i p whole lt h
     ∙ ap (λ (o : Option Progress). with o go) (turn_stores x cell b d size cs e now p v forms is (finds p.memory but i lt))
@@ -109,10 +108,9 @@ fewer_left high low next le lt =
     let most : clipped ((high +ℤ pos 1) -ℤ next) ≤ k = clipped_most ((high +ℤ pos 1) -ℤ next) k (omega (arith, ints)) in
     subst (λ (d : ℤ). clipped ((high +ℤ pos 1) -ℤ next) < clipped d) (sym e) (omega (arith, most))
 
--- a number of a register that was written back
-pub written_back : (n : ℕ) (new rest : List Number) (k : ℕ) → k < n → k < length new → number_at (take n (new ++ rest)) k ≡ number_at new k
-written_back n new rest k lt inside =
-    ap (λ (x : Number). x.value) (get_or-take n (new ++ rest) k (record { value = pos 0 }) lt ∙ get_or_append_left new rest (record { value = pos 0 }) k inside)
+-- a word of a register that was written back
+pub written_back : (n : ℕ) (new rest : List ℕ) (k : ℕ) → k < n → k < length new → bits_at (take n (new ++ rest)) k ≡ bits_at new k
+written_back n new rest k lt inside = get_or-take n (new ++ rest) k 0 lt ∙ get_or_append_left new rest 0 k inside
 
 -- what two facts say of something that may be there
 pub both_some : {X : Type 0} (o : Option X) (P Q R : X → Type 0) → ((x : X) → P x → Q x → R x) → IfSome o P → IfSome o Q → IfSome o R

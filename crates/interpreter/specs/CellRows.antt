@@ -13,9 +13,13 @@ abbrev pub told_value : NumberKind → Ty → ℤ → Value
 told_value Exact ty z = typed ty z
 told_value Bits ty z = typed ty (wrap ty z)
 
+-- the number at a place, 0 behind the last
+abbrev pub number_told : List ℤ → ℕ → ℤ
+number_told zs k = get_or zs k (pos 0)
+
 -- the value at a place of a row
 abbrev pub row_value : CellRow → ℕ → Value
-row_value row k = told_value row.kind row.ty (get_or row.numbers.now k (pos 0))
+row_value row k = told_value row.kind row.ty (number_told row.numbers.now k)
 
 -- the point so many steps further along the first coordinate
 abbrev pub along : List ℤ → ℕ → List ℤ

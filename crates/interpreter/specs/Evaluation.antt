@@ -2,3 +2,4 @@ pub mod Indices
 pub mod Lanes
 pub mod Repeats
 pub mod Quotients
+pub mod Words

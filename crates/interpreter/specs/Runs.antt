@@ -14,10 +14,9 @@ use Rattle.meaning.specs.Names.{bound}
 use Rattle.numeric.specs.declared.ty.Ty.{Ty}
 use Rattle.tree.specs.Term.{Term}
 use Rattle.tree.specs.Meaning.{typed}
-use Rattle.interpreter.specs.Evaluation.Lanes.{number_at}
+use Rattle.interpreter.specs.Evaluation.Words.{word_at}
 use Rattle.interpreter.specs.Pieces.{around, no_cells, setting}
 use Rattle.interpreter.specs.Targets.{known_number}
-use Rattle.interpreter.specs.declared.evaluation.lanes.Number.{Number}
 use Rattle.interpreter.specs.declared.piece.Piece.{Piece}
 
 -- the numbers at a turn, by those of the first turn and of the second: each rises by as much with each turn
@@ -49,8 +48,8 @@ store_at x b cs e s i begin d z = stored (setting x) b d (map coordinate_of cs) 
 abbrev pub numbers_of : List Coordinate → Symbols → ℕ → ℤ → ℤ → List ℤ
 numbers_of cs s i begin z = map (known_number (bind s i z (int_le z begin))) cs
 
--- At so many turns from this one on, the expression has the numbers of a register, whatever the buffer that is stored to holds.
-abbrev pub FindsTurns : Piece → ℕ → List Coordinate → Term → Symbols → ℕ → ℤ → ℤ → Memory Value → ℕ → Ty → List Number → Type 0
-FindsTurns x b cs e s i begin low memory n t zs =
+-- At so many turns from this one on, the expression has the numbers that the words of a register are, whatever the buffer that is stored to holds.
+abbrev pub FindsTurns : Piece → ℕ → List Coordinate → Term → Symbols → ℕ → ℤ → ℤ → Memory Value → ℕ → Ty → List ℕ → Type 0
+FindsTurns x b cs e s i begin low memory n t ws =
     (m : Memory Value) → IsBut b memory m → (k : ℕ) → k < n →
-    found (bound (map (λ c. string_bytes c.variable) cs) (numbers_of cs s i begin (low +ℤ pos k))) (look (around x no_cells) m) e ≡ Some (typed t (number_at zs k))
+    found (bound (map (λ c. string_bytes c.variable) cs) (numbers_of cs s i begin (low +ℤ pos k))) (look (around x no_cells) m) e ≡ Some (typed t (word_at t ws k))

@@ -2,9 +2,9 @@
 
 ghost use Rattle.std.specs.Prelude.{◌≡◌, ◌<◌, ℕ, ℤ, length, List, IfSome};
 ghost use Rattle.tree.specs.declared.value.Value.{Value as ValueFetched};
-ghost use Rattle.interpreter.specs.CellRows.{row_value, IsRow};
+ghost use Rattle.interpreter.specs.CellRows.{IsRow};
 
-use numeric::{Ty, wrap};
+use numeric::Ty;
 use tree::Value;
 
 /// What the numbers of a row of cells tell of the values.
@@ -22,24 +22,6 @@ pub struct CellRow<'a> {
     pub ty: Ty,
     pub numbers: &'a [i64],
     pub kind: NumberKind,
-}
-
-impl CellRow<'_> {
-    /// The value at a place of the row.
-    pub fn value(&self, place: usize) -> Value
-        requires { place < length self.now.numbers.now }
-        ensures { result ≡ row_value self.now place }
-    {
-        let ty = self.ty;
-        let number = self.numbers[place];
-        match self.kind {
-            NumberKind::Exact => Value { ty, number },
-            NumberKind::Bits => Value {
-                ty,
-                number: wrap(ty, number),
-            },
-        }
-    }
 }
 
 /// The values of the cells that a piece fetches.

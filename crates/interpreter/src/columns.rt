@@ -9,7 +9,7 @@ ghost use Rattle.tree.specs.declared.value.Value.{Value as ValueFound};
 ghost use Rattle.interpreter.specs.Evaluation.Lanes.{number_at};
 ghost use Rattle.interpreter.specs.Updates.{columns_at};
 
-use crate::evaluation::{Number, RunReader, evaluate_run, spread, type_of};
+use crate::evaluation::{Number, RunReader, evaluate_numbers};
 use numeric::Ty;
 use tree::Expr;
 
@@ -24,22 +24,22 @@ pub(crate) fn number_of(register: &[Number], turn: usize) -> i64
     }
 }
 
-/// The numbers of an expression at so many turns of a run, put into the first register: their type.
+/// The numbers of an expression at so many turns of a run, put into the first register: their type. Its parts lie in words.
 pub(crate) fn column_run<R: RunReader>(
     expr: &Expr,
     reader: &R,
     count: usize,
     registers: &mut [Number],
+    words: &mut [u32],
 ) -> Option<Ty>
     ensures { IfSome result (λ t. (m : Memory ValueFound) → R.agrees reader.now m → (k : ℕ) → k < count → found (R.variables reader.now k) (R.look reader.now m) (term_of expr.now) ≡ Some (typed t (number_at registers.new k))) }
 {
     if registers.len() < count {
         return None;
     }
-    let (out, rest) = registers.split_at_mut(count);
-    let lanes = evaluate_run(expr, reader, out, rest)?;
-    spread(lanes, out);
-    Some(type_of(lanes))
+    let (out, _) = registers.split_at_mut(count);
+    let ty = evaluate_numbers(expr, reader, words, out)?;
+    Some(ty)
 }
 
 /// The numbers of a call's indices at so many turns of a run, put into a register each, one behind the other.
@@ -48,16 +48,17 @@ pub(crate) fn columns_run<R: RunReader>(
     reader: &R,
     count: usize,
     registers: &mut [Number],
+    words: &mut [u32],
 ) -> Option<()>
     ensures { IfSome result (λ _. (m : Memory ValueFound) → R.agrees reader.now m → (k : ℕ) → k < count → all_found (R.variables reader.now k) (R.look reader.now m) (indices (list_terms at.now)) ≡ Some (columns_at count (length at.now) registers.new k)) }
 {
     let [index, later @ ..] = at else {
         return Some(());
     };
-    column_run(index, reader, count, registers)?;
+    column_run(index, reader, count, registers, words)?;
     if registers.len() < count {
         return None;
     }
     let (_, rest) = registers.split_at_mut(count);
-    columns_run(later, reader, count, rest)
+    columns_run(later, reader, count, rest, words)
 }

@@ -2,20 +2,20 @@
 
 ghost use Rattle.std.specs.Prelude.{◌≡◌, ◌<◌, length};
 ghost use Rattle.tree.specs.Meaning.{typed};
-ghost use Rattle.interpreter.specs.Evaluation.Lanes.{number_at};
+ghost use Rattle.interpreter.specs.Evaluation.Words.{word_at};
 
-use crate::evaluation::Number;
+use crate::evaluation::typed_number;
 use numeric::Ty;
 use tree::Value;
 
 /// What a register holds for a turn, of the type.
 #[inline(always)]
-pub(crate) fn value_at(ty: Ty, registers: &[Number], turn: usize) -> Value
-    requires { turn < length registers.now }
-    ensures { result ≡ typed ty (number_at registers.now turn) }
+pub(crate) fn value_at(ty: Ty, words: &[u32], turn: usize) -> Value
+    requires { turn < length words.now }
+    ensures { result ≡ typed ty (word_at ty words.now turn) }
 {
     Value {
         ty,
-        number: registers[turn].value,
+        number: typed_number(ty, words[turn]),
     }
 }

@@ -6,10 +6,9 @@ ghost use Rattle.tree.specs.declared.value.Value.{Value as ValueFound};
 ghost use Rattle.plan.specs.Certificate.Cells.{is_in_region, is_in_span};
 ghost use Rattle.plan.specs.Semantics.Memory.{read};
 ghost use Rattle.interpreter.specs.Bindings.{symbols_of};
-ghost use Rattle.interpreter.specs.Buffers.Blocks.{limits_of, memory_of};
-ghost use Rattle.interpreter.specs.Buffers.Marks.{held_places};
-ghost use Rattle.interpreter.specs.Buffers.Spots.{set_all, HasPlace, IsSpot};
-ghost use Rattle.interpreter.specs.CellRows.{row_value};
+ghost use Rattle.interpreter.specs.Buffers.Blocks.{memory_of};
+ghost use Rattle.interpreter.specs.Buffers.Marks.{narrow_mark, places_held};
+ghost use Rattle.interpreter.specs.Buffers.Spots.{HasPlace, IsSpot};
 ghost use Rattle.interpreter.specs.Narrow.{RegionIsNarrow, SpanIsNarrow};
 ghost use Rattle.interpreter.specs.Pieces.{around};
 ghost use Rattle.interpreter.specs.RowVisits.{given_from, row_actions, row_takes};
@@ -20,14 +19,16 @@ ghost use Rattle.interpreter.specs.declared.piece.Piece.{Piece as PieceFound};
 ghost use Rattle.interpreter.specs.declared.visits.Visit.TheVariants.{Publish};
 ghost use Rattle.std.specs.Prelude.{flat_map};
 
-use crate::buffers::{Buffers, Held, Spot, held_inside, held_window};
-use crate::cells::{CellRow, Cells};
+use crate::buffers::{Buffers, Held, Spot, held_inside, held_window, number_in_word};
+use crate::cells::Cells;
+use crate::evaluation::{Signed8, Signed16, Signed32, Unsigned8, Unsigned16, Unsigned32, Width};
 use crate::piece::Piece;
-use crate::scanlines::distance;
+use crate::scanlines::{distance, row_type};
 use crate::state::State;
 use crate::symbols::Symbols;
 use crate::visits::{Numbers, Visit, Walk, claim_buffer, is_in_region, is_in_span};
 use lin::Span1;
+use numeric::Ty;
 use smallvec::SmallVec;
 use tree::Value;
 
@@ -88,8 +89,8 @@ fn places_of<'m>(
     count: usize,
 ) -> Option<Held<'m>>
     ensures count { IfSome result (λ held. length held.marks.now ≡ count) }
-    ensures numbers { IfSome result (λ held. length held.numbers.now ≡ count) }
-    ensures held { IfSome result (λ held. (k : ℕ) (v : ValueFound) → slice_get (held_places held.marks.now held.numbers.now) k ≡ Some (Some v) → read (memory_of memory.now) buffer ((first +ℤ pos k) ∷ others.now) ≡ Some v) }
+    ensures words { IfSome result (λ held. length held.words.now ≡ count) }
+    ensures held { IfSome result (λ held. (k : ℕ) (v : ValueFound) → slice_get (places_held held) k ≡ Some (Some v) → read (memory_of memory.now) buffer ((first +ℤ pos k) ∷ others.now) ≡ Some v) }
 {
     let line = memory.scanline(buffer, others)?;
     let start = distance(line.origin, first)?;
@@ -97,21 +98,71 @@ fn places_of<'m>(
     Some(held)
 }
 
-/// Takes the numbers that places hold, from the first on, as long as each holds one and there is room: how many it took.
-fn push_held(held: Held<'_>, given: &mut SmallVec<i64, 4>) -> usize
-    requires { length held.numbers.now ≡ length held.marks.now }
-    ensures count { result ≤ length held.entry.marks.now }
-    ensures given { given_from (held_places held.entry.marks.now held.entry.numbers.now) given.old.items result ≡ Some given.new.items }
+/// Takes the numbers that the first so many places hold, as long as each holds one: how many it took.
+fn push_each(held: Held<'_>, count: usize, given: &mut SmallVec<i64, 4>) -> usize
+    requires marks { count ≤ length held.marks.now }
+    requires words { length held.words.now ≡ length held.marks.now }
+    requires room { length given.old.items + count ≤ given.old.capacity }
+    ensures count { result ≤ count }
+    ensures given { given_from (places_held held.entry) given.old.items result ≡ Some given.new.items }
     ensures capacity { given.new.capacity ≡ given.old.capacity }
 {
-    let count = held.marks.len().min(given.capacity() - given.len());
     for turn in 0..count {
-        let Some(value) = held_inside(held.marks, held.numbers, turn) else {
+        let Some(value) = held_inside(held.marks, held.words, held.wides, turn) else {
             return turn;
         };
         given.push_reserved(value.number);
     }
     count
+}
+
+/// Takes the numbers that the first so many places hold, where these are set to values of the type and their numbers stand in words.
+#[inline(always)]
+fn push_words<W: Width>(held: Held<'_>, count: usize, given: &mut SmallVec<i64, 4>)
+    requires marked { (k : ℕ) → k < count → slice_get held.marks.now k ≡ Some (narrow_mark W.ty) }
+    requires words { count ≤ length held.words.now }
+    requires room { length given.old.items + count ≤ given.old.capacity }
+    ensures given { given_from (places_held held.entry) given.old.items count ≡ Some given.new.items }
+    ensures capacity { given.new.capacity ≡ given.old.capacity }
+{
+    for turn in 0..count {
+        given.push_reserved(number_in_word::<W>(held.words[turn]).value);
+    }
+}
+
+/// The same, by a loop of the type's own.
+fn push_words_of(ty: Ty, held: Held<'_>, count: usize, given: &mut SmallVec<i64, 4>)
+    requires marked { (k : ℕ) → k < count → slice_get held.marks.now k ≡ Some (narrow_mark ty) }
+    requires words { count ≤ length held.words.now }
+    requires room { length given.old.items + count ≤ given.old.capacity }
+    ensures given { given_from (places_held held.entry) given.old.items count ≡ Some given.new.items }
+    ensures capacity { given.new.capacity ≡ given.old.capacity }
+{
+    match ty {
+        Ty::U8 => push_words::<Unsigned8>(held, count, given),
+        Ty::U16 => push_words::<Unsigned16>(held, count, given),
+        Ty::U32 => push_words::<Unsigned32>(held, count, given),
+        Ty::I8 => push_words::<Signed8>(held, count, given),
+        Ty::I16 => push_words::<Signed16>(held, count, given),
+        Ty::I32 => push_words::<Signed32>(held, count, given),
+    }
+}
+
+/// Takes the numbers that places hold, from the first on, as long as each holds one and there is room: how many it took.
+fn push_held(held: Held<'_>, given: &mut SmallVec<i64, 4>) -> usize
+    requires { length held.words.now ≡ length held.marks.now }
+    ensures count { result ≤ length held.entry.marks.now }
+    ensures given { given_from (places_held held.entry) given.old.items result ≡ Some given.new.items }
+    ensures capacity { given.new.capacity ≡ given.old.capacity }
+{
+    let count = held.marks.len().min(given.capacity() - given.len());
+    match row_type(held.marks) {
+        Some(ty) => {
+            push_words_of(ty, held, count, given);
+            count
+        }
+        None => push_each(held, count, given),
+    }
 }
 
 /// Gives the numbers that a claim's buffer holds at the first points of a row, where their places lie side by side: the numbers
@@ -162,18 +213,6 @@ fn fetch_places<C: Cells>(
     }
 }
 
-/// Sets the places from a spot on to the values of a row of cells, one after another.
-fn put_values(memory: &mut Buffers, spot: Spot, row: &CellRow<'_>)
-    requires { (k : ℕ) → k < length row.now.numbers.now → HasPlace memory.old spot.buffer (spot.place + k) }
-    ensures set { let n = length row.now.numbers.now in (b : ℕ) (points : ℕ → List ℤ) → ((k : ℕ) → k < n → IsSpot memory.old b (points k) spot k) → set_all (memory_of memory.old) b points (row_value row.now) n ≡ Some (memory_of memory.new) }
-    ensures limits { limits_of memory.new ≡ limits_of memory.old }
-{
-    for turn in 0..row.numbers.len() {
-        let value = row.value(turn);
-        memory.put(spot, turn, value);
-    }
-}
-
 /// Sets the cells of a function in the places of a row, together where they are at hand side by side: those of so many points
 /// from the first number on.
 fn fetch_cells<C: Cells>(
@@ -194,7 +233,7 @@ fn fetch_cells<C: Cells>(
 {
     state.point.set(0, numbers.low);
     match cells.row(function, state.point.as_slice(), count) {
-        Some(row) => put_values(&mut state.memory, spot, &row),
+        Some(row) => state.memory.put_cells(spot, &row),
         None => fetch_places(cells, function, spot, numbers, count, state),
     }
 }

@@ -9,16 +9,19 @@ ghost use Rattle.meaning.specs.Names.{bound};
 ghost use Rattle.interpreter.specs.Buffers.Blocks.{memory_of};
 ghost use Rattle.numeric.specs.declared.ty.Ty.TheVariants.{I32};
 ghost use Rattle.interpreter.specs.Evaluation.Lanes.{clamped_number, lane, lane_number, lanes_at, number_at, IsNarrowFor};
+ghost use Rattle.interpreter.specs.Evaluation.Words.{word_at};
 ghost use Rattle.interpreter.specs.Pieces.{around, no_cells};
 ghost use Rattle.interpreter.specs.Runs.{numbers_at, IsBut};
 
 use crate::buffers::{Buffers, held_window};
-use crate::evaluation::{ClampedRamp, Lanes, Number, RunReader, clamped_number, fill_steps};
+use crate::evaluation::{
+    ClampedRamp, Lanes, Number, RunReader, clamped_number, step_words, typed_number,
+};
 use crate::loads::claim_of;
 use crate::piece::Piece;
 use crate::reading::{Reading, number_bound};
 use crate::scanlines::{
-    Pixels, copy_numbers, copy_pixels, copy_samples, distance, pixels_beside, samples_beside,
+    Pixels, copy_pixels, copy_samples, copy_words, distance, pixels_beside, samples_beside,
     take_numbers, take_pixels, take_samples, type_held, window,
 };
 use meaning::sameness::same_name;
@@ -175,33 +178,35 @@ impl RunReading<'_, '_> {
     }
 
     /// What an input of fewer dimensions has at points whose first coordinate rises by one.
-    fn look_sample_row(&self, first: i64, others: &[i64], out: &mut [Number]) -> Option<Ty>
-        ensures { IfSome result (λ t. (k : ℕ) → k < length out.new → source_at self.now (memory_of self.now.memory.now) Input ((first +ℤ pos k) ∷ others.now) ≡ Some (typed t (number_at out.new k))) }
+    fn look_sample_row(&self, first: i64, others: &[i64], out: &mut [u32]) -> Option<Ty>
+        ensures { IfSome result (λ t. (k : ℕ) → k < length out.new → source_at self.now (memory_of self.now.memory.now) Input ((first +ℤ pos k) ∷ others.now) ≡ Some (typed t (word_at t out.new k))) }
     {
         let samples = self.samples(others)?;
         if first < 0 {
             return None;
         }
         let row = window(samples, first as usize, out.len())?;
-        copy_samples(row, out);
-        Some(self.piece.plan.input.ty)
+        let ty = self.piece.plan.input.ty;
+        copy_samples(ty, row, out)?;
+        Some(ty)
     }
 
     /// What an input of three dimensions has at points whose first coordinate rises by one.
-    fn look_pixel_row(&self, first: i64, others: &[i64], out: &mut [Number]) -> Option<Ty>
-        ensures { IfSome result (λ t. (k : ℕ) → k < length out.new → source_at self.now (memory_of self.now.memory.now) Input ((first +ℤ pos k) ∷ others.now) ≡ Some (typed t (number_at out.new k))) }
+    fn look_pixel_row(&self, first: i64, others: &[i64], out: &mut [u32]) -> Option<Ty>
+        ensures { IfSome result (λ t. (k : ℕ) → k < length out.new → source_at self.now (memory_of self.now.memory.now) Input ((first +ℤ pos k) ∷ others.now) ≡ Some (typed t (word_at t out.new k))) }
     {
         let pixels = self.pixels(others)?;
         if first < 0 {
             return None;
         }
-        copy_pixels(pixels, first as usize, out)?;
-        Some(self.piece.plan.input.ty)
+        let ty = self.piece.plan.input.ty;
+        copy_pixels(ty, pixels, first as usize, out)?;
+        Some(ty)
     }
 
     /// What the input has at points whose first coordinate rises by one.
-    fn look_input_row(&self, first: i64, others: &[i64], out: &mut [Number]) -> Option<Ty>
-        ensures { IfSome result (λ t. (k : ℕ) → k < length out.new → source_at self.now (memory_of self.now.memory.now) Input ((first +ℤ pos k) ∷ others.now) ≡ Some (typed t (number_at out.new k))) }
+    fn look_input_row(&self, first: i64, others: &[i64], out: &mut [u32]) -> Option<Ty>
+        ensures { IfSome result (λ t. (k : ℕ) → k < length out.new → source_at self.now (memory_of self.now.memory.now) Input ((first +ℤ pos k) ∷ others.now) ≡ Some (typed t (word_at t out.new k))) }
     {
         if others.len() == 2 {
             self.look_pixel_row(first, others, out)
@@ -211,20 +216,14 @@ impl RunReading<'_, '_> {
     }
 
     /// What a buffer has at points whose first coordinate rises by one.
-    fn look_place_row(
-        &self,
-        buffer: u64,
-        first: i64,
-        others: &[i64],
-        out: &mut [Number],
-    ) -> Option<Ty>
-        ensures { IfSome result (λ t. (k : ℕ) → k < length out.new → source_at self.now (memory_of self.now.memory.now) (Buffer buffer) ((first +ℤ pos k) ∷ others.now) ≡ Some (typed t (number_at out.new k))) }
+    fn look_place_row(&self, buffer: u64, first: i64, others: &[i64], out: &mut [u32]) -> Option<Ty>
+        ensures { IfSome result (λ t. (k : ℕ) → k < length out.new → source_at self.now (memory_of self.now.memory.now) (Buffer buffer) ((first +ℤ pos k) ∷ others.now) ≡ Some (typed t (word_at t out.new k))) }
     {
         let line = self.memory.scanline(buffer, others)?;
         let start = distance(line.origin, first)?;
         let held = held_window(line.held, start, out.len())?;
         let ty = type_held(held)?;
-        copy_numbers(held, ty, out)?;
+        copy_words(held, ty, out)?;
         Some(ty)
     }
 
@@ -247,7 +246,7 @@ impl RunReading<'_, '_> {
         &self,
         source: Source,
         indices: &[Lanes],
-        registers: &[Number],
+        registers: &[u32],
         count: usize,
         turn: usize,
     ) -> Option<Value>
@@ -286,7 +285,7 @@ impl RunReading<'_, '_> {
         source: Source,
         ty: Ty,
         indices: &[Lanes],
-        registers: &[Number],
+        registers: &[u32],
         count: usize,
         turn: usize,
     ) -> Option<Number>
@@ -307,7 +306,7 @@ impl RunReading<'_, '_> {
         &self,
         source: Source,
         indices: &[Lanes],
-        registers: &[Number],
+        registers: &[u32],
         out: &mut [Number],
     ) -> Option<Ty>
         ensures { IfSome result (λ t. (k : ℕ) → k < length out.new → source_at self.now (memory_of self.now.memory.now) source (lanes_at (length out.new) indices.now registers.now k) ≡ Some (typed t (number_at out.new k))) }
@@ -328,7 +327,7 @@ impl RunReader for RunReading<'_, '_> {
 
     ghost agrees = { λ r m. IsBut r.buffer (memory_of r.memory.now) m };
 
-    fn variable(&self, name: &str, out: &mut [Number]) -> Option<Lanes> {
+    fn variable(&self, name: &str, out: &mut [u32]) -> Option<Lanes> {
         if self.first.len() != self.second.len() {
             return None;
         }
@@ -345,7 +344,7 @@ impl RunReader for RunReading<'_, '_> {
         }
     }
 
-    fn look_row(&self, name: &str, first: i64, others: &[i64], out: &mut [Number]) -> Option<Ty> {
+    fn look_row(&self, name: &str, first: i64, others: &[i64], out: &mut [u32]) -> Option<Ty> {
         let source = self.source(name)?;
         match source {
             Source::Input => self.look_input_row(first, others, out),
@@ -357,7 +356,7 @@ impl RunReader for RunReading<'_, '_> {
         &self,
         name: &str,
         indices: &[Lanes],
-        registers: &[Number],
+        registers: &[u32],
         out: &mut [Number],
     ) -> Option<Ty> {
         let source = self.source(name)?;
@@ -366,7 +365,7 @@ impl RunReader for RunReading<'_, '_> {
 }
 
 /// The registers but the first so many numbers.
-pub(crate) fn registers_behind(registers: &[Number], count: usize) -> &[Number]
+pub(crate) fn registers_behind<T>(registers: &[T], count: usize) -> &[T]
     ensures { result.now ≡ drop count registers.now }
 {
     if registers.len() < count {
@@ -393,20 +392,20 @@ fn clamped_at(ramp: ClampedRamp, turn: usize) -> Option<Number>
 }
 
 /// The number of lanes at a turn, over this register.
-fn number_in(lanes: Lanes, register: &[Number], turn: usize) -> Option<i64>
+fn number_in(lanes: Lanes, register: &[u32], turn: usize) -> Option<i64>
     ensures { IfSome result (λ z. z ≡ lane_number lanes register.now turn) }
 {
     match lanes {
         Lanes::Broadcast(_, number) => Some(number.value),
         Lanes::Ramp(_, number) => number.value.checked_add(i64::try_from(turn).ok()?),
         Lanes::Clamped(_, ramp) => Some(clamped_at(ramp, turn)?.value),
-        Lanes::Vector(_) => Some(register.get(turn)?.value),
+        Lanes::Vector(ty) => Some(typed_number(ty, *register.get(turn)?)),
     }
 }
 
 /// The numbers of a coordinate at so many turns, by those of the first turn and of the second. They are put into the register
 /// where they neither stay nor rise by one.
-pub(crate) fn lanes_of(first: i64, second: i64, out: &mut [Number]) -> Option<Lanes>
+fn lanes_of(first: i64, second: i64, out: &mut [u32]) -> Option<Lanes>
     ensures narrow { IfSome result (IsNarrowFor (length out.new)) }
     ensures lanes { IfSome result (λ x. (k : ℕ) → k < length out.new → typed I32 (first +ℤ (second -ℤ first) *ℤ pos k) ≡ lane x out.new k) }
 {
@@ -418,6 +417,6 @@ pub(crate) fn lanes_of(first: i64, second: i64, out: &mut [Number]) -> Option<La
     if out.len() < 1 << 60 && first < 1 << 60 && step == 1 {
         return Some(Lanes::Ramp(Ty::I32, number));
     }
-    fill_steps(first, step, out)?;
+    step_words(Ty::I32, number, Number { value: step }, out)?;
     Some(Lanes::Vector(Ty::I32))
 }

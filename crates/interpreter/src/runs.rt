@@ -19,7 +19,7 @@ ghost use Rattle.interpreter.specs.Bindings.{symbols_of};
 ghost use Rattle.interpreter.specs.Buffers.Blocks.{memory_of};
 ghost use Rattle.interpreter.specs.Buffers.Spots.{HasPlace, IsSpot};
 ghost use Rattle.interpreter.specs.Evaluation.Indices.{indices_in};
-ghost use Rattle.interpreter.specs.Evaluation.Lanes.{number_at};
+ghost use Rattle.interpreter.specs.Evaluation.Words.{word_at};
 ghost use Rattle.interpreter.specs.Pieces.{around, no_cells, IsReady};
 ghost use Rattle.interpreter.specs.Rows.{listed};
 ghost use Rattle.interpreter.specs.Runs.{are_forms, numbers_at, numbers_of, store_at, FindsTurns, IsBut};
@@ -31,7 +31,7 @@ ghost use Rattle.interpreter.specs.Updates.{FindsUpdate};
 ghost use Rattle.interpreter.specs.Visits.{between};
 
 use crate::buffers::{Buffers, Spot};
-use crate::evaluation::{Number, Stop, evaluate_run, spread, type_of};
+use crate::evaluation::{Stop, evaluate_words};
 use crate::piece::Piece;
 use crate::placing::{Places, Target, place_update};
 use crate::registers::value_at;
@@ -150,26 +150,25 @@ fn behind(part: Part) -> Option<i64>
     part.low.checked_add(part.count as i64)
 }
 
-/// The numbers of an expression at so many turns of a run, put into the first registers: their type.
+/// The numbers of an expression at so many turns of a run, put into the first register: their type.
 fn evaluate_in(
     expr: &Expr,
     reader: &RunReading<'_, '_>,
     count: usize,
-    registers: &mut [Number],
+    words: &mut [u32],
 ) -> Option<Ty>
-    ensures count { IfSome result (λ _. count ≤ length registers.new) }
-    ensures finds { IfSome result (λ t. (m : Memory ValueFound) → IsBut reader.now.buffer (memory_of reader.now.memory.now) m → (k : ℕ) → k < count → found (bound (map (λ c. string_bytes c.variable) reader.now.coordinates.now) (numbers_at reader.now.first.now reader.now.second.now k)) (look (around reader.now.piece.now no_cells) m) (term_of expr.now) ≡ Some (typed t (number_at registers.new k))) }
+    ensures count { IfSome result (λ _. count ≤ length words.new) }
+    ensures finds { IfSome result (λ t. (m : Memory ValueFound) → IsBut reader.now.buffer (memory_of reader.now.memory.now) m → (k : ℕ) → k < count → found (bound (map (λ c. string_bytes c.variable) reader.now.coordinates.now) (numbers_at reader.now.first.now reader.now.second.now k)) (look (around reader.now.piece.now no_cells) m) (term_of expr.now) ≡ Some (typed t (word_at t words.new k))) }
 {
-    if registers.len() < count {
+    if words.len() < count {
         return None;
     }
-    let (out, rest) = registers.split_at_mut(count);
-    let lanes = evaluate_run(expr, reader, out, rest)?;
-    spread(lanes, out);
-    Some(type_of(lanes))
+    let (out, rest) = words.split_at_mut(count);
+    let ty = evaluate_words(expr, reader, out, rest)?;
+    Some(ty)
 }
 
-/// The value of a store's line at some turns of a loop, put into the first registers, where it can be found for all of them
+/// The value of a store's line at some turns of a loop, put into the first register, where it can be found for all of them
 /// together: its type.
 fn evaluate_part<'a>(
     piece: &'a Piece<'a>,
@@ -183,8 +182,8 @@ fn evaluate_part<'a>(
     requires symbols { length symbols.old.bound < symbols.old.room }
     requires numbers { length line.now.coordinates.now ≤ state.old.numbers.room }
     requires point { length line.now.coordinates.now ≤ state.old.point.room }
-    ensures finds { IfSome result (λ t. FindsTurns piece.now line.now.buffer line.now.coordinates.now (term_of line.now.value.now) (symbols_of symbols.old) part.turns.symbol part.turns.low part.low (memory_of state.old.memory) part.count t state.new.registers.items) }
-    ensures count { IfSome result (λ _. part.count ≤ length state.new.registers.items) }
+    ensures finds { IfSome result (λ t. FindsTurns piece.now line.now.buffer line.now.coordinates.now (term_of line.now.value.now) (symbols_of symbols.old) part.turns.symbol part.turns.low part.low (memory_of state.old.memory) part.count t state.new.words.items) }
+    ensures count { IfSome result (λ _. part.count ≤ length state.new.words.items) }
     ensures symbols { symbols.new ≡ symbols.old }
     ensures memory { progress_of state.new ≡ progress_of state.old }
     ensures large { IsAsLarge state.old state.new }
@@ -213,10 +212,10 @@ fn evaluate_part<'a>(
         first: state.numbers.as_slice(),
         second: state.point.as_slice(),
     };
-    evaluate_in(line.value, &reader, part.count, &mut state.registers)
+    evaluate_in(line.value, &reader, part.count, &mut state.words)
 }
 
-/// Stores the numbers of the first registers at some turns of a loop, by the point of each.
+/// Stores the numbers of the first register at some turns of a loop, by the point of each.
 fn write_points<'a>(
     piece: &'a Piece<'a>,
     line: &StoreLine<'a>,
@@ -230,10 +229,10 @@ fn write_points<'a>(
     requires narrow { (k : ℕ) → k < part.count → All (CoordinateIsNarrow (bind (symbols_of symbols.old) part.turns.symbol (part.low +ℤ pos k) (int_le (part.low +ℤ pos k) part.turns.low))) line.now.coordinates.now }
     requires few { part.count ≤ 512 }
     requires high { (part.low +ℤ pos part.count) ≤ℤ pos (2 ^ 63) }
-    requires count { part.count ≤ length state.old.registers.items }
+    requires count { part.count ≤ length state.old.words.items }
     requires symbols { length symbols.old.bound < symbols.old.room }
     requires point { length line.now.coordinates.now ≤ state.old.point.room }
-    requires finds { FindsTurns piece.now line.now.buffer line.now.coordinates.now (term_of line.now.value.now) (symbols_of symbols.old) part.turns.symbol part.turns.low part.low (memory_of state.old.memory) part.count ty state.old.registers.items }
+    requires finds { FindsTurns piece.now line.now.buffer line.now.coordinates.now (term_of line.now.value.now) (symbols_of symbols.old) part.turns.symbol part.turns.low part.low (memory_of state.old.memory) part.count ty state.old.words.items }
     ensures symbols { OnOk result (symbols.new ≡ symbols.old) }
     ensures large { OnOk result (IsAsLarge state.old state.new) }
     ensures run { (definition : ℕ) (cell : List ℕ → List ℤ → ValueFound) → EndsIn state.old.given.capacity (λ _. progress_of state.new) result (steps (around piece.now cell) (flat_map (store_at piece.now line.now.buffer line.now.coordinates.now (term_of line.now.value.now) (symbols_of symbols.old) part.turns.symbol part.turns.low definition) (rising part.low part.count)) (progress_of state.old)) }
@@ -242,7 +241,7 @@ fn write_points<'a>(
     for index in 0..part.count {
         let binding = turn_in(part, index);
         numbers_in(binding, place, symbols, &mut state.point);
-        let value = value_at(ty, &state.registers, index);
+        let value = value_at(ty, &state.words, index);
         if !state
             .memory
             .write(line.buffer, state.point.as_slice(), value)
@@ -305,12 +304,12 @@ fn risen_spot(
     memory.spot(buffer, *x, others, count)
 }
 
-/// The numbers of so many turns.
-fn first_numbers(registers: &[Number], count: usize) -> &[Number]
-    requires { count ≤ length registers.now }
-    ensures { result.now ≡ take count registers.now }
+/// The words of so many turns.
+fn first_words(words: &[u32], count: usize) -> &[u32]
+    requires { count ≤ length words.now }
+    ensures { result.now ≡ take count words.now }
 {
-    &registers[..count]
+    &words[..count]
 }
 
 /// Where the first of a run's stores lies, where those of its later turns lie behind it one by one.
@@ -331,7 +330,7 @@ fn spot_of(
     ensures symbols { symbols.new ≡ symbols.old }
     ensures memory { state.new.memory ≡ state.old.memory }
     ensures progress { progress_of state.new ≡ progress_of state.old }
-    ensures registers { state.new.registers.items ≡ state.old.registers.items }
+    ensures words { state.new.words.items ≡ state.old.words.items }
     ensures large { IsAsLarge state.old state.new }
 {
     if part.count < 2 {
@@ -354,7 +353,7 @@ fn spot_of(
     )
 }
 
-/// Stores the numbers of the first registers at some turns of a loop.
+/// Stores the numbers of the first register at some turns of a loop.
 fn write_part<'a>(
     piece: &'a Piece<'a>,
     line: &StoreLine<'a>,
@@ -368,11 +367,11 @@ fn write_part<'a>(
     requires narrow { (k : ℕ) → k < part.count → All (CoordinateIsNarrow (bind (symbols_of symbols.old) part.turns.symbol (part.low +ℤ pos k) (int_le (part.low +ℤ pos k) part.turns.low))) line.now.coordinates.now }
     requires few { part.count ≤ 512 }
     requires high { (part.low +ℤ pos part.count) ≤ℤ pos (2 ^ 63) }
-    requires count { part.count ≤ length state.old.registers.items }
+    requires count { part.count ≤ length state.old.words.items }
     requires symbols { length symbols.old.bound < symbols.old.room }
     requires point { length line.now.coordinates.now ≤ state.old.point.room }
     requires numbers { length line.now.coordinates.now ≤ state.old.numbers.room }
-    requires finds { FindsTurns piece.now line.now.buffer line.now.coordinates.now (term_of line.now.value.now) (symbols_of symbols.old) part.turns.symbol part.turns.low part.low (memory_of state.old.memory) part.count ty state.old.registers.items }
+    requires finds { FindsTurns piece.now line.now.buffer line.now.coordinates.now (term_of line.now.value.now) (symbols_of symbols.old) part.turns.symbol part.turns.low part.low (memory_of state.old.memory) part.count ty state.old.words.items }
     ensures symbols { OnOk result (symbols.new ≡ symbols.old) }
     ensures large { OnOk result (IsAsLarge state.old state.new) }
     ensures run { (definition : ℕ) (cell : List ℕ → List ℤ → ValueFound) → EndsIn state.old.given.capacity (λ _. progress_of state.new) result (steps (around piece.now cell) (flat_map (store_at piece.now line.now.buffer line.now.coordinates.now (term_of line.now.value.now) (symbols_of symbols.old) part.turns.symbol part.turns.low definition) (rising part.low part.count)) (progress_of state.old)) }
@@ -380,8 +379,8 @@ fn write_part<'a>(
     let place = of_function(line.coordinates, size_in(piece.sizes, line.buffer));
     match spot_of(place, line.buffer, part, symbols, state) {
         Some(spot) => {
-            let numbers = first_numbers(&state.registers, part.count);
-            state.memory.put_row(spot, ty, numbers);
+            let words = first_words(&state.words, part.count);
+            state.memory.put_words(spot, ty, words);
             Ok(())
         }
         None => write_points(piece, line, ty, part, symbols, state),

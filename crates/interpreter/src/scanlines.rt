@@ -1,14 +1,16 @@
 //! Rows: what lies at points that differ in the first coordinate alone.
 
-ghost use Rattle.std.specs.Prelude.{◌≡◌, ◌∷◌, [], ◌<◌, ◌+◌, ◌+ℤ◌, ◌-ℤ◌, ℕ, ℤ, Some, IfSome, length, drop, take, pos, slice_get, slice_index};
+ghost use Rattle.std.specs.Prelude.{◌≡◌, ◌∷◌, [], ◌<◌, ◌≤◌, ◌≤ℤ◌, ◌+◌, ◌+ℤ◌, ◌-ℤ◌, ℕ, ℤ, Some, IfSome, length, drop, take, pos, slice_get, slice_index};
 ghost use Rattle.numeric.specs.declared.ty.Ty.{Ty as TyFound};
+ghost use Rattle.numeric.specs.Wrap.{greatest, wrap};
 ghost use Rattle.tree.specs.Meaning.{typed};
 ghost use Rattle.std.specs.Bool.{OnTrue};
-ghost use Rattle.interpreter.specs.Buffers.Marks.{held_places};
+ghost use Rattle.interpreter.specs.Buffers.Marks.{narrow_mark, places_held};
 ghost use Rattle.interpreter.specs.Evaluation.Lanes.{number_at};
+ghost use Rattle.interpreter.specs.Evaluation.Words.{bits_at, word_at};
 ghost use Rattle.interpreter.specs.Scanlines.{along, input_at, pixel_along, sample_along};
 
-use crate::buffers::{Held, Mark, held_at, mark_of, marked_type};
+use crate::buffers::{Held, Mark, held_at, narrow_mark, narrow_type};
 use crate::evaluation::{Number, copy_each};
 use numeric::Ty;
 
@@ -211,55 +213,103 @@ pub(crate) fn take_pixels(row: Pixels<'_>, out: &mut [Number]) -> Option<()>
     Some(())
 }
 
-/// The sample as a number.
-#[inline(always)]
-fn sample_number(sample: u16) -> Number
-    ensures { result.value ≡ pos sample }
+/// The greatest sample that is of a type.
+fn greatest_sample(ty: Ty) -> u16
+    ensures { pos result ≤ℤ greatest ty }
 {
-    Number {
-        value: i64::from(sample),
+    match ty {
+        Ty::U8 => 255,
+        Ty::I8 => 127,
+        Ty::I16 => 32_767,
+        Ty::U16 | Ty::U32 | Ty::I32 => 65_535,
     }
+}
+
+/// A sample as a word.
+#[inline(always)]
+fn sample_word(sample: u16) -> u32
+    ensures { result ≡ sample }
+{
+    u32::from(sample)
 }
 
 /// The sample at a place behind the first, if there is one.
 #[inline(always)]
-fn sample_behind(samples: &[u16], place: usize) -> Option<Number>
-    ensures { IfSome result (λ n. sample_along samples.now (pos place) ≡ Some n.value) }
+fn sample_behind(samples: &[u16], place: usize) -> Option<u16>
+    ensures { IfSome result (λ n. sample_along samples.now (pos place) ≡ Some (pos n)) }
 {
     let sample = samples.get(place)?;
-    Some(sample_number(*sample))
+    Some(*sample)
+}
+
+/// The sample at a place behind the first as a word, if there is one and it is not above the type's greatest one.
+#[inline(always)]
+fn word_behind(ty: Ty, most: u16, samples: &[u16], place: usize) -> Option<u32>
+    requires { pos most ≤ℤ greatest ty }
+    ensures { IfSome result (λ w. sample_along samples.now (pos place) ≡ Some (wrap ty (pos w))) }
+{
+    let sample = sample_behind(samples, place)?;
+    if most < sample {
+        return None;
+    }
+    Some(sample_word(sample))
 }
 
 /// The samples of a row's colour at coordinates side by side, from one on, put into a register; nothing where there is none at one
-/// of them.
-pub(crate) fn copy_pixels(row: Pixels<'_>, first: usize, out: &mut [Number]) -> Option<()>
-    ensures { IfSome result (λ _. (k : ℕ) → k < length out.new → pixel_along row.entry.colours row.entry.colour row.entry.samples.now (pos (first + k)) ≡ Some (number_at out.new k)) }
+/// of them, or it is not of the type.
+pub(crate) fn copy_pixels(ty: Ty, row: Pixels<'_>, first: usize, out: &mut [u32]) -> Option<()>
+    ensures { IfSome result (λ _. (k : ℕ) → k < length out.new → pixel_along row.entry.colours row.entry.colour row.entry.samples.now (pos (first + k)) ≡ Some (word_at ty out.new k)) }
 {
+    let most = greatest_sample(ty);
     let mut place = first.checked_mul(row.colours)?.checked_add(row.colour)?;
     for turn in 0..out.len() {
-        out[turn] = sample_behind(row.samples, place)?;
+        out[turn] = word_behind(ty, most, row.samples, place)?;
         place = place.checked_add(row.colours)?;
     }
     Some(())
 }
 
-/// As many samples, put into a register.
-pub(crate) fn copy_samples(samples: &[u16], out: &mut [Number])
+/// Whether no sample is above this one. All are looked at, so that several are at once.
+fn are_at_most(samples: &[u16], most: u16) -> bool
+    ensures { OnTrue result ((k : ℕ) → k < length samples.now → slice_index samples.now k ≤ most) }
+{
+    let mut all = true;
+    for place in 0..samples.len() {
+        let one = samples[place] <= most;
+        all = all & one;
+    }
+    all
+}
+
+/// As many samples as words.
+fn put_samples(samples: &[u16], out: &mut [u32])
     requires { length samples.now ≡ length out.old }
-    ensures { (k : ℕ) → k < length out.new → number_at out.new k ≡ pos (slice_index samples.now k) }
+    ensures { (k : ℕ) → k < length out.new → bits_at out.new k ≡ slice_index samples.now k }
 {
     for turn in 0..out.len() {
-        out[turn] = sample_number(samples[turn]);
+        out[turn] = sample_word(samples[turn]);
     }
+}
+
+/// As many samples, put into a register, where all are of the type.
+pub(crate) fn copy_samples(ty: Ty, samples: &[u16], out: &mut [u32]) -> Option<()>
+    requires { length samples.now ≡ length out.old }
+    ensures { IfSome result (λ _. (k : ℕ) → k < length out.new → word_at ty out.new k ≡ pos (slice_index samples.now k)) }
+{
+    if !are_at_most(samples, greatest_sample(ty)) {
+        return None;
+    }
+    put_samples(samples, out);
+    Some(())
 }
 
 /// The number of a place, where its value is of the type.
 #[inline(always)]
 #[tactic(auto, using(crate::proofs::HeldPlaces::get_held))]
 fn number_held(held: Held<'_>, ty: Ty, place: usize) -> Option<Number>
-    ensures { IfSome result (λ n. slice_get (held_places held.entry.marks.now held.entry.numbers.now) place ≡ Some (Some (typed ty n.value))) }
+    ensures { IfSome result (λ n. slice_get (places_held held.entry) place ≡ Some (Some (typed ty n.value))) }
 {
-    let value = held_at(held.marks, held.numbers, place)?;
+    let value = held_at(held.marks, held.words, held.wides, place)?;
     if value.ty == ty {
         Some(Number {
             value: value.number,
@@ -271,7 +321,7 @@ fn number_held(held: Held<'_>, ty: Ty, place: usize) -> Option<Number>
 
 /// The number at a coordinate, where that is of the type.
 fn number_along(line: Scanline<'_>, ty: Ty, coordinate: Number) -> Option<Number>
-    ensures { IfSome result (λ n. along (held_places line.entry.held.marks.now line.entry.held.numbers.now) (coordinate.value -ℤ line.entry.origin) ≡ Some (Some (typed ty n.value))) }
+    ensures { IfSome result (λ n. along (places_held line.entry.held) (coordinate.value -ℤ line.entry.origin) ≡ Some (Some (typed ty n.value))) }
 {
     let place = coordinate.value.checked_sub(line.origin)?;
     if place < 0 {
@@ -282,7 +332,7 @@ fn number_along(line: Scanline<'_>, ty: Ty, coordinate: Number) -> Option<Number
 
 /// The numbers at the coordinates that a register has, put into it, where all are of the type.
 pub(crate) fn take_numbers(line: Scanline<'_>, ty: Ty, out: &mut [Number]) -> Option<()>
-    ensures { IfSome result (λ _. (k : ℕ) → k < length out.new → along (held_places line.entry.held.marks.now line.entry.held.numbers.now) (number_at out.old k -ℤ line.entry.origin) ≡ Some (Some (typed ty (number_at out.new k)))) }
+    ensures { IfSome result (λ _. (k : ℕ) → k < length out.new → along (places_held line.entry.held) (number_at out.old k -ℤ line.entry.origin) ≡ Some (Some (typed ty (number_at out.new k)))) }
 {
     for turn in 0..out.len() {
         out[turn] = number_along(line, ty, out[turn])?;
@@ -290,9 +340,9 @@ pub(crate) fn take_numbers(line: Scanline<'_>, ty: Ty, out: &mut [Number]) -> Op
     Some(())
 }
 
-/// The type of what the first of some places holds.
+/// The type of what the first of some places holds, where its number stands in its word.
 pub(crate) fn type_held(held: Held<'_>) -> Option<Ty> {
-    marked_type(*held.marks.first()?)
+    narrow_type(*held.marks.first()?)
 }
 
 /// Whether all marks are this one. All are looked at, so that several are at once.
@@ -307,15 +357,27 @@ fn are_marked(marks: &[Mark], mark: Mark) -> bool
     all
 }
 
-/// The numbers that as many places hold, put into a register, where all are of the type.
-pub(crate) fn copy_numbers(held: Held<'_>, ty: Ty, out: &mut [Number]) -> Option<()>
-    requires marks { length held.marks.now ≡ length out.old }
-    requires numbers { length held.numbers.now ≡ length out.old }
-    ensures { IfSome result (λ _. (k : ℕ) → k < length out.new → along (held_places held.entry.marks.now held.entry.numbers.now) (pos k) ≡ Some (Some (typed ty (number_at out.new k)))) }
+/// The type of what places hold, where all hold values of one type and these stand in words.
+pub(crate) fn row_type(marks: &[Mark]) -> Option<Ty>
+    ensures { IfSome result (λ t. (k : ℕ) → k < length marks.now → slice_get marks.now k ≡ Some (narrow_mark t)) }
 {
-    if !are_marked(held.marks, mark_of(ty)) {
+    let ty = narrow_type(*marks.first()?)?;
+    if are_marked(marks, narrow_mark(ty)) {
+        Some(ty)
+    } else {
+        None
+    }
+}
+
+/// The words of as many places, put into a register, where all are of the type and stand in words.
+pub(crate) fn copy_words(held: Held<'_>, ty: Ty, out: &mut [u32]) -> Option<()>
+    requires marks { length held.marks.now ≡ length out.old }
+    requires words { length held.words.now ≡ length out.old }
+    ensures { IfSome result (λ _. (k : ℕ) → k < length out.new → along (places_held held.entry) (pos k) ≡ Some (Some (typed ty (word_at ty out.new k)))) }
+{
+    if !are_marked(held.marks, narrow_mark(ty)) {
         return None;
     }
-    copy_each(held.numbers, out);
+    copy_each(held.words, out);
     Some(())
 }

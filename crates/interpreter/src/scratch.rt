@@ -55,9 +55,10 @@ fn note_group(
 impl Scratch {
     /// Memory for the pieces of these groups of a plan, each of which gives at most so many numbers.
     ///
-    /// It takes 9 bytes a place of the buffers, of each number as many places as the group that asks for most of them, 24 bytes a
-    /// line that binds a symbol, 4 bytes a count of the largest grid, 16 bytes a coordinate of the points that the groups' pieces
-    /// own and at which their lines fetch and store, 8 bytes an index of the calls in their stores, and 8 bytes a number.
+    /// It takes 5 bytes a place of the buffers, and room of 8 that is not touched as long as all numbers fit their types, of each
+    /// number as many places as the group that asks for most of them, 24 bytes a line that binds a symbol, 4 bytes a count of the
+    /// largest grid, 16 bytes a coordinate of the points that the groups' pieces own and at which their lines fetch and store, 8
+    /// bytes an index of the calls in their stores, and 8 bytes a number.
     ///
     /// # Errors
     /// `AllocError` where memory runs out. A scratch has no room for buffers of more than four coordinates.

@@ -22,8 +22,10 @@ pub(crate) struct State {
     pub point: Row,
     /// The indices of the calls that are under way.
     pub stack: Row,
-    /// The numbers of parts of expressions at the turns that are taken together.
+    /// The numbers of expressions at the turns that are taken together.
     pub registers: Vec<Number>,
+    /// The words of parts of expressions at these turns.
+    pub words: Vec<u32>,
 }
 
 /// Registers for so many turns of so many parts.
@@ -31,6 +33,13 @@ fn registers(alloc: Global, turns: usize, parts: usize) -> Result<Vec<Number>, A
     let mut registers = Vec::new(alloc);
     registers.resize(turns.saturating_mul(parts), Number { value: 0 })?;
     Ok(registers)
+}
+
+/// Words for so many turns of so many parts.
+fn words(alloc: Global, turns: usize, parts: usize) -> Result<Vec<u32>, AllocError> {
+    let mut words = Vec::new(alloc);
+    words.resize(turns.saturating_mul(parts), 0)?;
+    Ok(words)
 }
 
 impl State {
@@ -44,7 +53,8 @@ impl State {
             numbers: Row::new(alloc, needs.coordinates)?,
             point: Row::new(alloc, needs.coordinates)?,
             stack: Row::new(alloc, needs.indices)?,
-            registers: registers(alloc, 512, 16)?,
+            registers: registers(alloc, 256, 16)?,
+            words: words(alloc, 512, 16)?,
         })
     }
 }

@@ -12,7 +12,7 @@ ghost use Rattle.interpreter.specs.Pieces.{around, no_cells};
 ghost use Rattle.interpreter.specs.Runs.{IsBut};
 ghost use Rattle.interpreter.specs.Updates.{columns_at};
 
-use crate::evaluation::{Lanes, Number, RunReader, copy_register};
+use crate::evaluation::{Lanes, Number, RunReader, narrow_words};
 use crate::run_reading::RunReading;
 use meaning::sameness::same_name;
 use numeric::Ty;
@@ -82,7 +82,7 @@ pub(crate) fn are_few(count: usize, first: i64) -> bool
 }
 
 /// A register's numbers, put into another where they neither stay nor rise by one.
-fn lanes_in(column: &[Number], out: &mut [Number]) -> Option<Lanes>
+fn lanes_in(column: &[Number], out: &mut [u32]) -> Option<Lanes>
     requires { length column.now ≡ length out.old }
     ensures narrow { IfSome result (IsNarrowFor (length out.new)) }
     ensures lanes { IfSome result (λ x. (k : ℕ) → k < length out.new → typed I32 (number_at column.now k) ≡ lane x out.new k) }
@@ -97,7 +97,7 @@ fn lanes_in(column: &[Number], out: &mut [Number]) -> Option<Lanes>
     if are_few(column.len(), first) && rises(column, first) {
         return Some(Lanes::Ramp(Ty::I32, number));
     }
-    copy_register(column, out)?;
+    narrow_words(Ty::I32, column, out)?;
     Some(Lanes::Vector(Ty::I32))
 }
 
@@ -108,7 +108,7 @@ impl RunReader for UpdateReading<'_, '_> {
 
     ghost agrees = { λ r m. IsBut r.reading.buffer (memory_of r.reading.memory.now) m };
 
-    fn variable(&self, name: &str, out: &mut [Number]) -> Option<Lanes> {
+    fn variable(&self, name: &str, out: &mut [u32]) -> Option<Lanes> {
         if out.len() != self.count {
             return None;
         }
@@ -123,7 +123,7 @@ impl RunReader for UpdateReading<'_, '_> {
         self.reading.look_each(name, others, out)
     }
 
-    fn look_row(&self, name: &str, first: i64, others: &[i64], out: &mut [Number]) -> Option<Ty> {
+    fn look_row(&self, name: &str, first: i64, others: &[i64], out: &mut [u32]) -> Option<Ty> {
         self.reading.look_row(name, first, others, out)
     }
 
@@ -131,7 +131,7 @@ impl RunReader for UpdateReading<'_, '_> {
         &self,
         name: &str,
         indices: &[Lanes],
-        registers: &[Number],
+        registers: &[u32],
         out: &mut [Number],
     ) -> Option<Ty> {
         self.reading.look_points(name, indices, registers, out)

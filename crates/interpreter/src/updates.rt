@@ -13,7 +13,7 @@ ghost use Rattle.plan.specs.Semantics.Run.{look};
 ghost use Rattle.plan.specs.Symbols.{bind, rising};
 ghost use Rattle.interpreter.specs.Bindings.{symbols_of};
 ghost use Rattle.interpreter.specs.Buffers.Blocks.{memory_of};
-ghost use Rattle.interpreter.specs.Evaluation.Lanes.{lane_number, number_at, IsNarrowFor};
+ghost use Rattle.interpreter.specs.Evaluation.Lanes.{number_at};
 ghost use Rattle.interpreter.specs.PlaceNumbers.{UpdateStands};
 ghost use Rattle.interpreter.specs.Pieces.{around, no_cells, IsReady};
 ghost use Rattle.interpreter.specs.Runs.{numbers_at, store_at, IsBut};
@@ -24,17 +24,17 @@ ghost use Rattle.interpreter.specs.Targets.{CoordinateIsNarrow};
 ghost use Rattle.interpreter.specs.Updates.{columns_at, operand_at, operation_at, place_number, variables_at, place_numbers, registers_of, FindsTurn, FindsUpdate, IsOperation, IsOwnCall, IsPoint, IsShort};
 
 use crate::columns::{column_run, columns_run};
-use crate::evaluation::{Lanes, Number, Stop, evaluate_run, spread};
+use crate::evaluation::{Number, Stop, evaluate_numbers, fill, fill_rising, fill_steps};
 use crate::loads::claim_of;
 use crate::piece::Piece;
 use crate::placing::{Places, Target};
-use crate::run_reading::{RunReading, lanes_of};
+use crate::run_reading::RunReading;
 use crate::runs::{Part, StoreLine, numbers_in};
 use crate::sizes::size_in;
 use crate::state::State;
 use crate::symbols::Symbols;
 use crate::turns::turn;
-use crate::update_reading::UpdateReading;
+use crate::update_reading::{UpdateReading, are_few};
 use meaning::sameness::same_name;
 use numeric::{Op, Ty};
 use plan::{Coordinate, Index};
@@ -76,23 +76,42 @@ fn registers_of(operand: Operand) -> usize
     }
 }
 
+/// Puts the numbers of a coordinate in, by those of the first turn and of the second.
+fn step_numbers(first: i64, second: i64, out: &mut [Number]) -> Option<()>
+    ensures { IfSome result (λ _. (k : ℕ) → k < length out.new → number_at out.new k ≡ first +ℤ (second -ℤ first) *ℤ pos k) }
+{
+    let number = Number { value: first };
+    if second == first {
+        fill(number, out);
+        return Some(());
+    }
+    let step = second.checked_sub(first)?;
+    if step == 1 && are_few(out.len(), first) {
+        fill_rising(number, out);
+        return Some(());
+    }
+    fill_steps(first, step, out)
+}
+
 /// The numbers of a coordinate at the turns of a run, by those of the first turn and of the second as far as a form tells
 /// them. Only one of a point is found by an expression.
-fn coordinate_lanes(
+fn coordinate_numbers(
     reader: &RunReading<'_, '_>,
     coordinate: &Coordinate,
     first: i64,
     second: i64,
     places: usize,
     out: &mut [Number],
-    rest: &mut [Number],
-) -> Option<Lanes>
-    ensures narrow { IfSome result (IsNarrowFor (length out.new)) }
-    ensures finds { IfSome result (λ x. (m : Memory ValueFound) → IsBut reader.now.buffer (memory_of reader.now.memory.now) m → (k : ℕ) → k < length out.new → place_number (bound (map (λ c. string_bytes c.variable) reader.now.coordinates.now) (numbers_at reader.now.first.now reader.now.second.now k)) (look (around reader.now.piece.now no_cells) m) places (coordinate_of coordinate.now).index (first +ℤ (second -ℤ first) *ℤ pos k) ≡ Some (lane_number x out.new k)) }
+    words: &mut [u32],
+) -> Option<()>
+    ensures { IfSome result (λ _. (m : Memory ValueFound) → IsBut reader.now.buffer (memory_of reader.now.memory.now) m → (k : ℕ) → k < length out.new → place_number (bound (map (λ c. string_bytes c.variable) reader.now.coordinates.now) (numbers_at reader.now.first.now reader.now.second.now k)) (look (around reader.now.piece.now no_cells) m) places (coordinate_of coordinate.now).index (first +ℤ (second -ℤ first) *ℤ pos k) ≡ Some (number_at out.new k)) }
 {
     match &coordinate.index {
-        Index::Found(expr) if places > 0 => evaluate_run(expr, reader, out, rest),
-        _ => lanes_of(first, second, out),
+        Index::Found(expr) if places > 0 => {
+            evaluate_numbers(expr, reader, words, out)?;
+            Some(())
+        }
+        _ => step_numbers(first, second, out),
     }
 }
 
@@ -105,15 +124,15 @@ fn coordinate_run(
     places: usize,
     count: usize,
     registers: &mut [Number],
+    words: &mut [u32],
 ) -> Option<()>
     ensures { IfSome result (λ _. (m : Memory ValueFound) → IsBut reader.now.buffer (memory_of reader.now.memory.now) m → (k : ℕ) → k < count → place_number (bound (map (λ c. string_bytes c.variable) reader.now.coordinates.now) (numbers_at reader.now.first.now reader.now.second.now k)) (look (around reader.now.piece.now no_cells) m) places (coordinate_of coordinate.now).index (first +ℤ (second -ℤ first) *ℤ pos k) ≡ Some (number_at registers.new k)) }
 {
     if registers.len() < count {
         return None;
     }
-    let (out, rest) = registers.split_at_mut(count);
-    let lanes = coordinate_lanes(reader, coordinate, first, second, places, out, rest)?;
-    spread(lanes, out);
+    let (out, _) = registers.split_at_mut(count);
+    coordinate_numbers(reader, coordinate, first, second, places, out, words)?;
     Some(())
 }
 
@@ -127,19 +146,31 @@ fn coordinates_run(
     places: usize,
     count: usize,
     registers: &mut [Number],
+    words: &mut [u32],
 ) -> Option<()>
     ensures { IfSome result (λ _. (m : Memory ValueFound) → IsBut reader.now.buffer (memory_of reader.now.memory.now) m → (k : ℕ) → k < count → place_numbers (bound (map (λ c. string_bytes c.variable) reader.now.coordinates.now) (numbers_at reader.now.first.now reader.now.second.now k)) (look (around reader.now.piece.now no_cells) m) places coordinates.now (numbers_at first.now second.now k) ≡ Some (columns_at count (length coordinates.now) registers.new k)) }
 {
     match (coordinates, first, second) {
         ([], _, _) => Some(()),
         ([coordinate, coordinates @ ..], [number, first @ ..], [next, second @ ..]) => {
-            coordinate_run(reader, coordinate, *number, *next, places, count, registers)?;
+            coordinate_run(
+                reader, coordinate, *number, *next, places, count, registers, words,
+            )?;
             if registers.len() < count {
                 return None;
             }
             let (_, rest) = registers.split_at_mut(count);
             let places = places.saturating_sub(1);
-            coordinates_run(reader, coordinates, first, second, places, count, rest)
+            coordinates_run(
+                reader,
+                coordinates,
+                first,
+                second,
+                places,
+                count,
+                rest,
+                words,
+            )
         }
         _ => None,
     }
@@ -176,6 +207,7 @@ fn operand_run(
     reader: &UpdateReading<'_, '_>,
     count: usize,
     registers: &mut [Number],
+    words: &mut [u32],
 ) -> Option<Operand>
     ensures short { IfSome result IsShort }
     ensures finds { IfSome result (λ o. (m : Memory ValueFound) → IsBut reader.now.reading.buffer (memory_of reader.now.reading.memory.now) m → (k : ℕ) → k < count → found (variables_at reader.now k) (look (around reader.now.reading.piece.now no_cells) m) (term_of expr.now) ≡ operand_at count o registers.new m reader.now.reading.buffer k) }
@@ -185,10 +217,10 @@ fn operand_run(
             if indices.len() > 4 {
                 return None;
             }
-            columns_run(indices, reader, count, registers)?;
+            columns_run(indices, reader, count, registers, words)?;
             Some(Operand::Own(indices.len()))
         }
-        None => Some(Operand::Known(column_run(expr, reader, count, registers)?)),
+        None => Some(Operand::Known(column_run(expr, reader, count, registers, words)?)),
     }
 }
 
@@ -198,6 +230,7 @@ fn operation_run(
     reader: &UpdateReading<'_, '_>,
     count: usize,
     registers: &mut [Number],
+    words: &mut [u32],
 ) -> Option<Operation>
     ensures short { IfSome result IsOperation }
     ensures finds { IfSome result (λ o. (m : Memory ValueFound) → IsBut reader.now.reading.buffer (memory_of reader.now.reading.memory.now) m → (k : ℕ) → k < count → found (variables_at reader.now k) (look (around reader.now.reading.piece.now no_cells) m) (term_of expr.now) ≡ operation_at count o registers.new m reader.now.reading.buffer k) }
@@ -211,13 +244,13 @@ fn operation_run(
     else {
         return None;
     };
-    let left = operand_run(left, reader, count, registers)?;
+    let left = operand_run(left, reader, count, registers, words)?;
     let width = registers_of(left).checked_mul(count)?;
     if registers.len() < width {
         return None;
     }
     let (_, rest) = registers.split_at_mut(width);
-    let right = operand_run(right, reader, count, rest)?;
+    let right = operand_run(right, reader, count, rest, words)?;
     Some(Operation {
         op: *op,
         left,
@@ -233,6 +266,7 @@ fn update_run(
     reader: &RunReading<'_, '_>,
     count: usize,
     registers: &mut [Number],
+    words: &mut [u32],
 ) -> Option<Update>
     ensures point { IfSome result (λ _. IsPoint size (length reader.now.coordinates.now)) }
     ensures operation { IfSome result (λ u. IsOperation u.operation) }
@@ -250,6 +284,7 @@ fn update_run(
         size,
         count,
         registers,
+        words,
     )?;
     let start = coordinates.len().checked_mul(count)?;
     if registers.len() < start {
@@ -261,7 +296,7 @@ fn update_run(
         columns,
         count,
     };
-    let operation = operation_run(value, &inner, count, rest)?;
+    let operation = operation_run(value, &inner, count, rest, words)?;
     Some(Update { start, operation })
 }
 
@@ -322,7 +357,14 @@ pub(crate) fn update_part<'a>(
         second: state.point.as_slice(),
     };
     let size = size_in(piece.sizes, line.buffer);
-    update_run(line.value, size, &reader, part.count, &mut state.registers)
+    update_run(
+        line.value,
+        size,
+        &reader,
+        part.count,
+        &mut state.registers,
+        &mut state.words,
+    )
 }
 
 /// An update at some turns of a loop, one after another.

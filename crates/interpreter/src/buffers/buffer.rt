@@ -9,14 +9,16 @@ ghost use Rattle.interpreter.specs.Buffers.Rooms.{room_of};
 ghost use Rattle.interpreter.specs.Scanlines.{along};
 ghost use Rattle.interpreter.specs.Buffers.Raster.{place_count, LiesAt};
 ghost use Rattle.interpreter.specs.Buffers.Blocks.{held_in, unused, IsSetAt};
-ghost use Rattle.interpreter.specs.Buffers.Marks.{held_places, row_held};
+ghost use Rattle.interpreter.specs.Buffers.Marks.{places_held, row_held, word_values};
+ghost use Rattle.interpreter.specs.CellRows.{row_value};
 ghost use Rattle.interpreter.specs.Buffers.Spots.{with_place};
 ghost use Rattle.interpreter.specs.HeldTurns.{turned, with_places};
 ghost use Rattle.interpreter.specs.PlaceNumbers.{place_at};
 ghost use Rattle.interpreter.specs.Updates.{columns_at};
 
 use crate::buffers::held::{
-    Held, held_at, held_window, make_as_many, place_behind, put_numbers, set_held, unset_all,
+    Held, held_at, held_window, make_as_many, place_behind, put_cells, put_row_of_words, set_held,
+    unset_all,
 };
 use crate::buffers::limit::Limit;
 use crate::buffers::marks::Mark;
@@ -25,18 +27,21 @@ use crate::buffers::rising::{rise_from, rising, standing};
 use crate::buffers::room::Rooms;
 use crate::buffers::stretch::stretch_of;
 use crate::buffers::turning::turn_all;
-use crate::evaluation::{Number, Width};
+use crate::cells::CellRow;
+use crate::evaluation::Number;
 use crate::placing::Places;
 use crate::run_reading::registers_behind;
 use crate::scanlines::{Scanline, distance};
 use crate::updates::Operation;
+use numeric::Ty;
 use smallvec::SmallVec;
 use std::alloc::{AllocError, Global};
 use std::marker::Model;
 use tree::Value;
 
 /// A buffer: its number, for how many places there is memory, whether it is in use, the places of each coordinate, and
-/// what all places hold in raster order: a mark and a number each.
+/// what all places hold in raster order: a mark and a word each, and the numbers that do not fit their types, as far as there are
+/// such.
 #[derive(Drop)]
 pub struct Buffer {
     number: u64,
@@ -44,7 +49,8 @@ pub struct Buffer {
     is_used: bool,
     rooms: Rooms,
     marks: Vec<Mark>,
-    numbers: Vec<Number>,
+    words: Vec<u32>,
+    wides: Vec<Number>,
 }
 
 impl Model for Buffer {
@@ -56,9 +62,9 @@ impl Model for Buffer {
 
     ghost Value = { Block };
 
-    ghost view = { λ b. record { number = b.number; limit = b.limit; used = b.is_used; rooms = map room_of b.rooms.items; places = held_places b.marks.items b.numbers.items } };
+    ghost view = { λ b. record { number = b.number; limit = b.limit; used = b.is_used; rooms = map room_of b.rooms.items; places = held_places b.marks.items b.words.items b.wides.items } };
 
-    ghost invariant = { λ b. (length b.marks.items ≡ place_count (map room_of b.rooms.items)) × (place_count (map room_of b.rooms.items) < 2 ^ 64) × (b.limit ≤ vec_capacity b.marks) × (b.limit < 2 ^ 64) × (length b.numbers.items ≡ length b.marks.items) × (b.limit ≤ vec_capacity b.numbers) };
+    ghost invariant = { λ b. (length b.marks.items ≡ place_count (map room_of b.rooms.items)) × (place_count (map room_of b.rooms.items) < 2 ^ 64) × (b.limit ≤ vec_capacity b.marks) × (b.limit < 2 ^ 64) × (length b.words.items ≡ length b.marks.items) × (b.limit ≤ vec_capacity b.words) × (length b.marks.items ≤ vec_capacity b.wides) × (b.limit ≤ vec_capacity b.wides) };
 }
 
 /// Whether there are so many behind those that are skipped.
@@ -80,24 +86,28 @@ fn sum(left: usize, right: usize) -> Option<usize>
 }
 
 impl Buffer {
-    /// A buffer that is not in use. It takes memory for its places, 9 bytes each.
+    /// A buffer that is not in use. It takes memory for its places, 5 bytes each, and room of 8 bytes
+    /// each that is not touched as long as all numbers fit their types.
     pub(crate) fn new(alloc: Global, limit: Limit) -> Result<Buffer, AllocError>
         ensures number { IfOk result (λ b. b.number ≡ limit.buffer) }
         ensures limit { IfOk result (λ b. b.limit ≡ limit.places) }
         ensures unused { IfOk result (λ b. b.used ≡ false) }
     {
         let mut marks = Vec::with_capacity(alloc, limit.places)?;
-        let mut numbers = Vec::with_capacity(alloc, limit.places)?;
+        let mut words = Vec::with_capacity(alloc, limit.places)?;
+        let mut wides = Vec::with_capacity(alloc, limit.places)?;
         // Without coordinates there is one place.
         marks.push(Mark::Unset)?;
-        numbers.push(Number { value: 0 })?;
+        words.push(0)?;
+        wides.push(Number { value: 0 })?;
         Ok(Buffer {
             number: limit.buffer,
             limit: limit.places,
             is_used: false,
             rooms: SmallVec::new(alloc),
             marks,
-            numbers,
+            words,
+            wides,
         })
     }
 
@@ -126,8 +136,8 @@ impl Buffer {
             unreachable!()
         };
         unset_all(&mut self.marks, count);
-        // What an unset place has as its number is no matter.
-        make_as_many(&mut self.numbers, count);
+        // What an unset place has as its word is no matter.
+        make_as_many(&mut self.words, count);
         self.rooms = rooms;
     }
 
@@ -143,23 +153,24 @@ impl Buffer {
         ensures { result ≡ held_at (held_in self.now) (place self.now.rooms at.now) }
     {
         let number = place_number(&self.rooms, at)?;
-        held_at(&self.marks, &self.numbers, number)
+        held_at(&self.marks, &self.words, &self.wides, number)
     }
 
     /// What all places hold.
     fn held(&self) -> Held<'_>
-        ensures { held_places result.marks.now result.numbers.now ≡ self.now.places }
+        ensures { places_held result ≡ self.now.places }
     {
         Held {
             marks: self.marks.as_slice(),
-            numbers: self.numbers.as_slice(),
+            words: self.words.as_slice(),
+            wides: self.wides.as_slice(),
         }
     }
 
     /// What is held at the points with these coordinates behind the first one. Nothing where they have no places, or places
     /// that are used again and again.
     pub(crate) fn scanline(&self, others: &[i64]) -> Option<Scanline<'_>>
-        ensures { IfSome result (λ l. (z : ℤ) (v : ValueHeld) → along (held_places l.held.marks.now l.held.numbers.now) (z -ℤ l.origin) ≡ Some (Some v) → held_at (held_in self.now) (place self.now.rooms (z ∷ others.now)) ≡ Some v) }
+        ensures { IfSome result (λ l. (z : ℤ) (v : ValueHeld) → along (places_held l.held) (z -ℤ l.origin) ≡ Some (Some v) → held_at (held_in self.now) (place self.now.rooms (z ∷ others.now)) ≡ Some v) }
     {
         let stretch = stretch_of(&self.rooms, others)?;
         let held = held_window(self.held(), stretch.start, stretch.count)?;
@@ -265,8 +276,11 @@ impl Buffer {
         ensures counted { length self.old.places ≡ place_count self.old.rooms }
     {
         let marks = self.marks.as_mut_slice();
-        let held = self.numbers.as_mut_slice();
-        turn_all(operation, numbers, behind, places, count, marks, held)
+        let words = self.words.as_mut_slice();
+        let wides = &mut self.wides;
+        turn_all(
+            operation, numbers, behind, places, count, marks, words, wides,
+        )
     }
 
     /// Sets the place that so many come behind another.
@@ -279,20 +293,32 @@ impl Buffer {
     {
         let target = place_behind(self.marks.len(), place, behind);
         let marks = self.marks.as_mut_slice();
-        let numbers = self.numbers.as_mut_slice();
-        set_held(marks, numbers, target, value);
+        let words = self.words.as_mut_slice();
+        set_held(marks, words, &mut self.wides, target, value);
     }
 
-    /// Sets the places from one on, one after another, each to a number of the type.
+    /// Sets the places from one on, one after another, each to the value of the type whose low bits a word has.
     #[tactic(auto, using(crate::proofs::HeldPlaces::held_length))]
-    pub(crate) fn put_numbers<W: Width>(&mut self, place: usize, numbers: &[Number])
-        requires { place + length numbers.now ≤ length self.old.places }
-        ensures set { self.new ≡ with_places self.old (row_held W.ty place numbers.now self.old.places (length numbers.now)) }
+    pub(crate) fn put_words(&mut self, place: usize, ty: Ty, from: &[u32])
+        requires { place + length from.now ≤ length self.old.places }
+        ensures set { self.new ≡ with_places self.old (row_held (word_values ty from.now) place self.old.places (length from.now)) }
         ensures counted { length self.old.places ≡ place_count self.old.rooms }
     {
         let marks = self.marks.as_mut_slice();
-        let held = self.numbers.as_mut_slice();
-        put_numbers::<W>(marks, held, place, numbers);
+        let words = self.words.as_mut_slice();
+        put_row_of_words(marks, words, place, ty, from);
+    }
+
+    /// Sets the places from one on, one after another, each to the value of a row of cells.
+    #[tactic(auto, using(crate::proofs::HeldPlaces::held_length))]
+    pub(crate) fn put_cells(&mut self, place: usize, row: &CellRow<'_>)
+        requires { place + length row.now.numbers.now ≤ length self.old.places }
+        ensures set { self.new ≡ with_places self.old (row_held (row_value row.now) place self.old.places (length row.now.numbers.now)) }
+        ensures counted { length self.old.places ≡ place_count self.old.rooms }
+    {
+        let marks = self.marks.as_mut_slice();
+        let words = self.words.as_mut_slice();
+        put_cells(marks, words, &mut self.wides, place, row);
     }
 
     /// Sets the place of a point; `false` where the point has none.
@@ -303,8 +329,8 @@ impl Buffer {
         match place_number(&self.rooms, at) {
             Some(number) => {
                 let marks = self.marks.as_mut_slice();
-                let numbers = self.numbers.as_mut_slice();
-                set_held(marks, numbers, number, value);
+                let words = self.words.as_mut_slice();
+                set_held(marks, words, &mut self.wides, number, value);
                 true
             }
             None => false,

@@ -1,21 +1,33 @@
-//! What places hold, as two lists: a mark and a number for each of them.
+//! What places hold, as three lists: a mark and a word for each of them, and the numbers of those whose value does not fit its type.
 
-ghost use Rattle.std.specs.Prelude.{◌≡◌, ◌<◌, ◌≤◌, ◌+◌, length, take, drop, replicate, slice_index_or, slice_set, vec_capacity, IfSome, Some, None};
+ghost use Rattle.std.specs.Prelude.{◌≡◌, ◌<◌, ◌≤◌, ◌+◌, ℕ, List, length, take, drop, pos, replicate, slice_index_or, slice_set, vec_capacity, IfSome, Some, None};
+ghost use Rattle.std.specs.Bool.{OnTrue};
 ghost use Rattle.interpreter.specs.declared.buffers.marks.Mark.TheVariants.{Unset};
+ghost use Rattle.interpreter.specs.declared.evaluation.lanes.Number.{Number as NumberHeld};
+ghost use Rattle.numeric.specs.Wrap.{wrap, IsOf};
 ghost use Rattle.tree.specs.Meaning.{typed};
-ghost use Rattle.interpreter.specs.Buffers.Marks.{held_places, row_held};
+ghost use Rattle.interpreter.specs.Buffers.Marks.{held_by, held_places, places_held, row_held, word_in, word_values};
+ghost use Rattle.interpreter.specs.CellRows.{row_value, told_value, number_told};
+ghost use Rattle.interpreter.specs.declared.cells.NumberKind.TheVariants.{Exact, Bits};
 ghost use Rattle.interpreter.specs.Evaluation.Lanes.{number_at};
 
-use crate::buffers::marks::{Mark, held_by, mark_of};
-use crate::evaluation::{Number, Width};
+use crate::buffers::marks::{Mark, narrow_mark, wide_mark};
+use crate::buffers::words::{fits, low_word, number_in_word, value_in_word};
+use crate::cells::{CellRow, NumberKind};
+use crate::evaluation::{
+    Number, Signed8, Signed16, Signed32, Unsigned8, Unsigned16, Unsigned32, Width,
+};
+use crate::run_reading::registers_behind;
 use crate::scanlines::window;
+use numeric::Ty;
 use tree::Value;
 
-/// Places side by side: of each its mark and its number.
+/// Places side by side: of each its mark and its word, and the numbers that stand apart, as far as there are such.
 #[derive(Clone, Copy, Drop)]
 pub struct Held<'a> {
     pub marks: &'a [Mark],
-    pub numbers: &'a [Number],
+    pub words: &'a [u32],
+    pub wides: &'a [Number],
 }
 
 /// Makes so many marks, each of an unset place.
@@ -30,110 +42,257 @@ pub(crate) fn unset_all(marks: &mut Vec<Mark>, count: usize)
     };
 }
 
-/// Makes so many numbers of some.
-pub(crate) fn make_as_many(numbers: &mut Vec<Number>, count: usize)
-    requires { count ≤ vec_capacity numbers.old }
-    ensures count { length numbers.new.items ≡ count }
-    ensures capacity { vec_capacity numbers.old ≤ vec_capacity numbers.new }
+/// Makes so many words of some.
+pub(crate) fn make_as_many(words: &mut Vec<u32>, count: usize)
+    requires { count ≤ vec_capacity words.old }
+    ensures count { length words.new.items ≡ count }
+    ensures capacity { vec_capacity words.old ≤ vec_capacity words.new }
 {
-    let Ok(()) = numbers.resize(count, Number { value: 0 }) else {
+    let Ok(()) = words.resize(count, 0) else {
         unreachable!()
     };
 }
 
-/// The number of a place, 0 behind the last.
-#[inline(always)]
-fn number_there(numbers: &[Number], place: usize) -> Number
-    ensures { result.value ≡ number_at numbers.now place }
+/// The number that stands apart for a place, 0 where there is none.
+fn number_apart(wides: &[Number], place: usize) -> i64
+    ensures { result ≡ number_at wides.now place }
 {
-    match numbers.get(place) {
-        Some(number) => *number,
-        None => Number { value: 0 },
+    match wides.get(place) {
+        Some(number) => number.value,
+        None => 0,
     }
+}
+
+/// The value of the type with the number that stands apart for a place.
+#[inline(never)]
+fn value_apart(ty: Ty, wides: &[Number], place: usize) -> Value
+    ensures { result ≡ typed ty (number_at wides.now place) }
+{
+    Value {
+        ty,
+        number: number_apart(wides, place),
+    }
+}
+
+/// What a place of a mark and a word holds.
+#[inline(always)]
+fn held_by(mark: Mark, word: u32, wides: &[Number], place: usize) -> Option<Value>
+    ensures { result ≡ held_by mark word (number_at wides.now place) }
+{
+    match mark {
+        Mark::Unset => None,
+        Mark::U8 => Some(value_in_word::<Unsigned8>(word)),
+        Mark::U16 => Some(value_in_word::<Unsigned16>(word)),
+        Mark::U32 => Some(value_in_word::<Unsigned32>(word)),
+        Mark::I8 => Some(value_in_word::<Signed8>(word)),
+        Mark::I16 => Some(value_in_word::<Signed16>(word)),
+        Mark::I32 => Some(value_in_word::<Signed32>(word)),
+        Mark::WideU8 => Some(value_apart(Ty::U8, wides, place)),
+        Mark::WideU16 => Some(value_apart(Ty::U16, wides, place)),
+        Mark::WideU32 => Some(value_apart(Ty::U32, wides, place)),
+        Mark::WideI8 => Some(value_apart(Ty::I8, wides, place)),
+        Mark::WideI16 => Some(value_apart(Ty::I16, wides, place)),
+        Mark::WideI32 => Some(value_apart(Ty::I32, wides, place)),
+    }
+}
+
+/// The word of a place, 0 behind the last.
+#[inline(always)]
+fn word_there(words: &[u32], place: usize) -> u32
+    ensures { result ≡ word_in words.now place }
+{
+    match words.get(place) {
+        Some(word) => *word,
+        None => 0,
+    }
+}
+
+/// What the place of a number holds, where it has a mark and a word.
+#[inline(always)]
+pub(crate) fn held_inside(
+    marks: &[Mark],
+    words: &[u32],
+    wides: &[Number],
+    place: usize,
+) -> Option<Value>
+    requires marks { place < length marks.now }
+    requires words { length words.now ≡ length marks.now }
+    ensures { result ≡ slice_index_or (held_places marks.now words.now wides.now) place None }
+{
+    held_by(marks[place], words[place], wides, place)
 }
 
 /// What the place of a number holds; nothing behind the last.
 #[inline(always)]
 #[tactic(auto, using(crate::proofs::HeldPlaces::held_outside))]
-pub(crate) fn held_at(marks: &[Mark], numbers: &[Number], place: usize) -> Option<Value>
-    ensures { result ≡ slice_index_or (held_places marks.now numbers.now) place None }
+pub(crate) fn held_at(
+    marks: &[Mark],
+    words: &[u32],
+    wides: &[Number],
+    place: usize,
+) -> Option<Value>
+    ensures { result ≡ slice_index_or (held_places marks.now words.now wides.now) place None }
 {
     if place >= marks.len() {
         return None;
     }
-    held_by(marks[place], number_there(numbers, place))
+    held_by(marks[place], word_there(words, place), wides, place)
 }
 
-/// What the place of a number holds, where it has a mark and a number.
-#[inline(always)]
-pub(crate) fn held_inside(marks: &[Mark], numbers: &[Number], place: usize) -> Option<Value>
-    requires marks { place < length marks.now }
-    requires numbers { place < length numbers.now }
-    ensures { result ≡ slice_index_or (held_places marks.now numbers.now) place None }
+/// Makes so many numbers of those that stand apart, as many as there are at least.
+fn lengthen(wides: &mut Vec<Number>, count: usize)
+    requires { count ≤ vec_capacity wides.old }
+    ensures count { count ≤ length wides.new.items }
+    ensures same { (k : ℕ) → number_at wides.new.items k ≡ number_at wides.old.items k }
+    ensures capacity { vec_capacity wides.old ≤ vec_capacity wides.new }
 {
-    held_by(marks[place], numbers[place])
+    if wides.len() >= count {
+        return;
+    }
+    let Ok(()) = wides.resize(count, Number { value: 0 }) else {
+        unreachable!()
+    };
+}
+
+/// Sets the place of a number to a value whose number stands apart.
+#[inline(never)]
+fn set_apart(marks: &mut [Mark], wides: &mut Vec<Number>, place: usize, value: Value)
+    requires marks { place < length marks.old }
+    requires room { length marks.old ≤ vec_capacity wides.old }
+    ensures set { (ws : List ℕ) → held_places marks.new ws wides.new.items ≡ slice_set (held_places marks.old ws wides.old.items) place (Some value) }
+    ensures capacity { vec_capacity wides.old ≤ vec_capacity wides.new }
+{
+    lengthen(wides, marks.len());
+    marks[place] = wide_mark(value.ty);
+    wides[place] = Number {
+        value: value.number,
+    };
+}
+
+/// Sets the place of a number to the value of the type whose low bits a word has.
+#[inline(always)]
+fn put_word(marks: &mut [Mark], words: &mut [u32], place: usize, ty: Ty, word: u32)
+    requires marks { place < length marks.old }
+    requires words { place < length words.old }
+    ensures { (zs : List NumberHeld) → held_places marks.new words.new zs ≡ slice_set (held_places marks.old words.old zs) place (Some (typed ty (wrap ty (pos word)))) }
+{
+    marks[place] = narrow_mark(ty);
+    words[place] = word;
+}
+
+/// Sets the places from one on, one after another, each to the value of the type whose low bits a word has.
+pub(crate) fn put_row_of_words(
+    marks: &mut [Mark],
+    words: &mut [u32],
+    place: usize,
+    ty: Ty,
+    from: &[u32],
+)
+    requires places { place + length from.now ≤ length marks.old }
+    requires words { length words.old ≡ length marks.old }
+    ensures { (zs : List NumberHeld) → held_places marks.new words.new zs ≡ row_held (word_values ty from.now) place (held_places marks.old words.old zs) (length from.now) }
+{
+    let all = marks.len();
+    for turn in 0..from.len() {
+        put_word(marks, words, place_behind(all, place, turn), ty, from[turn]);
+    }
+}
+
+/// Sets the place of a number to the value of the type whose low bits the number has.
+#[inline(always)]
+fn set_word(marks: &mut [Mark], words: &mut [u32], place: usize, ty: Ty, number: i64)
+    requires marks { place < length marks.old }
+    requires words { place < length words.old }
+    ensures { (zs : List NumberHeld) → held_places marks.new words.new zs ≡ slice_set (held_places marks.old words.old zs) place (Some (typed ty (wrap ty number))) }
+{
+    put_word(marks, words, place, ty, low_word(number));
 }
 
 /// Sets the place of a number.
 #[inline(always)]
-pub(crate) fn set_held(marks: &mut [Mark], numbers: &mut [Number], place: usize, value: Value)
+pub(crate) fn set_held(
+    marks: &mut [Mark],
+    words: &mut [u32],
+    wides: &mut Vec<Number>,
+    place: usize,
+    value: Value,
+)
     requires marks { place < length marks.old }
-    requires numbers { place < length numbers.old }
-    ensures { held_places marks.new numbers.new ≡ slice_set (held_places marks.old numbers.old) place (Some value) }
+    requires words { length words.old ≡ length marks.old }
+    requires room { length marks.old ≤ vec_capacity wides.old }
+    ensures set { held_places marks.new words.new wides.new.items ≡ slice_set (held_places marks.old words.old wides.old.items) place (Some value) }
+    ensures capacity { vec_capacity wides.old ≤ vec_capacity wides.new }
 {
-    marks[place] = mark_of(value.ty);
-    numbers[place] = Number {
-        value: value.number,
-    };
+    if fits(value.ty, value.number) {
+        set_word(marks, words, place, value.ty, value.number);
+    } else {
+        set_apart(marks, wides, place, value);
+    }
 }
 
 /// So many places from one on, if there are so many.
 #[tactic(auto, using(crate::proofs::HeldPlaces::window_held))]
 pub(crate) fn held_window(held: Held<'_>, start: usize, count: usize) -> Option<Held<'_>>
     ensures marks { IfSome result (λ w. length w.marks.now ≡ count) }
-    ensures numbers { IfSome result (λ w. length w.numbers.now ≡ count) }
-    ensures same { IfSome result (λ w. held_places w.marks.now w.numbers.now ≡ take count (drop start (held_places held.entry.marks.now held.entry.numbers.now))) }
+    ensures words { IfSome result (λ w. length w.words.now ≡ count) }
+    ensures same { IfSome result (λ w. places_held w ≡ take count (drop start (places_held held.entry))) }
 {
     let marks = window(held.marks, start, count)?;
-    let numbers = window(held.numbers, start, count)?;
-    Some(Held { marks, numbers })
+    let words = window(held.words, start, count)?;
+    let wides = registers_behind(held.wides, start);
+    Some(Held {
+        marks,
+        words,
+        wides,
+    })
 }
 
-/// The number of a place that is set to a value of the type.
+/// The number of a place that is set to a value of the type and whose number stands in its word.
 #[inline(always)]
-pub(crate) fn number_in<W: Width>(
-    marks: &[Mark],
-    numbers: &[Number],
-    place: usize,
-) -> Option<Number>
-    requires { length numbers.now ≡ length marks.now }
-    ensures { IfSome result (λ n. slice_index_or (held_places marks.now numbers.now) place None ≡ Some (typed W.ty n.value)) }
+pub(crate) fn number_in<W: Width>(marks: &[Mark], words: &[u32], place: usize) -> Option<Number>
+    requires { length words.now ≡ length marks.now }
+    ensures { (zs : List NumberHeld) → IfSome result (λ n. slice_index_or (held_places marks.now words.now zs) place None ≡ Some (typed W.ty n.value)) }
 {
     if place >= marks.len() {
         return None;
     }
-    if marks[place] == mark_of(W::kind()) {
-        Some(numbers[place])
+    if marks[place] == narrow_mark(W::kind()) {
+        Some(number_in_word::<W>(words[place]))
     } else {
         None
     }
 }
 
-/// Sets the place of a number to a value of the type.
+/// The numbers of two places that are set to values of the type and whose numbers stand in their words.
 #[inline(always)]
-#[tactic(auto, using(crate::proofs::HeldPlaces::held_put))]
-pub(crate) fn put_number<W: Width>(
+pub(crate) fn numbers_in<W: Width>(
+    marks: &[Mark],
+    words: &[u32],
+    first: usize,
+    second: usize,
+) -> Option<(Number, Number)>
+    requires { length words.now ≡ length marks.now }
+    ensures first { (zs : List NumberHeld) → IfSome result (λ p. slice_index_or (held_places marks.now words.now zs) first None ≡ Some (typed W.ty p.0.value)) }
+    ensures second { (zs : List NumberHeld) → IfSome result (λ p. slice_index_or (held_places marks.now words.now zs) second None ≡ Some (typed W.ty p.1.value)) }
+{
+    let left = number_in::<W>(marks, words, first)?;
+    let right = number_in::<W>(marks, words, second)?;
+    Some((left, right))
+}
+
+/// Sets the place of a number to a number wrapped to the type.
+#[inline(always)]
+pub(crate) fn put_wrapped<W: Width>(
     marks: &mut [Mark],
-    numbers: &mut [Number],
+    words: &mut [u32],
     place: usize,
-    number: Number,
+    number: i64,
 )
     requires marks { place < length marks.old }
-    requires numbers { place < length numbers.old }
-    ensures { held_places marks.new numbers.new ≡ slice_set (held_places marks.old numbers.old) place (Some (typed W.ty number.value)) }
+    requires words { length words.old ≡ length marks.old }
+    ensures { (zs : List NumberHeld) → held_places marks.new words.new zs ≡ slice_set (held_places marks.old words.old zs) place (Some (typed W.ty (wrap W.ty number))) }
 {
-    marks[place] = mark_of(W::kind());
-    numbers[place] = number;
+    set_word(marks, words, place, W::kind(), number);
 }
 
 /// The number of the place so many behind another, where there are so many places.
@@ -145,19 +304,100 @@ pub(crate) fn place_behind(all: usize, place: usize, behind: usize) -> usize
     place + behind
 }
 
-/// Sets the places from one on, one after another, each to a number of the type.
-pub(crate) fn put_numbers<W: Width>(
-    marks: &mut [Mark],
-    held: &mut [Number],
-    place: usize,
-    numbers: &[Number],
-)
+/// Whether all numbers fit a type. All are looked at, so that several are at once.
+fn are_within(ty: Ty, numbers: &[i64]) -> bool
+    ensures { OnTrue result ((k : ℕ) → k < length numbers.now → IsOf ty (number_told numbers.now k)) }
+{
+    let mut all = true;
+    for turn in 0..numbers.len() {
+        let one = fits(ty, numbers[turn]);
+        all = all & one;
+    }
+    all
+}
+
+/// Sets the places from one on, one after another, each to the value of the type whose low bits a number has.
+fn put_bits(marks: &mut [Mark], words: &mut [u32], place: usize, ty: Ty, numbers: &[i64])
     requires places { place + length numbers.now ≤ length marks.old }
-    requires long { length held.old ≡ length marks.old }
-    ensures { held_places marks.new held.new ≡ row_held W.ty place numbers.now (held_places marks.old held.old) (length numbers.now) }
+    requires words { length words.old ≡ length marks.old }
+    ensures { (zs : List NumberHeld) → held_places marks.new words.new zs ≡ row_held (λ k. told_value Bits ty (number_told numbers.now k)) place (held_places marks.old words.old zs) (length numbers.now) }
 {
     let all = marks.len();
     for turn in 0..numbers.len() {
-        put_number::<W>(marks, held, place_behind(all, place, turn), numbers[turn]);
+        set_word(
+            marks,
+            words,
+            place_behind(all, place, turn),
+            ty,
+            numbers[turn],
+        );
+    }
+}
+
+/// Sets the places from one on, one after another, each to a number, as of the type.
+#[inline(never)]
+fn put_each_exact(
+    marks: &mut [Mark],
+    words: &mut [u32],
+    wides: &mut Vec<Number>,
+    place: usize,
+    ty: Ty,
+    numbers: &[i64],
+)
+    requires places { place + length numbers.now ≤ length marks.old }
+    requires words { length words.old ≡ length marks.old }
+    requires room { length marks.old ≤ vec_capacity wides.old }
+    ensures set { held_places marks.new words.new wides.new.items ≡ row_held (λ k. told_value Exact ty (number_told numbers.now k)) place (held_places marks.old words.old wides.old.items) (length numbers.now) }
+    ensures capacity { vec_capacity wides.old ≤ vec_capacity wides.new }
+{
+    let all = marks.len();
+    for turn in 0..numbers.len() {
+        let value = Value {
+            ty,
+            number: numbers[turn],
+        };
+        set_held(marks, words, wides, place_behind(all, place, turn), value);
+    }
+}
+
+/// The same, together where all fit the type.
+fn put_exact(
+    marks: &mut [Mark],
+    words: &mut [u32],
+    wides: &mut Vec<Number>,
+    place: usize,
+    ty: Ty,
+    numbers: &[i64],
+)
+    requires places { place + length numbers.now ≤ length marks.old }
+    requires words { length words.old ≡ length marks.old }
+    requires room { length marks.old ≤ vec_capacity wides.old }
+    ensures set { held_places marks.new words.new wides.new.items ≡ row_held (λ k. told_value Exact ty (number_told numbers.now k)) place (held_places marks.old words.old wides.old.items) (length numbers.now) }
+    ensures capacity { vec_capacity wides.old ≤ vec_capacity wides.new }
+{
+    if are_within(ty, numbers) {
+        put_bits(marks, words, place, ty, numbers);
+    } else {
+        put_each_exact(marks, words, wides, place, ty, numbers);
+    }
+}
+
+/// Sets the places from one on, one after another, each to the value of a row of cells.
+pub(crate) fn put_cells(
+    marks: &mut [Mark],
+    words: &mut [u32],
+    wides: &mut Vec<Number>,
+    place: usize,
+    row: &CellRow<'_>,
+)
+    requires places { place + length row.now.numbers.now ≤ length marks.old }
+    requires words { length words.old ≡ length marks.old }
+    requires room { length marks.old ≤ vec_capacity wides.old }
+    ensures set { held_places marks.new words.new wides.new.items ≡ row_held (row_value row.now) place (held_places marks.old words.old wides.old.items) (length row.now.numbers.now) }
+    ensures capacity { vec_capacity wides.old ≤ vec_capacity wides.new }
+{
+    match row.kind {
+        NumberKind::Bits => put_bits(marks, words, place, row.ty, row.numbers),
+        NumberKind::Exact => put_exact(marks, words, wides, place, row.ty, row.numbers),
     }
 }

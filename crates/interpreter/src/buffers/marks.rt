@@ -1,13 +1,12 @@
-//! Marks of places: whether a place is set, and of which type its value is.
+//! Marks of places: whether a place is set, of which type its value is, and where the value's number stands.
 
-ghost use Rattle.std.specs.Prelude.{◌≡◌, Some};
-ghost use Rattle.interpreter.specs.Buffers.Marks.{held_by, marked_type};
+ghost use Rattle.std.specs.Prelude.{◌≡◌};
+ghost use Rattle.interpreter.specs.Buffers.Marks.{narrow_mark, wide_mark};
 
-use crate::evaluation::Number;
 use numeric::Ty;
-use tree::Value;
 
-/// Whether a place is set, and the type of its value. It takes a byte.
+/// Whether a place is set, the type of its value, and whether the value's number stands in the place's word or, where it does not
+/// fit the type, apart. It takes a byte.
 #[derive(Clone, Copy, PartialEq, Eq, Drop)]
 pub enum Mark {
     Unset,
@@ -17,12 +16,18 @@ pub enum Mark {
     I8,
     I16,
     I32,
+    WideU8,
+    WideU16,
+    WideU32,
+    WideI8,
+    WideI16,
+    WideI32,
 }
 
-/// The mark of a place that is set to a value of the type.
+/// The mark of a place that is set to a number that fits its type.
 #[inline(always)]
-pub(crate) fn mark_of(ty: Ty) -> Mark
-    ensures { marked_type result ≡ Some ty }
+pub(crate) fn narrow_mark(ty: Ty) -> Mark
+    ensures { result ≡ narrow_mark ty }
 {
     match ty {
         Ty::U8 => Mark::U8,
@@ -34,30 +39,29 @@ pub(crate) fn mark_of(ty: Ty) -> Mark
     }
 }
 
-/// The type of the value of a place of the mark, if that is set.
-#[inline(always)]
-pub(crate) fn marked_type(mark: Mark) -> Option<Ty>
-    ensures { result ≡ marked_type mark }
+/// The mark of a place that is set to a number that does not fit its type.
+pub(crate) fn wide_mark(ty: Ty) -> Mark
+    ensures { result ≡ wide_mark ty }
 {
+    match ty {
+        Ty::U8 => Mark::WideU8,
+        Ty::U16 => Mark::WideU16,
+        Ty::U32 => Mark::WideU32,
+        Ty::I8 => Mark::WideI8,
+        Ty::I16 => Mark::WideI16,
+        Ty::I32 => Mark::WideI32,
+    }
+}
+
+/// The type of the value of a place of the mark, if that is set and its number stands in the place's word.
+pub(crate) fn narrow_type(mark: Mark) -> Option<Ty> {
     match mark {
-        Mark::Unset => None,
         Mark::U8 => Some(Ty::U8),
         Mark::U16 => Some(Ty::U16),
         Mark::U32 => Some(Ty::U32),
         Mark::I8 => Some(Ty::I8),
         Mark::I16 => Some(Ty::I16),
         Mark::I32 => Some(Ty::I32),
+        _ => None,
     }
-}
-
-/// What a place of the mark and the number holds.
-#[inline(always)]
-pub(crate) fn held_by(mark: Mark, number: Number) -> Option<Value>
-    ensures { result ≡ held_by mark number.value }
-{
-    let ty = marked_type(mark)?;
-    Some(Value {
-        ty,
-        number: number.value,
-    })
 }

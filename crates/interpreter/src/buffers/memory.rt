@@ -7,10 +7,9 @@ ghost use Rattle.std.specs.List.{list_any};
 ghost use Rattle.plan.specs.Semantics.Memory.{allot, nothing, read, write};
 ghost use Rattle.interpreter.specs.Buffers.Raster.{place_count};
 ghost use Rattle.interpreter.specs.Buffers.Rooms.{room_of};
-ghost use Rattle.tree.specs.Meaning.{typed};
 ghost use Rattle.interpreter.specs.Scanlines.{along};
-ghost use Rattle.interpreter.specs.Evaluation.Lanes.{number_at};
-ghost use Rattle.interpreter.specs.Buffers.Marks.{held_places};
+ghost use Rattle.interpreter.specs.Buffers.Marks.{places_held, word_values};
+ghost use Rattle.interpreter.specs.CellRows.{row_value};
 ghost use Rattle.interpreter.specs.Buffers.Spots.{set_all, HasPlace, IsSpot};
 ghost use Rattle.interpreter.specs.declared.buffers.spot.Spot.{Spot as SpotHeld};
 ghost use Rattle.interpreter.specs.Buffers.Blocks.{limits_of, memory_of, HasMemoryFor, IsMadeFor, IsNumbered};
@@ -22,9 +21,8 @@ use crate::buffers::buffer::Buffer;
 use crate::buffers::limit::Limit;
 use crate::buffers::room::Rooms;
 use crate::buffers::spot::Spot;
-use crate::evaluation::{
-    Number, Signed8, Signed16, Signed32, Unsigned8, Unsigned16, Unsigned32, Width,
-};
+use crate::cells::CellRow;
+use crate::evaluation::Number;
 use crate::placing::{Places, Target};
 use crate::run_reading::registers_behind;
 use crate::scanlines::Scanline;
@@ -131,7 +129,7 @@ impl Buffers {
     /// Memory for buffers, of which none is in use: one of each number that a limit names, with the most places that a limit of
     /// the number asks for.
     ///
-    /// It takes 9 bytes a place.
+    /// It takes 5 bytes a place, and room of 8 bytes a place that is not touched as long as all numbers fit their types.
     pub fn new(alloc: Global, limits: &[Limit]) -> Result<Buffers, AllocError>
         ensures nothing { IfOk result (λ buffers. memory_of buffers ≡ nothing) }
         ensures limits { IfOk result (λ buffers. All (λ x. HasMemoryFor (limits_of buffers) x.buffer x.places) limits.now) }
@@ -181,7 +179,7 @@ impl Buffers {
     /// What is held at the points with these coordinates behind the first one. Nothing where there is no such buffer, or the
     /// points have no places, or places that are used again and again.
     pub(crate) fn scanline(&self, buffer: u64, others: &[i64]) -> Option<Scanline<'_>>
-        ensures { IfSome result (λ l. (z : ℤ) (v : ValueHeld) → along (held_places l.held.marks.now l.held.numbers.now) (z -ℤ l.origin) ≡ Some (Some v) → read (memory_of self.now) buffer (z ∷ others.now) ≡ Some v) }
+        ensures { IfSome result (λ l. (z : ℤ) (v : ValueHeld) → along (places_held l.held) (z -ℤ l.origin) ≡ Some (Some v) → read (memory_of self.now) buffer (z ∷ others.now) ≡ Some v) }
     {
         let found = used_position(&self.buffers, buffer)?;
         self.buffers[found].scanline(others)
@@ -276,33 +274,31 @@ impl Buffers {
         self.buffers[spot.buffer].put(spot.place, behind, value);
     }
 
-    /// Sets the places from a spot on, one after another, each to a number of the register.
-    fn put_each<W: Width>(&mut self, spot: Spot, numbers: &[Number])
-        requires { (k : ℕ) → k < length numbers.now → HasPlace self.old spot.buffer (spot.place + k) }
-        ensures set { (b : ℕ) (points : ℕ → List ℤ) → ((k : ℕ) → k < length numbers.now → IsSpot self.old b (points k) spot k) → set_all (memory_of self.old) b points (λ k. typed W.ty (number_at numbers.now k)) (length numbers.now) ≡ Some (memory_of self.new) }
+    /// Sets the places from a spot on, one after another, each to the value of the type whose low bits a word has.
+    pub(crate) fn put_words(&mut self, spot: Spot, ty: Ty, from: &[u32])
+        requires { (k : ℕ) → k < length from.now → HasPlace self.old spot.buffer (spot.place + k) }
+        ensures set { (b : ℕ) (points : ℕ → List ℤ) → ((k : ℕ) → k < length from.now → IsSpot self.old b (points k) spot k) → set_all (memory_of self.old) b points (word_values ty from.now) (length from.now) ≡ Some (memory_of self.new) }
         ensures limits { limits_of self.new ≡ limits_of self.old }
     {
-        // A spot of no numbers need not lie in a buffer.
-        let count = numbers.len();
+        // A spot of no words need not lie in a buffer.
+        let count = from.len();
         if count == 0 {
             return;
         }
-        self.buffers[spot.buffer].put_numbers::<W>(spot.place, numbers);
+        self.buffers[spot.buffer].put_words(spot.place, ty, from);
     }
 
-    /// Sets the places from a spot on, one after another, each to a number of the register, by a loop of the type's own.
-    pub(crate) fn put_row(&mut self, spot: Spot, ty: Ty, numbers: &[Number])
-        requires { (k : ℕ) → k < length numbers.now → HasPlace self.old spot.buffer (spot.place + k) }
-        ensures set { (b : ℕ) (points : ℕ → List ℤ) → ((k : ℕ) → k < length numbers.now → IsSpot self.old b (points k) spot k) → set_all (memory_of self.old) b points (λ k. typed ty (number_at numbers.now k)) (length numbers.now) ≡ Some (memory_of self.new) }
+    /// Sets the places from a spot on to the values of a row of cells, one after another.
+    pub(crate) fn put_cells(&mut self, spot: Spot, row: &CellRow<'_>)
+        requires { (k : ℕ) → k < length row.now.numbers.now → HasPlace self.old spot.buffer (spot.place + k) }
+        ensures set { let n = length row.now.numbers.now in (b : ℕ) (points : ℕ → List ℤ) → ((k : ℕ) → k < n → IsSpot self.old b (points k) spot k) → set_all (memory_of self.old) b points (row_value row.now) n ≡ Some (memory_of self.new) }
         ensures limits { limits_of self.new ≡ limits_of self.old }
     {
-        match ty {
-            Ty::U8 => self.put_each::<Unsigned8>(spot, numbers),
-            Ty::U16 => self.put_each::<Unsigned16>(spot, numbers),
-            Ty::U32 => self.put_each::<Unsigned32>(spot, numbers),
-            Ty::I8 => self.put_each::<Signed8>(spot, numbers),
-            Ty::I16 => self.put_each::<Signed16>(spot, numbers),
-            Ty::I32 => self.put_each::<Signed32>(spot, numbers),
+        // A spot of no cells need not lie in a buffer.
+        let count = row.numbers.len();
+        if count == 0 {
+            return;
         }
+        self.buffers[spot.buffer].put_cells(spot.place, row);
     }
 }

@@ -1,6 +1,6 @@
 //! An update's turns over the places of one buffer, by the numbers of its places.
 
-ghost use Rattle.std.specs.Prelude.{◌≡◌, ◌<◌, ◌≤◌, ℕ, List, length, option_map, slice_index_or, slice_set, Some, None};
+ghost use Rattle.std.specs.Prelude.{◌≡◌, ◌<◌, ◌≤◌, ℕ, List, length, option_map, slice_index_or, slice_set, vec_capacity, Some, None};
 ghost use Rattle.plan.specs.Semantics.Found.{with};
 ghost use Rattle.tree.specs.Meaning.{applied, typed};
 ghost use Rattle.interpreter.specs.Buffers.Marks.{held_places};
@@ -8,7 +8,7 @@ ghost use Rattle.interpreter.specs.HeldTurns.{held_operand, held_operation, on_k
 ghost use Rattle.interpreter.specs.PlaceNumbers.{place_at};
 ghost use Rattle.interpreter.specs.declared.evaluation.lanes.Number.{Number as NumberHeld};
 
-use crate::buffers::held::{held_at, number_in, put_number, set_held};
+use crate::buffers::held::{held_at, number_in, numbers_in, put_wrapped, set_held};
 use crate::buffers::marks::Mark;
 use crate::columns::number_of;
 use crate::evaluation::{
@@ -27,17 +27,18 @@ fn operand_held(
     numbers: &[Number],
     places: &[usize],
     marks: &[Mark],
-    held: &[Number],
+    words: &[u32],
+    wides: &[Number],
     turn: usize,
 ) -> Option<Value>
-    ensures { result ≡ held_operand operand numbers.now places.now (held_places marks.now held.now) turn }
+    ensures { result ≡ held_operand operand numbers.now places.now (held_places marks.now words.now wides.now) turn }
 {
     match operand {
         Operand::Known(ty) => Some(Value {
             ty,
             number: number_of(numbers, turn),
         }),
-        Operand::Own(_) => held_at(marks, held, place_of(places, turn)),
+        Operand::Own(_) => held_at(marks, words, wides, place_of(places, turn)),
     }
 }
 
@@ -68,18 +69,37 @@ fn turn_held<O: Operator, W: Width>(
     behind: &[Number],
     places: &Places<'_>,
     marks: &mut [Mark],
-    held: &mut [Number],
+    words: &mut [u32],
+    wides: &mut Vec<Number>,
     turn: usize,
 ) -> Option<()>
     requires op { operation.op ≡ O.op }
-    requires numbers { length held.old ≡ length marks.old }
+    requires words { length words.old ≡ length marks.old }
+    requires room { length marks.old ≤ vec_capacity wides.old }
     requires point { place_at places.now.point.now turn < length marks.old }
-    ensures { option_map (λ _. held_places marks.new held.new) result ≡ with (held_operation operation numbers.now behind.now places.now.left.now places.now.right.now (held_places marks.old held.old) turn) (λ v. Some (slice_set (held_places marks.old held.old) (place_at places.now.point.now turn) (Some v))) }
+    ensures turned { option_map (λ _. held_places marks.new words.new wides.new.items) result ≡ with (held_operation operation numbers.now behind.now places.now.left.now places.now.right.now (held_places marks.old words.old wides.old.items) turn) (λ v. Some (slice_set (held_places marks.old words.old wides.old.items) (place_at places.now.point.now turn) (Some v))) }
+    ensures capacity { vec_capacity wides.old ≤ vec_capacity wides.new }
 {
-    let left = operand_held(operation.left, numbers, places.left, marks, held, turn)?;
-    let right = operand_held(operation.right, behind, places.right, marks, held, turn)?;
+    let left = operand_held(
+        operation.left,
+        numbers,
+        places.left,
+        marks,
+        words,
+        wides,
+        turn,
+    )?;
+    let right = operand_held(
+        operation.right,
+        behind,
+        places.right,
+        marks,
+        words,
+        wides,
+        turn,
+    )?;
     let value = applied_value::<O, W>(operation.op, left, right);
-    set_held(marks, held, place_of(places.point, turn), value);
+    set_held(marks, words, wides, place_of(places.point, turn), value);
     Some(())
 }
 
@@ -93,15 +113,20 @@ fn turn_each<O: Operator, W: Width>(
     places: &Places<'_>,
     count: usize,
     marks: &mut [Mark],
-    held: &mut [Number],
+    words: &mut [u32],
+    wides: &mut Vec<Number>,
 ) -> Option<()>
     requires op { operation.op ≡ O.op }
-    requires numbers { length held.old ≡ length marks.old }
+    requires words { length words.old ≡ length marks.old }
+    requires room { length marks.old ≤ vec_capacity wides.old }
     requires point { (k : ℕ) → k < count → place_at places.now.point.now k < length marks.old }
-    ensures { option_map (λ _. held_places marks.new held.new) result ≡ turned operation numbers.now behind.now places.now.point.now places.now.left.now places.now.right.now (held_places marks.old held.old) count }
+    ensures turned { option_map (λ _. held_places marks.new words.new wides.new.items) result ≡ turned operation numbers.now behind.now places.now.point.now places.now.left.now places.now.right.now (held_places marks.old words.old wides.old.items) count }
+    ensures capacity { vec_capacity wides.old ≤ vec_capacity wides.new }
 {
     for turn in 0..count {
-        turn_held::<O, W>(operation, numbers, behind, places, marks, held, turn)?;
+        turn_held::<O, W>(
+            operation, numbers, behind, places, marks, words, wides, turn,
+        )?;
     }
     Some(())
 }
@@ -116,23 +141,27 @@ fn set_by_known<O: Operator, W: Width>(
     ty: Ty,
     number: Number,
     marks: &mut [Mark],
-    held: &mut [Number],
+    words: &mut [u32],
+    wides: &mut Vec<Number>,
 ) -> Option<()>
     requires op { op ≡ O.op }
-    requires numbers { length held.old ≡ length marks.old }
+    requires words { length words.old ≡ length marks.old }
+    requires room { length marks.old ≤ vec_capacity wides.old }
     requires point { point < length marks.old }
-    ensures { option_map (λ _. held_places marks.new held.new) result ≡ with (with (slice_index_or (held_places marks.old held.old) own None) (λ x. Some (applied op x (typed ty number.value)))) (λ v. Some (slice_set (held_places marks.old held.old) point (Some v))) }
+    ensures turned { option_map (λ _. held_places marks.new words.new wides.new.items) result ≡ with (with (slice_index_or (held_places marks.old words.old wides.old.items) own None) (λ x. Some (applied op x (typed ty number.value)))) (λ v. Some (slice_set (held_places marks.old words.old wides.old.items) point (Some v))) }
+    ensures capacity { vec_capacity wides.old ≤ vec_capacity wides.new }
 {
-    if let Some(first) = number_in::<W>(marks, held, own) {
-        put_number::<W>(marks, held, point, applied_number::<O, W>(first, number));
+    if let Some(first) = number_in::<W>(marks, words, own) {
+        let bits = O::low_bits(first.value, number.value);
+        put_wrapped::<W>(marks, words, point, bits);
         return Some(());
     }
-    let value = held_at(marks, held, own)?;
+    let value = held_at(marks, words, wides, own)?;
     let known = Value {
         ty,
         number: number.value,
     };
-    set_held(marks, held, point, applied(op, value, known));
+    set_held(marks, words, wides, point, applied(op, value, known));
     Some(())
 }
 
@@ -147,18 +176,30 @@ fn turn_by_known<O: Operator, W: Width>(
     own: &[usize],
     count: usize,
     marks: &mut [Mark],
-    held: &mut [Number],
+    words: &mut [u32],
+    wides: &mut Vec<Number>,
 ) -> Option<()>
     requires op { op ≡ O.op }
-    requires numbers { length held.old ≡ length marks.old }
+    requires words { length words.old ≡ length marks.old }
+    requires room { length marks.old ≤ vec_capacity wides.old }
     requires known { count ≤ length behind.now }
     requires own { count ≤ length own.now }
     requires listed { count ≤ length point.now }
     requires point { (k : ℕ) → k < count → place_at point.now k < length marks.old }
-    ensures { (w n : ℕ) (zs : List NumberHeld) (rights : List ℕ) → option_map (λ _. held_places marks.new held.new) result ≡ turned (on_known op w ty n) zs behind.now point.now own.now rights (held_places marks.old held.old) count }
+    ensures turned { (w n : ℕ) (zs : List NumberHeld) (rights : List ℕ) → option_map (λ _. held_places marks.new words.new wides.new.items) result ≡ turned (on_known op w ty n) zs behind.now point.now own.now rights (held_places marks.old words.old wides.old.items) count }
+    ensures capacity { vec_capacity wides.old ≤ vec_capacity wides.new }
 {
     for turn in 0..count {
-        set_by_known::<O, W>(op, point[turn], own[turn], ty, behind[turn], marks, held)?;
+        set_by_known::<O, W>(
+            op,
+            point[turn],
+            own[turn],
+            ty,
+            behind[turn],
+            marks,
+            words,
+            wides,
+        )?;
     }
     Some(())
 }
@@ -171,23 +212,24 @@ fn set_by_own<O: Operator, W: Width>(
     first: usize,
     second: usize,
     marks: &mut [Mark],
-    held: &mut [Number],
+    words: &mut [u32],
+    wides: &mut Vec<Number>,
 ) -> Option<()>
     requires op { op ≡ O.op }
-    requires numbers { length held.old ≡ length marks.old }
+    requires words { length words.old ≡ length marks.old }
+    requires room { length marks.old ≤ vec_capacity wides.old }
     requires point { point < length marks.old }
-    ensures { option_map (λ _. held_places marks.new held.new) result ≡ with (with (slice_index_or (held_places marks.old held.old) first None) (λ x. with (slice_index_or (held_places marks.old held.old) second None) (λ y. Some (applied op x y)))) (λ v. Some (slice_set (held_places marks.old held.old) point (Some v))) }
+    ensures turned { option_map (λ _. held_places marks.new words.new wides.new.items) result ≡ with (with (slice_index_or (held_places marks.old words.old wides.old.items) first None) (λ x. with (slice_index_or (held_places marks.old words.old wides.old.items) second None) (λ y. Some (applied op x y)))) (λ v. Some (slice_set (held_places marks.old words.old wides.old.items) point (Some v))) }
+    ensures capacity { vec_capacity wides.old ≤ vec_capacity wides.new }
 {
-    let other = held_at(marks, held, second)?;
-    if let Some(value) = number_in::<W>(marks, held, first) {
-        let number = Number {
-            value: other.number,
-        };
-        put_number::<W>(marks, held, point, applied_number::<O, W>(value, number));
+    if let Some((left, right)) = numbers_in::<W>(marks, words, first, second) {
+        let bits = O::low_bits(left.value, right.value);
+        put_wrapped::<W>(marks, words, point, bits);
         return Some(());
     }
-    let value = held_at(marks, held, first)?;
-    set_held(marks, held, point, applied(op, value, other));
+    let other = held_at(marks, words, wides, second)?;
+    let value = held_at(marks, words, wides, first)?;
+    set_held(marks, words, wides, point, applied(op, value, other));
     Some(())
 }
 
@@ -201,18 +243,29 @@ fn turn_by_own<O: Operator, W: Width>(
     second: &[usize],
     count: usize,
     marks: &mut [Mark],
-    held: &mut [Number],
+    words: &mut [u32],
+    wides: &mut Vec<Number>,
 ) -> Option<()>
     requires op { op ≡ O.op }
-    requires numbers { length held.old ≡ length marks.old }
+    requires words { length words.old ≡ length marks.old }
+    requires room { length marks.old ≤ vec_capacity wides.old }
     requires first { count ≤ length first.now }
     requires second { count ≤ length second.now }
     requires listed { count ≤ length point.now }
     requires point { (k : ℕ) → k < count → place_at point.now k < length marks.old }
-    ensures { (v w n : ℕ) (zs behind : List NumberHeld) → option_map (λ _. held_places marks.new held.new) result ≡ turned (on_own op v w n) zs behind point.now first.now second.now (held_places marks.old held.old) count }
+    ensures turned { (v w n : ℕ) (zs behind : List NumberHeld) → option_map (λ _. held_places marks.new words.new wides.new.items) result ≡ turned (on_own op v w n) zs behind point.now first.now second.now (held_places marks.old words.old wides.old.items) count }
+    ensures capacity { vec_capacity wides.old ≤ vec_capacity wides.new }
 {
     for turn in 0..count {
-        set_by_own::<O, W>(op, point[turn], first[turn], second[turn], marks, held)?;
+        set_by_own::<O, W>(
+            op,
+            point[turn],
+            first[turn],
+            second[turn],
+            marks,
+            words,
+            wides,
+        )?;
     }
     Some(())
 }
@@ -226,26 +279,33 @@ fn turn_by<O: Operator, W: Width>(
     places: &Places<'_>,
     count: usize,
     marks: &mut [Mark],
-    held: &mut [Number],
+    words: &mut [u32],
+    wides: &mut Vec<Number>,
 ) -> Option<()>
     requires op { operation.op ≡ O.op }
-    requires numbers { length held.old ≡ length marks.old }
+    requires words { length words.old ≡ length marks.old }
+    requires room { length marks.old ≤ vec_capacity wides.old }
     requires point { (k : ℕ) → k < count → place_at places.now.point.now k < length marks.old }
-    ensures { option_map (λ _. held_places marks.new held.new) result ≡ turned operation numbers.now behind.now places.now.point.now places.now.left.now places.now.right.now (held_places marks.old held.old) count }
+    ensures turned { option_map (λ _. held_places marks.new words.new wides.new.items) result ≡ turned operation numbers.now behind.now places.now.point.now places.now.left.now places.now.right.now (held_places marks.old words.old wides.old.items) count }
+    ensures capacity { vec_capacity wides.old ≤ vec_capacity wides.new }
 {
     let op = operation.op;
     let (point, first, second) = (places.point, places.left, places.right);
     if point.len() < count || first.len() < count {
-        return turn_each::<O, W>(operation, numbers, behind, places, count, marks, held);
+        return turn_each::<O, W>(
+            operation, numbers, behind, places, count, marks, words, wides,
+        );
     }
     match (operation.left, operation.right) {
         (Operand::Own(_), Operand::Known(ty)) if count <= behind.len() => {
-            turn_by_known::<O, W>(op, ty, behind, point, first, count, marks, held)
+            turn_by_known::<O, W>(op, ty, behind, point, first, count, marks, words, wides)
         }
         (Operand::Own(_), Operand::Own(_)) if count <= second.len() => {
-            turn_by_own::<O, W>(op, point, first, second, count, marks, held)
+            turn_by_own::<O, W>(op, point, first, second, count, marks, words, wides)
         }
-        _ => turn_each::<O, W>(operation, numbers, behind, places, count, marks, held),
+        _ => turn_each::<O, W>(
+            operation, numbers, behind, places, count, marks, words, wides,
+        ),
     }
 }
 
@@ -255,9 +315,10 @@ fn first_type(
     numbers: &[Number],
     places: &[usize],
     marks: &[Mark],
-    held: &[Number],
+    words: &[u32],
+    wides: &[Number],
 ) -> Ty {
-    match operand_held(operand, numbers, places, marks, held, 0) {
+    match operand_held(operand, numbers, places, marks, words, wides, 0) {
         Some(value) => value.ty,
         None => Ty::I32,
     }
@@ -271,20 +332,35 @@ fn turn_in<O: Operator>(
     places: &Places<'_>,
     count: usize,
     marks: &mut [Mark],
-    held: &mut [Number],
+    words: &mut [u32],
+    wides: &mut Vec<Number>,
 ) -> Option<()>
     requires op { operation.op ≡ O.op }
-    requires numbers { length held.old ≡ length marks.old }
+    requires words { length words.old ≡ length marks.old }
+    requires room { length marks.old ≤ vec_capacity wides.old }
     requires point { (k : ℕ) → k < count → place_at places.now.point.now k < length marks.old }
-    ensures { option_map (λ _. held_places marks.new held.new) result ≡ turned operation numbers.now behind.now places.now.point.now places.now.left.now places.now.right.now (held_places marks.old held.old) count }
+    ensures turned { option_map (λ _. held_places marks.new words.new wides.new.items) result ≡ turned operation numbers.now behind.now places.now.point.now places.now.left.now places.now.right.now (held_places marks.old words.old wides.old.items) count }
+    ensures capacity { vec_capacity wides.old ≤ vec_capacity wides.new }
 {
-    match first_type(operation.left, numbers, places.left, marks, held) {
-        Ty::U8 => turn_by::<O, Unsigned8>(operation, numbers, behind, places, count, marks, held),
-        Ty::U16 => turn_by::<O, Unsigned16>(operation, numbers, behind, places, count, marks, held),
-        Ty::U32 => turn_by::<O, Unsigned32>(operation, numbers, behind, places, count, marks, held),
-        Ty::I8 => turn_by::<O, Signed8>(operation, numbers, behind, places, count, marks, held),
-        Ty::I16 => turn_by::<O, Signed16>(operation, numbers, behind, places, count, marks, held),
-        Ty::I32 => turn_by::<O, Signed32>(operation, numbers, behind, places, count, marks, held),
+    match first_type(operation.left, numbers, places.left, marks, words, wides) {
+        Ty::U8 => turn_by::<O, Unsigned8>(
+            operation, numbers, behind, places, count, marks, words, wides,
+        ),
+        Ty::U16 => turn_by::<O, Unsigned16>(
+            operation, numbers, behind, places, count, marks, words, wides,
+        ),
+        Ty::U32 => turn_by::<O, Unsigned32>(
+            operation, numbers, behind, places, count, marks, words, wides,
+        ),
+        Ty::I8 => turn_by::<O, Signed8>(
+            operation, numbers, behind, places, count, marks, words, wides,
+        ),
+        Ty::I16 => turn_by::<O, Signed16>(
+            operation, numbers, behind, places, count, marks, words, wides,
+        ),
+        Ty::I32 => turn_by::<O, Signed32>(
+            operation, numbers, behind, places, count, marks, words, wides,
+        ),
     }
 }
 
@@ -297,19 +373,36 @@ pub(crate) fn turn_all(
     places: &Places<'_>,
     count: usize,
     marks: &mut [Mark],
-    held: &mut [Number],
+    words: &mut [u32],
+    wides: &mut Vec<Number>,
 ) -> Option<()>
-    requires numbers { length held.old ≡ length marks.old }
+    requires words { length words.old ≡ length marks.old }
+    requires room { length marks.old ≤ vec_capacity wides.old }
     requires point { (k : ℕ) → k < count → place_at places.now.point.now k < length marks.old }
-    ensures { option_map (λ _. held_places marks.new held.new) result ≡ turned operation numbers.now behind.now places.now.point.now places.now.left.now places.now.right.now (held_places marks.old held.old) count }
+    ensures turned { option_map (λ _. held_places marks.new words.new wides.new.items) result ≡ turned operation numbers.now behind.now places.now.point.now places.now.left.now places.now.right.now (held_places marks.old words.old wides.old.items) count }
+    ensures capacity { vec_capacity wides.old ≤ vec_capacity wides.new }
 {
     match operation.op {
-        Op::Add => turn_in::<Sum>(operation, numbers, behind, places, count, marks, held),
-        Op::Sub => turn_in::<Difference>(operation, numbers, behind, places, count, marks, held),
-        Op::Mul => turn_in::<Product>(operation, numbers, behind, places, count, marks, held),
-        Op::Div => turn_in::<Quotient>(operation, numbers, behind, places, count, marks, held),
-        Op::Rem => turn_in::<Remainder>(operation, numbers, behind, places, count, marks, held),
-        Op::Min => turn_in::<Smaller>(operation, numbers, behind, places, count, marks, held),
-        Op::Max => turn_in::<Larger>(operation, numbers, behind, places, count, marks, held),
+        Op::Add => turn_in::<Sum>(
+            operation, numbers, behind, places, count, marks, words, wides,
+        ),
+        Op::Sub => turn_in::<Difference>(
+            operation, numbers, behind, places, count, marks, words, wides,
+        ),
+        Op::Mul => turn_in::<Product>(
+            operation, numbers, behind, places, count, marks, words, wides,
+        ),
+        Op::Div => turn_in::<Quotient>(
+            operation, numbers, behind, places, count, marks, words, wides,
+        ),
+        Op::Rem => turn_in::<Remainder>(
+            operation, numbers, behind, places, count, marks, words, wides,
+        ),
+        Op::Min => turn_in::<Smaller>(
+            operation, numbers, behind, places, count, marks, words, wides,
+        ),
+        Op::Max => turn_in::<Larger>(
+            operation, numbers, behind, places, count, marks, words, wides,
+        ),
     }
 }

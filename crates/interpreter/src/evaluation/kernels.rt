@@ -1,10 +1,13 @@
-//! The operators over registers, which hold a number for each turn of a run.
+//! The operators over registers, which hold a word for each turn of a run.
 
-ghost use Rattle.std.specs.Prelude.{◌≡◌, ◌<◌, ◌≤◌, ◌&&◌, ◌||◌, ℕ, IfSome, if◌then◌else◌, not, pos, neg_ℤ, ◌+ℤ◌, ◌*ℤ◌, length};
+ghost use Rattle.std.specs.Bool.{OnTrue};
+ghost use Rattle.std.specs.Prelude.{◌≡◌, ◌<◌, ◌≤◌, ◌≤ℤ◌, ◌&&◌, ◌||◌, ℕ, IfSome, if◌then◌else◌, not, pos, neg_ℤ, ◌+ℤ◌, ◌*ℤ◌, length};
 ghost use Rattle.std.specs.Int.{int_max, int_min};
+ghost use Rattle.numeric.specs.declared.ty.Ty.{Ty as TyFound};
 ghost use Rattle.numeric.specs.Apply.{apply, compare};
-ghost use Rattle.numeric.specs.Wrap.{wrap};
-ghost use Rattle.interpreter.specs.Evaluation.Lanes.{is_set, mask_at, number_at, IsShortRamp};
+ghost use Rattle.numeric.specs.Wrap.{wrap, IsOf};
+ghost use Rattle.interpreter.specs.Evaluation.Lanes.{number_at, IsShortRamp};
+ghost use Rattle.interpreter.specs.Evaluation.Words.{bits_at, mask_at, word_at};
 
 use crate::evaluation::lanes::Number;
 use crate::evaluation::operations::{
@@ -14,11 +17,15 @@ use crate::evaluation::operations::{
 use crate::evaluation::widths::{
     Signed8, Signed16, Signed32, Unsigned8, Unsigned16, Unsigned32, Width,
 };
+use crate::evaluation::words::{
+    applied_word, both_word, chosen_word, clamped_word, compared_word, either_word, exact_word,
+    extended_word, low_word, negated_word, not_word, word_number,
+};
 use numeric::{Comparison, Op, Ty};
 
 /// The number so many turns after the first.
 #[inline(always)]
-fn risen(first: Number, turn: usize) -> Number
+pub(crate) fn risen(first: Number, turn: usize) -> Number
     requires { IsShortRamp turn first.value }
     ensures { result.value ≡ first.value +ℤ pos turn }
 {
@@ -40,22 +47,12 @@ pub(crate) fn applied_number<O: Operator, W: Width>(left: Number, right: Number)
 
 /// The wrapped negation of a number.
 #[inline(always)]
-fn negated_number<W: Width>(number: Number) -> Number
+pub(crate) fn negated_number<W: Width>(number: Number) -> Number
     ensures { result.value ≡ wrap W.ty (neg_ℤ number.value) }
 {
     // As above, what is lost where the negation does not fit is a multiple of every modulus.
     Number {
         value: W::wrapped(number.value.wrapping_neg()),
-    }
-}
-
-/// A number wrapped to the type.
-#[inline(always)]
-fn wrapped_number<W: Width>(number: Number) -> Number
-    ensures { result.value ≡ wrap W.ty number.value }
-{
-    Number {
-        value: W::wrapped(number.value),
     }
 }
 
@@ -87,173 +84,12 @@ pub(crate) fn fill_rising(first: Number, out: &mut [Number])
     }
 }
 
-/// The operator on each number and the one of another register.
-#[inline(always)]
-fn apply_each<O: Operator, W: Width>(out: &mut [Number], right: &[Number])
-    requires { length right.now ≡ length out.old }
-    ensures { (k : ℕ) → k < length out.new → number_at out.new k ≡ apply O.op W.ty (number_at out.old k) (number_at right.now k) }
-{
-    for turn in 0..out.len() {
-        out[turn] = applied_number::<O, W>(out[turn], right[turn]);
-    }
-}
-
-/// The operator on each number and the one of another register, by a loop of the type's own.
-fn apply_in<O: Operator>(ty: Ty, out: &mut [Number], right: &[Number])
-    requires { length right.now ≡ length out.old }
-    ensures { (k : ℕ) → k < length out.new → number_at out.new k ≡ apply O.op ty (number_at out.old k) (number_at right.now k) }
-{
-    match ty {
-        Ty::U8 => apply_each::<O, Unsigned8>(out, right),
-        Ty::U16 => apply_each::<O, Unsigned16>(out, right),
-        Ty::U32 => apply_each::<O, Unsigned32>(out, right),
-        Ty::I8 => apply_each::<O, Signed8>(out, right),
-        Ty::I16 => apply_each::<O, Signed16>(out, right),
-        Ty::I32 => apply_each::<O, Signed32>(out, right),
-    }
-}
-
-/// The operator on each number and the one of another register, by a loop of the operator's and the type's own.
-pub(crate) fn apply_all(op: Op, ty: Ty, out: &mut [Number], right: &[Number])
-    requires { length right.now ≡ length out.old }
-    ensures { (k : ℕ) → k < length out.new → number_at out.new k ≡ apply op ty (number_at out.old k) (number_at right.now k) }
-{
-    match op {
-        Op::Add => apply_in::<Sum>(ty, out, right),
-        Op::Sub => apply_in::<Difference>(ty, out, right),
-        Op::Mul => apply_in::<Product>(ty, out, right),
-        Op::Div => apply_in::<Quotient>(ty, out, right),
-        Op::Rem => apply_in::<Remainder>(ty, out, right),
-        Op::Min => apply_in::<Smaller>(ty, out, right),
-        Op::Max => apply_in::<Larger>(ty, out, right),
-    }
-}
-
-/// The operator on each number and one number.
-#[inline(always)]
-fn apply_each_by<O: Operator, W: Width>(out: &mut [Number], right: Number)
-    ensures { (k : ℕ) → k < length out.new → number_at out.new k ≡ apply O.op W.ty (number_at out.old k) right.value }
-{
-    for turn in 0..out.len() {
-        out[turn] = applied_number::<O, W>(out[turn], right);
-    }
-}
-
-/// The operator on each number and one number, by a loop of the type's own.
-fn apply_by_in<O: Operator>(ty: Ty, out: &mut [Number], right: Number)
-    ensures { (k : ℕ) → k < length out.new → number_at out.new k ≡ apply O.op ty (number_at out.old k) right.value }
-{
-    match ty {
-        Ty::U8 => apply_each_by::<O, Unsigned8>(out, right),
-        Ty::U16 => apply_each_by::<O, Unsigned16>(out, right),
-        Ty::U32 => apply_each_by::<O, Unsigned32>(out, right),
-        Ty::I8 => apply_each_by::<O, Signed8>(out, right),
-        Ty::I16 => apply_each_by::<O, Signed16>(out, right),
-        Ty::I32 => apply_each_by::<O, Signed32>(out, right),
-    }
-}
-
-/// The operator on each number and one number, by a loop of the operator's and the type's own.
-pub(crate) fn apply_by(op: Op, ty: Ty, out: &mut [Number], right: Number)
-    ensures { (k : ℕ) → k < length out.new → number_at out.new k ≡ apply op ty (number_at out.old k) right.value }
-{
-    match op {
-        Op::Add => apply_by_in::<Sum>(ty, out, right),
-        Op::Sub => apply_by_in::<Difference>(ty, out, right),
-        Op::Mul => apply_by_in::<Product>(ty, out, right),
-        Op::Div => apply_by_in::<Quotient>(ty, out, right),
-        Op::Rem => apply_by_in::<Remainder>(ty, out, right),
-        Op::Min => apply_by_in::<Smaller>(ty, out, right),
-        Op::Max => apply_by_in::<Larger>(ty, out, right),
-    }
-}
-
-/// The wrapped negation of each number.
-#[inline(always)]
-fn negate_each<W: Width>(out: &mut [Number])
-    ensures { (k : ℕ) → k < length out.new → number_at out.new k ≡ wrap W.ty (neg_ℤ (number_at out.old k)) }
-{
-    for turn in 0..out.len() {
-        out[turn] = negated_number::<W>(out[turn]);
-    }
-}
-
-/// The wrapped negation of each number, by a loop of the type's own.
-pub(crate) fn negate_all(ty: Ty, out: &mut [Number])
-    ensures { (k : ℕ) → k < length out.new → number_at out.new k ≡ wrap ty (neg_ℤ (number_at out.old k)) }
-{
-    match ty {
-        Ty::U8 => negate_each::<Unsigned8>(out),
-        Ty::U16 => negate_each::<Unsigned16>(out),
-        Ty::U32 => negate_each::<Unsigned32>(out),
-        Ty::I8 => negate_each::<Signed8>(out),
-        Ty::I16 => negate_each::<Signed16>(out),
-        Ty::I32 => negate_each::<Signed32>(out),
-    }
-}
-
-/// Each number wrapped to the type.
-#[inline(always)]
-fn wrap_each<W: Width>(out: &mut [Number])
-    ensures { (k : ℕ) → k < length out.new → number_at out.new k ≡ wrap W.ty (number_at out.old k) }
-{
-    for turn in 0..out.len() {
-        out[turn] = wrapped_number::<W>(out[turn]);
-    }
-}
-
-/// Each number wrapped to the type, by a loop of the type's own.
-pub(crate) fn wrap_all(ty: Ty, out: &mut [Number])
-    ensures { (k : ℕ) → k < length out.new → number_at out.new k ≡ wrap ty (number_at out.old k) }
-{
-    match ty {
-        Ty::U8 => wrap_each::<Unsigned8>(out),
-        Ty::U16 => wrap_each::<Unsigned16>(out),
-        Ty::U32 => wrap_each::<Unsigned32>(out),
-        Ty::I8 => wrap_each::<Signed8>(out),
-        Ty::I16 => wrap_each::<Signed16>(out),
-        Ty::I32 => wrap_each::<Signed32>(out),
-    }
-}
-
-/// Each number, not above the one of a register and then not below the one of another.
-pub(crate) fn clamp_each(out: &mut [Number], low: &[Number], high: &[Number])
-    requires low { length low.now ≡ length out.old }
-    requires high { length high.now ≡ length out.old }
-    ensures { (k : ℕ) → k < length out.new → number_at out.new k ≡ int_max (int_min (number_at out.old k) (number_at high.now k)) (number_at low.now k) }
-{
-    for turn in 0..out.len() {
-        out[turn] = clamped_number(out[turn], low[turn], high[turn]);
-    }
-}
-
 /// Each number, not above one number and then not below another.
 pub(crate) fn clamp_between(out: &mut [Number], low: Number, high: Number)
     ensures { (k : ℕ) → k < length out.new → number_at out.new k ≡ int_max (int_min (number_at out.old k) high.value) low.value }
 {
     for turn in 0..out.len() {
         out[turn] = clamped_number(out[turn], low, high);
-    }
-}
-
-/// Puts the first numbers of another register in, where it has as many.
-pub(crate) fn copy_register(from: &[Number], out: &mut [Number]) -> Option<()>
-    ensures { IfSome result (λ _. (k : ℕ) → k < length out.new → number_at out.new k ≡ number_at from.now k) }
-{
-    if from.len() < out.len() {
-        return None;
-    }
-    copy_each(from, out);
-    Some(())
-}
-
-/// Puts the first numbers of another register in.
-pub(crate) fn copy_each(from: &[Number], out: &mut [Number])
-    requires { length out.old ≤ length from.now }
-    ensures { (k : ℕ) → k < length out.new → number_at out.new k ≡ number_at from.now k }
-{
-    for turn in 0..out.len() {
-        out[turn] = from[turn];
     }
 }
 
@@ -276,132 +112,426 @@ pub(crate) fn fill_steps(first: i64, step: i64, out: &mut [Number]) -> Option<()
     Some(())
 }
 
-/// A number of a mask that says whether the comparison holds.
+/// The operator on each word and the one of another register.
 #[inline(always)]
-fn compared_number<C: Comparing>(left: Number, right: Number) -> Number
-    ensures { is_set result.value ≡ compare C.by left.value right.value }
-{
-    Number {
-        value: i64::from(C::holds(left.value, right.value)),
-    }
-}
-
-/// A mask that says where the comparison with the numbers of another register holds.
-#[inline(always)]
-fn compare_each<C: Comparing>(out: &mut [Number], right: &[Number])
+fn apply_each<O: Operator, W: Width>(out: &mut [u32], right: &[u32])
     requires { length right.now ≡ length out.old }
-    ensures { (k : ℕ) → k < length out.new → mask_at out.new k ≡ compare C.by (number_at out.old k) (number_at right.now k) }
+    ensures { (k : ℕ) → k < length out.new → word_at W.ty out.new k ≡ apply O.op W.ty (word_at W.ty out.old k) (word_at W.ty right.now k) }
 {
     for turn in 0..out.len() {
-        out[turn] = compared_number::<C>(out[turn], right[turn]);
+        out[turn] = applied_word::<O, W>(out[turn], word_number::<W>(right[turn]));
     }
 }
 
-/// A mask that says where the comparison with the numbers of another register holds, by a loop of the comparison's own.
-pub(crate) fn compare_all(by: Comparison, out: &mut [Number], right: &[Number])
+/// The operator on each word and the one of another register, by a loop of the type's own.
+fn apply_in<O: Operator>(ty: Ty, out: &mut [u32], right: &[u32])
     requires { length right.now ≡ length out.old }
-    ensures { (k : ℕ) → k < length out.new → mask_at out.new k ≡ compare by (number_at out.old k) (number_at right.now k) }
+    ensures { (k : ℕ) → k < length out.new → word_at ty out.new k ≡ apply O.op ty (word_at ty out.old k) (word_at ty right.now k) }
+{
+    match ty {
+        Ty::U8 => apply_each::<O, Unsigned8>(out, right),
+        Ty::U16 => apply_each::<O, Unsigned16>(out, right),
+        Ty::U32 => apply_each::<O, Unsigned32>(out, right),
+        Ty::I8 => apply_each::<O, Signed8>(out, right),
+        Ty::I16 => apply_each::<O, Signed16>(out, right),
+        Ty::I32 => apply_each::<O, Signed32>(out, right),
+    }
+}
+
+/// The operator on each word and the one of another register, by a loop of the operator's and the type's own.
+pub(crate) fn apply_all(op: Op, ty: Ty, out: &mut [u32], right: &[u32])
+    requires { length right.now ≡ length out.old }
+    ensures { (k : ℕ) → k < length out.new → word_at ty out.new k ≡ apply op ty (word_at ty out.old k) (word_at ty right.now k) }
+{
+    match op {
+        Op::Add => apply_in::<Sum>(ty, out, right),
+        Op::Sub => apply_in::<Difference>(ty, out, right),
+        Op::Mul => apply_in::<Product>(ty, out, right),
+        Op::Div => apply_in::<Quotient>(ty, out, right),
+        Op::Rem => apply_in::<Remainder>(ty, out, right),
+        Op::Min => apply_in::<Smaller>(ty, out, right),
+        Op::Max => apply_in::<Larger>(ty, out, right),
+    }
+}
+
+/// The operator on each word and one number.
+#[inline(always)]
+fn apply_each_by<O: Operator, W: Width>(out: &mut [u32], right: Number)
+    ensures { (k : ℕ) → k < length out.new → word_at W.ty out.new k ≡ apply O.op W.ty (word_at W.ty out.old k) right.value }
+{
+    for turn in 0..out.len() {
+        out[turn] = applied_word::<O, W>(out[turn], right);
+    }
+}
+
+/// The operator on each word and one number, by a loop of the type's own.
+fn apply_by_in<O: Operator>(ty: Ty, out: &mut [u32], right: Number)
+    ensures { (k : ℕ) → k < length out.new → word_at ty out.new k ≡ apply O.op ty (word_at ty out.old k) right.value }
+{
+    match ty {
+        Ty::U8 => apply_each_by::<O, Unsigned8>(out, right),
+        Ty::U16 => apply_each_by::<O, Unsigned16>(out, right),
+        Ty::U32 => apply_each_by::<O, Unsigned32>(out, right),
+        Ty::I8 => apply_each_by::<O, Signed8>(out, right),
+        Ty::I16 => apply_each_by::<O, Signed16>(out, right),
+        Ty::I32 => apply_each_by::<O, Signed32>(out, right),
+    }
+}
+
+/// The operator on each word and one number, by a loop of the operator's and the type's own.
+pub(crate) fn apply_by(op: Op, ty: Ty, out: &mut [u32], right: Number)
+    ensures { (k : ℕ) → k < length out.new → word_at ty out.new k ≡ apply op ty (word_at ty out.old k) right.value }
+{
+    match op {
+        Op::Add => apply_by_in::<Sum>(ty, out, right),
+        Op::Sub => apply_by_in::<Difference>(ty, out, right),
+        Op::Mul => apply_by_in::<Product>(ty, out, right),
+        Op::Div => apply_by_in::<Quotient>(ty, out, right),
+        Op::Rem => apply_by_in::<Remainder>(ty, out, right),
+        Op::Min => apply_by_in::<Smaller>(ty, out, right),
+        Op::Max => apply_by_in::<Larger>(ty, out, right),
+    }
+}
+
+/// The wrapped negation of each word.
+#[inline(always)]
+fn negate_each<W: Width>(out: &mut [u32])
+    ensures { (k : ℕ) → k < length out.new → word_at W.ty out.new k ≡ wrap W.ty (neg_ℤ (word_at W.ty out.old k)) }
+{
+    for turn in 0..out.len() {
+        out[turn] = negated_word::<W>(out[turn]);
+    }
+}
+
+/// The wrapped negation of each word, by a loop of the type's own.
+pub(crate) fn negate_all(ty: Ty, out: &mut [u32])
+    ensures { (k : ℕ) → k < length out.new → word_at ty out.new k ≡ wrap ty (neg_ℤ (word_at ty out.old k)) }
+{
+    match ty {
+        Ty::U8 => negate_each::<Unsigned8>(out),
+        Ty::U16 => negate_each::<Unsigned16>(out),
+        Ty::U32 => negate_each::<Unsigned32>(out),
+        Ty::I8 => negate_each::<Signed8>(out),
+        Ty::I16 => negate_each::<Signed16>(out),
+        Ty::I32 => negate_each::<Signed32>(out),
+    }
+}
+
+/// Each word of a type, so that every type makes of it what its number wraps to.
+#[inline(always)]
+fn extend_each<W: Width>(out: &mut [u32])
+    ensures { (t : TyFound) (k : ℕ) → k < length out.new → word_at t out.new k ≡ wrap t (word_at W.ty out.old k) }
+{
+    for turn in 0..out.len() {
+        out[turn] = extended_word::<W>(out[turn]);
+    }
+}
+
+/// Each word of a type, so that every type makes of it what its number wraps to, by a loop of the type's own.
+pub(crate) fn extend_all(ty: Ty, out: &mut [u32])
+    ensures { (t : TyFound) (k : ℕ) → k < length out.new → word_at t out.new k ≡ wrap t (word_at ty out.old k) }
+{
+    match ty {
+        Ty::U8 => extend_each::<Unsigned8>(out),
+        Ty::U16 => extend_each::<Unsigned16>(out),
+        Ty::U32 => extend_each::<Unsigned32>(out),
+        Ty::I8 => extend_each::<Signed8>(out),
+        Ty::I16 => extend_each::<Signed16>(out),
+        Ty::I32 => extend_each::<Signed32>(out),
+    }
+}
+
+/// Each word, not above the one of a register and then not below the one of another.
+#[inline(always)]
+fn clamp_each<W: Width>(out: &mut [u32], low: &[u32], high: &[u32])
+    requires low { length low.now ≡ length out.old }
+    requires high { length high.now ≡ length out.old }
+    ensures { (k : ℕ) → k < length out.new → word_at W.ty out.new k ≡ int_max (int_min (word_at W.ty out.old k) (word_at W.ty high.now k)) (word_at W.ty low.now k) }
+{
+    for turn in 0..out.len() {
+        out[turn] = clamped_word::<W>(
+            out[turn],
+            word_number::<W>(low[turn]),
+            word_number::<W>(high[turn]),
+        );
+    }
+}
+
+/// Each word, not above the one of a register and then not below the one of another, by a loop of the type's own.
+pub(crate) fn clamp_all(ty: Ty, out: &mut [u32], low: &[u32], high: &[u32])
+    requires low { length low.now ≡ length out.old }
+    requires high { length high.now ≡ length out.old }
+    ensures { (k : ℕ) → k < length out.new → word_at ty out.new k ≡ int_max (int_min (word_at ty out.old k) (word_at ty high.now k)) (word_at ty low.now k) }
+{
+    match ty {
+        Ty::U8 => clamp_each::<Unsigned8>(out, low, high),
+        Ty::U16 => clamp_each::<Unsigned16>(out, low, high),
+        Ty::U32 => clamp_each::<Unsigned32>(out, low, high),
+        Ty::I8 => clamp_each::<Signed8>(out, low, high),
+        Ty::I16 => clamp_each::<Signed16>(out, low, high),
+        Ty::I32 => clamp_each::<Signed32>(out, low, high),
+    }
+}
+
+/// Each word, not above one number and then not below another.
+#[inline(always)]
+fn clamp_each_by<W: Width>(out: &mut [u32], low: Number, high: Number)
+    requires low { IsOf W.ty low.value }
+    requires high { IsOf W.ty high.value }
+    ensures { (k : ℕ) → k < length out.new → word_at W.ty out.new k ≡ int_max (int_min (word_at W.ty out.old k) high.value) low.value }
+{
+    for turn in 0..out.len() {
+        out[turn] = clamped_word::<W>(out[turn], low, high);
+    }
+}
+
+/// Each word, not above one number and then not below another, by a loop of the type's own.
+pub(crate) fn clamp_by(ty: Ty, out: &mut [u32], low: Number, high: Number)
+    requires low { IsOf ty low.value }
+    requires high { IsOf ty high.value }
+    ensures { (k : ℕ) → k < length out.new → word_at ty out.new k ≡ int_max (int_min (word_at ty out.old k) high.value) low.value }
+{
+    match ty {
+        Ty::U8 => clamp_each_by::<Unsigned8>(out, low, high),
+        Ty::U16 => clamp_each_by::<Unsigned16>(out, low, high),
+        Ty::U32 => clamp_each_by::<Unsigned32>(out, low, high),
+        Ty::I8 => clamp_each_by::<Signed8>(out, low, high),
+        Ty::I16 => clamp_each_by::<Signed16>(out, low, high),
+        Ty::I32 => clamp_each_by::<Signed32>(out, low, high),
+    }
+}
+
+/// A mask that says where the comparison with the words of another register holds.
+#[inline(always)]
+fn compare_each<C: Comparing, W: Width>(out: &mut [u32], right: &[u32])
+    requires { length right.now ≡ length out.old }
+    ensures { (k : ℕ) → k < length out.new → mask_at out.new k ≡ compare C.by (word_at W.ty out.old k) (word_at W.ty right.now k) }
+{
+    for turn in 0..out.len() {
+        out[turn] = compared_word::<C, W>(out[turn], word_number::<W>(right[turn]));
+    }
+}
+
+/// A mask that says where the comparison with the words of another register holds, by a loop of the type's own.
+fn compare_in<C: Comparing>(ty: Ty, out: &mut [u32], right: &[u32])
+    requires { length right.now ≡ length out.old }
+    ensures { (k : ℕ) → k < length out.new → mask_at out.new k ≡ compare C.by (word_at ty out.old k) (word_at ty right.now k) }
+{
+    match ty {
+        Ty::U8 => compare_each::<C, Unsigned8>(out, right),
+        Ty::U16 => compare_each::<C, Unsigned16>(out, right),
+        Ty::U32 => compare_each::<C, Unsigned32>(out, right),
+        Ty::I8 => compare_each::<C, Signed8>(out, right),
+        Ty::I16 => compare_each::<C, Signed16>(out, right),
+        Ty::I32 => compare_each::<C, Signed32>(out, right),
+    }
+}
+
+/// A mask that says where the comparison with the words of another register holds, by a loop of the comparison's and the type's own.
+pub(crate) fn compare_all(by: Comparison, ty: Ty, out: &mut [u32], right: &[u32])
+    requires { length right.now ≡ length out.old }
+    ensures { (k : ℕ) → k < length out.new → mask_at out.new k ≡ compare by (word_at ty out.old k) (word_at ty right.now k) }
 {
     match by {
-        Comparison::Less => compare_each::<IsLess>(out, right),
-        Comparison::AtMost => compare_each::<IsAtMost>(out, right),
-        Comparison::Greater => compare_each::<IsGreater>(out, right),
-        Comparison::AtLeast => compare_each::<IsAtLeast>(out, right),
-        Comparison::Equal => compare_each::<IsEqual>(out, right),
-        Comparison::Different => compare_each::<IsDifferent>(out, right),
+        Comparison::Less => compare_in::<IsLess>(ty, out, right),
+        Comparison::AtMost => compare_in::<IsAtMost>(ty, out, right),
+        Comparison::Greater => compare_in::<IsGreater>(ty, out, right),
+        Comparison::AtLeast => compare_in::<IsAtLeast>(ty, out, right),
+        Comparison::Equal => compare_in::<IsEqual>(ty, out, right),
+        Comparison::Different => compare_in::<IsDifferent>(ty, out, right),
     }
 }
 
 /// A mask that says where the comparison with one number holds.
 #[inline(always)]
-fn compare_each_with<C: Comparing>(out: &mut [Number], right: Number)
-    ensures { (k : ℕ) → k < length out.new → mask_at out.new k ≡ compare C.by (number_at out.old k) right.value }
+fn compare_each_by<C: Comparing, W: Width>(out: &mut [u32], right: Number)
+    ensures { (k : ℕ) → k < length out.new → mask_at out.new k ≡ compare C.by (word_at W.ty out.old k) right.value }
 {
     for turn in 0..out.len() {
-        out[turn] = compared_number::<C>(out[turn], right);
+        out[turn] = compared_word::<C, W>(out[turn], right);
     }
 }
 
-/// A mask that says where the comparison with one number holds, by a loop of the comparison's own.
-pub(crate) fn compare_with(by: Comparison, out: &mut [Number], right: Number)
-    ensures { (k : ℕ) → k < length out.new → mask_at out.new k ≡ compare by (number_at out.old k) right.value }
+/// A mask that says where the comparison with one number holds, by a loop of the type's own.
+fn compare_by_in<C: Comparing>(ty: Ty, out: &mut [u32], right: Number)
+    ensures { (k : ℕ) → k < length out.new → mask_at out.new k ≡ compare C.by (word_at ty out.old k) right.value }
+{
+    match ty {
+        Ty::U8 => compare_each_by::<C, Unsigned8>(out, right),
+        Ty::U16 => compare_each_by::<C, Unsigned16>(out, right),
+        Ty::U32 => compare_each_by::<C, Unsigned32>(out, right),
+        Ty::I8 => compare_each_by::<C, Signed8>(out, right),
+        Ty::I16 => compare_each_by::<C, Signed16>(out, right),
+        Ty::I32 => compare_each_by::<C, Signed32>(out, right),
+    }
+}
+
+/// A mask that says where the comparison with one number holds, by a loop of the comparison's and the type's own.
+pub(crate) fn compare_by(by: Comparison, ty: Ty, out: &mut [u32], right: Number)
+    ensures { (k : ℕ) → k < length out.new → mask_at out.new k ≡ compare by (word_at ty out.old k) right.value }
 {
     match by {
-        Comparison::Less => compare_each_with::<IsLess>(out, right),
-        Comparison::AtMost => compare_each_with::<IsAtMost>(out, right),
-        Comparison::Greater => compare_each_with::<IsGreater>(out, right),
-        Comparison::AtLeast => compare_each_with::<IsAtLeast>(out, right),
-        Comparison::Equal => compare_each_with::<IsEqual>(out, right),
-        Comparison::Different => compare_each_with::<IsDifferent>(out, right),
-    }
-}
-
-/// A number that says yes where this one does not.
-fn not_number(number: Number) -> Number
-    ensures { is_set result.value ≡ not (is_set number.value) }
-{
-    Number {
-        value: i64::from(number.value == 0),
+        Comparison::Less => compare_by_in::<IsLess>(ty, out, right),
+        Comparison::AtMost => compare_by_in::<IsAtMost>(ty, out, right),
+        Comparison::Greater => compare_by_in::<IsGreater>(ty, out, right),
+        Comparison::AtLeast => compare_by_in::<IsAtLeast>(ty, out, right),
+        Comparison::Equal => compare_by_in::<IsEqual>(ty, out, right),
+        Comparison::Different => compare_by_in::<IsDifferent>(ty, out, right),
     }
 }
 
 /// The mask that says yes where this one does not.
-pub(crate) fn not_each(out: &mut [Number])
+pub(crate) fn not_each(out: &mut [u32])
     ensures { (k : ℕ) → k < length out.new → mask_at out.new k ≡ not (mask_at out.old k) }
 {
     for turn in 0..out.len() {
-        out[turn] = not_number(out[turn]);
+        out[turn] = not_word(out[turn]);
     }
 }
 
-/// A number that says yes where both do.
-fn both_number(left: Number, right: Number) -> Number
-    ensures { is_set result.value ≡ (is_set left.value && is_set right.value) }
-{
-    if left.value == 0 { left } else { right }
-}
-
 /// The mask that says yes where this one and another do.
-pub(crate) fn both_each(out: &mut [Number], right: &[Number])
+pub(crate) fn both_each(out: &mut [u32], right: &[u32])
     requires { length right.now ≡ length out.old }
     ensures { (k : ℕ) → k < length out.new → mask_at out.new k ≡ (mask_at out.old k && mask_at right.now k) }
 {
     for turn in 0..out.len() {
-        out[turn] = both_number(out[turn], right[turn]);
+        out[turn] = both_word(out[turn], right[turn]);
     }
 }
 
-/// A number that says yes where one of them does.
-fn either_number(left: Number, right: Number) -> Number
-    ensures { is_set result.value ≡ (is_set left.value || is_set right.value) }
-{
-    if left.value == 0 { right } else { left }
-}
-
 /// The mask that says yes where this one or another does.
-pub(crate) fn either_each(out: &mut [Number], right: &[Number])
+pub(crate) fn either_each(out: &mut [u32], right: &[u32])
     requires { length right.now ≡ length out.old }
     ensures { (k : ℕ) → k < length out.new → mask_at out.new k ≡ (mask_at out.old k || mask_at right.now k) }
 {
     for turn in 0..out.len() {
-        out[turn] = either_number(out[turn], right[turn]);
+        out[turn] = either_word(out[turn], right[turn]);
     }
 }
 
-/// The first of two numbers where a mask's number says yes, else the second.
-fn chosen_number(mask: Number, yes: Number, no: Number) -> Number
-    ensures { result.value ≡ (if is_set mask.value then yes.value else no.value) }
-{
-    if mask.value == 0 { no } else { yes }
-}
-
-/// The numbers of one register where the mask says yes, and those of another where it does not.
-pub(crate) fn choose_each(out: &mut [Number], yes: &[Number], no: &[Number])
+/// The words of one register where the mask says yes, and those of another where it does not.
+pub(crate) fn choose_each(out: &mut [u32], yes: &[u32], no: &[u32])
     requires yes { length yes.now ≡ length out.old }
     requires no { length no.now ≡ length out.old }
-    ensures { (k : ℕ) → k < length out.new → number_at out.new k ≡ (if mask_at out.old k then number_at yes.now k else number_at no.now k) }
+    ensures { (k : ℕ) → k < length out.new → bits_at out.new k ≡ (if mask_at out.old k then bits_at yes.now k else bits_at no.now k) }
 {
     for turn in 0..out.len() {
-        out[turn] = chosen_number(out[turn], yes[turn], no[turn]);
+        out[turn] = chosen_word(out[turn], yes[turn], no[turn]);
     }
+}
+
+/// Puts the first words of another register in.
+pub(crate) fn copy_each(from: &[u32], out: &mut [u32])
+    requires { length out.old ≤ length from.now }
+    ensures { (k : ℕ) → k < length out.new → bits_at out.new k ≡ bits_at from.now k }
+{
+    for turn in 0..out.len() {
+        out[turn] = from[turn];
+    }
+}
+
+/// Puts one word in for each turn.
+pub(crate) fn fill_words(word: u32, out: &mut [u32])
+    ensures { (k : ℕ) → k < length out.new → bits_at out.new k ≡ word }
+{
+    for turn in 0..out.len() {
+        out[turn] = word;
+    }
+}
+
+/// Puts words of numbers in that rise by one.
+pub(crate) fn rise_words(first: Number, out: &mut [u32])
+    requires { IsShortRamp (length out.old) first.value }
+    ensures { (t : TyFound) (k : ℕ) → k < length out.new → word_at t out.new k ≡ wrap t (first.value +ℤ pos k) }
+{
+    for turn in 0..out.len() {
+        out[turn] = low_word(risen(first, turn));
+    }
+}
+
+/// Puts the words of as many numbers in.
+fn low_words(numbers: &[Number], out: &mut [u32])
+    requires { length out.old ≤ length numbers.now }
+    ensures { (t : TyFound) (k : ℕ) → k < length out.new → word_at t out.new k ≡ wrap t (number_at numbers.now k) }
+{
+    for turn in 0..out.len() {
+        out[turn] = low_word(numbers[turn]);
+    }
+}
+
+/// Puts the numbers of as many words in.
+#[inline(always)]
+fn widen_each<W: Width>(words: &[u32], out: &mut [Number])
+    requires { length out.old ≤ length words.now }
+    ensures { (k : ℕ) → k < length out.new → number_at out.new k ≡ word_at W.ty words.now k }
+{
+    for turn in 0..out.len() {
+        out[turn] = word_number::<W>(words[turn]);
+    }
+}
+
+/// Puts the numbers of as many words in, by a loop of the type's own.
+pub(crate) fn widen_all(ty: Ty, words: &[u32], out: &mut [Number])
+    requires { length out.old ≤ length words.now }
+    ensures { (k : ℕ) → k < length out.new → number_at out.new k ≡ word_at ty words.now k }
+{
+    match ty {
+        Ty::U8 => widen_each::<Unsigned8>(words, out),
+        Ty::U16 => widen_each::<Unsigned16>(words, out),
+        Ty::U32 => widen_each::<Unsigned32>(words, out),
+        Ty::I8 => widen_each::<Signed8>(words, out),
+        Ty::I16 => widen_each::<Signed16>(words, out),
+        Ty::I32 => widen_each::<Signed32>(words, out),
+    }
+}
+
+/// Whether a number lies between two others.
+#[inline(always)]
+fn is_between(number: Number, low: i64, high: i64) -> bool
+    ensures { OnTrue result ((low ≤ℤ number.value) × (number.value ≤ℤ high)) }
+{
+    let from = low <= number.value;
+    let to = number.value <= high;
+    from & to
+}
+
+/// Whether all numbers lie between two others. All are looked at, so that several are at once.
+fn are_between(numbers: &[Number], low: i64, high: i64) -> bool
+    ensures { OnTrue result ((k : ℕ) → k < length numbers.now → (low ≤ℤ number_at numbers.now k) × (number_at numbers.now k ≤ℤ high)) }
+{
+    let mut all = true;
+    for turn in 0..numbers.len() {
+        let one = is_between(numbers[turn], low, high);
+        all = all & one;
+    }
+    all
+}
+
+/// Puts the words of as many numbers in, where all of these are of the type.
+pub(crate) fn narrow_words(ty: Ty, numbers: &[Number], out: &mut [u32]) -> Option<()>
+    requires { length numbers.now ≡ length out.old }
+    ensures { IfSome result (λ _. (k : ℕ) → k < length out.new → word_at ty out.new k ≡ number_at numbers.now k) }
+{
+    if !are_between(numbers, ty.least(), ty.greatest()) {
+        return None;
+    }
+    low_words(numbers, out);
+    Some(())
+}
+
+/// The word of the number so many turns after the first, where each turn adds a step, if the number is of the type.
+fn stepped_word(ty: Ty, first: Number, step: Number, turn: usize) -> Option<u32>
+    ensures { IfSome result (λ w. wrap ty (pos w) ≡ first.value +ℤ step.value *ℤ pos turn) }
+{
+    exact_word(ty, stepped(first.value, step.value, turn)?)
+}
+
+/// Puts words of numbers in to each of which the next one adds a step; nothing where they are not of the type.
+pub(crate) fn step_words(ty: Ty, first: Number, step: Number, out: &mut [u32]) -> Option<()>
+    ensures { IfSome result (λ _. (k : ℕ) → k < length out.new → word_at ty out.new k ≡ first.value +ℤ step.value *ℤ pos k) }
+{
+    for turn in 0..out.len() {
+        out[turn] = stepped_word(ty, first, step, turn)?;
+    }
+    Some(())
 }

@@ -3,11 +3,14 @@
 ghost use Rattle.std.specs.Prelude.{◌≡◌, ◌∷◌, ◌<◌, ◌≤◌, ◌+◌, ◌+ℤ◌, ◌≤ℤ◌, ℕ, List, pos, IfSome, Some, length};
 ghost use Rattle.plan.specs.Semantics.Memory.{Memory};
 ghost use Rattle.tree.specs.declared.value.Value.{Value as ValueFound};
+ghost use Rattle.numeric.specs.Wrap.{wrap};
 ghost use Rattle.tree.specs.Meaning.{typed};
-ghost use Rattle.interpreter.specs.declared.evaluation.lanes.Number.{Number as NumberHeld};
 ghost use Rattle.interpreter.specs.Evaluation.Lanes.{clamped_number, lane_number, lanes_at, number_at};
+ghost use Rattle.interpreter.specs.Evaluation.Words.{word_at};
 
-use crate::evaluation::kernels::{clamp_between, copy_register, fill, fill_steps};
+use crate::evaluation::kernels::{
+    clamp_between, fill, fill_steps, fill_words, narrow_words, widen_all,
+};
 use crate::evaluation::lanes::{ClampedRamp, Lanes, Number};
 use crate::evaluation::run_reader::RunReader;
 use crate::scanlines::distance;
@@ -15,7 +18,7 @@ use numeric::Ty;
 
 /// The number of lanes that have one value at all turns.
 fn fixed(lanes: Lanes) -> Option<i64>
-    ensures { IfSome result (λ z. (zs : List NumberHeld) (k : ℕ) → lane_number lanes zs k ≡ z) }
+    ensures { IfSome result (λ z. (ws : List ℕ) (k : ℕ) → lane_number lanes ws k ≡ z) }
 {
     match lanes {
         Lanes::Broadcast(_, number) => Some(number.value),
@@ -23,30 +26,98 @@ fn fixed(lanes: Lanes) -> Option<i64>
     }
 }
 
+/// The numbers of lanes over a register, put into a list.
+fn numbers_of(lanes: Lanes, registers: &[u32], out: &mut [Number]) -> Option<()>
+    ensures { IfSome result (λ _. (k : ℕ) → k < length out.new → number_at out.new k ≡ lane_number lanes registers.now k) }
+{
+    match lanes {
+        Lanes::Broadcast(_, number) => {
+            fill(number, out);
+            Some(())
+        }
+        Lanes::Ramp(_, first) => fill_steps(first.value, 1, out),
+        Lanes::Clamped(_, ramp) => {
+            fill_steps(ramp.first.value, 1, out)?;
+            clamp_between(out, ramp.low, ramp.high);
+            Some(())
+        }
+        Lanes::Vector(ty) => {
+            if registers.len() < out.len() {
+                return None;
+            }
+            widen_all(ty, registers, out);
+            Some(())
+        }
+    }
+}
+
+/// What a name finds at the turns of a run, at one after another, where these are the indices but the first. There are at most 512
+/// turns.
+fn look_singly<R: RunReader>(
+    name: &str,
+    first: Lanes,
+    others: &[i64],
+    registers: &[u32],
+    reader: &R,
+    out: &mut [u32],
+) -> Option<Ty>
+    ensures { IfSome result (λ t. (m : Memory ValueFound) → R.agrees reader.now m → (k : ℕ) → k < length out.new → R.look reader.now m name.now (lane_number first registers.now k ∷ others.now) ≡ Some (typed t (word_at t out.new k))) }
+{
+    let mut room = [Number { value: 0 }; 512];
+    if room.len() < out.len() {
+        return None;
+    }
+    let (numbers, _) = room.split_at_mut(out.len());
+    numbers_of(first, registers, numbers)?;
+    let ty = reader.look_each(name, others, numbers)?;
+    narrow_words(ty, numbers, out)?;
+    Some(ty)
+}
+
+/// What a name finds at the turns of a run, at one after another, where each index may change. There are at most 512 turns.
+fn look_points<R: RunReader>(
+    name: &str,
+    indices: &[Lanes],
+    registers: &[u32],
+    reader: &R,
+    out: &mut [u32],
+) -> Option<Ty>
+    ensures { IfSome result (λ t. (m : Memory ValueFound) → R.agrees reader.now m → (k : ℕ) → k < length out.new → R.look reader.now m name.now (lanes_at (length out.new) indices.now registers.now k) ≡ Some (typed t (word_at t out.new k))) }
+{
+    let mut room = [Number { value: 0 }; 512];
+    if room.len() < out.len() {
+        return None;
+    }
+    let (numbers, _) = room.split_at_mut(out.len());
+    let ty = reader.look_points(name, indices, registers, numbers)?;
+    narrow_words(ty, numbers, out)?;
+    Some(ty)
+}
+
 /// What a name finds at the turns of a run, where each index has a register, one behind the other. Where no index but the
 /// first changes from turn to turn, what is found lies along a row.
 pub(crate) fn look_run<R: RunReader>(
     name: &str,
     indices: &[Lanes],
-    registers: &[Number],
+    registers: &[u32],
     reader: &R,
-    out: &mut [Number],
+    out: &mut [u32],
 ) -> Option<Ty>
-    ensures { IfSome result (λ t. (m : Memory ValueFound) → R.agrees reader.now m → (k : ℕ) → k < length out.new → R.look reader.now m name.now (lanes_at (length out.new) indices.now registers.now k) ≡ Some (typed t (number_at out.new k))) }
+    ensures { IfSome result (λ t. (m : Memory ValueFound) → R.agrees reader.now m → (k : ℕ) → k < length out.new → R.look reader.now m name.now (lanes_at (length out.new) indices.now registers.now k) ≡ Some (typed t (word_at t out.new k))) }
 {
     match indices {
         [first] => look_along(name, *first, &[], registers, reader, out),
         [first, second] => match fixed(*second) {
             Some(second) => look_along(name, *first, &[second], registers, reader, out),
-            None => reader.look_points(name, indices, registers, out),
+            None => look_points(name, indices, registers, reader, out),
         },
         [first, second, third] => match (fixed(*second), fixed(*third)) {
             (Some(second), Some(third)) => {
                 look_along(name, *first, &[second, third], registers, reader, out)
             }
-            _ => reader.look_points(name, indices, registers, out),
+            _ => look_points(name, indices, registers, reader, out),
         },
-        _ => reader.look_points(name, indices, registers, out),
+        _ => look_points(name, indices, registers, reader, out),
     }
 }
 
@@ -55,42 +126,32 @@ fn look_along<R: RunReader>(
     name: &str,
     first: Lanes,
     others: &[i64],
-    registers: &[Number],
+    registers: &[u32],
     reader: &R,
-    out: &mut [Number],
+    out: &mut [u32],
 ) -> Option<Ty>
-    ensures { IfSome result (λ t. (m : Memory ValueFound) → R.agrees reader.now m → (k : ℕ) → k < length out.new → R.look reader.now m name.now (lane_number first registers.now k ∷ others.now) ≡ Some (typed t (number_at out.new k))) }
+    ensures { IfSome result (λ t. (m : Memory ValueFound) → R.agrees reader.now m → (k : ℕ) → k < length out.new → R.look reader.now m name.now (lane_number first registers.now k ∷ others.now) ≡ Some (typed t (word_at t out.new k))) }
 {
-    match first {
-        Lanes::Ramp(_, number) => look_rising(name, number.value, others, reader, out),
-        Lanes::Clamped(_, ramp) => look_clamped(name, ramp, others, reader, out),
-        Lanes::Broadcast(_, number) => {
-            fill(number, out);
-            reader.look_each(name, others, out)
-        }
-        Lanes::Vector(_) => {
-            copy_register(registers, out)?;
-            reader.look_each(name, others, out)
-        }
+    match look_rising(name, first, others, reader, out) {
+        Some(ty) => Some(ty),
+        None => look_singly(name, first, others, registers, reader, out),
     }
 }
 
-/// What a name finds at the turns of a run, where the first index is this number at the first and one more at each after it.
+/// What a name finds at the turns of a run along a row, where the first index rises by one, and perhaps stays at ends.
 fn look_rising<R: RunReader>(
     name: &str,
-    first: i64,
+    first: Lanes,
     others: &[i64],
     reader: &R,
-    out: &mut [Number],
+    out: &mut [u32],
 ) -> Option<Ty>
-    ensures { IfSome result (λ t. (m : Memory ValueFound) → R.agrees reader.now m → (k : ℕ) → k < length out.new → R.look reader.now m name.now ((first +ℤ pos k) ∷ others.now) ≡ Some (typed t (number_at out.new k))) }
+    ensures { IfSome result (λ t. (m : Memory ValueFound) → R.agrees reader.now m → (ws : List ℕ) (k : ℕ) → k < length out.new → R.look reader.now m name.now (lane_number first ws k ∷ others.now) ≡ Some (typed t (word_at t out.new k))) }
 {
-    match reader.look_row(name, first, others, out) {
-        Some(ty) => Some(ty),
-        None => {
-            fill_steps(first, 1, out)?;
-            reader.look_each(name, others, out)
-        }
+    match first {
+        Lanes::Ramp(_, number) => reader.look_row(name, number.value, others, out),
+        Lanes::Clamped(_, ramp) => look_bent(name, ramp, others, reader, out),
+        _ => None,
     }
 }
 
@@ -118,15 +179,15 @@ fn look_standing<R: RunReader>(
     others: &[i64],
     ty: Ty,
     reader: &R,
-    out: &mut [Number],
+    out: &mut [u32],
 ) -> Option<()>
-    ensures { IfSome result (λ _. (m : Memory ValueFound) → R.agrees reader.now m → (k : ℕ) → k < length out.new → R.look reader.now m name.now (first ∷ others.now) ≡ Some (typed ty (number_at out.new k))) }
+    ensures { IfSome result (λ _. (m : Memory ValueFound) → R.agrees reader.now m → (k : ℕ) → k < length out.new → R.look reader.now m name.now (first ∷ others.now) ≡ Some (typed ty (word_at ty out.new k))) }
 {
     if out.len() == 0 {
         return Some(());
     }
     let found = look_once(name, first, others, ty, reader, out)?;
-    fill(found, out);
+    fill_words(found, out);
     Some(())
 }
 
@@ -137,9 +198,9 @@ fn look_once<R: RunReader>(
     others: &[i64],
     ty: Ty,
     reader: &R,
-    out: &mut [Number],
-) -> Option<Number>
-    ensures { IfSome result (λ n. (m : Memory ValueFound) → R.agrees reader.now m → R.look reader.now m name.now (first ∷ others.now) ≡ Some (typed ty n.value)) }
+    out: &mut [u32],
+) -> Option<u32>
+    ensures { IfSome result (λ w. (m : Memory ValueFound) → R.agrees reader.now m → R.look reader.now m name.now (first ∷ others.now) ≡ Some (typed ty (wrap ty (pos w)))) }
 {
     if out.len() < 1 {
         return None;
@@ -196,9 +257,9 @@ fn look_bent<R: RunReader>(
     ramp: ClampedRamp,
     others: &[i64],
     reader: &R,
-    out: &mut [Number],
+    out: &mut [u32],
 ) -> Option<Ty>
-    ensures { IfSome result (λ t. (m : Memory ValueFound) → R.agrees reader.now m → (k : ℕ) → k < length out.new → R.look reader.now m name.now (clamped_number ramp k ∷ others.now) ≡ Some (typed t (number_at out.new k))) }
+    ensures { IfSome result (λ t. (m : Memory ValueFound) → R.agrees reader.now m → (k : ℕ) → k < length out.new → R.look reader.now m name.now (clamped_number ramp k ∷ others.now) ≡ Some (typed t (word_at t out.new k))) }
 {
     let bends = bends_of(ramp, out.len())?;
     let (left, rest) = out.split_at_mut(bends.before);
@@ -207,24 +268,4 @@ fn look_bent<R: RunReader>(
     look_standing(name, ramp.low.value, others, ty, reader, left)?;
     look_standing(name, ramp.high.value, others, ty, reader, right)?;
     Some(ty)
-}
-
-/// What a name finds at the turns of a run, where the first index is a clamped ramp's number.
-fn look_clamped<R: RunReader>(
-    name: &str,
-    ramp: ClampedRamp,
-    others: &[i64],
-    reader: &R,
-    out: &mut [Number],
-) -> Option<Ty>
-    ensures { IfSome result (λ t. (m : Memory ValueFound) → R.agrees reader.now m → (k : ℕ) → k < length out.new → R.look reader.now m name.now (clamped_number ramp k ∷ others.now) ≡ Some (typed t (number_at out.new k))) }
-{
-    match look_bent(name, ramp, others, reader, out) {
-        Some(ty) => Some(ty),
-        None => {
-            fill_steps(ramp.first.value, 1, out)?;
-            clamp_between(out, ramp.low, ramp.high);
-            reader.look_each(name, others, out)
-        }
-    }
 }

@@ -4,8 +4,9 @@ ghost use Rattle.std.specs.Bool.{OnTrue};
 ghost use Rattle.std.specs.Prelude.{◌≡◌, ◌<◌, ◌≤ℤ◌, ◌<ℤ◌, ◌*◌, ◌/◌, ◌%◌, ◌^◌, ℕ, IfSome, pos, negsuc, length};
 ghost use Rattle.numeric.specs.Apply.{apply, quotient, remainder};
 ghost use Rattle.numeric.specs.declared.op.Op.TheVariants.{Div, Rem};
-ghost use Rattle.interpreter.specs.Evaluation.Lanes.{number_at};
+ghost use Rattle.numeric.specs.Wrap.{wrap};
 ghost use Rattle.interpreter.specs.Evaluation.Quotients.{IsReciprocal, IsSmall};
+ghost use Rattle.interpreter.specs.Evaluation.Words.{word_at};
 
 use crate::evaluation::kernels::applied_number;
 use crate::evaluation::lanes::Number;
@@ -13,6 +14,7 @@ use crate::evaluation::operations::{Operator, Quotient, Remainder};
 use crate::evaluation::widths::{
     Signed8, Signed16, Signed32, Unsigned8, Unsigned16, Unsigned32, Width,
 };
+use crate::evaluation::words::{low_word, word_number};
 use numeric::Ty;
 
 /// A quotient and its remainder.
@@ -134,14 +136,30 @@ fn remainder_number<W: Width>(number: Number, divisor: u32, reciprocal: u64) -> 
     }
 }
 
-/// Each number divided by one, wrapped to the type.
+/// The quotient of a word by a number, wrapped to the word's type.
 #[inline(always)]
-fn divide_each<W: Width>(out: &mut [Number], divisor: u32)
-    ensures { (k : ℕ) → k < length out.new → number_at out.new k ≡ apply Div W.ty (number_at out.old k) (pos divisor) }
+fn quotient_word<W: Width>(word: u32, divisor: u32, reciprocal: u64) -> u32
+    ensures { wrap W.ty (pos result) ≡ apply Div W.ty (wrap W.ty (pos word)) (pos divisor) }
+{
+    low_word(quotient_number::<W>(word_number::<W>(word), divisor, reciprocal))
+}
+
+/// The remainder of a word by a number, wrapped to the word's type.
+#[inline(always)]
+fn remainder_word<W: Width>(word: u32, divisor: u32, reciprocal: u64) -> u32
+    ensures { wrap W.ty (pos result) ≡ apply Rem W.ty (wrap W.ty (pos word)) (pos divisor) }
+{
+    low_word(remainder_number::<W>(word_number::<W>(word), divisor, reciprocal))
+}
+
+/// Each word divided by one number, wrapped to the type.
+#[inline(always)]
+fn divide_each<W: Width>(out: &mut [u32], divisor: u32)
+    ensures { (k : ℕ) → k < length out.new → word_at W.ty out.new k ≡ apply Div W.ty (word_at W.ty out.old k) (pos divisor) }
 {
     let reciprocal = reciprocal(divisor);
     for turn in 0..out.len() {
-        out[turn] = quotient_number::<W>(out[turn], divisor, reciprocal);
+        out[turn] = quotient_word::<W>(out[turn], divisor, reciprocal);
     }
 }
 
@@ -156,12 +174,13 @@ fn is_small(number: Number) -> bool
 }
 
 /// Whether all numbers are of 16 bits without a sign. All are looked at, so that several are at once.
-fn are_small(numbers: &[Number]) -> bool
-    ensures { OnTrue result ((k : ℕ) → k < length numbers.now → IsSmall (number_at numbers.now k)) }
+#[inline(always)]
+fn are_small<W: Width>(words: &[u32]) -> bool
+    ensures { OnTrue result ((k : ℕ) → k < length words.now → IsSmall (word_at W.ty words.now k)) }
 {
     let mut all = true;
-    for turn in 0..numbers.len() {
-        let one = is_small(numbers[turn]);
+    for turn in 0..words.len() {
+        let one = is_small(word_number::<W>(words[turn]));
         all = all & one;
     }
     all
@@ -210,32 +229,42 @@ fn small_quotient<W: Width>(number: Number, divisor: u32, reciprocal: u32) -> Nu
     }
 }
 
-/// Each number of 16 bits divided by one, wrapped to the type, by the divisor's reciprocal.
+/// The quotient of a word that is a number of 16 bits without a sign, wrapped to the word's type, by the divisor's reciprocal.
 #[inline(always)]
-fn divide_small<W: Width>(out: &mut [Number], divisor: u32, reciprocal: u32)
-    requires small { (k : ℕ) → k < length out.old → IsSmall (number_at out.old k) }
+fn small_word<W: Width>(word: u32, divisor: u32, reciprocal: u32) -> u32
+    requires small { IsSmall (wrap W.ty (pos word)) }
     requires reciprocal { IsReciprocal reciprocal divisor }
-    ensures { (k : ℕ) → k < length out.new → number_at out.new k ≡ apply Div W.ty (number_at out.old k) (pos divisor) }
+    ensures { wrap W.ty (pos result) ≡ apply Div W.ty (wrap W.ty (pos word)) (pos divisor) }
+{
+    low_word(small_quotient::<W>(word_number::<W>(word), divisor, reciprocal))
+}
+
+/// Each word that is a number of 16 bits divided by one number, wrapped to the type, by the divisor's reciprocal.
+#[inline(always)]
+fn divide_small<W: Width>(out: &mut [u32], divisor: u32, reciprocal: u32)
+    requires small { (k : ℕ) → k < length out.old → IsSmall (word_at W.ty out.old k) }
+    requires reciprocal { IsReciprocal reciprocal divisor }
+    ensures { (k : ℕ) → k < length out.new → word_at W.ty out.new k ≡ apply Div W.ty (word_at W.ty out.old k) (pos divisor) }
 {
     for turn in 0..out.len() {
-        out[turn] = small_quotient::<W>(out[turn], divisor, reciprocal);
+        out[turn] = small_word::<W>(out[turn], divisor, reciprocal);
     }
 }
 
-/// Each number divided by one, wrapped to the type: by a product alone where all are of 16 bits.
+/// Each word divided by one number, wrapped to the type: by a product alone where all are of 16 bits.
 #[inline(always)]
-fn divide_in<W: Width>(out: &mut [Number], divisor: u32)
-    ensures { (k : ℕ) → k < length out.new → number_at out.new k ≡ apply Div W.ty (number_at out.old k) (pos divisor) }
+fn divide_in<W: Width>(out: &mut [u32], divisor: u32)
+    ensures { (k : ℕ) → k < length out.new → word_at W.ty out.new k ≡ apply Div W.ty (word_at W.ty out.old k) (pos divisor) }
 {
     match small_reciprocal(divisor) {
-        Some(reciprocal) if are_small(out) => divide_small::<W>(out, divisor, reciprocal),
+        Some(reciprocal) if are_small::<W>(out) => divide_small::<W>(out, divisor, reciprocal),
         _ => divide_each::<W>(out, divisor),
     }
 }
 
-/// Each number divided by one, wrapped to the type, by a loop of the type's own.
-pub(crate) fn divide_all(ty: Ty, out: &mut [Number], divisor: u32)
-    ensures { (k : ℕ) → k < length out.new → number_at out.new k ≡ apply Div ty (number_at out.old k) (pos divisor) }
+/// Each word divided by one number, wrapped to the type, by a loop of the type's own.
+pub(crate) fn divide_all(ty: Ty, out: &mut [u32], divisor: u32)
+    ensures { (k : ℕ) → k < length out.new → word_at ty out.new k ≡ apply Div ty (word_at ty out.old k) (pos divisor) }
 {
     match ty {
         Ty::U8 => divide_in::<Unsigned8>(out, divisor),
@@ -247,20 +276,20 @@ pub(crate) fn divide_all(ty: Ty, out: &mut [Number], divisor: u32)
     }
 }
 
-/// The remainder of each number by one, wrapped to the type.
+/// The remainder of each word by one number, wrapped to the type.
 #[inline(always)]
-fn reduce_each<W: Width>(out: &mut [Number], divisor: u32)
-    ensures { (k : ℕ) → k < length out.new → number_at out.new k ≡ apply Rem W.ty (number_at out.old k) (pos divisor) }
+fn reduce_each<W: Width>(out: &mut [u32], divisor: u32)
+    ensures { (k : ℕ) → k < length out.new → word_at W.ty out.new k ≡ apply Rem W.ty (word_at W.ty out.old k) (pos divisor) }
 {
     let reciprocal = reciprocal(divisor);
     for turn in 0..out.len() {
-        out[turn] = remainder_number::<W>(out[turn], divisor, reciprocal);
+        out[turn] = remainder_word::<W>(out[turn], divisor, reciprocal);
     }
 }
 
-/// The remainder of each number by one, wrapped to the type, by a loop of the type's own.
-pub(crate) fn reduce_all(ty: Ty, out: &mut [Number], divisor: u32)
-    ensures { (k : ℕ) → k < length out.new → number_at out.new k ≡ apply Rem ty (number_at out.old k) (pos divisor) }
+/// The remainder of each word by one number, wrapped to the type, by a loop of the type's own.
+pub(crate) fn reduce_all(ty: Ty, out: &mut [u32], divisor: u32)
+    ensures { (k : ℕ) → k < length out.new → word_at ty out.new k ≡ apply Rem ty (word_at ty out.old k) (pos divisor) }
 {
     match ty {
         Ty::U8 => reduce_each::<Unsigned8>(out, divisor),

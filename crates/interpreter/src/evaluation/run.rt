@@ -1,11 +1,13 @@
 //! The values of an expression at the turns of a run.
 
-ghost use Rattle.std.specs.Prelude.{◌≡◌, ◌<◌, ◌*◌, ℕ, IfSome, drop, length};
+ghost use Rattle.std.specs.Prelude.{◌≡◌, ◌<◌, ◌*◌, ℕ, IfSome, Some, drop, length};
 ghost use Rattle.plan.specs.Semantics.Found.{found, test_found, all_found, with};
 ghost use Rattle.plan.specs.Semantics.Memory.{Memory};
+ghost use Rattle.tree.specs.Meaning.{typed};
 ghost use Rattle.tree.specs.Term.{term_of, test_of, indices, list_terms};
 ghost use Rattle.tree.specs.declared.value.Value.{Value as ValueFound};
 ghost use Rattle.interpreter.specs.Evaluation.Lanes.{number_at, FindsMask, FindsRun, IsNarrowFor};
+ghost use Rattle.interpreter.specs.Evaluation.Words.{bits_at, word_at};
 ghost use Rattle.interpreter.specs.declared.evaluation.lanes.Lanes.TheVariants.{Vector};
 
 use crate::evaluation::kernels::{both_each, either_each, not_each};
@@ -14,12 +16,13 @@ use crate::evaluation::looking::look_run;
 use crate::evaluation::repeats::repeat_of;
 use crate::evaluation::run_reader::RunReader;
 use crate::evaluation::whole::{
-    apply_lanes, apply_repeated, choose_lanes, clamp_lanes, compare_lanes, negate_lanes, wrap_lanes,
+    apply_lanes, apply_repeated, choose_lanes, clamp_lanes, compare_lanes, negate_lanes, spread,
+    type_of, widen, wrap_lanes,
 };
 use numeric::Ty;
 use tree::{Cond, Expr};
 
-/// The values of an expression at the turns of a run, as many as the register has numbers. Nothing where it is not taken
+/// The values of an expression at the turns of a run, as many as the register has words. Nothing where it is not taken
 /// for all turns together; then it may still have values.
 ///
 /// It takes no memory: the parts of the expression lie in the further registers.
@@ -27,8 +30,8 @@ use tree::{Cond, Expr};
 pub fn evaluate_run<R: RunReader>(
     expr: &Expr,
     reader: &R,
-    out: &mut [Number],
-    rest: &mut [Number],
+    out: &mut [u32],
+    rest: &mut [u32],
 ) -> Option<Lanes>
     ensures narrow { IfSome result (IsNarrowFor (length out.new)) }
     ensures value { IfSome result (λ x. (m : Memory ValueFound) → R.agrees reader.now m → FindsRun (length out.new) x out.new (λ k. found (R.variables reader.now k) (R.look reader.now m) (term_of expr.now))) }
@@ -42,13 +45,15 @@ pub fn evaluate_run<R: RunReader>(
         }
         Expr::Negate { value, .. } => {
             let value = evaluate_run(value, reader, out, rest)?;
-            Some(negate_lanes(value, out))
+            let lanes = negate_lanes(value, out)?;
+            Some(lanes)
         }
         Expr::Binary { .. } => binary_run(expr, reader, out, rest),
         Expr::Clamp { .. } => clamp_run(expr, reader, out, rest),
         Expr::Cast { ty, value, .. } => {
             let value = evaluate_run(value, reader, out, rest)?;
-            Some(wrap_lanes(*ty, value, out))
+            let lanes = wrap_lanes(*ty, value, out)?;
+            Some(lanes)
         }
         Expr::Select { .. } => select_run(expr, reader, out, rest),
     }
@@ -60,8 +65,8 @@ pub fn evaluate_run<R: RunReader>(
 fn operand_run<R: RunReader>(
     expr: &Expr,
     reader: &R,
-    out: &mut [Number],
-    rest: &mut [Number],
+    out: &mut [u32],
+    rest: &mut [u32],
 ) -> Option<Lanes>
     ensures narrow { IfSome result (IsNarrowFor (length out.new)) }
     ensures value { IfSome result (λ x. (m : Memory ValueFound) → R.agrees reader.now m → FindsRun (length out.new) x out.new (λ k. found (R.variables reader.now k) (R.look reader.now m) (term_of expr.now))) }
@@ -78,8 +83,8 @@ fn operand_run<R: RunReader>(
 fn binary_run<R: RunReader>(
     expr: &Expr,
     reader: &R,
-    out: &mut [Number],
-    rest: &mut [Number],
+    out: &mut [u32],
+    rest: &mut [u32],
 ) -> Option<Lanes>
     ensures narrow { IfSome result (IsNarrowFor (length out.new)) }
     ensures value { IfSome result (λ x. (m : Memory ValueFound) → R.agrees reader.now m → FindsRun (length out.new) x out.new (λ k. found (R.variables reader.now k) (R.look reader.now m) (term_of expr.now))) }
@@ -99,10 +104,12 @@ fn binary_run<R: RunReader>(
     }
     let (other, rest) = rest.split_at_mut(out.len());
     if let Some(repeat) = repeat_of(*op, left, right) {
-        return Some(apply_repeated(*op, repeat, first, out, other));
+        let lanes = apply_repeated(*op, repeat, first, out, other)?;
+        return Some(lanes);
     }
     let second = operand_run(right, reader, other, rest)?;
-    Some(apply_lanes(*op, first, second, out, other))
+    let lanes = apply_lanes(*op, first, second, out, other)?;
+    Some(lanes)
 }
 
 /// The values between two others, of an expression that is such.
@@ -110,8 +117,8 @@ fn binary_run<R: RunReader>(
 fn clamp_run<R: RunReader>(
     expr: &Expr,
     reader: &R,
-    out: &mut [Number],
-    rest: &mut [Number],
+    out: &mut [u32],
+    rest: &mut [u32],
 ) -> Option<Lanes>
     ensures narrow { IfSome result (IsNarrowFor (length out.new)) }
     ensures value { IfSome result (λ x. (m : Memory ValueFound) → R.agrees reader.now m → FindsRun (length out.new) x out.new (λ k. found (R.variables reader.now k) (R.look reader.now m) (term_of expr.now))) }
@@ -136,7 +143,8 @@ fn clamp_run<R: RunReader>(
     }
     let (highs, rest) = rest.split_at_mut(out.len());
     let high = operand_run(high, reader, highs, rest)?;
-    Some(clamp_lanes(value, low, high, out, lows, highs))
+    let lanes = clamp_lanes(value, low, high, out, lows, highs)?;
+    Some(lanes)
 }
 
 /// The chosen values, of an expression that is a choice. All of its condition and both its arms are evaluated.
@@ -144,8 +152,8 @@ fn clamp_run<R: RunReader>(
 fn select_run<R: RunReader>(
     expr: &Expr,
     reader: &R,
-    out: &mut [Number],
-    rest: &mut [Number],
+    out: &mut [u32],
+    rest: &mut [u32],
 ) -> Option<Lanes>
     ensures narrow { IfSome result (IsNarrowFor (length out.new)) }
     ensures value { IfSome result (λ x. (m : Memory ValueFound) → R.agrees reader.now m → FindsRun (length out.new) x out.new (λ k. found (R.variables reader.now k) (R.look reader.now m) (term_of expr.now))) }
@@ -170,12 +178,7 @@ fn select_run<R: RunReader>(
 
 /// What a condition comes to at the turns of a run, put into the register as a mask. All of it is evaluated.
 #[cycle(evaluate_run)]
-fn test_run<R: RunReader>(
-    cond: &Cond,
-    reader: &R,
-    out: &mut [Number],
-    rest: &mut [Number],
-) -> Option<()>
+fn test_run<R: RunReader>(cond: &Cond, reader: &R, out: &mut [u32], rest: &mut [u32]) -> Option<()>
     ensures { IfSome result (λ _. (m : Memory ValueFound) → R.agrees reader.now m → FindsMask (length out.new) out.new (λ k. test_found (R.variables reader.now k) (R.look reader.now m) (test_of cond.now))) }
 {
     match cond {
@@ -213,8 +216,8 @@ fn test_run<R: RunReader>(
 fn compare_run<R: RunReader>(
     cond: &Cond,
     reader: &R,
-    out: &mut [Number],
-    rest: &mut [Number],
+    out: &mut [u32],
+    rest: &mut [u32],
 ) -> Option<()>
     ensures { IfSome result (λ _. (m : Memory ValueFound) → R.agrees reader.now m → FindsMask (length out.new) out.new (λ k. test_found (R.variables reader.now k) (R.look reader.now m) (test_of cond.now))) }
 {
@@ -233,7 +236,7 @@ fn compare_run<R: RunReader>(
     }
     let (other, rest) = rest.split_at_mut(out.len());
     let right = operand_run(right, reader, other, rest)?;
-    compare_lanes(*by, left, right, out, other);
+    compare_lanes(*by, left, right, out, other)?;
     Some(())
 }
 
@@ -243,8 +246,8 @@ fn call_run<R: RunReader>(
     name: &str,
     at: &[Expr],
     reader: &R,
-    out: &mut [Number],
-    rest: &mut [Number],
+    out: &mut [u32],
+    rest: &mut [u32],
 ) -> Option<Ty>
     ensures { IfSome result (λ t. (m : Memory ValueFound) → R.agrees reader.now m → FindsRun (length out.new) (Vector t) out.new (λ k. with (all_found (R.variables reader.now k) (R.look reader.now m) (indices (list_terms at.now))) (λ zs. R.look reader.now m name.now zs))) }
 {
@@ -266,9 +269,9 @@ fn index_run<R: RunReader>(
     before: usize,
     count: usize,
     reader: &R,
-    registers: &mut [Number],
+    registers: &mut [u32],
 ) -> Option<Lanes>
-    ensures before { (j : ℕ) → j < before * count → number_at registers.new j ≡ number_at registers.old j }
+    ensures before { (j : ℕ) → j < before * count → bits_at registers.new j ≡ bits_at registers.old j }
     ensures value { IfSome result (λ x. (m : Memory ValueFound) → R.agrees reader.now m → FindsRun count x (drop (before * count) registers.new) (λ k. found (R.variables reader.now k) (R.look reader.now m) (term_of expr.now))) }
 {
     let start = before.checked_mul(count)?;
@@ -285,7 +288,7 @@ fn register_run<R: RunReader>(
     expr: &Expr,
     count: usize,
     reader: &R,
-    registers: &mut [Number],
+    registers: &mut [u32],
 ) -> Option<Lanes>
     ensures { IfSome result (λ x. (m : Memory ValueFound) → R.agrees reader.now m → FindsRun count x registers.new (λ k. found (R.variables reader.now k) (R.look reader.now m) (term_of expr.now))) }
 {
@@ -294,4 +297,42 @@ fn register_run<R: RunReader>(
     }
     let (out, rest) = registers.split_at_mut(count);
     operand_run(expr, reader, out, rest)
+}
+
+/// The numbers of an expression at as many turns of a run as the list has, and their type. Nothing where they are not taken for all
+/// turns together; then there may still be values.
+///
+/// It takes no memory: the parts of the expression lie in the registers.
+pub fn evaluate_numbers<R: RunReader>(
+    expr: &Expr,
+    reader: &R,
+    registers: &mut [u32],
+    out: &mut [Number],
+) -> Option<Ty>
+    ensures { IfSome result (λ t. (m : Memory ValueFound) → R.agrees reader.now m → (k : ℕ) → k < length out.new → found (R.variables reader.now k) (R.look reader.now m) (term_of expr.now) ≡ Some (typed t (number_at out.new k))) }
+{
+    if registers.len() < out.len() {
+        return None;
+    }
+    let (words, rest) = registers.split_at_mut(out.len());
+    let lanes = evaluate_run(expr, reader, words, rest)?;
+    widen(lanes, words, out);
+    Some(type_of(lanes))
+}
+
+/// The numbers of an expression at as many turns of a run as the register has words, put into it, and their type. Nothing where they
+/// are not taken for all turns together; then there may still be values.
+///
+/// It takes no memory: the parts of the expression lie in the further registers.
+pub fn evaluate_words<R: RunReader>(
+    expr: &Expr,
+    reader: &R,
+    out: &mut [u32],
+    rest: &mut [u32],
+) -> Option<Ty>
+    ensures { IfSome result (λ t. (m : Memory ValueFound) → R.agrees reader.now m → (k : ℕ) → k < length out.new → found (R.variables reader.now k) (R.look reader.now m) (term_of expr.now) ≡ Some (typed t (word_at t out.new k))) }
+{
+    let lanes = evaluate_run(expr, reader, out, rest)?;
+    spread(lanes, out)?;
+    Some(type_of(lanes))
 }

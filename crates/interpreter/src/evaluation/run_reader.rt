@@ -6,6 +6,7 @@ ghost use Rattle.tree.specs.declared.value.Value.{Value as ValueFound};
 ghost use Rattle.tree.specs.Meaning.{typed};
 ghost use Rattle.plan.specs.Semantics.Memory.{Memory};
 ghost use Rattle.interpreter.specs.Evaluation.Lanes.{lane, lanes_at, number_at, IsNarrowFor};
+ghost use Rattle.interpreter.specs.Evaluation.Words.{word_at};
 
 use crate::evaluation::lanes::{Lanes, Number};
 use numeric::Ty;
@@ -20,28 +21,28 @@ pub trait RunReader {
 
     ghost agrees: { Self → Memory ValueFound → Type 0 };
 
-    /// The numbers that a variable stands for at as many turns as the register has numbers. They are put into the register
+    /// The numbers that a variable stands for at as many turns as the register has words. They are put into the register
     /// where they neither stay nor rise by one.
-    fn variable(&self, name: &str, out: &mut [Number]) -> Option<Lanes>
+    fn variable(&self, name: &str, out: &mut [u32]) -> Option<Lanes>
         ensures narrow { IfSome result (IsNarrowFor (length out.new)) }
         ensures lanes { IfSome result (λ x. (k : ℕ) → k < length out.new → typed I32 (variables self.now k name.now) ≡ lane x out.new k) };
 
-    /// What a call of a name finds where the first index is each of the numbers in the register, and these are the others.
+    /// What a call of a name finds where the first index is each of the numbers in the list, and these are the others.
     fn look_each(&self, name: &str, others: &[i64], out: &mut [Number]) -> Option<Ty>
         ensures { IfSome result (λ t. (m : Memory ValueFound) → agrees self.now m → (k : ℕ) → k < length out.new → look self.now m name.now (number_at out.old k ∷ others.now) ≡ Some (typed t (number_at out.new k))) };
 
     /// What a call of a name finds where the first index is this number at the first turn and one more at each turn after it,
     /// and these are the others.
-    fn look_row(&self, name: &str, first: i64, others: &[i64], out: &mut [Number]) -> Option<Ty>
-        ensures { IfSome result (λ t. (m : Memory ValueFound) → agrees self.now m → (k : ℕ) → k < length out.new → look self.now m name.now ((first +ℤ pos k) ∷ others.now) ≡ Some (typed t (number_at out.new k))) };
+    fn look_row(&self, name: &str, first: i64, others: &[i64], out: &mut [u32]) -> Option<Ty>
+        ensures { IfSome result (λ t. (m : Memory ValueFound) → agrees self.now m → (k : ℕ) → k < length out.new → look self.now m name.now ((first +ℤ pos k) ∷ others.now) ≡ Some (typed t (word_at t out.new k))) };
 
-    /// What a call of a name finds where each index may change from turn to turn: the registers have so many numbers as the
-    /// one that is filled, one behind the other, for each index the next one.
+    /// What a call of a name finds where each index may change from turn to turn: the registers have so many words as the
+    /// list has numbers, one behind the other, for each index the next one.
     fn look_points(
         &self,
         name: &str,
         indices: &[Lanes],
-        registers: &[Number],
+        registers: &[u32],
         out: &mut [Number],
     ) -> Option<Ty>
         ensures { IfSome result (λ t. (m : Memory ValueFound) → agrees self.now m → (k : ℕ) → k < length out.new → look self.now m name.now (lanes_at (length out.new) indices.now registers.now k) ≡ Some (typed t (number_at out.new k))) };

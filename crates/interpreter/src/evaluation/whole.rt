@@ -4,20 +4,21 @@ ghost use Rattle.std.specs.Prelude.{◌≡◌, ◌<◌, ◌^◌, ℕ, ℤ, List,
 ghost use Rattle.numeric.specs.Apply.{apply, compare, exact};
 ghost use Rattle.std.specs.Bool.{OnTrue};
 ghost use Rattle.std.specs.Int.{int_max, int_min};
-ghost use Rattle.numeric.specs.Wrap.{wrap};
+ghost use Rattle.numeric.specs.Wrap.{wrap, IsOf};
 ghost use Rattle.tree.specs.Meaning.{applied, clamped, negated, typed};
-ghost use Rattle.interpreter.specs.declared.evaluation.lanes.Number.{Number as NumberHeld};
-ghost use Rattle.interpreter.specs.Evaluation.Lanes.{clamped_number, lane, lane_number, mask_at, number_at, type_of, IsNarrowFor, IsRamp, IsShortRamp};
+ghost use Rattle.interpreter.specs.Evaluation.Lanes.{clamped_number, lane, lane_number, number_at, type_of, IsNarrowFor, IsRamp, IsShortRamp};
 ghost use Rattle.interpreter.specs.Evaluation.Repeats.{repeated_value};
+ghost use Rattle.interpreter.specs.Evaluation.Words.{bits_at, mask_at, word_at};
 
 use crate::evaluation::kernels::{
-    apply_all, apply_by, choose_each, clamp_between, clamp_each, compare_all, compare_with,
-    copy_each, fill, fill_rising, negate_all, wrap_all,
+    apply_all, apply_by, choose_each, clamp_all, clamp_between, clamp_by, compare_all, compare_by,
+    copy_each, extend_all, fill, fill_rising, fill_words, negate_all, rise_words, widen_all,
 };
 use crate::evaluation::lanes::{ClampedRamp, Lanes, Number};
 use crate::evaluation::operators::{applied, clamped, negated, wrapped};
 use crate::evaluation::quotients::{divide_all, reduce_all};
 use crate::evaluation::repeats::Repeat;
+use crate::evaluation::words::exact_word;
 use numeric::{Comparison, Op, Ty};
 use tree::Value;
 
@@ -57,7 +58,7 @@ fn value_of(ty: Ty, number: Number) -> Value
 #[inline(always)]
 fn broadcast(value: Value) -> Lanes
     ensures narrow { (n : ℕ) → IsNarrowFor n result }
-    ensures lanes { (zs : List NumberHeld) (k : ℕ) → lane result zs k ≡ value }
+    ensures lanes { (ws : List ℕ) (k : ℕ) → lane result ws k ≡ value }
 {
     Lanes::Broadcast(value.ty, number_of(value))
 }
@@ -66,13 +67,64 @@ fn broadcast(value: Value) -> Lanes
 #[inline(always)]
 fn ramp(value: Value) -> Lanes
     ensures narrow { (n : ℕ) → IsShortRamp n value.number → IsNarrowFor n result }
-    ensures lanes { (zs : List NumberHeld) (k : ℕ) → lane result zs k ≡ typed value.ty (value.number +ℤ pos k) }
+    ensures lanes { (ws : List ℕ) (k : ℕ) → lane result ws k ≡ typed value.ty (value.number +ℤ pos k) }
 {
     Lanes::Ramp(value.ty, number_of(value))
 }
 
+/// Puts the words of one number in, if it is of the type.
+fn spread_number(ty: Ty, number: Number, out: &mut [u32]) -> Option<()>
+    ensures { IfSome result (λ _. (k : ℕ) → k < length out.new → word_at ty out.new k ≡ number.value) }
+{
+    let word = exact_word(ty, number)?;
+    fill_words(word, out);
+    Some(())
+}
+
+/// Puts the words of numbers in that rise by one, if they are of the type.
+fn spread_ramp(ty: Ty, first: Number, out: &mut [u32]) -> Option<()>
+    ensures { IfSome result (λ _. (k : ℕ) → k < length out.new → word_at ty out.new k ≡ first.value +ℤ pos k) }
+{
+    if !is_ramp(value_of(ty, first), out.len()) {
+        return None;
+    }
+    rise_words(first, out);
+    Some(())
+}
+
+/// Each word of the type, not above one number and then not below another, if these are of the type.
+fn clamp_numbers(ty: Ty, low: Number, high: Number, out: &mut [u32]) -> Option<()>
+    ensures { IfSome result (λ _. (k : ℕ) → k < length out.new → word_at ty out.new k ≡ int_max (int_min (word_at ty out.old k) high.value) low.value) }
+{
+    if !is_of(ty, low) || !is_of(ty, high) {
+        return None;
+    }
+    clamp_by(ty, out, low, high);
+    Some(())
+}
+
+/// Puts the words of a clamped ramp in, if its numbers are of the type.
+fn spread_clamped(ty: Ty, ramp: ClampedRamp, out: &mut [u32]) -> Option<()>
+    ensures { IfSome result (λ _. (k : ℕ) → k < length out.new → word_at ty out.new k ≡ clamped_number ramp k) }
+{
+    spread_ramp(ty, ramp.first, out)?;
+    clamp_numbers(ty, ramp.low, ramp.high, out)
+}
+
+/// Puts the words of the lanes into the register, if their numbers are of their type.
+pub(crate) fn spread(lanes: Lanes, out: &mut [u32]) -> Option<()>
+    ensures { IfSome result (λ _. (k : ℕ) → k < length out.new → word_at (type_of lanes) out.new k ≡ lane_number lanes out.old k) }
+{
+    match lanes {
+        Lanes::Broadcast(ty, number) => spread_number(ty, number, out),
+        Lanes::Ramp(ty, first) => spread_ramp(ty, first, out),
+        Lanes::Clamped(ty, ramp) => spread_clamped(ty, ramp, out),
+        Lanes::Vector(_) => Some(()),
+    }
+}
+
 /// Puts the numbers of a clamped ramp in.
-fn fill_clamped(ramp: ClampedRamp, out: &mut [Number])
+fn widen_clamped(ramp: ClampedRamp, out: &mut [Number])
     requires { IsShortRamp (length out.old) ramp.first.value }
     ensures { (k : ℕ) → k < length out.new → number_at out.new k ≡ clamped_number ramp k }
 {
@@ -80,16 +132,17 @@ fn fill_clamped(ramp: ClampedRamp, out: &mut [Number])
     clamp_between(out, ramp.low, ramp.high);
 }
 
-/// Puts the numbers into the register.
-pub(crate) fn spread(lanes: Lanes, out: &mut [Number])
-    requires { IsNarrowFor (length out.old) lanes }
-    ensures { (k : ℕ) → k < length out.new → number_at out.new k ≡ lane_number lanes out.old k }
+/// Puts the numbers of lanes over a register in.
+pub(crate) fn widen(lanes: Lanes, words: &[u32], out: &mut [Number])
+    requires words { length words.now ≡ length out.old }
+    requires lanes { IsNarrowFor (length out.old) lanes }
+    ensures { (k : ℕ) → k < length out.new → number_at out.new k ≡ lane_number lanes words.now k }
 {
     match lanes {
-        Lanes::Broadcast(_, value) => fill(value, out),
-        Lanes::Ramp(_, value) => fill_rising(value, out),
-        Lanes::Clamped(_, ramp) => fill_clamped(ramp, out),
-        Lanes::Vector(_) => {}
+        Lanes::Broadcast(_, number) => fill(number, out),
+        Lanes::Ramp(_, first) => fill_rising(first, out),
+        Lanes::Clamped(_, ramp) => widen_clamped(ramp, out),
+        Lanes::Vector(ty) => widen_all(ty, words, out),
     }
 }
 
@@ -125,6 +178,16 @@ fn is_ramp(first: Value, count: usize) -> bool
     true
 }
 
+/// Whether a number is of a type.
+fn is_of(ty: Ty, number: Number) -> bool
+    ensures { OnTrue result (IsOf ty number.value) }
+{
+    if number.value < ty.least() {
+        return false;
+    }
+    number.value <= ty.greatest()
+}
+
 /// A ramp with the same number added at all turns, or taken away, where that is a ramp of its type.
 fn move_ramp(op: Op, left: Value, right: Value, count: usize) -> Option<Value>
     ensures narrow { IfSome result (λ v. IsShortRamp count v.number) }
@@ -141,7 +204,7 @@ fn move_ramp(op: Op, left: Value, right: Value, count: usize) -> Option<Value>
 /// The operator where no register is needed.
 fn apply_whole(op: Op, left: Lanes, right: Lanes, count: usize) -> Option<Lanes>
     ensures narrow { IfSome result (IsNarrowFor count) }
-    ensures lanes { IfSome result (λ x. (us vs ws : List NumberHeld) (k : ℕ) → k < count → lane x us k ≡ applied op (lane left vs k) (lane right ws k)) }
+    ensures lanes { IfSome result (λ x. (us vs ws : List ℕ) (k : ℕ) → k < count → lane x us k ≡ applied op (lane left vs k) (lane right ws k)) }
 {
     let Lanes::Broadcast(ty, number) = right else {
         return None;
@@ -156,9 +219,9 @@ fn apply_whole(op: Op, left: Lanes, right: Lanes, count: usize) -> Option<Lanes>
     }
 }
 
-/// The operator on each number of a register and one number. A divisor of 32 bits spares them their divisions.
-fn apply_one(op: Op, ty: Ty, out: &mut [Number], right: Number)
-    ensures { (k : ℕ) → k < length out.new → number_at out.new k ≡ apply op ty (number_at out.old k) right.value }
+/// The operator on each word of a register and one number. A divisor of 32 bits spares them their divisions.
+fn apply_one(op: Op, ty: Ty, out: &mut [u32], right: Number)
+    ensures { (k : ℕ) → k < length out.new → word_at ty out.new k ≡ apply op ty (word_at ty out.old k) right.value }
 {
     match (op, u32::try_from(right.value)) {
         (Op::Div, Ok(divisor)) => divide_all(ty, out, divisor),
@@ -167,17 +230,31 @@ fn apply_one(op: Op, ty: Ty, out: &mut [Number], right: Number)
     }
 }
 
-/// The operator on each number of a register and lanes over another.
-fn apply_right(op: Op, ty: Ty, right: Lanes, out: &mut [Number], other: &mut [Number])
-    requires length { length other.old ≡ length out.old }
-    requires right { IsNarrowFor (length out.old) right }
-    ensures { (k : ℕ) → k < length out.new → number_at out.new k ≡ apply op ty (number_at out.old k) (lane_number right other.old k) }
+/// Puts the words of lanes into a register, if these are of the type and their numbers too.
+fn spread_as(ty: Ty, lanes: Lanes, out: &mut [u32]) -> Option<()>
+    ensures ty { IfSome result (λ _. type_of lanes ≡ ty) }
+    ensures numbers { IfSome result (λ _. (k : ℕ) → k < length out.new → word_at ty out.new k ≡ lane_number lanes out.old k) }
+{
+    if type_of(lanes) != ty {
+        return None;
+    }
+    spread(lanes, out)
+}
+
+/// The operator on each word of a register and lanes over another.
+fn apply_right(op: Op, ty: Ty, right: Lanes, out: &mut [u32], other: &mut [u32]) -> Option<()>
+    requires { length other.old ≡ length out.old }
+    ensures { IfSome result (λ _. (k : ℕ) → k < length out.new → word_at ty out.new k ≡ apply op ty (word_at ty out.old k) (lane_number right other.old k)) }
 {
     match right {
-        Lanes::Broadcast(_, value) => apply_one(op, ty, out, value),
+        Lanes::Broadcast(_, number) => {
+            apply_one(op, ty, out, number);
+            Some(())
+        }
         _ => {
-            spread(right, other);
+            spread_as(ty, right, other)?;
             apply_all(op, ty, out, other);
+            Some(())
         }
     }
 }
@@ -187,35 +264,33 @@ pub(crate) fn apply_lanes(
     op: Op,
     left: Lanes,
     right: Lanes,
-    out: &mut [Number],
-    other: &mut [Number],
-) -> Lanes
-    requires length { length other.old ≡ length out.old }
-    requires left { IsNarrowFor (length out.old) left }
-    requires right { IsNarrowFor (length out.old) right }
-    ensures narrow { IsNarrowFor (length out.new) result }
-    ensures lanes { (k : ℕ) → k < length out.new → lane result out.new k ≡ applied op (lane left out.old k) (lane right other.old k) }
+    out: &mut [u32],
+    other: &mut [u32],
+) -> Option<Lanes>
+    requires { length other.old ≡ length out.old }
+    ensures narrow { IfSome result (IsNarrowFor (length out.new)) }
+    ensures lanes { IfSome result (λ x. (k : ℕ) → k < length out.new → lane x out.new k ≡ applied op (lane left out.old k) (lane right other.old k)) }
 {
     match apply_whole(op, left, right, out.len()) {
-        Some(lanes) => lanes,
+        Some(lanes) => Some(lanes),
         None => {
-            spread(left, out);
-            apply_right(op, type_of(left), right, out, other);
-            Lanes::Vector(type_of(left))
+            spread(left, out)?;
+            apply_right(op, type_of(left), right, out, other)?;
+            Some(Lanes::Vector(type_of(left)))
         }
     }
 }
 
 /// The lanes of an operand that repeats another, put over a register of its own. The other's lie over this register.
-fn repeat_lanes(repeat: Repeat, lanes: Lanes, register: &[Number], out: &mut [Number]) -> Lanes
+fn repeat_lanes(repeat: Repeat, lanes: Lanes, register: &[u32], out: &mut [u32]) -> Option<Lanes>
     requires length { length register.now ≡ length out.old }
     requires lanes { IsNarrowFor (length out.old) lanes }
-    ensures narrow { IsNarrowFor (length out.new) result }
-    ensures lanes { (k : ℕ) → k < length out.new → lane result out.new k ≡ repeated_value repeat (lane lanes register.now k) }
+    ensures narrow { IfSome result (IsNarrowFor (length out.new)) }
+    ensures lanes { IfSome result (λ x. (k : ℕ) → k < length out.new → lane x out.new k ≡ repeated_value repeat (lane lanes register.now k)) }
 {
     copy_each(register, out);
     match repeat {
-        Repeat::Same => lanes,
+        Repeat::Same => Some(lanes),
         Repeat::Opposite => negate_lanes(lanes, out),
     }
 }
@@ -225,46 +300,44 @@ pub(crate) fn apply_repeated(
     op: Op,
     repeat: Repeat,
     lanes: Lanes,
-    out: &mut [Number],
-    other: &mut [Number],
-) -> Lanes
+    out: &mut [u32],
+    other: &mut [u32],
+) -> Option<Lanes>
     requires length { length other.old ≡ length out.old }
     requires lanes { IsNarrowFor (length out.old) lanes }
-    ensures narrow { IsNarrowFor (length out.new) result }
-    ensures lanes { (k : ℕ) → k < length out.new → lane result out.new k ≡ applied op (lane lanes out.old k) (repeated_value repeat (lane lanes out.old k)) }
+    ensures narrow { IfSome result (IsNarrowFor (length out.new)) }
+    ensures lanes { IfSome result (λ x. (k : ℕ) → k < length out.new → lane x out.new k ≡ applied op (lane lanes out.old k) (repeated_value repeat (lane lanes out.old k))) }
 {
-    let second = repeat_lanes(repeat, lanes, out, other);
+    let second = repeat_lanes(repeat, lanes, out, other)?;
     apply_lanes(op, lanes, second, out, other)
 }
 
 /// The negation of lanes.
-pub(crate) fn negate_lanes(lanes: Lanes, out: &mut [Number]) -> Lanes
-    requires { IsNarrowFor (length out.old) lanes }
-    ensures narrow { IsNarrowFor (length out.new) result }
-    ensures lanes { (k : ℕ) → k < length out.new → lane result out.new k ≡ negated (lane lanes out.old k) }
+pub(crate) fn negate_lanes(lanes: Lanes, out: &mut [u32]) -> Option<Lanes>
+    ensures narrow { IfSome result (IsNarrowFor (length out.new)) }
+    ensures lanes { IfSome result (λ x. (k : ℕ) → k < length out.new → lane x out.new k ≡ negated (lane lanes out.old k)) }
 {
     match lanes {
-        Lanes::Broadcast(ty, number) => broadcast(negated(value_of(ty, number))),
+        Lanes::Broadcast(ty, number) => Some(broadcast(negated(value_of(ty, number)))),
         _ => {
-            spread(lanes, out);
+            spread(lanes, out)?;
             negate_all(type_of(lanes), out);
-            Lanes::Vector(type_of(lanes))
+            Some(Lanes::Vector(type_of(lanes)))
         }
     }
 }
 
 /// Lanes wrapped to the type.
-pub(crate) fn wrap_lanes(ty: Ty, lanes: Lanes, out: &mut [Number]) -> Lanes
-    requires { IsNarrowFor (length out.old) lanes }
-    ensures narrow { IsNarrowFor (length out.new) result }
-    ensures lanes { (k : ℕ) → k < length out.new → lane result out.new k ≡ typed ty (wrap ty (lane_number lanes out.old k)) }
+pub(crate) fn wrap_lanes(ty: Ty, lanes: Lanes, out: &mut [u32]) -> Option<Lanes>
+    ensures narrow { IfSome result (IsNarrowFor (length out.new)) }
+    ensures lanes { IfSome result (λ x. (k : ℕ) → k < length out.new → lane x out.new k ≡ typed ty (wrap ty (lane_number lanes out.old k))) }
 {
     match lanes {
-        Lanes::Broadcast(_, number) => broadcast(wrapped(ty, number.value)),
+        Lanes::Broadcast(_, number) => Some(broadcast(wrapped(ty, number.value))),
         _ => {
-            spread(lanes, out);
-            wrap_all(ty, out);
-            Lanes::Vector(ty)
+            spread(lanes, out)?;
+            extend_all(type_of(lanes), out);
+            Some(Lanes::Vector(ty))
         }
     }
 }
@@ -280,7 +353,7 @@ fn is_between(first: i64, low: i64, high: i64, count: usize) -> bool
 /// A ramp between two values.
 fn clamped_ramp(ty: Ty, first: Number, low: Value, high: Value) -> Lanes
     ensures narrow { (n : ℕ) → IsShortRamp n first.value → IsNarrowFor n result }
-    ensures lanes { (zs : List NumberHeld) (k : ℕ) → lane result zs k ≡ clamped (typed ty (first.value +ℤ pos k)) low high }
+    ensures lanes { (ws : List ℕ) (k : ℕ) → lane result ws k ≡ clamped (typed ty (first.value +ℤ pos k)) low high }
 {
     let ramp = ClampedRamp {
         first,
@@ -294,7 +367,7 @@ fn clamped_ramp(ty: Ty, first: Number, low: Value, high: Value) -> Lanes
 fn clamp_whole(value: Lanes, low: Lanes, high: Lanes, count: usize) -> Option<Lanes>
     requires { IsNarrowFor count value }
     ensures narrow { IfSome result (IsNarrowFor count) }
-    ensures lanes { IfSome result (λ x. (ts us vs ws : List NumberHeld) (k : ℕ) → k < count → lane x ts k ≡ clamped (lane value us k) (lane low vs k) (lane high ws k)) }
+    ensures lanes { IfSome result (λ x. (ts us vs ws : List ℕ) (k : ℕ) → k < count → lane x ts k ≡ clamped (lane value us k) (lane low vs k) (lane high ws k)) }
 {
     let Lanes::Broadcast(ty, number) = low else {
         return None;
@@ -314,28 +387,26 @@ fn clamp_whole(value: Lanes, low: Lanes, high: Lanes, count: usize) -> Option<La
     }
 }
 
-/// Each number of a register between lanes over others.
+/// Each word of a register between lanes over others.
 fn clamp_register(
+    ty: Ty,
     low: Lanes,
     high: Lanes,
-    out: &mut [Number],
-    lows: &mut [Number],
-    highs: &mut [Number],
-)
+    out: &mut [u32],
+    lows: &mut [u32],
+    highs: &mut [u32],
+) -> Option<()>
     requires lows { length lows.old ≡ length out.old }
     requires highs { length highs.old ≡ length out.old }
-    requires low { IsNarrowFor (length out.old) low }
-    requires high { IsNarrowFor (length out.old) high }
-    ensures { (k : ℕ) → k < length out.new → number_at out.new k ≡ int_max (int_min (number_at out.old k) (lane_number high highs.old k)) (lane_number low lows.old k) }
+    ensures { IfSome result (λ _. (k : ℕ) → k < length out.new → word_at ty out.new k ≡ int_max (int_min (word_at ty out.old k) (lane_number high highs.old k)) (lane_number low lows.old k)) }
 {
     match (low, high) {
-        (Lanes::Broadcast(_, low), Lanes::Broadcast(_, high)) => {
-            clamp_between(out, low, high);
-        }
+        (Lanes::Broadcast(_, low), Lanes::Broadcast(_, high)) => clamp_numbers(ty, low, high, out),
         _ => {
-            spread(low, lows);
-            spread(high, highs);
-            clamp_each(out, lows, highs);
+            spread_as(ty, low, lows)?;
+            spread_as(ty, high, highs)?;
+            clamp_all(ty, out, lows, highs);
+            Some(())
         }
     }
 }
@@ -345,24 +416,46 @@ pub(crate) fn clamp_lanes(
     value: Lanes,
     low: Lanes,
     high: Lanes,
-    out: &mut [Number],
-    lows: &mut [Number],
-    highs: &mut [Number],
-) -> Lanes
+    out: &mut [u32],
+    lows: &mut [u32],
+    highs: &mut [u32],
+) -> Option<Lanes>
     requires lows { length lows.old ≡ length out.old }
     requires highs { length highs.old ≡ length out.old }
     requires value { IsNarrowFor (length out.old) value }
-    requires low { IsNarrowFor (length out.old) low }
-    requires high { IsNarrowFor (length out.old) high }
-    ensures narrow { IsNarrowFor (length out.new) result }
-    ensures lanes { (k : ℕ) → k < length out.new → lane result out.new k ≡ clamped (lane value out.old k) (lane low lows.old k) (lane high highs.old k) }
+    ensures narrow { IfSome result (IsNarrowFor (length out.new)) }
+    ensures lanes { IfSome result (λ x. (k : ℕ) → k < length out.new → lane x out.new k ≡ clamped (lane value out.old k) (lane low lows.old k) (lane high highs.old k)) }
 {
     match clamp_whole(value, low, high, out.len()) {
-        Some(lanes) => lanes,
+        Some(lanes) => Some(lanes),
         None => {
-            spread(value, out);
-            clamp_register(low, high, out, lows, highs);
-            Lanes::Vector(type_of(value))
+            spread(value, out)?;
+            clamp_register(type_of(value), low, high, out, lows, highs)?;
+            Some(Lanes::Vector(type_of(value)))
+        }
+    }
+}
+
+/// The comparison of the words of a register, which become a mask, with lanes over another.
+fn compare_right(
+    by: Comparison,
+    ty: Ty,
+    right: Lanes,
+    out: &mut [u32],
+    other: &mut [u32],
+) -> Option<()>
+    requires { length other.old ≡ length out.old }
+    ensures { IfSome result (λ _. (k : ℕ) → k < length out.new → mask_at out.new k ≡ compare by (word_at ty out.old k) (lane_number right other.old k)) }
+{
+    match right {
+        Lanes::Broadcast(_, number) => {
+            compare_by(by, ty, out, number);
+            Some(())
+        }
+        _ => {
+            spread_as(ty, right, other)?;
+            compare_all(by, ty, out, other);
+            Some(())
         }
     }
 }
@@ -372,22 +465,14 @@ pub(crate) fn compare_lanes(
     by: Comparison,
     left: Lanes,
     right: Lanes,
-    out: &mut [Number],
-    other: &mut [Number],
-)
-    requires length { length other.old ≡ length out.old }
-    requires left { IsNarrowFor (length out.old) left }
-    requires right { IsNarrowFor (length out.old) right }
-    ensures { (k : ℕ) → k < length out.new → mask_at out.new k ≡ compare by (lane_number left out.old k) (lane_number right other.old k) }
+    out: &mut [u32],
+    other: &mut [u32],
+) -> Option<()>
+    requires { length other.old ≡ length out.old }
+    ensures { IfSome result (λ _. (k : ℕ) → k < length out.new → mask_at out.new k ≡ compare by (lane_number left out.old k) (lane_number right other.old k)) }
 {
-    spread(left, out);
-    match right {
-        Lanes::Broadcast(_, value) => compare_with(by, out, value),
-        _ => {
-            spread(right, other);
-            compare_all(by, out, other);
-        }
-    }
+    spread(left, out)?;
+    compare_right(by, type_of(left), right, out, other)
 }
 
 /// The lanes over one register where the mask says yes, and those over another where it does not: their type. Nothing where
@@ -395,22 +480,17 @@ pub(crate) fn compare_lanes(
 pub(crate) fn choose_lanes(
     yes: Lanes,
     no: Lanes,
-    mask: &mut [Number],
-    yeses: &mut [Number],
-    noes: &mut [Number],
+    mask: &mut [u32],
+    yeses: &mut [u32],
+    noes: &mut [u32],
 ) -> Option<Ty>
     requires yeses { length yeses.old ≡ length mask.old }
     requires noes { length noes.old ≡ length mask.old }
-    requires yes { IsNarrowFor (length mask.old) yes }
-    requires no { IsNarrowFor (length mask.old) no }
-    ensures { IfSome result (λ t. (k : ℕ) → k < length mask.new → typed t (number_at mask.new k) ≡ (if mask_at mask.old k then lane yes yeses.old k else lane no noes.old k)) }
+    ensures { IfSome result (λ t. (k : ℕ) → k < length mask.new → typed t (word_at t mask.new k) ≡ (if mask_at mask.old k then lane yes yeses.old k else lane no noes.old k)) }
 {
     let ty = type_of(yes);
-    if type_of(no) != ty {
-        return None;
-    }
-    spread(yes, yeses);
-    spread(no, noes);
+    spread(yes, yeses)?;
+    spread_as(ty, no, noes)?;
     choose_each(mask, yeses, noes);
     Some(ty)
 }

@@ -1,19 +1,18 @@
-use Rattle.std.proofs.Common.{◌≡◌, ◌∷◌, ◌+◌, ◌<◌, ◌≤◌, ℕ, ℤ, List, Some, drop, length, pos, refl, ap, sym, subst, ◌∙◌, arith, rules, w64, SFits}
+use Rattle.std.proofs.Common.{◌≡◌, ◌∷◌, ◌<◌, ◌≤◌, ℕ, ℤ, List, Some, drop, pos, refl, ap, sym, subst, ◌∙◌, arith, rules, w64, SFits}
 use Rattle.std.specs.Prelude.{◌+ℤ◌, ◌≤ℤ◌}
 use Rattle.std.proofs.lemmas.Int.{ints, to_z-of_z}
 use Rattle.interpreter.specs.Buffers.Blocks.{limits_of, memory_of}
-use Rattle.interpreter.specs.Buffers.Spots.{set_all, HasPlace, IsSpot}
+use Rattle.interpreter.specs.Buffers.Spots.{set_all, IsSpot}
 use Rattle.interpreter.specs.CellRows.{along, row_value}
 use Rattle.interpreter.specs.Pieces.{around}
 use Rattle.interpreter.specs.RowVisits.{row_takes}
-use Rattle.interpreter.specs.States.{progress_of, IsAsLarge}
+use Rattle.interpreter.specs.States.{progress_of}
 use Rattle.interpreter.specs.Steps.{Progress, steps}
-use Rattle.interpreter.specs.Visits.{KeepsFrom}
 use Rattle.interpreter.proofs.RowVisits.{taken_all, taken_row}
 use Rattle.interpreter.proofs.row_visits.fetch_cells.Goals as goal
 
-pub put_values-requires : goal.put_values-requires
-put_values-requires g c = λ k lt. c.requires.inside k (subst (λ (n : ℕ). k < n) c.in-Some.ensures.long lt)
+pub put_cells-requires : goal.put_cells-requires
+put_cells-requires g c = λ k lt. c.requires.inside k (subst (λ (n : ℕ). k < n) c.in-Some.ensures.long lt)
 
 pub fetch_places-requires-clause-long : goal.fetch_places-requires-clause-long
 fetch_places-requires-clause-long g c = omega (arith, c.set.ensures.count, c.requires.long)
@@ -22,7 +21,7 @@ pub returns-in-Some-clause-large : goal.returns-in-Some-clause-large
 returns-in-Some-clause-large g c =
     let old = c.args.state.now in
     record {
-      space = λ i. record { limits = c.put_values.ensures.limits i; numbers = old.numbers.room; point = c.set.ensures.room i; stack = old.stack.room };
+      space = λ i. record { limits = c.put_cells.ensures.limits i; numbers = old.numbers.room; point = c.set.ensures.room i; stack = old.stack.room };
       given = refl;
     }
 
@@ -40,13 +39,13 @@ returns-in-Some-clause-run g c = λ x b here.
     let count = c.args.count in
     let row = c.in-Some.row in
     let m = memory_of old.memory in
-    let new = memory_of c.put_values.new.memory in
+    let new = memory_of c.put_cells.new.self in
     let given = old.given.items in
     let fits : SFits w64 low = search rules in
     let front : c.as_slice.result.now ≡ low ∷ others = c.as_slice.ensures ∙ c.set.ensures.from ∙ (λ i. to_z-of_z w64 low fits i ∷ others) in
     let told : (k : ℕ) → k < count → row_value row k ≡ cell f ((low +ℤ pos k) ∷ others) =
     λ k lt. c.in-Some.ensures.values k lt ∙ ap (λ (p : List ℤ). cell f (along p k)) front in
-    let set = c.put_values.ensures.set b (λ k. (low +ℤ pos k) ∷ others) (λ k lt. here k (subst (λ (n : ℕ). k < n) c.in-Some.ensures.long lt)) in
+    let set = c.put_cells.ensures.set b (λ k. (low +ℤ pos k) ∷ others) (λ k lt. here k (subst (λ (n : ℕ). k < n) c.in-Some.ensures.long lt)) in
     let all : set_all m b (λ k. (low +ℤ pos k) ∷ others) (row_value row) count ≡ Some new =
     subst (λ (n : ℕ). set_all m b (λ k. (low +ℤ pos k) ∷ others) (row_value row) n ≡ Some new) c.in-Some.ensures.long set in
     let counted : low +ℤ pos count ≡ high +ℤ pos 1 = c.requires.count in

@@ -1,7 +1,7 @@
 use Rattle.std.proofs.Common.{◌≡◌, ◌+◌, ℕ, ℤ, Some, pos, ap, sym, ◌∙◌, arith, rules, w64, SFits}
 use Rattle.std.specs.Prelude.{◌+ℤ◌, ◌-ℤ◌}
 use Rattle.std.proofs.lemmas.Int.{ints, to_z-of_z}
-use Rattle.interpreter.specs.Buffers.Marks.{held_places}
+use Rattle.interpreter.specs.Buffers.Marks.{places_held}
 use Rattle.interpreter.proofs.Windows.{window_along}
 use Rattle.interpreter.proofs.row_visits.places_of.Goals as goal
 
@@ -15,6 +15,6 @@ returns-clause-held c = λ k v held.
     let is : first ≡ origin +ℤ pos start = sym (to_z-of_z w64 first c.ranges.first) ∙ c.in_ok-start.ensures ∙ ap (λ (o : ℤ). o +ℤ pos start) (to_z-of_z w64 origin fits) in
     let place : (first +ℤ pos k) -ℤ origin ≡ pos (start + k) = omega (arith, ints, is) in
     c.in_ok-line.ensures (first +ℤ pos k) v
-    (window_along (held_places line.held.marks.now line.held.numbers.now) (held_places c.in_ok-held.held.marks.now c.in_ok-held.held.numbers.now)
+    (window_along (places_held line.held) (places_held c.in_ok-held.held)
     start c.args.count k ((first +ℤ pos k) -ℤ origin) (Some v)
     c.in_ok-held.ensures.same place held)

@@ -13,7 +13,8 @@ use Rattle.meaning.specs.Names.{bound}
 use Rattle.numeric.specs.declared.ty.Ty.{Ty}
 use Rattle.interpreter.specs.Bindings.{symbols_of, Bindings}
 use Rattle.interpreter.specs.Buffers.Blocks.{memory_of}
-use Rattle.interpreter.specs.Evaluation.Lanes.{number_at}
+use Rattle.numeric.specs.Wrap.{wrap}
+use Rattle.interpreter.specs.Evaluation.Words.{word_at}
 use Rattle.interpreter.specs.Pieces.{around, no_cells}
 use Rattle.interpreter.specs.Rows.{Listed}
 use Rattle.interpreter.specs.Runs.{numbers_at, IsBut}
@@ -67,13 +68,13 @@ returns-clause-finds c =
     ∙ ap (λ (y : Bindings). map (known_number (bind (symbols_of y) c.turn-2.result.symbol c.turn-2.result.value c.turn-2.result.first)) cs) c.numbers_in.ensures.symbols
     ∙ ap (λ (b : Binding). map (known_number (bind s b.symbol b.value b.first)) cs) is2 in
     let P : Ty → Type 0 = λ t. (m : Memory Value) → IsBut line.buffer (memory_of c.args.state.now.memory) m → (k : ℕ) → k < part.count →
-    found (bound names (numbers_at c.as_slice.result.now c.as_slice-2.result.now k)) (look (around x no_cells) m) (term_of line.value.now) ≡ Some (typed t (number_at c.evaluate_in.new.registers k)) in
-    let C : Ty → Type 0 = λ _. part.count ≤ length c.evaluate_in.new.registers in
+    found (bound names (numbers_at c.as_slice.result.now c.as_slice-2.result.now k)) (look (around x no_cells) m) (term_of line.value.now) ≡ Some (typed t (word_at t c.evaluate_in.new.words k)) in
+    let C : Ty → Type 0 = λ _. part.count ≤ length c.evaluate_in.new.words in
     both_some c.evaluate_in.result C P _
     (λ t more h m but k lt.
-    let inside : k < length c.evaluate_in.new.registers = omega (arith, lt, more) in
+    let inside : k < length c.evaluate_in.new.words = omega (arith, lt, more) in
     ap (λ (l : List ℤ). found (bound names l) (look (around x no_cells) m) (term_of line.value.now))
     (numbers_moved cs s part.turns.symbol part.low k (int_le part.low part.turns.low) (int_le z part.turns.low) (int_le (part.low +ℤ pos k) part.turns.low)
     ∙ (λ i. numbers_at (sym first i) (sym second i) k))
-    ∙ h m but k lt ∙ ap (λ (y : ℤ). Some (typed t y)) (sym (written_back c.args.state.now.registers.len c.evaluate_in.new.registers _ k (omega (arith, inside)) inside)))
+    ∙ h m but k lt ∙ ap (λ (w : ℕ). Some (typed t (wrap t (pos w)))) (sym (written_back c.args.state.now.words.len c.evaluate_in.new.words _ k (omega (arith, inside)) inside)))
     c.evaluate_in.ensures.count c.evaluate_in.ensures.finds

@@ -1,4 +1,4 @@
-use Rattle.std.proofs.Common.{◌≡◌, ◌+◌, ◌-◌, ◌<◌, ℤ, List, map, take, pos, ◌+ℤ◌, Option, Some, None, refl, sym, ap, subst, ◌∙◌, arith}
+use Rattle.std.proofs.Common.{◌≡◌, ◌+◌, ◌-◌, ◌<◌, ℕ, ℤ, List, map, take, pos, ◌+ℤ◌, Option, Some, None, refl, sym, ap, subst, ◌∙◌, arith}
 use Rattle.std.specs.Prelude.{All, flat_map, int_le}
 use Rattle.std.proofs.lemmas.Bool.{ltb-false}
 use Rattle.std.proofs.lemmas.List.Elements.{All-take}
@@ -11,7 +11,7 @@ use Rattle.plan.specs.Semantics.Found.{with}
 use Rattle.plan.specs.Semantics.Memory.{write}
 use Rattle.interpreter.specs.Bindings.{Bindings, symbols_of}
 use Rattle.interpreter.specs.Buffers.Blocks.{memory_of}
-use Rattle.interpreter.specs.Evaluation.Lanes.{number_at}
+use Rattle.interpreter.specs.Evaluation.Words.{word_at}
 use Rattle.interpreter.specs.Pieces.{around, setting}
 use Rattle.interpreter.specs.Rows.{Listed}
 use Rattle.interpreter.specs.Runs.{store_at}
@@ -19,7 +19,6 @@ use Rattle.interpreter.specs.States.{progress_of}
 use Rattle.interpreter.specs.Steps.{Progress, steps}
 use Rattle.interpreter.specs.Targets.{known_number, CoordinateIsNarrow}
 use Rattle.interpreter.specs.declared.symbols.Binding.{Binding}
-use Rattle.interpreter.specs.declared.evaluation.lanes.Number.{Number}
 use Rattle.interpreter.proofs.Buts.{but_written}
 use Rattle.interpreter.proofs.Ending.{goes_on}
 use Rattle.interpreter.proofs.Storing.{sets}
@@ -56,9 +55,9 @@ returns-then-not-write-clause-run c = λ d cell.
     let n = c.size_in.result in
     let z = part.low +ℤ pos l.index in
     let now = bind s part.turns.symbol z (int_le z part.turns.low) in
-    let zs = c.args.state.now.registers.items in
+    let zs = c.args.state.now.words.items in
     let q = map (known_number now) (take n cs) in
-    let v = typed c.args.ty (number_at zs l.index) in
+    let v = typed c.args.ty (word_at c.args.ty zs l.index) in
     let go : Progress → Option Progress = steps A (flat_map f (rising (part.low +ℤ pos (l.index + 1)) (part.count - (l.index + 1)))) in
     let whole : Option Progress = steps A (flat_map f (rising part.low part.count)) (progress_of c.args.state.now) in
     let lt : l.index < part.count = omega (arith, ltb-false) in
@@ -71,7 +70,7 @@ returns-then-not-write-clause-run c = λ d cell.
     ∙ ap (λ (y : Bindings). map (known_number (bind (symbols_of y) c.turn_in-binding.result.symbol c.turn_in-binding.result.value c.turn_in-binding.result.first)) c.of_function-place.result.now) l.invariant.symbols
     ∙ ap (λ (b : Binding). map (known_number (bind s b.symbol b.value b.first)) c.of_function-place.result.now) is
     ∙ ap (λ (k : List Coordinate). map (known_number now) k) c.of_function-place.ensures in
-    let held : c.value_at-value.result ≡ v = c.value_at-value.ensures ∙ ap (λ (k : List Number). typed c.args.ty (number_at k l.index)) (c.deref.ensures.value ∙ l.invariant.registers) in
+    let held : c.value_at-value.result ≡ v = c.value_at-value.ensures ∙ ap (λ (k : List ℕ). typed c.args.ty (word_at c.args.ty k l.index)) (c.deref.ensures.value ∙ l.invariant.words) in
     let none : write p.memory line.buffer q v ≡ None = (λ i. write p.memory line.buffer (sym at i) (sym held i)) ∙ (c.if-not-write.ensures.outside refl).0 in
     next ∙ ap (λ (o : Option Progress). with o go) (set_nowhere line.buffer p q v none)
 
@@ -86,7 +85,7 @@ loop-index-preserved c =
         space = (λ i. record { limits = c.write.ensures.limits i; numbers = l.state.numbers.room; point = (ap (λ (r : Listed). r.room) c.numbers_in.ensures.numbers) i; stack = l.state.stack.room }) ∙ l.invariant.large.space;
         given = l.invariant.large.given;
       };
-      registers = l.invariant.registers;
+      words = l.invariant.words;
       but = but_written line.buffer (memory_of old.memory) (memory_of l.state.memory) (memory_of c.write.new.self) c.as_slice.result.now c.value_at-value.result l.invariant.but c.if-not-write.ensures.set;
       run = λ d cell.
           let x = c.args.piece.now in
@@ -101,9 +100,9 @@ loop-index-preserved c =
           let n = c.size_in.result in
           let z = part.low +ℤ pos l.index in
           let now = bind s part.turns.symbol z (int_le z part.turns.low) in
-          let zs = c.args.state.now.registers.items in
+          let zs = c.args.state.now.words.items in
           let q = map (known_number now) (take n cs) in
-          let v = typed c.args.ty (number_at zs l.index) in
+          let v = typed c.args.ty (word_at c.args.ty zs l.index) in
           let go : Progress → Option Progress = steps A (flat_map f (rising (part.low +ℤ pos (l.index + 1)) (part.count - (l.index + 1)))) in
           let whole : Option Progress = steps A (flat_map f (rising part.low part.count)) (progress_of c.args.state.now) in
           let lt : l.index < part.count = omega (arith, ltb-false) in
@@ -116,7 +115,7 @@ loop-index-preserved c =
           ∙ ap (λ (y : Bindings). map (known_number (bind (symbols_of y) c.turn_in-binding.result.symbol c.turn_in-binding.result.value c.turn_in-binding.result.first)) c.of_function-place.result.now) l.invariant.symbols
           ∙ ap (λ (b : Binding). map (known_number (bind s b.symbol b.value b.first)) c.of_function-place.result.now) is
           ∙ ap (λ (k : List Coordinate). map (known_number now) k) c.of_function-place.ensures in
-          let held : c.value_at-value.result ≡ v = c.value_at-value.ensures ∙ ap (λ (k : List Number). typed c.args.ty (number_at k l.index)) (c.deref.ensures.value ∙ l.invariant.registers) in
+          let held : c.value_at-value.result ≡ v = c.value_at-value.ensures ∙ ap (λ (k : List ℕ). typed c.args.ty (word_at c.args.ty k l.index)) (c.deref.ensures.value ∙ l.invariant.words) in
           let m = memory_of c.write.new.self in
           let some : write p.memory line.buffer q v ≡ Some m = (λ i. write p.memory line.buffer (sym at i) (sym held i)) ∙ c.if-not-write.ensures.set in
           goes_on (sets line.buffer p q v) (record { memory = m; given = p.given }) go whole next (set_there line.buffer p q v m some);

@@ -19,7 +19,7 @@ invariant-loop-index l =
     record {
       symbols : l.symbols ≡ l.initial.symbols;
       large : IsAsLarge l.initial.state l.state;
-      registers : l.state.registers.items ≡ l.initial.state.registers.items;
+      words : l.state.words.items ≡ l.initial.state.words.items;
       but : IsBut l.line.buffer (memory_of l.initial.state.memory) (memory_of l.state.memory);
       run : (d : ℕ) (cell : List ℕ → List ℤ → Value) →
           Comes (around l.piece cell) (steps (around l.piece cell) (flat_map (f d) (rising l.part.low l.part.count)) (progress_of l.initial.state))

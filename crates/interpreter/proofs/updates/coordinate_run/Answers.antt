@@ -20,8 +20,8 @@ returns c = λ m but k lt.
     let x_fits : SFits w64 x = search rules in
     let y : ℤ = c.args.second in
     let y_fits : SFits w64 y = search rules in
-    let out = c.spread.new.out in
+    let out = c.coordinate_numbers.new.out in
     let inside : k < length out = omega (arith, lt) in
     (λ i. place (sym (to_z-of_z w64 x x_fits) i) (sym (to_z-of_z w64 y y_fits) i))
-    ∙ c.in_ok-lanes.ensures.finds m but k (omega (arith, lt))
-    ∙ ap (λ (z : ℤ). Some z) (sym (c.spread.ensures k inside) ∙ sym (front_number out _ k inside))
+    ∙ c.in_ok-coordinate_numbers.ensures m but k inside
+    ∙ ap (λ (z : ℤ). Some z) (sym (front_number out _ k inside))

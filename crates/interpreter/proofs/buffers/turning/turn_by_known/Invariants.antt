@@ -1,9 +1,13 @@
-use Rattle.std.proofs.Common.{◌≡◌, ℕ, List, Some}
+use Rattle.std.proofs.Common.{◌≡◌, ◌≤◌, ℕ, List, Some}
+use Rattle.std.specs.Prelude.{vec_capacity}
 use Rattle.interpreter.specs.Buffers.Marks.{held_places}
 use Rattle.interpreter.specs.HeldTurns.{on_known, turned}
 use Rattle.interpreter.specs.declared.evaluation.lanes.Number.{Number}
 use Rattle.interpreter.proofs.buffers.turning.turn_by_known.Given as goal
 
 abbrev pub invariant-loop-turn : goal.invariant-loop-turn
-invariant-loop-turn g l = (w n : ℕ) (zs : List Number) (rights : List ℕ) → turned (on_known l.op w l.ty n) zs l.behind l.point l.own rights (held_places l.initial.marks l.initial.held) l.turn
-    ≡ Some (held_places l.marks l.held)
+invariant-loop-turn g l = record {
+  held : (w n : ℕ) (zs : List Number) (rights : List ℕ) → turned (on_known l.op w l.ty n) zs l.behind l.point l.own rights (held_places l.initial.marks l.initial.words l.initial.wides.items) l.turn
+      ≡ Some (held_places l.marks l.words l.wides.items);
+  capacity : vec_capacity l.initial.wides ≤ vec_capacity l.wides;
+}

@@ -1,19 +1,15 @@
-use Rattle.std.proofs.Common.{◌≡◌, ◌<◌, ℕ, ℤ, ap, ◌∙◌, arith, length}
+use Rattle.std.proofs.Common.{◌≡◌, ◌<◌, ℕ, length, arith, pos, ◌∙◌}
 use Rattle.numeric.specs.Apply.{apply}
-use Rattle.interpreter.specs.Evaluation.Lanes.{number_at}
-use Rattle.interpreter.proofs.Each.{each_begin, each_next}
+use Rattle.numeric.specs.Wrap.{wrap}
+use Rattle.interpreter.specs.Evaluation.Words.{bits_at, word_at}
+use Rattle.interpreter.proofs.EachWord.{words_next}
 use Rattle.interpreter.proofs.evaluation.kernels.apply_each.Goals as goal
-
-pub loop-turn-init : goal.loop-turn-init
-loop-turn-init g c = each_begin (λ k. apply g.O.Operator.op g.W.Width.ty (number_at c.args.out.now k) (number_at c.args.right.now k)) c.args.out.now
 
 pub loop-turn-preserved : goal.loop-turn-preserved
 loop-turn-preserved g c =
     let l = c.loop-turn in
-    let f : ℕ → ℤ = λ k. apply g.O.Operator.op g.W.Width.ty (number_at c.args.out.now k) (number_at c.args.right.now k) in
+    let ty = g.W.Width.ty in
+    let P : ℕ → ℕ → Type 0 = λ k w. wrap ty (pos w) ≡ apply g.O.Operator.op ty (word_at ty c.args.out.now k) (word_at ty c.args.right.now k) in
     let lt : l.turn < length l.out = omega arith in
-    let same : number_at l.out l.turn ≡ number_at c.args.out.now l.turn = l.invariant.later l.turn (omega arith) in
-    each_next f l.turn c.args.out.now l.out _ lt l.invariant (c.applied_number.ensures ∙ ap (λ (z : ℤ). apply g.O.Operator.op g.W.Width.ty z (number_at c.args.right.now l.turn)) same)
-
-pub returns : goal.returns
-returns g c = λ k lt. c.loop-turn.invariant.done k (omega arith)
+    let same : bits_at l.out l.turn ≡ bits_at c.args.out.now l.turn = l.invariant.later l.turn (omega arith) in
+    words_next P l.turn c.args.out.now l.out _ lt l.invariant (c.applied_word.ensures ∙ (λ i. apply g.O.Operator.op ty (wrap ty (pos (same i))) (c.word_number.ensures.is i)))

@@ -1,7 +1,9 @@
+use Rattle.std.proofs.Common.{◌≡◌, pos}
 use Rattle.numeric.specs.Apply.{apply}
-use Rattle.interpreter.specs.Evaluation.Lanes.{number_at}
-use Rattle.interpreter.proofs.Each.{EachBelow}
+use Rattle.numeric.specs.Wrap.{wrap}
+use Rattle.interpreter.specs.Evaluation.Words.{word_at}
+use Rattle.interpreter.proofs.EachWord.{WordsBelow}
 use Rattle.interpreter.proofs.evaluation.kernels.apply_each.Given as goal
 
 abbrev pub invariant-loop-turn : goal.invariant-loop-turn
-invariant-loop-turn g l = EachBelow (λ k. apply g.O.Operator.op g.W.Width.ty (number_at l.initial.out k) (number_at l.right k)) l.turn l.initial.out l.out
+invariant-loop-turn g l = WordsBelow (λ k w. wrap g.W.Width.ty (pos w) ≡ apply g.O.Operator.op g.W.Width.ty (word_at g.W.Width.ty l.initial.out k) (word_at g.W.Width.ty l.right k)) l.turn l.initial.out l.out

@@ -1,19 +1,15 @@
-use Rattle.std.proofs.Common.{◌≡◌, ◌<◌, ℕ, ℤ, ap, ◌∙◌, arith, length}
+use Rattle.std.proofs.Common.{◌≡◌, ◌<◌, ℕ, length, arith, pos, ◌∙◌}
 use Rattle.std.specs.Int.{int_max, int_min}
-use Rattle.interpreter.specs.Evaluation.Lanes.{number_at}
-use Rattle.interpreter.proofs.Each.{each_begin, each_next}
+use Rattle.numeric.specs.Wrap.{wrap}
+use Rattle.interpreter.specs.Evaluation.Words.{bits_at, word_at}
+use Rattle.interpreter.proofs.EachWord.{words_next}
 use Rattle.interpreter.proofs.evaluation.kernels.clamp_each.Goals as goal
 
-pub loop-turn-init : goal.loop-turn-init
-loop-turn-init c = each_begin (λ k. int_max (int_min (number_at c.args.out.now k) (number_at c.args.high.now k)) (number_at c.args.low.now k)) c.args.out.now
-
 pub loop-turn-preserved : goal.loop-turn-preserved
-loop-turn-preserved c =
+loop-turn-preserved g c =
     let l = c.loop-turn in
-    let g : ℕ → ℤ = λ k. int_max (int_min (number_at c.args.out.now k) (number_at c.args.high.now k)) (number_at c.args.low.now k) in
+    let ty = g.W.Width.ty in
+    let P : ℕ → ℕ → Type 0 = λ k w. wrap ty (pos w) ≡ int_max (int_min (word_at ty c.args.out.now k) (word_at ty c.args.high.now k)) (word_at ty c.args.low.now k) in
     let lt : l.turn < length l.out = omega arith in
-    let same : number_at l.out l.turn ≡ number_at c.args.out.now l.turn = l.invariant.later l.turn (omega arith) in
-    each_next g l.turn c.args.out.now l.out _ lt l.invariant (c.clamped_number.ensures ∙ ap (λ (z : ℤ). int_max (int_min z (number_at c.args.high.now l.turn)) (number_at c.args.low.now l.turn)) same)
-
-pub returns : goal.returns
-returns c = λ k lt. c.loop-turn.invariant.done k (omega arith)
+    let same : bits_at l.out l.turn ≡ bits_at c.args.out.now l.turn = l.invariant.later l.turn (omega arith) in
+    words_next P l.turn c.args.out.now l.out _ lt l.invariant (c.clamped_word.ensures ∙ (λ i. int_max (int_min (wrap ty (pos (same i))) (c.word_number-in-loop-turn.ensures.is i)) (c.word_number.ensures.is i)))

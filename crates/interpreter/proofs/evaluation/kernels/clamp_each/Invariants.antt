@@ -1,7 +1,9 @@
+use Rattle.std.proofs.Common.{◌≡◌, pos}
 use Rattle.std.specs.Int.{int_max, int_min}
-use Rattle.interpreter.specs.Evaluation.Lanes.{number_at}
-use Rattle.interpreter.proofs.Each.{EachBelow}
+use Rattle.numeric.specs.Wrap.{wrap}
+use Rattle.interpreter.specs.Evaluation.Words.{word_at}
+use Rattle.interpreter.proofs.EachWord.{WordsBelow}
 use Rattle.interpreter.proofs.evaluation.kernels.clamp_each.Given as goal
 
 abbrev pub invariant-loop-turn : goal.invariant-loop-turn
-invariant-loop-turn l = EachBelow (λ k. int_max (int_min (number_at l.initial.out k) (number_at l.high k)) (number_at l.low k)) l.turn l.initial.out l.out
+invariant-loop-turn g l = WordsBelow (λ k w. wrap g.W.Width.ty (pos w) ≡ int_max (int_min (word_at g.W.Width.ty l.initial.out k) (word_at g.W.Width.ty l.high k)) (word_at g.W.Width.ty l.low k)) l.turn l.initial.out l.out

@@ -1,8 +1,8 @@
-use Rattle.std.proofs.Common.{◌≡◌}
+use Rattle.std.proofs.Common.{◌≡◌, pos}
 use Rattle.numeric.specs.Apply.{compare}
-use Rattle.interpreter.specs.Evaluation.Lanes.{is_set, number_at}
-use Rattle.interpreter.proofs.Each.{HoldsBelow}
+use Rattle.interpreter.specs.Evaluation.Words.{says_yes, word_at}
+use Rattle.interpreter.proofs.EachWord.{WordsBelow}
 use Rattle.interpreter.proofs.evaluation.kernels.compare_each.Given as goal
 
 abbrev pub invariant-loop-turn : goal.invariant-loop-turn
-invariant-loop-turn g l = HoldsBelow (λ k z. is_set z ≡ compare g.C.Comparing.by (number_at l.initial.out k) (number_at l.right k)) l.turn l.initial.out l.out
+invariant-loop-turn g l = WordsBelow (λ k w. says_yes w ≡ compare g.C.Comparing.by (word_at g.W.Width.ty l.initial.out k) (word_at g.W.Width.ty l.right k)) l.turn l.initial.out l.out

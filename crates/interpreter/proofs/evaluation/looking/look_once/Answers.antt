@@ -3,7 +3,7 @@ use Rattle.std.specs.Prelude.{◌+ℤ◌}
 use Rattle.std.proofs.lemmas.Int.{ints, to_z-of_z}
 use Rattle.numeric.specs.declared.ty.Ty.{Ty}
 use Rattle.tree.specs.Meaning.{typed}
-use Rattle.interpreter.specs.Evaluation.Lanes.{number_at}
+use Rattle.interpreter.specs.Evaluation.Words.{word_at}
 use Rattle.interpreter.proofs.evaluation.looking.look_once.Goals as goal
 
 pub returns : goal.returns
@@ -14,4 +14,4 @@ returns g c = λ m ok.
     let first : z ≡ to_z w64 (of_z w64 z) +ℤ pos 0 = omega (arith, ints, is) in
     ap (λ (y : ℤ). g.R.RunReader.look c.args.reader.now m c.args.name.now (y ∷ c.args.others.now)) first
     ∙ c.in_ok-look_row.ensures m ok 0 (omega arith)
-    ∙ ap (λ (t : Ty). Some (typed t (number_at c.look_row.new.out 0))) same
+    ∙ ap (λ (t : Ty). Some (typed t (word_at t c.look_row.new.out 0))) same

@@ -7,24 +7,25 @@ use Rattle.tree.specs.declared.expr.Expr.{Expr}
 use Rattle.tree.specs.declared.value.Value.{Value}
 use Rattle.tree.specs.Meaning.{typed}
 use Rattle.tree.specs.Term.{term_of, list_terms, indices, Minus, Cast}
-use Rattle.interpreter.specs.Evaluation.Lanes.{lane, lane_number, lanes_at, number_at}
+use Rattle.interpreter.specs.Evaluation.Lanes.{lane, lane_number, lanes_at}
+use Rattle.interpreter.specs.Evaluation.Words.{word_at}
 use Rattle.interpreter.proofs.FoundRuns.{found_minus, found_cast, found_call, if_some}
 use Rattle.interpreter.proofs.Indices.{one_more}
 use Rattle.interpreter.proofs.InRegisters.{lanes_more}
 use Rattle.interpreter.proofs.evaluation.run.+evaluate_run.Goals as goal
 
-pub evaluate_run-returns-in_ok-value-in-Negate-clause-value : goal.evaluate_run-returns-in_ok-value-in-Negate-clause-value
-evaluate_run-returns-in_ok-value-in-Negate-clause-value g t c = λ m ok k lt.
+pub evaluate_run-returns-in_ok-lanes-in-Negate-clause-value : goal.evaluate_run-returns-in_ok-lanes-in-Negate-clause-value
+evaluate_run-returns-in_ok-lanes-in-Negate-clause-value g t c = λ m ok k lt.
     let vs = g.R.RunReader.variables c.args.reader.now k in
     let look = g.R.RunReader.look c.args.reader.now m in
     let same : c.deref-in-Negate.result.now ≡ c.in-Negate.value.value = search rules in
     ap (λ (e : Expr). found vs look (term_of e)) c.in-Negate.is
     ∙ ap (λ (e : Expr). found vs look (Minus (term_of e))) (sym same)
     ∙ found_minus vs look (term_of c.deref-in-Negate.result.now) (lane c.in_ok-value-in-Negate.value c.evaluate_run.new.out k) (c.in_ok-value-in-Negate.ensures.value m ok k (omega arith))
-    ∙ ap (λ (v : Value). Some v) (sym (c.negate_lanes.ensures.lanes k lt))
+    ∙ ap (λ (v : Value). Some v) (sym (c.in_ok-lanes-in-Negate.ensures.lanes k lt))
 
-pub evaluate_run-returns-in_ok-value-in-Cast-clause-value : goal.evaluate_run-returns-in_ok-value-in-Cast-clause-value
-evaluate_run-returns-in_ok-value-in-Cast-clause-value g t c = λ m ok k lt.
+pub evaluate_run-returns-in_ok-lanes-in-Cast-clause-value : goal.evaluate_run-returns-in_ok-lanes-in-Cast-clause-value
+evaluate_run-returns-in_ok-lanes-in-Cast-clause-value g t c = λ m ok k lt.
     let vs = g.R.RunReader.variables c.args.reader.now k in
     let look = g.R.RunReader.look c.args.reader.now m in
     let ty = c.in-Cast.ty in
@@ -32,7 +33,7 @@ evaluate_run-returns-in_ok-value-in-Cast-clause-value g t c = λ m ok k lt.
     ap (λ (e : Expr). found vs look (term_of e)) c.in-Cast.is
     ∙ ap (λ (e : Expr). found vs look (Cast ty (term_of e))) (sym same)
     ∙ found_cast vs look ty (term_of c.deref-in-Cast.result.now) (lane c.in_ok-value-in-Cast.value c.evaluate_run-in-Cast.new.out k) (c.in_ok-value-in-Cast.ensures.value m ok k (omega arith))
-    ∙ ap (λ (v : Value). Some v) (sym (c.wrap_lanes.ensures.lanes k lt))
+    ∙ ap (λ (v : Value). Some v) (sym (c.in_ok-lanes-in-Cast.ensures.lanes k lt))
 
 pub evaluate_run-returns-in-Literal-clause-value : goal.evaluate_run-returns-in-Literal-clause-value
 evaluate_run-returns-in-Literal-clause-value g t c = λ m ok k lt.
@@ -88,7 +89,7 @@ call_run-returns g t c =
     let i : l.i ≡ length at = omega arith in
     let same : length c.args.out.now ≡ length out = omega arith in
     if_some c.look_run.result
-    (λ u. (m : Memory Value) → g.R.RunReader.agrees r m → (k : ℕ) → k < length out → g.R.RunReader.look r m name (lanes_at (length out) (take (length at) l.lanes) l.rest k) ≡ Some (typed u (number_at out k))) _
+    (λ u. (m : Memory Value) → g.R.RunReader.agrees r m → (k : ℕ) → k < length out → g.R.RunReader.look r m name (lanes_at (length out) (take (length at) l.lanes) l.rest k) ≡ Some (typed u (word_at u out k))) _
     (λ u h m ok k lt.
     ap (λ (o : Option (List ℤ)). with {B = Value} o (λ zs. g.R.RunReader.look r m name zs))
     (ap (λ (e : List Expr). all_found (g.R.RunReader.variables r k) (g.R.RunReader.look r m) (indices (list_terms e))) (sym (take_all l.i at (omega (arith, i))))

@@ -5,7 +5,6 @@ use Rattle.numeric.specs.declared.ty.Ty.TheVariants.{I32}
 use Rattle.tree.specs.Meaning.{typed}
 use Rattle.meaning.specs.Names.{bound}
 use Rattle.interpreter.specs.declared.evaluation.lanes.Lanes.{Lanes}
-use Rattle.interpreter.specs.declared.evaluation.lanes.Number.{Number}
 use Rattle.interpreter.specs.Evaluation.Lanes.{lane}
 use Rattle.interpreter.specs.Runs.{numbers_at}
 use Rattle.interpreter.proofs.FoundRuns.{if_some}
@@ -24,7 +23,7 @@ returns-clause-lanes c =
     let b : ℤ = to_z w64 (of_z w64 second) in
     let first_fits : SFits w64 first = search rules in
     let second_fits : SFits w64 second = search rules in
-    let out : List Number = c.lanes_of.new.out in
+    let out : List ℕ = c.lanes_of.new.out in
     let P : Lanes → Type 0 = λ x. (k : ℕ) → k < length out → typed I32 (moved a b k) ≡ lane x out k in
     let Q : Lanes → Type 0 = λ x. (k : ℕ) → k < length out → typed I32 (bound names (numbers_at r.first.now r.second.now k) name) ≡ lane x out k in
     if_some c.lanes_of.result P Q

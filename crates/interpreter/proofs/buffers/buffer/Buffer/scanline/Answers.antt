@@ -6,7 +6,7 @@ use Rattle.plan.specs.Rooms.{Room}
 use Rattle.interpreter.specs.Buffers.Rooms.{room_of}
 use Rattle.interpreter.specs.Buffers.Raster.{LiesAt}
 use Rattle.interpreter.specs.Buffers.Blocks.{Block}
-use Rattle.interpreter.specs.Buffers.Marks.{held_places}
+use Rattle.interpreter.specs.Buffers.Marks.{places_held}
 use Rattle.interpreter.specs.Scanlines.{along}
 use Rattle.interpreter.specs.declared.buffers.room.Room.{Room as CodeRoom}
 use Rattle.interpreter.proofs.Windows.{scan_held}
@@ -22,7 +22,7 @@ returns c = λ z v h.
     let rooms : map room_of c.deref.result.now ≡ block.rooms = ap (λ (rs : List CodeRoom). map room_of rs) c.deref.ensures ∙ ap (λ (b : Block). b.rooms) c.self.view_is in
     let lies : (k : ℕ) → k < s.count → LiesAt block.rooms ((origin +ℤ pos k) ∷ others) (s.start + k) =
     λ k lt. subst (λ (rs : List Room). LiesAt rs ((origin +ℤ pos k) ∷ others) (s.start + k)) rooms (c.in_ok-stretch.ensures k lt) in
-    let w = held_places c.in_ok-held.held.marks.now c.in_ok-held.held.numbers.now in
+    let w = places_held c.in_ok-held.held in
     let same : w ≡ take s.count (drop s.start block.places) =
     c.in_ok-held.ensures.same ∙ ap (λ (xs : List (Option Value)). take s.count (drop s.start xs)) c.held.ensures in
     let there : along w (z -ℤ origin) ≡ Some (Some v) = subst (λ (o : ℤ). along w (z -ℤ o) ≡ Some (Some v)) (to_z-of_z w64 origin fits) h in

@@ -4,7 +4,7 @@ use Rattle.tree.specs.declared.value.Value.{Value}
 use Rattle.plan.specs.Rooms.{place}
 use Rattle.plan.specs.Semantics.Memory.{held_at, read}
 use Rattle.interpreter.specs.Buffers.Blocks.{held_in, memory_of, Block}
-use Rattle.interpreter.specs.Buffers.Marks.{held_places}
+use Rattle.interpreter.specs.Buffers.Marks.{places_held}
 use Rattle.interpreter.specs.Scanlines.{along}
 use Rattle.interpreter.specs.declared.scanlines.Scanline.{Scanline}
 use Rattle.interpreter.proofs.Blocks.{found_block, memory_read}
@@ -19,7 +19,7 @@ returns c =
     let here = found_block c.args.self.now c.args.buffer c.in_ok-found.found block found in
     let is : block ≡ get_or c.args.self.now c.in_ok-found.found block = c.index.ensures ∙ ap (λ blocks. get_or blocks c.in_ok-found.found block) c.self.view_is in
     let others = c.args.others.now in
-    let holds : Scanline → ℤ → Option (Option Value) = λ l z. along (held_places l.held.marks.now l.held.numbers.now) (z -ℤ l.origin) in
+    let holds : Scanline → ℤ → Option (Option Value) = λ l z. along (places_held l.held) (z -ℤ l.origin) in
     let P : Scanline → Type 0 = λ l. (z : ℤ) (v : Value) → holds l z ≡ Some (Some v) → held_at (held_in block) (place block.rooms (z ∷ others)) ≡ Some v in
     let Q : Scanline → Type 0 = λ l. (z : ℤ) (v : Value) → holds l z ≡ Some (Some v) → read (memory_of c.args.self.now) c.args.buffer (z ∷ others) ≡ Some v in
     if_some c.scanline.result P Q (λ l h z v e. memory_read c.args.self.now c.args.buffer block (z ∷ others) (here ∙ ap Some (sym is)) ∙ h z v e) c.scanline.ensures

@@ -1,0 +1,15 @@
+use Rattle.std.proofs.Common.{◌≡◌, ◌<◌, ℕ, length, arith, pos, ap, ◌∙◌}
+use Rattle.std.specs.Int.{int_max, int_min}
+use Rattle.numeric.specs.Wrap.{wrap}
+use Rattle.interpreter.specs.Evaluation.Words.{bits_at, word_at}
+use Rattle.interpreter.proofs.EachWord.{words_next}
+use Rattle.interpreter.proofs.evaluation.kernels.clamp_each_by.Goals as goal
+
+pub loop-turn-preserved : goal.loop-turn-preserved
+loop-turn-preserved g c =
+    let l = c.loop-turn in
+    let ty = g.W.Width.ty in
+    let P : ℕ → ℕ → Type 0 = λ k w. wrap ty (pos w) ≡ int_max (int_min (word_at ty c.args.out.now k) c.args.high.value) c.args.low.value in
+    let lt : l.turn < length l.out = omega arith in
+    let same : bits_at l.out l.turn ≡ bits_at c.args.out.now l.turn = l.invariant.later l.turn (omega arith) in
+    words_next P l.turn c.args.out.now l.out _ lt l.invariant (c.clamped_word.ensures ∙ ap (λ (b : ℕ). int_max (int_min (wrap ty (pos b)) c.args.high.value) c.args.low.value) same)

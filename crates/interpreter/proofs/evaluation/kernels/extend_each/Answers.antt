@@ -1,0 +1,15 @@
+use Rattle.std.proofs.Common.{◌≡◌, ◌<◌, ℕ, length, arith, pos, ap, ◌∙◌}
+use Rattle.numeric.specs.declared.ty.Ty.{Ty}
+use Rattle.numeric.specs.Wrap.{wrap}
+use Rattle.interpreter.specs.Evaluation.Words.{bits_at, word_at}
+use Rattle.interpreter.proofs.EachWord.{words_next}
+use Rattle.interpreter.proofs.evaluation.kernels.extend_each.Goals as goal
+
+pub loop-turn-preserved : goal.loop-turn-preserved
+loop-turn-preserved g c =
+    let l = c.loop-turn in
+    let ty = g.W.Width.ty in
+    let P : ℕ → ℕ → Type 0 = λ k w. (t : Ty) → wrap t (pos w) ≡ wrap t (word_at ty c.args.out.now k) in
+    let lt : l.turn < length l.out = omega arith in
+    let same : bits_at l.out l.turn ≡ bits_at c.args.out.now l.turn = l.invariant.later l.turn (omega arith) in
+    words_next P l.turn c.args.out.now l.out _ lt l.invariant (λ t. c.extended_word.ensures t ∙ ap (λ (b : ℕ). wrap t (wrap ty (pos b))) same)

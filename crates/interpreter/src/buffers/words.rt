@@ -1,0 +1,48 @@
+//! Words of places: 32 bits, which hold the number of a value that fits its type.
+
+ghost use Rattle.std.specs.Prelude.{◌≡◌, ◌^◌, pos};
+ghost use Rattle.std.specs.Bool.{OnTrue};
+ghost use Rattle.std.specs.Int.{int_rem_euclid};
+ghost use Rattle.numeric.specs.Wrap.{wrap, IsOf};
+ghost use Rattle.tree.specs.Meaning.{typed};
+
+use crate::evaluation::{Number, Width};
+use numeric::Ty;
+use tree::Value;
+
+/// The lowest 32 bits of a number, in two's complement.
+#[inline(always)]
+pub(crate) fn low_word(number: i64) -> u32
+    ensures { pos result ≡ int_rem_euclid number (pos (2 ^ 32)) }
+{
+    (number.cast_unsigned() & 0xffff_ffff) as u32
+}
+
+/// The number of the type whose low bits a word has.
+#[inline(always)]
+pub(crate) fn number_in_word<W: Width>(word: u32) -> Number
+    ensures { result.value ≡ wrap W.ty (pos word) }
+{
+    Number {
+        value: W::wrapped(i64::from(word)),
+    }
+}
+
+/// The value of the type whose low bits a word has.
+#[inline(always)]
+pub(crate) fn value_in_word<W: Width>(word: u32) -> Value
+    ensures { result ≡ typed W.ty (wrap W.ty (pos word)) }
+{
+    Value {
+        ty: W::kind(),
+        number: number_in_word::<W>(word).value,
+    }
+}
+
+/// Whether a number fits a type.
+#[inline(always)]
+pub(crate) fn fits(ty: Ty, number: i64) -> bool
+    ensures { OnTrue result (IsOf ty number) }
+{
+    ty.least() <= number && number <= ty.greatest()
+}
