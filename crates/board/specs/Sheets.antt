@@ -1,11 +1,15 @@
 -- What stands on a sheet: the bits of the cells' values, as far as they are put.
-use Rattle.std.specs.Prelude.{◌≡◌, ℕ, ◌<◌, ℤ, List, Contains, slice_index}
+use Rattle.std.specs.Prelude.{◌≡◌, ℕ, ◌<◌, ℤ, List, map, Contains, slice_index}
 use Rattle.board.specs.Layout.{Layout, own_of, pieces_of, value_at}
 use Rattle.board.specs.Words.{bits_of}
 
 -- the cell has the bits of its value
 abbrev pub HasBits : List ℤ → List ℕ → ℕ → Type 0
 HasBits values bits c = slice_index bits c ≡ bits_of (value_at values c)
+
+-- the bits of the values of these cells
+abbrev pub bits_at : List ℤ → List ℕ → List ℕ
+bits_at values cells = map (λ c. bits_of (value_at values c)) cells
 
 -- all own cells of piece j have theirs
 abbrev pub IsPut : Layout → List ℤ → List ℕ → ℕ → Type 0

@@ -69,7 +69,6 @@ impl<'a, J: Run> Board<'a, J> {
         requires values { ShowsSamples J.layout J.values }
         ensures { IfOk result (λ b. b.1 ≡ place b.0 first_view) }
     {
-        give_block_back(alloc, 1 + source.pieces() + source.cells())?;
         let (table, seat) = blank_table::<J, S>(alloc, source)?;
         let own = Rows::of(alloc, source)?;
         let shown = Shown::of(alloc, source)?;
@@ -269,14 +268,6 @@ pub enum SeatError {
 /// The lowest piece that is not finished.
 #[derive(Clone, Copy, Debug, PartialEq, Eq, Drop)]
 pub struct Unfinished(pub u32);
-
-// Takes a block for so many words and gives it back untouched. The C library maps a block this large by itself and unmaps it where
-// it comes back, but from then on it keeps blocks of this size and hands their pages out again. So the zeros that the table is laid
-// out from leave their pages to what is taken behind them, of which the system then has to hand out no others.
-fn give_block_back(alloc: Global, words: usize) -> Result<(), AllocError> {
-    drop(Vec::<u64>::with_capacity(alloc, words)?);
-    Ok(())
-}
 
 // A table of which nothing is drawn or set, for the pieces and the cells of a source, and its first seat. The words stand twice
 // until it is made.

@@ -18,6 +18,6 @@ mod view;
 pub use board::{Board, SeatError, Unfinished};
 pub use law::{Law, Run};
 pub use seat::{BoardSeat, Ticket};
-pub use sheet::Sheet;
+pub use sheet::{Sheet, keep_bits};
 pub use source::{Planes, Source};
 pub use view::View;

@@ -1,8 +1,8 @@
 //! The cells of a run by one worker alone.
 
-ghost use Rattle.std.specs.Prelude.{◌≡◌, ℕ, ◌^◌, ◌<◌, ◌≤◌, length, map, slice_index};
+ghost use Rattle.std.specs.Prelude.{◌≡◌, ℕ, ◌^◌, ◌<◌, ◌≤◌, [], length, map, slice_index, vec_capacity};
 ghost use Rattle.board.specs.Layout.{value_at};
-ghost use Rattle.board.specs.Sheets.{HasBits};
+ghost use Rattle.board.specs.Sheets.{bits_at, HasBits};
 ghost use Rattle.board.specs.Words.{bits_of};
 
 use crate::law::Run;
@@ -42,7 +42,7 @@ impl<'a, J: Run> Model for Sheet<'a, J> {
 impl<'a, J: Run> Sheet<'a, J> {
     ghost use Rattle.meaning.specs.Image.View.{image_of};
     ghost use Rattle.board.specs.Layout.{own_of, picture_of, pieces_of, ShowsSamples};
-    ghost use Rattle.board.specs.Sheets.{IsPut, IsPutCell};
+    ghost use Rattle.board.specs.Sheets.{bits_at, IsPut, IsPutCell};
 
     /// A sheet on which nothing is put.
     ///
@@ -52,7 +52,8 @@ impl<'a, J: Run> Sheet<'a, J> {
         requires layout { S.layout source.now ≡ J.layout }
         requires values { ShowsSamples J.layout J.values }
     {
-        let _count = source.pieces();
+        // No number is taken of this call. It says that the layout is sound, and so that there are few pieces.
+        source.pieces();
         let bits = vec![in alloc; 0u32; source.cells()]?;
         let own = Rows::of(alloc, source)?;
         let shown = Shown::of(alloc, source)?;
@@ -76,6 +77,14 @@ impl<'a, J: Run> Sheet<'a, J> {
         self.own.len()
     }
 
+    /// How many cells a piece owns.
+    pub fn own_count(&self, piece: u32) -> usize
+        requires { piece < pieces_of J.layout }
+        ensures { result ≡ length (own_of J.layout piece) }
+    {
+        self.own.get(piece as usize).len()
+    }
+
     /// The bits of the value of a cell of a piece that is put.
     #[inline(always)]
     pub fn look(&self, cell: u32) -> u32
@@ -97,6 +106,17 @@ impl<'a, J: Run> Sheet<'a, J> {
             self.own.get(piece as usize),
             values,
         );
+    }
+
+    /// Puts the bits of the values of all own cells of a piece, which were kept apart. What is put stays.
+    pub fn put_kept(&mut self, piece: u32, kept: &[u32])
+        requires piece { piece < pieces_of J.layout }
+        requires kept { kept.now ≡ bits_at J.values (own_of J.layout piece) }
+        ensures put { IsPut J.layout J.values self.new piece }
+        ensures more { (j : ℕ) → IsPut J.layout J.values self.old j → IsPut J.layout J.values self.new j }
+    {
+        let cells = self.own.get(piece as usize);
+        copy_bits::<J>(self.bits.as_mut_slice(), cells, kept);
     }
 
     /// The picture, once all pieces are put.
@@ -138,5 +158,28 @@ fn put_bits<J: Run>(bits_now: &mut [u32], cells: &[u32], values: &[i64])
 {
     for k in 0..cells.len() {
         bits_now[cells[k] as usize] = bits(values[k]);
+    }
+}
+
+// Sets cells to the bits of their values, which are kept in the order of the cells. A cell that had them has them still.
+fn copy_bits<J: Run>(bits_now: &mut [u32], cells: &[u32], kept: &[u32])
+    requires kept { kept.now ≡ bits_at J.values cells.now }
+    requires inside { (k : ℕ) → k < length cells.now → slice_index cells.now k < length bits_now.old }
+    ensures put { (k : ℕ) → k < length cells.now → HasBits J.values bits_now.new (slice_index cells.now k) }
+    ensures more { (c : ℕ) → HasBits J.values bits_now.old c → HasBits J.values bits_now.new c }
+{
+    for place in 0..cells.len() {
+        bits_now[cells[place] as usize] = kept[place];
+    }
+}
+
+/// Keeps the bits of values apart from any sheet, in an empty list that has room for them. It takes no memory.
+pub fn keep_bits(values: &[i64], kept: &mut Vec<u32>)
+    requires none { kept.old.items ≡ [] }
+    requires room { length values.now ≤ vec_capacity kept.old }
+    ensures { kept.new.items ≡ map bits_of values.now }
+{
+    for value in values {
+        kept.push_reserved(bits(*value));
     }
 }

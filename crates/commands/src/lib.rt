@@ -6,6 +6,7 @@ mod device;
 pub mod draw_command;
 mod exit;
 mod file;
+mod heap;
 mod help;
 pub mod laws;
 mod limit;

@@ -1,5 +1,5 @@
 -- What the private runs of a checked plan's pieces give, and the memory that they need.
-use Rattle.std.specs.Prelude.{◌≡◌, ℕ, ◌<◌, ◌≤◌, List, [], length, map, Option, Some, None, ℤ, pos, Contains, slice_get, vec_capacity}
+use Rattle.std.specs.Prelude.{◌≡◌, ℕ, ◌<◌, ◌≤◌, List, [], length, map, Some, ℤ, pos, Contains, slice_get, vec_capacity}
 use Rattle.numeric.specs.Wrap.{wrap}
 use Rattle.meaning.specs.Image.View.{Picture}
 use Rattle.tree.specs.Meaning.{typed}

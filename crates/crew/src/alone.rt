@@ -1,8 +1,8 @@
 //! The run of a checked plan by one worker.
 
-ghost use Rattle.std.specs.Prelude.{◌≡◌, ◌<◌, ◌≤◌, ℕ, length, Contains, IfOk, slice_index, vec_capacity};
+ghost use Rattle.std.specs.Prelude.{◌≡◌, ◌<◌, ◌≤◌, ℕ, length, map, Contains, IfOk, slice_index, vec_capacity};
 ghost use Rattle.algo.specs.View.{picture_said, samples_of, IsFor};
-ghost use Rattle.board.specs.Layout.{pieces_of};
+ghost use Rattle.board.specs.Layout.{own_of, pieces_of, value_at};
 ghost use Rattle.board.specs.Sheets.{IsPut, IsPutCell};
 ghost use Rattle.checked_plan.specs.View.{algorithm_checked};
 ghost use Rattle.crew.specs.Crews.{ArePieces, IsDeskFor};
@@ -39,8 +39,29 @@ fn look_at<J: Run>(sheet: &Sheet<'_, J>, looked: &mut LookedCells<'_>, piece: u3
     }
 }
 
-/// Looks at the cells that a piece fetches, where all pieces that it needs are put, computes it at the desk, and puts it. It
-/// takes no memory.
+/// Looks at the cells that a piece fetches, where all pieces that it needs are put, and computes it at the desk, which has its
+/// numbers then. It takes no memory.
+pub(crate) fn compute<J: Run, P: PrivateRuns<J>>(
+    alloc: Global,
+    sheet: &Sheet<'_, J>,
+    runs: &P,
+    desk: &mut Desk<'_>,
+    piece: u32,
+)
+    requires runs { P.gives runs.now }
+    requires scratch { P.suffices runs.now desk.old.scratch }
+    requires room { HasRoom (P.plan runs.now) (pieces_of J.layout) desk.old.looked }
+    requires piece { piece < pieces_of J.layout }
+    requires needed { (j : ℕ) → Contains (needs_of (P.plan runs.now) piece) j → (j < pieces_of J.layout) × IsPut J.layout J.values sheet.now j }
+    ensures values { desk.new.scratch.state.given.items ≡ map (value_at J.values) (own_of J.layout piece) }
+    ensures scratch { P.suffices runs.now desk.new.scratch }
+    ensures room { HasRoom (P.plan runs.now) (pieces_of J.layout) desk.new.looked }
+{
+    look_at(sheet, &mut desk.looked, piece, runs.fetched(piece));
+    runs.run(alloc, desk, piece);
+}
+
+/// Computes a piece at the desk, where all pieces that it needs are put, and puts it. It takes no memory.
 fn fill<J: Run, P: PrivateRuns<J>>(
     alloc: Global,
     sheet: &mut Sheet<'_, J>,
@@ -58,8 +79,7 @@ fn fill<J: Run, P: PrivateRuns<J>>(
     ensures scratch { P.suffices runs.now desk.new.scratch }
     ensures room { HasRoom (P.plan runs.now) (pieces_of J.layout) desk.new.looked }
 {
-    look_at(sheet, &mut desk.looked, piece, runs.fetched(piece));
-    runs.run(alloc, desk, piece);
+    compute(alloc, sheet, runs, desk, piece);
     sheet.put(piece, desk.given());
 }
 

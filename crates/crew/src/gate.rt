@@ -3,10 +3,10 @@
 /// What the workers of a crew tell of their pieces, each from its own thread. It hears which pieces, and nothing of their
 /// values.
 pub trait Gate: Sync {
-    /// A worker drew this piece, and goes on with it once this returns.
+    /// A worker has come to this piece, and goes on with it once this returns.
     fn enter(&self, piece: u32);
 
-    /// A worker finished this piece, and draws the next once this returns.
+    /// A worker has computed this piece, and goes on to its next once this returns.
     fn leave(&self, piece: u32);
 }
 

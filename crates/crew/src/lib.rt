@@ -1,4 +1,4 @@
-//! Workers that compute a checked plan on an input of its algorithm, in threads that share one board.
+//! Workers that compute a checked plan on an input of its algorithm, in threads that share one board, or one sheet stage by stage.
 #![tactic(auto)]
 
 mod alone;
@@ -7,6 +7,7 @@ mod gate;
 pub mod opening;
 mod prepared;
 mod running;
+mod stages;
 mod values;
 mod worker;
 mod workers;

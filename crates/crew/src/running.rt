@@ -91,17 +91,23 @@ fn run_on<J: Run + Send + Sync, G: Gate, R: Threads + Wait + Sync>(
 }
 
 /// The picture that the algorithm says of the input, computed by a crew of so many workers, from 1 to 64: one in the caller's
-/// thread, and each other in one of its own where it can be started. Each draws a piece, waits until the pieces that it needs
-/// are finished, looks at the cells that it fetches, computes it by its private run, puts its own cells and finishes it, until
-/// all pieces are drawn. Where no thread can be started the workers take their turns in the caller's, and the first computes
-/// them all.
+/// thread, and each other in one of its own where it can be started. Where no thread can be started the workers take their turns
+/// in the caller's. A worker looks at the cells that a piece fetches and computes the piece by its private run.
 ///
-/// The gate hears of each piece from the worker that drew it, after the draw and after it is finished. The worker goes on once
-/// the gate's call returns.
+/// Pieces that follow each other, each of which needs only pieces before all of them, are a stage. Where, on the average, a stage
+/// has a piece for each worker, they go stage by stage: of each stage, of so many pieces one is each worker's. It keeps what it
+/// has computed, and once all have come back the caller puts it on the sheet of which they all read in the next stage.
 ///
-/// The board takes 8 bytes for each piece and each cell (twice as much while it opens), 16 for each piece, and 2 for each sample
-/// of the picture. Where the region of the output's group is larger than the picture it also takes 4 for each sample. For each
-/// coordinate of a group's region 16 bytes are kept. Each worker has a desk. On it lies a scratch for all groups, which takes 9 bytes
+/// Else they share a board: each draws a piece, waits until the pieces that it needs are finished, computes it, puts its own
+/// cells and finishes it, until all pieces are drawn. Where no thread can be started the first computes them all.
+///
+/// The gate hears of each piece from the worker that computes it, before and after. The worker goes on once the gate's call
+/// returns.
+///
+/// In stages the sheet and what is kept take 4 bytes each for a cell, and 40 for each piece. A board takes 8 bytes for each piece
+/// and each cell (twice as much while it opens), and 16 for each piece. Both take 2 for each sample of the picture, and 4 more where
+/// the region of the output's group is larger than the picture. For each coordinate of a group's region 16 bytes are kept. Each
+/// worker has a desk. On it lies a scratch for all groups, which takes 9 bytes
 /// for each place of the buffers, of each number as many as the group asks for that asks for most, 24 for each line that binds a
 /// symbol, 4 for each count of the largest grid, 16 for each coordinate of own cells and of the points at which lines fetch and
 /// store, 8 for each index of the calls in stores, and 8 for each own cell of the piece that owns most; and for each fetched cell of the piece that fetches most 8 bytes, and 16 or more in an index of these cells. All this is taken

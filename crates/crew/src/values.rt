@@ -53,7 +53,8 @@ pub(crate) trait PrivateRuns<J: Run> {
         requires runs { gives self.now }
         requires piece { piece < pieces_of J.layout }
         ensures needs { result.now ≡ needs_of (plan self.now) piece }
-        ensures pieces { (k : ℕ) → k < length result.now → slice_index result.now k < pieces_of J.layout };
+        ensures pieces { (k : ℕ) → k < length result.now → slice_index result.now k < pieces_of J.layout }
+        ensures earlier { (k : ℕ) → k < length result.now → slice_index result.now k < piece };
 
     /// The numbers of the cells that a piece fetches, each of which a needed piece owns.
     fn fetched(&self, piece: u32) -> &[u32]

@@ -28,7 +28,7 @@ pub(crate) struct Worker<'a> {
 }
 
 /// The memory of one worker, who looks at so many cells for a piece at most.
-fn desk_for<'a, J: Run, P: PrivateRuns<J>>(
+pub(crate) fn desk_for<'a, J: Run, P: PrivateRuns<J>>(
     alloc: Global,
     runs: &P,
     cells: &'a PlanCells<'a>,

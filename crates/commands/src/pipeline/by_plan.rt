@@ -12,6 +12,7 @@ ghost use Rattle.commands.specs.declared.pipeline.fault.Fault.TheVariants.{Memor
 ghost use Rattle.commands.specs.Pipeline.Pictures.{IsDone, IsRefused};
 ghost use Rattle.commands.specs.Pipeline.PlanFiles.{IsAccepted, IsFileRefused};
 
+use crate::heap::keep_large_blocks;
 use crate::pipeline::fault::Fault;
 use crate::pipeline::reading::{inputs_from, read_algorithm};
 use algo::{Algo, Inputs};
@@ -26,7 +27,8 @@ use std::io::{Read, Write};
 use std::marker::Brand;
 use std::thread::Threads;
 
-/// Reads a plan file and has the plan checked against its algorithm.
+/// Reads a plan file and has the plan checked against its algorithm. From here on the C library keeps large blocks that come
+/// back, for the lists of the check and of what is done with the plan.
 ///
 /// # Errors
 /// `Form` and `Limit` with the first line that is not as it is written for any plan; `Plan` with the code and the line of
@@ -41,6 +43,7 @@ pub fn check_plan<'a, T: Threads + Sync>(
     ensures accepted { IfOk result (λ checked. IsAccepted (algorithm_of algo.now) file.now checked.plan checked.cert) }
     ensures refused { IfErr result (IsFileRefused (algorithm_of algo.now) file.now) }
 {
+    keep_large_blocks(alloc);
     let (plan, cert) = cert::file::read(alloc, file)?;
     Ok(check(rt, alloc, algo, plan, cert)?)
 }

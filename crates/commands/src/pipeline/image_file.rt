@@ -66,9 +66,9 @@ fn alone_on<J: Run, G: Gate>(
     requires input { IsFor checked.now.algo.now inputs.now }
     ensures { IfOk result (λ file. file.items ≡ text_of (picture_said (algorithm_checked checked.now) (samples_of inputs.now))) }
 {
-    let file = room_for(alloc, checked.algo())?;
     let cells = PlanCells::of(alloc, checked)?;
     let run = PreparedAlone::<J>::new(alloc, checked, inputs, &cells)?;
+    let file = room_for(alloc, checked.algo())?;
     Ok(file_alone(alloc, run, file, gate))
 }
 
@@ -87,9 +87,9 @@ fn crew_on<J: Run + Send + Sync, T: Threads + Wait + Sync, G: Gate>(
     requires workers { (1 ≤ workers) × (workers ≤ 64) }
     ensures { IfOk result (λ file. file.items ≡ text_of (picture_said (algorithm_checked checked.now) (samples_of inputs.now))) }
 {
-    let file = room_for(alloc, checked.algo())?;
     let cells = PlanCells::of(alloc, checked)?;
     let run = Prepared::<J>::new(alloc, checked, inputs, &cells, workers)?;
+    let file = room_for(alloc, checked.algo())?;
     Ok(file_by_crew(rt, alloc, run, file, gate))
 }
 

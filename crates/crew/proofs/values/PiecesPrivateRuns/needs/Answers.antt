@@ -16,3 +16,8 @@ returns-clause-pieces g c = λ k lt.
     let before = c.requires.runs.0.0.needs c.args.piece c.requires.piece (slice_index xs k) (at_place_there xs (needs_of c.args.self.now.checked.now c.args.piece) k (c.needs.ensures []) lt) in
     let inside = c.requires.piece in
     omega (arith, before, inside)
+
+pub returns-clause-earlier : goal.returns-clause-earlier
+returns-clause-earlier g c = λ k lt.
+    let xs = c.needs.result.now in
+    c.requires.runs.0.0.needs c.args.piece c.requires.piece (slice_index xs k) (at_place_there xs (needs_of c.args.self.now.checked.now c.args.piece) k (c.needs.ensures []) lt)

@@ -1,4 +1,4 @@
-use Rattle.std.proofs.Common.{◌≡◌, ◌≤◌, List, map, sym, ap, ◌∙◌, subst, arith}
+use Rattle.std.proofs.Common.{◌≡◌, List, map, ap, ◌∙◌, subst, arith}
 use Rattle.plan.specs.Plan.{Group, Plan}
 use Rattle.plan.specs.View.{group_of}
 use Rattle.plan.specs.declared.plan.Group.{Group as CodeGroup}

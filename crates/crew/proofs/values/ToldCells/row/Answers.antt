@@ -1,4 +1,4 @@
-use Rattle.std.proofs.Common.{◌≡◌, ℤ, get_or, pos, sym, ap, ◌∙◌}
+use Rattle.std.proofs.Common.{ℤ, get_or, pos, sym, ap, ◌∙◌}
 use Rattle.interpreter.specs.CellRows.{told_value}
 use Rattle.interpreter.specs.declared.cells.NumberKind.{NumberKind}
 use Rattle.crew.specs.Private.{as_typed}
