@@ -20,6 +20,7 @@ use Rattle.lower.specs.declared.error.Stop.{Stop}
 use Rattle.lower.specs.declared.fetching.Root.{Root}
 use Rattle.lower.specs.declared.fetching.Site.{Site}
 use Rattle.lower.specs.declared.inner.Inner.{Inner}
+use Rattle.lower.specs.declared.rounded.Lain.{Lain}
 use Rattle.lower.specs.declared.sliding.Later.{Later}
 use Rattle.lower.specs.declared.sliding.Sliding.{Sliding}
 use Rattle.lower.specs.declared.spots.Host.{Host}
@@ -34,9 +35,9 @@ use Rattle.lower.specs.Placed.{LaterText, PlacedText, inner_seen, later_seen}
 use Rattle.lower.specs.Homes.{HostText, host_at, hosts_named, is_over_grid, spot_in, put_before}
 use Rattle.lower.specs.Demanded.{scope_at, sites_at, is_rounding, is_rounded, IsNeeded}
 use Rattle.lower.specs.Slid.{TrackText, is_single, is_split, fit_along, sliding_seen, sliding_at, new_from, new_region, held_along, IsLater, HasLater, HoldsNone, HoldsBy, Holds}
-use Rattle.lower.specs.Parted.{IfParted, parted_nests}
-use Rattle.lower.specs.Turned.{IfWhole, whole_nests}
-use Rattle.lower.specs.Computed.{before, spots_in, spots_by, spots_of_hosts, spots_at, spots_of, is_called, called_spots, IfPlain, IsComputed, AreComputed, AreComputedIf, AreFound, AreFoundIf, IsComputedAt, IsComputedBy, AreComputedAt}
+use Rattle.lower.specs.Parted.{kept_region, nests_over}
+use Rattle.lower.specs.Rounded.{lain_over, lain_kept, claim_of, begun_seen, lain_seen}
+use Rattle.lower.specs.Computed.{before, spots_in, spots_by, spots_of_hosts, spots_at, spots_of, is_called, called_spots, IsLain, IsComputed, AreComputed, AreComputedIf, AreFound, AreFoundIf, IsComputedAt, IsComputedBy, AreComputedAt}
 
 -- ---- splits
 
@@ -52,19 +53,7 @@ split_in g d x r e h = h ∙ ap (λ (o : Option (List ℕ)). elim o [ Some y ↦
 pub not_split : (g : StoredText) (d : ℕ) → slice_get g.subject.variables d ≡ None → false ≡ is_split g d
 not_split g d e = ap (λ (o : Option (List ℕ)). elim o [ Some y ↦ list_any (λ c. same_name c.whole y) g.placed.cuts | None ↦ false ]) (sym e)
 
--- ---- where no loop is split
-
-pub if_whole : (cs : List Split) (P : Type 0) → P → IfWhole cs P
-if_whole [] P h = h
-if_whole (c ∷ cs) P h = tt
-
-pub not_whole : (cs : List Split) (P : Type 0) → (cs ≡ [] → ⊥) → IfWhole cs P
-not_whole [] P h = absurd (h refl)
-not_whole (c ∷ cs) P h = tt
-
-whole_too : (P Q : Type 0) (cs : List Split) → (P → Q) → IfWhole cs P → IfWhole cs Q
-whole_too P Q [] f h = f h
-whole_too P Q (c ∷ cs) f h = tt
+-- ---- definitions
 
 pub single_seen : (fs : List Formula) (b : Bool) → b ≡ (length fs == 1) → b ≡ is_single (map formula_of fs)
 single_seen fs b h = h ∙ ap (λ (n : ℕ). n == 1) (sym (length-map fs formula_of))
@@ -84,10 +73,10 @@ module _ (g : StoredText) (scope : List Binding) (r : List Span1) (d : ℕ) wher
 
 -- ---- what it holds
 
-pub later_made : (g : StoredText) (fs : List FormulaText) (x : TrackText × ℕ) (scope : List Binding) (h r : List Span1) (s : Span1) (l : LaterText) → slice_get h x.1 ≡ Some s
+pub later_made : (g : StoredText) (fs : List FormulaText) (k : List Span1) (x : TrackText × ℕ) (scope : List Binding) (h r : List Span1) (s : Span1) (l : LaterText) → slice_get h x.1 ≡ Some s
     → l.symbol ≡ x.0.symbol → l.dimension ≡ x.1 → new_from x.0.symbol s ≡ Some l.first_new → l.scope ≡ scope ++ LetMin l.first_new ∷ [] → r ≡ new_region scope x.1 0 h
-    → IfWhole g.placed.cuts (whole_nests g fs l.scope r ≡ Some l.nests) → IfParted g.placed.cuts (parted_nests g fs l.scope r l.nests) → IsLater g fs x scope h l
-later_made g fs x scope h r s l along symbol dimension first scoped new nests cut =
+    → nests_over g fs l.scope r k ≡ Some l.nests → IsLater g fs (Some k) x scope h l
+later_made g fs k x scope h r s l along symbol dimension first scoped new nests =
     record {
       symbol = symbol;
       dimension = dimension;
@@ -95,43 +84,53 @@ later_made g fs x scope h r s l along symbol dimension first scoped new nests cu
       along = along;
       first_new = first;
       scoped = scoped;
-      nested = whole_too (whole_nests g fs l.scope r ≡ Some l.nests) (whole_nests g fs l.scope (new_region scope x.1 0 h) ≡ Some l.nests) g.placed.cuts
-          (λ told. ap (whole_nests g fs l.scope) (sym new) ∙ told) nests;
-      parted = subst (λ q. IfParted g.placed.cuts (parted_nests g fs l.scope q l.nests)) new cut;
+      nested = ap (λ (q : List Span1). nests_over g fs l.scope q k) (sym new) ∙ nests;
     }
 
-module _ (es : List Entry) (g : StoredText) (fs : List FormulaText) (scope : List Binding) (r : List Span1) (held : List Span1) (later : Option LaterText) where
-  pub holds_all : (o : Option (TrackText × ℕ)) → o ≡ None → held ≡ r → later ≡ None → Holds es g fs scope r o held later
-  holds_all o e h k = subst (λ (p : Option (TrackText × ℕ)). Holds es g fs scope r p held later) (sym e) (record { is = h; none = k })
+module _ (es : List Entry) (g : StoredText) (fs : List FormulaText) (n : ℕ) (scope : List Binding) (r : List Span1) (held : List Span1) (later : Option LaterText) where
+  pub holds_all : (o : Option (TrackText × ℕ)) → o ≡ None → held ≡ r → later ≡ None → Holds es g fs n scope r o held later
+  holds_all o e h k = subst (λ (p : Option (TrackText × ℕ)). Holds es g fs n scope r p held later) (sym e) (record { is = h; none = k })
 
   module _ (x : TrackText × ℕ) (o : Option (List Span1)) where
-    pub holds_each : o ≡ held_along es g fs scope r x → o ≡ None → held ≡ r → later ≡ None → HoldsBy g fs x scope r (held_along es g fs scope r x) held later
-    holds_each by none h k = subst (λ (q : Option (List Span1)). HoldsBy g fs x scope r q held later) (sym none ∙ by) (record { is = h; none = k })
+    pub holds_each : o ≡ held_along es g fs scope r x → o ≡ None → held ≡ r → later ≡ None → HoldsBy g fs n x scope r (held_along es g fs scope r x) held later
+    holds_each by none h k = subst (λ (q : Option (List Span1)). HoldsBy g fs n x scope r q held later) (sym none ∙ by) (record { is = h; none = k })
 
-    pub holds_some : (h : List Span1) → o ≡ held_along es g fs scope r x → o ≡ Some h → held ≡ h → HasLater g fs x scope h later
-        → HoldsBy g fs x scope r (held_along es g fs scope r x) held later
-    holds_some h by some is k = subst (λ (q : Option (List Span1)). HoldsBy g fs x scope r q held later) (sym some ∙ by) (record { is = is; turns = k })
+    pub holds_some : (h kept : List Span1) → o ≡ held_along es g fs scope r x → o ≡ Some h → held ≡ h → kept_region n scope h ≡ Some kept → HasLater g fs (Some kept) x scope h later
+        → HoldsBy g fs n x scope r (held_along es g fs scope r x) held later
+    holds_some h kept by some is told k =
+        subst (λ (q : Option (List Span1)). HoldsBy g fs n x scope r q held later) (sym some ∙ by)
+        (record { is = is; turns = subst (λ (q : Option (List Span1)). HasLater g fs q x scope h later) (sym told) k })
 
-module _ (es : List Entry) (g : StoredText) (fs : List FormulaText) (scope : List Binding) (r : List Span1) where
+module _ (es : List Entry) (g : StoredText) (fs : List FormulaText) (n : ℕ) (scope : List Binding) (r : List Span1) where
   pub holds_along : (o : Option Sliding) (s : Sliding) (t : Result (List Span1 × Option Later) Stop) → o ≡ Some s
-      → IfOk t (λ v. HoldsBy g fs (sliding_seen s) scope r (held_along es g fs scope r (sliding_seen s)) v.0 (option_map later_seen v.1))
-      → IfOk t (λ v. Holds es g fs scope r (option_map sliding_seen o) v.0 (option_map later_seen v.1))
+      → IfOk t (λ v. HoldsBy g fs n (sliding_seen s) scope r (held_along es g fs scope r (sliding_seen s)) v.0 (option_map later_seen v.1))
+      → IfOk t (λ v. Holds es g fs n scope r (option_map sliding_seen o) v.0 (option_map later_seen v.1))
   holds_along o s t e h =
-      subst (λ (q : Option Sliding). IfOk t (λ v. Holds es g fs scope r (option_map sliding_seen q) v.0 (option_map later_seen v.1))) (sym e) h
+      subst (λ (q : Option Sliding). IfOk t (λ v. Holds es g fs n scope r (option_map sliding_seen q) v.0 (option_map later_seen v.1))) (sym e) h
+
+-- ---- its nests
+
+pub is_lain : (a : Algorithm) (g : StoredText) (fs : List FormulaText) (around : List Binding) (region kept : List Span1) (o : Option (List Span1)) (l : Lain) (i : PlacedText) → o ≡ Some kept
+    → lain_over a g fs around region kept ≡ Some (lain_seen l) → i.lets ≡ l.begun.lets.items → i.nests ≡ map nest_seen l.nests.items
+    → claim_of i.function i.scope (begun_seen l.begun) (map nest_seen l.nests.items) i.region ≡ Some i.claimed → IsLain (lain_kept a g fs around region o) i
+is_lain a g fs around region kept o l i told laid lets nests claims =
+    record { lain = lain_seen l; laid = ap (lain_kept a g fs around region) told ∙ laid; lets = lets; nests = nests; claims = claims }
 
 -- ---- one place
 
 module _ (a : Algorithm) (e : Entry) (es : List Entry) (is : List PlacedText) (c : Entry) where
-  pub is_computed : (home store : Spot) (sites : List SiteText) (around : List Binding) (needed : List Span1) (o : Option (TrackText × ℕ)) (i : PlacedText) → i.function ≡ c.0 → i.formulas ≡ c.2
-      → i.home ≡ home → i.store ≡ store → around ≡ scope_at e is home → i.scope ≡ bind_steps around i.lets → sites_at a e is home c.0.subject.name ≡ Some sites
-      → IsNeeded around sites c.0 c.1.region needed → o ≡ sliding_at e is c.0 home store needed → Holds es c.0 c.2 around needed o i.region i.later
-      → IfWhole c.0.placed.cuts (i.lets ≡ []) → IfWhole c.0.placed.cuts (whole_nests c.0 c.2 around i.region ≡ Some i.nests)
-      → IfPlain c.0 c.2 (i.lets ≡ []) → IfPlain c.0 c.2 (parted_nests c.0 c.2 around i.region i.nests) → IsComputed a e es is c i
-  is_computed home store sites around needed o i function formulas at stored is_around scoped called is_needed slides holds lets nests unnamed cut =
+  pub is_computed : (home store : Spot) (sites : List SiteText) (outer around : List Binding) (needed : List Span1) (o : Option (TrackText × ℕ)) (i : PlacedText) → i.function ≡ c.0 → i.formulas ≡ c.2
+      → i.home ≡ home → i.store ≡ store → outer ≡ scope_at e is store → around ≡ scope_at e is home → i.scope ≡ bind_steps around i.lets → sites_at a e is home c.0.subject.name ≡ Some sites
+      → IsNeeded around sites c.0 c.1.region needed → o ≡ sliding_at e is c.0 home store needed → Holds es c.0 c.2 (length outer) around needed o i.region i.later
+      → IsLain (lain_kept a c.0 c.2 around i.region (kept_region (length outer) around i.region)) i → IsComputed a e es is c i
+  is_computed home store sites outer around needed o i function formulas at stored is_outer is_around scoped called is_needed slides holds lain =
       let there : around ≡ scope_at e is i.home = is_around ∙ ap (scope_at e is) (sym at) in
+      let beside : outer ≡ scope_at e is i.store = is_outer ∙ ap (scope_at e is) (sym stored) in
       let sliding : o ≡ sliding_at e is c.0 i.home i.store needed = slides ∙ (λ j. sliding_at e is c.0 (sym at j) (sym stored j) needed) in
-      let by : Holds es c.0 c.2 around needed (sliding_at e is c.0 i.home i.store needed) i.region i.later =
-      subst (λ (p : Option (TrackText × ℕ)). Holds es c.0 c.2 around needed p i.region i.later) sliding holds in
+      let by : Holds es c.0 c.2 (length outer) around needed (sliding_at e is c.0 i.home i.store needed) i.region i.later =
+      subst (λ (p : Option (TrackText × ℕ)). Holds es c.0 c.2 (length outer) around needed p i.region i.later) sliding holds in
+      let behind : Holds es c.0 c.2 (length (scope_at e is i.store)) around needed (sliding_at e is c.0 i.home i.store needed) i.region i.later =
+      subst (λ (b : List Binding). Holds es c.0 c.2 (length b) around needed (sliding_at e is c.0 i.home i.store needed) i.region i.later) beside by in
       record {
         function = function;
         formulas = formulas;
@@ -140,12 +139,9 @@ module _ (a : Algorithm) (e : Entry) (es : List Entry) (is : List PlacedText) (c
         called = ap (λ (s : Spot). sites_at a e is s c.0.subject.name) at ∙ called;
         region = needed;
         needed = subst (λ (b : List Binding). IsNeeded b sites c.0 c.1.region needed) there is_needed;
-        holds = subst (λ (b : List Binding). Holds es c.0 c.2 b needed (sliding_at e is c.0 i.home i.store needed) i.region i.later) there by;
-        unnamed = lets;
-        nested = whole_too (whole_nests c.0 c.2 around i.region ≡ Some i.nests) (whole_nests c.0 c.2 (scope_at e is i.home) i.region ≡ Some i.nests) c.0.placed.cuts
-            (λ told. ap (λ (b : List Binding). whole_nests c.0 c.2 b i.region) (sym there) ∙ told) nests;
-        unnamed_too = unnamed;
-        parted = subst (λ (b : List Binding). IfPlain c.0 c.2 (parted_nests c.0 c.2 b i.region i.nests)) there cut;
+        holds = subst (λ (b : List Binding). Holds es c.0 c.2 (length (scope_at e is i.store)) b needed (sliding_at e is c.0 i.home i.store needed) i.region i.later) there behind;
+        lain = subst (λ (b : List Binding). IsLain (lain_kept a c.0 c.2 b i.region (kept_region (length (scope_at e is i.store)) b i.region)) i) there
+            (subst (λ (b : List Binding). IsLain (lain_kept a c.0 c.2 around i.region (kept_region (length b) around i.region)) i) beside lain);
       }
 
   pub nothing_calls : (s : Spot) (sites : List Site) → sites_at a e is s c.0.subject.name ≡ Some (map site_of sites) → sites ≡ [] → IsComputedAt a e es is c s None

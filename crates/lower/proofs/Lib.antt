@@ -26,12 +26,12 @@ pub mod Laying
 pub mod Loads
 pub mod Made
 pub mod Named
+pub mod Naming
 pub mod Needed
 pub mod Nested
 pub mod Origins
 pub mod Outsides
 pub mod Owners
-pub mod Parted
 pub mod Places
 pub mod Planned
 pub mod Puts

@@ -1,13 +1,11 @@
 -- Which functions are computed inside a group's loops: the last declared first, each at those places of its loop at which it is called, over what is needed of it there.
-use Rattle.std.specs.Prelude.{◌≡◌, ℕ, zero, suc, ◌+◌, Bool, true, false, not, ◌||◌, if◌then◌else◌, List, [], ◌∷◌, ◌++◌, map, Option, Some, None, Result, Ok, Err, slice_get}
-use Rattle.std.specs.List.{AllByRecursion, list_any}
+use Rattle.std.specs.Prelude.{◌≡◌, ℕ, zero, suc, ◌+◌, Bool, true, false, not, ◌||◌, if◌then◌else◌, List, [], ◌∷◌, ◌++◌, length, map, Option, Some, None, Result, Ok, Err, slice_get}
+use Rattle.std.specs.List.{AllByRecursion}
 use Rattle.std.specs.Global.{Vec}
 use Rattle.lin.specs.declared.span.Span1.{Span1}
 use Rattle.meaning.specs.Algorithm.{Algorithm}
 use Rattle.meaning.specs.Names.{same_name}
 use Rattle.sched.specs.declared.schedule.Home.{Home}
-use Rattle.sched.specs.declared.schedule.Tail.{Tail}
-use Rattle.sched.specs.declared.schedule.Tail.TheVariants as tails
 use Rattle.sched.specs.Skeleton.{NestText}
 use Rattle.lower.specs.declared.inner.Inner.{Inner}
 use Rattle.lower.specs.declared.spots.Host.{Host}
@@ -20,9 +18,9 @@ use Rattle.lower.specs.Uses.{first_home}
 use Rattle.lower.specs.Placed.{PlacedText, inner_seen}
 use Rattle.lower.specs.Homes.{HostText, host_at, hosts_named, is_over_grid, spot_in}
 use Rattle.lower.specs.Demanded.{scope_at, sites_at, IsNeeded}
-use Rattle.lower.specs.Parted.{IfParted, parted_nests}
-use Rattle.lower.specs.Slid.{is_single, sliding_at, Holds}
-use Rattle.lower.specs.Turned.{IfWhole, whole_nests}
+use Rattle.lower.specs.Parted.{kept_region}
+use Rattle.lower.specs.Rounded.{LainText, lain_kept, claim_of}
+use Rattle.lower.specs.Slid.{sliding_at, Holds}
 
 -- ---- the places of a function's loop
 
@@ -69,26 +67,16 @@ called_spots a e is x (s ∷ ss) = if_called (is_called (sites_at a e is s x)) s
 
 -- ---- what is computed there
 
-abbrev pub is_roundup : Tail → Bool
-is_roundup tails.Roundup = true
-is_roundup tails.Guard = false
-is_roundup tails.Shift = false
-
--- what the nests make ends with what is needed, or no update may read what is past that: the function has no updates, or none of its loops is split with `roundup`
-abbrev pub is_plain : StoredText → List FormulaText → Bool
-is_plain g fs = is_single fs || not (list_any (λ c. is_roundup c.tail) g.placed.cuts)
-
-abbrev pub IfSo : Bool → Type 0 → Type 0
-IfSo true P = P
-IfSo false P = Unit {0}
-
--- of a function some of whose loops are split, but none of one with updates by `roundup`
-abbrev pub IfPlain : StoredText → List FormulaText → Type 0 → Type 0
-IfPlain g fs P = IfParted g.placed.cuts (IfSo (is_plain g fs) P)
+-- its lets and nests are these, and its claims speak of what it holds and of what blocks of updates make past its end
+pub record IsLain (o : Option LainText) (i : PlacedText) : Type 0 where
+  pub lain : LainText
+  pub laid : o ≡ Some lain
+  pub lets : i.lets ≡ lain.begun.lets
+  pub nests : i.nests ≡ lain.nests
+  pub claims : claim_of i.function i.scope lain.begun lain.nests i.region ≡ Some i.claimed
 
 -- what is computed there: around its nests is what stands around the place, and its own lets; of it is made what the calls at the place need, in each turn or, where it
--- slides, as far as it is new; where none of its loops is split, it has no lets of its own, and its nests are its loops over that; the same where some are, with what their splits
--- put behind them, but for a function with updates one of whose loops is split with `roundup`
+-- slides, as far as it is new; its nests are those over that, with what is named before them
 pub record IsComputed (a : Algorithm) (e : Entry) (es : List Entry) (is : List PlacedText) (c : Entry) (i : PlacedText) : Type 0 where
   pub function : i.function ≡ c.0
   pub formulas : i.formulas ≡ c.2
@@ -97,11 +85,8 @@ pub record IsComputed (a : Algorithm) (e : Entry) (es : List Entry) (is : List P
   pub called : sites_at a e is i.home c.0.subject.name ≡ Some sites
   pub region : List Span1
   pub needed : IsNeeded (scope_at e is i.home) sites c.0 c.1.region region
-  pub holds : Holds es c.0 c.2 (scope_at e is i.home) region (sliding_at e is c.0 i.home i.store region) i.region i.later
-  pub unnamed : IfWhole c.0.placed.cuts (i.lets ≡ [])
-  pub nested : IfWhole c.0.placed.cuts (whole_nests c.0 c.2 (scope_at e is i.home) i.region ≡ Some i.nests)
-  pub unnamed_too : IfPlain c.0 c.2 (i.lets ≡ [])
-  pub parted : IfPlain c.0 c.2 (parted_nests c.0 c.2 (scope_at e is i.home) i.region i.nests)
+  pub holds : Holds es c.0 c.2 (length (scope_at e is i.store)) (scope_at e is i.home) region (sliding_at e is c.0 i.home i.store region) i.region i.later
+  pub lain : IsLain (lain_kept a c.0 c.2 (scope_at e is i.home) i.region (kept_region (length (scope_at e is i.store)) (scope_at e is i.home) i.region)) i
 
 -- these are all of a function's in a group in which those are computed that are declared later
 pub record AreComputed (a : Algorithm) (e : Entry) (es : List Entry) (is : List PlacedText) (c : Entry) (js : List PlacedText) : Type 0 where

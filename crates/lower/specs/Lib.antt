@@ -25,6 +25,7 @@ pub mod Planned
 pub mod Refused
 pub mod Regions
 pub mod Renamed
+pub mod Rounded
 pub mod Settled
 pub mod Slid
 pub mod Stored

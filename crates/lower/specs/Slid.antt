@@ -23,8 +23,8 @@ use Rattle.lower.specs.Windows.{window_size, all_fit}
 use Rattle.lower.specs.Fetches.{Entry}
 use Rattle.lower.specs.Placed.{LaterText, PlacedText, same_spot}
 use Rattle.lower.specs.Demanded.{steps_at, is_scattered}
-use Rattle.lower.specs.Parted.{IfParted, parted_nests}
-use Rattle.lower.specs.Turned.{IfWhole, symbol, whole_nests}
+use Rattle.lower.specs.Parted.{kept_region, nests_kept}
+use Rattle.lower.specs.Turned.{symbol}
 
 -- ---- the loop
 
@@ -239,38 +239,37 @@ module _ (es : List Entry) (g : StoredText) (fs : List FormulaText) (scope : Lis
 
 -- the turns after the first one: along that loop, in that dimension, from the least of these forms on, which the symbol behind all others stands for; where no loop of the
 -- function is split, its nests are its loops over what is new, and where some are, these with what their splits put behind them
-pub record IsLater (g : StoredText) (fs : List FormulaText) (x : TrackText × ℕ) (scope : List Binding) (h : List Span1) (l : LaterText) : Type 0 where
+pub record IsLater (g : StoredText) (fs : List FormulaText) (kept : Option (List Span1)) (x : TrackText × ℕ) (scope : List Binding) (h : List Span1) (l : LaterText) : Type 0 where
   pub symbol : l.symbol ≡ x.0.symbol
   pub dimension : l.dimension ≡ x.1
   pub span : Span1
   pub along : slice_get h x.1 ≡ Some span
   pub first_new : new_from x.0.symbol span ≡ Some l.first_new
   pub scoped : l.scope ≡ scope ++ LetMin l.first_new ∷ []
-  pub nested : IfWhole g.placed.cuts (whole_nests g fs l.scope (new_region scope x.1 0 h) ≡ Some l.nests)
-  pub parted : IfParted g.placed.cuts (parted_nests g fs l.scope (new_region scope x.1 0 h) l.nests)
+  pub nested : nests_kept g fs l.scope (new_region scope x.1 0 h) kept ≡ Some l.nests
 
-abbrev pub HasLater : StoredText → List FormulaText → TrackText × ℕ → List Binding → List Span1 → Option LaterText → Type 0
-HasLater g fs x scope h None = slice_get h x.1 ≡ None
-HasLater g fs x scope h (Some l) = IsLater g fs x scope h l
+abbrev pub HasLater : StoredText → List FormulaText → Option (List Span1) → TrackText × ℕ → List Binding → List Span1 → Option LaterText → Type 0
+HasLater g fs kept x scope h None = slice_get h x.1 ≡ None
+HasLater g fs kept x scope h (Some l) = IsLater g fs kept x scope h l
 
--- it holds this region in each turn, of which the later ones make what is new
-pub record HoldsSome (g : StoredText) (fs : List FormulaText) (x : TrackText × ℕ) (scope : List Binding) (h held : List Span1) (later : Option LaterText) : Type 0 where
+-- it holds this region in each turn, of which the later ones make what is new; so many symbols stand around its buffer
+pub record HoldsSome (g : StoredText) (fs : List FormulaText) (n : ℕ) (x : TrackText × ℕ) (scope : List Binding) (h held : List Span1) (later : Option LaterText) : Type 0 where
   pub is : held ≡ h
-  pub turns : HasLater g fs x scope h later
+  pub turns : HasLater g fs (kept_region n scope h) x scope h later
 
 -- each turn makes all that is needed
 pub record HoldsNone (r held : List Span1) (later : Option LaterText) : Type 0 where
   pub is : held ≡ r
   pub none : later ≡ None
 
-abbrev pub HoldsBy : StoredText → List FormulaText → TrackText × ℕ → List Binding → List Span1 → Option (List Span1) → List Span1 → Option LaterText → Type 0
-HoldsBy g fs x scope r None held later = HoldsNone r held later
-HoldsBy g fs x scope r (Some h) held later = HoldsSome g fs x scope h held later
+abbrev pub HoldsBy : StoredText → List FormulaText → ℕ → TrackText × ℕ → List Binding → List Span1 → Option (List Span1) → List Span1 → Option LaterText → Type 0
+HoldsBy g fs n x scope r None held later = HoldsNone r held later
+HoldsBy g fs n x scope r (Some h) held later = HoldsSome g fs n x scope h held later
 
 -- what a function holds in each turn, and its turns after the first one, where it may slide along this loop in this dimension
-abbrev pub Holds : List Entry → StoredText → List FormulaText → List Binding → List Span1 → Option (TrackText × ℕ) → List Span1 → Option LaterText → Type 0
-Holds es g fs scope r None held later = HoldsNone r held later
-Holds es g fs scope r (Some x) held later = HoldsBy g fs x scope r (held_along es g fs scope r x) held later
+abbrev pub Holds : List Entry → StoredText → List FormulaText → ℕ → List Binding → List Span1 → Option (TrackText × ℕ) → List Span1 → Option LaterText → Type 0
+Holds es g fs n scope r None held later = HoldsNone r held later
+Holds es g fs n scope r (Some x) held later = HoldsBy g fs n x scope r (held_along es g fs scope r x) held later
 
 -- ---- as memory keeps them
 

@@ -90,8 +90,3 @@ are_bounded scope (x ∷ xs) = elim (shortest scope x) [ Some b ↦ are_bounded 
 abbrev pub whole_nests : StoredText → List FormulaText → List Binding → List Span1 → Option (List NestText)
 whole_nests g fs scope region =
     if are_bounded scope region then add_nests g region (length scope) (bodies_from g.changes 0 g.subject.reductions fs) [] else None
-
--- this is so where no loop is split
-abbrev pub IfWhole : List Split → Type 0 → Type 0
-IfWhole [] P = P
-IfWhole (c ∷ cs) P = Unit {0}

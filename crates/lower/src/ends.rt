@@ -1,7 +1,7 @@
 //! The ends of the loops of a function over what one turn needs of it: how many numbers they have, and what splits run over.
 
-ghost use Rattle.std.specs.Prelude.{◌≡◌, ◌++◌, [], true, Some, IfOk, OnOk};
-ghost use Rattle.std.specs.Option.{option_copied};
+ghost use Rattle.std.specs.Prelude.{◌≡◌, ◌++◌, [], IfOk, OnOk, slice_get};
+ghost use Rattle.std.specs.Option.{is_some, option_copied};
 ghost use Rattle.sched.specs.Numbers.{numbers_named};
 ghost use Rattle.sched.specs.Standing as standing;
 ghost use Rattle.lower.specs.Limited.{Gives, Tells};
@@ -10,10 +10,12 @@ ghost use Rattle.lower.specs.Settled as settled;
 ghost use Rattle.lower.specs.Stored.{stored_of};
 ghost use Rattle.lower.specs.Taken as taken;
 
+use crate::counting::{Blocks, counted_at};
 use crate::error::Stop;
 use crate::fetching::{Root, shortest};
-use crate::forms::{one_form, raised};
-use crate::rounded::{Blocks, counted_at};
+use crate::forms::raised;
+use crate::rounded::is_rounding;
+use crate::telling::{has_further, is_behind, told_span};
 use lin::{Forms, Lin, Region, Scope, Span1, Sym};
 use plan::Pick;
 use sched::{Extent, Known, Numbers, Split, Step, Tail, loop_numbers};
@@ -139,59 +141,7 @@ fn most_of(alloc: Global, scope: &Scope, span: &Span1) -> Result<i64, Stop>
     }
 }
 
-// Whether the form is shown to be at most each of the others, or at least.
-fn is_telling(
-    alloc: Global,
-    scope: &Scope,
-    form: &Lin,
-    others: &[Lin],
-    pick: Pick,
-) -> Result<bool, AllocError> {
-    for other in others {
-        let is_shown = match pick {
-            Pick::Min => scope.at_most(alloc, form, other)?,
-            Pick::Max => scope.at_most(alloc, other, form)?,
-        };
-        if !is_shown {
-            return Ok(false);
-        }
-    }
-    Ok(true)
-}
-
-// The form alone that is shown to be the smallest or largest of some; all of them where none is.
-fn told_of(alloc: Global, scope: &Scope, forms: &Forms, pick: Pick) -> Result<Forms, AllocError> {
-    for form in forms.as_slice() {
-        if is_telling(alloc, scope, form, forms.as_slice(), pick)? {
-            return one_form(alloc, form.copy(alloc)?);
-        }
-    }
-    forms.copy(alloc)
-}
-
-// The same; of one form it is that.
-fn told_forms(alloc: Global, scope: &Scope, forms: &Forms, pick: Pick) -> Result<Forms, AllocError>
-    ensures { IfOk result (parted.AreEnds forms.now) }
-{
-    match forms.as_slice() {
-        [] => forms.copy(alloc),
-        [only] => one_form(alloc, only.copy(alloc)?),
-        [_first, _second, ..] => told_of(alloc, scope, forms, pick),
-    }
-}
-
-/// The span by one form on each side where on that one is shown to be its end, as of two numbers one is.
-pub(crate) fn told_span(alloc: Global, scope: &Scope, span: &Span1) -> Result<Span1, AllocError>
-    ensures lower { IfOk result (λ told. parted.AreEnds span.now.lower told.lower) }
-    ensures upper { IfOk result (λ told. parted.AreEnds span.now.upper told.upper) }
-{
-    let lower = told_forms(alloc, scope, &span.lower, Pick::Max)?;
-    let upper = told_forms(alloc, scope, &span.upper, Pick::Min)?;
-    Ok(Span1 { lower, upper })
-}
-
-// The symbol of a let for the smallest or largest of some forms.
-#[tactic(auto, using(crate::proofs::Parted::lets_named))]
+// The symbol of a let for the smallest or largest of some forms, behind others.
 fn let_of(
     alloc: Global,
     forms: &Forms,
@@ -199,13 +149,16 @@ fn let_of(
     first: Sym,
     lets: &mut Vec<Step>,
 ) -> Result<Lin, AllocError>
-    ensures { IfOk result (λ _. parted.are_lets lets.old.items ≡ true → parted.are_lets lets.new.items ≡ true) }
+    ensures { IfOk result (λ form. (form, lets.new.items) ≡ parted.let_of first pick forms.now lets.old.items) }
 {
-    let symbol = first.saturating_add(lets.len());
+    let Some(symbol) = first.checked_add(lets.len()) else {
+        return Err(AllocError);
+    };
+    let forms = forms.copy(alloc)?;
     lets.push(Step::Named {
         symbol,
         pick,
-        forms: forms.copy(alloc)?,
+        forms,
     })?;
     Lin::symbol(alloc, symbol)
 }
@@ -218,8 +171,7 @@ fn one_of(
     first: Sym,
     lets: &mut Vec<Step>,
 ) -> Result<Lin, AllocError>
-    ensures form { IfOk result (parted.IsEnd forms.now) }
-    ensures lets { IfOk result (λ _. parted.are_lets lets.old.items ≡ true → parted.are_lets lets.new.items ≡ true) }
+    ensures { IfOk result (λ form. (form, lets.new.items) ≡ parted.one_of first pick forms.now lets.old.items) }
 {
     match forms.as_slice() {
         [] => let_of(alloc, forms, pick, first, lets),
@@ -257,30 +209,40 @@ fn varies(
     }
 }
 
-/// Whether so many numbers behind each lower form no upper form of the span is passed.
-pub(crate) fn has_further(
-    alloc: Global,
-    scope: &Scope,
-    span: &Span1,
-    by: i64,
-) -> Result<bool, Stop> {
-    for low in span.lower.as_slice() {
-        let form = raised(alloc, low, by)?;
-        if !is_telling(alloc, scope, &form, span.upper.as_slice(), Pick::Min)? {
-            return Ok(false);
+// The variable's first split with `roundup`, where it has one.
+fn rounded_cut<'a>(cuts: &'a [Split], variable: &Name) -> Option<&'a Split>
+    ensures { option_copied result ≡ parted.rounded_cut cuts.now variable.now }
+{
+    match cuts {
+        [] => None,
+        [cut, rest @ ..] => {
+            if is_rounding(cut, variable) {
+                return Some(cut);
+            }
+            rounded_cut(rest, variable)
         }
     }
-    Ok(true)
-}
-
-// The variable's split with `roundup`, where it has one.
-fn rounded_cut<'a>(cuts: &'a [Split], variable: &Name) -> Option<&'a Split> {
-    cuts.iter().find(|cut| cut.tail == Tail::Roundup && cut.whole.as_str() == variable.as_str())
 }
 
 /// The factor of the variable's split with `roundup`, where it has one.
-pub(crate) fn rounding(cuts: &[Split], variable: &Name) -> Option<u32> {
-    rounded_cut(cuts, variable).map(|cut| cut.factor)
+pub(crate) fn rounding(cuts: &[Split], variable: &Name) -> Option<u32>
+    ensures { result ≡ parted.rounding cuts.now variable.now }
+{
+    match rounded_cut(cuts, variable) {
+        Some(cut) => Some(cut.factor),
+        None => None,
+    }
+}
+
+// What is left of a number behind full blocks of so many.
+fn rest_of(count: i64, factor: u32) -> i64
+    ensures { result ≡ parted.rest_of count factor }
+{
+    if factor == 0 {
+        0
+    } else {
+        count % i64::from(factor)
+    }
 }
 
 // Whether blocks of so many numbers are as many in each turn as there are at most.
@@ -290,35 +252,18 @@ fn are_even(
     span: &Span1,
     factor: Option<u32>,
     most: i64,
-) -> Result<bool, Stop> {
+) -> Result<bool, Stop>
+    ensures { Gives result (λ yes. yes) (parted.are_even scope.now span.now factor most) }
+{
     let Some(factor) = factor else {
         return Ok(false);
     };
     let last = most.saturating_sub(1);
-    let rest = last.checked_rem(i64::from(factor)).unwrap_or(0);
+    let rest = rest_of(last, factor);
     has_further(alloc, scope, span, last.saturating_sub(rest))
 }
 
-// Whether each of the forms is shown to be at least the first number that is kept. Of an update it is not asked.
-fn is_behind(
-    alloc: Global,
-    scope: &Scope,
-    kept: Option<&Span1>,
-    forms: &Forms,
-) -> Result<bool, AllocError> {
-    let Some(kept) = kept else {
-        return Ok(true);
-    };
-    for form in kept.lower.as_slice() {
-        if !is_telling(alloc, scope, form, forms.as_slice(), Pick::Min)? {
-            return Ok(false);
-        }
-    }
-    Ok(true)
-}
-
 // The forms that tell the first number: one alone, where that is shown to be at least what is kept; else all of them.
-#[tactic(auto, using(crate::proofs::Parted::same_ends))]
 fn lower_of(
     alloc: Global,
     scope: &Scope,
@@ -326,8 +271,7 @@ fn lower_of(
     told: &Span1,
     kept: Option<&Span1>,
 ) -> Result<Forms, AllocError>
-    requires { parted.AreEnds span.now.lower told.now.lower }
-    ensures { IfOk result (parted.AreEnds span.now.lower) }
+    ensures { IfOk result (λ forms. forms ≡ parted.lower_of scope.now span.now told.now (option_copied kept.entry)) }
 {
     if is_behind(alloc, scope, kept, &told.lower)? {
         told.lower.copy(alloc)
@@ -336,28 +280,30 @@ fn lower_of(
     }
 }
 
-// Several forms, the last one first.
-fn turned_of(alloc: Global, forms: &[Lin]) -> Result<Forms, AllocError> {
-    let mut turned = Forms::new(alloc);
-    for form in forms.iter().rev() {
-        turned.push(form.copy(alloc)?)?;
+// Several forms, the last one first, behind others.
+fn add_last_first(alloc: Global, forms: &[Lin], turned: &mut Forms) -> Result<(), AllocError>
+    ensures { OnOk result (turned.new ≡ turned.old ++ parted.last_first forms.now) }
+{
+    match forms {
+        [] => Ok(()),
+        [form, rest @ ..] => {
+            add_last_first(alloc, rest, turned)?;
+            turned.push(form.copy(alloc)?)?;
+            Ok(())
+        }
     }
-    Ok(turned)
 }
 
 // The same forms, the last one first.
 fn last_first(alloc: Global, forms: &Forms) -> Result<Forms, AllocError>
-    ensures { IfOk result (parted.AreEnds forms.now) }
+    ensures { IfOk result (λ turned. turned ≡ parted.last_first forms.now) }
 {
-    match forms.as_slice() {
-        [] => forms.copy(alloc),
-        [only] => one_form(alloc, only.copy(alloc)?),
-        [_first, _second, ..] => turned_of(alloc, forms.as_slice()),
-    }
+    let mut turned = Forms::new(alloc);
+    add_last_first(alloc, forms.as_slice(), &mut turned)?;
+    Ok(turned)
 }
 
 // The first number that loops run over.
-#[tactic(auto, using(crate::proofs::Parted::end_over))]
 fn low_of(
     alloc: Global,
     scope: &Scope,
@@ -366,38 +312,32 @@ fn low_of(
     kept: Option<&Span1>,
     lets: &mut Vec<Step>,
 ) -> Result<Lin, AllocError>
-    requires { parted.AreEnds span.now.lower told.now.lower }
-    ensures form { IfOk result (parted.IsEnd span.now.lower) }
-    ensures lets { IfOk result (λ _. parted.are_lets lets.old.items ≡ true → parted.are_lets lets.new.items ≡ true) }
+    ensures { IfOk result (λ low. (low, lets.new.items) ≡ parted.low_of scope.now span.now told.now (option_copied kept.entry) lets.old.items) }
 {
     let lower = lower_of(alloc, scope, span, told, kept)?;
-    let low = one_of(alloc, &lower, Pick::Max, scope.len(), lets)?;
-    Ok(low)
+    one_of(alloc, &lower, Pick::Max, scope.len(), lets)
 }
 
 // The last number that loops run over. The upper ends stand last first in the let for the smallest of them: the first of two may be
 // what a guard in front says to be at most the second, and the checker takes such a let as that guard's own.
-#[tactic(auto, using(crate::proofs::Parted::end_over))]
 fn last_of(
     alloc: Global,
     scope: &Scope,
     told: &Span1,
     lets: &mut Vec<Step>,
 ) -> Result<Lin, AllocError>
-    ensures form { IfOk result (parted.IsEnd told.now.upper) }
-    ensures lets { IfOk result (λ _. parted.are_lets lets.old.items ≡ true → parted.are_lets lets.new.items ≡ true) }
+    ensures { IfOk result (λ last. (last, lets.new.items) ≡ parted.last_of scope.now told.now lets.old.items) }
 {
     let turned = last_first(alloc, &told.upper)?;
-    let last = one_of(alloc, &turned, Pick::Min, scope.len(), lets)?;
-    Ok(last)
+    one_of(alloc, &turned, Pick::Min, scope.len(), lets)
 }
 
-// What is known of the numbers that loops run over.
+/// What is known of the numbers that loops run over.
 #[derive(Clone, Copy, Drop)]
-struct Facts {
-    varies: bool,
-    is_even: bool,
-    is_told: bool,
+pub(crate) struct Facts {
+    pub varies: bool,
+    pub is_even: bool,
+    pub is_told: bool,
 }
 
 fn facts_of(
@@ -408,7 +348,7 @@ fn facts_of(
     kept: Option<&Span1>,
     most: i64,
 ) -> Result<Facts, Stop>
-    ensures { IfOk result (λ facts. parted.varies_in scope.now told.now.lower told.now.upper most ≡ Some facts.varies) }
+    ensures { Gives result (λ facts. facts) (parted.facts_of scope.now told.now rounding (option_copied kept.entry) most) }
 {
     let varies = varies(
         alloc,
@@ -426,8 +366,20 @@ fn facts_of(
     })
 }
 
+fn reach_by(name: Name, low: Lin, last: Lin, facts: Facts) -> Reach
+    ensures { result ≡ parted.reach_by name low last facts }
+{
+    Reach {
+        name,
+        low,
+        last,
+        varies: facts.varies,
+        is_even: facts.is_even,
+        is_told: facts.is_told,
+    }
+}
+
 // What the loops that a split makes run over, at most so many numbers.
-#[tactic(auto, using(crate::proofs::Parted::is_reach))]
 fn reach_told(
     alloc: Global,
     scope: &Scope,
@@ -439,23 +391,13 @@ fn reach_told(
     most: i64,
     lets: &mut Vec<Step>,
 ) -> Result<Reach, Stop>
-    requires lower { parted.AreEnds span.now.lower told.now.lower }
-    requires upper { parted.AreEnds span.now.upper told.now.upper }
-    requires most { parted.most_of (taken.shortest scope.now span.now) ≡ Some most }
-    ensures reach { IfOk result (parted.IsReach scope.now name span.now) }
-    ensures lets { IfOk result (λ _. parted.are_lets lets.old.items ≡ true → parted.are_lets lets.new.items ≡ true) }
+    ensures { Gives result (λ reach. (reach, lets.new.items))
+        (parted.reach_told scope.now name rounding span.now told.now (option_copied kept.entry) most lets.old.items) }
 {
     let low = low_of(alloc, scope, span, told, kept, lets)?;
     let last = last_of(alloc, scope, told, lets)?;
     let facts = facts_of(alloc, scope, told, rounding, kept, most)?;
-    Ok(Reach {
-        name,
-        low,
-        last,
-        varies: facts.varies,
-        is_even: facts.is_even,
-        is_told: facts.is_told,
-    })
+    Ok(reach_by(name, low, last, facts))
 }
 
 // What the loops that a split makes run over.
@@ -468,8 +410,8 @@ fn reach_of(
     kept: Option<&Span1>,
     lets: &mut Vec<Step>,
 ) -> Result<Reach, Stop>
-    ensures reach { IfOk result (parted.IsReach scope.now name span.now) }
-    ensures lets { IfOk result (λ _. parted.are_lets lets.old.items ≡ true → parted.are_lets lets.new.items ≡ true) }
+    ensures { Gives result (λ reach. (reach, lets.new.items))
+        (parted.reach_of scope.now name rounding span.now (option_copied kept.entry) lets.old.items) }
 {
     let most = most_of(alloc, scope, span)?;
     let told = told_span(alloc, scope, span)?;
@@ -542,10 +484,7 @@ fn with_reach(first: Option<Reach>, others: Vec<Reach>) -> Result<Vec<Reach>, Al
 
 // The same; where its blocks are counted, each turn has as many.
 fn with_even(reach: Reach, is_counted: bool) -> Reach
-    ensures named { result.name ≡ reach.name }
-    ensures low { result.low ≡ reach.low }
-    ensures last { result.last ≡ reach.last }
-    ensures varies { result.varies ≡ reach.varies }
+    ensures { result ≡ parted.with_even is_counted reach }
 {
     let Reach {
         name,
@@ -566,7 +505,6 @@ fn with_even(reach: Reach, is_counted: bool) -> Reach
 }
 
 // What the loop of a variable runs over, if it is split, behind its lets; where its blocks are counted, each turn has as many.
-#[tactic(auto, using(crate::proofs::Parted::is_reach_if, crate::proofs::Parted::not_reach))]
 fn reach_at(
     alloc: Global,
     cuts: &[Split],
@@ -577,8 +515,8 @@ fn reach_at(
     kept: Option<&Span1>,
     lets: &mut Vec<Step>,
 ) -> Result<Option<Reach>, Stop>
-    ensures reach { IfOk result (parted.IsReachIf scope.now (parted.is_cut cuts.now variable.now) variable.now span.now) }
-    ensures lets { IfOk result (λ _. parted.are_lets lets.old.items ≡ true → parted.are_lets lets.new.items ≡ true) }
+    ensures { Gives result (λ reach. (reach, lets.new.items))
+        (parted.reach_at scope.now cuts.now is_counted variable.now span.now (option_copied kept.entry) lets.old.items) }
 {
     if !is_whole(cuts, variable) {
         return Ok(None);
@@ -588,8 +526,28 @@ fn reach_at(
     Ok(Some(with_even(reach, is_counted)))
 }
 
+// The same of the variable of this dimension.
+#[tactic(auto, using(crate::proofs::Naming::reach_in))]
+fn reach_in(
+    alloc: Global,
+    cuts: &[Split],
+    scope: &Scope,
+    blocks: &[Option<Blocks>],
+    kept: &[Span1],
+    dimension: usize,
+    variable: &Name,
+    span: &Span1,
+    lets: &mut Vec<Step>,
+) -> Result<Option<Reach>, Stop>
+    ensures { Gives result (λ reach. (reach, lets.new.items)) (parted.reach_at scope.now cuts.now (is_some (parted.counted_at blocks.now dimension))
+        variable.now span.now (slice_get kept.now dimension) lets.old.items) }
+{
+    let is_counted = has_count(blocks, dimension);
+    let own = kept.get(dimension);
+    reach_at(alloc, cuts, scope, is_counted, variable, span, own, lets)
+}
+
 // What the loops of these variables that are split run over, behind their lets.
-#[tactic(auto, using(crate::proofs::Parted::reaches_more))]
 fn variable_reaches(
     alloc: Global,
     cuts: &[Split],
@@ -601,8 +559,8 @@ fn variable_reaches(
     spans: &[Span1],
     lets: &mut Vec<Step>,
 ) -> Result<Vec<Reach>, Stop>
-    ensures reaches { IfOk result (λ v. parted.AreReaches scope.now cuts.now variables.now spans.now v.items) }
-    ensures lets { IfOk result (λ _. parted.are_lets lets.old.items ≡ true → parted.are_lets lets.new.items ≡ true) }
+    ensures { Gives result (λ v. (v.items, lets.new.items))
+        (parted.reaches_from scope.now cuts.now blocks.now kept.now dimension variables.now spans.now lets.old.items) }
 {
     let [variable, others @ ..] = variables else {
         return Ok(Vec::new(alloc));
@@ -613,42 +571,80 @@ fn variable_reaches(
     let Some(next) = dimension.checked_add(1) else {
         return Err(Stop::Memory);
     };
-    let is_counted = counted_at(blocks, dimension).is_some();
-    let own = kept.get(dimension);
-    let first = reach_at(alloc, cuts, scope, is_counted, variable, span, own, lets)?;
+    let first = reach_in(
+        alloc, cuts, scope, blocks, kept, dimension, variable, span, lets,
+    )?;
     let behind = variable_reaches(alloc, cuts, scope, blocks, kept, next, others, rest, lets)?;
     Ok(with_reach(first, behind)?)
+}
+
+// Whether the blocks of the dimension are counted.
+fn has_count(blocks: &[Option<Blocks>], dimension: usize) -> bool
+    ensures { result ≡ is_some (parted.counted_at blocks.now dimension) }
+{
+    match counted_at(blocks, dimension) {
+        Some(_blocks) => true,
+        None => false,
+    }
+}
+
+// The loop over blocks that are counted, behind others.
+fn add_counted(
+    alloc: Global,
+    cut: Option<&Split>,
+    blocks: Option<&Blocks>,
+    found: &mut Vec<Counted>,
+) -> Result<(), AllocError>
+    ensures { OnOk result (found.new.items ≡ found.old.items ++ parted.counted_one (option_copied cut.entry) (option_copied blocks.entry)) }
+{
+    let Some(cut) = cut else {
+        return Ok(());
+    };
+    let Some(blocks) = blocks else {
+        return Ok(());
+    };
+    found.push(Counted {
+        name: cut.outer,
+        further: blocks.further.copy(alloc)?,
+    })?;
+    Ok(())
+}
+
+// The loops of these variables over blocks that are counted, behind others.
+fn add_all_counted(
+    alloc: Global,
+    cuts: &[Split],
+    blocks: &[Option<Blocks>],
+    dimension: usize,
+    variables: &[Name],
+    found: &mut Vec<Counted>,
+) -> Result<(), AllocError>
+    ensures { OnOk result (found.new.items ≡ found.old.items ++ parted.counted_from cuts.now blocks.now dimension variables.now) }
+{
+    match variables {
+        [] => Ok(()),
+        [variable, rest @ ..] => {
+            let Some(next) = dimension.checked_add(1) else {
+                return Err(AllocError);
+            };
+            let cut = rounded_cut(cuts, variable);
+            add_counted(alloc, cut, counted_at(blocks, dimension), found)?;
+            add_all_counted(alloc, cuts, blocks, next, rest, found)
+        }
+    }
 }
 
 // The loops over blocks that are counted.
 fn counted_loops(
     alloc: Global,
-    root: &Root<'_>,
+    cuts: &[Split],
     blocks: &[Option<Blocks>],
+    variables: &[Name],
 ) -> Result<Vec<Counted>, AllocError>
-    ensures { blocks.now ≡ [] → IfOk result (λ v. v.items ≡ []) }
+    ensures { IfOk result (λ v. v.items ≡ parted.counted_from cuts.now blocks.now 0 variables.now) }
 {
-    if blocks.is_empty() {
-        return Ok(Vec::new(alloc));
-    }
-    counted_of(alloc, root, blocks)
-}
-
-fn counted_of(
-    alloc: Global,
-    root: &Root<'_>,
-    blocks: &[Option<Blocks>],
-) -> Result<Vec<Counted>, AllocError> {
     let mut found = Vec::new(alloc);
-    for (dimension, variable) in root.stored.subject.variables.iter().enumerate() {
-        let cut = rounded_cut(&root.stored.placed.cuts, variable);
-        if let (Some(cut), Some(blocks)) = (cut, counted_at(blocks, dimension)) {
-            found.push(Counted {
-                name: cut.outer,
-                further: blocks.further.copy(alloc)?,
-            })?;
-        }
-    }
+    add_all_counted(alloc, cuts, blocks, 0, variables, &mut found)?;
     Ok(found)
 }
 
@@ -672,7 +668,9 @@ fn add_half_reaches(
 }
 
 // What is kept of the pure definition; of an update it is not asked.
-fn kept_of<'b>(kept: &'b Region, definition: usize) -> &'b [Span1] {
+fn kept_of<'b>(kept: &'b Region, definition: usize) -> &'b [Span1]
+    ensures { result.now ≡ parted.kept_of kept.now definition }
+{
     if definition == 0 {
         kept.as_slice()
     } else {
@@ -680,23 +678,20 @@ fn kept_of<'b>(kept: &'b Region, definition: usize) -> &'b [Span1] {
     }
 }
 
-// What is said of the loops that are split, and the lets around the nest.
-#[tactic(auto, using(crate::proofs::Parted::is_frame))]
-pub(crate) fn frame_of(
+// What is said of the loops that are split, and the lets around the nest, where loops have so many numbers.
+fn frame_by(
     alloc: Global,
     root: &Root<'_>,
     needed: Needed<'_>,
     blocks: &[Option<Blocks>],
     definition: usize,
+    numbers: Vec<Numbers>,
 ) -> Result<(Frame, Vec<Step>), Stop>
-    ensures over { IfOk result (λ made. parted.IsFrame (stored_of root.now.stored.now) needed.entry.scope.now needed.entry.region.now
-        (parted.frame_seen made.0) made.1.items) }
-    ensures uncounted { blocks.now ≡ [] → IfOk result (λ made. (parted.frame_seen made.0).counted ≡ []) }
+    ensures { Gives result (λ made. (parted.frame_seen made.0, made.1.items)) (parted.frame_by (stored_of root.now.stored.now) needed.entry.scope.now
+        needed.entry.region.now needed.entry.kept.now blocks.now definition numbers.items) }
 {
     let cuts = &root.stored.placed.cuts;
     let variables = &root.stored.subject.variables;
-    let extents = extents_of(alloc, needed.scope, needed.region)?;
-    let numbers = loop_numbers(alloc, variables, cuts, &extents)?;
     let kept = kept_of(needed.kept, definition);
     let spans = needed.region.as_slice();
     let mut lets = Vec::new(alloc);
@@ -712,11 +707,29 @@ pub(crate) fn frame_of(
         &mut lets,
     )?;
     add_half_reaches(alloc, &numbers, cuts, &mut reaches)?;
-    let counted = counted_loops(alloc, root, blocks)?;
+    let counted = counted_loops(alloc, cuts, blocks, variables)?;
     let frame = Frame {
         numbers,
         reaches,
         counted,
     };
     Ok((frame, lets))
+}
+
+/// What is said of the loops of a definition that are split, and the lets around its nest.
+pub(crate) fn frame_of(
+    alloc: Global,
+    root: &Root<'_>,
+    needed: Needed<'_>,
+    blocks: &[Option<Blocks>],
+    definition: usize,
+) -> Result<(Frame, Vec<Step>), Stop>
+    ensures { Gives result (λ made. (parted.frame_seen made.0, made.1.items)) (parted.frame_of (stored_of root.now.stored.now) needed.entry.scope.now
+        needed.entry.region.now needed.entry.kept.now blocks.now definition) }
+{
+    let cuts = &root.stored.placed.cuts;
+    let variables = &root.stored.subject.variables;
+    let extents = extents_of(alloc, needed.scope, needed.region)?;
+    let numbers = loop_numbers(alloc, variables, cuts, &extents)?;
+    frame_by(alloc, root, needed, blocks, definition, numbers)
 }

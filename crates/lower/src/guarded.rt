@@ -1,12 +1,12 @@
 //! What a guarded split says of its loop's numbers, also where no guard has to stand for it.
 
-use crate::ends::told_span;
 use crate::error::Stop;
 use crate::fetching::Root;
 use crate::forms::{MOST_FORMS, two_forms};
 use crate::renaming::{Renaming, own_names, renamed, renamed_steps};
 use crate::scopes::bind_steps;
 use crate::standing::all_limited;
+use crate::telling::told_span;
 use lin::{Lin, Region, Scope, Sym};
 use plan::Pick;
 use sched::{Nest, Split, Step, Tail};

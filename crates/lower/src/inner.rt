@@ -9,12 +9,12 @@ ghost use Rattle.lower.specs.Computed as computed;
 ghost use Rattle.lower.specs.Demanded as demanded;
 ghost use Rattle.lower.specs.Groups.{inners_of as placed_inners, root_of};
 ghost use Rattle.lower.specs.Homes as spec;
-ghost use Rattle.lower.specs.Parted.{parted_nests};
+ghost use Rattle.lower.specs.Parted.{kept_region as kept_region_of};
 ghost use Rattle.lower.specs.Placed.{inner_seen, later_seen};
+ghost use Rattle.lower.specs.Rounded.{lain_kept};
 ghost use Rattle.lower.specs.Slid as slid;
 ghost use Rattle.lower.specs.Stored.{formula_of, stored_of};
 ghost use Rattle.lower.specs.Taken.{site_of};
-ghost use Rattle.lower.specs.Turned.{IfWhole, whole_nests};
 ghost use Rattle.lower.specs.Uses.{first_home};
 
 use crate::demand::{is_scattered, is_small, needed_at, sites_at};
@@ -214,9 +214,9 @@ fn turns_along(
     region: &Region,
     sliding: &Sliding,
 ) -> Result<(Region, Option<Later>), Stop>
-    ensures { IfOk result (λ turns. slid.HoldsBy (stored_of root.now.stored.now) (map formula_of root.now.formulas.now) (slid.sliding_seen sliding.now)
-        scope.now region.now (slid.held_along (map root_of functions.now) (stored_of root.now.stored.now) (map formula_of root.now.formulas.now)
-        scope.now region.now (slid.sliding_seen sliding.now)) turns.0 (option_map later_seen turns.1)) }
+    ensures { IfOk result (λ turns. slid.HoldsBy (stored_of root.now.stored.now) (map formula_of root.now.formulas.now) (length outer.now)
+        (slid.sliding_seen sliding.now) scope.now region.now (slid.held_along (map root_of functions.now) (stored_of root.now.stored.now)
+        (map formula_of root.now.formulas.now) scope.now region.now (slid.sliding_seen sliding.now)) turns.0 (option_map later_seen turns.1)) }
 {
     let Some(held) = held_along(alloc, functions, root, scope, region, sliding)? else {
         return Ok((region.copy(alloc)?, None));
@@ -237,8 +237,8 @@ fn turns_of(
     region: &Region,
     sliding: &Option<Sliding>,
 ) -> Result<(Region, Option<Later>), Stop>
-    ensures { IfOk result (λ turns. slid.Holds (map root_of functions.now) (stored_of root.now.stored.now) (map formula_of root.now.formulas.now) scope.now
-        region.now (option_map slid.sliding_seen sliding.now) turns.0 (option_map later_seen turns.1)) }
+    ensures { IfOk result (λ turns. slid.Holds (map root_of functions.now) (stored_of root.now.stored.now) (map formula_of root.now.formulas.now)
+        (length outer.now) scope.now region.now (option_map slid.sliding_seen sliding.now) turns.0 (option_map later_seen turns.1)) }
 {
     let Some(sliding) = sliding else {
         return Ok((region.copy(alloc)?, None));
@@ -247,6 +247,7 @@ fn turns_of(
 }
 
 // The function at these places, over what is needed of it where these sites call it.
+#[tactic(auto, using(crate::proofs::Along::is_lain))]
 fn inner_of<'a>(
     alloc: Global,
     algo: &Algo,
@@ -264,15 +265,9 @@ fn inner_of<'a>(
     ensures store { IfOk result (λ one. one.store ≡ spots.1) }
     ensures scope { IfOk result (λ one. one.scope ≡ bound_by around.now one.lets.items) }
     ensures holds { IfOk result (λ one. slid.Holds (map root_of functions.now) (stored_of root.now.stored.now) (map formula_of root.now.formulas.now)
-        around.now needed.now (option_map slid.sliding_seen sliding.now) one.region (option_map later_seen one.later)) }
-    ensures lets { IfOk result (λ one. IfWhole (stored_of root.now.stored.now).placed.cuts (one.lets.items ≡ [])) }
-    ensures nests { IfOk result (λ one. IfWhole (stored_of root.now.stored.now).placed.cuts (whole_nests (stored_of root.now.stored.now)
-        (map formula_of root.now.formulas.now) around.now one.region ≡ Some (map nest_seen one.nests.items))) }
-    ensures unnamed { IfOk result (λ one. computed.IfPlain (stored_of root.now.stored.now) (map formula_of root.now.formulas.now)
-        (one.lets.items ≡ [])) }
-    ensures parted { IfOk result (λ one. computed.IfPlain (stored_of root.now.stored.now) (map formula_of root.now.formulas.now)
-        (parted_nests (stored_of root.now.stored.now) (map formula_of root.now.formulas.now) around.now one.region
-        (map nest_seen one.nests.items))) }
+        (length outer.now) around.now needed.now (option_map slid.sliding_seen sliding.now) one.region (option_map later_seen one.later)) }
+    ensures lain { IfOk result (λ one. computed.IsLain (lain_kept (algorithm_of algo.now) (stored_of root.now.stored.now) (map formula_of root.now.formulas.now)
+        around.now one.region (kept_region_of (length outer.now) around.now one.region)) (inner_seen one)) }
 {
     let (home, store) = spots;
     let (region, later) = turns_of(alloc, functions, root, outer, around, needed, sliding)?;

@@ -3,6 +3,7 @@
 
 mod blocks;
 mod calls;
+mod counting;
 mod definitions;
 mod demand;
 mod ends;
@@ -34,6 +35,7 @@ pub mod spans;
 mod spots;
 mod standing;
 mod storage;
+mod telling;
 mod turns;
 mod uses;
 mod whole;

@@ -1,44 +1,40 @@
 //! Functions with updates in blocks that run past the end of what is needed: what is named before their nests, and of what their
 //! claims speak.
 
-ghost use Rattle.std.specs.Prelude.{◌≡◌, [], IfOk, IfSome, Some, map};
+ghost use Rattle.std.specs.Prelude.{◌≡◌, IfOk, IfSome, OnOk, Some, map};
 ghost use Rattle.std.specs.List.{list_any};
+ghost use Rattle.std.specs.Option.{option_copied, option_map};
+ghost use Rattle.algo.specs.View.{algorithm_of};
 ghost use Rattle.lower.specs.Around.{bind_steps as bound_by};
-ghost use Rattle.lower.specs.Computed as computed;
+ghost use Rattle.lower.specs.Calls.{call_of};
 ghost use Rattle.lower.specs.Demanded as demanded;
-ghost use Rattle.lower.specs.Parted.{IfParted, parted_nests};
-ghost use Rattle.lower.specs.Stored.{formula_of, stored_of};
-ghost use Rattle.lower.specs.Turned.{IfWhole, whole_nests};
+ghost use Rattle.lower.specs.Limited.{Gives, Tells};
+ghost use Rattle.lower.specs.Rounded as spec;
+ghost use Rattle.lower.specs.Stored.{calls_in, formula_of, stored_of};
+ghost use Rattle.meaning.specs.Names.{same_name};
 ghost use Rattle.sched.specs.Skeleton.{nest_seen};
 
-use crate::calls::calls_of;
-use crate::ends::{Needed, has_further, rounding, told_span};
+use crate::calls::{Call, calls_of};
+use crate::counting::{Blocks, Names, counted_at};
+use crate::definitions::Formula;
+use crate::ends::{Needed, rounding};
 use crate::error::Stop;
 use crate::fetching::{Root, count_from, run_of, shortest};
-use crate::forms::{one_form, raised, two_forms};
+use crate::forms::one_form;
 use crate::legality::is_bounded;
 use crate::scopes::bind_steps;
 use crate::sliding::is_single;
 use crate::storage::stored_from;
-use crate::turns::{nests_begun, nests_over};
+use crate::telling::{has_further, told_span};
+use crate::turns::{has_split_half, nests_begun, nests_over};
 use algo::Algo;
-use lin::{Binding, Forms, Lin, Region, Scope, Span1};
-use plan::Pick;
+use lin::{Lin, Region, Scope, Span1};
 use sched::{Nest, Split, Step, Tail};
 use std::alloc::{AllocError, Global};
 use tree::token::Name;
 
 /// How many blocks behind the first one are counted at most, where one turn needs more of them than another.
 const MOST_FURTHER: i64 = 3;
-
-/// The blocks of a dimension of which one turn needs more than another.
-#[derive(Drop)]
-pub(crate) struct Blocks {
-    /// The numbers of which the least, and that of any turn, is the last block's.
-    pub further: Forms,
-    /// The numbers of which the least is the last one that the blocks make.
-    pub ends: Forms,
-}
 
 /// What is named before the nests of a function.
 #[derive(Drop)]
@@ -52,20 +48,18 @@ pub(crate) struct Begun {
     pub blocks: Vec<Option<Blocks>>,
 }
 
-/// Lets, and what they are bound to.
-#[derive(Drop)]
-struct Names {
-    scope: Scope,
-    lets: Vec<Step>,
-}
-
 // The factor by which the dimension's loop is split with `roundup`, where it is.
-fn rounding_of(root: &Root<'_>, dimension: usize) -> Option<u32> {
-    let variable = root.stored.subject.variables.get(dimension)?;
-    rounding(&root.stored.placed.cuts, variable)
+fn rounding_of(root: &Root<'_>, dimension: usize) -> Option<u32>
+    ensures { result ≡ spec.rounding_of (stored_of root.now.stored.now) dimension }
+{
+    match root.stored.subject.variables.get(dimension) {
+        Some(variable) => rounding(&root.stored.placed.cuts, variable),
+        None => None,
+    }
 }
 
-fn is_rounding(cut: &Split, variable: &Name) -> bool
+/// Whether the split is one of the variable's loop with `roundup`.
+pub(crate) fn is_rounding(cut: &Split, variable: &Name) -> bool
     ensures { result ≡ demanded.is_rounding variable.now cut.now }
 {
     match cut.tail {
@@ -91,165 +85,37 @@ pub(crate) fn is_rounded(root: &Root<'_>, dimension: usize) -> bool
     }
 }
 
-// ---- names
-
-impl Names {
-    fn name(&mut self, alloc: Global, pick: Pick, forms: Forms) -> Result<Lin, AllocError> {
-        let symbol = self.scope.len();
-        let bound = forms.copy(alloc)?;
-        self.lets.push(Step::Named {
-            symbol,
-            pick,
-            forms,
-        })?;
-        self.scope.push(match pick {
-            Pick::Min => Binding::LetMin(bound),
-            Pick::Max => Binding::LetMax(bound),
-        })?;
-        Lin::symbol(alloc, symbol)
-    }
-
-    fn name_of_two(
-        &mut self,
-        alloc: Global,
-        pick: Pick,
-        first: Lin,
-        second: Lin,
-    ) -> Result<Lin, AllocError> {
-        let forms = two_forms(alloc, first, second)?;
-        self.name(alloc, pick, forms)
-    }
-
-    // How many numbers are left behind the first block, and behind each of so many others; never below 0.
-    fn rests(
-        &mut self,
-        alloc: Global,
-        past: Lin,
-        factor: i64,
-        count: i64,
-    ) -> Result<Vec<Lin>, Stop> {
-        let mut rests = Vec::new(alloc);
-        let mut left = past;
-        for _block in 0..count {
-            let none = Lin::number(alloc, 0);
-            let rest = self.name_of_two(alloc, Pick::Max, none, left)?;
-            left = raised(alloc, &rest, factor.saturating_neg())?;
-            rests.push(rest)?;
-        }
-        rests.push(self.name_of_two(alloc, Pick::Max, Lin::number(alloc, 0), left)?)?;
-        Ok(rests)
-    }
-
-    // The sum of the rests, each but the last at most so much.
-    fn sum_of(&mut self, alloc: Global, rests: &[Lin], most: i64) -> Result<Lin, Stop> {
-        let [firsts @ .., last] = rests else {
-            return Ok(Lin::number(alloc, 0));
-        };
-        let mut sum = last.copy(alloc)?;
-        for rest in firsts {
-            let limit = Lin::number(alloc, most);
-            let part = self.name_of_two(alloc, Pick::Min, rest.copy(alloc)?, limit)?;
-            sum = sum.plus_multiple(alloc, 1, &part)?;
-        }
-        Ok(sum)
-    }
-
-    // The end of blocks: behind the first one's end so many numbers are needed, and so many more blocks stand.
-    fn end_of(
-        &mut self,
-        alloc: Global,
-        first_end: &Lin,
-        needed: &Lin,
-        further: &Lin,
-        factor: i64,
-    ) -> Result<Lin, Stop> {
-        let needed_end = first_end.plus_multiple(alloc, 1, needed)?;
-        let made_end = first_end.plus_multiple(alloc, factor, further)?;
-        Ok(self.name_of_two(alloc, Pick::Max, needed_end, made_end)?)
-    }
-
-    // Counts the blocks that take these rests.
-    fn count_rests(
-        &mut self,
-        alloc: Global,
-        first_end: &Lin,
-        rests: &[Lin],
-        factor: i64,
-        blocks: &mut Blocks,
-    ) -> Result<(), Stop> {
-        let needed = self.sum_of(alloc, rests, factor)?;
-        let further = self.sum_of(alloc, rests, 1)?;
-        let end = self.end_of(alloc, first_end, &needed, &further, factor)?;
-        blocks.further.push(further)?;
-        blocks.ends.push(end)?;
-        Ok(())
-    }
-
-    // Counts the blocks from a number up to the one that has the last number; of more than so many behind the first one it counts
-    // too many. The end is named by both that all numbers are up to it, and that the blocks make all up to it.
-    fn count(
-        &mut self,
-        alloc: Global,
-        low: &Lin,
-        last: &Lin,
-        factor: i64,
-        count: i64,
-        blocks: &mut Blocks,
-    ) -> Result<(), Stop> {
-        let first_end = raised(alloc, low, factor.saturating_sub(1))?;
-        let past = last.plus_multiple(alloc, -1, &first_end)?;
-        if past.is_number() {
-            return Ok(());
-        }
-        let rests = self.rests(alloc, past, factor, count)?;
-        self.count_rests(alloc, &first_end, rests.as_slice(), factor, blocks)
-    }
-
-    // The blocks of a span from its one lower form on, of which so many may stand behind the first one.
-    fn counted(
-        &mut self,
-        alloc: Global,
-        low: &Lin,
-        upper: &Forms,
-        factor: i64,
-        count: i64,
-    ) -> Result<Blocks, Stop> {
-        let made = factor.saturating_mul(count.saturating_add(1));
-        let mut blocks = Blocks {
-            further: Forms::new(alloc),
-            ends: one_form(alloc, raised(alloc, low, made.saturating_sub(1))?)?,
-        };
-        for last in upper.as_slice() {
-            self.count(alloc, low, last, factor, count, &mut blocks)?;
-        }
-        Ok(blocks)
-    }
-}
-
 // ---- dimensions
 
+// Whether a split of the variable makes loops that are split again.
+fn has_split_again(cuts: &[Split], variable: &Name) -> bool
+    ensures { result ≡ spec.has_split_again cuts.now (Some variable.now) }
+{
+    cuts.iter().any(|cut| cut.whole.as_str() == variable.as_str() && has_split_half(cuts, cut))
+}
+
 // Whether the loops that the variable's split makes are split again.
-fn is_split_again(root: &Root<'_>, dimension: usize) -> bool {
-    let Some(variable) = root.stored.subject.variables.get(dimension) else {
-        return false;
-    };
-    let cuts = root.stored.placed.cuts.as_slice();
-    cuts.iter().any(|cut| cut.whole.as_str() == variable.as_str()
-        && cuts.iter().any(|other| {
-            other.whole.as_str() == cut.outer.as_str() || other.whole.as_str() == cut.inner.as_str()
-        }))
+fn is_split_again(root: &Root<'_>, dimension: usize) -> bool
+    ensures { result ≡ spec.is_split_again (stored_of root.now.stored.now) dimension }
+{
+    match root.stored.subject.variables.get(dimension) {
+        Some(variable) => has_split_again(&root.stored.placed.cuts, variable),
+        None => false,
+    }
 }
 
 /// Over what the nests go in one dimension.
 #[derive(Drop)]
-struct Run {
-    span: Span1,
+pub(crate) struct Run {
+    pub span: Span1,
     /// Whether it begins before what is needed.
-    is_moved: bool,
-    blocks: Option<Blocks>,
+    pub is_moved: bool,
+    pub blocks: Option<Blocks>,
 }
 
-fn run_over(alloc: Global, span: &Span1) -> Result<Run, AllocError> {
+fn run_over(alloc: Global, span: &Span1) -> Result<Run, AllocError>
+    ensures { IfOk result (λ run. run ≡ spec.run_over span.now) }
+{
     Ok(Run {
         span: span.copy(alloc)?,
         is_moved: false,
@@ -257,27 +123,10 @@ fn run_over(alloc: Global, span: &Span1) -> Result<Run, AllocError> {
     })
 }
 
-// The blocks of a dimension from its one lower form on, counted.
-fn counted_run(
-    alloc: Global,
-    names: &mut Names,
-    span: &Span1,
-    low: &Lin,
-    upper: &Forms,
-    factor: i64,
-    count: i64,
-) -> Result<Run, Stop> {
-    let blocks = names.counted(alloc, low, upper, factor, count)?;
-    let span = span.copy(alloc)?;
-    Ok(Run {
-        span,
-        is_moved: false,
-        blocks: Some(blocks),
-    })
-}
-
 // The blocks of a dimension from one of its lower forms on.
-fn moved_run(alloc: Global, span: &Span1, low: &Lin) -> Result<Run, AllocError> {
+fn moved_run(alloc: Global, span: &Span1, low: &Lin) -> Result<Run, AllocError>
+    ensures { IfOk result (λ run. run ≡ spec.moved_run span.now low.now) }
+{
     let lower = one_form(alloc, low.copy(alloc)?)?;
     let upper = span.upper.copy(alloc)?;
     let span = Span1 { lower, upper };
@@ -290,31 +139,105 @@ fn moved_run(alloc: Global, span: &Span1, low: &Lin) -> Result<Run, AllocError> 
 
 /// How many blocks a dimension has.
 #[derive(Clone, Copy, Drop)]
-struct Tally {
+pub(crate) struct Tally {
     /// The lower form from which on there are the fewest.
-    place: usize,
+    pub place: usize,
     /// How many stand behind the first one at most.
-    further: i64,
+    pub further: i64,
     /// Whether as many do in each turn.
-    is_even: bool,
+    pub is_even: bool,
 }
 
-fn tally_of(
-    alloc: Global,
-    scope: &Scope,
-    told: &Span1,
-    factor: i64,
-) -> Result<Option<Tally>, Stop> {
+// How many blocks of so many numbers stand behind the first one at most, where there are so many numbers.
+fn further_of(most: i64, factor: i64) -> i64
+    ensures { result ≡ spec.further_of most factor }
+{
+    let last = most.saturating_sub(1);
+    if factor > 0 { last / factor } else { 0 }
+}
+
+fn tally_of(alloc: Global, scope: &Scope, told: &Span1, factor: i64) -> Result<Option<Tally>, Stop>
+    ensures { Gives result (λ tally. tally) (spec.tally_of scope.now told.now factor) }
+{
     let Some((place, most)) = shortest(alloc, scope, told)? else {
         return Ok(None);
     };
-    let further = most.saturating_sub(1).checked_div(factor).unwrap_or(0);
+    let further = further_of(most, factor);
     let is_even = has_further(alloc, scope, told, further.saturating_mul(factor))?;
     Ok(Some(Tally {
         place,
         further,
         is_even,
     }))
+}
+
+// How many blocks are counted.
+fn count_of(further: i64) -> u32
+    ensures { result ≡ spec.count_of further }
+{
+    u32::try_from(further).unwrap_or(0)
+}
+
+// The blocks of a dimension from its one lower form on, counted.
+fn counted_run(
+    alloc: Global,
+    names: &mut Names,
+    span: &Span1,
+    low: &Lin,
+    upper: &[Lin],
+    factor: i64,
+    count: u32,
+) -> Result<Run, Stop>
+    ensures { Gives result (λ run. (run, spec.names_seen names.new)) (spec.counted_by (spec.counted low.now factor count upper.now
+        (spec.names_seen names.old)) span.now) }
+{
+    let blocks = names.counted(alloc, low, upper, factor, count)?;
+    let span = span.copy(alloc)?;
+    Ok(Run {
+        span,
+        is_moved: false,
+        blocks: Some(blocks),
+    })
+}
+
+// The blocks of a dimension of one lower form: where not each turn needs as many of them, they are counted.
+fn alone_run(
+    alloc: Global,
+    names: &mut Names,
+    is_counted: bool,
+    factor: i64,
+    span: &Span1,
+    low: &Lin,
+    upper: &[Lin],
+    tally: Tally,
+) -> Result<Run, Stop>
+    ensures { Gives result (λ run. (run, spec.names_seen names.new)) (spec.alone_run is_counted factor span.now low.now upper.now tally
+        (spec.names_seen names.old)) }
+{
+    if tally.is_even || !is_counted {
+        return Ok(run_over(alloc, span)?);
+    }
+    let count = count_of(tally.further);
+    counted_run(alloc, names, span, low, upper, factor, count)
+}
+
+// The blocks of a dimension from this lower form on, where each turn needs as many of them.
+fn moved_if(
+    alloc: Global,
+    is_even: bool,
+    span: &Span1,
+    low: Option<&Lin>,
+) -> Result<Run, AllocError>
+    ensures { IfOk result (λ run. run ≡ spec.moved_if is_even span.now (option_copied low.entry)) }
+{
+    match low {
+        Some(low) => if is_even {
+            moved_run(alloc, span, low)
+        } else {
+            run_over(alloc, span)
+        },
+        None => run_over(alloc, span),
+    }
 }
 
 // The blocks of a dimension: where each turn needs as many of them, from one of its lower forms on; where it has one, they are
@@ -327,18 +250,24 @@ fn told_run(
     span: &Span1,
     told: &Span1,
     tally: Tally,
-) -> Result<Run, Stop> {
-    match told.lower.as_slice() {
-        [low] => {
-            if tally.is_even || !is_counted {
-                return Ok(run_over(alloc, span)?);
-            }
-            counted_run(alloc, names, span, low, &told.upper, factor, tally.further)
-        }
-        lower => match lower.get(tally.place) {
-            Some(low) if tally.is_even => Ok(moved_run(alloc, span, low)?),
-            _ => Ok(run_over(alloc, span)?),
-        },
+) -> Result<Run, Stop>
+    ensures { Gives result (λ run. (run, spec.names_seen names.new)) (spec.told_run is_counted factor span.now told.now.lower told.now.upper tally
+        (spec.names_seen names.old)) }
+{
+    let lower = told.lower.as_slice();
+    match lower {
+        [] => Ok(moved_if(alloc, tally.is_even, span, lower.get(tally.place))?),
+        [low] => alone_run(
+            alloc,
+            names,
+            is_counted,
+            factor,
+            span,
+            low,
+            told.upper.as_slice(),
+            tally,
+        ),
+        [_first, _second, ..] => Ok(moved_if(alloc, tally.is_even, span, lower.get(tally.place))?),
     }
 }
 
@@ -349,7 +278,10 @@ fn run_in(
     dimension: usize,
     factor: i64,
     span: &Span1,
-) -> Result<Run, Stop> {
+) -> Result<Run, Stop>
+    ensures { Gives result (λ run. (run, spec.names_seen names.new)) (spec.run_in (stored_of root.now.stored.now) dimension factor span.now
+        (spec.names_seen names.old)) }
+{
     let told = told_span(alloc, &names.scope, span)?;
     let Some(tally) = tally_of(alloc, &names.scope, &told, factor)? else {
         return Ok(run_over(alloc, span)?);
@@ -359,7 +291,7 @@ fn run_in(
 }
 
 fn unnamed(alloc: Global, region: &Region) -> Result<Begun, AllocError>
-    ensures { IfOk result (λ begun. begun.lets.items ≡ []) }
+    ensures { IfOk result (λ begun. spec.begun_seen begun ≡ spec.unnamed region.now) }
 {
     Ok(Begun {
         lets: Vec::new(alloc),
@@ -376,75 +308,123 @@ fn run_at(
     names: &mut Names,
     dimension: usize,
     span: &Span1,
-) -> Result<Run, Stop> {
+) -> Result<Run, Stop>
+    ensures { Gives result (λ run. (run, spec.names_seen names.new)) (spec.run_at (stored_of root.now.stored.now) dimension span.now
+        (spec.names_seen names.old)) }
+{
     match rounding_of(root, dimension) {
         Some(factor) => run_in(alloc, root, names, dimension, i64::from(factor), span),
         None => Ok(run_over(alloc, span)?),
     }
 }
 
-// The same over all dimensions.
-fn runs_in(
+// What is named, and behind it what is of one more dimension.
+fn add_run(run: Run, begun: &mut Begun) -> Result<(), AllocError>
+    ensures { OnOk result (spec.begun_seen begun.new ≡ spec.with_run run (spec.begun_seen begun.old)) }
+{
+    let Run {
+        span,
+        is_moved,
+        blocks,
+    } = run;
+    begun.region.push(span)?;
+    begun.is_moved = begun.is_moved || is_moved;
+    begun.blocks.push(blocks)?;
+    Ok(())
+}
+
+// The same of these dimensions.
+fn add_runs(
     alloc: Global,
     root: &Root<'_>,
     names: &mut Names,
-    region: &Region,
-) -> Result<Vec<Run>, Stop> {
-    let mut runs = Vec::new(alloc);
-    for (dimension, span) in region.as_slice().iter().enumerate() {
-        runs.push(run_at(alloc, root, names, dimension, span)?)?;
+    dimension: usize,
+    spans: &[Span1],
+    begun: &mut Begun,
+) -> Result<(), Stop>
+    ensures { Tells result (spec.names_seen names.new, spec.begun_seen begun.new) (spec.runs_from (stored_of root.now.stored.now) dimension spans.now
+        (spec.names_seen names.old) (spec.begun_seen begun.old)) }
+{
+    match spans {
+        [] => Ok(()),
+        [span, rest @ ..] => {
+            let Some(next) = dimension.checked_add(1) else {
+                return Err(Stop::Memory);
+            };
+            let run = run_at(alloc, root, names, dimension, span)?;
+            add_run(run, begun)?;
+            add_runs(alloc, root, names, next, rest, begun)
+        }
     }
-    Ok(runs)
 }
 
-// What is named, with the lets, where dimensions run over this.
-fn begun_by(alloc: Global, lets: Vec<Step>, runs: Vec<Run>) -> Result<Begun, AllocError> {
-    let mut region = Region::new(alloc);
-    let mut is_moved = false;
-    let mut blocks = Vec::new(alloc);
-    for run in runs {
-        region.push(run.span)?;
-        is_moved = is_moved || run.is_moved;
-        blocks.push(run.blocks)?;
+// Whether one of the calls is of the function of this name.
+fn has_call(calls: &[Call<'_>], name: &Name) -> bool
+    ensures { result ≡ list_any (λ c. same_name c.name name.now) (map call_of calls.now) }
+{
+    match calls {
+        [] => false,
+        [call, rest @ ..] => {
+            if call.name == name.as_str() {
+                return true;
+            }
+            has_call(rest, name)
+        }
     }
-    Ok(Begun {
-        lets,
-        region,
-        is_moved,
-        blocks,
-    })
+}
+
+// Whether one of these definitions calls the function of this name.
+fn are_calling(alloc: Global, formulas: &[Formula], name: &Name) -> Result<bool, AllocError>
+    ensures { IfOk result (λ yes. yes ≡ list_any (λ f. list_any (λ c. same_name c.name name.now) (calls_in f)) (map formula_of formulas.now)) }
+{
+    match formulas {
+        [] => Ok(false),
+        [formula, rest @ ..] => {
+            let calls = calls_of(alloc, formula)?;
+            if has_call(&calls, name) {
+                return Ok(true);
+            }
+            are_calling(alloc, rest, name)
+        }
+    }
 }
 
 // Whether an update of the function calls it.
-fn calls_itself(alloc: Global, root: &Root<'_>) -> Result<bool, AllocError> {
-    let name = root.stored.subject.name;
-    for formula in root.formulas.iter() {
-        let calls = calls_of(alloc, formula)?;
-        if calls.iter().any(|call| call.name == name.as_str()) {
-            return Ok(true);
-        }
-    }
-    Ok(false)
+fn calls_itself(alloc: Global, root: &Root<'_>) -> Result<bool, AllocError>
+    ensures { IfOk result (λ yes. yes ≡ spec.calls_itself (stored_of root.now.stored.now) (map formula_of root.now.formulas.now)) }
+{
+    are_calling(alloc, root.formulas, &root.stored.subject.name)
 }
 
-// What is named before the nests of a function over a region; none where a form leaves the limits of forms.
+// What is named before the nests of a function over a region.
+fn begun_over(alloc: Global, root: &Root<'_>, scope: &Scope, region: &Region) -> Result<Begun, Stop>
+    ensures { Gives result spec.begun_seen (spec.named_over (stored_of root.now.stored.now) scope.now region.now) }
+{
+    let mut names = Names {
+        scope: scope.copy(alloc)?,
+        lets: Vec::new(alloc),
+    };
+    let mut begun = unnamed(alloc, &Region::new(alloc))?;
+    add_runs(alloc, root, &mut names, 0, region.as_slice(), &mut begun)?;
+    let Names { lets, .. } = names;
+    begun.lets = lets;
+    Ok(begun)
+}
+
+// The same; none where a form leaves the limits of forms.
 fn named_over(
     alloc: Global,
     root: &Root<'_>,
     scope: &Scope,
     region: &Region,
-) -> Result<Option<Begun>, AllocError> {
-    let mut names = Names {
-        scope: scope.copy(alloc)?,
-        lets: Vec::new(alloc),
-    };
-    let runs = match runs_in(alloc, root, &mut names, region) {
-        Ok(runs) => runs,
-        Err(Stop::Limit) => return Ok(None),
-        Err(Stop::Memory) => return Err(AllocError),
-    };
-    let Names { lets, .. } = names;
-    Ok(Some(begun_by(alloc, lets, runs)?))
+) -> Result<Option<Begun>, AllocError>
+    ensures { IfOk result (λ found. option_map spec.begun_seen found ≡ spec.named_over (stored_of root.now.stored.now) scope.now region.now) }
+{
+    match begun_over(alloc, root, scope, region) {
+        Ok(begun) => Ok(Some(begun)),
+        Err(Stop::Limit) => Ok(None),
+        Err(Stop::Memory) => Err(AllocError),
+    }
 }
 
 /// A function's nests over a region, with what stands around them.
@@ -457,11 +437,8 @@ pub(crate) struct Lain {
 
 fn lain_plainly(alloc: Global, root: &Root<'_>, needed: Needed<'_>) -> Result<Lain, Stop>
     ensures scope { IfOk result (λ lain. lain.scope ≡ bound_by needed.entry.scope.now lain.begun.lets.items) }
-    ensures lets { IfOk result (λ lain. lain.begun.lets.items ≡ []) }
-    ensures nests { IfOk result (λ lain. IfWhole (stored_of root.now.stored.now).placed.cuts (whole_nests (stored_of root.now.stored.now)
-        (map formula_of root.now.formulas.now) needed.entry.scope.now needed.entry.region.now ≡ Some (map nest_seen lain.nests.items))) }
-    ensures parted { IfOk result (λ lain. IfParted (stored_of root.now.stored.now).placed.cuts (parted_nests (stored_of root.now.stored.now)
-        (map formula_of root.now.formulas.now) needed.entry.scope.now needed.entry.region.now (map nest_seen lain.nests.items))) }
+    ensures plain { Gives result spec.lain_seen (spec.lain_plainly (stored_of root.now.stored.now) (map formula_of root.now.formulas.now)
+        needed.entry.scope.now needed.entry.region.now needed.entry.kept.now) }
 {
     let nests = nests_over(alloc, root, needed)?;
     let begun = unnamed(alloc, needed.region)?;
@@ -482,6 +459,26 @@ fn scope_behind(alloc: Global, outer: &Scope, lets: &[Step]) -> Result<Scope, Al
     Ok(scope)
 }
 
+// Whether each index of these nests is shown to stay where it may, if their blocks begin before what is needed.
+fn is_allowed(
+    alloc: Global,
+    algo: &Algo,
+    root: &Root<'_>,
+    scope: &Scope,
+    begun: &Begun,
+    nests: &[Nest],
+    region: &Region,
+) -> Result<bool, Stop>
+    ensures { Gives result (λ yes. yes) (spec.is_allowed (algorithm_of algo.now) (stored_of root.now.stored.now) (map formula_of root.now.formulas.now)
+        scope.now region.now (spec.begun_seen begun.now) (map nest_seen nests.now)) }
+{
+    if begun.is_moved {
+        is_bounded(alloc, algo, root, scope, nests, region)
+    } else {
+        Ok(true)
+    }
+}
+
 // The nests behind names; none where an index would leave what there is.
 fn lain_behind(
     alloc: Global,
@@ -490,22 +487,25 @@ fn lain_behind(
     needed: Needed<'_>,
     begun: Begun,
 ) -> Result<Option<Lain>, Stop>
-    ensures { IfOk result (λ found. IfSome found (λ lain. lain.scope ≡ bound_by needed.entry.scope.now lain.begun.lets.items)) }
+    ensures scope { IfOk result (λ found. IfSome found (λ lain. lain.scope ≡ bound_by needed.entry.scope.now lain.begun.lets.items)) }
+    ensures behind { Gives result (option_map spec.lain_seen) (spec.lain_behind (algorithm_of algo.now) (stored_of root.now.stored.now)
+        (map formula_of root.now.formulas.now) needed.entry.scope.now needed.entry.region.now needed.entry.kept.now (spec.begun_seen begun)) }
 {
     let scope = scope_behind(alloc, needed.scope, &begun.lets)?;
     let nests = nests_begun(alloc, root, &scope, &begun, needed.kept)?;
-    if begun.is_moved && !is_bounded(alloc, algo, root, &scope, &nests, needed.region)? {
-        return Ok(None);
+    if is_allowed(alloc, algo, root, &scope, &begun, &nests, needed.region)? {
+        Ok(Some(Lain {
+            scope,
+            begun,
+            nests,
+        }))
+    } else {
+        Ok(None)
     }
-    Ok(Some(Lain {
-        scope,
-        begun,
-        nests,
-    }))
 }
 
 fn is_roundup(tail: Tail) -> bool
-    ensures { result ≡ computed.is_roundup tail }
+    ensures { result ≡ spec.is_roundup tail }
 {
     match tail {
         Tail::Roundup => true,
@@ -514,16 +514,38 @@ fn is_roundup(tail: Tail) -> bool
 }
 
 fn has_roundup(cuts: &[Split]) -> bool
-    ensures { result ≡ list_any (λ c. computed.is_roundup c.tail) cuts.now }
+    ensures { result ≡ list_any (λ c. spec.is_roundup c.tail) cuts.now }
 {
     cuts.iter().any(|cut| is_roundup(cut.tail))
 }
 
 // Whether no update of the function may read what its nests make past what is needed.
 fn is_plain(root: &Root<'_>) -> bool
-    ensures { result ≡ computed.is_plain (stored_of root.now.stored.now) (map formula_of root.now.formulas.now) }
+    ensures { result ≡ spec.is_plain (stored_of root.now.stored.now) (map formula_of root.now.formulas.now) }
 {
     is_single(root.formulas) || !has_roundup(&root.stored.placed.cuts)
+}
+
+// The nests behind what is named, where that is told; else as where nothing is.
+fn lain_named(
+    alloc: Global,
+    algo: &Algo,
+    root: &Root<'_>,
+    needed: Needed<'_>,
+    begun: Option<Begun>,
+) -> Result<Lain, Stop>
+    ensures scope { IfOk result (λ lain. lain.scope ≡ bound_by needed.entry.scope.now lain.begun.lets.items) }
+    ensures named { Gives result spec.lain_seen (spec.lain_named (algorithm_of algo.now) (stored_of root.now.stored.now)
+        (map formula_of root.now.formulas.now) needed.entry.scope.now needed.entry.region.now needed.entry.kept.now
+        (option_map spec.begun_seen begun)) }
+{
+    let Some(begun) = begun else {
+        return lain_plainly(alloc, root, needed);
+    };
+    match lain_behind(alloc, algo, root, needed, begun)? {
+        Some(lain) => Ok(lain),
+        None => lain_plainly(alloc, root, needed),
+    }
 }
 
 // The nests of a function in blocks that run past the end of what is needed. Of one that calls itself in an update, what its blocks
@@ -534,21 +556,18 @@ fn lain_rounded(
     root: &Root<'_>,
     needed: Needed<'_>,
 ) -> Result<Lain, Stop>
-    ensures { IfOk result (λ lain. lain.scope ≡ bound_by needed.entry.scope.now lain.begun.lets.items) }
+    ensures scope { IfOk result (λ lain. lain.scope ≡ bound_by needed.entry.scope.now lain.begun.lets.items) }
+    ensures rounded { Gives result spec.lain_seen (spec.lain_rounded (algorithm_of algo.now) (stored_of root.now.stored.now)
+        (map formula_of root.now.formulas.now) needed.entry.scope.now needed.entry.region.now needed.entry.kept.now) }
 {
     if !calls_itself(alloc, root)? {
         return lain_plainly(alloc, root, needed);
     }
-    if let Some(begun) = named_over(alloc, root, needed.scope, needed.region)? {
-        if let Some(lain) = lain_behind(alloc, algo, root, needed, begun)? {
-            return Ok(lain);
-        }
-    }
-    lain_plainly(alloc, root, needed)
+    let begun = named_over(alloc, root, needed.scope, needed.region)?;
+    lain_named(alloc, algo, root, needed, begun)
 }
 
 /// The nests of a function over a region.
-#[tactic(auto, using(crate::proofs::Along::if_whole, crate::proofs::Along::not_whole, crate::proofs::Parted::if_plain, crate::proofs::Parted::plainly, crate::proofs::Parted::not_plain))]
 pub(crate) fn lain_over(
     alloc: Global,
     algo: &Algo,
@@ -556,22 +575,14 @@ pub(crate) fn lain_over(
     needed: Needed<'_>,
 ) -> Result<Lain, Stop>
     ensures scope { IfOk result (λ lain. lain.scope ≡ bound_by needed.entry.scope.now lain.begun.lets.items) }
-    ensures lets { IfOk result (λ lain. IfWhole (stored_of root.now.stored.now).placed.cuts (lain.begun.lets.items ≡ [])) }
-    ensures nests { IfOk result (λ lain. IfWhole (stored_of root.now.stored.now).placed.cuts (whole_nests (stored_of root.now.stored.now)
-        (map formula_of root.now.formulas.now) needed.entry.scope.now needed.entry.region.now ≡ Some (map nest_seen lain.nests.items))) }
-    ensures unnamed { IfOk result (λ lain. computed.IfPlain (stored_of root.now.stored.now) (map formula_of root.now.formulas.now)
-        (lain.begun.lets.items ≡ [])) }
-    ensures parted { IfOk result (λ lain. computed.IfPlain (stored_of root.now.stored.now) (map formula_of root.now.formulas.now)
-        (parted_nests (stored_of root.now.stored.now) (map formula_of root.now.formulas.now) needed.entry.scope.now needed.entry.region.now
-        (map nest_seen lain.nests.items))) }
+    ensures lain { Gives result spec.lain_seen (spec.lain_over (algorithm_of algo.now) (stored_of root.now.stored.now)
+        (map formula_of root.now.formulas.now) needed.entry.scope.now needed.entry.region.now needed.entry.kept.now) }
 {
-    if root.stored.placed.cuts.is_empty() {
-        return Ok(lain_plainly(alloc, root, needed)?);
-    }
     if is_plain(root) {
-        return Ok(lain_plainly(alloc, root, needed)?);
+        lain_plainly(alloc, root, needed)
+    } else {
+        lain_rounded(alloc, algo, root, needed)
     }
-    Ok(lain_rounded(alloc, algo, root, needed)?)
 }
 
 // ---- claims
@@ -583,11 +594,33 @@ fn has_either(
     span: &Span1,
     begun: i64,
     last: i64,
-) -> Result<bool, Stop> {
+) -> Result<bool, Stop>
+    ensures { Gives result (λ yes. yes) (spec.has_either scope.now span.now begun last) }
+{
     if has_further(alloc, scope, span, begun)? {
         return Ok(true);
     }
     has_further(alloc, scope, span, last)
+}
+
+// So many numbers from the first one on, where that is the same in each turn.
+fn run_counted(
+    alloc: Global,
+    scope: &Scope,
+    factor: u32,
+    told: &Span1,
+    low: &Lin,
+    most: i64,
+    count: i64,
+) -> Result<Option<Span1>, Stop>
+    ensures { Gives result (λ run. run) (spec.run_counted scope.now factor told.now low.now most (Some count)) }
+{
+    let begun = count.saturating_sub(i64::from(factor));
+    if has_either(alloc, scope, told, begun, most.saturating_sub(1))? {
+        Ok(Some(run_of(alloc, low, count)?))
+    } else {
+        Ok(None)
+    }
 }
 
 // From the first number of a span to the last that the nests store in blocks of so many numbers, where that is the same in each
@@ -599,7 +632,9 @@ fn run_told(
     dimension: usize,
     factor: u32,
     told: &Span1,
-) -> Result<Option<Span1>, Stop> {
+) -> Result<Option<Span1>, Stop>
+    ensures { Gives result (λ run. run) (spec.run_told scope.now (map nest_seen nests.now) dimension factor told.now told.now.lower) }
+{
     let [low] = told.lower.as_slice() else {
         return Ok(None);
     };
@@ -609,12 +644,7 @@ fn run_told(
     let Some(count) = stored_from(alloc, scope, nests, dimension, low, most)? else {
         return Ok(None);
     };
-    let begun = count.saturating_sub(i64::from(factor));
-    if has_either(alloc, scope, told, begun, most.saturating_sub(1))? {
-        Ok(Some(run_of(alloc, low, count)?))
-    } else {
-        Ok(None)
-    }
+    run_counted(alloc, scope, factor, told, low, most, count)
 }
 
 // The same of any span.
@@ -625,7 +655,9 @@ fn same_run(
     dimension: usize,
     factor: u32,
     span: &Span1,
-) -> Result<Option<Span1>, Stop> {
+) -> Result<Option<Span1>, Stop>
+    ensures { Gives result (λ run. run) (spec.same_run scope.now (map nest_seen nests.now) dimension factor span.now) }
+{
     let told = told_span(alloc, scope, span)?;
     run_told(alloc, scope, nests, dimension, factor, &told)
 }
@@ -639,7 +671,9 @@ fn made_by(
     factor: u32,
     span: &Span1,
     blocks: Option<&Blocks>,
-) -> Result<Option<Span1>, Stop> {
+) -> Result<Option<Span1>, Stop>
+    ensures { Gives result (λ made. made) (spec.made_by scope.now (map nest_seen nests.now) dimension factor span.now (option_copied blocks.entry)) }
+{
     match blocks {
         Some(blocks) => Ok(Some(Span1 {
             lower: told_span(alloc, scope, span)?.lower,
@@ -649,11 +683,14 @@ fn made_by(
     }
 }
 
-/// The blocks of a dimension, where they are counted.
-pub(crate) fn counted_at(blocks: &[Option<Blocks>], dimension: usize) -> Option<&Blocks> {
-    match blocks.get(dimension) {
-        Some(Some(blocks)) => Some(blocks),
-        _ => None,
+// Whether the function of these nests has no updates.
+fn are_few(nests: &[Nest]) -> bool
+    ensures { result ≡ spec.are_few (map nest_seen nests.now) }
+{
+    match nests {
+        [] => true,
+        [_only] => true,
+        [_first, _second, ..] => false,
     }
 }
 
@@ -665,18 +702,58 @@ fn wide_at(
     dimension: usize,
     begun: &Begun,
     nests: &[Nest],
-) -> Result<Option<Span1>, Stop> {
-    let (Some(factor), Some(over)) = (
-        rounding_of(root, dimension),
-        begun.region.as_slice().get(dimension),
-    ) else {
+) -> Result<Option<Span1>, Stop>
+    ensures { Gives result (λ wide. wide) (spec.wide_at (stored_of root.now.stored.now) scope.now (spec.begun_seen begun.now)
+        (map nest_seen nests.now) dimension) }
+{
+    let Some(factor) = rounding_of(root, dimension) else {
         return Ok(None);
     };
-    if nests.len() < 2 {
+    let Some(over) = begun.region.as_slice().get(dimension) else {
+        return Ok(None);
+    };
+    if are_few(nests) {
         return Ok(None);
     }
     let blocks = counted_at(&begun.blocks, dimension);
     made_by(alloc, scope, nests, dimension, factor, over, blocks)
+}
+
+// The wide span, or this one where there is none.
+fn or_span(alloc: Global, span: &Span1, wide: Option<Span1>) -> Result<Span1, AllocError>
+    ensures { IfOk result (λ made. made ≡ spec.or_span span.now wide) }
+{
+    match wide {
+        Some(wide) => Ok(wide),
+        None => span.copy(alloc),
+    }
+}
+
+// Of what claims speak in these dimensions, behind others.
+fn add_claims(
+    alloc: Global,
+    root: &Root<'_>,
+    scope: &Scope,
+    begun: &Begun,
+    nests: &[Nest],
+    dimension: usize,
+    spans: &[Span1],
+    claimed: &mut Region,
+) -> Result<(), Stop>
+    ensures { Tells result claimed.new (spec.add_claims (stored_of root.now.stored.now) scope.now (spec.begun_seen begun.now) (map nest_seen nests.now)
+        dimension spans.now claimed.old) }
+{
+    match spans {
+        [] => Ok(()),
+        [span, rest @ ..] => {
+            let Some(next) = dimension.checked_add(1) else {
+                return Err(Stop::Memory);
+            };
+            let wide = wide_at(alloc, root, scope, dimension, begun, nests)?;
+            claimed.push(or_span(alloc, span, wide)?)?;
+            add_claims(alloc, root, scope, begun, nests, next, rest, claimed)
+        }
+    }
 }
 
 /// Of what the claims of a function speak: what is needed, and where blocks run past the end what its updates set there.
@@ -687,13 +764,20 @@ pub(crate) fn claim_of(
     region: &Region,
     begun: &Begun,
     nests: &[Nest],
-) -> Result<Region, Stop> {
+) -> Result<Region, Stop>
+    ensures { Gives result (λ claimed. claimed) (spec.claim_of (stored_of root.now.stored.now) scope.now (spec.begun_seen begun.now)
+        (map nest_seen nests.now) region.now) }
+{
     let mut claimed = Region::new(alloc);
-    for (dimension, span) in region.as_slice().iter().enumerate() {
-        match wide_at(alloc, root, scope, dimension, begun, nests)? {
-            Some(wide) => claimed.push(wide)?,
-            None => claimed.push(span.copy(alloc)?)?,
-        }
-    }
+    add_claims(
+        alloc,
+        root,
+        scope,
+        begun,
+        nests,
+        0,
+        region.as_slice(),
+        &mut claimed,
+    )?;
     Ok(claimed)
 }

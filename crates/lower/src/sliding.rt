@@ -621,8 +621,8 @@ pub(crate) fn later_of(
     kept: &Region,
     sliding: &Sliding,
 ) -> Result<Option<Later>, Stop>
-    ensures { IfOk result (λ found. spec.HasLater (stored_of root.now.stored.now) (map formula_of root.now.formulas.now) (spec.sliding_seen sliding.now)
-        scope.now region.now (option_map later_seen found)) }
+    ensures { IfOk result (λ found. spec.HasLater (stored_of root.now.stored.now) (map formula_of root.now.formulas.now) (Some kept.now)
+        (spec.sliding_seen sliding.now) scope.now region.now (option_map later_seen found)) }
 {
     let Sliding { track, dimension } = sliding;
     let Some(span) = region.as_slice().get(*dimension) else {

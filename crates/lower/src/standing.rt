@@ -116,9 +116,9 @@ pub(crate) fn all_limited(
 
 // ---- forms
 
-// A form and a multiple of another.
+/// A form and a multiple of another.
 #[tactic(auto, using(crate::proofs::Stops::form_gives))]
-fn summed(alloc: Global, form: &Lin, factor: i64, other: &Lin) -> Result<Lin, Stop>
+pub(crate) fn summed(alloc: Global, form: &Lin, factor: i64, other: &Lin) -> Result<Lin, Stop>
     ensures { Gives result (λ made. made) (combined form.now factor other.now) }
 {
     match form.plus_multiple(alloc, factor, other) {

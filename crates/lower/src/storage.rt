@@ -1,13 +1,19 @@
 //! The places of a buffer: how many hold what is needed and what is stored.
 
+ghost use Rattle.std.specs.Prelude.{◌≡◌, IfOk, length, map};
+ghost use Rattle.lower.specs.Limited.{Gives, Tells};
+ghost use Rattle.lower.specs.Parted as parted;
+ghost use Rattle.lower.specs.Rounded as rounded;
+ghost use Rattle.sched.specs.Skeleton.{nest_seen};
+
 use crate::error::Stop;
 use crate::fetching::{Site, count_from, freed, places_of};
 use crate::regions::symbols_from;
 use crate::scopes::bind_steps;
 use crate::sliding::Later;
-use lin::{Forms, Lin, Region, Scope, Span1};
+use lin::{Forms, Lin, Region, Scope, Span1, Sym};
 use plan::Places;
-use sched::Nest;
+use sched::{Nest, Step};
 use std::alloc::{AllocError, Global};
 
 /// What a function stores in all turns.
@@ -16,6 +22,59 @@ pub(crate) struct Arms<'b> {
     pub scope: &'b Scope,
     pub nests: &'b [Nest],
     pub later: Option<&'b Later>,
+}
+
+fn larger(first: i64, second: i64) -> i64
+    ensures { result ≡ rounded.larger first second }
+{
+    if first < second { second } else { first }
+}
+
+// How many places there are from a form on, at least so many, where bounds tell how far behind it the last number is.
+fn stored_by(most: Option<i64>, least: i64) -> Option<i64>
+    ensures { result ≡ rounded.stored_by most least }
+{
+    match most {
+        Some(most) => Some(larger(least, most.saturating_add(1))),
+        None => None,
+    }
+}
+
+// The same where a nest stores this number of a dimension, inside of its steps.
+fn stored_in(
+    alloc: Global,
+    scope: &Scope,
+    origin: &Lin,
+    steps: &[Step],
+    form: &Option<Lin>,
+    least: i64,
+) -> Result<Option<i64>, AllocError>
+    ensures { IfOk result (λ count. count ≡ rounded.stored_in scope.now origin.now steps.now form.now least) }
+{
+    let Some(form) = form else {
+        return Ok(Some(least));
+    };
+    let mut inner = scope.copy(alloc)?;
+    bind_steps(alloc, &mut inner, steps)?;
+    let most = inner.sup_of_difference(alloc, form, origin)?;
+    Ok(stored_by(most, least))
+}
+
+// The same of a nest.
+fn stored_at(
+    alloc: Global,
+    scope: &Scope,
+    nest: &Nest,
+    dimension: usize,
+    origin: &Lin,
+    least: i64,
+) -> Result<Option<i64>, AllocError>
+    ensures { IfOk result (λ count. count ≡ rounded.stored_at scope.now dimension origin.now (nest_seen nest.now) least) }
+{
+    match nest.at.get(dimension) {
+        Some(form) => stored_in(alloc, scope, origin, &nest.steps, form, least),
+        None => Ok(Some(least)),
+    }
 }
 
 /// How many places there are from a form on, at least so many, up to the last number that the nests store; none where bounds do
@@ -27,19 +86,16 @@ pub(crate) fn stored_from(
     dimension: usize,
     origin: &Lin,
     least: i64,
-) -> Result<Option<i64>, AllocError> {
-    let mut count = least;
-    for nest in nests {
-        if let Some(Some(form)) = nest.at.get(dimension) {
-            let mut inner = scope.copy(alloc)?;
-            bind_steps(alloc, &mut inner, &nest.steps)?;
-            match inner.sup_of_difference(alloc, form, origin)? {
-                Some(most) => count = count.max(most.saturating_add(1)),
-                None => return Ok(None),
-            }
-        }
+) -> Result<Option<i64>, AllocError>
+    ensures { IfOk result (λ count. count ≡ rounded.stored_from scope.now dimension origin.now (map nest_seen nests.now) least) }
+{
+    match nests {
+        [] => Ok(Some(least)),
+        [nest, rest @ ..] => match stored_at(alloc, scope, nest, dimension, origin, least)? {
+            Some(most) => stored_from(alloc, scope, rest, dimension, origin, most),
+            None => Ok(None),
+        },
     }
-    Ok(Some(count))
 }
 
 // How many places from a form on hold what is needed and what is stored.
@@ -163,18 +219,37 @@ fn places_for(
     }
 }
 
-// What is needed of a function in all turns inside of where its buffer stands.
+// Spans freed of these symbols, behind others.
+fn add_freed(
+    alloc: Global,
+    scope: &Scope,
+    inside: &[Sym],
+    spans: &[Span1],
+    kept: &mut Region,
+) -> Result<(), Stop>
+    ensures { Tells result kept.new (parted.add_freed scope.now inside.now spans.now kept.old) }
+{
+    match spans {
+        [] => Ok(()),
+        [span, rest @ ..] => {
+            kept.push(freed(alloc, scope, inside, span)?)?;
+            add_freed(alloc, scope, inside, rest, kept)
+        }
+    }
+}
+
+/// What is needed of a function in all turns inside of where its buffer stands.
 pub(crate) fn kept_region(
     alloc: Global,
     outer: &Scope,
     scope: &Scope,
     region: &Region,
-) -> Result<Region, Stop> {
+) -> Result<Region, Stop>
+    ensures { Gives result (λ kept. kept) (parted.kept_region (length outer.now) scope.now region.now) }
+{
     let inside = symbols_from(alloc, outer.len(), scope.len())?;
     let mut kept = Region::new(alloc);
-    for span in region.as_slice() {
-        kept.push(freed(alloc, scope, &inside, span)?)?;
-    }
+    add_freed(alloc, scope, &inside, region.as_slice(), &mut kept)?;
     Ok(kept)
 }
 

@@ -13,12 +13,13 @@ ghost use Rattle.meaning.specs.Names.{is_among as is_among_of};
 ghost use Rattle.sched.specs.Standing.{cuts_by_variable, cuts_of as cuts_of_loops};
 
 use crate::blocks::form_named;
+use crate::counting::Blocks;
 use crate::ends::{Counted, Frame, Needed, extents_of, frame_of, is_half, number_named};
 use crate::error::Stop;
 use crate::fetching::{Root, shortest};
 use crate::forms::between;
 use crate::nests::bodies;
-use crate::rounded::{Begun, Blocks};
+use crate::rounded::Begun;
 use crate::standing::{Run, Standing};
 use lin::{Forms, Lin, Region, Scope, Span1, Sym};
 use plan::Kind;
@@ -227,8 +228,8 @@ fn kept_tail(is_alone: bool, tail: Tail) -> Tail
     }
 }
 
-// Whether a loop that the split makes is split again.
-fn has_split_half(cuts: &[Split], cut: &Split) -> bool
+/// Whether a loop that the split makes is split again.
+pub(crate) fn has_split_half(cuts: &[Split], cut: &Split) -> bool
     ensures { result ≡ parted.has_split_half cuts.now cut.now }
 {
     cuts.iter().any(|other| is_half(cut, &other.whole))
@@ -470,7 +471,7 @@ fn nest_in(
     })
 }
 
-#[tactic(auto, using(crate::proofs::Parted::nest_over))]
+// The nest of a definition of this number.
 fn nest_over(
     alloc: Global,
     root: &Root<'_>,
@@ -479,8 +480,8 @@ fn nest_over(
     definition: usize,
     body: &Body,
 ) -> Result<Nest, Stop>
-    ensures { blocks.now ≡ [] → IfOk result (λ nest. parted.IsNestOver (stored_of root.now.stored.now) needed.entry.scope.now
-        needed.entry.region.now (body_of body.now) (nest_seen nest)) }
+    ensures { Gives result nest_seen (parted.nest_over (stored_of root.now.stored.now) needed.entry.scope.now needed.entry.region.now
+        needed.entry.kept.now blocks.now definition (body_of body.now)) }
 {
     let (frame, lets) = frame_of(alloc, root, needed, blocks, definition)?;
     nest_in(alloc, root, needed.scope, needed.region, &frame, lets, body)
@@ -496,7 +497,6 @@ fn with_first(first: Nest, others: Vec<Nest>) -> Result<Vec<Nest>, AllocError>
 }
 
 // The nests of the definitions from this one on.
-#[tactic(auto, using(crate::proofs::Parted::one_more))]
 fn nests_from(
     alloc: Global,
     root: &Root<'_>,
@@ -505,8 +505,8 @@ fn nests_from(
     definition: usize,
     bodies: &[Body],
 ) -> Result<Vec<Nest>, Stop>
-    ensures { blocks.now ≡ [] → IfOk result (λ v. parted.AreNestsOver (stored_of root.now.stored.now) needed.entry.scope.now
-        needed.entry.region.now (map body_of bodies.now) (map nest_seen v.items)) }
+    ensures { Gives result (λ v. map nest_seen v.items) (parted.nests_from (stored_of root.now.stored.now) needed.entry.scope.now
+        needed.entry.region.now needed.entry.kept.now blocks.now definition (map body_of bodies.now)) }
 {
     match bodies {
         [] => Ok(Vec::new(alloc)),
@@ -527,8 +527,8 @@ fn nests_with(
     needed: Needed<'_>,
     blocks: &[Option<Blocks>],
 ) -> Result<Vec<Nest>, Stop>
-    ensures { blocks.now ≡ [] → IfOk result (λ v. parted.parted_nests (stored_of root.now.stored.now) (map formula_of root.now.formulas.now)
-        needed.entry.scope.now needed.entry.region.now (map nest_seen v.items)) }
+    ensures { Gives result (λ v. map nest_seen v.items) (parted.parted_nests (stored_of root.now.stored.now) (map formula_of root.now.formulas.now)
+        needed.entry.scope.now needed.entry.region.now needed.entry.kept.now blocks.now) }
 {
     let bodies = bodies(alloc, root.stored, root.formulas)?;
     nests_from(alloc, root, needed, blocks, 0, &bodies)
@@ -739,17 +739,14 @@ fn whole_nests(
 // ---- over a region
 
 /// The nests of a function's definitions over what a turn needs, in which the symbols are numbered from those around on.
-#[tactic(auto, using(crate::proofs::Along::if_whole, crate::proofs::Along::not_whole, crate::proofs::Parted::if_parted, crate::proofs::Parted::not_parted))]
 pub fn nests_over(alloc: Global, root: &Root<'_>, needed: Needed<'_>) -> Result<Vec<Nest>, Stop>
-    ensures whole { IfOk result (λ v. spec.IfWhole (stored_of root.now.stored.now).placed.cuts (spec.whole_nests (stored_of root.now.stored.now)
-        (map formula_of root.now.formulas.now) needed.entry.scope.now needed.entry.region.now ≡ Some (map nest_seen v.items))) }
-    ensures parted { IfOk result (λ v. parted.IfParted (stored_of root.now.stored.now).placed.cuts (parted.parted_nests (stored_of root.now.stored.now)
-        (map formula_of root.now.formulas.now) needed.entry.scope.now needed.entry.region.now (map nest_seen v.items))) }
+    ensures { Gives result (λ v. map nest_seen v.items) (parted.nests_over (stored_of root.now.stored.now) (map formula_of root.now.formulas.now)
+        needed.entry.scope.now needed.entry.region.now needed.entry.kept.now) }
 {
-    if root.stored.placed.cuts.is_empty() {
-        return Ok(whole_nests(alloc, root, needed.scope, needed.region)?);
+    match root.stored.placed.cuts.as_slice() {
+        [] => whole_nests(alloc, root, needed.scope, needed.region),
+        [_first, ..] => nests_with(alloc, root, needed, &[]),
     }
-    Ok(nests_with(alloc, root, needed, &[])?)
 }
 
 /// The same behind names that stand before them.
@@ -759,7 +756,10 @@ pub(crate) fn nests_begun(
     scope: &Scope,
     begun: &Begun,
     kept: &Region,
-) -> Result<Vec<Nest>, Stop> {
+) -> Result<Vec<Nest>, Stop>
+    ensures { Gives result (λ v. map nest_seen v.items) (parted.parted_nests (stored_of root.now.stored.now) (map formula_of root.now.formulas.now)
+        scope.now begun.now.region kept.now begun.now.blocks.items) }
+{
     let needed = Needed {
         scope,
         region: &begun.region,
