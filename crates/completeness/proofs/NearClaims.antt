@@ -1,4 +1,4 @@
--- Of functions of which no loop is split and whose regions begin near 0, the regions of claims are within the limits of forms, and those of pieces' own buffers near.
+-- Where splits need no line of their own and regions begin near 0, the regions of claims are within the limits of forms, and those of pieces' own buffers near.
 use Rattle.std.proofs.Common.{◌≡◌, ℕ, zero, suc, ◌+◌, ◌*◌, ◌<◌, ◌≤◌, ◌^◌, Bool, true, false, List, [], ◌∷◌, ◌++◌, length, map, Option, Some, None, refl, sym, ap, ◌∙◌, subst, arith, ◌||◌}
 use Rattle.std.proofs.Common.{inl, inr, ◌⊎◌}
 use Rattle.std.specs.Prelude.{ℤ, pos, ◌+ℤ◌, ◌-ℤ◌, ◌*ℤ◌, if◌then◌else◌, slice_get}

@@ -1,4 +1,4 @@
--- The schedule that is written out fills blocks, by computation.
+-- The schedule that is written out splits loops plainly, by computation.
 use Rattle.std.proofs.Common.{◌≡◌, ℕ, zero, suc, false, List, [], ◌∷◌, Option, Some, None, map, refl, sym, ap, ◌∙◌, subst, arith}
 use Rattle.std.specs.Prelude.{pos, slice_get}
 use Rattle.std.specs.List.{AllByRecursion}

@@ -50,7 +50,7 @@ is_entered ls c = list_any (λ l. is_parallel l && same_name l.name c.outer) ls 
 abbrev pub makes_line : List Loop → List Numbers → Split → Bool
 makes_line ls rs c = elim c.tail [ Guard ↦ has_rest c (numbers_named rs c.whole).count && not (is_entered ls c) | Roundup ↦ false | Shift ↦ true ]
 
--- no loop that a split makes is split again, no inner one is parallel, and over the function's region no block is shifted, and a guard that keeps numbers within
+-- no loop that a split makes is split again, no inner one is parallel, none is with `shift`, and over the function's region a guard that keeps numbers within
 -- the split loop is an upper form of its inner loop
 pub record IsKept (a : Algorithm) (s : Schedule) (n : ℕ) (g : StoredText) : Type 0 where
   pub once : AreSplitOnce g.placed.cuts

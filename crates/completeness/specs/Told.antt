@@ -30,9 +30,9 @@ use Rattle.completeness.specs.Stores.{IsNearRegion}
 use Rattle.completeness.specs.Placed.{ArePlaced}
 use Rattle.completeness.specs.Blocked.{IsKept}
 
--- each stored function is a root function that is computed at no loop; its loops are split once at most, by blocks that fill the loop, that run past its end with
--- `roundup`, or that `guard` keeps within it where the inner loop stands inside of the outer one, or a piece tells the block; its updates set each variable at its
--- own place; and the region that is needed of it begins near 0
+-- each stored function is a root function that is computed at no loop; its loops are split once at most, none with `shift`: with `roundup`, or with `guard`
+-- where the factor divides the loop's numbers, the inner loop stands inside of the outer one, or a piece tells the block; its updates set each variable at its own
+-- place; and the region that is needed of it begins near 0
 pub record SplitsPlainly (a : Algorithm) (s : Schedule) : Type 0 where
   pub whole : are_whole (stored_functions a s) ≡ true
   pub blocked : (n : ℕ) (u : StoredText) → slice_get (stored_functions a s) n ≡ Some u → IsKept a s n u

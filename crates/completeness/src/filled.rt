@@ -3,8 +3,8 @@
 ghost use Rattle.completeness.specs.Filled.{BlockedGroupsOweShown, NearBlockedGroupsOweShown};
 
 /// Of a schedule under which each stored function is a root function that is computed at no loop, the group of each function whose left indices are the
-/// variables at their own places, in the pure definition and in updates, and whose loops are split once, where over its region each split's blocks fill its
-/// loop, run past its end with `roundup`, or are kept within it by `guard` where the inner loop stands inside of the outer one or a piece tells the block,
+/// variables at their own places, in the pure definition and in updates, and whose loops are split once, none with `shift`: with `roundup`, or with `guard`
+/// where over its region the factor divides the loop's numbers, the inner loop stands inside of the outer one, or a piece tells the block,
 /// whichever loops are parallel but the inner ones; where what is fetched holds the calls, and blocks that run past the end reach numbers of 32 bits alone: all
 /// that its lines owe is shown, where the tests of nests say yes to plain nests and to split ones, as the checker's do. Neither K2, K4, K5, K6 nor K7 is told
 /// of them. Each coordinate is a number of 32 bits: the first number of a block, which the grid or an outer loop tells, and an inner loop's symbol. Reduction

@@ -50,8 +50,8 @@ pub record IsNotLowered (a : Algorithm) (s : Schedule) (fault : Fault) : Type 0 
 -- ---- the plan
 
 -- what `lower` says of the plan that it makes of a legal schedule, and of its certificate, and what follows: each group has a line of what its pieces own;
--- where whole functions keep the inner loops of splits serial, these part the cells and are served by those that they need; and where loops are
--- split plainly, whatever the checker tells is a limit, and the text is a file of this plan alone, but for the limits of files
+-- where whole functions make no inner loop of a split parallel and split none again, these part the cells and are served by those that they need; and where
+-- loops are split plainly, whatever the checker tells is a limit, and the text is a file of this plan alone, but for the limits of files
 pub record IsLowered (a : Algorithm) (s : Schedule) (l : Lowered) : Type 0 where
   pub legal : IsLegal a s
   pub small : AreSmall a s
