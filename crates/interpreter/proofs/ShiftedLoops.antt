@@ -1,7 +1,7 @@
 -- Two loops over a store with a named number between them: what their first turns do is what the inner loop alone does, where it goes
 -- on behind its last turn.
-use Rattle.std.proofs.Common.{◌≡◌, ◌≢◌, ℕ, zero, suc, ◌+◌, ◌*◌, ◌<◌, ◌≤◌, List, [], ◌∷◌, ◌++◌, map, take, length}
-use Rattle.std.proofs.Common.{length-append, Bool, true, false, refl, sym, ap, subst, ◌∙◌, arith, ℤ, pos, ◌+ℤ◌, ◌-ℤ◌, ◌≤ℤ◌, ◌<ℤ◌, Option, None, Some, Err}
+use Rattle.std.proofs.Common.{◌≡◌, ℕ, zero, suc, ◌+◌, ◌*◌, ◌<◌, List, [], ◌∷◌, ◌++◌, map, take, length}
+use Rattle.std.proofs.Common.{length-append, Bool, true, refl, sym, ap, subst, ◌∙◌, arith, ℤ, pos, ◌+ℤ◌, ◌-ℤ◌, ◌≤ℤ◌, Option, None, Err}
 use Rattle.std.specs.Prelude.{◌==◌, if◌then◌else◌, ◌*ℤ◌, All, Contains, flat_map, int_le}
 use Rattle.std.specs.Int.{int_min}
 use Rattle.std.proofs.lemmas.Int.{ints, int_min_is}
@@ -17,7 +17,7 @@ use Rattle.plan.specs.declared.stmt.Coordinate.{Coordinate}
 use Rattle.plan.specs.Plan.{Coordinate as PlanCoordinate, Index, At, Found, Statement, Seq, Then, Empty}
 use Rattle.plan.specs.View.{coordinate_of}
 use Rattle.plan.specs.Symbols.{Symbols, bind, form_value, largest, rising}
-use Rattle.plan.specs.Semantics.Actions.{Action, Fixed, Open, Setting, target, index_target, stored, actions}
+use Rattle.plan.specs.Semantics.Actions.{Action, Fixed, Setting, target, index_target, actions}
 use Rattle.plan.specs.Semantics.Found.{with}
 use Rattle.plan.specs.Semantics.Run.{Around}
 use Rattle.interpreter.specs.declared.evaluation.stop.Stop.{Stop}
@@ -29,8 +29,8 @@ use Rattle.interpreter.specs.declared.shifting.NamedLoop.{NamedLoop}
 use Rattle.interpreter.specs.declared.turns.Turns.{Turns}
 use Rattle.interpreter.specs.Bindings.{Bindings, also, symbols_of}
 use Rattle.interpreter.specs.declared.symbols.Binding.{Binding}
-use Rattle.interpreter.specs.Joining.{in_first, AreTurns}
-use Rattle.interpreter.specs.Narrow.{IsNumber, FormIsNarrow, IndexIsNarrow, StatementIsNarrow, BlockIsNarrow}
+use Rattle.interpreter.specs.Joining.{in_first}
+use Rattle.interpreter.specs.Narrow.{IsNumber, FormIsNarrow, IndexIsNarrow, StatementIsNarrow}
 use Rattle.interpreter.specs.Needs.{Space, StatementFits}
 use Rattle.interpreter.specs.Pieces.{setting}
 use Rattle.interpreter.specs.Runs.{store_at}
@@ -41,12 +41,11 @@ use Rattle.interpreter.specs.Targets.{CoordinateIsNarrow}
 use Rattle.interpreter.specs.Visits.{between}
 use lib.IntN.{nat_abs}
 use Rattle.interpreter.proofs.Bindings.{bound_now, extends_also, extends_both, kept}
-use Rattle.interpreter.proofs.Counting.{between_has, in_rising, rising_has}
-use Rattle.interpreter.proofs.Ending.{goes_on}
+use Rattle.interpreter.proofs.Counting.{between_has, in_rising}
 use Rattle.interpreter.proofs.Moving.{form_moved}
 use Rattle.interpreter.proofs.OneLines.{line_narrow}
 use Rattle.interpreter.proofs.Shorts.{all_unmapped}
-use Rattle.interpreter.proofs.Steps.{steps-append, stops_in}
+use Rattle.interpreter.proofs.Steps.{steps-append}
 use Rattle.interpreter.proofs.StoreRuns.{between_parts}
 use Rattle.interpreter.proofs.TwoLoops.{LineFits, counted, in_rows, inner_actions, loops_fit, risen, rows, span_turns, stored_same, swapped}
 

@@ -1,5 +1,5 @@
 -- Two loops over a store, one in the other: what they do is what the inner one alone does, where it goes on behind its last turn.
-use Rattle.std.proofs.Common.{◌≡◌, ◌≢◌, ℕ, zero, suc, ◌+◌, ◌*◌, ◌/◌, ◌%◌, ◌<◌, ◌≤◌, List, [], ◌∷◌, ◌++◌, map, take, drop, length, suc-mul, true≢false, Bool, true, false, refl, sym, ap, subst, ◌∙◌, arith, rules, ℤ, pos, negsuc, ◌+ℤ◌, ◌-ℤ◌, ◌≤ℤ◌, ◌<ℤ◌, Option, None, Some}
+use Rattle.std.proofs.Common.{◌≡◌, ◌≢◌, ℕ, zero, suc, ◌+◌, ◌*◌, ◌/◌, ◌%◌, ◌<◌, ◌≤◌, List, [], ◌∷◌, ◌++◌, map, take, drop, length, suc-mul, true≢false, Bool, true, false, refl, sym, ap, subst, ◌∙◌, arith, ℤ, pos, negsuc, ◌+ℤ◌, ◌-ℤ◌, ◌≤ℤ◌, ◌<ℤ◌, Option, None, Some}
 use Rattle.std.specs.Prelude.{◌==◌, if◌then◌else◌, ◌*ℤ◌, All, Contains, flat_map, int_le}
 use Rattle.std.specs.Borrow.{Bor}
 use Rattle.std.specs.Int.{int_min}
@@ -15,10 +15,10 @@ use Rattle.numeric.proofs.Ints.{distribute, distribute_right, multiple_assoc}
 use Rattle.tree.specs.Term.{Term, term_of}
 use Rattle.lin.specs.Forms.{Form, factor_of, number, value_of}
 use Rattle.plan.specs.declared.stmt.Coordinate.{Coordinate}
-use Rattle.plan.specs.Plan.{Coordinate as PlanCoordinate, Index, At, Found, Statement, For}
+use Rattle.plan.specs.Plan.{Coordinate as PlanCoordinate, Index, At, Found, Statement}
 use Rattle.plan.specs.View.{coordinate_of}
 use Rattle.plan.specs.Symbols.{Symbols, bind, form_value, largest, smallest, rising, clipped, turns}
-use Rattle.plan.specs.Semantics.Actions.{Setting, Action, Target, Fixed, Open, fixed, target, index_target, store_action, stored, actions}
+use Rattle.plan.specs.Semantics.Actions.{Setting, Action, Fixed, fixed, target, index_target, store_action, stored, actions}
 use Rattle.lin.specs.declared.span.Span1.{Span1}
 use Rattle.interpreter.specs.declared.joining.StoreLoop.{StoreLoop}
 use Rattle.interpreter.specs.declared.joining.Joined.{Joined}

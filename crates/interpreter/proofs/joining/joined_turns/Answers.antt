@@ -1,4 +1,4 @@
-use Rattle.std.proofs.Common.{◌≡◌, ◌≢◌, ◌∷◌, [], ◌*◌, ℕ, ℤ, pos, refl, subst, sym, ap, ◌∙◌, arith, rules, w64, to_z, of_z, SFits, false}
+use Rattle.std.proofs.Common.{◌≡◌, ◌≢◌, ◌∷◌, [], ◌*◌, ℤ, pos, refl, subst, sym, ap, ◌∙◌, rules, w64, to_z, of_z, SFits, false}
 use Rattle.std.specs.Prelude.{◌==◌, ◌+ℤ◌}
 use Rattle.std.proofs.lemmas.Int.{to_z-of_z}
 use Rattle.lin.specs.Forms.{number}

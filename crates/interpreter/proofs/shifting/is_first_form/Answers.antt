@@ -1,4 +1,4 @@
-use Rattle.std.proofs.Common.{◌≡◌, ℤ, sym, subst, ◌∙◌, rules}
+use Rattle.std.proofs.Common.{◌≡◌, sym, subst, rules}
 use Rattle.std.specs.Bool.{OnTrue}
 use Rattle.std.specs.Prelude.{int_le}
 use Rattle.std.proofs.lemmas.Int.{to_z-of_z}

@@ -1,4 +1,4 @@
-use Rattle.std.proofs.Common.{◌≡◌, ◌≤ℤ◌, ℤ, arith, refl, rules, w64, to_z, of_z, SFits}
+use Rattle.std.proofs.Common.{◌≡◌, ◌≤ℤ◌, arith, refl, rules, w64, to_z, of_z, SFits}
 use Rattle.std.proofs.lemmas.Int.{ints, to_z-of_z}
 use Rattle.interpreter.proofs.ShiftedLoops.{narrow_at}
 use Rattle.interpreter.proofs.shifting.last_alike.Goals as goal

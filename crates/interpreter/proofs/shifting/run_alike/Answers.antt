@@ -1,17 +1,16 @@
-use Rattle.std.proofs.Common.{◌≡◌, ◌+◌, ◌<◌, ◌≤◌, ◌≤ℤ◌, ℕ, ℤ, List, Option, Some, Err, length, sym, ap, subst, ◌∙◌, arith, rules, w64, SFits}
+use Rattle.std.proofs.Common.{◌≡◌, ◌+◌, ◌<◌, ◌≤ℤ◌, ℤ, List, Option, Some, Err, length, sym, ap, subst, ◌∙◌, arith, rules, w64, SFits}
 use Rattle.std.proofs.lemmas.Int.{to_z-of_z}
 use Rattle.std.proofs.lemmas.Result.{err_from_is_err_and}
-use Rattle.std.specs.Prelude.{All, Contains, flat_map, int_le}
-use Rattle.tree.specs.declared.value.Value.{Value}
+use Rattle.std.specs.Prelude.{All, flat_map, int_le}
 use Rattle.tree.specs.Term.{term_of}
-use Rattle.plan.specs.Symbols.{Symbols, bind, rising}
+use Rattle.plan.specs.Symbols.{bind, rising}
 use Rattle.plan.specs.View.{statement_of}
 use Rattle.plan.specs.Semantics.Actions.{Action, actions}
 use Rattle.interpreter.specs.Bindings.{Bindings, symbols_of}
 use Rattle.interpreter.specs.Joining.{in_first}
 use Rattle.interpreter.specs.Pieces.{around, own_of, setting, OwnIsSmall}
 use Rattle.interpreter.specs.Runs.{store_at}
-use Rattle.interpreter.specs.Shifting.{in_name, in_turn, AreAlike, GoesOn, NameIsNarrow}
+use Rattle.interpreter.specs.Shifting.{in_name, in_turn, NameIsNarrow}
 use Rattle.interpreter.specs.States.{progress_of, space_of, EndsIn}
 use Rattle.interpreter.specs.Steps.{Progress, steps}
 use Rattle.interpreter.specs.Targets.{CoordinateIsNarrow}

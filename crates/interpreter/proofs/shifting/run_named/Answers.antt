@@ -1,10 +1,10 @@
-use Rattle.std.proofs.Common.{◌≡◌, ◌+◌, ◌<◌, ℕ, ℤ, List, length, sym, ap, subst, ◌∙◌, rules, true, w64, to_z, of_z, SFits}
+use Rattle.std.proofs.Common.{◌≡◌, ℤ, List, sym, ap, subst, ◌∙◌, rules, true, w64, to_z, of_z, SFits}
 use Rattle.std.proofs.lemmas.Int.{to_z-of_z}
-use Rattle.std.specs.Prelude.{All, Contains, flat_map, int_le}
+use Rattle.std.specs.Prelude.{All, flat_map, int_le}
 use Rattle.tree.specs.Term.{term_of}
 use Rattle.plan.specs.Symbols.{Symbols, bind, form_value}
 use Rattle.plan.specs.Semantics.Actions.{Action}
-use Rattle.interpreter.specs.Bindings.{Bindings, symbols_of}
+use Rattle.interpreter.specs.Bindings.{symbols_of}
 use Rattle.interpreter.specs.Joining.{in_first}
 use Rattle.interpreter.specs.Narrow.{FormIsNarrow}
 use Rattle.interpreter.specs.Pieces.{around}

@@ -1,4 +1,4 @@
-use Rattle.std.proofs.Common.{◌≡◌, pos}
+use Rattle.std.proofs.Common.{◌≡◌}
 use Rattle.numeric.specs.Apply.{compare}
 use Rattle.interpreter.specs.Evaluation.Words.{says_yes, word_at}
 use Rattle.interpreter.proofs.EachWord.{WordsBelow}

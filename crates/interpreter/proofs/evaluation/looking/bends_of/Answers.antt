@@ -1,4 +1,4 @@
-use Rattle.std.proofs.Common.{◌≡◌, ℕ, ℤ, ◌+◌, pos, sym, ap, ◌∙◌, rules, arith, w64, SFits}
+use Rattle.std.proofs.Common.{ℕ, ℤ, ◌+◌, pos, sym, ap, ◌∙◌, rules, arith, w64, SFits}
 use Rattle.std.specs.Prelude.{◌+ℤ◌, ◌≤ℤ◌}
 use Rattle.std.proofs.lemmas.Int.{ints, to_z-of_z}
 use Rattle.interpreter.proofs.ClampedRamps.{low_end, high_end, between_ends}
