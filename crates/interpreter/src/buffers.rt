@@ -25,4 +25,3 @@ pub use memory::Buffers;
 pub(crate) use memory::larger;
 pub use room::{Room, Rooms};
 pub(crate) use spot::Spot;
-pub(crate) use words::number_in_word;

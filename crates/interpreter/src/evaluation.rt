@@ -33,4 +33,4 @@ pub use run::{evaluate_numbers, evaluate_run, evaluate_words};
 pub use run_reader::RunReader;
 pub use stop::Stop;
 pub(crate) use widths::{Signed8, Signed16, Signed32, Unsigned8, Unsigned16, Unsigned32, Width};
-pub(crate) use words::typed_number;
+pub(crate) use words::{typed_number, word_number};

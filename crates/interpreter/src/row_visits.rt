@@ -19,9 +19,11 @@ ghost use Rattle.interpreter.specs.declared.piece.Piece.{Piece as PieceFound};
 ghost use Rattle.interpreter.specs.declared.visits.Visit.TheVariants.{Publish};
 ghost use Rattle.std.specs.Prelude.{flat_map};
 
-use crate::buffers::{Buffers, Held, Spot, held_inside, held_window, number_in_word};
+use crate::buffers::{Buffers, Held, Spot, held_inside, held_window};
 use crate::cells::Cells;
-use crate::evaluation::{Signed8, Signed16, Signed32, Unsigned8, Unsigned16, Unsigned32, Width};
+use crate::evaluation::{
+    Signed8, Signed16, Signed32, Unsigned8, Unsigned16, Unsigned32, Width, word_number,
+};
 use crate::piece::Piece;
 use crate::scanlines::{distance, row_type};
 use crate::state::State;
@@ -126,7 +128,7 @@ fn push_words<W: Width>(held: Held<'_>, count: usize, given: &mut SmallVec<i64, 
     ensures capacity { given.new.capacity ≡ given.old.capacity }
 {
     for turn in 0..count {
-        given.push_reserved(number_in_word::<W>(held.words[turn]).value);
+        given.push_reserved(word_number::<W>(held.words[turn]).value);
     }
 }
 

@@ -12,10 +12,10 @@ ghost use Rattle.interpreter.specs.declared.cells.NumberKind.TheVariants.{Exact,
 ghost use Rattle.interpreter.specs.Evaluation.Lanes.{number_at};
 
 use crate::buffers::marks::{Mark, narrow_mark, wide_mark};
-use crate::buffers::words::{fits, low_word, number_in_word, value_in_word};
+use crate::buffers::words::{fits, low_word, value_in_word};
 use crate::cells::{CellRow, NumberKind};
 use crate::evaluation::{
-    Number, Signed8, Signed16, Signed32, Unsigned8, Unsigned16, Unsigned32, Width,
+    Number, Signed8, Signed16, Signed32, Unsigned8, Unsigned16, Unsigned32, Width, word_number,
 };
 use crate::run_reading::registers_behind;
 use crate::scanlines::window;
@@ -257,7 +257,7 @@ pub(crate) fn number_in<W: Width>(marks: &[Mark], words: &[u32], place: usize) -
         return None;
     }
     if marks[place] == narrow_mark(W::kind()) {
-        Some(number_in_word::<W>(words[place]))
+        Some(word_number::<W>(words[place]))
     } else {
         None
     }

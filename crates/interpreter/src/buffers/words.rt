@@ -6,7 +6,7 @@ ghost use Rattle.std.specs.Int.{int_rem_euclid};
 ghost use Rattle.numeric.specs.Wrap.{wrap, IsOf};
 ghost use Rattle.tree.specs.Meaning.{typed};
 
-use crate::evaluation::{Number, Width};
+use crate::evaluation::{Width, word_number};
 use numeric::Ty;
 use tree::Value;
 
@@ -18,16 +18,6 @@ pub(crate) fn low_word(number: i64) -> u32
     (number.cast_unsigned() & 0xffff_ffff) as u32
 }
 
-/// The number of the type whose low bits a word has.
-#[inline(always)]
-pub(crate) fn number_in_word<W: Width>(word: u32) -> Number
-    ensures { result.value ≡ wrap W.ty (pos word) }
-{
-    Number {
-        value: W::wrapped(i64::from(word)),
-    }
-}
-
 /// The value of the type whose low bits a word has.
 #[inline(always)]
 pub(crate) fn value_in_word<W: Width>(word: u32) -> Value
@@ -35,7 +25,7 @@ pub(crate) fn value_in_word<W: Width>(word: u32) -> Value
 {
     Value {
         ty: W::kind(),
-        number: number_in_word::<W>(word).value,
+        number: word_number::<W>(word).value,
     }
 }
 

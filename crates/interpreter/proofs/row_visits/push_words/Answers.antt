@@ -18,7 +18,7 @@ loop-turn-preserved g c =
     let places = places_held held in
     let old = c.args.given.now.items in
     let more : l.turn + 1 ≡ suc l.turn = omega arith in
-    let y : ℤ = c.number_in_word.result.value in
+    let y : ℤ = c.word_number.result.value in
     let f : SFits w64 y = search rules in
     let marked = get_or_from_slice_get ms l.turn (narrow_mark t) Unset (c.requires.marked l.turn c.loop-turn-test.true) in
     let one = l.invariant.long in
@@ -28,7 +28,7 @@ loop-turn-preserved g c =
           ap (given_from places old) more
           ∙ ap (λ (o : Option (List ℤ)). with o (λ zs. with (slice_index_or places l.turn None) (λ v. Some (zs ++ v.number ∷ [])))) l.invariant.given
           ∙ ap (λ (o : Option Value). with o (λ v. Some (l.given.items ++ v.number ∷ []))) (marked_held ms held.words.now held.wides.now l.turn t marked)
-          ∙ ap (λ (z : ℤ). Some (l.given.items ++ z ∷ [])) (sym (to_z-of_z w64 y f ∙ c.number_in_word.ensures))
+          ∙ ap (λ (z : ℤ). Some (l.given.items ++ z ∷ [])) (sym (to_z-of_z w64 y f ∙ c.word_number.ensures.is))
           ∙ ap (λ (zs : List ℤ). Some zs) (sym c.push_reserved.ensures.items);
       capacity = c.push_reserved.ensures.capacity ∙ l.invariant.capacity;
       long = ap (λ (zs : List ℤ). length zs) c.push_reserved.ensures.items ∙ length-append l.given.items (to_z w64 (of_z w64 y) ∷ []) ∙ longer;

@@ -13,4 +13,4 @@ returns-then-eq g c = λ zs.
     let t = g.W.Width.ty in
     let same : slice_index_or ms n Unset ≡ c.narrow_mark.result = first_of (search rules, cc, grind (arith, common_steps)) in
     marked_held ms c.args.words.now zs n t (same ∙ c.narrow_mark.ensures ∙ ap narrow_mark c.kind.ensures)
-    ∙ ap (λ (z : ℤ). Some (typed t z)) (sym c.number_in_word.ensures)
+    ∙ ap (λ (z : ℤ). Some (typed t z)) (sym c.word_number.ensures.is)
