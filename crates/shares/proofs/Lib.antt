@@ -17,6 +17,7 @@ pub mod Fetching
 pub mod Needing
 pub mod Told
 pub mod Looking
+pub mod Finding
 pub mod Lines
 pub mod Empty
 pub mod Grouped

@@ -121,24 +121,3 @@ taken_gap own taken pieces cells t long some =
 pub written : (len : ℕ) (new old : List Bool) → length new ≡ length old → len ≡ length old → take len (new ++ drop (length new) old) ≡ new
 written len new old same long =
     ap (λ (rest : List Bool). take len (new ++ rest)) (drop_all (length new) old (omega (arith, same))) ∙ ap (take len) (append-nil new) ∙ take_all len new (omega (arith, same, long))
-
--- ---- pieces that look nowhere
-
--- the first pieces, so many, fetch and need nothing
-abbrev pub LookNowhere : List Piece → ℕ → Type 0
-LookNowhere ps n = (i : ℕ) → i < n → (length (fetched_lists ps i) ≡ 0) × (length (needs_lists ps i) ≡ 0)
-
-pub nowhere_more : (ps : List Piece) (n : ℕ) (x : Piece) → LookNowhere ps n → slice_get ps n ≡ Some x → length x.fetched.items ≡ 0 → length x.needs.items ≡ 0 → LookNowhere ps (n + 1)
-nowhere_more ps n x before at fetched needs i less = elim (cases_lt i n) [
-  | inl low ↦ before i low
-  | inr from ↦
-      let same : n ≡ i = omega (arith, less, from) in
-      subst (λ (m : ℕ). (length (fetched_lists ps m) ≡ 0) × (length (needs_lists ps m) ≡ 0)) same
-      (ap (λ (o : Option Piece). length (fetched_of o)) at ∙ fetched, ap (λ (o : Option Piece). length (needs_of o)) at ∙ needs)
-]
-
-pub nowhere_serves : (ps : List Piece) (n : ℕ) → LookNowhere ps n → NeedsServe n (own_lists ps) (fetched_lists ps) (needs_lists ps)
-nowhere_serves ps n all = (
-  λ piece needed less has. absurd (let none = (all piece less).1 in let within : has.0 < length (needs_lists ps piece) = has.1 in omega (arith, none, within)),
-  λ piece cell less has. absurd (let none = (all piece less).0 in let within : has.0 < length (fetched_lists ps piece) = has.1 in omega (arith, none, within)),
-)

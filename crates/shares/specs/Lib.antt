@@ -27,5 +27,6 @@ pub mod Made
 pub mod Before
 pub mod Owned
 pub mod Taken
+pub mod Served
 pub mod Laws
 pub mod Worked

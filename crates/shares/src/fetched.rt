@@ -22,9 +22,7 @@ use std::alloc::{AllocError, Global};
 pub(crate) fn push_all(numbers: &mut Vec<u32>, more: &[u32]) -> Result<(), AllocError>
     ensures { OnOk result (numbers.new.items ≡ numbers.old.items ++ more.now) }
 {
-    for number in more {
-        numbers.push(*number)?;
-    }
+    numbers.extend_from_slice(more)?;
     Ok(())
 }
 

@@ -16,6 +16,7 @@ mod far;
 mod fetched;
 mod filed;
 mod forms;
+mod found;
 mod gaps;
 mod gathered;
 mod grounds;

@@ -5,26 +5,16 @@ ghost use Rattle.orders.specs.Faults.{IsFirstUnserved};
 ghost use Rattle.orders.specs.Lists.{own_lists, fetched_lists, needs_lists};
 ghost use Rattle.orders.specs.Work.{NeedsServe, OwnIsParted};
 
+use crate::found::all_found;
 use orders::{Piece, owners_of};
 use std::alloc::{AllocError, Global};
-
-/// Whether no piece fetches a cell or needs a piece.
-fn look_nowhere(pieces: &[Piece]) -> bool
-    ensures { IsTrue result → NeedsServe (length pieces.now) (own_lists pieces.now) (fetched_lists pieces.now) (needs_lists pieces.now) }
-{
-    for piece in pieces {
-        if !piece.fetched.as_slice().is_empty() || !piece.needs.as_slice().is_empty() {
-            return false;
-        }
-    }
-    true
-}
 
 /// The first of pieces that part so many cells that needs a piece that is not earlier, or fetches a cell that no piece that it needs
 /// owns.
 ///
-/// The time is linear in the cells, the pieces and the entries of the lists. A table of the cells' owners, of 8 bytes a cell, is made
-/// only where some piece fetches a cell or needs a piece.
+/// The time is linear in the cells, the pieces and the entries of the lists. What is fetched is mostly found run by run where it is
+/// owned. A table of the cells' owners, of 8 bytes a cell, is made only where looks at needed pieces, as many as there are cells, don't
+/// find all of it.
 pub(crate) fn first_unserved(
     alloc: Global,
     cells: u32,
@@ -34,7 +24,7 @@ pub(crate) fn first_unserved(
     requires parted { OwnIsParted (length pieces.now) cells (own_lists pieces.now) }
     ensures { IfOk result (λ found. IsFirstUnserved (length pieces.now) (own_lists pieces.now) (fetched_lists pieces.now) (needs_lists pieces.now) found) }
 {
-    if look_nowhere(pieces) {
+    if all_found(pieces, cells as usize) {
         return Ok(None);
     }
     match owners_of(alloc, cells, pieces)? {

@@ -28,20 +28,24 @@ pub struct Found {
     pub whole: bool,
 }
 
-/// Each number raised by `first`.
-#[tactic(auto, using(crate::proofs::Shared::raised_by_none))]
-fn raised(alloc: Global, first: u32, numbers: Vec<u32>) -> Result<Vec<u32>, AllocError>
-    requires { All (λ n. first + n < 2 ^ 32) numbers.items }
-    ensures { IfOk result (λ made. made.items ≡ map (λ n. first + n) numbers.items) }
+/// Raises each number by `first`.
+fn raise(numbers: &mut [u32], first: u32)
+    requires { All (λ n. first + n < 2 ^ 32) numbers.old }
+    ensures { numbers.new ≡ map (λ n. first + n) numbers.old }
 {
-    if first == 0 {
-        return Ok(numbers);
+    for place in 0..numbers.len() {
+        numbers[place] = first + numbers[place];
     }
-    let mut made = Vec::with_capacity(alloc, numbers.len())?;
-    for number in &numbers {
-        made.push(first + *number)?;
-    }
-    Ok(made)
+}
+
+/// The numbers, each raised by `first`.
+fn raised(first: u32, numbers: Vec<u32>) -> Vec<u32>
+    requires { All (λ n. first + n < 2 ^ 32) numbers.items }
+    ensures { result.items ≡ map (λ n. first + n) numbers.items }
+{
+    let mut made = numbers;
+    raise(made.as_mut_slice(), first);
+    made
 }
 
 /// What is found of a region in a space that has no point.
@@ -86,7 +90,7 @@ fn some_found(
     let own = box_by(alloc, region, at, lets)?;
     let shared = shared_cells(alloc, &own, &space.sides)?;
     let whole = shared.as_slice().len() as u64 == most_points(&own);
-    let numbers = raised(alloc, space.first, shared)?;
+    let numbers = raised(space.first, shared);
     Ok(Found { numbers, whole })
 }
 

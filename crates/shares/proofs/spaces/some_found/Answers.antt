@@ -15,7 +15,7 @@ returns-clause-numbers c =
     let R = c.args.space.now.sides.items in
     let own = c.deref.ensures.value ∙ c.in_ok-own.ensures.sides in
     let known = c.in_ok-shared.ensures.cells ∙ ap (λ (xs : List Side). shared_cells xs c.deref-2.result.now) own ∙ ap (λ (ys : List Side). shared_cells (sides s region) ys) c.deref-2.ensures.value ∙ shared_is s region R c.requires.dimensions in
-    c.in_ok-numbers.ensures ∙ ap (map (λ n. c.args.space.now.first + n)) known ∙ raised_ranks c.args.space.now.first R (filter (is_in_box R) (points s region))
+    c.raised-numbers.ensures ∙ ap (map (λ n. c.args.space.now.first + n)) known ∙ raised_ranks c.args.space.now.first R (filter (is_in_box R) (points s region))
 
 pub returns-clause-whole : goal.returns-clause-whole
 returns-clause-whole c =
@@ -34,4 +34,4 @@ returns-clause-within c =
     let count = point_count c.args.space.now.sides.items in
     let Below : ℕ → List ℕ → Type 0 = λ n xs. All (λ k. k < n) xs in
     let low : Below count c.in_ok-shared.shared.items = subst (λ (ys : List Side). Below (point_count ys) c.in_ok-shared.shared.items) c.deref-2.ensures.value c.in_ok-shared.ensures.within in
-    subst (Below (first + count)) (sym c.in_ok-numbers.ensures) (raised_below first count c.in_ok-shared.shared.items low)
+    subst (Below (first + count)) (sym c.raised-numbers.ensures) (raised_below first count c.in_ok-shared.shared.items low)
