@@ -3,7 +3,7 @@
 -- of 32 bits, has a place and lies in the claims' region.
 use Rattle.std.proofs.Common.{◌≡◌, ℕ, suc, ◌+◌, ◌-◌, ◌*◌, ◌<◌, ◌≤◌, Bool, true, false, List, [], ◌∷◌, length, map, Option, Some, None, refl, sym, ap, ◌∙◌, subst, inl, inr, ◌⊎◌, arith}
 use Rattle.std.proofs.Common.{◌^◌, ◌&&◌, ◌||◌, ◌++◌}
-use Rattle.std.specs.Prelude.{ℤ, pos, ◌+ℤ◌, ◌-ℤ◌, ◌≤ℤ◌, ◌==◌, if◌then◌else◌, nat_lt, slice_get, min, negsuc}
+use Rattle.std.specs.Prelude.{ℤ, pos, ◌+ℤ◌, ◌-ℤ◌, ◌≤ℤ◌, ◌==◌, if◌then◌else◌, nat_lt, slice_get, negsuc}
 use Rattle.std.specs.List.{AllByRecursion}
 use Rattle.std.specs.Int.RustNames.{unsigned_abs}
 use Rattle.std.proofs.lemmas.Bool.Decides.{nat_tests}
@@ -32,9 +32,8 @@ use Rattle.soundness.specs.Claims.{In}
 use Rattle.soundness.proofs.Refines.{eq_true}
 use Rattle.soundness.specs.Obligations.{Known as KnownHere, Rules, exactly}
 use Rattle.soundness.specs.Shown.{raised, is_seated, is_within}
-use Rattle.soundness.specs.Binders.View.{grid_binders}
 use Rattle.rules.specs.Bounding.Rules.{is_index_span, rules_of}
-use Rattle.rules.specs.Bounding.Scopes.{most_symbols, limited, binding_of, symbol_count, scope_of}
+use Rattle.rules.specs.Bounding.Scopes.{scope_of}
 use Rattle.sched.specs.Schedule.{Schedule}
 use Rattle.sched.specs.Legal.{IsLegal}
 use Rattle.sched.specs.declared.schedule.Split.{Split}
@@ -69,24 +68,20 @@ use Rattle.completeness.proofs.Laid.{subjects}
 use Rattle.completeness.proofs.Served.{roots}
 use Rattle.completeness.proofs.Halves.{AreOthers, inner_outer}
 use Rattle.completeness.proofs.Lanes.{AreOnce}
-use Rattle.completeness.proofs.PlainPlaces.{IsBound, variables_are}
 use Rattle.completeness.proofs.PureNests.{all_in, loop_name, all_get}
-use Rattle.completeness.proofs.NearBoxes.{IsBoxTurn}
+use Rattle.completeness.proofs.NearBoxes.{IsBoxTurn, turn_there}
+use Rattle.std.proofs.lemmas.List.{length-map}
+use Rattle.std.specs.List.{list_any}
+use Rattle.sched.specs.Skeleton.{variables_at}
 use Rattle.completeness.proofs.BlockSums.{pair, pair_is, multiple, two_of}
-use Rattle.completeness.proofs.BlockTurns.{Leaf, Right, IsBlockNest, AreBlocks, limited_for}
+use Rattle.completeness.proofs.BlockTurns.{Leaf, Right, IsBlockNest, AreBlocks}
 use Rattle.completeness.proofs.BlockDims.{top, top_low, outer_low, last_of as block_last, full_last, outer_last, inner_low, inner_last, few_numbers}
 use Rattle.completeness.proofs.RegionBounds.{IsEnded}
-use Rattle.completeness.proofs.Limited.{StepIs, IsNestLimited, IsLimited}
-use Rattle.completeness.proofs.GridCounts.{IsShort}
-use Rattle.completeness.proofs.GridScope.{at_place, scope_long}
-use Rattle.completeness.proofs.PlainNests.{InSteps}
 use Rattle.completeness.proofs.PlainTurns.{hits}
-use Rattle.completeness.proofs.PureScopes.{map_both, grid_is, count_from, span_stays}
+use Rattle.completeness.proofs.PureScopes.{map_both}
 use Rattle.completeness.proofs.Searched.{one_of, up_limited}
 use Rattle.completeness.proofs.SelfBounds.{form_self}
-use Rattle.completeness.proofs.StoreBinders.{at_steps}
 use Rattle.completeness.proofs.StoreBounds.{symbol_inside, counted_inside}
-use Rattle.completeness.proofs.UncutScopes.{turn_limited, scope_at, in_steps}
 use Rattle.completeness.proofs.RangedBoxes.{range_box}
 use Rattle.completeness.proofs.BlockBounds.{two_above, block_above, block_below}
 use Rattle.completeness.proofs.PlainBounds.{loop_above, loop_below}
@@ -103,24 +98,13 @@ missing_none : (k : ℕ) (os : List (Option Term)) → AllByRecursion (λ o. o �
 missing_none k [] h = refl
 missing_none k (o ∷ os) h = (let rest = missing_none (k + 1) os h.1 in (λ j. missing_from k (h.0 j ∷ os)) ∙ rest)
 
+variables_are : (b : BodyText) → b.missing ≡ [] → (d : ℕ) (xs : List (List ℕ)) (ks : List Known) → variables_at b d xs ks ≡ map (form_named ks) xs
+variables_are b none d [] ks = refl
+variables_are b none d (x ∷ xs) ks = (let rest = variables_are b none (d + 1) xs ks in λ i. (if list_any (λ e. e == d) (none i) then None else form_named ks x) ∷ rest i)
+
 map_names : (ks : List Known) (ds : List Range) → ranges_at (map range_turning ds) ks ≡ map (form_named ks) (range_names ds)
 map_names ks [] = refl
 map_names ks (d ∷ ds) = (let rest = map_names ks ds in λ j. form_named ks d.variable ∷ rest j)
-
--- ---- what is bound
-
-bound_there : (known : KnownHere) (i : ℕ) (x : Span1) → IsBound known i x → limited x ≡ x → (slice_get (scope_of known.binders) i ≡ Some (Bound x)) × (i < length (scope_of known.binders))
-bound_there known i x b same_span =
-    let bs = known.binders in
-    let none : 0 + i ≡ i = omega arith in
-    let count = b.1 in
-    let most = b.2 in
-    let within : i < min (symbol_count bs) most_symbols = omega (arith, count, most) in
-    let there : slice_get (scope_of bs) i ≡ Some (Bound x) =
-    at_place (binding_of bs) 0 (min (symbol_count bs) most_symbols) i within ∙ ap (λ (m : ℕ). Some (binding_of bs m)) none
-    ∙ ap (λ (c : Binding). Some c) (b.0 ∙ ap (λ (y : Span1). Bound y) same_span) in
-    let long : length (scope_of bs) ≡ min (symbol_count bs) most_symbols = scope_long (binding_of bs) 0 (min (symbol_count bs) most_symbols) in
-    (there, omega (arith, within, long))
 
 -- ---- groups
 
@@ -146,8 +130,8 @@ module _ (a : Algorithm) (sch : Schedule) (l : Lowered) (well : IsAlgorithm a) (
       (placed : (j : ℕ) (v : CodeClaim) → slice_get claims j ≡ Some v → slice_get items (first + j) ≡ Some v)
       (alone_here : (j : ℕ) (w : CodeClaim) → slice_get items j ≡ Some w → line < w.line → w.line < line + (lines (statement_of p.body) + 1) → In w claims)
       (laid : IsLaidBy g h.extents h.skeleton) (split_alone : AreSplitOnce g.placed.cuts) (keeps : KeepsInner g.placed.loops g.placed.cuts)
-      (filled : AllByRecursion (λ c. makes_line g.placed.loops (loop_numbers g.subject.variables g.placed.cuts h.extents) c ≡ false) g.placed.cuts) (limits : IsLimited h.skeleton)
-      (short : AllByRecursion IsShort h.skeleton.grid) (narrow : length h.skeleton.grid ≤ most_symbols) (ended : AllByRecursion IsEnded h.extents)
+      (filled : AllByRecursion (λ c. makes_line g.placed.loops (loop_numbers g.subject.variables g.placed.cuts h.extents) c ≡ false) g.placed.cuts)
+      (ended : AllByRecursion IsEnded h.extents)
       (early : AreEndsShort (loop_numbers g.subject.variables g.placed.cuts h.extents) g.placed.cuts) (set : ArePlaced h.formulas) where
     abbrev k : SkeletonText
     k = h.skeleton
@@ -282,22 +266,9 @@ module _ (a : Algorithm) (sch : Schedule) (l : Lowered) (well : IsAlgorithm a) (
 
       -- ---- at its store
 
-      module _ (known : KnownHere) (binders : known.binders ≡ at_steps w.steps (grid_binders k.grid)) (loops : (i : ℕ) (x : Span1) → InSteps i x w.steps → IsBound known i x) where
+      module _ (known : KnownHere) (scoped : scope_of known.binders ≡ bind_steps (head_scope k) w.steps) where
         abbrev scope : List Binding
         scope = scope_of known.binders
-
-        steps_kept : AllByRecursion StepIs (limited_for q.limits m0 ts)
-        steps_kept = subst (AllByRecursion StepIs) q.steps (all_get IsNestLimited k.nests d w limits.nests stands).steps
-
-        scoped : scope ≡ bind_steps (head_scope k) w.steps
-        scoped =
-            let counted = count_from 0 k.grid in
-            let least = q.low in
-            let many : length k.grid ≡ length (piece_counts rs ls) = ap length shape_here.grid in
-            let at_scope = scope_at q.limits m0 ts (grid_binders k.grid) (grid_scope k.grid) (grid_is k.grid short narrow) (omega (arith, counted, least, many)) steps_kept
-            (λ i x there_i. (loops i x (subst (λ (ss : List Step). InSteps i x ss) (sym q.steps) there_i)).2) in
-            ap scope_of binders ∙ ap (λ (ss : List Step). scope_of (at_steps ss (grid_binders k.grid))) q.steps ∙ at_scope ∙ ap (bind_steps (grid_scope k.grid)) (sym q.steps)
-            ∙ ap (λ (ss : List Step). bind_steps (bind_steps (grid_scope k.grid) ss) w.steps) (sym shape_here.head)
 
         grid_scoped : scope ≡ bind_steps (grid_scope k.grid) w.steps
         grid_scoped = scoped ∙ ap (λ (ss : List Step). bind_steps (bind_steps (grid_scope k.grid) ss) w.steps) shape_here.head
@@ -308,10 +279,13 @@ module _ (a : Algorithm) (sch : Schedule) (l : Lowered) (well : IsAlgorithm a) (
 
         loop_there : (j : ℕ) (t : Turning) → slice_get ts j ≡ Some t → (slice_get scope (m0 + j) ≡ Some (Bound (turn_span j t))) × (m0 + j < length scope)
         loop_there j t e =
-            let inside = in_steps q.limits m0 ts j t e in
-            let limited_span = turn_limited q.limits m0 ts steps_kept j t e in
-            bound_there known (m0 + j) (turn_span j t) (loops (m0 + j) (turn_span j t) (subst (λ (ss : List Step). InSteps (m0 + j) (turn_span j t) ss) (sym q.steps) inside))
-            (span_stays (turn_span j t) limited_span.0 limited_span.1)
+            let long : length (grid_scope k.grid) ≡ length k.grid = length-map k.grid grid_symbol in
+            let many : length k.grid ≡ length (piece_counts rs ls) = ap length shape_here.grid in
+            let least = q.low in
+            let in_scope = turn_there q.limits m0 ts (grid_scope k.grid) (omega (arith, long, many, least)) j t e in
+            let here : slice_get scope (m0 + j) ≡ Some (Bound (turn_span j t)) =
+            ap (λ (sc : List Binding). slice_get sc (m0 + j)) grid_scoped ∙ ap (λ (ss : List Step). slice_get (bind_steps (grid_scope k.grid) ss) (m0 + j)) q.steps ∙ in_scope in
+            (here, slice_get_within scope (m0 + j) (Bound (turn_span j t)) here)
 
         -- where no further form tells its numbers
         loop_plain : (j : ℕ) (t : Turning) → slice_get ts j ≡ Some t → q.limits (m0 + j) ≡ [] → slice_get scope (m0 + j) ≡ Some (Bound (span t.low t.last []))
@@ -334,7 +308,7 @@ module _ (a : Algorithm) (sch : Schedule) (l : Lowered) (well : IsAlgorithm a) (
         -- ---- forms
 
         abbrev IsRight : List ℕ → Form → Type 0
-        IsRight x f = IsRightForm R known place_named claim_named x f
+        IsRight x f = IsRightForm R known place_named claim_named d x f
 
         -- a symbol of the grid
         grid_there : (y : List ℕ) (c : Form) → form_named over_grid y ≡ Some c →
@@ -372,7 +346,7 @@ module _ (a : Algorithm) (sch : Schedule) (l : Lowered) (well : IsAlgorithm a) (
             subst (IsRight x) (sym r.1) (record {
               inside = counted_inside scope r.0 (numbers (pos 0) (pos (count x) -ℤ pos 1)) (low x) (pos 0) (pos (count x) -ℤ pos 1) r.3 r.2 refl refl begins last_is low_near zero_near near;
               seated = ap (is_seated R known.binders (exactly (counted_from (low x) r.0))) dims_here.1 ∙ seat;
-              within = ap (is_within R known.binders (exactly (counted_from (low x) r.0))) dims_here.0 ∙ (λ j. ((self j || false) && true) && ((self j || false) && true));
+              within = λ update. ap (is_within R known.binders (exactly (counted_from (low x) r.0))) dims_here.0 ∙ (λ j. ((self j || false) && true) && ((self j || false) && true));
               kept = limited_form;
             })
           where
@@ -408,7 +382,7 @@ module _ (a : Algorithm) (sch : Schedule) (l : Lowered) (well : IsAlgorithm a) (
                   y.1) from to
                   ends near;
               seated = ap (is_seated R known.binders (exactly (alone (m0 + i)))) dims_here.1 ∙ seat;
-              within = ap (is_within R known.binders (exactly (alone (m0 + i)))) dims_here.0
+              within = λ update. ap (is_within R known.binders (exactly (alone (m0 + i)))) dims_here.0
                   ∙ within_one (alone (m0 + i)) (number (low x)) (number (last_number (numbers_named rs x))) over under;
               kept = up_limited (pos 0) (m0 + i) (omega arith);
             }
@@ -623,7 +597,7 @@ module _ (a : Algorithm) (sch : Schedule) (l : Lowered) (well : IsAlgorithm a) (
               subst (IsRight c.whole) (sym form.0) (record {
                 inside = b.0;
                 seated = ap (is_seated R known.binders (exactly (at_pair s))) dims_here.1 ∙ seat_by (at_pair s) first (raised first (pos size)) c.factor up over_first b.1;
-                within = ap (is_within R known.binders (exactly (at_pair s))) dims_here.0 ∙ b.2;
+                within = λ update. ap (is_within R known.binders (exactly (at_pair s))) dims_here.0 ∙ b.2;
                 kept = form.1;
               })
             where
@@ -676,7 +650,7 @@ module _ (a : Algorithm) (sch : Schedule) (l : Lowered) (well : IsAlgorithm a) (
               subst (IsRight c.whole) (sym form.0) (record {
                 inside = k.0;
                 seated = ap (is_seated R known.binders (exactly (at_pair (m0 + o)))) dims_here.1 ∙ k.1;
-                within = ap (is_within R known.binders (exactly (at_pair (m0 + o)))) dims_here.0 ∙ k.2;
+                within = λ update. ap (is_within R known.binders (exactly (at_pair (m0 + o)))) dims_here.0 ∙ k.2;
                 kept = form.1;
               })
             where
@@ -808,9 +782,8 @@ module _ (a : Algorithm) (sch : Schedule) (l : Lowered) (well : IsAlgorithm a) (
                     needs at there h lined placed alone_here laid split_alone keeps filled d w stands) k))
             of (inr u) = absurd (reduction_apart x u.split.whole m (inl (wholes u.split u.there)) (sym u.is))
 
-        pub ready_here : IsReadyNest R (head_scope k) place_named claim_named xs rn w known
+        pub ready_here : IsReadyNest R place_named claim_named xs rn d w known
         ready_here = record {
-          scoped = scoped;
           names = q.known;
           forms = q.forms ∙ ap (λ (os : List (Option Form)). os ++ ranges_at q.body.ranges q.known) (variables_are q.body none_missing_here 0 xs q.known)
               ∙ ap (λ (ds : List Turning). map (form_named q.known) xs ++ ranges_at ds q.known) (loops_of.ranges_are a sch l well legal small kept all groups n first line g p claims needs

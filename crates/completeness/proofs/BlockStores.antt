@@ -1,7 +1,7 @@
 -- Of functions whose loops are split once, by blocks that need no line of their own, and whose left indices are the variables at their places: all that the lines of their groups owe is
 -- shown, where what is
 -- fetched holds the calls.
-use Rattle.std.proofs.Common.{◌≡◌, ℕ, ◌+◌, ◌<◌, ◌≤◌, Bool, true, false, List, [], ◌∷◌, ◌++◌, length, map, Some, None, sym, ap, ◌∙◌, subst, arith, ◌||◌}
+use Rattle.std.proofs.Common.{◌≡◌, ℕ, ◌+◌, ◌<◌, ◌≤◌, Bool, true, false, List, [], length, map, Some, None, sym, ap, ◌∙◌, subst, arith, ◌||◌}
 use Rattle.std.specs.Prelude.{string_bytes, slice_get}
 use Rattle.std.specs.List.{AllByRecursion}
 use Rattle.lin.specs.declared.span.Span1.{Span1}
@@ -9,7 +9,7 @@ use Rattle.plan.specs.declared.plan.Group.{Group as CodeGroup}
 use Rattle.plan.specs.declared.stmt.Places.{Places}
 use Rattle.plan.specs.declared.certificate.cert.Claim.{Claim as CodeClaim}
 use Rattle.plan.specs.declared.certificate.cert.Need.{Need}
-use Rattle.plan.specs.Plan.{Statement, Seq, Alloc, Publish, Group, Plan, block}
+use Rattle.plan.specs.Plan.{Statement, Group, Plan}
 use Rattle.plan.specs.View.{group_of, plan_of, statement_of}
 use Rattle.plan.specs.Lines.{body_line, lines}
 use Rattle.plan.specs.Certificate.Certificate.{Certificate, certificate_of}
@@ -33,8 +33,6 @@ use Rattle.sched.specs.declared.numbers.Extent.{Extent}
 use Rattle.sched.specs.declared.numbers.Numbers.{Numbers}
 use Rattle.sched.specs.Numbers.{loop_numbers}
 use Rattle.sched.specs.Skeleton.{SkeletonText}
-use Rattle.sched.specs.declared.skeleton.Step.{Step}
-use Rattle.sched.specs.Runs.{lines_to}
 use Rattle.tails.specs.Steps.{spine_of}
 use Rattle.tails.specs.Nests.{makes_by}
 use Rattle.lower.specs.declared.lowering.Lowered.{Lowered}
@@ -44,9 +42,8 @@ use Rattle.lower.specs.Regions.{LaidText, bodies_from, laid_functions}
 use Rattle.lower.specs.Around.{head_scope}
 use Rattle.lower.specs.Bounded.{whole, is_bounded}
 use Rattle.lower.specs.Owning.{IsLaidBy}
-use Rattle.lower.specs.Blocks.{dimensions_of, own_places, claimed_region, dimension_of, lay_over}
-use Rattle.lower.specs.Bodies.{last_claim}
-use Rattle.lower.specs.Fetches.{Entry, with_fetches}
+use Rattle.lower.specs.Blocks.{dimensions_of, own_places, dimension_of, lay_over}
+use Rattle.lower.specs.Fetches.{Entry}
 use Rattle.lower.specs.Groups.{HasBody, HasGroups}
 use Rattle.lower.proofs.Laying.{same}
 use Rattle.completeness.specs.Laws.{NamesNoLoad, AreLinesTold, IsStore as IsStoreLine, IsFetch, AreSplitOnce}
@@ -72,10 +69,9 @@ use Rattle.completeness.specs.Filled.{AreEndsShort, BlockedGroupsOweShown}
 use Rattle.completeness.proofs.NamedClaims.{alone_body}
 use Rattle.completeness.proofs.NestWalk.{LetsFirst}
 use Rattle.completeness.proofs.Joined.{claims_paired}
-use Rattle.completeness.proofs.StoreBinders.{nests_there, body_there, BoundThere}
 use Rattle.completeness.proofs.BlockTurns.{AreBlocks}
 use Rattle.completeness.specs.Placed.{ArePlaced}
-use Rattle.completeness.proofs.PlainPlaces.{body_bound}
+use Rattle.completeness.proofs.StoreScopes.{body_bound}
 use Rattle.completeness.proofs.BlockUpdates.{yes_at}
 use Rattle.completeness.proofs.BlockNests as nests_of
 use Rattle.completeness.proofs.BlockReady as ready_of
@@ -158,20 +154,6 @@ module _ (a : Algorithm) (sch : Schedule) (l : Lowered) (well : IsAlgorithm a) (
     bare : AllByRecursion (λ w. LetsFirst (λ i pick forms. ⊥) w.steps) k.nests
     bare = nests_of.bare_nests a sch l well legal small kept all groups n first line g q claims needs there theirs h lined numbered alone_here laid split_alone keeps filled
 
-    abbrev There : Statement → ℕ → Known → Type 0
-    There s at_line known = BoundThere g fs k.nests (grid_binders k.grid) s at_line known
-
-    bound_each : EachLine O R There (statement_of q.body) (body_line plan n) (start (grid_binders q.grid.items))
-    bound_each =
-        let over = grid_binders k.grid in
-        let claim = last_claim first h.body.fetches k in
-        let rest : List Statement = h.body.nests ++ Publish claim ∷ [] in
-        let nests = nests_there g fs k.nests over O R (claimed_region (dimensions_of g h.extents k)) claim _ _ _ 0 k.nests h.body.nests h.body.own h.body.nested bare
-        (λ j w e. let none : 0 + j ≡ j = omega arith in ap (slice_get k.nests) none ∙ e) in
-        let inner = body_there g fs k.nests over O R g.subject.name places h.body.fetches rest nests (body_line plan n) (start (grid_binders q.grid.items)) (ap grid_binders grid) in
-        let is = h.body.with.is ∙ ap (λ (ss : List Step). Seq (lines_to ss (block (Alloc 0 g.subject.name places ∷ with_fetches h.body.fetches rest)))) shape_here.head in
-        subst (λ (s : Statement). EachLine O R There s (body_line plan n) (start (grid_binders q.grid.items))) (sym is) inner
-
     abbrev More : Obligation → Type 0
     More o = IsNameTest o.wanted → ⊥
 
@@ -184,9 +166,8 @@ module _ (a : Algorithm) (sch : Schedule) (l : Lowered) (well : IsAlgorithm a) (
         place_named claim_of_name (nests_of.own_places_are a sch l well legal small kept all groups n first line g q claims needs there theirs h lined numbered alone_here laid split_alone keeps
         filled) (nests_of.own_claim_is a sch l well legal small kept all groups n first line g q claims needs there theirs h lined numbered alone_here laid split_alone keeps filled)
         (nests_of.dims a sch l well legal small kept all groups n first line g q claims needs there theirs h lined numbered alone_here laid split_alone keeps filled)
-        (λ d w stands known binders loops. ready_of.ready_here a sch l well legal small kept all groups n first line g q claims needs there theirs h lined numbered alone_here laid split_alone
-        keeps filled limits short narrow ended early set d w stands known binders loops)
-        (body_bound a sch l well legal small kept all groups few n q f first line claims needs h laid few_here) bound_each
+        (λ d w stands known scoped. ready_of.ready_here a sch l well legal small kept all groups n first line g q claims needs there theirs h lined numbered alone_here laid split_alone
+        keeps filled ended early set d w stands known scoped) (body_bound a sch l well legal small kept all groups few n q f first line claims needs h laid limits grid short narrow bare few_here)
 
   -- what the stores of a group owe
   abbrev StoresAreShown : ℕ → Group → Type 0

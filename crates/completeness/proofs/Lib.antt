@@ -76,7 +76,7 @@ pub mod ClaimedNests
 pub mod Left
 pub mod Searched
 pub mod PlainNests
-pub mod PlainPlaces
+pub mod StoreScopes
 pub mod PlainTurns
 pub mod PlainBounds
 pub mod PlainTests
@@ -103,8 +103,6 @@ pub mod LimitsAlone
 pub mod FewLines
 pub mod OwnCalls
 pub mod OwnLoads
-pub mod StoreBinders
-pub mod UncutScopes
 pub mod SitesAt
 pub mod UncutOwn
 pub mod NearClaims
@@ -145,6 +143,7 @@ pub mod BlockCaps
 pub mod BlockLimits
 pub mod BlockOrder
 pub mod GuardSums
+pub mod LetSums
 pub mod BlockLoops
 pub mod RisingSpans
 pub mod TextForms

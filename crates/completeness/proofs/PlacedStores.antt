@@ -85,8 +85,7 @@ use Rattle.completeness.proofs.Fresh.{all_flat}
 use Rattle.completeness.proofs.InForce.{StoreAt, StoreHere, all_loads, Held as AreLoaded}
 use Rattle.completeness.proofs.StoreNames.{FetchedBy, fetch_known, lines_weaker, body_stored, own_claim, own_long, at_place, own_known, own_function, loads_ready, IsLast, last_is, differs}
 use Rattle.completeness.proofs.Left.{lines_paired}
-use Rattle.completeness.proofs.PlainNests.{InSteps}
-use Rattle.completeness.proofs.PlainPlaces.{IsBound, BoundAt, BoundHere}
+use Rattle.completeness.proofs.StoreScopes.{BoundAt, BoundHere}
 use Rattle.completeness.proofs.PlainTurns.{hits, hits_once, itself}
 use Rattle.completeness.proofs.PureNests.{all_get}
 use Rattle.completeness.proofs.PureScopes.{map_both}
@@ -97,7 +96,6 @@ use Rattle.completeness.proofs.StoreBounds.{first_none, others_none, AreAt, targ
 use Rattle.completeness.proofs.TakenSites.{IsFound, add_all, each_found, region_within, places_seat, all_held}
 use Rattle.completeness.proofs.Bodies.{fetch_at, other_at, entry_at}
 use Rattle.completeness.proofs.RisingForms.{cut_low}
-use Rattle.completeness.proofs.StoreBinders.{at_steps, StoreBound, BoundThere}
 use Rattle.completeness.proofs.SitesAt.{IsBoundedAt, bounded_at, IsSiteAt, site_at}
 use Rattle.completeness.proofs.OwnLoads.{IsPoint, variable_bounds, span_at_place, among_at}
 use Rattle.completeness.proofs.UncutOwn.{own_stays, own_keep}
@@ -110,19 +108,18 @@ use Rattle.completeness.proofs.HeldWhole.{no_left_calls}
 
 -- ---- forms
 
--- a form that a variable's name stands for
-pub record IsRightForm (R : Rules) (known : Known) (place_of : List ℕ → Places) (claim_of_var : List ℕ → Span1) (x : List ℕ) (f : Form) : Type 0 where
+-- a form that a variable's name stands for in the definition of this number: of updates the claims' region is asked as well
+pub record IsRightForm (R : Rules) (known : Known) (place_of : List ℕ → Places) (claim_of_var : List ℕ → Span1) (d : ℕ) (x : List ℕ) (f : Form) : Type 0 where
   pub inside : is_index_span (scope_of known.binders) (exactly f) ≡ true
   pub seated : is_seated R known.binders (exactly f) (place_of x) ≡ true
-  pub within : is_within R known.binders (exactly f) (claim_of_var x) ≡ true
+  pub within : 0 < d → is_within R known.binders (exactly f) (claim_of_var x) ≡ true
   pub kept : is_within_limits f ≡ true
 
 -- what is known at the store of a nest
-pub record IsReadyNest (R : Rules) (head : List Binding) (place_of : List ℕ → Places) (claim_of_var : List ℕ → Span1) (xs rn : List (List ℕ)) (w : NestText) (known : Known) : Type 0 where
-  pub scoped : scope_of known.binders ≡ bind_steps head w.steps
+pub record IsReadyNest (R : Rules) (place_of : List ℕ → Places) (claim_of_var : List ℕ → Span1) (xs rn : List (List ℕ)) (d : ℕ) (w : NestText) (known : Known) : Type 0 where
   pub names : List KnownForm
   pub forms : w.at ≡ map (form_named names) (xs ++ rn)
-  pub each : (x : List ℕ) → In x xs → (f : Form) → form_named names x ≡ Some f → IsRightForm R known place_of claim_of_var x f
+  pub each : (x : List ℕ) → In x xs → (f : Form) → form_named names x ≡ Some f → IsRightForm R known place_of claim_of_var d x f
   pub over : (x : List ℕ) → In x rn → (f : Form) → form_named names x ≡ Some f → is_index_span (scope_of known.binders) (exactly f) ≡ true
 
 in_parts : (x : List ℕ) (xs ys : List (List ℕ)) → In x (xs ++ ys) → In x xs ⊎ In x ys
@@ -235,14 +232,11 @@ module _ (a : Algorithm) (sch : Schedule) (l : Lowered) (well : IsAlgorithm a) (
       (places_are : own_places (dimensions_of (texts f) h.extents h.skeleton) ≡ map place_of f.variables)
       (claims_are : claimed_region (dimensions_of (texts f) h.extents h.skeleton) ≡ map claim_of_var f.variables)
       (dims_are : (outline_of plan cert n (group_of q)).setting.dimensions 0 ≡ length f.variables)
-      (ready_nest : (d : ℕ) (w : NestText) → slice_get h.skeleton.nests d ≡ Some w → (known : Known) → known.binders ≡ at_steps w.steps (grid_binders h.skeleton.grid) →
-      ((i : ℕ) (x : Span1) → InSteps i x w.steps → IsBound known i x) →
-      IsReadyNest (rules_of a plan cert n) (head_scope h.skeleton) place_of claim_of_var f.variables (range_names (ranges_of f.changes d)) w known)
+      (ready_nest : (d : ℕ) (w : NestText) → slice_get h.skeleton.nests d ≡ Some w → (known : Known) → scope_of known.binders ≡ bind_steps (head_scope h.skeleton) w.steps →
+      IsReadyNest (rules_of a plan cert n) place_of claim_of_var f.variables (range_names (ranges_of f.changes d)) d w known)
       (bound_all : EachLine (outline_of plan cert n (group_of q)) (rules_of a plan cert n)
-      (λ s i y. BoundHere (texts f) h.formulas h.skeleton.nests (own_places (dimensions_of (texts f) h.extents h.skeleton)) s i y) (statement_of q.body) (body_line plan n)
-      (start (grid_binders q.grid.items)))
-      (binders_all : EachLine (outline_of plan cert n (group_of q)) (rules_of a plan cert n)
-      (λ s i y. BoundThere (texts f) h.formulas h.skeleton.nests (grid_binders h.skeleton.grid) s i y) (statement_of q.body) (body_line plan n) (start (grid_binders q.grid.items))) where
+      (λ s i y. BoundHere (texts f) h.formulas h.skeleton.nests (own_places (dimensions_of (texts f) h.extents h.skeleton)) (head_scope h.skeleton) s i y) (statement_of q.body) (body_line plan n)
+      (start (grid_binders q.grid.items))) where
     abbrev k : SkeletonText
     k = h.skeleton
 
@@ -364,8 +358,8 @@ module _ (a : Algorithm) (sch : Schedule) (l : Lowered) (well : IsAlgorithm a) (
       -- ---- a store
 
       module _ (nests : Nests) (at_line : ℕ) (known : Known) (cs : List Coordinate) (e : Term) (stores : IsStore g fs ms d w (Store 0 d cs e))
-          (is : IsStored ms (names_with f.variables f.changes d) w cs e u) (loops : (i : ℕ) (x : Span1) → InSteps i x w.steps → IsBound known i x)
-          (binders : known.binders ≡ at_steps w.steps (grid_binders k.grid)) (held_here : AreLoaded g fs k.nests places fetches first known) (own_here : places_of known.buffers 0 ≡ Some places)
+          (is : IsStored ms (names_with f.variables f.changes d) w cs e u) (scoped : scope_of known.binders ≡ bind_steps (head_scope k) w.steps)
+          (held_here : AreLoaded g fs k.nests places fetches first known) (own_here : places_of known.buffers 0 ≡ Some places)
           (under : AllByRecursion (λ v. NamedIn O R (line + 1) (line + (lines (statement_of q.body) + 1)) v.next) known.updating) where
         abbrev m : ℕ
         m = O.setting.dimensions 0
@@ -392,11 +386,8 @@ module _ (a : Algorithm) (sch : Schedule) (l : Lowered) (well : IsAlgorithm a) (
         abbrev scope : List Binding
         scope = scope_of known.binders
 
-        nest_ready : IsReadyNest R (head_scope k) place_of claim_of_var f.variables rn w known
-        nest_ready = ready_nest d w stands known binders loops
-
-        scoped : scope ≡ bind_steps (head_scope k) w.steps
-        scoped = nest_ready.scoped
+        nest_ready : IsReadyNest R place_of claim_of_var f.variables rn d w known
+        nest_ready = ready_nest d w stands known scoped
 
         fb : IsBoundedAt a g (head_scope k) regions d u w
         fb =
@@ -452,7 +443,7 @@ module _ (a : Algorithm) (sch : Schedule) (l : Lowered) (well : IsAlgorithm a) (
         names_all = names_text
 
         abbrev IsRight : List ℕ → Form → Type 0
-        IsRight x c = (is_index_span scope (exactly c) ≡ true) × (In x f.variables → IsRightForm R known place_of claim_of_var x c)
+        IsRight x c = (is_index_span scope (exactly c) ≡ true) × (In x f.variables → IsRightForm R known place_of claim_of_var d x c)
 
         right_of : (x : List ℕ) → In x (f.variables ++ rn) → (c : Form) → form_named nest_ready.names x ≡ Some c → IsRight x c
         right_of x m c named = (
@@ -567,15 +558,15 @@ module _ (a : Algorithm) (sch : Schedule) (l : Lowered) (well : IsAlgorithm a) (
         -- what is so of a span at this place
         abbrev IsFine : List ℕ → Coordinate → Span1 → Type 0
         IsFine x c s =
-            (is_seated R known.binders s (place_of x) ≡ true) × (is_within R known.binders s (claim_of_var x) ≡ true) × (is_within R known.binders s (index_met O R c.index) ≡ true)
+            (is_seated R known.binders s (place_of x) ≡ true) × (0 < d → is_within R known.binders s (claim_of_var x) ≡ true) × (is_within R known.binders s (index_met O R c.index) ≡ true)
 
         -- the coordinate at a place
-        placed_form : (j : ℕ) (x : List ℕ) (c : Coordinate) → slice_get xs j ≡ Some x → slice_get at' j ≡ Some c → (z : Form) × (c.index ≡ At z) × IsRightForm R known place_of claim_of_var x z
+        placed_form : (j : ℕ) (x : List ℕ) (c : Coordinate) → slice_get xs j ≡ Some x → slice_get at' j ≡ Some c → (z : Form) × (c.index ≡ At z) × IsRightForm R known place_of claim_of_var d x z
         placed_form j x c at_x at_c =
             let r' = form_there ms nest_ready.names IsRight (f.variables ++ rn) cs all_coordinates j x c (at_left f.variables rn j x at_x) (taken_got m cs j c at_c) in
             (r'.0, r'.1, r'.2.1 (at_in f.variables j x at_x))
 
-        fine_form : (x : List ℕ) (c : Coordinate) (z : Form) → c.index ≡ At z → IsRightForm R known place_of claim_of_var x z → IsFine x c (exactly z)
+        fine_form : (x : List ℕ) (c : Coordinate) (z : Form) → c.index ≡ At z → IsRightForm R known place_of claim_of_var d x z → IsFine x c (exactly z)
         fine_form x c z is_z right =
             let self : at_most scope z z ≡ true = form_self scope z right.kept in (
               right.seated,
@@ -586,15 +577,17 @@ module _ (a : Algorithm) (sch : Schedule) (l : Lowered) (well : IsAlgorithm a) (
         -- so it is of spans one by one
         all_fine : (ss : List Span1) → length ss ≡ length xs →
             ((j : ℕ) (s : Span1) (x : List ℕ) (c : Coordinate) → slice_get ss j ≡ Some s → slice_get xs j ≡ Some x → slice_get at' j ≡ Some c → IsFine x c s) →
-            (are_seated R known.binders ss places ≡ true) × (are_within R known.binders ss region ≡ true)
+            (are_seated R known.binders ss places ≡ true) × (0 < d → are_within R known.binders ss region ≡ true)
             × (are_within R known.binders ss (map (λ (c : Coordinate). index_met O R c.index) at') ≡ true)
         all_fine ss long_so each = (
           ap (are_seated R known.binders ss) places_are
               ∙ seated_by R known.binders ss (map place_of xs) (long_so ∙ sym (length-map xs place_of))
               (λ j s p at_s at_p. (let x = from_map place_of xs j p at_p in let c = coordinate_at j x.0 x.1 in ap (is_seated R known.binders s) x.2 ∙ (each j s x.0 c.0 at_s x.1 c.1).0)),
-          ap (are_within R known.binders ss) claims_are
+          (λ update.
+              ap (are_within R known.binders ss) claims_are
               ∙ within_by R known.binders ss (map claim_of_var xs) (long_so ∙ sym (length-map xs claim_of_var))
-              (λ j s p at_s at_p. (let x = from_map claim_of_var xs j p at_p in let c = coordinate_at j x.0 x.1 in ap (is_within R known.binders s) x.2 ∙ (each j s x.0 c.0 at_s x.1 c.1).1)),
+              (λ j s p at_s at_p. (let x = from_map claim_of_var xs j p at_p in let c = coordinate_at j x.0 x.1 in
+              ap (is_within R known.binders s) x.2 ∙ (each j s x.0 c.0 at_s x.1 c.1).1 update))),
           within_by R known.binders ss (map (λ (c : Coordinate). index_met O R c.index) at') (long_so ∙ sym at_long ∙ sym (length-map at' (λ (c : Coordinate). index_met O R c.index)))
               (λ j s p at_s at_p. (let c = from_map (λ (c : Coordinate). index_met O R c.index) at' j p at_p in let x = variable_here j c.0 c.1 in
               ap (is_within R known.binders s) c.2 ∙ (each j s x.0 c.0 at_s x.1 c.1).2)),
@@ -612,7 +605,7 @@ module _ (a : Algorithm) (sch : Schedule) (l : Lowered) (well : IsAlgorithm a) (
             let p = placed_form j x c at_x at_c in
             subst (IsFine x c) (ap (index_place O R known names left) (sym p.1)) (fine_form x c p.0 p.1 p.2)
 
-        points_fine : (are_seated R known.binders (map T at') places ≡ true) × (are_within R known.binders (map T at') region ≡ true)
+        points_fine : (are_seated R known.binders (map T at') places ≡ true) × (0 < d → are_within R known.binders (map T at') region ≡ true)
         points_fine =
             let all_so = all_fine (map T at') (length-map at' T ∙ at_long) (λ j s x c at_s at_x at_c. (let t = from_map T at' j s at_s in
             let same_c : t.0 ≡ c = some_same t.0 c (sym t.1 ∙ at_c) in subst (IsFine x c) (sym (t.2 ∙ ap T same_c)) (target_fine j x c at_x at_c))) in
@@ -741,7 +734,7 @@ module _ (a : Algorithm) (sch : Schedule) (l : Lowered) (well : IsAlgorithm a) (
             let all_so = all_fine (own_spans es) many (λ j s z c' at_s at_z at_c. own_fine x es name keeps i later j s z c' at_s at_z at_c) in
             let held_places : places_of known.buffers (O.claim c).buffer ≡ Some places = ap (places_of known.buffers) buffer ∙ own_here in (
               (λ more. ap (λ (o : Option (List Places)). shows R nests known.binders (seated O R o (own_spans es))) held_places ∙ all_so.0),
-              (λ more. absurd (more tt), (λ more. ap (are_within R known.binders (own_spans es)) over_region ∙ all_so.1, met_within (own_spans es) all_so.2 d c)),
+              (λ more. absurd (more tt), (λ more. ap (are_within R known.binders (own_spans es)) over_region ∙ all_so.1 (omega (arith, later)), met_within (own_spans es) all_so.2 d c)),
             )
 
         -- ---- all that is loaded
@@ -784,9 +777,9 @@ module _ (a : Algorithm) (sch : Schedule) (l : Lowered) (well : IsAlgorithm a) (
 
         -- ---- all that the store owes
 
-        claimed_shows : (j : ℕ) → Shows O R nests IsMore (claimed O R at_line known 0 F j (map T at'))
-        claimed_shows zero = tt
-        claimed_shows (suc j) = each known.updating under
+        claimed_shows : (j : ℕ) → d ≡ j → Shows O R nests IsMore (claimed O R at_line known 0 F j (map T at'))
+        claimed_shows zero same_number = tt
+        claimed_shows (suc j) same_number = each known.updating under
           where
             each : (vs : List Updating) → AllByRecursion (λ v. NamedIn O R (line + 1) (line + (lines (statement_of q.body) + 1)) v.next) vs →
                 Shows O R nests IsMore (map (λ v. obligation O R NotClaimed at_line known (Inside (map T at') (region_of O R v.next))) (filter (serves O R 0 F (suc j)) vs))
@@ -803,7 +796,7 @@ module _ (a : Algorithm) (sch : Schedule) (l : Lowered) (well : IsAlgorithm a) (
                     let low_line = named.0.2 in
                     let over_region = named_over a sch l well legal small kept all groups n first line g q claims needs there theirs h lined numbered alone_here z.next named.0.0 named.0.1
                     (omega (arith, low_line)) named.0.3 buffer in
-                    ((λ more. ap (are_within R known.binders (map T at')) over_region ∙ points_fine.1), rest)
+                    ((λ more. ap (are_within R known.binders (map T at')) over_region ∙ points_fine.1 (omega (arith, same_number))), rest)
 
         store_shows : Shows O R nests IsMore (obligations O R (Store 0 d cs e) at_line known)
         store_shows =
@@ -818,7 +811,7 @@ module _ (a : Algorithm) (sch : Schedule) (l : Lowered) (well : IsAlgorithm a) (
               (
                 (λ more. absurd (more tt)),
                 joined (claimed O R at_line known 0 F d (map T at')) (flat_map (coordinate_loads O R at_line known may meets names left) at'
-                    ++ loads O R at_line known may meets names vars e) (claimed_shows d) behind_all,
+                    ++ loads O R at_line known may meets names vars e) (claimed_shows d refl) behind_all,
               ),
             )
           where
@@ -836,16 +829,13 @@ module _ (a : Algorithm) (sch : Schedule) (l : Lowered) (well : IsAlgorithm a) (
     Stored s at_line known = StoreHere g fs k.nests places fetches first s at_line known
 
     abbrev Bound : Statement → ℕ → Known → Type 0
-    Bound s at_line known = BoundHere g fs k.nests places s at_line known
-
-    abbrev There : Statement → ℕ → Known → Type 0
-    There s at_line known = BoundThere g fs k.nests (grid_binders k.grid) s at_line known
+    Bound s at_line known = BoundHere g fs k.nests places (head_scope k) s at_line known
 
     abbrev Under : Statement → ℕ → Known → Type 0
     Under s at_line known = AllNamed O R (line + 1) (line + (lines (statement_of q.body) + 1)) s at_line known
 
-    abbrev Four : Statement → ℕ → Known → Type 0
-    Four s at_line known = (Stored s at_line known × Bound s at_line known) × (There s at_line known × Under s at_line known)
+    abbrev Three : Statement → ℕ → Known → Type 0
+    Three s at_line known = (Stored s at_line known × Bound s at_line known) × Under s at_line known
 
     abbrev More : Obligation → Type 0
     More o = IsNameTest o.wanted → ⊥
@@ -854,31 +844,27 @@ module _ (a : Algorithm) (sch : Schedule) (l : Lowered) (well : IsAlgorithm a) (
     AllShown s at_line known = IsStoreLine s → (nests : Nests) → Shows O R nests More (obligations O R s at_line known)
 
     one_store : (b m : ℕ) (cs : List Coordinate) (e : Term) (at_line : ℕ) (known : Known) (nests : Nests) → StoreAt g fs k.nests places fetches first (Store b m cs e) known →
-        BoundAt g fs k.nests places (Store b m cs e) known → StoreBound g fs k.nests (grid_binders k.grid) (Store b m cs e) known → Under (Store b m cs e) at_line known →
-        Shows O R nests More (obligations O R (Store b m cs e) at_line known)
-    one_store b m cs e at_line known nests x y z under =
+        BoundAt g fs k.nests places (head_scope k) (Store b m cs e) known → Under (Store b m cs e) at_line known → Shows O R nests More (obligations O R (Store b m cs e) at_line known)
+    one_store b m cs e at_line known nests x y under =
         let d = x.definition in
         let one : y.definition ≡ d = sym y.stores.1 ∙ x.stores.1 in
-        let two : z.definition ≡ d = sym z.stores.1 ∙ x.stores.1 in
         let y_nest : y.nest ≡ x.nest = some_same y.nest x.nest (sym (ap (slice_get k.nests) (sym one) ∙ y.stands) ∙ x.stands) in
-        let z_nest : z.nest ≡ x.nest = some_same z.nest x.nest (sym (ap (slice_get k.nests) (sym two) ∙ z.stands) ∙ x.stands) in
         let stored = subst (λ (ls : Loads). IsStore g fs ls d x.nest (Store b m cs e)) x.loaded x.stores in
         let u = some_and (IsStored (all_loads g fs k.nests places fetches first d) (names_with f.variables f.changes d) x.nest cs e) (slice_get fs d) stored.2 in
-        let loops = subst (λ (w : NestText). (i : ℕ) (s : Span1) → InSteps i s w.steps → IsBound known i s) y_nest y.loops in
-        let binders : known.binders ≡ at_steps x.nest.steps (grid_binders k.grid) = z.binders ∙ ap (λ (w : NestText). at_steps w.steps (grid_binders k.grid)) z_nest in
-        let shown_here = store_shows d x.nest x.stands u.0 u.1 nests at_line known cs e (refl, refl, stored.2) u.2 loops binders x.held x.own under in
+        let scoped : scope_of known.binders ≡ bind_steps (head_scope k) x.nest.steps = y.scoped ∙ ap (λ (w : NestText). bind_steps (head_scope k) w.steps) y_nest in
+        let shown_here = store_shows d x.nest x.stands u.0 u.1 nests at_line known cs e (refl, refl, stored.2) u.2 scoped x.held x.own under in
         subst (λ (s : Statement). Shows O R nests More (obligations O R s at_line known)) (λ i. Store (sym stored.0 i) (sym stored.1 i) cs e) shown_here
 
-    one_shows : (s : Statement) (at_line : ℕ) (known : Known) → Four s at_line known → AllShown s at_line known
-    one_shows (Store b m cs e) at_line known four one nests = one_store b m cs e at_line known nests (four.0.0 tt) (four.0.1 tt) (four.1.0 tt) four.1.1
-    one_shows (Seq ss) at_line known four one nests = absurd one
-    one_shows (For j x kind body) at_line known four one nests = absurd one
-    one_shows (Let j pick forms) at_line known four one nests = absurd one
-    one_shows (First j x z) at_line known four one nests = absurd one
-    one_shows (Guard low high body) at_line known four one nests = absurd one
-    one_shows (Alloc b x seats) at_line known four one nests = absurd one
-    one_shows (Fetch b x area) at_line known four one nests = absurd one
-    one_shows (Publish x) at_line known four one nests = absurd one
+    one_shows : (s : Statement) (at_line : ℕ) (known : Known) → Three s at_line known → AllShown s at_line known
+    one_shows (Store b m cs e) at_line known three one nests = one_store b m cs e at_line known nests (three.0.0 tt) (three.0.1 tt) three.1
+    one_shows (Seq ss) at_line known three one nests = absurd one
+    one_shows (For j x kind body) at_line known three one nests = absurd one
+    one_shows (Let j pick forms) at_line known three one nests = absurd one
+    one_shows (First j x z) at_line known three one nests = absurd one
+    one_shows (Guard low high body) at_line known three one nests = absurd one
+    one_shows (Alloc b x seats) at_line known three one nests = absurd one
+    one_shows (Fetch b x area) at_line known three one nests = absurd one
+    one_shows (Publish x) at_line known three one nests = absurd one
 
     full : HasLines (statement_of q.body)
     full = subst HasLines (sym h.body.with.is) (body_has_lines g fs region _ _ _ 0 k.nests h.body.nests h.body.own h.body.nested (last_claim first h.body.fetches k) k.head
@@ -892,6 +878,5 @@ module _ (a : Algorithm) (sch : Schedule) (l : Lowered) (well : IsAlgorithm a) (
         let stored = body_stored a sch l well legal small kept all groups told free n q place f at there first line claims needs theirs h hold numbered lined in
         let under = each_named O R (line + 1) (line + (lines s + 1)) s begin known tt full (omega (arith, lined)) (omega (arith, lined)) in
         let two = lines_paired O R Stored Bound (λ t i y. Stored t i y × Bound t i y) (λ t i y x z. (x, z)) s begin known stored bound_all in
-        let three = lines_paired O R There Under (λ t i y. There t i y × Under t i y) (λ t i y x z. (x, z)) s begin known binders_all under in
-        let four = lines_paired O R (λ t i y. Stored t i y × Bound t i y) (λ t i y. There t i y × Under t i y) Four (λ t i y x z. (x, z)) s begin known two three in
-        lines_weaker O R Four AllShown one_shows s begin known four
+        let three = lines_paired O R (λ t i y. Stored t i y × Bound t i y) Under Three (λ t i y x z. (x, z)) s begin known two under in
+        lines_weaker O R Three AllShown one_shows s begin known three

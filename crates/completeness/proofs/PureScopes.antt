@@ -7,6 +7,7 @@ use Rattle.lin.specs.Forms.{Form, is_within_limits}
 use Rattle.lin.specs.declared.scope.Binding.{Binding}
 use Rattle.lin.specs.declared.scope.Binding.TheVariants.{Loop}
 use Rattle.lin.specs.declared.span.Span1.{Span1}
+use Rattle.plan.specs.declared.stmt.Pick.{Pick}
 use Rattle.soundness.specs.Obligations.{Binder, Ranged, Picked, Passed, anything}
 use Rattle.soundness.specs.Binders.View.{grid_from, grid_binders}
 use Rattle.rules.specs.Bounding.Scopes.{most_symbols, limited, picked_binding, binding_of, symbol_count, scope_of}
@@ -96,6 +97,12 @@ loop_more bs i x behind few low high =
     more_bound bs (Ranged i x ∷ bs) i (Loop x) behind few (omega (arith, behind))
     (ap (λ (v : Bool). if v then Loop (limited x) else binding_of bs i) (same_test i) ∙ ap (λ (y : Span1). Loop y) (span_stays x low high))
     (λ j less. let differs : (i == j) ≡ false = grind (arith, nat_tests, less) in ap (λ (v : Bool). if v then Loop (limited x) else binding_of bs j) differs)
+
+pub let_more : (bs : List Binder) (i : ℕ) (pick : Pick) (fs : List Form) → symbol_count bs ≤ i → i < most_symbols → scope_of (Picked i pick fs ∷ bs) ≡ bind (scope_of bs) i (picked_binding pick fs)
+let_more bs i pick fs behind few =
+    more_bound bs (Picked i pick fs ∷ bs) i (picked_binding pick fs) behind few (omega (arith, behind))
+    (ap (λ (v : Bool). if v then picked_binding pick fs else binding_of bs i) (same_test i))
+    (λ j less. let differs : (i == j) ≡ false = grind (arith, nat_tests, less) in ap (λ (v : Bool). if v then picked_binding pick fs else binding_of bs j) differs)
 
 -- ---- the grid
 
