@@ -1,15 +1,23 @@
 -- Whatever a function fetches whose left indices are the variables at their places, all that the lines of its group owe is shown, where its loops are split once, by blocks that need no
--- line of their own, and its region begins near 0.
-use Rattle.std.proofs.Common.{◌≡◌, ℕ, zero, suc, ◌+◌, ◌-◌, ◌*◌, ◌<◌, ◌≤◌, Bool, true, false, List, [], ◌∷◌, length, map, Option, Some, None, refl, sym, ap, ◌∙◌, subst, inl, inr, ◌⊎◌, arith}
+-- line of their own, and its region begins near 0 or its indices are simple.
+use Rattle.std.proofs.Common.{◌≡◌, ℕ, zero, suc, ◌+◌, ◌-◌, ◌*◌, ◌<◌, ◌≤◌, ◌^◌, Bool, true, false, List, [], ◌∷◌, ◌++◌, length, map, Option, Some, None, refl, sym, ap, ◌∙◌, subst, inl, inr, ◌⊎◌, arith}
 use Rattle.std.specs.Prelude.{ℤ, pos, negsuc, ◌+ℤ◌, ◌-ℤ◌, ◌*ℤ◌, ◌≤ℤ◌, ◌==◌, nat_lt, if◌then◌else◌, slice_get}
-use Rattle.std.specs.List.{AllByRecursion}
+use Rattle.std.specs.List.{AllByRecursion, list_all}
 use Rattle.std.specs.Int.RustNames.{unsigned_abs}
 use Rattle.std.proofs.lemmas.Bool.Decides.{nat_tests}
 use Rattle.std.proofs.lemmas.Int.{ints}
-use Rattle.std.proofs.Math.Nat.{mul-suc}
+use Rattle.std.proofs.Math.Nat.{mul-suc, mul-le-mul_left, mul-le-mul_right}
+use Rattle.std.proofs.lemmas.List.{length-map}
+use Rattle.numeric.specs.declared.ty.Ty.TheVariants.{I32}
+use Rattle.tree.specs.Term.{Term, Terms, End, More}
 use Rattle.tree.specs.Names.{IsIndex}
 use Rattle.lin.specs.Forms.{Form, number, combined, value_of as form_value}
+use Rattle.lin.specs.declared.form.Multiple.{Multiple}
 use Rattle.lin.specs.declared.scope.Binding.{Binding}
+use Rattle.lin.specs.declared.scope.Binding.TheVariants.{Loop as LoopBinding}
+use Rattle.lin.specs.declared.span.Span1.{Span1}
+use Rattle.lin.proofs.TermLemmas.{all_weaker}
+use Rattle.bounds.specs.Spans.{range_of}
 use Rattle.bounds.proofs.ListSound.{all-append}
 use Rattle.plan.specs.declared.plan.Group.{Group as CodeGroup}
 use Rattle.plan.specs.declared.certificate.cert.Claim.{Claim as CodeClaim}
@@ -20,7 +28,8 @@ use Rattle.plan.specs.Lines.{lines, body_line}
 use Rattle.meaning.specs.Algorithm.{Algorithm}
 use Rattle.meaning.specs.Conditions.{IsAlgorithm}
 use Rattle.soundness.specs.Claims.{In}
-use Rattle.soundness.proofs.Refines.{eq_true}
+use Rattle.soundness.proofs.Refines.{eq_true, and_parts}
+use Rattle.algo.specs.Scoping.Standing.{Written}
 use Rattle.headline.proofs.Lists.{from_map}
 use Rattle.headline.proofs.Regions.{at_in}
 use Rattle.sched.specs.Schedule.{Schedule}
@@ -34,25 +43,27 @@ use Rattle.sched.specs.declared.nest.Turning.{Turning}
 use Rattle.sched.specs.Numbers.{numbers_named, loop_numbers, parallel_loops, grid_counts, piece_counts, last_number}
 use Rattle.sched.specs.Placing.{is_parallel}
 use Rattle.sched.specs.Standing.{form_named, counted_from, has_rest}
-use Rattle.sched.specs.Skeleton.{BodyText, NestText, SkeletonText, nest_turns, variables_at, ranges_at, grid_forms, is_missing, span}
+use Rattle.sched.specs.Skeleton.{BodyText, NestText, SkeletonText, loop_turning, nest_turns, variables_at, ranges_at, grid_forms, is_missing, span}
 use Rattle.sched.proofs.Standings.{found_all}
 use Rattle.lower.specs.declared.lowering.Lowered.{Lowered}
-use Rattle.lower.specs.Stored.{FormulaText, StoredText, stored_functions, has_large}
+use Rattle.lower.specs.Called.{called}
+use Rattle.lower.specs.Stored.{FormulaText, StoredText, calls_in, left_at, stored_functions, has_large}
 use Rattle.lower.specs.Faults.{are_whole, region_fault}
-use Rattle.lower.specs.Around.{bind_steps, grid_scope, head_scope}
+use Rattle.lower.specs.Around.{AroundText, exactly, bind_steps, grid_symbol, grid_scope, head_scope, interval_in, left_around, coordinate_span, coordinates_behind, around}
 use Rattle.lower.specs.Owning.{IsExtent, IsLaidBy}
 use Rattle.lower.specs.Regions.{LaidText, bodies_from, skeleton_of, laid_functions}
 use Rattle.lower.specs.Groups.{HasBody, HasGroups}
 use Rattle.lower.proofs.Blocking.{IsSmall, CutFits}
 use Rattle.lower.proofs.Covering.{NumbersAre}
-use Rattle.lower.proofs.Laying.{same}
+use Rattle.lower.proofs.Laying.{bound, same}
 use Rattle.lower.proofs.Owners as owners
 use Rattle.completeness.specs.Laws.{AreSplitOnce}
 use Rattle.completeness.specs.Parted.{KeepsInner}
 use Rattle.completeness.specs.Stores.{AreHeld, IsNearRegion}
+use Rattle.completeness.specs.Simple.{is_simple, are_simple, is_simple_left, has_simple_indices}
 use Rattle.completeness.specs.Placed.{ArePlaced}
 use Rattle.completeness.specs.Blocked.{is_tailed, makes_line, IsKept}
-use Rattle.completeness.specs.Filled.{AreEndsShort, NearBlockedGroupsOweShown}
+use Rattle.completeness.specs.Filled.{AreEndsShort, IsNearOrSimple, NearBlockedGroupsOweShown}
 use Rattle.completeness.proofs.Owned.{some_same, same_extents, same_skeleton}
 use Rattle.completeness.proofs.Served.{roots, made_at}
 use Rattle.completeness.proofs.NamedClaims.{alone_body}
@@ -60,65 +71,142 @@ use Rattle.completeness.proofs.Halves.{AreOthers, inner_outer}
 use Rattle.completeness.proofs.Lanes.{AreOnce}
 use Rattle.completeness.proofs.PureNests.{all_in, all_from, all_get}
 use Rattle.completeness.proofs.UpdateTurns.{all_mapped, all_filtered}
-use Rattle.completeness.proofs.Boxes.{IsCapped, IsBox, AreBoxes, product_near}
-use Rattle.completeness.proofs.FirstNumbers.{IsNear, firsts, number_at, firsts_near, index_near, fits_index}
-use Rattle.completeness.proofs.NearBoxes.{IsNearNumbers, IsFew, IsBoxTurn, plain_box, or_one_boxes, steps_boxes, regions_few}
-use Rattle.completeness.proofs.RangedBoxes.{turns_box}
+use Rattle.completeness.proofs.Boxes.{IsCapped, IsBox, AreBoxes, weight_of, weight_at, weight, both_under, IsLight, IsLightSpan, span_light}
+use Rattle.completeness.proofs.FirstNumbers.{first_of, firsts, number_at, index_near, none_at}
+use Rattle.completeness.proofs.NearBoxes.{IsFew, IsBoxTurn, IsTurn, box_turn, plain_box, plain_weight, turn_there, steps_boxes, steps_weights, regions_few}
+use Rattle.completeness.proofs.NearBoxes.{AreFewNumbers, turn_few, turn_box, IsCount, or_one_all, count_box, count_weight}
+use Rattle.completeness.proofs.RangedBoxes.{turns_all}
+use Rattle.completeness.proofs.SimpleSpans.{SpanKeeps, simple_kept}
+use Rattle.completeness.proofs.HeldWhole.{HasIndex, AreCallsLight}
 use Rattle.completeness.proofs.HeldNear.{IsFormed, IsIndexed, held_near}
 use Rattle.completeness.proofs.BlockSums.{multiple, pair, pair_is}
 use Rattle.completeness.proofs.BlockTurns.{Leaf, IsLimit, Right, IsBlockNest, AreBlocks, limited_for}
-use Rattle.completeness.proofs.BlockDims.{top, top_low, blocks_top, outer_low, inner_low, inner_last}
+use Rattle.completeness.proofs.BlockDims.{top, top_low, blocks_top, inner_low, inner_last}
 use Rattle.completeness.proofs.BlockStores.{blocked_owed}
 use Rattle.completeness.proofs.BlockNests as nests_of
 use Rattle.completeness.proofs.BlockLoops as loops_of
 
--- ---- values
+-- ---- the first number of a block and a number within it, added
 
--- the first number of a block and a number within it, added, near 0
-pair_index : (v : ℕ → ℤ) → ((s : ℕ) → IsNear (v s)) → (z : ℤ) (s c m : ℕ) → unsigned_abs z ≤ 73728 → c ≤ 1024 → IsIndex (form_value (pair z s (pos c) m) v)
-pair_index v near z s c m low few = of (nat_lt s m) refl
-  where
-    by : (p q : ℤ) → unsigned_abs p ≤ 75497472 → unsigned_abs q ≤ 73728 → (unsigned_abs (z +ℤ (p +ℤ (pos 1 *ℤ q +ℤ pos 0))) ≤ 75644928) × (unsigned_abs (z +ℤ (pos 1 *ℤ q +ℤ (p +ℤ pos 0))) ≤ 75644928)
-    by p q h g = (omega (arith, ints, low, h, g), omega (arith, ints, low, h, g))
-
-    product : unsigned_abs (pos c *ℤ v s) ≤ 75497472
-    product = (let most = product_near (pos c) (v s) (near s) in omega (arith, most, few))
-
-    index : (y : ℤ) → unsigned_abs y ≤ 75644928 → IsIndex y
-    index y h = record { from = omega (arith, ints, h); to = omega (arith, ints, h) }
-
-    of : (b : Bool) → nat_lt s m ≡ b → IsIndex (form_value (pair z s (pos c) m) v)
-    of true e =
-        let is : pair z s (pos c) m ≡ record { constant = z; terms = multiple s (pos c) ∷ multiple m (pos 1) ∷ [] } =
-        (λ j. record { constant = z; terms = if e j then multiple s (pos c) ∷ multiple m (pos 1) ∷ [] else multiple m (pos 1) ∷ multiple s (pos c) ∷ [] }) in
-        subst (λ (f : Form). IsIndex (form_value f v)) (sym is) (index (z +ℤ (pos c *ℤ v s +ℤ (pos 1 *ℤ v m +ℤ pos 0))) (by (pos c *ℤ v s) (v m) product (near m)).0)
-    of false e =
-        let is : pair z s (pos c) m ≡ record { constant = z; terms = multiple m (pos 1) ∷ multiple s (pos c) ∷ [] } =
-        (λ j. record { constant = z; terms = if e j then multiple s (pos c) ∷ multiple m (pos 1) ∷ [] else multiple m (pos 1) ∷ multiple s (pos c) ∷ [] }) in
-        subst (λ (f : Form). IsIndex (form_value f v)) (sym is) (index (z +ℤ (pos 1 *ℤ v m +ℤ (pos c *ℤ v s +ℤ pos 0))) (by (pos c *ℤ v s) (v m) product (near m)).1)
-
-module _ (v : ℕ → ℤ) (ks : List Known) (each : AllByRecursion (λ k. IsIndex (form_value k.form v)) ks) where
-  abbrev IndexAt : Option Form → Type 0
-  IndexAt o = IsIndex (number_at v o)
-
-  named_index : (x : List ℕ) → IndexAt (form_named ks x)
-  named_index x = of (form_named ks x) refl
+module _ (z : ℤ) (s c m : ℕ) where
+  -- one of both, the lesser symbol first
+  pair_either : (P : List Multiple → Type 0) → P (multiple s (pos c) ∷ multiple m (pos 1) ∷ []) → P (multiple m (pos 1) ∷ multiple s (pos c) ∷ []) → P (pair z s (pos c) m).terms
+  pair_either P h k = of (nat_lt s m)
     where
-      of : (o : Option Form) → form_named ks x ≡ o → IndexAt o
-      of None e = index_near (pos 0) (omega arith)
-      of (Some f) e = found_all (λ y g. IsIndex (form_value g v)) ks x f each e
+      of : (b : Bool) → P (if b then multiple s (pos c) ∷ multiple m (pos 1) ∷ [] else multiple m (pos 1) ∷ multiple s (pos c) ∷ [])
+      of true = h
+      of false = k
 
-  variables_index : (b : BodyText) (d : ℕ) (xs : List (List ℕ)) → AllByRecursion IndexAt (variables_at b d xs ks)
-  variables_index b d [] = tt
-  variables_index b d (x ∷ xs) = (of (is_missing b d), variables_index b (d + 1) xs)
+  -- where both are 0 it is the first number of all
+  pair_value : (v : ℕ → ℤ) → v s ≡ pos 0 → v m ≡ pos 0 → form_value (pair z s (pos c) m) v ≡ z
+  pair_value v first second =
+      pair_either (λ ts. form_value (record { constant = z; terms = ts }) v ≡ z) ((λ j. z +ℤ (pos c *ℤ first j +ℤ (pos 1 *ℤ second j +ℤ pos 0))) ∙ one (pos c))
+      ((λ j. z +ℤ (pos 1 *ℤ second j +ℤ (pos c *ℤ first j +ℤ pos 0))) ∙ two (pos c))
     where
-      of : (t : Bool) → IndexAt (if t then None else form_named ks x)
-      of true = index_near (pos 0) (omega arith)
-      of false = named_index x
+      one : (f : ℤ) → z +ℤ (f *ℤ pos 0 +ℤ (pos 1 *ℤ pos 0 +ℤ pos 0)) ≡ z
+      one f = omega (arith, ints)
 
-  ranges_index : (ds : List Turning) → AllByRecursion IndexAt (ranges_at ds ks)
-  ranges_index [] = tt
-  ranges_index (d ∷ ds) = (named_index d.name, ranges_index ds)
+      two : (f : ℤ) → z +ℤ (pos 1 *ℤ pos 0 +ℤ (f *ℤ pos 0 +ℤ pos 0)) ≡ z
+      two f = omega (arith, ints)
+
+  pair_light : (scope : List Binding) → c ≤ 1024 → weight_at scope s ≤ 8192 → weight_at scope m ≤ 2 ^ 32 → weight scope (pair z s (pos c) m).terms ≤ 2 ^ 39 + 2 ^ 37
+  pair_light scope few first second =
+      let times : weight_at scope s * unsigned_abs (pos c) ≤ 8192 * 1024 = both_times (weight_at scope s) c first few in
+      pair_either (λ ts. weight scope ts ≤ 2 ^ 39 + 2 ^ 37) (omega (arith, times, second)) (omega (arith, times, second))
+    where
+      both_times : (p q : ℕ) → p ≤ 8192 → q ≤ 1024 → p * q ≤ 8192 * 1024
+      both_times p q h k = (let one = mul-le-mul_left p k in let two = mul-le-mul_right 1024 h in omega (arith, one, two))
+
+-- what is so of no form, and of each that stands for a name, is so of those of a nest's coordinates
+module _ (Q : Option Form → Type 0) (none : Q None) (ks : List Known) (each : AllByRecursion (λ k. Q (Some k.form)) ks) where
+  named_so : (x : List ℕ) → Q (form_named ks x)
+  named_so x = of (form_named ks x) refl
+    where
+      of : (o : Option Form) → form_named ks x ≡ o → Q o
+      of None e = none
+      of (Some f) e = found_all (λ y g. Q (Some g)) ks x f each e
+
+  variables_so : (b : BodyText) (d : ℕ) (xs : List (List ℕ)) → AllByRecursion Q (variables_at b d xs ks)
+  variables_so b d [] = tt
+  variables_so b d (x ∷ xs) = (of (is_missing b d), variables_so b (d + 1) xs)
+    where
+      of : (t : Bool) → Q (if t then None else form_named ks x)
+      of true = none
+      of false = named_so x
+
+  ranges_so : (ds : List Turning) → AllByRecursion Q (ranges_at ds ks)
+  ranges_so [] = tt
+  ranges_so (d ∷ ds) = (named_so d.name, ranges_so ds)
+
+-- ---- light coordinates
+
+-- what the coordinates of a nest stay within is light, where their forms are
+module _ (scope : List Binding) where
+  abbrev IsLightList : List Multiple → Type 0
+  IsLightList ts = weight scope ts ≤ 2 ^ 39 + 2 ^ 37
+
+  abbrev IsLightIf : Option Form → Type 0
+  IsLightIf None = Unit {0}
+  IsLightIf (Some f) = IsLightList f.terms
+
+  no_weight : IsLightList []
+  no_weight = omega arith
+
+  abbrev AreLight : Span1 → Type 0
+  AreLight x = SpanKeeps IsLightList no_weight x
+
+  kept_light : (x : Span1) → AreLight x → IsLightSpan scope x
+  kept_light x h = (
+    all_weaker (λ f. IsLightList f.terms) (IsLight scope) (λ f k limited. k) x.lower h.0,
+    all_weaker (λ f. IsLightList f.terms) (IsLight scope) (λ f k limited. k) x.upper h.1,
+  )
+
+  module _ (a : Algorithm) (r : AroundText) (f : FormulaText) (none : AllByRecursion (λ o. o ≡ None) f.at) where
+    coordinate_light : (o : Option Form) (d : ℕ) (x : Span1) → IsLightIf o → coordinate_span a r o (left_at f d) ≡ Some x → AreLight x
+    coordinate_light (Some g) d x h e = subst AreLight (same (exactly g) x e) ((h, tt), (h, tt))
+    coordinate_light None d x h e =
+        let is : coordinate_span a r None None ≡ Some x = ap (coordinate_span a r None) (sym (none_at f.at d none)) ∙ e in
+        subst AreLight (same (range_of I32) x is) ((no_weight, tt), (no_weight, tt))
+
+    coordinates_light : (before : List Span1) (d : ℕ) (os : List (Option Form)) (out : List Span1) → AllByRecursion AreLight before → AllByRecursion IsLightIf os →
+        coordinates_behind a r f before d os ≡ Some out → AllByRecursion AreLight out
+    coordinates_light before d [] out h k e = subst (AllByRecursion AreLight) (same before out e) h
+    coordinates_light before d (o ∷ os) out h k e =
+        let b = bound (coordinate_span a r o (left_at f d)) (λ x. coordinates_behind a r f (before ++ x ∷ []) (d + 1) os) out e in
+        coordinates_light (before ++ b.value ∷ []) (d + 1) os out (all-append AreLight before (b.value ∷ []) h (coordinate_light o d b.value k.0 b.is, tt)) k.1 b.comes
+
+-- a simple index of such coordinates is light
+index_of : (e : Term) (es : Terms) → HasIndex e es → are_simple es ≡ true → is_simple e ≡ true
+index_of e End m h = absurd m
+index_of e (More x es) (inl is) h = ap is_simple is ∙ (and_parts (is_simple x) (are_simple es) h).0
+index_of e (More x es) (inr m) h = index_of e es m (and_parts (is_simple x) (are_simple es) h).1
+
+call_at : (cs : List Written) (i : ℕ) (c : Written) → slice_get cs i ≡ Some c → list_all (λ (y : Written). are_simple y.at) cs ≡ true → are_simple c.at ≡ true
+call_at [] i c at h = absurd (cc at)
+call_at (y ∷ cs) zero c at h = ap (λ (z : Written). are_simple z.at) (sym (same y c at)) ∙ (and_parts (are_simple y.at) (list_all (λ (z : Written). are_simple z.at) cs) h).0
+call_at (y ∷ cs) (suc i) c at h = call_at cs i c at (and_parts (are_simple y.at) (list_all (λ (z : Written). are_simple z.at) cs) h).1
+
+simple_light : (a : Algorithm) (u : StoredText) (outer : List Binding) (w : NestText) (f : FormulaText) (d : ℕ) → AllByRecursion (λ o. o ≡ None) f.at → has_simple_indices f ≡ true →
+    AllByRecursion (IsLightIf (bind_steps outer w.steps)) w.at → (r : AroundText) → around a u outer w f d ≡ Some r → AreCallsLight a r (calls_in f)
+simple_light a u outer w f d none simple light r stands i c at e m x found =
+    let left : AroundText = left_around u outer w d in
+    let z = bound (coordinates_behind a left f [] 0 w.at) (λ cs. Some (record left { coordinates = cs })) r stands in
+    let is : record left { coordinates = z.value } ≡ r = same (record left { coordinates = z.value }) r z.comes in
+    let scope : List Binding = bind_steps outer w.steps in
+    let coordinates = coordinates_light scope a left f none [] 0 w.at z.value tt light z.is in
+    let index : is_simple e ≡ true = index_of e c.at m (call_at (calls_in f) i c at (and_parts (list_all (λ (y : Written). are_simple y.at) (calls_in f)) (list_all is_simple_left f.at) simple).0) in
+    let here : interval_in a (record left { coordinates = z.value }) e ≡ Some x = ap (λ (t : AroundText). interval_in a t e) is ∙ found in
+    let kept_here = simple_kept (λ ts. IsLightList scope ts) (no_weight scope) scope (called a) left.variables z.value coordinates e index x here in
+    subst (λ (t : AroundText). IsLightSpan t.scope x) is (kept_light scope x kept_here)
+
+-- where no symbol goes far each index is light
+few_calls_light : (a : Algorithm) (u : StoredText) (outer : List Binding) (w : NestText) (f : FormulaText) (d : ℕ) → ((n : ℕ) → weight_at (bind_steps outer w.steps) n ≤ 73728) →
+    (r : AroundText) → around a u outer w f d ≡ Some r → AreCallsLight a r (calls_in f)
+few_calls_light a u outer w f d few r stands i c at e m x found =
+    let left : AroundText = left_around u outer w d in
+    let z = bound (coordinates_behind a left f [] 0 w.at) (λ cs. Some (record left { coordinates = cs })) r stands in
+    let is : record left { coordinates = z.value } ≡ r = same (record left { coordinates = z.value }) r z.comes in
+    subst (λ (t : AroundText). IsLightSpan t.scope x) is (span_light (bind_steps outer w.steps) few x)
 
 -- ---- groups
 
@@ -138,7 +226,7 @@ module _ (a : Algorithm) (sch : Schedule) (l : Lowered) (well : IsAlgorithm a) (
       (placed : (j : ℕ) (v : CodeClaim) → slice_get claims j ≡ Some v → slice_get items (first + j) ≡ Some v)
       (alone_here : (j : ℕ) (w : CodeClaim) → slice_get items j ≡ Some w → line < w.line → w.line < line + (lines (statement_of p.body) + 1) → In w claims)
       (laid : IsLaidBy g h.extents h.skeleton) (split_alone : AreSplitOnce g.placed.cuts) (keeps : KeepsInner g.placed.loops g.placed.cuts)
-      (filled : AllByRecursion (λ c. makes_line g.placed.loops (loop_numbers g.subject.variables g.placed.cuts h.extents) c ≡ false) g.placed.cuts) (near : IsNearRegion h.extents)
+      (filled : AllByRecursion (λ c. makes_line g.placed.loops (loop_numbers g.subject.variables g.placed.cuts h.extents) c ≡ false) g.placed.cuts)
       (few : AllByRecursion IsFew h.extents) where
     abbrev k : SkeletonText
     k = h.skeleton
@@ -188,34 +276,29 @@ module _ (a : Algorithm) (sch : Schedule) (l : Lowered) (well : IsAlgorithm a) (
     abbrev shape_here : AreBlocks xs bs g.placed others once rs untailed k
     shape_here = nests_of.shape a sch l well legal small kept all groups n first line g p claims needs at there h lined placed alone_here laid split_alone keeps filled
 
-    -- ---- loops run over near numbers
+    -- ---- loops run over few numbers
 
-    numbers_near : AllByRecursion (λ x. IsNearNumbers (numbers_named rs x)) xs
-    numbers_near = of xs h.extents (owners.numbers g h.extents k laid) laid.extents near few
+    numbers_few : AllByRecursion (λ x. AreFewNumbers (numbers_named rs x)) xs
+    numbers_few = of xs h.extents (owners.numbers g h.extents k laid) laid.extents few
       where
-        of : (ys : List (List ℕ)) (es : List Extent) → NumbersAre rs ys es → AllByRecursion IsExtent es → IsNearRegion es → AllByRecursion IsFew es →
-            AllByRecursion (λ x. IsNearNumbers (numbers_named rs x)) ys
-        of [] es q r n m = tt
-        of (y ∷ ys) [] q r n m = absurd q
-        of (y ∷ ys) (e ∷ es) q r n m = (subst IsNearNumbers (sym q.0) (n.0, r.0.some, m.0), of ys es q.1 r.1 n.1 m.1)
+        of : (ys : List (List ℕ)) (es : List Extent) → NumbersAre rs ys es → AllByRecursion IsExtent es → AllByRecursion IsFew es → AllByRecursion (λ x. AreFewNumbers (numbers_named rs x)) ys
+        of [] es q r m = tt
+        of (y ∷ ys) [] q r m = absurd q
+        of (y ∷ ys) (e ∷ es) q r m = (subst AreFewNumbers (sym q.0) (record { from = r.0.from; to = r.0.to; some = r.0.some; few = m.0 }), of ys es q.1 r.1 m.1)
 
-    whole_near : (x : List ℕ) → In x xs → IsNearNumbers (numbers_named rs x)
-    whole_near x m = all_in (λ x. IsNearNumbers (numbers_named rs x)) xs x numbers_near m
+    whole_few : (x : List ℕ) → In x xs → AreFewNumbers (numbers_named rs x)
+    whole_few x m = all_in (λ x. AreFewNumbers (numbers_named rs x)) xs x numbers_few m
 
-    leaf_near : (y : List ℕ) → In y xs ⊎ ((c : Split) × In c cuts × ((y ≡ c.outer) ⊎ (y ≡ c.inner))) → IsNearNumbers (numbers_named rs y)
-    leaf_near y (inl m) = whole_near y m
-    leaf_near y (inr (c, m, inl e)) =
-        let whole = whole_near c.whole (wholes c m) in
-        let some = whole.1 in
-        let most = whole.2 in
+    -- the number of the last block
+    few_blocks : (c : Split) → In c cuts → top (numbers_named rs c.whole).count c.factor + 1 ≤ 8192
+    few_blocks c m =
+        let whole = whole_few c.whole (wholes c m) in
+        let some = whole.some in
+        let most = whole.few in
         let wide = (fits c m).some in
-        let are = blocks_top (numbers_named rs c.whole).count c.factor some wide in
         let less = top_low (numbers_named rs c.whole).count c.factor some wide in
         let times = at_most_times (top (numbers_named rs c.whole).count c.factor) c.factor wide in
-        let less_top : top (numbers_named rs c.whole).count c.factor + 1 ≤ 8192 = sums (numbers_named rs c.whole).count (top (numbers_named rs c.whole).count c.factor)
-        (top (numbers_named rs c.whole).count c.factor * c.factor) some most less times in
-        subst (λ (z : List ℕ). IsNearNumbers (numbers_named rs z)) (sym e)
-        (subst IsNearNumbers (sym (fits c m).outer) (omega arith, omega (arith, are), omega (arith, are, less_top)))
+        sums (numbers_named rs c.whole).count (top (numbers_named rs c.whole).count c.factor) (top (numbers_named rs c.whole).count c.factor * c.factor) some most less times
       where
         at_most_times : (b d : ℕ) → 0 < d → b ≤ b * d
         at_most_times b zero some = absurd (omega (arith, some))
@@ -223,25 +306,59 @@ module _ (a : Algorithm) (sch : Schedule) (l : Lowered) (well : IsAlgorithm a) (
 
         sums : (n t u : ℕ) → 0 < n → n ≤ 8192 → u ≤ n - 1 → t ≤ u → t + 1 ≤ 8192
         sums n t u some most less le = omega (arith, some, most, less, le)
-    leaf_near y (inr (c, m, inr e)) =
+
+    abbrev LeafName : List ℕ → Type 0
+    LeafName y = In y xs ⊎ ((c : Split) × In c cuts × ((y ≡ c.outer) ⊎ (y ≡ c.inner)))
+
+    leaf_few : (y : List ℕ) → LeafName y → AreFewNumbers (numbers_named rs y)
+    leaf_few y (inl m) = whole_few y m
+    leaf_few y (inr (c, m, inl e)) =
+        let whole = whole_few c.whole (wholes c m) in
+        let some = whole.some in
+        let wide = (fits c m).some in
+        let are = blocks_top (numbers_named rs c.whole).count c.factor some wide in
+        let less_top = few_blocks c m in
+        subst (λ (z : List ℕ). AreFewNumbers (numbers_named rs z)) (sym e)
+        (subst AreFewNumbers (sym (fits c m).outer) (record { from = omega (arith, ints); to = omega (arith, ints); some = omega (arith, are); few = omega (arith, are, less_top) }))
+    leaf_few y (inr (c, m, inr e)) =
         let wide = (fits c m).few in
         let some = (fits c m).some in
-        subst (λ (z : List ℕ). IsNearNumbers (numbers_named rs z)) (sym e) (subst IsNearNumbers (sym (fits c m).inner) (omega arith, omega (arith, some), omega (arith, wide)))
+        subst (λ (z : List ℕ). AreFewNumbers (numbers_named rs z)) (sym e)
+        (subst AreFewNumbers (sym (fits c m).inner) (record { from = omega (arith, ints); to = omega (arith, ints); some = omega (arith, some); few = omega (arith, wide) }))
 
-    loops_near : AllByRecursion (λ o. IsNearNumbers (numbers_named rs o.name)) ls
-    loops_near =
-        all_from (λ o. IsNearNumbers (numbers_named rs o.name)) ls (λ o m. leaf_near o.name (nests_of.leaf_of a sch l well legal small kept all groups n first line g p claims needs at there h
-        lined placed alone_here laid split_alone keeps filled o m))
+    loop_leaf : (o : Loop) → In o ls → LeafName o.name
+    loop_leaf o m = nests_of.leaf_of a sch l well legal small kept all groups n first line g p claims needs at there h lined placed alone_here laid split_alone keeps filled o m
 
-    loop_near : (o : Loop) → In o ls → IsNearNumbers (numbers_named rs o.name)
-    loop_near o m = all_in (λ o. IsNearNumbers (numbers_named rs o.name)) ls o loops_near m
+    loops_few : AllByRecursion (λ o. AreFewNumbers (numbers_named rs o.name)) ls
+    loops_few = all_from (λ o. AreFewNumbers (numbers_named rs o.name)) ls (λ o m. leaf_few o.name (loop_leaf o m))
 
-    grid_near : (scope : List Binding) → AllByRecursion (IsBox scope) (grid_scope (piece_counts rs ls))
-    grid_near scope =
-        or_one_boxes scope (grid_counts rs (parallel_loops ls))
-        (all_mapped (λ o. (numbers_named rs o.name).count) (λ n. (0 < n) × (n ≤ 8192)) (parallel_loops ls)
-        (all_filtered is_parallel (λ o. IsNearNumbers (numbers_named rs o.name)) (λ o. (0 < (numbers_named rs o.name).count) × ((numbers_named rs o.name).count ≤ 8192)) (λ o e q. (q.1, q.2)) ls
-        loops_near))
+    loop_few : (o : Loop) → In o ls → AreFewNumbers (numbers_named rs o.name)
+    loop_few o m = all_in (λ o. AreFewNumbers (numbers_named rs o.name)) ls o loops_few m
+
+    counts_few : AllByRecursion IsCount (grid_counts rs (parallel_loops ls))
+    counts_few =
+        all_mapped (λ o. (numbers_named rs o.name).count) IsCount (parallel_loops ls)
+        (all_filtered is_parallel (λ o. AreFewNumbers (numbers_named rs o.name)) (λ o. IsCount (numbers_named rs o.name).count) (λ o e q. (q.some, q.few)) ls loops_few)
+
+    -- where the region begins near 0, so do all loops
+    abbrev Close : List ℕ → Type 0
+    Close x = unsigned_abs (numbers_named rs x).low ≤ 65536
+
+    wholes_close : IsNearRegion h.extents → (x : List ℕ) → In x xs → Close x
+    wholes_close near x m = all_in Close xs x (of xs h.extents (owners.numbers g h.extents k laid) near) m
+      where
+        of : (ys : List (List ℕ)) (es : List Extent) → NumbersAre rs ys es → IsNearRegion es → AllByRecursion Close ys
+        of [] es q r = tt
+        of (y ∷ ys) [] q r = absurd q
+        of (y ∷ ys) (e ∷ es) q r = (subst (λ (z : Numbers). unsigned_abs z.low ≤ 65536) (sym q.0) r.0, of ys es q.1 r.1)
+
+    close_loops : IsNearRegion h.extents → AllByRecursion (λ o. Close o.name) ls
+    close_loops near = all_from (λ o. Close o.name) ls (λ o m. leaf_close o.name (loop_leaf o m))
+      where
+        leaf_close : (y : List ℕ) → LeafName y → Close y
+        leaf_close y (inl m) = wholes_close near y m
+        leaf_close y (inr (c, m, inl e)) = subst Close (sym e) (subst (λ (z : Numbers). unsigned_abs z.low ≤ 65536) (sym (fits c m).outer) (omega arith))
+        leaf_close y (inr (c, m, inr e)) = subst Close (sym e) (subst (λ (z : Numbers). unsigned_abs z.low ≤ 65536) (sym (fits c m).inner) (omega arith))
 
     -- ---- a nest
 
@@ -259,7 +376,7 @@ module _ (a : Algorithm) (sch : Schedule) (l : Lowered) (well : IsAlgorithm a) (
       capped : (c : Split) (m : In c cuts) (j : ℕ) (t : Turning) → slice_get ts j ≡ Some t → t.name ≡ c.inner → (f : Form) →
           IsLimit cuts others once rs ls untailed over_grid q.next ts (q.next + j) c f → q.limits (q.next + j) ≡ f ∷ [] → IsCapped around_store (span t.low t.last (q.limits (q.next + j)))
       capped c m j t e name f limit is =
-          let whole = whole_near c.whole (wholes c m) in
+          let whole = whole_few c.whole (wholes c m) in
           let fit = fit_of c.whole (wholes c m) in
           let count : ℕ = (numbers_named rs c.whole).count in
           let size : ℕ = c.factor - 1 in
@@ -278,8 +395,8 @@ module _ (a : Algorithm) (sch : Schedule) (l : Lowered) (well : IsAlgorithm a) (
           c.inner name (inr (c, m, inr refl)) in
           let begins : t.low ≡ pos 0 = y.0 ∙ inner_low ls rs c (untailed c m) (fits c m) fit.0 fit.1 in
           let stops : t.last ≡ pos size = y.1 ∙ inner_last ls rs c (untailed c m) (fits c m) fit.0 fit.1 ∙ omega (arith, ints, size_so) in
-          let few_count = whole.2 in
-          let some_count = whole.1 in
+          let few_count = whole.few in
+          let some_count = whole.some in
           let tops_low = top_low count c.factor some_count some in
           let times : top count c.factor * suc size ≡ top count c.factor * c.factor = ap (λ (z : ℕ). top count c.factor * z) (sym size_so) in
           let rest : last_number (numbers_named rs c.whole) +ℤ negsuc 0 *ℤ low c.whole ≡ pos (count - 1) = of_last (low c.whole) count some_count in
@@ -305,124 +422,236 @@ module _ (a : Algorithm) (sch : Schedule) (l : Lowered) (well : IsAlgorithm a) (
           by_size : (n m : ℕ) → n ≡ suc m → negsuc 0 *ℤ pos n ≡ negsuc m
           by_size n m e = omega (arith, ints, e)
 
-      boxes_here : AllByRecursion IsBoxTurn q.body.ranges → AreBoxes (bind_steps (head_scope k) w.steps)
-      boxes_here ranges =
-          let over : head_scope k ≡ grid_scope k.grid = ap (bind_steps (grid_scope k.grid)) shape_here.head in
-          let steps : bind_steps (grid_scope k.grid) (limited_for q.limits q.next ts) ≡ around_store = ap (bind_steps (grid_scope k.grid)) (sym q.steps) in
-          let grid : AllByRecursion (IsBox around_store) (grid_scope k.grid) =
-          subst (λ (ns : List ℕ). AllByRecursion (IsBox around_store) (grid_scope ns)) (sym shape_here.grid) (grid_near around_store) in
-          let turns : AllByRecursion IsBoxTurn ts = turns_box rs ls loops_near q.body ranges in
-          let all_boxes : AreBoxes around_store =
-          steps_boxes q.limits q.next ts (grid_scope k.grid) around_store steps grid (λ j t e. elim (q.bounded j t e) [
-            | inl none ↦ plain_box q.limits around_store (q.next + j) t (all_get IsBoxTurn ts j t turns e) none
-            | inr (c, m, tailed, name, f, limit, is) ↦ inr (inr (capped c m j t e name f limit is))
-          ]) in
-          subst (λ (scope : List Binding). AreBoxes (bind_steps scope w.steps)) (sym over) all_boxes
+      over_head : head_scope k ≡ grid_scope k.grid
+      over_head = ap (bind_steps (grid_scope k.grid)) shape_here.head
 
-      module _ (v : ℕ → ℤ) (v_near : (s : ℕ) → IsNear (v s)) where
-        -- a form over the grid, or a loop's symbol
-        leaf_index : (y : List ℕ) (f : Form) → Leaf cuts others once rs ls untailed over_grid q.next ts y f → IsIndex (form_value f v)
-        leaf_index y f (inl over) =
-            let r = nests_of.grids a sch l well legal small kept all groups n first line g p claims needs at there h lined placed alone_here laid split_alone keeps filled y f over in
-            let o = r.3 in
-            let close = (subst (λ (x : List ℕ). IsNearNumbers (numbers_named rs x)) o.2 (loop_near o.0 o.1)).0 in
-            fits_index (suc r.0) v v_near (Some f) (low y, r.0, r.1, omega (arith, close), omega arith)
-        leaf_index y f (inr (i, t, there_t, name, is)) = fits_index (suc (q.next + i)) v v_near (Some f) (pos 0, q.next + i, is, omega arith, omega arith)
+      steps_here : bind_steps (grid_scope k.grid) (limited_for q.limits q.next ts) ≡ around_store
+      steps_here = ap (bind_steps (grid_scope k.grid)) (sym q.steps)
 
-        right_index : (y : List ℕ) (f : Form) → Right cuts others once rs ls untailed over_grid q.next ts q.limits y f → IsIndex (form_value f v)
-        right_index y f (inl leaf) = leaf_index y f leaf
-        right_index y f (inr u) = inner_of u.by_inner
+      -- what is so of a symbol for each count is so of all of the grid
+      grid_all : (P : Binding → Type 0) → ((n : ℕ) → IsCount n → P (grid_symbol n)) → AllByRecursion P (grid_scope k.grid)
+      grid_all P each = subst (λ (ns : List ℕ). AllByRecursion P (grid_scope ns)) (sym shape_here.grid) (or_one_all P each (grid_counts rs (parallel_loops ls)) counts_few)
+
+      -- a loop has no further form, or that of a split that a guard keeps
+      by_limit : (P : Span1 → Type 0) (j : ℕ) (t : Turning) → slice_get ts j ≡ Some t → (q.limits (q.next + j) ≡ [] → P (span t.low t.last (q.limits (q.next + j)))) →
+          (IsCapped around_store (span t.low t.last (q.limits (q.next + j))) → P (span t.low t.last (q.limits (q.next + j)))) → P (span t.low t.last (q.limits (q.next + j)))
+      by_limit P j t e plain more = elim (q.bounded j t e) [
+        | inl none ↦ plain none
+        | inr (c, m, tailed, name, f, limit, is) ↦ more (capped c m j t e name f limit is)
+      ]
+
+      module _ (ranges : AllByRecursion IsBoxTurn q.body.ranges) where
+        turns_here : AllByRecursion IsTurn ts
+        turns_here =
+            turns_all IsTurn rs ls (all_weaker (λ o. AreFewNumbers (numbers_named rs o.name)) (λ o. IsTurn (loop_turning rs o)) (λ o h. turn_few rs o h) ls loops_few) q.body
+            (all_weaker IsBoxTurn IsTurn box_turn q.body.ranges ranges)
+
+        turn_here : (j : ℕ) (t : Turning) → slice_get ts j ≡ Some t → IsTurn t
+        turn_here j t e = all_get IsTurn ts j t turns_here e
+
+        store_boxes : AreBoxes around_store
+        store_boxes =
+            steps_boxes q.limits q.next ts (grid_scope k.grid) around_store steps_here (grid_all (IsBox around_store) (count_box around_store))
+            (λ j t e. by_limit (λ x. IsBox around_store (LoopBinding x)) j t e (λ none. plain_box q.limits around_store (q.next + j) t (turn_here j t e).some none) (λ c. inr (inr c)))
+
+        boxes_here : AreBoxes (bind_steps (head_scope k) w.steps)
+        boxes_here = subst (λ (scope : List Binding). AreBoxes (bind_steps scope w.steps)) (sym over_head) store_boxes
+
+        abbrev IsUnder : ℕ → Span1 → Type 0
+        IsUnder most x = weight_of (Some (LoopBinding x)) ≤ most
+
+        capped_under : (x : Span1) (most : ℕ) → 32768 ≤ most → IsCapped around_store x → IsUnder most x
+        capped_under x most le c = subst (IsUnder most) (sym c.is) (omega (arith, le))
+
+        -- how far the symbols go
+        all_weights : (n : ℕ) → weight_at around_store n ≤ 2 ^ 32
+        all_weights =
+            steps_weights q.limits q.next ts (grid_scope k.grid) around_store (2 ^ 32) steps_here
+            (grid_all (λ b. weight_of (Some b) ≤ 2 ^ 32) (λ n c. let most = count_weight n c in omega (arith, most)))
+            (λ j t e. by_limit (IsUnder (2 ^ 32)) j t e
+            (λ none. let turn = turn_here j t e in plain_weight q.limits (q.next + j) t (2 ^ 32) (first_far t.low turn.from turn.to) turn.last none)
+            (λ c. capped_under (span t.low t.last (q.limits (q.next + j))) (2 ^ 32) (omega arith) c))
           where
-            c : Split
-            c = u.split
+            first_far : (z : ℤ) → negsuc 2147483647 ≤ℤ z → z ≤ℤ pos 2147483647 → unsigned_abs z ≤ 2 ^ 32
+            first_far z h k = omega (arith, ints, h, k)
+
+        near_weights : IsNearRegion h.extents → (n : ℕ) → weight_at (bind_steps (head_scope k) w.steps) n ≤ 73728
+        near_weights near =
+            subst (λ (scope : List Binding). (n : ℕ) → weight_at (bind_steps scope w.steps) n ≤ 73728) (sym over_head)
+            (steps_weights q.limits q.next ts (grid_scope k.grid) around_store 73728 steps_here
+            (grid_all (λ b. weight_of (Some b) ≤ 73728) (λ n c. let most = count_weight n c in omega (arith, most)))
+            (λ j t e. by_limit (IsUnder 73728) j t e (λ none. let turn = near_turn j t e in plain_weight q.limits (q.next + j) t 73728 turn.0 turn.1 none)
+            (λ c. capped_under (span t.low t.last (q.limits (q.next + j))) 73728 (omega arith) c)))
+          where
+            near_turns : AllByRecursion IsBoxTurn ts
+            near_turns =
+                turns_all IsBoxTurn rs ls (all_from (λ o. IsBoxTurn (loop_turning rs o)) ls
+                (λ o m. turn_box rs o (loop_few o m) (all_in (λ o. Close o.name) ls o (close_loops near) m))) q.body ranges
+
+            near_turn : (j : ℕ) (t : Turning) → slice_get ts j ≡ Some t → IsBoxTurn t
+            near_turn j t e = all_get IsBoxTurn ts j t near_turns e
+
+        -- ---- positions at the first numbers, and how far they go
+
+        abbrev v : ℕ → ℤ
+        v = firsts around_store
+
+        turn_first : (j : ℕ) (t : Turning) → slice_get ts j ≡ Some t → v (q.next + j) ≡ t.low
+        turn_first j t e =
+            let long : length (grid_scope k.grid) ≡ length k.grid = length-map k.grid grid_symbol in
+            let many : length k.grid ≡ length (piece_counts rs ls) = ap length shape_here.grid in
+            let least = q.low in
+            ap (λ (scope : List Binding). first_of (slice_get scope (q.next + j))) (sym steps_here)
+            ∙ ap first_of (turn_there q.limits q.next ts (grid_scope k.grid) (omega (arith, long, many, least)) j t e)
+
+        -- a form is a number of 32 bits at the first numbers, and light
+        record IsGood (f : Form) : Type 0 where
+          index : IsIndex (form_value f v)
+          light : IsLightList around_store f.terms
+
+        good_by : (f : Form) (z : ℤ) → form_value f v ≡ z → negsuc 2147483647 ≤ℤ z → z ≤ℤ pos 2147483647 → IsLightList around_store f.terms → IsGood f
+        good_by f z is from to light = record { index = subst IsIndex (sym is) (record { from = omega (arith, ints, from); to = omega (arith, ints, to) }); light = light }
+
+        counted_value : (z : ℤ) (s : ℕ) (y : ℤ) → v s ≡ y → form_value (counted_from z s) v ≡ z +ℤ y
+        counted_value z s y is = (λ j. z +ℤ (pos 1 *ℤ is j +ℤ pos 0)) ∙ once_more y
+          where
+            once_more : (y : ℤ) → z +ℤ (pos 1 *ℤ y +ℤ pos 0) ≡ z +ℤ y
+            once_more y = omega (arith, ints)
+
+        counted_light : (z : ℤ) (s : ℕ) → IsLightList around_store (counted_from z s).terms
+        counted_light z s = (let most = all_weights s in omega (arith, most))
+
+        -- a form over the grid, or a loop's symbol
+        leaf_good : (y : List ℕ) (f : Form) → Leaf cuts others once rs ls untailed over_grid q.next ts y f → IsGood f
+        leaf_good y f (inl over) =
+            let r = loops_of.grid_bound a sch l well legal small kept all groups n first line g p claims needs at there h lined placed alone_here laid split_alone keeps filled d w stands y f over in
+            let o = (nests_of.grids a sch l well legal small kept all groups n first line g p claims needs at there h lined placed alone_here laid split_alone keeps filled y f over).3 in
+            let few_here = subst (λ (x : List ℕ). AreFewNumbers (numbers_named rs x)) o.2 (loop_few o.0 o.1) in
+            let value : form_value (counted_from (low y) r.0) v ≡ low y = counted_value (low y) r.0 (pos 0) (ap first_of r.2) ∙ none_more (low y) in
+            subst IsGood (sym r.1) (good_by (counted_from (low y) r.0) (low y) value few_here.from few_here.to (counted_light (low y) r.0))
+          where
+            none_more : (z : ℤ) → z +ℤ pos 0 ≡ z
+            none_more z = omega (arith, ints)
+        leaf_good y f (inr (i, t, there_t, name, is)) =
+            let turn = turn_here i t there_t in
+            let value : form_value (counted_from (pos 0) (q.next + i)) v ≡ t.low = counted_value (pos 0) (q.next + i) t.low (turn_first i t there_t) ∙ from_zero t.low in
+            subst IsGood (sym is) (good_by (counted_from (pos 0) (q.next + i)) t.low value turn.from turn.to (counted_light (pos 0) (q.next + i)))
+          where
+            from_zero : (z : ℤ) → pos 0 +ℤ z ≡ z
+            from_zero z = omega (arith, ints)
+
+        right_good : (y : List ℕ) (f : Form) → Right cuts others once rs ls untailed over_grid q.next ts q.limits y f → IsGood f
+        right_good y f (inl leaf) = leaf_good y f leaf
+        right_good y f (inr u) = inner_of u.by_inner
+          where
+            whole : AreFewNumbers (numbers_named rs u.split.whole)
+            whole = whole_few u.split.whole (wholes u.split u.there)
 
             whole_fit : IsSmall (numbers_named rs u.split.whole) × (0 < (numbers_named rs u.split.whole).count)
             whole_fit = fit_of u.split.whole (wholes u.split u.there)
 
-            -- the outer loop's symbol
-            outer_there : (i : ℕ) (t : Turning) → slice_get ts i ≡ Some t → t.name ≡ u.split.inner → Leaf cuts others once rs ls untailed over_grid q.next ts u.split.outer u.outer →
-                (s : ℕ) × (u.outer ≡ counted_from (pos 0) s) × ((s == q.next + i) ≡ false)
-            outer_there i t there_t name (inl over) =
-                let r = nests_of.grids a sch l well legal small kept all groups n first line g p claims needs at there h lined placed alone_here laid split_alone keeps filled u.split.outer
-                u.outer over in
-                let zero_low : low u.split.outer ≡ pos 0 = outer_low ls rs u.split (untailed u.split u.there) (fits u.split u.there) whole_fit.0 whole_fit.1 in
-                let less = r.2 in
-                let least = q.low in
-                let under : r.0 < q.next + i = omega (arith, less, least) in
-                (r.0, r.1 ∙ ap (λ (z : ℤ). counted_from z r.0) zero_low, grind (arith, nat_tests, under))
-            outer_there i t there_t name (inr (o, v', there_v, outer_name, outer_is)) = (q.next + o, outer_is, by (q.next + o == q.next + i) refl)
-              where
-                by : (e : Bool) → (q.next + o == q.next + i) ≡ e → (q.next + o == q.next + i) ≡ false
-                by false e = e
-                by true e =
-                    let sums = eq_true (q.next + o) (q.next + i) e in
-                    let place_so : o ≡ i = omega (arith, sums) in
-                    let some : Some v' ≡ Some t = sym there_v ∙ ap (slice_get ts) place_so ∙ there_t in
-                    let same_turn : v' ≡ t = cc some in
-                    absurd (inner_outer cuts others u.split u.split u.there u.there (sym name ∙ ap (λ (x : Turning). x.name) (sym same_turn) ∙ outer_name))
-
-            inner_of : Leaf cuts others once rs ls untailed over_grid q.next ts u.split.inner u.inner → IsIndex (form_value f v)
+            inner_of : Leaf cuts others once rs ls untailed over_grid q.next ts u.split.inner u.inner → IsGood f
             inner_of (inl over) =
                 let clash : Some u.inner ≡ None = sym over ∙ nests_of.inners a sch l well legal small kept all groups n first line g p claims needs at there h lined placed alone_here laid
                 split_alone keeps filled u.split u.there in
                 absurd (cc clash)
             inner_of (inr (i, t, there_t, name, inner_form)) =
-                let o = outer_there i t there_t name u.by_outer in
+                let o = loops_of.outer_bound a sch l well legal small kept all groups n first line g p claims needs at there h lined placed alone_here laid split_alone keeps filled d w stands u.split
+                u.there u.outer u.by_outer in
+                let y = loops_of.leaf_turn a sch l well legal small kept all groups n first line g p claims needs at there h lined placed alone_here laid split_alone keeps filled d w stands
+                i t there_t
+                u.split.inner name (inr (u.split, u.there, inr refl)) in
+                let begins : t.low ≡ pos 0 = y.0 ∙ inner_low ls rs u.split (untailed u.split u.there) (fits u.split u.there) whole_fit.0 whole_fit.1 in
                 let begins_so = ap (combined (number (low u.split.whole)) (pos u.split.factor)) (sym o.1) ∙ u.begins in
                 let sum_so = ap (combined u.start (pos 1)) (sym inner_form) ∙ u.sum in
-                let form = pair_is (low u.split.whole) u.split.factor o.0 (fits u.split u.there).some (q.next + i) u.start f o.2 begins_so sum_so in
-                let close = (whole_near u.split.whole (wholes u.split u.there)).0 in
-                subst (λ (z : Form). IsIndex (form_value z v)) (sym form.0)
-                (pair_index v v_near (low u.split.whole) o.0 u.split.factor (q.next + i) (omega (arith, close)) (fits u.split u.there).few)
+                let form = pair_is (low u.split.whole) u.split.factor o.0 (fits u.split u.there).some (q.next + i) u.start f (apart i t there_t name o.0 o.3) begins_so sum_so in
+                let value = pair_value (low u.split.whole) o.0 u.split.factor (q.next + i) v (ap first_of o.2) (turn_first i t there_t ∙ begins) in
+                let blocks = few_blocks u.split u.there in
+                let outer_weight : weight_at around_store o.0 ≤ 8192 =
+                subst (λ (b : Option Binding). weight_of b ≤ 8192) (sym o.2)
+                (both_under 0 (top (numbers_named rs u.split.whole).count u.split.factor) 8192 (omega arith) (omega (arith, blocks))) in
+                let light = pair_light (low u.split.whole) o.0 u.split.factor (q.next + i) around_store (fits u.split u.there).few outer_weight (all_weights (q.next + i)) in
+                subst IsGood (sym form.0) (good_by (pair (low u.split.whole) o.0 (pos u.split.factor) (q.next + i)) (low u.split.whole) value whole.from whole.to light)
+              where
+                apart : (i : ℕ) (t : Turning) → slice_get ts i ≡ Some t → t.name ≡ u.split.inner → (s : ℕ) →
+                    (s < q.next) ⊎ ((o : ℕ) × (x : Turning) × (slice_get ts o ≡ Some x) × (x.name ≡ u.split.outer) × (s ≡ q.next + o)) → (s == q.next + i) ≡ false
+                apart i t there_t name s (inl less) = (let under : s < q.next + i = omega (arith, less) in grind (arith, nat_tests, under))
+                apart i t there_t name s (inr (o, x, there_x, outer_name, place)) = by (s == q.next + i) refl
+                  where
+                    by : (e : Bool) → (s == q.next + i) ≡ e → (s == q.next + i) ≡ false
+                    by false e = e
+                    by true e =
+                        let sums = eq_true s (q.next + i) e in
+                        let place_so : o ≡ i = omega (arith, sums, place) in
+                        let same_turn : x ≡ t = same x t (sym there_x ∙ ap (slice_get ts) place_so ∙ there_t) in
+                        absurd (inner_outer cuts others u.split u.split u.there u.there (sym name ∙ ap (λ (z : Turning). z.name) (sym same_turn) ∙ outer_name))
 
-        known_index : AllByRecursion (λ k. IsIndex (form_value k.form v)) q.known
-        known_index = of q.known q.right
+        known_good : AllByRecursion (λ k. IsGood k.form) q.known
+        known_good = of q.known q.right
           where
-            of : (ks : List Known) → AllByRecursion (λ k. Right cuts others once rs ls untailed over_grid q.next ts q.limits k.name k.form) ks → AllByRecursion (λ k. IsIndex (form_value k.form v)) ks
+            of : (ks : List Known) → AllByRecursion (λ k. Right cuts others once rs ls untailed over_grid q.next ts q.limits k.name k.form) ks → AllByRecursion (λ k. IsGood k.form) ks
             of [] r = tt
-            of (x ∷ ks) r = (right_index x.name x.form r.0, of ks r.1)
+            of (x ∷ ks) r = (right_good x.name x.form r.0, of ks r.1)
+
+        -- what is so of none and of each such form is so of each coordinate
+        coordinates_all : (Q : Option Form → Type 0) → Q None → ((f : Form) → IsGood f → Q (Some f)) → AllByRecursion Q w.at
+        coordinates_all Q none each =
+            let known_so = all_weaker (λ k. IsGood k.form) (λ k. Q (Some k.form)) (λ k h. each k.form h) q.known known_good in
+            subst (AllByRecursion Q) (sym q.forms)
+            (all-append Q (variables_at q.body 0 xs q.known) (ranges_at q.body.ranges q.known) (variables_so Q none q.known known_so q.body 0 xs) (ranges_so Q none q.known known_so q.body.ranges))
 
         all_index : AllByRecursion IsIndex (map (number_at v) w.at)
-        all_index =
-            all_mapped (number_at v) IsIndex w.at
-            (subst (AllByRecursion (λ o. IsIndex (number_at v o))) (sym q.forms)
-            (all-append (λ o. IsIndex (number_at v o)) (variables_at q.body 0 xs q.known) (ranges_at q.body.ranges q.known) (variables_index v q.known known_index q.body 0 xs)
-            (ranges_index v q.known known_index q.body.ranges)))
+        all_index = all_mapped (number_at v) IsIndex w.at (coordinates_all (λ o. IsIndex (number_at v o)) (index_near (pos 0) (omega arith)) (λ f h. h.index))
 
-    boxed_here : (d : ℕ) (w : NestText) → slice_get k.nests d ≡ Some w → ((b : BodyText) → slice_get bs d ≡ Some b → AllByRecursion IsBoxTurn b.ranges) → IsIndexed k w
-    boxed_here d w stands ranges =
+        all_light : AllByRecursion (IsLightIf around_store) w.at
+        all_light = coordinates_all (IsLightIf around_store) tt (λ f h. h.light)
+
+        calls_light : AllByRecursion (λ f. AllByRecursion (λ o. o ≡ None) f.at) fs → IsNearOrSimple g fs h.extents → (f : FormulaText) → slice_get fs d ≡ Some f → (r : AroundText) →
+            around a g (head_scope k) w f d ≡ Some r → AreCallsLight a r (calls_in f)
+        calls_light set (inl near) f e = few_calls_light a g (head_scope k) w f d (near_weights near)
+        calls_light set (inr simple) f e =
+            simple_light a g (head_scope k) w f d (all_get (λ (y : FormulaText). AllByRecursion (λ o. o ≡ None) y.at) fs d f set e) (all_get (λ (y : FormulaText). has_simple_indices y ≡
+            true) fs d f simple.0 e)
+            (subst (λ (scope : List Binding). AllByRecursion (IsLightIf (bind_steps scope w.steps)) w.at) (sym over_head) all_light)
+
+    boxed_here : ArePlaced fs → IsNearOrSimple g fs h.extents → (d : ℕ) (w : NestText) → slice_get k.nests d ≡ Some w →
+        ((b : BodyText) → slice_get bs d ≡ Some b → AllByRecursion IsBoxTurn b.ranges) → IsIndexed a g fs k d w
+    boxed_here set close d w stands ranges =
         let v = shape_here.nests d w stands in
-        let boxes = boxes_here d w stands (ranges v.body v.at) in
-        let scope : List Binding = bind_steps (head_scope k) w.steps in
-        record { boxes = boxes; indices = all_index d w stands (firsts scope) (firsts_near scope boxes) }
+        let here = ranges v.body v.at in
+        record {
+          boxes = boxes_here d w stands here;
+          indices = subst (λ (scope : List Binding). AllByRecursion IsIndex (map (number_at (firsts (bind_steps scope w.steps))) w.at)) (sym (over_head d w stands)) (all_index d w stands here);
+          light = calls_light d w stands here set close;
+        }
 
     formed_here : (d : ℕ) (w : NestText) → slice_get k.nests d ≡ Some w → IsFormed xs bs d w
     formed_here d w stands = (let v = shape_here.nests d w stands in record { body = v.body; at = v.at; known = v.known; forms = v.forms })
 
     -- blocks end near, as well
-    ends_short : AreEndsShort rs cuts
-    ends_short = all_from (λ c. is_tailed rs c ≡ false → has_rest c (numbers_named rs c.whole).count ≡ true → (last_number (numbers_named rs c.whole) +ℤ pos c.factor) ≤ℤ pos 2147483647) cuts
+    ends_short : IsNearRegion h.extents → AreEndsShort rs cuts
+    ends_short near = all_from (λ c. is_tailed rs c ≡ false → has_rest c (numbers_named rs c.whole).count ≡ true → (last_number (numbers_named rs c.whole) +ℤ pos c.factor) ≤ℤ pos 2147483647) cuts
         (λ c m bare e.
-        let close = whole_near c.whole (wholes c m) in
-        by (low c.whole) (numbers_named rs c.whole).count c.factor close.0 close.2 (fits c m).few)
+        by (low c.whole) (numbers_named rs c.whole).count c.factor (wholes_close near c.whole (wholes c m)) (whole_few c.whole (wholes c m)).few (fits c m).few)
       where
         by : (z : ℤ) (n w : ℕ) → unsigned_abs z ≤ 65536 → n ≤ 8192 → w ≤ 1024 → (z +ℤ pos n -ℤ pos 1 +ℤ pos w) ≤ℤ pos 2147483647
         by z n w h k q = omega (arith, ints, h, k, q)
 
     -- so what is fetched holds the calls
-    held_here : ArePlaced fs → (m : LaidText) → slice_get (laid_functions a gs) n ≡ Some (Some m) → m.skeleton ≡ k → skeleton_of g fs m.region ≡ Some m.skeleton → g.formulas ≡ Some fs →
+    held_here : ArePlaced fs → IsNearOrSimple g fs h.extents → (m : LaidText) → slice_get (laid_functions a gs) n ≡ Some (Some m) → m.skeleton ≡ k → skeleton_of g fs m.region ≡ Some
+        m.skeleton → g.formulas ≡ Some fs →
         AreHeld a gs n g fs m.skeleton × AreEndsShort rs cuts
-    held_here set m found_there same_skeleton_so over defined = (
+    held_here set close m found_there same_skeleton_so over defined = (
       held_near a sch l well legal small kept all groups n g at fs defined set m found_there over
           (λ d w stands. formed_here d w (ap (λ (y : SkeletonText). slice_get y.nests d) (sym same_skeleton_so) ∙ stands))
-          (λ d w stands ranges. subst (λ (y : SkeletonText). IsIndexed y w) (sym same_skeleton_so)
-          (boxed_here d w (ap (λ (y : SkeletonText). slice_get y.nests d) (sym same_skeleton_so) ∙ stands) ranges)),
-      ends_short,
+          (λ d w stands ranges. subst (λ (y : SkeletonText). IsIndexed a g fs y d w) (sym same_skeleton_so)
+          (boxed_here set close d w (ap (λ (y : SkeletonText). slice_get y.nests d) (sym same_skeleton_so) ∙ stands) ranges)),
+      elim close [ inl near ↦ ends_short near | inr simple ↦ simple.1 ],
     )
 
   -- of a group of the plan
   pub blocked_held : (n : ℕ) (q : CodeGroup) → slice_get l.plan.groups.items n ≡ Some q → (u : StoredText) → slice_get gs n ≡ Some u → IsKept a sch n u → (fs : List FormulaText) →
-      u.formulas ≡ Some fs → ArePlaced fs → (m : LaidText) → slice_get (laid_functions a gs) n ≡ Some (Some m) → IsNearRegion m.region →
+      u.formulas ≡ Some fs → ArePlaced fs → (m : LaidText) → slice_get (laid_functions a gs) n ≡ Some (Some m) → IsNearOrSimple u fs m.region →
       AreHeld a gs n u fs m.skeleton × AreEndsShort (loop_numbers u.subject.variables u.placed.cuts m.region) u.placed.cuts
   blocked_held n q theirs u at blocked fs defined set m found_there near =
       let me = made_at a sch l well legal small kept all groups n q theirs in
@@ -447,13 +676,16 @@ module _ (a : Algorithm) (sch : Schedule) (l : Lowered) (well : IsAlgorithm a) (
       let filled : AllByRecursion (λ c. makes_line me.stored.placed.loops (loop_numbers me.stored.subject.variables me.stored.placed.cuts body.extents) c ≡ false) me.stored.placed.cuts =
       subst (λ (es : List Extent). AllByRecursion (λ c. makes_line me.stored.placed.loops (loop_numbers me.stored.subject.variables me.stored.placed.cuts es) c ≡ false) me.stored.placed.cuts) extents
       (mine.filled me.laid me.found) in
-      let near_here : IsNearRegion body.extents = subst IsNearRegion extents (subst (λ (y : LaidText). IsNearRegion y.region) (sym region) near) in
+      let close_here : IsNearOrSimple me.stored body.formulas body.extents =
+      subst (IsNearOrSimple me.stored body.formulas) extents
+      (subst (λ (y : LaidText). IsNearOrSimple me.stored body.formulas y.region) (sym region)
+      (subst (λ (vs : List FormulaText). IsNearOrSimple me.stored vs m.region) (sym formulas) (subst (λ (y : StoredText). IsNearOrSimple y fs m.region) (sym stored) near))) in
       let few_here : AllByRecursion IsFew body.extents = subst (AllByRecursion IsFew) extents (regions_few a gs n me.laid all me.found) in
       let over : skeleton_of me.stored body.formulas me.laid.region ≡ Some me.laid.skeleton =
       subst (λ (vs : List FormulaText). skeleton_of me.stored vs me.laid.region ≡ Some me.laid.skeleton)
       (same me.formulas body.formulas (sym me.defined ∙ body.defined)) me.over in
-      let here = held_here n b.first_claim b.line me.stored q b.claims b.needs me.is theirs body begins b.numbered own laid mine.once mine.inners filled near_here few_here
-      (subst ArePlaced (sym formulas) set) me.laid me.found skeleton over body.defined in
+      let here = held_here n b.first_claim b.line me.stored q b.claims b.needs me.is theirs body begins b.numbered own laid mine.once mine.inners filled few_here
+      (subst ArePlaced (sym formulas) set) close_here me.laid me.found skeleton over body.defined in
       let held_there : AreHeld a gs n u fs m.skeleton =
       subst (λ (y : LaidText). AreHeld a gs n u fs y.skeleton) region
       (subst (λ (vs : List FormulaText). AreHeld a gs n u vs me.laid.skeleton) formulas (subst (λ (y : StoredText). AreHeld a gs n y body.formulas me.laid.skeleton) stored here.0)) in

@@ -47,9 +47,9 @@ pub record IsCapped (scope : List Binding) (x : Span1) : Type 0 where
   pub light : most + top * suc factor ≤ 32768
 
 abbrev pub IsNumbers : Span1 → Type 0
-IsNumbers x = (low : ℤ) × (last : ℤ) × (x ≡ numbers low last) × (unsigned_abs low ≤ 73728) × (unsigned_abs last ≤ 73728) × (low ≤ℤ last)
+IsNumbers x = (low : ℤ) × (last : ℤ) × (x ≡ numbers low last) × (low ≤ℤ last)
 
--- there are numbers of a loop, all within 73,728, with a further upper form or without; or nothing is known of the symbol
+-- there are numbers of a loop, with a further upper form or without; or nothing is known of the symbol
 abbrev pub IsBox : List Binding → Binding → Type 0
 IsBox scope (Loop x) = (x ≡ anything) ⊎ (IsNumbers x ⊎ IsCapped scope x)
 IsBox scope (LetMin fs) = ⊥
@@ -169,7 +169,7 @@ right_most m n = of (nat_le m n) refl
     of true e = omega arith
     of false e = grind (arith, nat_tests, e)
 
-both_under : (m n k : ℕ) → m ≤ k → n ≤ k → greater m n ≤ k
+pub both_under : (m n k : ℕ) → m ≤ k → n ≤ k → greater m n ≤ k
 both_under m n k h g = of (nat_le m n)
   where
     of : (v : Bool) → (if v then n else m) ≤ k
@@ -268,14 +268,6 @@ module _ (scope : List Binding) where
       let parts = mul-add (unsigned_abs k) (weight_at u.symbol * unsigned_abs u.factor) (weight us) in
       omega (arith, rest, one, product, parts)
 
-  few_weight : (b : Binding) → IsBox scope b → weight_of (Some b) ≤ 73728
-  few_weight (Loop x) (inl is) = subst (λ (y : Span1). weight_of (Some (Loop y)) ≤ 73728) (sym is) (omega arith)
-  few_weight (Loop x) (inr (inl k)) =
-      subst (λ (y : Span1). weight_of (Some (Loop y)) ≤ 73728) (sym k.2) (both_under (unsigned_abs k.0) (unsigned_abs k.1) 73728 k.3 k.4)
-  few_weight (Loop x) (inr (inr k)) = subst (λ (y : Span1). weight_of (Some (Loop y)) ≤ 73728) (sym k.is) (omega arith)
-  few_weight (LetMin fs) box = absurd box
-  few_weight (LetMax fs) box = absurd box
-
   -- a form that may stand in a symbol's place goes no farther than the symbol
   candidates_light : (b : Binding) → IsBox scope b → (c : ℤ) → AllByRecursion (λ f. unsigned_abs f.constant + weight f.terms ≤ weight_of (Some b)) (candidates b c)
   candidates_light (Loop x) (inl is) (pos n) =
@@ -304,6 +296,35 @@ module _ (scope : List Binding) where
   none_may (Loop x) box c = refl
   none_may (LetMin fs) box c = absurd box
   none_may (LetMax fs) box c = absurd box
+
+-- ---- light forms
+
+-- the multiples of the form go no farther than 2^39 + 2^37 together, where it is within the limits
+abbrev pub IsLight : List Binding → Form → Type 0
+IsLight scope f = is_within_limits f ≡ true → weight scope f.terms ≤ 2 ^ 39 + 2 ^ 37
+
+-- each form of the span is such
+abbrev pub IsLightSpan : List Binding → Span1 → Type 0
+IsLightSpan scope s = AllByRecursion (IsLight scope) s.lower × AllByRecursion (IsLight scope) s.upper
+
+-- so is each, whatever its factors, where no symbol's numbers go farther than 73,728
+module _ (scope : List Binding) (few : (n : ℕ) → weight_at scope n ≤ 73728) where
+  weight_few : (ts : List Multiple) → AreWithin (2 ^ 20) ts → weight scope ts ≤ 77309411328 * length ts
+  weight_few [] h = omega arith
+  weight_few (t ∷ ts) h =
+      let here : unsigned_abs t.factor ≤ 1048576 = h.0 in
+      let most = mul-le-mul_right (unsigned_abs t.factor) (few t.symbol) in
+      let rest = weight_few ts h.1 in
+      omega (arith, here, most, rest)
+
+  few_light : (f : Form) → IsLight scope f
+  few_light f limited =
+      let sized = weight_few f.terms (within_limits-terms f limited) in
+      let count = within_limits-few f limited in
+      omega (arith, sized, count)
+
+  pub span_light : (s : Span1) → IsLightSpan scope s
+  span_light s = (has_all (IsLight scope) s.lower (λ f k. few_light f), has_all (IsLight scope) s.upper (λ f k. few_light f))
 
 -- the symbols of such forms are those of the scope
 module _ (scope : List Binding) (P : ℕ → Type 0) (all : (m : ℕ) → m < length scope → P m) where
@@ -405,6 +426,27 @@ module _ (scope : List Binding) (inner : List ℕ) (boxes : AreBoxes scope) wher
       part : (a b : ℤ) → unsigned_abs a ≤ unsigned_abs (a +ℤ b) + unsigned_abs b
       part a b = omega (arith, ints)
 
+  -- nor is it heavier
+  step_light : (n : ℕ) (form : Form) (y : Form) (s : IsStep n form y) → weight scope s.next.terms ≤ weight scope form.terms
+  step_light n form y s =
+      let c : ℤ = factor_of form.terms n in
+      let means = combined-means (without form n) c s.other s.next s.made in
+      let light : unsigned_abs s.other.constant + weight scope s.other.terms ≤ weight_of (Some s.binding) =
+      one_of_all (λ f. unsigned_abs f.constant + weight scope f.terms ≤ weight_of (Some s.binding)) (candidates s.binding c) s.other
+      (candidates_light scope s.binding (boxes n s.binding s.there) c) s.among in
+      let here : weight_of (Some s.binding) ≡ weight_at scope n = ap weight_of (sym s.there) in
+      let left = weight_without scope form.terms n in
+      let terms = weight_terms scope (without form n).terms c s.other.terms in
+      let most : unsigned_abs c * weight scope s.other.terms ≤ unsigned_abs c * weight_at scope n =
+      mul-le-mul_left (unsigned_abs c) (second (unsigned_abs s.other.constant) (weight scope s.other.terms)
+      (subst (λ (w : ℕ). unsigned_abs s.other.constant + weight scope s.other.terms ≤ w) here light)) in
+      let turned = mul_comm (unsigned_abs c) (weight_at scope n) in
+      let terms_are : weight scope s.next.terms ≡ weight scope (plus_terms (without form n).terms c s.other.terms) = ap (λ (f : Form). weight scope f.terms) means.is in
+      omega (arith, left, terms, most, turned, terms_are)
+    where
+      second : (p q : ℕ) → p + q ≤ weight_at scope n → q ≤ weight_at scope n
+      second p q h = omega (arith, h)
+
   far : (n : ℕ) (form : Form) (bs : List Form) (u : Form) → bounds_below scope inner n form ≡ Some bs → Has u bs → unsigned_abs form.constant ≤ unsigned_abs u.constant + weight scope form.terms
   far zero form bs u h has = of (names_inner inner form) h
     where
@@ -425,29 +467,10 @@ module _ (scope : List Binding) (inner : List ℕ) (boxes : AreBoxes scope) wher
       of false q stays steps = stays q
       of true q stays steps = (let s = step n form bs u q has in step_far n form u s (unsigned_abs u.constant) (steps s.next s.found s.comes s.has))
 
-  -- a form within the limits goes no farther than 2^39 + 2^38 from 0
-  all_few : (n : ℕ) → weight_at scope n ≤ 73728
-  all_few n = of (slice_get scope n) refl
-    where
-      of : (o : Option Binding) → slice_get scope n ≡ o → weight_of o ≤ 73728
-      of None e = omega arith
-      of (Some b) e = few_weight scope b (boxes n b e)
-
-  weight_few : (ts : List Multiple) → AreWithin (2 ^ 20) ts → weight scope ts ≤ 77309411328 * length ts
-  weight_few [] h = omega arith
-  weight_few (t ∷ ts) h =
-      let here : unsigned_abs t.factor ≤ 1048576 = h.0 in
-      let most = mul-le-mul_right (unsigned_abs t.factor) (all_few t.symbol) in
-      let rest = weight_few ts h.1 in
-      omega (arith, here, most, rest)
-
-  near_form : (n : ℕ) (form : Form) (bs : List Form) (u : Form) → bounds_below scope inner n form ≡ Some bs → Has u bs → is_within_limits form ≡ true → unsigned_abs u.constant ≤ 2 ^ 31 →
-      unsigned_abs form.constant ≤ 2 ^ 39 + 2 ^ 38
-  near_form n form bs u h has limited near =
-      let f = far n form bs u h has in
-      let sized = weight_few form.terms (within_limits-terms form limited) in
-      let count = within_limits-few form limited in
-      omega (arith, f, sized, count, near)
+  -- a form that is light goes no farther than 2^39 + 2^38 from 0
+  near_form : (n : ℕ) (form : Form) (bs : List Form) (u : Form) → bounds_below scope inner n form ≡ Some bs → Has u bs → weight scope form.terms ≤ 2 ^ 39 + 2 ^ 37 →
+      unsigned_abs u.constant ≤ 2 ^ 31 → unsigned_abs form.constant ≤ 2 ^ 39 + 2 ^ 38
+  near_form n form bs u h has light near = (let f = far n form bs u h has in omega (arith, f, light, near))
 
   -- ---- the same search
 
@@ -555,8 +578,8 @@ module _ (scope : List Binding) (inner : List ℕ) (boxes : AreBoxes scope) wher
 
     module _ (all : (m : ℕ) → m < length scope → is_inner inner m ≡ true) where
       search : (n : ℕ) (form : Form) (bs : List Form) (u : Form) → ((m : ℕ) → m < n → is_inner inner m ≡ true) → AreInner form.terms → is_within_limits form ≡ true →
-          unsigned_abs u.constant ≤ 2 ^ 31 → bounds_below scope inner n form ≡ Some bs → Has u bs → IsFound n form u.constant
-      search zero form bs u inside among limited near h has = of (names_inner inner form) refl h
+          weight scope form.terms ≤ 2 ^ 39 + 2 ^ 37 → unsigned_abs u.constant ≤ 2 ^ 31 → bounds_below scope inner n form ≡ Some bs → Has u bs → IsFound n form u.constant
+      search zero form bs u inside among limited light near h has = of (names_inner inner form) refl h
         where
           itself : (y : ℤ) → y ≤ℤ y
           itself y = omega (arith, ints)
@@ -571,9 +594,9 @@ module _ (scope : List Binding) (inner : List ℕ) (boxes : AreBoxes scope) wher
             | inl is ↦ subst (λ (y : ℤ). IsFound zero form y) (sym (ap (λ (f : Form). f.constant) is)) (number_found form.constant form.terms (no_terms form.terms among e))
             | inr later ↦ absurd later
           ]
-      search (suc n) form bs u inside among limited near h has =
-          of (is_zero (factor_of form.terms n)) refl (λ q. search n form bs u (λ m less. inside m (omega (arith, less))) among limited near q has)
-          (λ next found next_among next_limited q k. search n next found u (λ m less. inside m (omega (arith, less))) next_among next_limited near q k)
+      search (suc n) form bs u inside among limited light near h has =
+          of (is_zero (factor_of form.terms n)) refl (λ q. search n form bs u (λ m less. inside m (omega (arith, less))) among limited light near q has)
+          (λ next found next_among next_limited next_light q k. search n next found u (λ m less. inside m (omega (arith, less))) next_among next_limited next_light near q k)
         where
           elimination : (other : Form) → Option (List Form)
           elimination other = option_and_then (λ next. bounds_below scope inner n next) (replaced form n (factor_of form.terms n) other)
@@ -583,7 +606,8 @@ module _ (scope : List Binding) (inner : List ℕ) (boxes : AreBoxes scope) wher
           and_false false = refl
 
           of : (b : Bool) → is_zero (factor_of form.terms n) ≡ b → (bounds_below scope inner n form ≡ Some bs → IsFound n form u.constant) →
-              ((next : Form) (found : List Form) → AreInner next.terms → is_within_limits next ≡ true → bounds_below scope inner n next ≡ Some found → Has u found → IsFound n next u.constant) →
+              ((next : Form) (found : List Form) → AreInner next.terms → is_within_limits next ≡ true → weight scope next.terms ≤ 2 ^ 39 + 2 ^ 37 → bounds_below scope inner n next ≡ Some
+              found → Has u found → IsFound n next u.constant) →
               IsFound (suc n) form u.constant
           of true e stays steps =
               let none : is_eliminated inner n (factor_of form.terms n) ≡ false = ap (λ (t : Bool). is_inner inner n && not t) e ∙ and_false (is_inner inner n) in
@@ -609,9 +633,11 @@ module _ (scope : List Binding) (inner : List ℕ) (boxes : AreBoxes scope) wher
               (candidates_only scope (λ m. is_inner inner m ≡ true) all s.binding (boxes n s.binding s.there) c) s.among in
               let next_among : AreInner s.next.terms =
               only_combined (λ m. is_inner inner m ≡ true) (without form n) c s.other (inner_left (λ t. not (t.symbol == n)) form.terms among) only s.next s.made in
-              let r = steps s.next s.found next_among means.within s.comes s.has in
-              let near_here = near_form (suc n) form bs u h has limited near in
-              let near_next = near_form n s.next s.found u s.comes s.has means.within near in
+              let lighter = step_light n form u s in
+              let next_light : weight scope s.next.terms ≤ 2 ^ 39 + 2 ^ 37 = omega (arith, lighter, light) in
+              let r = steps s.next s.found next_among means.within next_light s.comes s.has in
+              let near_here = near_form (suc n) form bs u h has light near in
+              let near_next = near_form n s.next s.found u s.comes s.has next_light near in
               let is = raised_made n form c s.other s.next s.made in
               let made : replaced (raised form z) n c s.other ≡ Some (raised s.next z) =
               combined-made (without (raised form z) n) s.other c (within_limits-without (raised form z) n (raised_within form limited near_here)) means.second
@@ -642,15 +668,19 @@ few_still m n le h = grind (arith, nat_tests, le, h)
 module _ (scope : List Binding) (inner : List ℕ) (boxes : AreBoxes scope) (all : (m : ℕ) → m < length scope → is_inner inner m ≡ true) where
   -- the negation of the form, freed, has this one
   pub shown_above : (m nf : Form) (us : List Form) (u : Form) (e : ℤ) → negated m ≡ Some nf → eliminated scope inner nf ≡ Some us → Has u us →
-      AllByRecursion (λ (t : Multiple). is_inner inner t.symbol ≡ true) nf.terms → (e +ℤ u.constant) ≤ℤ pos 0 → unsigned_abs e ≤ 2 ^ 31 → unsigned_abs u.constant ≤ 2 ^ 31 →
-      at_most scope (number e) m ≡ true
-  shown_above m nf us u e negation freed has among le e_near u_near =
+      AllByRecursion (λ (t : Multiple). is_inner inner t.symbol ≡ true) nf.terms → IsLight scope m → (e +ℤ u.constant) ≤ℤ pos 0 → unsigned_abs e ≤ 2 ^ 31 →
+      unsigned_abs u.constant ≤ 2 ^ 31 → at_most scope (number e) m ≡ true
+  shown_above m nf us u e negation freed has among is_light le e_near u_near =
       let means = combined-means (number (pos 0)) (negsuc 0) m nf negation in
       let limited = means.within in
       let tests = tests_of (is_within_limits nf) (nat_le (replacements_below scope inner (length scope) nf) 4096) refl freed in
-      let near = near_form scope inner boxes (length scope) nf us u tests.1 has limited u_near in
+      let turned = weight_terms scope [] (negsuc 0) m.terms in
+      let heavy = is_light means.second in
+      let terms_are : weight scope nf.terms ≡ weight scope (plus_terms [] (negsuc 0) m.terms) = ap (λ (f : Form). weight scope f.terms) means.is in
+      let light : weight scope nf.terms ≤ 2 ^ 39 + 2 ^ 37 = omega (arith, turned, heavy, terms_are) in
+      let near = near_form scope inner boxes (length scope) nf us u tests.1 has light u_near in
       let z_near : unsigned_abs e ≤ 2 ^ 32 = omega (arith, e_near) in
-      let r = search scope inner boxes e z_near all (length scope) nf us u all among limited u_near tests.1 has in
+      let r = search scope inner boxes e z_near all (length scope) nf us u all among limited light u_near tests.1 has in
       let sum : e +ℤ negsuc 0 *ℤ m.constant ≡ (pos 0 +ℤ negsuc 0 *ℤ m.constant) +ℤ e = omega (arith, ints) in
       let is : plus_multiple (number e) (negsuc 0) m ≡ raised nf e =
       (λ i. record { constant = sum i; terms = plus_terms [] (negsuc 0) m.terms }) ∙ ap (λ (g : Form). raised g e) (sym means.is) in
@@ -673,14 +703,15 @@ module _ (scope : List Binding) (inner : List ℕ) (boxes : AreBoxes scope) (all
 
   -- the form, freed, is at most the number
   pub shown_under : (m : Form) (us : List Form) (u : Form) (e : ℤ) → eliminated scope inner m ≡ Some us → Has u us → AllByRecursion (λ (t : Multiple). is_inner inner t.symbol ≡ true) m.terms →
-      u.constant ≤ℤ e → unsigned_abs e ≤ 2 ^ 31 → unsigned_abs u.constant ≤ 2 ^ 31 → at_most scope m (number e) ≡ true
-  shown_under m us u e freed has among le e_near u_near =
+      IsLight scope m → u.constant ≤ℤ e → unsigned_abs e ≤ 2 ^ 31 → unsigned_abs u.constant ≤ 2 ^ 31 → at_most scope m (number e) ≡ true
+  shown_under m us u e freed has among is_light le e_near u_near =
       let tests = tests_of (is_within_limits m) refl (nat_le (replacements_below scope inner (length scope) m) 4096) refl freed in
       let limited = tests.0 in
-      let near = near_form scope inner boxes (length scope) m us u tests.2 has limited u_near in
+      let light = is_light limited in
+      let near = near_form scope inner boxes (length scope) m us u tests.2 has light u_near in
       let z : ℤ = negsuc 0 *ℤ e in
       let z_near : unsigned_abs z ≤ 2 ^ 32 = omega (arith, ints, e_near) in
-      let r = search scope inner boxes z z_near all (length scope) m us u all among limited u_near tests.2 has in
+      let r = search scope inner boxes z z_near all (length scope) m us u all among limited light u_near tests.2 has in
       let raised_ok = raised_within scope inner boxes z z_near m limited near in
       let number_ok : is_within_limits (number e) ≡ true = le-leb (unsigned_abs e) (2 ^ 40) (omega (arith, e_near)) in
       let made : combined m (negsuc 0) (number e) ≡ Some (raised m z) = combined-made m (number e) (negsuc 0) limited number_ok raised_ok in

@@ -1,5 +1,5 @@
 -- Where there are numbers of each loop, the ends of what an index stays within are in their order: its value, where each symbol is its loop's first number, is between them.
-use Rattle.std.proofs.Common.{◌≡◌, ℕ, zero, suc, ◌+◌, ◌<◌, ◌≤◌, Bool, true, false, List, [], ◌∷◌, ◌++◌, length, map}
+use Rattle.std.proofs.Common.{◌≡◌, ℕ, zero, suc, ◌+◌, ◌≤◌, Bool, true, false, List, [], ◌∷◌, ◌++◌, length, map}
 use Rattle.std.proofs.Common.{Option, Some, None, IsSome, refl, sym, ap, subst, ◌∙◌, inl, inr, append_assoc, append-nil, arith}
 use Rattle.std.proofs.lemmas.Int.{ints}
 use Rattle.std.proofs.lemmas.List.{length-map}
@@ -31,7 +31,6 @@ use Rattle.meaning.specs.Conditions.{AreDistinct}
 use Rattle.meaning.proofs.InliningTyped.{both_true, index-is}
 use Rattle.soundness.specs.Obligations.{anything}
 use Rattle.soundness.proofs.Refines.{name_refl, name_true}
-use Rattle.sched.specs.Standing.{counted_from}
 use Rattle.lower.specs.Called.{called}
 use Rattle.lower.specs.Held.{AreTyped}
 use Rattle.lower.specs.Stored.{FormulaText, left_at}
@@ -111,17 +110,6 @@ first_of (Some (LetMax fs)) = pos 0
 abbrev pub firsts : List Binding → ℕ → ℤ
 firsts scope n = first_of (slice_get scope n)
 
-abbrev pub IsNear : ℤ → Type 0
-IsNear z = unsigned_abs z ≤ 73728
-
-module _ (scope : List Binding) where
-  first_near : (b : Binding) → IsBox scope b → IsNear (first_of (Some b))
-  first_near (Loop x) (inl is) = subst IsNear (ap (λ (y : Span1). first_of (Some (Loop y))) (sym is)) (omega arith)
-  first_near (Loop x) (inr (inl k)) = subst IsNear (ap (λ (y : Span1). first_of (Some (Loop y))) (sym k.2)) k.3
-  first_near (Loop x) (inr (inr k)) = subst IsNear (ap (λ (y : Span1). first_of (Some (Loop y))) (sym k.is)) (omega arith)
-  first_near (LetMin fs) box = absurd box
-  first_near (LetMax fs) box = absurd box
-
 anything_holds : (v : ℕ → ℤ) (z : ℤ) → IsInSpan anything v z
 anything_holds v z = (All-nil (λ f. form_value f v ≤ℤ z), All-nil (λ f. z ≤ℤ form_value f v))
 
@@ -165,7 +153,7 @@ first_holds scope (Loop x) (inr (inl k)) =
     let low = k.0 in
     let last = k.1 in
     let from : low ≤ℤ low = omega (arith, ints) in
-    subst (λ (y : Span1). IsInSpan y (firsts scope) (first_of (Some (Loop y)))) (sym k.2) (between low last low (firsts scope) from k.5)
+    subst (λ (y : Span1). IsInSpan y (firsts scope) (first_of (Some (Loop y)))) (sym k.2) (between low last low (firsts scope) from k.3)
 first_holds scope (Loop x) (inr (inr k)) =
     let zero_first : first_of (Some (Loop x)) ≡ pos 0 = ap (λ (y : Span1). first_of (Some (Loop y))) k.is in
     subst (λ (z : ℤ). IsInSpan x (firsts scope) z) (sym zero_first) (capped_holds scope x k)
@@ -173,25 +161,10 @@ first_holds scope (LetMin fs) box = absurd box
 first_holds scope (LetMax fs) box = absurd box
 
 module _ (scope : List Binding) (boxes : AreBoxes scope) where
-  pub firsts_near : (n : ℕ) → IsNear (firsts scope n)
-  firsts_near n = of (slice_get scope n) refl
-    where
-      of : (o : Option Binding) → slice_get scope n ≡ o → IsNear (first_of o)
-      of None e = omega arith
-      of (Some b) e = first_near scope b (boxes n b e)
-
   firsts_hold : HoldsIn scope (firsts scope)
   firsts_hold = λ n b at. subst (λ (o : Option Binding). Holds b (first_of o) (firsts scope)) (sym at) (first_holds scope b (boxes n b at))
 
 -- ---- coordinates
-
--- a form is a symbol and a number
-abbrev pub Fits : ℕ → Form → Type 0
-Fits n f = (z : ℤ) × (s : ℕ) × (f ≡ counted_from z s) × (unsigned_abs z ≤ 73728) × (s < n)
-
-abbrev pub FitsIf : ℕ → Option Form → Type 0
-FitsIf n None = Unit {0}
-FitsIf n (Some f) = Fits n f
 
 abbrev pub number_at : (ℕ → ℤ) → Option Form → ℤ
 number_at v None = pos 0
@@ -199,16 +172,6 @@ number_at v (Some f) = form_value f v
 
 pub index_near : (z : ℤ) → unsigned_abs z ≤ 147456 → IsIndex z
 index_near z h = record { from = omega (arith, ints, h); to = omega (arith, ints, h) }
-
-pub fits_index : (n : ℕ) (v : ℕ → ℤ) → ((s : ℕ) → IsNear (v s)) → (o : Option Form) → FitsIf n o → IsIndex (number_at v o)
-fits_index n v near None h = index_near (pos 0) (omega arith)
-fits_index n v near (Some f) h =
-    let z = h.0 in
-    let y : ℤ = v h.1 in
-    let symbol : unsigned_abs y ≤ 73728 = near h.1 in
-    let constant = h.3 in
-    let far : unsigned_abs (z +ℤ (pos 1 *ℤ y +ℤ pos 0)) ≤ 147456 = omega (arith, ints, symbol, constant) in
-    subst (λ (g : Form). IsIndex (form_value g v)) (sym h.2) (index_near (form_value (counted_from z h.1) v) far)
 
 behind : (ss : List Span1) (zs : List ℤ) (s : Span1) (z : ℤ) (v : ℕ → ℤ) → IsInRegion ss v zs → IsInSpan s v z → IsInRegion (ss ++ s ∷ []) v (zs ++ z ∷ [])
 behind [] [] s z v h k = (k, tt)
@@ -219,7 +182,7 @@ behind (t ∷ ss) (y ∷ zs) s z v h k = (h.0, behind ss zs s z v h.1 k)
 abbrev or_none : Option (Option Term) → Option Term
 or_none o = elim o [ Some i ↦ i | None ↦ None ]
 
-none_at : (os : List (Option Term)) (i : ℕ) → AllByRecursion (λ o. o ≡ None) os → or_none (slice_get os i) ≡ None
+pub none_at : (os : List (Option Term)) (i : ℕ) → AllByRecursion (λ o. o ≡ None) os → or_none (slice_get os i) ≡ None
 none_at [] i h = refl
 none_at (o ∷ os) zero h = h.0
 none_at (o ∷ os) (suc i) h = none_at os i h.1

@@ -22,7 +22,7 @@ use Rattle.lower.specs.Bounded.{whole}
 use Rattle.lower.proofs.Laying.{bound, same}
 use Rattle.completeness.proofs.Standing.{Taken}
 use Rattle.completeness.proofs.TakenSites.{Has}
-use Rattle.completeness.proofs.Boxes.{AreBoxes, has_all, one_of_all, fold_all, shown_above, shown_under}
+use Rattle.completeness.proofs.Boxes.{AreBoxes, IsLight, IsLightSpan, has_all, one_of_all, fold_all, shown_above, shown_under}
 
 abbrev Ends : Type 0
 Ends = Taken _ _ are_within
@@ -151,9 +151,9 @@ module _ (scope : List Binding) (boxes : AreBoxes scope) where
   AreOver ts = AllByRecursion (λ t. is_inner symbols t.symbol ≡ true) ts
 
   pub whole_inside : (s : Span1) (e : Ends) (x : Extent) → ends_of scope s ≡ Some e → AllByRecursion (λ (f : Form). AreOver f.terms) s.lower → AllByRecursion (λ (f : Form). AreOver f.terms) s.upper →
-      ((m nf : Form) → negated m ≡ Some nf → AreOver m.terms → AreOver nf.terms) → x.low ≤ℤ e.low → e.high ≤ℤ (x.low +ℤ pos x.count -ℤ pos 1) →
+      ((m nf : Form) → negated m ≡ Some nf → AreOver m.terms → AreOver nf.terms) → IsLightSpan scope s → x.low ≤ℤ e.low → e.high ≤ℤ (x.low +ℤ pos x.count -ℤ pos 1) →
       unsigned_abs x.low ≤ 2 ^ 31 → unsigned_abs (x.low +ℤ pos x.count -ℤ pos 1) ≤ 2 ^ 31 → unsigned_abs e.low ≤ 2 ^ 31 → unsigned_abs e.high ≤ 2 ^ 31 → span_inside scope s (whole x) ≡ true
-  whole_inside s e x found lowers uppers negations low high low_near high_near from_near to_near =
+  whole_inside s e x found lowers uppers negations light low high low_near high_near from_near to_near =
       let b = bound (projected_span scope symbols s) (λ p. ends_between (greatest_number p.lower) (least_number p.upper)) e found in
       let p = b.value in
       let ends = ends_parts (greatest_number p.lower) (least_number p.upper) e b.comes in
@@ -167,11 +167,16 @@ module _ (scope : List Binding) (boxes : AreBoxes scope) where
       let over_low = one_of_all (λ (f : Form). AreOver f.terms) s.lower n.0 lowers n.4 in
       let over_high = one_of_all (λ (f : Form). AreOver f.terms) s.upper f.0 uppers f.2 in
       let above : at_most scope (number x.low) n.0 ≡ true =
-      shown_above scope symbols boxes inside_all n.0 n.1 n.2 u x.low n.5 n.6 n.7 (negations n.0 n.1 n.5 over_low)
+      shown_above scope symbols boxes inside_all n.0 n.1 n.2 u x.low n.5 n.6 n.7 (negations n.0 n.1 n.5 over_low) (one_of_all (IsLight scope) s.lower n.0 light.0 n.4)
       (omega (arith, ints, negation, low)) low_near (omega (arith, ints, negation, from_near)) in
       let is_high = h.2 in
       let under : at_most scope f.0 (number (x.low +ℤ pos x.count -ℤ pos 1)) ≡ true =
-      shown_under scope symbols boxes inside_all f.0 f.1 h.0 (x.low +ℤ pos x.count -ℤ pos 1) f.3 f.4 over_high (omega (arith, ints, is_high, high)) high_near (omega (arith, ints, is_high, to_near)) in
+      shown_under scope symbols boxes inside_all f.0 f.1 h.0 (x.low +ℤ pos x.count -ℤ pos 1) f.3 f.4 over_high (one_of_all (IsLight scope) s.upper f.0 light.1 f.2) (omega (
+        arith,
+        ints,
+        is_high,
+        high,
+      )) high_near (omega (arith, ints, is_high, to_near)) in
       let one = any_by (λ m. at_most scope (number x.low) m) s.lower n.0 n.4 above in
       let two = any_by (λ m. at_most scope m (number (x.low +ℤ pos x.count -ℤ pos 1))) s.upper f.0 f.2 under in
       λ i. (one i && true) && (two i && true)

@@ -34,7 +34,7 @@ use Rattle.completeness.proofs.Sited.{Below, SiteOnly}
 use Rattle.completeness.proofs.Boxes.{AreBoxes}
 use Rattle.completeness.proofs.CallEnds.{IsCallOf, AreIndicesEnded}
 use Rattle.completeness.proofs.FirstNumbers.{firsts, number_at, some_typed, ends_ordered}
-use Rattle.completeness.proofs.HeldWhole.{calls_from, call_held, holds_each, all_has}
+use Rattle.completeness.proofs.HeldWhole.{AreCallsLight, calls_from, call_held, holds_each, all_has}
 
 -- ---- sites
 
@@ -67,6 +67,7 @@ module _ (a : Algorithm) (u : StoredText) (m : LaidText) (fs : List FormulaText)
     pub nested : slice_get m.skeleton.nests d ≡ Some w
     pub boxes : AreBoxes (bind_steps (head_scope m.skeleton) w.steps)
     pub indices : AllByRecursion IsIndex (map (number_at (firsts (bind_steps (head_scope m.skeleton) w.steps))) w.at)
+    pub light : (r : AroundText) → around a u (head_scope m.skeleton) w f d ≡ Some r → AreCallsLight a r (calls_in f)
     pub none : AllByRecursion (λ o. o ≡ None) f.at
     pub apart : AreDistinct (names d)
     pub long : length (names d) ≡ length w.at
@@ -110,7 +111,8 @@ module _ (a : Algorithm) (u : StoredText) (m : LaidText) (fs : List FormulaText)
                 named = k.named;
               } in
               let forms = all_has (AllByRecursion (SpanOnly (Below (length r.scope)))) calls cs only has in
-              call_held a r known r_boxes order region extents ended k.call.at cs (ends call few) (some_typed known (called a) k.call.at t.0) k.added forms count dim e at)
+              call_held a r known r_boxes order region extents ended k.call.at cs (h.light r stands k.place k.call k.there) (ends call few) (some_typed known (called a) k.call.at t.0)
+              k.added forms count dim e at)
         ])
 
     -- what is known of the forms of the site of these calls, where there are some

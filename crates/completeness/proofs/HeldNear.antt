@@ -24,7 +24,7 @@ use Rattle.sched.proofs.Arriving.{skeletal}
 use Rattle.lower.specs.declared.lowering.Lowered.{Lowered}
 use Rattle.lower.specs.Called.{called}
 use Rattle.lower.specs.Stored.{FormulaText, StoredText, calls_in, some_calls, flags, formulas_put, stored_functions, has_large}
-use Rattle.lower.specs.Around.{range_names, ranges_of, names_with, head_scope, bind_steps}
+use Rattle.lower.specs.Around.{AroundText, around, range_names, ranges_of, names_with, head_scope, bind_steps}
 use Rattle.lower.specs.Faults.{are_whole, region_fault}
 use Rattle.lower.specs.Regions.{LaidText, bodies_from, skeleton_of, laid_functions}
 use Rattle.lower.specs.Groups.{HasGroups}
@@ -49,7 +49,7 @@ use Rattle.completeness.proofs.Sited.{sites_only}
 use Rattle.completeness.proofs.CallEnds.{calls_ended}
 use Rattle.completeness.proofs.NearBoxes.{IsBoxTurn}
 use Rattle.completeness.proofs.RangedBoxes.{range_box}
-use Rattle.completeness.proofs.HeldWhole.{all_calls, no_left_calls}
+use Rattle.completeness.proofs.HeldWhole.{AreCallsLight, all_calls, no_left_calls}
 use Rattle.completeness.proofs.HeldAll.{IsNearNest, sites_held}
 use Rattle.completeness.proofs.Boxes.{AreBoxes}
 use Rattle.completeness.proofs.FirstNumbers.{firsts, number_at}
@@ -61,10 +61,11 @@ pub record IsFormed (xs : List (List ℕ)) (bs : List BodyText) (d : ℕ) (w : N
   pub known : List Known
   pub forms : w.at ≡ variables_at body 0 xs known ++ ranges_at body.ranges known
 
--- what stands around a store: boxes; and each coordinate is a number of 32 bits at their first numbers
-pub record IsIndexed (k : SkeletonText) (w : NestText) : Type 0 where
+-- what stands around a store: boxes; each coordinate is a number of 32 bits at their first numbers; and what the indices of this definition's calls stay within is light
+pub record IsIndexed (a : Algorithm) (u : StoredText) (fs : List FormulaText) (k : SkeletonText) (d : ℕ) (w : NestText) : Type 0 where
   pub boxes : AreBoxes (bind_steps (head_scope k) w.steps)
   pub indices : AllByRecursion IsIndex (map (number_at (firsts (bind_steps (head_scope k) w.steps))) w.at)
+  pub light : (f : FormulaText) → slice_get fs d ≡ Some f → (r : AroundText) → around a u (head_scope k) w f d ≡ Some r → AreCallsLight a r (calls_in f)
 
 not_same : (b : Bool) → b ≡ true → not b ≡ true → ⊥
 not_same true e q = cc q
@@ -82,7 +83,7 @@ module _ (a : Algorithm) (sch : Schedule) (l : Lowered) (well : IsAlgorithm a) (
       (laid : slice_get (laid_functions a gs) n ≡ Some (Some m)) (over : skeleton_of u fs m.region ≡ Some m.skeleton)
       (formed : (d : ℕ) (w : NestText) → slice_get m.skeleton.nests d ≡ Some w → IsFormed u.subject.variables (bodies_from u.changes 0 u.subject.reductions fs) d w)
       (boxed : (d : ℕ) (w : NestText) → slice_get m.skeleton.nests d ≡ Some w →
-      ((b : BodyText) → slice_get (bodies_from u.changes 0 u.subject.reductions fs) d ≡ Some b → AllByRecursion IsBoxTurn b.ranges) → IsIndexed m.skeleton w) where
+      ((b : BodyText) → slice_get (bodies_from u.changes 0 u.subject.reductions fs) d ≡ Some b → AllByRecursion IsBoxTurn b.ranges) → IsIndexed a u fs m.skeleton d w) where
     abbrev k : SkeletonText
     k = m.skeleton
 
@@ -143,7 +144,7 @@ module _ (a : Algorithm) (sch : Schedule) (l : Lowered) (well : IsAlgorithm a) (
           let each = all_weaker IsRange (λ r. IsBoxTurn (range_turning r)) range_box (ranges_of u.changes d) (ranges_within d formula there) in
           subst (AllByRecursion IsBoxTurn) (sym (ranges_are b e)) (all_mapped range_turning IsBoxTurn (ranges_of u.changes d) each)
 
-      boxes : IsIndexed k nest
+      boxes : IsIndexed a u fs k d nest
       boxes = boxed d nest stands ranges_box
 
       long : length (names d) ≡ length nest.at
@@ -177,6 +178,7 @@ module _ (a : Algorithm) (sch : Schedule) (l : Lowered) (well : IsAlgorithm a) (
         nested = stands;
         boxes = boxes.boxes;
         indices = boxes.indices;
+        light = boxes.light formula there;
         none = none_left;
         apart = apart d formula there;
         long = long;

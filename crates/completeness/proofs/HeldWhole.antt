@@ -37,7 +37,7 @@ use Rattle.completeness.proofs.TakenSites.{Has}
 use Rattle.completeness.proofs.RegionBounds.{IsEnded}
 use Rattle.completeness.proofs.Only.{Only, SpanOnly, only_combined}
 use Rattle.completeness.proofs.Sited.{Below}
-use Rattle.completeness.proofs.Boxes.{AreBoxes}
+use Rattle.completeness.proofs.Boxes.{AreBoxes, IsLightSpan}
 use Rattle.completeness.proofs.FreedEnds.{AreOver, inside_all, whole_inside}
 use Rattle.completeness.proofs.CallEnds.{IsIndexEnded, AreIndicesEnded}
 
@@ -134,6 +134,16 @@ module _ (a : Algorithm) (r : AroundText) (x : List ℕ) where
 
 -- ---- the indices of a call
 
+-- it is one of these indices
+abbrev pub HasIndex : Term → Terms → Type 0
+HasIndex e End = ⊥
+HasIndex e (More x es) = (e ≡ x) ⊎ HasIndex e es
+
+-- what each index of these calls stays within is light
+abbrev pub AreCallsLight : Algorithm → AroundText → List Written → Type 0
+AreCallsLight a r cs =
+    (i : ℕ) (c : Written) → slice_get cs i ≡ Some c → (e : Term) → HasIndex e c.at → (s : Span1) → interval_in a r e ≡ Some s → IsLightSpan r.scope s
+
 module _ (a : Algorithm) (r : AroundText) (known : List ℕ → Bool) (region : List Extent) where
   spans_keep : (es : Terms) (before out : List Span1) → add_spans a r es before ≡ Some out → (i : ℕ) (s : Span1) → slice_get before i ≡ Some s → slice_get out i ≡ Some s
   spans_keep End before out e i s at = subst (λ (o : List Span1). slice_get o i ≡ Some s) (same before out e) at
@@ -142,31 +152,33 @@ module _ (a : Algorithm) (r : AroundText) (known : List ℕ → Bool) (region : 
       spans_keep es (before ++ b.value ∷ []) out b.comes i s (got_first before (b.value ∷ []) i s at)
 
   -- the index at this place has ends, and what it stays within is among these
-  record IsSpanAt (out : List Span1) (d : ℕ) : Type 0 where
+  record IsSpanAt (all : Terms) (out : List Span1) (d : ℕ) : Type 0 where
     index : Term
+    among : HasIndex index all
     ended : IsIndexEnded a r index region d
     typed : IsSome (type_of known (called a) index)
     there : slice_get out d ≡ Some ended.span
 
-  span_at : (es : Terms) (k : ℕ) (before out : List Span1) → length before ≡ k → AreIndicesEnded a r region k es → AreTyped known (called a) es → add_spans a r es before ≡ Some out →
-      (j : ℕ) → j < index_count es → IsSpanAt out (k + j)
-  span_at End k before out long h g e j lt = absurd (omega (arith, lt))
-  span_at (More t es) k before out long h g e zero lt =
+  span_at : (all es : Terms) → ((e : Term) → HasIndex e es → HasIndex e all) → (k : ℕ) (before out : List Span1) → length before ≡ k → AreIndicesEnded a r region k es →
+      AreTyped known (called a) es → add_spans a r es before ≡ Some out → (j : ℕ) → j < index_count es → IsSpanAt all out (k + j)
+  span_at all End some k before out long h g e j lt = absurd (omega (arith, lt))
+  span_at all (More t es) some k before out long h g e zero lt =
       let b = bound (interval_in a r t) (λ u. add_spans a r es (before ++ u ∷ [])) out e in
       let is : h.0.span ≡ b.value = same h.0.span b.value (sym h.0.bounds ∙ b.is) in
       let none : k ≡ k + 0 = omega arith in
-      let here : IsSpanAt out k = record {
+      let here : IsSpanAt all out k = record {
         index = t;
+        among = some t (inl refl);
         ended = h.0;
         typed = g.0;
         there = spans_keep es (before ++ b.value ∷ []) out b.comes k b.value (got_last before b.value k long) ∙ ap (λ (s : Span1). Some s) (sym is);
       } in
-      subst (IsSpanAt out) none here
-  span_at (More t es) k before out long h g e (suc j) lt =
+      subst (IsSpanAt all out) none here
+  span_at all (More t es) some k before out long h g e (suc j) lt =
       let b = bound (interval_in a r t) (λ u. add_spans a r es (before ++ u ∷ [])) out e in
       let many = length-append before (b.value ∷ []) in
       let next : (k + 1) + j ≡ k + suc j = omega arith in
-      subst (IsSpanAt out) next (span_at es (k + 1) (before ++ b.value ∷ []) out (omega (arith, many, long)) h.1 g.1 b.comes j (omega (arith, lt)))
+      subst (IsSpanAt all out) next (span_at all es (λ x m. some x (inr m)) (k + 1) (before ++ b.value ∷ []) out (omega (arith, many, long)) h.1 g.1 b.comes j (omega (arith, lt)))
 
 -- where there are numbers of each loop, all numbers of the dimension hold the call
 module _ (a : Algorithm) (r : AroundText) (known : List ℕ → Bool) (boxes : AreBoxes r.scope)
@@ -186,12 +198,14 @@ module _ (a : Algorithm) (r : AroundText) (known : List ℕ → Bool) (boxes : A
   negation_over : (m nf : Form) → negated m ≡ Some nf → over m.terms → over nf.terms
   negation_over m nf e h = only_combined inner (number (pos 0)) (negsuc 0) m tt h nf e
 
-  pub call_held : (es : Terms) (ss : List Span1) → AreIndicesEnded a r region 0 es → AreTyped known (called a) es → add_spans a r es [] ≡ Some ss →
+  pub call_held : (es : Terms) (ss : List Span1) → ((e : Term) → HasIndex e es → (s : Span1) → interval_in a r e ≡ Some s → IsLightSpan r.scope s) → AreIndicesEnded a r region 0 es →
+      AreTyped known (called a) es → add_spans a r es [] ≡ Some ss →
       AllByRecursion (SpanOnly (Below (length r.scope))) ss → index_count es ≡ length region → (d : ℕ) (x : Extent) → slice_get region d ≡ Some x → holds_call r.scope d (whole x) ss ≡ true
-  call_held es ss h g e only count d x at =
+  call_held es ss light h g e only count d x at =
       let within = slice_get_within region d x at in
       let none : 0 + d ≡ d = omega arith in
-      let y : IsSpanAt a r known region ss d = subst (IsSpanAt a r known region ss) none (span_at a r known region es 0 [] ss refl h g e d (omega (arith, within, count))) in
+      let y : IsSpanAt a r known region es ss d =
+      subst (IsSpanAt a r known region es ss) none (span_at a r known region es es (λ t m. m) 0 [] ss refl h g e d (omega (arith, within, count))) in
       let s : Span1 = y.ended.span in
       let ends : Ends = y.ended.ends in
       let le : ends.low ≤ℤ ends.high = order y.index s ends y.ended.bounds y.typed y.ended.freed in
@@ -207,7 +221,7 @@ module _ (a : Algorithm) (r : AroundText) (known : List ℕ → Bool) (boxes : A
       let high_to = high.1 in
       let forms : SpanOnly (Below (length r.scope)) s = got (SpanOnly (Below (length r.scope))) ss d s only y.there in
       let inside : span_inside r.scope s (whole x) ≡ true =
-      whole_inside r.scope boxes s ends x y.ended.freed (forms_over s.lower forms.0) (forms_over s.upper forms.1) negation_over low.0 high.1
+      whole_inside r.scope boxes s ends x y.ended.freed (forms_over s.lower forms.0) (forms_over s.upper forms.1) negation_over (light y.index y.among s y.ended.bounds) low.0 high.1
       (omega (arith, ints, from, last, some)) (omega (arith, ints, from, last, some))
       (omega (arith, ints, from, last, some, low_from, low_to)) (omega (arith, ints, from, last, some, high_from, high_to)) in
       ap (λ (o : Option Span1). elim o [ Some z ↦ span_inside r.scope z (whole x) | None ↦ false ]) y.there ∙ inside

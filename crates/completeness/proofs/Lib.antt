@@ -94,6 +94,7 @@ pub mod SplitPlaces
 pub mod TakenSites
 pub mod UnderWay
 pub mod Boxes
+pub mod SimpleSpans
 pub mod FreedEnds
 pub mod CallEnds
 pub mod FirstNumbers

@@ -1,6 +1,6 @@
--- Root functions have few numbers in each dimension, and turns over numbers that begin near 0 are over numbers within 73,728.
-use Rattle.std.proofs.Common.{◌≡◌, ℕ, zero, suc, ◌+◌, ◌-◌, ◌<◌, ◌≤◌, Bool, true, false, List, [], ◌∷◌, ◌++◌, length, Option, Some, None, refl, sym, ap, ◌∙◌, subst, inl, inr, arith, length-append}
-use Rattle.std.specs.Prelude.{pos, ◌+ℤ◌, ◌-ℤ◌, ◌≤ℤ◌, nat_le, replicate, if◌then◌else◌, slice_get}
+-- Root functions have few numbers in each dimension; turns over these are over some numbers, that are not far from 0, or near where the first one is.
+use Rattle.std.proofs.Common.{◌≡◌, ℕ, zero, suc, ◌+◌, ◌-◌, ◌<◌, ◌≤◌, ◌^◌, Bool, true, false, List, [], ◌∷◌, ◌++◌, length, Option, Some, None, refl, sym, ap, ◌∙◌, subst, inl, inr, arith, length-append}
+use Rattle.std.specs.Prelude.{ℤ, pos, negsuc, ◌+ℤ◌, ◌-ℤ◌, ◌≤ℤ◌, nat_le, replicate, if◌then◌else◌, slice_get}
 use Rattle.std.specs.List.{AllByRecursion}
 use Rattle.std.specs.Int.RustNames.{unsigned_abs}
 use Rattle.std.proofs.lemmas.Bool.Decides.{nat_tests}
@@ -30,7 +30,7 @@ use Rattle.lower.proofs.Reached.{laid_found}
 use Rattle.completeness.proofs.Standing.{Taken}
 use Rattle.completeness.proofs.BlockTurns.{limited_for}
 use Rattle.completeness.proofs.StoreBounds.{steps_keep}
-use Rattle.completeness.proofs.Boxes.{IsBox, AreBoxes}
+use Rattle.completeness.proofs.Boxes.{IsBox, AreBoxes, weight_of, weight_at, both_under}
 
 abbrev Ends : Type 0
 Ends = Taken _ _ are_within
@@ -78,8 +78,22 @@ regions_few a (s ∷ later) (suc n) l all laid = regions_few a later n l (and_pa
 
 -- ---- scopes of loops
 
+-- over some numbers within 73,728
 abbrev pub IsBoxTurn : Turning → Type 0
 IsBoxTurn t = (unsigned_abs t.low ≤ 73728) × (unsigned_abs t.last ≤ 73728) × (t.low ≤ℤ t.last)
+
+-- over some numbers, of which the first is one of 32 bits
+pub record IsTurn (t : Turning) : Type 0 where
+  pub from : negsuc 2147483647 ≤ℤ t.low
+  pub to : t.low ≤ℤ pos 2147483647
+  pub last : unsigned_abs t.last ≤ 2 ^ 32
+  pub some : t.low ≤ℤ t.last
+
+pub box_turn : (t : Turning) → IsBoxTurn t → IsTurn t
+box_turn t h = of t.low t.last h.0 h.1 h.2
+  where
+    of : (low last : ℤ) → unsigned_abs low ≤ 73728 → unsigned_abs last ≤ 73728 → low ≤ℤ last → IsTurn (record t { low = low; last = last })
+    of low last h k q = record { from = omega (arith, ints, h); to = omega (arith, ints, h); last = omega (arith, k); some = q }
 
 replicated : (P : Binding → Type 0) (n : ℕ) → P (LoopBinding anything) → AllByRecursion P (replicate n (LoopBinding anything))
 replicated P zero h = tt
@@ -140,33 +154,68 @@ module _ (limits : ℕ → List Form) where
       ∙ ap (λ (m : ℕ). Some (LoopBinding (turn_span m t))) (sym next)
 
   -- a loop's numbers, where no further form tells them
-  pub plain_box : (scope : List Binding) (s : ℕ) (t : Turning) → IsBoxTurn t → limits s ≡ [] → IsBox scope (LoopBinding (turn_span s t))
-  plain_box scope s t k none = inr (inl (t.low, t.last, ap (λ (fs : List Form). span t.low t.last fs) none, k.0, k.1, k.2))
+  pub plain_box : (scope : List Binding) (s : ℕ) (t : Turning) → t.low ≤ℤ t.last → limits s ≡ [] → IsBox scope (LoopBinding (turn_span s t))
+  plain_box scope s t k none = inr (inl (t.low, t.last, ap (λ (fs : List Form). span t.low t.last fs) none, k))
+
+  pub plain_weight : (s : ℕ) (t : Turning) (most : ℕ) → unsigned_abs t.low ≤ most → unsigned_abs t.last ≤ most → limits s ≡ [] → weight_of (Some (LoopBinding (turn_span s t))) ≤ most
+  plain_weight s t most low last none =
+      subst (λ (fs : List Form). weight_of (Some (LoopBinding (span t.low t.last fs))) ≤ most) (sym none) (both_under (unsigned_abs t.low) (unsigned_abs t.last) most low last)
 
   pub steps_boxes : (n : ℕ) (ts : List Turning) (scope : List Binding) (all : List Binding) → bind_steps scope (limited_for limits n ts) ≡ all → AllByRecursion (IsBox all) scope →
       ((j : ℕ) (t : Turning) → slice_get ts j ≡ Some t → IsBox all (LoopBinding (turn_span (n + j) t))) → AreBoxes all
   steps_boxes n ts scope all is h each i b e =
       got (IsBox all) all i b (subst (AllByRecursion (IsBox all)) is (all_bound (IsBox all) n ts scope h (inl refl) each)) e
 
+  -- no symbol goes farther
+  pub steps_weights : (n : ℕ) (ts : List Turning) (scope : List Binding) (all : List Binding) (most : ℕ) → bind_steps scope (limited_for limits n ts) ≡ all →
+      AllByRecursion (λ b. weight_of (Some b) ≤ most) scope → ((j : ℕ) (t : Turning) → slice_get ts j ≡ Some t → weight_of (Some (LoopBinding (turn_span (n + j) t))) ≤ most) →
+      (i : ℕ) → weight_at all i ≤ most
+  steps_weights n ts scope all most is h each i = of (slice_get all i) refl
+    where
+      bound_all : AllByRecursion (λ b. weight_of (Some b) ≤ most) all
+      bound_all = subst (AllByRecursion (λ b. weight_of (Some b) ≤ most)) is (all_bound (λ b. weight_of (Some b) ≤ most) n ts scope h (omega arith) each)
+
+      of : (o : Option Binding) → slice_get all i ≡ o → weight_of o ≤ most
+      of None e = omega arith
+      of (Some b) e = got (λ b. weight_of (Some b) ≤ most) all i b bound_all e
+
 -- ---- the loops of a function
 
-abbrev pub IsNearNumbers : Numbers → Type 0
-IsNearNumbers r = (unsigned_abs r.low ≤ 65536) × (0 < r.count) × (r.count ≤ 8192)
+pub record AreFewNumbers (r : Numbers) : Type 0 where
+  pub from : negsuc 2147483647 ≤ℤ r.low
+  pub to : r.low ≤ℤ pos 2147483647
+  pub some : 0 < r.count
+  pub few : r.count ≤ 8192
 
-pub turn_box : (rs : List Numbers) (o : Loop) → IsNearNumbers (numbers_named rs o.name) → IsBoxTurn (loop_turning rs o)
-turn_box rs o h = of (numbers_named rs o.name) h.0 h.1 h.2
+pub turn_few : (rs : List Numbers) (o : Loop) → AreFewNumbers (numbers_named rs o.name) → IsTurn (loop_turning rs o)
+turn_few rs o h = of (numbers_named rs o.name) h.from h.to h.some h.few
+  where
+    of : (r : Numbers) → negsuc 2147483647 ≤ℤ r.low → r.low ≤ℤ pos 2147483647 → 0 < r.count → r.count ≤ 8192 →
+        IsTurn (record (loop_turning rs o) { low = r.low; last = r.low +ℤ pos r.count -ℤ pos 1 })
+    of r from to some few = record { from = from; to = to; last = omega (arith, ints, from, to, some, few); some = omega (arith, ints, some) }
+
+pub turn_box : (rs : List Numbers) (o : Loop) → AreFewNumbers (numbers_named rs o.name) → unsigned_abs (numbers_named rs o.name).low ≤ 65536 → IsBoxTurn (loop_turning rs o)
+turn_box rs o h close = of (numbers_named rs o.name) close h.some h.few
   where
     of : (r : Numbers) → unsigned_abs r.low ≤ 65536 → 0 < r.count → r.count ≤ 8192 →
         (unsigned_abs r.low ≤ 73728) × (unsigned_abs (r.low +ℤ pos r.count -ℤ pos 1) ≤ 73728) × (r.low ≤ℤ (r.low +ℤ pos r.count -ℤ pos 1))
     of r near some few = (omega (arith, near), omega (arith, ints, near, some, few), omega (arith, ints, some))
 
-count_box : (scope : List Binding) (n : ℕ) → 0 < n → n ≤ 8192 → IsBox scope (grid_symbol n)
-count_box scope n some few = inr (inl (pos 0, pos n -ℤ pos 1, refl, omega arith, omega (arith, ints, some, few), omega (arith, ints, some)))
+abbrev pub IsCount : ℕ → Type 0
+IsCount n = (0 < n) × (n ≤ 8192)
 
-pub or_one_boxes : (scope : List Binding) (ns : List ℕ) → AllByRecursion (λ n. (0 < n) × (n ≤ 8192)) ns → AllByRecursion (IsBox scope) (grid_scope (or_one ns))
-or_one_boxes scope [] h = (count_box scope 1 (omega arith) (omega arith), tt)
-or_one_boxes scope (n ∷ ns) h = (count_box scope n h.0.0 h.0.1, of ns h.1)
-  where
-    of : (ms : List ℕ) → AllByRecursion (λ n. (0 < n) × (n ≤ 8192)) ms → AllByRecursion (IsBox scope) (grid_scope ms)
-    of [] k = tt
-    of (m ∷ ms) k = (count_box scope m k.0.0 k.0.1, of ms k.1)
+-- what is so of a symbol for each such count is so of all of the grid
+module _ (P : Binding → Type 0) (each : (n : ℕ) → IsCount n → P (grid_symbol n)) where
+  pub or_one_all : (ns : List ℕ) → AllByRecursion IsCount ns → AllByRecursion P (grid_scope (or_one ns))
+  or_one_all [] h = (each 1 (omega arith, omega arith), tt)
+  or_one_all (n ∷ ns) h = (each n h.0, of ns h.1)
+    where
+      of : (ms : List ℕ) → AllByRecursion IsCount ms → AllByRecursion P (grid_scope ms)
+      of [] k = tt
+      of (m ∷ ms) k = (each m k.0, of ms k.1)
+
+pub count_box : (scope : List Binding) (n : ℕ) → IsCount n → IsBox scope (grid_symbol n)
+count_box scope n h = (let some = h.0 in inr (inl (pos 0, pos n -ℤ pos 1, refl, omega (arith, ints, some))))
+
+pub count_weight : (n : ℕ) → IsCount n → weight_of (Some (grid_symbol n)) ≤ 8192
+count_weight n h = (let some = h.0 in let few = h.1 in both_under 0 (unsigned_abs (pos n -ℤ pos 1)) 8192 (omega arith) (omega (arith, ints, some, few)))

@@ -1,5 +1,5 @@
 -- The schedule that is written out splits loops plainly, by computation.
-use Rattle.std.proofs.Common.{◌≡◌, ℕ, zero, suc, false, List, [], ◌∷◌, Option, Some, None, map, refl, sym, ap, ◌∙◌, subst, arith}
+use Rattle.std.proofs.Common.{◌≡◌, ℕ, zero, suc, false, List, [], ◌∷◌, Option, Some, None, map, refl, sym, ap, ◌∙◌, subst, inl, inr, arith}
 use Rattle.std.specs.Prelude.{pos, slice_get}
 use Rattle.std.specs.List.{AllByRecursion}
 use Rattle.std.proofs.lemmas.Int.{ints}
@@ -12,6 +12,8 @@ use Rattle.lower.specs.Stored.{FormulaText, StoredText, stored_by, flags, stored
 use Rattle.lower.specs.Regions.{LaidText, laid_functions}
 use Rattle.completeness.specs.Blocked.{makes_line, IsKept}
 use Rattle.completeness.specs.Stores.{IsNearRegion}
+use Rattle.completeness.specs.Simple.{SimpleIndices}
+use Rattle.completeness.specs.Filled.{AreEndsShort, IsNearOrSimple}
 use Rattle.completeness.specs.Placed.{ArePlaced}
 use Rattle.completeness.specs.Worked.{reader, caller, two_functions, both_split, SplitsFill}
 use Rattle.completeness.proofs.Owned.{some_same}
@@ -114,13 +116,33 @@ placed (suc (suc n)) u at fs e = absurd (no_more u at)
     no_more : (u : StoredText) → None ≡ Some u → ⊥
     no_more u q = cc q
 
-near : (n : ℕ) (r : LaidText) → slice_get (laid_functions two_functions gs) n ≡ Some (Some r) → IsNearRegion r.region
-near zero r at = subst IsNearRegion (sym region_first ∙ ap region_in at) near_points
-near (suc zero) r at = subst IsNearRegion (sym region_second ∙ ap region_in at) near_points
-near (suc (suc n)) r at = absurd (no_more r at)
+-- the first one's region begins near 0
+first_near : (u : StoredText) (fs : List FormulaText) (r : LaidText) → slice_get (laid_functions two_functions gs) 0 ≡ Some (Some r) → IsNearOrSimple u fs r.region
+first_near u fs r at = inl (subst IsNearRegion (sym region_first ∙ ap region_in at) near_points)
+
+-- and the second one's indices are simple, and its blocks reach no further number
+second_simple : SimpleIndices (formulas_in second.formulas)
+unfolding formulas_in
+second_simple = (refl, tt)
+
+abbrev EndsIn : StoredText → List Extent → Type 0
+EndsIn u es = AreEndsShort (loop_numbers u.subject.variables u.placed.cuts es) u.placed.cuts
+
+second_ends : EndsIn second points
+second_ends = ((λ bare rest. absurd (cc bare)), ((λ bare rest. absurd (cc rest)), tt))
+
+near : (n : ℕ) (u : StoredText) → slice_get gs n ≡ Some u → (fs : List FormulaText) → u.formulas ≡ Some fs → (r : LaidText) →
+    slice_get (laid_functions two_functions gs) n ≡ Some (Some r) → IsNearOrSimple u fs r.region
+near zero u at fs e r laid = first_near u fs r laid
+near (suc zero) u at fs e r laid =
+    inr (
+      subst SimpleIndices (as_found second u fs (second_is u at) e) second_simple,
+      subst (λ (v : StoredText). EndsIn v r.region) (second_is u at) (subst (EndsIn second) (sym region_second ∙ ap region_in laid) second_ends),
+    )
+near (suc (suc n)) u at fs e r laid = absurd (no_more u at)
   where
-    no_more : (r : LaidText) → None ≡ Some (Some r) → ⊥
-    no_more r q = cc q
+    no_more : (u : StoredText) → None ≡ Some u → ⊥
+    no_more u q = cc q
 
 pub splits_are_plain : SplitsFill
 splits_are_plain = record { whole = refl; blocked = blocked; placed = placed; near = near }

@@ -1,5 +1,5 @@
 -- What the lines of a group owe the checker, of a function whose loops are split once, by blocks that need no line of their own.
-use Rattle.std.specs.Prelude.{◌≡◌, ℕ, true, false, List, Some, pos, ◌+ℤ◌, ◌≤ℤ◌, slice_get}
+use Rattle.std.specs.Prelude.{◌≡◌, ◌⊎◌, ℕ, true, false, List, Some, pos, ◌+ℤ◌, ◌≤ℤ◌, slice_get}
 use Rattle.std.specs.List.{AllByRecursion}
 use Rattle.plan.specs.Plan.{Group}
 use Rattle.plan.specs.View.{plan_of}
@@ -7,6 +7,7 @@ use Rattle.plan.specs.Certificate.Certificate.{certificate_of}
 use Rattle.meaning.specs.Algorithm.{Algorithm}
 use Rattle.meaning.specs.Conditions.{IsAlgorithm}
 use Rattle.sched.specs.declared.schedule.Split.{Split}
+use Rattle.sched.specs.declared.numbers.Extent.{Extent}
 use Rattle.sched.specs.declared.numbers.Numbers.{Numbers}
 use Rattle.sched.specs.Schedule.{Schedule}
 use Rattle.sched.specs.Legal.{IsLegal}
@@ -22,6 +23,7 @@ use Rattle.completeness.specs.Laws.{AreLinesTold, NamesNoLoad}
 use Rattle.completeness.specs.Owed.{AreGridsFew, AreSymbolsFew, AreClaimsNear}
 use Rattle.completeness.specs.Nested.{TakeSplit}
 use Rattle.completeness.specs.Stores.{AreHeld, GroupShown, IsNearRegion}
+use Rattle.completeness.specs.Simple.{SimpleIndices}
 use Rattle.completeness.specs.Placed.{ArePlaced}
 use Rattle.completeness.specs.Blocked.{is_tailed, IsKept}
 
@@ -30,6 +32,10 @@ abbrev pub AreEndsShort : List Numbers → List Split → Type 0
 AreEndsShort rs cs =
     AllByRecursion
     (λ c. is_tailed rs c ≡ false → has_rest c (numbers_named rs c.whole).count ≡ true → (last_number (numbers_named rs c.whole) +ℤ pos c.factor) ≤ℤ pos 2147483647) cs
+
+-- the region that is needed of the function begins near 0; or, wherever it begins, each index of its definitions is simple, and its blocks reach numbers of 32 bits
+abbrev pub IsNearOrSimple : StoredText → List FormulaText → List Extent → Type 0
+IsNearOrSimple u fs es = IsNearRegion es ⊎ (SimpleIndices fs × AreEndsShort (loop_numbers u.subject.variables u.placed.cuts es) u.placed.cuts)
 
 -- of each function whose loops are split once, by blocks that need no line of their own, whichever loops are parallel but the inner ones, and whose left indices are the variables
 -- at their places, in updates too, where what it fetches holds its calls: all that the lines of its group owe is shown by the tests of split nests: K2, K4, K5, K6
@@ -44,7 +50,7 @@ BlockedGroupsOweShown =
     → AreHeld a (stored_functions a s) n u fs r.skeleton → AreEndsShort (loop_numbers u.subject.variables u.placed.cuts r.region) u.placed.cuts
     → GroupShown TakeSplit a (plan_of l.plan) (certificate_of l.certificate) n g
 
--- so it is, whatever such a function fetches, where its region begins near 0
+-- so it is, whatever such a function fetches, where its region begins near 0 or its indices are simple
 abbrev pub NearBlockedGroupsOweShown : Type 0
 NearBlockedGroupsOweShown =
     (a : Algorithm) (s : Schedule) (l : Lowered) → IsAlgorithm a → IsLegal a s → AreSmall a s → AreRegionsKept a s → AreGroupsMade a s l
@@ -52,4 +58,4 @@ NearBlockedGroupsOweShown =
     → AreClaimsNear (certificate_of l.certificate)
     → (n : ℕ) (g : Group) → slice_get (plan_of l.plan).groups n ≡ Some g → (u : StoredText) → slice_get (stored_functions a s) n ≡ Some u → IsKept a s n u
     → (fs : List FormulaText) → u.formulas ≡ Some fs → ArePlaced fs → (r : LaidText) → slice_get (laid_functions a (stored_functions a s)) n ≡ Some (Some r)
-    → IsNearRegion r.region → GroupShown TakeSplit a (plan_of l.plan) (certificate_of l.certificate) n g
+    → IsNearOrSimple u fs r.region → GroupShown TakeSplit a (plan_of l.plan) (certificate_of l.certificate) n g

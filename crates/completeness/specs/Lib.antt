@@ -3,6 +3,7 @@ pub mod Laws
 pub mod Owed
 pub mod Nested
 pub mod Stores
+pub mod Simple
 pub mod Placed
 pub mod Told
 pub mod Blocked

@@ -26,18 +26,19 @@ use Rattle.lower.specs.Regions.{LaidText, laid_functions}
 use Rattle.lower.specs.Faults.{are_whole}
 use Rattle.lower.specs.Refused.{AreSmall, AreRegionsKept}
 use Rattle.lower.specs.Groups.{AreGroupsMade}
-use Rattle.completeness.specs.Stores.{IsNearRegion}
 use Rattle.completeness.specs.Placed.{ArePlaced}
 use Rattle.completeness.specs.Blocked.{IsKept}
+use Rattle.completeness.specs.Filled.{IsNearOrSimple}
 
 -- each stored function is a root function that is computed at no loop; its loops are split once at most, none with `shift`: with `roundup`, or with `guard`
 -- where the factor divides the loop's numbers, the inner loop stands inside of the outer one, or a piece tells the block; its updates set each variable at its own
--- place; and the region that is needed of it begins near 0
+-- place; and the region that is needed of it begins near 0, or each index of its definitions is simple and its blocks reach numbers of 32 bits
 pub record SplitsPlainly (a : Algorithm) (s : Schedule) : Type 0 where
   pub whole : are_whole (stored_functions a s) ≡ true
   pub blocked : (n : ℕ) (u : StoredText) → slice_get (stored_functions a s) n ≡ Some u → IsKept a s n u
   pub placed : (n : ℕ) (u : StoredText) → slice_get (stored_functions a s) n ≡ Some u → (fs : List FormulaText) → u.formulas ≡ Some fs → ArePlaced fs
-  pub near : (n : ℕ) (r : LaidText) → slice_get (laid_functions a (stored_functions a s)) n ≡ Some (Some r) → IsNearRegion r.region
+  pub near : (n : ℕ) (u : StoredText) → slice_get (stored_functions a s) n ≡ Some u → (fs : List FormulaText) → u.formulas ≡ Some fs →
+      (r : LaidText) → slice_get (laid_functions a (stored_functions a s)) n ≡ Some (Some r) → IsNearOrSimple u fs r.region
 
 -- the group of this number is not the output's, or has each point of it
 abbrev pub HasOutputPoints : Algorithm → Plan → Certificate → ℕ → Group → Type 0

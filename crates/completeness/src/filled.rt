@@ -13,9 +13,11 @@ pub fn blocked_groups_owe_shown()
     ensures { BlockedGroupsOweShown }
 {}
 
-/// So it is, whatever such a function fetches, where the region that is needed of it begins within 2^16 of 0 in each dimension: all loops, those over blocks
-/// and within them as well, then run over numbers within 73,728, and the checker's search finds of each index no more than the ends by which `lower` told the
-/// regions of the functions it calls.
+/// So it is, whatever such a function fetches, where the region that is needed of it begins within 2^16 of 0 in each dimension, or, wherever it begins, each
+/// index of its definitions is a literal or a variable, plus or minus literals and clamped to literals or not, and no block reaches a number past 32 bits: the
+/// forms of what its indices stay within then have no multiples that go farther than 2^39 + 2^37 together, so that the checker's search, which adds a number
+/// to each, stays within the limits of forms wherever `lower` did, and finds of each index no more than the ends by which `lower` told the regions of the
+/// functions it calls.
 pub fn near_blocked_groups_owe_shown()
     ensures { NearBlockedGroupsOweShown }
 {}
