@@ -1,4 +1,4 @@
--- Of the certificate's lines of a plan whose splits need no line of their own no more than limits of numbers is told: their forms are within the limits of forms.
+-- Of the certificate's lines of a plan whose loops are split once, by whatever tails, no more than limits of numbers is told: their forms are within the limits of forms.
 use Rattle.std.proofs.Common.{◌≡◌, ℕ, zero, suc, ◌+◌, Bool, true, false, ◌&&◌, List, [], ◌∷◌, ◌++◌, Option, Some, None, refl, sym, ap, ◌∙◌, subst, arith}
 use Rattle.std.specs.Prelude.{nat_lt, not, take, slice_get}
 use Rattle.std.specs.List.{AllByRecursion}
@@ -29,7 +29,7 @@ use Rattle.lower.specs.Faults.{are_whole, region_fault}
 use Rattle.lower.specs.Groups.{AreOwned, HasGroups}
 use Rattle.completeness.specs.Laws.{LinesAreKnown}
 use Rattle.completeness.specs.Owed.{IsNearSpan, IsWithinSpan}
-use Rattle.completeness.specs.Blocked.{IsKept}
+use Rattle.completeness.specs.Fitting.{IsSplitOnce}
 use Rattle.completeness.proofs.Owned.{some_same, own_found}
 use Rattle.completeness.proofs.Served.{made_at}
 use Rattle.completeness.proofs.NearClaims.{span_within, group_near, claims_near}
@@ -98,7 +98,7 @@ module _ (a : Algorithm) (p : Plan) (c : Certificate) (k : LinesAreKnown a p c) 
   pub all_limits : AreLimits (flaws_of_certificate a p c)
   all_limits = all-append IsLimit (flaws_of_regions p c) (flaws_of_claims a p c) regions claims
 
--- ---- plans whose splits need no line of their own
+-- ---- plans whose loops are split once
 
 -- each own region is of a group
 pub own_group : (ps : List CodeGroup) (os : List Own) (m : ℕ) → AreOwned m ps os → (i : ℕ) (o : Own) → slice_get os i ≡ Some o → (q : CodeGroup) × (slice_get ps i ≡ Some q)
@@ -114,12 +114,12 @@ at_each P (y ∷ xs) (suc i) x h e = at_each P xs i x h.1 e
 
 module _ (a : Algorithm) (sch : Schedule) (l : Lowered) (well : IsAlgorithm a) (legal : IsLegal a sch) (small : has_large (stored_functions a sch) ≡ false)
     (kept : region_fault a (stored_functions a sch) ≡ None) (all : are_whole (stored_functions a sch) ≡ true) (groups : HasGroups a (stored_functions a sch) l)
-    (blocked : (n : ℕ) (u : StoredText) → slice_get (stored_functions a sch) n ≡ Some u → IsKept a sch n u) where
+    (once : (n : ℕ) (u : StoredText) → slice_get (stored_functions a sch) n ≡ Some u → IsSplitOnce u) where
   own_within : (i : ℕ) (o : Own) → slice_get l.certificate.own.items i ≡ Some o → AllByRecursion IsWithinSpan o.region
   own_within i o at =
       let x = own_group l.plan.groups.items l.certificate.own.items 0 groups.owned i o at in
       let me = made_at a sch l well legal small kept all groups i x.0 x.1 in
-      let own = (group_near a sch l well legal small kept all groups blocked i x.0 x.1).1 in
+      let own = (group_near a sch l well legal small kept all groups once i x.0 x.1).1 in
       let none : 0 + i ≡ i = omega arith in
       let region : me.own.region ≡ o.region =
       some_same me.own.region o.region (sym me.told ∙ sym (ap (λ (j : ℕ). own_told j) none) ∙ own_found l.plan.groups.items l.certificate.own.items 0 groups.owned i o at) in
@@ -133,4 +133,4 @@ module _ (a : Algorithm) (sch : Schedule) (l : Lowered) (well : IsAlgorithm a) (
   certificate_limits k =
       all_limits a (plan_of l.plan) (certificate_of l.certificate) k (λ i o at. own_within i o at)
       (λ i w at. at_each (λ n. AllByRecursion IsWithinSpan n.region) l.certificate.needs.items i w (needs_good a sch l well legal small kept all groups) at)
-      (λ i m at. (claims_near a sch l well legal small kept all groups blocked i m at).0)
+      (λ i m at. (claims_near a sch l well legal small kept all groups once i m at).0)

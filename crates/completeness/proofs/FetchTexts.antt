@@ -41,7 +41,8 @@ use Rattle.completeness.proofs.Needed.{taken_limited}
 use Rattle.completeness.proofs.Only.{Only, SpanOnly}
 use Rattle.completeness.proofs.OwnTexts.{IsGoodPlace}
 use Rattle.completeness.proofs.Rising.{Rises}
-use Rattle.completeness.proofs.RisingForms.{SiteRises, nests_rise, all_rise}
+use Rattle.completeness.proofs.RisingForms.{SiteRises, all_rise}
+use Rattle.completeness.proofs.RisingSteps.{nests_rise}
 use Rattle.completeness.proofs.RisingSpans.{IsTextSpan, needed_rises, cut_text, shown_is, taken_text}
 use Rattle.completeness.proofs.Served.{roots}
 use Rattle.completeness.proofs.Sited.{PlaceOnly, taken_over, seats_over}

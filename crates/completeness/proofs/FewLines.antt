@@ -1,4 +1,4 @@
--- Of functions whose loops are split once, by blocks that need no line of their own, the groups have few lines, and bind few symbols.
+-- Of functions whose loops are split once, by whatever tails and in whatever order, the groups have few lines, and bind few symbols.
 use Rattle.std.proofs.Common.{◌≡◌, ℕ, zero, suc, ◌+◌, ◌*◌, ◌≤◌, Bool, true, false, List, [], ◌∷◌, ◌++◌, length, Option, Some, None, refl, sym, ap, ◌∙◌, subst, arith}
 use Rattle.std.specs.Prelude.{filter, reverse, take, if◌then◌else◌, slice_get}
 use Rattle.std.specs.List.{AllByRecursion}
@@ -7,7 +7,6 @@ use Rattle.std.proofs.lemmas.List.{length-append, length-map, reverse-append}
 use Rattle.lin.specs.declared.span.Span1.{Span1}
 use Rattle.meaning.specs.Algorithm.{Range, Change, Function, Algorithm}
 use Rattle.meaning.specs.Conditions.{IsUpdate, IsAlgorithm}
-use Rattle.lin.specs.Forms.{Form}
 use Rattle.plan.specs.declared.plan.Group.{Group as CodeGroup}
 use Rattle.plan.specs.declared.certificate.cert.Claim.{Claim as CodeClaim}
 use Rattle.plan.specs.declared.certificate.cert.Need.{Need}
@@ -16,7 +15,6 @@ use Rattle.plan.specs.View.{group_of, plan_of, statement_of}
 use Rattle.plan.specs.Lines.{lines, block_lines, groups_lines}
 use Rattle.rules.specs.Bounding.Scopes.{most_symbols}
 use Rattle.headline.proofs.Lists.{from_map}
-use Rattle.sched.specs.declared.schedule.Split.{Split}
 use Rattle.sched.specs.Schedule.{Schedule}
 use Rattle.sched.specs.Legal.{IsLegal}
 use Rattle.sched.specs.Subjects.{reductions_of}
@@ -24,8 +22,8 @@ use Rattle.sched.specs.Runs.{lines_to}
 use Rattle.sched.specs.declared.placing.Loop.{Loop}
 use Rattle.sched.specs.declared.numbers.Extent.{Extent}
 use Rattle.sched.specs.declared.numbers.Numbers.{Numbers}
-use Rattle.sched.specs.declared.nest.Turning.{Turning}
 use Rattle.sched.specs.declared.skeleton.Step.{Step}
+use Rattle.sched.specs.declared.skeleton.Step.TheVariants.{Turns, Named, Tested}
 use Rattle.sched.specs.declared.skeleton.Known.{Known}
 use Rattle.sched.specs.Numbers.{loop_numbers, parallel_loops}
 use Rattle.sched.specs.Skeleton.{range_turning, BodyText, NestText, SkeletonText, loop_turning, is_in_nest, nest_loops, nest_turns, grid_forms}
@@ -36,24 +34,21 @@ use Rattle.lower.specs.Faults.{are_whole, region_fault}
 use Rattle.lower.specs.Regions.{bodies_from}
 use Rattle.lower.specs.Loading.{Loads}
 use Rattle.lower.specs.Blocks.{dimensions_of, claimed_region, own_places}
-use Rattle.lower.specs.Bodies.{last_claim, IsStore, AreNests, first_lines}
+use Rattle.lower.specs.Bodies.{last_claim, IsStore, AreNests, step_lines, first_lines}
 use Rattle.lower.specs.Fetches.{Entry, FetchText, with_fetches, loads_from}
 use Rattle.lower.specs.Groups.{HasBody, line_behind, HaveBodies, HasGroups}
 use Rattle.completeness.specs.Laws.{AreLinesTold}
 use Rattle.completeness.specs.Owed.{BindBelow, AllBindBelow, AreGridsFew, AreSymbolsFew}
-use Rattle.soundness.specs.Claims.{In}
-use Rattle.completeness.specs.Blocked.{makes_line, IsKept}
-use Rattle.completeness.proofs.Standing.{nests_long}
+use Rattle.completeness.specs.Fitting.{IsSplitOnce}
+use Rattle.completeness.proofs.Standing.{Rises, NestsRise}
 use Rattle.completeness.proofs.Laid.{subjects, found}
 use Rattle.completeness.proofs.Owned.{some_same, same_extents, same_skeleton}
 use Rattle.completeness.proofs.Served.{roots, made_at}
 use Rattle.completeness.proofs.Bodies.{body_at}
 use Rattle.completeness.proofs.Counts.{bodies_many, fetches_few, roots_few, functions_few}
 use Rattle.completeness.proofs.ClaimLines.{formulas_long}
-use Rattle.completeness.proofs.BlockTurns.{limited_for}
-use Rattle.completeness.proofs.BlockOrder.{IsOrdered, bodies_ordered}
-use Rattle.completeness.proofs.PureNests.{all_in}
-use Rattle.completeness.proofs.BlockChains.{AreChained, IsLooped, few_loops, looped}
+use Rattle.completeness.proofs.FewLoops.{IsShortNest, IsShort, few_loops, short}
+use Rattle.completeness.proofs.RisingSteps.{binders}
 use Rattle.completeness.proofs.UpdateTurns.{ranges_turned}
 
 -- ---- lists
@@ -76,9 +71,24 @@ all_below : (m : ℕ) (xs ys : List Statement) → AllBindBelow m (block xs) →
 all_below m [] ys h k = k
 all_below m (x ∷ xs) ys h k = (h.0, all_below m xs ys h.1 k)
 
-steps_below : (m : ℕ) (limits : ℕ → List Form) (n : ℕ) (ts : List Turning) (rest : Statements) → n + length ts ≤ m → AllBindBelow m rest → AllBindBelow m (lines_to (limited_for limits n ts) rest)
-steps_below m limits n [] rest le h = h
-steps_below m limits n (t ∷ ts) rest le h = ((omega (arith, le), steps_below m limits (n + 1) ts rest (omega (arith, le)) h), tt)
+-- so many symbols from the one on
+pub rises_to : (n m : ℕ) (ss : List Step) → Rises n ss m → m ≡ n + binders ss
+rises_to n m [] h = omega (arith, h)
+rises_to n m (Turns i x kind ∷ ss) h = (let rest = rises_to (n + 1) m ss h.1 in omega (arith, rest))
+rises_to n m (Named i pick fs ∷ ss) h = (let rest = rises_to (n + 1) m ss h.1 in omega (arith, rest))
+rises_to n m (Tested low high ∷ ss) h = rises_to n m ss h
+
+steps_below : (m n to : ℕ) (ss : List Step) (rest : Statements) → Rises n ss to → to ≤ m → AllBindBelow m rest → AllBindBelow m (lines_to ss rest)
+steps_below m n to [] rest rises le h = h
+steps_below m n to (Turns i x kind ∷ ss) rest rises le h =
+    let is = rises.0 in
+    let many = rises_to (n + 1) to ss rises.1 in
+    ((omega (arith, is, many, le), steps_below m (n + 1) to ss rest rises.1 le h), tt)
+steps_below m n to (Named i pick fs ∷ ss) rest rises le h =
+    let is = rises.0 in
+    let many = rises_to (n + 1) to ss rises.1 in
+    (omega (arith, is, many, le), steps_below m (n + 1) to ss rest rises.1 le h)
+steps_below m n to (Tested low high ∷ ss) rest rises le h = (steps_below m n to ss rest rises le h, tt)
 
 fetches_below : (m : ℕ) (fs : List FetchText) (xs : List Statement) → AllBindBelow m (block xs) → AllBindBelow m (block (with_fetches fs xs))
 fetches_below m [] xs h = h
@@ -88,9 +98,11 @@ pub lines_both : (xs ys : List Statement) → block_lines (block (xs ++ ys)) ≡
 lines_both [] ys = omega arith
 lines_both (x ∷ xs) ys = (let rest = lines_both xs ys in omega (arith, rest))
 
-steps_lines : (limits : ℕ → List Form) (n : ℕ) (ts : List Turning) (rest : Statements) → block_lines (lines_to (limited_for limits n ts) rest) ≡ 2 * length ts + block_lines rest
-steps_lines limits n [] rest = omega arith
-steps_lines limits n (t ∷ ts) rest = (let more = steps_lines limits (n + 1) ts rest in omega (arith, more))
+pub steps_lines : (ss : List Step) (rest : Statements) → block_lines (lines_to ss rest) ≡ step_lines ss + block_lines rest
+steps_lines [] rest = omega arith
+steps_lines (Turns i x kind ∷ ss) rest = (let more = steps_lines ss rest in omega (arith, more))
+steps_lines (Named i pick fs ∷ ss) rest = (let more = steps_lines ss rest in omega (arith, more))
+steps_lines (Tested low high ∷ ss) rest = (let more = steps_lines ss rest in omega (arith, more))
 
 fetches_lines : (fs : List FetchText) (xs : List Statement) → block_lines (block (with_fetches fs xs)) ≡ 2 * length fs + block_lines (block xs)
 fetches_lines [] xs = omega arith
@@ -110,32 +122,33 @@ store_below m g fs ms d w (Publish x) h = absurd h
 -- ---- nests
 
 -- the statements bind symbols before the limit, and have few lines
-pub record AreSmallHere (next many : ℕ) (xs : List Statement) : Type 0 where
+pub record AreSmallHere (many : ℕ) (xs : List Statement) : Type 0 where
   below : AllBindBelow 256 (block xs)
-  pub few : block_lines (block xs) + 2 * next ≤ 512 + many
+  pub few : block_lines (block xs) ≤ 55 * many
 
-pub nests_small : (next : ℕ) (ns : List NestText) → next ≤ 256 → AreChained 256 next ns → (g : StoredText) (fs : List FormulaText) (r : List Span1) (ms : Loads) (c line d : ℕ)
-    (xs : List Statement) (cs : List CodeClaim) → AreNests g fs r ms c line d ns xs cs → AreSmallHere next (length ns) xs
-nests_small next [] le chain g fs r ms c line d xs cs h =
+pub nests_small : (next : ℕ) (ns : List NestText) → NestsRise next ns → AllByRecursion IsShortNest ns → next + 27 * length ns ≤ 256 → (g : StoredText) (fs : List FormulaText) (r : List Span1)
+    (ms : Loads) (c line d : ℕ) (xs : List Statement) (cs : List CodeClaim) → AreNests g fs r ms c line d ns xs cs → AreSmallHere (length ns) xs
+nests_small next [] rises short le g fs r ms c line d xs cs h =
     let none : block_lines (block xs) ≡ 0 = ap (λ (ys : List Statement). block_lines (block ys)) h.0 in
-    record { below = subst (λ (ys : List Statement). AllBindBelow 256 (block ys)) (sym h.0) tt; few = omega (arith, none, le) }
-nests_small next (w ∷ ns) le chain g fs r ms c line d xs [] h = absurd h
-nests_small next (w ∷ ns) le chain g fs r ms c line d xs (claim ∷ cs) h =
+    record { below = subst (λ (ys : List Statement). AllBindBelow 256 (block ys)) (sym h.0) tt; few = omega (arith, none) }
+nests_small next (w ∷ ns) rises short le g fs r ms c line d xs [] h = absurd h
+nests_small next (w ∷ ns) rises short le g fs r ms c line d xs (claim ∷ cs) h =
     let nest = h.here.nest in
-    let ts = chain.0 in
-    let limits = chain.1 in
-    let under = chain.3 in
+    let to = rises.0 in
+    let is = rises_to next to w.steps rises.1 in
+    let symbols = short.0.few_symbols in
+    let few_lines = short.0.few_lines in
     let store = store_below 256 g fs ms d w nest.store nest.stores in
     let one = store.1 in
-    let rest = nests_small (next + length ts) ns under chain.4 g fs r (ms ++ (g.subject.name, c) ∷ []) (c + 1) (line + block_lines (block h.first)) (d + 1) h.others cs h.behind in
-    let are : block h.first ≡ lines_to (limited_for limits next ts) (Then nest.store Empty) = nest.comes ∙ ap (λ (ss : List Step). lines_to ss (Then nest.store Empty)) chain.2 in
-    let first : AllBindBelow 256 (block h.first) = subst (AllBindBelow 256) (sym are) (steps_below 256 limits next ts (Then nest.store Empty) under (store.0, tt)) in
-    let many : block_lines (block h.first) ≡ 2 * length ts + block_lines (Then nest.store Empty) = ap block_lines are ∙ steps_lines limits next ts (Then nest.store Empty) in
+    let rest = nests_small to ns rises.2 short.1 (omega (arith, is, symbols, le)) g fs r (ms ++ (g.subject.name, c) ∷ []) (c + 1) (line + block_lines (block h.first)) (d + 1) h.others cs h.behind in
+    let below = steps_below 256 next to w.steps (Then nest.store Empty) rises.1 (omega (arith, is, symbols, le)) (store.0, tt) in
+    let first : AllBindBelow 256 (block h.first) = subst (AllBindBelow 256) (sym nest.comes) below in
+    let many : block_lines (block h.first) ≡ step_lines w.steps + block_lines (Then nest.store Empty) = ap block_lines nest.comes ∙ steps_lines w.steps (Then nest.store Empty) in
     let both : block_lines (block xs) ≡ block_lines (block h.first) + block_lines (block h.others) = ap (λ (ys : List Statement). block_lines (block ys)) h.are ∙ lines_both h.first h.others in
     let few_there = rest.few in
     record {
       below = subst (λ (ys : List Statement). AllBindBelow 256 (block ys)) (sym h.are) (all_below 256 h.first h.others first rest.below);
-      few = omega (arith, many, both, one, few_there);
+      few = omega (arith, many, both, one, few_lines, few_there);
     }
 
 -- ---- loops
@@ -190,7 +203,7 @@ bodies_long a all n c line (g ∷ gs) (p ∷ ps) claims needs h = ap suc (bodies
 
 module _ (a : Algorithm) (sch : Schedule) (l : Lowered) (well : IsAlgorithm a) (legal : IsLegal a sch) (small : has_large (stored_functions a sch) ≡ false)
     (kept : region_fault a (stored_functions a sch) ≡ None) (all : are_whole (stored_functions a sch) ≡ true) (groups : HasGroups a (stored_functions a sch) l)
-    (blocked : (n : ℕ) (u : StoredText) → slice_get (stored_functions a sch) n ≡ Some u → IsKept a sch n u) where
+    (once : (n : ℕ) (u : StoredText) → slice_get (stored_functions a sch) n ≡ Some u → IsSplitOnce u) where
   abbrev gs : List StoredText
   gs = stored_functions a sch
 
@@ -200,8 +213,8 @@ module _ (a : Algorithm) (sch : Schedule) (l : Lowered) (well : IsAlgorithm a) (
   abbrev entries : List Entry
   entries = roots a sch l well legal small kept all groups
 
-  -- what a group is made of, with its skeleton of few loops
-  pub record IsGroupLooped (n : ℕ) (q : CodeGroup) : Type 0 where
+  -- what a group is made of, with its skeleton of few steps
+  pub record IsGroupShort (n : ℕ) (q : CodeGroup) : Type 0 where
     pub stored : StoredText
     pub is : slice_get gs n ≡ Some stored
     pub first_claim : ℕ
@@ -211,14 +224,12 @@ module _ (a : Algorithm) (sch : Schedule) (l : Lowered) (well : IsAlgorithm a) (
     pub body : HasBody a entries n first_claim line stored q claims needs
     pub grid : q.grid.items ≡ body.skeleton.grid
     pub names : List Known
-    pub looped : IsLooped names body.skeleton
-    pub definitions : length body.skeleton.nests ≤ 5
+    pub short : IsShort names body.skeleton
 
   -- the skeleton over the group's region
   pub record IsStood (u : StoredText) (region : List Extent) (k : SkeletonText) : Type 0 where
     pub narrow : length u.subject.variables ≤ 3
-    pub definitions : length k.nests ≤ 5
-    pub looped : IsLooped (grid_forms (loop_numbers u.subject.variables u.placed.cuts region) 0 (parallel_loops u.placed.loops)) k
+    pub short : IsShort (grid_forms (loop_numbers u.subject.variables u.placed.cuts region) 0 (parallel_loops u.placed.loops)) k
 
   pub stood : (n : ℕ) (q : CodeGroup) (there : slice_get l.plan.groups.items n ≡ Some q) →
       let me = made_at a sch l well legal small kept all groups n q there in IsStood me.stored me.laid.region me.laid.skeleton
@@ -236,7 +247,7 @@ module _ (a : Algorithm) (sch : Schedule) (l : Lowered) (well : IsAlgorithm a) (
       let reduced : u.subject.reductions ≡ reductions_of u.changes = ap (λ (y : StoredText). y.subject.reductions) w.is ∙ sym (ap (λ (y : StoredText). reductions_of y.changes) w.is) in
       let ranges : (d : ℕ) → length (ranges_of u.changes d) ≤ 3 =
       λ d. subst (λ (y : StoredText). length (ranges_of y.changes d) ≤ 3) (sym w.is) (ranges_few a (take w.place a.functions) f d updates) in
-      let mine = blocked n u me.is in
+      let mine = once n u me.is in
       let bs : List BodyText = bodies_from u.changes 0 u.subject.reductions me.formulas in
       let rs : List Numbers = loop_numbers u.subject.variables u.placed.cuts me.laid.region in
       let three : length u.subject.variables ≤ 3 = omega (arith, variables, narrow) in
@@ -248,22 +259,12 @@ module _ (a : Algorithm) (sch : Schedule) (l : Lowered) (well : IsAlgorithm a) (
       let most = ranges d in
       let all_turns = turns_small y rs u.placed.loops (omega (arith, count, most)) in
       omega (arith, all_turns, loops)) in
-      let free : (c : Split) → In c u.placed.cuts → makes_line u.placed.loops rs c ≡ false =
-      λ c m. all_in (λ c. makes_line u.placed.loops rs c ≡ false) u.placed.cuts c (mine.filled me.laid me.found) m in
-      let ordered : AllByRecursion (λ y. IsOrdered u.placed.cuts rs (nest_turns y rs u.placed.loops)) bs =
-      each_at (λ y. IsOrdered u.placed.cuts rs (nest_turns y rs u.placed.loops)) bs
-      (λ d y at. bodies_ordered a sch legal n u me.is me.laid.region me.laid.skeleton me.laid_by free me.formulas d y at) in
       let bodies = bodies_many u.changes 0 u.subject.reductions me.formulas in
       let five : length bs ≤ 5 = omega (arith, bodies, long, four) in
-      let nests = nests_long u.subject.variables bs u.placed me.laid.region me.laid.skeleton me.over in
-      record {
-        narrow = three;
-        definitions = omega (arith, nests, five);
-        looped = looped u me.laid.region me.laid.skeleton me.laid_by three mine.once bs mine.inners (mine.filled me.laid me.found) ordered five turns me.over;
-      }
+      record { narrow = three; short = short u me.laid.region me.laid.skeleton me.laid_by three mine.once bs mine.inners five turns me.over }
 
-  pub group_looped : (n : ℕ) (q : CodeGroup) → slice_get l.plan.groups.items n ≡ Some q → IsGroupLooped n q
-  group_looped n q there =
+  pub group_short : (n : ℕ) (q : CodeGroup) → slice_get l.plan.groups.items n ≡ Some q → IsGroupShort n q
+  group_short n q there =
       let me = made_at a sch l well legal small kept all groups n q there in
       let u : StoredText = me.stored in
       let over = stood n q there in
@@ -283,13 +284,12 @@ module _ (a : Algorithm) (sch : Schedule) (l : Lowered) (well : IsAlgorithm a) (
         body = body;
         grid = me.grid ∙ ap (λ (k : SkeletonText). k.grid) skeleton;
         names = grid_forms (loop_numbers u.subject.variables u.placed.cuts me.laid.region) 0 (parallel_loops u.placed.loops);
-        looped = subst (IsLooped (grid_forms (loop_numbers u.subject.variables u.placed.cuts me.laid.region) 0 (parallel_loops u.placed.loops))) skeleton over.looped;
-        definitions = subst (λ (k : SkeletonText). length k.nests ≤ 5) skeleton over.definitions;
+        short = subst (IsShort (grid_forms (loop_numbers u.subject.variables u.placed.cuts me.laid.region) 0 (parallel_loops u.placed.loops))) skeleton over.short;
       }
 
   pub body_small : (n : ℕ) (q : CodeGroup) → slice_get l.plan.groups.items n ≡ Some q → BindBelow 256 (statement_of q.body) × (lines (statement_of q.body) + 1 ≤ 700)
   body_small n q there =
-      let r = group_looped n q there in
+      let r = group_short n q there in
       let u = r.stored in
       let h = r.body in
       let b = h.body in
@@ -299,20 +299,26 @@ module _ (a : Algorithm) (sch : Schedule) (l : Lowered) (well : IsAlgorithm a) (
       let ms : Loads = loads_from r.first_claim b.fetches in
       let at_claim : ℕ = r.first_claim + length b.fetches in
       let at_line : ℕ = r.line + first_lines k + 2 * length b.fetches in
-      let grid = r.looped.grid in
-      let here = nests_small (length k.grid) k.nests (omega (arith, grid)) r.looped.chained u fs region ms at_claim at_line 0 b.nests b.own b.nested in
+      let x = r.short in
+      let grid = x.grid in
+      let definitions = x.definitions in
+      let head_symbols = x.few_symbols in
+      let head_lines = x.few_lines in
+      let next : ℕ = x.own.next in
+      let first = rises_to (length k.grid) next k.head x.own.rises in
+      let here = nests_small next k.nests x.own.nests_rise x.nests (omega (arith, grid, head_symbols, first, definitions)) u fs region ms at_claim at_line 0 b.nests b.own b.nested in
       let last : ℕ = last_claim r.first_claim b.fetches k in
       let rest : List Statement = b.nests ++ Publish last ∷ [] in
       let inside : List Statement = Alloc 0 u.subject.name (own_places (dimensions_of u h.extents k)) ∷ with_fetches b.fetches rest in
-      let is : statement_of q.body ≡ Seq (block inside) = b.with.is ∙ ap (λ (ss : List Step). Seq (lines_to ss (block inside))) r.looped.head in
-      let below : BindBelow 256 (Seq (block inside)) = (tt, fetches_below 256 b.fetches rest (all_below 256 b.nests (Publish last ∷ []) here.below (tt, tt))) in
+      let inner : AllBindBelow 256 (block inside) = (tt, fetches_below 256 b.fetches rest (all_below 256 b.nests (Publish last ∷ []) here.below (tt, tt))) in
+      let below : BindBelow 256 (Seq (lines_to k.head (block inside))) =
+      steps_below 256 (length k.grid) next k.head (block inside) x.own.rises (omega (arith, grid, head_symbols, first)) inner in
       let few = here.few in
-      let definitions = r.definitions in
       let both : block_lines (block rest) ≡ block_lines (block b.nests) + 1 = lines_both b.nests (Publish last ∷ []) in
       let fetched = fetches_lines b.fetches rest in
-      let all_lines : lines (statement_of q.body) ≡ 1 + block_lines (block (with_fetches b.fetches rest)) = ap lines is in
+      let all_lines : lines (statement_of q.body) ≡ step_lines k.head + (1 + block_lines (block (with_fetches b.fetches rest))) = ap lines b.with.is ∙ steps_lines k.head (block inside) in
       let buffers = fetches_few a entries (roots_few a sch l well legal small kept all groups) n r.first_claim r.line u q r.claims r.needs h in
-      (subst (BindBelow 256) (sym is) below, omega (arith, few, definitions, both, fetched, all_lines, buffers))
+      (subst (BindBelow 256) (sym b.with.is) below, omega (arith, few, definitions, both, fetched, all_lines, buffers, head_lines))
 
   pub symbols_few : AreSymbolsFew (plan_of l.plan)
   symbols_few n g at =
@@ -331,7 +337,7 @@ module _ (a : Algorithm) (sch : Schedule) (l : Lowered) (well : IsAlgorithm a) (
   pub grids_few : AreGridsFew (plan_of l.plan)
   grids_few n g at =
       let x = from_map group_of l.plan.groups.items n g at in
-      let r = group_looped n x.0 x.1 in
-      let grid = r.looped.grid in
+      let r = group_short n x.0 x.1 in
+      let grid = r.short.grid in
       let count : length x.0.grid.items ≡ length r.body.skeleton.grid = ap length r.grid in
       subst (λ (y : Group). length y.grid ≤ most_symbols) (sym x.2) (omega (arith, grid, count))

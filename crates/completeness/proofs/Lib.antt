@@ -54,6 +54,7 @@ pub mod Shared
 pub mod Lines
 pub mod Widened
 pub mod Rising
+pub mod RisingSteps
 pub mod RisingForms
 pub mod GridCounts
 pub mod GridScope
@@ -101,11 +102,13 @@ pub mod FirstNumbers
 pub mod NearBoxes
 pub mod HeldWhole
 pub mod LimitsAlone
+pub mod FewLoops
 pub mod FewLines
 pub mod OwnCalls
 pub mod OwnLoads
 pub mod SitesAt
 pub mod UncutOwn
+pub mod TailEnds
 pub mod NearClaims
 pub mod CertLimits
 pub mod HeldAll
@@ -126,7 +129,6 @@ pub mod BlockNests
 pub mod SaidPlans
 pub mod BlockInside
 pub mod BlockStores
-pub mod BlockChains
 pub mod Shapes
 pub mod HeldNear
 pub mod BlockNear

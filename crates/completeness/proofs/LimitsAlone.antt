@@ -19,6 +19,7 @@ use Rattle.completeness.specs.Parted.{KeepsInner, InnersAreKept}
 use Rattle.completeness.specs.Laws.{AreSplitOnce, AreLinesTold, Stands}
 use Rattle.completeness.specs.Owed.{AreGridsFew, AreSymbolsFew, AreClaimsNear}
 use Rattle.completeness.specs.Nested.{TakeSplit}
+use Rattle.completeness.specs.Fitting.{SplitsOnce}
 use Rattle.completeness.specs.Told.{SplitsPlainly, LimitsAloneAreTold}
 use Rattle.completeness.proofs.Shared.{shared, limits as shares_limits, heads}
 use Rattle.completeness.proofs.CertLimits.{certificate_limits}
@@ -44,6 +45,9 @@ module _ (a : Algorithm) (s : Schedule) (fills : SplitsPlainly a s) where
   inners : InnersAreKept a s
   inners = each_at (λ g. KeepsInner g.placed.loops g.placed.cuts) (stored_functions a s) (λ i g at. (fills.blocked i g at).inners)
 
+  pub splits_once : SplitsOnce a s
+  splits_once = record { whole = fills.whole; once = λ i u at. (let mine = fills.blocked i u at in record { once = mine.once; inners = mine.inners }) }
+
   once : AllByRecursion (λ g. AreSplitOnce g.placed.cuts) (stored_functions a s)
   once = each_at (λ g. AreSplitOnce g.placed.cuts) (stored_functions a s) (λ i g at. (fills.blocked i g at).once)
 
@@ -56,22 +60,22 @@ limits_alone a s l well legal small regions groups fills named =
       head = λ line. heads a p c line stands;
       groups = told a s l well legal small regions groups fills.whole (named_no_load a named) lines_stand (once a s fills);
       shown = λ n g at. shown_at n g at;
-      certificate = certificate_limits a s l well legal small (regions fills.whole).0 fills.whole groups fills.blocked stands.lines;
+      certificate = certificate_limits a s l well legal small (regions fills.whole).0 fills.whole groups (splits_once a s fills).once stands.lines;
       shares = λ f. shares_limits a p c f stands;
       output = λ n g at is q within. ap (λ (o : _). has_point o q) at ∙ stands.output.inside n g at is q within;
     }
   where
     lines_stand : AreLinesTold (plan_of l.plan)
-    lines_stand = lines_told a s l well legal small (regions fills.whole).0 fills.whole groups fills.blocked
+    lines_stand = lines_told a s l well legal small (regions fills.whole).0 fills.whole groups (splits_once a s fills).once
 
     grids : AreGridsFew (plan_of l.plan)
-    grids = grids_few a s l well legal small (regions fills.whole).0 fills.whole groups fills.blocked
+    grids = grids_few a s l well legal small (regions fills.whole).0 fills.whole groups (splits_once a s fills).once
 
     symbols : AreSymbolsFew (plan_of l.plan)
-    symbols = symbols_few a s l well legal small (regions fills.whole).0 fills.whole groups fills.blocked
+    symbols = symbols_few a s l well legal small (regions fills.whole).0 fills.whole groups (splits_once a s fills).once
 
     near : AreClaimsNear (certificate_of l.certificate)
-    near = claims_near a s l well legal small (regions fills.whole).0 fills.whole groups fills.blocked
+    near = claims_near a s l well legal small (regions fills.whole).0 fills.whole groups (splits_once a s fills).once
 
     shown_at : (n : ℕ) (g : Group) → slice_get (plan_of l.plan).groups n ≡ Some g →
         IsShown (rules_of a (plan_of l.plan) (certificate_of l.certificate) n) a (plan_of l.plan) (certificate_of l.certificate) n g

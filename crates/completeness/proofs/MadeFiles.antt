@@ -1,4 +1,4 @@
--- The text of a plan that is made of a schedule whose splits need no line of their own is a file of this plan.
+-- The text of a plan that is made of a schedule that splits loops once, by whatever tails, is a file of this plan.
 use Rattle.std.proofs.Common.{◌≡◌, true}
 use Rattle.plan.specs.View.{plan_of}
 use Rattle.plan.specs.Certificate.Certificate.{certificate_of}
@@ -14,15 +14,15 @@ use Rattle.completeness.proofs.SaidPlans.{plans_are_said}
 use Rattle.completeness.proofs.Shapes.{shaped}
 
 pub files_are_of_plans : FilesAreOfPlans
-files_are_of_plans a s l well legal small regions groups fills named written =
-    let all = fills.whole in
+files_are_of_plans a s l well legal small regions groups splits named written =
+    let all = splits.whole in
     let kept = (regions all).0 in
     let planned = (regions all).1 in
     let p = plan_of l.plan in
     let c = certificate_of l.certificate in
-    let shape = shaped a s l well legal small kept all groups fills.blocked in
+    let shape = shaped a s l well legal small kept all groups splits.once in
     let said = plans_are_said a s l well legal small regions groups all named written in
-    let plan : fits_plan p ≡ true = plans_fit_by_numbers p c shape said (plan_numbered a s l well legal small kept all groups planned fills.blocked) in
+    let plan : fits_plan p ≡ true = plans_fit_by_numbers p c shape said (plan_numbered a s l well legal small kept all groups planned splits.once) in
     let certificate : fits_certificate c ≡ true =
-    certificates_fit_by_numbers a s l well legal small regions groups all named (certificate_numbered a s l well legal small kept all groups fills.blocked) in
-    file_of_plan p c plan certificate (lines_few a s l well legal small kept all groups fills.blocked)
+    certificates_fit_by_numbers a s l well legal small regions groups all named (certificate_numbered a s l well legal small kept all groups splits.once) in
+    file_of_plan p c plan certificate (lines_few a s l well legal small kept all groups splits.once)

@@ -1,4 +1,4 @@
--- Where splits need no line of their own and regions begin near 0, the regions of claims are within the limits of forms, and those of pieces' own buffers near.
+-- Where loops are split once, by whatever tails, the regions of claims are within the limits of forms, and those of pieces' own buffers near.
 use Rattle.std.proofs.Common.{◌≡◌, ℕ, zero, suc, ◌+◌, ◌*◌, ◌<◌, ◌≤◌, ◌^◌, Bool, true, false, List, [], ◌∷◌, ◌++◌, length, map, Option, Some, None, refl, sym, ap, ◌∙◌, subst, arith, ◌||◌}
 use Rattle.std.proofs.Common.{inl, inr, ◌⊎◌}
 use Rattle.std.specs.Prelude.{ℤ, pos, ◌+ℤ◌, ◌-ℤ◌, ◌*ℤ◌, if◌then◌else◌, slice_get}
@@ -25,6 +25,8 @@ use Rattle.headline.proofs.Lists.{from_map}
 use Rattle.sched.specs.Schedule.{Schedule}
 use Rattle.sched.specs.Legal.{IsLegal}
 use Rattle.sched.specs.declared.schedule.Split.{Split}
+use Rattle.sched.specs.declared.schedule.Tail.{Tail}
+use Rattle.sched.specs.declared.schedule.Tail.TheVariants.{Guard, Roundup, Shift}
 use Rattle.sched.specs.declared.numbers.Extent.{Extent}
 use Rattle.sched.specs.declared.numbers.Numbers.{Numbers}
 use Rattle.sched.specs.Numbers.{numbers_named, last_number, loop_numbers, parallel_loops}
@@ -38,7 +40,7 @@ use Rattle.lower.specs.Faults.{are_whole, region_fault}
 use Rattle.lower.specs.Owning.{IsLaidBy, IsExtent}
 use Rattle.lower.specs.Loading.{Loads}
 use Rattle.lower.specs.Blocks.{LayText, Whole, difference, is_parallel_named, alone_by, lay_over, dimension_by, dimension_of, dimensions_of, owned_region, claimed_region, PartText}
-use Rattle.lower.specs.Blocks.{BlockText, raised, uncut, joined, blocks_by, Run, block_span, with_last, part_of, claim_end_of}
+use Rattle.lower.specs.Blocks.{BlockText, raised, uncut, joined, blocks_by, Run, block_span, own_last, with_last, part_of, claim_end_of}
 use Rattle.lower.specs.Bodies.{AreNests, first_lines}
 use Rattle.lower.specs.Taken.{sites_of, taken_region}
 use Rattle.lower.specs.Fetches.{Entry, FetchText, IsPart, AreFetched, fetched_groups, loads_from}
@@ -65,7 +67,7 @@ use Rattle.lower.proofs.Grids.{parallel_named}
 use Rattle.lower.proofs.Owners as owners
 use Rattle.completeness.specs.Laws.{AreSplitOnce}
 use Rattle.completeness.specs.Parted.{KeepsInner}
-use Rattle.completeness.specs.Blocked.{is_tailed, makes_line, IsKept}
+use Rattle.completeness.specs.Fitting.{IsSplitOnce}
 use Rattle.completeness.proofs.Halves.{AreOthers}
 use Rattle.completeness.proofs.Lanes.{AreOnce}
 use Rattle.completeness.proofs.VectorLines.{split_once}
@@ -73,8 +75,9 @@ use Rattle.completeness.proofs.PureNests.{all_in, loop_name}
 use Rattle.completeness.proofs.Searched.{one_of}
 use Rattle.completeness.proofs.BlockFacts.{inners_serial}
 use Rattle.completeness.proofs.BlockSums.{one_limited}
-use Rattle.completeness.proofs.BlockDims.{top, IsCutOnce, cut_once, part_uncut, claim_uncut, claim_is, few_numbers, block_claim}
-use Rattle.completeness.proofs.BlockChains.{is_named}
+use Rattle.completeness.proofs.BlockDims.{IsCutOnce, cut_once, part_uncut, claim_uncut}
+use Rattle.completeness.proofs.TailEnds.{claim_end_near, block_is}
+use Rattle.completeness.proofs.FewLoops.{is_named}
 use Rattle.completeness.proofs.FewLines.{stood}
 
 -- ---- own claims
@@ -129,13 +132,8 @@ split_or (d ∷ cs) x = of (same_name d.whole x) refl (split_or cs x)
         by c (inl q) k = (let clash : true ≡ false = sym (name_refl d.whole) ∙ ap (same_name d.whole) (ap (λ (y : Split). y.whole) (sym q) ∙ k) ∙ e in cc clash)
         by c (inr q) k = none c q k
 
-abbrev pub first_of : List Form → Form → Form
-first_of [] other = other
-first_of (f ∷ fs) other = f
-
 module _ (g : StoredText) (region : List Extent) (k : SkeletonText) (laid : IsLaidBy g region k) (narrow : length g.subject.variables ≤ 3) (alone : AreSplitOnce g.placed.cuts)
     (keeps : KeepsInner g.placed.loops g.placed.cuts)
-    (filled : AllByRecursion (λ c. makes_line g.placed.loops (loop_numbers g.subject.variables g.placed.cuts region) c ≡ false) g.placed.cuts)
     (known : k.known ≡ grid_forms (loop_numbers g.subject.variables g.placed.cuts region) 0 (parallel_loops g.placed.loops)) where
   abbrev xs : List (List ℕ)
   xs = g.subject.variables
@@ -164,9 +162,6 @@ module _ (g : StoredText) (region : List Extent) (k : SkeletonText) (laid : IsLa
 
   abbrev once : AreOnce cuts
   once = split_once cuts alone
-
-  abbrev free : (c : Split) → In c cuts → makes_line ls rs c ≡ false
-  free c m = all_in (λ c. makes_line ls rs c ≡ false) cuts c filled m
 
   abbrev fits : (c : Split) → In c cuts → CutFits rs c
   fits c m = all_in (CutFits rs) cuts c (owners.cuts g region k laid) m
@@ -236,19 +231,7 @@ module _ (g : StoredText) (region : List Extent) (k : SkeletonText) (laid : IsLa
     size = c.factor
 
     all_whole : IsNear c.whole Whole
-    all_whole =
-        let end = part.claim ∙ claim_is ls rs c (free c m) (fits c m) h.0 h.1 in
-        let few = few_numbers ls rs c (free c m) (fits c m) h.0 h.1 in
-        let wide = (fits c m).few in
-        let bare = far low (top (num c.whole).count size * size) size (near_low c.whole h) few wide in
-        whole_near c.whole h (subst (λ (z : ℤ). unsigned_abs z ≤ 2 ^ 36) (sym end) (either (is_tailed rs c) (last_number (num c.whole)) _ (near_last c.whole h) bare))
-      where
-        either : (v : Bool) (y z : ℤ) → unsigned_abs y ≤ 2 ^ 36 → unsigned_abs z ≤ 2 ^ 36 → unsigned_abs (if v then y else z) ≤ 2 ^ 36
-        either true y z h k = h
-        either false y z h k = k
-
-        far : (z : ℤ) (p q : ℕ) → unsigned_abs z ≤ 2 ^ 32 → p ≤ 2 ^ 32 → q ≤ 1024 → unsigned_abs (z +ℤ (pos p +ℤ (pos q -ℤ pos 1))) ≤ 2 ^ 36
-        far z p q one two three = omega (arith, ints, one, two, three)
+    all_whole = whole_near c.whole h (subst (λ (z : ℤ). unsigned_abs z ≤ 2 ^ 36) (sym part.claim) (claim_end_near rs c (fits c m) h.0 h.1))
 
     -- a block, where the outer loop is parallel
     abbrev outer : ℕ → BlockText
@@ -257,28 +240,26 @@ module _ (g : StoredText) (region : List Extent) (k : SkeletonText) (laid : IsLa
     block_near : (s : ℕ) → IsNear c.whole (Run (blocks_by lay c part.rest (outer s) (num c.whole)))
     block_near s =
         let b : BlockText = blocks_by lay c part.rest (outer s) (num c.whole) in
-        let is = block_claim ls rs c (free c m) (fits c m) h.0 h.1 lay refl s part.rest part.inner_end in
         let wide = (fits c m).few in
         let near = near_low c.whole h in
         let small : unsigned_abs (pos size) ≤ 2 ^ 20 = omega (arith, ints, wide) in
         let one : IsNearForm (one_of low (pos size) s) = near_one low (pos size) s (omega (arith, near)) small in
         let two : IsNearForm (one_of ((pos size -ℤ pos 1) +ℤ low) (pos size) s) = near_one ((pos size -ℤ pos 1) +ℤ low) (pos size) s (far low size near wide) small in
-        let claim : IsNearSpan (block_span b.start b.length b.claim_limits) = subst IsNearSpan (sym is) ((one, tt), (two, caps (is_tailed rs c))) in
-        let start : b.start ≡ one_of low (pos size) s = ap (λ (x : Span1). first_of x.lower b.start) is in
-        let up : raised b.start (difference b.length (pos 1)) ≡ one_of ((pos size -ℤ pos 1) +ℤ low) (pos size) s = ap (λ (x : Span1). first_of x.upper b.start) is in
-        let own : IsNearSpan (block_span b.start b.length b.own_limits) = ((subst IsNearForm (sym start) one, tt), (subst IsNearForm (sym up) two, limits (has_rest c (num c.whole).count))) in
-        (claim, own)
+        let ends : (limits : List Form) → AllByRecursion IsNearForm limits → IsNearSpan (block_span b.start b.length limits) =
+        λ limits k. subst IsNearSpan (sym (block_is rs c (fits c m) h.0 h.1 s limits)) ((one, tt), (two, k)) in
+        (ends b.claim_limits (claimed c.tail), ends b.own_limits (limited (has_rest c (num c.whole).count)))
       where
         far : (z : ℤ) (q : ℕ) → unsigned_abs z ≤ 2 ^ 32 → q ≤ 1024 → unsigned_abs ((pos q -ℤ pos 1) +ℤ z) ≤ 2 ^ 39
         far z q one two = omega (arith, ints, one, two)
 
-        caps : (v : Bool) → AllByRecursion IsNearForm (if v then number (last_number (num c.whole)) ∷ [] else [])
-        caps true = (let last = near_last c.whole h in (near_number (last_number (num c.whole)) (omega (arith, last)), tt))
-        caps false = tt
+        limited : (v : Bool) → AllByRecursion IsNearForm (with_last [] (if v then Some (last_number (num c.whole)) else None))
+        limited true = (let last = near_last c.whole h in (near_number (last_number (num c.whole)) (omega (arith, last)), tt))
+        limited false = tt
 
-        limits : (v : Bool) → AllByRecursion IsNearForm (with_last [] (if v then Some (last_number (num c.whole)) else None))
-        limits true = (let last = near_last c.whole h in (near_number (last_number (num c.whole)) (omega (arith, last)), tt))
-        limits false = tt
+        claimed : (tail : Tail) → AllByRecursion IsNearForm (with_last [] (elim tail [ Guard ↦ own_last c (num c.whole) | Roundup ↦ None | Shift ↦ own_last c (num c.whole) ]))
+        claimed Guard = limited (has_rest c (num c.whole).count)
+        claimed Roundup = tt
+        claimed Shift = limited (has_rest c (num c.whole).count)
 
     split_near : IsNear c.whole (part_of lay c.whole cuts)
     split_near =
@@ -347,7 +328,7 @@ own_good g fs r ms c line d (n ∷ ns) ys (w ∷ cs) near h =
 
 module _ (a : Algorithm) (sch : Schedule) (l : Lowered) (well : IsAlgorithm a) (legal : IsLegal a sch) (small : has_large (stored_functions a sch) ≡ false)
     (kept : region_fault a (stored_functions a sch) ≡ None) (all : are_whole (stored_functions a sch) ≡ true) (groups : HasGroups a (stored_functions a sch) l)
-    (blocked : (n : ℕ) (u : StoredText) → slice_get (stored_functions a sch) n ≡ Some u → IsKept a sch n u) where
+    (once : (n : ℕ) (u : StoredText) → slice_get (stored_functions a sch) n ≡ Some u → IsSplitOnce u) where
   abbrev gs : List StoredText
   gs = stored_functions a sch
 
@@ -406,11 +387,10 @@ module _ (a : Algorithm) (sch : Schedule) (l : Lowered) (well : IsAlgorithm a) (
       × AllByRecursion IsNearSpan (owned_region (dimensions_of me.stored me.laid.region me.laid.skeleton))
   group_near n q there =
       let me = made_at a sch l well legal small kept all groups n q there in
-      let mine = blocked n me.stored me.is in
-      let r = stood a sch l well legal small kept all groups blocked n q there in
-      let filled = mine.filled me.laid me.found in (
-        own_near me.stored me.laid.region me.laid.skeleton me.laid_by r.narrow mine.once mine.inners filled r.looped.known,
-        region_near me.stored me.laid.region me.laid.skeleton me.laid_by r.narrow mine.once mine.inners filled r.looped.known,
+      let mine = once n me.stored me.is in
+      let r = stood a sch l well legal small kept all groups once n q there in (
+        own_near me.stored me.laid.region me.laid.skeleton me.laid_by r.narrow mine.once mine.inners r.short.known,
+        region_near me.stored me.laid.region me.laid.skeleton me.laid_by r.narrow mine.once mine.inners r.short.known,
       )
 
   body_near : (i : ℕ) (g : StoredText) (p : CodeGroup) → slice_get gs i ≡ Some g → slice_get ps i ≡ Some p → (n first line : ℕ) (claims : List CodeClaim) (needs : List Need) →

@@ -1,4 +1,4 @@
--- The numbers in the lines of the bodies of groups have a text, in plans whose splits need no line of their own.
+-- The numbers in the lines of the bodies of groups have a text, in plans whose loops are split once, by whatever tails.
 use Rattle.std.proofs.Common.{◌≡◌, ℕ, zero, suc, ◌+◌, ◌*◌, ◌<◌, ◌≤◌, ◌^◌, true, false, List, [], ◌∷◌, ◌++◌, length, Some, None, refl, sym, ap, ◌∙◌, subst, arith}
 use Rattle.std.specs.Prelude.{◌-◌, slice_get}
 use Rattle.std.specs.List.{AllByRecursion}
@@ -11,15 +11,14 @@ use Rattle.plan.specs.declared.plan.Group.{Group as CodeGroup}
 use Rattle.plan.specs.declared.stmt.Places.{Places}
 use Rattle.plan.specs.declared.certificate.cert.Claim.{Claim as CodeClaim}
 use Rattle.plan.specs.declared.certificate.cert.Need.{Need}
-use Rattle.plan.specs.Plan.{Statement, Seq, Alloc, Publish, block}
+use Rattle.plan.specs.Plan.{Statement, Alloc, Publish, block}
 use Rattle.plan.specs.View.{statement_of}
 use Rattle.nest.specs.Blocks.Line.{PublishLine}
 use Rattle.nest.specs.Blocks.Flat.{statement_lines, block_lines}
 use Rattle.sched.specs.Schedule.{Schedule}
 use Rattle.sched.specs.Legal.{IsLegal}
 use Rattle.sched.specs.Runs.{lines_to}
-use Rattle.sched.specs.declared.skeleton.Step.{Step}
-use Rattle.sched.specs.Skeleton.{NestText, SkeletonText}
+use Rattle.sched.specs.Skeleton.{NestText}
 use Rattle.lower.specs.declared.lowering.Lowered.{Lowered}
 use Rattle.lower.specs.Stored.{StoredText, stored_functions, has_large}
 use Rattle.lower.specs.Around.{grid_scope}
@@ -32,35 +31,37 @@ use Rattle.lower.specs.Bodies.{last_claim, first_lines}
 use Rattle.lower.specs.Taken.{sites_of}
 use Rattle.lower.specs.Fetches.{Entry, FetchText, IsPart, AreFetched, fetched_groups, with_fetches, loads_from}
 use Rattle.lower.specs.Groups.{HasBody, HasGroups}
-use Rattle.completeness.specs.Blocked.{IsKept}
+use Rattle.completeness.specs.Fitting.{IsSplitOnce}
 use Rattle.completeness.proofs.AllocForms.{own_places_limited}
-use Rattle.completeness.proofs.BlockChains.{AreChained}
 use Rattle.completeness.proofs.Bodies.{other_at}
 use Rattle.completeness.proofs.ClaimLines.{known_stored}
 use Rattle.completeness.proofs.Counts.{fetches_few, roots_few, few_claims, fetches_claim, nests_claim, bodies_many}
 use Rattle.completeness.proofs.FetchForms.{entry_extents}
+use Rattle.completeness.proofs.FewLines.{rises_to}
+use Rattle.completeness.proofs.FewLoops.{IsShortNest}
 use Rattle.completeness.proofs.FetchTexts.{region_has_text, places_have_text}
 use Rattle.completeness.proofs.Limited.{StepIs, IsNestLimited}
 use Rattle.completeness.proofs.LimitedLines.{text, limited}
 use Rattle.completeness.proofs.Needed.{PlaceLimited, seated_within}
-use Rattle.completeness.proofs.NumberLines.{both, less, Numbered, joined, FitsIf, over_below, nest_forms, lines_both, nests_numbered, places_fit, IsNumbered, fetches_numbered}
-use Rattle.completeness.proofs.RisingForms.{RisesIf, nests_rise}
+use Rattle.completeness.proofs.NumberLines.{both, less, Numbered, joined, FitsIf, over_below, nest_forms, steps_numbered, lines_both, nests_numbered, places_fit, IsNumbered, fetches_numbered}
 use Rattle.completeness.proofs.Served.{roots}
-use Rattle.completeness.proofs.Standing.{Here, OnlyIf, OverGrid, names_own, nests_long}
+use Rattle.completeness.proofs.Standing.{Here, OnlyIf, OverGrid, NestsRise, nests_long}
 use Rattle.completeness.proofs.StoodTexts.{stood_text}
 use Rattle.completeness.proofs.Unlike.{Numbered as AreNumbered, get_second}
 
 -- ---- coordinates
 
 -- those of each nest
-forms_fit : (k : SkeletonText) → k.head ≡ [] → length k.grid ≤ 10 → (next : ℕ) (ns : List NestText) → AreChained 256 next ns → AllByRecursion IsNestLimited ns →
-    AllByRecursion (λ w. AllByRecursion RisesIf w.at) ns → ((i : ℕ) (w : NestText) → slice_get ns i ≡ Some w → AllByRecursion (OnlyIf (Here (OverGrid k) w.steps)) w.at) →
-    AllByRecursion (λ w. AllByRecursion FitsIf w.at) ns
-forms_fit k none few next [] chain limits rises only = tt
-forms_fit k none few next (w ∷ ns) chain limits rises only = (
-  nest_forms k none few next chain.0 chain.1 w chain.2 chain.3 limits.0.at rises.0 (only 0 w refl),
-  forms_fit k none few (next + length chain.0) ns chain.4 limits.1 rises.1 (λ i u at. only (suc i) u at),
-)
+forms_fit : (P : ℕ → Type 0) → ((s : ℕ) → P s → s < 1000) → (next : ℕ) (ns : List NestText) → NestsRise next ns → AllByRecursion IsShortNest ns → next + 27 * length ns ≤ 256 →
+    AllByRecursion IsNestLimited ns → ((i : ℕ) (w : NestText) → slice_get ns i ≡ Some w → AllByRecursion (OnlyIf (Here P w.steps)) w.at) → AllByRecursion (λ w. AllByRecursion FitsIf w.at) ns
+forms_fit P few next [] rises short le limits only = tt
+forms_fit P few next (w ∷ ns) rises short le limits only =
+    let to = rises.0 in
+    let is = rises_to next to w.steps rises.1 in
+    let symbols = short.0.few_symbols in (
+      nest_forms P few next to w rises.1 (omega (arith, is, symbols, le)) limits.0.at short.0.at (only 0 w refl),
+      forms_fit P few to ns rises.2 short.1 (omega (arith, is, symbols, le)) limits.1 (λ i u at. only (suc i) u at),
+    )
 
 module _ (a : Algorithm) (sch : Schedule) (l : Lowered) (well : IsAlgorithm a) (legal : IsLegal a sch) (small : has_large (stored_functions a sch) ≡ false)
     (kept : region_fault a (stored_functions a sch) ≡ None) (all : are_whole (stored_functions a sch) ≡ true) (groups : HasGroups a (stored_functions a sch) l) where
@@ -145,7 +146,7 @@ module _ (a : Algorithm) (sch : Schedule) (l : Lowered) (well : IsAlgorithm a) (
   -- ---- bodies
 
   module _ (planned : unplanned a (stored_functions a sch) ≡ None)
-      (blocked : (n : ℕ) (u : StoredText) → slice_get (stored_functions a sch) n ≡ Some u → IsKept a sch n u) where
+      (once : (n : ℕ) (u : StoredText) → slice_get (stored_functions a sch) n ≡ Some u → IsSplitOnce u) where
     abbrev T : Function → StoredText
     T f = text a sch l well legal small kept all groups f
 
@@ -157,8 +158,9 @@ module _ (a : Algorithm) (sch : Schedule) (l : Lowered) (well : IsAlgorithm a) (
         let b = h.body in
         let fs = h.formulas in
         let k = h.skeleton in
-        let x = stood_text a sch l well legal small kept all groups blocked n g q there theirs n first line claims needs h in
-        let few = x.looped.grid in
+        let x = stood_text a sch l well legal small kept all groups once n g q there theirs n first line claims needs h in
+        let short = x.short in
+        let few = short.grid in
         let limits = limited a sch l well legal small kept all groups n q place f at there first line claims needs theirs h in
         let own_limits = own_places_limited a sch l well legal small kept all groups planned n q place f at there first line claims needs theirs h in
         let region : List Span1 = claimed_region (dimensions_of g h.extents k) in
@@ -167,21 +169,25 @@ module _ (a : Algorithm) (sch : Schedule) (l : Lowered) (well : IsAlgorithm a) (
         let last : ℕ = last_claim first b.fetches k in
         let rest : List Statement = b.nests ++ Publish last ∷ [] in
         let inside : List Statement = Alloc 0 g.subject.name places ∷ with_fetches b.fetches rest in
-        let bodies = bodies_from g.changes 0 g.subject.reductions fs in
-        let rises = nests_rise g.subject.variables bodies g.placed h.extents k h.laid in
-        let names = names_own g.subject.variables bodies g.placed h.extents k h.laid in
-        let forms = forms_fit k x.looped.head few (length k.grid) k.nests x.looped.chained limits.nests rises names.nests in
+        let own = short.own in
+        let next : ℕ = own.next in
+        let definitions = short.definitions in
+        let head_symbols = short.few_symbols in
+        let behind_head = rises_to (length k.grid) next k.head own.rises in
+        let room : next + 27 * length k.nests ≤ 256 = omega (arith, few, head_symbols, behind_head, definitions) in
+        let over = over_below k few next own.rises (omega (arith, few, head_symbols, behind_head)) in
+        let forms = forms_fit (OverGrid k) over next k.nests own.nests_rise short.nests room limits.nests own.nests in
         let steps = all_weaker IsNestLimited (λ w. AllByRecursion StepIs w.steps) (λ w s. s.steps) k.nests limits.nests in
-        let definitions = x.definitions in
         let nests : Numbered (block_lines (block b.nests)) =
-        nests_numbered (OverGrid k) (over_below k x.looped.head few) (length k.grid) k.nests x.looped.chained steps names.steps_over forms g fs region ms (first + length b.fetches) (line +
-        first_lines k + 2 * length b.fetches) 0 b.nests b.own
-        (omega (arith, definitions)) b.nested in
+        nests_numbered (OverGrid k) over next k.nests own.nests_rise short.nests room steps own.steps_over forms g fs region ms (first + length b.fetches)
+        (line + first_lines k + 2 * length b.fetches) 0 b.nests b.own (omega (arith, definitions)) b.nested in
         let small_last = last_small n first line g q claims needs there h count in
         let publish : Numbered (PublishLine last ∷ []) = both _ _ (less last (2 ^ 63) (omega (arith, small_last))) refl in
         let behind : Numbered (block_lines (block rest)) =
         subst Numbered (sym (lines_both b.nests (Publish last ∷ []))) (joined (block_lines (block b.nests)) (PublishLine last ∷ []) nests publish) in
         let fetched = fetches_numbered b.fetches rest (fetches_have_numbers n first line g q claims needs h few) behind in
         let whole : Numbered (block_lines (block inside)) = both _ _ (both _ _ refl (places_fit places x.places own_limits)) fetched in
-        let is : statement_of q.body ≡ Seq (block inside) = b.with.is ∙ ap (λ (ss : List Step). Seq (lines_to ss (block inside))) x.looped.head in
-        subst (λ (s : Statement). Numbered (statement_lines s)) (sym is) whole
+        let over_grid : (s : ℕ) → s < length k.grid → s < 1000 = λ s less_so. omega (arith, few, less_so) in
+        let lines : Numbered (block_lines (lines_to k.head (block inside))) =
+        steps_numbered (λ s. s < length k.grid) over_grid (length k.grid) next k.head (block inside) own.rises (omega (arith, few, head_symbols, behind_head)) short.head limits.head own.over whole in
+        subst (λ (s : Statement). Numbered (statement_lines s)) (sym b.with.is) lines

@@ -1,4 +1,4 @@
--- The numbers in the lines of a certificate have a text, where its plan's splits need no line of their own.
+-- The numbers in the lines of a certificate have a text, where its plan's loops are split once, by whatever tails.
 use Rattle.std.proofs.Common.{◌≡◌, ℕ, zero, suc, ◌+◌, ◌*◌, ◌<◌, ◌≤◌, ◌^◌, true, false, List, [], ◌∷◌, ◌++◌, length, map, Option, Some, None, refl, sym, ap, ◌∙◌, subst, arith}
 use Rattle.std.specs.Prelude.{◌-◌, ◌&&◌, nat_lt, slice_get}
 use Rattle.std.specs.List.{AllByRecursion, list_all}
@@ -30,7 +30,7 @@ use Rattle.lower.specs.Stored.{StoredText, stored_functions, has_large}
 use Rattle.lower.specs.Faults.{are_whole, region_fault}
 use Rattle.lower.specs.Fetches.{Entry}
 use Rattle.lower.specs.Groups.{AreOwned, line_behind, HaveBodies, HasGroups}
-use Rattle.completeness.specs.Blocked.{IsKept}
+use Rattle.completeness.specs.Fitting.{IsSplitOnce}
 use Rattle.completeness.specs.SaidCertificates.{has_numbers}
 use Rattle.completeness.proofs.CertLimits.{own_group}
 use Rattle.completeness.proofs.Counts.{functions_few}
@@ -88,7 +88,7 @@ owns_numbered n (p ∷ ps) (o ∷ os) h le region =
 
 module _ (a : Algorithm) (sch : Schedule) (l : Lowered) (well : IsAlgorithm a) (legal : IsLegal a sch) (small : has_large (stored_functions a sch) ≡ false)
     (kept : region_fault a (stored_functions a sch) ≡ None) (all : are_whole (stored_functions a sch) ≡ true) (groups : HasGroups a (stored_functions a sch) l)
-    (blocked : (n : ℕ) (u : StoredText) → slice_get (stored_functions a sch) n ≡ Some u → IsKept a sch n u) where
+    (once : (n : ℕ) (u : StoredText) → slice_get (stored_functions a sch) n ≡ Some u → IsSplitOnce u) where
   abbrev gs : List StoredText
   gs = stored_functions a sch
 
@@ -99,7 +99,7 @@ module _ (a : Algorithm) (sch : Schedule) (l : Lowered) (well : IsAlgorithm a) (
   entries = roots a sch l well legal small kept all groups
 
   abbrev IsSmall : ℕ → List CodeClaim → List Need → Type 0
-  IsSmall n claims needs = IsBodySmall a sch l well legal small kept all groups blocked n claims needs
+  IsSmall n claims needs = IsBodySmall a sch l well legal small kept all groups once n claims needs
 
   -- of the groups from the number n on, which are so many before 64
   record AreSmall (r : ℕ) (claims : List CodeClaim) (needs : List Need) : Type 0 where
@@ -122,8 +122,8 @@ module _ (a : Algorithm) (sch : Schedule) (l : Lowered) (well : IsAlgorithm a) (
       let none : n + 0 ≡ n = omega arith in
       let here : slice_get gs n ≡ Some g = ap (slice_get gs) (sym none) ∙ at 0 g refl in
       let there : slice_get ps n ≡ Some q = ap (slice_get ps) (sym none) ∙ theirs 0 q refl in
-      let own = body_claims a sch l well legal small kept all groups blocked n c line g q h.own_claims h.own_needs here there (omega (arith, under, rest)) h.here in
-      let lines = (body_small a sch l well legal small kept all groups blocked n q there).1 in
+      let own = body_claims a sch l well legal small kept all groups once n c line g q h.own_claims h.own_needs here there (omega (arith, under, rest)) h.here in
+      let lines = (body_small a sch l well legal small kept all groups once n q there).1 in
       let others = bodies_claims r (n + 1) (c + length h.own_claims) (line_behind line q) hs qs h.other_claims h.other_needs h.behind (omega (arith, rest)) (omega (arith, long))
       (omega (arith, under, lines))
       (λ i u e. let next : n + suc i ≡ (n + 1) + i = omega arith in ap (slice_get gs) (sym next) ∙ at (suc i) u e)
@@ -154,7 +154,7 @@ module _ (a : Algorithm) (sch : Schedule) (l : Lowered) (well : IsAlgorithm a) (
   own_text i o at =
       let x = own_group ps l.certificate.own.items 0 groups.owned i o at in
       let me = made_at a sch l well legal small kept all groups i x.0 x.1 in
-      let texts = group_texts a sch l well legal small kept all groups blocked i x.0 x.1 in
+      let texts = group_texts a sch l well legal small kept all groups once i x.0 x.1 in
       let none : 0 + i ≡ i = omega arith in
       let region : me.own.region ≡ o.region =
       some_same me.own.region o.region (sym me.told ∙ sym (ap (λ (j : ℕ). own_told j) none) ∙ own_found ps l.certificate.own.items 0 groups.owned i o at) in
@@ -203,7 +203,7 @@ module _ (a : Algorithm) (sch : Schedule) (l : Lowered) (well : IsAlgorithm a) (
       let long = bodies_long a entries 0 0 4 gs ps l.certificate.claims.items l.certificate.needs.items (groups.bodies all) in
       let lines = lines_many (plan_of l.plan).groups (λ n g at.
       let x = from_map group_of ps n g at in
-      subst (λ (u : Group). lines u.body + 1 ≤ 700) (sym x.2) (body_small a sch l well legal small kept all groups blocked n x.0 x.1).1) in
+      subst (λ (u : Group). lines u.body + 1 ≤ 700) (sym x.2) (body_small a sch l well legal small kept all groups once n x.0 x.1).1) in
       let many = length-map ps group_of in
       let own_many = owns_many 0 ps l.certificate.own.items groups.owned in
       let own_lines = length-map l.certificate.own.items OwnLine in

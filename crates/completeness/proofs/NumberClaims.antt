@@ -1,4 +1,4 @@
--- The numbers in claims and need lines have a text, in plans whose splits need no line of their own; and the claims are few.
+-- The numbers in claims and need lines have a text, in plans whose loops are split once, by whatever tails; and the claims are few.
 use Rattle.std.proofs.Common.{◌≡◌, ℕ, suc, ◌+◌, ◌*◌, ◌<◌, ◌≤◌, ◌^◌, Bool, true, false, List, [], ◌∷◌, ◌++◌, length, Some, None, refl, sym, ap, ◌∙◌, subst, arith}
 use Rattle.std.specs.Prelude.{◌-◌, ◌==◌, not, if◌then◌else◌, slice_get}
 use Rattle.std.specs.List.{AllByRecursion}
@@ -20,7 +20,6 @@ use Rattle.soundness.proofs.Refines.{and_parts, eq_refl}
 use Rattle.sched.specs.Schedule.{Schedule}
 use Rattle.sched.specs.Legal.{IsLegal}
 use Rattle.sched.specs.declared.numbers.Extent.{Extent}
-use Rattle.sched.specs.declared.skeleton.Step.{Step}
 use Rattle.sched.specs.Skeleton.{BodyText, NestText}
 use Rattle.sched.proofs.Arriving.{skeletal}
 use Rattle.lower.specs.declared.lowering.Lowered.{Lowered}
@@ -30,18 +29,18 @@ use Rattle.lower.specs.Faults.{are_whole, region_fault}
 use Rattle.lower.specs.Regions.{bodies_from}
 use Rattle.lower.specs.Loading.{Loads}
 use Rattle.lower.specs.Blocks.{dimensions_of, claimed_region}
-use Rattle.lower.specs.Bodies.{first_lines, step_lines, AreNests}
+use Rattle.lower.specs.Bodies.{first_lines, AreNests}
 use Rattle.lower.specs.Taken.{sites_of, taken_region}
 use Rattle.lower.specs.Needs.{pieces_needed}
 use Rattle.lower.specs.Fetches.{Entry, FetchText, IsPart, IsFetched, AreFetched, is_fetched, fetched_groups, loads_from, Calls}
 use Rattle.lower.specs.Groups.{HasBody, HasGroups}
-use Rattle.completeness.specs.Blocked.{IsKept}
+use Rattle.completeness.specs.Fitting.{IsSplitOnce}
 use Rattle.completeness.specs.SaidCertificates.{has_numbers}
 use Rattle.completeness.proofs.Bodies.{other_at, entry_at}
 use Rattle.completeness.proofs.Counts.{five, fetched_many, fetches_few, roots_few, functions_few, nests_claim}
 use Rattle.completeness.proofs.Earlier.{called_before}
 use Rattle.completeness.proofs.FetchTexts.{region_has_text}
-use Rattle.completeness.proofs.FewLines.{lines_both, nests_small}
+use Rattle.completeness.proofs.FewLines.{lines_both, rises_to, nests_small}
 use Rattle.completeness.proofs.NeedForms.{entry_short}
 use Rattle.completeness.proofs.NeedTexts.{needs_fit}
 use Rattle.completeness.proofs.NumberLines.{both, less}
@@ -203,7 +202,7 @@ module _ (a : Algorithm) (sch : Schedule) (l : Lowered) (well : IsAlgorithm a) (
           (one_claim (d + 0) x (there 0 x refl) b own_line f w v (omega (arith, le)) (omega (arith, under)) is.0 is.1, rest.1),
         )
 
-  module _ (blocked : (n : ℕ) (u : StoredText) → slice_get (stored_functions a sch) n ≡ Some u → IsKept a sch n u) where
+  module _ (once : (n : ℕ) (u : StoredText) → slice_get (stored_functions a sch) n ≡ Some u → IsSplitOnce u) where
     -- of a body of the group n, from this line on
     pub record IsBodySmall (n : ℕ) (claims : List CodeClaim) (needs : List Need) : Type 0 where
       pub claimed : AllByRecursion IsClaimSmall claims
@@ -219,20 +218,24 @@ module _ (a : Algorithm) (sch : Schedule) (l : Lowered) (well : IsAlgorithm a) (
         let k = h.skeleton in
         let place = slice_get_within gs n g at in
         let functions = functions_few a sch l well legal small kept all groups in
-        let x = stood_text a sch l well legal small kept all groups blocked n g q at theirs n first line claims needs h in
-        let few = x.looped.grid in
-        let definitions = x.definitions in
-        let head : first_lines k ≡ 2 = ap (λ (ss : List Step). step_lines ss + 2) x.looped.head in
+        let x = stood_text a sch l well legal small kept all groups once n g q at theirs n first line claims needs h in
+        let short = x.short in
+        let few = short.grid in
+        let definitions = short.definitions in
+        let head_symbols = short.few_symbols in
+        let head_lines = short.few_lines in
+        let own = short.own in
+        let behind_head = rises_to (length k.grid) own.next k.head own.rises in
         let buffers = fetches_few a entries (roots_few a sch l well legal small kept all groups) n first line g q claims needs h in
         let fetched = fetched_small n first line g q claims needs h few (omega (arith, place, functions)) 0 1 (line + first_lines k) (fetched_groups fs n 0 entries) b.fetches needs b.fetched
-        (omega (arith, buffers)) (omega (arith, buffers, under, head)) b.fetching (λ j y e. let none : 0 + j ≡ j = omega arith in ap (slice_get (fetched_groups fs n 0 entries)) none ∙ e) in
+        (omega (arith, buffers)) (omega (arith, buffers, under, head_lines)) b.fetching (λ j y e. let none : 0 + j ≡ j = omega arith in ap (slice_get (fetched_groups fs n 0 entries)) none ∙ e) in
         let region : List Span1 = claimed_region (dimensions_of g h.extents k) in
         let ms : Loads = loads_from first b.fetches in
-        let nests = nests_small (length k.grid) k.nests (omega (arith, few)) x.looped.chained g fs region ms (first + length b.fetches) (line + first_lines k + 2 * length b.fetches) 0 b.nests b.own
-        b.nested in
+        let nests = nests_small own.next k.nests own.nests_rise short.nests (omega (arith, few, head_symbols, behind_head, definitions)) g fs region ms (first + length b.fetches)
+        (line + first_lines k + 2 * length b.fetches) 0 b.nests b.own b.nested in
         let lines = nests.few in
-        let own = own_small g fs region ms (first + length b.fetches) (line + first_lines k + 2 * length b.fetches) 0 k.nests b.nests b.own x.claimed (omega (arith, definitions))
-        (omega (arith, lines, definitions, under, head, buffers)) b.nested in
+        let claimed = own_small g fs region ms (first + length b.fetches) (line + first_lines k + 2 * length b.fetches) 0 k.nests b.nests b.own x.claimed (omega (arith, definitions))
+        (omega (arith, lines, definitions, under, head_lines, buffers)) b.nested in
         let most = listed_few n g at fs h.defined in
         let many = fetched_many (sites_of a g fs k) grid_here n 1 (line + first_lines k) (fetched_groups fs n 0 entries) b.fetches needs b.fetched b.fetching in
         let many_needs = needs_many (sites_of a g fs k) grid_here n 1 (line + first_lines k) (fetched_groups fs n 0 entries) b.fetches needs b.fetched b.fetching in
@@ -240,7 +243,7 @@ module _ (a : Algorithm) (sch : Schedule) (l : Lowered) (well : IsAlgorithm a) (
         let whole = ap length b.claimed in
         let parts = length-append b.fetched b.own in
         record {
-          claimed = subst (AllByRecursion IsClaimSmall) (sym b.claimed) (all-append IsClaimSmall b.fetched b.own fetched.1 own);
+          claimed = subst (AllByRecursion IsClaimSmall) (sym b.claimed) (all-append IsClaimSmall b.fetched b.own fetched.1 claimed);
           needed = fetched.0;
           few = omega (arith, most, many, own_many, whole, parts, definitions);
           needs_few = omega (arith, most, many_needs);

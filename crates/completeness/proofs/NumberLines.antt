@@ -1,5 +1,5 @@
 -- The numbers in the lines of nests and of fetches have a text.
-use Rattle.std.proofs.Common.{◌≡◌, ℕ, suc, ◌+◌, ◌<◌, ◌≤◌, ◌^◌, Bool, true, false, ◌&&◌, List, [], ◌∷◌, ◌++◌, length, Option, Some, None, refl, sym, ap, ◌∙◌, subst, arith, inl, inr, ◌⊎◌, append_assoc}
+use Rattle.std.proofs.Common.{◌≡◌, ℕ, suc, ◌+◌, ◌*◌, ◌<◌, ◌≤◌, ◌^◌, Bool, true, false, ◌&&◌, List, [], ◌∷◌, ◌++◌, length, Option, Some, None, refl, sym, ap, ◌∙◌, subst, arith, inl, inr, append_assoc}
 use Rattle.std.specs.Prelude.{nat_lt, slice_get, IsSomeAnd}
 use Rattle.std.specs.List.{AllByRecursion, list_all}
 use Rattle.std.proofs.lemmas.Bool.Decides.{nat_tests}
@@ -14,13 +14,13 @@ use Rattle.plan.specs.declared.stmt.Places.{Places}
 use Rattle.plan.specs.declared.stmt.Places.TheVariants.{From, Folded}
 use Rattle.plan.specs.Plan.{Index, At, Found, Coordinate, Statement, Seq, For, Let, First, Guard, Alloc, Fetch, Store, Publish, Statements, Empty, Then, block}
 use Rattle.spelling.specs.Words.Fitting.{fits_form, fits_region}
-use Rattle.nest.specs.Blocks.Line.{Line, ForLine, EndLine}
+use Rattle.nest.specs.Blocks.Line.{Line, ForLine, GuardLine, EndLine}
 use Rattle.nest.specs.Blocks.Flat.{statement_lines, block_lines}
 use Rattle.nest.specs.Fitting.{fits_place}
 use Rattle.sched.specs.Runs.{lines_to}
-use Rattle.sched.specs.declared.nest.Turning.{Turning}
 use Rattle.sched.specs.declared.skeleton.Step.{Step}
-use Rattle.sched.specs.Skeleton.{span, NestText, SkeletonText}
+use Rattle.sched.specs.declared.skeleton.Step.TheVariants.{Turns, Named, Tested}
+use Rattle.sched.specs.Skeleton.{NestText, SkeletonText}
 use Rattle.lower.specs.Stored.{FormulaText, StoredText}
 use Rattle.lower.specs.Loading.{Loads}
 use Rattle.lower.specs.Bodies.{first_left, other_lefts, IsIndex, AreCoordinates, IsStore, AreNests}
@@ -28,14 +28,14 @@ use Rattle.lower.specs.Fetches.{FetchText, with_fetches}
 use Rattle.completeness.specs.SaidLines.{has_index_numbers, has_line_numbers}
 use Rattle.completeness.proofs.Limited.{LimitedIf, StepIs}
 use Rattle.completeness.proofs.Needed.{PlaceLimited}
-use Rattle.completeness.proofs.PlainTurns.{limited_for}
-use Rattle.completeness.proofs.Only.{Only}
+use Rattle.completeness.proofs.FewLines.{rises_to}
+use Rattle.completeness.proofs.FewLoops.{IsShortNest}
+use Rattle.completeness.proofs.Only.{Only, AreOnly}
 use Rattle.completeness.proofs.OwnTexts.{IsGoodPlace}
-use Rattle.completeness.proofs.RisingForms.{RisesIf}
+use Rattle.completeness.proofs.RisingSteps.{RisesIf, AreSteps}
 use Rattle.completeness.proofs.RisingSpans.{IsTextSpan}
-use Rattle.completeness.proofs.Standing.{Binds, Here, OnlyIf, OverGrid, With, StepsOver}
-use Rattle.completeness.proofs.BlockChains.{AreCaps, AreChained}
-use Rattle.completeness.proofs.TextForms.{AreBelow, AreOver, form_fits, span_fits}
+use Rattle.completeness.proofs.Standing.{Binds, Here, OnlyIf, OverGrid, With, StepsOver, Rises, NestsRise}
+use Rattle.completeness.proofs.TextForms.{AreBelow, AreOver, form_fits, forms_fit, span_fits}
 
 pub both : (a b : Bool) → a ≡ true → b ≡ true → (a && b) ≡ true
 both true b h k = k
@@ -52,51 +52,67 @@ joined xs ys h k = list_all-append has_line_numbers xs ys ∙ (λ i. h i && k i)
 
 -- ---- nests
 
-binds_below : (limits : ℕ → List Form) (n : ℕ) (ts : List Turning) (s : ℕ) → Binds (limited_for limits n ts) s → s < n + length ts
-binds_below limits n [] s h = absurd h
-binds_below limits n (t ∷ ts) s (inl e) = omega (arith, e)
-binds_below limits n (t ∷ ts) s (inr h) = (let rest = binds_below limits (n + 1) ts s h in omega (arith, rest))
+pub binds_under : (n m : ℕ) (ss : List Step) (s : ℕ) → Rises n ss m → Binds ss s → s < m
+binds_under n m [] s rises h = absurd h
+binds_under n m (Turns i x kind ∷ ss) s rises (inl e) = (let is = rises.0 in let many = rises_to (n + 1) m ss rises.1 in omega (arith, is, many, e))
+binds_under n m (Turns i x kind ∷ ss) s rises (inr h) = binds_under (n + 1) m ss s rises.1 h
+binds_under n m (Named i pick fs ∷ ss) s rises (inl e) = (let is = rises.0 in let many = rises_to (n + 1) m ss rises.1 in omega (arith, is, many, e))
+binds_under n m (Named i pick fs ∷ ss) s rises (inr h) = binds_under (n + 1) m ss s rises.1 h
+binds_under n m (Tested low high ∷ ss) s rises h = binds_under n m ss s rises h
 
--- the further upper forms of the loops from this symbol on
-abbrev pub AreCapped : (ℕ → List Form) → ℕ → List Turning → Type 0
-AreCapped limits n [] = Unit {0}
-AreCapped limits n (t ∷ ts) = AreCaps (limits n) × AreCapped limits (n + 1) ts
+-- few symbols
+abbrev AreFew : (ℕ → Type 0) → Type 0
+AreFew P = (s : ℕ) → P s → s < 1000
 
-pub capped : (limits : ℕ → List Form) (n : ℕ) (ts : List Turning) → ((j : ℕ) (t : Turning) → slice_get ts j ≡ Some t → AreCaps (limits (n + j))) → AreCapped limits n ts
-capped limits n [] h = tt
-capped limits n (t ∷ ts) h =
-    let none : n + 0 ≡ n = omega arith in (
-      subst (λ (i : ℕ). AreCaps (limits i)) none (h 0 t refl),
-      capped limits (n + 1) ts (λ j u at. let next : n + suc j ≡ (n + 1) + j = omega arith in subst (λ (i : ℕ). AreCaps (limits i)) next (h (suc j) u at)),
-    )
+over_few : (P : ℕ → Type 0) → AreFew P → (f : Form) → Only P f → AreBelow 1000 f.terms
+over_few P few f h = all_weaker (λ t. P t.symbol) (λ t. t.symbol < 1000) (λ t p. few t.symbol p) f.terms h
 
-pub turns_numbered : (limits : ℕ → List Form) (P : ℕ → Type 0) → ((s : ℕ) → P s → s < 1000) → (n : ℕ) (ts : List Turning) (s : Statement) → n + length ts ≤ 256 → AreCapped limits n ts →
-    AllByRecursion StepIs (limited_for limits n ts) → StepsOver P (limited_for limits n ts) → Numbered (statement_lines s) →
-    Numbered (block_lines (lines_to (limited_for limits n ts) (Then s Empty)))
-turns_numbered limits P few n [] s le caps limited over h = joined (statement_lines s) [] h refl
-turns_numbered limits P few n (t ∷ ts) s le caps limited over h =
-    let inner = turns_numbered limits (With P n) below (n + 1) ts s (omega (arith, le)) caps.1 limited.1 over.1 h in
-    let x : Span1 = span t.low t.last (limits n) in
-    let one = caps.0.0 in
-    let symbol : nat_lt n (2 ^ 63) ≡ true = less n (2 ^ 63) (omega (arith, le)) in
-    let text : IsTextSpan x =
-    record { rises = ((tt, tt), (tt, caps.0.1)); lower_some = omega arith; lower_few = omega arith; upper_some = omega arith; upper_few = omega (arith, one) } in
-    let upper : AreOver x.upper = all_weaker (Only (Here (With P n) (limited_for limits (n + 1) ts))) (λ f. AreBelow 1000 f.terms) near x.upper over.0.1 in
-    let fits = span_fits x text limited.0 ((tt, tt), upper) in
-    let lines : List Line = block_lines (lines_to (limited_for limits (n + 1) ts) (Then s Empty)) in
-    let here : Numbered (ForLine n x t.kind ∷ (lines ++ EndLine ∷ [])) = both _ _ (both _ _ symbol fits) (joined lines (EndLine ∷ []) inner refl) in
-    joined (ForLine n x t.kind ∷ (lines ++ EndLine ∷ [])) [] here refl
+all_few : (P : ℕ → Type 0) → AreFew P → (fs : List Form) → AreOnly P fs → AreOver fs
+all_few P few fs h = all_weaker (Only P) (λ f. AreBelow 1000 f.terms) (over_few P few) fs h
+
+pub steps_numbered : (P : ℕ → Type 0) → AreFew P → (n m : ℕ) (ss : List Step) (inner : Statements) → Rises n ss m → m ≤ 256 → AreSteps 4 ss → AllByRecursion StepIs ss → StepsOver P ss →
+    Numbered (block_lines inner) → Numbered (block_lines (lines_to ss inner))
+steps_numbered P few n m [] inner rises le good limited over h = h
+steps_numbered P few n m (Turns i x kind ∷ ss) inner rises le good limited over h =
+    let is = rises.0 in
+    let many = rises_to (n + 1) m ss rises.1 in
+    let low = good.0.1 in
+    let some = good.0.2 in
+    let most = good.0.3 in
+    let rest = steps_numbered (With P i) below (n + 1) m ss inner rises.1 le good.1 limited.1 over.1 h in
+    let symbol : nat_lt i (2 ^ 63) ≡ true = less i (2 ^ 63) (omega (arith, is, many, le)) in
+    let text : IsTextSpan x = record { rises = good.0.0; lower_some = omega (arith, low); lower_few = omega (arith, low); upper_some = some; upper_few = most } in
+    let fits = span_fits x text limited.0 (all_few (Here (With P i) ss) near x.lower over.0.0, all_few (Here (With P i) ss) near x.upper over.0.1) in
+    let lines : List Line = block_lines (lines_to ss inner) in
+    let here : Numbered (ForLine i x kind ∷ (lines ++ EndLine ∷ [])) = both _ _ (both _ _ symbol fits) (joined lines (EndLine ∷ []) rest refl) in
+    joined (ForLine i x kind ∷ (lines ++ EndLine ∷ [])) [] here refl
   where
-    below : (i : ℕ) → With P n i → i < 1000
-    below i (inl p) = few i p
-    below i (inr e) = omega (arith, e, le)
+    below : AreFew (With P i)
+    below s (inl p) = few s p
+    below s (inr e) = (let is = rises.0 in let many = rises_to (n + 1) m ss rises.1 in omega (arith, e, is, many, le))
 
-    small : (i : ℕ) → Here (With P n) (limited_for limits (n + 1) ts) i → i < 1000
-    small i (inl p) = below i p
-    small i (inr b) = (let bound = binds_below limits (n + 1) ts i b in omega (arith, bound, le))
-
-    near : (f : Form) → Only (Here (With P n) (limited_for limits (n + 1) ts)) f → AreBelow 1000 f.terms
-    near f h = all_weaker (λ t. Here (With P n) (limited_for limits (n + 1) ts) t.symbol) (λ t. t.symbol < 1000) (λ t p. small t.symbol p) f.terms h
+    near : AreFew (Here (With P i) ss)
+    near s (inl p) = below s p
+    near s (inr b) = (let bound = binds_under (n + 1) m ss s rises.1 b in omega (arith, bound, le))
+steps_numbered P few n m (Named i pick fs ∷ ss) inner rises le good limited over h =
+    let is = rises.0 in
+    let many = rises_to (n + 1) m ss rises.1 in
+    let two = good.0.1 in
+    let rest = steps_numbered (With P i) below (n + 1) m ss inner rises.1 le good.1 limited.1 over.1 h in
+    let symbol : nat_lt i (2 ^ 63) ≡ true = less i (2 ^ 63) (omega (arith, is, many, le)) in
+    let forms = forms_fit fs (omega (arith, two)) (omega (arith, two)) good.0.0 limited.0.0 (all_few P few fs over.0) in
+    both _ _ (both _ _ symbol forms) rest
+  where
+    below : AreFew (With P i)
+    below s (inl p) = few s p
+    below s (inr e) = (let is = rises.0 in let many = rises_to (n + 1) m ss rises.1 in omega (arith, e, is, many, le))
+steps_numbered P few n m (Tested low high ∷ ss) inner rises le good limited over h =
+    let rest = steps_numbered P few n m ss inner rises le good.1 limited.1 over.2 h in
+    let lines : List Line = block_lines (lines_to ss inner) in
+    let first = form_fits low good.0.0 limited.0.0 (over_few P few low over.0) in
+    let second = form_fits high good.0.1 limited.0.1 (over_few P few high over.1) in
+    let here : Numbered (GuardLine low high ∷ (lines ++ EndLine ∷ [])) = both _ _ (both _ _ first second) (joined lines (EndLine ∷ []) rest refl) in
+    joined (GuardLine low high ∷ (lines ++ EndLine ∷ [])) [] here refl
 
 abbrev pub FitsIf : Option Form → Type 0
 FitsIf None = Unit {0}
@@ -172,46 +188,40 @@ forms_fit_if P few (None ∷ os) h k q = (tt, forms_fit_if P few os h.1 k.1 q.1)
 forms_fit_if P few (Some f ∷ os) h k q =
     (form_fits f k.0 h.0 (all_weaker (λ t. P t.symbol) (λ t. t.symbol < 1000) (λ t p. few t.symbol p) f.terms q.0), forms_fit_if P few os h.1 k.1 q.1)
 
-pub over_below : (k : SkeletonText) → k.head ≡ [] → length k.grid ≤ 10 → (s : ℕ) → OverGrid k s → s < 1000
-over_below k none few s h = of (subst (λ (steps : List Step). Here (λ i. i < length k.grid) steps s) none h)
-  where
-    of : (s < length k.grid) ⊎ Binds [] s → s < 1000
-    of (inl less_so) = omega (arith, few, less_so)
-    of (inr q) = absurd q
+pub over_below : (k : SkeletonText) → length k.grid ≤ 10 → (next : ℕ) → Rises (length k.grid) k.head next → next ≤ 256 → (s : ℕ) → OverGrid k s → s < 1000
+over_below k few next rises le s (inl h) = omega (arith, few, h)
+over_below k few next rises le s (inr h) = (let under = binds_under (length k.grid) next k.head s rises h in omega (arith, under, le))
 
-pub nest_forms : (k : SkeletonText) → k.head ≡ [] → length k.grid ≤ 10 → (next : ℕ) (ts : List Turning) (limits : ℕ → List Form) (w : NestText) → w.steps ≡ limited_for limits next ts →
-    next + length ts ≤ 256 →
-    AllByRecursion LimitedIf w.at → AllByRecursion RisesIf w.at → AllByRecursion (OnlyIf (Here (OverGrid k) w.steps)) w.at → AllByRecursion FitsIf w.at
-nest_forms k none few next ts limits w steps under limited rises only = forms_fit_if (Here (OverGrid k) w.steps) below w.at limited rises only
+pub nest_forms : (P : ℕ → Type 0) → ((s : ℕ) → P s → s < 1000) → (next to : ℕ) (w : NestText) → Rises next w.steps to → to ≤ 256 → AllByRecursion LimitedIf w.at → AllByRecursion RisesIf w.at →
+    AllByRecursion (OnlyIf (Here P w.steps)) w.at → AllByRecursion FitsIf w.at
+nest_forms P few next to w rises under limited good only = forms_fit_if (Here P w.steps) below w.at limited good only
   where
-    below : (s : ℕ) → Here (OverGrid k) w.steps s → s < 1000
-    below s (inl h) = over_below k none few s h
-    below s (inr h) = (let least = binds_below limits next ts s (subst (λ (ss : List Step). Binds ss s) steps h) in omega (arith, least, under))
+    below : (s : ℕ) → Here P w.steps s → s < 1000
+    below s (inl h) = few s h
+    below s (inr h) = (let bound = binds_under next to w.steps s rises h in omega (arith, bound, under))
 
 pub lines_both : (xs ys : List Statement) → block_lines (block (xs ++ ys)) ≡ block_lines (block xs) ++ block_lines (block ys)
 lines_both [] ys = refl
 lines_both (x ∷ xs) ys = ap (λ (ls : List Line). statement_lines x ++ ls) (lines_both xs ys) ∙ sym (append_assoc (statement_lines x) (block_lines (block xs)) (block_lines (block ys)))
 
-pub nests_numbered : (P : ℕ → Type 0) → ((s : ℕ) → P s → s < 1000) → (next : ℕ) (ns : List NestText) → AreChained 256 next ns → AllByRecursion (λ w. AllByRecursion StepIs w.steps) ns →
-    ((i : ℕ) (w : NestText) → slice_get ns i ≡ Some w → StepsOver P w.steps) → AllByRecursion (λ w. AllByRecursion FitsIf w.at) ns →
+pub nests_numbered : (P : ℕ → Type 0) → ((s : ℕ) → P s → s < 1000) → (next : ℕ) (ns : List NestText) → NestsRise next ns → AllByRecursion IsShortNest ns → next + 27 * length ns ≤ 256 →
+    AllByRecursion (λ w. AllByRecursion StepIs w.steps) ns → ((i : ℕ) (w : NestText) → slice_get ns i ≡ Some w → StepsOver P w.steps) → AllByRecursion (λ w. AllByRecursion FitsIf w.at) ns →
     (u : StoredText) (fs : List FormulaText) (r : List Span1) (ms : Loads) (c line d : ℕ) (xs : List Statement) (cs : List CodeClaim) → d + length ns ≤ 1000 →
     AreNests u fs r ms c line d ns xs cs → Numbered (block_lines (block xs))
-nests_numbered P low next [] chain steps over forms u fs r ms c line d xs cs few h = subst (λ (ys : List Statement). Numbered (block_lines (block ys))) (sym h.0) refl
-nests_numbered P low next (w ∷ ns) chain steps over forms u fs r ms c line d xs [] few h = absurd h
-nests_numbered P low next (w ∷ ns) chain steps over forms u fs r ms c line d xs (claim ∷ cs) few h =
+nests_numbered P low next [] rises short le steps over forms u fs r ms c line d xs cs few h = subst (λ (ys : List Statement). Numbered (block_lines (block ys))) (sym h.0) refl
+nests_numbered P low next (w ∷ ns) rises short le steps over forms u fs r ms c line d xs [] few h = absurd h
+nests_numbered P low next (w ∷ ns) rises short le steps over forms u fs r ms c line d xs (claim ∷ cs) few h =
     let nest = h.here.nest in
-    let ts = chain.0 in
-    let rest = nests_numbered P low (next + length ts) ns chain.4 steps.1 (λ i v at. over (suc i) v at) forms.1 u fs r (ms ++ (u.subject.name, c) ∷ []) (c + 1) (line + plain_lines (block
-    h.first)) (d + 1) h.others cs
-    (omega (arith, few)) h.behind in
+    let to = rises.0 in
+    let is = rises_to next to w.steps rises.1 in
+    let symbols = short.0.few_symbols in
+    let rest = nests_numbered P low to ns rises.2 short.1 (omega (arith, is, symbols, le)) steps.1 (λ i v at. over (suc i) v at) forms.1 u fs r (ms ++ (u.subject.name, c) ∷ []) (c + 1)
+    (line + plain_lines (block h.first)) (d + 1) h.others cs (omega (arith, few)) h.behind in
     let store = store_numbered u fs ms d w nest.store nest.stores (omega (arith, few)) forms.0 in
-    let limits = chain.1 in
-    let limited : AllByRecursion StepIs (limited_for limits next ts) = subst (AllByRecursion StepIs) chain.2 steps.0 in
-    let within : StepsOver P (limited_for limits next ts) = subst (StepsOver P) chain.2 (over 0 w refl) in
-    let lines : Numbered (block_lines (lines_to (limited_for limits next ts) (Then nest.store Empty))) =
-    turns_numbered limits P low next ts nest.store chain.3 (capped limits next ts chain.5) limited within store in
-    let are : lines_to (limited_for limits next ts) (Then nest.store Empty) ≡ block h.first = sym (nest.comes ∙ ap (λ (ss : List Step). lines_to ss (Then nest.store Empty)) chain.2) in
-    let first : Numbered (block_lines (block h.first)) = subst (λ (y : Statements). Numbered (block_lines y)) are lines in
+    let inner : Numbered (block_lines (Then nest.store Empty)) = joined (statement_lines nest.store) [] store refl in
+    let lines : Numbered (block_lines (lines_to w.steps (Then nest.store Empty))) =
+    steps_numbered P low next to w.steps (Then nest.store Empty) rises.1 (omega (arith, is, symbols, le)) short.0.steps steps.0 (over 0 w refl) inner in
+    let first : Numbered (block_lines (block h.first)) = subst (λ (y : Statements). Numbered (block_lines y)) (sym nest.comes) lines in
     let all : Numbered (block_lines (block (h.first ++ h.others))) =
     subst Numbered (sym (lines_both h.first h.others)) (joined (block_lines (block h.first)) (block_lines (block h.others)) first rest) in
     subst (λ (ys : List Statement). Numbered (block_lines (block ys))) (sym h.are) all

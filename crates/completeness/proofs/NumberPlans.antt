@@ -1,4 +1,4 @@
--- The numbers in the lines of a plan have a text, where its splits need no line of their own.
+-- The numbers in the lines of a plan have a text, where its loops are split once, by whatever tails.
 use Rattle.std.proofs.Common.{◌≡◌, ℕ, suc, ◌+◌, ◌^◌, true, false, List, [], ◌∷◌, length, map, Some, None, refl, sym, ap, ◌∙◌, subst, arith}
 use Rattle.std.specs.Prelude.{nat_lt, slice_get}
 use Rattle.std.specs.List.{AllByRecursion}
@@ -27,7 +27,7 @@ use Rattle.lower.specs.Owning.{IsExtent}
 use Rattle.lower.specs.Fetches.{Entry}
 use Rattle.lower.specs.Groups.{HasBody, HasGroups}
 use Rattle.lower.proofs.Owners as owners
-use Rattle.completeness.specs.Blocked.{IsKept}
+use Rattle.completeness.specs.Fitting.{IsSplitOnce}
 use Rattle.completeness.proofs.Counts.{functions_few}
 use Rattle.completeness.proofs.GridCounts.{IsShort, grid_few}
 use Rattle.completeness.proofs.Laid.{subjects, found}
@@ -90,7 +90,7 @@ groups_numbered n (g ∷ gs) each =
 
 module _ (a : Algorithm) (sch : Schedule) (l : Lowered) (well : IsAlgorithm a) (legal : IsLegal a sch) (small : has_large (stored_functions a sch) ≡ false)
     (kept : region_fault a (stored_functions a sch) ≡ None) (all : are_whole (stored_functions a sch) ≡ true) (groups : HasGroups a (stored_functions a sch) l)
-    (planned : unplanned a (stored_functions a sch) ≡ None) (blocked : (n : ℕ) (u : StoredText) → slice_get (stored_functions a sch) n ≡ Some u → IsKept a sch n u) where
+    (planned : unplanned a (stored_functions a sch) ≡ None) (once : (n : ℕ) (u : StoredText) → slice_get (stored_functions a sch) n ≡ Some u → IsSplitOnce u) where
   abbrev entries : List Entry
   entries = roots a sch l well legal small kept all groups
 
@@ -108,7 +108,7 @@ module _ (a : Algorithm) (sch : Schedule) (l : Lowered) (well : IsAlgorithm a) (
       let there : slice_get (stored_functions a sch) n ≡ Some said_text = me.is ∙ ap (λ (u : StoredText). Some u) w.is in
       let body = subst (λ (u : StoredText). HasBody a entries n b.first_claim b.line u q b.claims b.needs) w.is
       (subst (λ (i : ℕ). HasBody a entries i b.first_claim b.line me.stored q b.claims b.needs) counted b.body) in
-      body_numbered a sch l well legal small kept all groups planned blocked n q w.place w.function w.at there b.first_claim b.line b.claims b.needs theirs body b.numbered
+      body_numbered a sch l well legal small kept all groups planned once n q w.place w.function w.at there b.first_claim b.line b.claims b.needs theirs body b.numbered
 
   group_numbered : (n : ℕ) (q : CodeGroup) → slice_get l.plan.groups.items n ≡ Some q → Numbered (group_lines n (group_of q))
   group_numbered n q theirs =

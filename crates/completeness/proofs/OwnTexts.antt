@@ -1,15 +1,20 @@
 -- What pieces own, and what their claims speak of, has a text, and so have the places of their buffers.
-use Rattle.std.proofs.Common.{◌≡◌, ℕ, ◌+◌, ◌*◌, ◌<◌, ◌≤◌, ◌^◌, Bool, true, false, List, [], ◌∷◌, length, map, Option, Some, None, refl, sym, ap, ◌∙◌, subst, arith}
+use Rattle.std.proofs.Common.{◌≡◌, ℕ, ◌+◌, ◌<◌, ◌≤◌, ◌^◌, Bool, true, false, List, [], ◌∷◌, length, map, Option, Some, None, refl, sym, ap, ◌∙◌, subst, arith}
 use Rattle.std.proofs.Common.{inl, inr, ◌⊎◌}
 use Rattle.std.specs.Prelude.{ℤ, negsuc, ◌≤ℤ◌, pos, ◌+ℤ◌, ◌-ℤ◌, if◌then◌else◌}
 use Rattle.std.specs.List.{AllByRecursion}
 use Rattle.std.specs.Int.RustNames.{unsigned_abs}
+use Rattle.std.specs.Option.{option_map}
+use Rattle.std.specs.Ordering.{int_eq}
 use Rattle.std.proofs.lemmas.Int.{ints}
+use Rattle.lin.proofs.TermLemmas.{all_weaker}
 use Rattle.lin.specs.Forms.{Form, number}
 use Rattle.lin.specs.declared.span.Span1.{Span1}
 use Rattle.bounds.specs.Spans.{numbers}
 use Rattle.soundness.specs.Obligations.{exactly}
 use Rattle.sched.specs.declared.schedule.Split.{Split}
+use Rattle.sched.specs.declared.schedule.Tail.{Tail}
+use Rattle.sched.specs.declared.schedule.Tail.TheVariants.{Guard, Roundup, Shift}
 use Rattle.sched.specs.declared.numbers.Extent.{Extent}
 use Rattle.sched.specs.declared.numbers.Numbers.{Numbers}
 use Rattle.sched.specs.Numbers.{numbers_named, last_number, loop_numbers, parallel_loops}
@@ -19,7 +24,8 @@ use Rattle.sched.proofs.Standings.{found_all}
 use Rattle.lower.specs.Stored.{StoredText}
 use Rattle.lower.specs.Owning.{IsLaidBy, IsExtent}
 use Rattle.lower.specs.Blocks.{LayText, Whole, difference, is_parallel_named, alone_by, lay_over, dimension_by, dimension_of, dimensions_of, owned_region, claimed_region, PartText}
-use Rattle.lower.specs.Blocks.{BlockText, raised, uncut, joined, blocks_by, Run, block_span, with_last, part_of, claim_end_of, sum, own_places, end_of}
+use Rattle.lower.specs.Blocks.{BlockText, uncut, joined, blocks_by, Run, block_span, own_last, with_last, part_of, claim_end_of, sum, own_places, end_of, multiple_from, factor_of, places_by}
+use Rattle.lower.specs.Blocks.{reach_over}
 use Rattle.lower.proofs.Dividing.{nearest_of_small}
 use Rattle.completeness.proofs.PlainTurns.{hits}
 use Rattle.soundness.specs.Claims.{In}
@@ -33,21 +39,21 @@ use Rattle.lower.proofs.Grids.{parallel_named}
 use Rattle.lower.proofs.Owners as owners
 use Rattle.completeness.specs.Laws.{AreSplitOnce}
 use Rattle.completeness.specs.Parted.{KeepsInner}
-use Rattle.completeness.specs.Blocked.{is_tailed, makes_line}
 use Rattle.completeness.proofs.Halves.{AreOthers}
 use Rattle.completeness.proofs.Lanes.{AreOnce}
 use Rattle.completeness.proofs.VectorLines.{split_once}
 use Rattle.completeness.proofs.PureNests.{all_in, loop_name}
 use Rattle.completeness.proofs.Searched.{one_of}
 use Rattle.completeness.proofs.BlockFacts.{inners_serial}
-use Rattle.completeness.proofs.BlockDims.{top, IsCutOnce, cut_once, part_uncut, end_uncut, end_is, few_numbers, block_claim, block_places}
-use Rattle.completeness.proofs.BlockChains.{is_named, few_loops, filter_few}
+use Rattle.completeness.proofs.BlockDims.{IsCutOnce, cut_once, part_uncut, end_uncut}
+use Rattle.completeness.proofs.TailEnds.{end_near, reach_near, block_first, block_is}
+use Rattle.completeness.proofs.FewLoops.{is_named, few_loops, filter_few}
 use Rattle.plan.specs.declared.stmt.Places.{Places}
 use Rattle.plan.specs.declared.stmt.Places.TheVariants.{From, Folded}
 use Rattle.completeness.proofs.Rising.{Rises}
 use Rattle.completeness.proofs.RisingSpans.{IsTextSpan}
 use Rattle.completeness.proofs.TextForms.{AreBelow, AreOver}
-use Rattle.completeness.proofs.NearClaims.{no_loop, up_counted, split_or, first_of}
+use Rattle.completeness.proofs.NearClaims.{no_loop, up_counted, split_or}
 
 abbrev pub IsGoodForm : Form → Type 0
 IsGoodForm f = Rises f × AreBelow 1000 f.terms
@@ -63,6 +69,20 @@ IsGoodPlace (Folded n) = ⊥
 good_one : (f h : Form) → IsGoodForm f → IsGoodForm h → IsGood (record { lower = f ∷ []; upper = h ∷ [] })
 good_one f h a b = (record { rises = ((a.0, tt), (b.0, tt)); lower_some = omega arith; lower_few = omega arith; upper_some = omega arith; upper_few = omega arith }, (a.1, tt), (b.1, tt))
 
+-- a last number, or none, besides
+good_ends : (f h : Form) (limits : List Form) → IsGoodForm f → IsGoodForm h → length limits ≤ 1 → AllByRecursion IsGoodForm limits → IsGood (record { lower = f ∷ []; upper = h ∷ limits })
+good_ends f h limits a b few good = (
+  record {
+    rises = ((a.0, tt), (b.0, all_weaker IsGoodForm Rises (λ l g. g.0) limits good));
+    lower_some = omega arith;
+    lower_few = omega arith;
+    upper_some = omega arith;
+    upper_few = omega (arith, few);
+  },
+  (a.1, tt),
+  (b.1, all_weaker IsGoodForm (λ l. AreBelow 1000 l.terms) (λ l g. g.1) limits good),
+)
+
 good_number : (z : ℤ) → IsGoodForm (number z)
 good_number z = (tt, tt)
 
@@ -75,17 +95,20 @@ good_times z n i some h = (((λ e. omega (arith, ints, e, some)), tt, tt), (h, t
 good_numbers : (low last : ℤ) → IsGood (numbers low last)
 good_numbers low last = good_one (number low) (number last) (good_number low) (good_number last)
 
+few_numbers : (z : ℤ) → z ≤ℤ pos (2 ^ 40) → count_of z < 2 ^ 62
+few_numbers (pos n) le = omega (arith, ints, le)
+few_numbers (negsuc n) le = omega arith
+
+few_places : (z : ℤ) → unsigned_abs z ≤ 2 ^ 36 → count_of z < 2 ^ 62
+few_places z h = few_numbers z (omega (arith, ints, h))
+
 -- how many places there are from a first to a last number
 many : (e low : ℤ) → unsigned_abs e ≤ 2 ^ 36 → unsigned_abs low ≤ 2 ^ 32 → count_of (sum (difference e low) (pos 1)) < 2 ^ 62
 many e low h k =
     let one : difference e low ≡ e -ℤ low = nearest_of_small (e -ℤ low) (omega (arith, ints, h, k)) (omega (arith, ints, h, k)) in
     let two : sum (difference e low) (pos 1) ≡ (e -ℤ low) +ℤ pos 1 =
     ap (λ (z : ℤ). sum z (pos 1)) one ∙ nearest_of_small ((e -ℤ low) +ℤ pos 1) (omega (arith, ints, h, k)) (omega (arith, ints, h, k)) in
-    subst (λ (z : ℤ). count_of z < 2 ^ 62) (sym two) (few ((e -ℤ low) +ℤ pos 1) (omega (arith, ints, h, k)))
-  where
-    few : (z : ℤ) → z ≤ℤ pos (2 ^ 40) → count_of z < 2 ^ 62
-    few (pos n) le = omega (arith, ints, le)
-    few (negsuc n) le = omega arith
+    subst (λ (z : ℤ). count_of z < 2 ^ 62) (sym two) (few_numbers ((e -ℤ low) +ℤ pos 1) (omega (arith, ints, h, k)))
 
 -- the forms over the grid count from the first number of their loop
 counted_over : (rs : List Numbers) (s : ℕ) (ms : List Loop) → s + length ms ≤ 1000 →
@@ -95,8 +118,7 @@ counted_over rs s (m ∷ ms) le = ((s, omega (arith, le), refl), counted_over rs
 
 module _ (g : StoredText) (region : List Extent) (k : SkeletonText) (laid : IsLaidBy g region k) (narrow : length g.subject.variables ≤ 3) (alone : AreSplitOnce g.placed.cuts)
     (keeps : KeepsInner g.placed.loops g.placed.cuts)
-    (filled : AllByRecursion (λ c. makes_line g.placed.loops (loop_numbers g.subject.variables g.placed.cuts region) c ≡ false) g.placed.cuts)
-    (known : k.known ≡ grid_forms (loop_numbers g.subject.variables g.placed.cuts region) 0 (parallel_loops g.placed.loops)) where
+    (starts : AllByRecursion (λ u. IsGoodForm u.form) k.starts) (known : k.known ≡ grid_forms (loop_numbers g.subject.variables g.placed.cuts region) 0 (parallel_loops g.placed.loops)) where
   abbrev xs : List (List ℕ)
   xs = g.subject.variables
 
@@ -124,9 +146,6 @@ module _ (g : StoredText) (region : List Extent) (k : SkeletonText) (laid : IsLa
 
   abbrev once : AreOnce cuts
   once = split_once cuts alone
-
-  abbrev free : (c : Split) → In c cuts → makes_line ls rs c ≡ false
-  free c m = all_in (λ c. makes_line ls rs c ≡ false) cuts c filled m
 
   abbrev fits : (c : Split) → In c cuts → CutFits rs c
   fits c m = all_in (CutFits rs) cuts c (owners.cuts g region k laid) m
@@ -199,19 +218,7 @@ module _ (g : StoredText) (region : List Extent) (k : SkeletonText) (laid : IsLa
     size = c.factor
 
     all_whole : IsSaid c.whole Whole
-    all_whole =
-        let end = part.end ∙ end_is ls rs c (free c m) (fits c m) h.0 h.1 in
-        let few = few_numbers ls rs c (free c m) (fits c m) h.0 h.1 in
-        let wide = (fits c m).few in
-        let bare = far low (top (num c.whole).count size * size) size (near_low c.whole h) few wide in
-        whole_near c.whole h (subst (λ (z : ℤ). unsigned_abs z ≤ 2 ^ 36) (sym end) (either (is_tailed rs c) (last_number (num c.whole)) _ (near_last c.whole h) bare))
-      where
-        either : (v : Bool) (y z : ℤ) → unsigned_abs y ≤ 2 ^ 36 → unsigned_abs z ≤ 2 ^ 36 → unsigned_abs (if v then y else z) ≤ 2 ^ 36
-        either true y z h k = h
-        either false y z h k = k
-
-        far : (z : ℤ) (p q : ℕ) → unsigned_abs z ≤ 2 ^ 32 → p ≤ 2 ^ 32 → q ≤ 1024 → unsigned_abs (z +ℤ (pos p +ℤ (pos q -ℤ pos 1))) ≤ 2 ^ 36
-        far z p q one two three = omega (arith, ints, one, two, three)
+    all_whole = whole_near c.whole h (subst (λ (z : ℤ). unsigned_abs z ≤ 2 ^ 36) (sym part.end) (end_near rs c (fits c m) h.0 h.1))
 
     -- a block, where the outer loop is parallel
     abbrev outer : ℕ → BlockText
@@ -219,36 +226,49 @@ module _ (g : StoredText) (region : List Extent) (k : SkeletonText) (laid : IsLa
 
     block_near : (s : ℕ) → s < 1000 → IsSaid c.whole (Run (blocks_by lay c part.rest (outer s) (num c.whole)))
     block_near s below =
-        let b : BlockText = blocks_by lay c part.rest (outer s) (num c.whole) in
-        let is = block_claim ls rs c (free c m) (fits c m) h.0 h.1 lay refl s part.rest part.inner_end in
-        let seats = block_places ls rs c (free c m) (fits c m) h.0 h.1 lay refl s part.rest part.inner_end c.whole cuts in
-        let wide = (fits c m).few in
         let one : IsGoodForm (one_of low (pos size) s) = good_times low size s (fits c m).some below in
         let two : IsGoodForm (one_of ((pos size -ℤ pos 1) +ℤ low) (pos size) s) = good_times ((pos size -ℤ pos 1) +ℤ low) size s (fits c m).some below in
-        let claim : IsGood (block_span b.start b.length b.claim_limits) = subst IsGood (sym is)
-        (capped (is_tailed rs c) (one_of low (pos size) s) (one_of ((pos size -ℤ pos 1) +ℤ low) (pos size) s) one two) in
-        let start : b.start ≡ one_of low (pos size) s = ap (λ (x : Span1). first_of x.lower b.start) is in
-        let up : raised b.start (difference b.length (pos 1)) ≡ one_of ((pos size -ℤ pos 1) +ℤ low) (pos size) s = ap (λ (x : Span1). first_of x.upper b.start) is in
-        let own : IsGood (block_span b.start b.length b.own_limits) =
-        limited (has_rest c (num c.whole).count) b.start (raised b.start (difference b.length (pos 1))) (subst IsGoodForm (sym start) one) (subst IsGoodForm (sym up) two) in
-        (claim, own, subst IsGoodPlace (sym seats) (one, omega (arith, wide)))
+        let ends : (limits : List Form) → length limits ≤ 1 → AllByRecursion IsGoodForm limits → IsGood (block_span b.start b.length limits) =
+        λ limits few good. subst IsGood (sym (block_is rs c (fits c m) h.0 h.1 s limits)) (good_ends _ _ limits one two few good) in
+        (ends b.claim_limits (claimed c.tail).0 (claimed c.tail).1, ends b.own_limits (limited (has_rest c (num c.whole).count)).0 (limited (has_rest c (num c.whole).count)).1, seats)
       where
-        capped : (v : Bool) (f h : Form) → IsGoodForm f → IsGoodForm h →
-            IsGood (record { lower = f ∷ []; upper = h ∷ (if v then number (last_number (num c.whole)) ∷ [] else []) })
-        capped true f h a b = (
-          record { rises = ((a.0, tt), (b.0, (tt, tt))); lower_some = omega arith; lower_few = omega arith; upper_some = omega arith; upper_few = omega arith },
-          (a.1, tt),
-          (b.1, (tt, tt)),
-        )
-        capped false f h a b = good_one f h a b
+        b : BlockText
+        b = blocks_by lay c part.rest (outer s) (num c.whole)
 
-        limited : (v : Bool) (f h : Form) → IsGoodForm f → IsGoodForm h → IsGood (record { lower = f ∷ []; upper = h ∷ with_last [] (if v then Some (last_number (num c.whole)) else None) })
-        limited true f h a b = (
-          record { rises = ((a.0, tt), (b.0, (tt, tt))); lower_some = omega arith; lower_few = omega arith; upper_some = omega arith; upper_few = omega arith },
-          (a.1, tt),
-          (b.1, (tt, tt)),
-        )
-        limited false f h a b = good_one f h a b
+        limited : (v : Bool) → let limits = with_last [] (if v then Some (last_number (num c.whole)) else None) in (length limits ≤ 1) × AllByRecursion IsGoodForm limits
+        limited true = (omega arith, (good_number (last_number (num c.whole)), tt))
+        limited false = (omega arith, tt)
+
+        claimed : (tail : Tail) → let limits = with_last [] (elim tail [ Guard ↦ own_last c (num c.whole) | Roundup ↦ None | Shift ↦ own_last c (num c.whole) ]) in
+            (length limits ≤ 1) × AllByRecursion IsGoodForm limits
+        claimed Guard = limited (has_rest c (num c.whole).count)
+        claimed Roundup = (omega arith, tt)
+        claimed Shift = limited (has_rest c (num c.whole).count)
+
+        plain : (f : Form) → Some (multiple_from low (factor_of c) (counted_from (pos 0) s)) ≡ Some f → IsGoodForm f
+        plain f e =
+            let is : multiple_from low (factor_of c) (counted_from (pos 0) s) ≡ f = cc e in
+            subst IsGoodForm (sym (block_first rs c (fits c m) h.0 h.1 s []) ∙ is) (good_times low size s (fits c m).some below)
+
+        -- where the piece begins to visit: the first number of the block, or the let of a shifted one
+        begins : (tail : Tail) (f : Form) → (elim tail [
+          | Guard ↦ option_map (multiple_from low (factor_of c)) (outer s).origin
+          | Roundup ↦ option_map (multiple_from low (factor_of c)) (outer s).origin
+          | Shift ↦ if int_eq (outer s).length (pos 1) then form_named k.starts c.whole else None
+        ]) ≡ Some f → IsGoodForm f
+        begins Guard f e = plain f e
+        begins Roundup f e = plain f e
+        begins Shift f e = found_all (λ (y : List ℕ) (h : Form). IsGoodForm h) k.starts c.whole f starts e
+
+        by_origin : (o : Option Form) → b.origin ≡ o → IsGoodPlace (places_by lay c.whole cuts b.reach o)
+        by_origin None e = all_whole.2
+        by_origin (Some f) e =
+            let end : reach_over c (outer s) (end_of rs c.inner part.rest) ≡ reach_over c (outer s) (last_number (num c.inner)) = ap (reach_over c (outer s)) part.inner_end in
+            let near = subst (λ (z : ℤ). unsigned_abs z ≤ 2 ^ 36) (sym end) (reach_near rs c (fits c m) h.0 h.1 (outer s) refl) in
+            (begins c.tail f e, few_places b.reach near)
+
+        seats : IsGoodPlace (dimension_by lay c.whole cuts (Run b)).places
+        seats = by_origin b.origin refl
 
     split_near : IsSaid c.whole (part_of lay c.whole cuts)
     split_near =

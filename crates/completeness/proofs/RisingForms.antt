@@ -1,8 +1,7 @@
--- The forms of a skeleton are canonical, and so are the lower ones of what calls need of another function.
-use Rattle.std.proofs.Common.{◌≡◌, ℕ, ◌+◌, ◌-◌, Bool, true, false, ◌&&◌, not, List, [], ◌∷◌, ◌++◌, length, map, Option, Some, None, refl, sym, subst, arith}
-use Rattle.std.specs.Prelude.{ℤ, pos, nat_lt, if◌then◌else◌, slice_get}
+-- The lower forms of what calls need of another function are canonical.
+use Rattle.std.proofs.Common.{◌≡◌, ℕ, ◌+◌, ◌-◌, Bool, true, false, ◌&&◌, not, List, [], ◌∷◌, ◌++◌, length, map, Option, Some, None, subst}
+use Rattle.std.specs.Prelude.{nat_lt, if◌then◌else◌, slice_get}
 use Rattle.std.specs.List.{AllByRecursion}
-use Rattle.std.proofs.lemmas.Int.{ints}
 use Rattle.numeric.specs.declared.ty.Ty.TheVariants.{I32}
 use Rattle.tree.specs.Term.{Term, Terms, End, More}
 use Rattle.lin.specs.Forms.{Form, number}
@@ -10,25 +9,15 @@ use Rattle.lin.specs.declared.scope.Binding.{Binding}
 use Rattle.lin.specs.declared.span.Span1.{Span1}
 use Rattle.bounds.specs.Spans.{range_of}
 use Rattle.bounds.proofs.ListSound.{all-append}
-use Rattle.plan.specs.declared.stmt.Kind.TheVariants.{Serial}
 use Rattle.meaning.specs.Algorithm.{Algorithm}
 use Rattle.meaning.specs.Names.{same_name}
 use Rattle.algo.specs.Scoping.Standing.{Written}
 use Rattle.headline.proofs.Members.{got}
-use Rattle.sched.specs.declared.schedule.Split.{Split}
-use Rattle.sched.specs.declared.numbers.Numbers.{Numbers}
 use Rattle.sched.specs.declared.numbers.Extent.{Extent}
-use Rattle.sched.specs.declared.placing.Loop.{Loop as LoopMade}
-use Rattle.sched.specs.declared.skeleton.Known.{Known}
-use Rattle.sched.specs.declared.nest.Turning.{Turning}
-use Rattle.sched.specs.Numbers.{loop_numbers, numbers_named, last_number, parallel_loops, piece_counts}
 use Rattle.sched.specs.Placing.{PlacedText}
-use Rattle.sched.specs.Standing.{◌>>=◌, StandingText, form_named, alone, is_now, starts_at, name_smaller, test}
-use Rattle.sched.specs.Standing.{room, begin, is_guarded, join, settle_some, cuts_by_variable}
-use Rattle.sched.specs.Skeleton.{BodyText, NestText, SkeletonText, enter, leave, inside, turn, turn_all, kept_from, nest_turns}
-use Rattle.sched.specs.Skeleton.{is_missing, variables_at, ranges_at, begun, nest_in, nest_of, nests_in, grid_forms, over_grid, skeleton_in}
-use Rattle.sched.proofs.Looping.{no_grid}
-use Rattle.sched.proofs.Standings.{all_more, found_all, Begins, stood, waits, plainly, shifted, begins, Puts, freely, by_loop, by_guard, by_test, Joins, stays, puts, joins}
+use Rattle.sched.specs.Standing.{◌>>=◌}
+use Rattle.sched.specs.Skeleton.{BodyText, NestText, SkeletonText}
+use Rattle.sched.specs.Skeleton.{skeleton_in}
 use Rattle.lower.specs.Called.{called}
 use Rattle.lower.specs.Stored.{FormulaText, StoredText, calls_in, left_at}
 use Rattle.lower.specs.Around.{AroundText, form_span, coordinate_span, coordinates_behind, interval_in, left_around, around, head_scope}
@@ -36,160 +25,8 @@ use Rattle.lower.specs.Regions.{symbols_from}
 use Rattle.lower.specs.Taken.{SiteText, add_spans, add_call, add_calls, with_site, add_site, add_asked, add_sites}
 use Rattle.lower.specs.Taken.{sites_of, freed, either, with_call, with_calls, with_sites, needed_span, is_number, add_symbolic, greatest_from, cut}
 use Rattle.lower.proofs.Laying.{bound, same}
-use Rattle.completeness.proofs.Rising.{Rises, AllRise, SpanRises, LowRises, combined_rises, interval_rises, projected_rises, choice_low}
-
--- ---- in what loops, lets and guards stand
-
--- what a function takes
-abbrev Taken : (A B : Type 0) → (A → B) → Type 0
-Taken A B f = A
-
-abbrev Within : Type 0
-Within = Taken _ _ join
-
--- the second of two that are not the same
-abbrev second_of : (A : Type 0) (a b : A) → (a ≡ b → ⊥) → A
-second_of A a b f = b
-
-abbrev at_grid : Within
-at_grid = second_of _ _ _ (no_grid Serial)
-
--- ---- what stands while a skeleton is made
-
-abbrev AllKnown : List Known → Type 0
-AllKnown ks = AllByRecursion (λ k. Rises k.form) ks
-
-looked : (ks : List Known) (x : List ℕ) (f : Form) → AllKnown ks → form_named ks x ≡ Some f → Rises f
-looked ks x f h e = found_all (λ y g. Rises g) ks x f h e
-
-alone_rises : (i : ℕ) → Rises (alone i)
-alone_rises i = ((λ h. omega (arith, ints, h)), tt, tt)
-
-record Sits (st : StandingText) : Type 0 where
-  known : AllKnown st.known
-  starts : AllKnown st.starts
-
-now : (x : List ℕ) (f : Form) (st : StandingText) → Rises f → Sits st → Sits (is_now x f st)
-now x f st g h = record { known = all_more (λ k. Rises k.form) st.known (record { name = x; form = f }) h.known g; starts = h.starts }
-
-start : (x : List ℕ) (f : Form) (st : StandingText) → Rises f → Sits st → Sits (starts_at x f st)
-start x f st g h = record { known = h.known; starts = all_more (λ k. Rises k.form) st.starts (record { name = x; form = f }) h.starts g }
-
-smaller : (f : Form) (z : ℤ) (st : StandingText) → Sits st → Sits (name_smaller f z st)
-smaller f z st h = record { known = h.known; starts = h.starts }
-
-tested : (f : Form) (z : ℤ) (st : StandingText) → Sits st → Sits (test f z st)
-tested f z st h = record { known = h.known; starts = h.starts }
-
-begun_here : (c : Split) (r : Numbers) (st new : StandingText) → Sits st → begin c r st ≡ Some new → Sits new
-begun_here c r st new h e = of (begins c r st new e)
-  where
-    of : Begins c r st new → Sits new
-    of (stood s is) = subst Sits (sym is) h
-    of (waits none is) = subst Sits (sym is) h
-    of (plainly outer form none some sum first is) = subst Sits (sym is) (start c.whole form st (combined_rises (number r.low) (pos c.factor) outer tt form sum) h)
-    of (shifted outer form none some sum first is) =
-        subst Sits (sym is) (start c.whole (alone st.next) (name_smaller form (room r c.factor) st) (alone_rises st.next) (smaller form (room r c.factor) st h))
-
-put_here : (guarded : Bool) (x : List ℕ) (last : ℤ) (f : Form) (st new : StandingText) → Rises f → Sits st → Puts guarded x last f st new → Sits new
-put_here guarded x last f st new g h (freely free is) = subst Sits (sym is) (now x f st g h)
-put_here guarded x last f st new g h (by_loop s limit i l is) =
-    let kept : StandingText = record st { limits = st.limits ++ limit ∷ [] } in
-    subst Sits (sym is) (now x f kept g (record { known = h.known; starts = h.starts }))
-put_here guarded x last f st new g h (by_guard is) =
-    let behind : StandingText = test f last st in
-    subst Sits (sym is) (now x (alone behind.next) (name_smaller f last behind) (alone_rises behind.next) (smaller f last behind (tested f last st h)))
-put_here guarded x last f st new g h (by_test is) = subst Sits (sym is) (now x f (test f last st) g (tested f last st h))
-
-joined_here : (w : Within) (guarded : Bool) (c : Split) (r : Numbers) (st new : StandingText) → Sits st → join w guarded c r st ≡ Some new → Sits new
-joined_here w guarded c r st new h e = of (joins c r st new w guarded e)
-  where
-    of : Joins w guarded c r st new → Sits new
-    of (stays is known) = subst Sits (sym is) h
-    of (puts first inner form none s k sum put) =
-        put_here guarded c.whole (last_number r) form st new (combined_rises first (pos 1) inner (looked st.starts c.whole first h.starts s) form sum) h put
-
-settled_here : (w : Within) (rs : List Numbers) (all cs : List Split) (st new : StandingText) → Sits st → settle_some w rs all cs st ≡ Some new → Sits new
-settled_here w rs all [] st new h e = subst Sits (same st new e) h
-settled_here w rs all (c ∷ cs) st new h e =
-    let r : Numbers = numbers_named rs c.whole in
-    let b = bound (begin c r st) (λ begun. join w (is_guarded rs all c) c r begun >>= settle_some w rs all cs) new e in
-    let m = bound (join w (is_guarded rs all c) c r b.value) (settle_some w rs all cs) new b.comes in
-    settled_here w rs all cs m.value new (joined_here w (is_guarded rs all c) c r b.value m.value (begun_here c r st b.value h b.is) m.is) m.comes
-
-turned_here : (rs : List Numbers) (cs : List Split) (t : Turning) (st new : StandingText) → Sits st → turn rs cs t st ≡ Some new → Sits new
-turned_here rs cs t st new h e =
-    let n : ℕ = st.next in
-    let b = bound (settle_some (inside t.kind) rs cs cs (enter t.name st)) (λ turned. Some (leave st.steps n t turned)) new e in
-    let entered : Sits (enter t.name st) = record { known = all_more (λ k. Rises k.form) st.known (record { name = t.name; form = alone n }) h.known (alone_rises n); starts = h.starts } in
-    let s = settled_here (inside t.kind) rs cs cs (enter t.name st) b.value entered b.is in
-    subst Sits (same (leave st.steps n t b.value) new b.comes) (record { known = s.known; starts = s.starts })
-
-all_turned : (rs : List Numbers) (cs : List Split) (ts : List Turning) (st new : StandingText) → Sits st → turn_all rs cs ts st ≡ Some new → Sits new
-all_turned rs cs [] st new h e = subst Sits (same st new e) h
-all_turned rs cs (t ∷ ts) st new h e =
-    let b = bound (turn rs cs t st) (turn_all rs cs ts) new e in all_turned rs cs ts b.value new (turned_here rs cs t st b.value h b.is) b.comes
-
--- ---- nests
-
-abbrev pub RisesIf : Option Form → Type 0
-RisesIf None = Unit {0}
-RisesIf (Some f) = Rises f
-
-named_if : (ks : List Known) (x : List ℕ) → AllKnown ks → RisesIf (form_named ks x)
-named_if ks x h = of (form_named ks x) refl
-  where
-    of : (o : Option Form) → form_named ks x ≡ o → RisesIf o
-    of None e = tt
-    of (Some f) e = looked ks x f h e
-
-variables_rise : (b : BodyText) (d : ℕ) (xs : List (List ℕ)) (ks : List Known) → AllKnown ks → AllByRecursion RisesIf (variables_at b d xs ks)
-variables_rise b d [] ks h = tt
-variables_rise b d (x ∷ xs) ks h = (of (is_missing b d), variables_rise b (d + 1) xs ks h)
-  where
-    of : (m : Bool) → RisesIf (if m then None else form_named ks x)
-    of true = tt
-    of false = named_if ks x h
-
-ranges_rise : (ds : List Turning) (ks : List Known) → AllKnown ks → AllByRecursion RisesIf (ranges_at ds ks)
-ranges_rise [] ks h = tt
-ranges_rise (d ∷ ds) ks h = (named_if ks d.name h, ranges_rise ds ks h)
-
-abbrev NestRises : NestText → Type 0
-NestRises n = AllByRecursion RisesIf n.at
-
-module _ (xs : List (List ℕ)) (p : PlacedText) (rs : List Numbers) (head : StandingText) (over : Sits head) where
-  nest_here : (b : BodyText) (next : ℕ) (new : StandingText) → nest_in xs p rs b (begun next head) ≡ Some new → NestRises (nest_of xs b new)
-  nest_here b next new e =
-      let cs : List Split = cuts_by_variable p.cuts (kept_from b 0 xs) in
-      let m = bound (settle_some (inside Serial) rs cs cs (begun next head)) (turn_all rs cs (nest_turns b rs p.loops)) new e in
-      let s = settled_here (inside Serial) rs cs cs (begun next head) m.value (record { known = over.known; starts = over.starts }) m.is in
-      let out = all_turned rs cs (nest_turns b rs p.loops) m.value new s m.comes in
-      all-append RisesIf (variables_at b 0 xs new.known) (ranges_at b.ranges new.known) (variables_rise b 0 xs new.known out.known) (ranges_rise b.ranges new.known out.known)
-
-  nests_here : (bs : List BodyText) (next : ℕ) (ns : List NestText) → nests_in xs p rs head bs next ≡ Some ns → AllByRecursion NestRises ns
-  nests_here [] next ns e = subst (AllByRecursion NestRises) (same [] ns e) tt
-  nests_here (b ∷ bs) next ns e =
-      let m = bound (nest_in xs p rs b (begun next head)) (λ st. nests_in xs p rs head bs st.next >>= λ nests. Some (nest_of xs b st ∷ nests)) ns e in
-      let r = bound (nests_in xs p rs head bs m.value.next) (λ nests. Some (nest_of xs b m.value ∷ nests)) ns m.comes in
-      subst (AllByRecursion NestRises) (same (nest_of xs b m.value ∷ r.value) ns r.comes) (nest_here b next m.value m.is, nests_here bs m.value.next r.value r.is)
-
-grid_rises : (rs : List Numbers) (s : ℕ) (ls : List LoopMade) → AllKnown (grid_forms rs s ls)
-grid_rises rs s [] = tt
-grid_rises rs s (l ∷ ls) = (((λ h. omega (arith, ints, h)), tt, tt), grid_rises rs (s + 1) ls)
-
--- the forms of a nest's coordinates are canonical
-pub nests_rise : (xs : List (List ℕ)) (bs : List BodyText) (p : PlacedText) (region : List Extent) (k : SkeletonText) → skeleton_in xs bs p region ≡ Some k → AllByRecursion NestRises k.nests
-nests_rise xs bs p region k e =
-    let rs : List Numbers = loop_numbers xs p.cuts region in
-    let cs : List Split = cuts_by_variable p.cuts xs in
-    let grid : List ℕ = piece_counts rs p.loops in
-    let b = bound (settle_some at_grid rs cs cs (over_grid rs p))
-    (λ head. nests_in xs p rs head bs head.next >>= λ nests. Some (record { grid = grid; head = head.steps; nests = nests; known = head.known; starts = head.starts })) k e in
-    let m = bound (nests_in xs p rs b.value bs b.value.next) (λ nests. Some (record { grid = grid; head = b.value.steps; nests = nests; known = b.value.known; starts = b.value.starts })) k b.comes in
-    let s = settled_here at_grid rs cs cs (over_grid rs p) b.value (record { known = grid_rises rs 0 (parallel_loops p.loops); starts = tt }) b.is in
-    let made : SkeletonText = record { grid = grid; head = b.value.steps; nests = m.value; known = b.value.known; starts = b.value.starts } in
-    subst (λ (k : SkeletonText). AllByRecursion NestRises k.nests) (same made k m.comes) (nests_here xs p rs b.value s bs b.value.next m.value m.is)
+use Rattle.completeness.proofs.Rising.{Rises, AllRise, SpanRises, LowRises, interval_rises, projected_rises, choice_low}
+use Rattle.completeness.proofs.RisingSteps.{RisesIf, NestRises, nests_rise}
 
 -- ---- calls
 

@@ -30,7 +30,8 @@ use Rattle.lower.specs.Taken.{SiteText, sites_of, freed, either, with_call, with
 use Rattle.lower.specs.Taken.{needed_part, shown, is_shown, places_count, seated, shortest, run_of, tight, or_all, part_of, taken_region}
 use Rattle.lower.proofs.Laying.{bound, same}
 use Rattle.completeness.proofs.Rising.{Rises, AllRise, SpanRises, combined_rises, union_rises, joined_rises, choice_rises, each_rise}
-use Rattle.completeness.proofs.RisingForms.{SiteRises, all_rise, nests_rise, symbolic_low}
+use Rattle.completeness.proofs.RisingForms.{SiteRises, all_rise, symbolic_low}
+use Rattle.completeness.proofs.RisingSteps.{nests_rise}
 
 -- ---- forms freed of symbols
 

@@ -1,13 +1,12 @@
--- The groups of functions whose loops are split once, by blocks that need no line of their own, have the form that texts of groups have, and number their symbols and buffers in order.
+-- The groups of functions whose loops are split once, by whatever tails and in whatever order, have the form that texts of groups have, and number their symbols and buffers in order.
 use Rattle.std.proofs.Common.{◌≡◌, ℕ, suc, ◌+◌, ◌-◌, ◌*◌, ◌<◌, ◌≤◌, Bool, true, false, ◌&&◌, List, [], ◌∷◌, ◌++◌, length, Some, None, refl, sym, ap, ◌∙◌, subst, append_assoc, append-nil, arith}
 use Rattle.std.specs.Prelude.{◌==◌, nat_lt, nat_le, slice_get}
-use Rattle.std.specs.List.{list_all}
+use Rattle.std.specs.List.{AllByRecursion, list_all}
 use Rattle.std.proofs.lemmas.Bool.Decides.{nat_tests}
 use Rattle.lin.specs.declared.span.Span1.{Span1}
 use Rattle.lin.specs.declared.scope.Binding.{Binding}
 use Rattle.meaning.specs.Algorithm.{Algorithm}
 use Rattle.meaning.specs.Conditions.{IsAlgorithm}
-use Rattle.lin.specs.Forms.{Form}
 use Rattle.plan.specs.declared.certificate.cert.Claim.{Claim as CodeClaim}
 use Rattle.plan.specs.declared.certificate.cert.Need.{Need}
 use Rattle.plan.specs.Plan.{Statement, Seq, For, Let, First, Guard, Alloc, Fetch, Store, Publish, Statements, Empty, Then, Group, block}
@@ -21,8 +20,8 @@ use Rattle.nest.specs.Blocks.Numbers.{Count, start, are_numbered}
 use Rattle.sched.specs.Schedule.{Schedule}
 use Rattle.sched.specs.Legal.{IsLegal}
 use Rattle.sched.specs.Runs.{lines_to}
-use Rattle.sched.specs.declared.nest.Turning.{Turning}
 use Rattle.sched.specs.declared.skeleton.Step.{Step}
+use Rattle.sched.specs.declared.skeleton.Step.TheVariants.{Turns, Named, Tested}
 use Rattle.sched.specs.Skeleton.{NestText}
 use Rattle.lower.specs.declared.lowering.Lowered.{Lowered}
 use Rattle.lower.specs.Stored.{FormulaText, StoredText, stored_functions, has_large}
@@ -30,17 +29,16 @@ use Rattle.lower.specs.Around.{grid_scope}
 use Rattle.lower.specs.Faults.{are_whole, region_fault}
 use Rattle.lower.specs.Loading.{Loads}
 use Rattle.lower.specs.Blocks.{dimensions_of, claimed_region, own_places}
-use Rattle.lower.specs.Bodies.{last_claim, IsStore, AreNests, first_lines}
+use Rattle.lower.specs.Bodies.{last_claim, IsStore, AreNests, step_lines, first_lines}
 use Rattle.lower.specs.Fetches.{Entry, FetchText, Calls, AreFetched, fetched_groups, with_fetches, loads_from}
 use Rattle.lower.specs.Taken.{sites_of}
 use Rattle.lower.specs.Groups.{HasGroups}
-use Rattle.completeness.specs.Blocked.{IsKept}
-use Rattle.completeness.specs.Fitting.{IsShaped}
+use Rattle.completeness.specs.Fitting.{IsSplitOnce, IsShaped}
 use Rattle.completeness.proofs.Counts.{fetches_few, roots_few}
-use Rattle.completeness.proofs.FewLines.{group_looped}
-use Rattle.completeness.proofs.BlockTurns.{limited_for}
+use Rattle.completeness.proofs.FewLines.{group_short, rises_to}
+use Rattle.completeness.proofs.FewLoops.{IsShortNest}
 use Rattle.completeness.proofs.Served.{roots}
-use Rattle.completeness.proofs.BlockChains.{AreChained}
+use Rattle.completeness.proofs.Standing.{AreLets, Rises, NestsRise}
 
 -- ---- tests
 
@@ -123,31 +121,68 @@ Runs g s b d ls = (may : Bool) → are_numbered (inside g s b d may) ls ≡ true
 abbrev Stays : Statement → Type 0
 Stays s = (g n b d : ℕ) (ls : List Line) → Runs g n b d ls → Runs g n b d (statement_lines s ++ ls)
 
+-- a block, with its `end` before other lines
+enclosed : (ls ms : List Line) → ls ++ (EndLine ∷ ms) ≡ ((ls ++ EndLine ∷ []) ++ []) ++ ms
+enclosed ls ms = sym (append_assoc ls (EndLine ∷ []) ms) ∙ ap (λ (ks : List Line). ks ++ ms) (sym (append-nil (ls ++ EndLine ∷ [])))
+
+closed : (g b m d : ℕ) (ms : List Line) → Runs g m b d ms → Runs g m b (d + 1) (EndLine ∷ ms)
+closed g b m d ms h may = (let back : (d + 1) - 1 ≡ d = omega arith in ap (λ (k : ℕ). are_numbered (inside g m b k may) ms) back ∙ h may)
+
 -- the lines of a nest, before others
-turns_run : (limits : ℕ → List Form) (g b n d m : ℕ) (ts : List Turning) (s : Statement) (ms : List Line) → Stays s → n + length ts ≡ m → m ≤ 256 → d + length ts ≤ 256 → Runs g m b d ms →
-    Runs g n b d (block_lines (lines_to (limited_for limits n ts) (Then s Empty)) ++ ms)
-turns_run limits g b n d m [] s ms stays is le low h may =
-    let same : m ≡ n = omega (arith, is) in
+steps_run : (g b n d m : ℕ) (ss : List Step) (s : Statement) (ms : List Line) → Stays s → Rises n ss m → m ≤ 256 → d + step_lines ss ≤ 256 → Runs g m b d ms →
+    Runs g n b d (block_lines (lines_to ss (Then s Empty)) ++ ms)
+steps_run g b n d m [] s ms stays rises le low h may =
     let one : statement_lines s ++ ms ≡ (statement_lines s ++ []) ++ ms = ap (λ (ls : List Line). ls ++ ms) (sym (append-nil (statement_lines s))) in
-    subst (λ (ls : List Line). Runs g n b d ls) one (stays g n b d ms (subst (λ (k : ℕ). Runs g k b d ms) same h)) may
-turns_run limits g b n d m (t ∷ ts) s ms stays is le low h may =
-    let inner : List Line = block_lines (lines_to (limited_for limits (n + 1) ts) (Then s Empty)) in
-    let back : (d + 1) - 1 ≡ d = omega arith in
-    let behind : Runs g m b (d + 1) (EndLine ∷ ms) = λ v. ap (λ (k : ℕ). are_numbered (inside g m b k v) ms) back ∙ h v in
-    let rest = turns_run limits g b (n + 1) (d + 1) m ts s (EndLine ∷ ms) stays (omega (arith, is)) le (omega (arith, low)) behind false in
-    let joined : inner ++ (EndLine ∷ ms) ≡ ((inner ++ EndLine ∷ []) ++ []) ++ ms =
-    sym (append_assoc inner (EndLine ∷ []) ms) ∙ ap (λ (ls : List Line). ls ++ ms) (sym (append-nil (inner ++ EndLine ∷ []))) in
-    let room : nat_lt n 256 ≡ true = less n 256 (omega (arith, is, le)) in
+    subst (λ (ls : List Line). Runs g n b d ls) one (stays g n b d ms (subst (λ (k : ℕ). Runs g k b d ms) (sym rises) h)) may
+steps_run g b n d m (Turns i x kind ∷ ss) s ms stays rises le low h may =
+    let is = rises.0 in
+    let many = rises_to (n + 1) m ss rises.1 in
+    let rest = steps_run g b (n + 1) (d + 1) m ss s (EndLine ∷ ms) stays rises.1 le (omega (arith, low)) (closed g b m d ms h) false in
+    let room : nat_lt i 256 ≡ true = less i 256 (omega (arith, is, many, le)) in
     let deep : nat_lt d 512 ≡ true = less d 512 (omega (arith, low)) in
-    both _ _ (both _ _ (both _ _ room deep) (same_number n)) (subst (λ (ls : List Line). are_numbered (inside g (n + 1) b (d + 1) false) ls ≡ true) joined rest)
+    both _ _ (both _ _ (both _ _ room deep) (ap (λ (k : ℕ). k == n) is ∙ same_number n))
+    (subst (λ (ls : List Line). are_numbered (inside g (n + 1) b (d + 1) false) ls ≡ true) (enclosed (block_lines (lines_to ss (Then s Empty))) ms) rest)
+steps_run g b n d m (Named i pick fs ∷ ss) s ms stays rises le low h may =
+    let is = rises.0 in
+    let many = rises_to (n + 1) m ss rises.1 in
+    let rest = steps_run g b (n + 1) d m ss s ms stays rises.1 le (omega (arith, low)) h may in
+    let room : nat_lt i 256 ≡ true = less i 256 (omega (arith, is, many, le)) in
+    both _ _ (both _ _ (both _ _ room refl) (ap (λ (k : ℕ). k == n) is ∙ same_number n)) rest
+steps_run g b n d m (Tested low_form high_form ∷ ss) s ms stays rises le low h may =
+    let rest = steps_run g b n (d + 1) m ss s (EndLine ∷ ms) stays rises le (omega (arith, low)) (closed g b m d ms h) false in
+    let deep : nat_lt d 512 ≡ true = less d 512 (omega (arith, low)) in
+    both _ _ (both _ _ (both _ _ refl deep) refl)
+    (subst (λ (ls : List Line). are_numbered (inside g n b (d + 1) false) ls ≡ true) (enclosed (block_lines (lines_to ss (Then s Empty))) ms) rest)
 
-turns_single : (limits : ℕ → List Form) (n : ℕ) (ts : List Turning) (s : Statement) → is_single s ≡ true → are_single (lines_to (limited_for limits n ts) (Then s Empty)) ≡ true
-turns_single limits n [] s h = both _ _ h refl
-turns_single limits n (t ∷ ts) s h = both _ _ (turns_single limits (n + 1) ts s h) refl
+-- the lines of lets over the grid, before others
+lets_run : (g b n m : ℕ) (ss : List Step) (inner : Statements) (ms : List Line) → AreLets ss → Rises n ss m → m ≤ 256 → Runs g m b 0 (block_lines inner ++ ms) →
+    Runs g n b 0 (block_lines (lines_to ss inner) ++ ms)
+lets_run g b n m [] inner ms lets rises le h may = subst (λ (k : ℕ). Runs g k b 0 (block_lines inner ++ ms)) (sym rises) h may
+lets_run g b n m (Turns i x kind ∷ ss) inner ms lets rises le h may = absurd lets
+lets_run g b n m (Named i pick fs ∷ ss) inner ms lets rises le h may =
+    let is = rises.0 in
+    let many = rises_to (n + 1) m ss rises.1 in
+    let room : nat_lt i 256 ≡ true = less i 256 (omega (arith, is, many, le)) in
+    both _ _ (both _ _ (both _ _ room refl) (ap (λ (k : ℕ). k == n) is ∙ same_number n)) (lets_run g b (n + 1) m ss inner ms lets rises.1 le h may)
+lets_run g b n m (Tested low high ∷ ss) inner ms lets rises le h may = absurd lets
 
-turns_work : (limits : ℕ → List Form) (n : ℕ) (ts : List Turning) (s : Statement) → is_work s ≡ true → are_work (lines_to (limited_for limits n ts) (Then s Empty)) ≡ true
-turns_work limits n [] s h = both _ _ h refl
-turns_work limits n (t ∷ ts) s h = both _ _ (turns_work limits (n + 1) ts s h) refl
+lets_formed : (ss : List Step) (inner : Statements) → AreLets ss → are_in_form inner ≡ true → are_in_form (lines_to ss inner) ≡ true
+lets_formed [] inner lets h = h
+lets_formed (Turns i x kind ∷ ss) inner lets h = absurd lets
+lets_formed (Named i pick fs ∷ ss) inner lets h = lets_formed ss inner lets h
+lets_formed (Tested low high ∷ ss) inner lets h = absurd lets
+
+steps_single : (ss : List Step) (inner : Statements) → are_single inner ≡ true → are_single (lines_to ss inner) ≡ true
+steps_single [] inner h = h
+steps_single (Turns i x kind ∷ ss) inner h = both _ _ (steps_single ss inner h) refl
+steps_single (Named i pick fs ∷ ss) inner h = steps_single ss inner h
+steps_single (Tested low high ∷ ss) inner h = both _ _ (steps_single ss inner h) refl
+
+steps_work : (ss : List Step) (inner : Statements) → are_work inner ≡ true → are_work (lines_to ss inner) ≡ true
+steps_work [] inner h = h
+steps_work (Turns i x kind ∷ ss) inner h = both _ _ (steps_work ss inner h) refl
+steps_work (Named i pick fs ∷ ss) inner h = steps_work ss inner h
+steps_work (Tested low high ∷ ss) inner h = both _ _ (steps_work ss inner h) refl
 
 -- a store
 record IsLine (s : Statement) : Type 0 where
@@ -172,28 +207,29 @@ record AreShaped (next : ℕ) (xs : List Statement) : Type 0 where
   work : are_work (block xs) ≡ true
   runs : (g b : ℕ) (ms : List Line) → ((n : ℕ) → Runs g n b 0 ms) → Runs g next b 0 (block_lines (block xs) ++ ms)
 
-nests_shaped : (next : ℕ) (ns : List NestText) → AreChained 256 next ns → (u : StoredText) (fs : List FormulaText) (r : List Span1) (ms : Loads) (c line d : ℕ) (xs : List Statement)
-    (cs : List CodeClaim) → AreNests u fs r ms c line d ns xs cs → AreShaped next xs
-nests_shaped next [] chain u fs r ms c line d xs cs h =
+nests_shaped : (next : ℕ) (ns : List NestText) → NestsRise next ns → AllByRecursion IsShortNest ns → next + 27 * length ns ≤ 256 → (u : StoredText) (fs : List FormulaText) (r : List Span1)
+    (ms : Loads) (c line d : ℕ) (xs : List Statement) (cs : List CodeClaim) → AreNests u fs r ms c line d ns xs cs → AreShaped next xs
+nests_shaped next [] rises short le u fs r ms c line d xs cs h =
     subst (AreShaped next) (sym h.0) (record { single = refl; work = refl; runs = λ g b ls k. k next })
-nests_shaped next (w ∷ ns) chain u fs r ms c line d xs [] h = absurd h
-nests_shaped next (w ∷ ns) chain u fs r ms c line d xs (claim ∷ cs) h =
+nests_shaped next (w ∷ ns) rises short le u fs r ms c line d xs [] h = absurd h
+nests_shaped next (w ∷ ns) rises short le u fs r ms c line d xs (claim ∷ cs) h =
     let nest = h.here.nest in
-    let ts = chain.0 in
-    let limits = chain.1 in
-    let under = chain.3 in
+    let to = rises.0 in
+    let is = rises_to next to w.steps rises.1 in
+    let symbols = short.0.few_symbols in
+    let few_lines = short.0.few_lines in
     let s = store_line u fs ms d w nest.store nest.stores in
-    let rest = nests_shaped (next + length ts) ns chain.4 u fs r (ms ++ (u.subject.name, c) ∷ []) (c + 1) (line + _) (d + 1) h.others cs h.behind in
-    let are : lines_to (limited_for limits next ts) (Then nest.store Empty) ≡ block h.first = sym (nest.comes ∙ ap (λ (ss : List Step). lines_to ss (Then nest.store Empty)) chain.2) in
-    let single : are_single (block h.first) ≡ true = subst (λ (y : Statements). are_single y ≡ true) are (turns_single limits next ts nest.store s.single) in
-    let work : are_work (block h.first) ≡ true = subst (λ (y : Statements). are_work y ≡ true) are (turns_work limits next ts nest.store s.work) in
+    let rest = nests_shaped to ns rises.2 short.1 (omega (arith, is, symbols, le)) u fs r (ms ++ (u.subject.name, c) ∷ []) (c + 1) (line + _) (d + 1) h.others cs h.behind in
+    let are : lines_to w.steps (Then nest.store Empty) ≡ block h.first = sym nest.comes in
+    let single : are_single (block h.first) ≡ true = subst (λ (y : Statements). are_single y ≡ true) are (steps_single w.steps (Then nest.store Empty) (both _ _ s.single refl)) in
+    let work : are_work (block h.first) ≡ true = subst (λ (y : Statements). are_work y ≡ true) are (steps_work w.steps (Then nest.store Empty) (both _ _ s.work refl)) in
     subst (AreShaped next) (sym h.are) (record {
       single = singles_both h.first h.others single rest.single;
       work = works_both h.first h.others work rest.work;
       runs = λ g b ls k.
           let others : List Line = block_lines (block h.others) in
-          let more : Runs g (next + length ts) b 0 (others ++ ls) = rest.runs g b ls k in
-          let first = turns_run limits g b next 0 (next + length ts) ts nest.store (others ++ ls) s.stays refl under (omega (arith, under)) more in
+          let more : Runs g to b 0 (others ++ ls) = rest.runs g b ls k in
+          let first = steps_run g b next 0 to w.steps nest.store (others ++ ls) s.stays rises.1 (omega (arith, is, symbols, le)) (omega (arith, few_lines)) more in
           let there : Runs g next b 0 (block_lines (block h.first) ++ (others ++ ls)) = subst (λ (y : Statements). Runs g next b 0 (block_lines y ++ (others ++ ls))) are first in
           let joined : block_lines (block h.first) ++ (others ++ ls) ≡ block_lines (block (h.first ++ h.others)) ++ ls =
           sym (append_assoc (block_lines (block h.first)) others ls) ∙ ap (λ (y : List Line). y ++ ls) (sym (lines_both h.first h.others)) in
@@ -240,7 +276,7 @@ all_tested test (g ∷ gs) each = both _ _ (each 0 g refl) (all_tested test gs (
 
 module _ (a : Algorithm) (sch : Schedule) (l : Lowered) (well : IsAlgorithm a) (legal : IsLegal a sch) (small : has_large (stored_functions a sch) ≡ false)
     (kept : region_fault a (stored_functions a sch) ≡ None) (all : are_whole (stored_functions a sch) ≡ true) (groups : HasGroups a (stored_functions a sch) l)
-    (blocked : (n : ℕ) (u : StoredText) → slice_get (stored_functions a sch) n ≡ Some u → IsKept a sch n u) where
+    (once : (n : ℕ) (u : StoredText) → slice_get (stored_functions a sch) n ≡ Some u → IsSplitOnce u) where
   abbrev entries : List Entry
   entries = roots a sch l well legal small kept all groups
 
@@ -248,7 +284,7 @@ module _ (a : Algorithm) (sch : Schedule) (l : Lowered) (well : IsAlgorithm a) (
   group_shaped n g at =
       let y = from_map group_of l.plan.groups.items n g at in
       let q = y.0 in
-      let v = group_looped a sch l well legal small kept all groups blocked n q y.1 in
+      let v = group_short a sch l well legal small kept all groups once n q y.1 in
       let u = v.stored in
       let c = v.first_claim in
       let line = v.line in
@@ -262,27 +298,36 @@ module _ (a : Algorithm) (sch : Schedule) (l : Lowered) (well : IsAlgorithm a) (
       let publish : List Statement = Publish last ∷ [] in
       let rest : List Statement = b.nests ++ publish in
       let code : Statements = block (Alloc 0 x (own_places (dimensions_of u h.extents k)) ∷ with_fetches b.fetches rest) in
-      let is : Seq code ≡ statement_of q.body = sym (b.with.is ∙ ap (λ (ss : List Step). Seq (lines_to ss code)) v.looped.head) in
+      let is : Seq (lines_to k.head code) ≡ statement_of q.body = sym b.with.is in
+      let short = v.short in
+      let few = short.grid in
+      let definitions = short.definitions in
+      let head_symbols = short.few_symbols in
+      let own = short.own in
+      let next : ℕ = own.next in
+      let behind_head = rises_to (length k.grid) next k.head own.rises in
       let r : List Span1 = claimed_region (dimensions_of u h.extents k) in
-      let nests = nests_shaped (length k.grid) k.nests v.looped.chained u fs r ms (c + length b.fetches) (line + first_lines k + 2 * length b.fetches) 0 b.nests b.own b.nested in
+      let nests = nests_shaped next k.nests own.nests_rise short.nests (omega (arith, few, head_symbols, behind_head, definitions)) u fs r ms (c + length b.fetches) (line + first_lines k +
+          2 * length b.fetches) 0 b.nests b.own b.nested in
       let single : are_single (block rest) ≡ true = singles_both b.nests publish nests.single refl in
       let form : are_in_form (block rest) ≡ true = formed (block rest) (ends b.nests last nests.work) in
       let buffers = fetches_few a entries (roots_few a sch l well legal small kept all groups) n c line u q v.claims v.needs h in
-      let few = v.looped.grid in
       let grid : length q.grid.items ≡ length k.grid = ap length v.grid in
       subst IsGroupShaped (sym y.2) (record {
-        single = subst (λ (y : Statement). is_block y ≡ true) is (fetches_single b.fetches rest single);
-        form = subst (λ (y : Statement). is_body y ≡ true) is (fetches_formed b.fetches rest form);
+        single = subst (λ (y : Statement). is_block y ≡ true) is (steps_single k.head code (fetches_single b.fetches rest single));
+        form = subst (λ (y : Statement). is_body y ≡ true) is (lets_formed k.head code own.lets (fetches_formed b.fetches rest form));
         grid = omega (arith, few, grid);
         runs = λ g ls behind.
             let published : (m j : ℕ) → Runs g m j 0 (PublishLine last ∷ ls) = λ m j may. behind _ refl in
-            let nested : (j : ℕ) → Runs g (length k.grid) j 0 (block_lines (block b.nests) ++ (PublishLine last ∷ ls)) = λ j. nests.runs g j (PublishLine last ∷ ls) (λ m. published m j) in
+            let nested : (j : ℕ) → Runs g next j 0 (block_lines (block b.nests) ++ (PublishLine last ∷ ls)) = λ j. nests.runs g j (PublishLine last ∷ ls) (λ m. published m j) in
             let joined : block_lines (block b.nests) ++ (PublishLine last ∷ ls) ≡ block_lines (block rest) ++ ls =
             sym (append_assoc (block_lines (block b.nests)) (PublishLine last ∷ []) ls) ∙ ap (λ (y : List Line). y ++ ls) (sym (lines_both b.nests publish)) in
             let fetched = fetches_run (sites_of a u fs k) (grid_scope k.grid) n 1 (line + first_lines k) (fetched_groups fs n 0 entries) b.fetches v.needs b.fetched b.fetching (omega (arith, buffers))
-            g (length k.grid) rest ls (λ j. subst (λ (y : List Line). Runs g (length k.grid) j 0 y) joined (nested j)) in
-            let alloc : Runs g (length k.grid) 0 0 (block_lines code ++ ls) = fetched in
-            subst (λ (y : Statement). Runs g (length q.grid.items) 0 0 (statement_lines y ++ ls)) is (subst (λ (m : ℕ). Runs g m 0 0 (block_lines code ++ ls)) (sym grid) alloc);
+            g next rest ls (λ j. subst (λ (y : List Line). Runs g next j 0 y) joined (nested j)) in
+            let alloc : Runs g next 0 0 (block_lines code ++ ls) = fetched in
+            let lets : Runs g (length k.grid) 0 0 (block_lines (lines_to k.head code) ++ ls) =
+            lets_run g 0 (length k.grid) next k.head code ls own.lets own.rises (omega (arith, few, head_symbols, behind_head)) alloc in
+            subst (λ (y : Statement). Runs g (length q.grid.items) 0 0 (statement_lines y ++ ls)) is (subst (λ (m : ℕ). Runs g m 0 0 (block_lines (lines_to k.head code) ++ ls)) (sym grid) lets);
       })
 
   pub shaped : IsShaped (plan_of l.plan)

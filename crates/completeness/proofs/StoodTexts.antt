@@ -1,5 +1,5 @@
--- What of the skeletons of groups has a text, in plans whose splits need no line of their own.
-use Rattle.std.proofs.Common.{◌≡◌, ℕ, ◌≤◌, true, List, Some, None, false, sym, ◌∙◌, subst, length}
+-- What of the skeletons of groups has a text, in plans whose loops are split once, by whatever tails.
+use Rattle.std.proofs.Common.{◌≡◌, ℕ, true, List, Some, None, false, sym, ◌∙◌, subst}
 use Rattle.std.specs.Prelude.{slice_get}
 use Rattle.std.specs.List.{AllByRecursion}
 use Rattle.meaning.specs.Algorithm.{Algorithm}
@@ -20,25 +20,24 @@ use Rattle.lower.specs.Faults.{are_whole, region_fault}
 use Rattle.lower.specs.Blocks.{dimensions_of, claimed_region, own_places}
 use Rattle.lower.specs.Fetches.{Entry}
 use Rattle.lower.specs.Groups.{HasBody, HasGroups}
-use Rattle.completeness.specs.Blocked.{IsKept}
-use Rattle.completeness.proofs.BlockChains.{IsLooped}
+use Rattle.completeness.specs.Fitting.{IsSplitOnce}
 use Rattle.completeness.proofs.FewLines.{stood}
+use Rattle.completeness.proofs.FewLoops.{IsShort}
 use Rattle.completeness.proofs.GroupTexts.{group_texts}
 use Rattle.completeness.proofs.OwnTexts.{IsGoodPlace}
 use Rattle.completeness.proofs.Owned.{some_same, same_extents, same_skeleton}
 use Rattle.completeness.proofs.Served.{roots, made_at}
 
--- nests of loops alone, few of them; the region of its own claims, and the places of its own buffer
+-- few steps; the region of its own claims, and the places of its own buffer
 pub record IsStoodText (u : StoredText) (es : List Extent) (k : SkeletonText) : Type 0 where
   pub names : List Known
-  pub looped : IsLooped names k
-  pub definitions : length k.nests ≤ 5
+  pub short : IsShort names k
   pub claimed : fits_region (claimed_region (dimensions_of u es k)) ≡ true
   pub places : AllByRecursion IsGoodPlace (own_places (dimensions_of u es k))
 
 module _ (a : Algorithm) (sch : Schedule) (l : Lowered) (well : IsAlgorithm a) (legal : IsLegal a sch) (small : has_large (stored_functions a sch) ≡ false)
     (kept : region_fault a (stored_functions a sch) ≡ None) (all : are_whole (stored_functions a sch) ≡ true) (groups : HasGroups a (stored_functions a sch) l)
-    (blocked : (n : ℕ) (u : StoredText) → slice_get (stored_functions a sch) n ≡ Some u → IsKept a sch n u) where
+    (once : (n : ℕ) (u : StoredText) → slice_get (stored_functions a sch) n ≡ Some u → IsSplitOnce u) where
   abbrev entries : List Entry
   entries = roots a sch l well legal small kept all groups
 
@@ -46,12 +45,11 @@ module _ (a : Algorithm) (sch : Schedule) (l : Lowered) (well : IsAlgorithm a) (
       let me = made_at a sch l well legal small kept all groups n q there in IsStoodText me.stored me.laid.region me.laid.skeleton
   made_text n q there =
       let me = made_at a sch l well legal small kept all groups n q there in
-      let r = stood a sch l well legal small kept all groups blocked n q there in
-      let texts = group_texts a sch l well legal small kept all groups blocked n q there in
+      let r = stood a sch l well legal small kept all groups once n q there in
+      let texts = group_texts a sch l well legal small kept all groups once n q there in
       record {
         names = grid_forms (loop_numbers me.stored.subject.variables me.stored.placed.cuts me.laid.region) 0 (parallel_loops me.stored.placed.loops);
-        looped = r.looped;
-        definitions = r.definitions;
+        short = r.short;
         claimed = texts.0;
         places = texts.2;
       }

@@ -79,7 +79,7 @@ all_fit : (fs : List Form) → AllRise fs → AreLimited fs → AreOver fs → l
 all_fit [] h e k = refl
 all_fit (f ∷ fs) h e k = both _ _ (form_fits f h.0 e.0 k.0) (all_fit fs h.1 e.1 k.1)
 
-forms_fit : (fs : List Form) → 1 ≤ length fs → length fs ≤ 4 → AllRise fs → AreLimited fs → AreOver fs → fits_forms fs ≡ true
+pub forms_fit : (fs : List Form) → 1 ≤ length fs → length fs ≤ 4 → AllRise fs → AreLimited fs → AreOver fs → fits_forms fs ≡ true
 forms_fit fs some few h e k = both _ _ (both _ _ (less 0 (length fs) (omega (arith, some))) (at_most (length fs) 4 few)) (all_fit fs h e k)
 
 pub span_fits : (s : Span1) → IsTextSpan s → AreLimited s.lower × AreLimited s.upper → AreOver s.lower × AreOver s.upper → fits_span s ≡ true

@@ -1,4 +1,4 @@
--- The texts of plans that are made of schedules that split loops once, by blocks that need no line of their own, are files of these plans alone.
+-- The texts of plans that are made of schedules that split loops once are files of these plans alone.
 use Rattle.std.specs.Prelude.{◌≡◌, ◌++◌, ℕ, Bool, true, nat_le, List, length}
 use Rattle.std.specs.List.{list_all}
 use Rattle.meaning.specs.Algorithm.{Algorithm}
@@ -18,7 +18,7 @@ use Rattle.sched.specs.Legal.{IsLegal}
 use Rattle.lower.specs.declared.lowering.Lowered.{Lowered}
 use Rattle.lower.specs.Refused.{AreSmall, AreRegionsKept}
 use Rattle.lower.specs.Groups.{AreGroupsMade}
-use Rattle.completeness.specs.Told.{SplitsPlainly}
+use Rattle.completeness.specs.Fitting.{SplitsOnce}
 
 -- the plan's lines, and behind them the certificate's
 abbrev pub file_text : Plan → Certificate → List ℕ
@@ -45,4 +45,4 @@ pub record IsFileOfPlan (p : Plan) (c : Certificate) : Type 0 where
 abbrev pub FilesAreOfPlans : Type 0
 FilesAreOfPlans =
     (a : Algorithm) (s : Schedule) (l : Lowered) → IsAlgorithm a → IsLegal a s → AreSmall a s → AreRegionsKept a s → AreGroupsMade a s l
-    → SplitsPlainly a s → IsNamed a → AreExpressionsWritten a → IsFileOfPlan (plan_of l.plan) (certificate_of l.certificate)
+    → SplitsOnce a s → IsNamed a → AreExpressionsWritten a → IsFileOfPlan (plan_of l.plan) (certificate_of l.certificate)

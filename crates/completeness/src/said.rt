@@ -35,9 +35,10 @@ pub fn files_fit()
     ensures { FilesFit }
 {}
 
-/// Of an algorithm whose names and expressions are those of a text, and of a schedule of which `told` has it that limits alone are told (`SplitsPlainly`): the
-/// lines of the plan that `lower` makes, with its certificate's behind them, are a plan file of these two and of no other plan. Where none of them has more
-/// than 65,536 bytes, they are read as these two; else the text is refused as past that limit; and it is never refused for its form.
+/// Of an algorithm whose names and expressions are those of a text, and of a schedule under which each stored function is a root function that is computed at no
+/// loop, whose loops are split once at most, no inner one parallel, by whatever tails and in whatever order: the lines of the plan that `lower` makes, with its
+/// certificate's behind them, are a plan file of these two and of no other plan. Where none of them has more than 65,536 bytes, they are read as these two; else
+/// the text is refused as past that limit; and it is never refused for its form.
 pub fn files_are_of_plans()
     ensures { FilesAreOfPlans }
 {}

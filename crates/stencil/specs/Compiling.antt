@@ -9,6 +9,7 @@ use Rattle.sched.specs.declared.error.SchedError.{SchedError}
 use Rattle.lower.specs.Refused.{AreRegionsKept, AreSmall, AreUsesInside, IsRefused as IsRefusedSchedule}
 use Rattle.lower.specs.Groups.{AreGroupsMade}
 use Rattle.completeness.specs.Laws.{HasOwnLines, WholeStands}
+use Rattle.completeness.specs.Fitting.{SplitsOnce}
 use Rattle.completeness.specs.Told.{SplitsPlainly, TellsLimitsAlone}
 use Rattle.completeness.specs.OfPlans.{file_text, IsFileOfPlan}
 use Rattle.lower.specs.declared.error.LowerError.{LowerError}
@@ -51,7 +52,8 @@ pub record IsNotLowered (a : Algorithm) (s : Schedule) (fault : Fault) : Type 0 
 
 -- what `lower` says of the plan that it makes of a legal schedule, and of its certificate, and what follows: each group has a line of what its pieces own;
 -- where whole functions make no inner loop of a split parallel and split none again, these part the cells and are served by those that they need; and where
--- loops are split plainly, whatever the checker tells is a limit, and the text is a file of this plan alone, but for the limits of files
+-- loops are split plainly, whatever the checker tells is a limit; and where they are split once at most, the text is a file of this plan alone, but for the limits
+-- of files
 pub record IsLowered (a : Algorithm) (s : Schedule) (l : Lowered) : Type 0 where
   pub legal : IsLegal a s
   pub small : AreSmall a s
@@ -61,7 +63,7 @@ pub record IsLowered (a : Algorithm) (s : Schedule) (l : Lowered) : Type 0 where
   pub own_lines : HasOwnLines (plan_of l.plan) (certificate_of l.certificate)
   pub shares : WholeStands a s l
   pub limits : SplitsPlainly a s → TellsLimitsAlone a (plan_of l.plan) (certificate_of l.certificate)
-  pub file : SplitsPlainly a s → IsFileOfPlan (plan_of l.plan) (certificate_of l.certificate)
+  pub file : SplitsOnce a s → IsFileOfPlan (plan_of l.plan) (certificate_of l.certificate)
 
 -- the text of the plan that is made of the schedule, with its certificate
 pub record IsPlanText (a : Algorithm) (s : Schedule) (text : List ℕ) : Type 0 where
@@ -69,12 +71,12 @@ pub record IsPlanText (a : Algorithm) (s : Schedule) (text : List ℕ) : Type 0 
   pub lowered : IsLowered a s made
   pub written : text ≡ file_text (plan_of made.plan) (certificate_of made.certificate)
 
--- the checker has accepted this plan with its certificate, as it was read of that text; where loops are split plainly, they are those that were made
+-- the checker has accepted this plan with its certificate, as it was read of that text; where loops are split once at most, they are those that were made
 pub record IsCompiledPlan (a : Algorithm) (s : Schedule) (plan : PlanMade) (cert : Cert) : Type 0 where
   pub text : List ℕ
   pub of_schedule : IsPlanText a s text
   pub accepted : IsAccepted a text plan cert
-  pub same : SplitsPlainly a s → (plan_of plan ≡ plan_of of_schedule.made.plan) × (certificate_of cert ≡ certificate_of of_schedule.made.certificate)
+  pub same : SplitsOnce a s → (plan_of plan ≡ plan_of of_schedule.made.plan) × (certificate_of cert ≡ certificate_of of_schedule.made.certificate)
 
 -- the reader of plan files refuses the text at this line
 abbrev pub IsUnread : List ℕ → ℕ → Type 0

@@ -4,6 +4,7 @@ use Rattle.meaning.specs.Algorithm.{Algorithm}
 use Rattle.algo.specs.View.{algorithm_of}
 use Rattle.sched.specs.Schedule.{Schedule}
 use Rattle.sched.specs.View.{schedule_of}
+use Rattle.completeness.proofs.LimitsAlone.{splits_once}
 use Rattle.stencil.specs.Compiling.{IsNotLowered, IsUnaccepted}
 use Rattle.commands.specs.Pipeline.PlanFiles.{HasPlan}
 use Rattle.stencil.proofs.Limited.{is_limit}
@@ -27,7 +28,7 @@ returns-in_err-accept-clause-refused g c =
       text = c.as_str.result.now;
       of_schedule = record { made = c.in_ok-plan.plan; lowered = c.in_ok-plan.ensures.made; written = c.as_str.ensures.value ∙ c.in_ok-file.ensures };
       refused = refused;
-      limit = λ splits. is_limit c.as_str.result.now c.in_ok-plan.plan (c.in_ok-plan.ensures.made.file splits) (c.as_str.ensures.value ∙ c.in_ok-file.ensures) a
+      limit = λ splits. is_limit c.as_str.result.now c.in_ok-plan.plan (c.in_ok-plan.ensures.made.file (splits_once a (schedule_of c.args.sched.now) splits)) (c.as_str.ensures.value ∙ c.in_ok-file.ensures) a
           (c.in_ok-plan.ensures.made.limits splits) p.0 refused;
     })))
 

@@ -7,6 +7,7 @@ use Rattle.plan.specs.View.{plan_of}
 use Rattle.plan.specs.Certificate.Certificate.{certificate_of}
 use Rattle.sched.specs.View.{schedule_of}
 use Rattle.stencil.specs.Compiling.{IsCompiledPlan, IsNotCompiled, IsUnaccepted}
+use Rattle.completeness.proofs.LimitsAlone.{splits_once}
 use Rattle.commands.specs.Pipeline.PlanFiles.{IsAccepted}
 use Rattle.stencil.proofs.Limited.{is_limit, same_plan}
 use Rattle.stencil.proofs.compiling.compile_checked.Goals as goal
@@ -20,7 +21,7 @@ returns-clause-refused g c =
       text = c.as_str.result.now;
       of_schedule = record { made = c.in_ok-plan.plan; lowered = c.in_ok-plan.ensures.made; written = c.as_str.ensures.value ∙ c.in_ok-file.ensures };
       refused = unaccepted;
-      limit = λ splits. is_limit c.as_str.result.now c.in_ok-plan.plan (c.in_ok-plan.ensures.made.file splits) (c.as_str.ensures.value ∙ c.in_ok-file.ensures) a
+      limit = λ splits. is_limit c.as_str.result.now c.in_ok-plan.plan (c.in_ok-plan.ensures.made.file (splits_once a s splits)) (c.as_str.ensures.value ∙ c.in_ok-file.ensures) a
           (c.in_ok-plan.ensures.made.limits splits) fault unaccepted;
     }))) c.accept.ensures.refused
 
