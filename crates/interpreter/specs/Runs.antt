@@ -19,6 +19,13 @@ use Rattle.interpreter.specs.Pieces.{around, no_cells, setting}
 use Rattle.interpreter.specs.Targets.{known_number}
 use Rattle.interpreter.specs.declared.piece.Piece.{Piece}
 
+-- how many turns are taken together at most, and of an update
+abbrev pub longest_run : ℕ
+longest_run = 1024
+
+abbrev pub longest_update : ℕ
+longest_update = 512
+
 -- the numbers at a turn, by those of the first turn and of the second: each rises by as much with each turn
 abbrev pub numbers_at : List ℤ → List ℤ → ℕ → List ℤ
 numbers_at [] ys k = []

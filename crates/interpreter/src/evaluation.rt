@@ -24,6 +24,7 @@ pub(crate) use kernels::{
     step_words,
 };
 pub use lanes::{ClampedRamp, Lanes, Number};
+pub(crate) use looking::number_after;
 pub(crate) use operations::{
     Difference, Larger, Operator, Product, Quotient, Remainder, Smaller, Sum,
 };
@@ -33,4 +34,4 @@ pub use run::{evaluate_numbers, evaluate_run, evaluate_words};
 pub use run_reader::RunReader;
 pub use stop::Stop;
 pub(crate) use widths::{Signed8, Signed16, Signed32, Unsigned8, Unsigned16, Unsigned32, Width};
-pub(crate) use words::{typed_number, word_number};
+pub(crate) use words::{low_word, typed_number, word_number};

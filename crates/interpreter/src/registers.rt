@@ -8,6 +8,12 @@ use crate::evaluation::typed_number;
 use numeric::Ty;
 use tree::Value;
 
+/// How many turns of a loop are taken together at most: so many words a register has.
+pub(crate) const LONGEST_RUN: usize = 1024;
+
+/// The same of a loop that updates, for each of whose turns places of its own are found too.
+pub(crate) const LONGEST_UPDATE: usize = 512;
+
 /// What a register holds for a turn, of the type.
 #[inline(always)]
 pub(crate) fn value_at(ty: Ty, words: &[u32], turn: usize) -> Value

@@ -15,7 +15,7 @@ ghost use Rattle.interpreter.specs.Runs.{numbers_at, IsBut};
 
 use crate::buffers::{Buffers, held_window};
 use crate::evaluation::{
-    ClampedRamp, Lanes, Number, RunReader, clamped_number, step_words, typed_number,
+    ClampedRamp, Lanes, Number, RunReader, clamped_number, number_after, step_words, typed_number,
 };
 use crate::loads::claim_of;
 use crate::piece::Piece;
@@ -375,19 +375,12 @@ pub(crate) fn registers_behind<T>(registers: &[T], count: usize) -> &[T]
     behind
 }
 
-/// The number so many turns after the first, if it is of 64 bits.
-fn risen_at(first: Number, turn: usize) -> Option<Number>
-    ensures { IfSome result (λ n. n.value ≡ first.value +ℤ pos turn) }
-{
-    let value = first.value.checked_add(i64::try_from(turn).ok()?)?;
-    Some(Number { value })
-}
-
 /// The number of a clamped ramp at a turn, if that of the ramp is of 64 bits.
 fn clamped_at(ramp: ClampedRamp, turn: usize) -> Option<Number>
     ensures { IfSome result (λ n. n.value ≡ clamped_number ramp turn) }
 {
-    let number = risen_at(ramp.first, turn)?;
+    let value = number_after(ramp.first.value, turn)?;
+    let number = Number { value };
     Some(clamped_number(number, ramp.low, ramp.high))
 }
 
@@ -397,7 +390,7 @@ fn number_in(lanes: Lanes, register: &[u32], turn: usize) -> Option<i64>
 {
     match lanes {
         Lanes::Broadcast(_, number) => Some(number.value),
-        Lanes::Ramp(_, number) => number.value.checked_add(i64::try_from(turn).ok()?),
+        Lanes::Ramp(_, number) => number_after(number.value, turn),
         Lanes::Clamped(_, ramp) => Some(clamped_at(ramp, turn)?.value),
         Lanes::Vector(ty) => Some(typed_number(ty, *register.get(turn)?)),
     }

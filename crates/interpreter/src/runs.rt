@@ -22,7 +22,7 @@ ghost use Rattle.interpreter.specs.Evaluation.Indices.{indices_in};
 ghost use Rattle.interpreter.specs.Evaluation.Words.{word_at};
 ghost use Rattle.interpreter.specs.Pieces.{around, no_cells, IsReady};
 ghost use Rattle.interpreter.specs.Rows.{listed};
-ghost use Rattle.interpreter.specs.Runs.{are_forms, numbers_at, numbers_of, store_at, FindsTurns, IsBut};
+ghost use Rattle.interpreter.specs.Runs.{are_forms, longest_run, longest_update, numbers_at, numbers_of, store_at, FindsTurns, IsBut};
 ghost use Rattle.interpreter.specs.Sizes.{size_in};
 ghost use Rattle.interpreter.specs.States.{progress_of, EndsIn, IsAsLarge};
 ghost use Rattle.interpreter.specs.Steps.{steps};
@@ -34,7 +34,7 @@ use crate::buffers::{Buffers, Spot};
 use crate::evaluation::{Stop, evaluate_words};
 use crate::piece::Piece;
 use crate::placing::{Places, Target, place_update};
-use crate::registers::value_at;
+use crate::registers::{LONGEST_RUN, LONGEST_UPDATE, value_at};
 use crate::row::Row;
 use crate::run_reading::RunReading;
 use crate::sizes::size_in;
@@ -135,7 +135,7 @@ pub(crate) struct Part {
 /// What the loop's symbol is in the turn that so many of these come before.
 fn turn_in(part: Part, index: usize) -> Binding
     requires inside { index < part.count }
-    requires few { part.count ≤ 512 }
+    requires few { part.count ≤ longest_run }
     requires high { (part.low +ℤ pos part.count) ≤ℤ pos (2 ^ 63) }
     ensures { result ≡ record { symbol = part.turns.symbol; value = part.low +ℤ pos index; first = int_le (part.low +ℤ pos index) part.turns.low } }
 {
@@ -144,7 +144,7 @@ fn turn_in(part: Part, index: usize) -> Binding
 
 /// The number behind these turns, if there is one of 64 bits.
 fn behind(part: Part) -> Option<i64>
-    requires { part.count ≤ 512 }
+    requires { part.count ≤ longest_run }
     ensures { MatchOption result (pos (2 ^ 63) ≤ℤ (part.low +ℤ pos part.count)) (λ z. z ≡ part.low +ℤ pos part.count) }
 {
     part.low.checked_add(part.count as i64)
@@ -227,7 +227,7 @@ fn write_points<'a>(
     requires ready { IsReady piece.now }
     requires forms { are_forms line.now.coordinates.now ≡ true }
     requires narrow { (k : ℕ) → k < part.count → All (CoordinateIsNarrow (bind (symbols_of symbols.old) part.turns.symbol (part.low +ℤ pos k) (int_le (part.low +ℤ pos k) part.turns.low))) line.now.coordinates.now }
-    requires few { part.count ≤ 512 }
+    requires few { part.count ≤ longest_run }
     requires high { (part.low +ℤ pos part.count) ≤ℤ pos (2 ^ 63) }
     requires count { part.count ≤ length state.old.words.items }
     requires symbols { length symbols.old.bound < symbols.old.room }
@@ -365,7 +365,7 @@ fn write_part<'a>(
     requires ready { IsReady piece.now }
     requires forms { are_forms line.now.coordinates.now ≡ true }
     requires narrow { (k : ℕ) → k < part.count → All (CoordinateIsNarrow (bind (symbols_of symbols.old) part.turns.symbol (part.low +ℤ pos k) (int_le (part.low +ℤ pos k) part.turns.low))) line.now.coordinates.now }
-    requires few { part.count ≤ 512 }
+    requires few { part.count ≤ longest_run }
     requires high { (part.low +ℤ pos part.count) ≤ℤ pos (2 ^ 63) }
     requires count { part.count ≤ length state.old.words.items }
     requires symbols { length symbols.old.bound < symbols.old.room }
@@ -397,7 +397,7 @@ fn store_one_by_one<'a>(
 ) -> Result<(), Stop>
     requires ready { IsReady piece.now }
     requires narrow { (k : ℕ) → k < part.count → All (CoordinateIsNarrow (bind (symbols_of symbols.old) part.turns.symbol (part.low +ℤ pos k) (int_le (part.low +ℤ pos k) part.turns.low))) line.now.coordinates.now }
-    requires few { part.count ≤ 512 }
+    requires few { part.count ≤ longest_run }
     requires high { (part.low +ℤ pos part.count) ≤ℤ pos (2 ^ 63) }
     requires symbols { length symbols.old.bound < symbols.old.room }
     requires numbers { length line.now.coordinates.now ≤ state.old.numbers.room }
@@ -433,7 +433,7 @@ fn store_known_part<'a>(
 ) -> Result<(), Stop>
     requires ready { IsReady piece.now }
     requires narrow { (k : ℕ) → k < part.count → All (CoordinateIsNarrow (bind (symbols_of symbols.old) part.turns.symbol (part.low +ℤ pos k) (int_le (part.low +ℤ pos k) part.turns.low))) line.now.coordinates.now }
-    requires few { part.count ≤ 512 }
+    requires few { part.count ≤ longest_run }
     requires high { (part.low +ℤ pos part.count) ≤ℤ pos (2 ^ 63) }
     requires symbols { length symbols.old.bound < symbols.old.room }
     requires numbers { length line.now.coordinates.now ≤ state.old.numbers.room }
@@ -464,7 +464,7 @@ fn store_update<'a>(
 ) -> Result<(), Stop>
     requires ready { IsReady piece.now }
     requires narrow { (k : ℕ) → k < part.count → All (CoordinateIsNarrow (bind (symbols_of symbols.old) part.turns.symbol (part.low +ℤ pos k) (int_le (part.low +ℤ pos k) part.turns.low))) line.now.coordinates.now }
-    requires few { part.count ≤ 256 }
+    requires few { part.count ≤ longest_update }
     requires high { (part.low +ℤ pos part.count) ≤ℤ pos (2 ^ 63) }
     requires symbols { length symbols.old.bound < symbols.old.room }
     requires numbers { length line.now.coordinates.now ≤ state.old.numbers.room }
@@ -484,9 +484,9 @@ fn store_update<'a>(
         size: size_in(piece.sizes, line.buffer),
         count: part.count,
     };
-    let mut point = [0; 256];
-    let mut left = [0; 256];
-    let mut right = [0; 256];
+    let mut point = [0; LONGEST_UPDATE];
+    let mut left = [0; LONGEST_UPDATE];
+    let mut right = [0; LONGEST_UPDATE];
     match place_update(
         &state.memory,
         target,
@@ -509,7 +509,7 @@ fn store_update<'a>(
     }
 }
 
-/// The store at at most 256 turns of a loop, for which the places of an update have room.
+/// The store at no more turns of a loop than the places of an update have room for.
 fn store_short_part<'a>(
     piece: &'a Piece<'a>,
     line: &StoreLine<'a>,
@@ -519,7 +519,7 @@ fn store_short_part<'a>(
 ) -> Result<(), Stop>
     requires ready { IsReady piece.now }
     requires narrow { (k : ℕ) → k < part.count → All (CoordinateIsNarrow (bind (symbols_of symbols.old) part.turns.symbol (part.low +ℤ pos k) (int_le (part.low +ℤ pos k) part.turns.low))) line.now.coordinates.now }
-    requires few { part.count ≤ 256 }
+    requires few { part.count ≤ longest_update }
     requires high { (part.low +ℤ pos part.count) ≤ℤ pos (2 ^ 63) }
     requires symbols { length symbols.old.bound < symbols.old.room }
     requires numbers { length line.now.coordinates.now ≤ state.old.numbers.room }
@@ -545,7 +545,7 @@ fn store_part<'a>(
 ) -> Result<(), Stop>
     requires ready { IsReady piece.now }
     requires narrow { (k : ℕ) → k < part.count → All (CoordinateIsNarrow (bind (symbols_of symbols.old) part.turns.symbol (part.low +ℤ pos k) (int_le (part.low +ℤ pos k) part.turns.low))) line.now.coordinates.now }
-    requires few { part.count ≤ 512 }
+    requires few { part.count ≤ longest_run }
     requires high { (part.low +ℤ pos part.count) ≤ℤ pos (2 ^ 63) }
     requires symbols { length symbols.old.bound < symbols.old.room }
     requires numbers { length line.now.coordinates.now ≤ state.old.numbers.room }
@@ -555,7 +555,7 @@ fn store_part<'a>(
     ensures large { OnOk result (IsAsLarge state.old state.new) }
     ensures run { (definition : ℕ) (cell : List ℕ → List ℤ → ValueFound) → EndsIn state.old.given.capacity (λ _. progress_of state.new) result (steps (around piece.now cell) (flat_map (store_at piece.now line.now.buffer line.now.coordinates.now (term_of line.now.value.now) (symbols_of symbols.old) part.turns.symbol part.turns.low definition) (rising part.low part.count)) (progress_of state.old)) }
 {
-    if part.count > 256 {
+    if part.count > LONGEST_UPDATE {
         store_known_part(piece, line, part, symbols, state)
     } else {
         store_short_part(piece, line, part, symbols, state)
@@ -565,20 +565,24 @@ fn store_part<'a>(
 /// How many turns of a store are taken together at most. An update takes memory for the places of each of its turns.
 fn most_turns(piece: &Piece<'_>, line: &StoreLine<'_>) -> usize
     ensures some { 0 < result }
-    ensures few { result ≤ 512 }
+    ensures few { result ≤ longest_run }
 {
-    if is_update(piece, line) { 256 } else { 512 }
+    if is_update(piece, line) {
+        LONGEST_UPDATE
+    } else {
+        LONGEST_RUN
+    }
 }
 
 /// The turns of a loop from this number on, at most so many.
 fn first_part(turns: Turns, low: i64, most: usize) -> Part
     requires low { low ≤ℤ turns.high }
     requires some { 0 < most }
-    requires few { most ≤ 512 }
+    requires few { most ≤ longest_run }
     ensures turns { result.turns ≡ turns }
     ensures low { result.low ≡ low }
     ensures some { 0 < result.count }
-    ensures few { result.count ≤ 512 }
+    ensures few { result.count ≤ longest_run }
     ensures high { (low +ℤ pos result.count) ≤ℤ (turns.high +ℤ pos 1) }
 {
     let count = match turns.high.checked_sub(low) {

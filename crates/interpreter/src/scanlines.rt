@@ -1,6 +1,6 @@
 //! Rows: what lies at points that differ in the first coordinate alone.
 
-ghost use Rattle.std.specs.Prelude.{◌≡◌, ◌∷◌, [], ◌<◌, ◌≤◌, ◌≤ℤ◌, ◌+◌, ◌+ℤ◌, ◌-ℤ◌, ℕ, ℤ, Some, IfSome, length, drop, take, pos, slice_get, slice_index};
+ghost use Rattle.std.specs.Prelude.{◌≡◌, ◌∷◌, [], ◌<◌, ◌≤◌, ◌≤ℤ◌, ◌+◌, ◌*◌, ◌+ℤ◌, ◌-ℤ◌, ℕ, ℤ, Some, IfSome, length, drop, take, pos, slice_get, slice_index};
 ghost use Rattle.numeric.specs.declared.ty.Ty.{Ty as TyFound};
 ghost use Rattle.numeric.specs.Wrap.{greatest, wrap};
 ghost use Rattle.tree.specs.Meaning.{typed};
@@ -233,26 +233,39 @@ fn sample_word(sample: u16) -> u32
     u32::from(sample)
 }
 
-/// The sample at a place behind the first, if there is one.
-#[inline(always)]
-fn sample_behind(samples: &[u16], place: usize) -> Option<u16>
-    ensures { IfSome result (λ n. sample_along samples.now (pos place) ≡ Some (pos n)) }
+/// Whether no word is above this one. All are looked at, so that several are at once.
+fn are_words_at_most(words: &[u32], most: u32) -> bool
+    ensures { OnTrue result ((k : ℕ) → k < length words.now → bits_at words.now k ≤ most) }
 {
-    let sample = samples.get(place)?;
-    Some(*sample)
+    let mut all = true;
+    for turn in 0..words.len() {
+        let one = words[turn] <= most;
+        all = all & one;
+    }
+    all
 }
 
-/// The sample at a place behind the first as a word, if there is one and it is not above the type's greatest one.
-#[inline(always)]
-fn word_behind(ty: Ty, most: u16, samples: &[u16], place: usize) -> Option<u32>
-    requires { pos most ≤ℤ greatest ty }
-    ensures { IfSome result (λ w. sample_along samples.now (pos place) ≡ Some (wrap ty (pos w))) }
+/// Whether so many samples are there from a place on, each so many behind the one before.
+fn are_along(samples: &[u16], start: usize, step: usize, count: usize) -> bool
+    ensures { OnTrue result ((k : ℕ) → k < count → start + k * step < length samples.now) }
 {
-    let sample = sample_behind(samples, place)?;
-    if most < sample {
-        return None;
+    let Some(last) = count.saturating_sub(1).checked_mul(step) else {
+        return false;
+    };
+    match start.checked_add(last) {
+        Some(last) => last < samples.len(),
+        None => false,
     }
-    Some(sample_word(sample))
+}
+
+/// Puts samples in as words, from a place on, each so many behind the one before.
+fn put_along(samples: &[u16], start: usize, step: usize, out: &mut [u32])
+    requires { (k : ℕ) → k < length out.old → start + k * step < length samples.now }
+    ensures { (k : ℕ) → k < length out.new → bits_at out.new k ≡ slice_index samples.now (start + k * step) }
+{
+    for turn in 0..out.len() {
+        out[turn] = sample_word(samples[start + turn * step]);
+    }
 }
 
 /// The samples of a row's colour at coordinates side by side, from one on, put into a register; nothing where there is none at one
@@ -260,13 +273,17 @@ fn word_behind(ty: Ty, most: u16, samples: &[u16], place: usize) -> Option<u32>
 pub(crate) fn copy_pixels(ty: Ty, row: Pixels<'_>, first: usize, out: &mut [u32]) -> Option<()>
     ensures { IfSome result (λ _. (k : ℕ) → k < length out.new → pixel_along row.entry.colours row.entry.colour row.entry.samples.now (pos (first + k)) ≡ Some (word_at ty out.new k)) }
 {
-    let most = greatest_sample(ty);
-    let mut place = first.checked_mul(row.colours)?.checked_add(row.colour)?;
-    for turn in 0..out.len() {
-        out[turn] = word_behind(ty, most, row.samples, place)?;
-        place = place.checked_add(row.colours)?;
+    let start = first.checked_mul(row.colours)?.checked_add(row.colour)?;
+    if !are_along(row.samples, start, row.colours, out.len()) {
+        return None;
     }
-    Some(())
+    put_along(row.samples, start, row.colours, out);
+    // Where some sample is not of the type, what the register has then is not read.
+    if are_words_at_most(out, u32::from(greatest_sample(ty))) {
+        Some(())
+    } else {
+        None
+    }
 }
 
 /// Whether no sample is above this one. All are looked at, so that several are at once.

@@ -6,9 +6,13 @@ ghost use Rattle.interpreter.specs.Scratches.{IsMadeFor};
 use crate::buffers::Buffers;
 use crate::evaluation::Number;
 use crate::needs::Needs;
+use crate::registers::{LONGEST_RUN, LONGEST_UPDATE};
 use crate::row::Row;
 use smallvec::SmallVec;
 use std::alloc::{AllocError, Global};
+
+/// How many registers there are, for the parts of an expression.
+const PARTS: usize = 16;
 
 /// What a run has come to: what its buffers hold, and the numbers given so far. Besides, the lists that its lines fill
 /// anew.
@@ -53,8 +57,8 @@ impl State {
             numbers: Row::new(alloc, needs.coordinates)?,
             point: Row::new(alloc, needs.coordinates)?,
             stack: Row::new(alloc, needs.indices)?,
-            registers: registers(alloc, 256, 16)?,
-            words: words(alloc, 512, 16)?,
+            registers: registers(alloc, LONGEST_UPDATE, PARTS)?,
+            words: words(alloc, LONGEST_RUN, PARTS)?,
         })
     }
 }

@@ -12,10 +12,11 @@ ghost use Rattle.interpreter.specs.declared.cells.NumberKind.TheVariants.{Exact,
 ghost use Rattle.interpreter.specs.Evaluation.Lanes.{number_at};
 
 use crate::buffers::marks::{Mark, narrow_mark, wide_mark};
-use crate::buffers::words::{fits, low_word, value_in_word};
+use crate::buffers::words::{fits, value_in_word};
 use crate::cells::{CellRow, NumberKind};
 use crate::evaluation::{
-    Number, Signed8, Signed16, Signed32, Unsigned8, Unsigned16, Unsigned32, Width, word_number,
+    Number, Signed8, Signed16, Signed32, Unsigned8, Unsigned16, Unsigned32, Width, low_word,
+    word_number,
 };
 use crate::run_reading::registers_behind;
 use crate::scanlines::window;
@@ -205,7 +206,7 @@ fn set_word(marks: &mut [Mark], words: &mut [u32], place: usize, ty: Ty, number:
     requires words { place < length words.old }
     ensures { (zs : List NumberHeld) → held_places marks.new words.new zs ≡ slice_set (held_places marks.old words.old zs) place (Some (typed ty (wrap ty number))) }
 {
-    put_word(marks, words, place, ty, low_word(number));
+    put_word(marks, words, place, ty, low_word(Number { value: number }));
 }
 
 /// Sets the place of a number.

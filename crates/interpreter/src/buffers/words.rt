@@ -1,22 +1,13 @@
 //! Words of places: 32 bits, which hold the number of a value that fits its type.
 
-ghost use Rattle.std.specs.Prelude.{◌≡◌, ◌^◌, pos};
+ghost use Rattle.std.specs.Prelude.{◌≡◌, pos};
 ghost use Rattle.std.specs.Bool.{OnTrue};
-ghost use Rattle.std.specs.Int.{int_rem_euclid};
 ghost use Rattle.numeric.specs.Wrap.{wrap, IsOf};
 ghost use Rattle.tree.specs.Meaning.{typed};
 
 use crate::evaluation::{Width, word_number};
 use numeric::Ty;
 use tree::Value;
-
-/// The lowest 32 bits of a number, in two's complement.
-#[inline(always)]
-pub(crate) fn low_word(number: i64) -> u32
-    ensures { pos result ≡ int_rem_euclid number (pos (2 ^ 32)) }
-{
-    (number.cast_unsigned() & 0xffff_ffff) as u32
-}
 
 /// The value of the type whose low bits a word has.
 #[inline(always)]

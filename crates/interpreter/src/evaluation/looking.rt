@@ -13,6 +13,7 @@ use crate::evaluation::kernels::{
 };
 use crate::evaluation::lanes::{ClampedRamp, Lanes, Number};
 use crate::evaluation::run_reader::RunReader;
+use crate::registers::LONGEST_RUN;
 use crate::scanlines::distance;
 use numeric::Ty;
 
@@ -51,8 +52,7 @@ fn numbers_of(lanes: Lanes, registers: &[u32], out: &mut [Number]) -> Option<()>
     }
 }
 
-/// What a name finds at the turns of a run, at one after another, where these are the indices but the first. There are at most 512
-/// turns.
+/// What a name finds at the turns of a run, at one after another, where these are the indices but the first.
 fn look_singly<R: RunReader>(
     name: &str,
     first: Lanes,
@@ -63,7 +63,7 @@ fn look_singly<R: RunReader>(
 ) -> Option<Ty>
     ensures { IfSome result (λ t. (m : Memory ValueFound) → R.agrees reader.now m → (k : ℕ) → k < length out.new → R.look reader.now m name.now (lane_number first registers.now k ∷ others.now) ≡ Some (typed t (word_at t out.new k))) }
 {
-    let mut room = [Number { value: 0 }; 512];
+    let mut room = [Number { value: 0 }; LONGEST_RUN];
     if room.len() < out.len() {
         return None;
     }
@@ -74,7 +74,7 @@ fn look_singly<R: RunReader>(
     Some(ty)
 }
 
-/// What a name finds at the turns of a run, at one after another, where each index may change. There are at most 512 turns.
+/// What a name finds at the turns of a run, at one after another, where each index may change.
 fn look_points<R: RunReader>(
     name: &str,
     indices: &[Lanes],
@@ -84,7 +84,7 @@ fn look_points<R: RunReader>(
 ) -> Option<Ty>
     ensures { IfSome result (λ t. (m : Memory ValueFound) → R.agrees reader.now m → (k : ℕ) → k < length out.new → R.look reader.now m name.now (lanes_at (length out.new) indices.now registers.now k) ≡ Some (typed t (word_at t out.new k))) }
 {
-    let mut room = [Number { value: 0 }; 512];
+    let mut room = [Number { value: 0 }; LONGEST_RUN];
     if room.len() < out.len() {
         return None;
     }
@@ -213,7 +213,7 @@ fn look_once<R: RunReader>(
 }
 
 /// The number that lies so many behind another, if it is of 64 bits.
-fn number_after(first: i64, turns: usize) -> Option<i64>
+pub(crate) fn number_after(first: i64, turns: usize) -> Option<i64>
     ensures { IfSome result (λ z. z ≡ first +ℤ pos turns) }
 {
     first.checked_add(i64::try_from(turns).ok()?)

@@ -1,7 +1,7 @@
 //! Words: numbers of registers, in 32 bits each. The type says which number a word is.
 
-ghost use Rattle.std.specs.Prelude.{◌≡◌, ◌&&◌, ◌||◌, IfSome, if◌then◌else◌, neg_ℤ, not, pos};
-ghost use Rattle.std.specs.Int.{int_max, int_min};
+ghost use Rattle.std.specs.Prelude.{◌≡◌, ◌&&◌, ◌||◌, IfSome, if◌then◌else◌, neg_ℤ, not, pos, ◌^◌};
+ghost use Rattle.std.specs.Int.{int_max, int_min, int_rem_euclid};
 ghost use Rattle.numeric.specs.declared.ty.Ty.{Ty as TyFound};
 ghost use Rattle.numeric.specs.Apply.{apply, compare};
 ghost use Rattle.numeric.specs.Wrap.{wrap, IsOf};
@@ -14,10 +14,11 @@ use crate::evaluation::operators::wrapped;
 use crate::evaluation::widths::Width;
 use numeric::Ty;
 
-/// The lowest 32 bits of a number. Of each type, they are the number that this one wraps to.
+/// The lowest 32 bits of a number, in two's complement. Of each type, they are the number that this one wraps to.
 #[inline(always)]
 pub(crate) fn low_word(number: Number) -> u32
-    ensures { (t : TyFound) → wrap t (pos result) ≡ wrap t number.value }
+    ensures bits { pos result ≡ int_rem_euclid number.value (pos (2 ^ 32)) }
+    ensures wraps { (t : TyFound) → wrap t (pos result) ≡ wrap t number.value }
 {
     (number.value.cast_unsigned() & 0xffff_ffff) as u32
 }

@@ -1,21 +1,17 @@
-use Rattle.std.proofs.Common.{◌≡◌, ℕ, suc, ◌+◌, ◌*◌, ◌<◌, Some, length, pos, sym, ap, ◌∙◌, arith}
-use Rattle.std.proofs.Math.Nat.{suc-mul}
-use Rattle.numeric.specs.Wrap.{wrap}
-use Rattle.interpreter.specs.Scanlines.{pixel_along, sample_along}
-use Rattle.interpreter.proofs.EachWord.{words_next}
+use Rattle.std.proofs.Common.{◌≡◌, ◌+◌, ◌*◌, ◌≤◌, ℕ, rules, arith}
+use Rattle.std.specs.Prelude.{length}
+use Rattle.interpreter.specs.Evaluation.Words.{bits_at}
+use Rattle.interpreter.proofs.Pixels.{pixel_word}
 use Rattle.interpreter.proofs.scanlines.copy_pixels.Goals as goal
 
-pub loop-turn-preserved : goal.loop-turn-preserved
-loop-turn-preserved c =
-    let l = c.loop-turn in
+pub returns-then-are_words_at_most : goal.returns-then-are_words_at_most
+returns-then-are_words_at_most c = λ k lt.
     let row = c.args.row in
+    let out = c.put_along.new.out in
     let first : ℕ = c.args.first in
-    let P : ℕ → ℕ → Type 0 = λ k w. pixel_along row.colours row.colour row.samples.now (pos (first + k)) ≡ Some (wrap c.args.ty (pos w)) in
-    let lt : l.turn < length l.out = omega arith in
-    let sum : first + (l.turn + 1) ≡ suc (first + l.turn) = omega arith in
-    let more : (first + (l.turn + 1)) * row.colours ≡ (first + l.turn) * row.colours + row.colours = ap (λ (n : ℕ). n * row.colours) sum ∙ suc-mul (first + l.turn) row.colours in
-    let place = l.invariant.place in
-    record {
-      place = omega (arith, more, place);
-      below = words_next P l.turn c.args.out.now l.out _ lt l.invariant.below (ap (λ (n : ℕ). sample_along row.samples.now (pos n)) (sym place) ∙ c.in_ok-out.ensures);
-    }
+    let start : ℕ = c.in_ok-start.start in
+    let from : start ≡ first * row.colours + row.colour = search rules in
+    let long : length out ≡ length c.args.out.now = search rules in
+    let le : bits_at out k ≤ c.greatest_sample.result = (let h = c.if-are_words_at_most.ensures k lt in let e = c.from.ensures in omega (arith, h, e)) in
+    pixel_word c.args.ty row.samples.now first k row.colours row.colour start (bits_at out k) c.greatest_sample.result from
+    (c.if-not-are_along.ensures k (omega (arith, lt, long))) (c.put_along.ensures k lt) le c.greatest_sample.ensures

@@ -10,4 +10,4 @@ loop-turn-preserved c =
     let l = c.loop-turn in
     let P : ℕ → ℕ → Type 0 = λ k w. (t : Ty) → wrap t (pos w) ≡ wrap t (number_at c.args.numbers.now k) in
     let lt : l.turn < length l.out = omega arith in
-    words_next P l.turn c.args.out.now l.out _ lt l.invariant (c.low_word.ensures)
+    words_next P l.turn c.args.out.now l.out _ lt l.invariant c.low_word.ensures.wraps

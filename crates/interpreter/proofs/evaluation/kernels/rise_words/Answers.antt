@@ -9,4 +9,4 @@ loop-turn-preserved c =
     let l = c.loop-turn in
     let P : ℕ → ℕ → Type 0 = λ k w. (t : Ty) → wrap t (pos w) ≡ wrap t (c.args.first.value +ℤ pos k) in
     let lt : l.turn < length l.out = omega arith in
-    words_next P l.turn c.args.out.now l.out _ lt l.invariant (λ t. c.low_word.ensures t ∙ ap (wrap t) c.risen.ensures)
+    words_next P l.turn c.args.out.now l.out _ lt l.invariant (λ t. c.low_word.ensures.wraps t ∙ ap (wrap t) c.risen.ensures)

@@ -9,4 +9,4 @@ pub returns : goal.returns
 returns g c =
     let ty = g.W.Width.ty in
     let b : ℤ = pos c.args.divisor in
-    c.low_word.ensures ty ∙ ap (wrap ty) c.remainder_number.ensures ∙ wrap_twice ty (exact Rem c.word_number.result.value b) ∙ ap (λ (a : ℤ). apply Rem ty a b) c.word_number.ensures.is
+    c.low_word.ensures.wraps ty ∙ ap (wrap ty) c.remainder_number.ensures ∙ wrap_twice ty (exact Rem c.word_number.result.value b) ∙ ap (λ (a : ℤ). apply Rem ty a b) c.word_number.ensures.is

@@ -10,7 +10,7 @@ pub returns : goal.returns
 returns g c =
     let ty = g.W.Width.ty in
     let b : ℤ = pos c.args.divisor in
-    c.low_word.ensures ty ∙ ap (wrap ty) c.small_quotient.ensures ∙ wrap_twice ty (exact Div c.word_number.result.value b) ∙ ap (λ (a : ℤ). apply Div ty a b) c.word_number.ensures.is
+    c.low_word.ensures.wraps ty ∙ ap (wrap ty) c.small_quotient.ensures ∙ wrap_twice ty (exact Div c.word_number.result.value b) ∙ ap (λ (a : ℤ). apply Div ty a b) c.word_number.ensures.is
 
 pub small_quotient-requires-clause-small : goal.small_quotient-requires-clause-small
 small_quotient-requires-clause-small g c = subst IsSmall (sym c.word_number.ensures.is) c.requires.small

@@ -9,4 +9,4 @@ returns g c =
     let op = g.O.Operator.op in
     let ty = g.W.Width.ty in
     let b : ℤ = c.args.right.value in
-    c.low_word.ensures ty ∙ ap (wrap ty) c.applied_number.ensures ∙ wrap_twice ty (exact op c.word_number.result.value b) ∙ ap (λ (a : ℤ). apply op ty a b) c.word_number.ensures.is
+    c.low_word.ensures.wraps ty ∙ ap (wrap ty) c.applied_number.ensures ∙ wrap_twice ty (exact op c.word_number.result.value b) ∙ ap (λ (a : ℤ). apply op ty a b) c.word_number.ensures.is

@@ -11,6 +11,6 @@ returns g c =
     let a : ℤ = c.word_number.result.value in
     let b : ℤ = c.args.low.value in
     let d : ℤ = c.args.high.value in
-    c.low_word.ensures ty ∙ ap (wrap ty) c.clamped_number.ensures
+    c.low_word.ensures.wraps ty ∙ ap (wrap ty) c.clamped_number.ensures
     ∙ wrap_of_value ty (int_max (int_min a d) b) (clamped_is_of ty a b d c.word_number.ensures.fits c.requires.low c.requires.high)
     ∙ ap (λ (z : ℤ). int_max (int_min z d) b) c.word_number.ensures.is
