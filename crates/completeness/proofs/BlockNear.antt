@@ -49,7 +49,7 @@ use Rattle.lower.specs.declared.lowering.Lowered.{Lowered}
 use Rattle.lower.specs.Called.{called}
 use Rattle.lower.specs.Stored.{FormulaText, StoredText, calls_in, left_at, stored_functions, has_large}
 use Rattle.lower.specs.Faults.{are_whole, region_fault}
-use Rattle.lower.specs.Around.{AroundText, exactly, bind_steps, grid_symbol, grid_scope, head_scope, interval_in, left_around, coordinate_span, coordinates_behind, around}
+use Rattle.lower.specs.Around.{AroundText, exactly, form_span, bind_steps, grid_symbol, grid_scope, head_scope, interval_in, left_around, coordinate_span, coordinates_behind, around}
 use Rattle.lower.specs.Owning.{IsExtent, IsLaidBy}
 use Rattle.lower.specs.Regions.{LaidText, bodies_from, skeleton_of, laid_functions}
 use Rattle.lower.specs.Groups.{HasBody, HasGroups}
@@ -60,8 +60,9 @@ use Rattle.lower.proofs.Owners as owners
 use Rattle.completeness.specs.Laws.{AreSplitOnce}
 use Rattle.completeness.specs.Parted.{KeepsInner}
 use Rattle.completeness.specs.Stores.{AreHeld, IsNearRegion}
-use Rattle.completeness.specs.Simple.{is_simple, are_simple, is_simple_left, has_simple_indices}
-use Rattle.completeness.specs.Placed.{ArePlaced}
+use Rattle.completeness.specs.Simple.{is_simple, are_simple, is_simple_left, has_simple_indices, SimpleIndices}
+use Rattle.completeness.specs.Placed.{IsSettled, ArePlaced, AreLeftsHeld}
+use Rattle.completeness.proofs.LeftHeld.{lefts_held}
 use Rattle.completeness.specs.Blocked.{is_tailed, makes_line, IsKept}
 use Rattle.completeness.specs.Filled.{AreEndsShort, IsNearOrSimple, NearBlockedGroupsOweShown}
 use Rattle.completeness.proofs.Owned.{some_same, same_extents, same_skeleton}
@@ -72,7 +73,8 @@ use Rattle.completeness.proofs.Lanes.{AreOnce}
 use Rattle.completeness.proofs.PureNests.{all_in, all_from, all_get}
 use Rattle.completeness.proofs.UpdateTurns.{all_mapped, all_filtered}
 use Rattle.completeness.proofs.Boxes.{IsCapped, IsBox, AreBoxes, weight_of, weight_at, weight, both_under, IsLight, IsLightSpan, span_light}
-use Rattle.completeness.proofs.FirstNumbers.{first_of, firsts, number_at, index_near, none_at}
+use Rattle.completeness.proofs.FirstNumbers.{first_of, firsts, number_at, index_near}
+use Rattle.completeness.proofs.RangedLefts.{left_got}
 use Rattle.completeness.proofs.NearBoxes.{IsFew, IsBoxTurn, IsTurn, box_turn, plain_box, plain_weight, turn_there, steps_boxes, steps_weights, regions_few}
 use Rattle.completeness.proofs.NearBoxes.{AreFewNumbers, turn_few, turn_box, IsCount, or_one_all, count_box, count_weight}
 use Rattle.completeness.proofs.RangedBoxes.{turns_all}
@@ -161,12 +163,14 @@ module _ (scope : List Binding) where
     all_weaker (λ f. IsLightList f.terms) (IsLight scope) (λ f k limited. k) x.upper h.1,
   )
 
-  module _ (a : Algorithm) (r : AroundText) (f : FormulaText) (none : AllByRecursion (λ o. o ≡ None) f.at) where
+  module _ (a : Algorithm) (r : AroundText) (f : FormulaText) (lefts : (d : ℕ) (e : Term) → left_at f d ≡ Some e → (x : Span1) → interval_in a r e ≡ Some x → AreLight x) where
     coordinate_light : (o : Option Form) (d : ℕ) (x : Span1) → IsLightIf o → coordinate_span a r o (left_at f d) ≡ Some x → AreLight x
     coordinate_light (Some g) d x h e = subst AreLight (same (exactly g) x e) ((h, tt), (h, tt))
-    coordinate_light None d x h e =
-        let is : coordinate_span a r None None ≡ Some x = ap (coordinate_span a r None) (sym (none_at f.at d none)) ∙ e in
-        subst AreLight (same (range_of I32) x is) ((no_weight, tt), (no_weight, tt))
+    coordinate_light None d x h e = of (left_at f d) refl e
+      where
+        of : (i : Option Term) → left_at f d ≡ i → coordinate_span a r None i ≡ Some x → AreLight x
+        of None k q = subst AreLight (same (range_of I32) x q) ((no_weight, tt), (no_weight, tt))
+        of (Some t) k q = lefts d t k x q
 
     coordinates_light : (before : List Span1) (d : ℕ) (os : List (Option Form)) (out : List Span1) → AllByRecursion AreLight before → AllByRecursion IsLightIf os →
         coordinates_behind a r f before d os ≡ Some out → AllByRecursion AreLight out
@@ -186,18 +190,39 @@ call_at [] i c at h = absurd (cc at)
 call_at (y ∷ cs) zero c at h = ap (λ (z : Written). are_simple z.at) (sym (same y c at)) ∙ (and_parts (are_simple y.at) (list_all (λ (z : Written). are_simple z.at) cs) h).0
 call_at (y ∷ cs) (suc i) c at h = call_at cs i c at (and_parts (are_simple y.at) (list_all (λ (z : Written). are_simple z.at) cs) h).1
 
-simple_light : (a : Algorithm) (u : StoredText) (outer : List Binding) (w : NestText) (f : FormulaText) (d : ℕ) → AllByRecursion (λ o. o ≡ None) f.at → has_simple_indices f ≡ true →
-    AllByRecursion (IsLightIf (bind_steps outer w.steps)) w.at → (r : AroundText) → around a u outer w f d ≡ Some r → AreCallsLight a r (calls_in f)
-simple_light a u outer w f d none simple light r stands i c at e m x found =
-    let left : AroundText = left_around u outer w d in
-    let z = bound (coordinates_behind a left f [] 0 w.at) (λ cs. Some (record left { coordinates = cs })) r stands in
-    let is : record left { coordinates = z.value } ≡ r = same (record left { coordinates = z.value }) r z.comes in
-    let scope : List Binding = bind_steps outer w.steps in
-    let coordinates = coordinates_light scope a left f none [] 0 w.at z.value tt light z.is in
-    let index : is_simple e ≡ true = index_of e c.at m (call_at (calls_in f) i c at (and_parts (list_all (λ (y : Written). are_simple y.at) (calls_in f)) (list_all is_simple_left f.at) simple).0) in
-    let here : interval_in a (record left { coordinates = z.value }) e ≡ Some x = ap (λ (t : AroundText). interval_in a t e) is ∙ found in
-    let kept_here = simple_kept (λ ts. IsLightList scope ts) (no_weight scope) scope (called a) left.variables z.value coordinates e index x here in
-    subst (λ (t : AroundText). IsLightSpan t.scope x) is (kept_light scope x kept_here)
+spans_light : (scope : List Binding) (os : List (Option Form)) → AllByRecursion (IsLightIf scope) os → AllByRecursion (AreLight scope) (map form_span os)
+spans_light scope [] h = tt
+spans_light scope (None ∷ os) h = (((no_weight scope, tt), (no_weight scope, tt)), spans_light scope os h.1)
+spans_light scope (Some f ∷ os) h = (((h.0, tt), (h.0, tt)), spans_light scope os h.1)
+
+simple_at : (os : List (Option Term)) (j : ℕ) (e : Term) → slice_get os j ≡ Some (Some e) → list_all is_simple_left os ≡ true → is_simple e ≡ true
+simple_at [] j e at h = absurd (cc at)
+simple_at (o ∷ os) zero e at h = ap is_simple_left (sym (same o (Some e) at)) ∙ (and_parts (is_simple_left o) (list_all is_simple_left os) h).0
+simple_at (o ∷ os) (suc j) e at h = simple_at os j e at (and_parts (is_simple_left o) (list_all is_simple_left os) h).1
+
+module _ (a : Algorithm) (u : StoredText) (outer : List Binding) (w : NestText) (f : FormulaText) (d : ℕ) (simple : has_simple_indices f ≡ true)
+    (light : AllByRecursion (IsLightIf (bind_steps outer w.steps)) w.at) where
+  abbrev scope : List Binding
+  scope = bind_steps outer w.steps
+
+  abbrev plain_left : AroundText
+  plain_left = left_around u outer w d
+
+  -- what a left index stays within, too
+  lefts_light : (j : ℕ) (e : Term) → left_at f j ≡ Some e → (x : Span1) → interval_in a plain_left e ≡ Some x → AreLight scope x
+  lefts_light j e at_j x found =
+      let index = simple_at f.at j e (left_got f j e at_j) (and_parts (list_all (λ (y : Written). are_simple y.at) (calls_in f)) (list_all is_simple_left f.at) simple).1 in
+      simple_kept (λ ts. IsLightList scope ts) (no_weight scope) scope (called a) plain_left.variables plain_left.coordinates (spans_light scope w.at light) e index x found
+
+  simple_light : (r : AroundText) → around a u outer w f d ≡ Some r → AreCallsLight a r (calls_in f)
+  simple_light r stands i c at e m x found =
+      let z = bound (coordinates_behind a plain_left f [] 0 w.at) (λ cs. Some (record plain_left { coordinates = cs })) r stands in
+      let is : record plain_left { coordinates = z.value } ≡ r = same (record plain_left { coordinates = z.value }) r z.comes in
+      let coordinates = coordinates_light scope a plain_left f lefts_light [] 0 w.at z.value tt light z.is in
+      let index : is_simple e ≡ true = index_of e c.at m (call_at (calls_in f) i c at (and_parts (list_all (λ (y : Written). are_simple y.at) (calls_in f)) (list_all is_simple_left f.at) simple).0) in
+      let here : interval_in a (record plain_left { coordinates = z.value }) e ≡ Some x = ap (λ (t : AroundText). interval_in a t e) is ∙ found in
+      let kept_here = simple_kept (λ ts. IsLightList scope ts) (no_weight scope) scope (called a) plain_left.variables z.value coordinates e index x here in
+      subst (λ (t : AroundText). IsLightSpan t.scope x) is (kept_light scope x kept_here)
 
 -- where no symbol goes far each index is light
 few_calls_light : (a : Algorithm) (u : StoredText) (outer : List Binding) (w : NestText) (f : FormulaText) (d : ℕ) → ((n : ℕ) → weight_at (bind_steps outer w.steps) n ≤ 73728) →
@@ -606,23 +631,32 @@ module _ (a : Algorithm) (sch : Schedule) (l : Lowered) (well : IsAlgorithm a) (
         all_light : AllByRecursion (IsLightIf around_store) w.at
         all_light = coordinates_all (IsLightIf around_store) tt (λ f h. h.light)
 
-        calls_light : AllByRecursion (λ f. AllByRecursion (λ o. o ≡ None) f.at) fs → IsNearOrSimple g fs h.extents → (f : FormulaText) → slice_get fs d ≡ Some f → (r : AroundText) →
-            around a g (head_scope k) w f d ≡ Some r → AreCallsLight a r (calls_in f)
-        calls_light set (inl near) f e = few_calls_light a g (head_scope k) w f d (near_weights near)
-        calls_light set (inr simple) f e =
-            simple_light a g (head_scope k) w f d (all_get (λ (y : FormulaText). AllByRecursion (λ o. o ≡ None) y.at) fs d f set e) (all_get (λ (y : FormulaText). has_simple_indices y ≡
-            true) fs d f simple.0 e)
-            (subst (λ (scope : List Binding). AllByRecursion (IsLightIf (bind_steps scope w.steps)) w.at) (sym over_head) all_light)
+        light_behind : AllByRecursion (IsLightIf (bind_steps (head_scope k) w.steps)) w.at
+        light_behind = subst (λ (scope : List Binding). AllByRecursion (IsLightIf (bind_steps scope w.steps)) w.at) (sym over_head) all_light
 
-    boxed_here : ArePlaced fs → IsNearOrSimple g fs h.extents → (d : ℕ) (w : NestText) → slice_get k.nests d ≡ Some w →
+        simple_here : SimpleIndices fs → (f : FormulaText) → slice_get fs d ≡ Some f → has_simple_indices f ≡ true
+        simple_here simple f e = all_get (λ (y : FormulaText). has_simple_indices y ≡ true) fs d f simple e
+
+        calls_light : IsNearOrSimple g fs h.extents → (f : FormulaText) → slice_get fs d ≡ Some f → (r : AroundText) → around a g (head_scope k) w f d ≡ Some r → AreCallsLight a r (calls_in f)
+        calls_light (inl near) f e = few_calls_light a g (head_scope k) w f d (near_weights near)
+        calls_light (inr simple) f e = simple_light a g (head_scope k) w f d (simple_here simple.0 f e) light_behind
+
+        left_light : IsNearOrSimple g fs h.extents → (f : FormulaText) → slice_get fs d ≡ Some f → (j : ℕ) (e : Term) → left_at f j ≡ Some e → (s : Span1) →
+            interval_in a (left_around g (head_scope k) w d) e ≡ Some s → IsLightSpan (bind_steps (head_scope k) w.steps) s
+        left_light (inl near) f at_f j e at_j s found = span_light (bind_steps (head_scope k) w.steps) (near_weights near) s
+        left_light (inr simple) f at_f j e at_j s found =
+            kept_light (bind_steps (head_scope k) w.steps) s (lefts_light a g (head_scope k) w f d (simple_here simple.0 f at_f) light_behind j e at_j s found)
+
+    boxed_here : IsNearOrSimple g fs h.extents → (d : ℕ) (w : NestText) → slice_get k.nests d ≡ Some w →
         ((b : BodyText) → slice_get bs d ≡ Some b → AllByRecursion IsBoxTurn b.ranges) → IsIndexed a g fs k d w
-    boxed_here set close d w stands ranges =
+    boxed_here close d w stands ranges =
         let v = shape_here.nests d w stands in
         let here = ranges v.body v.at in
         record {
           boxes = boxes_here d w stands here;
           indices = subst (λ (scope : List Binding). AllByRecursion IsIndex (map (number_at (firsts (bind_steps scope w.steps))) w.at)) (sym (over_head d w stands)) (all_index d w stands here);
-          light = calls_light d w stands here set close;
+          light = calls_light d w stands here close;
+          lefts = left_light d w stands here close;
         }
 
     formed_here : (d : ℕ) (w : NestText) → slice_get k.nests d ≡ Some w → IsFormed xs bs d w
@@ -638,22 +672,26 @@ module _ (a : Algorithm) (sch : Schedule) (l : Lowered) (well : IsAlgorithm a) (
         by z n w h k q = omega (arith, ints, h, k, q)
 
     -- so what is fetched holds the calls
-    held_here : ArePlaced fs → IsNearOrSimple g fs h.extents → (m : LaidText) → slice_get (laid_functions a gs) n ≡ Some (Some m) → m.skeleton ≡ k → skeleton_of g fs m.region ≡ Some
-        m.skeleton → g.formulas ≡ Some fs →
-        AreHeld a gs n g fs m.skeleton × AreEndsShort rs cuts
-    held_here set close m found_there same_skeleton_so over defined = (
-      held_near a sch l well legal small kept all groups n g at fs defined set m found_there over
-          (λ d w stands. formed_here d w (ap (λ (y : SkeletonText). slice_get y.nests d) (sym same_skeleton_so) ∙ stands))
-          (λ d w stands ranges. subst (λ (y : SkeletonText). IsIndexed a g fs y d w) (sym same_skeleton_so)
-          (boxed_here set close d w (ap (λ (y : SkeletonText). slice_get y.nests d) (sym same_skeleton_so) ∙ stands) ranges)),
-      elim close [ inl near ↦ ends_short near | inr simple ↦ simple.1 ],
-    )
+    held_here : IsNearOrSimple g fs h.extents → (m : LaidText) → slice_get (laid_functions a gs) n ≡ Some (Some m) → m.skeleton ≡ k → skeleton_of g fs m.region ≡ Some m.skeleton → g.formulas ≡ Some fs →
+        ((d j : ℕ) (f : FormulaText) (e : Term) → slice_get fs d ≡ Some f → slice_get f.at j ≡ Some (Some e) → IsSettled a g fs m) →
+        AreHeld a gs n g fs m.skeleton × AreEndsShort rs cuts × AreLeftsHeld a g fs m.region m.skeleton
+    held_here close m found_there same_skeleton_so over defined settled =
+        let forms : (d : ℕ) (w : NestText) → slice_get m.skeleton.nests d ≡ Some w → IsFormed xs bs d w =
+        λ d w stands. formed_here d w (ap (λ (y : SkeletonText). slice_get y.nests d) (sym same_skeleton_so) ∙ stands) in
+        let boxes : (d : ℕ) (w : NestText) → slice_get m.skeleton.nests d ≡ Some w → ((b : BodyText) → slice_get bs d ≡ Some b → AllByRecursion IsBoxTurn b.ranges) →
+        IsIndexed a g fs m.skeleton d w =
+        λ d w stands ranges. subst (λ (y : SkeletonText). IsIndexed a g fs y d w) (sym same_skeleton_so)
+        (boxed_here close d w (ap (λ (y : SkeletonText). slice_get y.nests d) (sym same_skeleton_so) ∙ stands) ranges) in (
+          held_near a sch l well legal small kept all groups n g at fs defined m found_there over forms boxes,
+          elim close [ inl near ↦ ends_short near | inr simple ↦ simple.1 ],
+          lefts_held a sch l well legal small kept all groups n g at fs defined m found_there over forms boxes settled,
+        )
 
   -- of a group of the plan
   pub blocked_held : (n : ℕ) (q : CodeGroup) → slice_get l.plan.groups.items n ≡ Some q → (u : StoredText) → slice_get gs n ≡ Some u → IsKept a sch n u → (fs : List FormulaText) →
-      u.formulas ≡ Some fs → ArePlaced fs → (m : LaidText) → slice_get (laid_functions a gs) n ≡ Some (Some m) → IsNearOrSimple u fs m.region →
-      AreHeld a gs n u fs m.skeleton × AreEndsShort (loop_numbers u.subject.variables u.placed.cuts m.region) u.placed.cuts
-  blocked_held n q theirs u at blocked fs defined set m found_there near =
+      u.formulas ≡ Some fs → (m : LaidText) → slice_get (laid_functions a gs) n ≡ Some (Some m) → ArePlaced a u fs m → IsNearOrSimple u fs m.region →
+      AreHeld a gs n u fs m.skeleton × AreEndsShort (loop_numbers u.subject.variables u.placed.cuts m.region) u.placed.cuts × AreLeftsHeld a u fs m.region m.skeleton
+  blocked_held n q theirs u at blocked fs defined m found_there set near =
       let me = made_at a sch l well legal small kept all groups n q theirs in
       let r = alone_body a (roots a sch l well legal small kept all groups) items 0 0 4 gs l.plan.groups.items items l.certificate.needs.items (groups.bodies all)
       (λ j v e. let none : 0 + j ≡ j = omega arith in ap (slice_get items) none ∙ e) n me.stored q me.is theirs in
@@ -684,8 +722,10 @@ module _ (a : Algorithm) (sch : Schedule) (l : Lowered) (well : IsAlgorithm a) (
       let over : skeleton_of me.stored body.formulas me.laid.region ≡ Some me.laid.skeleton =
       subst (λ (vs : List FormulaText). skeleton_of me.stored vs me.laid.region ≡ Some me.laid.skeleton)
       (same me.formulas body.formulas (sym me.defined ∙ body.defined)) me.over in
-      let here = held_here n b.first_claim b.line me.stored q b.claims b.needs me.is theirs body begins b.numbered own laid mine.once mine.inners filled few_here
-      (subst ArePlaced (sym formulas) set) close_here me.laid me.found skeleton over body.defined in
+      let here = held_here n b.first_claim b.line me.stored q b.claims b.needs me.is theirs body begins b.numbered own laid mine.once mine.inners filled few_here close_here
+      me.laid me.found skeleton over body.defined
+      (λ d j f e at_f at_e. subst (λ (y : LaidText). IsSettled a me.stored body.formulas y) (sym region) (subst (λ (vs : List FormulaText). IsSettled a me.stored vs m) (sym formulas)
+      (subst (λ (y : StoredText). IsSettled a y fs m) (sym stored) (set.settled d j f e (ap (λ (vs : List FormulaText). slice_get vs d) (sym formulas) ∙ at_f) at_e)))) in
       let held_there : AreHeld a gs n u fs m.skeleton =
       subst (λ (y : LaidText). AreHeld a gs n u fs y.skeleton) region
       (subst (λ (vs : List FormulaText). AreHeld a gs n u vs me.laid.skeleton) formulas (subst (λ (y : StoredText). AreHeld a gs n y body.formulas me.laid.skeleton) stored here.0)) in
@@ -693,10 +733,14 @@ module _ (a : Algorithm) (sch : Schedule) (l : Lowered) (well : IsAlgorithm a) (
       subst (λ (y : LaidText). AreEndsShort (loop_numbers u.subject.variables u.placed.cuts y.region) u.placed.cuts) region
       (subst (λ (es : List Extent). AreEndsShort (loop_numbers u.subject.variables u.placed.cuts es) u.placed.cuts) (sym extents)
       (subst (λ (y : StoredText). AreEndsShort (loop_numbers y.subject.variables y.placed.cuts body.extents) y.placed.cuts) stored here.1)) in
-      (held_there, short_there)
+      let lefts_there : AreLeftsHeld a u fs m.region m.skeleton =
+      subst (λ (y : LaidText). AreLeftsHeld a u fs y.region y.skeleton) region
+      (subst (λ (vs : List FormulaText). AreLeftsHeld a u vs me.laid.region me.laid.skeleton) formulas
+      (subst (λ (y : StoredText). AreLeftsHeld a y body.formulas me.laid.region me.laid.skeleton) stored here.2)) in
+      (held_there, short_there, lefts_there)
 
 pub near_blocked_owed : NearBlockedGroupsOweShown
-near_blocked_owed a s l well legal small regions groups all free told grids few near n g at u stands blocked fs defined set r laid close =
+near_blocked_owed a s l well legal small regions groups all free told grids few near n g at u stands blocked fs defined r laid set close =
     let x = from_map group_of l.plan.groups.items n g at in
-    let h = blocked_held a s l well legal small (regions all).0 all groups n x.0 x.1 u stands blocked fs defined set r laid close in
-    blocked_owed a s l well legal small regions groups all free told grids few near n g at u stands blocked fs defined set r laid h.0 h.1
+    let h = blocked_held a s l well legal small (regions all).0 all groups n x.0 x.1 u stands blocked fs defined r laid set close in
+    blocked_owed a s l well legal small regions groups all free told grids few near n g at u stands blocked fs defined r laid set.within h.2 h.0 h.1

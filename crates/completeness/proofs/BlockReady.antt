@@ -10,7 +10,6 @@ use Rattle.std.proofs.lemmas.Bool.Decides.{nat_tests}
 use Rattle.std.proofs.lemmas.Int.{ints}
 use Rattle.std.proofs.Math.Nat.{mul-suc}
 use Rattle.std.proofs.lemmas.Option.{slice_get_within}
-use Rattle.tree.specs.Term.{Term}
 use Rattle.lin.specs.Forms.{Form, number, combined, is_within_limits}
 use Rattle.lin.specs.declared.scope.Binding.{Binding}
 use Rattle.lin.specs.Search.{at_most}
@@ -61,24 +60,22 @@ use Rattle.lower.specs.Blocks.{dimension_of, lay_over}
 use Rattle.lower.proofs.Owners as owners
 use Rattle.completeness.specs.Laws.{AreSplitOnce}
 use Rattle.completeness.specs.Parted.{KeepsInner}
-use Rattle.completeness.specs.Placed.{ArePlaced}
 use Rattle.completeness.specs.Blocked.{is_tailed, makes_line}
 use Rattle.completeness.specs.Filled.{AreEndsShort}
 use Rattle.completeness.proofs.Laid.{subjects}
 use Rattle.completeness.proofs.Served.{roots}
 use Rattle.completeness.proofs.Halves.{AreOthers, inner_outer}
 use Rattle.completeness.proofs.Lanes.{AreOnce}
-use Rattle.completeness.proofs.PureNests.{all_in, loop_name, all_get}
+use Rattle.completeness.proofs.PureNests.{all_in, loop_name}
+use Rattle.completeness.proofs.Owned.{some_same}
 use Rattle.completeness.proofs.NearBoxes.{IsBoxTurn, turn_there}
 use Rattle.std.proofs.lemmas.List.{length-map}
-use Rattle.std.specs.List.{list_any}
 use Rattle.sched.specs.Skeleton.{variables_at}
 use Rattle.completeness.proofs.BlockSums.{pair, pair_is, multiple, two_of}
 use Rattle.completeness.proofs.BlockTurns.{Leaf, Right, IsBlockNest, AreBlocks}
 use Rattle.completeness.proofs.BlockDims.{top, top_low, outer_low, last_of as block_last, full_last, outer_last, inner_low, inner_last, few_numbers}
 use Rattle.completeness.proofs.RegionBounds.{IsEnded}
 use Rattle.completeness.proofs.PlainTurns.{hits}
-use Rattle.completeness.proofs.PureScopes.{map_both}
 use Rattle.completeness.proofs.Searched.{one_of, up_limited}
 use Rattle.completeness.proofs.SelfBounds.{form_self}
 use Rattle.completeness.proofs.StoreBounds.{symbol_inside, counted_inside}
@@ -93,14 +90,6 @@ use Rattle.completeness.proofs.BlockNests as nests_of
 use Rattle.completeness.proofs.BlockLoops as loops_of
 
 -- ---- names
-
-missing_none : (k : ℕ) (os : List (Option Term)) → AllByRecursion (λ o. o ≡ None) os → missing_from k os ≡ []
-missing_none k [] h = refl
-missing_none k (o ∷ os) h = (let rest = missing_none (k + 1) os h.1 in (λ j. missing_from k (h.0 j ∷ os)) ∙ rest)
-
-variables_are : (b : BodyText) → b.missing ≡ [] → (d : ℕ) (xs : List (List ℕ)) (ks : List Known) → variables_at b d xs ks ≡ map (form_named ks) xs
-variables_are b none d [] ks = refl
-variables_are b none d (x ∷ xs) ks = (let rest = variables_are b none (d + 1) xs ks in λ i. (if list_any (λ e. e == d) (none i) then None else form_named ks x) ∷ rest i)
 
 map_names : (ks : List Known) (ds : List Range) → ranges_at (map range_turning ds) ks ≡ map (form_named ks) (range_names ds)
 map_names ks [] = refl
@@ -132,7 +121,7 @@ module _ (a : Algorithm) (sch : Schedule) (l : Lowered) (well : IsAlgorithm a) (
       (laid : IsLaidBy g h.extents h.skeleton) (split_alone : AreSplitOnce g.placed.cuts) (keeps : KeepsInner g.placed.loops g.placed.cuts)
       (filled : AllByRecursion (λ c. makes_line g.placed.loops (loop_numbers g.subject.variables g.placed.cuts h.extents) c ≡ false) g.placed.cuts)
       (ended : AllByRecursion IsEnded h.extents)
-      (early : AreEndsShort (loop_numbers g.subject.variables g.placed.cuts h.extents) g.placed.cuts) (set : ArePlaced h.formulas) where
+      (early : AreEndsShort (loop_numbers g.subject.variables g.placed.cuts h.extents) g.placed.cuts) where
     abbrev k : SkeletonText
     k = h.skeleton
 
@@ -245,11 +234,6 @@ module _ (a : Algorithm) (sch : Schedule) (l : Lowered) (well : IsAlgorithm a) (
 
       abbrev rn : List (List ℕ)
       rn = range_names ranges
-
-      none_missing_here : q.body.missing ≡ []
-      none_missing_here =
-          let f = loops_of.formula_here a sch l well legal small kept all groups n first line g p claims needs at there h lined placed alone_here laid split_alone keeps filled d w stands in
-          f.missing ∙ missing_none 0 f.formula.at (all_get (λ (y : FormulaText). AllByRecursion (λ o. o ≡ None) y.at) fs d f.formula set f.at)
 
       abbrev leaf_turn : (j : ℕ) (t : Turning) → slice_get ts j ≡ Some t → (y : List ℕ) → t.name ≡ y → LeafName y →
           (t.low ≡ low y) × (t.last ≡ last_number (numbers_named rs y)) × ((o : Loop) × In o ls × (o.name ≡ y)) × (hits loop_name y (parallel_loops ls) ≡ 0)
@@ -782,13 +766,16 @@ module _ (a : Algorithm) (sch : Schedule) (l : Lowered) (well : IsAlgorithm a) (
                     needs at there h lined placed alone_here laid split_alone keeps filled d w stands) k))
             of (inr u) = absurd (reduction_apart x u.split.whole m (inl (wholes u.split u.there)) (sym u.is))
 
-        pub ready_here : IsReadyNest R place_named claim_named xs rn d w known
+        pub ready_here : IsReadyNest R fs place_named claim_named xs rn d w known
         ready_here = record {
           names = q.known;
-          forms = q.forms ∙ ap (λ (os : List (Option Form)). os ++ ranges_at q.body.ranges q.known) (variables_are q.body none_missing_here 0 xs q.known)
-              ∙ ap (λ (ds : List Turning). map (form_named q.known) xs ++ ranges_at ds q.known) (loops_of.ranges_are a sch l well legal small kept all groups n first line g p claims needs
-              at there h lined placed alone_here laid split_alone keeps filled d w stands)
-              ∙ ap (λ (os : List (Option Form)). map (form_named q.known) xs ++ os) (map_names q.known ranges) ∙ sym (map_both (form_named q.known) xs rn);
+          body = q.body;
+          missing = λ u defined.
+              (let f = loops_of.formula_here a sch l well legal small kept all groups n first line g p claims needs at there h lined placed alone_here laid split_alone keeps filled d w stands in
+              f.missing ∙ ap (λ (y : FormulaText). missing_from 0 y.at) (some_same f.formula u (sym f.at ∙ defined)));
+          forms = q.forms ∙ ap (λ (ds : List Turning). variables_at q.body 0 xs q.known ++ ranges_at ds q.known) (loops_of.ranges_are a sch l well legal small kept all groups n first line g p
+              claims needs at there h lined placed alone_here laid split_alone keeps filled d w stands) ∙ ap (λ (os : List (Option Form)). variables_at q.body 0 xs q.known ++ os) (map_names
+              q.known ranges);
           each = right_at;
           over = over_at;
         }

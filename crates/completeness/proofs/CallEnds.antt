@@ -83,7 +83,7 @@ set_reaches (x ∷ xs) (suc d) e z lt low high =
 abbrev put_in : Bool → List (Option Ends) → ℕ → Ends → List (Option Ends)
 put_in b reach d e = if b then slice_set reach d (Some (hull (get_or reach d None) e)) else reach
 
-stay : (xs : List (Option Ends)) → Grows xs xs
+pub stay : (xs : List (Option Ends)) → Grows xs xs
 stay xs = record { as_many = refl; keeps = λ d z h. h }
 
 put_grows : (b : Bool) (reach : List (Option Ends)) (d : ℕ) (e : Ends) → Grows reach (put_in b reach d e)
@@ -108,7 +108,7 @@ pub record HasEnds (a : Algorithm) (r : AroundText) (e : Term) (reach : List (Op
   pub reached : (z : ℤ) → ends.low ≤ℤ z → z ≤ℤ ends.high → Reaches reach d z
 
 module _ (a : Algorithm) (r : AroundText) where
-  grows_index : (d : ℕ) (e : Term) (reach out : List (Option Ends)) → add_index a r d e reach ≡ Some out → Grows reach out
+  pub grows_index : (d : ℕ) (e : Term) (reach out : List (Option Ends)) → add_index a r d e reach ≡ Some out → Grows reach out
   grows_index d e reach out h =
       let b = bound (interval_in a r e) (λ s. ends_of r.scope s >>= λ ends. Some (widen reach d ends)) out h in
       let c = bound (ends_of r.scope b.value) (λ ends. Some (widen reach d ends)) out b.comes in
@@ -128,13 +128,13 @@ module _ (a : Algorithm) (r : AroundText) where
   grows_named true own es reach out h = grows_call own 0 es reach out h
   grows_named false own es reach out h = if_some reach reach out (stay reach) h
 
-  grows_calls : (own : Option FormulaText) (x : List ℕ) (cs : List Written) (reach out : List (Option Ends)) → add_calls a r own x cs reach ≡ Some out → Grows reach out
+  pub grows_calls : (own : Option FormulaText) (x : List ℕ) (cs : List Written) (reach out : List (Option Ends)) → add_calls a r own x cs reach ≡ Some out → Grows reach out
   grows_calls own x [] reach out h = if_some reach reach out (stay reach) h
   grows_calls own x (c ∷ cs) reach out h =
       let b = bound (if same_name c.name x then add_call a r own 0 c.at reach else Some reach) (add_calls a r own x cs) out h in
       after reach b.value out (grows_named (same_name c.name x) own c.at reach b.value b.is) (grows_calls own x cs b.value out b.comes)
 
-  index_ends : (d : ℕ) (e : Term) (reach out : List (Option Ends)) → d < length reach → add_index a r d e reach ≡ Some out → HasEnds a r e out d
+  pub index_ends : (d : ℕ) (e : Term) (reach out : List (Option Ends)) → d < length reach → add_index a r d e reach ≡ Some out → HasEnds a r e out d
   index_ends d e reach out lt h =
       let b = bound (interval_in a r e) (λ s. ends_of r.scope s >>= λ ends. Some (widen reach d ends)) out h in
       let c = bound (ends_of r.scope b.value) (λ ends. Some (widen reach d ends)) out b.comes in
@@ -147,7 +147,7 @@ module _ (a : Algorithm) (r : AroundText) where
         reached = λ z low high. subst (λ (ys : List (Option Ends)). Reaches ys d z) is (put_reaches (nat_lt d (length reach)) reach d c.value z refl lt low high);
       }
 
-  more_ends : (e : Term) (d : ℕ) (reach out : List (Option Ends)) → Grows reach out → HasEnds a r e reach d → HasEnds a r e out d
+  pub more_ends : (e : Term) (d : ℕ) (reach out : List (Option Ends)) → Grows reach out → HasEnds a r e reach d → HasEnds a r e out d
   more_ends e d reach out g h =
       record { span = h.span; bounds = h.bounds; ends = h.ends; freed = h.freed; reached = λ z low high. g.keeps d z (h.reached z low high) }
 
@@ -383,7 +383,8 @@ extent_in is_root o e x z is h low high =
     by y true q lies = subst (λ (w : Extent). IsIn w z) (same y x q) lies
     by y false q lies = absurd (cc q)
 
-region_in : (is_root : Bool) (reach : List (Option Ends)) (es : List Extent) → region_of is_root reach ≡ Some es → (d : ℕ) (z : ℤ) (x : Extent) → Reaches reach d z → slice_get es d ≡ Some x → IsIn x z
+pub region_in : (is_root : Bool) (reach : List (Option Ends)) (es : List Extent) → region_of is_root reach ≡ Some es → (d : ℕ) (z : ℤ) (x : Extent) → Reaches reach d z → slice_get es d ≡
+    Some x → IsIn x z
 region_in is_root [] es h d z x r at = absurd (cc r.is)
 region_in is_root (o ∷ os) es h d z x r at =
     let b = bound (extent_of is_root o) (λ y. region_of is_root os >>= λ ys. Some (y ∷ ys)) es h in

@@ -1,8 +1,7 @@
 -- Where there are numbers of each loop, the ends of what an index stays within are in their order: its value, where each symbol is its loop's first number, is between them.
-use Rattle.std.proofs.Common.{◌≡◌, ℕ, zero, suc, ◌+◌, ◌≤◌, Bool, true, false, List, [], ◌∷◌, ◌++◌, length, map}
-use Rattle.std.proofs.Common.{Option, Some, None, IsSome, refl, sym, ap, subst, ◌∙◌, inl, inr, append_assoc, append-nil, arith}
+use Rattle.std.proofs.Common.{◌≡◌, ℕ, zero, suc, ◌≤◌, Bool, true, false, List, [], ◌∷◌, ◌++◌, length, map}
+use Rattle.std.proofs.Common.{Option, Some, None, refl, sym, ap, subst, ◌∙◌, inl, inr, arith}
 use Rattle.std.proofs.lemmas.Int.{ints}
-use Rattle.std.proofs.lemmas.List.{length-map}
 use Rattle.std.proofs.lemmas.List.Elements.{All-cons, All-nil}
 use Rattle.std.specs.List.{All, AllByRecursion}
 use Rattle.std.specs.Prelude.{ℤ, pos, negsuc, ◌+ℤ◌, ◌*ℤ◌, ◌≤ℤ◌, int_le, is_some, if◌then◌else◌, slice_get}
@@ -11,9 +10,8 @@ use Rattle.numeric.specs.declared.ty.Ty.{Ty}
 use Rattle.numeric.specs.declared.ty.Ty.TheVariants.{U8, U16, U32, I8, I16, I32}
 use Rattle.numeric.specs.Wrap.{IsOf}
 use Rattle.tree.specs.declared.value.Value.{Value}
-use Rattle.tree.specs.Term.{Term, Terms, End, More}
-use Rattle.tree.specs.Meaning.{value_of}
-use Rattle.tree.specs.Names.{IsIndex, AreAsTold, called_type}
+use Rattle.tree.specs.Term.{Terms, End, More}
+use Rattle.tree.specs.Names.{IsIndex, called_type}
 use Rattle.tree.specs.Typing.{type_of, is_index, are_indices}
 use Rattle.lin.specs.Forms.{Form, number, value_of as form_value}
 use Rattle.lin.specs.declared.form.Multiple.{Multiple}
@@ -21,20 +19,18 @@ use Rattle.lin.specs.Spans.{HoldsIn, Holds, IsInSpan, IsInRegion}
 use Rattle.lin.specs.declared.scope.Binding.{Binding}
 use Rattle.lin.specs.declared.scope.Binding.TheVariants.{Loop, LetMin, LetMax}
 use Rattle.lin.specs.declared.span.Span1.{Span1}
-use Rattle.bounds.specs.Spans.{numbers, range_of}
+use Rattle.bounds.specs.Spans.{numbers}
 use Rattle.bounds.specs.Projection.Projection.{projected_span}
-use Rattle.bounds.proofs.IntervalSound.{contains}
 use Rattle.bounds.proofs.ProjectionSound.{span-holds}
 use Rattle.meaning.specs.Algorithm.{Algorithm}
-use Rattle.meaning.specs.Names.{same_name, is_among}
+use Rattle.meaning.specs.Names.{same_name}
 use Rattle.meaning.specs.Conditions.{AreDistinct}
 use Rattle.meaning.proofs.InliningTyped.{both_true, index-is}
 use Rattle.soundness.specs.Obligations.{anything}
 use Rattle.soundness.proofs.Refines.{name_refl, name_true}
 use Rattle.lower.specs.Called.{called}
 use Rattle.lower.specs.Held.{AreTyped}
-use Rattle.lower.specs.Stored.{FormulaText, left_at}
-use Rattle.lower.specs.Around.{AroundText, exactly, coordinate_span, coordinates_behind, interval_in}
+use Rattle.lower.specs.Around.{exactly}
 use Rattle.lower.specs.Regions.{ends_between, ends_of, symbols_from, greater, less, number_of, greatest_number, least_number, are_within}
 use Rattle.lower.proofs.Laying.{bound, same}
 use Rattle.lower.proofs.Reached.{none_is}
@@ -92,7 +88,7 @@ between_both (Some a) None e h = absurd (cc h)
 between_both (Some a) (Some b) e h = (let is = same (record { low = a; high = b }) e h in (ap (λ (q : Ends). Some q.low) is, ap (λ (q : Ends). Some q.high) is))
 
 -- a number of a span lies between its ends
-ends_hold : (scope : List Binding) (s : Span1) (e : Ends) (v : ℕ → ℤ) (z : ℤ) → ends_of scope s ≡ Some e → HoldsIn scope v → IsInSpan s v z → (e.low ≤ℤ z) × (z ≤ℤ e.high)
+pub ends_hold : (scope : List Binding) (s : Span1) (e : Ends) (v : ℕ → ℤ) (z : ℤ) → ends_of scope s ≡ Some e → HoldsIn scope v → IsInSpan s v z → (e.low ≤ℤ z) × (z ≤ℤ e.high)
 ends_hold scope s e v z found fits lies =
     let b = bound (projected_span scope (symbols_from 0 (length scope)) s) (λ p. ends_between (greatest_number p.lower) (least_number p.upper)) e found in
     let ends = between_both (greatest_number b.value.lower) (least_number b.value.upper) e b.comes in
@@ -113,13 +109,13 @@ firsts scope n = first_of (slice_get scope n)
 anything_holds : (v : ℕ → ℤ) (z : ℤ) → IsInSpan anything v z
 anything_holds v z = (All-nil (λ f. form_value f v ≤ℤ z), All-nil (λ f. z ≤ℤ form_value f v))
 
-between : (low last z : ℤ) (v : ℕ → ℤ) → low ≤ℤ z → z ≤ℤ last → IsInSpan (numbers low last) v z
+pub between : (low last z : ℤ) (v : ℕ → ℤ) → low ≤ℤ z → z ≤ℤ last → IsInSpan (numbers low last) v z
 between low last z v from to = (
   All-cons (λ f. form_value f v ≤ℤ z) (number low) [] (omega (arith, ints, from)) (All-nil (λ f. form_value f v ≤ℤ z)),
   All-cons (λ f. z ≤ℤ form_value f v) (number last) [] (omega (arith, ints, to)) (All-nil (λ f. z ≤ℤ form_value f v)),
 )
 
-at_form : (f : Form) (v : ℕ → ℤ) → IsInSpan (exactly f) v (form_value f v)
+pub at_form : (f : Form) (v : ℕ → ℤ) → IsInSpan (exactly f) v (form_value f v)
 at_form f v =
     let z : ℤ = form_value f v in (
       All-cons (λ g. form_value g v ≤ℤ z) f [] (itself z) (All-nil (λ g. form_value g v ≤ℤ z)),
@@ -161,7 +157,7 @@ first_holds scope (LetMin fs) box = absurd box
 first_holds scope (LetMax fs) box = absurd box
 
 module _ (scope : List Binding) (boxes : AreBoxes scope) where
-  firsts_hold : HoldsIn scope (firsts scope)
+  pub firsts_hold : HoldsIn scope (firsts scope)
   firsts_hold = λ n b at. subst (λ (o : Option Binding). Holds b (first_of o) (firsts scope)) (sym at) (first_holds scope b (boxes n b at))
 
 -- ---- coordinates
@@ -173,44 +169,20 @@ number_at v (Some f) = form_value f v
 pub index_near : (z : ℤ) → unsigned_abs z ≤ 147456 → IsIndex z
 index_near z h = record { from = omega (arith, ints, h); to = omega (arith, ints, h) }
 
-behind : (ss : List Span1) (zs : List ℤ) (s : Span1) (z : ℤ) (v : ℕ → ℤ) → IsInRegion ss v zs → IsInSpan s v z → IsInRegion (ss ++ s ∷ []) v (zs ++ z ∷ [])
+pub behind : (ss : List Span1) (zs : List ℤ) (s : Span1) (z : ℤ) (v : ℕ → ℤ) → IsInRegion ss v zs → IsInSpan s v z → IsInRegion (ss ++ s ∷ []) v (zs ++ z ∷ [])
 behind [] [] s z v h k = (k, tt)
 behind [] (y ∷ zs) s z v h k = absurd h
 behind (t ∷ ss) [] s z v h k = absurd h
 behind (t ∷ ss) (y ∷ zs) s z v h k = (h.0, behind ss zs s z v h.1 k)
 
-abbrev or_none : Option (Option Term) → Option Term
-or_none o = elim o [ Some i ↦ i | None ↦ None ]
-
-pub none_at : (os : List (Option Term)) (i : ℕ) → AllByRecursion (λ o. o ≡ None) os → or_none (slice_get os i) ≡ None
-none_at [] i h = refl
-none_at (o ∷ os) zero h = h.0
-none_at (o ∷ os) (suc i) h = none_at os i h.1
-
-module _ (a : Algorithm) (r : AroundText) (f : FormulaText) (none : AllByRecursion (λ o. o ≡ None) f.at) (v : ℕ → ℤ) where
-  coordinate_in : (o : Option Form) (d : ℕ) (s : Span1) → coordinate_span a r o (left_at f d) ≡ Some s → IsInSpan s v (number_at v o)
-  coordinate_in (Some g) d s e = subst (λ (x : Span1). IsInSpan x v (form_value g v)) (same (exactly g) s e) (at_form g v)
-  coordinate_in None d s e =
-      let is : coordinate_span a r None None ≡ Some s = ap (coordinate_span a r None) (sym (none_at f.at d none)) ∙ e in
-      subst (λ (x : Span1). IsInSpan x v (pos 0)) (same (range_of I32) s is) (between (negsuc 2147483647) (pos 2147483647) (pos 0) v (omega (arith, ints)) (omega (arith, ints)))
-
-  coordinates_in : (before : List Span1) (zs : List ℤ) (d : ℕ) (os : List (Option Form)) (out : List Span1) → IsInRegion before v zs → coordinates_behind a r f before d os ≡ Some out →
-      IsInRegion out v (zs ++ map (number_at v) os)
-  coordinates_in before zs d [] out h e =
-      subst (λ (ys : List ℤ). IsInRegion out v ys) (sym (append-nil zs)) (subst (λ (ss : List Span1). IsInRegion ss v zs) (same before out e) h)
-  coordinates_in before zs d (o ∷ os) out h e =
-      let b = bound (coordinate_span a r o (left_at f d)) (λ s. coordinates_behind a r f (before ++ s ∷ []) (d + 1) os) out e in
-      subst (λ (ys : List ℤ). IsInRegion out v ys) (append_assoc zs (number_at v o ∷ []) (map (number_at v) os))
-      (coordinates_in (before ++ b.value ∷ []) (zs ++ number_at v o ∷ []) (d + 1) os out (behind before zs b.value (number_at v o) v h (coordinate_in o d b.value b.is)) b.comes)
-
 -- ---- by names
 
-abbrev named : List (List ℕ) → List ℤ → List ℕ → ℤ
+abbrev pub named : List (List ℕ) → List ℤ → List ℕ → ℤ
 named [] zs x = pos 0
 named (y ∷ ys) [] x = pos 0
 named (y ∷ ys) (z ∷ zs) x = if same_name y x then z else named ys zs x
 
-named_index : (xs : List (List ℕ)) (zs : List ℤ) (x : List ℕ) → AllByRecursion IsIndex zs → IsIndex (named xs zs x)
+pub named_index : (xs : List (List ℕ)) (zs : List ℤ) (x : List ℕ) → AllByRecursion IsIndex zs → IsIndex (named xs zs x)
 named_index [] zs x h = index_near (pos 0) (omega arith)
 named_index (y ∷ ys) [] x h = index_near (pos 0) (omega arith)
 named_index (y ∷ ys) (z ∷ zs) x h = of (same_name y x) (named_index ys zs x h.1)
@@ -219,10 +191,10 @@ named_index (y ∷ ys) (z ∷ zs) x h = of (same_name y x) (named_index ys zs x 
     of true k = h.0
     of false k = k
 
-apart_later : (y : List ℕ) (ys : List (List ℕ)) → AreDistinct (y ∷ ys) → AreDistinct ys
+pub apart_later : (y : List ℕ) (ys : List (List ℕ)) → AreDistinct (y ∷ ys) → AreDistinct ys
 apart_later y ys h = λ i j x at there. let e : suc i ≡ suc j = h (suc i) (suc j) x at there in omega (arith, e)
 
-named_at : (xs : List (List ℕ)) (zs : List ℤ) (i : ℕ) (x : List ℕ) (z : ℤ) → AreDistinct xs → slice_get xs i ≡ Some x → slice_get zs i ≡ Some z → named xs zs x ≡ z
+pub named_at : (xs : List (List ℕ)) (zs : List ℤ) (i : ℕ) (x : List ℕ) (z : ℤ) → AreDistinct xs → slice_get xs i ≡ Some x → slice_get zs i ≡ Some z → named xs zs x ≡ z
 named_at [] zs i x z apart at there = absurd (cc at)
 named_at (y ∷ ys) [] i x z apart at there = absurd (cc there)
 named_at (y ∷ ys) (w ∷ zs) zero x z apart at there =
@@ -238,7 +210,8 @@ named_at (y ∷ ys) (w ∷ zs) (suc i) x z apart at there = of (same_name y x) r
         absurd (omega (arith, clash))
     of false e rest = rest
 
-same_lists : {A B : Type 0} (g : A → B) (xs : List A) (ys : List B) → length xs ≡ length ys → ((i : ℕ) (x : A) (y : B) → slice_get xs i ≡ Some x → slice_get ys i ≡ Some y → g x ≡ y) → map g xs ≡ ys
+pub same_lists : {A B : Type 0} (g : A → B) (xs : List A) (ys : List B) → length xs ≡ length ys → ((i : ℕ) (x : A) (y : B) → slice_get xs i ≡ Some x → slice_get ys i ≡ Some y → g x ≡ y) →
+    map g xs ≡ ys
 same_lists g [] [] long h = refl
 same_lists g [] (y ∷ ys) long h = absurd (omega (arith, long))
 same_lists g (x ∷ xs) [] long h = absurd (omega (arith, long))
@@ -249,7 +222,7 @@ same_lists g (x ∷ xs) (y ∷ ys) long h =
 
 -- ---- answers
 
-zero_is : (t : Ty) → IsOf t (pos 0)
+pub zero_is : (t : Ty) → IsOf t (pos 0)
 zero_is U8 = record { from = omega (arith, ints); to = omega (arith, ints) }
 zero_is U16 = record { from = omega (arith, ints); to = omega (arith, ints) }
 zero_is U32 = record { from = omega (arith, ints); to = omega (arith, ints) }
@@ -257,7 +230,7 @@ zero_is I8 = record { from = omega (arith, ints); to = omega (arith, ints) }
 zero_is I16 = record { from = omega (arith, ints); to = omega (arith, ints) }
 zero_is I32 = record { from = omega (arith, ints); to = omega (arith, ints) }
 
-abbrev nothing : Algorithm → List ℕ → List ℤ → Value
+abbrev pub nothing : Algorithm → List ℕ → List ℤ → Value
 nothing a name at = record { ty = called_type (called a name); number = pos 0 }
 
 -- ---- the order
@@ -267,44 +240,3 @@ some_typed known functions End h = tt
 some_typed known functions (More e es) h =
     let k = both_true (is_index (type_of known functions e)) (are_indices known functions es) h in
     (ap is_some (index-is (type_of known functions e) k.0), some_typed known functions es k.1)
-
-module _ (a : Algorithm) (left r : AroundText) (f : FormulaText) (os : List (Option Form)) (cs : List Span1) (none : AllByRecursion (λ o. o ≡ None) f.at)
-    (stands : coordinates_behind a left f [] 0 os ≡ Some cs) (is : record left { coordinates = cs } ≡ r) (boxes : AreBoxes left.scope)
-    (indices : AllByRecursion IsIndex (map (number_at (firsts left.scope)) os)) (apart : AreDistinct left.variables) (long : length left.variables ≡ length os) where
-  abbrev v : ℕ → ℤ
-  v = firsts left.scope
-
-  abbrev zs : List ℤ
-  zs = map (number_at v) os
-
-  abbrev values : List ℕ → ℤ
-  values = named left.variables zs
-
-  many : length left.variables ≡ length zs
-  many = long ∙ sym (length-map os (number_at v))
-
-  told : AreAsTold (is_among left.variables) (called a) values (nothing a)
-  told =
-      record {
-        variables_within = λ name known. named_index left.variables zs name indices;
-        answers_within = λ name at takes indices. record { ty = refl; within = zero_is (called_type (called a name)) };
-      }
-
-  all_named : map values left.variables ≡ zs
-  all_named = same_lists values left.variables zs many (λ i x z at there. named_at left.variables zs i x z apart at there)
-
-  in_region : IsInRegion r.coordinates v (map values r.variables)
-  in_region =
-      subst (λ (t : AroundText). IsInRegion t.coordinates v (map values t.variables)) is
-      (subst (λ (ys : List ℤ). IsInRegion cs v ys) (sym all_named) (coordinates_in a left f none v [] [] 0 os cs tt stands))
-
-  pub ends_ordered : (e : Term) (span : Span1) (ends : Ends) → interval_in a r e ≡ Some span → IsSome (type_of (is_among left.variables) (called a) e) → ends_of r.scope span ≡ Some ends →
-      ends.low ≤ℤ ends.high
-  ends_ordered e span ends bounds typed freed =
-      let fit : HoldsIn r.scope v = subst (λ (t : AroundText). HoldsIn t.scope v) is (firsts_hold left.scope boxes) in
-      let z : ℤ = (value_of values (nothing a) e).number in
-      let lies : IsInSpan span v z = contains r.scope (is_among left.variables) (called a) r.variables r.coordinates e span bounds typed v values (nothing a) fit told in_region in
-      let both = ends_hold r.scope span ends v z freed fit lies in
-      let from = both.0 in
-      let to = both.1 in
-      omega (arith, ints, from, to)

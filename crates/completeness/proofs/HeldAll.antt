@@ -1,16 +1,15 @@
 -- All numbers of a dimension of a function hold each index at which a later function calls it, in whichever definition, as the checker tests it, where that one's left indices are variables
 -- and around its stores all symbols are of loops over some numbers near 0.
-use Rattle.std.proofs.Common.{◌≡◌, ℕ, suc, ◌+◌, ◌≤◌, Bool, true, false, List, [], ◌∷◌, ◌++◌, length, map, Some, None, refl, sym, ap, ◌∙◌, subst, inl, inr, arith}
-use Rattle.std.specs.Prelude.{if◌then◌else◌, slice_get}
+use Rattle.std.proofs.Common.{IsSome, ◌≡◌, ℕ, suc, ◌+◌, ◌≤◌, Bool, true, false, List, [], ◌∷◌, ◌++◌, length, Some, None, refl, sym, ap, ◌∙◌, subst, inl, inr, arith}
+use Rattle.std.specs.Prelude.{◌≤ℤ◌, if◌then◌else◌, slice_get}
 use Rattle.std.specs.List.{AllByRecursion}
 use Rattle.numeric.specs.declared.ty.Ty.{Ty}
-use Rattle.tree.specs.Names.{IsIndex}
-use Rattle.tree.specs.Typing.{index_count}
+use Rattle.tree.specs.Term.{Term}
+use Rattle.tree.specs.Typing.{type_of, index_count}
 use Rattle.lin.specs.declared.scope.Binding.{Binding}
 use Rattle.lin.specs.declared.span.Span1.{Span1}
 use Rattle.meaning.specs.Algorithm.{Algorithm}
 use Rattle.meaning.specs.Names.{is_among}
-use Rattle.meaning.specs.Conditions.{AreDistinct}
 use Rattle.meaning.proofs.InliningTyped.{answer-is}
 use Rattle.soundness.proofs.Refines.{name_true}
 use Rattle.headline.proofs.Members.{got}
@@ -19,8 +18,8 @@ use Rattle.sched.specs.Standing.{◌>>=◌}
 use Rattle.sched.specs.Skeleton.{NestText}
 use Rattle.lower.specs.Called.{called}
 use Rattle.lower.specs.Stored.{FormulaText, StoredText, calls_in}
-use Rattle.lower.specs.Around.{AroundText, head_scope, bind_steps, names_with, left_around, coordinates_behind, around}
-use Rattle.lower.specs.Regions.{LaidText}
+use Rattle.lower.specs.Around.{AroundText, interval_in, head_scope, bind_steps, names_with, left_around, coordinates_behind, around}
+use Rattle.lower.specs.Regions.{LaidText, ends_of, are_within}
 use Rattle.lower.specs.Bounded.{whole}
 use Rattle.lower.specs.Taken.{SiteText, add_calls, with_site, add_site, add_sites, holds_calls, hold_calls}
 use Rattle.lower.specs.Owning.{IsExtent}
@@ -33,7 +32,8 @@ use Rattle.completeness.proofs.Only.{SpanOnly}
 use Rattle.completeness.proofs.Sited.{Below, SiteOnly}
 use Rattle.completeness.proofs.Boxes.{AreBoxes}
 use Rattle.completeness.proofs.CallEnds.{IsCallOf, AreIndicesEnded}
-use Rattle.completeness.proofs.FirstNumbers.{firsts, number_at, some_typed, ends_ordered}
+use Rattle.completeness.proofs.FirstNumbers.{some_typed}
+use Rattle.completeness.proofs.Standing.{Taken}
 use Rattle.completeness.proofs.HeldWhole.{AreCallsLight, calls_from, call_held, holds_each, all_has}
 
 -- ---- sites
@@ -52,6 +52,9 @@ with_held scope d s [] before h k = h
 with_held scope d s (c ∷ cs) before h k =
     hold_both before (record { scope = scope; calls = c ∷ cs } ∷ []) d s h (ap (λ (b : Bool). if b then true else false) k)
 
+abbrev Ends : Type 0
+Ends = Taken _ _ are_within
+
 -- ---- a definition
 
 module _ (a : Algorithm) (u : StoredText) (m : LaidText) (fs : List FormulaText) (formulas : u.formulas ≡ Some fs) where
@@ -66,11 +69,9 @@ module _ (a : Algorithm) (u : StoredText) (m : LaidText) (fs : List FormulaText)
     pub is : slice_get fs d ≡ Some f
     pub nested : slice_get m.skeleton.nests d ≡ Some w
     pub boxes : AreBoxes (bind_steps (head_scope m.skeleton) w.steps)
-    pub indices : AllByRecursion IsIndex (map (number_at (firsts (bind_steps (head_scope m.skeleton) w.steps))) w.at)
+    pub order : (r : AroundText) → around a u (head_scope m.skeleton) w f d ≡ Some r → (e : Term) (span : Span1) (ends : Ends) → interval_in a r e ≡ Some span →
+        IsSome (type_of (is_among (names d)) (called a) e) → ends_of r.scope span ≡ Some ends → ends.low ≤ℤ ends.high
     pub light : (r : AroundText) → around a u (head_scope m.skeleton) w f d ≡ Some r → AreCallsLight a r (calls_in f)
-    pub none : AllByRecursion (λ o. o ≡ None) f.at
-    pub apart : AreDistinct (names d)
-    pub long : length (names d) ≡ length w.at
     pub typed : AllByRecursion (λ c. IsTypedCall (is_among (names d)) (called a) c.name c.at) (calls_in f)
 
   module _ (x : List ℕ) (region : List Extent) (extents : AllByRecursion IsExtent region) (ended : AllByRecursion IsEnded region) (takes : (t : Ty × ℕ) → called a x ≡ Some t → t.1 ≡ length region)
@@ -84,7 +85,7 @@ module _ (a : Algorithm) (u : StoredText) (m : LaidText) (fs : List FormulaText)
         let is : record left { coordinates = z.value } ≡ r = same (record left { coordinates = z.value }) r z.comes in
         let left_boxes : AreBoxes left.scope = h.boxes in
         let r_boxes : AreBoxes r.scope = subst (λ (t : AroundText). AreBoxes t.scope) is left_boxes in
-        let order = ends_ordered a left r f w.at z.value h.none z.is is left_boxes h.indices h.apart h.long in
+        let order = h.order r stands in
         holds_each r.scope dim (whole e) calls (λ cs has. elim (calls_from a r x (calls_in f) [] calls added cs has) [
           | inl old ↦ absurd old
           | inr k ↦

@@ -1,11 +1,15 @@
 -- Whatever a function fetches, all numbers of each dimension hold its calls, where each of its definitions sets each variable at its own place, and around each store all symbols are of loops
 -- over some numbers near 0.
-use Rattle.std.proofs.Common.{◌≡◌, ℕ, zero, suc, ◌+◌, Bool, true, false, not, List, [], ◌++◌, length, map, Option, Some, None, refl, sym, ap, ◌∙◌, subst, inr, append-nil, arith}
-use Rattle.std.specs.Prelude.{◌==◌, slice_get}
-use Rattle.std.specs.List.{AllByRecursion}
+use Rattle.std.proofs.Common.{◌≡◌, ℕ, zero, suc, ◌+◌, Bool, true, false, not, List, [], ◌∷◌, ◌++◌, length, map, Option, Some, None, IsSome, refl, sym, ap, ◌∙◌, subst, inr, append-nil, arith}
+use Rattle.std.specs.Prelude.{◌==◌, ◌≤ℤ◌, slice_get}
+use Rattle.std.specs.List.{AllByRecursion, flat_map}
 use Rattle.std.proofs.lemmas.List.{length-map, length-append}
 use Rattle.numeric.specs.declared.ty.Ty.{Ty}
-use Rattle.tree.specs.Uses.{EachCall}
+use Rattle.numeric.specs.declared.ty.Ty.TheVariants.{I32}
+use Rattle.tree.specs.Term.{Term, Terms}
+use Rattle.tree.specs.Typing.{type_of}
+use Rattle.lin.specs.declared.span.Span1.{Span1}
+use Rattle.bounds.proofs.ListSound.{all-append}
 use Rattle.tree.specs.Names.{IsIndex}
 use Rattle.lin.proofs.TermLemmas.{all_weaker}
 use Rattle.meaning.specs.Algorithm.{Range, Function, Algorithm}
@@ -23,14 +27,13 @@ use Rattle.sched.specs.Standing.{form_named}
 use Rattle.sched.proofs.Arriving.{skeletal}
 use Rattle.lower.specs.declared.lowering.Lowered.{Lowered}
 use Rattle.lower.specs.Called.{called}
-use Rattle.lower.specs.Stored.{FormulaText, StoredText, calls_in, some_calls, flags, formulas_put, stored_functions, has_large}
-use Rattle.lower.specs.Around.{AroundText, around, range_names, ranges_of, names_with, head_scope, bind_steps}
+use Rattle.lower.specs.Stored.{FormulaText, StoredText, left_at, calls_left, calls_in, some_calls, flags, formulas_put, stored_functions, has_large}
+use Rattle.lower.specs.Around.{AroundText, interval_in, range_names, ranges_of, names_with, head_scope, bind_steps, left_around, around, coordinates_behind}
 use Rattle.lower.specs.Faults.{are_whole, region_fault}
-use Rattle.lower.specs.Regions.{LaidText, bodies_from, skeleton_of, laid_functions}
+use Rattle.lower.specs.Regions.{LaidText, ends_of, are_within, bodies_from, skeleton_of, laid_functions}
 use Rattle.lower.specs.Groups.{HasGroups}
 use Rattle.lower.proofs.Extents.{region_is}
 use Rattle.completeness.specs.Stores.{AreHeld}
-use Rattle.completeness.specs.Placed.{ArePlaced}
 use Rattle.completeness.proofs.Standing.{names_own}
 use Rattle.completeness.proofs.Laid.{IsStoredOf, subjects, found}
 use Rattle.completeness.proofs.Owned.{some_same}
@@ -39,8 +42,11 @@ use Rattle.completeness.proofs.Bodies.{entry_at}
 use Rattle.completeness.proofs.Earlier.{called_before}
 use Rattle.completeness.proofs.ClaimLines.{known_stored}
 use Rattle.completeness.proofs.StoreLines.{named_callable}
-use Rattle.completeness.proofs.Written.{IsWritten, written, variables_long}
-use Rattle.completeness.proofs.PureNests.{all_get}
+use Rattle.completeness.proofs.Written.{IsWritten, LeftIsOver, written, variables_long}
+use Rattle.completeness.proofs.RangedLefts.{left_got, left_typed}
+use Rattle.completeness.proofs.LeftNumbers.{ordered, spans_in, around_ordered}
+use Rattle.completeness.proofs.Standing.{Taken}
+use Rattle.lower.proofs.Laying.{bound, same}
 use Rattle.completeness.proofs.UpdateTurns.{known_update, ranges_turned, all_mapped}
 use Rattle.completeness.proofs.LoadedTerms.{IsTypedCall, calls_typed}
 use Rattle.completeness.proofs.StoreBounds.{called_is}
@@ -49,9 +55,9 @@ use Rattle.completeness.proofs.Sited.{sites_only}
 use Rattle.completeness.proofs.CallEnds.{calls_ended}
 use Rattle.completeness.proofs.NearBoxes.{IsBoxTurn}
 use Rattle.completeness.proofs.RangedBoxes.{range_box}
-use Rattle.completeness.proofs.HeldWhole.{AreCallsLight, all_calls, no_left_calls}
+use Rattle.completeness.proofs.HeldWhole.{AreCallsLight, all_calls}
 use Rattle.completeness.proofs.HeldAll.{IsNearNest, sites_held}
-use Rattle.completeness.proofs.Boxes.{AreBoxes}
+use Rattle.completeness.proofs.Boxes.{AreBoxes, IsLightSpan}
 use Rattle.completeness.proofs.FirstNumbers.{firsts, number_at}
 
 -- the coordinates of a nest are what names stand for there
@@ -61,11 +67,16 @@ pub record IsFormed (xs : List (List ℕ)) (bs : List BodyText) (d : ℕ) (w : N
   pub known : List Known
   pub forms : w.at ≡ variables_at body 0 xs known ++ ranges_at body.ranges known
 
--- what stands around a store: boxes; each coordinate is a number of 32 bits at their first numbers; and what the indices of this definition's calls stay within is light
+abbrev pub Ends : Type 0
+Ends = Taken _ _ are_within
+
+-- what stands around a store: boxes; each coordinate is a number of 32 bits at their first numbers; and what the indices of this definition's calls, and its left indices, stay within is light
 pub record IsIndexed (a : Algorithm) (u : StoredText) (fs : List FormulaText) (k : SkeletonText) (d : ℕ) (w : NestText) : Type 0 where
   pub boxes : AreBoxes (bind_steps (head_scope k) w.steps)
   pub indices : AllByRecursion IsIndex (map (number_at (firsts (bind_steps (head_scope k) w.steps))) w.at)
   pub light : (f : FormulaText) → slice_get fs d ≡ Some f → (r : AroundText) → around a u (head_scope k) w f d ≡ Some r → AreCallsLight a r (calls_in f)
+  pub lefts : (f : FormulaText) → slice_get fs d ≡ Some f → (j : ℕ) (e : Term) → left_at f j ≡ Some e → (s : Span1) → interval_in a (left_around u (head_scope k) w d) e ≡ Some s →
+      IsLightSpan (bind_steps (head_scope k) w.steps) s
 
 not_same : (b : Bool) → b ≡ true → not b ≡ true → ⊥
 not_same true e q = cc q
@@ -73,42 +84,42 @@ not_same false e q = cc e
 
 module _ (a : Algorithm) (sch : Schedule) (l : Lowered) (well : IsAlgorithm a) (legal : IsLegal a sch) (small : has_large (stored_functions a sch) ≡ false)
     (kept : region_fault a (stored_functions a sch) ≡ None) (all : are_whole (stored_functions a sch) ≡ true) (groups : HasGroups a (stored_functions a sch) l) where
-  abbrev gs : List StoredText
+  abbrev pub gs : List StoredText
   gs = stored_functions a sch
 
-  abbrev st : List Bool
+  abbrev pub st : List Bool
   st = flags (subjects a sch)
 
-  module _ (n : ℕ) (u : StoredText) (at : slice_get gs n ≡ Some u) (fs : List FormulaText) (defined : u.formulas ≡ Some fs) (placed : ArePlaced fs) (m : LaidText)
+  module _ (n : ℕ) (u : StoredText) (at : slice_get gs n ≡ Some u) (fs : List FormulaText) (defined : u.formulas ≡ Some fs) (m : LaidText)
       (laid : slice_get (laid_functions a gs) n ≡ Some (Some m)) (over : skeleton_of u fs m.region ≡ Some m.skeleton)
       (formed : (d : ℕ) (w : NestText) → slice_get m.skeleton.nests d ≡ Some w → IsFormed u.subject.variables (bodies_from u.changes 0 u.subject.reductions fs) d w)
       (boxed : (d : ℕ) (w : NestText) → slice_get m.skeleton.nests d ≡ Some w →
       ((b : BodyText) → slice_get (bodies_from u.changes 0 u.subject.reductions fs) d ≡ Some b → AllByRecursion IsBoxTurn b.ranges) → IsIndexed a u fs m.skeleton d w) where
-    abbrev k : SkeletonText
+    abbrev pub k : SkeletonText
     k = m.skeleton
 
-    abbrev bs : List BodyText
+    abbrev pub bs : List BodyText
     bs = bodies_from u.changes 0 u.subject.reductions fs
 
-    abbrev xs : List (List ℕ)
+    abbrev pub xs : List (List ℕ)
     xs = u.subject.variables
 
-    abbrev names : ℕ → List (List ℕ)
+    abbrev pub names : ℕ → List (List ℕ)
     names d = names_with u.variables u.changes d
 
-    abbrev w : IsStoredOf a sch st a.functions u
+    abbrev pub w : IsStoredOf a sch st a.functions u
     w = found a sch st u a.functions n at
 
-    abbrev f : Function
+    abbrev pub f : Function
     f = w.function
 
-    put_there : formulas_put a st f.variables f.value f.changes ≡ Some fs
+    pub put_there : formulas_put a st f.variables f.value f.changes ≡ Some fs
     put_there = ap (λ (y : StoredText). y.formulas) (sym w.is) ∙ defined
 
     reductions : u.subject.reductions ≡ reductions_of u.changes
     reductions = ap (λ (y : StoredText). y.subject.reductions) w.is ∙ sym (ap (λ (y : StoredText). reductions_of y.changes) w.is)
 
-    variables_are : u.variables ≡ xs
+    pub variables_are : u.variables ≡ xs
     variables_are = ap (λ (y : StoredText). y.variables) w.is ∙ sym (ap (λ (y : StoredText). y.subject.variables) w.is)
 
     -- ---- reduction variables
@@ -119,7 +130,7 @@ module _ (a : Algorithm) (sch : Schedule) (l : Lowered) (well : IsAlgorithm a) (
         let y = known_update a sch well n u at fs defined i v there in
         subst (AllByRecursion IsRange) (sym y.ranges) y.within
 
-    apart : (d : ℕ) (v : FormulaText) → slice_get fs d ≡ Some v → AreDistinct (names d)
+    pub apart : (d : ℕ) (v : FormulaText) → slice_get fs d ≡ Some v → AreDistinct (names d)
     apart zero v there =
         subst (λ (y : StoredText). AreDistinct (names_with y.variables y.changes 0)) (sym w.is) (subst AreDistinct (sym (append-nil f.variables)) (well.functions w.place f w.at).names)
     apart (suc i) v there =
@@ -133,9 +144,6 @@ module _ (a : Algorithm) (sch : Schedule) (l : Lowered) (well : IsAlgorithm a) (
     Typed ns functions cs = AllByRecursion (λ (c : Written). IsTypedCall (is_among ns) functions c.name c.at) cs
 
     module _ (d : ℕ) (formula : FormulaText) (nest : NestText) (there : slice_get fs d ≡ Some formula) (stands : slice_get k.nests d ≡ Some nest) where
-      none_left : AllByRecursion (λ o. o ≡ None) formula.at
-      none_left = all_get (λ (y : FormulaText). AllByRecursion (λ o. o ≡ None) y.at) fs d formula placed there
-
       ranges_are : (b : BodyText) → slice_get bs d ≡ Some b → b.ranges ≡ map range_turning (ranges_of u.changes d)
       ranges_are b e = ranges_turned u.changes fs d b (ap (λ (rs : List (List ℕ)). slice_get (bodies_from u.changes 0 rs fs) d) (sym reductions) ∙ e)
 
@@ -144,10 +152,10 @@ module _ (a : Algorithm) (sch : Schedule) (l : Lowered) (well : IsAlgorithm a) (
           let each = all_weaker IsRange (λ r. IsBoxTurn (range_turning r)) range_box (ranges_of u.changes d) (ranges_within d formula there) in
           subst (AllByRecursion IsBoxTurn) (sym (ranges_are b e)) (all_mapped range_turning IsBoxTurn (ranges_of u.changes d) each)
 
-      boxes : IsIndexed a u fs k d nest
+      pub boxes : IsIndexed a u fs k d nest
       boxes = boxed d nest stands ranges_box
 
-      long : length (names d) ≡ length nest.at
+      pub long : length (names d) ≡ length nest.at
       long =
           let p = formed d nest stands in
           let forms = ap length p.forms in
@@ -161,29 +169,54 @@ module _ (a : Algorithm) (sch : Schedule) (l : Lowered) (well : IsAlgorithm a) (
           let variables = ap length variables_are in
           omega (arith, forms, parts, first, second, turned, many, all_names, range_many, variables)
 
+      -- a left index is an i32
+      lefts_typed : (j : ℕ) (e : Term) → left_at formula j ≡ Some e → type_of (is_among (names d)) (called a) e ≡ Some I32
+      lefts_typed j e at_j =
+          let wide = (left_typed a well w.place f w.at st fs put_there d formula there j e (left_got formula j e at_j)).1 in
+          let here : type_of (is_among (names_with f.variables f.changes d)) (called a) e ≡ Some I32 = ap (λ (g : List ℕ → Option (Ty × ℕ)). type_of (is_among (names_with f.variables
+          f.changes d)) g e)
+          (called_is a) ∙ wide in
+          subst (λ (ns : List (List ℕ)). type_of (is_among ns) (called a) e ≡ Some I32) (ap (λ (z : StoredText). names_with z.variables z.changes d) (sym w.is)) here
+
       typed : Typed (names d) (called a) (calls_in formula)
       typed =
           let y : IsWritten a well st w.place f w.at d formula = written a well st w.place f w.at fs put_there d formula there in
-          let each : EachCall (IsTypedCall (is_among y.names) (callable a a.functions)) formula.value =
-          calls_typed (is_among y.names) (callable a a.functions) formula.value y.value.ty y.value.typed in
-          let listed : Typed y.names (callable a a.functions) (calls_of formula.value) = all_calls (IsTypedCall (is_among y.names) (callable a a.functions)) formula.value each in
-          let all_listed : Typed y.names (callable a a.functions) (calls_in formula) =
-          subst (Typed y.names (callable a a.functions)) (sym (ap (λ (cs : List Written). cs ++ calls_of formula.value) (no_left_calls formula.at none_left))) listed in
-          let here : Typed y.names (called a) (calls_in formula) = subst (λ (g : List ℕ → Option (Ty × ℕ)). Typed y.names g (calls_in formula)) (sym (called_is a)) all_listed in
+          let P : List ℕ → Terms → Type 0 = IsTypedCall (is_among y.names) (callable a a.functions) in
+          let value : Typed y.names (callable a a.functions) (calls_of formula.value) =
+          all_calls P formula.value (calls_typed (is_among y.names) (callable a a.functions) formula.value y.value.ty y.value.typed) in
+          let listed : Typed y.names (callable a a.functions) (calls_in formula) =
+          all-append (λ (c : Written). P c.name c.at) (flat_map calls_left formula.at) (calls_of formula.value) (lefts y.names formula.at y.lefts) value in
+          let here : Typed y.names (called a) (calls_in formula) = subst (λ (g : List ℕ → Option (Ty × ℕ)). Typed y.names g (calls_in formula)) (sym (called_is a)) listed in
           subst (λ (ns : List (List ℕ)). Typed ns (called a) (calls_in formula)) (sym y.are ∙ ap (λ (z : StoredText). names_with z.variables z.changes d) (sym w.is)) here
+        where
+          lefts : (ns : List (List ℕ)) (os : List (Option Term)) → AllByRecursion (LeftIsOver a well st w.place f w.at ns d) os → Typed ns (callable a a.functions) (flat_map calls_left os)
+          lefts ns [] h = tt
+          lefts ns (None ∷ os) h = lefts ns os h.1
+          lefts ns (Some e ∷ os) h =
+              let P : List ℕ → Terms → Type 0 = IsTypedCall (is_among ns) (callable a a.functions) in
+              all-append (λ (c : Written). P c.name c.at) (calls_of e) (flat_map calls_left os) (all_calls P e (calls_typed (is_among ns) (callable a a.functions) e h.0.ty h.0.typed))
+              (lefts ns os h.1)
+
+      abbrev left : AroundText
+      left = left_around u (head_scope k) nest d
+
+      -- the ends of an index around the store are in their order
+      in_order : (r : AroundText) → around a u (head_scope k) nest formula d ≡ Some r → (e : Term) (span : Span1) (ends : Ends) → interval_in a r e ≡ Some span →
+          IsSome (type_of (is_among (names d)) (called a) e) → ends_of r.scope span ≡ Some ends → ends.low ≤ℤ ends.high
+      in_order r stands_r =
+          let z = bound (coordinates_behind a left formula [] 0 nest.at) (λ cs. Some (record left { coordinates = cs })) r stands_r in
+          let is : record left { coordinates = z.value } ≡ r = same (record left { coordinates = z.value }) r z.comes in
+          around_ordered a left r formula nest.at z.value refl z.is is boxes.boxes boxes.indices (apart d formula there) long lefts_typed
+
+      -- and those of a left index
+      pub left_in_order : (e : Term) (span : Span1) (ends : Ends) → interval_in a left e ≡ Some span → IsSome (type_of (is_among (names d)) (called a) e) → ends_of left.scope span ≡ Some ends →
+          ends.low ≤ℤ ends.high
+      left_in_order e span ends bounds typed_e freed =
+          ordered a left boxes.boxes (map (number_at (firsts left.scope)) nest.at) boxes.indices (apart d formula there) (long ∙ sym (length-map nest.at (number_at (firsts left.scope))))
+          (spans_in (firsts left.scope) nest.at) e span ends bounds typed_e freed
 
       near_nest : IsNearNest a u m fs defined d formula nest
-      near_nest = record {
-        is = there;
-        nested = stands;
-        boxes = boxes.boxes;
-        indices = boxes.indices;
-        light = boxes.light formula there;
-        none = none_left;
-        apart = apart d formula there;
-        long = long;
-        typed = typed;
-      }
+      near_nest = record { is = there; nested = stands; boxes = boxes.boxes; order = in_order; light = boxes.light formula there; typed = typed }
 
     -- ---- what it fetches
 

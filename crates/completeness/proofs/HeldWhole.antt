@@ -2,7 +2,7 @@
 -- numbers near 0.
 use Rattle.std.proofs.Common.{◌≡◌, ℕ, zero, suc, ◌+◌, ◌<◌, Bool, true, false, List, [], ◌∷◌, ◌++◌, length, Option, Some, None, IsSome, refl, sym, ap, ◌∙◌, subst, inl, inr, ◌⊎◌, arith}
 use Rattle.std.specs.Prelude.{pos, negsuc, ◌≤ℤ◌, if◌then◌else◌, slice_get}
-use Rattle.std.specs.List.{AllByRecursion, flat_map}
+use Rattle.std.specs.List.{AllByRecursion}
 use Rattle.std.proofs.lemmas.Int.{ints}
 use Rattle.std.proofs.lemmas.List.{length-append}
 use Rattle.std.proofs.lemmas.Option.{slice_get_within}
@@ -24,7 +24,6 @@ use Rattle.algo.specs.Scoping.Standing.{Written, calls_of, calls_of_test, calls_
 use Rattle.sched.specs.declared.numbers.Extent.{Extent}
 use Rattle.sched.specs.Standing.{◌>>=◌}
 use Rattle.lower.specs.Called.{called}
-use Rattle.lower.specs.Stored.{calls_left}
 use Rattle.lower.specs.Around.{AroundText, interval_in}
 use Rattle.lower.specs.Regions.{ends_of, symbols_from, are_within}
 use Rattle.lower.specs.Bounded.{whole}
@@ -92,10 +91,6 @@ module _ (P : List ℕ → Terms → Type 0) where
     indices_calls : (at : Terms) → EachCallOfAll P at → All (calls_of_all at)
     indices_calls End h = tt
     indices_calls (More a rest) h = join (calls_of a) (calls_of_all rest) (all_calls a h.0) (indices_calls rest h.1)
-
-pub no_left_calls : (os : List (Option Term)) → AllByRecursion (λ o. o ≡ None) os → flat_map calls_left os ≡ []
-no_left_calls [] h = refl
-no_left_calls (o ∷ os) h = (λ i. calls_left (h.0 i) ++ flat_map calls_left os) ∙ no_left_calls os h.1
 
 -- ---- the calls that are found
 

@@ -100,6 +100,7 @@ pub mod FreedEnds
 pub mod CallEnds
 pub mod FirstNumbers
 pub mod NearBoxes
+pub mod LeftNumbers
 pub mod HeldWhole
 pub mod LimitsAlone
 pub mod FewLoops
@@ -107,6 +108,8 @@ pub mod FewLines
 pub mod OwnCalls
 pub mod OwnLoads
 pub mod SitesAt
+pub mod RangedLefts
+pub mod Unparallel
 pub mod UncutOwn
 pub mod TailEnds
 pub mod NearClaims
@@ -128,9 +131,12 @@ pub mod BlockNames
 pub mod BlockNests
 pub mod SaidPlans
 pub mod BlockInside
+pub mod WholeDims
 pub mod BlockStores
 pub mod Shapes
+pub mod LeftEnds
 pub mod HeldNear
+pub mod LeftHeld
 pub mod BlockNear
 pub mod TermFits
 pub mod SaidLines

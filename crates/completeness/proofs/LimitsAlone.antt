@@ -85,6 +85,6 @@ limits_alone a s l well legal small regions groups fills named =
         let x = from_map group_of l.plan.groups.items n g at in
         let me = made_at a s l well legal small (regions fills.whole).0 fills.whole groups n x.0 x.1 in
         near_blocked_owed a s l well legal small regions groups fills.whole (named_no_load a named) lines_stand grids symbols near n g at me.stored me.is (fills.blocked n me.stored me.is) me.formulas
-        me.defined (fills.placed n me.stored me.is me.formulas me.defined) me.laid me.found (fills.near n me.stored me.is me.formulas me.defined me.laid me.found) (slid_nests (outline_of p
-        c n g) (rules_of a p c n) (domains_of a))
+        me.defined me.laid me.found (fills.placed n me.stored me.is me.formulas me.defined me.laid me.found) (fills.near n me.stored me.is me.formulas me.defined me.laid me.found) (slid_nests
+        (outline_of p c n g) (rules_of a p c n) (domains_of a))
         (slid_take a p c n g)

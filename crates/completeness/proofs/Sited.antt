@@ -267,6 +267,18 @@ sites_only a g fs k x ss order names e = all_only k order.next order.head a g x 
     good : AllByRecursion (IsGood k) k.nests
     good = each_at (IsGood k) k.nests one
 
+-- the forms that a nest's coordinates are name what is bound there
+pub coordinates_below : (k : SkeletonText) → BindInOrder k → NamesOwn k → (d : ℕ) (n : NestText) → slice_get k.nests d ≡ Some n →
+    AllByRecursion (SpanOnly (Below (length (bind_steps (head_scope k) n.steps)))) (map form_span n.at)
+coordinates_below k order names d n at =
+    let N = length (bind_steps (head_scope k) n.steps) in
+    forms_only (Below N) n.at (all_weaker (OnlyIf (Here (OverGrid k) n.steps)) (OnlyIf (Below N)) if_weaker n.at (names.nests d n at))
+  where
+    if_weaker : (o : Option Form) → OnlyIf (Here (OverGrid k) n.steps) o → OnlyIf (Below (length (bind_steps (head_scope k) n.steps))) o
+    if_weaker None h = tt
+    if_weaker (Some f) h =
+        all_weaker (λ t. Here (OverGrid k) n.steps t.symbol) (λ t. t.symbol < length (bind_steps (head_scope k) n.steps)) (λ t q. nest_below k order.next order.head n t.symbol q) f.terms h
+
 -- ---- freed of all but the grid's
 
 apart : (m c s : ℕ) → is_inner (symbols_from m c) s ≡ false → s < m + c → s < m

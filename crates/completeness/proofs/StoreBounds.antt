@@ -1,5 +1,5 @@
 -- At a store of a pure definition the checker's bounds of an index are those that are known of it where the definition's calls are bounded.
-use Rattle.std.proofs.Common.{◌≡◌, ℕ, zero, suc, ◌+◌, ◌-◌, ◌<◌, ◌≤◌, ◌^◌, Bool, true, false, ◌&&◌, ◌||◌, List, [], ◌∷◌, ◌++◌, length, map, take, Option, Some, None, refl, sym, ap, ◌∙◌, arith}
+use Rattle.std.proofs.Common.{◌≡◌, ℕ, zero, suc, ◌-◌, ◌<◌, ◌≤◌, ◌^◌, Bool, true, false, ◌&&◌, ◌||◌, List, [], ◌∷◌, ◌++◌, length, map, Option, Some, refl, sym, ap, ◌∙◌, arith}
 use Rattle.std.proofs.Common.{append_assoc, append-nil}
 use Rattle.std.specs.Prelude.{◌+ℤ◌, replicate, ℤ, pos, negsuc, ◌≤ℤ◌, ◌==◌, if◌then◌else◌, is_some, slice_get}
 use Rattle.std.specs.List.{AllByRecursion, list_all}
@@ -13,7 +13,7 @@ use Rattle.tree.specs.Term.{Term, Number, Name, Call, Minus, Binary, Clamp, Cast
 use Rattle.tree.specs.Uses.{EachCall, EachCallOfTest, EachCallOfAll}
 use Rattle.tree.specs.Substitution.{with_calls, test_with_calls, all_with_calls}
 use Rattle.tree.specs.Typing.{type_of, is_index, are_indices, index_count}
-use Rattle.lin.specs.Forms.{Form, number}
+use Rattle.lin.specs.Forms.{number}
 use Rattle.lin.specs.Regions.{span_inside}
 use Rattle.lin.specs.Search.{at_most}
 use Rattle.lin.specs.declared.scope.Binding.{Binding}
@@ -40,13 +40,11 @@ use Rattle.sched.specs.Standing.{counted_from, alone}
 use Rattle.sched.specs.declared.skeleton.Step.{Step}
 use Rattle.sched.specs.declared.skeleton.Step.TheVariants.{Turns, Named, Tested}
 use Rattle.plan.specs.declared.stmt.Pick.TheVariants.{Min, Max}
-use Rattle.lower.specs.Stored.{FormulaText}
 use Rattle.lower.specs.Called.{function_call, input_call, or_input, called as called_there}
-use Rattle.lower.specs.Around.{AroundText, anything as anywhere, skip_to, bind, bind_steps, interval_in, coordinates_behind}
+use Rattle.lower.specs.Around.{AroundText, anything as anywhere, skip_to, bind, bind_steps, interval_in}
 use Rattle.lower.specs.Bounded.{is_on_input}
 use Rattle.lower.specs.Taken.{add_spans}
 use Rattle.lower.specs.Loading.{Loads, loaded_name, as_load}
-use Rattle.lower.specs.Bodies.{first_left, other_lefts, IsIndex, AreCoordinates}
 use Rattle.completeness.proofs.LoadedTerms.{Same, type_same, interval_same}
 use Rattle.completeness.proofs.Searched.{symbol_over, symbol_below, counted_over, counted_under}
 
@@ -76,20 +74,6 @@ IsAt (Found e) = ⊥
 abbrev pub AreAt : List Coordinate → Type 0
 AreAt cs = AllByRecursion (λ c. IsAt c.index) cs
 
-pub taken_at : (n : ℕ) (cs : List Coordinate) → AreAt cs → AreAt (take n cs)
-taken_at zero [] h = tt
-taken_at zero (c ∷ cs) h = tt
-taken_at (suc n) [] h = tt
-taken_at (suc n) (c ∷ cs) h = (h.0, taken_at n cs h.1)
-
-pub first_none : (lefts : List (Option Term)) → AllByRecursion (λ o. o ≡ None) lefts → first_left lefts ≡ None
-first_none [] h = refl
-first_none (o ∷ lefts) h = h.0
-
-pub others_none : (lefts : List (Option Term)) → AllByRecursion (λ o. o ≡ None) lefts → AllByRecursion (λ o. o ≡ None) (other_lefts lefts)
-others_none [] h = tt
-others_none (o ∷ lefts) h = h.1
-
 module _ (O : Outline) (R : Rules) where
   pub targets_are : (known : Known) (names : List (List ℕ)) (left : List Span1) (cs : List Coordinate) → AreAt cs → map (target_span O R known names left) cs ≡ map (variable_span O R) cs
   targets_are known names left [] h = refl
@@ -98,29 +82,6 @@ module _ (O : Outline) (R : Rules) where
       of : (x : Index) → IsAt x → target_span O R known names left (record { variable = c.variable; index = x }) ≡ index_span O R x
       of (At l) k = refl
       of (Found e) k = absurd k
-
-  -- where each is by a form, that is its span
-  module _ (a : Algorithm) (ms : Loads) (r : AroundText) (u : FormulaText) where
-    pub spans_are : (before zs : List Span1) (d : ℕ) (os : List (Option Form)) (xs : List (List ℕ)) (lefts : List (Option Term)) (cs : List Coordinate) → AllByRecursion (λ o. o ≡ None) lefts →
-        AreCoordinates ms xs os lefts cs → coordinates_behind a r u before d os ≡ Some zs → AreAt cs × (zs ≡ before ++ map (variable_span O R) cs)
-    spans_are before zs d [] xs lefts [] none h q = (tt, sym (same before zs q) ∙ sym (append-nil before))
-    spans_are before zs d [] xs lefts (c ∷ cs) none h q = absurd h
-    spans_are before zs d (o ∷ os) [] lefts cs none h q = absurd h
-    spans_are before zs d (o ∷ os) (x ∷ xs) lefts [] none h q = absurd h
-    spans_are before zs d (Some f ∷ os) (x ∷ xs) lefts (c ∷ cs) none h q =
-        let here = of c.index h.1 in
-        let rest = spans_are (before ++ exactly f ∷ []) zs (d + 1) os xs (other_lefts lefts) cs (others_none lefts none) h.2 q in
-        ((here.0, rest.0), rest.1 ∙ append_assoc before (exactly f ∷ []) (map (variable_span O R) cs) ∙ ap (λ (s : Span1). before ++ s ∷ map (variable_span O R) cs) here.1)
-      where
-        of : (i : Index) → IsIndex ms (Some f) (first_left lefts) i → IsAt i × (exactly f ≡ index_span O R i)
-        of (At g) k = (tt, ap exactly (sym k))
-        of (Found e) k = absurd k
-    spans_are before zs d (None ∷ os) (x ∷ xs) lefts (c ∷ cs) none h q = absurd (of c.index (first_left lefts) (first_none lefts none) h.1)
-      where
-        of : (i : Index) (o : Option Term) → o ≡ None → IsIndex ms None o i → ⊥
-        of (At g) o e k = k
-        of (Found t) None e k = k
-        of (Found t) (Some v) e k = cc e
 
 -- ---- a loop's symbol is a number of 32 bits
 

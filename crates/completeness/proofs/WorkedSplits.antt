@@ -3,6 +3,7 @@ use Rattle.std.proofs.Common.{◌≡◌, ℕ, zero, suc, false, List, [], ◌∷
 use Rattle.std.specs.Prelude.{pos, slice_get}
 use Rattle.std.specs.List.{AllByRecursion}
 use Rattle.std.proofs.lemmas.Int.{ints}
+use Rattle.tree.specs.Term.{Term}
 use Rattle.sched.specs.declared.numbers.Extent.{Extent}
 use Rattle.meaning.specs.Algorithm.{Function}
 use Rattle.sched.specs.Numbers.{loop_numbers}
@@ -14,7 +15,7 @@ use Rattle.completeness.specs.Blocked.{makes_line, IsKept}
 use Rattle.completeness.specs.Stores.{IsNearRegion}
 use Rattle.completeness.specs.Simple.{SimpleIndices}
 use Rattle.completeness.specs.Filled.{AreEndsShort, IsNearOrSimple}
-use Rattle.completeness.specs.Placed.{ArePlaced}
+use Rattle.completeness.specs.Placed.{IsSettled, ArePlaced}
 use Rattle.completeness.specs.Worked.{reader, caller, two_functions, both_split, SplitsFill}
 use Rattle.completeness.proofs.Owned.{some_same}
 
@@ -96,22 +97,91 @@ formulas_in : Option (List FormulaText) → List FormulaText
 formulas_in (Some fs) = fs
 formulas_in None = []
 
-first_placed : ArePlaced (formulas_in first.formulas)
-unfolding formulas_in
-first_placed = ((refl, (refl, tt)), tt)
+laid_in : Option (Option LaidText) → LaidText
+laid_in (Some (Some l)) = l
+laid_in _ = record { region = []; skeleton = record { grid = []; head = []; nests = []; known = []; starts = [] } }
 
-second_placed : ArePlaced (formulas_in second.formulas)
-unfolding formulas_in
-second_placed = ((refl, (refl, tt)), tt)
+-- the left index at a place of a definition, where it has one
+lefts_in : Option FormulaText → ℕ → Option (Option Term)
+lefts_in (Some f) j = slice_get f.at j
+lefts_in None j = None
+
+abbrev left_in : List FormulaText → ℕ → ℕ → Option (Option Term)
+left_in fs d j = lefts_in (slice_get fs d) j
+
+left_there : (fs : List FormulaText) (d j : ℕ) (f : FormulaText) (e : Term) → slice_get fs d ≡ Some f → slice_get f.at j ≡ Some (Some e) → left_in fs d j ≡ Some (Some e)
+unfolding lefts_in
+left_there fs d j f e at_f at_e = ap (λ (o : Option FormulaText). lefts_in o j) at_f ∙ at_e
+
+abbrev laid_first : LaidText
+laid_first = laid_in (slice_get (laid_functions two_functions gs) 0)
+
+abbrev laid_second : LaidText
+laid_second = laid_in (slice_get (laid_functions two_functions gs) 1)
+
+-- the one left index is the first of the update
+only_left : (d j : ℕ) (e : Term) → left_in (formulas_in first.formulas) d j ≡ Some (Some e) → j ≡ 0
+unfolding lefts_in formulas_in
+only_left zero zero e q = refl
+only_left zero (suc zero) e q = absurd (cc q)
+only_left zero (suc (suc j)) e q = absurd (cc q)
+only_left (suc zero) zero e q = refl
+only_left (suc zero) (suc zero) e q = absurd (cc q)
+only_left (suc zero) (suc (suc j)) e q = absurd (cc q)
+only_left (suc (suc d)) j e q = absurd (cc q)
+
+none_left : (d j : ℕ) (e : Term) → left_in (formulas_in second.formulas) d j ≡ Some (Some e) → ⊥
+unfolding lefts_in formulas_in
+none_left zero zero e q = cc q
+none_left zero (suc zero) e q = cc q
+none_left zero (suc (suc j)) e q = cc q
+none_left (suc d) j e q = cc q
+
+first_settled : IsSettled two_functions first (formulas_in first.formulas) laid_first
+unfolding formulas_in laid_in
+first_settled = (
+  Some (record { low = pos 0; high = pos 7 }) ∷ Some (record { low = pos 0; high = pos 4 }) ∷ [],
+  Some (record { low = pos 0; high = pos 7 }) ∷ Some (record { low = pos 0; high = pos 4 }) ∷ [],
+  refl,
+  refl,
+)
+
+first_placed : ArePlaced two_functions first (formulas_in first.formulas) laid_first
+first_placed = record {
+  within = λ d j f e at_f at_e.
+      (let is = only_left d j e (left_there (formulas_in first.formulas) d j f e at_f at_e) in ((λ other. absurd (apart j is other)), tt));
+  settled = λ d j f e at_f at_e. first_settled;
+}
+  where
+    apart : (j : ℕ) → j ≡ 0 → slice_get first.subject.variables j ≡ Some (121 ∷ []) → ⊥
+    apart zero is q = cc q
+    apart (suc j) is q = cc is
+
+second_placed : ArePlaced two_functions second (formulas_in second.formulas) laid_second
+second_placed = record {
+  within = λ d j f e at_f at_e. absurd (none_left d j e (left_there (formulas_in second.formulas) d j f e at_f at_e));
+  settled = λ d j f e at_f at_e. absurd (none_left d j e (left_there (formulas_in second.formulas) d j f e at_f at_e));
+}
 
 as_found : (g u : StoredText) (fs : List FormulaText) → g ≡ u → u.formulas ≡ Some fs → formulas_in g.formulas ≡ fs
 unfolding formulas_in
 as_found g u fs is e = ap (λ (v : StoredText). formulas_in v.formulas) is ∙ ap formulas_in e
 
-placed : (n : ℕ) (u : StoredText) → slice_get gs n ≡ Some u → (fs : List FormulaText) → u.formulas ≡ Some fs → ArePlaced fs
-placed zero u at fs e = subst ArePlaced (as_found first u fs (first_is u at) e) first_placed
-placed (suc zero) u at fs e = subst ArePlaced (as_found second u fs (second_is u at) e) second_placed
-placed (suc (suc n)) u at fs e = absurd (no_more u at)
+as_laid : (n : ℕ) (r : LaidText) → slice_get (laid_functions two_functions gs) n ≡ Some (Some r) → laid_in (slice_get (laid_functions two_functions gs) n) ≡ r
+unfolding laid_in
+as_laid n r at = ap laid_in at
+
+placed : (n : ℕ) (u : StoredText) → slice_get gs n ≡ Some u → (fs : List FormulaText) → u.formulas ≡ Some fs → (r : LaidText) →
+    slice_get (laid_functions two_functions gs) n ≡ Some (Some r) → ArePlaced two_functions u fs r
+placed zero u at fs e r there =
+    subst (ArePlaced two_functions u fs) (as_laid 0 r there)
+    (subst (λ (vs : List FormulaText). ArePlaced two_functions u vs laid_first) (as_found first u fs (first_is u at) e)
+    (subst (λ (v : StoredText). ArePlaced two_functions v (formulas_in first.formulas) laid_first) (first_is u at) first_placed))
+placed (suc zero) u at fs e r there =
+    subst (ArePlaced two_functions u fs) (as_laid 1 r there)
+    (subst (λ (vs : List FormulaText). ArePlaced two_functions u vs laid_second) (as_found second u fs (second_is u at) e)
+    (subst (λ (v : StoredText). ArePlaced two_functions v (formulas_in second.formulas) laid_second) (second_is u at) second_placed))
+placed (suc (suc n)) u at fs e r there = absurd (no_more u at)
   where
     no_more : (u : StoredText) → None ≡ Some u → ⊥
     no_more u q = cc q

@@ -31,12 +31,14 @@ use Rattle.completeness.specs.Blocked.{IsKept}
 use Rattle.completeness.specs.Filled.{IsNearOrSimple}
 
 -- each stored function is a root function that is computed at no loop; its loops are split once at most, none with `shift`: with `roundup`, or with `guard`
--- where the factor divides the loop's numbers, the inner loop stands inside of the outer one, or a piece tells the block; its updates set each variable at its own
--- place; and the region that is needed of it begins near 0, or each index of its definitions is simple and its blocks reach numbers of 32 bits
+-- where the factor divides the loop's numbers, the inner loop stands inside of the outer one, or a piece tells the block; where a left index of its updates is no
+-- variable, asking for its region came to an end, and no block runs past the end of that dimension; and the region that is needed of it begins near 0, or each index
+-- of its definitions is simple and its blocks reach numbers of 32 bits
 pub record SplitsPlainly (a : Algorithm) (s : Schedule) : Type 0 where
   pub whole : are_whole (stored_functions a s) ≡ true
   pub blocked : (n : ℕ) (u : StoredText) → slice_get (stored_functions a s) n ≡ Some u → IsKept a s n u
-  pub placed : (n : ℕ) (u : StoredText) → slice_get (stored_functions a s) n ≡ Some u → (fs : List FormulaText) → u.formulas ≡ Some fs → ArePlaced fs
+  pub placed : (n : ℕ) (u : StoredText) → slice_get (stored_functions a s) n ≡ Some u → (fs : List FormulaText) → u.formulas ≡ Some fs
+      → (r : LaidText) → slice_get (laid_functions a (stored_functions a s)) n ≡ Some (Some r) → ArePlaced a u fs r
   pub near : (n : ℕ) (u : StoredText) → slice_get (stored_functions a s) n ≡ Some u → (fs : List FormulaText) → u.formulas ≡ Some fs →
       (r : LaidText) → slice_get (laid_functions a (stored_functions a s)) n ≡ Some (Some r) → IsNearOrSimple u fs r.region
 

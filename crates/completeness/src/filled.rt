@@ -2,13 +2,14 @@
 
 ghost use Rattle.completeness.specs.Filled.{BlockedGroupsOweShown, NearBlockedGroupsOweShown};
 
-/// Of a schedule under which each stored function is a root function that is computed at no loop, the group of each function whose left indices are the
-/// variables at their own places, in the pure definition and in updates, and whose loops are split once, none with `shift`: with `roundup`, or with `guard`
-/// where over its region the factor divides the loop's numbers, the inner loop stands inside of the outer one, or a piece tells the block,
-/// whichever loops are parallel but the inner ones; where what is fetched holds the calls, and blocks that run past the end reach numbers of 32 bits alone: all
-/// that its lines owe is shown, where the tests of nests say yes to plain nests and to split ones, as the checker's do. Neither K2, K4, K5, K6 nor K7 is told
-/// of them. Each coordinate is a number of 32 bits: the first number of a block, which the grid or an outer loop tells, and an inner loop's symbol. Reduction
-/// variables are loops over their ranges; an update's calls of its own function are of the point where it stores.
+/// Of a schedule under which each stored function is a root function that is computed at no loop, the group of each function whose loops are split once, none
+/// with `shift`: with `roundup`, or with `guard` where over its region the factor divides the loop's numbers, the inner loop stands inside of the outer one, or a
+/// piece tells the block, whichever loops are parallel but the inner ones; where what is fetched holds the calls, blocks that run past the end reach numbers of
+/// 32 bits alone, and each left index that is no variable is shown to lie in its dimension, past whose end no block runs: all that its lines owe is shown, where
+/// the tests of nests say yes to plain nests and to split ones, as the checker's do. Neither K2, K4, K5, K6 nor K7 is told of them. Each other coordinate is a
+/// number of 32 bits: the first number of a block, which the grid or an outer loop tells, and an inner loop's symbol. Reduction variables are loops over their
+/// ranges; an update's calls of its own function are of the point where it stores at each place where that sets the variable, and at others of its region. A
+/// dimension that a left index sets has no parallel loop, so each piece has it whole. Left indices may call, too.
 pub fn blocked_groups_owe_shown()
     ensures { BlockedGroupsOweShown }
 {}
@@ -17,7 +18,8 @@ pub fn blocked_groups_owe_shown()
 /// index of its definitions is a literal or a variable, plus or minus literals and clamped to literals or not, and no block reaches a number past 32 bits: the
 /// forms of what its indices stay within then have no multiples that go farther than 2^39 + 2^37 together, so that the checker's search, which adds a number
 /// to each, stays within the limits of forms wherever `lower` did, and finds of each index no more than the ends by which `lower` told the regions of the
-/// functions it calls.
+/// functions it calls. Where some left index is no variable, asking for its own region came to an end: what its updates set and call, over the loops
+/// over that region, adds nothing to it. So each left index lies in it.
 pub fn near_blocked_groups_owe_shown()
     ensures { NearBlockedGroupsOweShown }
 {}

@@ -1,0 +1,107 @@
+-- Where the region of a function is what its own updates widen some reach to, each left index that is no variable has ends, between those of the region at its place.
+use Rattle.std.proofs.Common.{◌≡◌, ℕ, zero, suc, ◌+◌, ◌≤◌, Bool, List, [], ◌∷◌, length, Option, Some, None, sym, ap, subst, ◌∙◌, arith}
+use Rattle.std.specs.Prelude.{slice_get}
+use Rattle.tree.specs.Term.{Term}
+use Rattle.lin.specs.declared.scope.Binding.{Binding}
+use Rattle.meaning.specs.Algorithm.{Algorithm}
+use Rattle.sched.specs.declared.numbers.Extent.{Extent}
+use Rattle.sched.specs.Skeleton.{NestText}
+use Rattle.sched.specs.Standing.{◌>>=◌}
+use Rattle.lower.specs.Stored.{FormulaText, StoredText, calls_in}
+use Rattle.lower.specs.Around.{AroundText, around}
+use Rattle.lower.specs.Regions.{are_within, add_calls, add_place, add_left, add_own, add_all_own, region_of}
+use Rattle.lower.proofs.Laying.{bound, same}
+use Rattle.lower.proofs.Reached.{Grows, after, if_some, region_length}
+use Rattle.completeness.proofs.Standing.{Taken}
+use Rattle.completeness.proofs.CallEnds.{stay, HasEnds, grows_index, grows_calls, index_ends, more_ends, region_in, IsIndexEnded}
+
+abbrev Ends : Type 0
+Ends = Taken _ _ are_within
+
+-- ---- left indices
+
+module _ (a : Algorithm) (r : AroundText) where
+  grows_place : (d : ℕ) (o : Option Term) (reach out : List (Option Ends)) → add_place a r d o reach ≡ Some out → Grows reach out
+  grows_place d None reach out h = if_some reach reach out (stay reach) h
+  grows_place d (Some e) reach out h = grows_index a r d e reach out h
+
+  grows_left : (d : ℕ) (os : List (Option Term)) (reach out : List (Option Ends)) → add_left a r d os reach ≡ Some out → Grows reach out
+  grows_left d [] reach out h = if_some reach reach out (stay reach) h
+  grows_left d (o ∷ os) reach out h =
+      let b = bound (add_place a r d o reach) (add_left a r (d + 1) os) out h in
+      after reach b.value out (grows_place d o reach b.value b.is) (grows_left (d + 1) os b.value out b.comes)
+
+  left_ends : (d : ℕ) (os : List (Option Term)) (reach out : List (Option Ends)) → add_left a r d os reach ≡ Some out → d + length os ≤ length reach → (j : ℕ) (e : Term) →
+      slice_get os j ≡ Some (Some e) → HasEnds a r e out (d + j)
+  left_ends d [] reach out h few j e at = absurd (cc at)
+  left_ends d (o ∷ os) reach out h few zero e at =
+      let b = bound (add_place a r d o reach) (add_left a r (d + 1) os) out h in
+      let none : d ≡ d + 0 = omega arith in
+      let here = index_ends a r d e reach b.value (omega (arith, few)) (subst (λ (i : Option Term). add_place a r d i reach ≡ Some b.value) (same o (Some e) at) b.is) in
+      subst (HasEnds a r e out) none (more_ends a r e d b.value out (grows_left (d + 1) os b.value out b.comes) here)
+  left_ends d (o ∷ os) reach out h few (suc j) e at =
+      let b = bound (add_place a r d o reach) (add_left a r (d + 1) os) out h in
+      let many = (grows_place d o reach b.value b.is).as_many in
+      let next : (d + 1) + j ≡ d + suc j = omega arith in
+      subst (HasEnds a r e out) next (left_ends (d + 1) os b.value out b.comes (omega (arith, few, many)) j e at)
+
+-- ---- definitions
+
+module _ (a : Algorithm) (g : StoredText) (outer : List Binding) where
+  grows_own : (d : ℕ) (f : FormulaText) (n : NestText) (reach out : List (Option Ends)) → add_own a g outer d f n reach ≡ Some out → Grows reach out
+  grows_own d f n reach out h =
+      let b = bound (around a g outer n f d) (λ r. add_left a r 0 f.at reach >>= add_calls a r (Some f) g.subject.name (calls_in f)) out h in
+      let c = bound (add_left a b.value 0 f.at reach) (add_calls a b.value (Some f) g.subject.name (calls_in f)) out b.comes in
+      after reach c.value out (grows_left a b.value 0 f.at reach c.value c.is) (grows_calls a b.value (Some f) g.subject.name (calls_in f) c.value out c.comes)
+
+  grows_all_own : (d : ℕ) (fs : List FormulaText) (ns : List NestText) (reach out : List (Option Ends)) → add_all_own a g outer d fs ns reach ≡ Some out → Grows reach out
+  grows_all_own d [] ns reach out h = if_some reach reach out (stay reach) h
+  grows_all_own d (f ∷ fs) [] reach out h = absurd (cc h)
+  grows_all_own d (f ∷ fs) (n ∷ ns) reach out h =
+      let b = bound (add_own a g outer d f n reach) (add_all_own a g outer (d + 1) fs ns) out h in
+      after reach b.value out (grows_own d f n reach b.value b.is) (grows_all_own (d + 1) fs ns b.value out b.comes)
+
+  module _ (f : FormulaText) (n : NestText) (r : AroundText) (j : ℕ) (e : Term) (at : slice_get f.at j ≡ Some (Some e)) where
+    own_ends : (d : ℕ) (reach out : List (Option Ends)) → around a g outer n f d ≡ Some r → add_own a g outer d f n reach ≡ Some out → length f.at ≤ length reach → HasEnds a r e out j
+    own_ends d reach out stands h few =
+        let added : (add_left a r 0 f.at reach >>= add_calls a r (Some f) g.subject.name (calls_in f)) ≡ Some out =
+        sym (ap (λ (o : Option AroundText). o >>= λ r. add_left a r 0 f.at reach >>= add_calls a r (Some f) g.subject.name (calls_in f)) stands) ∙ h in
+        let c = bound (add_left a r 0 f.at reach) (add_calls a r (Some f) g.subject.name (calls_in f)) out added in
+        let none : 0 + j ≡ j = omega arith in
+        let here = left_ends a r 0 f.at reach c.value c.is (omega (arith, few)) j e at in
+        more_ends a r e j c.value out (grows_calls a r (Some f) g.subject.name (calls_in f) c.value out c.comes) (subst (HasEnds a r e c.value) none here)
+
+    all_own_ends : (d m : ℕ) (fs : List FormulaText) (ns : List NestText) (reach out : List (Option Ends)) → add_all_own a g outer d fs ns reach ≡ Some out → slice_get fs m ≡ Some f →
+        slice_get ns m ≡ Some n → around a g outer n f (d + m) ≡ Some r → length f.at ≤ length reach → HasEnds a r e out j
+    all_own_ends d m [] ns reach out h there nested stands few = absurd (cc there)
+    all_own_ends d m (y ∷ fs) [] reach out h there nested stands few = absurd (cc h)
+    all_own_ends d zero (y ∷ fs) (z ∷ ns) reach out h there nested stands few =
+        let b = bound (add_own a g outer d y z reach) (add_all_own a g outer (d + 1) fs ns) out h in
+        let of_it : add_own a g outer d f n reach ≡ Some b.value =
+        subst (λ (q : FormulaText). add_own a g outer d q n reach ≡ Some b.value) (same y f there) (subst (λ (q : NestText). add_own a g outer d y q reach ≡ Some b.value) (same z n nested) b.is) in
+        let none : d + 0 ≡ d = omega arith in
+        let known : around a g outer n f d ≡ Some r = subst (λ (i : ℕ). around a g outer n f i ≡ Some r) none stands in
+        more_ends a r e j b.value out (grows_all_own (d + 1) fs ns b.value out b.comes) (own_ends d reach b.value known of_it few)
+    all_own_ends d (suc m) (y ∷ fs) (z ∷ ns) reach out h there nested stands few =
+        let b = bound (add_own a g outer d y z reach) (add_all_own a g outer (d + 1) fs ns) out h in
+        let many = (grows_own d y z reach b.value b.is).as_many in
+        let next : (d + 1) + m ≡ d + suc m = omega arith in
+        let known : around a g outer n f ((d + 1) + m) ≡ Some r = subst (λ (i : ℕ). around a g outer n f i ≡ Some r) (sym next) stands in
+        all_own_ends (d + 1) m fs ns b.value out b.comes there nested known (omega (arith, few, many))
+
+    -- between those of the region
+    pub left_ended : (root : Bool) (m : ℕ) (fs : List FormulaText) (ns : List NestText) (reach wide : List (Option Ends)) (region : List Extent) → add_all_own a g outer 0 fs ns reach ≡ Some wide →
+        region_of root wide ≡ Some region → slice_get fs m ≡ Some f → slice_get ns m ≡ Some n → around a g outer n f m ≡ Some r → length f.at ≤ length region → IsIndexEnded a r e region j
+    left_ended root m fs ns reach wide region h is there nested stands few =
+        let many = (grows_all_own 0 fs ns reach wide h).as_many in
+        let long = region_length root wide region is in
+        let none : 0 + m ≡ m = omega arith in
+        let known : around a g outer n f (0 + m) ≡ Some r = subst (λ (i : ℕ). around a g outer n f i ≡ Some r) (sym none) stands in
+        let ends = all_own_ends 0 m fs ns reach wide h there nested known (omega (arith, few, many, long)) in
+        record {
+          span = ends.span;
+          bounds = ends.bounds;
+          ends = ends.ends;
+          freed = ends.freed;
+          inside = λ z low high x at_x. region_in root wide region is j z x (ends.reached z low high) at_x;
+        }

@@ -1,0 +1,194 @@
+-- A dimension of which no loop is parallel, and no split's block runs past the last number, belongs to each piece whole: its buffer and the claims on it have all its numbers.
+use Rattle.std.proofs.Common.{◌≡◌, ℕ, zero, suc, ◌+◌, ◌*◌, ◌<◌, Bool, true, false, ◌||◌, not, List, [], ◌∷◌, Some, None, refl, sym, ap, ◌∙◌, subst, inl, inr, arith}
+use Rattle.std.specs.Prelude.{pos, ◌+ℤ◌, ◌-ℤ◌, ◌%◌, ◌==◌, if◌then◌else◌, slice_get}
+use Rattle.std.specs.List.{AllByRecursion}
+use Rattle.std.proofs.lemmas.Bool.Decides.{nat_tests}
+use Rattle.lin.specs.Forms.{number}
+use Rattle.lin.specs.declared.span.Span1.{Span1}
+use Rattle.bounds.specs.Spans.{numbers}
+use Rattle.plan.specs.declared.plan.Group.{Group as CodeGroup}
+use Rattle.plan.specs.declared.stmt.Places.{Places}
+use Rattle.plan.specs.declared.stmt.Places.TheVariants.{From}
+use Rattle.plan.specs.declared.certificate.cert.Claim.{Claim as CodeClaim}
+use Rattle.plan.specs.declared.certificate.cert.Need.{Need}
+use Rattle.plan.specs.Plan.{Plan}
+use Rattle.plan.specs.View.{plan_of, statement_of}
+use Rattle.plan.specs.Lines.{lines, body_line}
+use Rattle.meaning.specs.Algorithm.{Algorithm}
+use Rattle.meaning.specs.Names.{same_name}
+use Rattle.meaning.specs.Conditions.{IsAlgorithm}
+use Rattle.soundness.specs.Claims.{In}
+use Rattle.soundness.proofs.Refines.{name_true}
+use Rattle.headline.proofs.Regions.{at_in}
+use Rattle.sched.specs.Schedule.{Schedule}
+use Rattle.sched.specs.Legal.{IsLegal}
+use Rattle.sched.specs.declared.schedule.Split.{Split}
+use Rattle.sched.specs.declared.schedule.Tail.{Tail}
+use Rattle.sched.specs.declared.schedule.Tail.TheVariants.{Guard, Roundup, Shift}
+use Rattle.sched.specs.declared.placing.Loop.{Loop}
+use Rattle.sched.specs.declared.numbers.Extent.{Extent}
+use Rattle.sched.specs.declared.numbers.Numbers.{Numbers}
+use Rattle.sched.specs.Placing.{is_parallel}
+use Rattle.sched.specs.Numbers.{numbers_named, last_number, loop_numbers, parallel_loops}
+use Rattle.sched.specs.Standing.{has_rest, overruns}
+use Rattle.sched.proofs.Rooting.{HaveDimensions, IsHeld}
+use Rattle.sched.proofs.Arranging.{LoopFits, SplitFits}
+use Rattle.lower.specs.declared.lowering.Lowered.{Lowered}
+use Rattle.lower.specs.Stored.{StoredText, stored_functions, has_large}
+use Rattle.lower.specs.Faults.{are_whole, region_fault}
+use Rattle.lower.specs.Bounded.{whole}
+use Rattle.lower.specs.Blocks.{dimension_of, lay_over}
+use Rattle.lower.specs.Owning.{IsLaidBy}
+use Rattle.lower.specs.Groups.{HasBody, HasGroups}
+use Rattle.lower.proofs.Blocking.{IsSmall, CutFits}
+use Rattle.lower.proofs.Owners as owners
+use Rattle.completeness.specs.Laws.{AreSplitOnce}
+use Rattle.completeness.specs.Parted.{KeepsInner}
+use Rattle.completeness.specs.Blocked.{is_tailed, makes_line}
+use Rattle.completeness.proofs.Served.{roots}
+use Rattle.completeness.proofs.PureNests.{all_in, loop_name}
+use Rattle.completeness.proofs.PlainTurns.{one_if, hits}
+use Rattle.completeness.proofs.StoreLists.{numbers_at}
+use Rattle.completeness.proofs.BlockDims.{top, top_high, top_full, full_last, end_of_all, all_of}
+use Rattle.completeness.proofs.BlockNests as nests_of
+
+-- no parallel loop of this name
+none_hit : (ls : List Loop) (x : List ℕ) → ((o : Loop) → In o ls → is_parallel o ≡ true → o.name ≡ x → ⊥) → hits loop_name x (parallel_loops ls) ≡ 0
+none_hit [] x none = refl
+none_hit (l ∷ ls) x none = of (is_parallel l) refl (none_hit ls x (λ o m. none o (inr m)))
+  where
+    by : (v : Bool) → same_name l.name x ≡ v → is_parallel l ≡ true → hits loop_name x (parallel_loops ls) ≡ 0 → one_if v + hits loop_name x (parallel_loops ls) ≡ 0
+    by true e p rest = absurd (none l (inl refl) p (name_true l.name x e))
+    by false e p rest = (let zero_so = rest in omega (arith, zero_so))
+
+    of : (v : Bool) → is_parallel l ≡ v → hits loop_name x (parallel_loops ls) ≡ 0 → hits loop_name x (if v then l ∷ parallel_loops ls else parallel_loops ls) ≡ 0
+    of true p rest = by (same_name l.name x) refl p rest
+    of false p rest = rest
+
+dimension_at : (dim : List ℕ → ℕ) (d : ℕ) (xs : List (List ℕ)) → HaveDimensions dim d xs → (j : ℕ) (x : List ℕ) → slice_get xs j ≡ Some x → dim x ≡ d + j
+dimension_at dim d [] h j x at = absurd (cc at)
+dimension_at dim d (y ∷ xs) h zero x at =
+    let none : d ≡ d + 0 = omega arith in
+    let is : y ≡ x = cc at in
+    ap dim (sym is) ∙ h.0 ∙ none
+dimension_at dim d (y ∷ xs) h (suc j) x at = (let next : (d + 1) + j ≡ d + suc j = omega arith in dimension_at dim (d + 1) xs h.1 j x at ∙ next)
+
+no_rest : (n m : ℕ) → ((n == 0) || not (m % n == 0)) ≡ false → m % n ≡ 0
+no_rest n m q = of (n == 0) (m % n == 0) refl q
+  where
+    of : (a b : Bool) → (m % n == 0) ≡ b → (a || not b) ≡ false → m % n ≡ 0
+    of true b k r = absurd (cc r)
+    of false false k r = absurd (cc r)
+    of false true k r = grind (arith, nat_tests, k)
+
+-- ---- groups
+
+module _ (a : Algorithm) (sch : Schedule) (l : Lowered) (well : IsAlgorithm a) (legal : IsLegal a sch) (small : has_large (stored_functions a sch) ≡ false)
+    (kept : region_fault a (stored_functions a sch) ≡ None) (all : are_whole (stored_functions a sch) ≡ true) (groups : HasGroups a (stored_functions a sch) l) where
+  abbrev gs : List StoredText
+  gs = stored_functions a sch
+
+  abbrev items : List CodeClaim
+  items = l.certificate.claims.items
+
+  abbrev plan : Plan
+  plan = plan_of l.plan
+
+  module _ (n first line : ℕ) (g : StoredText) (p : CodeGroup) (claims : List CodeClaim) (needs : List Need) (at : slice_get gs n ≡ Some g) (there : slice_get l.plan.groups.items n ≡ Some p)
+      (h : HasBody a (roots a sch l well legal small kept all groups) n first line g p claims needs) (lined : body_line plan n ≡ line + 1)
+      (placed : (j : ℕ) (v : CodeClaim) → slice_get claims j ≡ Some v → slice_get items (first + j) ≡ Some v)
+      (alone_here : (j : ℕ) (w : CodeClaim) → slice_get items j ≡ Some w → line < w.line → w.line < line + (lines (statement_of p.body) + 1) → In w claims)
+      (laid : IsLaidBy g h.extents h.skeleton) (split_alone : AreSplitOnce g.placed.cuts) (keeps : KeepsInner g.placed.loops g.placed.cuts)
+      (filled : AllByRecursion (λ c. makes_line g.placed.loops (loop_numbers g.subject.variables g.placed.cuts h.extents) c ≡ false) g.placed.cuts) where
+    abbrev xs : List (List ℕ)
+    xs = g.subject.variables
+
+    abbrev ls : List Loop
+    ls = g.placed.loops
+
+    abbrev cuts : List Split
+    cuts = g.placed.cuts
+
+    abbrev rs : List Numbers
+    rs = loop_numbers xs cuts h.extents
+
+    abbrev place_named : List ℕ → Places
+    place_named x = (dimension_of (lay_over g h.extents h.skeleton) cuts x).places
+
+    abbrev claim_named : List ℕ → Span1
+    claim_named x = (dimension_of (lay_over g h.extents h.skeleton) cuts x).claim
+
+    module _ (j : ℕ) (x : List ℕ) (at_x : slice_get xs j ≡ Some x) (apart : (o : Loop) → In o ls → is_parallel o ≡ true → o.dimension ≡ j → ⊥)
+        (within : AllByRecursion (λ c. slice_get xs j ≡ Some c.whole → overruns rs c ≡ false) cuts) where
+      abbrev dim : List ℕ → ℕ
+      dim = (owners.arranged g h.extents h.skeleton laid).dim
+
+      -- no loop of a name of this dimension is parallel
+      none_of : (y : List ℕ) → dim y ≡ j → hits loop_name y (parallel_loops ls) ≡ 0
+      none_of y same_dimension =
+          let r = owners.arranged g h.extents h.skeleton laid in
+          none_hit ls y (λ o m parallel name. apart o m parallel ((all_in (LoopFits r.rs r.w r.dim g.placed.used) ls o r.loops m).is.dimension ∙ ap dim name ∙ same_dimension))
+
+      here : dim x ≡ j
+      here = (let none : 0 + j ≡ j = omega arith in dimension_at dim 0 xs (owners.arranged g h.extents h.skeleton laid).dimensions j x at_x ∙ none)
+
+      cut_dims : (c : Split) → In c cuts → c.whole ≡ x → (claim_named x ≡ numbers (numbers_named rs x).low (last_number (numbers_named rs x)))
+          × (place_named x ≡ From (number (numbers_named rs x).low) (numbers_named rs x).count)
+      cut_dims c m is =
+          let r = owners.arranged g h.extents h.skeleton laid in
+          let none = none_of c.outer ((all_in (SplitFits r.rs r.w r.b r.dim g.placed.used) cuts c r.cuts m).along.outer ∙ ap dim is ∙ here) in
+          let d = nests_of.dim_split a sch l well legal small kept all groups n first line g p claims needs at there h lined placed alone_here laid split_alone keeps filled c m none in
+          let clear : overruns rs c ≡ false = all_in (λ c. slice_get xs j ≡ Some c.whole → overruns rs c ≡ false) cuts c within m (at_x ∙ ap (λ (y : List ℕ). Some y) (sym is)) in
+          let free = nests_of.free a sch l well legal small kept all groups n first line g p claims needs at there h lined placed alone_here laid split_alone keeps filled c m in
+          let fits = nests_of.fits a sch l well legal small kept all groups n first line g p claims needs at there h lined placed alone_here laid split_alone keeps filled c m in
+          let fit = nests_of.fit_of a sch l well legal small kept all groups n first line g p claims needs at there h lined placed alone_here laid split_alone keeps filled c.whole
+          (nests_of.wholes a sch l well legal small kept all groups n first line g p claims needs at there h lined placed alone_here laid split_alone keeps filled c m) in
+          let w = whole_split c fits fit.0 fit.1 free clear in
+          subst (λ (y : List ℕ). (claim_named y ≡ numbers (numbers_named rs y).low (last_number (numbers_named rs y))) × (place_named y ≡ From (number (numbers_named rs y).low)
+          (numbers_named rs y).count))
+          is (d.0 ∙ ap (numbers (numbers_named rs c.whole).low) w.0, d.1 ∙ ap (From (number (numbers_named rs c.whole).low)) w.1)
+        where
+          -- all blocks together have the loop's numbers and no more
+          whole_split : (c : Split) (fits : CutFits rs c) (fit : IsSmall (numbers_named rs c.whole)) (some : 0 < (numbers_named rs c.whole).count) (free : makes_line ls rs c ≡ false) →
+              overruns rs c ≡ false → (end_of_all ls rs c free fits fit some ≡ last_number (numbers_named rs c.whole)) × (all_of ls rs c free fits fit some ≡ (numbers_named rs c.whole).count)
+          whole_split c fits fit some free clear = of (is_tailed rs c) refl
+            where
+              own : Numbers
+              own = numbers_named rs c.whole
+
+              full : is_tailed rs c ≡ false → has_rest c own.count ≡ false
+              full e = by c.tail e clear
+                where
+                  by : (t : Tail) → (elim t [ Guard ↦ has_rest c own.count | Roundup ↦ false | Shift ↦ true ]) ≡ false →
+                      (elim t [ Roundup ↦ has_rest c own.count | Guard ↦ false | Shift ↦ false ]) ≡ false → has_rest c own.count ≡ false
+                  by Guard q k = q
+                  by Roundup q k = k
+                  by Shift q k = absurd (cc q)
+
+              of : (v : Bool) → is_tailed rs c ≡ v →
+                  ((if v then last_number own else (own.low +ℤ (pos (top own.count c.factor * c.factor) +ℤ (pos c.factor -ℤ pos 1)))) ≡ last_number own)
+                  × ((if v then own.count else top own.count c.factor * c.factor + c.factor) ≡ own.count)
+              of true e = (refl, refl)
+              of false e =
+                  let none = full e in
+                  let low = top_high own.count c.factor some fits.some in
+                  let high = top_full own.count c.factor some fits.some (no_rest c.factor own.count none) in
+                  (sym (full_last ls rs c free fits fit some none), omega (arith, low, high))
+
+      pub whole_named : (claim_named x ≡ numbers (numbers_named rs x).low (last_number (numbers_named rs x)))
+          × (place_named x ≡ From (number (numbers_named rs x).low) (numbers_named rs x).count)
+      whole_named = elim (all_in (IsHeld ls cuts) xs x (owners.arranged g h.extents h.skeleton laid).variables (at_in xs j x at_x)) [
+        | inl o ↦ nests_of.dim_loop a sch l well legal small kept all groups n first line g p claims needs at there h lined placed alone_here laid split_alone keeps filled x (at_in xs j x at_x)
+            (none_of x here) (o.0, o.1, o.2)
+        | inr c ↦ cut_dims c.0 c.1 c.2
+      ]
+
+      -- as the buffer and the claims have it
+      pub whole_dimension : (z : Extent) → slice_get h.extents j ≡ Some z → (place_named x ≡ From (number z.low) z.count) × (claim_named x ≡ whole z)
+      whole_dimension z at_z =
+          let e = numbers_at rs xs h.extents (owners.numbers g h.extents h.skeleton laid) j x at_x in
+          let same_z : e.0 ≡ z = (let some : Some e.0 ≡ Some z = sym e.1 ∙ at_z in cc some) in
+          let y = whole_named in (
+            y.1 ∙ ap (λ (r : Numbers). From (number r.low) r.count) e.2 ∙ ap (λ (w : Extent). From (number w.low) w.count) same_z,
+            y.0 ∙ ap (λ (r : Numbers). numbers r.low (last_number r)) e.2 ∙ ap whole same_z,
+          )
