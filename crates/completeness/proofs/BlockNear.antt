@@ -32,6 +32,7 @@ use Rattle.soundness.proofs.Refines.{eq_true, and_parts}
 use Rattle.algo.specs.Scoping.Standing.{Written}
 use Rattle.headline.proofs.Lists.{from_map}
 use Rattle.headline.proofs.Regions.{at_in}
+use Rattle.headline.proofs.Members.{got}
 use Rattle.sched.specs.Schedule.{Schedule}
 use Rattle.sched.specs.Legal.{IsLegal}
 use Rattle.sched.specs.declared.schedule.Split.{Split}
@@ -72,10 +73,10 @@ use Rattle.completeness.proofs.Halves.{AreOthers, inner_outer}
 use Rattle.completeness.proofs.Lanes.{AreOnce}
 use Rattle.completeness.proofs.PureNests.{all_in, all_from, all_get}
 use Rattle.completeness.proofs.UpdateTurns.{all_mapped, all_filtered}
-use Rattle.completeness.proofs.Boxes.{IsCapped, IsBox, AreBoxes, weight_of, weight_at, weight, both_under, IsLight, IsLightSpan, span_light}
+use Rattle.completeness.proofs.Boxes.{IsCapped, IsBox, AreBoxes, IsPlain, ArePlain, weight_of, weight_at, weight, both_under, IsLight, IsLightSpan, span_light}
 use Rattle.completeness.proofs.FirstNumbers.{first_of, firsts, number_at, index_near}
 use Rattle.completeness.proofs.RangedLefts.{left_got}
-use Rattle.completeness.proofs.NearBoxes.{IsFew, IsBoxTurn, IsTurn, box_turn, plain_box, plain_weight, turn_there, steps_boxes, steps_weights, regions_few}
+use Rattle.completeness.proofs.NearBoxes.{IsFew, IsBoxTurn, IsTurn, box_turn, plain_box, plain_weight, turn_there, all_bound, steps_boxes, steps_weights, regions_few}
 use Rattle.completeness.proofs.NearBoxes.{AreFewNumbers, turn_few, turn_box, IsCount, or_one_all, count_box, count_weight}
 use Rattle.completeness.proofs.RangedBoxes.{turns_all}
 use Rattle.completeness.proofs.SimpleSpans.{SpanKeeps, simple_kept}
@@ -111,10 +112,10 @@ module _ (z : ℤ) (s c m : ℕ) where
       two : (f : ℤ) → z +ℤ (pos 1 *ℤ pos 0 +ℤ (f *ℤ pos 0 +ℤ pos 0)) ≡ z
       two f = omega (arith, ints)
 
-  pair_light : (scope : List Binding) → c ≤ 1024 → weight_at scope s ≤ 8192 → weight_at scope m ≤ 2 ^ 32 → weight scope (pair z s (pos c) m).terms ≤ 2 ^ 39 + 2 ^ 37
+  pair_light : (scope : List Binding) → c ≤ 1024 → weight_at scope s ≤ 8192 → weight_at scope m ≤ 2 ^ 32 → weight scope (pair z s (pos c) m).terms ≤ 2 ^ 38 + 2 ^ 37 + 2 ^ 36
   pair_light scope few first second =
       let times : weight_at scope s * unsigned_abs (pos c) ≤ 8192 * 1024 = both_times (weight_at scope s) c first few in
-      pair_either (λ ts. weight scope ts ≤ 2 ^ 39 + 2 ^ 37) (omega (arith, times, second)) (omega (arith, times, second))
+      pair_either (λ ts. weight scope ts ≤ 2 ^ 38 + 2 ^ 37 + 2 ^ 36) (omega (arith, times, second)) (omega (arith, times, second))
     where
       both_times : (p q : ℕ) → p ≤ 8192 → q ≤ 1024 → p * q ≤ 8192 * 1024
       both_times p q h k = (let one = mul-le-mul_left p k in let two = mul-le-mul_right 1024 h in omega (arith, one, two))
@@ -145,7 +146,7 @@ module _ (Q : Option Form → Type 0) (none : Q None) (ks : List Known) (each : 
 -- what the coordinates of a nest stay within is light, where their forms are
 module _ (scope : List Binding) where
   abbrev IsLightList : List Multiple → Type 0
-  IsLightList ts = weight scope ts ≤ 2 ^ 39 + 2 ^ 37
+  IsLightList ts = weight scope ts ≤ 2 ^ 38 + 2 ^ 37 + 2 ^ 36
 
   abbrev IsLightIf : Option Form → Type 0
   IsLightIf None = Unit {0}
@@ -159,8 +160,8 @@ module _ (scope : List Binding) where
 
   kept_light : (x : Span1) → AreLight x → IsLightSpan scope x
   kept_light x h = (
-    all_weaker (λ f. IsLightList f.terms) (IsLight scope) (λ f k limited. k) x.lower h.0,
-    all_weaker (λ f. IsLightList f.terms) (IsLight scope) (λ f k limited. k) x.upper h.1,
+    all_weaker (λ f. IsLightList f.terms) (IsLight scope) (λ f k limited. inl k) x.lower h.0,
+    all_weaker (λ f. IsLightList f.terms) (IsLight scope) (λ f k limited. inl k) x.upper h.1,
   )
 
   module _ (a : Algorithm) (r : AroundText) (f : FormulaText) (lefts : (d : ℕ) (e : Term) → left_at f d ≡ Some e → (x : Span1) → interval_in a r e ≡ Some x → AreLight x) where
@@ -226,12 +227,13 @@ module _ (a : Algorithm) (u : StoredText) (outer : List Binding) (w : NestText) 
 
 -- where no symbol goes far each index is light
 few_calls_light : (a : Algorithm) (u : StoredText) (outer : List Binding) (w : NestText) (f : FormulaText) (d : ℕ) → ((n : ℕ) → weight_at (bind_steps outer w.steps) n ≤ 73728) →
+    ArePlain (bind_steps outer w.steps) ⊎ ((n : ℕ) → weight_at (bind_steps outer w.steps) n ≤ 49152) →
     (r : AroundText) → around a u outer w f d ≡ Some r → AreCallsLight a r (calls_in f)
-few_calls_light a u outer w f d few r stands i c at e m x found =
+few_calls_light a u outer w f d few plain r stands i c at e m x found =
     let left : AroundText = left_around u outer w d in
     let z = bound (coordinates_behind a left f [] 0 w.at) (λ cs. Some (record left { coordinates = cs })) r stands in
     let is : record left { coordinates = z.value } ≡ r = same (record left { coordinates = z.value }) r z.comes in
-    subst (λ (t : AroundText). IsLightSpan t.scope x) is (span_light (bind_steps outer w.steps) few x)
+    subst (λ (t : AroundText). IsLightSpan t.scope x) is (span_light (bind_steps outer w.steps) few plain x)
 
 -- ---- groups
 
@@ -482,6 +484,12 @@ module _ (a : Algorithm) (sch : Schedule) (l : Lowered) (well : IsAlgorithm a) (
         boxes_here : AreBoxes (bind_steps (head_scope k) w.steps)
         boxes_here = subst (λ (scope : List Binding). AreBoxes (bind_steps scope w.steps)) (sym over_head) store_boxes
 
+        plain_here : ArePlain (bind_steps (head_scope k) w.steps)
+        plain_here =
+            subst (λ (scope : List Binding). ArePlain (bind_steps scope w.steps)) (sym over_head)
+            (λ i b e. got IsPlain around_store i b (subst (AllByRecursion IsPlain) steps_here (all_bound q.limits IsPlain q.next ts (grid_scope k.grid) (grid_all IsPlain (λ n c. tt)) tt
+            (λ j t e. tt))) e)
+
         abbrev IsUnder : ℕ → Span1 → Type 0
         IsUnder most x = weight_of (Some (LoopBinding x)) ≤ most
 
@@ -638,12 +646,12 @@ module _ (a : Algorithm) (sch : Schedule) (l : Lowered) (well : IsAlgorithm a) (
         simple_here simple f e = all_get (λ (y : FormulaText). has_simple_indices y ≡ true) fs d f simple e
 
         calls_light : IsNearOrSimple g fs h.extents → (f : FormulaText) → slice_get fs d ≡ Some f → (r : AroundText) → around a g (head_scope k) w f d ≡ Some r → AreCallsLight a r (calls_in f)
-        calls_light (inl near) f e = few_calls_light a g (head_scope k) w f d (near_weights near)
+        calls_light (inl near) f e = few_calls_light a g (head_scope k) w f d (near_weights near) (inl plain_here)
         calls_light (inr simple) f e = simple_light a g (head_scope k) w f d (simple_here simple.0 f e) light_behind
 
         left_light : IsNearOrSimple g fs h.extents → (f : FormulaText) → slice_get fs d ≡ Some f → (j : ℕ) (e : Term) → left_at f j ≡ Some e → (s : Span1) →
             interval_in a (left_around g (head_scope k) w d) e ≡ Some s → IsLightSpan (bind_steps (head_scope k) w.steps) s
-        left_light (inl near) f at_f j e at_j s found = span_light (bind_steps (head_scope k) w.steps) (near_weights near) s
+        left_light (inl near) f at_f j e at_j s found = span_light (bind_steps (head_scope k) w.steps) (near_weights near) (inl plain_here) s
         left_light (inr simple) f at_f j e at_j s found =
             kept_light (bind_steps (head_scope k) w.steps) s (lefts_light a g (head_scope k) w f d (simple_here simple.0 f at_f) light_behind j e at_j s found)
 

@@ -4,7 +4,7 @@ use Rattle.std.proofs.Common.{[], ◌∷◌, ◌++◌, length, map, Option, Some
 use Rattle.std.specs.Prelude.{ℤ, pos, negsuc, ◌+ℤ◌, ◌*ℤ◌, ◌≤ℤ◌, ◌==◌, not, nat_lt, nat_le, filter, fold, option_and_then, if◌then◌else◌, slice_get}
 use Rattle.std.specs.List.{AllByRecursion, list_any}
 use Rattle.std.specs.Option.{option_map_or}
-use Rattle.std.specs.Int.{int_min}
+use Rattle.std.specs.Int.{int_min, int_max}
 use Rattle.std.specs.Int.RustNames.{unsigned_abs}
 use Rattle.std.proofs.Math.Nat.{mul_left_comm, mul_comm, mul-add, mul-le-mul_left, mul-le-mul_right}
 use Rattle.std.proofs.lemmas.Int.{ints, clamps, unsigned_abs-mul}
@@ -22,7 +22,7 @@ use Rattle.bounds.specs.Lists.{checked}
 use Rattle.bounds.specs.Spans.{numbers}
 use Rattle.bounds.specs.Projection.Elimination.{is_inner, names_inner, is_eliminated, both, that_count, bounds_at, bounds_below, replacements_below, eliminated}
 use Rattle.bounds.specs.Projection.Projection.{negated}
-use Rattle.bounds.proofs.ListSound.{AllIn, all-append, kept-all, checked-all}
+use Rattle.bounds.proofs.ListSound.{AllIn, all_in_some, all-append, kept-all, checked-all}
 use Rattle.soundness.specs.Obligations.{anything}
 use Rattle.soundness.specs.Shown.{raised}
 use Rattle.soundness.proofs.Refines.{eq_true}
@@ -30,6 +30,8 @@ use Rattle.lower.proofs.Laying.{same}
 use Rattle.completeness.proofs.TakenSites.{Has}
 use Rattle.completeness.proofs.SelfBounds.{found_below, still}
 use Rattle.completeness.proofs.Only.{only_combined}
+use Rattle.completeness.proofs.NumberUnions.{IsNumber, IsAbove, union_above}
+use Rattle.lin.proofs.TermLemmas.{all_weaker}
 
 -- ---- boxes
 
@@ -45,18 +47,6 @@ pub record IsCapped (scope : List Binding) (x : Span1) : Type 0 where
       x ≡ record { lower = number (pos 0) ∷ []; upper = number (pos last) ∷ record { constant = pos most; terms = record { symbol = symbol; factor = negsuc factor } ∷ [] } ∷ [] }
   pub few : last ≤ 32768
   pub light : most + top * suc factor ≤ 32768
-
-abbrev pub IsNumbers : Span1 → Type 0
-IsNumbers x = (low : ℤ) × (last : ℤ) × (x ≡ numbers low last) × (low ≤ℤ last)
-
--- there are numbers of a loop, with a further upper form or without; or nothing is known of the symbol
-abbrev pub IsBox : List Binding → Binding → Type 0
-IsBox scope (Loop x) = (x ≡ anything) ⊎ (IsNumbers x ⊎ IsCapped scope x)
-IsBox scope (LetMin fs) = ⊥
-IsBox scope (LetMax fs) = ⊥
-
-abbrev pub AreBoxes : List Binding → Type 0
-AreBoxes scope = (n : ℕ) (b : Binding) → slice_get scope n ≡ Some b → IsBox scope b
 
 -- ---- lists
 
@@ -179,7 +169,7 @@ both_under m n k h g = of (nat_le m n)
 abbrev pub weight_of : Option Binding → ℕ
 weight_of None = 0
 weight_of (Some (Loop x)) = elim x.upper [ [] ↦ 0 | f ∷ fs ↦ elim fs [ [] ↦ greater (far_of x.lower) (unsigned_abs f.constant) | g ∷ gs ↦ 32768 ] ]
-weight_of (Some (LetMin fs)) = 0
+weight_of (Some (LetMin fs)) = elim fs [ [] ↦ 0 | f ∷ gs ↦ unsigned_abs f.constant + 16384 ]
 weight_of (Some (LetMax fs)) = 0
 
 spread : (w p q s : ℕ) → p ≤ q + s → w * p ≤ w * q + w * s
@@ -268,47 +258,103 @@ module _ (scope : List Binding) where
       let parts = mul-add (unsigned_abs k) (weight_at u.symbol * unsigned_abs u.factor) (weight us) in
       omega (arith, rest, one, product, parts)
 
+-- ---- what is known of symbols
+
+abbrev pub IsNumbers : Span1 → Type 0
+IsNumbers x = (low : ℤ) × (last : ℤ) × (x ≡ numbers low last) × (low ≤ℤ last)
+
+-- the smaller one of a form over loops from 0 on and a number that is not before the form's first one
+pub record IsLet (scope : List Binding) (fs : List Form) : Type 0 where
+  pub form : Form
+  pub last : ℤ
+  pub is : fs ≡ form ∷ number last ∷ []
+  pub over : AllByRecursion (λ (t : Multiple). (x : Span1) × (slice_get scope t.symbol ≡ Some (Loop x)) × (x.lower ≡ number (pos 0) ∷ [])) form.terms
+  pub light : weight scope form.terms ≤ 16384
+  pub near : unsigned_abs last ≤ unsigned_abs form.constant + 16384
+  pub least : form.constant ≤ℤ last
+
+-- there are numbers of a loop, with a further upper form or without; a let is such; or nothing is known of the symbol
+abbrev pub IsBox : List Binding → Binding → Type 0
+IsBox scope (Loop x) = (x ≡ anything) ⊎ (IsNumbers x ⊎ IsCapped scope x)
+IsBox scope (LetMin fs) = IsLet scope fs
+IsBox scope (LetMax fs) = ⊥
+
+abbrev pub AreBoxes : List Binding → Type 0
+AreBoxes scope = (n : ℕ) (b : Binding) → slice_get scope n ≡ Some b → IsBox scope b
+
+-- no let
+abbrev pub IsPlain : Binding → Type 0
+IsPlain (Loop x) = Unit {0}
+IsPlain (LetMin fs) = ⊥
+IsPlain (LetMax fs) = ⊥
+
+abbrev pub ArePlain : List Binding → Type 0
+ArePlain scope = (n : ℕ) (b : Binding) → slice_get scope n ≡ Some b → IsPlain b
+
+module _ (scope : List Binding) where
   -- a form that may stand in a symbol's place goes no farther than the symbol
-  candidates_light : (b : Binding) → IsBox scope b → (c : ℤ) → AllByRecursion (λ f. unsigned_abs f.constant + weight f.terms ≤ weight_of (Some b)) (candidates b c)
+  candidates_light : (b : Binding) → IsBox scope b → (c : ℤ) → AllByRecursion (λ f. unsigned_abs f.constant + weight scope f.terms ≤ weight_of (Some b)) (candidates b c)
   candidates_light (Loop x) (inl is) (pos n) =
-      subst (λ (y : Span1). AllByRecursion (λ f. unsigned_abs f.constant + weight f.terms ≤ weight_of (Some (Loop y))) y.upper) (sym is) tt
+      subst (λ (y : Span1). AllByRecursion (λ f. unsigned_abs f.constant + weight scope f.terms ≤ weight_of (Some (Loop y))) y.upper) (sym is) tt
   candidates_light (Loop x) (inl is) (negsuc n) =
-      subst (λ (y : Span1). AllByRecursion (λ f. unsigned_abs f.constant + weight f.terms ≤ weight_of (Some (Loop y))) y.lower) (sym is) tt
+      subst (λ (y : Span1). AllByRecursion (λ f. unsigned_abs f.constant + weight scope f.terms ≤ weight_of (Some (Loop y))) y.lower) (sym is) tt
   candidates_light (Loop x) (inr (inl k)) (pos n) =
-      subst (λ (y : Span1). AllByRecursion (λ f. unsigned_abs f.constant + weight f.terms ≤ weight_of (Some (Loop y))) y.upper) (sym k.2)
+      subst (λ (y : Span1). AllByRecursion (λ f. unsigned_abs f.constant + weight scope f.terms ≤ weight_of (Some (Loop y))) y.upper) (sym k.2)
       (let most = right_most (unsigned_abs k.0) (unsigned_abs k.1) in omega (arith, most), tt)
   candidates_light (Loop x) (inr (inl k)) (negsuc n) =
-      subst (λ (y : Span1). AllByRecursion (λ f. unsigned_abs f.constant + weight f.terms ≤ weight_of (Some (Loop y))) y.lower) (sym k.2)
+      subst (λ (y : Span1). AllByRecursion (λ f. unsigned_abs f.constant + weight scope f.terms ≤ weight_of (Some (Loop y))) y.lower) (sym k.2)
       (let most = left_most (unsigned_abs k.0) (unsigned_abs k.1) in omega (arith, most), tt)
   candidates_light (Loop x) (inr (inr k)) (pos n) =
       let few = k.few in
       let light = k.light in
       let none : greater 0 k.top ≡ k.top = (let first : nat_le 0 k.top ≡ true = grind (arith, nat_tests) in λ i. if first i then k.top else 0) in
-      let top_is : weight_at k.symbol ≡ k.top = ap weight_of k.outer ∙ none in
-      let limit : k.most + (weight_at k.symbol * suc k.factor + 0) ≤ 32768 = subst (λ (w : ℕ). k.most + (w * suc k.factor + 0) ≤ 32768) (sym top_is) (omega (arith, light)) in
-      subst (λ (y : Span1). AllByRecursion (λ f. unsigned_abs f.constant + weight f.terms ≤ weight_of (Some (Loop y))) y.upper) (sym k.is) (omega (arith, few), (limit, tt))
+      let top_is : weight_at scope k.symbol ≡ k.top = ap weight_of k.outer ∙ none in
+      let limit : k.most + (weight_at scope k.symbol * suc k.factor + 0) ≤ 32768 = subst (λ (w : ℕ). k.most + (w * suc k.factor + 0) ≤ 32768) (sym top_is) (omega (arith, light)) in
+      subst (λ (y : Span1). AllByRecursion (λ f. unsigned_abs f.constant + weight scope f.terms ≤ weight_of (Some (Loop y))) y.upper) (sym k.is) (omega (arith, few), (limit, tt))
   candidates_light (Loop x) (inr (inr k)) (negsuc n) =
-      subst (λ (y : Span1). AllByRecursion (λ f. unsigned_abs f.constant + weight f.terms ≤ weight_of (Some (Loop y))) y.lower) (sym k.is) (omega arith, tt)
-  candidates_light (LetMin fs) box c = absurd box
+      subst (λ (y : Span1). AllByRecursion (λ f. unsigned_abs f.constant + weight scope f.terms ≤ weight_of (Some (Loop y))) y.lower) (sym k.is) (omega arith, tt)
+  candidates_light (LetMin fs) k c =
+      let light = k.light in
+      let near = k.near in
+      subst (λ (gs : List Form). AllByRecursion (λ f. unsigned_abs f.constant + weight scope f.terms ≤ weight_of (Some (LetMin gs))) gs) (sym k.is) (omega (arith, light), (omega (arith, near), tt))
   candidates_light (LetMax fs) box c = absurd box
 
-  none_may : (b : Binding) → IsBox scope b → (c : ℤ) → any_may_be b c ≡ false
-  none_may (Loop x) box c = refl
-  none_may (LetMin fs) box c = absurd box
-  none_may (LetMax fs) box c = absurd box
+  -- any may be the value of a let where its factor is negative
+  may_let : (b : Binding) → IsBox scope b → (c : ℤ) → any_may_be b c ≡ true → (fs : List Form) × (b ≡ LetMin fs) × IsLet scope fs
+  may_let (Loop x) box c e = absurd (cc e)
+  may_let (LetMin fs) box c e = (fs, refl, box)
+  may_let (LetMax fs) box c e = absurd box
+
+-- ---- weights that are small enough
+
+-- where there are lets the weights of forms are at most half as much
+abbrev pub LightIn : List Binding → List Multiple → Type 0
+LightIn scope ts = (weight scope ts ≤ 2 ^ 38 + 2 ^ 37 + 2 ^ 36) ⊎ (ArePlain scope × (weight scope ts ≤ 2 ^ 39 + 2 ^ 37))
+
+light_less : (scope : List Binding) (ts us : List Multiple) → weight scope ts ≤ weight scope us → LightIn scope us → LightIn scope ts
+light_less scope ts us le (inl h) = inl (omega (arith, le, h))
+light_less scope ts us le (inr h) = (let most = h.1 in inr (h.0, omega (arith, le, most)))
 
 -- ---- light forms
 
--- the multiples of the form go no farther than 2^39 + 2^37 together, where it is within the limits
+-- the multiples of the form go no farther than that together, where it is within the limits
 abbrev pub IsLight : List Binding → Form → Type 0
-IsLight scope f = is_within_limits f ≡ true → weight scope f.terms ≤ 2 ^ 39 + 2 ^ 37
+IsLight scope f = is_within_limits f ≡ true → LightIn scope f.terms
 
 -- each form of the span is such
 abbrev pub IsLightSpan : List Binding → Span1 → Type 0
 IsLightSpan scope s = AllByRecursion (IsLight scope) s.lower × AllByRecursion (IsLight scope) s.upper
 
--- so is each, whatever its factors, where no symbol's numbers go farther than 73,728
-module _ (scope : List Binding) (few : (n : ℕ) → weight_at scope n ≤ 73728) where
+-- so is each, whatever its factors, where no symbol's numbers go farther than 73,728 and none is a let, or no symbol's numbers go farther than 49,152
+module _ (scope : List Binding) (few : (n : ℕ) → weight_at scope n ≤ 73728) (plain : ArePlain scope ⊎ ((n : ℕ) → weight_at scope n ≤ 49152)) where
+  weight_fewer : ((n : ℕ) → weight_at scope n ≤ 49152) → (ts : List Multiple) → AreWithin (2 ^ 20) ts → weight scope ts ≤ 51539607552 * length ts
+  weight_fewer fewer [] h = omega arith
+  weight_fewer fewer (t ∷ ts) h =
+      let here : unsigned_abs t.factor ≤ 1048576 = h.0 in
+      let most = mul-le-mul_right (unsigned_abs t.factor) (fewer t.symbol) in
+      let rest = weight_fewer fewer ts h.1 in
+      omega (arith, here, most, rest)
+
   weight_few : (ts : List Multiple) → AreWithin (2 ^ 20) ts → weight scope ts ≤ 77309411328 * length ts
   weight_few [] h = omega arith
   weight_few (t ∷ ts) h =
@@ -318,10 +364,17 @@ module _ (scope : List Binding) (few : (n : ℕ) → weight_at scope n ≤ 73728
       omega (arith, here, most, rest)
 
   few_light : (f : Form) → IsLight scope f
-  few_light f limited =
-      let sized = weight_few f.terms (within_limits-terms f limited) in
-      let count = within_limits-few f limited in
-      omega (arith, sized, count)
+  few_light f limited = of plain
+    where
+      of : ArePlain scope ⊎ ((n : ℕ) → weight_at scope n ≤ 49152) → LightIn scope f.terms
+      of (inl none) =
+          let sized = weight_few f.terms (within_limits-terms f limited) in
+          let count = within_limits-few f limited in
+          inr (none, omega (arith, sized, count))
+      of (inr fewer) =
+          let sized = weight_fewer fewer f.terms (within_limits-terms f limited) in
+          let count = within_limits-few f limited in
+          inl (omega (arith, sized, count))
 
   pub span_light : (s : Span1) → IsLightSpan scope s
   span_light s = (has_all (IsLight scope) s.lower (λ f k. few_light f), has_all (IsLight scope) s.upper (λ f k. few_light f))
@@ -337,12 +390,33 @@ module _ (scope : List Binding) (P : ℕ → Type 0) (all : (m : ℕ) → m < le
       subst (λ (y : Span1). AllByRecursion (λ f. AllByRecursion (λ t. P t.symbol) f.terms) y.upper) (sym k.is)
       (tt, ((all k.symbol (slice_get_within scope k.symbol (Loop (numbers (pos 0) (pos k.top))) k.outer), tt), tt))
   candidates_only (Loop x) (inr (inr k)) (negsuc n) = subst (λ (y : Span1). AllByRecursion (λ f. AllByRecursion (λ t. P t.symbol) f.terms) y.lower) (sym k.is) (tt, tt)
-  candidates_only (LetMin fs) box c = absurd box
+  candidates_only (LetMin fs) k c =
+      subst (λ (gs : List Form). AllByRecursion (λ f. AllByRecursion (λ t. P t.symbol) f.terms) gs) (sym k.is) (
+        all_weaker (λ (t : Multiple). (x : Span1) × (slice_get scope t.symbol ≡ Some (Loop x)) × (x.lower ≡ number (pos 0) ∷ [])) (λ t. P t.symbol)
+            (λ t h. all t.symbol (slice_get_within scope t.symbol (Loop h.0) h.1)) k.form.terms k.over,
+        (tt, tt),
+      )
   candidates_only (LetMax fs) box c = absurd box
 
 -- ---- one symbol
 
 module _ (scope : List Binding) (inner : List ℕ) (boxes : AreBoxes scope) where
+  -- each symbol of the form is one of those
+  abbrev AreInner : List Multiple → Type 0
+  AreInner ts = AllByRecursion (λ t. is_inner inner t.symbol ≡ true) ts
+
+  no_terms : (ts : List Multiple) → AreInner ts → list_any (λ t. is_inner inner t.symbol) ts ≡ false → ts ≡ []
+  no_terms [] h e = refl
+  no_terms (t ∷ ts) h e = absurd (cc (e, ap (λ (b : Bool). b || list_any (λ t. is_inner inner t.symbol) ts) h.0))
+
+  inner_left : (test : Multiple → Bool) (ts : List Multiple) → AreInner ts → AreInner (filter test ts)
+  inner_left test [] h = tt
+  inner_left test (t ∷ ts) h = of (test t) (inner_left test ts h.1)
+    where
+      of : (b : Bool) → AreInner (filter test ts) → AreInner (if b then t ∷ filter test ts else filter test ts)
+      of true k = (h.0, k)
+      of false k = k
+
   -- what stands in the symbol's place, and what is found then
   record IsStep (n : ℕ) (form : Form) (y : Form) : Type 0 where
     binding : Binding
@@ -354,6 +428,22 @@ module _ (scope : List Binding) (inner : List ℕ) (boxes : AreBoxes scope) wher
     found : List Form
     comes : bounds_below scope inner n next ≡ Some found
     has : Has y found
+
+  -- of a let with a negative factor both are looked at, and the greater one counts
+  record IsBoth (n : ℕ) (form : Form) (y : Form) : Type 0 where
+    forms : List Form
+    there : slice_get scope n ≡ Some (LetMin forms)
+    is_let : IsLet scope forms
+    may : any_may_be (LetMin forms) (factor_of form.terms n) ≡ true
+    one : Form
+    two : Form
+    first : IsStep n form one
+    second : IsStep n form two
+    first_is : first.other ≡ is_let.form
+    second_is : second.other ≡ number is_let.last
+    one_most : one.constant ≤ℤ y.constant
+    two_most : two.constant ≤ℤ y.constant
+    either : (y.constant ≡ one.constant) ⊎ (y.constant ≡ two.constant)
 
   module _ (n : ℕ) (form : Form) (y : Form) where
     abbrev result_of : Form → Option (List Form)
@@ -373,31 +463,24 @@ module _ (scope : List Binding) (inner : List ℕ) (boxes : AreBoxes scope) wher
         let ps = each_given (f ∷ fs) (f ∷ fs) (λ g k. k) in
         one_of_all (IsGiven (f ∷ fs)) bs y (fold_all scope (IsGiven (f ∷ fs)) (result_of f) (map result_of fs) ps.0 ps.1 bs q) has
 
-  step : (n : ℕ) (form : Form) (bs : List Form) (y : Form) → bounds_at scope (slice_get scope n) (factor_of form.terms n) (result_of n form y) ≡ Some bs → Has y bs → IsStep n form y
-  step n form bs y h has = at_binding (slice_get scope n) refl h
-    where
-      by_made : (b : Binding) → slice_get scope n ≡ Some b → (other : Form) → Has other (candidates b (factor_of form.terms n)) → (found : List Form) → Has y found → (o : Option Form) →
-          replaced form n (factor_of form.terms n) other ≡ o → option_and_then (λ next. bounds_below scope inner n next) o ≡ Some found → IsStep n form y
-      by_made b there other among found in_found None q k = absurd (cc k)
-      by_made b there other among found in_found (Some next) q k = record {
-        binding = b;
-        there = there;
-        other = other;
-        among = among;
-        next = next;
-        made = q;
-        found = found;
-        comes = k;
-        has = in_found;
-      }
-
-      at_binding : (o : Option Binding) → slice_get scope n ≡ o → bounds_at scope o (factor_of form.terms n) (result_of n form y) ≡ Some bs → IsStep n form y
-      at_binding None q k = absurd (none_has y bs [] k has)
-      at_binding (Some b) q k =
-          let c : ℤ = factor_of form.terms n in
-          let r = given_one n form y (candidates b c) bs
-          (sym (ap (λ (v : Bool). that_count scope v (map (result_of n form y) (candidates b c))) (none_may scope b (boxes n b q) c)) ∙ k) has in
-          by_made b q r.0 r.1 r.2 r.4 (replaced form n c r.0) refl r.3
+  by_made : (n : ℕ) (form y : Form) (b : Binding) → slice_get scope n ≡ Some b → (other : Form) → Has other (candidates b (factor_of form.terms n)) → (found : List Form) → Has y found →
+      (o : Option Form) → replaced form n (factor_of form.terms n) other ≡ o → option_and_then (λ next. bounds_below scope inner n next) o ≡ Some found →
+      (s : IsStep n form y) × (s.other ≡ other)
+  by_made n form y b there other among found in_found None q k = absurd (cc k)
+  by_made n form y b there other among found in_found (Some next) q k = (
+    record {
+      binding = b;
+      there = there;
+      other = other;
+      among = among;
+      next = next;
+      made = q;
+      found = found;
+      comes = k;
+      has = in_found;
+    },
+    refl,
+  )
 
   -- ---- how far a form's number is
 
@@ -447,30 +530,244 @@ module _ (scope : List Binding) (inner : List ℕ) (boxes : AreBoxes scope) wher
       second : (p q : ℕ) → p + q ≤ weight_at scope n → q ≤ weight_at scope n
       second p q h = omega (arith, h)
 
-  far : (n : ℕ) (form : Form) (bs : List Form) (u : Form) → bounds_below scope inner n form ≡ Some bs → Has u bs → unsigned_abs form.constant ≤ unsigned_abs u.constant + weight scope form.terms
-  far zero form bs u h has = of (names_inner inner form) h
+  -- nor do its number and its multiples together go farther
+  step_down : (n : ℕ) (form : Form) (y : Form) (s : IsStep n form y) → unsigned_abs s.next.constant + weight scope s.next.terms ≤ unsigned_abs form.constant + weight scope form.terms
+  step_down n form y s =
+      let c : ℤ = factor_of form.terms n in
+      let means = combined-means (without form n) c s.other s.next s.made in
+      let light : unsigned_abs s.other.constant + weight scope s.other.terms ≤ weight_of (Some s.binding) =
+      one_of_all (λ f. unsigned_abs f.constant + weight scope f.terms ≤ weight_of (Some s.binding)) (candidates s.binding c) s.other
+      (candidates_light scope s.binding (boxes n s.binding s.there) c) s.among in
+      let here : weight_of (Some s.binding) ≡ weight_at scope n = ap weight_of (sym s.there) in
+      let left = weight_without scope form.terms n in
+      let terms = weight_terms scope (without form n).terms c s.other.terms in
+      let parts = mul-add (unsigned_abs c) (unsigned_abs s.other.constant) (weight scope s.other.terms) in
+      let most : unsigned_abs c * (unsigned_abs s.other.constant + weight scope s.other.terms) ≤ unsigned_abs c * weight_at scope n =
+      mul-le-mul_left (unsigned_abs c) (subst (λ (w : ℕ). unsigned_abs s.other.constant + weight scope s.other.terms ≤ w) here light) in
+      let turned = mul_comm (unsigned_abs c) (weight_at scope n) in
+      let product = unsigned_abs-mul c s.other.constant in
+      let constant : s.next.constant ≡ form.constant +ℤ c *ℤ s.other.constant = ap (λ (f : Form). f.constant) means.is in
+      let terms_are : weight scope s.next.terms ≡ weight scope (plus_terms (without form n).terms c s.other.terms) = ap (λ (f : Form). weight scope f.terms) means.is in
+      let sum : unsigned_abs s.next.constant ≤ unsigned_abs form.constant + unsigned_abs (c *ℤ s.other.constant) =
+      subst (λ (z : ℤ). unsigned_abs z ≤ unsigned_abs form.constant + unsigned_abs (c *ℤ s.other.constant)) (sym constant) (part form.constant (c *ℤ s.other.constant)) in
+      omega (arith, left, terms, parts, most, turned, product, terms_are, sum)
     where
-      of : (b : Bool) → Some (if b then [] else form ∷ []) ≡ Some bs → unsigned_abs form.constant ≤ unsigned_abs u.constant + weight scope form.terms
-      of true q = absurd (none_has u bs [] q has)
-      of false q = elim (none_has u bs (form ∷ []) q has) [
-        | inl is ↦ (let same_number : unsigned_abs u.constant ≡ unsigned_abs form.constant = ap (λ (f : Form). unsigned_abs f.constant) is in omega (arith, same_number))
-        | inr later ↦ absurd later
-      ]
-  far (suc n) form bs u h has = of (is_eliminated inner n (factor_of form.terms n)) h (λ q. far n form bs u q has) (λ next found q k. far n next found u q k)
-    where
-      of : (b : Bool) →
-          (if b then bounds_at scope (slice_get scope n) (factor_of form.terms n)
-          (λ other. option_and_then (λ next. bounds_below scope inner n next) (replaced form n (factor_of form.terms n) other)) else bounds_below scope inner n form) ≡ Some bs →
-          (bounds_below scope inner n form ≡ Some bs → unsigned_abs form.constant ≤ unsigned_abs u.constant + weight scope form.terms) →
-          ((next : Form) (found : List Form) → bounds_below scope inner n next ≡ Some found → Has u found → unsigned_abs next.constant ≤ unsigned_abs u.constant + weight scope next.terms) →
-          unsigned_abs form.constant ≤ unsigned_abs u.constant + weight scope form.terms
-      of false q stays steps = stays q
-      of true q stays steps = (let s = step n form bs u q has in step_far n form u s (unsigned_abs u.constant) (steps s.next s.found s.comes s.has))
+      part : (a b : ℤ) → unsigned_abs (a +ℤ b) ≤ unsigned_abs a + unsigned_abs b
+      part a b = omega (arith, ints)
 
-  -- a form that is light goes no farther than 2^39 + 2^38 from 0
-  near_form : (n : ℕ) (form : Form) (bs : List Form) (u : Form) → bounds_below scope inner n form ≡ Some bs → Has u bs → weight scope form.terms ≤ 2 ^ 39 + 2 ^ 37 →
-      unsigned_abs u.constant ≤ 2 ^ 31 → unsigned_abs form.constant ≤ 2 ^ 39 + 2 ^ 38
-  near_form n form bs u h has light near = (let f = far n form bs u h has in omega (arith, f, light, near))
+  -- ---- where all symbols are freed
+
+  module _ (all : (m : ℕ) → m < length scope → is_inner inner m ≡ true) where
+    -- so are those of what a step makes
+    next_inner : (n : ℕ) (form : Form) (b : Binding) → slice_get scope n ≡ Some b → AreInner form.terms → (c : ℤ) (other next : Form) → Has other (candidates b c) →
+        replaced form n c other ≡ Some next → AreInner next.terms
+    next_inner n form b there among c other next has made =
+        let only : AreInner other.terms =
+        one_of_all (λ f. AllByRecursion (λ t. is_inner inner t.symbol ≡ true) f.terms) (candidates b c) other
+        (candidates_only scope (λ m. is_inner inner m ≡ true) all b (boxes n b there) c) has in
+        only_combined (λ m. is_inner inner m ≡ true) (without form n) c other (inner_left (λ t. not (t.symbol == n)) form.terms among) only next made
+
+    -- all that is found is numbers
+    numbers_below : (n : ℕ) (form : Form) → AreInner form.terms → AllIn IsNumber (bounds_below scope inner n form)
+    numbers_below zero form among = of (names_inner inner form) refl
+      where
+        of : (b : Bool) → names_inner inner form ≡ b → AllIn IsNumber (Some (if b then [] else form ∷ []))
+        of true e = all_in_some IsNumber [] tt
+        of false e = all_in_some IsNumber (form ∷ []) (no_terms form.terms among e, tt)
+    numbers_below (suc n) form among =
+        of (is_eliminated inner n (factor_of form.terms n)) (numbers_below n form among) (λ next k. numbers_below n next k)
+      where
+        c : ℤ
+        c = factor_of form.terms n
+
+        result : Form → Option (List Form)
+        result other = option_and_then (λ next. bounds_below scope inner n next) (replaced form n c other)
+
+        joined_so : (t : Bool) (a b : Option (List Form)) → AllIn IsNumber a → AllIn IsNumber b → AllIn IsNumber (both scope t a b)
+        joined_so t None b x y = λ xs e. absurd (cc e)
+        joined_so t (Some a) None x y = λ xs e. absurd (cc e)
+        joined_so true (Some a) (Some b) x y = λ xs e. all_weaker (IsAbove scope a b) IsNumber (λ u k. k.7) xs (union_above scope a b (x a refl) (y b refl) xs e)
+        joined_so false (Some a) (Some b) x y = kept-all IsNumber (map checked (a ++ b)) (checked-all IsNumber (a ++ b) (all-append IsNumber a b (x a refl) (y b refl)))
+
+        folded : (t : Bool) (acc : Option (List Form)) (os : List (Option (List Form))) → AllIn IsNumber acc → AllByRecursion (λ o. AllIn IsNumber o) os → AllIn IsNumber (fold (both scope t) acc os)
+        folded t acc [] h k = h
+        folded t acc (o ∷ os) h k = folded t (both scope t acc o) os (joined_so t acc o h k.0) k.1
+
+        counted : (t : Bool) (os : List (Option (List Form))) → AllByRecursion (λ o. AllIn IsNumber o) os → AllIn IsNumber (that_count scope t os)
+        counted t [] h = all_in_some IsNumber [] tt
+        counted t (o ∷ os) h = folded t o os h.0 h.1
+
+        one : (b : Binding) → slice_get scope n ≡ Some b → ((next : Form) → AreInner next.terms → AllIn IsNumber (bounds_below scope inner n next)) → (other : Form) → Has other (candidates b c) →
+            AllIn IsNumber (result other)
+        one b there steps other has = by (replaced form n c other) refl
+          where
+            by : (o : Option Form) → replaced form n c other ≡ o → AllIn IsNumber (option_and_then (λ next. bounds_below scope inner n next) o)
+            by None q = λ xs e. absurd (cc e)
+            by (Some next) q = steps next (next_inner n form b there among c other next has q)
+
+        each : (b : Binding) → slice_get scope n ≡ Some b → ((next : Form) → AreInner next.terms → AllIn IsNumber (bounds_below scope inner n next)) → (cs : List Form) →
+            ((f : Form) → Has f cs → Has f (candidates b c)) → AllByRecursion (λ o. AllIn IsNumber o) (map result cs)
+        each b there steps [] w = tt
+        each b there steps (f ∷ fs) w = (one b there steps f (w f (inl refl)), each b there steps fs (λ g k. w g (inr k)))
+
+        at : ((next : Form) → AreInner next.terms → AllIn IsNumber (bounds_below scope inner n next)) → (o : Option Binding) → slice_get scope n ≡ o → AllIn IsNumber (bounds_at scope o c result)
+        at steps None there = all_in_some IsNumber [] tt
+        at steps (Some b) there = counted (any_may_be b c) (map result (candidates b c)) (each b there steps (candidates b c) (λ f k. k))
+
+        of : (t : Bool) → AllIn IsNumber (bounds_below scope inner n form) → ((next : Form) → AreInner next.terms → AllIn IsNumber (bounds_below scope inner n next)) →
+            AllIn IsNumber (if t then bounds_at scope (slice_get scope n) c result else bounds_below scope inner n form)
+        of true stays steps = at steps (slice_get scope n) refl
+        of false stays steps = stays
+
+    step : (n : ℕ) (form : Form) (bs : List Form) (y : Form) → AreInner form.terms → bounds_at scope (slice_get scope n) (factor_of form.terms n) (result_of n form y) ≡ Some bs → Has y bs →
+        ((s : IsStep n form y) × (any_may_be s.binding (factor_of form.terms n) ≡ false)) ⊎ IsBoth n form y
+    step n form bs y among h has = at_binding (slice_get scope n) refl h
+      where
+        c : ℤ
+        c = factor_of form.terms n
+
+        -- both forms of a let
+        at_let : (forms : List Form) → slice_get scope n ≡ Some (LetMin forms) → IsLet scope forms → any_may_be (LetMin forms) c ≡ true →
+            that_count scope true (map (result_of n form y) forms) ≡ Some bs → IsBoth n form y
+        at_let forms there k may q = by (result_of n form y k.form) (result_of n form y (number k.last)) refl refl q_two
+          where
+            has_first : Has k.form (candidates (LetMin forms) c)
+            has_first = subst (Has k.form) (sym k.is) (inl refl)
+
+            has_second : Has (number k.last) (candidates (LetMin forms) c)
+            has_second = subst (Has (number k.last)) (sym k.is) (inr (inl refl))
+
+            q_two : both scope true (result_of n form y k.form) (result_of n form y (number k.last)) ≡ Some bs
+            q_two = ap (λ (fs : List Form). that_count scope true (map (result_of n form y) fs)) (sym k.is) ∙ q
+
+            number_list : (other : Form) → Has other (candidates (LetMin forms) c) → (found : List Form) → result_of n form y other ≡ Some found → AllByRecursion IsNumber found
+            number_list other in_here found e = with (replaced form n c other) refl e
+              where
+                with : (o : Option Form) → replaced form n c other ≡ o → option_and_then (λ next. bounds_below scope inner n next) o ≡ Some found → AllByRecursion IsNumber found
+                with None p r = absurd (cc r)
+                with (Some next) p r = numbers_below n next (next_inner n form (LetMin forms) there among c other next in_here p) found r
+
+            by : (o p : Option (List Form)) → result_of n form y k.form ≡ o → result_of n form y (number k.last) ≡ p → both scope true o p ≡ Some bs → IsBoth n form y
+            by None p e d r = absurd (cc r)
+            by (Some as') None e d r = absurd (cc r)
+            by (Some as') (Some bs') e d r =
+                let u = one_of_all (IsAbove scope as' bs') bs y (union_above scope as' bs' (number_list k.form has_first as' e) (number_list (number k.last) has_second bs' d) bs r) has in
+                let s = by_made n form u.0 (LetMin forms) there k.form has_first as' u.2 (replaced form n c k.form) refl e in
+                let t = by_made n form u.1 (LetMin forms) there (number k.last) has_second bs' u.3 (replaced form n c (number k.last)) refl d in
+                record {
+                  forms = forms;
+                  there = there;
+                  is_let = k;
+                  may = may;
+                  one = u.0;
+                  two = u.1;
+                  first = s.0;
+                  second = t.0;
+                  first_is = s.1;
+                  second_is = t.1;
+                  one_most = u.4;
+                  two_most = u.5;
+                  either = u.6;
+                }
+
+        of_made : (n : ℕ) (form y : Form) (b : Binding) → slice_get scope n ≡ Some b → (other : Form) → Has other (candidates b (factor_of form.terms n)) → (found : List Form) → Has y found →
+            result_of n form y other ≡ Some found → (s : IsStep n form y) × (s.binding ≡ b)
+        of_made n form y b there other among found in_found k = with (replaced form n (factor_of form.terms n) other) refl k
+          where
+            with : (o : Option Form) → replaced form n (factor_of form.terms n) other ≡ o → option_and_then (λ next. bounds_below scope inner n next) o ≡ Some found →
+                (s : IsStep n form y) × (s.binding ≡ b)
+            with None q r = absurd (cc r)
+            with (Some next) q r = (
+              record {
+                binding = b;
+                there = there;
+                other = other;
+                among = among;
+                next = next;
+                made = q;
+                found = found;
+                comes = r;
+                has = in_found;
+              },
+              refl,
+            )
+
+        at_binding : (o : Option Binding) → slice_get scope n ≡ o → bounds_at scope o c (result_of n form y) ≡ Some bs →
+            ((s : IsStep n form y) × (any_may_be s.binding c ≡ false)) ⊎ IsBoth n form y
+        at_binding None q k = absurd (none_has y bs [] k has)
+        at_binding (Some b) q k = of (any_may_be b c) refl k
+          where
+            of : (t : Bool) → any_may_be b c ≡ t → that_count scope t (map (result_of n form y) (candidates b c)) ≡ Some bs → ((s : IsStep n form y) × (any_may_be s.binding c ≡ false)) ⊎
+                IsBoth n form y
+            of false e r =
+                let g = given_one n form y (candidates b c) bs r has in
+                let s = of_made n form y b q g.0 g.1 g.2 g.4 g.3 in
+                inl (s.0, ap (λ (x : Binding). any_may_be x c) s.1 ∙ e)
+            of true e r =
+                let l = may_let scope b (boxes n b q) c e in
+                let there : slice_get scope n ≡ Some (LetMin l.0) = q ∙ ap (λ (x : Binding). Some x) l.1 in
+                inr (at_let l.0 there l.2 (ap (λ (x : Binding). any_may_be x c) (sym l.1) ∙ e)
+                (ap (λ (x : Binding). that_count scope true (map (result_of n form y) (candidates x c))) (sym l.1) ∙ r))
+
+    far : (n : ℕ) (form : Form) (bs : List Form) (u : Form) → AreInner form.terms → bounds_below scope inner n form ≡ Some bs → Has u bs →
+        unsigned_abs form.constant ≤ unsigned_abs u.constant + weight scope form.terms
+    far zero form bs u among h has = of (names_inner inner form) h
+      where
+        of : (b : Bool) → Some (if b then [] else form ∷ []) ≡ Some bs → unsigned_abs form.constant ≤ unsigned_abs u.constant + weight scope form.terms
+        of true q = absurd (none_has u bs [] q has)
+        of false q = elim (none_has u bs (form ∷ []) q has) [
+          | inl is ↦ (let same_number : unsigned_abs u.constant ≡ unsigned_abs form.constant = ap (λ (f : Form). unsigned_abs f.constant) is in omega (arith, same_number))
+          | inr later ↦ absurd later
+        ]
+    far (suc n) form bs u among h has = of (is_eliminated inner n (factor_of form.terms n)) h (λ q. far n form bs u among q has) (λ next found w k q r. far n next found w k q r)
+      where
+        Far : Type 0
+        Far = unsigned_abs form.constant ≤ unsigned_abs u.constant + weight scope form.terms
+
+        Steps : Type 0
+        Steps = (next : Form) (found : List Form) (w : Form) → AreInner next.terms → bounds_below scope inner n next ≡ Some found → Has w found →
+            unsigned_abs next.constant ≤ unsigned_abs w.constant + weight scope next.terms
+
+        by_step : (w : Form) (s : IsStep n form w) → Steps → unsigned_abs w.constant ≡ unsigned_abs u.constant → Far
+        by_step w s steps same_number =
+            let inside = next_inner n form s.binding s.there among (factor_of form.terms n) s.other s.next s.among s.made in
+            let r = steps s.next s.found w inside s.comes s.has in
+            step_far n form w s (unsigned_abs u.constant) (omega (arith, r, same_number))
+
+        of : (b : Bool) →
+            (if b then bounds_at scope (slice_get scope n) (factor_of form.terms n)
+            (λ other. option_and_then (λ next. bounds_below scope inner n next) (replaced form n (factor_of form.terms n) other)) else bounds_below scope inner n form) ≡ Some bs →
+            (bounds_below scope inner n form ≡ Some bs → Far) → Steps → Far
+        of false q stays steps = stays q
+        of true q stays steps = at (step n form bs u among q has)
+          where
+            at : ((s : IsStep n form u) × (any_may_be s.binding (factor_of form.terms n) ≡ false)) ⊎ IsBoth n form u → Far
+            at (inl s) = by_step u s.0 steps refl
+            at (inr k) = elim k.either [
+              | inl e ↦ by_step k.one k.first steps (ap (λ (z : ℤ). unsigned_abs z) (sym e))
+              | inr e ↦ by_step k.two k.second steps (ap (λ (z : ℤ). unsigned_abs z) (sym e))
+            ]
+
+    -- a form whose number is so far, whatever stands in symbols' places
+    abbrev Fits : Form → Form → Type 0
+    Fits form u =
+        (ArePlain scope × (weight scope form.terms ≤ 2 ^ 39 + 2 ^ 37) × (unsigned_abs u.constant ≤ 2 ^ 31)) ⊎ (unsigned_abs form.constant + weight scope form.terms ≤ 1095216660480)
+
+    near_form : (n : ℕ) (form : Form) (bs : List Form) (u : Form) → AreInner form.terms → bounds_below scope inner n form ≡ Some bs → Has u bs → Fits form u → unsigned_abs form.constant ≤
+        1095216660480
+    near_form n form bs u among h has (inl k) = (let f = far n form bs u among h has in let light = k.1 in let near = k.2 in omega (arith, f, light, near))
+    near_form n form bs u among h has (inr k) = omega (arith, k)
+
+    fits_step : (n : ℕ) (form u : Form) (s : IsStep n form u) → Fits form u → Fits s.next u
+    fits_step n form u s (inl k) = (let lighter = step_light n form u s in let light = k.1 in inl (k.0, omega (arith, lighter, light), k.2))
+    fits_step n form u s (inr k) = (let down = step_down n form u s in inr (omega (arith, down, k)))
+
+    -- of a form that is light
+    fits_light : (n : ℕ) (form : Form) (bs : List Form) (u : Form) → AreInner form.terms → bounds_below scope inner n form ≡ Some bs → Has u bs → LightIn scope form.terms → unsigned_abs
+        u.constant ≤ 2 ^ 31 →
+        Fits form u
+    fits_light n form bs u among h has (inl light) near = (let f = far n form bs u among h has in inr (omega (arith, f, light, near)))
+    fits_light n form bs u among h has (inr light) near = inl (light.0, light.1, near)
 
   -- ---- the same search
 
@@ -486,7 +783,7 @@ module _ (scope : List Binding) (inner : List ℕ) (boxes : AreBoxes scope) wher
         around : (p q r : ℤ) → (p +ℤ q) +ℤ r ≡ (p +ℤ r) +ℤ q
         around p q r = omega (arith, ints)
 
-    raised_within : (form : Form) → is_within_limits form ≡ true → unsigned_abs form.constant ≤ 2 ^ 39 + 2 ^ 38 → is_within_limits (raised form z) ≡ true
+    raised_within : (form : Form) → is_within_limits form ≡ true → unsigned_abs form.constant ≤ 1095216660480 → is_within_limits (raised form z) ≡ true
     raised_within form limited near =
         let far_enough : unsigned_abs (form.constant +ℤ z) ≤ 2 ^ 40 = omega (arith, ints, near, z_near) in
         let last = le-leb (unsigned_abs (form.constant +ℤ z)) (2 ^ 40) far_enough in
@@ -560,26 +857,25 @@ module _ (scope : List Binding) (inner : List ℕ) (boxes : AreBoxes scope) wher
       bound : least scope n (raised form z) ≡ Some comes_to
       most : comes_to ≤ℤ (y +ℤ z)
 
-    -- each symbol of the form is one of those
-    abbrev AreInner : List Multiple → Type 0
-    AreInner ts = AllByRecursion (λ t. is_inner inner t.symbol ≡ true) ts
-
-    no_terms : (ts : List Multiple) → AreInner ts → list_any (λ t. is_inner inner t.symbol) ts ≡ false → ts ≡ []
-    no_terms [] h e = refl
-    no_terms (t ∷ ts) h e = absurd (cc (e, ap (λ (b : Bool). b || list_any (λ t. is_inner inner t.symbol) ts) h.0))
-
-    inner_left : (test : Multiple → Bool) (ts : List Multiple) → AreInner ts → AreInner (filter test ts)
-    inner_left test [] h = tt
-    inner_left test (t ∷ ts) h = of (test t) (inner_left test ts h.1)
-      where
-        of : (b : Bool) → AreInner (filter test ts) → AreInner (if b then t ∷ filter test ts else filter test ts)
-        of true k = (h.0, k)
-        of false k = k
-
     module _ (all : (m : ℕ) → m < length scope → is_inner inner m ≡ true) where
-      search : (n : ℕ) (form : Form) (bs : List Form) (u : Form) → ((m : ℕ) → m < n → is_inner inner m ≡ true) → AreInner form.terms → is_within_limits form ≡ true →
-          weight scope form.terms ≤ 2 ^ 39 + 2 ^ 37 → unsigned_abs u.constant ≤ 2 ^ 31 → bounds_below scope inner n form ≡ Some bs → Has u bs → IsFound n form u.constant
-      search zero form bs u inside among limited light near h has = of (names_inner inner form) refl h
+      -- what the search of both finds at a symbol, if it does of what stands in its place
+      abbrev branch : ℕ → Form → Form → Option ℤ
+      branch n form other = option_and_then (λ f. least scope n f) (replaced (raised form z) n (factor_of form.terms n) other)
+
+      branch_is : (n : ℕ) (form y : Form) (s : IsStep n form y) → AreInner form.terms → is_within_limits form ≡ true → unsigned_abs form.constant ≤ 1095216660480 →
+          unsigned_abs s.next.constant ≤ 1095216660480 → (r : IsFound n s.next y.constant) → branch n form s.other ≡ Some r.comes_to
+      branch_is n form y s among limited near_here near_next r =
+          let c = factor_of form.terms n in
+          let means = combined-means (without form n) c s.other s.next s.made in
+          let is = raised_made n form c s.other s.next s.made in
+          let made : replaced (raised form z) n c s.other ≡ Some (raised s.next z) =
+          combined-made (without (raised form z) n) s.other c (within_limits-without (raised form z) n (raised_within form limited near_here)) means.second
+          (ap is_within_limits is ∙ raised_within s.next means.within near_next) ∙ ap (λ (f : Form). Some f) is in
+          ap (λ (o : Option Form). option_and_then (λ f. least scope n f) o) made ∙ r.bound
+
+      search : (n : ℕ) (form : Form) (bs : List Form) (u : Form) → ((m : ℕ) → m < n → is_inner inner m ≡ true) → AreInner form.terms → is_within_limits form ≡ true → Fits all form u →
+          bounds_below scope inner n form ≡ Some bs → Has u bs → IsFound n form u.constant
+      search zero form bs u inside among limited fits h has = of (names_inner inner form) refl h
         where
           itself : (y : ℤ) → y ≤ℤ y
           itself y = omega (arith, ints)
@@ -594,10 +890,13 @@ module _ (scope : List Binding) (inner : List ℕ) (boxes : AreBoxes scope) wher
             | inl is ↦ subst (λ (y : ℤ). IsFound zero form y) (sym (ap (λ (f : Form). f.constant) is)) (number_found form.constant form.terms (no_terms form.terms among e))
             | inr later ↦ absurd later
           ]
-      search (suc n) form bs u inside among limited light near h has =
-          of (is_zero (factor_of form.terms n)) refl (λ q. search n form bs u (λ m less. inside m (omega (arith, less))) among limited light near q has)
-          (λ next found next_among next_limited next_light q k. search n next found u (λ m less. inside m (omega (arith, less))) next_among next_limited next_light near q k)
+      search (suc n) form bs u inside among limited fits h has =
+          of (is_zero (factor_of form.terms n)) refl (λ q. search n form bs u (λ m less. inside m (omega (arith, less))) among limited fits q has)
+          (λ next found w next_among next_limited next_fits q k. search n next found w (λ m less. inside m (omega (arith, less))) next_among next_limited next_fits q k)
         where
+          c : ℤ
+          c = factor_of form.terms n
+
           elimination : (other : Form) → Option (List Form)
           elimination other = option_and_then (λ next. bounds_below scope inner n next) (replaced form n (factor_of form.terms n) other)
 
@@ -605,10 +904,32 @@ module _ (scope : List Binding) (inner : List ℕ) (boxes : AreBoxes scope) wher
           and_false true = refl
           and_false false = refl
 
-          of : (b : Bool) → is_zero (factor_of form.terms n) ≡ b → (bounds_below scope inner n form ≡ Some bs → IsFound n form u.constant) →
-              ((next : Form) (found : List Form) → AreInner next.terms → is_within_limits next ≡ true → weight scope next.terms ≤ 2 ^ 39 + 2 ^ 37 → bounds_below scope inner n next ≡ Some
-              found → Has u found → IsFound n next u.constant) →
-              IsFound (suc n) form u.constant
+          Steps : Type 0
+          Steps = (next : Form) (found : List Form) (w : Form) → AreInner next.terms → is_within_limits next ≡ true → Fits all next w → bounds_below scope inner n next ≡ Some found →
+              Has w found → IsFound n next w.constant
+
+          near_here : unsigned_abs form.constant ≤ 1095216660480
+          near_here = near_form all (suc n) form bs u among h has fits
+
+          -- what stands in the symbol's place is found
+          found_by : Steps → (w : Form) (s : IsStep n form w) → Fits all s.next w → (r : IsFound n s.next w.constant) × (branch n form s.other ≡ Some r.comes_to)
+          found_by steps w s next_fits =
+              let means = combined-means (without form n) c s.other s.next s.made in
+              let next_among = next_inner all n form s.binding s.there among c s.other s.next s.among s.made in
+              let r = steps s.next s.found w next_among means.within next_fits s.comes s.has in
+              (r, branch_is n form w s among limited near_here (near_form all n s.next s.found w next_among s.comes s.has next_fits) r)
+
+          both_most : (x y w : ℤ) → x ≤ℤ y → y ≤ℤ w → x ≤ℤ w
+          both_most x y w h g = omega (arith, ints, h, g)
+
+          greater_most : (x y p q w : ℤ) → x ≤ℤ (p +ℤ z) → y ≤ℤ (q +ℤ z) → p ≤ℤ w → q ≤ℤ w → int_max x y ≤ℤ (w +ℤ z)
+          greater_most x y p q w h g k r = omega (arith, ints, clamps, h, g, k, r)
+
+          fits_part : (w : Form) → Fits all form u → (forms : List Form) → slice_get scope n ≡ Some (LetMin forms) → Fits all form w
+          fits_part w (inl k) forms there = absurd (k.0 n (LetMin forms) there)
+          fits_part w (inr k) forms there = inr k
+
+          of : (b : Bool) → is_zero (factor_of form.terms n) ≡ b → (bounds_below scope inner n form ≡ Some bs → IsFound n form u.constant) → Steps → IsFound (suc n) form u.constant
           of true e stays steps =
               let none : is_eliminated inner n (factor_of form.terms n) ≡ false = ap (λ (t : Bool). is_inner inner n && not t) e ∙ and_false (is_inner inner n) in
               let q : bounds_below scope inner n form ≡ Some bs =
@@ -622,42 +943,41 @@ module _ (scope : List Binding) (inner : List ℕ) (boxes : AreBoxes scope) wher
                 most = r.most;
               }
           of false e stays steps =
-              let c = factor_of form.terms n in
               let some : is_eliminated inner n c ≡ true = λ i. inside n (omega arith) i && not (e i) in
               let q : bounds_at scope (slice_get scope n) c elimination ≡ Some bs =
               sym (ap (λ (t : Bool). if t then bounds_at scope (slice_get scope n) c elimination else bounds_below scope inner n form) some) ∙ h in
-              let s = step n form bs u q has in
-              let means = combined-means (without form n) c s.other s.next s.made in
-              let only : AreInner s.other.terms =
-              one_of_all (λ f. AllByRecursion (λ t. is_inner inner t.symbol ≡ true) f.terms) (candidates s.binding c) s.other
-              (candidates_only scope (λ m. is_inner inner m ≡ true) all s.binding (boxes n s.binding s.there) c) s.among in
-              let next_among : AreInner s.next.terms =
-              only_combined (λ m. is_inner inner m ≡ true) (without form n) c s.other (inner_left (λ t. not (t.symbol == n)) form.terms among) only s.next s.made in
-              let lighter = step_light n form u s in
-              let next_light : weight scope s.next.terms ≤ 2 ^ 39 + 2 ^ 37 = omega (arith, lighter, light) in
-              let r = steps s.next s.found next_among means.within next_light s.comes s.has in
-              let near_here = near_form (suc n) form bs u h has light near in
-              let near_next = near_form n s.next s.found u s.comes s.has next_light near in
-              let is = raised_made n form c s.other s.next s.made in
-              let made : replaced (raised form z) n c s.other ≡ Some (raised s.next z) =
-              combined-made (without (raised form z) n) s.other c (within_limits-without (raised form z) n (raised_within form limited near_here)) means.second
-              (ap is_within_limits is ∙ raised_within s.next means.within near_next) ∙ ap (λ (f : Form). Some f) is in
-              let branch : Form → Option ℤ = λ other. option_and_then (λ f. least scope n f) (replaced (raised form z) n c other) in
-              let this : branch s.other ≡ Some r.comes_to = ap (λ (o : Option Form). option_and_then (λ f. least scope n f) o) made ∙ r.bound in
-              let listed : Has (Some r.comes_to) (map branch (candidates s.binding c)) =
-              subst (λ (o : Option ℤ). Has o (map branch (candidates s.binding c))) this (has_map branch (candidates s.binding c) s.other s.among) in
-              let t = smallest (map branch (candidates s.binding c)) r.comes_to listed in
-              let bound_is : result_at (slice_get scope n) c branch ≡ Some t.0 =
-              ap (λ (o : Option Binding). result_at o c branch) s.there
-              ∙ ap (λ (v : Bool). that_counts v (map branch (candidates s.binding c))) (none_may scope s.binding (boxes n s.binding s.there) c) ∙ t.1 in
-              record {
-                comes_to = t.0;
-                bound = ap (λ (v : Bool). if v then least scope n (raised form z) else result_at (slice_get scope n) c branch) e ∙ bound_is;
-                most = both_most t.0 r.comes_to (u.constant +ℤ z) t.2 r.most;
-              }
+              at (step all n form bs u among q has)
             where
-              both_most : (x y w : ℤ) → x ≤ℤ y → y ≤ℤ w → x ≤ℤ w
-              both_most x y w h g = omega (arith, ints, h, g)
+              at : ((s : IsStep n form u) × (any_may_be s.binding c ≡ false)) ⊎ IsBoth n form u → IsFound (suc n) form u.constant
+              at (inl k) =
+                  let s = k.0 in
+                  let r = found_by steps u s (fits_step all n form u s fits) in
+                  let listed : Has (Some r.0.comes_to) (map (branch n form) (candidates s.binding c)) =
+                  subst (λ (o : Option ℤ). Has o (map (branch n form) (candidates s.binding c))) r.1 (has_map (branch n form) (candidates s.binding c) s.other s.among) in
+                  let t = smallest (map (branch n form) (candidates s.binding c)) r.0.comes_to listed in
+                  let bound_is : result_at (slice_get scope n) c (branch n form) ≡ Some t.0 =
+                  ap (λ (o : Option Binding). result_at o c (branch n form)) s.there
+                  ∙ ap (λ (v : Bool). that_counts v (map (branch n form) (candidates s.binding c))) k.1 ∙ t.1 in
+                  record {
+                    comes_to = t.0;
+                    bound = ap (λ (v : Bool). if v then least scope n (raised form z) else result_at (slice_get scope n) c (branch n form)) e ∙ bound_is;
+                    most = both_most t.0 r.0.comes_to (u.constant +ℤ z) t.2 r.0.most;
+                  }
+              at (inr k) =
+                  let f = found_by steps k.one k.first (fits_step all n form k.one k.first (fits_part k.one fits k.forms k.there)) in
+                  let g = found_by steps k.two k.second (fits_step all n form k.two k.second (fits_part k.two fits k.forms k.there)) in
+                  let one : branch n form k.is_let.form ≡ Some f.0.comes_to = ap (branch n form) (sym k.first_is) ∙ f.1 in
+                  let two : branch n form (number k.is_let.last) ≡ Some g.0.comes_to = ap (branch n form) (sym k.second_is) ∙ g.1 in
+                  let bound_is : result_at (slice_get scope n) c (branch n form) ≡ Some (int_max f.0.comes_to g.0.comes_to) =
+                  ap (λ (o : Option Binding). result_at o c (branch n form)) k.there
+                  ∙ ap (λ (v : Bool). that_counts v (map (branch n form) k.forms)) k.may
+                  ∙ ap (λ (fs : List Form). that_counts true (map (branch n form) fs)) k.is_let.is
+                  ∙ (λ j. that_counts true (one j ∷ two j ∷ [])) in
+                  record {
+                    comes_to = int_max f.0.comes_to g.0.comes_to;
+                    bound = ap (λ (v : Bool). if v then least scope n (raised form z) else result_at (slice_get scope n) c (branch n form)) e ∙ bound_is;
+                    most = greater_most f.0.comes_to g.0.comes_to (Form.constant k.one) (Form.constant k.two) u.constant f.0.most g.0.most k.one_most k.two_most;
+                  }
 
 -- ---- forms as bounds
 
@@ -675,12 +995,12 @@ module _ (scope : List Binding) (inner : List ℕ) (boxes : AreBoxes scope) (all
       let limited = means.within in
       let tests = tests_of (is_within_limits nf) (nat_le (replacements_below scope inner (length scope) nf) 4096) refl freed in
       let turned = weight_terms scope [] (negsuc 0) m.terms in
-      let heavy = is_light means.second in
       let terms_are : weight scope nf.terms ≡ weight scope (plus_terms [] (negsuc 0) m.terms) = ap (λ (f : Form). weight scope f.terms) means.is in
-      let light : weight scope nf.terms ≤ 2 ^ 39 + 2 ^ 37 = omega (arith, turned, heavy, terms_are) in
-      let near = near_form scope inner boxes (length scope) nf us u tests.1 has light u_near in
+      let light = light_less scope nf.terms m.terms (omega (arith, turned, terms_are)) (is_light means.second) in
+      let fits = fits_light scope inner boxes all (length scope) nf us u among tests.1 has light u_near in
+      let near = near_form scope inner boxes all (length scope) nf us u among tests.1 has fits in
       let z_near : unsigned_abs e ≤ 2 ^ 32 = omega (arith, e_near) in
-      let r = search scope inner boxes e z_near all (length scope) nf us u all among limited light u_near tests.1 has in
+      let r = search scope inner boxes e z_near all (length scope) nf us u all among limited fits tests.1 has in
       let sum : e +ℤ negsuc 0 *ℤ m.constant ≡ (pos 0 +ℤ negsuc 0 *ℤ m.constant) +ℤ e = omega (arith, ints) in
       let is : plus_multiple (number e) (negsuc 0) m ≡ raised nf e =
       (λ i. record { constant = sum i; terms = plus_terms [] (negsuc 0) m.terms }) ∙ ap (λ (g : Form). raised g e) (sym means.is) in
@@ -707,11 +1027,11 @@ module _ (scope : List Binding) (inner : List ℕ) (boxes : AreBoxes scope) (all
   shown_under m us u e freed has among is_light le e_near u_near =
       let tests = tests_of (is_within_limits m) refl (nat_le (replacements_below scope inner (length scope) m) 4096) refl freed in
       let limited = tests.0 in
-      let light = is_light limited in
-      let near = near_form scope inner boxes (length scope) m us u tests.2 has light u_near in
+      let fits = fits_light scope inner boxes all (length scope) m us u among tests.2 has (is_light limited) u_near in
+      let near = near_form scope inner boxes all (length scope) m us u among tests.2 has fits in
       let z : ℤ = negsuc 0 *ℤ e in
       let z_near : unsigned_abs z ≤ 2 ^ 32 = omega (arith, ints, e_near) in
-      let r = search scope inner boxes z z_near all (length scope) m us u all among limited light u_near tests.2 has in
+      let r = search scope inner boxes z z_near all (length scope) m us u all among limited fits tests.2 has in
       let raised_ok = raised_within scope inner boxes z z_near m limited near in
       let number_ok : is_within_limits (number e) ≡ true = le-leb (unsigned_abs e) (2 ^ 40) (omega (arith, e_near)) in
       let made : combined m (negsuc 0) (number e) ≡ Some (raised m z) = combined-made m (number e) (negsuc 0) limited number_ok raised_ok in

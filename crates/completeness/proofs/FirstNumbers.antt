@@ -13,9 +13,9 @@ use Rattle.tree.specs.declared.value.Value.{Value}
 use Rattle.tree.specs.Term.{Terms, End, More}
 use Rattle.tree.specs.Names.{IsIndex, called_type}
 use Rattle.tree.specs.Typing.{type_of, is_index, are_indices}
-use Rattle.lin.specs.Forms.{Form, number, value_of as form_value}
+use Rattle.lin.specs.Forms.{Form, number, sum_of, value_of as form_value}
 use Rattle.lin.specs.declared.form.Multiple.{Multiple}
-use Rattle.lin.specs.Spans.{HoldsIn, Holds, IsInSpan, IsInRegion}
+use Rattle.lin.specs.Spans.{HoldsIn, Holds, IsInSpan, IsInRegion, IsLeast}
 use Rattle.lin.specs.declared.scope.Binding.{Binding}
 use Rattle.lin.specs.declared.scope.Binding.TheVariants.{Loop, LetMin, LetMax}
 use Rattle.lin.specs.declared.span.Span1.{Span1}
@@ -35,7 +35,7 @@ use Rattle.lower.specs.Regions.{ends_between, ends_of, symbols_from, greater, le
 use Rattle.lower.proofs.Laying.{bound, same}
 use Rattle.lower.proofs.Reached.{none_is}
 use Rattle.completeness.proofs.Standing.{Taken}
-use Rattle.completeness.proofs.Boxes.{IsCapped, IsBox, AreBoxes}
+use Rattle.completeness.proofs.Boxes.{IsCapped, IsLet, IsBox, AreBoxes}
 
 abbrev Ends : Type 0
 Ends = Taken _ _ are_within
@@ -100,7 +100,7 @@ ends_hold scope s e v z found fits lies =
 abbrev pub first_of : Option Binding → ℤ
 first_of None = pos 0
 first_of (Some (Loop x)) = elim x.lower [ [] ↦ pos 0 | f ∷ fs ↦ f.constant ]
-first_of (Some (LetMin fs)) = pos 0
+first_of (Some (LetMin fs)) = elim fs [ [] ↦ pos 0 | f ∷ gs ↦ f.constant ]
 first_of (Some (LetMax fs)) = pos 0
 
 abbrev pub firsts : List Binding → ℕ → ℤ
@@ -142,6 +142,31 @@ capped_holds scope x k =
     nothing : (p q : ℤ) → p +ℤ (q *ℤ pos 0 +ℤ pos 0) ≡ p
     nothing p q = omega (arith, ints)
 
+-- of a let the form's first number, over loops whose first number is 0
+let_holds : (scope : List Binding) (fs : List Form) (k : IsLet scope fs) → IsLeast (k.form ∷ number k.last ∷ []) (firsts scope) k.form.constant
+let_holds scope fs k =
+    let v = firsts scope in
+    let value : form_value k.form v ≡ k.form.constant = of k.form.terms k.over in
+    let least = k.least in (
+      All-cons (λ g. k.form.constant ≤ℤ form_value g v) k.form (number k.last ∷ []) (omega (arith, ints, value))
+          (All-cons (λ g. k.form.constant ≤ℤ form_value g v) (number k.last) [] (omega (arith, ints, least)) (All-nil (λ g. k.form.constant ≤ℤ form_value g v))),
+      (0, k.form, omega arith, refl, value),
+    )
+  where
+    of : (ts : List Multiple) → AllByRecursion (λ (t : Multiple). (x : Span1) × (slice_get scope t.symbol ≡ Some (Loop x)) × (x.lower ≡ number (pos 0) ∷ [])) ts →
+        form_value (record { constant = k.form.constant; terms = ts }) (firsts scope) ≡ k.form.constant
+    of [] h = none_more k.form.constant
+      where
+        none_more : (z : ℤ) → z +ℤ pos 0 ≡ z
+        none_more z = omega (arith, ints)
+    of (t ∷ ts) h =
+        let zero_there : firsts scope t.symbol ≡ pos 0 = ap first_of h.0.1 ∙ ap (λ (fs : List Form). elim fs [ [] ↦ pos 0 | f ∷ gs ↦ f.constant ]) h.0.2 in
+        let rest = of ts h.1 in
+        (λ j. k.form.constant +ℤ (t.factor *ℤ zero_there j +ℤ sum_of ts (firsts scope))) ∙ no_time k.form.constant t.factor (sum_of ts (firsts scope)) ∙ rest
+      where
+        no_time : (z f y : ℤ) → z +ℤ (f *ℤ pos 0 +ℤ y) ≡ z +ℤ y
+        no_time z f y = omega (arith, ints)
+
 first_holds : (scope : List Binding) (b : Binding) → IsBox scope b → Holds b (first_of (Some b)) (firsts scope)
 first_holds scope (Loop x) (inl is) =
     subst (λ (y : Span1). IsInSpan y (firsts scope) (first_of (Some (Loop x)))) (sym is) (anything_holds (firsts scope) (first_of (Some (Loop x))))
@@ -153,7 +178,7 @@ first_holds scope (Loop x) (inr (inl k)) =
 first_holds scope (Loop x) (inr (inr k)) =
     let zero_first : first_of (Some (Loop x)) ≡ pos 0 = ap (λ (y : Span1). first_of (Some (Loop y))) k.is in
     subst (λ (z : ℤ). IsInSpan x (firsts scope) z) (sym zero_first) (capped_holds scope x k)
-first_holds scope (LetMin fs) box = absurd box
+first_holds scope (LetMin fs) k = subst (λ (gs : List Form). IsLeast gs (firsts scope) (first_of (Some (LetMin gs)))) (sym k.is) (let_holds scope fs k)
 first_holds scope (LetMax fs) box = absurd box
 
 module _ (scope : List Binding) (boxes : AreBoxes scope) where

@@ -1,102 +1,20 @@
 -- The search where a form is a let's symbol, the smaller of two forms: upwards the smaller of what both find counts, downwards the larger.
-use Rattle.std.proofs.Common.{◌≡◌, ℕ, zero, suc, ◌+◌, ◌-◌, ◌<◌, ◌≤◌, ◌^◌, Bool, true, false, ◌&&◌, not, List, [], ◌∷◌, length, map, Option, Some, None, refl, sym, ap, ◌∙◌, subst, arith}
-use Rattle.std.specs.Prelude.{ℤ, pos, negsuc, ◌+ℤ◌, ◌*ℤ◌, ◌≤ℤ◌, nat_le, ◌==◌, if◌then◌else◌, slice_get, option_and_then}
-use Rattle.std.specs.Option.{option_map_or}
-use Rattle.std.specs.Int.{int_min}
+use Rattle.std.proofs.Common.{◌≡◌, ℕ, suc, ◌+◌, ◌<◌, ◌≤◌, ◌^◌, true, false, List, [], ◌∷◌, length, Option, Some, None, refl, sym, ap, ◌∙◌, subst, arith}
+use Rattle.std.specs.Prelude.{ℤ, pos, negsuc, ◌+ℤ◌, ◌*ℤ◌, ◌≤ℤ◌, slice_get}
+use Rattle.std.specs.Int.{int_min, int_max}
 use Rattle.std.specs.Int.RustNames.{unsigned_abs}
-use Rattle.std.proofs.lemmas.Bool.Decides.{nat_tests}
 use Rattle.std.proofs.lemmas.Int.{ints, clamps}
-use Rattle.lin.specs.Forms.{Form, number, is_zero, factor_of, in_front, plus_multiple, without, is_within_limits, combined}
-use Rattle.lin.specs.Search.{candidates, any_may_be, that_counts, replaced, result_at, total, total_at, least, replacements, sup, at_most}
+use Rattle.lin.specs.Forms.{Form, number, in_front, plus_multiple, is_within_limits, combined}
+use Rattle.lin.specs.Search.{least, replacements, is_at_most_zero, at_most, pick}
 use Rattle.lin.specs.declared.scope.Binding.{Binding}
+use Rattle.lin.specs.declared.scope.Binding.TheVariants.{LetMin}
 use Rattle.lin.proofs.Limits.{combined-made}
-use Rattle.soundness.proofs.Refines.{eq_refl}
 use Rattle.completeness.proofs.GridScope.{number_limited}
 use Rattle.completeness.proofs.SelfBounds.{least_number, no_replacements, still}
 use Rattle.completeness.proofs.Searched.{one_of}
 use Rattle.completeness.proofs.GuardSums.{smaller_right}
 use Rattle.completeness.proofs.BlockSums.{multiple, one_limited}
-use Rattle.std.specs.Int.{int_max}
-use Rattle.lin.specs.Search.{is_at_most_zero, pick}
-use Rattle.lin.specs.declared.scope.Binding.TheVariants.{LetMin}
-
--- two forms may stand in the place of the one symbol
-module _ (scope : List Binding) (i : ℕ) (z c : ℤ) (some : is_zero c ≡ false) (q : Binding) (there : slice_get scope i ≡ Some q) (f g : Form) (two : candidates q c ≡ f ∷ g ∷ [])
-    (first second : Form) (o p : Option ℤ) (m n : ℕ) (made_f : combined (number z) c f ≡ Some first) (least_f : least scope i first ≡ o) (count_f : replacements scope i first ≡ m)
-    (made_g : combined (number z) c g ≡ Some second) (least_g : least scope i second ≡ p) (count_g : replacements scope i second ≡ n) where
-  here_factor : factor_of (multiple i c ∷ []) i ≡ c
-  here_factor = (let sum : c +ℤ pos 0 ≡ c = omega (arith, ints) in ap (λ (v : Bool). (if v then c else pos 0) +ℤ pos 0) (eq_refl i) ∙ sum)
-
-  away_factor : (k : ℕ) → (i == k) ≡ false → factor_of (multiple i c ∷ []) k ≡ pos 0
-  away_factor k e = ap (λ (v : Bool). (if v then c else pos 0) +ℤ pos 0) e
-
-  gone_one : without (one_of z c i) i ≡ number z
-  gone_one = ap (λ (v : Bool). record { constant = z; terms = if not v then multiple i c ∷ [] else [] }) (eq_refl i)
-
-  abbrev branch : Form → Option ℤ
-  branch other = option_and_then (λ next. least scope i next) (replaced (one_of z c i) i c other)
-
-  abbrev cost : Form → ℕ
-  cost other = suc (option_map_or (λ next. replacements scope i next) (replaced (one_of z c i) i c other) 0)
-
-  one_f : replaced (one_of z c i) i c f ≡ Some first
-  one_f = ap (λ (h : Form). combined h c f) gone_one ∙ made_f
-
-  one_g : replaced (one_of z c i) i c g ≡ Some second
-  one_g = ap (λ (h : Form). combined h c g) gone_one ∙ made_g
-
-  result_one : result_at (Some q) c branch ≡ pick (any_may_be q c) o p
-  result_one =
-      let left = ap (λ (r : Option Form). option_and_then (λ next. least scope i next) r) one_f ∙ least_f in
-      let right = ap (λ (r : Option Form). option_and_then (λ next. least scope i next) r) one_g ∙ least_g in
-      ap (λ (fs : List Form). that_counts (any_may_be q c) (map branch fs)) two ∙ (λ j. that_counts (any_may_be q c) (left j ∷ right j ∷ []))
-
-  total_one : total_at (Some q) c cost ≡ suc m + suc n
-  total_one =
-      let left = ap (λ (r : Option Form). suc (option_map_or (λ next. replacements scope i next) r 0)) one_f ∙ ap suc count_f in
-      let right = ap (λ (r : Option Form). suc (option_map_or (λ next. replacements scope i next) r 0)) one_g ∙ ap suc count_g in
-      ap (λ (fs : List Form). total cost fs) two ∙ omega (arith, left, right)
-
-  least_one : (k : ℕ) → i < k → least scope k (one_of z c i) ≡ pick (any_may_be q c) o p
-  least_one zero less = absurd (omega (arith, less))
-  least_one (suc k) less = of (i == k) refl (λ low. least_one k low)
-    where
-      of : (v : Bool) → (i == k) ≡ v → (i < k → least scope k (one_of z c i) ≡ pick (any_may_be q c) o p) → least scope (suc k) (one_of z c i) ≡ pick (any_may_be q c) o p
-      of true e rest =
-          let same : i ≡ k = grind (arith, nat_tests, e) in
-          subst (λ (h : ℕ). least scope (suc h) (one_of z c i) ≡ pick (any_may_be q c) o p) same
-          (ap (λ (v : ℤ). if is_zero v then least scope i (one_of z c i) else result_at (slice_get scope i) v
-          (λ other. option_and_then (λ next. least scope i next) (replaced (one_of z c i) i v other))) here_factor
-          ∙ ap (λ (v : Bool). if v then least scope i (one_of z c i) else result_at (slice_get scope i) c branch) some
-          ∙ ap (λ (r : Option Binding). result_at r c branch) there ∙ result_one)
-      of false e rest =
-          let low : i < k = grind (arith, nat_tests, less, e) in
-          ap (λ (v : ℤ). if is_zero v then least scope k (one_of z c i) else result_at (slice_get scope k) v
-          (λ other. option_and_then (λ next. least scope k next) (replaced (one_of z c i) k v other))) (away_factor k e) ∙ rest low
-
-  replacements_one : (k : ℕ) → i < k → replacements scope k (one_of z c i) ≡ suc m + suc n
-  replacements_one zero less = absurd (omega (arith, less))
-  replacements_one (suc k) less = of (i == k) refl (λ low. replacements_one k low)
-    where
-      of : (v : Bool) → (i == k) ≡ v → (i < k → replacements scope k (one_of z c i) ≡ suc m + suc n) → replacements scope (suc k) (one_of z c i) ≡ suc m + suc n
-      of true e rest =
-          let same : i ≡ k = grind (arith, nat_tests, e) in
-          subst (λ (h : ℕ). replacements scope (suc h) (one_of z c i) ≡ suc m + suc n) same
-          (ap (λ (v : ℤ). if is_zero v then replacements scope i (one_of z c i) else total_at (slice_get scope i) v
-          (λ other. suc (option_map_or (λ next. replacements scope i next) (replaced (one_of z c i) i v other) 0))) here_factor
-          ∙ ap (λ (v : Bool). if v then replacements scope i (one_of z c i) else total_at (slice_get scope i) c cost) some
-          ∙ ap (λ (r : Option Binding). total_at r c cost) there ∙ total_one)
-      of false e rest =
-          let low : i < k = grind (arith, nat_tests, less, e) in
-          ap (λ (v : ℤ). if is_zero v then replacements scope k (one_of z c i) else total_at (slice_get scope k) v
-          (λ other. suc (option_map_or (λ next. replacements scope k next) (replaced (one_of z c i) k v other) 0))) (away_factor k e) ∙ rest low
-
-  pub found_let : i < length scope → m + n ≤ 4000 → is_within_limits (one_of z c i) ≡ true → sup scope (one_of z c i) ≡ pick (any_may_be q c) o p
-  found_let less few limited =
-      let low : nat_le (suc m + suc n) 4096 ≡ true = grind (arith, nat_tests, few) in
-      ap (λ (v : Bool). if v && nat_le (replacements scope (length scope) (one_of z c i)) 4096 then least scope (length scope) (one_of z c i) else None) limited
-      ∙ ap (λ (k : ℕ). if nat_le k 4096 then least scope (length scope) (one_of z c i) else None) (replacements_one (length scope) less)
-      ∙ ap (λ (v : Bool). if v then least scope (length scope) (one_of z c i) else None) low ∙ least_one (length scope) less
+use Rattle.completeness.proofs.TopSums.{shown_by, least_both, count_both, one_factor, one_free, one_gone}
 
 -- upwards what the second finds is enough
 pub still_second : (o : Option ℤ) (s : ℤ) → s ≤ℤ pos 0 → is_at_most_zero (pick false o (Some s)) ≡ true
@@ -127,9 +45,15 @@ module _ (scope : List Binding) (p : ℕ) (inside : p < length scope) (f : Form)
       let s_near : unsigned_abs s ≤ 2 ^ 40 = sum_near z last z_near last_near in
       let made_g : combined (number z) (pos 1) (number last) ≡ Some (number s) =
       combined-made (number z) (number last) (pos 1) (number_limited z (omega (arith, z_near))) (number_limited last (omega (arith, last_near))) (number_limited s s_near) in
-      let found = found_let scope p z (pos 1) refl (LetMin (f ∷ number last ∷ [])) there f (number last) refl first (number s) (least scope p first) (Some s) m 0 made_f refl count made_g
-      (least_number scope p s) (no_replacements scope p s) inside (omega (arith, few)) limited_sum in
-      ap (λ (o : Option Form). is_at_most_zero (option_and_then (λ d. sup scope d) o)) made ∙ ap is_at_most_zero found ∙ still_second (least scope p first) s (under_it last high le)
+      let bound : Binding = LetMin (f ∷ number last ∷ []) in
+      let found = least_both scope p (pos 1) refl bound there (one_of z (pos 1) p) (number z) (one_factor z (pos 1) p) (one_free z (pos 1) p) (one_gone z (pos 1) p) f first made_f (least
+      scope p first)
+      refl m count (number last) (number s) made_g (Some s) (least_number scope p s) 0 (no_replacements scope p s) refl (length scope) inside in
+      let counted = count_both scope p (pos 1) refl bound there (one_of z (pos 1) p) (number z) (one_factor z (pos 1) p) (one_free z (pos 1) p) (one_gone z (pos 1) p) f first made_f (least
+      scope p first)
+      refl m count (number last) (number s) made_g (Some s) (least_number scope p s) 0 (no_replacements scope p s) refl (length scope) inside in
+      shown_by scope (one_of (pos 0) (pos 1) p) (number high) (one_of z (pos 1) p) (suc m + suc 0) (pick false (least scope p first) (Some s)) made limited_sum counted (omega (arith, few)) found
+      (still_second (least scope p first) s (under_it last high le))
     where
       less_near : (q : ℤ) → unsigned_abs q ≤ 2 ^ 37 → unsigned_abs (pos 0 +ℤ negsuc 0 *ℤ q) ≤ 2 ^ 38
       less_near q h = omega (arith, ints, h)
@@ -158,9 +82,13 @@ module _ (scope : List Binding) (p : ℕ) (inside : p < length scope) (f : Form)
       let made_g : combined (number z) (negsuc 0) (number last) ≡ Some (number s) =
       combined-made (number z) (number last) (negsuc 0) (number_limited z (omega (arith, z_near))) (number_limited last (omega (arith, last_near))) (number_limited s s_near) in
       let made_here : combined (number z) (negsuc 0) f ≡ Some first = ap (λ (v : ℤ). combined (number v) (negsuc 0) f) z_is ∙ made_f in
-      let found = found_let scope p z (negsuc 0) refl (LetMin (f ∷ number last ∷ [])) there f (number last) refl first (number s) (Some r) (Some s) m 0 made_here least_f count made_g
-      (least_number scope p s) (no_replacements scope p s) inside (omega (arith, few)) limited_sum in
-      ap (λ (o : Option Form). is_at_most_zero (option_and_then (λ d. sup scope d) o)) made ∙ ap is_at_most_zero found ∙ still_both r s r_under (over_it z low last z_is le)
+      let bound : Binding = LetMin (f ∷ number last ∷ []) in
+      let found = least_both scope p (negsuc 0) refl bound there (one_of z (negsuc 0) p) (number z) (one_factor z (negsuc 0) p) (one_free z (negsuc 0) p) (one_gone z (negsuc 0) p) f first made_here
+      (Some r) least_f m count (number last) (number s) made_g (Some s) (least_number scope p s) 0 (no_replacements scope p s) refl (length scope) inside in
+      let counted = count_both scope p (negsuc 0) refl bound there (one_of z (negsuc 0) p) (number z) (one_factor z (negsuc 0) p) (one_free z (negsuc 0) p) (one_gone z (negsuc 0) p) f first made_here
+      (Some r) least_f m count (number last) (number s) made_g (Some s) (least_number scope p s) 0 (no_replacements scope p s) refl (length scope) inside in
+      shown_by scope (number low) (one_of (pos 0) (pos 1) p) (one_of z (negsuc 0) p) (suc m + suc 0) (pick true (Some r) (Some s)) made limited_sum counted (omega (arith, few)) found
+      (still_both r s r_under (over_it z low last z_is le))
     where
       sum_near : (a b : ℤ) → unsigned_abs a ≤ 2 ^ 37 → unsigned_abs b ≤ 2 ^ 36 → unsigned_abs (a +ℤ negsuc 0 *ℤ b) ≤ 2 ^ 40
       sum_near a b h g = omega (arith, ints, h, g)

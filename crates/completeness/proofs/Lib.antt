@@ -153,6 +153,9 @@ pub mod BlockLimits
 pub mod BlockOrder
 pub mod GuardSums
 pub mod LetSums
+pub mod TopSums
+pub mod BlockLets
+pub mod NumberUnions
 pub mod BlockLoops
 pub mod RisingSpans
 pub mod TextForms
