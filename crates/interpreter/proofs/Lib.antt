@@ -47,3 +47,4 @@ pub mod Reciprocals
 pub mod SameRegisters
 pub mod EachWord
 pub mod Words
+pub mod Casts

@@ -1,14 +1,12 @@
 -- Rows of images of three dimensions, in which the colours of a pixel stand side by side.
 use Rattle.std.proofs.Common.{◌≡◌, ℕ, ◌+◌, ◌*◌, ◌<◌, List, [], ◌∷◌, length, take, drop, Option, Some, Bool, true, refl, sym, ap, ◌∙◌, arith, ℤ, pos, negsuc}
-use Rattle.std.specs.Prelude.{◌&&◌, ◌≤◌, ◌≤ℤ◌, nat_lt, option_map, slice_get, slice_index}
+use Rattle.std.specs.Prelude.{◌&&◌, nat_lt, option_map, slice_get, slice_index}
 use Rattle.std.proofs.Math.Nat.{add-mul, mul_assoc, lt_of_mul-lt-mul_right}
 use Rattle.std.proofs.lemmas.Bool.{lt-ltb, and_from}
 use Rattle.std.proofs.lemmas.Option.{none-some, slice_get-get_or}
 use Rattle.numeric.specs.declared.ty.Ty.{Ty}
-use Rattle.numeric.specs.Wrap.{greatest, wrap}
 use Rattle.tree.specs.Meaning.{typed}
 use Rattle.interpreter.specs.Scanlines.{input_at, pixel_along}
-use Rattle.interpreter.proofs.EachWord.{small_of}
 use Rattle.interpreter.proofs.Windows.{sample_there, within_both}
 use lib.IntN.{nat_abs}
 
@@ -30,10 +28,10 @@ later_pixel t w h c y z samples (pos k) n lt also g =
     within_both t b (pos (slice_index samples ((y * w + k) * c + z))) within
     ∙ ap (λ (i : ℕ). Some (typed t (pos (slice_index samples i)))) place ∙ ap (λ (m : ℤ). Some (typed t m)) s.number
 
--- a word that is a sample of a colour, where that is of the type
-pub pixel_word : (t : Ty) (samples : List ℕ) (first k colours colour start w most : ℕ) → start ≡ first * colours + colour → start + k * colours < length samples →
-    w ≡ slice_index samples (start + k * colours) → w ≤ most → pos most ≤ℤ greatest t → pixel_along colours colour samples (pos (first + k)) ≡ Some (wrap t (pos w))
-pixel_word t samples first k colours colour start w most from there is le to =
+-- a word that is a sample of a colour
+pub pixel_word : (samples : List ℕ) (first k colours colour start w : ℕ) → start ≡ first * colours + colour → start + k * colours < length samples →
+    w ≡ slice_index samples (start + k * colours) → pixel_along colours colour samples (pos (first + k)) ≡ Some (pos w)
+pixel_word samples first k colours colour start w from there is =
     let place : (first + k) * colours + colour ≡ start + k * colours = (let e = add-mul first k colours in omega (arith, e, from)) in
     ap (λ (o : Option ℕ). option_map (λ n. pos n) o) (ap (slice_get samples) place ∙ slice_get-get_or samples (start + k * colours) 0 there)
-    ∙ ap (λ (z : ℤ). Some z) (ap (λ (n : ℕ). pos n) (sym is) ∙ sym (small_of t w most le to))
+    ∙ ap (λ (n : ℕ). Some (pos n)) (sym is)

@@ -33,5 +33,6 @@ pub use reader::Reader;
 pub use run::{evaluate_numbers, evaluate_run, evaluate_words};
 pub use run_reader::RunReader;
 pub use stop::Stop;
+pub(crate) use whole::cast_words;
 pub(crate) use widths::{Signed8, Signed16, Signed32, Unsigned8, Unsigned16, Unsigned32, Width};
 pub(crate) use words::{low_word, typed_number, word_number};

@@ -8,21 +8,22 @@ ghost use Rattle.plan.specs.Semantics.Run.{look};
 ghost use Rattle.meaning.specs.Names.{bound};
 ghost use Rattle.interpreter.specs.Buffers.Blocks.{memory_of};
 ghost use Rattle.numeric.specs.declared.ty.Ty.TheVariants.{I32};
-ghost use Rattle.interpreter.specs.Evaluation.Lanes.{clamped_number, lane, lane_number, lanes_at, number_at, IsNarrowFor};
-ghost use Rattle.interpreter.specs.Evaluation.Words.{word_at};
+ghost use Rattle.interpreter.specs.Evaluation.Lanes.{clamped_number, found_as, lane, lane_number, lanes_at, number_at, IsNarrowFor};
+ghost use Rattle.interpreter.specs.Evaluation.Words.{bits_at, word_at};
 ghost use Rattle.interpreter.specs.Pieces.{around, no_cells};
 ghost use Rattle.interpreter.specs.Runs.{numbers_at, IsBut};
 
 use crate::buffers::{Buffers, held_window};
 use crate::evaluation::{
-    ClampedRamp, Lanes, Number, RunReader, clamped_number, number_after, step_words, typed_number,
+    ClampedRamp, Lanes, Number, RunReader, cast_words, clamped_number, number_after, step_words,
+    typed_number,
 };
 use crate::loads::claim_of;
 use crate::piece::Piece;
 use crate::reading::{Reading, number_bound};
 use crate::scanlines::{
-    Pixels, copy_pixels, copy_samples, copy_words, distance, pixels_beside, samples_beside,
-    take_numbers, take_pixels, take_samples, type_held, window,
+    Pixels, copy_words, distance, pixels_beside, put_pixels, put_samples, sample_type,
+    samples_beside, take_numbers, take_pixels, take_samples, type_held, window,
 };
 use meaning::sameness::same_name;
 use numeric::Ty;
@@ -177,54 +178,72 @@ impl RunReading<'_, '_> {
         Some(ty)
     }
 
-    /// What an input of fewer dimensions has at points whose first coordinate rises by one.
-    fn look_sample_row(&self, first: i64, others: &[i64], out: &mut [u32]) -> Option<Ty>
-        ensures { IfSome result (λ t. (k : ℕ) → k < length out.new → source_at self.now (memory_of self.now.memory.now) Input ((first +ℤ pos k) ∷ others.now) ≡ Some (typed t (word_at t out.new k))) }
+    /// The samples that an input of fewer dimensions has at points whose first coordinate rises by one.
+    fn put_sample_row(&self, first: i64, others: &[i64], out: &mut [u32]) -> Option<()>
+        ensures { IfSome result (λ _. (k : ℕ) → k < length out.new → source_at self.now (memory_of self.now.memory.now) Input ((first +ℤ pos k) ∷ others.now) ≡ Some (typed self.now.piece.now.plan.now.input.ty (pos (bits_at out.new k)))) }
     {
         let samples = self.samples(others)?;
         if first < 0 {
             return None;
         }
         let row = window(samples, first as usize, out.len())?;
-        let ty = self.piece.plan.input.ty;
-        copy_samples(ty, row, out)?;
-        Some(ty)
+        put_samples(row, out);
+        Some(())
     }
 
-    /// What an input of three dimensions has at points whose first coordinate rises by one.
-    fn look_pixel_row(&self, first: i64, others: &[i64], out: &mut [u32]) -> Option<Ty>
-        ensures { IfSome result (λ t. (k : ℕ) → k < length out.new → source_at self.now (memory_of self.now.memory.now) Input ((first +ℤ pos k) ∷ others.now) ≡ Some (typed t (word_at t out.new k))) }
+    /// The samples that an input of three dimensions has at points whose first coordinate rises by one.
+    fn put_pixel_row(&self, first: i64, others: &[i64], out: &mut [u32]) -> Option<()>
+        ensures { IfSome result (λ _. (k : ℕ) → k < length out.new → source_at self.now (memory_of self.now.memory.now) Input ((first +ℤ pos k) ∷ others.now) ≡ Some (typed self.now.piece.now.plan.now.input.ty (pos (bits_at out.new k)))) }
     {
         let pixels = self.pixels(others)?;
         if first < 0 {
             return None;
         }
-        let ty = self.piece.plan.input.ty;
-        copy_pixels(ty, pixels, first as usize, out)?;
-        Some(ty)
+        put_pixels(pixels, first as usize, out)
     }
 
-    /// What the input has at points whose first coordinate rises by one.
-    fn look_input_row(&self, first: i64, others: &[i64], out: &mut [u32]) -> Option<Ty>
-        ensures { IfSome result (λ t. (k : ℕ) → k < length out.new → source_at self.now (memory_of self.now.memory.now) Input ((first +ℤ pos k) ∷ others.now) ≡ Some (typed t (word_at t out.new k))) }
+    /// The samples that the input has at points whose first coordinate rises by one.
+    fn put_input_row(&self, first: i64, others: &[i64], out: &mut [u32]) -> Option<()>
+        ensures { IfSome result (λ _. (k : ℕ) → k < length out.new → source_at self.now (memory_of self.now.memory.now) Input ((first +ℤ pos k) ∷ others.now) ≡ Some (typed self.now.piece.now.plan.now.input.ty (pos (bits_at out.new k)))) }
     {
         if others.len() == 2 {
-            self.look_pixel_row(first, others, out)
+            self.put_pixel_row(first, others, out)
         } else {
-            self.look_sample_row(first, others, out)
+            self.put_sample_row(first, others, out)
         }
     }
 
-    /// What a buffer has at points whose first coordinate rises by one.
-    fn look_place_row(&self, buffer: u64, first: i64, others: &[i64], out: &mut [u32]) -> Option<Ty>
-        ensures { IfSome result (λ t. (k : ℕ) → k < length out.new → source_at self.now (memory_of self.now.memory.now) (Buffer buffer) ((first +ℤ pos k) ∷ others.now) ≡ Some (typed t (word_at t out.new k))) }
+    /// What the input has at points whose first coordinate rises by one, cast to the type, if there is one.
+    fn look_input_row(
+        &self,
+        first: i64,
+        others: &[i64],
+        cast: Option<Ty>,
+        out: &mut [u32],
+    ) -> Option<Ty>
+        ensures { IfSome result (λ t. (k : ℕ) → k < length out.new → found_as cast (source_at self.now (memory_of self.now.memory.now) Input ((first +ℤ pos k) ∷ others.now)) ≡ Some (typed t (word_at t out.new k))) }
+    {
+        self.put_input_row(first, others, out)?;
+        sample_type(self.piece.plan.input.ty, cast, out)
+    }
+
+    /// What a buffer has at points whose first coordinate rises by one, cast to the type, if there is one.
+    fn look_place_row(
+        &self,
+        buffer: u64,
+        first: i64,
+        others: &[i64],
+        cast: Option<Ty>,
+        out: &mut [u32],
+    ) -> Option<Ty>
+        ensures { IfSome result (λ t. (k : ℕ) → k < length out.new → found_as cast (source_at self.now (memory_of self.now.memory.now) (Buffer buffer) ((first +ℤ pos k) ∷ others.now)) ≡ Some (typed t (word_at t out.new k))) }
     {
         let line = self.memory.scanline(buffer, others)?;
         let start = distance(line.origin, first)?;
         let held = held_window(line.held, start, out.len())?;
         let ty = type_held(held)?;
         copy_words(held, ty, out)?;
-        Some(ty)
+        Some(cast_words(ty, cast, out))
     }
 
     /// What a source has at a point, where that is of the type.
@@ -344,11 +363,18 @@ impl RunReader for RunReading<'_, '_> {
         }
     }
 
-    fn look_row(&self, name: &str, first: i64, others: &[i64], out: &mut [u32]) -> Option<Ty> {
+    fn look_row(
+        &self,
+        name: &str,
+        first: i64,
+        others: &[i64],
+        cast: Option<Ty>,
+        out: &mut [u32],
+    ) -> Option<Ty> {
         let source = self.source(name)?;
         match source {
-            Source::Input => self.look_input_row(first, others, out),
-            Source::Buffer(buffer) => self.look_place_row(buffer, first, others, out),
+            Source::Input => self.look_input_row(first, others, cast, out),
+            Source::Buffer(buffer) => self.look_place_row(buffer, first, others, cast, out),
         }
     }
 

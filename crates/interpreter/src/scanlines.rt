@@ -6,7 +6,7 @@ ghost use Rattle.numeric.specs.Wrap.{greatest, wrap};
 ghost use Rattle.tree.specs.Meaning.{typed};
 ghost use Rattle.std.specs.Bool.{OnTrue};
 ghost use Rattle.interpreter.specs.Buffers.Marks.{narrow_mark, places_held};
-ghost use Rattle.interpreter.specs.Evaluation.Lanes.{number_at};
+ghost use Rattle.interpreter.specs.Evaluation.Lanes.{number_at, taken_as};
 ghost use Rattle.interpreter.specs.Evaluation.Words.{bits_at, word_at};
 ghost use Rattle.interpreter.specs.Scanlines.{along, input_at, pixel_along, sample_along};
 
@@ -269,37 +269,20 @@ fn put_along(samples: &[u16], start: usize, step: usize, out: &mut [u32])
 }
 
 /// The samples of a row's colour at coordinates side by side, from one on, put into a register; nothing where there is none at one
-/// of them, or it is not of the type.
-pub(crate) fn copy_pixels(ty: Ty, row: Pixels<'_>, first: usize, out: &mut [u32]) -> Option<()>
-    ensures { IfSome result (λ _. (k : ℕ) → k < length out.new → pixel_along row.entry.colours row.entry.colour row.entry.samples.now (pos (first + k)) ≡ Some (word_at ty out.new k)) }
+/// of them.
+pub(crate) fn put_pixels(row: Pixels<'_>, first: usize, out: &mut [u32]) -> Option<()>
+    ensures { IfSome result (λ _. (k : ℕ) → k < length out.new → pixel_along row.entry.colours row.entry.colour row.entry.samples.now (pos (first + k)) ≡ Some (pos (bits_at out.new k))) }
 {
     let start = first.checked_mul(row.colours)?.checked_add(row.colour)?;
     if !are_along(row.samples, start, row.colours, out.len()) {
         return None;
     }
     put_along(row.samples, start, row.colours, out);
-    // Where some sample is not of the type, what the register has then is not read.
-    if are_words_at_most(out, u32::from(greatest_sample(ty))) {
-        Some(())
-    } else {
-        None
-    }
+    Some(())
 }
 
-/// Whether no sample is above this one. All are looked at, so that several are at once.
-fn are_at_most(samples: &[u16], most: u16) -> bool
-    ensures { OnTrue result ((k : ℕ) → k < length samples.now → slice_index samples.now k ≤ most) }
-{
-    let mut all = true;
-    for place in 0..samples.len() {
-        let one = samples[place] <= most;
-        all = all & one;
-    }
-    all
-}
-
-/// As many samples as words.
-fn put_samples(samples: &[u16], out: &mut [u32])
+/// As many samples, put into a register.
+pub(crate) fn put_samples(samples: &[u16], out: &mut [u32])
     requires { length samples.now ≡ length out.old }
     ensures { (k : ℕ) → k < length out.new → bits_at out.new k ≡ slice_index samples.now k }
 {
@@ -308,16 +291,15 @@ fn put_samples(samples: &[u16], out: &mut [u32])
     }
 }
 
-/// As many samples, put into a register, where all are of the type.
-pub(crate) fn copy_samples(ty: Ty, samples: &[u16], out: &mut [u32]) -> Option<()>
-    requires { length samples.now ≡ length out.old }
-    ensures { IfSome result (λ _. (k : ℕ) → k < length out.new → word_at ty out.new k ≡ pos (slice_index samples.now k)) }
+/// The type of a register's samples, which are cast to a type, or else are of this one: nothing where one of them is not.
+pub(crate) fn sample_type(ty: Ty, cast: Option<Ty>, words: &[u32]) -> Option<Ty>
+    ensures { IfSome result (λ t. (k : ℕ) → k < length words.now → typed t (word_at t words.now k) ≡ taken_as cast (typed ty (pos (bits_at words.now k)))) }
 {
-    if !are_at_most(samples, greatest_sample(ty)) {
-        return None;
+    match cast {
+        Some(cast) => Some(cast),
+        None if are_words_at_most(words, u32::from(greatest_sample(ty))) => Some(ty),
+        None => None,
     }
-    put_samples(samples, out);
-    Some(())
 }
 
 /// The number of a place, where its value is of the type.

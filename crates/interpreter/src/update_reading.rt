@@ -123,8 +123,15 @@ impl RunReader for UpdateReading<'_, '_> {
         self.reading.look_each(name, others, out)
     }
 
-    fn look_row(&self, name: &str, first: i64, others: &[i64], out: &mut [u32]) -> Option<Ty> {
-        self.reading.look_row(name, first, others, out)
+    fn look_row(
+        &self,
+        name: &str,
+        first: i64,
+        others: &[i64],
+        cast: Option<Ty>,
+        out: &mut [u32],
+    ) -> Option<Ty> {
+        self.reading.look_row(name, first, others, cast, out)
     }
 
     fn look_points(

@@ -1,10 +1,11 @@
 -- What an expression comes to at the turns of a run.
-use Rattle.std.specs.Prelude.{◌≡◌, ℕ, ◌<◌, ◌≤◌, ◌^◌, List, [], ◌∷◌, drop, Bool, Option, Some, ℤ, pos, ◌+ℤ◌, ◌≤ℤ◌, slice_index_or}
+use Rattle.std.specs.Prelude.{◌≡◌, ℕ, ◌<◌, ◌≤◌, ◌^◌, List, [], ◌∷◌, drop, Bool, Option, Some, None, ℤ, pos, ◌+ℤ◌, ◌≤ℤ◌, slice_index_or}
 use Rattle.std.specs.Int.{int_max, int_min}
 use Rattle.numeric.specs.declared.ty.Ty.{Ty}
-use Rattle.numeric.specs.Wrap.{greatest, least}
+use Rattle.numeric.specs.Wrap.{greatest, least, wrap}
 use Rattle.tree.specs.declared.value.Value.{Value}
 use Rattle.tree.specs.Meaning.{typed}
+use Rattle.plan.specs.Semantics.Found.{with}
 use Rattle.interpreter.specs.declared.evaluation.lanes.Number.{Number}
 use Rattle.interpreter.specs.declared.evaluation.lanes.ClampedRamp.{ClampedRamp}
 use Rattle.interpreter.specs.declared.evaluation.lanes.Lanes.{Lanes}
@@ -61,6 +62,16 @@ FindsRun n x ws f = (k : ℕ) → k < n → f k ≡ Some (lane x ws k)
 abbrev pub lanes_at : ℕ → List Lanes → List ℕ → ℕ → List ℤ
 lanes_at n [] ws k = []
 lanes_at n (x ∷ xs) ws k = lane_number x ws k ∷ lanes_at n xs (drop n ws) k
+
+-- a value, wrapped to the type if there is one
+abbrev pub taken_as : Option Ty → Value → Value
+taken_as None v = v
+taken_as (Some t) v = typed t (wrap t v.number)
+
+-- what is found, wrapped to the type if there is one
+abbrev pub found_as : Option Ty → Option Value → Option Value
+found_as None o = o
+found_as (Some t) o = with o (λ v. Some (typed t (wrap t v.number)))
 
 -- at each of so many turns, the condition is found to be what the mask says
 abbrev pub FindsMask : ℕ → List ℕ → (ℕ → Option Bool) → Type 0

@@ -1,11 +1,11 @@
-//! What calls find at the turns of a run, by the numbers of their indices.
+//! What calls find at the turns of a run, by the numbers of their indices, and what it is cast to, if there is a type for that.
 
 ghost use Rattle.std.specs.Prelude.{◌≡◌, ◌∷◌, ◌<◌, ◌≤◌, ◌+◌, ◌+ℤ◌, ◌≤ℤ◌, ℕ, List, pos, IfSome, Some, length};
 ghost use Rattle.plan.specs.Semantics.Memory.{Memory};
 ghost use Rattle.tree.specs.declared.value.Value.{Value as ValueFound};
 ghost use Rattle.numeric.specs.Wrap.{wrap};
 ghost use Rattle.tree.specs.Meaning.{typed};
-ghost use Rattle.interpreter.specs.Evaluation.Lanes.{clamped_number, lane_number, lanes_at, number_at};
+ghost use Rattle.interpreter.specs.Evaluation.Lanes.{clamped_number, found_as, lane_number, lanes_at, number_at};
 ghost use Rattle.interpreter.specs.Evaluation.Words.{word_at};
 
 use crate::evaluation::kernels::{
@@ -13,6 +13,7 @@ use crate::evaluation::kernels::{
 };
 use crate::evaluation::lanes::{ClampedRamp, Lanes, Number};
 use crate::evaluation::run_reader::RunReader;
+use crate::evaluation::whole::cast_words;
 use crate::registers::LONGEST_RUN;
 use crate::scanlines::distance;
 use numeric::Ty;
@@ -58,10 +59,11 @@ fn look_singly<R: RunReader>(
     first: Lanes,
     others: &[i64],
     registers: &[u32],
+    cast: Option<Ty>,
     reader: &R,
     out: &mut [u32],
 ) -> Option<Ty>
-    ensures { IfSome result (λ t. (m : Memory ValueFound) → R.agrees reader.now m → (k : ℕ) → k < length out.new → R.look reader.now m name.now (lane_number first registers.now k ∷ others.now) ≡ Some (typed t (word_at t out.new k))) }
+    ensures { IfSome result (λ t. (m : Memory ValueFound) → R.agrees reader.now m → (k : ℕ) → k < length out.new → found_as cast (R.look reader.now m name.now (lane_number first registers.now k ∷ others.now)) ≡ Some (typed t (word_at t out.new k))) }
 {
     let mut room = [Number { value: 0 }; LONGEST_RUN];
     if room.len() < out.len() {
@@ -71,7 +73,7 @@ fn look_singly<R: RunReader>(
     numbers_of(first, registers, numbers)?;
     let ty = reader.look_each(name, others, numbers)?;
     narrow_words(ty, numbers, out)?;
-    Some(ty)
+    Some(cast_words(ty, cast, out))
 }
 
 /// What a name finds at the turns of a run, at one after another, where each index may change.
@@ -79,10 +81,11 @@ fn look_points<R: RunReader>(
     name: &str,
     indices: &[Lanes],
     registers: &[u32],
+    cast: Option<Ty>,
     reader: &R,
     out: &mut [u32],
 ) -> Option<Ty>
-    ensures { IfSome result (λ t. (m : Memory ValueFound) → R.agrees reader.now m → (k : ℕ) → k < length out.new → R.look reader.now m name.now (lanes_at (length out.new) indices.now registers.now k) ≡ Some (typed t (word_at t out.new k))) }
+    ensures { IfSome result (λ t. (m : Memory ValueFound) → R.agrees reader.now m → (k : ℕ) → k < length out.new → found_as cast (R.look reader.now m name.now (lanes_at (length out.new) indices.now registers.now k)) ≡ Some (typed t (word_at t out.new k))) }
 {
     let mut room = [Number { value: 0 }; LONGEST_RUN];
     if room.len() < out.len() {
@@ -91,7 +94,7 @@ fn look_points<R: RunReader>(
     let (numbers, _) = room.split_at_mut(out.len());
     let ty = reader.look_points(name, indices, registers, numbers)?;
     narrow_words(ty, numbers, out)?;
-    Some(ty)
+    Some(cast_words(ty, cast, out))
 }
 
 /// What a name finds at the turns of a run, where each index has a register, one behind the other. Where no index but the
@@ -100,24 +103,25 @@ pub(crate) fn look_run<R: RunReader>(
     name: &str,
     indices: &[Lanes],
     registers: &[u32],
+    cast: Option<Ty>,
     reader: &R,
     out: &mut [u32],
 ) -> Option<Ty>
-    ensures { IfSome result (λ t. (m : Memory ValueFound) → R.agrees reader.now m → (k : ℕ) → k < length out.new → R.look reader.now m name.now (lanes_at (length out.new) indices.now registers.now k) ≡ Some (typed t (word_at t out.new k))) }
+    ensures { IfSome result (λ t. (m : Memory ValueFound) → R.agrees reader.now m → (k : ℕ) → k < length out.new → found_as cast (R.look reader.now m name.now (lanes_at (length out.new) indices.now registers.now k)) ≡ Some (typed t (word_at t out.new k))) }
 {
     match indices {
-        [first] => look_along(name, *first, &[], registers, reader, out),
+        [first] => look_along(name, *first, &[], registers, cast, reader, out),
         [first, second] => match fixed(*second) {
-            Some(second) => look_along(name, *first, &[second], registers, reader, out),
-            None => look_points(name, indices, registers, reader, out),
+            Some(second) => look_along(name, *first, &[second], registers, cast, reader, out),
+            None => look_points(name, indices, registers, cast, reader, out),
         },
         [first, second, third] => match (fixed(*second), fixed(*third)) {
             (Some(second), Some(third)) => {
-                look_along(name, *first, &[second, third], registers, reader, out)
+                look_along(name, *first, &[second, third], registers, cast, reader, out)
             }
-            _ => look_points(name, indices, registers, reader, out),
+            _ => look_points(name, indices, registers, cast, reader, out),
         },
-        _ => look_points(name, indices, registers, reader, out),
+        _ => look_points(name, indices, registers, cast, reader, out),
     }
 }
 
@@ -127,14 +131,15 @@ fn look_along<R: RunReader>(
     first: Lanes,
     others: &[i64],
     registers: &[u32],
+    cast: Option<Ty>,
     reader: &R,
     out: &mut [u32],
 ) -> Option<Ty>
-    ensures { IfSome result (λ t. (m : Memory ValueFound) → R.agrees reader.now m → (k : ℕ) → k < length out.new → R.look reader.now m name.now (lane_number first registers.now k ∷ others.now) ≡ Some (typed t (word_at t out.new k))) }
+    ensures { IfSome result (λ t. (m : Memory ValueFound) → R.agrees reader.now m → (k : ℕ) → k < length out.new → found_as cast (R.look reader.now m name.now (lane_number first registers.now k ∷ others.now)) ≡ Some (typed t (word_at t out.new k))) }
 {
-    match look_rising(name, first, others, reader, out) {
+    match look_rising(name, first, others, cast, reader, out) {
         Some(ty) => Some(ty),
-        None => look_singly(name, first, others, registers, reader, out),
+        None => look_singly(name, first, others, registers, cast, reader, out),
     }
 }
 
@@ -143,14 +148,15 @@ fn look_rising<R: RunReader>(
     name: &str,
     first: Lanes,
     others: &[i64],
+    cast: Option<Ty>,
     reader: &R,
     out: &mut [u32],
 ) -> Option<Ty>
-    ensures { IfSome result (λ t. (m : Memory ValueFound) → R.agrees reader.now m → (ws : List ℕ) (k : ℕ) → k < length out.new → R.look reader.now m name.now (lane_number first ws k ∷ others.now) ≡ Some (typed t (word_at t out.new k))) }
+    ensures { IfSome result (λ t. (m : Memory ValueFound) → R.agrees reader.now m → (ws : List ℕ) (k : ℕ) → k < length out.new → found_as cast (R.look reader.now m name.now (lane_number first ws k ∷ others.now)) ≡ Some (typed t (word_at t out.new k))) }
 {
     match first {
-        Lanes::Ramp(_, number) => reader.look_row(name, number.value, others, out),
-        Lanes::Clamped(_, ramp) => look_bent(name, ramp, others, reader, out),
+        Lanes::Ramp(_, number) => reader.look_row(name, number.value, others, cast, out),
+        Lanes::Clamped(_, ramp) => look_bent(name, ramp, others, cast, reader, out),
         _ => None,
     }
 }
@@ -178,15 +184,16 @@ fn look_standing<R: RunReader>(
     first: i64,
     others: &[i64],
     ty: Ty,
+    cast: Option<Ty>,
     reader: &R,
     out: &mut [u32],
 ) -> Option<()>
-    ensures { IfSome result (λ _. (m : Memory ValueFound) → R.agrees reader.now m → (k : ℕ) → k < length out.new → R.look reader.now m name.now (first ∷ others.now) ≡ Some (typed ty (word_at ty out.new k))) }
+    ensures { IfSome result (λ _. (m : Memory ValueFound) → R.agrees reader.now m → (k : ℕ) → k < length out.new → found_as cast (R.look reader.now m name.now (first ∷ others.now)) ≡ Some (typed ty (word_at ty out.new k))) }
 {
     if out.len() == 0 {
         return Some(());
     }
-    let found = look_once(name, first, others, ty, reader, out)?;
+    let found = look_once(name, first, others, ty, cast, reader, out)?;
     fill_words(found, out);
     Some(())
 }
@@ -197,16 +204,17 @@ fn look_once<R: RunReader>(
     first: i64,
     others: &[i64],
     ty: Ty,
+    cast: Option<Ty>,
     reader: &R,
     out: &mut [u32],
 ) -> Option<u32>
-    ensures { IfSome result (λ w. (m : Memory ValueFound) → R.agrees reader.now m → R.look reader.now m name.now (first ∷ others.now) ≡ Some (typed ty (wrap ty (pos w)))) }
+    ensures { IfSome result (λ w. (m : Memory ValueFound) → R.agrees reader.now m → found_as cast (R.look reader.now m name.now (first ∷ others.now)) ≡ Some (typed ty (wrap ty (pos w)))) }
 {
     if out.len() < 1 {
         return None;
     }
     let (one, _) = out.split_at_mut(1);
-    if reader.look_row(name, first, others, one)? != ty {
+    if reader.look_row(name, first, others, cast, one)? != ty {
         return None;
     }
     Some(one[0])
@@ -256,16 +264,17 @@ fn look_bent<R: RunReader>(
     name: &str,
     ramp: ClampedRamp,
     others: &[i64],
+    cast: Option<Ty>,
     reader: &R,
     out: &mut [u32],
 ) -> Option<Ty>
-    ensures { IfSome result (λ t. (m : Memory ValueFound) → R.agrees reader.now m → (k : ℕ) → k < length out.new → R.look reader.now m name.now (clamped_number ramp k ∷ others.now) ≡ Some (typed t (word_at t out.new k))) }
+    ensures { IfSome result (λ t. (m : Memory ValueFound) → R.agrees reader.now m → (k : ℕ) → k < length out.new → found_as cast (R.look reader.now m name.now (clamped_number ramp k ∷ others.now)) ≡ Some (typed t (word_at t out.new k))) }
 {
     let bends = bends_of(ramp, out.len())?;
     let (left, rest) = out.split_at_mut(bends.before);
     let (middle, right) = rest.split_at_mut(bends.after - bends.before);
-    let ty = reader.look_row(name, bends.start, others, middle)?;
-    look_standing(name, ramp.low.value, others, ty, reader, left)?;
-    look_standing(name, ramp.high.value, others, ty, reader, right)?;
+    let ty = reader.look_row(name, bends.start, others, cast, middle)?;
+    look_standing(name, ramp.low.value, others, ty, cast, reader, left)?;
+    look_standing(name, ramp.high.value, others, ty, cast, reader, right)?;
     Some(ty)
 }

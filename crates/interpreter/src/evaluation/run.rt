@@ -4,9 +4,9 @@ ghost use Rattle.std.specs.Prelude.{◌≡◌, ◌<◌, ◌*◌, ℕ, IfSome, So
 ghost use Rattle.plan.specs.Semantics.Found.{found, test_found, all_found, with};
 ghost use Rattle.plan.specs.Semantics.Memory.{Memory};
 ghost use Rattle.tree.specs.Meaning.{typed};
-ghost use Rattle.tree.specs.Term.{term_of, test_of, indices, list_terms};
+ghost use Rattle.tree.specs.Term.{term_of, test_of, indices, list_terms, Cast};
 ghost use Rattle.tree.specs.declared.value.Value.{Value as ValueFound};
-ghost use Rattle.interpreter.specs.Evaluation.Lanes.{number_at, FindsMask, FindsRun, IsNarrowFor};
+ghost use Rattle.interpreter.specs.Evaluation.Lanes.{found_as, number_at, FindsMask, FindsRun, IsNarrowFor};
 ghost use Rattle.interpreter.specs.Evaluation.Words.{bits_at, word_at};
 ghost use Rattle.interpreter.specs.declared.evaluation.lanes.Lanes.TheVariants.{Vector};
 
@@ -40,7 +40,7 @@ pub fn evaluate_run<R: RunReader>(
         Expr::Literal { ty, number, .. } => Some(Lanes::Broadcast(*ty, Number { value: *number })),
         Expr::Variable { name, .. } => reader.variable(name.as_str(), out),
         Expr::Call { name, at, .. } => {
-            let ty = call_run(name.as_str(), at, reader, out, rest)?;
+            let ty = call_run(name.as_str(), at, None, reader, out, rest)?;
             Some(Lanes::Vector(ty))
         }
         Expr::Negate { value, .. } => {
@@ -50,11 +50,7 @@ pub fn evaluate_run<R: RunReader>(
         }
         Expr::Binary { .. } => binary_run(expr, reader, out, rest),
         Expr::Clamp { .. } => clamp_run(expr, reader, out, rest),
-        Expr::Cast { ty, value, .. } => {
-            let value = evaluate_run(value, reader, out, rest)?;
-            let lanes = wrap_lanes(*ty, value, out)?;
-            Some(lanes)
-        }
+        Expr::Cast { ty, value, .. } => cast_run(*ty, value, reader, out, rest),
         Expr::Select { .. } => select_run(expr, reader, out, rest),
     }
 }
@@ -75,6 +71,31 @@ fn operand_run<R: RunReader>(
         Expr::Literal { ty, number, .. } => Some(Lanes::Broadcast(*ty, Number { value: *number })),
         Expr::Variable { name, .. } => reader.variable(name.as_str(), out),
         _ => evaluate_run(expr, reader, out, rest),
+    }
+}
+
+/// The values of an expression at the turns of a run, cast to the type. What a call finds is taken as of the type at once.
+#[cycle(evaluate_run)]
+fn cast_run<R: RunReader>(
+    ty: Ty,
+    expr: &Expr,
+    reader: &R,
+    out: &mut [u32],
+    rest: &mut [u32],
+) -> Option<Lanes>
+    ensures narrow { IfSome result (IsNarrowFor (length out.new)) }
+    ensures value { IfSome result (λ x. (m : Memory ValueFound) → R.agrees reader.now m → FindsRun (length out.new) x out.new (λ k. found (R.variables reader.now k) (R.look reader.now m) (Cast ty (term_of expr.now)))) }
+{
+    match expr {
+        Expr::Call { name, at, .. } => {
+            let ty = call_run(name.as_str(), at, Some(ty), reader, out, rest)?;
+            Some(Lanes::Vector(ty))
+        }
+        _ => {
+            let value = evaluate_run(expr, reader, out, rest)?;
+            let lanes = wrap_lanes(ty, value, out)?;
+            Some(lanes)
+        }
     }
 }
 
@@ -240,16 +261,17 @@ fn compare_run<R: RunReader>(
     Some(())
 }
 
-/// What a call of at most four indices finds at the turns of a run.
+/// What a call of at most four indices finds at the turns of a run, cast to the type, if there is one.
 #[cycle(evaluate_run)]
 fn call_run<R: RunReader>(
     name: &str,
     at: &[Expr],
+    cast: Option<Ty>,
     reader: &R,
     out: &mut [u32],
     rest: &mut [u32],
 ) -> Option<Ty>
-    ensures { IfSome result (λ t. (m : Memory ValueFound) → R.agrees reader.now m → FindsRun (length out.new) (Vector t) out.new (λ k. with (all_found (R.variables reader.now k) (R.look reader.now m) (indices (list_terms at.now))) (λ zs. R.look reader.now m name.now zs))) }
+    ensures { IfSome result (λ t. (m : Memory ValueFound) → R.agrees reader.now m → FindsRun (length out.new) (Vector t) out.new (λ k. found_as cast (with (all_found (R.variables reader.now k) (R.look reader.now m) (indices (list_terms at.now))) (λ zs. R.look reader.now m name.now zs)))) }
 {
     if at.len() > 4 {
         return None;
@@ -259,7 +281,7 @@ fn call_run<R: RunReader>(
     for (i, index) in at.iter().enumerate() {
         lanes[i] = index_run(index, i, count, reader, rest)?;
     }
-    look_run(name, &lanes[..at.len()], rest, reader, out)
+    look_run(name, &lanes[..at.len()], rest, cast, reader, out)
 }
 
 /// The values of an index of a call at so many turns, of which so many registers are before its own.

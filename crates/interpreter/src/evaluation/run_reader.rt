@@ -5,7 +5,7 @@ ghost use Rattle.numeric.specs.declared.ty.Ty.TheVariants.{I32};
 ghost use Rattle.tree.specs.declared.value.Value.{Value as ValueFound};
 ghost use Rattle.tree.specs.Meaning.{typed};
 ghost use Rattle.plan.specs.Semantics.Memory.{Memory};
-ghost use Rattle.interpreter.specs.Evaluation.Lanes.{lane, lanes_at, number_at, IsNarrowFor};
+ghost use Rattle.interpreter.specs.Evaluation.Lanes.{found_as, lane, lanes_at, number_at, IsNarrowFor};
 ghost use Rattle.interpreter.specs.Evaluation.Words.{word_at};
 
 use crate::evaluation::lanes::{Lanes, Number};
@@ -32,9 +32,16 @@ pub trait RunReader {
         ensures { IfSome result (λ t. (m : Memory ValueFound) → agrees self.now m → (k : ℕ) → k < length out.new → look self.now m name.now (number_at out.old k ∷ others.now) ≡ Some (typed t (number_at out.new k))) };
 
     /// What a call of a name finds where the first index is this number at the first turn and one more at each turn after it,
-    /// and these are the others.
-    fn look_row(&self, name: &str, first: i64, others: &[i64], out: &mut [u32]) -> Option<Ty>
-        ensures { IfSome result (λ t. (m : Memory ValueFound) → agrees self.now m → (k : ℕ) → k < length out.new → look self.now m name.now ((first +ℤ pos k) ∷ others.now) ≡ Some (typed t (word_at t out.new k))) };
+    /// and these are the others; cast to the type, if there is one.
+    fn look_row(
+        &self,
+        name: &str,
+        first: i64,
+        others: &[i64],
+        cast: Option<Ty>,
+        out: &mut [u32],
+    ) -> Option<Ty>
+        ensures { IfSome result (λ t. (m : Memory ValueFound) → agrees self.now m → (k : ℕ) → k < length out.new → found_as cast (look self.now m name.now ((first +ℤ pos k) ∷ others.now)) ≡ Some (typed t (word_at t out.new k))) };
 
     /// What a call of a name finds where each index may change from turn to turn: the registers have so many words as the
     /// list has numbers, one behind the other, for each index the next one.

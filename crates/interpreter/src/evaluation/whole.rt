@@ -6,7 +6,7 @@ ghost use Rattle.std.specs.Bool.{OnTrue};
 ghost use Rattle.std.specs.Int.{int_max, int_min};
 ghost use Rattle.numeric.specs.Wrap.{wrap, IsOf};
 ghost use Rattle.tree.specs.Meaning.{applied, clamped, negated, typed};
-ghost use Rattle.interpreter.specs.Evaluation.Lanes.{clamped_number, lane, lane_number, number_at, type_of, IsNarrowFor, IsRamp, IsShortRamp};
+ghost use Rattle.interpreter.specs.Evaluation.Lanes.{clamped_number, lane, lane_number, number_at, taken_as, type_of, IsNarrowFor, IsRamp, IsShortRamp};
 ghost use Rattle.interpreter.specs.Evaluation.Repeats.{repeated_value};
 ghost use Rattle.interpreter.specs.Evaluation.Words.{bits_at, mask_at, word_at};
 
@@ -338,6 +338,19 @@ pub(crate) fn wrap_lanes(ty: Ty, lanes: Lanes, out: &mut [u32]) -> Option<Lanes>
             spread(lanes, out)?;
             extend_all(type_of(lanes), out);
             Some(Lanes::Vector(ty))
+        }
+    }
+}
+
+/// The words of a type, so that they are those of the type to which they are cast, if there is one: their type then.
+pub(crate) fn cast_words(ty: Ty, cast: Option<Ty>, out: &mut [u32]) -> Ty
+    ensures { (k : ℕ) → k < length out.new → typed result (word_at result out.new k) ≡ taken_as cast (typed ty (word_at ty out.old k)) }
+{
+    match cast {
+        None => ty,
+        Some(cast) => {
+            extend_all(ty, out);
+            cast
         }
     }
 }

@@ -6,7 +6,7 @@ use Rattle.tree.specs.declared.value.Value.{Value}
 use Rattle.tree.specs.Meaning.{typed}
 use Rattle.interpreter.specs.declared.evaluation.lanes.Lanes.{Lanes}
 use Rattle.interpreter.specs.declared.evaluation.lanes.Lanes.TheVariants.{Broadcast}
-use Rattle.interpreter.specs.Evaluation.Lanes.{lane_number}
+use Rattle.interpreter.specs.Evaluation.Lanes.{found_as, lane_number}
 use Rattle.interpreter.specs.Evaluation.Words.{word_at}
 use Rattle.interpreter.proofs.FoundRuns.{if_some}
 use Rattle.interpreter.proofs.InRegisters.{two_lanes, three_lanes}
@@ -23,9 +23,9 @@ returns-in-Some g c =
     let fits : SFits w64 y = search rules in
     let out = c.look_along-in-Some.new.out in
     if_some c.look_along-in-Some.result
-    (λ t. (m : Memory Value) → g.R.RunReader.agrees r m → (k : ℕ) → k < length out → g.R.RunReader.look r m name (lane_number x registers k ∷ to_z w64 (of_z w64 y) ∷ []) ≡ Some (typed t (word_at t out k))) _
+    (λ t. (m : Memory Value) → g.R.RunReader.agrees r m → (k : ℕ) → k < length out → found_as c.args.cast (g.R.RunReader.look r m name (lane_number x registers k ∷ to_z w64 (of_z w64 y) ∷ [])) ≡ Some (typed t (word_at t out k))) _
     (λ t h m ok k lt.
-    ap (λ (p : List ℤ). g.R.RunReader.look r m name p) (two_lanes (length out) k c.args.indices.now d registers y (omega (arith, c.in-len2.len_at_least)) (omega (arith, c.in-len2.len_below)) c.in-Some.ensures
+    ap (λ (p : List ℤ). found_as c.args.cast (g.R.RunReader.look r m name p)) (two_lanes (length out) k c.args.indices.now d registers y (omega (arith, c.in-len2.len_at_least)) (omega (arith, c.in-len2.len_below)) c.in-Some.ensures
     ∙ ap (λ (z : ℤ). lane_number x registers k ∷ z ∷ []) (sym (to_z-of_z w64 y fits))) ∙ h m ok k lt)
     c.look_along-in-Some.ensures
 
@@ -43,9 +43,9 @@ returns-in-Some-Some g c =
     let out = c.look_along-in-Some-Some.new.out in
     if_some c.look_along-in-Some-Some.result
     (λ t. (m : Memory Value) → g.R.RunReader.agrees r m → (k : ℕ) → k < length out →
-    g.R.RunReader.look r m name (lane_number x registers k ∷ to_z w64 (of_z w64 y) ∷ to_z w64 (of_z w64 w) ∷ []) ≡ Some (typed t (word_at t out k))) _
+    found_as c.args.cast (g.R.RunReader.look r m name (lane_number x registers k ∷ to_z w64 (of_z w64 y) ∷ to_z w64 (of_z w64 w) ∷ [])) ≡ Some (typed t (word_at t out k))) _
     (λ t h m ok k lt.
-    ap (λ (p : List ℤ). g.R.RunReader.look r m name p)
+    ap (λ (p : List ℤ). found_as c.args.cast (g.R.RunReader.look r m name p))
     (three_lanes (length out) k c.args.indices.now d registers y w (omega (arith, c.in-len3.len_at_least)) (omega (arith, c.in-len3.len_below)) c.in-Some-Some.ensures c.in-Some-Some.ensures'
     ∙ (λ i. lane_number x registers k ∷ sym (to_z-of_z w64 y y_fits) i ∷ sym (to_z-of_z w64 w w_fits) i ∷ [])) ∙ h m ok k lt)
     c.look_along-in-Some-Some.ensures

@@ -7,7 +7,7 @@ use Rattle.tree.specs.declared.expr.Expr.{Expr}
 use Rattle.tree.specs.declared.value.Value.{Value}
 use Rattle.tree.specs.Meaning.{typed}
 use Rattle.tree.specs.Term.{term_of, list_terms, indices, Minus, Cast}
-use Rattle.interpreter.specs.Evaluation.Lanes.{lane, lane_number, lanes_at}
+use Rattle.interpreter.specs.Evaluation.Lanes.{found_as, lane, lane_number, lanes_at}
 use Rattle.interpreter.specs.Evaluation.Words.{word_at}
 use Rattle.interpreter.proofs.FoundRuns.{found_minus, found_cast, found_call, if_some}
 use Rattle.interpreter.proofs.Indices.{one_more}
@@ -24,16 +24,23 @@ evaluate_run-returns-in_ok-lanes-in-Negate-clause-value g t c = λ m ok k lt.
     ∙ found_minus vs look (term_of c.deref-in-Negate.result.now) (lane c.in_ok-value-in-Negate.value c.evaluate_run.new.out k) (c.in_ok-value-in-Negate.ensures.value m ok k (omega arith))
     ∙ ap (λ (v : Value). Some v) (sym (c.in_ok-lanes-in-Negate.ensures.lanes k lt))
 
-pub evaluate_run-returns-in_ok-lanes-in-Cast-clause-value : goal.evaluate_run-returns-in_ok-lanes-in-Cast-clause-value
-evaluate_run-returns-in_ok-lanes-in-Cast-clause-value g t c = λ m ok k lt.
+pub cast_run-returns-in_ok-ty-in-Call-clause-value : goal.cast_run-returns-in_ok-ty-in-Call-clause-value
+cast_run-returns-in_ok-ty-in-Call-clause-value g t c = λ m ok k lt.
     let vs = g.R.RunReader.variables c.args.reader.now k in
     let look = g.R.RunReader.look c.args.reader.now m in
-    let ty = c.in-Cast.ty in
-    let same : c.deref-in-Cast.result.now ≡ c.in-Cast.value.value = search rules in
-    ap (λ (e : Expr). found vs look (term_of e)) c.in-Cast.is
-    ∙ ap (λ (e : Expr). found vs look (Cast ty (term_of e))) (sym same)
-    ∙ found_cast vs look ty (term_of c.deref-in-Cast.result.now) (lane c.in_ok-value-in-Cast.value c.evaluate_run-in-Cast.new.out k) (c.in_ok-value-in-Cast.ensures.value m ok k (omega arith))
-    ∙ ap (λ (v : Value). Some v) (sym (c.in_ok-lanes-in-Cast.ensures.lanes k lt))
+    let ty = c.args.ty in
+    let called : (n : List ℕ) (l : List Expr) → Option Value = λ n l. found_as (Some ty) (with (all_found vs look (indices (list_terms l))) (λ zs. look n zs)) in
+    ap (λ (e : Expr). found vs look (Cast ty (term_of e))) c.in-Call.is
+    ∙ ap (found_as (Some ty)) (found_call vs look c.in-Call.name c.in-Call.at c.in-Call.span)
+    ∙ (λ i. called (sym c.as_str.ensures.value i) (sym c.deref.ensures.value i))
+    ∙ c.in_ok-ty-in-Call.ensures m ok k lt
+
+pub cast_run-returns-in_ok-lanes-in_default-clause-value : goal.cast_run-returns-in_ok-lanes-in_default-clause-value
+cast_run-returns-in_ok-lanes-in_default-clause-value g t c = λ m ok k lt.
+    let vs = g.R.RunReader.variables c.args.reader.now k in
+    let look = g.R.RunReader.look c.args.reader.now m in
+    found_cast vs look c.args.ty (term_of c.args.expr.now) (lane c.in_ok-value-in_default.value c.evaluate_run.new.out k) (c.in_ok-value-in_default.ensures.value m ok k (omega arith))
+    ∙ ap (λ (v : Value). Some v) (sym (c.in_ok-lanes-in_default.ensures.lanes k lt))
 
 pub evaluate_run-returns-in-Literal-clause-value : goal.evaluate_run-returns-in-Literal-clause-value
 evaluate_run-returns-in-Literal-clause-value g t c = λ m ok k lt.
@@ -89,9 +96,9 @@ call_run-returns g t c =
     let i : l.i ≡ length at = omega arith in
     let same : length c.args.out.now ≡ length out = omega arith in
     if_some c.look_run.result
-    (λ u. (m : Memory Value) → g.R.RunReader.agrees r m → (k : ℕ) → k < length out → g.R.RunReader.look r m name (lanes_at (length out) (take (length at) l.lanes) l.rest k) ≡ Some (typed u (word_at u out k))) _
+    (λ u. (m : Memory Value) → g.R.RunReader.agrees r m → (k : ℕ) → k < length out → found_as c.args.cast (g.R.RunReader.look r m name (lanes_at (length out) (take (length at) l.lanes) l.rest k)) ≡ Some (typed u (word_at u out k))) _
     (λ u h m ok k lt.
-    ap (λ (o : Option (List ℤ)). with {B = Value} o (λ zs. g.R.RunReader.look r m name zs))
+    ap (λ (o : Option (List ℤ)). found_as c.args.cast (with {B = Value} o (λ zs. g.R.RunReader.look r m name zs)))
     (ap (λ (e : List Expr). all_found (g.R.RunReader.variables r k) (g.R.RunReader.look r m) (indices (list_terms e))) (sym (take_all l.i at (omega (arith, i))))
     ∙ l.invariant.found m ok k (omega arith) ∙ (λ j. Some (lanes_at (same j) (take (i j) l.lanes) l.rest k)))
     ∙ h m ok k lt)
