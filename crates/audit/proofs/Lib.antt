@@ -7,3 +7,4 @@ mod Told
 mod Broken
 mod OutputGroup
 pub mod OfVerdict
+mod Blocks

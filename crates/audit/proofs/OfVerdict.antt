@@ -12,6 +12,7 @@ pub mod Two
 pub mod Size
 pub mod Walk
 pub mod Faults
+pub mod Behind
 pub mod Plain
 pub mod Ready
 pub mod OfIndices

@@ -1,6 +1,7 @@
 -- What follows from flaws that are told and from those that are not.
 use Rattle.std.proofs.Common.{◌≡◌, ℕ, ◌+◌, ◌<◌, ◌≤◌, zero, suc, Bool, List, [], ◌∷◌, ◌++◌, true, false, Option, Some, None, inl, inr, ap, refl, sym, ◌∙◌, subst, arith}
-use Rattle.std.specs.Prelude.{◌==◌, ◌&&◌, nat_lt, if◌then◌else◌, MatchOption, map, slice_get, length}
+use Rattle.std.specs.Prelude.{◌==◌, ◌&&◌, ◌⊎◌, nat_lt, if◌then◌else◌, MatchOption, map, option_map, slice_get, length}
+use Rattle.std.proofs.lemmas.Bool.Decides.{nat_tests}
 use Rattle.std.proofs.lemmas.Option.{slice_get_within}
 use Rattle.meaning.specs.Algorithm.{Algorithm}
 use Rattle.plan.specs.declared.plan.Group.{Group as GroupHeld}
@@ -22,7 +23,9 @@ use Rattle.validation.specs.Groups.Lines.{flaws_of_groups}
 use Rattle.validation.specs.Certificate.Certificate.{flaws_of_certificate, flaws_of_claims, flaws_of_regions}
 use Rattle.soundness.specs.Binders.View.{grid_binders}
 use Rattle.claims.specs.First.{AllMet, IsFirstUnmet}
-use Rattle.audit.specs.Stand.{AreNarrow, AreShown, IsFlaw, IsNarrow}
+use Rattle.audit.specs.Stand.{AreNarrow, AreShown, IsFirstOf, IsFirstOfAll, IsFlaw, IsNarrow}
+use Rattle.audit.specs.Verdict.Faults.{IsNarrowUpTo}
+use Rattle.audit.specs.Verdict.Left.{LeavesBuffer}
 use Rattle.shares.specs.declared.answer.SharesError.{SharesError}
 use Rattle.shares.specs.declared.answer.SharesError.TheVariants.{Flaw as FlawTold, Memory}
 use Rattle.audit.specs.Refused.{AreOfPieces, IsEarlyFetch, IsOfPieces, IsTold, but_symbols, told_first, wide_or_owed, with_owed}
@@ -43,12 +46,6 @@ module _ (P : Flaw → Type 0) where
   least_told None (Some g) M N h k = k
   least_told (Some f) None M N h k = h
   least_told (Some f) (Some g) M N h k = lesser_told f g h k
-
-  pub wide_told : (x y : Option Flaw) (M N : Type 0) → MatchOption x M P → MatchOption y N P → MatchOption (wide_or_owed x y) (M × N) P
-  wide_told None None M N h k = (h, k)
-  wide_told None (Some g) M N h k = k
-  wide_told (Some f) None M N h k = h
-  wide_told (Some f) (Some g) M N h k = lesser_by (nat_lt g.line f.line) f g h k
 
 pub none_of : {A : Type 0} (o : Option A) (N : Type 0) (P : A → Type 0) → MatchOption o N P → o ≡ None → N
 none_of o N P h e = subst (λ x. MatchOption x N P) e h
@@ -87,7 +84,8 @@ pub record AreOf (b : PlanBounds) (a : Algorithm) (p : Plan) (c : Certificate) (
 wide_moved : (b : PlanBounds) (a : Algorithm) (p : Plan) (c : Certificate) (n : ℕ) (g : Group) → AreOf b a p c n g →
     first_told (wide_lines (rules_in b) (grid_binders (group_in b.outlined.now).grid) (body_line (plan_in b.outlined.now) (number_in b.outlined.now)) (group_in b.outlined.now).body)
     ≡ first_told (wide_lines (rules_of a p c n) (grid_binders g.grid) (body_line p n) g.body)
-wide_moved b a p c n g h = λ i. first_told (wide_lines (rules_of (h.algorithm i) (h.plan i) (h.certificate i) (h.number i)) (grid_binders (h.group i).grid) (body_line (h.plan i) (h.number i)) (h.group i).body)
+wide_moved b a p c n g h = λ i. first_told (wide_lines (rules_of (h.algorithm i) (h.plan i) (h.certificate i) (h.number i)) (grid_binders (h.group i).grid) (body_line (h.plan i) (h.number
+    i)) (h.group i).body)
 
 module _ (a : Algorithm) (p : Plan) (c : Certificate) where
   -- the flaw at a line with a large number
@@ -107,6 +105,23 @@ module _ (a : Algorithm) (p : Plan) (c : Certificate) where
         → line ≡ first_told (wide_lines (rules_in b) (grid_binders (group_in b.outlined.now).grid) (body_line (plan_in b.outlined.now) (number_in b.outlined.now)) (group_in b.outlined.now).body)
         → IsWide line r → Told r
     group_told b line r of first is = wide_is line r is (first ∙ wide_moved b a p c n g of)
+
+    pub line_of : (b : PlanBounds) (line : Option ℕ) (r : Option Flaw) → AreOf b a p c n g
+        → line ≡ first_told (wide_lines (rules_in b) (grid_binders (group_in b.outlined.now).grid) (body_line (plan_in b.outlined.now) (number_in b.outlined.now)) (group_in b.outlined.now).body)
+        → IsWide line r → IsFirstOf a p c n g r
+    line_of b line r of first is = sym (first ∙ wide_moved b a p c n g of) ∙ by line r is
+      where
+        by : (line : Option ℕ) (r : Option Flaw) → IsWide line r → line ≡ option_map (λ (f : Flaw). f.line) r
+        by None r e = ap (option_map (λ (f : Flaw). f.line)) (sym e)
+        by (Some k) r e = ap (option_map (λ (f : Flaw). f.line)) (sym e)
+
+-- the lesser of two flaws is at no later line than either
+lesser_lines : (f g : Flaw) → ((lesser f g).line ≤ f.line) × ((lesser f g).line ≤ g.line)
+lesser_lines f g = of (is_before g f) refl
+  where
+    of : (b : Bool) → is_before g f ≡ b → ((if b then g else f).line ≤ f.line) × ((if b then g else f).line ≤ g.line)
+    of true e = (grind (arith, nat_tests, e), omega arith)
+    of false e = (omega arith, grind (arith, nat_tests, e))
 
 -- a group in memory
 pub group_there : (xs : List GroupHeld) (n : ℕ) → n < length xs → (g : Group) × (slice_get (map group_of xs) n ≡ Some g)
@@ -142,6 +157,38 @@ module _ (a : Algorithm) (p : Plan) (c : Certificate) where
   narrow_all k None all before = λ n g at. let less = slice_get_within p.groups n g at in before n g (omega (arith, less, all)) at
   narrow_all k (Some f) all before = before
 
+  -- of the first k groups the flaw is at no later line than the first of any
+  abbrev pub FirstBefore : ℕ → Option Flaw → Type 0
+  FirstBefore k flaw =
+      (n : ℕ) (g : Group) → n < k → slice_get p.groups n ≡ Some g → (wide : ℕ) → first_told (wide_lines (rules_of a p c n) (grid_binders g.grid) (body_line p n) g.body) ≡ Some wide
+      → MatchOption flaw ⊥ (λ f. f.line ≤ wide)
+
+  pub first_more : (k : ℕ) (g : Group) → slice_get p.groups k ≡ Some g → (found flaw r : Option Flaw) → IsFirstOf a p c k g flaw → FirstBefore k found → r ≡ least found flaw →
+      FirstBefore (k + 1) r
+  first_more k g at found flaw r here before is n h less there wide first =
+      subst (λ (x : Option Flaw). MatchOption x ⊥ (λ f. f.line ≤ wide)) (sym is)
+      (elim (before_or_at n k less) [
+        | inl earlier ↦ of_found found flaw (before n h earlier there wide first)
+        | inr same ↦
+            (let own : g ≡ h = same_group (slice_get p.groups k) g h at (subst (λ (j : ℕ). slice_get p.groups j ≡ Some h) same there) in
+            let theirs : first_told (wide_lines (rules_of a p c k) (grid_binders g.grid) (body_line p k) g.body) ≡ Some wide =
+            (λ i. first_told (wide_lines (rules_of a p c (sym same i)) (grid_binders (own i).grid) (body_line p (sym same i)) (own i).body)) ∙ first in
+            of_flaw found flaw (sym here ∙ theirs))
+      ])
+    where
+      of_found : (x y : Option Flaw) → MatchOption x ⊥ (λ f. f.line ≤ wide) → MatchOption (least x y) ⊥ (λ f. f.line ≤ wide)
+      of_found None y h = absurd h
+      of_found (Some f) None h = h
+      of_found (Some f) (Some g) h = (let k = (lesser_lines f g).0 in omega (arith, h, k))
+
+      of_flaw : (x y : Option Flaw) → option_map (λ (f : Flaw). f.line) y ≡ Some wide → MatchOption (least x y) ⊥ (λ f. f.line ≤ wide)
+      of_flaw x None e = absurd (cc e)
+      of_flaw None (Some g) e = (let is : g.line ≡ wide = cc e in omega (arith, is))
+      of_flaw (Some f) (Some g) e = (let is : g.line ≡ wide = cc e in let k = (lesser_lines f g).1 in omega (arith, is, k))
+
+  pub first_all : (k : ℕ) (found : Option Flaw) → length p.groups ≤ k → FirstBefore k found → IsFirstOfAll a p c found
+  first_all k found all before n g at wide first = (let less = slice_get_within p.groups n g at in before n g (omega (arith, less, all)) at wide first)
+
   -- ---- what is told
 
   -- what the first flaw of the lines of groups tells
@@ -154,24 +201,34 @@ module _ (a : Algorithm) (p : Plan) (c : Certificate) where
   certificate_told None is = no_flaws (flaws_of_certificate a p c) is
   certificate_told (Some f) is = inr (inr (inr (inr (inl (sym is)))))
 
-  -- the first that is owed is a fault
-  owed_is : (f : Flaw) → IsFirstUnmet a p c f → IsFlaw a p c f
-  owed_is f h = inr (inr (inr (inl (record { number = h.number; group = h.group; stands = h.stands; part = h.part; first = ap told h.first }))))
+  -- the first that is owed is a fault, where no number up to its line may be too large, or a store there leaves its buffer
+  owed_is : (f : Flaw) → IsFirstUnmet a p c f → IsNarrowUpTo a p c f.line ⊎ ((number_of f.code ≡ 4) × LeavesBuffer p f.line) → IsFlaw a p c f
+  owed_is f h before = inr (inr (inr (inl (record { number = h.number; group = h.group; stands = h.stands; part = h.part; first = ap told h.first; before = before }))))
+
+  -- before the first number that may be too large
+  narrow_before : (f : Flaw) (wide : Option Flaw) → IsFirstOfAll a p c wide → MatchOption wide (Unit {0}) (λ w. f.line < w.line) → IsNarrowUpTo a p c f.line
+  narrow_before f None all less m h at w first = absurd (all m h at w first)
+  narrow_before f (Some v) all less m h at w first = (let k = all m h at w first in omega (arith, k, less))
 
   -- what is decided by bounds
-  pub owed_told : (wide owed r : Option Flaw) → MatchOption wide (AreNarrow a p c) (IsFlaw a p c) → MatchOption owed (AllMet a p c) (IsFirstUnmet a p c) → r ≡ wide_or_owed wide owed
-      → MatchOption r (AreShown a p c) (IsFlaw a p c)
-  owed_told wide owed r narrow met is =
-      subst (λ (x : Option Flaw). MatchOption x (AreShown a p c) (IsFlaw a p c)) (sym is)
-      (match_weaker (wide_or_owed wide owed) (AreNarrow a p c × AllMet a p c) (AreShown a p c) (IsFlaw a p c) (IsFlaw a p c)
-      (λ both. record { narrow = both.0; met = both.1 })
-      (λ f h. h)
-      (wide_told (IsFlaw a p c) wide owed (AreNarrow a p c) (AllMet a p c) narrow
-      (match_weaker owed (AllMet a p c) (AllMet a p c) (IsFirstUnmet a p c) (IsFlaw a p c) (λ m. m) owed_is met)))
+  pub owed_told : (wide owed r : Option Flaw) → MatchOption wide (AreNarrow a p c) (IsFlaw a p c) → IsFirstOfAll a p c wide → MatchOption owed (AllMet a p c) (IsFirstUnmet a p c) →
+      r ≡ wide_or_owed wide owed → MatchOption r (AreShown a p c) (IsFlaw a p c)
+  owed_told wide owed r narrow all met is = subst (λ (x : Option Flaw). MatchOption x (AreShown a p c) (IsFlaw a p c)) (sym is) (of wide owed narrow all met)
+    where
+      of : (wide owed : Option Flaw) → MatchOption wide (AreNarrow a p c) (IsFlaw a p c) → IsFirstOfAll a p c wide → MatchOption owed (AllMet a p c) (IsFirstUnmet a p c) →
+          MatchOption (wide_or_owed wide owed) (AreShown a p c) (IsFlaw a p c)
+      of None None narrow all met = record { narrow = narrow; met = met }
+      of None (Some g) narrow all met = owed_is g met (inl (narrow_before g None all tt))
+      of (Some f) None narrow all met = narrow
+      of (Some f) (Some g) narrow all met = by (nat_lt g.line f.line) refl
+        where
+          by : (b : Bool) → nat_lt g.line f.line ≡ b → IsFlaw a p c (if b then g else f)
+          by true e = owed_is g met (inl (narrow_before g (Some f) all (grind (arith, nat_tests, e))))
+          by false e = narrow
 
-  -- what is owed, where it is told
-  pub owed_first : (owed : Option Flaw) (f : Flaw) → MatchOption owed (AllMet a p c) (IsFirstUnmet a p c) → owed ≡ Some f → IsFlaw a p c f
-  owed_first owed f met is = owed_is f (some_of owed (AllMet a p c) (IsFirstUnmet a p c) met f is)
+  -- what is owed, where a store leaves its buffer
+  pub owed_first : (owed : Option Flaw) (f : Flaw) → MatchOption owed (AllMet a p c) (IsFirstUnmet a p c) → owed ≡ Some f → (number_of f.code ≡ 4) × LeavesBuffer p f.line → IsFlaw a p c f
+  owed_first owed f met is leaving = owed_is f (some_of owed (AllMet a p c) (IsFirstUnmet a p c) met f is) (inr leaving)
 
   -- what is told of the pieces is a fault
   pub pieces_told : (f : Flaw) → IsOfPieces a p c f → IsFlaw a p c f
@@ -208,7 +265,8 @@ module _ (a : Algorithm) (p : Plan) (c : Certificate) where
   either_way true f g h k = h
   either_way false f g h k = k
 
-  first_told_is : (named : Flaw) (owed listed : Option Flaw) (unowned : Bool) (M N : Type 0) → IsFlaw a p c named → MatchOption owed M (IsFlaw a p c) → MatchOption listed N (IsFlaw a p c) → IsFlaw a p c (told_first named owed listed unowned)
+  first_told_is : (named : Flaw) (owed listed : Option Flaw) (unowned : Bool) (M N : Type 0) → IsFlaw a p c named → MatchOption owed M (IsFlaw a p c) → MatchOption listed N (IsFlaw a p c) →
+      IsFlaw a p c (told_first named owed listed unowned)
   first_told_is named owed None unowned M N h k l = with_told named owed M h k
   first_told_is named owed (Some o) unowned M N h k l =
       let kept = but_symbols owed in

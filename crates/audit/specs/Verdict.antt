@@ -10,6 +10,7 @@ pub mod Owed
 pub mod Alike
 pub mod Folds
 pub mod Raised
+pub mod Left
 pub mod Faults
 pub mod Laws
 pub mod Plain

@@ -11,7 +11,7 @@ ghost use Rattle.soundness.specs.Binders.View.{binders_of, grid_binders};
 ghost use Rattle.soundness.specs.Outline.View.{group_in, number_in, plan_in};
 ghost use Rattle.rules.specs.Bounding.View.{rules_in};
 ghost use Rattle.rules.specs.Widths.Widths.{first_told, wide_lines};
-ghost use Rattle.audit.specs.Stand.{AreNarrow, IsFlaw, IsNarrow};
+ghost use Rattle.audit.specs.Stand.{AreNarrow, IsFirstOf, IsFirstOfAll, IsFlaw, IsNarrow};
 
 use algo::Algo;
 use plan::Plan;
@@ -84,7 +84,8 @@ fn group_flaw(
 ) -> Result<Option<Flaw>, AllocError>
     requires { number < length plan.now.groups.items }
     ensures { (g : Group) → slice_get (plan_of plan.now).groups number ≡ Some g → IfOk result (λ flaw.
-        MatchOption flaw (IsNarrow (algorithm_of algo.now) (plan_of plan.now) (certificate_of cert.now) number g) (IsFlaw (algorithm_of algo.now) (plan_of plan.now) (certificate_of cert.now))) }
+        MatchOption flaw (IsNarrow (algorithm_of algo.now) (plan_of plan.now) (certificate_of cert.now) number g) (IsFlaw (algorithm_of algo.now) (plan_of plan.now) (certificate_of cert.now))
+        × IsFirstOf (algorithm_of algo.now) (plan_of plan.now) (certificate_of cert.now) number g flaw) }
 {
     let outlined = Outlined::new(alloc, plan, cert, number)?;
     let bounds = bounds_of(algo, &outlined);
@@ -99,8 +100,9 @@ pub(crate) fn first_wide(
     plan: &Plan,
     cert: &Cert,
 ) -> Result<Option<Flaw>, AllocError>
-    ensures { IfOk result (λ flaw. MatchOption flaw (AreNarrow (algorithm_of algo.now) (plan_of plan.now) (certificate_of cert.now))
+    ensures told { IfOk result (λ flaw. MatchOption flaw (AreNarrow (algorithm_of algo.now) (plan_of plan.now) (certificate_of cert.now))
         (IsFlaw (algorithm_of algo.now) (plan_of plan.now) (certificate_of cert.now))) }
+    ensures first { IfOk result (IsFirstOfAll (algorithm_of algo.now) (plan_of plan.now) (certificate_of cert.now)) }
 {
     let count = plan.groups.len();
     let mut found = None;

@@ -10,6 +10,7 @@ use Rattle.rules.specs.Bounding.Rules.{rules_of}
 use Rattle.rules.specs.Widths.Widths.{wide_lines}
 use Rattle.obligations.specs.declared.context.judge.Part.TheVariants.{Lines, Claims}
 use Rattle.obligations.specs.Asked.{first_unmet}
+use Rattle.audit.proofs.OfVerdict.Behind.{narrow_by}
 use Rattle.audit.specs.Verdict.Accepted.{IsAccepted}
 use Rattle.audit.specs.Verdict.Faults.{IsFault}
 use Rattle.audit.specs.Verdict.Examples.Blocks.{ten, ten_plan, moved_group, moved_certificate, guarded_group, guarded_certificate, BlocksAreAccepted}
@@ -34,11 +35,27 @@ moved = record {
 
 too_far : IsFault ten (ten_plan (moved_group Min (pos 5) (pos 3))) moved_certificate 6 13
 unfolding first_unmet
-too_far = inr (inr (inr (inl (record { number = 0; group = moved_group Min (pos 5) (pos 3); stands = refl; part = Claims; first = refl }))))
+too_far = inr (inr (inr (inl (record {
+  number = 0;
+  group = moved_group Min (pos 5) (pos 3);
+  stands = refl;
+  part = Claims;
+  first = refl;
+  before = inl (narrow_by ten (ten_plan (moved_group
+      Min (pos 5) (pos 3))) moved_certificate 13 refl);
+}))))
 
 largest : IsFault ten (ten_plan (moved_group Max (pos 6) (pos 3))) moved_certificate 4 8
 unfolding first_unmet
-largest = inr (inr (inr (inl (record { number = 0; group = moved_group Max (pos 6) (pos 3); stands = refl; part = Lines; first = refl }))))
+largest = inr (inr (inr (inl (record {
+  number = 0;
+  group = moved_group Max (pos 6) (pos 3);
+  stands = refl;
+  part = Lines;
+  first = refl;
+  before = inl (narrow_by ten (ten_plan (moved_group Max
+      (pos 6) (pos 3))) moved_certificate 8 refl);
+}))))
 
 too_many : IsFault ten (ten_plan (moved_group Min (pos 6) (pos 64))) moved_certificate 14 7
 too_many = inr (inr (inl (record { number = 0; group = moved_group Min (pos 6) (pos 64); stands = refl; code_is = refl; first = refl })))
@@ -62,7 +79,15 @@ guarded = record {
 
 too_small : IsFault ten (ten_plan (guarded_group (pos 8))) guarded_certificate 6 17
 unfolding first_unmet
-too_small = inr (inr (inr (inl (record { number = 0; group = guarded_group (pos 8); stands = refl; part = Claims; first = refl }))))
+too_small = inr (inr (inr (inl (record {
+  number = 0;
+  group = guarded_group (pos 8);
+  stands = refl;
+  part = Claims;
+  first = refl;
+  before = inl (narrow_by ten (ten_plan (guarded_group (pos
+      8))) guarded_certificate 17 refl);
+}))))
 
 pub blocks_accepted : BlocksAreAccepted
 blocks_accepted = record { moved = moved; too_far = too_far; largest = largest; too_many = too_many; guarded = guarded; too_small = too_small }

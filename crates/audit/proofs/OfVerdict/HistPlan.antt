@@ -9,6 +9,7 @@ use Rattle.rules.specs.Bounding.Rules.{rules_of}
 use Rattle.rules.specs.Widths.Widths.{wide_lines}
 use Rattle.obligations.specs.declared.context.judge.Part.TheVariants.{Lines}
 use Rattle.obligations.specs.Asked.{first_unmet}
+use Rattle.audit.proofs.OfVerdict.Behind.{narrow_by}
 use Rattle.audit.specs.Verdict.Accepted.{IsAccepted}
 use Rattle.audit.specs.Verdict.Faults.{IsFault}
 use Rattle.audit.specs.Verdict.Examples.Hist.{hist, whole_plan, whole_certificate, by_rows, by_columns, counts_group, counts_plan, HistIsAccepted}
@@ -32,11 +33,27 @@ accepted = record {
 
 narrow : IsFault hist (counts_plan 255 (by_rows 1)) whole_certificate 4 7
 unfolding first_unmet
-narrow = inr (inr (inr (inl (record { number = 0; group = counts_group 255 (by_rows 1); stands = refl; part = Lines; first = refl }))))
+narrow = inr (inr (inr (inl (record {
+  number = 0;
+  group = counts_group 255 (by_rows 1);
+  stands = refl;
+  part = Lines;
+  first = refl;
+  before = inl (narrow_by hist (counts_plan 255 (by_rows 1))
+      whole_certificate 7 refl);
+}))))
 
 turned : IsFault hist (counts_plan 256 by_columns) whole_certificate 7 11
 unfolding first_unmet
-turned = inr (inr (inr (inl (record { number = 0; group = counts_group 256 by_columns; stands = refl; part = Lines; first = refl }))))
+turned = inr (inr (inr (inl (record {
+  number = 0;
+  group = counts_group 256 by_columns;
+  stands = refl;
+  part = Lines;
+  first = refl;
+  before = inl (narrow_by hist (counts_plan 256 by_columns)
+      whole_certificate 11 refl);
+}))))
 
 other : IsFault hist (counts_plan 256 (by_rows 2)) whole_certificate 12 11
 other = inr (inl refl)

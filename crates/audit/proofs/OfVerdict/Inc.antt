@@ -13,6 +13,7 @@ use Rattle.obligations.specs.Asked.{first_unmet}
 use Rattle.shares.specs.Layout.{own_list}
 use Rattle.shares.specs.Made.{Overlaps}
 use Rattle.shares.proofs.Firsts.{from_nine}
+use Rattle.audit.proofs.OfVerdict.Behind.{narrow_by}
 use Rattle.audit.specs.Verdict.Accepted.{IsAccepted}
 use Rattle.audit.specs.Verdict.Faults.{IsFault}
 use Rattle.audit.specs.Verdict.Examples.Inc.{inc, twice_plan, twice_certificate, gap_plan, gap_certificate, other_plan, more_owned, IncIsAccepted}
@@ -73,7 +74,7 @@ other = inr (inl refl)
 
 unclaimed : IsFault inc inc_plan more_owned 5 11
 unfolding first_unmet
-unclaimed = inr (inr (inr (inl (record { number = 0; group = inc_group; stands = refl; part = Lines; first = refl }))))
+unclaimed = inr (inr (inr (inl (record { number = 0; group = inc_group; stands = refl; part = Lines; first = refl; before = inl (narrow_by inc inc_plan more_owned 11 refl) }))))
 
 pub inc_accepted : IncIsAccepted
 inc_accepted = record { accepted = accepted; twice = twice; gap = gap; other = other; unclaimed = unclaimed }

@@ -9,6 +9,7 @@ use Rattle.soundness.specs.declared.outline.refusals.code.Flaw.{Flaw}
 use Rattle.soundness.specs.declared.outline.refusals.code.K.TheVariants.{K11}
 use Rattle.obligations.specs.declared.context.judge.Part.TheVariants.{Lines}
 use Rattle.obligations.specs.Asked.{first_unmet}
+use Rattle.audit.proofs.OfVerdict.Behind.{narrow_by}
 use Rattle.audit.specs.Verdict.Accepted.{IsAccepted}
 use Rattle.audit.specs.Verdict.Faults.{IsFault}
 use Rattle.audit.specs.Verdict.Examples.Near.{near, to_the_left, here, with_left, f_group, out_group, sum_of_two, x, with_value, near_plan, with_regions, near_certificate, NearIsAccepted}
@@ -18,7 +19,8 @@ accepted : IsAccepted near near_plan near_certificate
 accepted = record {
   head = record { name = refl; input = record { name = refl; ty = refl; extents = refl }; output = record { name = refl; ty = refl; extents = refl } };
   groups = refl;
-  widths = λ n g e. of_two (λ n g. wide_lines (rules_of near near_plan near_certificate n) (grid_binders g.grid) (body_line near_plan n) g.body ≡ []) f_group (out_group (sum_of_two to_the_left x)) refl refl n g e;
+  widths = λ n g e. of_two (λ n g. wide_lines (rules_of near near_plan near_certificate n) (grid_binders g.grid) (body_line near_plan n) g.body ≡ []) f_group (out_group (sum_of_two
+      to_the_left x)) refl refl n g e;
   shown = λ n g e. of_two (λ n g. IsShown (rules_of near near_plan near_certificate n) near near_plan near_certificate n g) f_group (out_group (sum_of_two to_the_left x)) refl refl n g e;
   certificate = refl;
   shares = shares_of near_plan near_certificate (record { plain = refl; inside = refl; fetches = refl; needs = refl; own = refl; served = refl; few_fetched = refl; few_needed = refl });
@@ -47,7 +49,15 @@ other = inr (inl refl)
 
 outside : IsFault near near_plan (with_regions with_left here) 5 15
 unfolding first_unmet
-outside = inr (inr (inr (inl (record { number = 1; group = out_group (sum_of_two to_the_left x); stands = refl; part = Lines; first = refl }))))
+outside = inr (inr (inr (inl (record {
+  number = 1;
+  group = out_group (sum_of_two to_the_left x);
+  stands = refl;
+  part = Lines;
+  first = refl;
+  before = inl (narrow_by near near_plan
+      (with_regions with_left here) 15 refl);
+}))))
 
 pub near_accepted : NearIsAccepted
 near_accepted = record { accepted = accepted; unserved = unserved; other = other; outside = outside }

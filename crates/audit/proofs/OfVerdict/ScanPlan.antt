@@ -10,6 +10,7 @@ use Rattle.rules.specs.Bounding.Rules.{rules_of}
 use Rattle.rules.specs.Widths.Widths.{wide_lines}
 use Rattle.obligations.specs.declared.context.judge.Part.TheVariants.{Lines, Claims}
 use Rattle.obligations.specs.Asked.{first_unmet}
+use Rattle.audit.proofs.OfVerdict.Behind.{narrow_by}
 use Rattle.audit.specs.Verdict.Accepted.{IsAccepted}
 use Rattle.audit.specs.Verdict.Faults.{IsFault}
 use Rattle.audit.specs.Verdict.Examples.Scan.{r, before_r, sums_group, sums_plan, sum_by, claimed_to, ScanIsAccepted}
@@ -30,15 +31,31 @@ accepted = record {
 
 early : IsFault scan_algorithm (sums_plan (constants (pos 1) (pos 3)) (sum_by 1 r before_r)) scan_certificate 5 10
 unfolding first_unmet
-early = inr (inr (inr (inl (record { number = 0; group = sums_group (constants (pos 1) (pos 3)) (sum_by 1 r before_r); stands = refl; part = Lines; first = refl }))))
+early = inr (inr (inr (inl (record {
+  number = 0;
+  group = sums_group (constants (pos 1) (pos 3)) (sum_by 1 r before_r);
+  stands = refl;
+  part = Lines;
+  first = refl;
+  before = inl (narrow_by
+      scan_algorithm (sums_plan (constants (pos 1) (pos 3)) (sum_by 1 r before_r)) scan_certificate 10 refl);
+}))))
 
 wide : IsFault scan_algorithm scan_plan (claimed_to (pos 4)) 6 16
 unfolding first_unmet
-wide = inr (inr (inr (inl (record { number = 0; group = scan_group; stands = refl; part = Claims; first = refl }))))
+wide = inr (inr (inr (inl (record { number = 0; group = scan_group; stands = refl; part = Claims; first = refl; before = inl (narrow_by scan_algorithm scan_plan (claimed_to (pos 4)) 16 refl) }))))
 
 left_out : IsFault scan_algorithm (sums_plan (constants (pos 2) (pos 3)) (sum_by 0 r before_r)) scan_certificate 7 10
 unfolding first_unmet
-left_out = inr (inr (inr (inl (record { number = 0; group = sums_group (constants (pos 2) (pos 3)) (sum_by 0 r before_r); stands = refl; part = Lines; first = refl }))))
+left_out = inr (inr (inr (inl (record {
+  number = 0;
+  group = sums_group (constants (pos 2) (pos 3)) (sum_by 0 r before_r);
+  stands = refl;
+  part = Lines;
+  first = refl;
+  before = inl (narrow_by
+      scan_algorithm (sums_plan (constants (pos 2) (pos 3)) (sum_by 0 r before_r)) scan_certificate 10 refl);
+}))))
 
 other : IsFault scan_algorithm (sums_plan (constants (pos 1) (pos 3)) (sum_by 0 r r)) scan_certificate 12 10
 other = inr (inl refl)

@@ -8,6 +8,7 @@ use Rattle.rules.specs.Bounding.Rules.{rules_of}
 use Rattle.rules.specs.Widths.Widths.{wide_lines}
 use Rattle.obligations.specs.declared.context.judge.Part.TheVariants.{Lines, Claims}
 use Rattle.obligations.specs.Asked.{first_unmet}
+use Rattle.audit.proofs.OfVerdict.Behind.{narrow_by}
 use Rattle.audit.specs.Verdict.Accepted.{IsAccepted}
 use Rattle.audit.specs.Verdict.Faults.{IsFault}
 use Rattle.audit.specs.Verdict.Examples.Slide.{slide, group_of, plan_of, certificate_with, window, slides, SlideIsAccepted}
@@ -39,19 +40,27 @@ larger = record {
 
 too_small : IsFault slide (plan_of 2 (pos 1)) (slides 2) 8 31
 unfolding first_unmet
-too_small = inr (inr (inr (inl (record { number = 0; group = group_of 2 (pos 1); stands = refl; part = Lines; first = refl }))))
+too_small = inr (inr (inr (inl (record { number = 0; group = group_of 2 (pos 1); stands = refl; part = Lines; first = refl; before = inl (narrow_by slide (plan_of 2 (pos 1)) (slides 2) 31 refl) }))))
 
 other_fold : IsFault slide (plan_of 3 (pos 1)) (slides 7) 8 31
 unfolding first_unmet
-other_fold = inr (inr (inr (inl (record { number = 0; group = group_of 3 (pos 1); stands = refl; part = Lines; first = refl }))))
+other_fold = inr (inr (inr (inl (record { number = 0; group = group_of 3 (pos 1); stands = refl; part = Lines; first = refl; before = inl (narrow_by slide (plan_of 3 (pos 1)) (slides 7) 31 refl) }))))
 
 too_late : IsFault slide (plan_of 3 (pos 2)) (slides 3) 6 29
 unfolding first_unmet
-too_late = inr (inr (inr (inl (record { number = 0; group = group_of 3 (pos 2); stands = refl; part = Claims; first = refl }))))
+too_late = inr (inr (inr (inl (record { number = 0; group = group_of 3 (pos 2); stands = refl; part = Claims; first = refl; before = inl (narrow_by slide (plan_of 3 (pos 2)) (slides 3) 29 refl) }))))
 
 alone : IsFault slide (plan_of 3 (pos 1)) (certificate_with []) 6 29
 unfolding first_unmet
-alone = inr (inr (inr (inl (record { number = 0; group = group_of 3 (pos 1); stands = refl; part = Claims; first = refl }))))
+alone = inr (inr (inr (inl (record {
+  number = 0;
+  group = group_of 3 (pos 1);
+  stands = refl;
+  part = Claims;
+  first = refl;
+  before = inl (narrow_by slide (plan_of 3 (pos 1)) (certificate_with
+      []) 29 refl);
+}))))
 
 twice : IsFault slide (plan_of 3 (pos 1)) (certificate_with (window 3 ∷ window 3 ∷ [])) 8 32
 twice = inr (inr (inr (inr (inl refl))))

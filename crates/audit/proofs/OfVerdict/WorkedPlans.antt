@@ -12,6 +12,7 @@ use Rattle.obligations.specs.Asked.{first_unmet}
 use Rattle.shares.specs.Layout.{own_list}
 use Rattle.shares.specs.Made.{Overlaps}
 use Rattle.shares.proofs.Firsts.{from_nine}
+use Rattle.audit.proofs.OfVerdict.Behind.{narrow_by}
 use Rattle.audit.specs.Verdict.Accepted.{IsAccepted}
 use Rattle.audit.specs.Verdict.Faults.{IsFault}
 use Rattle.audit.specs.Verdict.Shown.Worked.{two, f_group, out_group, both, two_plan, two_certificate}
@@ -93,7 +94,7 @@ other = inr (inl refl)
 
 outside : IsFault two two_plan less_claimed 5 15
 unfolding first_unmet
-outside = inr (inr (inr (inl (record { number = 1; group = out_group both; stands = refl; part = Lines; first = refl }))))
+outside = inr (inr (inr (inl (record { number = 1; group = out_group both; stands = refl; part = Lines; first = refl; before = inl (narrow_by two two_plan less_claimed 15 refl) }))))
 
 pub worked_accepted : WorkedPlansAreAccepted
 worked_accepted = record { accepted = accepted; twice = twice; gap = gap; unserved = unserved; other = other; outside = outside }

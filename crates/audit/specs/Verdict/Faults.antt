@@ -27,6 +27,7 @@ use Rattle.shares.specs.Made.{StandsAt, ErrorMeans}
 use Rattle.shares.specs.Early.{FetchIsWrong}
 use Rattle.shares.specs.declared.answer.SharesError.TheVariants.{Flaw as Told}
 use Rattle.soundness.specs.Binders.View.{grid_binders}
+use Rattle.audit.specs.Verdict.Left.{LeavesBuffer}
 
 -- the first of these flaws has this code and line
 abbrev pub IsFirst : List Flaw → ℕ → ℕ → Type 0
@@ -46,7 +47,14 @@ module _ (a : Algorithm) (p : Plan) (c : Certificate) where
     pub code_is : code ≡ 14
     pub first : first_told (wide_lines (rules_of a p c number) (grid_binders group.grid) (body_line p number) group.body) ≡ Some line
 
-  -- what some group's lines owe is not shown: it is the first of what they owe as lines, or of what they owe as claims
+  -- no line of a group up to this one has a number that is not shown to be small
+  abbrev pub IsNarrowUpTo : ℕ → Type 0
+  IsNarrowUpTo line =
+      (m : ℕ) (h : Group) → slice_get p.groups m ≡ Some h → (wide : ℕ)
+      → first_told (wide_lines (rules_of a p c m) (grid_binders h.grid) (body_line p m) h.body) ≡ Some wide → line < wide
+
+  -- what some group's lines owe is not shown: it is the first of what they owe as lines, or of what they owe as claims; and no number up to its line may be too
+  -- large, since of such numbers nothing is shown, unless it is a store there that leaves its buffer
   pub record IsOfDebt (code line : ℕ) : Type 0 where
     pub number : ℕ
     pub group : Group
@@ -54,6 +62,7 @@ module _ (a : Algorithm) (p : Plan) (c : Certificate) where
     pub part : Part
     pub first : told (first_unmet (rules_of a p c number) (slid_nests (outline_of p c number group) (rules_of a p c number) (domains_of a)) part
         (obligations (outline_of p c number group) (rules_of a p c number) group.body (body_line p number) (start (grid_binders group.grid)))) ≡ Some (record { code = code; line = line })
+    pub before : IsNarrowUpTo line ⊎ ((code ≡ 4) × LeavesBuffer p line)
 
   -- the pieces have no shares, for the reason that the code says of the line
   pub record IsOfShares (code line : ℕ) : Type 0 where

@@ -4,7 +4,7 @@ use Rattle.algo.specs.View.{algorithm_of}
 use Rattle.plan.specs.View.{plan_of}
 use Rattle.plan.specs.Certificate.Certificate.{certificate_of}
 use Rattle.soundness.specs.Outline.View.{plan_in, certificate_in, number_in, group_in}
-use Rattle.audit.proofs.Told.{AreOf, group_told, same_group}
+use Rattle.audit.proofs.Told.{AreOf, group_told, line_of, same_group}
 use Rattle.audit.proofs.groups.group_flaw.Goals as goal
 
 pub returns : goal.returns
@@ -20,5 +20,9 @@ returns c g at =
       number = ap number_in is ∙ said.number;
       group = ap group_in is ∙ same_group (slice_get (plan_of c.args.plan.now).groups c.args.number) (group_in o) g said.group at;
     } in
-    group_told (algorithm_of c.args.algo.now) (plan_of c.args.plan.now) (certificate_of c.args.cert.now) c.args.number g at
-    c.bounds_of-bounds.result c.in_ok-wide.wide c.wide_flaw.result of c.in_ok-wide.ensures c.wide_flaw.ensures
+    let a = algorithm_of c.args.algo.now in
+    let p = plan_of c.args.plan.now in
+    let cert = certificate_of c.args.cert.now in (
+      group_told a p cert c.args.number g at c.bounds_of-bounds.result c.in_ok-wide.wide c.wide_flaw.result of c.in_ok-wide.ensures c.wide_flaw.ensures,
+      line_of a p cert c.args.number g at c.bounds_of-bounds.result c.in_ok-wide.wide c.wide_flaw.result of c.in_ok-wide.ensures c.wide_flaw.ensures,
+    )
