@@ -7,3 +7,4 @@ pub mod Samples
 pub mod Closing
 pub mod Colours
 pub mod Sheets
+pub mod ByCell

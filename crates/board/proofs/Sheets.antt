@@ -1,14 +1,15 @@
 -- What stands on a sheet.
-use Rattle.std.proofs.Common.{◌≡◌, ℕ, ◌+◌, ◌*◌, ◌<◌, ◌≤◌, ℤ, List, length, get_or, set, inl, inr, sym, ap, subst, ◌∙◌, arith, get_or-set_same, get_or-set_other}
-use Rattle.std.specs.Prelude.{slice_index}
+use Rattle.std.proofs.Common.{◌≡◌, ℕ, ◌+◌, ◌*◌, ◌<◌, ◌≤◌, ℤ, List, [], ◌∷◌, length, get_or, set, inl, inr, refl, sym, ap, subst, ◌∙◌, arith, get_or-set_same, get_or-set_other}
+use Rattle.std.specs.Prelude.{drop, map, slice_index, take}
 use mathlib.Core.Logic.{dite}
 use native.Mathlib.Decide.{ℕ_discrete}
 use Rattle.std.proofs.lemmas.Bool.{cases_lt}
+use Rattle.std.proofs.lemmas.List.{ext_get_or, get_or-drop, get_or-map, get_or-take, length-drop, length-map, length-take-le}
 use Rattle.std.proofs.lemmas.List.FromFn.{fill_by_all}
 use Rattle.orders.proofs.Claiming.{place_of}
 use Rattle.meaning.specs.Image.Raster.{natural}
 use Rattle.board.specs.Layout.{Layout, own_of, picture_of, pieces_of, samples_in, shown_cell, value_at, IsSound, ShowsSamples}
-use Rattle.board.specs.Sheets.{HasBits, IsPut}
+use Rattle.board.specs.Sheets.{bits_at, HasBits, IsPut}
 use Rattle.board.specs.Words.{bits_of}
 use Rattle.board.proofs.Colours.{same_pixel}
 use Rattle.board.proofs.Samples.{sample_bits}
@@ -22,15 +23,40 @@ set_keeps values bits d v c lt is had = dite (ℕ_discrete c d)
     (λ same. subst (λ (n : ℕ). HasBits values (set bits d v) n) (sym same) (set_here values bits d v lt is))
     (λ other. get_or-set_other bits d c v 0 other ∙ had)
 
--- the cells of a list, up to one more that is set
-pub put_more : (values : List ℤ) (bits cells : List ℕ) (i v : ℕ) → slice_index cells i < length bits → v ≡ bits_of (value_at values (slice_index cells i)) → ((m : ℕ) → m < i → HasBits values bits (slice_index cells m))
-    → (m : ℕ) → m < i + 1 → HasBits values (set bits (slice_index cells i) v) (slice_index cells m)
-put_more values bits cells i v room is had m lt = elim (cases_lt m i) [
-  | inl before ↦ set_keeps values bits (slice_index cells i) v (slice_index cells m) room is (had m before)
+-- the bits of the values of cells are the bits of these values
+pub bits_of_values : (values : List ℤ) (cells : List ℕ) → map bits_of (map (value_at values) cells) ≡ bits_at values cells
+bits_of_values values [] = refl
+bits_of_values values (c ∷ cs) = ap (λ (bs : List ℕ). bits_of (value_at values c) ∷ bs) (bits_of_values values cs)
+
+-- the bits of the value of a cell of a list
+pub bits_at_place : (values : List ℤ) (cells bits : List ℕ) (i : ℕ) → bits ≡ bits_at values cells → i < length cells → slice_index bits i ≡ bits_of (value_at values (slice_index cells i))
+bits_at_place values cells bits i are lt = ap (λ (xs : List ℕ). get_or xs i 0) are ∙ get_or-map (λ n. bits_of (value_at values n)) cells i 0 0 lt
+
+-- a row of bits is those of the values of its cells, where these follow each other and have theirs
+pub row_at : (values : List ℤ) (bits cells row : List ℕ) (first : ℕ) → row ≡ take (length cells) (drop first bits) → first + length cells ≤ length bits
+    → ((k : ℕ) → k < length cells → slice_index cells k ≡ first + k)
+    → ((k : ℕ) → k < length cells → get_or bits (slice_index cells k) 0 ≡ bits_of (value_at values (slice_index cells k))) → row ≡ bits_at values cells
+row_at values bits cells row first is inside follow had =
+    let window : List ℕ = take (length cells) (drop first bits) in
+    let long : length window ≡ length cells = length-take-le (length cells) (drop first bits) (let dropped = length-drop first bits in omega (arith, dropped, inside)) in
+    is ∙ ext_get_or 0 window (bits_at values cells) (long ∙ sym (length-map cells (λ n. bits_of (value_at values n)))) (λ k k_in.
+    let lt : k < length cells = omega (arith, k_in, long) in
+    get_or-take (length cells) (drop first bits) k 0 lt ∙ get_or-drop first bits k 0 ∙ ap (λ (n : ℕ). get_or bits n 0) (sym (follow k lt)) ∙ had k lt
+    ∙ sym (get_or-map (λ n. bits_of (value_at values n)) cells k 0 0 lt))
+
+-- one more cell of a part of a list is set, and what had its bits has them still
+pub one_set : (values : List ℤ) (now after cells : List ℕ) (from i v : ℕ) → slice_index cells i < length now
+    → v ≡ bits_of (value_at values (slice_index cells i)) → after ≡ set now (slice_index cells i) v
+    → ((m : ℕ) → from ≤ m → m < i → HasBits values now (slice_index cells m)) → (m : ℕ) → from ≤ m → m < i + 1 → HasBits values after (slice_index cells m)
+one_set values now after cells from i v room is set_is had m in_part lt = subst (λ (bs : List ℕ). HasBits values bs (slice_index cells m)) (sym set_is) (elim (cases_lt m i) [
+  | inl before ↦ set_keeps values now (slice_index cells i) v (slice_index cells m) room is (had m in_part before)
   | inr past ↦
       let same : m ≡ i = omega (arith, past, lt) in
-      subst (λ (n : ℕ). HasBits values (set bits (slice_index cells i) v) (slice_index cells n)) (sym same) (set_here values bits (slice_index cells i) v room is)
-]
+      subst (λ (n : ℕ). HasBits values (set now (slice_index cells i) v) (slice_index cells n)) (sym same) (set_here values now (slice_index cells i) v room is)
+])
+
+pub others_kept : (values : List ℤ) (now after : List ℕ) (d v c : ℕ) → d < length now → v ≡ bits_of (value_at values d) → after ≡ set now d v → HasBits values now c → HasBits values after c
+others_kept values now after d v c room is set_is had = subst (λ (bs : List ℕ). HasBits values bs c) (sym set_is) (set_keeps values now d v c room is had)
 
 -- where all pieces are put, all cells have their bits
 pub all_put : (plan : Layout) (values : List ℤ) (bits : List ℕ) → IsSound plan → ((j : ℕ) → j < pieces_of plan → IsPut plan values bits j) → (c : ℕ) → c < plan.cells → HasBits values bits c

@@ -6,3 +6,4 @@ pub mod Steps
 pub mod Seats
 pub mod Shown
 pub mod Sheets
+pub mod Kept

@@ -6,7 +6,9 @@
 #![tactic(auto)]
 
 mod board;
+mod kept;
 mod law;
+mod putting;
 mod read_off;
 mod rows;
 mod seat;

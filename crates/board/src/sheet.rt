@@ -1,26 +1,32 @@
 //! The cells of a run by one worker alone.
 
-ghost use Rattle.std.specs.Prelude.{◌≡◌, ℕ, ◌^◌, ◌<◌, ◌≤◌, [], length, map, slice_index, vec_capacity};
-ghost use Rattle.board.specs.Layout.{value_at};
-ghost use Rattle.board.specs.Sheets.{bits_at, HasBits};
+ghost use Rattle.std.specs.Prelude.{◌≡◌, ℕ, ◌+◌, ◌^◌, ◌<◌, ◌≤◌, ◌++◌, [], drop, length, map, slice_index, take, vec_capacity, IfSome};
+ghost use Rattle.board.specs.Kept.{all_bits, planes_of, Keeps};
+ghost use Rattle.board.specs.Layout.{picture_of, pieces_of, samples_in, value_at, IsSound, ShowsSamples};
+ghost use Rattle.board.specs.Sheets.{IsPut};
 ghost use Rattle.board.specs.Words.{bits_of};
 
+use crate::kept::{Kept, bits_of_cell, kept_as};
 use crate::law::Run;
+use crate::putting::{KeptBits, Numbers, PART, bits, follow_each_other, put_bits};
 use crate::read_off::read_off;
 use crate::rows::Rows;
 use crate::shown::Shown;
 use crate::source::Source;
 use meaning::image::{Image, Shape};
-use numeric::{Ty, wrap};
 use std::alloc::{AllocError, Global};
 use std::marker::{Model, PhantomData};
+use std::mem::replace;
 
 /// The cells of accepted work, which one worker alone sets and reads. Contracts see it as the bits of all cells.
+///
+/// The cells that the picture shows are kept as its samples, where they are the last and stand in planes, and else as bits, as the
+/// other cells are.
 #[derive(Drop)]
 pub struct Sheet<'a, J: Run> {
     bits: Vec<u32>,
     own: Rows<'a>,
-    shown: Shown,
+    kept: Kept,
     shape: Shape,
     samples: Vec<u16>,
     run: PhantomData<J>,
@@ -29,14 +35,14 @@ pub struct Sheet<'a, J: Run> {
 impl<'a, J: Run> Model for Sheet<'a, J> {
     ghost use Rattle.std.specs.Prelude.{◌≡◌, ℕ, List, length};
     ghost use Rattle.meaning.specs.Image.View.{shape_of};
+    ghost use Rattle.board.specs.Kept.{all_bits, planes_of, Keeps};
     ghost use Rattle.board.specs.Layout.{samples_in, IsSound, ShowsSamples};
-    ghost use Rattle.board.specs.Shown.{Tells};
 
     ghost Value = { List ℕ };
 
-    ghost view = { λ s. s.bits.items };
+    ghost view = { λ s. all_bits (planes_of s.kept) s.bits.items s.samples.items };
 
-    ghost invariant = { λ s. (s.own ≡ J.layout.own) × IsSound J.layout × (length s.bits.items ≡ J.layout.cells) × (length s.samples.items ≡ samples_in J.layout) × Tells J.layout s.shown × (shape_of s.shape ≡ J.layout.frame) × ShowsSamples J.layout J.values };
+    ghost invariant = { λ s. (s.own ≡ J.layout.own) × IsSound J.layout × Keeps J.layout s.kept (length s.bits.items) × (length s.samples.items ≡ samples_in J.layout) × (shape_of s.shape ≡ J.layout.frame) × ShowsSamples J.layout J.values };
 }
 
 impl<'a, J: Run> Sheet<'a, J> {
@@ -46,23 +52,25 @@ impl<'a, J: Run> Sheet<'a, J> {
 
     /// A sheet on which nothing is put.
     ///
-    /// It takes 4 bytes for each cell, 16 for each piece, which are where its own cells stand, and 2 for each sample of the
-    /// picture. Where the cells of the samples don't stand in planes it keeps these too, 4 bytes each.
+    /// It takes 2 bytes for each sample of the picture, 16 for each piece, which are where its own cells stand, and 4 for each cell
+    /// that is not kept as a sample. Where the cells of the samples don't stand in planes it keeps these too, 4 bytes each.
     pub fn open<S: Source<'a>>(alloc: Global, source: &S) -> Result<Sheet<'a, J>, AllocError>
         requires layout { S.layout source.now ≡ J.layout }
         requires values { ShowsSamples J.layout J.values }
     {
         // No number is taken of this call. It says that the layout is sound, and so that there are few pieces.
         source.pieces();
-        let bits = vec![in alloc; 0u32; source.cells()]?;
         let own = Rows::of(alloc, source)?;
         let shown = Shown::of(alloc, source)?;
         let shape = source.shape().copy(alloc)?;
-        let samples = vec![in alloc; 0u16; shape.sample_count()]?;
+        let count = shape.sample_count();
+        let (kept, before) = kept_as::<J>(shown, count, source.cells());
+        let bits = vec![in alloc; 0u32; before]?;
+        let samples = vec![in alloc; 0u16; count]?;
         Ok(Sheet {
             bits,
             own,
-            shown,
+            kept,
             shape,
             samples,
             run: PhantomData,
@@ -91,7 +99,27 @@ impl<'a, J: Run> Sheet<'a, J> {
         requires { IsPutCell J.layout J.values self.now cell }
         ensures { result ≡ bits_of (value_at J.values cell) }
     {
-        self.bits[cell as usize]
+        let planes = self.kept.planes();
+        bits_of_cell(
+            self.bits.as_slice(),
+            self.samples.as_slice(),
+            planes,
+            cell as usize,
+        )
+    }
+
+    /// The bits of the values of cells of pieces that are put, where there are 1024 at most, which follow each other and are kept as
+    /// bits. Of others it tells nothing.
+    pub fn look_row(&self, cells: &[u32]) -> Option<&[u32]>
+        requires { (k : ℕ) → k < length cells.now → IsPutCell J.layout J.values self.now (slice_index cells.now k) }
+        ensures { IfSome result (λ bits. bits.now ≡ bits_at J.values cells.now) }
+    {
+        let count = cells.len();
+        if count == 0 || count > PART || !follow_each_other(cells, 0, count) {
+            return None;
+        }
+        let row = window(self.bits.as_slice(), cells[0] as usize, count)?;
+        Some(row)
     }
 
     /// Puts the values of all own cells of a piece. What is put stays.
@@ -101,10 +129,15 @@ impl<'a, J: Run> Sheet<'a, J> {
         ensures put { IsPut J.layout J.values self.new piece }
         ensures more { (j : ℕ) → IsPut J.layout J.values self.old j → IsPut J.layout J.values self.new j }
     {
-        put_bits::<J>(
-            self.bits.as_mut_slice(),
-            self.own.get(piece as usize),
-            values,
+        let planes = self.kept.planes();
+        let cells = self.own.get(piece as usize);
+        let bits = self.bits.as_mut_slice();
+        put_bits::<J, Numbers<'_>>(
+            bits,
+            self.samples.as_mut_slice(),
+            planes,
+            cells,
+            &Numbers(values),
         );
     }
 
@@ -115,8 +148,16 @@ impl<'a, J: Run> Sheet<'a, J> {
         ensures put { IsPut J.layout J.values self.new piece }
         ensures more { (j : ℕ) → IsPut J.layout J.values self.old j → IsPut J.layout J.values self.new j }
     {
-        let cells = self.own.get(piece as usize);
-        copy_bits::<J>(self.bits.as_mut_slice(), cells, kept);
+        let planes = self.kept.planes();
+        let own = self.own.get(piece as usize);
+        let bits = self.bits.as_mut_slice();
+        put_bits::<J, KeptBits<'_>>(
+            bits,
+            self.samples.as_mut_slice(),
+            planes,
+            own,
+            &KeptBits(kept),
+        );
     }
 
     /// The picture, once all pieces are put.
@@ -127,12 +168,12 @@ impl<'a, J: Run> Sheet<'a, J> {
         let Sheet {
             bits,
             own: _,
-            shown,
+            kept,
             shape,
             mut samples,
             run: _,
         } = self;
-        read_off::<J>(bits.as_slice(), &shown, samples.as_mut_slice());
+        show::<J>(bits.as_slice(), &kept, samples.as_mut_slice());
         let Shape { ty, extents } = shape;
         Image {
             ty,
@@ -142,35 +183,48 @@ impl<'a, J: Run> Sheet<'a, J> {
     }
 }
 
-// The 32 bits of a value.
-fn bits(value: i64) -> u32
-    ensures { result ≡ bits_of value }
+// So many bits from a place on, if there are so many.
+fn window(bits: &[u32], first: usize, count: usize) -> Option<&[u32]>
+    ensures inside { IfSome result (λ _. first + count ≤ length bits.now) }
+    ensures same { IfSome result (λ row. row.now ≡ take count (drop first bits.now)) }
 {
-    wrap(Ty::U32, value) as u32
+    if bits.len() < first {
+        return None;
+    }
+    let (_, later) = bits.split_at(first);
+    if later.len() < count {
+        return None;
+    }
+    let (row, _) = later.split_at(count);
+    Some(row)
 }
 
-// Sets cells to the bits of their values. A cell that had them has them still.
-fn put_bits<J: Run>(bits_now: &mut [u32], cells: &[u32], values: &[i64])
-    requires values { values.now ≡ map (value_at J.values) cells.now }
-    requires inside { (k : ℕ) → k < length cells.now → slice_index cells.now k < length bits_now.old }
-    ensures put { (k : ℕ) → k < length cells.now → HasBits J.values bits_now.new (slice_index cells.now k) }
-    ensures more { (c : ℕ) → HasBits J.values bits_now.old c → HasBits J.values bits_now.new c }
+// Makes the samples those of the picture, once all cells have the bits of their values.
+fn show<J: Run>(bits: &[u32], kept: &Kept, samples: &mut [u16])
+    requires layout { IsSound J.layout × ShowsSamples J.layout J.values }
+    requires kept { Keeps J.layout kept.now (length bits.now) }
+    requires fits { length samples.old ≡ samples_in J.layout }
+    requires put { (j : ℕ) → j < pieces_of J.layout → IsPut J.layout J.values (all_bits (planes_of kept.now) bits.now samples.old) j }
+    ensures { samples.new ≡ (picture_of J.layout J.values).samples }
 {
-    for k in 0..cells.len() {
-        bits_now[cells[k] as usize] = bits(values[k]);
+    match kept {
+        Kept::AsSamples(_) => {}
+        Kept::AsBits(shown) => read_off::<J>(bits, shown, samples),
     }
 }
 
-// Sets cells to the bits of their values, which are kept in the order of the cells. A cell that had them has them still.
-fn copy_bits<J: Run>(bits_now: &mut [u32], cells: &[u32], kept: &[u32])
-    requires kept { kept.now ≡ bits_at J.values cells.now }
-    requires inside { (k : ℕ) → k < length cells.now → slice_index cells.now k < length bits_now.old }
-    ensures put { (k : ℕ) → k < length cells.now → HasBits J.values bits_now.new (slice_index cells.now k) }
-    ensures more { (c : ℕ) → HasBits J.values bits_now.old c → HasBits J.values bits_now.new c }
+// The list with the bits of values added, which has room for them. It takes no memory. The list is handed over, so that its length is
+// known to be nobody else's while they are added.
+#[inline(never)]
+fn with_bits(mut kept: Vec<u32>, values: &[i64]) -> Vec<u32>
+    requires { length kept.items + length values.now ≤ vec_capacity kept }
+    ensures items { result.items ≡ kept.items ++ map bits_of values.now }
+    ensures room { vec_capacity result ≡ vec_capacity kept }
 {
-    for place in 0..cells.len() {
-        bits_now[cells[place] as usize] = kept[place];
+    for value in values {
+        kept.push_reserved(bits(*value));
     }
+    kept
 }
 
 /// Keeps the bits of values apart from any sheet, in an empty list that has room for them. It takes no memory.
@@ -179,7 +233,7 @@ pub fn keep_bits(values: &[i64], kept: &mut Vec<u32>)
     requires room { length values.now ≤ vec_capacity kept.old }
     ensures { kept.new.items ≡ map bits_of values.now }
 {
-    for value in values {
-        kept.push_reserved(bits(*value));
-    }
+    let alloc = *kept.allocator();
+    let list = replace(kept, Vec::new(alloc));
+    *kept = with_bits(list, values);
 }

@@ -10,6 +10,7 @@ pub mod Filling
 pub mod Private
 pub mod Learnt
 pub mod InOrder
+pub mod Looking
 pub mod Hands
 pub mod Most
 pub mod Shared

@@ -1,6 +1,6 @@
 //! The run of a checked plan by one worker.
 
-ghost use Rattle.std.specs.Prelude.{◌≡◌, ◌<◌, ◌≤◌, ℕ, length, map, Contains, IfOk, slice_index, vec_capacity};
+ghost use Rattle.std.specs.Prelude.{◌≡◌, ◌<◌, ◌≤◌, ◌+◌, ◌++◌, ℕ, length, map, Contains, IfOk, slice_index, vec_capacity};
 ghost use Rattle.algo.specs.View.{picture_said, samples_of, IsFor};
 ghost use Rattle.board.specs.Layout.{own_of, pieces_of, value_at};
 ghost use Rattle.board.specs.Sheets.{IsPut, IsPutCell};
@@ -23,6 +23,36 @@ use piece::LookedCells;
 use std::alloc::{AllocError, Global};
 use std::marker::{Brand, Model};
 
+/// How many cells are looked at together.
+const PART: usize = 1024;
+
+/// Looks at cells, each of which is put, one by one, and adds their bits. It takes no memory.
+fn look_at_each<J: Run>(sheet: &Sheet<'_, J>, looked: &mut LookedCells<'_>, cells: &[u32])
+    requires put { (k : ℕ) → k < length cells.now → IsPutCell J.layout J.values sheet.now (slice_index cells.now k) }
+    requires room { length looked.old.looked.items + length cells.now ≤ vec_capacity looked.old.looked }
+    ensures same { (looked.new.cells.now ≡ looked.old.cells.now) × (looked.new.piece ≡ looked.old.piece) }
+    ensures words { looked.new.looked.items ≡ looked.old.looked.items ++ words_at J.values cells.now }
+    ensures room { vec_capacity looked.new.looked ≡ vec_capacity looked.old.looked }
+{
+    for cell in cells {
+        looked.push(i64::from(sheet.look(*cell)));
+    }
+}
+
+/// Looks at cells, each of which is put, together where they follow each other, and adds their bits. It takes no memory.
+fn look_at_part<J: Run>(sheet: &Sheet<'_, J>, looked: &mut LookedCells<'_>, cells: &[u32])
+    requires put { (k : ℕ) → k < length cells.now → IsPutCell J.layout J.values sheet.now (slice_index cells.now k) }
+    requires room { length looked.old.looked.items + length cells.now ≤ vec_capacity looked.old.looked }
+    ensures same { (looked.new.cells.now ≡ looked.old.cells.now) × (looked.new.piece ≡ looked.old.piece) }
+    ensures words { looked.new.looked.items ≡ looked.old.looked.items ++ words_at J.values cells.now }
+    ensures room { vec_capacity looked.new.looked ≡ vec_capacity looked.old.looked }
+{
+    match sheet.look_row(cells) {
+        Some(bits) => looked.push_all(bits),
+        None => look_at_each(sheet, looked, cells),
+    }
+}
+
 /// Looks at the cells that a piece fetches, each of which is put, and leaves their bits in the order of its list. It takes no
 /// memory.
 fn look_at<J: Run>(sheet: &Sheet<'_, J>, looked: &mut LookedCells<'_>, piece: u32, cells: &[u32])
@@ -34,8 +64,11 @@ fn look_at<J: Run>(sheet: &Sheet<'_, J>, looked: &mut LookedCells<'_>, piece: u3
     ensures room { vec_capacity looked.new.looked ≡ vec_capacity looked.old.looked }
 {
     looked.begin(piece);
-    for cell in cells {
-        looked.push(i64::from(sheet.look(*cell)));
+    let mut rest = cells;
+    while !rest.is_empty() {
+        let (part, later) = rest.split_at(PART.min(rest.len()));
+        look_at_part(sheet, looked, part);
+        rest = later;
     }
 }
 
@@ -127,8 +160,9 @@ impl<'a, J: Run> Model for PreparedAlone<'a, J> {
 impl<'a, J: Run> PreparedAlone<'a, J> {
     /// A run that has not begun. `cells` numbers the plan's cells.
     ///
-    /// It takes all memory of the run: 4 bytes for each cell, 16 for each piece and 2 for each sample of the picture, 4 more for each
-    /// sample where the region of the output's group is larger than the picture, and that of one desk.
+    /// It takes all memory of the run: 16 bytes for each piece, 2 for each sample of the picture, 4 for each cell of another group
+    /// than the output's, and that of one desk. Where the region of the output's group is larger than the picture, or cells of other
+    /// groups come after its own, it takes 4 for each cell, and in the first case 4 more for each sample.
     ///
     /// # Errors
     /// `AllocError` where memory runs out.

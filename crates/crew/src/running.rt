@@ -104,15 +104,16 @@ fn run_on<J: Run + Send + Sync, G: Gate, R: Threads + Wait + Sync>(
 /// The gate hears of each piece from the worker that computes it, before and after. The worker goes on once the gate's call
 /// returns.
 ///
-/// In stages the sheet and what is kept take 4 bytes each for a cell, and 40 for each piece. A board takes 8 bytes for each piece
-/// and each cell (twice as much while it opens), and 16 for each piece. Both take 2 for each sample of the picture, and 4 more where
-/// the region of the output's group is larger than the picture. For each coordinate of a group's region 16 bytes are kept. Each
-/// worker has a desk. On it lies a scratch for all groups, which takes 5 bytes for each place of the buffers, and room of 8 that is
-/// not touched unless a number does not fit its type, of each number as many as the group asks for that asks for most, 24 for each
-/// line that binds a symbol, 4 for each count of the largest grid, 16 for each coordinate of own cells and of the points at which
-/// lines fetch and store, 8 for each index of the calls in stores, and 8 for each own cell of the piece that owns most; and for each
-/// fetched cell of the piece that fetches most 8 bytes, and 16 or more in an index of these cells. All this is taken
-/// before the first worker starts; the workers take no memory.
+/// In stages what is kept takes 4 bytes for a cell, the sheet 4 for a cell of another group than the output's (for each cell where
+/// the region of the output's group is larger than the picture, or cells of other groups come after its own), and each piece 40. A
+/// board takes 8 bytes for each piece and each cell (twice as much while it opens), and 16 for each piece. Both take 2 for each
+/// sample of the picture, and 4 more where the region of the output's group is larger than the picture. For each coordinate of a
+/// group's region 16 bytes are kept. Each worker has a desk. On it lies a scratch for all groups, which takes 5 bytes for each
+/// place of the buffers, and room of 8 that is not touched unless a number does not fit its type, of each number as many as the
+/// group asks for that asks for most, 24 for each line that binds a symbol, 4 for each count of the largest grid, 16 for each
+/// coordinate of own cells and of the points at which lines fetch and store, 8 for each index of the calls in stores, and 8 for
+/// each own cell of the piece that owns most; and for each fetched cell of the piece that fetches most 8 bytes, and 16 or more in
+/// an index of these cells. All this is taken before the first worker starts; the workers take no memory.
 ///
 /// # Errors
 /// `Memory` where memory runs out, which is before the first worker starts. No piece is left unfinished.

@@ -1,6 +1,6 @@
 //! The values of the cells that a piece fetches, by function and point.
 
-ghost use Rattle.std.specs.Prelude.{◌≡◌, ◌<◌, ◌≤◌, ◌+◌, ◌+ℤ◌, [], ◌∷◌, ◌++◌, ℕ, false, true, if◌then◌else◌, length, nat_eq, None, pos, slice_get, vec_capacity, IfOk, IfSome, Some};
+ghost use Rattle.std.specs.Prelude.{◌≡◌, ◌<◌, ◌≤◌, ◌+◌, ◌+ℤ◌, [], ◌∷◌, ◌++◌, ℕ, false, true, if◌then◌else◌, length, map, nat_eq, None, pos, slice_get, vec_capacity, IfOk, IfSome, Some};
 ghost use Rattle.std.specs.List.Sorted.{IsStrictlyIncreasing};
 ghost use Rattle.checked_plan.specs.View.{algorithm_checked, plan_checked};
 ghost use Rattle.indexmap.specs.IndexMap.{get, index_map_len, spare};
@@ -20,6 +20,7 @@ use headline::laws::looks_are_by_number;
 use indexmap::IndexMap;
 use interpreter::{CellRow, Cells, NumberKind};
 use std::alloc::{AllocError, Global};
+use std::mem::replace;
 use tree::Value;
 
 /// The numbers of the cells that a piece fetches, none where there is no such piece.
@@ -59,6 +60,20 @@ fn number_along(cells: &PlanCells<'_>, group: usize, at: &[i64], more: usize) ->
         [x, y, z] => cells.number(group, &[further(*x, more)?, *y, *z]),
         _ => None,
     }
+}
+
+/// The list with numbers added, which has room for them. It takes no memory. The list is handed over, so that its length is known
+/// to be nobody else's while they are added.
+#[inline(never)]
+fn with_numbers(mut list: Vec<i64>, numbers: &[u32]) -> Vec<i64>
+    requires { length list.items + length numbers.now ≤ vec_capacity list }
+    ensures items { result.items ≡ list.items ++ map pos numbers.now }
+    ensures room { vec_capacity result ≡ vec_capacity list }
+{
+    for number in numbers {
+        list.push_reserved(i64::from(*number));
+    }
+    list
 }
 
 /// The values that a piece has looked at so far, in the order of the cells that it fetches.
@@ -179,6 +194,35 @@ impl<'a> LookedCells<'a> {
             self.looked.push_reserved(value);
         } else {
             self.push_noted(value);
+        }
+    }
+
+    /// Takes the next cells' values one by one, and notes them in the index where the numbers do not rise.
+    #[inline(never)]
+    fn push_each(&mut self, values: &[u32])
+        requires { length self.old.looked.items + length values.now ≤ vec_capacity self.old.looked }
+        ensures looked { self.new.looked.items ≡ self.old.looked.items ++ map pos values.now }
+        ensures same { (self.new.cells.now ≡ self.old.cells.now) × (self.new.piece ≡ self.old.piece) }
+        ensures room { vec_capacity self.new.looked ≡ vec_capacity self.old.looked }
+    {
+        for value in values {
+            self.push_noted(i64::from(*value));
+        }
+    }
+
+    /// Takes the values of the next cells that the piece fetches. It takes no memory.
+    pub fn push_all(&mut self, values: &[u32])
+        requires { length self.old.looked.items + length values.now ≤ vec_capacity self.old.looked }
+        ensures looked { self.new.looked.items ≡ self.old.looked.items ++ map pos values.now }
+        ensures same { (self.new.cells.now ≡ self.old.cells.now) × (self.new.piece ≡ self.old.piece) }
+        ensures room { vec_capacity self.new.looked ≡ vec_capacity self.old.looked }
+    {
+        if self.rising {
+            let alloc = *self.looked.allocator();
+            let looked = replace(&mut self.looked, Vec::new(alloc));
+            self.looked = with_numbers(looked, values);
+        } else {
+            self.push_each(values);
         }
     }
 

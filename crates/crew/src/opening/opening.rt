@@ -39,7 +39,8 @@ pub fn open<'a, J: Run>(
 
 /// The cells of a checked plan on an input of its algorithm, for one worker alone. Nothing is put.
 ///
-/// It takes 4 bytes for each cell, 16 for each piece, and for the picture what a board takes for it.
+/// It takes 4 bytes for each cell that is not kept as a sample of the picture, 16 for each piece, and for the picture what a board
+/// takes for it.
 ///
 /// # Errors
 /// `AllocError` where memory runs out.

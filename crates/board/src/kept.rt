@@ -1,0 +1,118 @@
+//! How a sheet keeps its cells: as bits, or as the samples of the picture that shows them.
+
+ghost use Rattle.std.specs.Prelude.{◌≡◌, ◌+◌, ◌*◌, ◌^◌, ◌<◌, ◌≤◌, length, slice_index, slice_set};
+ghost use Rattle.board.specs.Kept.{all_bits, in_planes, planes_of, sample_place, Keeps};
+ghost use Rattle.board.specs.Layout.{samples_in};
+ghost use Rattle.board.specs.Shown.{Tells};
+
+use crate::law::Run;
+use crate::shown::Shown;
+use crate::source::Planes;
+
+/// How a sheet keeps the cells that the picture shows.
+#[derive(Drop)]
+pub(crate) enum Kept {
+    /// As its samples: they are the last cells, and stand in planes.
+    AsSamples(Planes),
+    /// As bits, like all others: the samples are read off at the end.
+    AsBits(Shown),
+}
+
+impl Kept {
+    /// The planes of the cells that are kept as samples. They have no pixels where there are no such cells.
+    #[inline(always)]
+    pub(crate) fn planes(&self) -> Planes
+        ensures { result ≡ planes_of self.now }
+    {
+        match self {
+            Kept::AsSamples(planes) => *planes,
+            Kept::AsBits(_) => Planes {
+                first: 0,
+                colours: 1,
+                pixels: 0,
+            },
+        }
+    }
+}
+
+/// How a sheet of so many cells keeps those that a picture of so many samples shows, and how many it keeps as bits.
+pub(crate) fn kept_as<J: Run>(shown: Shown, samples: usize, cells: usize) -> (Kept, usize)
+    requires shown { Tells J.layout shown }
+    requires samples { samples ≡ samples_in J.layout }
+    requires cells { cells ≡ J.layout.cells }
+    ensures { Keeps J.layout result.0 result.1 }
+{
+    match shown {
+        Shown::InPlanes(planes) => {
+            let before = planes.first as usize;
+            if before <= cells && cells - before == samples {
+                (Kept::AsSamples(planes), before)
+            } else {
+                (Kept::AsBits(Shown::InPlanes(planes)), cells)
+            }
+        }
+        Shown::Listed(list) => (Kept::AsBits(Shown::Listed(list)), cells),
+    }
+}
+
+/// The pixel and the colour of a cell, told by how many cells of the planes come before it. There are few colours.
+#[inline(always)]
+pub(crate) fn pixel_of(planes: Planes, before: usize) -> (usize, usize)
+    requires { before < in_planes planes }
+    ensures pixel { result.0 < planes.pixels }
+    ensures same { before ≡ result.1 * planes.pixels + result.0 }
+{
+    let mut pixel = before;
+    let mut colour = 0;
+    while pixel >= planes.pixels {
+        pixel -= planes.pixels;
+        colour += 1;
+    }
+    (pixel, colour)
+}
+
+// The place of the sample that shows a cell, told by how many cells of the planes come before it.
+#[inline(always)]
+fn sample_place(planes: Planes, before: usize) -> usize
+    requires inside { before < in_planes planes }
+    requires few { in_planes planes < 2 ^ 63 }
+    ensures { result ≡ sample_place planes before }
+{
+    let (pixel, colour) = pixel_of(planes, before);
+    pixel * planes.colours + colour
+}
+
+/// The bits of a cell.
+#[inline(always)]
+pub(crate) fn bits_of_cell(bits: &[u32], samples: &[u16], planes: Planes, cell: usize) -> u32
+    requires inside { cell < length bits.now + in_planes planes }
+    requires fits { in_planes planes ≤ length samples.now }
+    ensures { result ≡ slice_index (all_bits planes bits.now samples.now) cell }
+{
+    if cell < bits.len() {
+        bits[cell]
+    } else {
+        u32::from(samples[sample_place(planes, cell - bits.len())])
+    }
+}
+
+/// Sets the bits of a cell.
+#[inline(always)]
+pub(crate) fn set_bits(
+    bits: &mut [u32],
+    samples: &mut [u16],
+    planes: Planes,
+    cell: usize,
+    value: u32,
+)
+    requires inside { cell < length bits.old + in_planes planes }
+    requires fits { in_planes planes ≤ length samples.old }
+    requires small { length bits.old ≤ cell → value < 2 ^ 16 }
+    ensures { all_bits planes bits.new samples.new ≡ slice_set (all_bits planes bits.old samples.old) cell value }
+{
+    if cell < bits.len() {
+        bits[cell] = value;
+    } else {
+        samples[sample_place(planes, cell - bits.len())] = value as u16;
+    }
+}
